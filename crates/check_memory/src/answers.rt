@@ -1,5 +1,5 @@
-// Calls and their answers, which are let go by `drop`: its proof is one for all functions, and that of a value which goes at the end of
-// its scope is one for each.
+// Calls and their answers, which are dropped by `drop`. Its proof is one for all functions, while a
+// value that is dropped at the end of its scope needs a proof in each.
 
 use crate::marks::{OPEN, Window, begin_turn, end_turn};
 use crate::short_calls::{ShortCall, call_of};
@@ -11,7 +11,7 @@ use std::alloc::{AllocError, Global};
 use std::sync::Wait;
 use std::thread::Threads;
 
-/// How a call was answered.
+/// The kind of an answer.
 #[derive(Clone, Copy, PartialEq, Eq)]
 pub enum Outcome {
     WantsMemory,
@@ -19,7 +19,7 @@ pub enum Outcome {
     Other,
 }
 
-/// Makes the call, with an allocation refused by the window.
+/// Makes the call while the window refuses an allocation.
 fn answer<R: Eprint + Threads + Wait + Sync>(
     rt: &R,
     alloc: Global,
@@ -35,7 +35,7 @@ fn answer<R: Eprint + Threads + Wait + Sync>(
     Ok(answer)
 }
 
-/// Makes the call, and writes its answer as a line.
+/// Makes the call, and appends its answer as a line.
 pub fn ask<R: Eprint + Threads + Wait + Sync>(
     rt: &R,
     alloc: Global,
@@ -59,7 +59,7 @@ pub fn ask_full<R: Threads + Wait + Sync>(
     write_and_drop(manager.answer(rt, &NoGate, call), text)
 }
 
-/// Makes calls of which none may be refused.
+/// Makes calls that must all be accepted.
 pub fn make_all<R: Eprint + Threads + Wait + Sync>(
     rt: &R,
     alloc: Global,
@@ -75,7 +75,8 @@ pub fn make_all<R: Eprint + Threads + Wait + Sync>(
     }
 }
 
-/// Makes the call with an allocation refused by the window, and compares the text of its answer, which it writes in the place of `text`.
+/// Makes the call while the window refuses an allocation, writes its answer to `text`, and compares
+/// it.
 pub fn compare<R: Eprint + Threads + Wait + Sync>(
     rt: &R,
     alloc: Global,
@@ -106,7 +107,7 @@ fn write_and_drop(answer: Answer, text: &mut String) -> Result<(), AllocError> {
     written
 }
 
-/// Writes the answer as a line.
+/// Appends the answer as a line.
 pub fn write_line(answer: &Answer, text: &mut String) -> Result<(), AllocError> {
     write!(text, "{answer:?}\n")
 }

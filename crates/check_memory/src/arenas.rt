@@ -1,5 +1,6 @@
-// Arenas of all sizes, in which block 0 is on all storages and each other block on the storage of its own number; and one arena for
-// many cycles, in which a block is linked on five storages, more than its entry holds itself, and goes again.
+// Arenas of all sizes, in which block 0 is on all storages, and each other block on the storage of
+// its own number. Also one arena for many cycles, in which a block is linked on five storages, more
+// than its entry holds inline, and leaves again.
 ghost use Rattle.std.specs.Prelude.{◌≡◌, [], Some, OnOk};
 ghost use Rattle.bm_arena.specs.Contents.{block_at, empty_block};
 
@@ -32,10 +33,10 @@ const INFO: BlockInfo = BlockInfo {
     repl: 3,
 };
 
-/// How many storages a block is linked on in each cycle.
+/// The number of storages on which each cycle links a block.
 const STORAGES: u32 = 5;
 
-/// Puts an empty arena in the place of the old one.
+/// Replaces the arena by an empty one.
 pub fn renew(alloc: Global, arena: &mut Arena) -> Result<(), Refusal>
     ensures ids { OnOk result (arena.new.ids ≡ []) }
     ensures delimiter { OnOk result
@@ -63,7 +64,7 @@ pub fn watch<R: Eprint>(rt: &R, alloc: Global, arena: &mut Arena, size: u32, tal
     say(rt, "ended", "arena");
 }
 
-/// How many steps there were.
+/// The number of steps.
 pub fn repeat<R: Eprint>(rt: &R, alloc: Global, arena: &mut Arena, tally: &mut Tally) -> u64 {
     tally.require(renew(alloc, arena));
     for _ in 0..MARKS {
@@ -102,7 +103,7 @@ fn come_and_go(arena: &mut Arena, id: BlockId) -> Result<(), Refusal> {
     Ok(())
 }
 
-/// Makes room for a replica, and links it.
+/// Reserves memory for a replica, and links it.
 fn hold(arena: &mut Arena, slot: Slot, storage: StorageId) -> Result<(), Refusal> {
     arena.reserve_heads(&[storage])?;
     if arena.has_entry(slot) {
@@ -112,7 +113,7 @@ fn hold(arena: &mut Arena, slot: Slot, storage: StorageId) -> Result<(), Refusal
     Ok(())
 }
 
-/// Whether there is no memory for one entry more. If there is, the entry is dropped again.
+/// Whether there is no memory for one more entry. If there is, the entry is dropped again.
 fn is_new_entry_refused(arena: &mut Arena, size: u32) -> bool {
     match arena.add_entry(block(size)) {
         Ok(slot) => {
@@ -159,7 +160,7 @@ fn set(arena: &mut Arena, slot: Slot, storage: StorageId, tally: &mut Tally) {
     tally.note(arena.marks(slot, storage) == Some(BAD));
 }
 
-/// The widest block goes before the delimiter, so that another block of the storage is behind it.
+/// The widest block moves before the delimiter, so that another block of the storage is after it.
 fn sweep(arena: &mut Arena, widest: Slot, slot: Slot, storage: StorageId, tally: &mut Tally) {
     let before = arena.steps();
     put_delimiter(arena, storage);
@@ -214,7 +215,7 @@ fn drop_block(arena: &mut Arena, number: u32, tally: &mut Tally) {
     tally.note(!arena.has_head(StorageId(number)));
 }
 
-// Each list operation where its conditions hold; else nothing, which shows in the steps.
+// Each list operation if its conditions hold. Otherwise it does nothing, which shows in the steps.
 
 fn link(arena: &mut Arena, slot: Slot, storage: StorageId) {
     if arena.has_head(storage) && arena.has_room(slot) && arena.marks(slot, storage).is_none() {

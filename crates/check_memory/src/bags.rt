@@ -50,7 +50,7 @@ fn is_refused(alloc: Global, size: usize) -> bool
     }
 }
 
-/// Each piece is twice its index.
+/// The piece at an index, which is twice the index.
 fn piece(place: u32) -> Option<(usize, u64)> {
     Some((place as usize, 2 * u64::from(place)))
 }
@@ -67,7 +67,7 @@ fn put_all<R: Wait>(rt: &R, bag: &Bag<u64>, pass: &mut BagPass<u64>, count: usiz
     }
 }
 
-/// Takes the pieces from one index until another.
+/// Takes the pieces of the indices from `from` to before `until`.
 fn take_all<R: Wait>(
     rt: &R,
     bag: &Bag<u64>,

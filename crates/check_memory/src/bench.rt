@@ -1,4 +1,5 @@
-// The managers, tables and texts that all checks use, and how each size and each turn gets new ones.
+// The managers, tables and texts that all checks use, and how each size and each turn gets new
+// ones.
 
 use crate::managers::config;
 use crate::tally::Tally;
@@ -17,9 +18,9 @@ pub struct Bench {
     pub other: Manager,
     pub topology: Topology,
     pub arena: Arena,
-    /// What a manager answered before a call.
+    /// The answers of a manager before a call.
     pub before: String,
-    /// What it is to answer after the call.
+    /// The expected answers after the call.
     pub after: String,
     pub now: String,
     pub tally: Tally,
@@ -40,7 +41,7 @@ impl Bench {
         })
     }
 
-    /// An empty manager in the place of the old one, which stays where the new one is refused.
+    /// Replaces the manager by an empty one. The old one stays if the new one is refused.
     pub fn renew_manager(&mut self, shards: u32, workers: u32) {
         let made = Manager::new(self.alloc, config(shards, workers));
         let replaced = self.replace_manager(made);
@@ -57,7 +58,7 @@ impl Bench {
         }
     }
 
-    /// An empty manager of one shard and one worker.
+    /// Replaces the other manager by an empty one of one shard and one worker.
     pub fn renew_other(&mut self) {
         match Manager::new(self.alloc, Config::standard()) {
             Ok(new) => drop(mem::replace(&mut self.other, new)),

@@ -1,5 +1,6 @@
-// Managers of all sizes: one node with a storage for each block, and a replica of each block on the storage of its number. With one
-// shard, where all tables have one size, and with five, where an event on a block goes to one of them.
+// Managers of all sizes: one node with a storage for each block, and a replica of each block on the
+// storage of its number. They have one shard, so that all tables have one size, or five, so that an
+// event on a block goes to one of them.
 
 use crate::bench::Bench;
 use crate::events::{block, heartbeat, register, stamp};
@@ -29,7 +30,7 @@ pub fn watch<R: Eprint + Threads + Wait + Sync>(rt: &R, bench: &mut Bench, size:
     watch_filled(rt, bench.alloc, &mut bench.manager, size, &mut bench.tally);
 }
 
-/// The node and all replicas come before the windows.
+/// The node and all replicas are added before the windows.
 fn watch_filled<R: Eprint + Threads + Wait + Sync>(
     rt: &R,
     alloc: Global,
@@ -82,7 +83,8 @@ fn fill<R: Threads + Wait + Sync>(
     }
 }
 
-/// The five events of a block that take no memory, and between them its level and whether its node is retired.
+/// The five events of a block that take no memory, and between them two questions: its level, and
+/// whether its node is retired.
 fn make_calls<R: Threads + Wait + Sync>(
     rt: &R,
     manager: &mut Manager,

@@ -1,5 +1,5 @@
-// Single calls of managers. Each allocation of a call is refused once, on a new manager each time; and those of one report again and
-// again on the same manager.
+// Single calls of managers. Each allocation of a call is refused once, each time on a new manager.
+// Those of one report are refused again and again on the same manager.
 
 use crate::answers::{Outcome, compare, make_all};
 use crate::bench::Bench;
@@ -13,7 +13,8 @@ use std::thread::Threads;
 /// The name of the report that is refused again and again.
 const AGAIN: &str = "report_again";
 
-/// Which allocations of that report are refused in turn: with one worker it makes four, once the capacity of all else is there.
+/// The number of that report's allocations that are refused in turn: with one worker it makes four,
+/// once all other capacity is there.
 const DEPTH: u32 = 4;
 
 const ALL_ADDED: &str = "Done(Done { added: 1000, removed: 0 })";
@@ -33,7 +34,7 @@ pub fn print_tally(rt: &impl Print, bench: &mut Bench, name: &str, workers: u32)
     bench.tally.print(rt, "");
 }
 
-/// A call that takes no memory is made once.
+/// Tries a case with one worker and with two. A call that takes no memory is made once with each.
 fn try_case<R: Print + Eprint + Threads + Wait + Sync>(
     rt: &R,
     bench: &mut Bench,
@@ -56,7 +57,8 @@ fn try_case<R: Print + Eprint + Threads + Wait + Sync>(
     }
 }
 
-/// Writes what a manager answers before and after the call, of which nothing is refused. Whether its answer is the expected one.
+/// Writes what another manager answers before and after the call, in which nothing is refused.
+/// Whether its answer is the expected one.
 fn expect<R: Eprint + Threads + Wait + Sync>(rt: &R, bench: &mut Bench, case: &Case) -> bool {
     let alloc = bench.alloc;
     bench.renew_other();
@@ -77,13 +79,13 @@ fn expect<R: Eprint + Threads + Wait + Sync>(rt: &R, bench: &mut Bench, case: &C
     outcome == Outcome::AsExpected && is_asked && is_asked_again
 }
 
-/// An empty manager of three shards, and the calls that make the cluster.
+/// Replaces the manager by an empty one of three shards, and makes the calls of the cluster.
 pub fn renew<R: Eprint + Threads + Wait + Sync>(rt: &R, bench: &mut Bench, workers: u32) {
     bench.renew_manager(3, workers);
     make(rt, bench, &CLUSTER);
 }
 
-/// Makes calls of which none may be refused.
+/// Makes calls that must all be accepted.
 pub fn make<R: Eprint + Threads + Wait + Sync>(rt: &R, bench: &mut Bench, calls: &[ShortCall]) {
     make_all(rt, bench.alloc, &mut bench.manager, calls, &mut bench.tally);
 }
@@ -94,7 +96,7 @@ pub fn is_as_before<R: Eprint + Threads + Wait + Sync>(rt: &R, bench: &mut Bench
     shows(rt, bench.alloc, &mut bench.manager, before, &mut bench.now)
 }
 
-/// Makes the call on a new manager with one allocation refused, and again where that refused the call.
+/// Makes the call on a new manager with one allocation refused, and again if that refused the call.
 fn make_in_turn<R: Eprint + Threads + Wait + Sync>(
     rt: &R,
     bench: &mut Bench,
@@ -137,7 +139,8 @@ fn call<R: Eprint + Threads + Wait + Sync>(
     )
 }
 
-/// One report of a thousand new numbers, of which an allocation is refused in each turn on one manager, and which is then accepted.
+/// Makes a report of a thousand new numbers on one manager. Each turn refuses one of its
+/// allocations, until it is accepted.
 fn report_again<R: Eprint + Threads + Wait + Sync>(
     rt: &R,
     bench: &mut Bench,

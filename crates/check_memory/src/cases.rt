@@ -1,5 +1,5 @@
-// The calls that are tried, each with the calls before it on a cluster of four nodes, and its answer. The answers were worked out by
-// hand from the rules.
+// The calls that are tried, each with its answer and with the calls before it on a cluster of four
+// nodes. The answers were worked out by hand from the rules.
 
 use crate::short_calls::ShortCall;
 
@@ -8,13 +8,13 @@ pub struct Case {
     pub name: &'static str,
     pub before: &'static [ShortCall],
     pub call: ShortCall,
-    /// What the call answers while there is memory.
+    /// The answer of the call while there is memory.
     pub answer: &'static str,
-    /// Whether the call may be refused for lack of memory.
+    /// Whether the call can be refused because it is out of memory.
     pub takes_memory: bool,
 }
 
-/// Two racks with two nodes each, on each of which a thousand bytes are free.
+/// Two racks with two nodes each, and a thousand free bytes on each node.
 pub static CLUSTER: [ShortCall; 8] = [
     ShortCall::Register(1, 1, 11, 1),
     ShortCall::Register(2, 1, 21, 1),
@@ -28,7 +28,7 @@ pub static CLUSTER: [ShortCall; 8] = [
 
 pub const NOTHING: &[ShortCall] = &[];
 
-/// Two blocks of which a report brings the first replicas, next to two numbers that are no block's.
+/// Two blocks that get their first replicas by a report, which also lists two numbers of no block.
 const TWO_BLOCKS: &[ShortCall] = &[ShortCall::Add(7, 3), ShortCall::Add(8, 3)];
 
 const ONE_BLOCK: &[ShortCall] = &[ShortCall::Add(8, 3)];
@@ -40,10 +40,10 @@ const THOUSAND_NUMBERS: &[(u64, u64, u64)] = &[(1001, 2000, 1)];
 /// A report of a thousand new numbers.
 pub const THOUSAND_REPORTED: ShortCall = ShortCall::Report(11, THOUSAND_NUMBERS);
 
-/// Block 8 once more, behind a run, with another stamp.
+/// Block 8 once more, after a run, with another stamp.
 const RUNS: &[(u64, u64, u64)] = &[(7, 9, 1), (8, 8, 0)];
 
-/// Three blocks that want two further replicas each.
+/// Three blocks, each with two replicas fewer than requested.
 const TO_COPY: &[ShortCall] = &[
     ShortCall::Add(1, 4),
     ShortCall::Received(11, 1, 1),
@@ -58,7 +58,7 @@ const TO_COPY: &[ShortCall] = &[
 
 const ON_ONE_NODE: &[ShortCall] = &[ShortCall::Add(7, 1), ShortCall::Received(11, 7, 1)];
 
-/// A block with as many replicas as its entry holds; a further one makes it grow.
+/// A block whose entry is full with three replicas: one more makes it grow.
 const THREE_REPLICAS: &[ShortCall] = &[
     ShortCall::Add(5, 4),
     ShortCall::Received(11, 5, 1),
@@ -66,17 +66,18 @@ const THREE_REPLICAS: &[ShortCall] = &[
     ShortCall::Received(31, 5, 1),
 ];
 
-/// One of them, as it is there.
+/// The replica on storage 11, as it is.
 const A_KNOWN_NUMBER: &[(u64, u64, u64)] = &[(5, 5, 1)];
 
-/// As many blocks of one of the three shards as its first capacity holds; a further one makes it grow.
+/// Three blocks of one of three shards, which fill its first capacity: one more makes it grow.
 const THREE_OF_A_SHARD: &[ShortCall] = &[
     ShortCall::Add(3, 3),
     ShortCall::Add(6, 3),
     ShortCall::Add(9, 3),
 ];
 
-/// Blocks of which some replica is in excess, stale, bad, on its way, on a node that drains, or nowhere; and a stray one.
+/// Blocks with a replica that is in excess, stale, bad, pending or on a draining node, a block
+/// without replicas, and a stray replica.
 const OF_ALL_KINDS: &[ShortCall] = &[
     ShortCall::Add(1, 1),
     ShortCall::Received(11, 1, 1),
@@ -108,11 +109,11 @@ const ONE_REMOVED: &str = "Done(Done { added: 0, removed: 1 })";
 
 const TWO_REMOVED: &str = "Done(Done { added: 0, removed: 2 })";
 
-/// Blocks 1 and 2 are not among them.
+/// The report removes the replicas of blocks 1 and 2, which it does not list.
 const THOUSAND_FOR_TWO: &str = "Done(Done { added: 1000, removed: 2 })";
 
-/// All three blocks are at level 2, where a node sends two copies at most. So blocks 1 and 2 are copied, each by both nodes that have
-/// it, to both nodes of the other rack, and block 3 has to wait.
+/// All three blocks are at level 2, where a node sends at most two copies. So blocks 1 and 2 are
+/// copied, each from both of its nodes to both nodes of the other rack, and block 3 has to wait.
 const TWO_COPIED_TWICE: &str = "Commanded(Commands { round: 1, nodes: Items { vec: [\
     NodeCommands { node: NodeId(1), transfers: Items { vec: [\
     Transfer { block: BlockId(1), stamp: Stamp { generation: Gen(1), len: 10 }, \
@@ -125,9 +126,10 @@ const TWO_COPIED_TWICE: &str = "Commanded(Commands { round: 1, nodes: Items { ve
     Transfer { block: BlockId(2), stamp: Stamp { generation: Gen(1), len: 10 }, \
     source: StorageId(21), target: StorageId(41) }] }, deletes: Items { vec: [] } }] } })";
 
-/// By the round before, blocks 2 and 3 are on their way to storage 31 and block 4 to storage 11, and what is to be deleted is ordered;
-/// a second copy of block 4 was for node 2, which drains since. So block 3 lacks one copy: the drained replica is sent to node 1, the
-/// only node that has none; and block 4 lacks one, which node 4 alone may take.
+/// The round before commanded all deletes, and copies of blocks 2 and 3 to storage 31 and of block
+/// 4 to storage 11. Its second copy of block 4 was for node 2, which began to drain after that. So
+/// block 3 lacks one copy: the drained replica is sent to node 1, the only node without one. Block
+/// 4 lacks one copy too, which only node 4 can take.
 const TWO_COPIED_ONCE: &str = "Commanded(Commands { round: 2, nodes: Items { vec: [\
     NodeCommands { node: NodeId(2), transfers: Items { vec: [\
     Transfer { block: BlockId(3), stamp: Stamp { generation: Gen(1), len: 10 }, \
@@ -150,7 +152,7 @@ const STALE_AND_BAD: &str = "ReplicaIds(Items { vec: [\
     ReplicaId { block: BlockId(2), storage: StorageId(21) }, \
     ReplicaId { block: BlockId(3), storage: StorageId(41) }] })";
 
-/// Of two on two racks with as many bytes left, that on the storage of the greater number.
+/// Of two replicas on two racks with the same free bytes, the one on the greater storage.
 const ONE_TOO_MANY: &str =
     "ReplicaIds(Items { vec: [ReplicaId { block: BlockId(1), storage: StorageId(31) }] })";
 
@@ -158,7 +160,7 @@ const BLOCK_5: &str = "Blocks(Items { vec: [BlockId(5)] })";
 
 const BLOCKS_1_AND_2: &str = "Blocks(Items { vec: [BlockId(1), BlockId(2)] })";
 
-/// Also where it is in excess.
+/// The places of a block, with that of the replica in excess.
 const BOTH_PLACES: &str = "Storages(Items { vec: [StorageId(11), StorageId(31)] })";
 
 macro_rules! taking {
@@ -173,8 +175,8 @@ macro_rules! bare {
     };
 }
 
-/// Each call that may be refused for lack of memory, with what goes before it, and then each call that takes none, on blocks of all
-/// kinds.
+/// The calls that can be refused because they are out of memory, each with the calls before it; and
+/// then those that take no memory, on blocks of all kinds.
 pub static CASES: [Case; 35] = [
     taking!(
         "report_of_four",

@@ -1,4 +1,4 @@
-// The choices of a round on clusters of all sizes, and what they count.
+// The choices of a round on clusters of all sizes, and the transfers that they count.
 ghost use Rattle.std.specs.Prelude.{◌≡◌};
 ghost use Rattle.bm_place.specs.Sources.{sender_table};
 ghost use Rattle.bm_place.specs.Targets.{target_table};
@@ -61,7 +61,7 @@ fn choose_with_streams<R: Eprint>(
     choose(rt, alloc, live, topology, &mut streams, tally)
 }
 
-/// Makes the table of the targets, and chooses by both.
+/// Makes the table of the targets, and chooses with both tables.
 fn choose<R: Eprint>(
     rt: &R,
     alloc: Global,
@@ -80,7 +80,7 @@ fn choose<R: Eprint>(
     Ok(())
 }
 
-/// The first storage is the source, and then the next, where there is one.
+/// The first storage is the source, and then the next one, if there is one.
 fn choose_sources(live: &[StorageId], topology: &Topology, streams: &mut Streams, tally: &mut Tally)
     requires { streams.old ≡ sender_table topology.now.cluster (λ _. 0) }
 {
@@ -94,7 +94,8 @@ fn choose_sources(live: &[StorageId], topology: &Topology, streams: &mut Streams
     tally.note(second == Some(StorageId(expected)));
 }
 
-/// Block copies go from storage 0 to storage 1 and then to one with more room, where there is one.
+/// Copies of a block on storage 0 go to storage 1, and then to one with more free bytes, if there
+/// is one.
 fn choose_targets(
     live: &[StorageId],
     topology: &Topology,

@@ -1,4 +1,5 @@
-// Clusters of all sizes: each node is on the rack of its own number, and has the storage of that number.
+// Clusters of all sizes: each node is on the rack of its own number, and has the storage of that
+// number.
 
 use crate::events::{FREE, heartbeat, register};
 use crate::marks::say;
@@ -8,7 +9,7 @@ use bm_base::{Event, NodeId, Rack, Refusal, StorageId};
 use bm_topo::Topology;
 use std::alloc::{AllocError, Global};
 
-/// The events with lists are made before the windows. All nodes but the last one join before.
+/// Before the windows, the events with lists are made, and all nodes but the last one join.
 pub fn watch<R: Eprint>(
     rt: &R,
     alloc: Global,
@@ -25,7 +26,7 @@ pub fn watch<R: Eprint>(
     drop(events);
 }
 
-/// The last node joins, one node more joins, and the last one sends a heartbeat.
+/// The last node joins, one more node joins, and the last one sends a heartbeat.
 fn make_events(alloc: Global, events: &mut Vec<Event>, size: u32, tally: &mut Tally) {
     let number = size.saturating_sub(1);
     tally.require(add(events, register(alloc, number, number, number, 1)));
@@ -108,7 +109,7 @@ fn look_up(topology: &Topology, number: u32, tally: &mut Tally) {
     tally.note(topology.node_drains(NodeId(number)) == Some(topology.is_draining(storage)));
 }
 
-/// A node drains, in room that was made, and then drains no more.
+/// A node drains, with the capacity that was prepared, and then stops draining.
 fn drain_and_stay(topology: &mut Topology, number: u32, tally: &mut Tally) {
     let node = NodeId(number);
     tally.note(take_owned(topology, Event::Drain { node }).is_ok());

@@ -1,4 +1,4 @@
-// Runs of a crew, with as many pieces as it is ready for.
+// Runs of a crew that fill its capacity of pieces.
 ghost use Rattle.std.specs.Prelude.{◌≡◌, ◌<◌, IfOk, vec_len};
 
 use crate::bench::Bench;
@@ -14,7 +14,7 @@ use std::alloc::{AllocError, Global};
 use std::sync::Wait;
 use std::thread::Threads;
 
-/// How many pieces each of the many runs has.
+/// The number of pieces of each of the many runs.
 const PIECES: u32 = 8;
 
 /// A crew of the calling thread alone.
@@ -34,7 +34,7 @@ pub fn watch<R: Eprint + Threads + Wait + Sync>(
     Ok(())
 }
 
-/// How many pieces were worked by crews of two workers.
+/// The number of pieces that crews of two workers worked.
 pub fn repeat<R: Eprint + Threads + Wait + Sync>(rt: &R, alloc: Global, tally: &mut Tally) -> u64 {
     let mut worked = 0u64;
     for _ in 0..MARKS {
@@ -56,7 +56,7 @@ fn count_squares<R: Eprint + Threads + Wait + Sync>(rt: &R, alloc: Global) -> Re
     Ok(count)
 }
 
-/// With the greatest number of shards and workers. One more of each is refused.
+/// Runs with the greatest numbers of shards and workers. One more of either is refused.
 pub fn run_limits<R: Print + Eprint + Threads + Wait + Sync>(
     rt: &R,
     bench: &mut Bench,
@@ -83,7 +83,7 @@ fn is_bad(bench: &mut Bench, shards: u32, workers: u32) -> bool {
     bench.replace_manager(made) == Err(Refusal::BadConfig)
 }
 
-/// The squares of the numbers below `count`. A window begins with the run where it is watched.
+/// The squares of the numbers below `count`. If the run is watched, a window begins with it.
 fn squares<R: Eprint + Threads + Wait + Sync>(
     rt: &R,
     alloc: Global,
@@ -108,7 +108,7 @@ fn note_all(squares: &[(u32, u64)], size: u32, tally: &mut Tally) {
     }
 }
 
-/// This number of pieces, each its shard's number.
+/// A piece for each shard below `count`, which is the number of the shard.
 fn pieces(alloc: Global, count: u32) -> Result<Vec<(u32, u64)>, AllocError>
     ensures { IfOk result (λ made. vec_len made ≡ count) }
 {

@@ -1,10 +1,10 @@
-// Events with lists, of consecutive numbers.
+// Events with lists of consecutive numbers.
 ghost use Rattle.std.specs.Prelude.{◌≡◌};
 
 use bm_base::{BlockId, Entry, Event, Gen, Items, NodeId, Rack, Remaining, Stamp, StorageId};
 use std::alloc::{AllocError, Global};
 
-/// How many bytes are free on a storage after its heartbeat.
+/// The free bytes of a storage after its heartbeat.
 pub const FREE: u64 = 1000;
 
 pub fn block(number: u32) -> BlockId

@@ -1,4 +1,5 @@
-// The greatest number of nodes, storages and report entries, and more replicas than a block can want.
+// The greatest numbers of nodes, storages and report entries, and more replicas than a block can
+// request.
 
 use crate::bench::Bench;
 use crate::events::{register, report, report_each};
@@ -23,10 +24,10 @@ const NODES: u32 = 256;
 
 const STORAGES_OF_A_NODE: u32 = 16;
 
-/// How many entries a report may have.
+/// The greatest number of entries of a report.
 const ENTRIES: u64 = 65536;
 
-/// How many replicas a report may list.
+/// The greatest number of replicas that a report can list.
 const NUMBERS: u64 = 1_048_576;
 
 pub fn run<R: Print + Eprint + Threads + Wait + Sync>(rt: &R, bench: &mut Bench) {
@@ -48,8 +49,8 @@ pub fn run<R: Print + Eprint + Threads + Wait + Sync>(rt: &R, bench: &mut Bench)
     }
 }
 
-/// 256 nodes join with sixteen storages each. Then neither a node without any may join, nor, in the place of a dead one, a node
-/// with seventeen.
+/// 256 nodes join with sixteen storages each. Then a node without storages is refused, and so is
+/// one with seventeen storages in place of a dead one.
 fn fill_cluster<R: Print + Threads + Wait + Sync>(
     rt: &R,
     alloc: Global,
@@ -80,7 +81,7 @@ fn join<R: Threads + Wait + Sync>(
     apply_made(rt, manager, register(alloc, node, node % 2, first, count))
 }
 
-/// 17 live replicas of a block of which one is wanted.
+/// 17 live replicas of a block with one requested replica.
 fn find_excess<R: Print>(
     rt: &R,
     alloc: Global,
@@ -115,7 +116,8 @@ fn print_excess<R: Print>(rt: &R, excess: &[StorageId]) {
     );
 }
 
-/// The longest report with an entry for each block, a round, a report of nothing, and the longest report of one run.
+/// The longest report with an entry for each block, a round, an empty report, and the longest
+/// report of one run.
 fn report_blocks<R: Print + Threads + Wait + Sync>(
     rt: &R,
     alloc: Global,
@@ -142,7 +144,7 @@ fn report_blocks<R: Print + Threads + Wait + Sync>(
     report_run(rt, alloc, manager)
 }
 
-/// How many deletes a round commands.
+/// The number of deletes that a round commands.
 fn count_deletes<R: Threads + Wait + Sync>(rt: &R, manager: &mut Manager) -> Result<u64, Refusal> {
     match manager.round(rt, &NoGate) {
         Ok(commands) => {
@@ -162,7 +164,7 @@ fn deletes_of(commands: &Commands) -> u64 {
     count
 }
 
-/// The greatest number of replicas that a report may list, in one run.
+/// A report of one run, with the greatest number of replicas.
 fn report_run<R: Print + Threads + Wait + Sync>(
     rt: &R,
     alloc: Global,

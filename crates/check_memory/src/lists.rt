@@ -1,6 +1,6 @@
-// Lists of calls, in which an allocation is refused: `answer_all` on one manager, and `answers_alike` on two that it makes itself. A
-// call of a list that is refused is passed over: the answers to the others, and what they leave, are those of a manager which was made
-// these alone.
+// Lists of calls in which an allocation is refused: `answer_all` on one manager, and
+// `answers_alike` on two that it makes itself. A refused call of a list is skipped: the other
+// answers, and the state after them, are those of a manager that makes only the accepted calls.
 
 use crate::answers::{ask_full, make_all, write_line};
 use crate::bench::Bench;
@@ -19,7 +19,8 @@ use std::thread::Threads;
 
 const FOUR_NUMBERS: &[(u64, u64, u64)] = &[(1, 4, 1)];
 
-/// Events on blocks of all three shards, a round, a death, and questions on what they leave.
+/// Events on blocks of all three shards, a round, a death, and questions about the state after
+/// them.
 static LIST: [ShortCall; 16] = [
     ShortCall::Add(1, 2),
     ShortCall::Received(11, 1, 1),
@@ -39,7 +40,7 @@ static LIST: [ShortCall; 16] = [
     ShortCall::Calls,
 ];
 
-/// The answers to the calls that make the cluster, a line each.
+/// The answers to the calls of the cluster, one in each line.
 const OF_CLUSTER: &str = "\
     Done(Done { added: 0, removed: 0 })\n\
     Done(Done { added: 0, removed: 0 })\n\
@@ -50,9 +51,10 @@ const OF_CLUSTER: &str = "\
     Done(Done { added: 0, removed: 0 })\n\
     Done(Done { added: 0, removed: 0 })\n";
 
-/// The answers to the list after them, a line each, which were worked out by hand from the rules. The round first copies block 5, of which
-/// one replica is live, to the other rack and then to the last node that has none, and then block 1 to a second rack; and it deletes
-/// the three replicas of no block.
+/// The answers to the list after them, one in each line, worked out by hand from the rules. The
+/// round first copies block 5, which has one live replica, to the other rack and then to the last
+/// node without one. Then it copies block 1 to a second rack, and it deletes the three replicas of
+/// no block.
 const OF_LIST: &str = "\
     Done(Done { added: 0, removed: 0 })\n\
     Done(Done { added: 1, removed: 0 })\n\
@@ -95,7 +97,7 @@ struct List {
     /// Calls that are made before, one by one.
     before: &'static [ShortCall],
     calls: Vec<Call>,
-    /// Their answers while there is memory, a line each.
+    /// The answers to `calls` while there is memory, one in each line.
     answers: String,
 }
 
@@ -104,7 +106,7 @@ pub fn run<R: Print + Eprint + Threads + Wait + Sync>(rt: &R, bench: &mut Bench,
     run_list(rt, bench, true, most);
 }
 
-/// The list is tried after the calls that make the cluster, of which `answers_alike` makes both.
+/// Tries the list after the calls of the cluster. `answers_alike` makes those as part of its list.
 fn run_list<R: Print + Eprint + Threads + Wait + Sync>(
     rt: &R,
     bench: &mut Bench,
@@ -189,7 +191,8 @@ fn try_on_one<R: Eprint + Threads + Wait + Sync>(
     }
 }
 
-/// Makes the calls with one allocation refused, and again where there was no memory for the answers, and nothing had changed.
+/// Makes the calls with one allocation refused, and again if there was no memory for the answers.
+/// That try must change nothing.
 fn answer_with_refusal<R: Eprint + Threads + Wait + Sync>(
     rt: &R,
     bench: &mut Bench,
@@ -222,7 +225,7 @@ fn answer_all<R: Eprint + Threads + Wait + Sync>(
     answers
 }
 
-/// Notes the answers, and whether the manager shows what the accepted calls leave on a new one.
+/// Notes the answers, and whether the state is that of a new manager after the accepted calls.
 fn note_left<R: Eprint + Threads + Wait + Sync>(
     rt: &R,
     bench: &mut Bench,
@@ -244,7 +247,7 @@ pub fn note_alike<R: Eprint + Threads + Wait + Sync>(rt: &R, bench: &mut Bench) 
     bench.tally.note(is_asked && is_alike);
 }
 
-/// Has two managers made that are made the calls, one of three shards and one of one.
+/// Makes the calls on two managers of `answers_alike`, one with three shards and one with one.
 fn try_on_two<R: Eprint + Threads + Wait + Sync>(
     rt: &R,
     bench: &mut Bench,
@@ -264,7 +267,7 @@ fn try_on_two<R: Eprint + Threads + Wait + Sync>(
     }
 }
 
-/// Makes the calls with one allocation refused, and again where that was the answer.
+/// Makes the calls with one allocation refused, and again if that refused them.
 fn answer_by_two_with_refusal<R: Eprint + Threads + Wait + Sync>(
     rt: &R,
     bench: &mut Bench,
@@ -294,8 +297,8 @@ fn answer_by_two<R: Eprint + Threads + Wait + Sync>(
     answered
 }
 
-/// Notes whether the answers to the accepted calls are those of the other manager, which is made these alone; and whether all calls but
-/// one were accepted, or all, and then answered as was worked out.
+/// Notes whether the other manager gives the same answers to the accepted calls alone. Notes also
+/// whether just one call was refused, or whether all were accepted and have the expected answers.
 fn note_answers<R: Threads + Wait + Sync>(
     rt: &R,
     bench: &mut Bench,
@@ -319,7 +322,8 @@ fn note_answers<R: Threads + Wait + Sync>(
     }
 }
 
-/// Writes the answers to the accepted calls, a line each, in the place of `text`. How many calls were refused.
+/// Replaces `text` by the answers to the accepted calls, one in each line. The number of refused
+/// calls.
 fn write_accepted(answers: &[Answer], text: &mut String) -> Result<u32, AllocError> {
     let mut refused = 0u32;
     text.clear();
@@ -333,7 +337,7 @@ fn write_accepted(answers: &[Answer], text: &mut String) -> Result<u32, AllocErr
     Ok(refused)
 }
 
-/// Makes the accepted calls, and writes their answers in the place of `text`.
+/// Makes the accepted calls, and replaces `text` by their answers.
 fn answer_accepted<R: Threads + Wait + Sync>(
     rt: &R,
     other: &mut Manager,

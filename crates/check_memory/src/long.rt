@@ -8,17 +8,18 @@ use crate::{arenas, crews, views};
 use std::sync::Wait;
 use std::thread::Threads;
 
-/// How often the calls are made before a mark.
+/// The number of cycles before each mark.
 pub const CYCLES: u32 = 2000;
 
-/// How many marks there are of each kind.
+/// The number of marks of each kind.
 pub const MARKS: u32 = 10;
 
-/// A call on all shards starts threads twice, so a crew makes fewer calls.
+/// A call on all shards starts threads twice, so a manager with a crew makes fewer cycles.
 const CREWED_CYCLES: u32 = CYCLES / 10;
 
-/// Two nodes join, and a block with a replica on each; one of these and a stray replica by a report. All lists are asked for. After a
-/// round all goes again: the stray replica, the block, a storage, and the nodes with the rest.
+/// Two nodes join. A block gets a replica on each: one by a notice, the other, with a stray
+/// replica, by a report. Then all lists are read, and a round is made. After that everything is
+/// removed again: the stray replica, the block, a storage, and the nodes with the rest.
 static CYCLE: [ShortCall; 16] = [
     ShortCall::Register(1, 1, 11, 2),
     ShortCall::Register(2, 2, 21, 2),
@@ -38,7 +39,7 @@ static CYCLE: [ShortCall; 16] = [
     ShortCall::Dead(2),
 ];
 
-/// One manager has three shards and one worker, another five shards and a crew.
+/// One manager has three shards and one worker, and another five shards and a crew.
 pub fn run<R: Print + Eprint + Threads + Wait + Sync>(rt: &R, bench: &mut Bench) {
     bench.renew_manager(3, 1);
     repeat(rt, bench, CYCLES, "manager");

@@ -1,15 +1,19 @@
-//! Four checks of how the library uses memory. The first argument names one; with none all four run, one after the other.
+//! Four checks of how the library uses memory. The first argument names one of them; without it all
+//! four run, one after the other.
 //!
-//! - `refused [TURNS]`: each call of a manager and of a view that takes memory, with the allocation of one number in it refused, from the
-//!   first to that of number `TURNS` (1 where none is given). A refused call has changed no answer, and is accepted when it is made again.
-//! - `without`: every call that takes no memory, on tables of all sizes from 1 to 130 entries, so that each capacity is filled to its
-//!   last entry once.
-//! - `limits`: calls at their limits, with ample memory. None is refused there, and one more of each is, but not for lack of memory.
-//! - `long`: the same calls 2,000 to 20,000 times each, so that memory that is lost on the way is seen.
+//! - `refused [TURNS]`: each call of a manager and of a view that takes memory, with one of its
+//!   allocations refused. Each of the first `TURNS` allocations is refused in turn (1 by default).
+//!   A refused call has changed no answer, and is accepted when it is made again.
+//! - `without`: every call that takes no memory, on tables of all sizes from 1 to 130 entries, so
+//!   that each capacity is once filled to its last entry.
+//! - `limits`: calls at their limits, with ample memory. None of them is refused. One more of each
+//!   is refused, but for another reason than memory.
+//! - `long`: the same calls 2,000 to 20,000 times each, so that a memory leak shows.
 //!
-//! Standard output has how many answers were those worked out by hand. Lines on standard error say where the watched calls begin and
-//! end: a script runs this program with a library that refuses allocations there, or counts what is held. Where nothing refuses them,
-//! all calls are accepted.
+//! Standard output has the number of answers that are those worked out by hand. Lines on standard
+//! error mark where the watched calls begin and end. A script runs this program with a library that
+//! refuses allocations there, or counts the bytes that are held. Without that library all calls are
+//! accepted.
 #![tactic(auto)]
 
 mod answers;
@@ -64,7 +68,7 @@ static CHECKS: [(&str, Check); 4] = [
     ("long", Check::Long),
 ];
 
-/// Ends with status 1 for unknown arguments, and where memory is refused outside the watched calls.
+/// Ends with status 1 for unknown arguments, and if memory is refused outside the watched calls.
 fn main(rt: HostRuntime) -> ExitCode {
     match Bench::new(rt.alloc()) {
         Ok(mut bench) => {
@@ -109,7 +113,7 @@ fn argument<R: Runtime + AllocGlobal>(rt: &R, number: usize) -> Option<String> {
     env::args(rt).ok()?.skip(number).next()
 }
 
-/// Runs the check of this name, or, if there is none, all of them under headings.
+/// Runs the check of this name, or if the name is empty all checks under headings.
 fn run_named<R: Print + Eprint + Threads + Wait + Sync>(
     rt: &R,
     bench: &mut Bench,

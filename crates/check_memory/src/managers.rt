@@ -1,5 +1,5 @@
-// Events for managers. What is let go here is let go by `drop`: its proof is one for all functions, and that of a value which goes at the
-// end of its scope is one for each.
+// Events for managers. Values are dropped by `drop` here. Its proof is one for all functions, while
+// a value that is dropped at the end of its scope needs a proof in each.
 
 use crate::tally::Tally;
 use bm_base::{Config, Done, Event, Refusal};
@@ -17,7 +17,7 @@ pub fn config(shards: u32, workers: u32) -> Config {
     }
 }
 
-/// Gives the manager an event, without the promises of [`Manager::apply`], which no caller here needs.
+/// Applies an event, without the promises of [`Manager::apply`], which no caller here needs.
 pub fn apply<R: Threads + Wait + Sync>(
     rt: &R,
     manager: &mut Manager,
@@ -39,7 +39,7 @@ pub fn apply_made<R: Threads + Wait + Sync>(
     }
 }
 
-/// Notes a call that may not be refused. What it changed is of no interest.
+/// Notes a call that must be accepted, whatever it changed.
 pub fn require(done: Result<Done, Refusal>, tally: &mut Tally) {
     if let Err(refusal) = done {
         tally.fail(refusal);

@@ -1,4 +1,5 @@
-// What is made new, and what is shown to readers: a manager, a view with two locators, and a version, with an allocation refused.
+// New managers, new views with two locators, and versions for readers, each with an allocation
+// refused.
 ghost use Rattle.std.specs.Prelude.{◌≡◌, ◌≤◌, IfOk, IfErr};
 
 use crate::bench::Bench;
@@ -18,10 +19,10 @@ use std::alloc::Global;
 use std::sync::Wait;
 use std::thread::Threads;
 
-/// How many shards a version is made of, each of which has a block.
+/// The number of shards of a version. Each shard has a block.
 const SHARDS: u32 = 4;
 
-/// A block of each shard, of which three replicas are wanted, and the first replica of block 7.
+/// A block of each shard, with three requested replicas, and the first replica of block 7.
 static FIRST_REPLICA: [ShortCall; 5] = [
     ShortCall::Add(4, 3),
     ShortCall::Add(5, 3),
@@ -61,7 +62,7 @@ pub fn run<R: Print + Eprint + Threads + Wait + Sync>(rt: &R, bench: &mut Bench,
     }
 }
 
-/// Makes a manager with one allocation refused, and again where that was the answer.
+/// Makes a manager with one allocation refused, and again if that refused it.
 fn make_manager<R: Eprint>(rt: &R, bench: &mut Bench, workers: u32, turn: u32) {
     let window = Window {
         name: "new_manager",
@@ -97,7 +98,7 @@ fn open<R: Eprint + Wait>(
     Ok(())
 }
 
-/// Opens a view with one allocation refused, and again where that was the answer.
+/// Opens a view with one allocation refused, and again if that refused it.
 fn open_with_refusal<R: Eprint + Wait>(
     rt: &R,
     alloc: Global,
@@ -154,8 +155,8 @@ fn publish_on_new<R: Eprint + Threads + Wait + Sync>(
     published
 }
 
-/// Publishes one version, and after one call more another one, of which an allocation is refused. Then both locators still read the
-/// first. Neither changes an answer of the manager.
+/// Publishes a version, and after one more call another one, of which an allocation is refused.
+/// Then both locators still read the first. Publishing changes no answer of the manager.
 fn publish_both<R: Eprint + Threads + Wait + Sync>(
     rt: &R,
     bench: &mut Bench,
@@ -183,7 +184,8 @@ fn publish_both<R: Eprint + Threads + Wait + Sync>(
     Ok(())
 }
 
-/// Publishes with one allocation refused, and again where that was the answer, and nothing had changed.
+/// Publishes with one allocation refused, and again if that refused it. The refused call must
+/// change nothing.
 fn publish_with_refusal<R: Eprint + Threads + Wait + Sync>(
     rt: &R,
     bench: &mut Bench,
@@ -217,7 +219,7 @@ fn publish_with_refusal<R: Eprint + Threads + Wait + Sync>(
     }
 }
 
-/// Publishes with an allocation refused by the window.
+/// Publishes while the window refuses an allocation.
 fn publish<R: Eprint + Threads + Wait + Sync>(
     rt: &R,
     manager: &mut Manager,
@@ -236,7 +238,7 @@ fn publish<R: Eprint + Threads + Wait + Sync>(
     published
 }
 
-/// Whether both locators answer so.
+/// Whether both locators have this answer.
 fn all_read(first: &mut Locator, others: &mut Vec<Locator>, expected: Option<Located>) -> bool
     ensures { first.new.home ≡ first.old.home }
 {
@@ -252,7 +254,7 @@ fn count_readers(locators: &mut Vec<Locator>, expected: Option<Located>) -> u32 
     count
 }
 
-/// Whether both locators read a version, the one that learns of it and the other.
+/// Whether both locators read a version: the one that learns of it, and the other.
 fn learn_and_read(
     first: &mut Locator,
     others: &mut Vec<Locator>,

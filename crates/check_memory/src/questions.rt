@@ -7,7 +7,8 @@ use std::alloc::Global;
 use std::sync::Wait;
 use std::thread::Threads;
 
-/// On the manager as a whole; on nodes 1 to 6, of which those that are there have storages 11 to 61; and on blocks 1 to 11.
+/// Questions about the manager as a whole; about nodes 1 to 6, whose storages are 11 to 61 if they
+/// exist; and about blocks 1 to 11.
 static QUESTIONS: [ShortCall; 40] = [
     ShortCall::Calls,
     ShortCall::Rounds,
@@ -51,7 +52,7 @@ static QUESTIONS: [ShortCall; 40] = [
     ShortCall::Level(11),
 ];
 
-/// Whether these are the answers to all questions. It writes the answers in the place of `text`.
+/// Whether these are the answers to all questions. Replaces `text` by the answers.
 pub fn shows<R: Eprint + Threads + Wait + Sync>(
     rt: &R,
     alloc: Global,
@@ -62,7 +63,7 @@ pub fn shows<R: Eprint + Threads + Wait + Sync>(
     ask_all(rt, alloc, manager, text) && text.as_str() == expected
 }
 
-/// Writes the answers to all questions in the place of `text`. Whether there is memory for them.
+/// Replaces `text` by the answers to all questions. Whether there is memory for them.
 pub fn ask_all<R: Eprint + Threads + Wait + Sync>(
     rt: &R,
     alloc: Global,

@@ -1,6 +1,7 @@
-// Each call of a manager and of a view that takes memory, with one of its allocations refused. A call that was refused has changed no
-// answer, and is accepted when it is made again; an accepted one is answered as worked out by hand, and leaves the same as on a manager
-// of one shard and one worker. In a list of calls the refused one is passed over.
+// Each call of a manager and of a view that takes memory, with one of its allocations refused. A
+// refused call has changed no answer, and is accepted when it is made again. An accepted call has
+// the answer that was worked out by hand, and leads to the same state as on a manager of one shard
+// and one worker. In a list of calls the refused one is skipped.
 
 use crate::bench::Bench;
 use crate::{calls_in_turn, lists, publishing};

@@ -1,4 +1,5 @@
-// Full reports: the first one of a storage names the blocks of a run, whose entries and room are there when it is applied.
+// Full reports: the first report of a storage lists a run of blocks, and is applied with the
+// entries and the capacity that were prepared.
 ghost use Rattle.std.specs.Prelude.{◌≡◌, [], None, Some, OnOk};
 ghost use Rattle.bm_base.specs.State.{Cluster};
 ghost use Rattle.bm_arena.specs.Contents.{block_at, empty_block, marks_at};
@@ -101,7 +102,7 @@ fn name(report: &mut Report, arena: &mut Arena, from: u32, to: u32) -> Result<()
     report.ready(arena, StorageId(0), entries.as_slice(), WHOLE)
 }
 
-/// Makes the first report of an arena that holds nothing ready: of blocks 1 to the last one.
+/// Makes the first report of an empty arena ready: of blocks 1 to `last`.
 fn make_ready(report: &mut Report, arena: &mut Arena, last: u32) -> Result<(), Refusal>
     requires ids { arena.old.ids ≡ [] }
     requires delimiter { block_at arena.old arena.old.delimiter ≡ Some (empty_block 0) }
@@ -113,7 +114,7 @@ fn make_ready(report: &mut Report, arena: &mut Arena, last: u32) -> Result<(), R
     name(report, arena, 1, last)
 }
 
-/// Each block has a stray replica.
+/// Notes whether each block has a stray replica.
 fn read_all(arena: &Arena, last: u32, tally: &mut Tally) {
     for number in 1..=last {
         match arena.find(BlockId(u64::from(number))) {

@@ -6,18 +6,18 @@ use std::alloc::{AllocError, Global};
 
 #[derive(Clone, Copy)]
 pub enum ShortCall {
-    /// A node and its rack, its first storage and how many it has.
+    /// A node, its rack, its first storage and the number of its storages.
     Register(u32, u32, u32, u32),
-    /// A node, and a storage of it on which 1,000 bytes are free.
+    /// A node, and a storage of it with 1,000 free bytes.
     Heartbeat(u32, u32),
     Drain(u32),
     Undrain(u32),
     Dead(u32),
     Failed(u32),
-    /// A block, and how many replicas of it are wanted.
+    /// A block, and the number of its requested replicas.
     Add(u64, u32),
     Delete(u64),
-    /// A block, and how many replicas of it are wanted from now on.
+    /// A block, and the new number of its requested replicas.
     Replication(u64, u32),
     /// A block and its new generation.
     Restamp(u64, u64),
@@ -67,7 +67,7 @@ fn event_of(alloc: Global, short: ShortCall) -> Result<Event, AllocError> {
     }
 }
 
-/// An event without a list. (Any other call becomes a notice that a replica is gone which is nowhere.)
+/// An event without a list. Any other call becomes a notice that a nonexistent replica was deleted.
 fn plain_event(short: ShortCall) -> Event {
     match short {
         ShortCall::Drain(node) => Event::Drain { node: NodeId(node) },

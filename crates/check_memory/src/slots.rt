@@ -1,4 +1,4 @@
-// Lists and sets over slots, filled to their capacity: a level for each slot, and two kinds of sets.
+// Lists and sets of slots, filled to their capacity: a level for each slot, and two kinds of sets.
 
 use crate::marks::say;
 use crate::tally::Tally;
@@ -68,7 +68,7 @@ fn level_of(slot: usize) -> Level {
     }
 }
 
-/// Gives each slot a level, one after another: the last one is at the front of its list.
+/// Gives each slot a level, one after another. Each new one is at the front of its list.
 fn spread(lists: &mut LevelLists, size: usize, tally: &mut Tally) {
     for slot in 0..size {
         if slot < lists.room() {
@@ -98,7 +98,7 @@ fn length_of(walk: Walk<'_>) -> usize {
     length
 }
 
-/// Takes the level of each slot of one list, from slot to slot.
+/// Removes the level of each slot in one list, from slot to slot.
 fn take_levels(lists: &mut LevelLists, size: usize, tally: &mut Tally) {
     let mut count = 0usize;
     let mut at = lists.first(Level::Highest);
@@ -123,7 +123,7 @@ fn insert_all(slots: &mut SlotSet, size: usize, tally: &mut Tally) {
     tally.note(length_of(slots.walk()) == size);
 }
 
-/// Takes each slot out, from slot to slot.
+/// Removes each slot, from slot to slot.
 fn remove_all(slots: &mut SlotSet, size: usize, tally: &mut Tally) {
     let mut count = 0usize;
     let mut at = slots.first();
@@ -137,7 +137,7 @@ fn remove_all(slots: &mut SlotSet, size: usize, tally: &mut Tally) {
     tally.note(count == size && slots.len() == 0);
 }
 
-/// Puts each slot into it, one after another: the last one is the last member.
+/// Inserts each slot, one after another. Each new one is the last member.
 fn insert_members(slots: &mut SparseSet, size: usize, tally: &mut Tally) {
     for slot in 0..size {
         if slot < slots.room() {
@@ -155,7 +155,7 @@ fn last_of(slots: &SparseSet) -> Option<usize> {
     }
 }
 
-/// Takes each slot out, the first member first: the last one takes its index.
+/// Removes each slot. The last member takes its index.
 fn remove_members(slots: &mut SparseSet, size: usize, tally: &mut Tally) {
     for slot in 0..size {
         if slot < slots.room() {

@@ -1,14 +1,16 @@
-// What was answered.
+// Counts of the answers.
 
 use bm_base::Refusal;
 
-/// How many answers were the expected ones and how many were not, and how many calls were refused for lack of memory.
+/// The numbers of expected answers, of other answers, and of calls that were refused because they
+/// were out of memory.
 #[derive(Clone, Copy)]
 pub struct Tally {
     pub right: u64,
     pub wrong: u64,
     pub refused: u64,
-    /// Why a call outside the windows was refused, where none may be. The checks go on, and the program ends with status 1.
+    /// Why a call outside the windows was refused, although it must be accepted. The checks go on,
+    /// and the program ends with status 1.
     pub failure: Option<Refusal>,
 }
 
@@ -28,7 +30,7 @@ impl Tally {
         }
     }
 
-    /// Counts the answer of a call that takes memory.
+    /// Counts the call if it was refused.
     pub fn refuse_if(&mut self, is_refused: bool) {
         self.refused = self.refused.saturating_add(u64::from(is_refused));
     }
@@ -43,7 +45,8 @@ impl Tally {
         }
     }
 
-    /// Ends the line that begins with a name, and counts from 0 again. A line that can't be printed is left out.
+    /// Ends the line that begins with a name, and counts from 0 again. A line that can't be printed
+    /// is left out.
     pub fn print(&mut self, rt: &impl Print, kind: &str) {
         let Tally {
             right,

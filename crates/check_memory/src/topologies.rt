@@ -6,7 +6,7 @@ use bm_base::{Event, Refusal};
 use bm_topo::Topology;
 use std::alloc::{AllocError, Global};
 
-/// An event, from its check to its commit.
+/// Applies an event, from its check to its commit.
 pub fn take(topology: &mut Topology, event: &Event) -> Result<(), Refusal> {
     topology.check(event)?;
     topology.prepare(event)?;
@@ -27,7 +27,7 @@ pub fn take_made(topology: &mut Topology, made: Result<Event, AllocError>, tally
     }
 }
 
-/// An event that is checked, prepared and given up: the capacity stays.
+/// Checks, prepares and aborts an event: the capacity stays.
 pub fn prepare(topology: &mut Topology, event: &Event) -> Result<(), Refusal> {
     topology.check(event)?;
     topology.prepare(event)?;
@@ -35,7 +35,7 @@ pub fn prepare(topology: &mut Topology, event: &Event) -> Result<(), Refusal> {
     Ok(())
 }
 
-/// The nodes below `count` join, each on the rack and with the storage of its number.
+/// The nodes below `count` join, each on the rack and with the storage of its own number.
 pub fn join_all(topology: &mut Topology, alloc: Global, count: u32, tally: &mut Tally) {
     for number in 0..count {
         let made = register(alloc, number, number, number, 1);

@@ -1,4 +1,5 @@
-// Transfers on their way, three of each block: to storage 0 since round 1, to storage 1 since round 4, to storage 2 since round 5.
+// Pending transfers, three of each block: to storage 0 since round 1, to storage 1 since round 4,
+// to storage 2 since round 5.
 ghost use Rattle.std.specs.Prelude.{◌≡◌, ◌≤◌, ◌<◌, ℕ, OnOk};
 ghost use Rattle.bm_pending.specs.OnTheWay.{room};
 
@@ -21,7 +22,7 @@ pub fn watch<R: Eprint>(
     watched
 }
 
-/// Memory is taken before the first window.
+/// All memory is reserved before the first window.
 fn watch_pending<R: Eprint>(
     rt: &R,
     alloc: Global,
@@ -61,7 +62,7 @@ fn open_windows<R: Eprint>(
     say(rt, "ended", "transfers");
 }
 
-/// Makes room for three transfers of each block.
+/// Reserves memory for three transfers of each block.
 fn reserve_all(pending: &mut PendingTransfers, size: u32) -> Result<(), Refusal>
     ensures { OnOk result ((b : ℕ) → b < size → 3 ≤ room pending.new b) }
 {
@@ -71,7 +72,7 @@ fn reserve_all(pending: &mut PendingTransfers, size: u32) -> Result<(), Refusal>
     Ok(())
 }
 
-/// Whether there is no memory for one block more. If there is, it is taken out again.
+/// Whether there is no memory for one more block. If there is, it is removed again.
 fn is_new_block_refused(pending: &mut PendingTransfers, size: u32) -> bool
     ensures { (b : ℕ) → b < size → room pending.old b ≤ room pending.new b }
 {
@@ -112,7 +113,7 @@ fn counts_are(pending: &PendingTransfers, size: u32, count: usize, tally: &mut T
     }
 }
 
-/// The room of the dropped transfers is still there.
+/// Uses the capacity of the dropped transfers, which is still there.
 fn insert_again(pending: &mut PendingTransfers, size: u32, tally: &mut Tally) {
     for number in 0..size {
         match pending.reserve(block(number), 1) {

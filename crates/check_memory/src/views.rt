@@ -1,4 +1,5 @@
-// Views: a table with one row, which a locator reads. None of these calls depends on how long the table is.
+// Views: a table with one row, which a locator reads. None of these calls depends on the length of
+// the table.
 ghost use Rattle.std.specs.Prelude.{◌≡◌, ◌≤◌, ◌<◌, IfOk, OnOk, []};
 ghost use Rattle.std.specs.Arc.{arc_value};
 ghost use Rattle.bm_view.specs.History.{last_of};
@@ -13,7 +14,7 @@ use bm_view::{Located, Locator, Publisher, Receipt, Table, open_view};
 use std::alloc::{AllocError, Global};
 use std::sync::{Arc, Wait};
 
-/// The block of which many versions have a row.
+/// The block of the one row in each of many versions.
 const BLOCK: u32 = 7;
 
 /// The greatest number of readers.
@@ -27,7 +28,8 @@ pub fn watch<R: Eprint + Wait>(rt: &R, alloc: Global, size: u32, tally: &mut Tal
     say(rt, "ended", "control");
 }
 
-/// Opens a view, in which a locator learns one version of a size, or, where that is 0, many versions. Ends it before an error is returned.
+/// Opens a view, in which a locator learns one version with `size` calls, or many versions if
+/// `size` is 0. Ends the view before it returns an error.
 pub fn publish_on_new<R: Eprint + Wait>(
     rt: &R,
     alloc: Global,
@@ -68,7 +70,7 @@ fn publish<R: Eprint + Wait>(
     }
 }
 
-/// With the greatest number of readers. One more is refused.
+/// Opens a view with the greatest number of readers. One more is refused.
 pub fn open_limits<R: Print + Wait>(rt: &R, alloc: Global) -> Result<(), Refusal> {
     let (publisher, mut locators) = open_view(rt, alloc, READERS)?;
     let mut answers = 0u64;
@@ -166,7 +168,7 @@ fn publish_one<R: Wait>(
     Ok(locator.locate(block(BLOCK)) == found_on(calls, &[StorageId(BLOCK)]))
 }
 
-/// What a locator finds of a block with these storages.
+/// The answer of a locator for a block with these storages.
 pub fn found_on(calls: u64, storages: &[StorageId]) -> Option<Located> {
     Some(Located {
         calls,

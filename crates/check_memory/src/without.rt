@@ -1,5 +1,5 @@
-// Every call that takes no memory. In windows named `control` calls are made that do take memory: where all are refused, some of these
-// must be.
+// Every call that takes no memory. The windows named `control` make calls that do take memory: if
+// all allocations are refused, some of these must be refused.
 ghost use Rattle.std.specs.Prelude.{◌<◌};
 
 use crate::bench::Bench;
@@ -13,7 +13,7 @@ use std::alloc::Global;
 use std::sync::Wait;
 use std::thread::Threads;
 
-/// How many entries the greatest tables have.
+/// The number of entries of the greatest tables.
 const MOST: u32 = 130;
 
 /// What the calls are made on.
@@ -80,7 +80,7 @@ fn watch<R: Eprint + Threads + Wait + Sync>(rt: &R, bench: &mut Bench, group: Gr
     }
 }
 
-/// The same for groups that make their tables themselves.
+/// The same for groups that make their own tables.
 fn watch_owned<R: Eprint + Threads + Wait + Sync>(
     rt: &R,
     alloc: Global,

@@ -1,4 +1,4 @@
-// Each caller once with ample memory, on a small cluster whose answers are worked out by hand.
+// Each caller once with ample memory, on a small cluster, with answers worked out by hand.
 ghost use Rattle.std.specs.Prelude.{◌≡◌, ◌≤◌};
 ghost use Rattle.bm_view.specs.History.{last_of};
 
@@ -49,8 +49,8 @@ fn register(rt: &impl Abort, alloc: Global, node: u32, storage: u32) -> Event {
     Event::register(alloc, NodeId(node), Rack(node), &[StorageId(storage)]).expect(rt, "memory")
 }
 
-/// Block 7, of which two replicas are wanted; node 1, which has one on storage 11; and node 2 on another rack, whose storage 21
-/// is empty. They are seven events.
+/// Seven events: block 7 with two requested replicas; node 1 with a replica of it on storage 11;
+/// and node 2 on another rack, with storage 21, which is empty.
 fn cluster(rt: &impl Abort, alloc: Global) -> Vec<Event> {
     let entries = [Entry::one(BlockId(7), stamp())];
     let mut first = arrival(alloc, NodeId(1), Rack(1), StorageId(11), 1000, &entries).expect(
@@ -66,7 +66,7 @@ fn cluster(rt: &impl Abort, alloc: Global) -> Vec<Event> {
     events
 }
 
-/// What is tried on a manager: on an empty one, or on one that was told of the cluster.
+/// What is tried on a manager: on an empty one, or on one that has applied the events of `cluster`.
 #[derive(Clone, Copy)]
 enum Trial {
     EmptyTakesTurns,
@@ -85,7 +85,8 @@ fn try_on<R: Abort + Threads + Wait + Sync>(rt: &R, alloc: Global, config: Confi
     try_one(rt, alloc, &mut manager, trial);
 }
 
-/// In a function of its own, since each step beside a manager that goes at the end makes the proof longer.
+/// A function of its own, since a manager that is dropped at the end of the function makes the
+/// proof of each step longer.
 fn try_one<R: Abort + Threads + Wait + Sync>(
     rt: &R,
     alloc: Global,
@@ -216,7 +217,8 @@ fn a_line_for_each_replica(rt: HostRuntime) {
     );
 }
 
-/// Block 7 is on storage 11, block 8 on 11 and on 21, and block 9 nowhere. The fifth call is refused.
+/// Block 7 is on storage 11, block 8 on 11 and on 21, and block 9 nowhere. The fifth call is
+/// refused.
 fn calls(rt: &impl Abort, alloc: Global) -> Vec<Call> {
     let events = [
         add(7, 2),
@@ -317,7 +319,7 @@ fn changes() -> [Event; 3] {
     ]
 }
 
-/// Block 7 after so many calls.
+/// What a reader finds of block 7 after this number of calls.
 fn version(calls: u64) -> Option<Located> {
     match calls {
         8 => found_on(8, &[StorageId(11), StorageId(21)]),
@@ -327,7 +329,8 @@ fn version(calls: u64) -> Option<Located> {
     }
 }
 
-/// Whether a reader may see this that was told of so many calls: block 7 as it was after them, or after some more.
+/// Whether a reader that learned of the version after `told` calls may see this: block 7 as of that
+/// version or a later one.
 fn may_be_seen(seen: &Seen, told: u64) -> bool {
     match seen.found {
         Some(found) => {
@@ -337,7 +340,8 @@ fn may_be_seen(seen: &Seen, told: u64) -> bool {
     }
 }
 
-/// Whether so many receipts came, one for each change, and after each what may be seen.
+/// Whether the reader learned of `count` versions, one for each change, and saw after each what it
+/// may see.
 fn are_seen(ended: &SideBySide, count: usize) -> bool {
     match &ended.seen {
         Ok(seen) => {
@@ -351,7 +355,7 @@ fn are_seen(ended: &SideBySide, count: usize) -> bool {
     }
 }
 
-/// With a reader of its own, which the view is opened for.
+/// Opens a view with one reader, and runs the trial with it.
 fn check_view<R: Abort + Threads + Wait + Sync>(
     rt: &R,
     alloc: Global,
@@ -456,7 +460,7 @@ fn changes_beside_a_reader_stop_at_a_refusal(rt: HostRuntime) {
     );
 }
 
-/// Lines, and the same calls in the usual order and with no space.
+/// Lines, each with the canonical line of the same call. `None` if the line asks for no call.
 static TIDIED: [(&'static str, Option<&'static str>); 5] = [
     (
         " { \"repl\" : 3, \"len\":10 ,\"op\":\"add\", \"gen\": 1,\t\"id\":7 } ",
@@ -480,8 +484,8 @@ fn lines_are_tidied(rt: HostRuntime) {
     }
 }
 
-/// In an event on all shards each shard has two pieces of work: it makes room, and once all have it, it changes. One on a block, and
-/// one that is refused, have none.
+/// An event on all shards has two pieces of work for each shard: preparing, and once all shards
+/// have prepared, the change. An event on one block has none, and neither has a refused event.
 fn check_pieces<R: Abort + Threads + Wait + Sync>(rt: &R, alloc: Global, manager: &mut Manager) {
     let pieces = Pieces::new();
     let events = [

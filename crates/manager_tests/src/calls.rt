@@ -1,4 +1,4 @@
-// Calls as the tables of the tests name them: by values that can be copied.
+// Calls as plain values, which tables of tests can hold.
 use bm_base::{BlockId, Call, Entry, Event, Gen, Items, NodeId, Rack, Remaining, Stamp, StorageId};
 use std::alloc::Global;
 use std::process::Abort;
@@ -6,20 +6,20 @@ use std::process::Abort;
 /// The generation and the length of a stamp.
 pub(crate) const STAMP: (u64, u64) = (1, 10);
 
-/// A call: the numbers of its fields, in the order of its line.
+/// A call with the numbers of its fields, in the order of its line.
 #[derive(Clone, Copy)]
 pub(crate) enum Told<'a> {
     /// A node, its rack and its storages.
     Register(u32, u32, &'a [u32]),
     /// A node, and storages with their free bytes.
     Heartbeat(u32, &'a [(u32, u64)]),
-    /// A storage, and runs of blocks, each from its first to its last.
+    /// A storage, and runs of blocks: the first, the last and the stamp of each.
     Report(u32, &'a [(u64, u64, (u64, u64))]),
     Drain(u32),
     Undrain(u32),
     Dead(u32),
     Failed(u32),
-    /// A block, its stamp, and how many replicas of it are requested.
+    /// A block, its stamp, and the number of requested replicas.
     Add(u64, (u64, u64), u32),
     Delete(u64),
     SetReplication(u64, u32),
@@ -93,7 +93,7 @@ fn event_on_block(told: Told<'_>) -> Option<Event> {
     })
 }
 
-/// A call that is no event. Any other is taken for the question how many calls there were.
+/// A call that is no event. Everything else becomes the question for the number of calls.
 fn question(told: Told<'_>) -> Call {
     match told {
         Told::Round => Call::Round,

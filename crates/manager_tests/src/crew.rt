@@ -1,4 +1,4 @@
-// A crew at work, by lists of runs that one function goes over each, and a bag by hand.
+// Runs of a crew, from tables of cases, and bags that are filled and emptied by hand.
 
 use bm_crew::{Bag, Crew, Gate, NoGate};
 use std::alloc::Global;
@@ -9,7 +9,8 @@ use std::test::Fail;
 use std::thread;
 use std::thread::Threads;
 
-/// Notes which pieces were entered, with one bit for each shard below 64, and what went wrong.
+/// Notes which shards' pieces have entered, with one bit for each shard below 64, and what went
+/// wrong.
 #[derive(Drop)]
 struct Meeting {
     entered: AtomicU64,
@@ -37,7 +38,8 @@ impl Meeting {
         self.entered.load(Ordering::SeqCst) & shards == shards
     }
 
-    /// Lets other threads go first until these shards were entered, and gives up in the end.
+    /// Yields to other threads until the pieces of these shards have entered, and gives up after
+    /// three million yields.
     fn wait_for(&self, shards: u64) {
         for _ in 0..3_000_000u32 {
             if self.were_entered(shards) {
@@ -48,14 +50,15 @@ impl Meeting {
         self.gave_up.fetch_add(1, Ordering::SeqCst);
     }
 
-    /// The piece of this shard is worked, which has to be after it was entered.
+    /// Works the piece of this shard, which must have entered before.
     fn work(&self, shard: u32) {
         if !self.were_entered(bit(shard)) {
             self.too_early.fetch_add(1, Ordering::SeqCst);
         }
     }
 
-    /// Whether each of these shards was entered, as many times in all, before its work, and no piece gave up.
+    /// Whether the pieces of just these shards entered, `times` times in all and each before its
+    /// work, and no piece gave up.
     fn was_held(&self, shards: u64, times: u64) -> bool {
         self.entered.load(Ordering::SeqCst) == shards
             && self.entries.load(Ordering::SeqCst) == times
@@ -68,12 +71,12 @@ fn bit(shard: u32) -> u64 {
     1u64.wrapping_shl(shard)
 }
 
-/// A gate at which pieces wait until these shards were entered.
+/// A gate at which pieces wait until those of these shards have entered.
 #[derive(Drop)]
 struct Held {
     meeting: Meeting,
     shards: u64,
-    /// The one piece that waits. `None` where each does.
+    /// The shard whose piece waits. `None` if all pieces wait.
     only: Option<u32>,
 }
 
@@ -90,15 +93,15 @@ impl Gate for Held {
     }
 }
 
-/// What is made of a piece.
+/// The work on a piece.
 #[derive(Clone, Copy)]
 enum Work {
     Square,
-    /// A hundred more for each shard below its own.
+    /// Adds a hundred times the number of the shard.
     AddShards,
 }
 
-/// Runs with these numbers of workers, all with the same results.
+/// Runs with each of these numbers of workers, all with the same results.
 #[derive(Clone, Copy)]
 struct Runs<'a> {
     workers: &'a [usize],
@@ -130,7 +133,7 @@ static RUNS: [Runs<'static>; 4] = [
         work: Work::AddShards,
         results: &[],
     },
-    // Shards need not rise nor differ, and there may be more room than items.
+    // Shards need not be ascending or distinct, and the capacity may exceed the number of items.
     Runs {
         workers: &[1, 2, 16],
         room: 7,
@@ -195,17 +198,17 @@ static PIECES: [(u32, u64); 16] = [
     (15, 20),
 ];
 
-/// So many workers at the first so many pieces, which wait for one another at a gate.
+/// Workers on the first of the pieces, which wait for one another at a gate.
 #[derive(Clone, Copy)]
 struct Waiting {
     workers: usize,
     pieces: usize,
-    /// A bit for each of these pieces.
+    /// A bit for each of the pieces.
     shards: u64,
     only: Option<u32>,
 }
 
-/// Each piece waits for all of them, so there have to be as many workers at once.
+/// Each piece waits for all others, so each needs a worker at the same time.
 static ALL_AT_ONCE: [Waiting; 3] = [
     Waiting {
         workers: 2,
@@ -227,7 +230,8 @@ static ALL_AT_ONCE: [Waiting; 3] = [
     },
 ];
 
-/// Two workers, of whom one is held up with this piece until the other has entered the other three.
+/// Two workers. The piece of this shard holds up one of them until the other has entered the other
+/// three.
 fn one_held_up(shard: u32) -> Waiting {
     Waiting {
         workers: 2,
@@ -258,7 +262,7 @@ fn check_waiting<R: Abort + Threads + Wait + Sync>(rt: &R, alloc: Global, case: 
     drop(gate);
 }
 
-/// Sixteen workers are really sixteen: with one less the last piece would not be entered.
+/// Sixteen workers run at the same time: with one fewer the last piece would not enter.
 #[test]
 fn workers_run_at_once(rt: HostRuntime) {
     for case in &ALL_AT_ONCE {
@@ -266,8 +270,8 @@ fn workers_run_at_once(rt: HostRuntime) {
     }
 }
 
-/// Whichever piece holds its worker up, the other worker works the other three. With fixed shares one of these would
-/// wait behind the piece that waits for it.
+/// Whichever piece holds up its worker, the other worker works the other three. With fixed shares
+/// one of these would wait for a worker that waits for it.
 #[test]
 fn pieces_are_not_shared_out_beforehand(rt: HostRuntime) {
     for shard in 0..4 {

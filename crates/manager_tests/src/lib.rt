@@ -1,6 +1,7 @@
-//! Tests of the manager, its crew, its readers, its lines, the small callers, and runs of the line tool: what no clause says, and
-//! answers that were worked out by hand. They are in a crate of their own, since a crate is proved once more with its tests, and in
-//! one, since each crate of tests is linked with all libraries. Scripts for the tool itself are in `examples/lines`.
+//! Tests of the manager, its crew, its readers, its lines, the small callers, and runs of the line
+//! tool: what no clause promises, and answers worked out by hand. They are in a crate of their own,
+//! since a crate is proved once more with its tests. They are in one crate, since each crate of
+//! tests is linked with all libraries. Scripts for the tool itself are in `examples/lines`.
 #![tactic(auto)]
 
 #[cfg(test)]

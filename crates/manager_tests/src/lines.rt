@@ -1,5 +1,5 @@
-// What no clause says: that with memory to spare a line is written and read, and that the definitions say what docs/FORMATS.md says.
-// Each line is written by hand from the table there.
+// What no clause promises: a line is written and read if there is enough memory, and the
+// definitions agree with docs/FORMATS.md. Each line is written by hand from the table there.
 mod reading;
 mod usual;
 mod written;

@@ -1,4 +1,4 @@
-// What locators answer, as the tests name it.
+// Answers of locators, by plain numbers.
 use bm_base::{Places, StorageId};
 use bm_view::Located;
 use std::alloc::Global;

@@ -23,8 +23,8 @@ const THREE_BAD_LINES: &str = r#"{
 
 const ROUND: &str = "\n{\"op\":\"round\"}";
 
-/// The parts of the script, each with the number of spaces behind it: a line is a byte too long, and
-/// the next one is just as long as may be.
+/// The parts of the script, each with the number of spaces after it: one line is a byte too long,
+/// and the next has the greatest length.
 const PARTS: [(&str, usize); 3] = [
     (THREE_BAD_LINES, 4_194_305),
     (ROUND, 4_194_304 - 14),

@@ -1,5 +1,5 @@
-// With ample memory each call that takes some is accepted, and answers what the worked examples say, whatever the numbers of
-// shards and workers are; and the shards' work in a call is done at once.
+// With ample memory each call that takes memory is accepted and has the answer that was worked out
+// by hand, for any number of shards and workers. The shards of a call are worked at the same time.
 
 use crate::calls::{STAMP, Told, call_of};
 use bm_base::{
@@ -16,7 +16,7 @@ use std::thread::{self, Threads};
 
 mod readers;
 
-/// What a node is to copy and to delete.
+/// The copies and deletes that a node is to make.
 #[derive(Clone, Copy)]
 struct Orders<'a> {
     node: u32,
@@ -26,10 +26,10 @@ struct Orders<'a> {
     deletes: &'a [(u32, u64)],
 }
 
-/// What a call must answer.
+/// The expected answer to a call.
 #[derive(Clone, Copy)]
 enum Must<'a> {
-    /// So many replicas came and went.
+    /// The numbers of replicas added and removed.
     Done(u128, u128),
     /// The number of a refusal.
     Refused(u32),
@@ -37,11 +37,11 @@ enum Must<'a> {
     /// Storages, each with a block.
     Replicas(&'a [(u32, u64)]),
     Number(u64),
-    /// The number of a round, and what it commands, node by node.
+    /// The number of a round, and its commands, node by node.
     Round(u64, &'a [Orders<'a>]),
 }
 
-/// An event that changes no replica is accepted.
+/// The answer to an accepted event that changes no replica.
 const ACCEPTED: Must<'static> = Must::Done(0, 0);
 
 fn are_places(storages: &[StorageId], must: &[u32]) -> bool {
@@ -172,8 +172,9 @@ static ROUNDS: [(Told<'static>, Must<'static>); 15] = [
     (Told::Places(7), Must::Places(&[11, 21, 31])),
 ];
 
-/// A block with twelve replicas, of which three are wanted, each four of them on one of three racks. No storage has told how many bytes
-/// remain on it; so of those whose rack holds another the one on the greatest storage goes first, and the first of each rack stays.
+/// A block with three requested replicas has twelve, four on each of three racks. No storage has
+/// reported its free bytes. So of the replicas that are not alone on their rack, the one on the
+/// greatest storage goes first, and the one on the least storage of each rack stays.
 static NINE_OF_TWELVE: [(Told<'static>, Must<'static>); 27] = [
     (Told::Register(0, 0, &[101]), ACCEPTED),
     (Told::Register(1, 0, &[102]), ACCEPTED),
@@ -277,7 +278,7 @@ fn calls_of(rt: &impl Abort, alloc: Global, story: &[(Told<'_>, Must<'_>)]) -> V
     calls
 }
 
-/// So many shards and workers, and else the standard configuration.
+/// The standard configuration, with these numbers of shards and workers.
 fn config(shards: u32, workers: u32) -> Config {
     Config {
         shards,
@@ -323,7 +324,7 @@ fn check_story<R: Abort + Threads + Wait + Sync>(
     drop(calls);
 }
 
-/// With four numbers of shards and workers.
+/// Checks the answers with four numbers of shards and workers.
 fn check_stories<R: Abort + Threads + Wait + Sync>(
     rt: &R,
     alloc: Global,
@@ -363,15 +364,16 @@ fn two_managers_answer_alike(rt: HostRuntime) {
     drop(calls);
 }
 
-/// A gate at which the piece of a shard waits until those of all other shards were entered as often.
+/// A gate at which the piece of a shard waits until the pieces of all other shards have entered
+/// equally often.
 #[derive(Drop)]
 struct Meeting {
     shards: u32,
     /// The one shard whose piece waits. `None` if each piece does.
     only: Option<u32>,
-    /// How often the piece of each shard was entered.
+    /// The number of times that the piece of each shard has entered.
     entered: [AtomicU64; 4],
-    /// How often a piece gave up waiting.
+    /// The number of times that a piece gave up waiting.
     gave_up: AtomicU64,
 }
 
@@ -390,7 +392,7 @@ impl Meeting {
         }
     }
 
-    /// Counts a piece of this shard, and says which one it is.
+    /// Counts a piece of this shard, and gives the count.
     fn enter(&self, shard: u32) -> u64 {
         match self.entered.get(shard as usize) {
             Some(count) => count.fetch_add(1, Ordering::SeqCst).wrapping_add(1),
@@ -405,7 +407,7 @@ impl Meeting {
         }
     }
 
-    /// Whether the piece of each shard was entered, all equally often, and none gave up.
+    /// Whether the pieces of all shards entered equally often, at least once, and none gave up.
     fn has_met(&self) -> bool {
         let times = self.times_entered(0);
         times > 0
@@ -415,8 +417,8 @@ impl Meeting {
 }
 
 impl Gate for Meeting {
-    /// Lets other threads go first until the pieces of all shards were entered, and gives up in
-    /// the end.
+    /// Yields to other threads until the pieces of all shards have entered, and gives up after
+    /// three million yields.
     fn at(&self, shard: u32) {
         let times = self.enter(shard);
         if self.only.unwrap_or(shard) != shard {
@@ -432,7 +434,7 @@ impl Gate for Meeting {
     }
 }
 
-/// Calls with their answers, and whether the crew works them: it does where all shards are concerned.
+/// Calls with their answers, and whether the crew works on them: it does for calls on all shards.
 static MET: [(Told<'static>, Must<'static>, bool); 17] = [
     (Told::Register(1, 1, &[11]), ACCEPTED, true),
     (Told::Register(2, 2, &[21]), ACCEPTED, true),
@@ -464,8 +466,8 @@ static MET: [(Told<'static>, Must<'static>, bool); 17] = [
     (Told::Places(4), Must::Places(&[]), false),
 ];
 
-/// Whether a call is answered as it must be, and the shards' pieces met at the gate if the crew
-/// works it.
+/// Whether a call has the expected answer, and the shards' pieces met at the gate exactly if the
+/// crew works on it.
 fn is_met<R: Abort + Threads + Wait + Sync>(
     rt: &R,
     alloc: Global,
@@ -500,15 +502,15 @@ fn check_meetings<R: Abort + Threads + Wait + Sync>(
     drop(manager);
 }
 
-/// Each piece waits for all of them, so there have to be as many workers as shards.
+/// Each piece waits for all others, so each shard needs a worker at the same time.
 #[test]
 fn the_shards_of_a_call_are_worked_at_once(rt: HostRuntime) {
     check_meetings(&rt, rt.alloc(), 2, 2, None);
     check_meetings(&rt, rt.alloc(), 4, 4, None);
 }
 
-/// Whichever shard's piece holds its worker up, the other worker works the other three shards. With
-/// fixed shares one of these would wait behind the piece that waits for it.
+/// Whichever shard's piece holds up its worker, the other worker works the other three shards. With
+/// fixed shares one of these would wait for a worker that waits for it.
 #[test]
 fn a_free_worker_takes_the_next_shard(rt: HostRuntime) {
     for shard in 0..4 {
@@ -516,7 +518,7 @@ fn a_free_worker_takes_the_next_shard(rt: HostRuntime) {
     }
 }
 
-/// Shards, workers, work, invalidate and pend, of which one is outside its range.
+/// Shards, workers, work, invalidate and pend: one of them is outside its range.
 static BAD: [(u32, u32, u32, u32, u32); 10] = [
     (0, 1, 2, 1000, 100),
     (65, 1, 2, 1000, 100),

@@ -1,4 +1,4 @@
-// A reader and a writer that note how they are called, and fail.
+// A reader and a writer that note how they are called, and fail at a given call.
 use std::cell::Cell;
 use std::io;
 use std::io::{Read, Write};
@@ -6,16 +6,16 @@ use std::io::{Read, Write};
 /// What a reader and a writer note.
 #[derive(Drop)]
 pub struct Notes {
-    /// The reads that were made, the failed one too.
+    /// The number of reads, with the failed one.
     reads: Cell<usize>,
-    /// The writes and flushes that were made, the failed one too.
+    /// The number of writes and flushes, with the failed one.
     calls: Cell<usize>,
-    /// The bytes that were written, and those of them that were flushed.
+    /// The number of bytes written, and the number of those that are flushed.
     written: Cell<usize>,
     flushed: Cell<usize>,
-    /// Whether at some read not the wanted number of bytes was flushed.
+    /// Whether the number of flushed bytes was wrong at some read.
     is_late: Cell<bool>,
-    /// Whether something other than the wanted text was written.
+    /// Whether something other than the expected text was written.
     is_other: Cell<bool>,
 }
 
@@ -31,7 +31,7 @@ impl Notes {
         }
     }
 
-    /// The reads, the writes and flushes, the bytes written, and those flushed.
+    /// The numbers of reads, of writes and flushes, of bytes written and of bytes flushed.
     pub fn counts(&self) -> [usize; 4] {
         [
             self.reads.get(),
@@ -41,13 +41,13 @@ impl Notes {
         ]
     }
 
-    /// Whether the wanted text was written, and before each read what was wanted was flushed.
+    /// Whether the expected text was written, and the expected bytes were flushed before each read.
     pub fn is_as_wanted(&self) -> bool {
         !self.is_late.get() && !self.is_other.get()
     }
 }
 
-/// Adds to a counter, and gives what it was.
+/// Adds to a counter, and gives its old value.
 fn count(counter: &Cell<usize>, more: usize) -> usize {
     let before = counter.get();
     counter.set(before.saturating_add(more));
@@ -59,11 +59,11 @@ fn count(counter: &Cell<usize>, more: usize) -> usize {
 pub enum Pieces {
     /// The next line.
     Lines,
-    /// All that is left.
+    /// The rest of the input.
     Whole,
 }
 
-/// A reader of which one read fails.
+/// A reader that fails at the read of a given number.
 #[derive(Drop)]
 pub struct NotingReader<'a> {
     left: &'a [u8],
@@ -87,8 +87,8 @@ impl<'a> NotingReader<'a> {
         }
     }
 
-    /// How many bytes of the first path's answers are to be flushed at a read: those to all lines
-    /// that were read before.
+    /// The number of bytes of the first path's answers that must be flushed at a read: those of the
+    /// answers to all lines that were read before.
     fn flushed_at(&self, read: usize) -> usize {
         match (self.pieces, read) {
             (_, 0) => 0,
@@ -127,7 +127,7 @@ impl Read for NotingReader<'_> {
     }
 }
 
-/// A writer of which one call fails, a write or a flush. It compares what is written with a text.
+/// A writer that fails at the write or flush of a given number. It compares the output with a text.
 #[derive(Drop)]
 pub struct Noting<'a> {
     text: &'a [u8],

@@ -7,8 +7,7 @@ use std::random::RandomSource;
 use std::sync::Wait;
 use std::thread::Threads;
 
-/// A script behind lines of which each is answered by `ok 0 0`, and its answers, worked out by
-/// hand.
+/// A script with its answers, worked out by hand. The answer to each line before it is `ok 0 0`.
 pub struct Row {
     pub name: &'static str,
     pub config: Config,
@@ -17,10 +16,10 @@ pub struct Row {
     pub answers: &'static str,
 }
 
-/// How many shards and workers there may be: no answer depends on it.
+/// The numbers of shards and workers that are tried. No answer depends on them.
 const SHARDS_AND_WORKERS: [(u32, u32); 4] = [(1, 1), (3, 2), (5, 4), (2, 16)];
 
-/// What the worked examples run with.
+/// The configuration of the worked examples.
 pub const USUAL: Config = Config {
     shards: 3,
     workers: 2,
@@ -50,16 +49,16 @@ pub const ALL_SPENT: Config = Config {
     ..USUAL
 };
 
-/// With one delete a node and round.
+/// With one delete for each node and round.
 pub const ONE_DELETE: Config = Config {
     invalidate: 1,
     ..USUAL
 };
 
-/// With one copy a round for each alive node.
+/// With one copy for each alive node and round.
 pub const ONE_COPY_A_NODE: Config = Config { work: 1, ..USUAL };
 
-/// With two rounds to wait for a copy.
+/// With copies that expire after two rounds.
 pub const TWO_ROUNDS: Config = Config { pend: 2, ..USUAL };
 
 pub const NOTHING: &str = "";
@@ -85,7 +84,7 @@ pub const FIRST_PATH: &str = r#"{"op":"register","node":1,"rack":1,"storages":[1
 
 pub const FIRST_PATH_ANSWERS: &str = "ok 0 0\nok 0 0\nok 1 0\nplaces 7; 11\n";
 
-/// What `run` answers and writes for an input in memory.
+/// The answer of `run` for an input in memory, and its output.
 pub fn run_with<H: Threads + Wait + RandomSource + Sync>(
     rt: &H,
     alloc: Global,
@@ -98,8 +97,8 @@ pub fn run_with<H: Threads + Wait + RandomSource + Sync>(
     (result, writer.into_inner())
 }
 
-/// Each script is answered as its row says, whatever the number of shards and workers, and its
-/// lines are counted.
+/// Checks that each script has the answers of its row, for each number of shards and workers, and
+/// that its lines are counted.
 pub fn go<H: Abort + Threads + Wait + RandomSource + Sync>(
     rt: &H,
     alloc: Global,
@@ -117,7 +116,7 @@ pub fn go<H: Abort + Threads + Wait + RandomSource + Sync>(
     Ok(())
 }
 
-/// The input is answered as the row says.
+/// Checks that the input has the answers of the row.
 pub fn is_answered<H: Abort + Threads + Wait + RandomSource + Sync>(
     rt: &H,
     alloc: Global,
@@ -141,13 +140,13 @@ pub fn is_answered<H: Abort + Threads + Wait + RandomSource + Sync>(
     );
 }
 
-/// What follows the answers to the lines before the script, which are seven bytes each.
+/// The answers to the script. Each answer to a line before it has seven bytes.
 fn answers_in<'t>(row: &Row, text: &'t [u8]) -> &'t [u8] {
     let before = row.before.lines().count().saturating_mul(7);
     text.get(before..).unwrap_or(&[])
 }
 
-/// How many lines have an answer, and how many of these are refusals.
+/// The numbers of lines, of accepted ones and of refused ones.
 fn counts_of(row: &Row) -> Summary {
     let mut accepted = row.before.lines().count() as u64;
     let mut refused = 0u64;

@@ -1,5 +1,5 @@
-// Rounds and accepted calls are numbered up to the last number of 64 bits. No option of the tool
-// says where they begin, so that these scripts can only be run here.
+// Rounds and accepted calls are numbered up to the greatest number of 64 bits. No option of the
+// tool sets the first number, so these scripts can only run here.
 use crate::rows::{ALL_SPENT, CLUSTER, FIRST_PATH, LAST_CALL, LAST_ROUND, NOTHING, Row, go};
 use std::alloc::AllocError;
 
@@ -36,7 +36,8 @@ refused 3 UnknownStorage
 refused 5 UnknownBlock
 ",
     },
-    // The last round number and the last number of accepted calls end what may come.
+    // No round is accepted after the last round number, and no event or round after the last number
+    // of accepted calls.
     Row {
         name: "rounds_run_out_on_a_cluster",
         config: LAST_ROUND,

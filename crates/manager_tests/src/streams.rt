@@ -1,5 +1,5 @@
-// Readers and writers that fail, and answers that are waited for: what no script on standard
-// streams can see. The input is always the first path.
+// Readers and writers that fail, and answers that are flushed before the next read: no script on
+// standard streams can observe these. The input is always the first path.
 use crate::noting::{Notes, Noting, NotingReader, Pieces};
 use crate::rows::{FIRST_PATH, FIRST_PATH_ANSWERS, USUAL};
 use bm_base::Config;
@@ -9,7 +9,7 @@ use std::random::RandomSource;
 use std::sync::Wait;
 use std::thread::Threads;
 
-/// What is refused to a run or fails.
+/// What fails in a run.
 #[derive(Clone, Copy)]
 enum Cause {
     Nothing,
@@ -21,7 +21,7 @@ enum Cause {
     Call(usize),
 }
 
-/// How a run ends by its cause.
+/// The end of a run with this cause.
 fn end_by(cause: Cause) -> Result<Summary, Fault> {
     match cause {
         Cause::Nothing => Ok(Summary {
@@ -56,11 +56,11 @@ fn run_noted<H: Threads + Wait + RandomSource + Sync>(
     run(rt, alloc, &mut reader, &mut writer, &config)
 }
 
-/// What comes by one read, what fails, and then the numbers of reads, of writes and flushes, of
-/// bytes written, and of these of bytes flushed: the failed read or call is the last.
+/// What one read gives, what fails, and the numbers of reads, of writes and flushes, of bytes
+/// written and of bytes flushed. The failed read or call is the last one.
 const CASES: [(Pieces, Cause, [usize; 4]); 23] = [
-    // By lines each answer goes out before the next read: the calls are a write and a flush for
-    // each line, and the flush at the end; the reads are four lines and the end of input.
+    // Each answer is flushed before the next line is read. The calls are a write and a flush for
+    // each line, and the flush at the end. The reads are four lines and the end of input.
     (Pieces::Lines, Cause::Nothing, [5, 9, 34, 34]),
     (Pieces::Lines, Cause::Config, [0, 0, 0, 0]),
     (Pieces::Lines, Cause::Read(0), [1, 0, 0, 0]),
@@ -77,7 +77,7 @@ const CASES: [(Pieces, Cause, [usize; 4]); 23] = [
     (Pieces::Lines, Cause::Call(6), [4, 7, 21, 21]),
     (Pieces::Lines, Cause::Call(7), [4, 8, 34, 21]),
     (Pieces::Lines, Cause::Call(8), [5, 9, 34, 34]),
-    // All four lines come by one read: four writes, a flush, and the flush at the end.
+    // One read gives all four lines: four writes, a flush, and the flush at the end.
     (Pieces::Whole, Cause::Nothing, [2, 6, 34, 34]),
     (Pieces::Whole, Cause::Call(0), [1, 1, 0, 0]),
     (Pieces::Whole, Cause::Call(1), [1, 2, 7, 0]),

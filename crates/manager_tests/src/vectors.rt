@@ -1,4 +1,4 @@
-// Worked values of what the crates below answer.
+// Worked examples of the functions of `bm_base`.
 use bm_base::{BlockId, Level, Refusal, level_of, shard_of};
 use std::alloc::AllocError;
 
@@ -8,8 +8,8 @@ fn blocks_are_cut_by_their_numbers(rt: HostRuntime) {
     assert!(rt; shard_of(BlockId(18_446_744_073_709_551_615), 64) == 63);
 }
 
-/// How many replicas are live and how many drained, how many are wanted, on how many racks the live
-/// ones are, and whether there are several racks; and the level.
+/// The numbers of live, of drained and of requested replicas, the number of racks of the live ones,
+/// whether the cluster has several racks, and the level.
 const LEVELS: [(usize, usize, u32, usize, bool, Option<Level>); 13] = [
     (0, 0, 1, 0, true, Some(Level::NoUsableReplica)),
     (1, 0, 1, 1, true, None),
@@ -19,7 +19,7 @@ const LEVELS: [(usize, usize, u32, usize, bool, Option<Level>); 13] = [
     (2, 0, 2, 1, true, Some(Level::BadlyDistributed)),
     (2, 0, 2, 1, false, None),
     (3, 0, 2, 1, true, Some(Level::BadlyDistributed)),
-    // With drained replicas: they are worth something only where none is live.
+    // Drained replicas count only if none is live.
     (0, 1, 1, 0, true, Some(Level::Highest)),
     (0, 2, 16, 0, false, Some(Level::Highest)),
     (1, 1, 2, 1, true, Some(Level::Highest)),
@@ -102,7 +102,7 @@ fn refusals_say_why(rt: HostRuntime) -> Result<(), AllocError> {
     Ok(())
 }
 
-/// Makes the text that of the refusal.
+/// Replaces the text by that of the refusal.
 fn rewrite(text: &mut String, refusal: Refusal) -> Result<(), AllocError> {
     text.clear();
     write!(text, "{refusal}")

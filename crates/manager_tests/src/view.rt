@@ -1,5 +1,5 @@
-//! What no clause says: that a locator answers at all while the publisher stands, and that one which learnt nothing sees
-//! what was published.
+//! What no clause promises: a locator answers until the publisher has ended, and a locator that
+//! learned nothing sees what was published.
 ghost use Rattle.std.specs.Prelude.{◌≡◌};
 ghost use Rattle.std.specs.Arc.{arc_value};
 
@@ -12,7 +12,7 @@ use std::sync::{Arc, Wait};
 
 mod two_threads;
 
-// A version with one row, of block 7.
+// A version with one row, for block 7.
 fn version(rt: &impl Abort, alloc: Global, calls: u64, storages: &[StorageId]) -> Arc<Table>
     ensures { (arc_value result).calls ≡ calls }
 {
@@ -22,17 +22,17 @@ fn version(rt: &impl Abort, alloc: Global, calls: u64, storages: &[StorageId]) -
     Arc::new(alloc, Table::new(calls, rows)).expect(rt, "memory")
 }
 
-/// What is done with a publisher and two locators, or asked of them, and what the answer must be.
+/// A change of a publisher and two locators, or a question to them, with the expected answer.
 #[derive(Clone, Copy)]
 enum Step<'a> {
-    /// Publishes a version with so many calls, in which block 7 has these storages. The receipt says so many calls, and the
-    /// first locator learns it.
+    /// Publishes a version with this number of calls, in which block 7 has these storages. The
+    /// first locator learns the receipt, which has the same number of calls.
     Publish(u64, &'a [u32]),
-    /// The publisher has published a version with so many calls.
+    /// The number of calls of the version that was published last.
     Calls(u64),
-    /// The first locator has a block on these storages, in the version with this number of calls.
+    /// The first locator finds a block on these storages, in the version with this number of calls.
     First(u64, u64, &'a [u32]),
-    /// The same of the second, which learns nothing.
+    /// The same for the second locator, which learns nothing.
     Second(u64, u64, &'a [u32]),
 }
 
@@ -96,7 +96,7 @@ fn has_found(
     is_found_on(rt, alloc, locator.locate(BlockId(block)), calls, numbers)
 }
 
-/// Whether a step answers as it must.
+/// Runs a step. Whether its answer is the expected one.
 fn go<R: Abort + Wait>(
     rt: &R,
     alloc: Global,
@@ -147,16 +147,17 @@ fn readers_see_published_versions(rt: HostRuntime) {
     publisher.end(&rt);
 }
 
-/// A view with so many locators, which learn nothing. Each of them answers from the version that is published, and not at all
-/// once the publisher has ended.
+/// A view with this number of locators, which learn nothing. Each of them answers from the
+/// published version, and not at all once the publisher has ended.
 #[derive(Clone, Copy)]
 struct View<'a> {
     readers: usize,
-    /// The calls of a version that is published, and the storages of block 7 in it.
+    /// The calls of the published version, and the storages of block 7 in it.
     published: Option<(u64, &'a [u32])>,
-    /// The calls of the publisher then.
+    /// The publisher's calls after that.
     calls: u64,
-    /// The storages of block 7 that each locator sees then. `None` where none is asked before the publisher has ended.
+    /// The storages of block 7 that each locator sees after that. `None` if no locator is asked
+    /// before the publisher has ended.
     seen: Option<&'a [u32]>,
 }
 
@@ -167,7 +168,7 @@ static VIEWS: [View<'static>; 4] = [
         calls: 0,
         seen: None,
     },
-    // Sixteen readers are the most.
+    // The greatest number of readers.
     View {
         readers: 16,
         published: None,
@@ -180,7 +181,7 @@ static VIEWS: [View<'static>; 4] = [
         calls: 3,
         seen: Some(&[]),
     },
-    // A version may have as many calls as the one before.
+    // A version may have the same number of calls as the one before.
     View {
         readers: 1,
         published: Some((0, &[11])),

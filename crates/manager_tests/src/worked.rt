@@ -30,7 +30,7 @@ level 7; 4
 round 1
 ",
     },
-    // The second target is judged with the first as a holder.
+    // The second target is chosen as if the first already held the block.
     Row {
         name: "copies_span_two_racks",
         config: USUAL,
@@ -71,7 +71,7 @@ round 2
 replicas; 7 11 good; 7 21 good; 7 31 good
 ",
     },
-    // Another number of wanted replicas changes the level, and nothing else.
+    // Another number of requested replicas changes the level, and nothing else.
     Row {
         name: "levels_follow_replication",
         config: USUAL,
@@ -187,7 +187,7 @@ ok 1 0
 round 1; copy 1 1 1 10 11 31; copy 1 2 1 10 11 41; copy 1 3 1 10 11 31; copy 3 4 1 10 31 11
 ",
     },
-    // The last entry of a block counts, and a round orders the stray replica to be deleted once.
+    // The last entry of a block counts, and the stray replica is commanded to be deleted once.
     Row {
         name: "wrong_stamp_in_report",
         config: USUAL,
@@ -213,7 +213,7 @@ round 1; delete 1 11 8
 round 2
 ",
     },
-    // What a report does not name leaves.
+    // A full report removes the replicas that it does not list.
     Row {
         name: "empty_report_clears_storage",
         config: USUAL,
@@ -249,7 +249,7 @@ storage 11
 refused 3 UnknownStorage
 ",
     },
-    // A node has one replica of a block, and a bad one stays bad until it goes.
+    // A node has at most one replica of a block, and a bad one stays bad until it is removed.
     Row {
         name: "block_moves_between_sister_storages",
         config: USUAL,
@@ -293,7 +293,7 @@ ok 1 1
 replicas; 7 11 good
 ",
     },
-    // A new version makes good replicas stale until they come again.
+    // A new generation makes good replicas stale until they are received with it.
     Row {
         name: "restamp_makes_stale",
         config: USUAL,
@@ -479,7 +479,7 @@ ok 1 0
 round 2; delete 2 21 7
 ",
     },
-    // The second copy has no target with room.
+    // No target has enough free bytes for the second copy.
     Row {
         name: "targets_need_room",
         config: USUAL,

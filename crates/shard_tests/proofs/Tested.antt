@@ -1,4 +1,4 @@
--- No block is wished for twice in the parts of the tests.
+-- No block has two wishes in the parts of the tests.
 use Rattle.std.proofs.Common.{◌≡◌, false, [], ◌∷◌, ◌++◌, map, refl, ap}
 use Rattle.bm_base.specs.declared.round.Wish.{Wish}
 use Rattle.bm_base.specs.declared.round.RoundPart.{RoundPart}

@@ -1,5 +1,5 @@
-// The lists of two storages and the delimiter, and each call once with ample memory: a table of scenarios, each a list of steps with
-// what each must answer.
+// The lists of two storages and the delimiter, and each call once with ample memory: a table of
+// scenarios, each a list of steps with their expected answers.
 use crate::support::check_step;
 use bm_arena::Arena;
 use bm_base::{BlockId, BlockInfo, Gen, Marks, Stamp, StorageId, Tag};
@@ -26,12 +26,12 @@ const INFO: BlockInfo = BlockInfo {
     repl: 3,
 };
 
-/// What is done with an arena. Blocks and storages are named by their numbers.
+/// A change of an arena. Blocks and storages are named by their numbers.
 #[derive(Clone, Copy)]
 enum Deed {
-    /// Heads for the storages from a number on, so many.
+    /// Makes heads: the first storage and the number of storages.
     Reserve(u32, u32),
-    /// A good replica on a storage, with room made for it.
+    /// Adds a good replica of a block on a storage, after reserving memory for it.
     Link(u64, u32),
     Unlink(u64, u32),
     MoveFront(u64, u32),
@@ -43,25 +43,26 @@ enum Deed {
     DropHead(u32),
 }
 
-/// The same, many times.
+/// A change that is repeated for many numbers.
 #[derive(Clone, Copy)]
 enum Many {
-    /// A number of blocks from 10,000 on, each with a replica on storage 11.
+    /// Adds this number of blocks from 10,000 on, each with a replica on storage 11.
     Add(u32),
-    /// The same blocks, the first with a replica on storage 0, the next on storage 1 and so on.
+    /// Adds the same blocks, the first with a replica on storage 0, the next on storage 1 and so
+    /// on.
     AddEach(u32),
-    /// A replica of a block on each of the storages 0 to a number, without it.
+    /// Adds a replica of a block on each of the storages below a number.
     Link(u64, u32),
-    /// The delimiter at the head of each of the lists 0 to a number, without it.
+    /// Puts the delimiter at the head of each of the lists below a number.
     PutDelimiter(u32),
-    /// The delimiter out of each of these lists.
+    /// Takes the delimiter out of each of these lists.
     TakeDelimiter(u32),
 }
 
-/// What is asked of an arena, and answered by a slot.
+/// A question that a slot answers.
 #[derive(Clone, Copy)]
 enum Place {
-    /// The slot of a block, which may have it by now.
+    /// The slot of a block, which is added if it is new.
     Added(u64),
     Find(u64),
     SlotAt(usize),
@@ -70,28 +71,29 @@ enum Place {
     Before(u32, u64),
 }
 
-/// What is asked of an arena, and answered by a number.
+/// A question that a number answers.
 #[derive(Clone, Copy)]
 enum Count {
     Blocks,
     Steps,
     SlotBound,
-    /// How many slots a walk along the list of a storage meets.
+    /// The number of slots in the list of a storage.
     Walked(u32),
 }
 
-/// What is done with an arena, or asked of it.
+/// A change of an arena, or a question to it.
 #[derive(Clone, Copy)]
 enum Step {
-    /// An entry for a block. Where it is 7, 8 or 9, the steps behind know its slot by that number.
+    /// Adds an entry for a block. Later steps know the slots of the blocks 7, 8 and 9 by these
+    /// numbers.
     Add(u64),
     Do(Deed),
     DoMany(Many),
     Where(Place),
     HowMany(Count),
     Walk(u32),
-    /// Whether each of the lists 0 to a number, without it, holds block 7, then its own block of
-    /// `AddEach`, and no other.
+    /// Whether each of the lists below a number holds block 7, then its own block of `AddEach`, and
+    /// no other.
     WalkEach(u32),
     TripletAt(u64, usize),
     IsDelimiter(u64),
@@ -100,7 +102,7 @@ enum Step {
     Marks(u64, u32),
 }
 
-/// What a step answers.
+/// The answer to a step.
 #[derive(Clone, Copy, PartialEq, Eq)]
 enum Answer {
     Fine,
@@ -113,7 +115,7 @@ enum Answer {
     /// The slot that block 7, 8 or 9 got.
     SlotOf(u64),
     OtherSlot,
-    /// The numbers of the blocks that a walk meets, and how many these are.
+    /// The numbers of the blocks in a list, in its order, and the length of the list.
     Blocks([u64; 3], usize),
     /// A good replica on a storage.
     Replica(u32),
@@ -288,7 +290,7 @@ fn new_block(number: u32) -> u64 {
     u64::from(number).saturating_add(10_000)
 }
 
-/// The deed of this number, of many.
+/// Makes the change for one number of a `Many`.
 fn one_of_many(
     rt: &impl Abort,
     alloc: Global,
@@ -315,7 +317,7 @@ fn one_of_many(
     }
 }
 
-/// `Fine` where each of them is.
+/// `Fine` if the change for each number is `Fine`.
 fn done_often(
     rt: &impl Abort,
     alloc: Global,
@@ -360,7 +362,7 @@ fn before(arena: &Arena, storage: StorageId, slot: usize) -> Option<usize> {
     }
 }
 
-/// No slot is `usize::MAX`: that is for a question that is not allowed.
+/// `usize::MAX`, which is no slot, stands for a question that is not allowed.
 fn slot_asked(rt: &impl Abort, arena: &mut Arena, slots: &Slots, place: Place) -> Option<usize> {
     match place {
         Place::Added(block) => Some(add(rt, arena, block)),
@@ -389,7 +391,7 @@ fn count_of(arena: &Arena, count: Count) -> u64 {
     }
 }
 
-/// The numbers of the first three blocks of a storage's list, and how many it has.
+/// The numbers of the blocks in a storage's list, and its length, for at most three blocks.
 fn walk(arena: &Arena, storage: StorageId) -> Answer {
     let mut numbers = [0; 3];
     let mut count = 0;
@@ -481,7 +483,7 @@ fn looked_up(arena: &Arena, slots: &Slots, step: Step) -> Answer {
     }
 }
 
-/// Goes the steps one after another; each answers as it must.
+/// Runs the steps in order, and checks each answer.
 fn go(
     rt: &impl Abort,
     alloc: Global,
@@ -496,7 +498,7 @@ fn go(
     }
 }
 
-/// Steps on a new arena, each with what it must answer: those that lead up to the case, and those of the case.
+/// Steps on a new arena with their expected answers: first the setup, then the steps of the case.
 #[derive(Clone, Copy)]
 struct Scenario<'a> {
     name: &'a str,
@@ -566,7 +568,7 @@ static SCENARIOS: [Scenario<'static>; 8] = [
         name: "last replica fills the freed place",
         setup: &THREE_BLOCKS,
         steps: &[
-            // Three more replicas of a block, so that its triplets leave their inline places.
+            // Three more replicas of a block, so that its triplets are no longer inline.
             (Step::Do(Deed::Reserve(12, 3)), Answer::Fine),
             (Step::Do(Deed::Link(8, 12)), Answer::Fine),
             (Step::Do(Deed::Link(8, 13)), Answer::Fine),

@@ -22,7 +22,7 @@ fn stamp() -> Stamp
     STAMP
 }
 
-/// Block 7, of which three replicas are wanted, with a good replica on storage 11.
+/// Block 7, with three requested replicas, of which one exists: a good one on storage 11.
 fn block_with_one(rt: &impl Abort, alloc: Global, topology: &Topology) -> LeveledBlocks
     requires { IsSome (node_of topology.now.cluster 11) }
     ensures levels { AreLevels topology.now.cluster result }
@@ -47,7 +47,7 @@ fn block_with_one(rt: &impl Abort, alloc: Global, topology: &Topology) -> Levele
     blocks
 }
 
-/// Four nodes on two racks, with a storage each.
+/// Four nodes on two racks, each with one storage.
 fn nodes(rt: &impl Abort, alloc: Global) -> Topology
     ensures { IsSome (node_of result.cluster 11) }
 {
@@ -56,7 +56,8 @@ fn nodes(rt: &impl Abort, alloc: Global) -> Topology
     topology
 }
 
-/// How many copies a shard wishes for, and how many transfers are too old, where block 7 alone wishes for some as it should.
+/// The numbers of requested copies, of pending transfers and of expired transfers. `None` unless
+/// the part has just the expected wish of block 7, no excess replica and no delete.
 fn counts_of(part: &RoundPart) -> Option<(u32, usize, usize)> {
     let wishes = part.wishes.as_slice();
     if wishes.len() != 1 || !is_as_it_should_be(&wishes[0]) {
@@ -78,12 +79,12 @@ fn is_as_it_should_be(wish: &Wish) -> bool {
         && wish.drained.as_slice().is_empty()
 }
 
-/// Whether these are this one storage.
+/// Whether the list has this storage alone.
 fn is_one(storages: &[StorageId], storage: u32) -> bool {
     storages.len() == 1 && storages[0] == StorageId(storage)
 }
 
-/// What a round finds where transfers are given up after five rounds.
+/// Checks what a round finds if transfers expire after five rounds.
 fn check_round(
     rt: &impl Abort,
     alloc: Global,
@@ -102,7 +103,7 @@ fn check_round(
     drop(part);
 }
 
-/// The bound before which at most `most` blocks are likely to wish.
+/// Checks the guessed bound before which about `most` blocks have wishes.
 fn check_bound(
     rt: &impl Abort,
     alloc: Global,
@@ -115,9 +116,10 @@ fn check_bound(
     assert!(rt; bound == must);
 }
 
-/// Of three requested replicas one is there: two copies are wished for. A transfer on its way is counted as there, until it is too
-/// old. Block 7 alone wishes, at the most urgent level: its key is the bound before which none does, and there is no bound before
-/// which one does. With a transfer on its way it counts as one that wishes for none.
+/// One of three requested replicas exists, so the wish is for two copies. A pending transfer counts
+/// as a replica until it expires. Block 7 alone has a wish, at the most urgent level. So its key is
+/// the bound before which no block has one, and there is no bound before which one block has one.
+/// With a pending transfer the guess counts block 7 as a block without a wish.
 fn check_all(rt: &impl Abort, alloc: Global, topology: &Topology, blocks: &LeveledBlocks)
     requires levels { AreLevels topology.now.cluster blocks.now }
     requires stored { (q : ReplicaId) → IsSome (get (replicas_of blocks.now.arena) q)

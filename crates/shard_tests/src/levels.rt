@@ -1,4 +1,5 @@
-// What each call that may be refused memory answers with ample memory: lists of steps with what each must answer.
+// Calls that can run out of memory, made with ample memory: lists of steps with their expected
+// answers.
 use crate::support::{STAMP, check_step};
 use bm_base::{BlockId, BlockInfo, Entry, HashSecret, Level, Part, StorageId};
 use bm_levels::LeveledBlocks;
@@ -9,28 +10,28 @@ use std::process::Abort;
 
 mod leaving;
 
-/// What is done with blocks on a cluster without nodes, or asked of them.
+/// A change of blocks on a cluster without nodes, or a question to them.
 #[derive(Clone, Copy)]
 enum Step {
-    /// An entry is made for a block.
+    /// Makes an entry for a block.
     Ready(u64),
-    /// The block in an entry becomes known, with three requested replicas.
+    /// Makes the block of an entry known, with three requested replicas.
     Know(u64),
-    /// The same by the event.
+    /// The same, through `add_block`.
     Add(u64),
-    /// The block in an entry is not known any more.
+    /// Makes the block of an entry unknown.
     Forget(u64),
     DropIfBare(u64),
     Delete(u64),
-    /// Asks whether a replica was removed.
+    /// Removes a replica, and asks whether there was one.
     RemoveReplica(u32, u64),
-    /// A full report of a run of blocks is made ready, for the second of two parts.
+    /// Makes a full report of a run of blocks ready, for the second of two parts.
     ReadyReport(u32, u64, u64),
     HasEntry(u64),
     Level(u64),
 }
 
-/// What a step answers.
+/// The answer to a step.
 #[derive(Clone, Copy, PartialEq, Eq)]
 enum Answer {
     Fine,
@@ -124,7 +125,7 @@ fn answer_of(alloc: Global, topology: &Topology, blocks: &mut LeveledBlocks, ste
     }
 }
 
-/// Goes the steps one after another; each answers as it must.
+/// Runs the steps in order, and checks each answer.
 fn go(
     rt: &impl Abort,
     alloc: Global,
@@ -139,7 +140,7 @@ fn go(
     }
 }
 
-/// The steps on no blocks.
+/// Runs the steps on an empty set of blocks.
 fn check(rt: &impl Abort, alloc: Global, name: &str, steps: &[(Step, Answer)]) {
     let topology = Topology::new(alloc).expect(rt, "memory");
     let mut blocks = LeveledBlocks::new(alloc, HashSecret::none()).expect(rt, "memory");
@@ -161,7 +162,7 @@ static COMES_AND_GOES: [(Step, Answer); 10] = [
     (Step::HasEntry(7), Answer::No),
 ];
 
-/// A number whose block is deleted has no entry any more, and of it no replica is removed.
+/// The number of a deleted block has no entry, and a block without replicas has none to remove.
 static DELETED: [(Step, Answer); 7] = [
     (Step::Ready(7), Answer::Fine),
     (Step::Add(7), Answer::Fine),
@@ -172,7 +173,8 @@ static DELETED: [(Step, Answer); 7] = [
     (Step::HasEntry(7), Answer::No),
 ];
 
-/// A report of three blocks is made ready: both numbers of the part have an entry, and nothing is held of them.
+/// A report of three blocks is made ready: both numbers of the part have an entry, and neither is a
+/// known block.
 static READY_REPORT: [(Step, Answer); 5] = [
     (Step::ReadyReport(11, 7, 9), Answer::Fine),
     (Step::HasEntry(7), Answer::Yes),

@@ -1,5 +1,6 @@
-//! Tests of what a shard and a round are made of: what no clause says, that calls are refused nothing while there is memory, and answers
-//! that were worked out by hand. They stand beside the crates and not in them, where each crate would be proved once more with them.
+//! Tests of the parts of a shard and of a round: what no clause promises, and answers worked out by
+//! hand. No call may be refused while there is memory. They are in a crate of their own, since each
+//! crate is proved once more with its tests.
 #![tactic(auto)]
 
 #[cfg(test)]

@@ -1,4 +1,4 @@
-// What each call that may be refused memory answers with ample memory.
+// Calls that can run out of memory, made with ample memory.
 
 use crate::support::STAMP;
 use bm_base::{BlockId, BlockInfo, HashSecret, Items, Places, Refusal, StorageId};
@@ -8,7 +8,7 @@ use bm_topo::Topology;
 use std::alloc::Global;
 use std::process::Abort;
 
-/// The block becomes known.
+/// Makes the block known.
 fn know(topology: &Topology, blocks: &mut LeveledBlocks, id: BlockId) -> Result<(), Refusal> {
     blocks.ready_block(id)?;
     let info = BlockInfo {
@@ -32,7 +32,7 @@ fn is_empty<T: Drop>(listed: Result<Items<T>, Refusal>) -> bool {
     }
 }
 
-/// Whether there are no replicas that are wanted.
+/// Whether the list of the replicas of this kind is empty.
 fn has_none(alloc: Global, blocks: &LeveledBlocks, wanted: Wanted) -> bool {
     match list_replicas(alloc, blocks, wanted) {
         Ok(replicas) => {
@@ -53,7 +53,7 @@ fn are_empty(alloc: Global, blocks: &LeveledBlocks) -> bool {
         && is_empty(places(alloc, blocks, BlockId(7)))
 }
 
-/// Blocks 9 and 7 are known, in this order, and are listed the other way round.
+/// Blocks 9 and 7 became known in this order, and are listed in ascending order.
 fn check_lists(rt: &impl Abort, alloc: Global, blocks: &LeveledBlocks) {
     let missing = missing_blocks(alloc, blocks).expect(rt, "memory");
     assert!(rt; missing.as_slice() == [BlockId(7), BlockId(9)].as_slice());

@@ -1,14 +1,15 @@
-// Each call with ample memory: lists of steps with what each must answer.
+// Each call with ample memory: lists of steps with their expected answers.
 use crate::support::check_step;
 use bm_base::{BlockId, HashSecret, Refusal, ReplicaId, StorageId};
 use bm_pending::PendingTransfers;
 use std::alloc::Global;
 use std::process::Abort;
 
-/// What is done with transfers, or asked of them: blocks and storages by their numbers, then rounds.
+/// A change of transfers, or a question to them: block, storage, round, as far as it has them.
+/// `Expired` and `DropExpired` have the limit and then the round, `DropStorages` two storages.
 #[derive(Clone, Copy)]
 enum Step {
-    /// Makes room for one, and sets the round.
+    /// Reserves memory for a transfer, and sets its round.
     Insert(u64, u32, u64),
     Remove(u64, u32),
     RemoveBlock(u64),
@@ -23,7 +24,7 @@ enum Step {
     Expired(u32, u64),
 }
 
-/// What a step answers.
+/// The answer to a step.
 #[derive(Clone, Copy, PartialEq, Eq)]
 enum Answer {
     Fine,
@@ -33,7 +34,7 @@ enum Answer {
     Nothing,
     Round(u64),
     Number(usize),
-    /// The storages in the first places, and how many these are.
+    /// The storages in order, and their number, which is at most four.
     Storages([u32; 4], usize),
     Entries([(u64, u32, u64); 4], usize),
     Replicas([(u64, u32); 4], usize),
@@ -50,7 +51,7 @@ fn insert(pending: &mut PendingTransfers, block: u64, storage: u32, round: u64) 
     }
 }
 
-/// A storage that was there before stays in front.
+/// The block's targets, appended to a list that already has a storage.
 fn targets(pending: &PendingTransfers, alloc: Global, block: u64) -> Result<Answer, Refusal> {
     let mut storages = Vec::new(alloc);
     storages.push(StorageId(99))?;
@@ -130,7 +131,7 @@ fn ask(pending: &PendingTransfers, alloc: Global, step: Step) -> Result<Answer, 
     }
 }
 
-/// Changes transfers or asks of them.
+/// Makes the change, or asks the question.
 fn answer_of(rt: &impl Abort, alloc: Global, pending: &mut PendingTransfers, step: Step) -> Answer {
     match change(pending, step) {
         Some(answer) => answer,
@@ -138,7 +139,7 @@ fn answer_of(rt: &impl Abort, alloc: Global, pending: &mut PendingTransfers, ste
     }
 }
 
-/// Goes the steps one after another; each answers as it must.
+/// Runs the steps in order, and checks each answer.
 fn go(
     rt: &impl Abort,
     alloc: Global,
@@ -152,7 +153,7 @@ fn go(
     }
 }
 
-/// The steps on no transfers.
+/// Runs the steps on an empty set of transfers.
 fn check(rt: &impl Abort, alloc: Global, name: &str, steps: &[(Step, Answer)]) {
     let mut pending = PendingTransfers::new(alloc, HashSecret::none());
     go(rt, alloc, &mut pending, name, steps);
@@ -164,7 +165,7 @@ const SIX_TRANSFERS: [(Step, Answer); 28] = [
     (Step::Insert(9, 31, 1), Answer::Fine),
     (Step::Insert(7, 21, 2), Answer::Fine),
     (Step::Insert(7, 11, 1), Answer::Fine),
-    // The third target of a block, and its round anew.
+    // A third target of the block, and then a new round for it.
     (Step::Insert(7, 31, 3), Answer::Fine),
     (Step::Insert(7, 31, 4), Answer::Fine),
     (Step::CountOf(7), Answer::Number(3)),
@@ -177,7 +178,7 @@ const SIX_TRANSFERS: [(Step, Answer); 28] = [
         Step::Entries,
         Answer::Entries([(7, 11, 1), (7, 21, 2), (7, 31, 4), (9, 31, 1)], 4),
     ),
-    // In round 3 a transfer of round 1 is given up after two rounds, one of round 2 is not, nor one of a later round.
+    // In round 3 a limit of two rounds expires a transfer of round 1, but none of round 2 or later.
     (
         Step::Expired(2, 3),
         Answer::Replicas([(7, 11), (9, 31), (0, 0), (0, 0)], 2),
@@ -201,7 +202,7 @@ const SIX_TRANSFERS: [(Step, Answer); 28] = [
     (Step::Entries, Answer::Entries([(0, 0, 0); 4], 0)),
 ];
 
-// The greatest numbers, and a limit that no round reaches.
+// The greatest numbers, and a limit that no transfer exceeds.
 const GREATEST_NUMBERS: [(Step, Answer); 7] = [
     (Step::Insert(u64::MAX, u32::MAX, u64::MAX), Answer::Fine),
     (Step::Insert(0, 0, 0), Answer::Fine),

@@ -1,4 +1,4 @@
-// On clusters of a few nodes the choices are those worked out by hand: a list of cases for each question.
+// The choices on clusters of a few nodes, worked out by hand: a table of cases for each question.
 ghost use Rattle.std.specs.Prelude.{◌≡◌, ℕ};
 ghost use Rattle.bm_place.specs.Sources.{sender_table};
 ghost use Rattle.bm_place.specs.Targets.{target_table};
@@ -24,7 +24,8 @@ const SEVENTEEN: [u32; 17] = [
     101, 102, 103, 104, 105, 106, 107, 108, 109, 110, 111, 112, 113, 114, 115, 116, 117,
 ];
 
-/// Two nodes with a storage each on each of two racks, a node with two storages on a third, one with seventeen on a fourth.
+/// Two racks with two nodes of one storage each, a third with a node of two storages, and a fourth
+/// with a node of seventeen.
 static NODES: [Node<'static>; 6] = [
     Node {
         number: 1,
@@ -60,7 +61,7 @@ static NODES: [Node<'static>; 6] = [
 
 const NO_STORAGE: [StorageId; 0] = [];
 
-/// How many bytes are free on the storages of each of the nodes. A node with none is not in the cluster.
+/// The free bytes on each storage of each node. A node with 0 is not in the cluster.
 const FOUR_NODES: [u64; 6] = [1000, 1000, 1000, 1000, 0, 0];
 
 fn number_of(storage: Option<StorageId>) -> Option<u32> {
@@ -95,7 +96,7 @@ fn cluster(rt: &impl Abort, alloc: Global, free: &[u64; 6], draining: &[u32]) ->
     topology
 }
 
-/// Which of the live replicas are in excess where `repl` are wanted.
+/// The live replicas that are in excess if `repl` are requested.
 #[derive(Clone, Copy)]
 struct Choice<'a> {
     live: &'a [u32],
@@ -103,7 +104,7 @@ struct Choice<'a> {
     chosen: &'a [u32],
 }
 
-/// The same on a cluster of nodes on whose storages so many bytes are free.
+/// The same on a cluster with these free bytes on the storages of each node.
 #[derive(Clone, Copy)]
 struct Excess<'a> {
     free: [u64; 6],
@@ -136,7 +137,7 @@ static EXCESSES: [Excess<'static>; 6] = [
             chosen: &[],
         },
     },
-    // One of seventeen replicas on one rack, where sixteen are wanted.
+    // One of seventeen replicas on one rack, if sixteen are requested.
     Excess {
         free: [0, 0, 0, 0, 0, 1000],
         choice: Choice {
@@ -145,7 +146,7 @@ static EXCESSES: [Excess<'static>; 6] = [
             chosen: &[117],
         },
     },
-    // A full storage before an empty one.
+    // The storage with fewer free bytes.
     Excess {
         free: [999, 1000, 1000, 1000, 0, 0],
         choice: Choice {
@@ -164,9 +165,9 @@ static EXCESSES: [Excess<'static>; 6] = [
     },
 ];
 
-/// Storages on nodes of their own that bear the same numbers, each with its rack and how many bytes are free on it. Six stand on the
-/// first rack, four on the second, two on the third. By free bytes, and of equal ones the greater first, they are 12, 4, 7, 8,
-/// 3, 2, 11, 6, 10, 1, 9 and 5.
+/// Storages with their racks and free bytes, each on the node of its own number. Six are on the
+/// first rack, four on the second, two on the third. By ascending free bytes, and for equal ones by
+/// descending number, they are 12, 4, 7, 8, 3, 2, 11, 6, 10, 1, 9 and 5.
 static TWELVE: [(u32, u32, u64); 12] = [
     (1, 1, 700),
     (2, 1, 300),
@@ -183,26 +184,30 @@ static TWELVE: [(u32, u32, u64); 12] = [
 ];
 
 static MANY: [Choice<'static>; 4] = [
-    // 12 leaves its rack to 11. Of the first rack 4, 3 and 2 go, of the second 7 and 8, by their bytes.
+    // 12 goes, which leaves 11 alone on the third rack. Then 4, 3 and 2 of the first rack and 7 and
+    // 8 of the second go, in the order of their bytes.
     Choice {
         live: &[1, 2, 3, 4, 5, 6, 7, 8, 9, 10, 11, 12],
         repl: 6,
         chosen: &[12, 4, 7, 8, 3, 2],
     },
-    // Then 11 stays alone on its rack and has to wait. 6 and 1 go of the first rack, which leaves 5 alone, and 10 of the second, which
-    // leaves 9 alone. Of the three that are alone 11 has the fewest bytes, then 9.
+    // Then 11 is alone on its rack and has to wait. 6 and 1 of the first rack go, which leaves 5
+    // alone, and 10 of the second, which leaves 9 alone. Of these three 11 has the fewest bytes,
+    // then 9.
     Choice {
         live: &[12, 11, 10, 9, 8, 7, 6, 5, 4, 3, 2, 1],
         repl: 1,
         chosen: &[12, 4, 7, 8, 3, 2, 6, 10, 1, 11, 9],
     },
-    // 5 is named twice, and counts twice on the first rack: it has itself beside it there and goes before 11, both namings at once.
+    // 5 is in the list twice and counts twice on the first rack. So it is not alone there and goes
+    // before 11, with both its entries at once.
     Choice {
         live: &[5, 1, 2, 3, 4, 5, 6, 7, 8, 9, 10, 11, 12],
         repl: 1,
         chosen: &[12, 4, 7, 8, 3, 2, 6, 10, 1, 5, 11, 9],
     },
-    // An unknown storage has no rack and no bytes: it goes first of those that are alone.
+    // An unknown storage has no rack and no bytes: it goes first of those that are alone on their
+    // rack.
     Choice {
         live: &[1, 2, 3, 4, 5, 6, 7, 8, 9, 10, 11, 12, 13],
         repl: 3,
@@ -234,7 +239,7 @@ fn cluster_of_singles(rt: &impl Abort, alloc: Global) -> Topology {
     topology
 }
 
-/// Chosen in memory of its own, and in room that the cases before have used.
+/// Chooses into a new list, and into a list and a scratch buffer that earlier cases have used.
 fn check_excess(
     rt: &impl Abort,
     alloc: Global,
@@ -292,7 +297,7 @@ fn many_replicas_in_excess(rt: HostRuntime) {
     drop(topology);
 }
 
-/// The source of a copy, where these nodes drain, after one transfer from each storage of `sent`.
+/// The source of a copy, if these nodes drain, after one transfer from each storage of `sent`.
 #[derive(Clone, Copy)]
 struct Source<'a> {
     free: [u64; 6],
@@ -304,7 +309,7 @@ struct Source<'a> {
 }
 
 static SOURCES: [Source<'static>; 12] = [
-    // The node that sends fewest.
+    // The node that sends the fewest transfers.
     Source {
         free: FOUR_NODES,
         draining: &[],
@@ -362,7 +367,7 @@ static SOURCES: [Source<'static>; 12] = [
         level: Level::VeryUnderReplicated,
         chosen: None,
     },
-    // A node that drains goes first, although it sends more.
+    // A node that drains goes first, even if it sends more.
     Source {
         free: FOUR_NODES,
         draining: &[2],
@@ -371,7 +376,7 @@ static SOURCES: [Source<'static>; 12] = [
         level: Level::UnderReplicated,
         chosen: Some(21),
     },
-    // It may send four at each level, and not a fifth.
+    // A node that drains may send four at each level, but not a fifth.
     Source {
         free: FOUR_NODES,
         draining: &[2],
@@ -396,7 +401,7 @@ static SOURCES: [Source<'static>; 12] = [
         level: Level::Highest,
         chosen: None,
     },
-    // Of two that drain the one that sends fewer.
+    // Of two nodes that drain, the one that sends fewer.
     Source {
         free: FOUR_NODES,
         draining: &[2, 3],
@@ -407,7 +412,7 @@ static SOURCES: [Source<'static>; 12] = [
     },
 ];
 
-/// One transfer more from a storage, which may send it at the highest level.
+/// Adds a transfer from a storage, which may send it at the highest level.
 fn send(rt: &impl Abort, topology: &Topology, streams: &mut Streams, source: StorageId)
     requires { (sends : ℕ → ℕ) × (streams.old ≡ sender_table topology.now.cluster sends) }
     ensures { (sends : ℕ → ℕ) × (streams.new ≡ sender_table topology.now.cluster sends) }
@@ -450,7 +455,8 @@ fn source_of_a_copy(rt: HostRuntime) {
     }
 }
 
-/// The target of a copy of `len` bytes, where these nodes drain, after so many bytes were sent to each storage of `filled`.
+/// The target of a copy of `len` bytes, if these nodes drain, after transfers of this many bytes to
+/// each storage of `filled`.
 #[derive(Clone, Copy)]
 struct Target<'a> {
     free: [u64; 6],
@@ -464,7 +470,7 @@ struct Target<'a> {
 }
 
 static TARGETS: [Target<'static>; 18] = [
-    // The most room on another rack.
+    // The most free bytes on another rack.
     Target {
         free: FOUR_NODES,
         draining: &[],
@@ -536,7 +542,7 @@ static TARGETS: [Target<'static>; 18] = [
         level: Level::Highest,
         chosen: Some(31),
     },
-    // A badly distributed block leaves its rack.
+    // The copy of a badly distributed block can only go to another rack.
     Target {
         free: FOUR_NODES,
         draining: &[],
@@ -557,7 +563,7 @@ static TARGETS: [Target<'static>; 18] = [
         level: Level::UnderReplicated,
         chosen: Some(21),
     },
-    // The third copy goes to one of two racks, and further ones to any.
+    // The third copy goes to one of the two racks, and further ones to any rack.
     Target {
         free: [1000, 1000, 1000, 1000, 9000, 0],
         draining: &[],
@@ -588,7 +594,7 @@ static TARGETS: [Target<'static>; 18] = [
         level: Level::UnderReplicated,
         chosen: Some(11),
     },
-    // The other storage of a node, where bytes are sent to one of them.
+    // The other storage of a node, if bytes are sent to one of them.
     Target {
         free: [1000, 1000, 1000, 1000, 9000, 0],
         draining: &[],
@@ -599,7 +605,7 @@ static TARGETS: [Target<'static>; 18] = [
         level: Level::Highest,
         chosen: Some(6),
     },
-    // Another node, where both have less room than it.
+    // A storage of another node, if both storages of this one have fewer bytes left.
     Target {
         free: [1000, 1000, 1000, 1000, 9000, 0],
         draining: &[],
@@ -610,7 +616,7 @@ static TARGETS: [Target<'static>; 18] = [
         level: Level::Highest,
         chosen: Some(31),
     },
-    // A third rack, where none of the two has room.
+    // A third rack, if no storage on the first two has enough free bytes.
     Target {
         free: [1000, 1000, 1000, 1000, 9000, 0],
         draining: &[],
@@ -654,7 +660,7 @@ static TARGETS: [Target<'static>; 18] = [
     },
 ];
 
-/// A storage on each of the nodes 1 to 4 that this storage is not on.
+/// A storage on each of the nodes 1 to 4 except the node of this storage.
 fn on_other_nodes(storage: u32) -> &'static [u32] {
     match storage {
         31 => &[11, 21, 41],
@@ -663,7 +669,8 @@ fn on_other_nodes(storage: u32) -> &'static [u32] {
     }
 }
 
-/// So many bytes more to a storage: the target where all other nodes are excluded.
+/// Adds a transfer of `len` bytes to a storage, which is the target if all other nodes are
+/// excluded.
 fn fill(
     rt: &impl Abort,
     alloc: Global,

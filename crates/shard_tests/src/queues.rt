@@ -1,5 +1,5 @@
-// The lists of one levelled set of slots, and each call once with ample memory: each test is a list of steps with what each must
-// answer.
+// The lists of one set of slots with levels, and each call once with ample memory: each test is a
+// list of steps with their expected answers.
 use crate::support::check_step;
 use bm_base::{Level, Refusal};
 use bm_queues::{LevelLists, SlotSet, Walk};
@@ -8,7 +8,7 @@ use std::process::Abort;
 
 mod sparse_sets;
 
-/// What is done with lists of levels, or asked of them.
+/// A change of level lists, or a question to them.
 #[derive(Clone, Copy)]
 enum LevelStep {
     GrowTo(usize),
@@ -20,13 +20,13 @@ enum LevelStep {
     Slots(Level),
 }
 
-/// What is done with a set of slots, or asked of it.
+/// A change of a set of slots, or a question to it.
 #[derive(Clone, Copy)]
 enum SetStep {
     GrowTo(usize),
-    /// Puts a slot into it, and asks whether it is in.
+    /// Inserts a slot, and asks whether it is a member.
     Insert(usize),
-    /// Takes a slot out of it, and asks whether it is in.
+    /// Removes a slot, and asks whether it is a member.
     Remove(usize),
     Len,
     First,
@@ -35,12 +35,12 @@ enum SetStep {
     Walk,
 }
 
-/// What a step answers.
+/// The answer to a step.
 #[derive(Clone, Copy, PartialEq, Eq)]
 enum Answer {
     Fine,
     Refused,
-    /// There is no room for the slot.
+    /// The slot is not below the capacity.
     NoRoom,
     Yes,
     No,
@@ -48,7 +48,7 @@ enum Answer {
     Number(usize),
     Slot(usize),
     Level(Level),
-    /// Slots in order, and how many these are.
+    /// Slots in order, and their number.
     Slots([usize; 2], usize),
     TooManySlots,
 }
@@ -134,7 +134,7 @@ fn of_levels(lists: &mut LevelLists, step: LevelStep) -> Answer {
     }
 }
 
-/// Goes the steps one after another on new lists; each answers as it must.
+/// Runs the steps in order on new lists, and checks each answer.
 fn go_levels(rt: &impl Abort, alloc: Global, steps: &[(LevelStep, Answer)]) {
     let mut lists = LevelLists::new(alloc).expect(rt, "memory");
     for (index, (step, must)) in steps.iter().enumerate() {
@@ -159,7 +159,7 @@ static LEVELS_OF_THREE_SLOTS: [(LevelStep, Answer); 22] = [
     (LevelStep::Next(0), Answer::Nothing),
     (LevelStep::First(Level::Highest), Answer::Slot(1)),
     (LevelStep::First(Level::NoUsableReplica), Answer::Nothing),
-    // The level that a slot has changes nothing.
+    // Setting the level that a slot already has changes nothing.
     (
         LevelStep::Set(0, Some(Level::UnderReplicated)),
         Answer::Fine,
@@ -169,7 +169,7 @@ static LEVELS_OF_THREE_SLOTS: [(LevelStep, Answer); 22] = [
     (LevelStep::First(Level::UnderReplicated), Answer::Slot(0)),
     (LevelStep::Level(2), Answer::Nothing),
     (LevelStep::Next(2), Answer::Nothing),
-    // More room leaves the lists, and less asks for nothing.
+    // A greater capacity keeps the lists, and a smaller one changes nothing.
     (LevelStep::GrowTo(5), Answer::Fine),
     (LevelStep::GrowTo(1), Answer::Fine),
     (LevelStep::Room, Answer::Number(5)),
@@ -179,7 +179,7 @@ static LEVELS_OF_THREE_SLOTS: [(LevelStep, Answer); 22] = [
         LevelStep::Set(4, Some(Level::UnderReplicated)),
         Answer::Fine,
     ),
-    // From the back of the list to the front.
+    // The list from back to front.
     (
         LevelStep::Slots(Level::UnderReplicated),
         Answer::Slots([0, 4], 2),
@@ -192,7 +192,7 @@ static REFUSED_WHERE_NO_LINK_REACHES: [(LevelStep, Answer); 3] = [
     (LevelStep::Room, Answer::Number(1)),
 ];
 
-/// The second are refused where no link reaches.
+/// The second table asks for a capacity that links cannot address, which is refused.
 #[test]
 fn levels_of_slots(rt: HostRuntime) {
     go_levels(&rt, rt.alloc(), LEVELS_OF_THREE_SLOTS.as_slice());

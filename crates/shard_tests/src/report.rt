@@ -1,5 +1,5 @@
-// What reports and notices make of small arenas, worked out by hand: a table of scenarios, each a
-// list of steps with what each must answer. Each is tried with a `Report`, and again with the free
+// Reports and notices on small arenas, worked out by hand: a table of scenarios, each a list of
+// steps with their expected answers. Each scenario runs with a `Report`, and again with the free
 // functions.
 ghost use Rattle.std.specs.Prelude.{◌≡◌, ◌<◌, ◌≤◌, ℕ, true};
 ghost use Rattle.bm_base.specs.declared.limits.TheConstants.{MAX_NUMBERS};
@@ -24,44 +24,45 @@ const WHOLE: Part = Part {
 #[derive(Clone, Copy)]
 struct Run(u64, u64, u64);
 
-/// Names no number.
+/// Contains no number.
 const NO_RUN: Run = Run(1, 0, 0);
 
 /// How a report is made.
 #[derive(Clone, Copy)]
 enum Way {
     Whole,
-    /// To a part of several: its index, and how many there are.
+    /// To one of several parts: its index, and the number of parts.
     ToPart(u32, u32),
-    /// It is made ready, and not applied.
+    /// The report is made ready, but not applied.
     Ready,
 }
 
-/// Which calls take the reports and the notices of received replicas.
+/// Which functions take the reports and the notices of received replicas.
 #[derive(Clone, Copy)]
 enum Form {
-    /// Those of a `Report`.
+    /// The methods of `Report`.
     Kept,
     /// The free functions, which keep and list no slots.
     ByNumber,
 }
 
-/// What is done with an arena, or asked of it.
+/// A change of an arena, or a question to it.
 #[derive(Clone, Copy)]
 enum Step<'a> {
-    /// A block is known, with generation 1 and length 10.
+    /// Makes a block known, with generation 1 and length 10.
     Known(u64),
-    /// A block has a good replica on a storage, in excess or not.
+    /// Adds a good replica of a block on a storage, in excess or not.
     Linked(u64, u32, bool),
     /// A storage makes a full report, in one of the ways.
     Reports(u32, &'a [Run; 3], Way),
     /// What the last report made ready is given up.
     GivesUp,
-    /// All that was made ready is given up.
+    /// Everything that was made ready is given up.
     GivesUpAll,
-    /// So many reports of a thousand new numbers by storage 11 are made ready and given up.
+    /// Storage 11 makes this number of reports, each of a thousand new numbers. Each is made ready
+    /// and given up.
     GivesUpThousands(u64),
-    /// A storage has received a replica, of a generation.
+    /// A storage has received a replica, of this generation.
     Receives(u32, u64, u64),
     /// A storage has deleted a replica.
     Deletes(u32, u64),
@@ -69,19 +70,19 @@ enum Step<'a> {
     Walk(u32),
     /// The marks of a block's replica on a storage.
     MarksOf(u64, u32),
-    /// How many numbers have an entry.
+    /// The number of entries.
     Entries,
-    /// How many slots the last report lists as changed, if it lists any.
+    /// The number of slots that the last report lists as changed.
     Changed,
 }
 
-/// What a step answers.
+/// The answer to a step.
 #[derive(Clone, Copy, PartialEq, Eq)]
 enum Answer {
     Fine,
-    /// So many replicas came, so many went, in so many steps.
+    /// The numbers of added replicas, of removed replicas and of steps.
     Did(u128, u128, u128),
-    /// The first four blocks, and how many there are.
+    /// The first four blocks, and the length of the list.
     Blocks([u64; 4], usize),
     /// A tag, and whether the replica is in excess.
     Tagged(Tag, bool),
@@ -119,7 +120,7 @@ fn did(applied: Applied) -> Answer {
     Answer::Did(applied.added, applied.removed, applied.steps)
 }
 
-/// Whether each block has one replica at most, and only good ones are in excess.
+/// Whether each block has at most one replica, and every replica in excess is good.
 fn is_simple(arena: &Arena) -> bool
     ensures { result ≡ true → (slot : ℕ) → IsSingle arena.now slot }
 {
@@ -132,7 +133,7 @@ fn is_simple(arena: &Arena) -> bool
     true
 }
 
-/// Whether the block in a slot has one replica at most, which is good where it is in excess.
+/// Whether the block in a slot has at most one replica, which is good if it is in excess.
 fn is_single(arena: &Arena, slot: Slot) -> bool
     ensures { result ≡ true → IsSingle arena.now slot }
 {
@@ -145,7 +146,7 @@ fn is_single(arena: &Arena, slot: Slot) -> bool
     }
 }
 
-/// Whether a replica is good where it is in excess.
+/// Whether a replica is good if it is in excess.
 fn is_excess_good(marks: Marks) -> bool
     ensures { result ≡ midway.is_excess_good marks }
 {
@@ -241,7 +242,7 @@ fn names_low(entry: &Entry) -> bool
     entry.to.0 < 1000
 }
 
-/// Whether no entry names a number above 1000, and there are few.
+/// Whether there are at most 100 entries, each with a last number below 1000.
 fn names_few(entries: &[Entry]) -> bool
     ensures { result ≡ true → numbers_in entries.now ≤ MAX_NUMBERS }
 {
@@ -347,7 +348,7 @@ fn marks_of(arena: &Arena, id: u64, storage: StorageId) -> Answer {
     }
 }
 
-/// Makes ready a report of a thousand new numbers from one on, and gives it up.
+/// Makes ready a report of a thousand new numbers, of which `from` is the first, and gives it up.
 fn give_up_thousand(rt: &impl Abort, world: &mut World, from: u64) {
     let entries = [entry(Run(from, from.saturating_add(999), 1))];
     assert!(rt; make_ready(world, StorageId(11), entries.as_slice()) == Answer::Fine);
@@ -442,7 +443,7 @@ fn can_be_asked(form: Form, step: Step<'_>) -> bool {
     !matches!((form, step), (Form::ByNumber, Step::Changed))
 }
 
-/// Goes the steps one after another; each answers as it must.
+/// Runs the steps in order, and checks each answer.
 fn go(rt: &impl Abort, world: &mut World, name: &str, steps: &[(Step<'_>, Answer)]) {
     for (index, (step, must)) in steps.iter().enumerate() {
         let is_correct = !can_be_asked(world.form, *step) || tell(rt, world, *step) == *must;
@@ -450,7 +451,7 @@ fn go(rt: &impl Abort, world: &mut World, name: &str, steps: &[(Step<'_>, Answer
     }
 }
 
-/// Steps on a node without blocks, each with what it must answer.
+/// Steps on a node without blocks, with their expected answers.
 #[derive(Clone, Copy)]
 struct Scenario<'a> {
     name: &'a str,
@@ -648,7 +649,7 @@ fn reports_and_notices_change_an_arena_as_worked_out(rt: HostRuntime) {
     }
 }
 
-/// It takes longer than the others.
+/// Takes longer than the other scenarios, so it runs in a test of its own.
 static THOUSANDS: Scenario<'static> = Scenario {
     name: "thousand reports given up leave nothing",
     steps: &[

@@ -1,4 +1,4 @@
-// On a cluster of four nodes with a storage each, two on each of two racks, the choices are those worked out by hand.
+// What a round chooses on a cluster of four nodes, two on each of two racks, worked out by hand.
 ghost use Rattle.std.specs.Prelude.{◌≡◌, ◌∷◌, []};
 
 use crate::support::{STAMP, four_nodes, storages_numbered, take};
@@ -18,7 +18,7 @@ fn ids(rt: &impl Abort, alloc: Global, storages: &[u32]) -> StorageIds {
     listed
 }
 
-/// The copies that a block wishes for, and the storages that hold it.
+/// The number of copies that a block needs, and the storages that hold it.
 #[derive(Clone, Copy)]
 struct Held<'a> {
     count: u32,
@@ -27,7 +27,7 @@ struct Held<'a> {
     pairs: &'a [u32],
 }
 
-/// One copy of a block that nothing holds yet.
+/// One copy of a block that no storage holds yet.
 const HELD_NOWHERE: Held<'static> = Held {
     count: 1,
     live: &[],
@@ -86,7 +86,7 @@ fn with_wishes(rt: &impl Abort, alloc: Global, low: Wish, high: Wish) -> RoundPa
     part(alloc, wishes, Vec::new(alloc))
 }
 
-/// Whether these are the levels and blocks of wishes.
+/// Whether the wishes have these levels and blocks, in this order.
 fn are_keys(wishes: &[&Wish], keys: &[(u32, u64)]) -> bool {
     for (place, key) in keys.iter().enumerate() {
         match wishes.get(place) {
@@ -126,14 +126,14 @@ fn lists_as_told(rt: &impl Abort, alloc: Global, numbers: &[u32]) -> bool {
     listed.as_slice() == wanted.as_slice()
 }
 
-/// More storages than a wish holds in itself: the lists of a block with six replicas.
+/// Lists of four storages, which a wish holds inline, and of six, which it does not.
 #[test]
 fn lists_of_more_than_four(rt: HostRuntime) {
     assert!(rt; lists_as_told(&rt, rt.alloc(), [1, 2, 3, 4].as_slice()));
     assert!(rt; lists_as_told(&rt, rt.alloc(), [9, 8, 7, 6, 5, 4].as_slice()));
 }
 
-/// What is chosen of one part with this wish alone.
+/// Chooses from one part that has this wish alone.
 fn choose_wish(rt: &impl Abort, alloc: Global, topology: &Topology, wish: Wish) -> Chosen {
     let mut wishes = Vec::new(alloc);
     wishes.push(wish).expect(rt, "memory");
@@ -141,7 +141,7 @@ fn choose_wish(rt: &impl Abort, alloc: Global, topology: &Topology, wish: Wish) 
     choose(alloc, parts.as_slice(), topology, &Config::standard()).expect(rt, "memory")
 }
 
-/// What is chosen of one part with this delete alone.
+/// Chooses from one part that has this delete alone.
 fn choose_delete(rt: &impl Abort, alloc: Global, topology: &Topology, delete: Delete) -> Chosen {
     let mut deletes = Vec::new(alloc);
     deletes.push(delete).expect(rt, "memory");
@@ -158,7 +158,7 @@ fn is_chosen(chosen: &Chosen, transfers: &[Transfer], deletes: &[Delete]) -> boo
     chosen.transfers.as_slice() == transfers && chosen.deletes.as_slice() == deletes
 }
 
-/// Whether round 1 commands this one node just this.
+/// Whether the commands are of round 1, for this node alone, and are just these.
 fn is_told(told: &Commands, node: NodeId, transfers: &[Transfer], deletes: &[Delete]) -> bool {
     let nodes = told.nodes.as_slice();
     for commands in nodes {
@@ -185,7 +185,8 @@ fn copy_to(target: u32) -> Transfer {
     }
 }
 
-/// What a round chooses on a cluster, and what round 1 tells one node of it, if any.
+/// Checks what is chosen, and that round 1 commands all of it to this node, or nothing if there is
+/// no node.
 fn check_chosen(
     rt: &impl Abort,
     alloc: Global,
@@ -203,7 +204,7 @@ fn check_chosen(
     }
 }
 
-/// Of a wish for copies of block 7, whose source is on node 1.
+/// Checks what is chosen for a wish for copies of block 7, whose source is on node 1.
 fn check_copies(
     rt: &impl Abort,
     alloc: Global,

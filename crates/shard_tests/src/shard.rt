@@ -1,4 +1,4 @@
-// With ample memory a shard of four nodes on two racks answers what was worked out by hand.
+// The answers of a shard on four nodes and two racks, worked out by hand, with ample memory.
 ghost use Rattle.std.specs.Prelude.{◌≡◌, ◌+◌, ◌<◌, ◌^◌};
 ghost use Rattle.bm_shard.specs.Standing.{StandsIn, next_part};
 
@@ -20,7 +20,7 @@ const NO_BLOCK: [BlockId; 0] = [];
 
 const NO_REPLICA: [ReplicaId; 0] = [];
 
-/// Takes an event that nothing refuses.
+/// Checks, prepares and commits an event that nothing refuses.
 fn apply(rt: &impl Abort, topology: &mut Topology, shard: &mut Shard, event: &Event) -> Done
     requires standing { StandsIn topology.old.cluster shard.old }
     ensures standing { StandsIn topology.new.cluster shard.new }
@@ -36,7 +36,7 @@ fn apply(rt: &impl Abort, topology: &mut Topology, shard: &mut Shard, event: &Ev
     done
 }
 
-/// Prepares an event that nothing refuses, and gives it up.
+/// Checks and prepares an event that nothing refuses, and aborts it.
 fn give_up(rt: &impl Abort, topology: &Topology, shard: &mut Shard, event: &Event)
     requires standing { StandsIn topology.now.cluster shard.old }
     ensures standing { StandsIn topology.now.cluster shard.new }
@@ -48,7 +48,7 @@ fn give_up(rt: &impl Abort, topology: &Topology, shard: &mut Shard, event: &Even
     shard.abort();
 }
 
-/// A node comes with a storage, which has 1,000 bytes left.
+/// A node joins with one storage, which has 1,000 free bytes.
 fn join(
     rt: &impl Abort,
     alloc: Global,
@@ -91,7 +91,7 @@ fn received_event(storage: u32, block: BlockId) -> Event {
     }
 }
 
-/// An empty shard of all numbers, beside a cluster.
+/// An empty shard for all block numbers, next to a cluster.
 fn fresh(rt: &impl Abort, alloc: Global, topology: &Topology) -> Shard
     ensures standing { StandsIn topology.now.cluster result }
     ensures round { result.round ≡ 0 }
@@ -100,7 +100,8 @@ fn fresh(rt: &impl Abort, alloc: Global, topology: &Topology) -> Shard
     Shard::new(alloc, 0, &Config::standard()).expect(rt, "memory")
 }
 
-/// Four nodes with a storage each, two on each of two racks; block 7 with one replica of three.
+/// Four nodes with a storage each, two on each of two racks. Block 7 has one of three requested
+/// replicas.
 fn begin(rt: &impl Abort, alloc: Global, topology: &mut Topology, shard: &mut Shard)
     requires standing { StandsIn topology.old.cluster shard.old }
     ensures standing { StandsIn topology.new.cluster shard.new }
@@ -131,7 +132,7 @@ fn holds<T: PartialEq + Drop>(listed: Result<Items<T>, Refusal>, must: &[T]) -> 
     }
 }
 
-/// What is asked of the shard after that.
+/// Checks the shard's answers about block 7.
 fn look(rt: &impl Abort, shard: &Shard) {
     let replica = Replica {
         block: SEVEN,
@@ -154,7 +155,7 @@ fn look_further(rt: &impl Abort, shard: &Shard) {
     assert!(rt; shard.level(SEVEN) == Ok(Some(Level::Highest)));
 }
 
-/// Whether a wish is for `count` copies of block 7, with these copies pending.
+/// Whether a wish is for `count` copies of block 7, with these pending targets.
 fn is_wish(wish: &Wish, count: u32, pending: &[StorageId]) -> bool {
     let source = [StorageId(11)];
     wish.level == Level::Highest
@@ -167,7 +168,7 @@ fn is_wish(wish: &Wish, count: u32, pending: &[StorageId]) -> bool {
         && wish.pending.as_slice() == pending
 }
 
-/// What the round finds: nothing but that wish.
+/// Checks that the round found such a wish and nothing else.
 fn wishes(rt: &impl Abort, part: &RoundPart, count: u32, pending: &[StorageId]) {
     assert!(rt; part.expired.as_slice().is_empty());
     assert!(rt; part.excess.as_slice().is_empty());
@@ -176,7 +177,7 @@ fn wishes(rt: &impl Abort, part: &RoundPart, count: u32, pending: &[StorageId]) 
     assert!(rt; wishes.len() == 1 && is_wish(&wishes[0], count, pending));
 }
 
-/// A copy of block 7 from storage 11 to storage 31 is chosen, and nothing else.
+/// A copy of block 7 from storage 11 to storage 31, and nothing else.
 fn one_copy(rt: &impl Abort, alloc: Global) -> Chosen {
     let copy = Transfer {
         block: SEVEN,
@@ -190,7 +191,7 @@ fn one_copy(rt: &impl Abort, alloc: Global) -> Chosen {
     }
 }
 
-/// A notice of a new block, and one of block 7 on the target of the copy, are given up.
+/// Gives up the notice of a replica of an unknown block, and one of block 7 on the copy's target.
 fn give_up_notices(rt: &impl Abort, topology: &Topology, shard: &mut Shard)
     requires standing { StandsIn topology.now.cluster shard.old }
     ensures standing { StandsIn topology.now.cluster shard.new }
@@ -200,8 +201,8 @@ fn give_up_notices(rt: &impl Abort, topology: &Topology, shard: &mut Shard)
     give_up(rt, topology, shard, &received_event(31, SEVEN));
 }
 
-/// The next round wishes for two copies; one is commanded, and the round after it wishes for the
-/// other. Notices that are given up in between change nothing.
+/// The next round finds a wish for two copies. One is commanded, so the round after it finds a wish
+/// for the other. Notices that are given up in between change nothing.
 fn copy(rt: &impl Abort, alloc: Global, topology: &Topology, shard: &mut Shard)
     requires standing { StandsIn topology.now.cluster shard.old }
     requires round { shard.old.round ≡ 0 }

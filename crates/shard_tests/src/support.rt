@@ -9,7 +9,7 @@ pub(crate) const STAMP: Stamp = Stamp {
     len: 10,
 };
 
-/// Ends the test where a step of a scenario answers otherwise than it must.
+/// Ends the test unless the answer to a step is the expected one.
 pub(crate) fn check_step(rt: &impl Abort, scenario: &str, index: usize, is_correct: bool) {
     assert!(rt; is_correct, "{scenario}: step {index}");
 }
@@ -22,14 +22,14 @@ pub(crate) fn storages_numbered(rt: &impl Abort, alloc: Global, numbers: &[u32])
     storages
 }
 
-/// Takes an event that nothing refuses.
+/// Checks, prepares and commits an event that nothing refuses.
 pub(crate) fn take(rt: &impl Abort, topology: &mut Topology, event: &Event) {
     topology.check(event).expect(rt, "an event to be taken");
     topology.prepare(event).expect(rt, "memory");
     topology.commit(event);
 }
 
-/// A node joins, on a rack, with these storages.
+/// A node joins on a rack with these storages.
 pub(crate) fn join(
     rt: &impl Abort,
     alloc: Global,
@@ -46,7 +46,7 @@ pub(crate) fn join(
     take(rt, topology, &event);
 }
 
-/// A node's heartbeat: so many bytes are free on each of its storages.
+/// A node sends a heartbeat with `free` bytes for each of these storages.
 pub(crate) fn beat(
     rt: &impl Abort,
     alloc: Global,
@@ -70,7 +70,8 @@ pub(crate) fn beat(
     take(rt, topology, &event);
 }
 
-/// Nodes 1 to 4 on racks 1, 1, 2 and 2, with the storages 11, 21, 31 and 41, on each of which 1,000 bytes are free.
+/// Nodes 1 to 4 on racks 1, 1, 2 and 2, with the storages 11, 21, 31 and 41, each with 1,000 free
+/// bytes.
 pub(crate) fn four_nodes(rt: &impl Abort, alloc: Global) -> Topology {
     let mut topology = Topology::new(alloc).expect(rt, "memory");
     for (node, rack, storage) in [(1, 1, 11), (2, 1, 21), (3, 2, 31), (4, 2, 41)] {

@@ -1,5 +1,5 @@
-// With ample memory each event that no check refuses is taken, and the cluster answers what was worked out by hand: a table of
-// scenarios, each a list of steps with what each must answer.
+// With ample memory, each event that no check refuses is accepted, and the cluster's answers are
+// those worked out by hand. A table of scenarios, each a list of steps with their expected answers.
 use crate::support::check_step;
 use bm_base::{
     BlockId, Entry, Event, Gen, Items, NodeId, Rack, Refusal, Remaining, Stamp, StorageId,
@@ -8,48 +8,49 @@ use bm_topo::Topology;
 use std::alloc::Global;
 use std::process::Abort;
 
-/// What is told of a cluster.
+/// An event on a cluster.
 #[derive(Clone, Copy)]
 enum Told {
-    /// A node comes, on a rack, with storages from a number on, so many.
+    /// A node registers: the node, its rack, its first storage and the number of its storages.
     Comes(u32, u32, u32, u32),
-    /// A node comes, on rack 1, with two storages.
+    /// A node registers on rack 1 with two storages.
     ComesWithTwo(u32, u32, u32),
-    /// A node beats, and tells what is free on a storage.
+    /// A node sends a heartbeat: the node, a storage and its free bytes.
     Beats(u32, u32, u64),
-    /// The same of two.
+    /// The same with two storages.
     BeatsWithTwo(u32, u32, u64, u32, u64),
     /// A node dies.
     Dies(u32),
     /// A storage fails.
     Fails(u32),
-    /// A storage reports so many replicas of one block.
+    /// A storage sends a full report with this number of entries, each for the same block.
     Reports(u32, usize),
-    /// A storage reports a run of blocks, from a number to a number, so many times.
+    /// A storage sends a full report of one run of blocks: its first block, its last block, and the
+    /// number of entries that repeat it.
     ReportsRuns(u32, u64, u64, usize),
-    /// A node is to drain.
+    /// A node begins to drain.
     Drains(u32),
-    /// A node is to drain no more.
+    /// A node stops draining.
     Stays(u32),
 }
 
-/// What is done with what is told.
+/// What is done with an event.
 #[derive(Clone, Copy)]
 enum Deed {
-    /// Checked, and if no check refuses, prepared and committed.
+    /// Checks the event and, unless it is refused, prepares and commits it.
     Take,
     Check,
-    /// Prepared and given up.
+    /// Checks the event and, unless it is refused, prepares and aborts it.
     GiveUp,
-    /// Asked whether nodes would stand on two racks.
+    /// Asks whether the alive nodes would be on two racks or more after the event.
     Foresee,
 }
 
-/// What is done with a cluster, or asked of it.
+/// A change of a cluster, or a question to it.
 #[derive(Clone, Copy)]
 enum Step {
     Do(Deed, Told),
-    /// 256 nodes without storages come, each on a rack of its own.
+    /// Registers 256 nodes without storages, each on a rack of its own.
     Crowd,
     HasRacks,
     Nodes,
@@ -63,7 +64,7 @@ enum Step {
     OnDraining(u32),
 }
 
-/// What a step answers.
+/// The answer to a step.
 #[derive(Clone, Copy, PartialEq, Eq)]
 enum Answer {
     Fine,
@@ -74,7 +75,7 @@ enum Answer {
     Nothing,
 }
 
-/// Storages from a number on, so many.
+/// The storages from `first` on, `count` of them.
 fn storages(rt: &impl Abort, alloc: Global, first: u32, count: u32) -> Items<StorageId> {
     let mut ids = Vec::new(alloc);
     for place in 0..count {
@@ -84,7 +85,7 @@ fn storages(rt: &impl Abort, alloc: Global, first: u32, count: u32) -> Items<Sto
     Items::from_vec(ids)
 }
 
-/// So many entries of one run of blocks.
+/// `count` entries of the same run of blocks.
 fn entries(rt: &impl Abort, alloc: Global, from: u64, to: u64, count: usize) -> Items<Entry> {
     let mut entries = Vec::new(alloc);
     for _ in 0..count {
@@ -209,7 +210,7 @@ fn done_with(topology: &mut Topology, deed: Deed, event: &Event) -> Answer {
     }
 }
 
-/// A node without storages comes, on a rack of its own.
+/// Registers a node without storages, on a rack of its own.
 fn take_bare(topology: &mut Topology, alloc: Global, node: u32) -> Answer {
     let event = Event::Register {
         node: NodeId(node),
@@ -219,7 +220,7 @@ fn take_bare(topology: &mut Topology, alloc: Global, node: u32) -> Answer {
     take(topology, &event)
 }
 
-/// `Fine` where each of the 256 is taken.
+/// `Fine` if each of the 256 nodes is accepted.
 fn crowd(topology: &mut Topology, alloc: Global) -> Answer {
     for node in 0..256 {
         if take_bare(topology, alloc, node) != Answer::Fine {
@@ -256,7 +257,7 @@ fn looked_up(topology: &Topology, step: Step) -> Option<u64> {
     }
 }
 
-/// Goes the steps one after another; each answers as it must.
+/// Runs the steps in order, and checks each answer.
 fn go(
     rt: &impl Abort,
     alloc: Global,
@@ -270,7 +271,7 @@ fn go(
     }
 }
 
-/// Steps on a new cluster, each with what it must answer: those that lead up to the case, and those of the case.
+/// Steps on a new cluster with their expected answers: first the setup, then the steps of the case.
 #[derive(Clone, Copy)]
 struct Scenario<'a> {
     name: &'a str,
@@ -342,7 +343,7 @@ static SCENARIOS: [Scenario<'static>; 13] = [
             (Step::Do(Deed::Foresee, Told::Dies(1)), Answer::No),
         ],
     },
-    // Nothing is left of the storages of a dead node: it may come again with others.
+    // A dead node loses its storages, so it can join again with others.
     Scenario {
         name: "a dead node comes again with other storages",
         setup: &FOUR_NODES,
@@ -512,7 +513,8 @@ static SCENARIOS: [Scenario<'static>; 13] = [
             ),
         ],
     },
-    // A report may name 1,048,576 numbers in its runs together; one that ends before it begins names none.
+    // The runs of a report may contain 1,048,576 numbers together. A run that ends before it begins
+    // contains none.
     Scenario {
         name: "numbers of a report at the limit",
         setup: &FOUR_NODES,

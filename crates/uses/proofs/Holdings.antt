@@ -4,7 +4,7 @@ use Rattle.bm_base.specs.Map.{empty}
 use Rattle.bm_arena.specs.Contents.{Contents}
 use Rattle.bm_arena.specs.Holding.{replicas_of, blocks_of, holdings_of}
 
--- where blocks and replicas are the same, so are the holdings
+-- equal blocks and replicas make equal holdings
 pub same_holdings : (a c : Contents) → replicas_of c ≡ replicas_of a → blocks_of c ≡ blocks_of a → holdings_of c ≡ holdings_of a
 unfolding holdings_of
 same_holdings a c replicas blocks = λ i. record { blocks = blocks i; replicas = replicas i; pending = empty }

@@ -1,4 +1,4 @@
--- Slots of a list, one after another.
+-- Members of a list to which slots are appended.
 use Rattle.std.proofs.Common.{◌≡◌, ◌≢◌, ◌↔◌, ◌⊎◌, ℕ, List, [], ◌∷◌, ◌++◌, refl, inl, inr}
 use Rattle.std.proofs.lemmas.Bool.{cases_eq}
 use Rattle.bm_base.specs.SlotLists.{Among}

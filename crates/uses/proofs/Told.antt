@@ -5,7 +5,7 @@ use Rattle.bm_base.specs.State.{State}
 use Rattle.bm_base.specs.Versions.{Version, version}
 use Rattle.bm_view.specs.History.{last_of}
 
--- no answer is older than the version learned last
+-- no answer is older than the version that was learned last
 pub last_told : (told : List (List Version)) (one : List Version) (n : ℕ) → All (λ known. (last_of known).calls ≤ n) (told ++ one ∷ []) → (last_of one).calls ≤ n
 last_told told one n h = subst (λ (l : List Version). (last_of l).calls ≤ n) (get_or-append_seam told one [] []) (h (length told) [] (omega (arith, length-append told (one ∷ []))))
 

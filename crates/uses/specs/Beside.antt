@@ -6,6 +6,6 @@ use Rattle.uses.specs.declared.beside.Seen.{Seen}
 abbrev pub IsNoOlder : Seen → Type 0
 IsNoOlder s = IfSome s.found (λ found. s.told ≤ found.calls)
 
--- it learned of the version after this number of calls
+-- it learned of a version after more than this number of calls
 abbrev pub IsToldAfter : ℕ → Seen → Type 0
 IsToldAfter calls s = calls < s.told

@@ -9,18 +9,18 @@ use Rattle.bm_base.specs.Lists.{has}
 use Rattle.bm_base.specs.Replicas.{node_of, has_storage}
 use Rattle.bm_base.specs.Transfers.{least_source, least_target}
 
--- the first copy of a round for a block with these live replicas, at this level: from the least source to the least target
+-- the first copy for a block with these live replicas, at this level: least source, least target
 abbrev pub first_copy : Cluster → List ℕ → Level → ℕ → Stamp → Option Transfer
 first_copy C live urgency block stamp =
     option_and_then (λ source. option_map (λ target. record { block = block; stamp = stamp; source = source; target = target })
     (least_target C [] urgency live live stamp.len))
     (least_source C [] urgency live)
 
--- what is copied, if anything, fits on its target
+-- a copy fits on its target
 abbrev pub FitsOnTarget : Cluster → ℕ → Option Transfer → Type 0
 FitsOnTarget C len copy = IfSome copy (λ t. len ≤ remaining C t.target)
 
--- it goes to no node of one of these storages
+-- a copy goes to no node of one of these storages
 abbrev pub GoesToAnotherNode : Cluster → List ℕ → Option Transfer → Type 0
 GoesToAnotherNode C live copy =
     IfSome copy (λ t. (holder node : ℕ) → has live holder ≡ true → node_of C holder ≡ Some node → has_storage C node t.target ≡ false)

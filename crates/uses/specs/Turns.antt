@@ -8,12 +8,12 @@ use Rattle.bm_base.specs.Calls.{after_event}
 use Rattle.bm_base.specs.Refusals.{refusal_of, round_refusal}
 use Rattle.bm_base.specs.Answering.{Refuses}
 
--- why the next of these events is refused; where there is none, why a round is
+-- why the next of these events is refused; if there is none, why a round is
 abbrev pub next_refusal : State → List Event → Option Refusal
 next_refusal M [] = round_refusal M
 next_refusal M (e ∷ es) = refusal_of M e
 
--- The first events were taken, and then the next call was refused: by the definition, or for memory.
+-- The first events were accepted. The next call ran out of memory, or the definition refused it.
 pub record StopsAt (M : State) (told : List Event) (r : Refusal) (N : State) : Type 0 where
   pub taken : ℕ
   pub state : N ≡ fold after_event M (take taken told)
@@ -24,7 +24,7 @@ abbrev pub event_refusal : State → List Event → Option Refusal
 event_refusal M [] = None
 event_refusal M (e ∷ es) = refusal_of M e
 
--- Only the first events were taken: the next is refused by the definition, or for memory.
+-- The first events were accepted. Then memory ran out, or the definition refused the next event.
 pub record StopsAmong (M : State) (told : List Event) (r : Refusal) (N : State) : Type 0 where
   pub taken : ℕ
   pub state : N ≡ fold after_event M (take taken told)

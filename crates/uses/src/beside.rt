@@ -54,7 +54,7 @@ impl Home for Brand {
     ghost before = { 0 };
 }
 
-/// A receipt on its way to another thread, of a version that a change has led to.
+/// A receipt on its way to another thread, for a version that a change has led to.
 #[derive(Drop)]
 struct Notice<J: Home> {
     receipt: Receipt,
@@ -73,8 +73,8 @@ fn make_notice<J: Home>(receipt: Receipt) -> Notice<J>
     }
 }
 
-/// Applies the events in their order, and publishes after each. In parallel, a thread has the locator
-/// learn each receipt that comes and then look the block up.
+/// Applies the events in their order, and publishes after each. In parallel, a thread has the
+/// locator learn each receipt, and then looks the block up.
 pub fn apply_beside_reader<R: Threads + Wait + Sync>(
     rt: &R,
     alloc: Global,
@@ -98,8 +98,8 @@ pub fn apply_beside_reader<R: Threads + Wait + Sync>(
     in_two_threads::<Brand, R>(rt, alloc, manager, publisher, locator, events, id)
 }
 
-/// The reader is the first of the two: if no thread can be started it runs last, and finds all
-/// receipts.
+/// The reader is the first of the two closures: if no thread can be started it runs last, and finds
+/// all receipts.
 fn in_two_threads<J: Home + Send + Sync, R: Threads + Wait + Sync>(
     rt: &R,
     alloc: Global,
@@ -155,7 +155,7 @@ fn in_two_threads<J: Home + Send + Sync, R: Threads + Wait + Sync>(
     SideBySide { changes, seen }
 }
 
-/// At its end the sender is dropped, after the last receipt.
+/// Drops the sender at the end, after the last receipt.
 fn apply_all<J: Home, R: Threads + Wait + Sync>(
     rt: &R,
     manager: &mut Manager,

@@ -6,7 +6,7 @@ ghost use Rattle.bm_lines.specs.Reading.CallOf.{call_of};
 use bm_lines::{call_of, line_of};
 use std::alloc::{AllocError, Global};
 
-/// The line in canonical form, without spaces, or `None` where it asks for no call.
+/// The line in canonical form, without spaces. `None` if the line asks for no call.
 pub fn tidy_line(alloc: Global, line: &[u8]) -> Result<Option<String>, AllocError>
     ensures some { IfOk result (λ o. is_some o ≡ is_some (call_of line.now)) }
     ensures same { IfFound result (λ s. call_of (string_bytes s) ≡ call_of line.now) }

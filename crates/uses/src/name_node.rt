@@ -11,10 +11,10 @@ use bm_manager::Manager;
 use std::sync::Wait;
 use std::thread::Threads;
 
-/// Applies the events since the last turn in their order, and then makes a round. [`for_node`] gives
-/// the commands of one DataNode, which reports what it has done in a later turn.
+/// Applies the events since the last turn in their order, and then makes a round. [`for_node`]
+/// gives the commands of one DataNode, which reports what it has done in a later turn.
 ///
-/// It stops at the first refusal. Then only the events before it have been applied.
+/// Stops at the first refusal. Then only the events before it have been applied.
 pub fn turn<R: Threads + Wait + Sync>(
     rt: &R,
     manager: &mut Manager,

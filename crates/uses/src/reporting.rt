@@ -13,8 +13,8 @@ use bm_base::{Entry, Part, Refusal, StorageId};
 use bm_report::{Applied, Report};
 use bm_topo::Topology;
 
-/// Applies a storage's full report to the arena of a shard's numbers. When out of memory, nothing
-/// that the arena holds has changed.
+/// Applies a storage's full report to the arena of a shard's numbers. When out of memory, the
+/// blocks and replicas of the arena are unchanged.
 pub fn take_report(
     kept: &mut Report,
     arena: &mut Arena,

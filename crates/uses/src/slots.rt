@@ -1,4 +1,4 @@
-// A set of slots that are to be scanned, each once.
+// A set of slots to be scanned, each once.
 ghost use Rattle.std.specs.Prelude.{◌≡◌, ◌<◌, ◌↔◌, ℕ, All, IfOk, IfErr};
 ghost use Rattle.bm_base.specs.declared.refusal.Refusal.TheVariants.{Memory};
 ghost use Rattle.bm_base.specs.SlotLists.{Among, Distinct};
@@ -7,7 +7,8 @@ use bm_base::Refusal;
 use bm_queues::SlotSet;
 use std::alloc::{AllocError, Global};
 
-/// The set of some slots. Each is below `bound`, for which [`bm_arena::Arena::slot_bound`] serves.
+/// The set of these slots, which are all below `bound`. [`bm_arena::Arena::slot_bound`] gives a
+/// bound.
 pub fn note_slots(alloc: Global, slots: &[usize], bound: usize) -> Result<SlotSet, Refusal>
     requires { All (λ slot. slot < bound) slots.now }
     ensures members { IfOk result (λ set. (slot : ℕ)

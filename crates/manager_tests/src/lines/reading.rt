@@ -1,4 +1,4 @@
-// Lines as people write them and as they are gathered, and answers as they are printed.
+// Lines as people write them, a line that grows too long, and answers as they are printed.
 use bm_base::{Answer, Call, Done, Refusal};
 use bm_lines::{LINE_END, Line, MAX_LINE, answer_line, call_of, line_end, line_of};
 use std::alloc::Global;
@@ -14,7 +14,7 @@ fn is_tidied(rt: &impl Abort, alloc: Global, line: &str, tidy: &str) {
     }
 }
 
-// Any order, spaces, further fields: the line that is written has the order of the table.
+// Fields in any order, spaces and further fields: the written line has the order of the table.
 #[test]
 fn a_line_as_people_write_it(rt: HostRuntime) {
     is_tidied(
@@ -25,7 +25,7 @@ fn a_line_as_people_write_it(rt: HostRuntime) {
     );
 }
 
-/// A round's answer is printed as this line.
+/// Checks that an answer is printed as this line.
 fn is_printed(rt: &impl Abort, alloc: Global, answer: &Answer, line: &str) {
     let printed = answer_line(alloc, &Call::Round, answer).expect(rt, "memory");
     assert!(rt; printed.as_str() == line, "{line}");
@@ -51,7 +51,7 @@ fn add_spaces(rt: &impl Abort, alloc: Global, line: &mut Line) {
     add(rt, line, spaces.as_slice());
 }
 
-// A line that grows past the limit holds nothing, and is no empty line.
+// A line that grows past the limit holds no bytes, but it is not empty.
 #[test]
 fn a_line_that_grows_too_long(rt: HostRuntime) {
     let mut line = Line::new(rt.alloc());

@@ -49,7 +49,7 @@ static LINES: [(Told<'static>, &'static str); 26] = [
         Told::Corrupt(21, 8),
         "{\"op\":\"corrupt\",\"storage\":21,\"id\":8}",
     ),
-    // One block, a run, a run that names none, and the run of all blocks.
+    // One block, a run, a run that contains none, and the run of all blocks.
     (
         Told::Report(
             11,
@@ -62,7 +62,7 @@ static LINES: [(Told<'static>, &'static str); 26] = [
         ),
         "{\"op\":\"report\",\"storage\":11,\"blocks\":[[7,1,10],[8,20,2,30],[9,8,3,40],[0,18446744073709551615,4,50]]}",
     ),
-    // Lists with nothing in them.
+    // Empty lists.
     (
         Told::Register(0, 0, &[]),
         "{\"op\":\"register\",\"node\":0,\"rack\":0,\"storages\":[]}",
@@ -102,7 +102,7 @@ fn is_written(rt: &impl Abort, alloc: Global, call: &Call, line: &str)
     assert!(rt; written.as_str() == line, "at {line}");
 }
 
-/// The call that is read of a line is written as the same again.
+/// Checks that the call of a line is written as the same line.
 fn is_read(rt: &impl Abort, alloc: Global, line: &str) {
     match bm_lines::call_of(alloc, line.as_bytes()).expect(rt, "memory") {
         Some(call) => is_written(rt, alloc, &call, line),

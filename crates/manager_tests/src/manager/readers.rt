@@ -1,4 +1,4 @@
-//! Readers beside a manager: what locators answer of the versions that it publishes, in one thread and in two.
+//! What locators answer from the versions that a manager publishes, in one thread and in two.
 ghost use Rattle.std.specs.Prelude.{◌≡◌};
 
 use super::config;
@@ -18,7 +18,7 @@ use std::thread::{Threads, join};
 
 const READS: u32 = 2_000;
 
-/// Four nodes on two racks, and block 7, of which three replicas are wanted.
+/// Four nodes on two racks, and block 7 with three requested replicas.
 static CLUSTER: [Told<'static>; 9] = [
     Told::Register(1, 1, &[11]),
     Told::Register(2, 1, &[21]),
@@ -86,17 +86,18 @@ fn publish_and_learn<R: Abort + Threads + Wait + Sync>(
     calls
 }
 
-/// What is done with a manager, a publisher and two locators, or asked of them, and what the answer must be.
+/// A change of a manager, a publisher and two locators, or a question to them, with the expected
+/// answer.
 #[derive(Clone, Copy)]
 enum Step<'a> {
-    /// The calls of the cluster.
+    /// Makes the calls of the cluster.
     Cluster,
     Make(Told<'a>),
-    /// The manager publishes; the receipt says so many calls, and the first locator learns it.
+    /// Publishes, and the first locator learns the receipt, which has this number of calls.
     Publish(u64),
-    /// The first locator has a block on these storages, in the version with this number of calls.
+    /// The first locator finds a block on these storages, in the version with this number of calls.
     First(u64, u64, &'a [u32]),
-    /// The same of the second, which learns nothing.
+    /// The same for the second locator, which learns nothing.
     Second(u64, u64, &'a [u32]),
 }
 
@@ -113,12 +114,12 @@ static READERS_SEE_PUBLISHED_VERSIONS: [Step<'static>; 14] = [
     Step::Publish(11),
     Step::First(7, 11, &[11, 31]),
     Step::Second(7, 11, &[11, 31]),
-    // A version may have as many calls as the one before.
+    // A version may have the same number of calls as the one before.
     Step::Publish(11),
     Step::Second(7, 11, &[11, 31]),
 ];
 
-/// Whether a step answers as it must.
+/// Runs a step. Whether its answer is the expected one.
 fn go<R: Abort + Threads + Wait + Sync>(
     rt: &R,
     alloc: Global,
@@ -200,7 +201,7 @@ fn readers_see_published_versions(rt: HostRuntime) {
     check_readers(&rt, rt.alloc(), 64, 4);
 }
 
-/// Calls after those of the cluster, and where block 7 is after each.
+/// Calls after those of the cluster, with the storages of block 7 after each.
 static BESIDE: [(Told<'static>, &'static [u32]); 6] = [
     (Told::Received(11, 7, STAMP), &[11]),
     (Told::Received(31, 7, STAMP), &[11, 31]),
@@ -210,7 +211,8 @@ static BESIDE: [(Told<'static>, &'static [u32]); 6] = [
     (Told::Dead(1), &[21]),
 ];
 
-/// Whether a locator may answer this at some time: the version after so many of the calls has block 7 there.
+/// Whether a locator may answer this at some time: in the version with this number of calls block 7
+/// is on these storages.
 fn is_published(rt: &impl Abort, alloc: Global, seen: Located) -> bool {
     let calls = seen.calls;
     if calls <= CLUSTER.len() as u64 {
@@ -226,8 +228,8 @@ fn is_published(rt: &impl Abort, alloc: Global, seen: Located) -> bool {
     }
 }
 
-/// Reads block 7 many times. Counts the answers that are none, that are of no version, and that are older than the one before or than
-/// `oldest`.
+/// Reads block 7 many times. Counts the missing answers, those of no version, and those that are
+/// older than the one before or than `oldest`.
 fn read_many(rt: &impl Abort, alloc: Global, locator: &mut Locator, oldest: u64) -> u32
     ensures { locator.new.home ≡ locator.old.home }
 {
@@ -263,7 +265,8 @@ fn publish_all<J: Home, R: Abort + Threads + Wait + Sync>(
     }
 }
 
-/// Reads, and reads again after each receipt that comes. Counts the answers that must not be; after a receipt none is older than it.
+/// Reads, and reads again after each receipt. Counts the wrong answers. After a receipt an older
+/// answer is wrong too.
 fn read_what_is_told<J: Home, R: Abort + Wait>(
     rt: &R,
     alloc: Global,
@@ -282,7 +285,7 @@ fn read_what_is_told<J: Home, R: Abort + Wait>(
     wrong
 }
 
-/// Calls, rounds and publishes in one thread; reads in another. How many answers are wrong.
+/// Makes the calls and publishes in one thread, and reads in another. The number of wrong answers.
 fn beside<J: Home + Send + Sync, R: Abort + Threads + Wait + Sync>(
     rt: &R,
     alloc: Global,

@@ -20,7 +20,7 @@ const VERSIONS: u64 = 50;
 
 const READS: u32 = 5_000;
 
-// What block 7 has in the version of so many calls.
+// What a locator finds of block 7 in the version with this number of calls.
 fn at(calls: u64) -> Option<Located> {
     match calls {
         0 => found_on(0, &[]),
@@ -29,7 +29,7 @@ fn at(calls: u64) -> Option<Located> {
     }
 }
 
-// 1 for no answer, and for places of another version.
+// 1 if there is no answer, and if the storages are not those of its version.
 fn is_wrong(seen: Option<Located>) -> u32 {
     match seen {
         Some(located) => {
@@ -57,8 +57,8 @@ fn publish_two<J: Home, R: Abort + Wait>(
     let _ = to.send(rt, make_notice::<J>(receipt));
 }
 
-// Reads, and reads once more for each receipt that comes. No answer is older than the receipt: that is proved. It counts
-// those that are wrong or none.
+// Reads, and reads again after each receipt. Counts the missing and the wrong answers. The prover
+// shows that no answer is older than the receipt.
 fn read_what_is_told<J: Home, R: Wait>(
     rt: &R,
     mut locator: Locator,
@@ -115,7 +115,7 @@ fn told_beside<R: Abort + Threads + Wait + Sync>(
     tell_beside::<Brand, R>(rt, alloc, publisher, locator)
 }
 
-// How many answers are wrong, and what a locator that learnt nothing answers in the end.
+// The number of wrong answers, and the last answer of a locator that learned nothing.
 fn one_round<R: Abort + Threads + Wait + Sync>(rt: &R, alloc: Global) -> (u32, Option<Located>) {
     let (mut publisher, mut locators) = open_view(rt, alloc, 2).expect(rt, "memory");
     let wrong = match locators.pop() {
@@ -137,7 +137,7 @@ fn readers_see_published_versions_in_two_threads(rt: HostRuntime) {
     }
 }
 
-// Publishes versions with 1 call to `VERSIONS`, and gives the receipt of the last.
+// Publishes the versions with 1 to `VERSIONS` calls, and gives the receipt of the last.
 fn publish_all<R: Abort + Wait>(rt: &R, alloc: Global, publisher: &mut Publisher) -> Receipt
     requires { (last_of publisher.old.list).calls ≡ 0 }
     ensures { result.home ≡ publisher.old.home }
@@ -150,7 +150,7 @@ fn publish_all<R: Abort + Wait>(rt: &R, alloc: Global, publisher: &mut Publisher
     publisher.publish(rt, last).expect(rt, "memory")
 }
 
-// Counts the answers that went back, or were none.
+// Counts the answers that are missing or older than the one before.
 fn read_all(mut locator: Locator) -> (Locator, u32)
     ensures { result.0.home ≡ locator.home }
 {

@@ -26,7 +26,7 @@ fn two_nodes(rt: &impl Abort, alloc: Global) -> Topology {
     topology
 }
 
-/// The block has a replica on a storage; no storage of the cluster is known yet.
+/// Adds a replica of the block on a storage, by a notice on a cluster that knows no storage.
 fn receive(rt: &impl Abort, alloc: Global, blocks: &mut LeveledBlocks, storage: StorageId) {
     let nowhere = nowhere(rt, alloc);
     let mut report = Report::new(alloc);
@@ -37,7 +37,7 @@ fn receive(rt: &impl Abort, alloc: Global, blocks: &mut LeveledBlocks, storage: 
     drop(nowhere);
 }
 
-/// A block of which two replicas are wanted has one on storage 11 and one on 21.
+/// A block with two requested replicas, which are on the storages 11 and 21.
 fn on_both(rt: &impl Abort, alloc: Global, topology: &Topology) -> LeveledBlocks {
     let mut blocks = LeveledBlocks::new(alloc, HashSecret::none()).expect(rt, "memory");
     blocks.ready_block(ID).expect(rt, "memory");
@@ -52,7 +52,7 @@ fn on_both(rt: &impl Abort, alloc: Global, topology: &Topology) -> LeveledBlocks
     blocks
 }
 
-/// The level after node 1 began to drain, or ceased to.
+/// The level after node 1 began or stopped draining.
 fn level_when_turned(
     topology: &Topology,
     blocks: &mut LeveledBlocks,
@@ -62,14 +62,14 @@ fn level_when_turned(
     blocks.level(ID)
 }
 
-/// How many replicas leave by the death of a node.
+/// The number of replicas that leave when a node dies.
 #[tactic(auto, unfolding(bm_base::specs::Events::change_cluster))]
 fn dead(topology: &Topology, blocks: &mut LeveledBlocks, node: NodeId) -> u128 {
     let multi = topology.multi_after(&Event::Dead { node });
     blocks.forget_node(topology, node, multi)
 }
 
-/// Whether the level is what it must be after each change.
+/// Whether the level is right after each change.
 fn goes_rightly(topology: &Topology, blocks: &mut LeveledBlocks) -> bool {
     level_when_turned(topology, blocks, true) == Some(Level::Highest)
         && level_when_turned(topology, blocks, false).is_none()

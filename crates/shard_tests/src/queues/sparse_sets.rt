@@ -1,32 +1,32 @@
-// A sparse set of four slots: a list of steps with what each must answer.
+// A sparse set of four slots: a list of steps with their expected answers.
 use crate::support::check_step;
 use bm_base::Refusal;
 use bm_queues::SparseSet;
 
-/// What is done with a sparse set, or asked of it.
+/// A change of a sparse set, or a question to it.
 #[derive(Clone, Copy)]
 enum Step {
     GrowTo(usize),
-    /// Puts a slot into it, and asks whether it is in.
+    /// Inserts a slot, and asks whether it is a member.
     Insert(usize),
-    /// Takes a slot out of it, and asks whether it is in.
+    /// Removes a slot, and asks whether it is a member.
     Remove(usize),
     Contains(usize),
     Room,
     Members,
 }
 
-/// What a step answers.
+/// The answer to a step.
 #[derive(Clone, Copy, PartialEq, Eq)]
 enum Answer {
     Fine,
     Refused,
-    /// There is no room for the slot.
+    /// The slot is not below the capacity.
     NoRoom,
     Yes,
     No,
     Number(usize),
-    /// The members in order, and how many these are.
+    /// The members in order, and their number.
     Slots([u32; 3], usize),
     TooManySlots,
 }
@@ -93,7 +93,7 @@ static FOUR_SLOTS: [(Step, Answer); 22] = [
     (Step::Insert(0), Answer::NoRoom),
     (Step::GrowTo(4), Answer::Fine),
     (Step::Members, Answer::Slots([0, 0, 0], 0)),
-    // No place was ever given to this one.
+    // This slot never had an index.
     (Step::Contains(1), Answer::No),
     (Step::Insert(3), Answer::Yes),
     (Step::Insert(0), Answer::Yes),
@@ -101,15 +101,15 @@ static FOUR_SLOTS: [(Step, Answer); 22] = [
     (Step::Insert(0), Answer::Yes),
     (Step::Members, Answer::Slots([3, 0, 2], 3)),
     (Step::Remove(1), Answer::No),
-    // The last comes to the place of the one that leaves.
+    // The last member takes the index of the one that leaves.
     (Step::Remove(3), Answer::No),
     (Step::Members, Answer::Slots([2, 0, 0], 2)),
     (Step::Contains(2), Answer::Yes),
-    // The last itself leaves.
+    // The last member itself leaves.
     (Step::Remove(0), Answer::No),
     (Step::Members, Answer::Slots([2, 0, 0], 1)),
     (Step::Insert(3), Answer::Yes),
-    // More room leaves the members, and less asks for nothing.
+    // A greater capacity keeps the members, and a smaller one changes nothing.
     (Step::GrowTo(300), Answer::Fine),
     (Step::GrowTo(2), Answer::Fine),
     (Step::Room, Answer::Number(300)),

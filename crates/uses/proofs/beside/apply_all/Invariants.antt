@@ -3,7 +3,7 @@ use Rattle.bm_base.specs.Calls.{after_event}
 use Rattle.bm_view.specs.History.{last_of}
 use Rattle.uses.proofs.beside.apply_all.Given as goal
 
--- the events so far are taken, and the publisher's last version is no newer than the manager
+-- the events so far are applied, and the publisher's last version is no newer than the manager
 abbrev pub invariant-loop-event : goal.invariant-loop-event
 invariant-loop-event g l =
     (l.manager ≡ fold after_event l.fn.manager (take l.event-index l.events))

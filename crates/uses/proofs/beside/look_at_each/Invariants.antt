@@ -2,7 +2,7 @@ use Rattle.std.proofs.Common.{◌≡◌, All}
 use Rattle.uses.specs.Beside.{IsNoOlder, IsToldAfter}
 use Rattle.uses.proofs.beside.look_at_each.Given as goal
 
--- the locator stays that of its view, each receipt so far was new, and nothing seen was older than it
+-- the locator stays in its view, and each receipt so far was new and no newer than its answer
 abbrev pub invariant-loop-notice : goal.invariant-loop-notice
 invariant-loop-notice g l =
     (l.locator.home ≡ l.fn.locator.home)

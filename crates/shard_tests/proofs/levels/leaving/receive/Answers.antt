@@ -12,7 +12,7 @@ pub receive-requires-clause-told : goal.receive-requires-clause-told
 receive-requires-clause-told g c =
     ok_then c.ready_notice-ready.result _ (sym c.is_ok.ensures.value ∙ search rules) c.ready_notice-ready.ensures.told
 
--- no two storages are of one node where there is none
+-- no two storages are on the same node if the cluster is empty
 apart : (C : Cluster) → C ≡ empty_cluster → (s t : ℕ) → are_sisters C s t ≡ false
 unfolding empty_cluster
 apart C e s t = no_sisters C s t (λ i j at _ _. none-some i (sym (get-empty by_number s) ∙ ap (λ (D : Cluster). get D.storages s) (sym e) ∙ at))
