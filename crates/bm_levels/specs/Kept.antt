@@ -13,7 +13,7 @@ use Rattle.bm_arena.specs.Contents.{Contents, block_at}
 use Rattle.bm_levels.specs.declared.judging.Judged.{Judged}
 use Rattle.bm_levels.specs.Judged.{level_by, is_settled_at}
 
--- the levels of the slots, and the slots at which a round has to look
+-- the levels of the slots, and the slots that a round has to scan
 pub record Kept : Type 0 where
   pub levels : Levels
   pub unsettled : Members

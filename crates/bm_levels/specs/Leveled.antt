@@ -26,6 +26,6 @@ pub record IsLeveled (v : Leveled) : Type 0 where
 abbrev pub AreLevels : Cluster → Leveled → Type 0
 AreLevels C v = (slot : ℕ) → level_of_slot v.kept slot ≡ level_in C (block_at v.arena slot)
 
--- where that is so before a change, it is so after it
+-- a change keeps the levels right in a cluster
 abbrev pub KeepsLevels : Cluster → Leveled → Leveled → Type 0
 KeepsLevels C old new = AreLevels C old → AreLevels C new
