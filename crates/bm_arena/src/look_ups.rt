@@ -118,7 +118,7 @@ impl Arena {
         links::replica_at(&self.slots, slot, i)
     }
 
-    /// How many replicas the block in `slot` has: 0 where the slot is not held.
+    /// How many replicas the block in `slot` has: 0 if the slot is not held.
     pub fn triplet_count(&self, slot: Slot) -> usize
         ensures { result ≡ option_map_or (λ b. length b.replicas) (block_at self.now slot) 0 }
     {

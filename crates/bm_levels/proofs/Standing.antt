@@ -87,7 +87,7 @@ module _ (C D : Cluster) (v : Leveled) (lawful : IsLawful v.arena) (leveled : Is
   pub levels_for_held : AreLevelsBy (rack_of C) (is_draining C) (is_multi_rack D) v → AreLevels D v
   levels_for_held = levels_alike (rack_of C) (rack_of D) (is_draining C) (is_draining D) (is_multi_rack D) v stands
 
--- a heartbeat leaves all levels
+-- a heartbeat keeps all levels
 pub heartbeat_leaves : (C : Cluster) (rs : List Remaining) (v : Leveled) → AreLevels C v → AreLevels (heartbeat C rs) v
 heartbeat_leaves C rs v h slot =
     let law = heartbeat_leaves_racks C rs in

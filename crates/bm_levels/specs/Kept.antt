@@ -57,7 +57,7 @@ KeepsRoom old new = (bound : ℕ) → HasRoomFor old bound → HasRoomFor new bo
 abbrev pub GrowsWithin : ℕ → Kept → Kept → Type 0
 GrowsWithin most old new = (length new.levels.levels ≤ max (length old.levels.levels) most) × (new.unsettled.room ≤ max old.unsettled.room most)
 
--- these are just the slots at a level
+-- these are exactly the slots at a level
 abbrev pub AreSlotsAt : Kept → Level → List ℕ → Type 0
 AreSlotsAt K l slots = (slot : ℕ) → Among slot slots ↔ (level_of_slot K slot ≡ Some l)
 

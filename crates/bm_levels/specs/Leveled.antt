@@ -17,7 +17,7 @@ pub record IsLeveled (v : Leveled) : Type 0 where
   pub blank : info_at v.arena v.arena.delimiter ≡ None
   -- there is capacity for every slot that is held
   pub room : (slot : ℕ) → IsSome (block_at v.arena slot) → HasRoomFor v.kept (slot + 1)
-  -- the unsettled slots are just those of the blocks that are not settled
+  -- the unsettled slots are exactly those of the blocks that are not settled
   pub unsettled : (slot : ℕ) → IsUnsettled v.kept slot ↔ (is_settled_at (block_at v.arena slot) ≡ false)
   -- a slot without a known block has no level
   pub unknown : (slot : ℕ) → info_at v.arena slot ≡ None → level_of_slot v.kept slot ≡ None

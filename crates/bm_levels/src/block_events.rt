@@ -80,7 +80,7 @@ impl LeveledBlocks {
         }
     }
 
-    /// The replica is bad, if it is there. Takes no memory.
+    /// Makes a replica bad, if it exists. Takes no memory.
     pub fn make_bad(&mut self, topology: &Topology, storage: StorageId, id: BlockId)
         ensures replicas { replicas_of self.new.arena
             ≡ revise_at (replicas_of self.old.arena) (replica_at id storage) as_bad }

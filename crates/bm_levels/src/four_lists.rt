@@ -21,7 +21,7 @@ struct Four {
 }
 
 impl Four {
-    /// One storage alone.
+    /// Only one storage.
     fn one(storage: StorageId) -> Four
         ensures { result.fourth ≡ storage }
     {

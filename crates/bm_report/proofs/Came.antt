@@ -1,4 +1,4 @@
--- Entering the blocks of named numbers lists their slots alone.
+-- Entering the blocks of named numbers lists only their slots.
 use Rattle.std.proofs.Common.{◌≡◌, ◌⊎◌, ℕ, zero, suc, List, [], ◌∷◌, ◌++◌, map, Some, inl, inr, subst, sym, ap, ◌∙◌}
 use Rattle.std.specs.Prelude.{slice_get}
 use Rattle.std.proofs.lemmas.Option.{none-some, same_Some}

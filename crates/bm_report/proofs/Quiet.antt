@@ -15,7 +15,7 @@ use Rattle.bm_arena.specs.Contents.{Contents, block_at, marks_at, find_marks, Is
 use Rattle.bm_report.specs.declared.types.Named.{Named}
 use Rattle.bm_report.specs.Midway.{midway_marks, without_lost_excess, told_of, Stands, AllStand, AreHere}
 
--- the same, by the block in a slot alone
+-- the same, by the block in a slot
 abbrev StandsAs : ℕ → Stamp → Option Block → Type 0
 StandsAs s t o =
     option_and_then (λ (b : Block). find_marks b.replicas s) o
