@@ -160,7 +160,7 @@ fn set_next(slots: &mut Slab<Entry>, slot: usize, storage: u32, next: SlotLink)
     }
 }
 
-// Relinks the triplet of a storage as the head of its list, and gives it as it was.
+// Relinks the triplet of a storage as the head of its list. Returns the triplet before that.
 pub(crate) fn put_first(
     slots: &mut Slab<Entry>,
     slot: usize,

@@ -125,7 +125,7 @@ impl LeveledBlocks {
         true
     }
 
-    /// What is known of the block at a slot.
+    /// The information on the block at a slot.
     fn info_of(&self, slot: Slot) -> Option<BlockInfo>
         ensures { result ≡ info_at self.now.arena slot }
     {
@@ -139,8 +139,8 @@ impl LeveledBlocks {
         self.arena.marks(slot, storage)
     }
 
-    /// Changes the marks of all replicas of the block at the slot of a number, and what is known of
-    /// it.
+    /// Changes the marks of all replicas of the block at the slot of a number, and the information
+    /// on it.
     fn change_block(
         &mut self,
         topology: &Topology,
