@@ -1,4 +1,4 @@
--- Each slot that is held is below the bound, whatever a call does to the entries.
+-- Each slot that is held stays below the bound, whatever a call does to the entries.
 use Rattle.std.proofs.Common.{◌≡◌, ℕ, ◌<◌, ◌+◌, max, get_or, set, [], Option, Some, None, IsSome, refl, subst, inl, inr, sym, ap, ◌∙◌, arith}
 use Rattle.std.specs.Option.{option_map}
 use Rattle.std.proofs.lemmas.Bool.{cases_eq, false≢true}
@@ -66,14 +66,14 @@ below-inserted slots new key bound above e up above_is below y f is =
       | inr differs ↦ let before : y < bound = below y f (sym (up.others y differs) ∙ is) in omega (arith, before, above_is)
     ]
 
--- a slab that only got more room
+-- a slab that only got more capacity
 pub below-capacity : (slots new : Slab Entry) (capacity bound : ℕ) → new ≡ record slots { capacity = capacity } → AllBelow slots bound → AllBelow new bound
 below-capacity slots new capacity bound is below = rw is below
 
 pub below-empty : (slots : Slab Entry) → slots.slots ≡ [] → AllBelow slots 0
 below-empty slots empty y e is = absurd (none-some e (sym (ap (λ l. get_or l y None) empty) ∙ is))
 
--- so is each slot at which a block is seen
+-- each slot at which a block is seen is below the bound
 pub below-seen : (slots : Slab Entry) (bound : ℕ) → AllBelow slots bound → (slot : ℕ) → IsSome (get_or (seen_slots slots) slot None) → slot < bound
 below-seen slots bound below slot held = by (get_or (seen_slots slots) slot None) refl
   where

@@ -17,7 +17,7 @@ module _ (a : Contents) (slot : ℕ) (h : Block → Block) where
   pub changed-elsewhere : (other : ℕ) → other ≢ slot → block_at changed_at other ≡ block_at a other
   changed-elsewhere other differs = get_or-set_other a.blocks slot other _ None differs
 
-  -- what does not look at what was changed
+  -- a function that ignores the change has the same value at all slots
   pub changed-blind : {X : Type 0} (f : Option Block → X) → ((o : Option Block) → f (option_map h o) ≡ f o) → (x : ℕ) → f (block_at changed_at x) ≡ f (block_at a x)
   changed-blind f same x =
       elim (cases_eq x slot) [

@@ -19,7 +19,7 @@ use Rattle.bm_arena.proofs.Triplets.{read}
 use Rattle.bm_arena.proofs.Seeing.{seen_at, entry_seen}
 use Rattle.bm_arena.proofs.Relinked.{KeepsLinks, IsSound-relinked, lists_from-relinked}
 
--- no triplet is seen as no replica
+-- a block that is seen without replicas has no triplets
 pub bare-seen : (e : Entry) → (seen_entry e).replicas ≡ [] → e.triplets.items ≡ []
 bare-seen e none = by e.triplets.items none
   where
@@ -110,7 +110,7 @@ id-seen slots x id is b seen =
     let e = entry_seen slots x b seen in
     is e.0 e.1 ∙ ap (λ (c : Block). c.id) e.2
 
--- the same, from what the calls of `drop_entry` say
+-- the same, from the contracts of the calls of `drop_entry`
 module _ (slots new : Slab Entry) (x id : ℕ) (removed : Some id ≡ option_map (λ (e : Entry). e.id) (get slots x)) (is : new.slots ≡ set slots.slots x None)
     (bare : IsSomeAnd (get_or (seen_slots slots) x None) (λ (b : Block). b.replicas ≡ []))
     (ids after : List (ℕ × ℕ)) (heads : List (ℕ × Option ℕ)) (delimiter : ℕ) (arena : IsArena slots ids heads delimiter) (differs : x ≢ delimiter)

@@ -19,7 +19,7 @@ use Rattle.bm_arena.proofs.Triplets.{read}
 use Rattle.bm_arena.proofs.Sound.{list_from-list, IsList-same}
 use Rattle.bm_arena.proofs.Seeing.{seen_at, storages_seen}
 
--- what holds of each key of a list holds of one that is found
+-- a property of each key of a list holds of a key that is found
 among_keys : {X : Type 0} (P : ℕ → Type 0) (es : List (ℕ × X)) (s : ℕ) (v : X) → AllByRecursion P (keys_of es) → lookup (nat_eq s) es ≡ Some v → P s
 among_keys P [] s v all is = absurd (none-some v is)
 among_keys P (e ∷ es) s v all is =
@@ -28,7 +28,7 @@ among_keys P (e ∷ es) s v all is =
       | inr other ↦ among_keys P es s v all.1 (rw other at is)
     ]
 
--- the lists that are seen are the same where each head's is
+-- the lists that are seen are the same if the list from each head is
 pub lists_from-same : (old new : Slab Entry) (es : List (ℕ × Option ℕ)) → IsDistinct nat_eq (keys_of es) → ((s : ℕ) (first : Option ℕ) → lookup (nat_eq s) es ≡ Some first → list_from new s first ≡ list_from old s first) → lists_from new es ≡ lists_from old es
 unfolding IsDistinct
 lists_from-same old new [] distinct same = refl
@@ -40,7 +40,7 @@ lists_from-same old new (e ∷ es) distinct same =
     same s first (rw test is)) in
     rw (head, later) refl
 
--- an entry without triplets was put at a vacant slot
+-- an entry without triplets is inserted at a vacant slot
 module _ (old new : Slab Entry) (key : ℕ) (e : Entry) (vacant : get old key ≡ None) (up : Updates old new key (Some e)) (bare : e.triplets.items ≡ []) where
   links-inserted : (s x : ℕ) → triplet_at new x s ≡ triplet_at old x s
   links-inserted s x =
@@ -86,7 +86,7 @@ module _ (old new : Slab Entry) (key : ℕ) (e : Entry) (vacant : get old key �
           ];
     }
 
--- a slab that only got more room
+-- a slab that only got more capacity
 pub IsArena-capacity : (slots new : Slab Entry) (capacity : ℕ) (ids : List (ℕ × ℕ)) (heads : List (ℕ × Option ℕ)) (delimiter : ℕ) → new ≡ record slots { capacity = capacity } → IsArena slots ids heads delimiter → IsArena new ids heads delimiter
 IsArena-capacity slots new capacity ids heads delimiter is arena =
     rw is (record {
@@ -95,7 +95,7 @@ IsArena-capacity slots new capacity ids heads delimiter is arena =
       numbers = arena.numbers;
     })
 
--- a number looked up after one more was listed
+-- listing one more number changes no earlier look-up
 pub lookup-push_before : {X : Type 0} (q k : ℕ) (v w : X) (es : List (ℕ × X)) → lookup (nat_eq q) es ≡ Some w → lookup (nat_eq q) (es ++ (k, v) ∷ []) ≡ Some w
 lookup-push_before q k v w [] is = absurd (none-some w is)
 lookup-push_before q k v w (e ∷ es) is =
@@ -138,7 +138,7 @@ lookup-push q k v (e ∷ es) none =
           ]
     ]
 
--- a new number
+-- a new number gets an entry
 module _ (old new : Slab Entry) (key : ℕ) (e : Entry) (vacant : get old key ≡ None) (up : Updates old new key (Some e)) (bare : e.triplets.items ≡ [])
     (ids : List (ℕ × ℕ)) (heads : List (ℕ × Option ℕ)) (delimiter : ℕ) (arena : IsArena old ids heads delimiter) (absent : lookup (nat_eq e.id) ids ≡ None)
     (below : key < end_of_links) where
@@ -148,7 +148,7 @@ module _ (old new : Slab Entry) (key : ℕ) (e : Entry) (vacant : get old key �
   seen_elsewhere : (x : ℕ) → x ≢ key → get_or (seen_slots new) x None ≡ get_or (seen_slots old) x None
   seen_elsewhere = seen-inserted_other old new key e vacant up bare
 
-  -- a slot that had a block is another slot
+  -- a slot that had a block is not the new slot
   was_other : (x : ℕ) (b : Block) → get_or (seen_slots old) x None ≡ Some b → x ≢ key
   was_other x b is same = none-some b (sym (seen-inserted_before old new key e vacant up bare) ∙ (rw same at is))
 
@@ -245,8 +245,8 @@ module _ (old new : Slab Entry) (key : ℕ) (e : Entry) (empty : old.slots ≡ [
         };
       })
 
--- the same, from what the calls of `add_entry` say: the slab got room, the number was listed with
--- the slot, and the entry was put there
+-- the same, from the contracts of the calls of `add_entry`: the slab got capacity, the number was
+-- listed with the slot, and the entry was inserted there
 module _ (slots mid new : Slab Entry) (capacity key slot : ℕ) (e : Entry) (ids entries : List (ℕ × ℕ)) (heads : List (ℕ × Option ℕ)) (delimiter : ℕ)
     (grown : mid ≡ record slots { capacity = capacity }) (key_is : key ≡ mid.vacant_key) (slot_is : slot ≡ mid.vacant_key)
     (vacant : get mid key ≡ None) (up : Updates mid new key (Some e)) (bare : e.triplets.items ≡ [])

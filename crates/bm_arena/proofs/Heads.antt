@@ -54,7 +54,7 @@ IsReserved-trans a b c p q = record {
     room_again None = refl
     room_again (Some b) = refl
 
--- a storage that had no head has one, of an empty list
+-- a storage without a head gets one, of an empty list
 module _ (slots : Slab Entry) (ids : List (ℕ × ℕ)) (heads : List (ℕ × Option ℕ)) (delimiter s : ℕ) (arena : IsArena slots ids heads delimiter)
     (absent : lookup (nat_eq s) heads ≡ None) where
   abbrev pub more : List (ℕ × Option ℕ)
@@ -118,7 +118,7 @@ module _ (slots : Slab Entry) (ids : List (ℕ × ℕ)) (heads : List (ℕ × Op
           let same : first ≡ start = same_Some first start (sym (lookup-push_before q s None first heads old) ∙ new) in
           ap (list_from slots q) (sym same)
 
--- a head is seen just where it is
+-- a head is seen exactly if there is one
 some_map : {A B : Type 0} (f : A → B) (o : Option A) → is_some (option_map f o) ≡ is_some o
 some_map f None = refl
 some_map f (Some x) = refl
@@ -141,7 +141,7 @@ marks-change_room blocks x room y s =
     by None = refl
     by (Some b) = refl
 
--- the delimiter got room, and then a storage a head
+-- the delimiter gets capacity, and then a storage gets a head
 module _ (slots new : Slab Entry) (ids : List (ℕ × ℕ)) (heads : List (ℕ × Option ℕ)) (delimiter : ℕ)
     (is : new ≡ at_slot (with_capacity (capacity_at new delimiter)) slots delimiter) (grows : capacity_at slots delimiter ≤ capacity_at new delimiter)
     (arena : IsArena slots ids heads delimiter) (steps bound : ℕ) where
@@ -207,7 +207,7 @@ module _ (slots new : Slab Entry) (ids : List (ℕ × ℕ)) (heads : List (ℕ �
           room = omega arith;
         }))
 
-    -- and no other storage got a head
+    -- no other storage got a head
     pub headed-named : (q : ℕ) → q ≢ s → IsSome (lookup (nat_eq q) (lists_from new after)) → IsSome (lookup (nat_eq q) (lists_from slots heads))
     headed-named q differs some =
         let seen = rw (after_is, lookup-lists_from new q (heads ++ (s, None) ∷ [])) at some in

@@ -29,7 +29,7 @@ module _ (a : Contents) (slot : ℕ) (info : Option BlockInfo) where
       by None some = absurd (false≢true some)
       by (Some k) some = refl
 
--- an entry for a new number
+-- a new number gets an entry
 module _ (a c : Contents) (id slot : ℕ) (lawful : IsLawful a) (new : slot_of a id ≡ None) (added : IsAdded a c id slot) where
   vacant_there : (o : Option Block) → IsSome o → o ≡ None → ⊥
   vacant_there o some e = let P : Option Block → Type 0 = λ x. IsSome x in false≢true (subst P e some)

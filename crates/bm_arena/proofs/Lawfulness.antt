@@ -18,7 +18,7 @@ use Rattle.bm_arena.specs.Inside.{list_from, lists_from, IsSound, IsBoundedArena
 use Rattle.bm_arena.proofs.Sound.{Chain-member}
 use Rattle.bm_arena.proofs.Seeing.{marks_in, marks_of, marks-seen, entry_seen, lookup-lists_from}
 
--- each list visits each slot once, and visits just the slots that have a replica on its storage
+-- each list visits each slot once, and visits exactly the slots that have a replica on its storage
 module _ (slots : Slab Entry) (heads : List (ℕ × Option ℕ)) (sound : IsSound slots heads) where
   distinct_from : (s : ℕ) (o : Option (Option ℕ)) → lookup (nat_eq s) heads ≡ o → Distinct (unwrap_or (option_map (list_from slots s) o) [])
   distinct_from s None is = tt
@@ -52,7 +52,7 @@ IsLawful-arena slots heads ids delimiter bound whole steps = record {
   bounded = λ slot b is. let e = entry_seen slots slot b is in whole.bounded slot e.0 e.1;
 }
 
--- the slot that follows in a list is the one that the next link leads to
+-- the slot after a slot of a list is the one that its next link leads to
 pub slot_after-chain : (links : ℕ → Option Triplet) (x : ℕ) (t : Triplet) → links x ≡ Some t → (before start : Option ℕ) (xs : List ℕ) → Chain links before start xs → Among x xs → slot_after x xs ≡ t.next
 slot_after-chain links x t own before start [] chain there = absurd there
 slot_after-chain links x t own before start (y ∷ ys) chain there =
@@ -77,7 +77,7 @@ next_after-list slots heads s x t sound own =
     rw (lookup-lists_from slots s heads, found.1)
     (sym (slot_after-chain (links_of slots s) x t (sym own) None found.0 (list_from slots s found.0) (sound.lists s found.0 found.1).chain found.2))
 
--- the slot that stands before it is the one that the previous link leads to
+-- the slot before a slot of a list is the one that its previous link leads to
 before_in-chain : (links : ℕ → Option Triplet) (x : ℕ) (t : Triplet) → links x ≡ Some t → (before start : Option ℕ) (xs : List ℕ) → Chain links before start xs → Among x xs → before_in before x xs ≡ t.previous
 before_in-chain links x t own before start [] chain there = absurd there
 before_in-chain links x t own before start (y ∷ ys) chain there =

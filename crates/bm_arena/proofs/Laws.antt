@@ -1,4 +1,4 @@
--- What the layers above compute with: lists, marks and blocks after each list operation.
+-- Lists, marks and blocks after each list operation, for the layers above.
 use Rattle.std.proofs.Common.{◌≡◌, ◌≢◌, ℕ, List, [], ◌∷◌, ◌++◌, cond, eqb, Option, Some, None, IsSome, refl, subst, inl, inr, sym, ap, ◌∙◌}
 use Rattle.std.specs.Option.{option_map, option_and_then, option_map_or, unwrap_or}
 use Rattle.std.specs.Map.{lookup, set_value}
@@ -17,7 +17,7 @@ use Rattle.bm_arena.proofs.Triplets.{get_or-set_here}
 use Rattle.bm_arena.proofs.Seeing.{marks_of}
 use Rattle.bm_arena.proofs.Sound.{lookup-set_same, lookup-set_other}
 
--- the list of a storage that has a head, and the others, after that list was replaced
+-- the lists after that of a storage with a head was replaced
 module _ (a : Contents) (s : ℕ) (xs : List ℕ) where
   headed : HasHead a s → (ys : List ℕ) × (lookup (nat_eq s) a.lists ≡ Some ys)
   headed head = by (lookup (nat_eq s) a.lists) refl head
@@ -34,7 +34,7 @@ module _ (a : Contents) (s : ℕ) (xs : List ℕ) where
   pub list_of-with_other : (q : ℕ) → q ≢ s → unwrap_or (lookup (nat_eq q) (with_list a s xs)) [] ≡ list_of a q
   list_of-with_other q differs = ap (λ o. unwrap_or o []) (lookup-set_other s xs q a.lists differs)
 
--- linked at the head
+-- a replica is linked at the head
 module _ (a : Contents) (slot s : ℕ) (m : Marks) where
   pub list_of-linked_front : HasHead a s → list_of (linked_front a slot s m) s ≡ slot ∷ list_of a s
   list_of-linked_front head = list_of-with_list a s (slot ∷ list_of a s) head
@@ -63,15 +63,15 @@ module _ (a : Contents) (slot s : ℕ) (m : Marks) where
   pub marks_at-linked_slot : (other q : ℕ) → other ≢ slot → marks_at (linked_front a slot s m) other q ≡ marks_at a other q
   marks_at-linked_slot other q differs = ap (λ o. option_and_then (λ (c : Block). find_marks c.replicas q) o) (get_or-set_other a.blocks slot other _ None differs)
 
--- moved to the head
+-- the list after a slot was moved to its head
 pub list_of-moved_front : (a : Contents) (slot s : ℕ) → HasHead a s → list_of (moved_front a slot s) s ≡ slot ∷ without slot (list_of a s)
 list_of-moved_front a slot s head = list_of-with_list a s (slot ∷ without slot (list_of a s)) head
 
--- taken out
+-- the list after a slot was unlinked
 pub list_of-unlinked : (a : Contents) (slot s : ℕ) → HasHead a s → list_of (unlinked a slot s) s ≡ without slot (list_of a s)
 list_of-unlinked a slot s head = list_of-with_list a s (without slot (list_of a s)) head
 
--- the list that a slot with a replica stands in has a head
+-- the storage of each replica has a head
 pub head-lawful : (a : Contents) → IsLawful a → (slot s : ℕ) → IsSome (marks_at a slot s) → HasHead a s
 head-lawful a lawful slot s some = by (lookup (nat_eq s) a.lists) refl
   where
@@ -81,7 +81,7 @@ head-lawful a lawful slot s some = by (lookup (nat_eq s) a.lists) refl
         absurd (subst P (ap (λ o. unwrap_or o []) is) ((lawful.exact slot s).1 some))
     by (Some xs) is = rw is refl
 
--- the heads are those that were
+-- replacing a list changes no head
 module _ (a : Contents) (s : ℕ) (xs : List ℕ) where
   some-set : (q : ℕ) (es : List (ℕ × List ℕ)) → IsSome (lookup (nat_eq q) es) → IsSome (lookup (nat_eq q) (set_value (nat_eq s) es xs))
   some-set q [] some = some
@@ -92,7 +92,7 @@ module _ (a : Contents) (s : ℕ) (xs : List ℕ) where
             elim (cases_Bool (eqb q e.0)) [ inl found ↦ rw (passed, found) refl | inr later ↦ rw (passed, later) (some-set q es (rw later at some)) ]
       ]
 
--- replicas as triplets without links, to which the lemmas on triplets speak
+-- replicas as triplets without links, for the lemmas on triplets
 abbrev as_triplets : List (ℕ × Marks) → List Triplet
 as_triplets rs = map (λ (r : ℕ × Marks). record { storage = r.0; previous = None; next = None; marks = r.1 }) rs
 
@@ -113,7 +113,7 @@ found-filled rs s q =
 found-as : (rs : List (ℕ × Marks)) (q : ℕ) → option_map marks_of (find_triplet (as_triplets rs) q) ≡ find_marks rs q
 found-as rs q = sym (find_marks-seen (as_triplets rs) q) ∙ ap (λ l. find_marks l q) (seen-as rs)
 
--- the block at a slot that was changed
+-- the changed block at the slot
 changed_block : (h : Block → Block) (a : Contents) (slot : ℕ) → slice_index_or (change_block h a.blocks slot) slot None ≡ option_map h (block_at a slot)
 changed_block h a slot = get_or-set_here a.blocks slot (option_map h) refl
 
@@ -121,7 +121,7 @@ known-changed : (h : Block → Block) → ((b : Block) → (h b).id ≡ b.id) �
 known-changed h same_id same_info None = refl
 known-changed h same_id same_info (Some b) = rw (same_id b, same_info b) refl
 
--- how many replicas fit does not change with them
+-- the capacity does not change with the replicas
 room-same : (h : Block → Block) (a : Contents) (slot : ℕ) → ((b : Block) → (h b).room ≡ b.room) → room_at (record a { blocks = change_block h a.blocks slot }) slot ≡ room_at a slot
 room-same h a slot same = ap (λ o. option_map_or (λ (b : Block). b.room) o 0) (changed_block h a slot) ∙ by (block_at a slot)
   where
@@ -148,7 +148,7 @@ others-linked_front a slot s m = record {
     stays q differs None = refl
     stays q differs (Some b) = found_before a slot s m b.replicas q differs
 
--- a replica that was taken out is gone, and the block's others stay
+-- an unlinked replica is gone, and the block's others stay
 module _ (a : Contents) (lawful : IsLawful a) (slot s : ℕ) where
   left : (q : ℕ) (o : Option Block) → block_at a slot ≡ o → option_and_then (λ (b : Block). find_marks b.replicas q) (option_map (without_replica s) o) ≡ option_and_then (λ (b : Block). find_marks (fill_first (λ (r : ℕ × Marks). eqb r.0 s) b.replicas) q) o
   left q None is = refl
@@ -201,7 +201,7 @@ others-moved_front a slot s = record {
   room = refl;
 }
 
--- the marks of a replica that was linked, where the block has room
+-- the marks of a replica that was linked, if the block has capacity
 pub marks_at-linked : (a : Contents) (slot s : ℕ) (m : Marks) → HasRoom a slot → marks_at a slot s ≡ None → marks_at (linked_front a slot s m) slot s ≡ Some m
 marks_at-linked a slot s m room none = by (block_at a slot) refl
   where

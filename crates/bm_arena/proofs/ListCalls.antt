@@ -1,4 +1,4 @@
--- The same, from the contracts of the calls.
+-- The invariant after each list operation, from the contracts of the calls.
 use Rattle.std.proofs.Common.{◌≡◌, ℕ, suc, ◌<◌, ◌≤◌, List, [], ◌∷◌, length, get_or, eqb, Option, Some, None, IsSome, IsSomeAnd, refl, subst, inl, inr, sym, ap, ◌∙◌, arith}
 use Rattle.std.specs.Option.{option_map}
 use Rattle.std.specs.Map.{lookup, set_value, keys_of}
@@ -24,7 +24,7 @@ length-set_value storage w [] = refl
 length-set_value storage w (e ∷ es) =
     elim (cases_Bool (eqb storage e.0)) [ inl here ↦ rw here refl | inr other ↦ rw other (ap (λ n. suc n) (length-set_value storage w es)) ]
 
--- numbers and their slots, after one block changed in what is not its number
+-- numbers and slots stay if one block changes in anything but its number
 pub AreIds-change : (blocks : List (Option Block)) (ids : List (ℕ × ℕ)) (delimiter heads x : ℕ) (h : Block → Block) → ((b : Block) → (h b).id ≡ b.id) → ((b : Block) → get_or blocks x None ≡ Some b → b.room ≤ (h b).room) → AreIds blocks ids delimiter heads → AreIds (change_block h blocks x) ids delimiter heads
 AreIds-change blocks ids delimiter heads x h keeps_id keeps_room are = record {
   there = λ id slot is.
@@ -69,7 +69,7 @@ AreIds-change blocks ids delimiter heads x h keeps_id keeps_room are = record {
         inside_of None e = absurd (none-some c e)
         inside_of (Some b) e = (b, refl, sym (keeps_id b) ∙ ap (λ (d : Block). d.id) (same_Some (h b) c e))
 
--- the same, from what a contract of `link_front` says
+-- the same, from a contract of `link_front`
 module _ (slots : Slab Entry) (heads : List (ℕ × Option ℕ)) (first : Option ℕ) (storage x : ℕ) (marks : Marks)
     (ids : List (ℕ × ℕ)) (delimiter : ℕ) (arena : IsArena slots ids heads delimiter) (known : Some first ≡ lookup (nat_eq storage) heads)
     (room : IsSomeAnd (get_or (seen_slots slots) x None) (λ (b : Block). length b.replicas < b.room))
@@ -112,7 +112,7 @@ no_head slots heads storage none some =
     let P : Option (List ℕ) → Type 0 = λ o. IsSome o in
     false≢true (subst P nothing some)
 
--- the same, from what the contracts of `unlink` and `move_front` say
+-- the same, from the contracts of `unlink` and `move_front`
 module _ (slots : Slab Entry) (heads : List (ℕ × Option ℕ)) (first : Option ℕ) (storage x : ℕ) (t : Triplet)
     (ids : List (ℕ × ℕ)) (delimiter : ℕ) (arena : IsArena slots ids heads delimiter) (known : Some first ≡ lookup (nat_eq storage) heads) (own : Some t ≡ triplet_at slots x storage) where
   holder : (e : Entry) × (get slots x ≡ Some e)
@@ -153,7 +153,7 @@ module _ (slots : Slab Entry) (heads : List (ℕ × Option ℕ)) (first : Option
   move_front-view front mid new middle w entries steps counted bound front_is mid_is middle_is new_is entries_is w_is counted_is =
       rw (entries_is, w_is, new_is, mid_is, front_is, middle_is, counted_is) (moved-view slots heads first storage arena.sound (sym known) x t holder.0 holder.1 (sym own) arena.unique ids delimiter steps bound)
 
--- a replica that is seen has a head and a triplet
+-- a replica without a triplet is not seen
 pub no_replica : (slots : Slab Entry) (storage x : ℕ) → None ≡ triplet_at slots x storage → IsSome (marks_in (seen_slots slots) x storage) → ⊥
 no_replica slots storage x none some =
     let nothing : marks_in (seen_slots slots) x storage ≡ None = marks-seen slots x storage ∙ ap (option_map marks_of) (sym none) in

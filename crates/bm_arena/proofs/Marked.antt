@@ -1,4 +1,4 @@
--- What the setting of a replica's marks changes, and what it keeps.
+-- What setting a replica's marks changes, and what it keeps.
 use Rattle.std.proofs.Common.{◌≡◌, ◌≢◌, ℕ, List, [], ◌∷◌, eqb, cond, false, Option, Some, None, IsSome, refl, inl, inr, sym, ap, ◌∙◌}
 use Rattle.std.specs.Option.{option_map, option_and_then}
 use Rattle.std.proofs.lemmas.Bool.{cases_Bool, eqb-true, ne_eqb, false≢true}
@@ -7,7 +7,7 @@ use Rattle.bm_arena.specs.Triplets.{Block, change_block}
 use Rattle.bm_arena.specs.Contents.{Contents, block_at, marks_at, find_marks, change_marks, with_marks, known_of}
 use Rattle.bm_arena.proofs.Changed.{changed-here, changed-elsewhere}
 
--- the marks of one replica set
+-- the marks of one replica are set
 module _ (a : Contents) (slot s : ℕ) (m : Marks) where
   abbrev pub set_at : Contents
   set_at = record a { blocks = change_block (with_marks s m) a.blocks slot }

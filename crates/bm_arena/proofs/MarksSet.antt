@@ -1,4 +1,4 @@
--- What holds once the marks of a replica are set, however its triplet was found.
+-- The arena once the marks of a replica are set, however its triplet was found.
 use Rattle.std.proofs.Common.{◌≡◌, ◌≢◌, ℕ, Some, IsSome, refl, sym, subst}
 use Rattle.bm_base.specs.declared.replica.Marks.{Marks}
 use Rattle.bm_base.specs.Map.{insert}

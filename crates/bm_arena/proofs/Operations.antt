@@ -43,7 +43,7 @@ module _ (slots : Slab Entry) (heads : List (ℕ × Option ℕ)) (first : Option
       let P : Option ℕ → Type 0 = λ s. Among x (list_from slots storage s) in
       subst P same found.2
 
-  -- a replica was added, and linked at the head
+  -- a replica is added and linked at the head
   module _ (x : ℕ) (marks : Marks) (e : Entry) (there : get slots x ≡ Some e) (absent : find_triplet e.triplets.items storage ≡ None) where
     abbrev t0 : Triplet
     t0 = record { storage = storage; previous = None; next = first; marks = marks }
@@ -103,7 +103,7 @@ module _ (slots : Slab Entry) (heads : List (ℕ × Option ℕ)) (first : Option
     linked-view distinct ids delimiter steps bound =
         rw (linked-seen, lists-step slots linked storage (Some x) (x ∷ old_list) linked-others linked-len linked-list heads distinct, lookup-lists_from slots storage heads, known) refl
 
-  -- a replica that is there was taken out of its list
+  -- an existing replica is taken out of its list
   module _ (x : ℕ) (t : Triplet) (e : Entry) (there : get slots x ≡ Some e) (own : triplet_at slots x storage ≡ Some t) where
     abbrev rest : List ℕ
     rest = without x old_list
@@ -114,7 +114,7 @@ module _ (slots : Slab Entry) (heads : List (ℕ × Option ℕ)) (first : Option
     absent_from_rest : Among x rest → ⊥
     absent_from_rest = without-gone x old_list is_list.distinct
 
-    -- its triplet was removed before
+    -- first case: its triplet was removed
     abbrev gone : Slab Entry
     gone = removed slots x storage
 
@@ -166,7 +166,7 @@ module _ (slots : Slab Entry) (heads : List (ℕ × Option ℕ)) (first : Option
     out-view distinct ids delimiter steps bound =
         rw (out-seen, lists-step slots out storage (first_after first t) rest out-others out-len out-list heads distinct, lookup-lists_from slots storage heads, known) refl
 
-    -- or its triplet was linked as the first before, and its slot put at the head
+    -- second case: its triplet was linked as the first, and its slot put at the head
     abbrev front : Slab Entry
     front = change_at (as_first first) slots x storage
 

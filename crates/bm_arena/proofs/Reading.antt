@@ -1,4 +1,4 @@
--- What walking a list, reserving capacity and putting the delimiter depend on.
+-- What walking a list, reserving capacity and inserting the delimiter depend on.
 use Rattle.std.proofs.Common.{◌≡◌, ℕ, zero, suc, ◌<◌, ◌≤◌, ◌+◌, map, List, [], ◌∷◌, length, get_or, eqb, Bool, true, false, not, is_some, Option, Some, None, IsSome, IsSomeAnd, refl, subst, inl, inr, sym, ap, ◌∙◌, arith}
 use Rattle.std.specs.Option.{option_map, option_and_then, option_map_or, unwrap_or}
 use Rattle.std.specs.Map.{lookup, keys_of}
@@ -42,7 +42,7 @@ pub walk-headless : (slots : Slab Entry) (heads : List (ℕ × Option ℕ)) (sto
 walk-headless slots heads storage left first none start =
     rw (lookup-lists_from slots storage heads, ← none, start) (walk-nowhere (links_of slots storage) left)
 
--- more room
+-- the capacity that is seen is that of the entry
 pub room-seen : (slots : Slab Entry) (x : ℕ) → option_map_or (λ (b : Block). b.room) (get_or (seen_slots slots) x None) 0 ≡ capacity_at slots x
 room-seen slots x = ap (λ o. option_map_or (λ (b : Block). b.room) o 0) (get_or-map (option_map seen_entry) slots.slots x None) ∙ by (get slots x)
   where
@@ -79,7 +79,7 @@ module _ (slots new : Slab Entry) (x : ℕ) (is : new ≡ at_slot (with_capacity
           → ◌≡◌ {A = Contents} (record { blocks = bs; ids = ids; lists = ls; delimiter = delimiter; steps = steps; bound = bound }) (record { blocks = cs; ids = ids; lists = ms; delimiter = delimiter; steps = steps; bound = bound })
       ap2 p q = rw (p, q) refl
 
--- numbers each once, all of them among others, are no more than those
+-- distinct members of a list are no more than the list has
 length-subset : (xs ys : List ℕ) → Distinct xs → ((x : ℕ) → Among x xs → Among x ys) → length xs ≤ length ys
 length-subset [] ys distinct inside = omega arith
 length-subset (x ∷ xs) ys distinct inside =
@@ -112,7 +112,7 @@ head-found slots heads s some = by (lookup (nat_eq s) heads) refl
         absurd (false≢true (subst P (lookup-lists_from slots s heads ∙ ap (option_map (list_from slots s)) is) some))
     by (Some first) is = (first, is)
 
--- the delimiter has room in a list that has a head
+-- the delimiter has capacity for the list of each head
 pub delimiter-room : (slots : Slab Entry) (ids : List (ℕ × ℕ)) (heads : List (ℕ × Option ℕ)) (delimiter : ℕ) → IsArena slots ids heads delimiter → (s : ℕ)
     → IsSome (lookup (nat_eq s) (lists_from slots heads)) → marks_in (seen_slots slots) delimiter s ≡ None
     → IsSomeAnd (get_or (seen_slots slots) delimiter None) (λ (b : Block). length b.replicas < b.room)
@@ -139,7 +139,7 @@ delimiter-room slots ids heads delimiter arena s some absent =
     let fits : length b.replicas < b.room = omega (arith, few, count, heads_count, marker.2) in
     rw marker.1 fits
 
--- the replica at a place is the triplet there
+-- the replica at an index is the triplet there
 pub replica-seen : (slots : Slab Entry) (x i : ℕ) → option_and_then (λ (e : Entry). option_map seen_triplet (slice_get e.triplets.items i)) (get slots x) ≡ option_and_then (λ (b : Block). slice_get b.replicas i) (get_or (seen_slots slots) x None)
 replica-seen slots x i = by (get slots x) ∙ sym (ap (λ o. option_and_then (λ (b : Block). slice_get b.replicas i) o) (get_or-map (option_map seen_entry) slots.slots x None))
   where
@@ -147,7 +147,7 @@ replica-seen slots x i = by (get slots x) ∙ sym (ap (λ o. option_and_then (λ
     by None = refl
     by (Some e) = sym (slice_get-map seen_triplet e.triplets.items i)
 
--- a list is empty just where its head leads nowhere
+-- a list is empty exactly if its head leads nowhere
 start-empty : (links : ℕ → Option Triplet) (start : Option ℕ) (xs : List ℕ) → Chain links None start xs → (start ≡ None → xs ≡ []) × (xs ≡ [] → start ≡ None)
 start-empty links start [] chain = (λ _. refl, λ _. chain)
 start-empty links start (x ∷ xs) chain = (λ none. absurd (none-some x (sym none ∙ chain.0)), λ empty. absurd (cc))
@@ -168,7 +168,7 @@ empty-headed slots heads s first found answer sound known same is =
 pub empty-headless : (slots : Slab Entry) (heads : List (ℕ × Option ℕ)) (s : ℕ) → None ≡ lookup (nat_eq s) heads → unwrap_or (lookup (nat_eq s) (lists_from slots heads)) [] ≡ []
 empty-headless slots heads s none = rw (lookup-lists_from slots s heads, ← none) refl
 
--- a block that is seen with room has an entry with room
+-- a block that is seen with free capacity has an entry with it
 pub room-entry : (slots : Slab Entry) (x : ℕ) → IsSomeAnd (get_or (seen_slots slots) x None) (λ (b : Block). length b.replicas < b.room) → (e : Entry) → get slots x ≡ Some e → length e.triplets.items + 1 ≤ e.triplets.capacity
 room-entry slots x room e at =
     let P : Option Block → Type 0 = λ o. IsSomeAnd o (λ (b : Block). length b.replicas < b.room) in

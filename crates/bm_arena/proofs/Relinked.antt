@@ -1,4 +1,4 @@
--- Where each triplet keeps its links, an arena keeps its lists.
+-- If each triplet keeps its links, an arena keeps its lists.
 use Rattle.std.proofs.Common.{◌≡◌, ℕ, ◌≤◌, List, [], ◌∷◌, map, length, get_or, eqb, Option, Some, None, refl, subst, inl, inr, sym, ap, ◌∙◌, arith}
 use Rattle.std.specs.Option.{option_map}
 use Rattle.std.specs.Map.{lookup, keys_of}
@@ -23,7 +23,7 @@ use Rattle.bm_arena.proofs.Seeing.{some_inside, entry_seen}
 use Rattle.bm_arena.proofs.ListCalls.{AreIds-change}
 use Rattle.bm_arena.proofs.Entries.{lists_from-same}
 
--- the triplet is there, with the same links
+-- the triplet still exists, with the same links
 abbrev pub KeepsLinks : Triplet → Option Triplet → Type 0
 KeepsLinks t new = (u : Triplet) × (new ≡ Some u) × (u.previous ≡ t.previous) × (u.next ≡ t.next)
 
@@ -56,7 +56,7 @@ module _ (old new : Slab Entry)
       once = once;
     }
 
--- a change of one block that keeps the links of its triplets
+-- one block changes and keeps the links of its triplets
 module _ (g : Entry → Entry) (h : Block → Block) (slots : Slab Entry) (x : ℕ)
     (shows : (e : Entry) → seen_entry (g e) ≡ h (seen_entry e))
     (same_id : (b : Block) → (h b).id ≡ b.id)
@@ -119,7 +119,7 @@ module _ (g : Entry → Entry) (h : Block → Block) (slots : Slab Entry) (x : �
     pub lists-relinked : lists_from new heads ≡ lists_from slots heads
     lists-relinked = lists_from-relinked slots new slot_keep slot_back heads arena.sound arena.unique
 
--- what is known of a block was changed
+-- the information on a block changes
 module _ (slots new : Slab Entry) (x : ℕ) (info : Option BlockInfo) (is : new ≡ at_slot (λ (e : Entry). record e { info = info }) slots x)
     (ids : List (ℕ × ℕ)) (heads : List (ℕ × Option ℕ)) (delimiter : ℕ) (arena : IsArena slots ids heads delimiter) where
   pub set_info-arena : IsArena new ids heads delimiter
@@ -133,7 +133,7 @@ module _ (slots new : Slab Entry) (x : ℕ) (info : Option BlockInfo) (is : new 
   pub set_info-blocks : seen_slots new ≡ change_block (with_info info) (seen_slots slots) x
   set_info-blocks = rw is (seen-at_slot (λ (e : Entry). record e { info = info }) slots x (with_info info) (λ _. refl))
 
--- the marks of a replica were changed
+-- the marks of a replica change
 map-change_marks : (ts : List Triplet) (storage : ℕ) (marks : Marks) → map seen_triplet (change_triplet (with_triplet_marks marks) ts storage) ≡ change_marks (map seen_triplet ts) storage marks
 map-change_marks [] storage marks = refl
 map-change_marks (t ∷ ts) storage marks =
@@ -189,7 +189,7 @@ module _ (slots new : Slab Entry) (x storage : ℕ) (marks : Marks) (is : new �
   pub set_marks-blocks : seen_slots new ≡ change_block (with_marks storage marks) (seen_slots slots) x
   set_marks-blocks = rw is (seen-at_slot change slots x (with_marks storage marks) shows_marks)
 
--- more room was made for a block's triplets
+-- a block gets more capacity for triplets
 module _ (slots new : Slab Entry) (x room : ℕ) (is : new ≡ at_slot (with_capacity room) slots x)
     (grows : (e : Entry) → get slots x ≡ Some e → e.triplets.capacity ≤ room)
     (ids : List (ℕ × ℕ)) (heads : List (ℕ × Option ℕ)) (delimiter : ℕ) (arena : IsArena slots ids heads delimiter) where

@@ -15,7 +15,7 @@ module _ (a : Contents) (slot room : ℕ) where
   pub room-elsewhere : (other : ℕ) → other ≢ slot → block_at with_more_room other ≡ block_at a other
   room-elsewhere = changed-elsewhere a slot (with_room room)
 
-  -- what does not look at the room
+  -- a function that ignores the capacity has the same value at all slots
   pub room-blind : {X : Type 0} (f : Block → Option X) → ((b : Block) → f (with_room room b) ≡ f b) → (x : ℕ) → option_and_then f (block_at with_more_room x) ≡ option_and_then f (block_at a x)
   room-blind f same x = changed-blind a slot (with_room room) (option_and_then f) by x
     where

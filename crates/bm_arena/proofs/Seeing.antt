@@ -45,7 +45,7 @@ marks-seen slots x storage = by slots.slots x
     by (o ∷ os) zero = seen o
     by (o ∷ os) (suc x) = by os x
 
--- where the same is seen, the same triplets are there
+-- slabs that are seen alike have the same triplets
 pub same_presence : (slots new : Slab Entry) (x storage : ℕ) (t : Triplet) → seen_slots new ≡ seen_slots slots → triplet_at new x storage ≡ Some t → (u : Triplet) × (triplet_at slots x storage ≡ Some u)
 same_presence slots new x storage t same is =
     some_inside marks_of (triplet_at slots x storage) t.marks
@@ -61,7 +61,7 @@ lookup-lists_from slots storage (e ∷ es) =
       | inr other ↦ rw other (lookup-lists_from slots storage es)
     ]
 
--- the entry behind a block that is seen
+-- the entry of a block that is seen
 pub entry_seen : (slots : Slab Entry) (x : ℕ) (b : Block) → get_or (seen_slots slots) x None ≡ Some b → (e : Entry) × (get slots x ≡ Some e) × (seen_entry e ≡ b)
 entry_seen slots x b is = by (get slots x) refl (sym (get_or-map (option_map seen_entry) slots.slots x None) ∙ is)
   where
@@ -80,7 +80,7 @@ storages_seen e = by e.triplets.items
     by [] = refl
     by (t ∷ ts) = ap (λ ks. t.storage ∷ ks) (by ts)
 
--- what was seen of one block, after it changed
+-- the blocks after one of them changed
 module _ (blocks : List (Option Block)) (x : ℕ) (b : Block) (there : get_or blocks x None ≡ Some b) where
   pub once-change : (h : Block → Block) → ((y : ℕ) (c : Block) → get_or blocks y None ≡ Some c → Distinct (storages_of c)) → Distinct (storages_of (h b))
       → (y : ℕ) (c : Block) → get_or (change_block h blocks x) y None ≡ Some c → Distinct (storages_of c)

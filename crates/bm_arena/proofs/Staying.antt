@@ -43,6 +43,6 @@ entries-set a c slot rest known = record {
   bound = rest.bound;
 }
 
--- the marks of a replica set
+-- setting the marks of a replica keeps the entries
 pub set-entries : (a : Contents) (slot s : ℕ) (m : Marks) → KeepsEntries a (set_at a slot s m)
 set-entries a slot s m = entries-set a (set_at a slot s m) slot (keeps-changed a slot (with_marks s m) (λ b. refl)) (set-known a slot s m)

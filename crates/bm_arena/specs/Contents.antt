@@ -12,9 +12,10 @@ use Rattle.bm_arena.specs.declared.types.TheConstants.{TRIPLETS_IN_PLACE}
 use Rattle.bm_arena.specs.Triplets.{Block, change_block, fill_first}
 use Rattle.bm_base.specs.SlotLists.{Among, Distinct, without}
 
--- the block or nothing at each slot; each block's number with its slot; each storage with a head,
--- and the slots of its list in order; the slot that marks a position in a list; the number of list
--- operations; one above the greatest slot that was ever held
+-- The block, if there is one, at each slot; each block's number with its slot; each storage with a
+-- head, and the slots of its list in order. `delimiter` is the slot that marks a position in a
+-- list, `steps` the number of list operations, `bound` one above the greatest slot that was ever
+-- held.
 pub record Contents : Type 0 where
   pub blocks : List (Option Block)
   pub ids : List (ℕ × ℕ)
@@ -30,7 +31,7 @@ block_at a slot = slice_index_or a.blocks slot None
 abbrev pub HasHead : Contents → ℕ → Type 0
 HasHead a storage = IsSome (lookup (nat_eq storage) a.lists)
 
--- the slots of a storage's list, from its head on: none where it has no head
+-- the slots of a storage's list, from its head on; empty if it has no head
 abbrev pub list_of : Contents → ℕ → List ℕ
 list_of a storage = unwrap_or (lookup (nat_eq storage) a.lists) []
 
@@ -46,7 +47,7 @@ marks_at a slot storage = option_and_then (λ (b : Block). find_marks b.replicas
 abbrev pub HasRoom : Contents → ℕ → Type 0
 HasRoom a slot = IsSomeAnd (block_at a slot) (λ (b : Block). length b.replicas < b.room)
 
--- a count that stays at its last value
+-- a count that stays at its greatest value
 abbrev pub count_up : ℕ → ℕ
 count_up n = if nat_lt n (2 ^ 64 - 1) then n + 1 else n
 
@@ -156,18 +157,18 @@ pub record IsReserved (old new : Contents) : Type 0 where
 abbrev pub dropped : Contents → ℕ → ℕ → Contents
 dropped a slot id = record a { blocks = slice_set a.blocks slot None; ids = swap_remove_entry (nat_eq id) a.ids }
 
--- what holds of an arena after every call
+-- the invariant of an arena between calls
 pub record IsLawful (a : Contents) : Type 0 where
   -- a list visits no slot twice
   pub distinct : (storage : ℕ) → Distinct (list_of a storage)
-  -- and visits just the slots that have a replica on its storage; the delimiter's slot is one
-  -- member more while it is put
+  -- and visits exactly the slots that have a replica on its storage; the delimiter's slot is one
+  -- more member while it is in the list
   pub exact : (slot storage : ℕ) → Among slot (list_of a storage) ↔ IsSome (marks_at a slot storage)
   -- a block has at most one replica on a storage
   pub once : (slot : ℕ) (b : Block) → block_at a slot ≡ Some b → Distinct (map (λ (r : ℕ × Marks). r.0) b.replicas)
   -- a number leads to the slot of its entry, which is not the delimiter's
   pub found : (id slot : ℕ) → slot_of a id ≡ Some slot → (slot ≢ a.delimiter) × (b : Block) × (block_at a slot ≡ Some b) × (b.id ≡ id)
-  -- and each slot that is held, but for the delimiter's, is led to by the number of its entry
+  -- each slot that is held, but for the delimiter's, is that of its entry's number
   pub known : (slot : ℕ) (b : Block) → block_at a slot ≡ Some b → slot ≢ a.delimiter → slot_of a b.id ≡ Some slot
   -- no number is listed twice
   pub each : IsDistinct nat_eq (keys_of a.ids)
@@ -176,13 +177,13 @@ pub record IsLawful (a : Contents) : Type 0 where
   -- each slot that is held is below the bound
   pub bounded : (slot : ℕ) (b : Block) → block_at a slot ≡ Some b → slot < a.bound
 
--- what is known of a block, without its replicas
+-- the information on a block, without its replicas
 abbrev pub known_of : Option Block → Option (ℕ × Option BlockInfo)
 known_of o = option_map (λ (b : Block). (b.id, b.info)) o
 
--- what a list operation keeps: all lists but the storage's, all blocks but the slot's, and of that
--- block its number, what is known of it, its replicas on other storages and how many fit; one step
--- more is counted
+-- What a list operation keeps: all lists but the storage's; all blocks but the slot's; and of that
+-- block its number, its information, its replicas on other storages and its capacity. It counts one
+-- more step.
 pub record KeepsOthers (old new : Contents) (slot storage : ℕ) : Type 0 where
   pub lists : (other : ℕ) → other ≢ storage → list_of new other ≡ list_of old other
   pub heads : (other : ℕ) → HasHead old other → HasHead new other
@@ -195,8 +196,8 @@ pub record KeepsOthers (old new : Contents) (slot storage : ℕ) : Type 0 where
   pub bound : new.bound ≡ old.bound
   pub room : room_at new slot ≡ room_at old slot
 
--- what a change of the block in a slot keeps that is none of a list: all lists, all other blocks,
--- how many replicas fit, and all numbers with their slots
+-- What a change of the block in a slot that moves it in no list keeps: all lists, all other blocks,
+-- all capacities, and all numbers with their slots.
 pub record KeepsAllBut (slot : ℕ) (old new : Contents) : Type 0 where
   pub lists : new.lists ≡ old.lists
   pub blocks : (other : ℕ) → other ≢ slot → block_at new other ≡ block_at old other
@@ -206,9 +207,8 @@ pub record KeepsAllBut (slot : ℕ) (old new : Contents) : Type 0 where
   pub steps : new.steps ≡ old.steps
   pub bound : new.bound ≡ old.bound
 
--- All entries stay, whatever replicas come, go or get other marks: each number keeps its slot, and
--- each slot what is known of its block and how many replicas fit there; a storage with a head keeps
--- one.
+-- All entries stay, whatever replicas come, go or get other marks. Each number keeps its slot, and
+-- each slot the information on its block and its capacity. A storage with a head keeps one.
 pub record KeepsEntries (old new : Contents) : Type 0 where
   pub ids : new.ids ≡ old.ids
   pub known : (slot : ℕ) → known_of (block_at new slot) ≡ known_of (block_at old slot)

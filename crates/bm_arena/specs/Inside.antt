@@ -56,7 +56,7 @@ pub record IsArena (slots : Slab Entry) (ids : List (ℕ × ℕ)) (heads : List 
 abbrev pub AllBelow : Slab Entry → ℕ → Type 0
 AllBelow slots bound = (slot : ℕ) (e : Entry) → get slots slot ≡ Some e → slot < bound
 
--- the same, and a bound of the slots
+-- the invariant of an arena's fields, with a bound of the slots
 pub record IsBoundedArena (slots : Slab Entry) (ids : List (ℕ × ℕ)) (heads : List (ℕ × Option ℕ)) (delimiter bound : ℕ) : Type 0 where
   pub arena : IsArena slots ids heads delimiter
   pub bounded : AllBelow slots bound

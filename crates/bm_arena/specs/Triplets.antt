@@ -8,8 +8,8 @@ use Rattle.bm_base.specs.declared.replica.BlockInfo.{BlockInfo}
 use Rattle.bm_arena.specs.declared.types.Triplet.{Triplet}
 use Rattle.bm_arena.specs.declared.types.Entry.{Entry}
 
--- what is seen of a block: its number, what is known of it, each replica's storage and marks, and
--- how many replicas fit
+-- what is seen of a block: its number, its information, each replica's storage and marks, and its
+-- capacity
 pub record Block : Type 0 where
   pub id : ℕ
   pub info : Option BlockInfo
@@ -100,7 +100,7 @@ links_of slots storage x = triplet_at slots x storage
 abbrev pub seen_triplet : Triplet → ℕ × Marks
 seen_triplet t = (t.storage, t.marks)
 
--- the storages of triplets, as they are seen
+-- the storages of triplets, as seen
 abbrev pub storages_in : List Triplet → List ℕ
 storages_in ts = map (λ r. r.0) (map seen_triplet ts)
 
@@ -111,7 +111,7 @@ seen_entry e = record { id = e.id; info = e.info; replicas = map seen_triplet e.
 abbrev pub seen_slots : Slab Entry → List (Option Block)
 seen_slots s = map (option_map seen_entry) s.slots
 
--- the slab after a link is written where there is a neighbour
+-- the slab after a neighbour's link was written, if there is a neighbour
 abbrev pub previous_set : Slab Entry → Option ℕ → ℕ → Option ℕ → Slab Entry
 previous_set slots None storage previous = slots
 previous_set slots (Some y) storage previous = change_at (with_previous previous) slots y storage

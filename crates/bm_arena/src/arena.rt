@@ -141,8 +141,8 @@ impl Arena {
         let _ = &self.slots;
     }
 
-    /// The number of list operations since `new`: one for each link, unlink, move, delimiter put
-    /// and delimiter taken. It stays at its last value, 2^64 - 1.
+    /// The number of list operations since `new`: one for each link, unlink or move, and for each
+    /// insertion and removal of the delimiter. It stays at its greatest value, 2^64 - 1.
     pub fn steps(&self) -> u64
         ensures { result ≡ self.now.steps }
     {

@@ -93,7 +93,7 @@ impl Arena {
         Ok(links::reserve_triplets(&mut self.slots, slot, 1)?)
     }
 
-    /// Sets what is known of the block in `slot`: None for an unknown block. Nothing else changes.
+    /// Sets the information on the block in `slot`: None for an unknown block. All else stays.
     /// Takes no memory.
     pub fn set_info(&mut self, slot: Slot, info: Option<BlockInfo>)
         ensures after { self.new

@@ -3,8 +3,8 @@
 //!
 //! A block's replicas are triplets, as in Hadoop 2's BlockInfo: the storage, and the previous and
 //! the next block in that storage's list. So a list operation costs a constant number of steps. A
-//! full report is compared by a delimiter that is put at the head of the list: reported blocks are
-//! moved to the head, and the blocks that are then after the delimiter were not reported.
+//! full report is compared by a delimiter that is put at the head of the list. Reported blocks move
+//! to the head, so the blocks that are then after the delimiter were not reported.
 #![tactic(auto)]
 
 mod arena;

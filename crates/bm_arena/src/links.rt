@@ -79,7 +79,7 @@ fn first_of_many(triplets: &[Triplet], storage: u32) -> usize
     first
 }
 
-// The index of a storage's triplet, where no two triplets are of one storage. Compares the triplet
+// The index of a storage's triplet, if no two triplets are of one storage. Compares the triplet
 // at index `guess` first, and the others only if that one is of another storage.
 fn place_near(triplets: &[Triplet], storage: u32, guess: usize) -> Option<usize>
     requires { Distinct (storages_in triplets.now) }
@@ -160,7 +160,7 @@ fn set_next(slots: &mut Slab<Entry>, slot: usize, storage: u32, next: SlotLink)
     }
 }
 
-// Relinks the triplet of a storage as the head of its list, and gives it as it was.
+// Relinks the triplet of a storage as the head of its list. Returns the triplet before that.
 pub(crate) fn put_first(
     slots: &mut Slab<Entry>,
     slot: usize,

@@ -60,7 +60,7 @@ impl Arena {
         BlockId(links::id_at(&self.slots, slot))
     }
 
-    /// What is known of the block in `slot`: None for an unknown block.
+    /// The information on the block in `slot`: None for an unknown block.
     pub fn info(&self, slot: Slot) -> Option<BlockInfo>
         ensures { result ≡ option_and_then (λ b. b.info) (block_at self.now slot) }
     {
@@ -70,8 +70,8 @@ impl Arena {
         }
     }
 
-    /// What is known of the block in `slot`, and its replicas, in one read of the slot. None for a
-    /// slot that is not held.
+    /// The information on the block in `slot`, and its replicas, in one read of the slot. None for
+    /// a slot that is not held.
     #[inline]
     pub fn block(&self, slot: Slot) -> Option<(Option<BlockInfo>, &[Triplet])>
         ensures info { option_map (λ p. p.0) result
@@ -118,7 +118,7 @@ impl Arena {
         links::replica_at(&self.slots, slot, i)
     }
 
-    /// How many replicas the block in `slot` has: 0 where the slot is not held.
+    /// How many replicas the block in `slot` has: 0 if the slot is not held.
     pub fn triplet_count(&self, slot: Slot) -> usize
         ensures { result ≡ option_map_or (λ b. length b.replicas) (block_at self.now slot) 0 }
     {

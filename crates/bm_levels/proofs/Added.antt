@@ -1,4 +1,5 @@
--- Where a number was given an entry, or was not after all, nothing that is held changes.
+-- Adding an entry for a number changes neither blocks nor replicas, whether the entry stays or is
+-- dropped again.
 use Rattle.std.specs.Prelude.{◌≡◌, ◌↔◌, ℕ, ◌+◌, ◌<◌, true, false, ◌==◌, if◌then◌else◌, Option, Some, None, IsSome, option_and_then}
 use Rattle.std.proofs.Common.{refl, sym, ap, subst, ◌∙◌, arith, inl, inr}
 use Rattle.std.proofs.lemmas.Bool.{cases_eq, ne_eqb, eq-eqb, true≢false}
@@ -13,11 +14,11 @@ use Rattle.bm_levels.specs.Kept.{Kept, IsUnsettled, HasRoomFor, IsSameAt}
 use Rattle.bm_levels.specs.Leveled.{Leveled, IsLeveled, AreLevels}
 use Rattle.bm_levels.proofs.Judgement.{level_unknown}
 
--- room for slots below a bound is room for each of them
+-- capacity for the slots below a bound is capacity for each of them
 pub room_below : (K : Kept) (bound slot : ℕ) → HasRoomFor K bound → slot < bound → HasRoomFor K (slot + 1)
 room_below K bound slot h lt = (omega (arith, h.0, lt), omega (arith, h.1, lt))
 
--- the same blocks stand at all slots, and what is kept is the same
+-- all slots hold the same blocks, with the same status
 module _ (old : Leveled) (a : Contents) (K : Kept) (blocks : (slot : ℕ) → block_at a slot ≡ block_at old.arena slot) (delimiter : a.delimiter ≡ old.arena.delimiter)
     (same : (slot : ℕ) → IsSameAt old.kept K slot) where
   marker : block_at a a.delimiter ≡ block_at old.arena old.arena.delimiter
@@ -37,7 +38,7 @@ module _ (old : Leveled) (a : Contents) (K : Kept) (blocks : (slot : ℕ) → bl
   pub levels_same : (C : Cluster) → AreLevels C old → AreLevels C (record { arena = a; kept = K })
   levels_same C h z = (same z).level ∙ h z ∙ sym (ap (level_in C) (blocks z))
 
--- a number has an entry that is new
+-- a number gets a new entry
 module _ (old : Leveled) (a : Contents) (K : Kept) (id slot : ℕ) (lawful : IsLawful old.arena) (added : IsAdded old.arena a id slot) (same : (z : ℕ) → IsSameAt old.kept K z) where
   unknown_at : info_at a slot ≡ None
   unknown_at = ap (λ o. option_and_then (λ (b : Block). b.info) o) added.entry
@@ -83,7 +84,7 @@ module _ (old : Leveled) (a : Contents) (K : Kept) (id slot : ℕ) (lawful : IsL
     | inr differs ↦ (same z).level ∙ h z ∙ sym (ap (level_in C) (added.others z differs))
   ]
 
-  -- and it was dropped again
+  -- the new entry is dropped again
   module _ (c : Contents) (entries : (other : ℕ) → block_at c other ≡ (if other == slot then None else block_at a other)) where
     pub dropped_again : (z : ℕ) → block_at c z ≡ block_at old.arena z
     dropped_again z = elim (cases_eq z slot) [

@@ -1,4 +1,4 @@
--- Where two clusters agree on the storages of a block's usable replicas, they agree on its level.
+-- If two clusters agree on the storages of a block's usable replicas, they agree on its level.
 use Rattle.std.specs.Prelude.{◌≡◌, ℕ, Bool, true, false, not, ◌&&◌, List, [], ◌∷◌, length, map, filter, filter_map, Option, Some, option_and_then}
 use Rattle.std.specs.List.{cons_option}
 use Rattle.std.proofs.Common.{cond, refl, ap, ◌∙◌}
@@ -12,7 +12,7 @@ use Rattle.bm_arena.specs.Triplets.{Block}
 use Rattle.bm_levels.specs.Judged.{storages_at, is_live_by, is_drained_by, level_by}
 
 module _ (rack rack' : ℕ → Option ℕ) (draining draining' : ℕ → Bool) where
-  -- they agree on the storages of these replicas that are usable
+  -- both agree on the storages of the usable replicas
   abbrev pub AgreeOn : List (ℕ × Marks) → Type 0
   AgreeOn rs = Each (λ (r : ℕ × Marks). is_usable r.1 ≡ true → (rack r.0 ≡ rack' r.0) × (draining r.0 ≡ draining' r.0)) rs
 

@@ -53,7 +53,7 @@ abbrev keys_at : List (ℕ × Marks) → List ℕ
 keys_at rs = map (λ (r : ℕ × Marks). r.0) rs
 
 module _ (p : ℕ → Marks → Bool) where
-  -- the storages of those that pass are some of all
+  -- the storages of the replicas that pass are storages of the replicas
   pub passing_listed : (rs : List (ℕ × Marks)) (z : ℕ) → Among z (storages_at p rs) → Among z (keys_at rs)
   passing_listed [] z h = h
   passing_listed (r ∷ rs) z h =
@@ -70,7 +70,7 @@ module _ (p : ℕ → Marks → Bool) where
         | false ↦ passing_distinct rs d.1
       ]
 
-  -- a storage is among them just where its replica passes
+  -- a storage is in the list exactly if its replica passes
   pub passing_found : (rs : List (ℕ × Marks)) → Distinct (keys_at rs) → (s : ℕ) → has (storages_at p rs) s ≡ option_map_or (p s) (find_marks rs s) false
   passing_found [] d s = refl
   passing_found (r ∷ rs) d s = by (r.0 == s) refl (passing_found rs d.1 s)

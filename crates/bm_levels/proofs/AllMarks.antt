@@ -1,9 +1,9 @@
 -- The marks of all replicas of one block, changed one after another, each by its storage.
---     changed_first, change_next, change_end      the first so many changed, one more, and all
---     change_none, unchanged_step                 one more whose marks stay as they are
+--     changed_first, change_next, change_end      the first n changed, one more, and all
+--     change_none, unchanged_step                 one more, with marks that stay as they are
 --     keeps_itself, keeps_then                    what a change of one block keeps, and two of them
---     marks_found                                 the marks of the replica at a place
---     block_replicas, block_known                 what is held where the marks of all replicas at a slot changed
+--     marks_found                                 the marks of the replica at an index
+--     block_replicas, block_known                 all replicas at a slot changed
 use Rattle.std.specs.Prelude.{◌≡◌, ◌≢◌, ℕ, zero, suc, ◌+◌, ◌≤◌, true, false, ◌==◌, if◌then◌else◌, List, [], ◌∷◌, length, map, slice_get, Option, Some, None, option_map, option_and_then}
 use Rattle.std.specs.Option.{option_map_or}
 use Rattle.std.specs.Prelude.{nat_eq}
@@ -22,7 +22,7 @@ use Rattle.bm_arena.proofs.Changed.{changed-here}
 use Rattle.bm_arena.proofs.Held.{get-replicas_of, one_number, blocks-kept}
 use Rattle.bm_levels.specs.Changes.{each_changed}
 
--- the replicas, with the marks of the first so many changed
+-- the replicas, with the marks of the first n changed
 abbrev pub changed_first : (ℕ → Marks → Marks) → ℕ → List (ℕ × Marks) → List (ℕ × Marks)
 changed_first f zero rs = rs
 changed_first f (suc n) [] = []
@@ -32,7 +32,7 @@ abbrev keys_at : List (ℕ × Marks) → List ℕ
 keys_at rs = map (λ (r : ℕ × Marks). r.0) rs
 
 module _ (f : ℕ → Marks → Marks) where
-  -- the one at a place that was not changed yet is of those that there were
+  -- an unchanged replica at an index is one of the given replicas
   left_listed : (n : ℕ) (rs : List (ℕ × Marks)) (r : ℕ × Marks) → slice_get (changed_first f n rs) n ≡ Some r → Among r.0 (keys_at rs)
   left_listed zero [] r e = cc
   left_listed zero (x ∷ rs) r e = let same : x ≡ r = (cc) in inl (ap (λ (z : ℕ × Marks). z.0) (sym same))
@@ -80,7 +80,7 @@ module _ (f : ℕ → Marks → Marks) where
         | inr other ↦ rw other (found_changed rs s)
       ]
 
--- the replicas at a slot of a lawful arena stand on different storages
+-- the replicas at a slot of a lawful arena are on different storages
 pub once_at : (a : Contents) (slot : ℕ) → IsLawful a → Distinct (keys_at (replicas_at a slot))
 once_at a slot lawful = by (block_at a slot) refl
   where
@@ -95,7 +95,7 @@ count_at a slot = by (block_at a slot)
     by None = refl
     by (Some b) = refl
 
--- one more is changed where the marks of the replica at the next place are set
+-- setting the marks of the next replica changes one more
 pub changed_step : (f : ℕ → Marks → Marks) (a b c : Contents) (slot n s : ℕ) (m new : Marks) → IsLawful a → new ≡ f s m → replicas_at b slot ≡ changed_first f n (replicas_at a slot)
     → option_and_then (λ (k : Block). slice_get k.replicas n) (block_at b slot) ≡ Some (s, m) → c ≡ record b { blocks = change_block (with_marks s new) b.blocks slot }
     → replicas_at c slot ≡ changed_first f (n + 1) (replicas_at a slot)
@@ -113,8 +113,7 @@ changed_step f a b c slot n s m new lawful is before there after =
     written None = refl
     written (Some k) = refl
 
--- one more is changed where the change of the replica at the next place leaves its marks as they
--- are
+-- one more counts as changed if the change leaves the next replica's marks as they are
 pub unchanged_step : (f : ℕ → Marks → Marks) (a b : Contents) (slot n s : ℕ) (m new : Marks) → new ≡ f s m → new ≡ m → replicas_at b slot ≡ changed_first f n (replicas_at a slot)
     → option_and_then (λ (k : Block). slice_get k.replicas n) (block_at b slot) ≡ Some (s, m)
     → replicas_at b slot ≡ changed_first f (n + 1) (replicas_at a slot)
@@ -141,7 +140,7 @@ keeps_then slot a b c f g = record {
   bound = g.bound ∙ f.bound;
 }
 
--- the replica of a storage at a slot is of the replicas there
+-- a replica is found on a storage in the list at a slot as in the arena
 pub marks_listed : (a : Contents) (slot s : ℕ) → find_marks (replicas_at a slot) s ≡ marks_at a slot s
 marks_listed a slot s = by (block_at a slot)
   where
@@ -149,7 +148,7 @@ marks_listed a slot s = by (block_at a slot)
     by None = refl
     by (Some b) = refl
 
--- all replicas at the slot of a number changed, each by its storage
+-- the replicas at the slot of a number are all changed, each by its storage
 module _ (f : ℕ → Marks → Marks) (a c : Contents) (slot b : ℕ) (lawful : IsLawful a) (here : slot_of a b ≡ Some slot) (rest : KeepsAllBut slot a c)
     (changed : replicas_at c slot ≡ each_changed f (replicas_at a slot)) where
   marks_changed : (s : ℕ) → marks_at c slot s ≡ option_map (f s) (marks_at a slot s)
@@ -188,7 +187,7 @@ module _ (f : ℕ → Marks → Marks) (a c : Contents) (slot b : ℕ) (lawful :
   pub block_known : known_of (block_at c slot) ≡ known_of (block_at a slot) → blocks_of c ≡ blocks_of a
   block_known known = blocks-kept a c slot rest.ids rest.blocks known
 
--- the replica at a place of a list is the one that is found on its storage, where no two are on one
+-- the replica at an index is the one found on its storage, if no two share a storage
 listed_at : (rs : List (ℕ × Marks)) (n : ℕ) (r : ℕ × Marks) → slice_get rs n ≡ Some r → Among r.0 (keys_at rs)
 listed_at [] n r e = cc
 listed_at (x ∷ rs) zero r e = let same : x ≡ r = (cc) in inl (ap (λ (z : ℕ × Marks). z.0) (sym same))

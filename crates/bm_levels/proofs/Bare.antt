@@ -1,4 +1,4 @@
--- Entries with neither a block nor a replica: where none are made, and where they go.
+-- Unused entries, with neither a block nor a replica: which changes make none, and which drop them.
 use Rattle.std.specs.Prelude.{◌≡◌, ◌≢◌, ℕ, Bool, true, false, not, ◌&&◌, ◌==◌, if◌then◌else◌, nat_eq, List, [], ◌∷◌, length, Option, Some, None, IsSome, IsTrue, is_some, option_and_then}
 use Rattle.std.specs.Option.{option_map_or}
 use Rattle.std.specs.Map.{lookup, set_value}
@@ -18,12 +18,12 @@ use Rattle.bm_report.proofs.Maps.{get-here}
 use Rattle.bm_levels.specs.Bare.{IsBare, MakesNoneBare, MakesBareOnly, KeepsSlots}
 use Rattle.bm_levels.proofs.Revising.{known_at}
 
--- with an entry of no number more, and no block and no replica less
+-- an unused entry was unused before if no block and no replica of the number was lost
 pub bare_before : (a c : Contents) (b : ℕ) → IsSome (slot_of a b) → (get (blocks_of c) b ≡ None → get (blocks_of a) b ≡ None)
     → ((s : ℕ) → get (replicas_of c) (replica_at b s) ≡ None → get (replicas_of a) (replica_at b s) ≡ None) → IsBare c b → IsBare a b
 bare_before a c b led unknown empty bare = record { entry = led; unknown = unknown bare.unknown; empty = λ s. empty s (bare.empty s) }
 
--- where a number has the same entry, and the same blocks and replicas are held
+-- an unused entry was unused before if the number had one and the arena held the same
 pub bare_held : (a c : Contents) (b : ℕ) → IsSome (slot_of a b) → blocks_of c ≡ blocks_of a → replicas_of c ≡ replicas_of a → IsBare c b → IsBare a b
 bare_held a c b led blocks replicas = bare_before a c b led (λ e. sym (ap (λ m. get m b) blocks) ∙ e) (λ s e. sym (ap (λ m. get m (replica_at b s)) replicas) ∙ e)
 
@@ -34,7 +34,7 @@ same_numbers a c ids b = ap (λ l. lookup (nat_eq b) l) ids
 pub some_before : {o p : Option ℕ} → p ≡ o → IsSome p → IsSome o
 some_before e there = let P : Option ℕ → Type 0 = λ o. IsSome o in subst P e there
 
--- of a bare number nothing is at its slot
+-- an unused entry has nothing at its slot
 module _ (a : Contents) (b slot : ℕ) (led : slot_of a b ≡ Some slot) (bare : IsBare a b) where
   pub bare_info : info_at a slot ≡ None
   bare_info = sym (known_at a b slot led) ∙ bare.unknown
@@ -60,7 +60,7 @@ module _ (a : Contents) (b slot : ℕ) (led : slot_of a b ≡ Some slot) (bare :
       ap (λ o. option_map_or (λ x. option_map_or (λ (y : Block). not (is_some y.info) && (length y.replicas == 0)) (block_at a x) false) o false) led
       ∙ ap (λ o. option_map_or (λ (y : Block). not (is_some y.info) && (length y.replicas == 0)) o false) k.2 ∙ (λ i. not (is_some (info i)) && (length (none i) == 0))
 
--- The entry at a slot is dropped where it is bare.
+-- The entry at a slot is dropped if it is unused.
 module _ (a c : Contents) (slot : ℕ) (blocks : blocks_of c ≡ blocks_of a) (replicas : replicas_of c ≡ replicas_of a)
     (numbers : (id : ℕ) → slot_of a id ≢ Some slot → slot_of c id ≡ slot_of a id)
     (gone : (id : ℕ) → slot_of a id ≡ Some slot → replicas_at a slot ≡ [] → info_at a slot ≡ None → slot_of c id ≡ None) where
@@ -87,7 +87,7 @@ bare_elsewhere a m b x here led still =
     (λ e. known_at a b x here ∙ sym (ap (λ o. option_and_then (λ (k : Block). k.info) o) still) ∙ sym (known_at m b x led) ∙ e)
     (λ s e. get-here a b x s here ∙ sym (ap (λ o. option_and_then (λ (k : Block). find_marks k.replicas s) o) still) ∙ sym (get-here m b x s led) ∙ e)
 
--- Before the entry at a slot is dropped, the block there alone changed.
+-- Only the block at a slot changes before the entry there is dropped.
 pub bare_changed : (a m c : Contents) (slot : ℕ) → m.ids ≡ a.ids → ((other : ℕ) → other ≢ slot → block_at m other ≡ block_at a other) → blocks_of c ≡ blocks_of m → replicas_of c ≡ replicas_of m
     → ((id : ℕ) → slot_of m id ≢ Some slot → slot_of c id ≡ slot_of m id)
     → ((id : ℕ) → slot_of m id ≡ Some slot → replicas_at m slot ≡ [] → info_at m slot ≡ None → slot_of c id ≡ None) → MakesNoneBare a c
@@ -98,7 +98,7 @@ bare_changed a m c slot ids others blocks replicas numbers gone b bare =
     let apart : led.0 ≢ slot = λ e. bare_gone m c slot blocks replicas numbers gone b (led.1 ∙ ap (λ x. Some x) e) bare in
     bare_elsewhere a m b led.0 here led.1 (others led.0 apart) was
 
--- A report is given up: of the numbers that it names those go that are bare.
+-- A report is aborted: its numbers lose their unused entries.
 module _ (a c : Contents) (named : ℕ → Bool) (lawful : IsLawful a) (blocks : blocks_of c ≡ blocks_of a) (replicas : replicas_of c ≡ replicas_of a)
     (numbers : (b : ℕ) → slot_of c b ≡ (if named b && is_bare_number a b then None else slot_of a b)) where
   pub bare_aborted : MakesNoneBare a c
@@ -116,7 +116,7 @@ module _ (a c : Contents) (named : ℕ → Bool) (lawful : IsLawful a) (blocks :
       let P : Option ℕ → Type 0 = λ o. IsSome o in
       false≢true (subst P dropped bare.entry)
 
--- what a look-up made is given up again
+-- an abort drops the entries that a look-up made
 pub bare_again : (a m c : Contents) (named : ℕ → Bool) → IsLawful m → blocks_of m ≡ blocks_of a → replicas_of m ≡ replicas_of a → ((b : ℕ) → slot_of a b ≡ None → IsSome (slot_of m b) → IsTrue (named b))
     → blocks_of c ≡ blocks_of m → replicas_of c ≡ replicas_of m → ((b : ℕ) → slot_of c b ≡ (if named b && is_bare_number m b then None else slot_of m b)) → MakesNoneBare a c
 bare_again a m c named lawful blocks replicas fresh blocks_c replicas_c numbers b bare =
@@ -127,11 +127,11 @@ bare_again a m c named lawful blocks replicas fresh blocks_c replicas_c numbers 
     by (Some x) e some = ap is_some e
     by None e some = absurd (bare_unnamed m c named lawful blocks_c replicas_c numbers b (fresh b e some) bare)
 
--- numbers that are not among some have the entries that they had
+-- if other numbers keep their entries, only these can have new unused ones
 pub bare_beside : (a c : Contents) (these : ℕ → Bool) → blocks_of c ≡ blocks_of a → replicas_of c ≡ replicas_of a → ((b : ℕ) → these b ≡ false → slot_of c b ≡ slot_of a b) → MakesBareOnly these a c
 bare_beside a c these blocks replicas others b not_these bare = bare_held a c b (some_before (others b not_these) bare.entry) blocks replicas bare
 
--- A number that keeps an entry, where one is dropped, keeps its own.
+-- If one entry is dropped, a number that keeps an entry keeps the same one.
 pub slots_kept : (a c : Contents) (slot : ℕ) → ((id : ℕ) → slot_of a id ≢ Some slot → slot_of c id ≡ slot_of a id) → ((id : ℕ) → slot_of a id ≡ Some slot → slot_of c id ≡ None) → KeepsSlots a c
 slots_kept a c slot numbers gone b some = by (slot_of a b) refl
   where
@@ -153,7 +153,7 @@ set_some s xs q (e ∷ es) some =
       | inr passed ↦ elim (cases_Bool (eqb q e.0)) [ inl found ↦ rw found refl | inr later ↦ rw later (set_some s xs q es (rw (passed, later) at some)) ]
     ]
 
--- a list that changed makes no head
+-- unlinking makes no head
 pub heads_unlinked : (a c : Contents) (slot s : ℕ) → c ≡ unlinked a slot s → (q : ℕ) → HasHead c q → HasHead a q
 heads_unlinked a c slot s after q head = let P : Contents → Type 0 = λ x. HasHead x q in set_some s (without slot (list_of a s)) q a.lists (subst P after head)
 

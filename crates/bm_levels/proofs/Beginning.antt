@@ -1,4 +1,4 @@
--- Marks dropped at one unsettled slot after another, and replicas of a list marked one after
+-- Dropping marks at one unsettled slot after another, and marking the replicas of a list one after
 -- another.
 use Rattle.std.specs.Prelude.{◌≡◌, ◌≢◌, ℕ, zero, suc, true, ◌==◌, List, [], ◌∷◌, drop}
 use Rattle.std.specs.Option.{option_map_or}
@@ -13,7 +13,7 @@ use Rattle.bm_arena.specs.Holding.{replicas_at}
 use Rattle.bm_base.specs.Excess.{counted_again}
 use Rattle.bm_levels.specs.Changes.{all_changed, has_block}
 
--- where these slots are still to go, of all of them each that has gone has its new marks, and each
+-- `left` are the slots still to come of `all`: each other one of them has its new marks, and each
 -- other slot is as before
 pub IsBegun : Contents → Contents → List ℕ → List ℕ → Type 0
 IsBegun a now all left =
@@ -53,7 +53,7 @@ pub begun_others : (a now : Contents) (all left : List ℕ) → IsBegun a now al
 unfolding IsBegun
 begun_others a now all left h slot absent = elim (h slot) [ inl g ↦ absurd (absent g.0) | inr g ↦ g.1 ]
 
--- a replica at a place of a list is one of its block
+-- the block of a replica in the rest of a list is in the list
 pub block_listed : (ps rest : List ReplicaId) (i : ℕ) (p : ReplicaId) → drop i ps ≡ p ∷ rest → has_block ps p.block ≡ true
 unfolding has_block
 block_listed [] rest zero p e = cc

@@ -19,7 +19,7 @@ module _ (rack : ℕ → Option ℕ) (draining : ℕ → Bool) where
     | Some f ↦ (refl, refl, refl)
   ]
 
-  -- one replica more counts by one
+  -- one more replica increases each count by at most one
   few_more : (k : Count) (s : ℕ) (m : Marks) → ((one_more rack draining k s m).live ≤ k.live + 1) × ((one_more rack draining k s m).drained ≤ k.drained + 1)
   unfolding one_more
   few_more k s m = by (is_usable m) (draining s) (rack s)
@@ -38,12 +38,12 @@ module _ (rack : ℕ → Option ℕ) (draining : ℕ → Bool) where
   pub few_step : (k z : Count) (s : ℕ) (m : Marks) → z ≡ one_more rack draining k s m → (z.live ≤ k.live + 1) × (z.drained ≤ k.drained + 1)
   few_step k z s m e = let h = few_more k s m in (omega (arith, h.0, ap (λ x. x.live) e), omega (arith, h.1, ap (λ x. x.drained) e))
 
-  -- the next replica counted before the rest
+  -- counting the next replica leaves the rest to be counted
   pub counted_next : (k z : Count) (rs all : List (ℕ × Marks)) (r : ℕ × Marks) (behind : List (ℕ × Marks)) → rs ≡ r ∷ behind → z ≡ one_more rack draining k r.0 r.1
       → counted_on rack draining k rs ≡ counted_on rack draining none all → counted_on rack draining z behind ≡ counted_on rack draining none all
   counted_next k z rs all r behind here counted h = ap (λ x. counted_on rack draining x behind) counted ∙ sym (ap (counted_on rack draining k) here) ∙ h
 
-  -- on how many racks those that were counted and those of a list stand
+  -- the number of racks, up to two, of the counted replicas and of those of a list
   abbrev racks_on : Count → List ℕ → ℕ
   racks_on k rs = if k.is_spread then 2 else spread_from k.first rs
 
@@ -60,7 +60,7 @@ module _ (rack : ℕ → Option ℕ) (draining : ℕ → Bool) where
       by None = refl
       by (Some f) = either f k.is_spread (r == f)
 
-  -- what stands of a list behind those that were counted
+  -- z counts the replicas of a list on top of k
   abbrev pub IsCountOf : Count → List (ℕ × Marks) → Count → Type 0
   IsCountOf k rs z =
       (z.live ≡ k.live + length (storages_at (is_live_by draining) rs))
@@ -68,7 +68,7 @@ module _ (rack : ℕ → Option ℕ) (draining : ℕ → Bool) where
       × (z.is_plain ≡ (k.is_plain && not (list_any (λ r. not (is_plain r.1)) rs)))
       × (racks_of z ≡ racks_on k (filter_map rack (storages_at (is_live_by draining) rs)))
 
-  -- one more before the rest
+  -- z counts one more replica than k, before the rest
   IsStep : Count → ℕ → Marks → List (ℕ × Marks) → Count → Type 0
   IsStep k s m rs z =
       (z.live + length (storages_at (is_live_by draining) rs) ≡ k.live + length (storages_at (is_live_by draining) ((s, m) ∷ rs)))

@@ -22,7 +22,7 @@ use Rattle.bm_levels.specs.Leveled.{Leveled, IsLeveled, AreLevels}
 use Rattle.bm_levels.proofs.ManySlots.{known_info}
 use Rattle.bm_levels.proofs.OneSlot.{IsChangedAt}
 
--- where a test tells the marks of one replica before and after alike, the same storages pass
+-- if a test passes the old and the new marks of one replica alike, the same storages pass
 module _ (p : ℕ → Marks → Bool) (s : ℕ) (m new : Marks) (same : p s new ≡ p s m) where
   one_passes : (r : ℕ × Marks) (rs : List (ℕ × Marks)) (b : Bool) → map (λ (x : ℕ × Marks). x.0) (cond b ((r.0, new) ∷ rs) rs) ≡ map (λ (x : ℕ × Marks). x.0) (cond b (r ∷ rs) rs)
   one_passes r rs true = refl
@@ -47,7 +47,7 @@ module _ (p : ℕ → Marks → Bool) (s : ℕ) (m new : Marks) (same : p s new 
           ap (λ b. map (λ (x : ℕ × Marks). x.0) (cond b ((r.0, new) ∷ rest) rest)) alike ∙ one_passes r rest (p r.0 r.1)
       by false is kept f = behind (p r.0 r.1) (kept f)
 
--- the level of a block
+-- the level of a block does not change
 module _ (rack : ℕ → Option ℕ) (draining : ℕ → Bool) (multi : Bool) (s : ℕ) (m : Marks) where
   level_kept : (k : Block) → find_marks k.replicas s ≡ Some m → level_by rack draining multi (Some (with_marks s (as_ordered m) k)) ≡ level_by rack draining multi (Some k)
   unfolding level_by
@@ -77,7 +77,7 @@ not_plain_then m = by m.tag m.excess
     by Bad x = refl
     by Stray x = refl
 
--- one that is not plain
+-- a replica that is not plain
 some_marked : (rs : List (ℕ × Marks)) (s : ℕ) (m : Marks) → find_marks rs s ≡ Some m → is_plain m ≡ false → list_any (λ (r : ℕ × Marks). not (is_plain r.1)) rs ≡ true
 some_marked [] s m e f = cc
 some_marked (r ∷ rs) s m e f = by (r.0 == s) (λ g. some_marked rs s m g f) e
@@ -101,9 +101,9 @@ unsettled_where (Some k) s m e f = rw (some_marked k.replicas s m e f) refl
 pub unsettled_by : (a : Contents) (slot s : ℕ) (m : Marks) → marks_at a slot s ≡ Some m → is_plain m ≡ false → is_settled_at (block_at a slot) ≡ false
 unsettled_by a slot s m e f = unsettled_where (block_at a slot) s m e f
 
--- where the block at one slot changed and is judged as before, what is kept of it stays
+-- if the block at one slot changes and its status does not, the stored status stays right
 module _ (old : Leveled) (a : Contents) (slot : ℕ) (changed : IsChangedAt old.arena a slot) where
-  -- what does not see the change at the slot sees none
+  -- a function that ignores the change at the slot has the same value at all slots
   alike_at : {X : Type 0} (f : Option Block → X) → f (block_at a slot) ≡ f (block_at old.arena slot) → (z : ℕ) → f (block_at a z) ≡ f (block_at old.arena z)
   alike_at f same z = elim (cases_eq z slot) [ inl here ↦ rw here same | inr differs ↦ ap f (changed.blocks z differs) ]
 

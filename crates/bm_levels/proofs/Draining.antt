@@ -53,7 +53,7 @@ module _ (C : Cluster) (n : ℕ) where
   unfolding undrain rack_of node_of is_multi_rack
   ceased v h slot = h slot ∙ (λ i. level_by (rack_of C) (λ s. ceases s i) (is_multi_rack C) (block_at v.arena slot))
 
-  -- levels by what the event changes are those in the cluster that it leaves
+  -- levels with the event's draining nodes are those in the cluster after the event
   pub turned_levels : (d : Bool) (v : Leveled) → AreLevelsBy (rack_of C) (drains_then C (Some (turning n d))) (is_multi_rack C) v → AreLevels (if d then drain C n else undrain C n) v
   turned_levels true v h = begun v h
   turned_levels false v h = ceased v h
@@ -75,7 +75,7 @@ module _ (C : Cluster) (n : ℕ) where
       by s there true e = absurd (off s e ((lawful.exact slot s).1 there))
       by s there false e = refl
 
-  -- the slots with a replica on the node are judged, and the others are kept as before
+  -- the slots with a replica on the node are reclassified, and the others keep their status
   pub turned_all : (d : Bool) (multi : Bool) (old : Leveled) (K : Kept) → multi ≡ is_multi_rack C → IsLawful old.arena
       → ((slot : ℕ) → IsJudged (rack_of C) (drains_then C (Some (turning n d))) multi (block_at old.arena slot) K slot ⊎ (IsSameAt old.kept K slot × IsOff C n old.arena slot))
       → AreLevels C old → AreLevels (if d then drain C n else undrain C n) (record { arena = old.arena; kept = K })

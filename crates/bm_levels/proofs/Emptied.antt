@@ -26,7 +26,7 @@ module _ (old : Leveled) (c : Contents) (slot : ℕ) (k : Block) (lawful : IsLaw
   still : (other : ℕ) → other ≢ slot → block_at c other ≡ block_at a other
   still other ne = entries other ∙ ap (λ b. if b then None else block_at a other) (ne_eqb other slot ne)
 
-  -- what is found by a number is what was
+  -- a look-up by number finds the same as before
   found_still : {X : Type 0} (f : Option Block → Option X) → f None ≡ None → f (Some k) ≡ None → (id : ℕ)
       → option_and_then (λ x. f (block_at c x)) (slot_of c id) ≡ option_and_then (λ x. f (block_at a x)) (slot_of a id)
   found_still f none empty id =
@@ -102,7 +102,7 @@ module _ (old : Leveled) (c : Contents) (slot : ℕ) (k : Block) (lawful : IsLaw
     | inr differs ↦ h z ∙ sym (ap (level_by rack draining multi) (still z differs))
   ]
 
--- all that a dropped entry leaves as it was
+-- what a dropped entry leaves as it was
 pub record IsEmptied (old : Leveled) (c : Contents) (slot : ℕ) : Type 0 where
   pub replicas : replicas_of c ≡ replicas_of old.arena
   pub blocks : blocks_of c ≡ blocks_of old.arena

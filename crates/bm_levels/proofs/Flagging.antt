@@ -1,7 +1,7 @@
 -- A change of the marks of the replicas of a list, made one after another.
 --     flag_none, flag_next      no replica, and one before others
 --     order_own, order_other, order_end      the deletes of a part
---     excess_next, excess_end                the replicas that are too many
+--     excess_next, excess_end                the surplus replicas
 use Rattle.std.specs.Prelude.{◌≡◌, ℕ, Bool, true, false, ◌&&◌, ◌||◌, ◌==◌, if◌then◌else◌, List, [], ◌∷◌, Option, Some, None, option_map}
 use Rattle.std.specs.Ordering.{eq_by_cmp}
 use Rattle.std.proofs.Common.{cond, refl, sym, ap, ◌∙◌}
@@ -78,7 +78,7 @@ module _ (m : Map by_replica Marks) (index shards : ℕ) where
   order_other d ds other =
       sym (ap (λ t. revise m (λ q x. if is_commanded (if t then d ∷ own_deletes index shards ds else own_deletes index shards ds) q then record x { ordered = true } else x)) other)
 
--- the replicas that are too many
+-- the marks of a replica, in excess if it is in the list
 abbrev pub excess_by : List ReplicaId → ReplicaId → Marks → Marks
 excess_by ps q m = if has_replica ps q then as_excess m else m
 

@@ -16,8 +16,8 @@ use Rattle.bm_levels.proofs.Beginning.{IsBegun, begun_none, begun_more, begun_al
 abbrev unsettled_in : Leveled → List ℕ
 unsettled_in v = v.kept.unsettled.slots
 
--- One stands at a slot, or at the end, after so many steps: the slots from there on are still to
--- go, and no more steps are needed than there are left.
+-- After `step` steps the iteration is at a slot or at the end. The slots from there on are still to
+-- come, and at most `end` steps are needed.
 pub record IsGoing (old now : Leveled) (at : Option ℕ) (step end : ℕ) : Type 0 where
   pub begun : IsBegun old.arena now.arena (unsettled_in old) (slots_from (unsettled_in now) at)
   pub once : Distinct (slots_from (unsettled_in now) at)
@@ -42,7 +42,7 @@ going_first v at end once on all count =
     }
 
 module _ (old now : Leveled) (at : Option ℕ) (step end : ℕ) (h : IsGoing old now at step end) where
-  -- one stands at a slot
+  -- the iteration is at a slot
   module _ (x : ℕ) (then : Option ℕ) (here : at ≡ Some x) (next : slots_from (unsettled_in now) (Some x) ≡ x ∷ slots_from (unsettled_in now) then) where
     left_is : slots_from (unsettled_in now) at ≡ x ∷ slots_from (unsettled_in now) then
     left_is = ap (slots_from (unsettled_in now)) here ∙ next
@@ -71,13 +71,13 @@ module _ (old now : Leveled) (at : Option ℕ) (step end : ℕ) (h : IsGoing old
           entries = entries-chain old.arena now.arena new.arena h.entries entries;
         }
 
-  -- or at the end
+  -- the iteration is at the end
   pub going_none : at ≡ None → step < end → IsGoing old now at (step + 1) end
   going_none none lt =
       let empty : length (slots_from (unsettled_in now) at) ≡ 0 = ap (λ o. length (slots_from (unsettled_in now) o)) none in
       record { begun = h.begun; once = h.once; on = h.on; few = omega (arith, empty, lt); listed = h.listed; entries = h.entries }
 
-  -- after all steps
+  -- no slot is left after all steps
   all_gone : end ≤ step → slots_from (unsettled_in now) at ≡ []
   all_gone past = by (slots_from (unsettled_in now) at) h.few
     where

@@ -1,10 +1,10 @@
 -- The replicas of a list, those of one block together.
---     storage_searched, storage_there     what a search by halves tells of a storage, and a look at one place
---     listed_marks, other_marks       the marks of a replica by that
---     of_one_block, group_marks       whether a list of one block has a replica, and the marks of those that it has
---     some_of_block, head_of_block, place_or_length, none_left      a block in a list, and those of it at the list's head
+--     storage_searched, storage_there     a binary search for a storage, and one read
+--     listed_marks, other_marks       the marks of a replica by that result
+--     of_one_block, group_marks       replicas in a list of one block, and their marks
+--     some_of_block, head_of_block, place_or_length, none_left      a block at a list's head
 --     excess_parts, blocks_of_parts, order_behind, order_of_block      two parts of a list
---     surplus_in_order                the replicas that are too many stand in order
+--     surplus_in_order                the surplus replicas are in order
 use Rattle.std.proofs.Common.{◌≡◌, ℕ, zero, suc, ◌<◌, ◌≤◌, ◌+◌, Bool, true, false, not, cond, nat_lt, List, [], ◌∷◌, ◌++◌, length, take, map, get_or, T, Some, None, inl, inr, Result, Ok, Err, is_ok, Ordering, Less, Equal, Greater, refl, sym, ap, subst, ◌∙◌, arith}
 use Rattle.std.specs.Prelude.{◌==◌, ◌&&◌, ◌||◌, if◌then◌else◌, slice_get}
 use Rattle.std.specs.Prelude.{position}
@@ -43,7 +43,7 @@ module _ (ps : List ReplicaId) (rises : AreByStorage ps) (s : ℕ) where
       let up : (get_or ps i d).storage ≤ (get_or ps j d).storage = rises i j d le within in
       grind (arith, nat_tests)
 
-  -- a search by halves finds a replica on the storage, or there is none
+  -- a binary search finds a replica on the storage exactly if there is one
   pub storage_searched : (r : Result ℕ ℕ) → IsSearchInRange r (length ps) → IsBinarySearchResult (λ (p : ReplicaId). nat_cmp p.storage s) ps r → is_ok r ≡ has_storage ps s
   unfolding has_storage
   storage_searched (Ok at) within equal = sym (list_any_at (λ (p : ReplicaId). p.storage == s) ps at nowhere within (eq-eqb _ s (ranked _ s _ (sym (equal nowhere)))))
@@ -52,12 +52,12 @@ module _ (ps : List ReplicaId) (rises : AreByStorage ps) (s : ℕ) where
       ne_eqb (get_or ps k nowhere).storage s (λ same.
       grind (arith, λ (lt : k < at). ranked _ s _ (sym ((parted comparisons_rise).0 k nowhere (omega arith) lt)), λ (le : at ≤ k). ranked _ s _ (sym ((parted comparisons_rise).1 k nowhere le h)))))))
 
--- the replica at a place of the list
+-- if the replica at an index is on a storage, the list has the storage
 pub storage_there : (ps : List ReplicaId) (s at : ℕ) (p : ReplicaId) → at < length ps → ((get_or ps at p).storage == s) ≡ true → has_storage ps s ≡ true
 unfolding has_storage
 storage_there ps s at p within same = list_any_at (λ (q : ReplicaId). q.storage == s) ps at p within same
 
--- the marks of a replica that was looked for in a list
+-- the marks of a replica, by the result of looking for its storage in a list
 module _ (ps : List ReplicaId) (s : ℕ) (m : Marks) (r : Bool) (told : r ≡ has_storage ps s) where
   marks_by : (b : Bool) → r ≡ b → excess_on ps s m ≡ cond b (as_excess m) m
   marks_by b is = ap (λ t. cond t (as_excess m) m) (sym told ∙ is)
@@ -68,7 +68,7 @@ module _ (ps : List ReplicaId) (s : ℕ) (m : Marks) (r : Bool) (told : r ≡ ha
   pub other_marks : r ≡ false → m ≡ excess_on ps s m
   other_marks absent = sym (marks_by false absent)
 
--- a list whose replicas are of one block has those of the block on its storages
+-- a list of one block has a replica of the block on each of its storages
 tests_meet : (x b h : Bool) → ((x && b) || (b && h)) ≡ (b && (x || h))
 tests_meet true true h = refl
 tests_meet true false h = refl
@@ -94,13 +94,13 @@ module _ (b : ℕ) where
   pub group_marks : (ps : List ReplicaId) → AreOfBlock b ps → (q : ReplicaId) (m : Marks) → (if q.block == b then excess_on ps q.storage m else m) ≡ excess_by ps q m
   group_marks ps all q m = both_tests (q.block == b) (has_storage ps q.storage) (as_excess m) m ∙ ap (λ t. cond t (as_excess m) m) (sym (of_one_block ps all q))
 
-  -- the block is in a list that has some, all of the block
+  -- a list that is not empty, all of one block, has the block
   pub some_of_block : (ps : List ReplicaId) → 0 < length ps → AreOfBlock b ps → has_block ps b ≡ true
   unfolding has_block
   some_of_block [] some all = absurd (omega (arith, some))
   some_of_block (p ∷ ps) some all = or_left (p.block == b) (list_any (λ (q : ReplicaId). q.block == b) ps) (eq-eqb p.block b (all 0 p (omega arith)))
 
-  -- those at the head of a list before the first of another block
+  -- whether a replica is of another block; the list's head ends at the first such
   abbrev pub other_block : ReplicaId → Bool
   other_block q = not (q.block == b)
 
@@ -118,7 +118,7 @@ module _ (b : ℕ) where
         | false ↦ λ there. λ i d lt. absurd (omega (arith, lt))
       ] refl
 
--- the place of the first that passes, or the length
+-- the index of the first that passes, or the length
 pub place_or_length : {X : Type 0} (p : X → Bool) (xs : List X) → unwrap_or (position p xs) (length xs) ≡ position_or_len p xs
 place_or_length p xs =
     elim (cases_lt (position_or_len p xs) (length xs)) [
@@ -133,7 +133,7 @@ pub none_left : (ps : List ReplicaId) → None ≡ slice_get ps 0 → ps ≡ []
 none_left [] none = refl
 none_left (p ∷ ps) none = absurd (cc)
 
--- the marks that the parts of a list make, one after the other, are those of the whole
+-- the marks that two parts set one after the other are those that the whole sets
 pub excess_parts : (m : Map by_replica Marks) (xs ys : List ReplicaId) → revise (revise m (excess_by xs)) (excess_by ys) ≡ revise m (excess_by (xs ++ ys))
 excess_parts m [] ys = ap (λ z. revise z (excess_by ys)) (excess_end m)
 excess_parts m (x ∷ xs) ys =
@@ -144,7 +144,7 @@ unfolding has_block
 blocks_of_parts xs ys b none =
     or_parts (list_any (λ (q : ReplicaId). q.block == b) xs) (list_any (λ (q : ReplicaId). q.block == b) ys) (sym (list_any-append (λ (q : ReplicaId). q.block == b) xs ys) ∙ none)
 
--- the order of a list holds in its parts
+-- the parts of an ordered list are ordered
 module _ (xs ys : List ReplicaId) (order : AreInOrder (xs ++ ys)) where
   whole_length : length (xs ++ ys) ≡ length xs + length ys
   whole_length = length-append xs ys
@@ -165,7 +165,7 @@ module _ (xs ys : List ReplicaId) (order : AreInOrder (xs ++ ys)) where
       let up = order i j d le (omega (arith, within, whole_length)) (blocks i low ∙ sym (blocks j within)) in
       omega (arith, up, ap (λ (q : ReplicaId). q.storage) (at i low), ap (λ (q : ReplicaId). q.storage) (at j within))
 
--- of two replicas of one block that one comes first whose storage does
+-- if one of two replicas of a block comes first, its storage is not the greater
 storage_first : (s t : ℕ) (lt eq : Bool) → nat_lt s t ≡ lt → T (is_lt (cond lt Less (cond eq Equal Greater))) → s ≤ t
 storage_first s t true eq l h = let less = ltb-true s t l in omega (arith, less)
 storage_first s t false true l h = absurd h

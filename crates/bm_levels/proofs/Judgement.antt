@@ -46,8 +46,7 @@ module _ (rack : ℕ → Option ℕ) (draining : ℕ → Bool) where
       apart true = refl
       apart false = refl
 
-  -- so many as are wanted are live on two racks among the first, and the rest is counted behind
-  -- them
+  -- enough of the counted replicas are live, on two racks; the rest does not change the level
   level_soon : (multi : Bool) (o : Option Block) (i : BlockInfo) (k : Count) (rs : List (ℕ × Marks)) → info_in o ≡ Some i
       → counted_on rack draining k rs ≡ counted_on rack draining none (listed o) → i.repl ≤ k.live → k.is_spread ≡ true → None ≡ level_by rack draining multi o
   level_soon multi o i k rs e f many spread =
@@ -57,7 +56,7 @@ module _ (rack : ℕ → Option ℕ) (draining : ℕ → Bool) where
       let enough : i.repl ≤ z.live = omega (arith, h.0, many) in
       sym (none_wanted z.live z.drained i.repl multi enough) ∙ sym (ap (λ n. level_of z.live z.drained i.repl n multi) two) ∙ level_known multi o i z e f
 
-  -- more are there than are wanted
+  -- a block with more replicas than are wanted is not settled
   settled_soon : (o : Option Block) (i : BlockInfo) → info_in o ≡ Some i → i.repl < option_map_or (λ (b : Block). length b.replicas) o 0 → false ≡ is_settled_at o
   unfolding is_settled_at
   settled_soon None i e more = absurd (omega (arith, more))
@@ -99,7 +98,7 @@ module _ (rack : ℕ → Option ℕ) (draining : ℕ → Bool) where
       all true = refl
       all false = refl
 
-  -- a count that is as said decides the level
+  -- such a count determines the level
   level_counted : (multi : Bool) (b : Block) (i : BlockInfo) (k : Count) → b.info ≡ Some i → IsCountOf rack draining i.repl b.replicas k
       → level_of k.live k.drained i.repl (racks_of k) multi ≡ level_by rack draining multi (Some b)
   unfolding racks_of
@@ -111,7 +110,7 @@ module _ (rack : ℕ → Option ℕ) (draining : ℕ → Bool) where
             ∙ level_soon multi (Some b) i k h.rest e h.counted soon.1 soon.2
       ]
 
-  -- and whether the block is settled
+  -- such a count determines whether the block is settled
   settled_counted : (b : Block) (i : BlockInfo) (k : Count) → b.info ≡ Some i → IsCountOf rack draining i.repl b.replicas k → (k.is_plain && nat_le (length b.replicas) i.repl) ≡ is_settled_at (Some b)
   settled_counted b i k e h =
       elim h.decided [
@@ -138,7 +137,7 @@ module _ (rack : ℕ → Option ℕ) (draining : ℕ → Bool) where
       let rs = same_Some (map seen_triplet ts) b.replicas is in
       ap (λ m. k.is_plain && nat_le m i.repl) many ∙ settled_counted b i k (sym (same_Some (Some i) b.info info)) (subst (λ xs. IsCountOf rack draining i.repl xs k) rs h)
 
-  -- of an unknown block all replicas are counted
+  -- an unknown block needs a count of all its replicas
   pub unknown_judged : (o : Option Block) (ts : List Triplet) (k : Count) → Some None ≡ option_map (λ (b : Block). b.info) o → Some (map seen_triplet ts) ≡ option_map (λ (b : Block). b.replicas) o
       → IsCountOf rack draining (length ts) (map seen_triplet ts) k → k.is_plain ≡ is_settled_at o
   unknown_judged None ts k info is h = absurd (none-some _ (sym info))

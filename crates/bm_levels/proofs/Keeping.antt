@@ -1,4 +1,4 @@
--- Judging one slot after another.
+-- Classifying one slot after another.
 use Rattle.std.specs.Prelude.{◌≡◌, ◌≢◌, ℕ, zero, suc, Bool, List, [], ◌∷◌, ◌++◌, drop, slice_get, Option, Some}
 use Rattle.std.proofs.Common.{refl, sym, ap, subst, ◌∙◌, inl, inr, ◌⊎◌}
 use Rattle.std.proofs.lemmas.Bool.{cases_eq}
@@ -42,8 +42,8 @@ module _ (rack : ℕ → Option ℕ) (draining : ℕ → Bool) (multi : Bool) wh
   pub judged_as : (o : Option Block) (K : Kept) (slot : ℕ) (j : Judged) → IsKeptAs K slot j → IsJudgedAs rack draining multi o j → IsJudged rack draining multi o K slot
   judged_as o K slot j h g = record { level = h.level ∙ g.level; unsettled = (λ u. sym g.settled ∙ h.unsettled.0 u, λ s. h.unsettled.1 (g.settled ∙ s)) }
 
-  -- where these slots are still to go, of all of them each that has gone is judged, and each other
-  -- slot is as before
+  -- `left` are the slots still to come of `all`: each other one of them is classified, and each
+  -- other slot is as before
   pub IsUnderway : Contents → List ℕ → List ℕ → Kept → Kept → Type 0
   IsUnderway a all left K L = (slot : ℕ) → (Among slot all × IsJudged rack draining multi (block_at a slot) L slot) ⊎ ((Among slot all → Among slot left) × IsSameAt K L slot)
 

@@ -19,7 +19,7 @@ use Rattle.bm_arena.proofs.Held.{get-replicas_of}
 use Rattle.bm_report.proofs.Maps.{get-here, len-out}
 use Rattle.bm_levels.specs.Leaving.{IsLeaving}
 
--- each slot of a list is held
+-- each slot of a list holds a block
 pub held_on : (a : Contents) → IsLawful a → (s slot : ℕ) → Among slot (list_of a s) → IsSome (block_at a slot)
 held_on a lawful s slot there = by (block_at a slot) ((lawful.exact slot s).0 there)
   where
@@ -27,7 +27,7 @@ held_on a lawful s slot there = by (block_at a slot) ((lawful.exact slot s).0 th
     by None h = h
     by (Some b) h = refl
 
--- where the delimiter has no replica on a storage, a number leads to each slot that has one
+-- if the delimiter is not in a storage's list, each slot in it is that of a number
 module _ (a : Contents) (lawful : IsLawful a) (s : ℕ) (free : marks_at a a.delimiter s ≡ None) (slot : ℕ) (there : IsSome (marks_at a slot s)) where
   pub apart_from : slot ≢ a.delimiter
   apart_from at = false≢true (sym (ap is_some free) ∙ ap (λ x. is_some (marks_at a x s)) (sym at) ∙ there)
@@ -39,7 +39,7 @@ module _ (a : Contents) (lawful : IsLawful a) (s : ℕ) (free : marks_at a a.del
       by None e some = absurd (false≢true some)
       by (Some k) e some = (k.id, lawful.known slot k e apart_from)
 
--- no list is longer than there are slots
+-- no list is longer than the number of slots
 pub few_on : (a : Contents) → IsLawful a → (s bound : ℕ) → ((slot : ℕ) → IsSome (block_at a slot) → slot < bound) → length (list_of a s) ≤ bound
 few_on a lawful s bound above = length-distinct_below bound (list_of a s) (lawful.distinct s) (λ slot there. above slot (held_on a lawful s slot there))
 
@@ -54,7 +54,7 @@ leaving_more p a b c m n f g = record {
   count = omega (arith, f.count, g.count);
 }
 
--- one replica was taken out
+-- one replica left
 pub leaving_one : (a b : Contents) (id slot s : ℕ) → slot_of a id ≡ Some slot → IsSome (marks_at a slot s) → KeepsOthers a b slot s → blocks_of b ≡ blocks_of a
     → replicas_of b ≡ remove (replicas_of a) (replica_at id s) → IsLeaving (λ t. t == s) a b 1
 leaving_one a b id slot s here there kept blocks out = record {
@@ -64,11 +64,11 @@ leaving_one a b id slot s here there kept blocks out = record {
   count = let P : Option Marks → Type 0 = λ o. IsSome o in let one = len-out (replicas_of a) (replica_at id s) (subst P (sym (get-here a id slot s here)) there) in let after = ap len out in omega (arith, one, after);
 }
 
--- the same lists, blocks and replicas
+-- no replica left
 pub leaving_same : (p : ℕ → Bool) (a b : Contents) → blocks_of b ≡ blocks_of a → replicas_of b ≡ replicas_of a → ((s : ℕ) → p s ≡ false → list_of b s ≡ list_of a s) → IsLeaving p a b 0
 leaving_same p a b blocks replicas lists = record { blocks = blocks; lists = lists; others = λ q e. ap (λ m. get m q) replicas; count = let e = ap len replicas in omega (arith, e) }
 
--- only lists are others
+-- changing only lists changes neither replicas nor blocks
 pub other_lists : (a b : Contents) {lists : List (ℕ × List ℕ)} → b ≡ record a { lists = lists } → (replicas_of b ≡ replicas_of a) × (blocks_of b ≡ blocks_of a)
 unfolding replicas_of blocks_of
 other_lists a b e = (ap replicas_of e, ap blocks_of e)
@@ -98,7 +98,7 @@ failing false None e = refl
 failing false (Some x) e = refl
 failing true o e = cc
 
--- all have left
+-- all replicas of the storages have left
 module _ (p : ℕ → Bool) (a b : Contents) (n : ℕ) (left : IsLeaving p a b n) (lawful : IsLawful b) (empty : (s : ℕ) → p s ≡ true → list_of b s ≡ []) where
   pub kept_others : replicas_of b ≡ keep (replicas_of a) (λ q _. not (p q.storage))
   kept_others = same_map (replicas_of b) (keep (replicas_of a) (λ q _. not (p q.storage))) (λ q. by q (p q.storage) refl ∙ sym (get-keep (replicas_of a) (λ k _. not (p k.storage)) q))

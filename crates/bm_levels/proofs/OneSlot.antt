@@ -13,11 +13,11 @@ use Rattle.bm_levels.specs.Leveled.{Leveled, IsLeveled, AreLevels}
 use Rattle.bm_levels.specs.LevelsBy.{AreLevelsBy}
 use Rattle.bm_levels.proofs.Judgement.{level_unknown}
 
--- a slot that a number leads to is held
+-- the slot of a number holds a block
 pub held_by : (a : Contents) (slot : ℕ) {id : ℕ} → (slot ≢ a.delimiter) × (b : Block) × (block_at a slot ≡ Some b) × (b.id ≡ id) → IsSome (block_at a slot)
 held_by a slot f = let P : Option Block → Type 0 = λ o. IsSome o in subst P (sym f.2) refl
 
--- what changed: the block at one slot, which is not the delimiter's
+-- only the block at one slot changed, which is not the delimiter's
 pub record IsChangedAt (old new : Contents) (slot : ℕ) : Type 0 where
   pub blocks : (other : ℕ) → other ≢ slot → block_at new other ≡ block_at old other
   pub delimiter : new.delimiter ≡ old.delimiter
@@ -57,7 +57,7 @@ module _ (rack : ℕ → Option ℕ) (draining : ℕ → Bool) (multi : Bool) (o
     | inr differs ↦ (others z differs).level ∙ h z ∙ sym (ap (level_by rack draining multi) (changed.blocks z differs))
   ]
 
--- in a cluster
+-- the same for the levels in a cluster
 module _ (C : Cluster) (old : Leveled) (a : Contents) (K : Kept) (slot : ℕ) (changed : IsChangedAt old.arena a slot)
     (judged : IsJudged (rack_of C) (is_draining C) (is_multi_rack C) (block_at a slot) K slot)
     (others : (other : ℕ) → other ≢ slot → IsSameAt old.kept K other) where

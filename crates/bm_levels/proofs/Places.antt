@@ -1,4 +1,4 @@
--- The storages of a node, one after another of those of the cluster.
+-- Iterating over the storages of a node, by their indexes in the cluster.
 use Rattle.std.specs.Prelude.{◌≡◌, ℕ, suc, ◌+◌, ◌<◌, ◌≤◌, ◌==◌, Bool, true, false, List, [], ◌∷◌, map, length, slice_get, Option, Some, None, is_some, option_map}
 use Rattle.std.specs.Option.{option_map_or}
 use Rattle.std.specs.Ordering.{eq_by_cmp}
@@ -11,7 +11,7 @@ use Rattle.bm_base.specs.State.{Cluster}
 use Rattle.bm_base.specs.Replicas.{node_of, has_storage}
 use Rattle.bm_base.proofs.Maps.{same_key}
 
--- a key that is found has a place
+-- a key that is found has an index
 found_place : {K X : Type 0} (o : Order K) (q : K) (es : List (K × X)) → is_some (find o.cmp q es) ≡ true → (i : ℕ) × (i < length es) × (slice_get (map (λ (e : K × X). e.0) es) i ≡ Some q)
 found_place o q [] h = absurd (false≢true h)
 found_place {K} {X} o q (e ∷ es) h = by (eq_by_cmp o.cmp q e.0) refl h (λ later. found_place o q es later)
@@ -31,7 +31,7 @@ storage_place C n s h = found_place by_number s C.storages.list (by (get C.stora
     by (Some i) e = refl
 
 module _ (C : Cluster) (n : ℕ) (P : ℕ → Type 0) where
-  -- those of the node at the first places have gone
+  -- P holds of the node's storages at the indexes below this one
   abbrev pub HaveGone : ℕ → Type 0
   HaveGone place = (i s : ℕ) → i < place → slice_get (keys C.storages) i ≡ Some s → has_storage C n s ≡ true → P s
 

@@ -1,4 +1,4 @@
--- Where a report was made ready, or was not after all, nothing that is held changes.
+-- Preparing a report changes neither blocks nor replicas, whether it is then ready or aborted.
 use Rattle.std.specs.Prelude.{◌≡◌, ◌≢◌, ℕ, ◌+◌, Bool, true, false, not, ◌&&◌, ◌==◌, if◌then◌else◌, List, [], ◌∷◌, length, Option, Some, None, IsSome, IsSomeAnd, IsTrue, is_some, option_and_then}
 use Rattle.std.specs.Option.{option_map_or}
 use Rattle.std.proofs.Common.{refl, sym, ap, subst, ◌∙◌, inl, inr, ◌⊎◌, arith}
@@ -23,12 +23,12 @@ use Rattle.bm_levels.specs.Leveled.{Leveled, IsLeveled, AreLevels}
 use Rattle.bm_levels.proofs.Judgement.{level_unknown}
 use Rattle.bm_levels.proofs.ManySlots.{no_replicas, marker_settled}
 
--- nothing is known of the block at a slot, and it has no replica, or there is none
+-- a slot has no known block and no replica
 pub record IsBareAt (o : Option Block) : Type 0 where
   pub info : option_and_then (λ (b : Block). b.info) o ≡ None
   pub marks : (t : ℕ) → option_and_then (λ (b : Block). find_marks b.replicas t) o ≡ None
 
--- two slots hold the same but for room, or neither holds anything
+-- two slots hold the same but for capacity, or both hold nothing
 abbrev pub AreAlike : Option Block → Option Block → Type 0
 AreAlike o p = ((k : Block) × (room : ℕ) × (p ≡ Some k) × (o ≡ Some (with_room room k))) ⊎ (IsBareAt o × IsBareAt p)
 
@@ -68,8 +68,8 @@ module _ (old : Leveled) (a : Contents) (K : Kept) (alike : (slot : ℕ) → Are
   pub levels_alike : (C : Cluster) → AreLevels C old → AreLevels C (record { arena = a; kept = K })
   levels_alike C h z = (same z).level ∙ h z ∙ sym (alike_level C (block_at a z) (block_at old.arena z) (alike z))
 
--- made ready: a slot that was held is as before but for room, and one that was not holds an entry
--- with nothing at most
+-- after preparing, a slot that held an entry is as before but for capacity, and any other slot is
+-- empty or has an unused entry
 module _ (a c : Contents) (lawful_a : IsLawful a) (lawful_c : IsLawful c) (prepared : IsPrepared a c) where
   held_there : (slot : ℕ) (k : Block) → block_at a slot ≡ Some k → AreAlike (block_at c slot) (block_at a slot)
   held_there slot k e = inl (k, room_at c slot, e, prepared.entries slot k e)
@@ -118,7 +118,7 @@ module _ (a c : Contents) (lawful_a : IsLawful a) (lawful_c : IsLawful c) (prepa
       by None e = inr (vacant_there slot e, none_bare (block_at a slot) e)
       by (Some k) e = held_there slot k e
 
-  -- and given up again, where all numbers that are new are named
+  -- the report is aborted, and names all new numbers
   module _ (d : Contents) (lawful_d : IsLawful d) (named : ℕ → Bool) (delimiter : d.delimiter ≡ c.delimiter) (marker : block_at d d.delimiter ≡ block_at c c.delimiter)
       (numbers : (b : ℕ) → slot_of d b ≡ (if named b && is_bare_number c b then None else slot_of c b)) (entries : (b slot : ℕ) → slot_of d b ≡ Some slot → block_at d slot ≡ block_at c slot)
       (fresh : (b : ℕ) → slot_of a b ≡ None → IsSome (slot_of c b) → named b ≡ true) where
@@ -177,7 +177,7 @@ module _ (a c : Contents) (lawful_a : IsLawful a) (lawful_c : IsLawful c) (prepa
         by differs None e None f = inr (none_bare (block_at d slot) e, none_bare (block_at a slot) f)
         by differs None e (Some k) f = inr (none_bare (block_at d slot) e, gone differs e k f)
 
-    -- what is held was held before
+    -- a slot that holds a block after the abort held one before
     pub held_before : (slot : ℕ) → IsSome (block_at d slot) → IsSome (block_at a slot)
     held_before slot there = elim (cases_eq slot d.delimiter) [
       | inl same ↦ let P : ℕ → Type 0 = λ x. IsSome (block_at a x) in subst P (sym (same ∙ delimiter ∙ prepared.delimiter)) lawful_a.marker
@@ -212,7 +212,7 @@ module _ (a c : Contents) (lawful_a : IsLawful a) (lawful_c : IsLawful c) (prepa
         by differs (Some k) e there = was k.id k (lawful_d.known slot k e differs) (slot_of a k.id) refl
         by differs None e there = absurd (false≢true (sym (ap is_some e) ∙ there))
 
-    -- so what holds of the levels holds again, where more slots may have room
+    -- the invariant and the levels hold again, with capacity for more slots
     module _ (k K : Kept) (same : (slot : ℕ) → IsSameAt k K slot) where
       pub leveled_again : KeepsRoom k K → IsLeveled (record { arena = a; kept = k }) → IsLeveled (record { arena = d; kept = K })
       leveled_again room h = leveled_alike (record { arena = a; kept = k }) d K alike_again (delimiter ∙ prepared.delimiter) same h (λ z there. room (z + 1) (h.room z (held_before z there)))
@@ -220,7 +220,7 @@ module _ (a c : Contents) (lawful_a : IsLawful a) (lawful_c : IsLawful c) (prepa
       pub levels_again : (C : Cluster) → AreLevels C (record { arena = a; kept = k }) → AreLevels C (record { arena = d; kept = K })
       levels_again = levels_alike (record { arena = a; kept = k }) d K alike_again (delimiter ∙ prepared.delimiter) same
 
--- the entry of a number with neither a block nor a replica has no replica
+-- an unused entry has no replica
 pub bare_there : (a : Contents) (b slot : ℕ) → IsLawful a → slot_of a b ≡ Some slot → IsBare a b → IsSomeAnd (block_at a slot) (λ (k : Block). k.replicas ≡ [])
 bare_there a b slot lawful at bare =
     let found = lawful.found b slot at in
@@ -228,6 +228,6 @@ bare_there a b slot lawful at bare =
     let P : Option Block → Type 0 = λ o. IsSomeAnd o (λ (k : Block). k.replicas ≡ []) in
     subst P (sym found.2) none
 
--- an arena has no number that it has not
+-- a number that has a slot is not new
 pub none_fresh : (a : Contents) (named : ℕ → Bool) (b : ℕ) → slot_of a b ≡ None → IsSome (slot_of a b) → IsTrue (named b)
 none_fresh a named b none some = absurd (let P : Option ℕ → Type 0 = λ o. IsSome o in false≢true (subst P none some))

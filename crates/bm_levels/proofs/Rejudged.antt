@@ -21,7 +21,7 @@ use Rattle.bm_levels.proofs.Judgement.{level_unknown}
 use Rattle.bm_levels.proofs.OneSlot.{held_by}
 
 module _ (rack : ℕ → Option ℕ) (draining : ℕ → Bool) (multi : Bool) (old : Leveled) (K : Kept) where
-  -- what holds between calls holds again
+  -- the invariant holds again
   pub leveled_anew : ((slot : ℕ) → IsJudged rack draining multi (block_at old.arena slot) K slot ⊎ IsSameAt old.kept K slot) → IsLeveled old → ((bound : ℕ) → HasRoomFor old.kept bound → HasRoomFor K bound)
       → IsLeveled (record { arena = old.arena; kept = K })
   leveled_anew each h room = record {
@@ -32,13 +32,13 @@ module _ (rack : ℕ → Option ℕ) (draining : ℕ → Bool) (multi : Bool) (o
     unknown = λ z e. elim (each z) [ inl judged ↦ judged.level ∙ sym (level_unknown rack draining multi (block_at old.arena z) e) | inr same ↦ same.level ∙ h.unknown z e ];
   }
 
-  -- each slot is judged, or its level is the same by both
+  -- each slot is reclassified, or its level does not depend on the change
   pub levels_anew : (rack' : ℕ → Option ℕ) (draining' : ℕ → Bool) (multi' : Bool)
       → ((slot : ℕ) → IsJudged rack draining multi (block_at old.arena slot) K slot ⊎ (IsSameAt old.kept K slot × (level_by rack' draining' multi' (block_at old.arena slot) ≡ level_by rack draining multi (block_at old.arena slot))))
       → AreLevelsBy rack' draining' multi' old → AreLevelsBy rack draining multi (record { arena = old.arena; kept = K })
   levels_anew rack' draining' multi' each h slot = elim (each slot) [ inl judged ↦ judged.level | inr same ↦ same.0.level ∙ h slot ∙ same.1 ]
 
--- the slot of a number is one of those to which numbers lead
+-- the slot of a number is one of the slots to which numbers lead
 led_among : (ps : List (ℕ × ℕ)) (id slot : ℕ) → lookup (nat_eq id) ps ≡ Some slot → Among slot (map (λ (p : ℕ × ℕ). p.1) ps)
 led_among [] id slot e = cc
 led_among (p ∷ ps) id slot e = by (nat_eq id p.0) e (λ later. led_among ps id slot later)
@@ -52,13 +52,13 @@ led_place [] slot h = absurd h
 led_place (p ∷ ps) slot (inl same) = (0, p.0, ap (λ x. Some (p.0, x)) (sym same))
 led_place (p ∷ ps) slot (inr later) = let k = led_place ps slot later in (suc k.0, k.1, k.2)
 
--- and each of those is held
+-- each slot to which a number leads holds a block
 pub led_held : (a : Contents) → IsLawful a → (slot : ℕ) → Among slot (slots_led a) → IsSome (block_at a slot)
 led_held a lawful slot there =
     let k = led_place a.ids slot there in
     held_by a slot (lawful.found k.1 slot (lookup_from_place nat_eq_equiv a.ids k.0 k.1 slot lawful.each k.2))
 
--- any other slot has no known block
+-- no other slot has a known block
 pub led_unless : (v : Leveled) → IsLawful v.arena → IsLeveled v → (slot : ℕ) → (Among slot (slots_led v.arena) → ⊥) → info_at v.arena slot ≡ None
 led_unless v lawful h slot absent = elim (cases_eq slot v.arena.delimiter) [
   | inl same ↦ ap (info_at v.arena) same ∙ h.blank
@@ -69,8 +69,8 @@ led_unless v lawful h slot absent = elim (cases_eq slot v.arena.delimiter) [
     by differs None e = ap (option_and_then (λ (b : Block). b.info)) e
     by differs (Some k) e = absurd (absent (led_among v.arena.ids k.id slot (lawful.known slot k e differs)))
 
--- all slots to which numbers lead are judged, where the alive nodes stand on two racks or more, or
--- do not
+-- all slots to which numbers lead are reclassified, for a given answer to whether the alive nodes
+-- are on two racks or more
 module _ (C : Cluster) (multi : Bool) (old : Leveled) (K : Kept)
     (judged : (slot : ℕ) → Among slot (slots_led old.arena) → IsJudged (rack_of C) (drains_then C None) multi (block_at old.arena slot) K slot)
     (others : (slot : ℕ) → (Among slot (slots_led old.arena) → ⊥) → IsSameAt old.kept K slot) where

@@ -1,7 +1,7 @@
--- What is held after the change of one block or of one replica, in words of maps.
---     remove_absent         nothing leaves where no value is
---     known_revised         a block is known with what a change makes of what was known of it
---     block_absent, replica_absent, replicas_absent      of a number with no entry nothing is held
+-- The maps of blocks and of replicas after the change of one block or of one replica.
+--     remove_absent         nothing is removed without a value
+--     known_revised         a known block has its information changed
+--     block_absent, replica_absent, replicas_absent      a number without an entry holds nothing
 --     entry_left            a number keeps an entry only with a replica
 use Rattle.std.specs.Prelude.{◌≡◌, ℕ, Bool, true, false, ◌==◌, if◌then◌else◌, List, [], ◌∷◌, Option, Some, None, is_some, option_map, option_and_then}
 use Rattle.std.specs.Ordering.{eq_by_cmp}
@@ -29,7 +29,7 @@ module _ {K X : Type 0} {o : Order K} (m : Map o X) (k : K) where
       by q true e = ap (get m) (same_key o q k e) ∙ none ∙ sym (ap (λ t. cond t None (get m q)) e)
       by q false e = sym (ap (λ t. cond t None (get m q)) e)
 
-  -- what a change makes of the value that is there was put
+  -- inserting a changed value at its key is revising the map there
   pub put_changed : (f : X → X) (x : X) → get m k ≡ Some x → insert m k (f x) ≡ revise_at m k f
   put_changed f x is = insert_there m k (f x) (ap is_some is) ∙ same_change m k (λ _. f x) f (ap (option_map (λ _. f x)) is ∙ sym (ap (option_map f) is))
 
@@ -40,7 +40,7 @@ known_revised m b f = by (get m b) refl
     by None e = sym (remove_absent m b e) ∙ no_change m b f e
     by (Some x) e = put_changed m b f x e
 
--- what is known at the slot of a number
+-- the information on a block is that at the slot of its number
 pub known_at : (a : Contents) (b slot : ℕ) → slot_of a b ≡ Some slot → get (blocks_of a) b ≡ info_at a slot
 known_at a b slot here = get-blocks_of a b ∙ ap (λ o. option_and_then (λ x. info_at a x) o) here
 
@@ -50,8 +50,7 @@ block_absent a b none = get-blocks_of a b ∙ ap (λ o. option_and_then (λ x. i
 pub replica_absent : (a : Contents) (b s : ℕ) → slot_of a b ≡ None → get (replicas_of a) (replica_at b s) ≡ None
 replica_absent a b s none = get-replicas_of a (replica_at b s) ∙ ap (λ o. option_and_then (λ x. marks_at a x s) o) none
 
--- no replica is changed where none of the block is there, also where the change depends on the
--- storage
+-- a change of a block without a replica changes no replica, even if it depends on the storage
 pub replicas_absent_by : (a : Contents) (b : ℕ) (f : ℕ → Marks → Marks) → slot_of a b ≡ None → replicas_of a ≡ revise (replicas_of a) (λ q m. if q.block == b then f q.storage m else m)
 replicas_absent_by a b f none =
     same_map (replicas_of a) (revise (replicas_of a) (λ q m. if q.block == b then f q.storage m else m)) (λ q.
@@ -70,7 +69,7 @@ replicas_absent_by a b f none =
 pub replicas_absent : (a : Contents) (b : ℕ) (f : Marks → Marks) → slot_of a b ≡ None → replicas_of a ≡ revise (replicas_of a) (λ q m. if q.block == b then f m else m)
 replicas_absent a b f none = replicas_absent_by a b (λ s m. f m) none
 
--- A number keeps an entry only with a replica, where its entry is dropped once it has none.
+-- A number keeps an entry only with a replica if its entry is dropped with the last one.
 pub entry_left : (b c : Contents) (id slot : ℕ) → slot_of b id ≡ Some slot → replicas_of c ≡ replicas_of b → (replicas_at b slot ≡ [] → slot_of c id ≡ None)
     → (z : ℕ) → slot_of c id ≡ Some z → replicas_at c z ≡ [] → ⊥
 entry_left b c id slot here same gone z led empty = by (replicas_at b slot) refl

@@ -1,7 +1,7 @@
--- What is held once a round has dropped and set marks of excess at unsettled slots.
---     begun_replicas         marks of excess are dropped at unsettled slots, and so everywhere
---     none_marked            no replica of a settled block is one too many
---     marked_replicas        the replicas that are too many are those that the round marks
+-- The replicas after a round has dropped and set marks of excess at unsettled slots.
+--     begun_replicas         dropping marks of excess at unsettled slots drops all of them
+--     none_marked            a settled block has no surplus
+--     marked_replicas        marking the surplus replicas marks what the round marks
 use Rattle.std.specs.Prelude.{◌≡◌, ℕ, Bool, true, false, ◌&&◌, ◌||◌, ◌==◌, if◌then◌else◌, List, [], ◌∷◌, map, filter, nat_eq, Option, Some, None, option_map, option_and_then}
 use Rattle.std.specs.List.{list_any}
 use Rattle.std.specs.Map.{lookup}
@@ -31,7 +31,7 @@ use Rattle.bm_levels.specs.Changes.{as_excess, all_changed, has_replica, has_blo
 use Rattle.bm_levels.proofs.Settled.{all_plain_at, few_at}
 use Rattle.bm_levels.proofs.AllMarks.{found_changed, marks_listed}
 
--- the block of a number whose slot is settled
+-- the number of a settled slot
 module _ (a : Contents) (lawful : IsLawful a) (b slot : ℕ) (here : slot_of a b ≡ Some slot) (settled : is_settled_at (block_at a slot) ≡ true) where
   stands : (k : Block) × (block_at a slot ≡ Some k)
   stands = let f = lawful.found b slot here in (f.1, f.2)
@@ -80,7 +80,7 @@ module _ (a c : Contents) (unsettled : List ℕ) (lawful : IsLawful a) (ids : c.
       by q None e = refl
       by q (Some x) e = begun_at q.block x q.storage e
 
--- which replicas are too many
+-- The surplus replicas.
 chosen : {X Y : Type 0} (p : X → Bool) (g : X → Y) (f : Y → Bool) (xs : List X) → list_any f (map g (filter p xs)) ≡ list_any (λ x. p x && f (g x)) xs
 chosen p g f [] = refl
 chosen p g f (x ∷ xs) =
@@ -95,7 +95,7 @@ both_ways false true f g = g refl
 both_ways false false f g = refl
 
 module _ (C : Cluster) (G : Holdings) where
-  -- a replica that is there is of them just where it is one too many of its block
+  -- a replica is in the surplus exactly if it is in that of its block
   pub listed_surplus : (q : ReplicaId) (m : Marks) → get G.replicas q ≡ Some m → has_replica (surplus C G) q ≡ has (excess_in C G q.block) q.storage
   unfolding surplus has_replica
   listed_surplus q m there =
@@ -117,7 +117,7 @@ module _ (C : Cluster) (G : Holdings) where
       passes : ReplicaId × Marks → Bool
       passes e = too_many e && ((e.0.storage == q.storage) && (e.0.block == q.block))
 
-  -- none is of a block of which none is too many
+  -- no surplus replica is of a block without surplus
   pub no_surplus : (b : ℕ) → excess_in C G b ≡ [] → has_block (surplus C G) b ≡ false
   unfolding surplus has_block
   no_surplus b none = elim (cases_Bool (list_any (λ (p : ReplicaId). p.block == b) (map key (filter too_many (entries G.replicas))))) [
@@ -147,7 +147,7 @@ module _ (C : Cluster) (G : Holdings) where
       by q None e = refl
       by q (Some m) e = ap (λ t. Some (if t then as_excess m else m)) (listed_surplus q m e)
 
--- no replica of a settled block is one too many as a round begins
+-- a settled block has no surplus as a round begins
 pub none_marked : (C : Cluster) (H : Holdings) (b : ℕ) → IsSettled H b → excess_in C (without_unordered_excess H) b ≡ []
 unfolding excess_in storages_where without_unordered_excess without_expired
 none_marked C H b settled = (settled_is_left C 0 0 H b settled).0

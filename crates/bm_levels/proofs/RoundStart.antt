@@ -1,4 +1,4 @@
--- As a round begins: what is held after its marks.
+-- Blocks, replicas and status after a round's first marks.
 use Rattle.std.specs.Prelude.{◌≡◌, ℕ, ◌+◌, true, false, if◌then◌else◌, List, Option, Some, None, IsSome, nat_eq, option_and_then}
 use Rattle.std.specs.Map.{lookup}
 use Rattle.std.proofs.Common.{refl, sym, ap, ◌∙◌, inl, inr}
@@ -21,24 +21,24 @@ use Rattle.bm_levels.proofs.ManySlots.{known_info, marker_settled}
 use Rattle.bm_levels.proofs.OneSlot.{IsChangedAt}
 use Rattle.bm_levels.proofs.RoundMarks.{settled_block, begun_replicas, no_surplus, marked_replicas, none_marked}
 
--- a slot that is not settled is held
+-- an unsettled slot holds a block
 pub unsettled_held : (o : Option Block) → is_settled_at o ≡ false → IsSome o
 unfolding is_settled_at
 unsettled_held None e = absurd (true≢false e)
 unsettled_held (Some b) e = refl
 
--- the known blocks are of the entries
+-- a change that keeps the entries keeps the known blocks
 pub entries_blocks : (a c : Contents) → KeepsEntries a c → blocks_of c ≡ blocks_of a
 entries_blocks a c keeps =
     same_blocks a c (λ b.
     ap (λ l. option_and_then (λ x. info_at c x) (lookup (nat_eq b) l)) keeps.ids
     ∙ under (λ x. info_at c x) (λ x. info_at a x) (slot_of a b) (λ x. known_info (block_at c x) (block_at a x) (keeps.known x)))
 
--- there is room for each slot that is judged
+-- there is capacity for each unsettled slot
 pub start_room : (old : Leveled) → IsLeveled old → (slot : ℕ) → IsUnsettled old.kept slot → HasRoomFor old.kept (slot + 1)
 start_room old h slot there = h.room slot (unsettled_held (block_at old.arena slot) ((h.unsettled slot).0 there))
 
--- an unsettled slot is not the delimiter's, and is held
+-- an unsettled slot holds a block and is not the delimiter's
 pub changed_there : (old : Leveled) → IsLeveled old → (a : Contents) (slot : ℕ) → IsUnsettled old.kept slot → KeepsAllBut slot old.arena a → IsChangedAt old.arena a slot
 changed_there old h a slot there rest =
     let marker = old.arena.delimiter in
@@ -50,7 +50,7 @@ changed_there old h a slot there rest =
       held = unsettled_held (block_at old.arena slot) unsettled;
     }
 
--- what a round's marks make of an arena: marks of excess anew, and no change at settled slots
+-- a round's marks set the marks of excess again, and change nothing at settled slots
 pub record IsStarted (C : Cluster) (old : Leveled) (c : Contents) : Type 0 where
   pub replicas : replicas_of c ≡ (marked C (without_unordered_excess (holdings_of old.arena))).replicas
   pub blocks : blocks_of c ≡ blocks_of old.arena

@@ -14,12 +14,12 @@ use Rattle.bm_report.proofs.Underway.{drop_next}
 abbrev listed : Option Block → List (ℕ × Marks)
 listed o = option_map_or (λ (b : Block). b.replicas) o []
 
--- the replica at a place is the next of those from it on
+-- the replica at an index is the first of those from it on
 pub next_at : (o : Option Block) (i : ℕ) (r : ℕ × Marks) → option_and_then (λ (b : Block). slice_get b.replicas i) o ≡ Some r → drop i (listed o) ≡ r ∷ drop (i + 1) (listed o)
 next_at None i r e = cc
 next_at (Some b) i r e = drop_next b.replicas i r e ∙ (let same : suc i ≡ i + 1 = omega arith in ap (λ k. r ∷ drop k b.replicas) same)
 
--- there is one at each place below their count
+-- there is a replica at each index below their number
 pub none_at : (o : Option Block) (i : ℕ) → option_and_then (λ (b : Block). slice_get b.replicas i) o ≡ None → i < option_map_or (λ (b : Block). length b.replicas) o 0 → ⊥
 none_at None i e lt = omega (arith, lt)
 none_at (Some b) i e lt =
@@ -31,22 +31,22 @@ none_at (Some b) i e lt =
     sure : {X : Type 0} {x : X} → Some x ≡ None → ⊥
     sure e = cc
 
--- none from their count on
+-- there is no replica from their number on
 pub end_at : (o : Option Block) (i : ℕ) → option_map_or (λ (b : Block). length b.replicas) o 0 ≤ i → drop i (listed o) ≡ []
 end_at None i h = drop_of_length-le {A = ℕ × Marks} [] (omega arith)
 end_at (Some b) i h = drop_of_length-le b.replicas h
 
--- the triplet at a place is the next of those from it on, as they are seen
+-- the triplet at an index is the first of those from it on, as seen
 pub next_triplet : (ts : List Triplet) (i : ℕ) (t : Triplet) → i < length ts → t ≡ get_or ts i t → drop i (map seen_triplet ts) ≡ seen_triplet t ∷ drop (i + 1) (map seen_triplet ts)
 next_triplet ts i t below read =
     drop_next (map seen_triplet ts) i (seen_triplet t) (slice_get-map seen_triplet ts i ∙ ap (option_map seen_triplet) (slice_get_read ts (length ts) i t refl below read))
     ∙ (let same : suc i ≡ i + 1 = omega arith in ap (λ k. seen_triplet t ∷ drop k (map seen_triplet ts)) same)
 
--- none from their count on, as they are seen
+-- there is no triplet from their number on, as seen
 pub end_triplets : (ts : List Triplet) (i : ℕ) → length ts ≤ i → drop i (map seen_triplet ts) ≡ []
 end_triplets ts i h = drop_of_length-le (map seen_triplet ts) (let same = length-map ts seen_triplet in omega (arith, h, same))
 
--- the slot at a place of those to which numbers lead
+-- the slot at an index is the first of those from it on, among those to which numbers lead
 pub led_next : (a : Contents) (i slot : ℕ) → Some slot ≡ option_map (λ (p : ℕ × ℕ). p.1) (slice_get a.ids i) → drop i (slots_led a) ≡ slot ∷ drop (i + 1) (slots_led a)
 led_next a i slot e =
     drop_next (slots_led a) i slot (slice_get-map (λ (p : ℕ × ℕ). p.1) a.ids i ∙ sym e) ∙ (let same : suc i ≡ i + 1 = omega arith in ap (λ k. slot ∷ drop k (slots_led a)) same)

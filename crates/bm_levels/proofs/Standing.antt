@@ -26,7 +26,7 @@ use Rattle.bm_levels.specs.LevelsBy.{AreLevelsBy, IsSameForHeld}
 use Rattle.bm_levels.proofs.Agreeing.{levels_agree}
 use Rattle.bm_levels.proofs.Leaving.{led_by}
 
--- what holds of each storage on which marks are found holds of each replica
+-- a property of each storage with marks holds of each replica's storage
 pub each_found : (P : ℕ → Type 0) (rs : List (ℕ × Marks)) → ((s : ℕ) → IsSome (find_marks rs s) → P s) → Each (λ (r : ℕ × Marks). P r.0) rs
 each_found P [] h = tt
 each_found P (r ∷ rs) h = (
@@ -39,7 +39,7 @@ each_found P (r ∷ rs) h = (
     later false o there = there
 
 module _ (rack rack' : ℕ → Option ℕ) (draining draining' : ℕ → Bool) (multi : Bool) where
-  -- storages that stand alike
+  -- both agree on the rack of a storage and on whether it drains
   abbrev pub Alike : ℕ → Type 0
   Alike s = (rack s ≡ rack' s) × (draining s ≡ draining' s)
 
@@ -48,11 +48,11 @@ module _ (rack rack' : ℕ → Option ℕ) (draining draining' : ℕ → Bool) (
   level_alike None h = refl
   level_alike (Some k) h = levels_agree rack rack' draining draining' multi k (each_then (λ (r : ℕ × Marks). Alike r.0) _ k.replicas (each_found Alike k.replicas h) (λ r same usable. same))
 
-  -- in all of an arena
+  -- the same for all levels of an arena
   pub levels_alike : (v : Leveled) → ((slot s : ℕ) → IsSome (marks_at v.arena slot s) → Alike s) → AreLevelsBy rack draining multi v → AreLevelsBy rack' draining' multi v
   levels_alike v h g slot = g slot ∙ level_alike (block_at v.arena slot) (h slot)
 
-  -- where storages that do not stand alike have empty lists
+  -- the same if the storages on which they disagree have empty lists
   pub levels_elsewhere : (v : Leveled) (left : ℕ → Bool) → IsLawful v.arena → ((s : ℕ) → left s ≡ true → list_of v.arena s ≡ []) → ((s : ℕ) → left s ≡ false → Alike s)
       → AreLevelsBy rack draining multi v → AreLevelsBy rack' draining' multi v
   levels_elsewhere v left lawful empty h = levels_alike v (λ slot s there. by slot s there (left s) refl)
@@ -61,17 +61,17 @@ module _ (rack rack' : ℕ → Option ℕ) (draining draining' : ℕ → Bool) (
       by slot s there true e = absurd (let P : List ℕ → Type 0 = λ l. Among slot l in subst P (empty s e) ((lawful.exact slot s).1 there))
       by slot s there false e = h s e
 
--- a cluster that stays as it is
+-- levels in a cluster that does not change
 pub still_levels : (C D : Cluster) (t : Option Turning) (multi : Bool) (v : Leveled) → D ≡ C → t ≡ None → multi ≡ is_multi_rack C → AreLevels C v → AreLevelsBy (rack_of D) (drains_then D t) multi v
 unfolding drains_then
 still_levels C D t multi v e f g h slot = h slot ∙ sym (λ i. level_by (rack_of (e i)) (drains_then (e i) (f i)) (g i) (block_at v.arena slot))
 
--- the same, where the alive nodes may come to stand on two racks or no longer do
+-- the same if whether the alive nodes are on two racks or more may change
 pub still_by : (C D : Cluster) (t : Option Turning) (multi m : Bool) (v : Leveled) → D ≡ C → t ≡ None → m ≡ multi → AreLevelsBy (rack_of D) (drains_then D t) m v → AreLevelsBy (rack_of C) (is_draining C) multi v
 unfolding drains_then
 still_by C D t multi m v e f g h slot = h slot ∙ (λ i. level_by (rack_of (e i)) (drains_then (e i) (f i)) (g i) (block_at v.arena slot))
 
--- Clusters that differ for no replica that is held.
+-- Clusters that agree on all replicas.
 
 -- a slot with a replica is that of a number
 pub led_to : (v : Leveled) → IsLawful v.arena → IsLeveled v → (slot s : ℕ) → IsSome (marks_at v.arena slot s) → (id : ℕ) × (slot_of v.arena id ≡ Some slot)
@@ -87,14 +87,14 @@ module _ (C D : Cluster) (v : Leveled) (lawful : IsLawful v.arena) (leveled : Is
   pub levels_for_held : AreLevelsBy (rack_of C) (is_draining C) (is_multi_rack D) v → AreLevels D v
   levels_for_held = levels_alike (rack_of C) (rack_of D) (is_draining C) (is_draining D) (is_multi_rack D) v stands
 
--- a heartbeat leaves all levels
+-- a heartbeat keeps all levels
 pub heartbeat_leaves : (C : Cluster) (rs : List Remaining) (v : Leveled) → AreLevels C v → AreLevels (heartbeat C rs) v
 heartbeat_leaves C rs v h slot =
     let law = heartbeat_leaves_racks C rs in
     h slot ∙ ap (λ m. level_by (rack_of C) (is_draining C) m (block_at v.arena slot)) (sym law.2)
     ∙ level_alike (rack_of C) (rack_of (heartbeat C rs)) (is_draining C) (is_draining (heartbeat C rs)) (is_multi_rack (heartbeat C rs)) (block_at v.arena slot) (λ s _. (sym (law.0 s), sym (law.1 s)))
 
--- a new node changes nothing for the replicas that are held
+-- a new node changes nothing for the stored replicas
 pub register_is_same : (C : Cluster) (n rack : ℕ) (ss : List ℕ) (a : Contents) → contains_key C.nodes n ≡ false → list_any (knows_storage C) ss ≡ false → IsRacked C (holdings_of a)
     → IsSameForHeld C (register C n rack ss) a
 unfolding holdings_of

@@ -1,4 +1,4 @@
--- The first replicas of a storage's list are taken out, one after another.
+-- Unlinking the first replicas of a storage's list, one after another.
 use Rattle.std.specs.Prelude.{◌≡◌, ◌≢◌, ℕ, ◌+◌, ◌==◌, Bool, List, ◌∷◌, ◌++◌, Option, Some, None, IsSome, option_and_then}
 use Rattle.std.proofs.Common.{cond, refl, sym, ap, subst, ◌∙◌, inl, inr, ◌⊎◌}
 use Rattle.std.proofs.lemmas.Bool.{cases_eq, eq-eqb}
@@ -20,8 +20,7 @@ use Rattle.bm_levels.proofs.Leaving.{apart_from, led_by, leaving_none, leaving_o
 use Rattle.bm_levels.proofs.ManySlots.{leveled_many, levels_many}
 use Rattle.bm_levels.proofs.Bare.{heads_unlinked, bare_held, bare_elsewhere, some_before, same_numbers}
 
--- of all these slots, the first of the list of a storage in a, so many have gone in b, and these
--- are left
+-- `all` are the first slots of a storage's list in a; n of them have left in b, and `left` remain
 pub record AreUnlinked (s : ℕ) (all left : List ℕ) (a b : Contents) (n : ℕ) : Type 0 where
   pub leaving : IsLeaving (λ t. t == s) a b n
   pub list : (rest : List ℕ) → list_of a s ≡ all ++ rest → list_of b s ≡ left ++ rest
@@ -46,7 +45,7 @@ unlinked_none s all a free lawful = record {
   lawful = lawful;
 }
 
--- one more goes
+-- one more leaves
 module _ (s : ℕ) (all left rest : List ℕ) (a b : Contents) (n x : ℕ) (h : AreUnlinked s all (x ∷ left) a b n) (first : list_of a s ≡ all ++ rest) where
   here : list_of b s ≡ x ∷ (left ++ rest)
   here = h.list rest first
@@ -83,12 +82,12 @@ module _ (s : ℕ) (all left rest : List ℕ) (a b : Contents) (n x : ℕ) (h : 
           lawful = lawful;
         }
 
--- some of the first slots of a list
+-- the first slots of a list are in the list
 pub listed_in : (l slots rest : List ℕ) → l ≡ slots ++ rest → (slot : ℕ) → Among slot slots → Among slot l
 listed_in l slots rest e slot there = let P : List ℕ → Type 0 = λ l. Among slot l in subst P (sym e) (Among-left slot slots rest there)
 
--- The blocks at the first slots of a list are judged anew after their replicas have gone: all that
--- holds between calls holds again.
+-- If the blocks at the first slots of a list are reclassified after their replicas have left, the
+-- invariant holds again.
 module _ (rack : ℕ → Option ℕ) (draining : ℕ → Bool) (multi : Bool) (old : Leveled) (a : Contents) (K : Kept) (s : ℕ) (slots rest : List ℕ) (first : list_of old.arena s ≡ slots ++ rest)
     (lawful : IsLawful old.arena) (leveled : IsLeveled old)
     (others : (slot : ℕ) → (Among slot slots → ⊥) → block_at a slot ≡ block_at old.arena slot) (known : (slot : ℕ) → known_of (block_at a slot) ≡ known_of (block_at old.arena slot))
@@ -110,8 +109,7 @@ module _ (rack : ℕ → Option ℕ) (draining : ℕ → Bool) (multi : Bool) (o
   pub levels_first : AreLevelsBy rack draining multi old → AreLevelsBy rack draining multi (record { arena = a; kept = K })
   levels_first = levels_many rack draining multi old a K delimiter free known each (same old.arena.delimiter no_marker) leveled
 
--- The entries at these slots that are bare have gone, and before them the blocks at these slots
--- alone changed.
+-- Only the blocks at these slots change before their unused entries are dropped.
 pub bare_taken : (a m c : Contents) (slots : List ℕ) → m.ids ≡ a.ids → ((slot : ℕ) → (Among slot slots → ⊥) → block_at m slot ≡ block_at a slot) → KeepsSlots m c → blocks_of c ≡ blocks_of m
     → replicas_of c ≡ replicas_of m → HasNoneBareAt slots m c → MakesNoneBare a c
 bare_taken a m c slots ids others kept blocks replicas none b bare =

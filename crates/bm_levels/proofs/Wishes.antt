@@ -37,7 +37,7 @@ module _ (K : Kept) (listed : (l : Level) → AreSlotsAt K l (slots_at K l)) whe
   wishing slot None at wishes = absurd (true≢false (sym wishes))
   wishing slot (Some l) at wishes = in_list slot l at wishes
 
-  -- one of the four levels
+  -- such a slot has one of the four levels
   level_in : (slot : ℕ) → Among slot (wishing_slots K)
       → (level_of_slot K slot ≡ Some Highest) ⊎ ((level_of_slot K slot ≡ Some VeryUnderReplicated) ⊎ ((level_of_slot K slot ≡ Some UnderReplicated) ⊎ (level_of_slot K slot ≡ Some BadlyDistributed)))
   level_in slot h =

@@ -1,4 +1,4 @@
--- The cluster after an event: levels and statuses by it.
+-- Levels and statuses in the cluster after an event.
 use Rattle.std.specs.Prelude.{◌≡◌, ◌⊎◌, ℕ, Bool, List, Option, Some, slice_get, slice_index_or}
 use Rattle.bm_base.specs.declared.level.Level.{Level}
 use Rattle.bm_base.specs.SlotLists.{Among}
@@ -12,8 +12,8 @@ use Rattle.bm_levels.specs.Kept.{Kept, IsJudged, IsJudgedAs, IsSameAt}
 use Rattle.bm_levels.specs.Leveled.{Leveled}
 use Rattle.bm_levels.specs.LevelsBy.{AreLevelsBy, IsOff}
 
--- the rack of a storage, whether it is on a node that drains after the event, and whether it is one
--- of a node
+-- the rack of a storage, whether it is on a node that drains after the event, and whether it is on
+-- a given node
 abbrev pub rack_around : Around → ℕ → Option ℕ
 rack_around A = rack_of A.topology.now.cluster
 
@@ -42,12 +42,14 @@ IsJudgedAround A o K slot = IsJudged (rack_around A) (drains_around A) A.multi o
 abbrev pub AreJudgedAround : Around → Contents → List ℕ → Kept → Type 0
 AreJudgedAround A a slots K = (slot : ℕ) → Among slot slots → IsJudgedAround A (block_at a slot) K slot
 
--- so has each slot, or its status is as before and it is not in the list of a storage
+-- each slot has the status of its block, or its status is as before and it is not in the storage's
+-- list
 abbrev pub AreJudgedOfStorage : Around → ℕ → Contents → Kept → Kept → Type 0
 AreJudgedOfStorage A storage a old new =
     (slot : ℕ) → IsJudgedAround A (block_at a slot) new slot ⊎ (IsSameAt old new slot × (Among slot (list_of a storage) → ⊥))
 
--- so has each slot, or its status is as before and it is in no list of a node's storages
+-- each slot has the status of its block, or its status is as before and it is in no list of the
+-- node's storages
 abbrev pub AreJudgedOfNode : Around → ℕ → Contents → Kept → Kept → Type 0
 AreJudgedOfNode A node a old new =
     (slot : ℕ) → IsJudgedAround A (block_at a slot) new slot ⊎ (IsSameAt old new slot × IsOff A.topology.now.cluster node a slot)
@@ -56,6 +58,6 @@ AreJudgedOfNode A node a old new =
 abbrev pub AreLevelsAround : Around → Leveled → Type 0
 AreLevelsAround A v = AreLevelsBy (rack_around A) (drains_around A) A.multi v
 
--- where that is so before a change, it is so after it
+-- a change keeps this
 abbrev pub KeepsLevelsAround : Around → Leveled → Leveled → Type 0
 KeepsLevelsAround A old new = AreLevelsAround A old → AreLevelsAround A new

@@ -1,4 +1,4 @@
--- Unused entries, with neither a block nor a replica: a number has one only while a prepared event
+-- Unused entries have neither a block nor a replica. A number has one only while a prepared event
 -- may need it.
 use Rattle.std.specs.Prelude.{◌≡◌, ◌≢◌, ℕ, Bool, false, List, [], None, Some, IsSome, IsTrue}
 use Rattle.bm_base.specs.Map.{get}
@@ -13,7 +13,7 @@ pub record IsBare (a : Contents) (b : ℕ) : Type 0 where
   pub unknown : get (blocks_of a) b ≡ None
   pub empty : (s : ℕ) → get (replicas_of a) (replica_at b s) ≡ None
 
--- it has none, or one with a replica
+-- the number has no entry, or one with a replica
 abbrev pub HasNoEmptyEntry : Contents → ℕ → Type 0
 HasNoEmptyEntry a b = (slot : ℕ) → slot_of a b ≡ Some slot → replicas_at a slot ≢ []
 
@@ -33,7 +33,7 @@ HasNoneBareAt slots old new = (b slot : ℕ) → Among slot slots → slot_of ol
 abbrev pub MakesNoneBare : Contents → Contents → Type 0
 MakesNoneBare old new = (b : ℕ) → IsBare new b → IsBare old b
 
--- none but these
+-- no number but these has a new unused entry
 abbrev pub MakesBareOnly : (ℕ → Bool) → Contents → Contents → Type 0
 MakesBareOnly these old new = (b : ℕ) → these b ≡ false → IsBare new b → IsBare old b
 

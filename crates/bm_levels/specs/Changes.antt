@@ -1,4 +1,4 @@
--- What becomes of the marks of replicas: of all of a block, or of those of a list.
+-- The marks of replicas after a change: of all of a block, or of those of a list.
 use Rattle.std.specs.Prelude.{◌≡◌, ℕ, ◌<◌, ◌≤◌, Bool, true, ◌&&◌, ◌==◌, if◌then◌else◌, List, map, length, slice_index_or}
 use Rattle.std.specs.List.{list_any}
 use Rattle.std.specs.List.Sorted.{IsNonDecreasingBy}
@@ -30,11 +30,11 @@ at_round_start a = without_unordered_excess (holdings_of a)
 abbrev pub all_changed : (Marks → Marks) → List (ℕ × Marks) → List (ℕ × Marks)
 all_changed f rs = map (λ r. (r.0, f r.1)) rs
 
--- the same, where the change depends on the replica's storage
+-- the same for a change that depends on the replica's storage
 abbrev pub each_changed : (ℕ → Marks → Marks) → List (ℕ × Marks) → List (ℕ × Marks)
 each_changed f rs = map (λ r. (r.0, f r.0 r.1)) rs
 
--- what is known of a block, with another stamp, or with another number of wanted replicas
+-- the information on a block, with another stamp, or with another number of wanted replicas
 abbrev pub with_stamp : Stamp → BlockInfo → BlockInfo
 with_stamp stamp i = record i { stamp = stamp }
 
@@ -50,7 +50,7 @@ has_replica ps q = list_any (λ p. (p.storage == q.storage) && (p.block == q.blo
 unfoldable pub has_block : List ReplicaId → ℕ → Bool
 has_block ps b = list_any (λ p. p.block == b) ps
 
--- whether it has one on this storage
+-- whether the list has a replica on this storage
 unfoldable pub has_storage : List ReplicaId → ℕ → Bool
 has_storage ps s = list_any (λ p. p.storage == s) ps
 
@@ -58,7 +58,7 @@ has_storage ps s = list_any (λ p. p.storage == s) ps
 abbrev pub AreOfBlock : ℕ → List ReplicaId → Type 0
 AreOfBlock b ps = (i : ℕ) (d : ReplicaId) → i < length ps → (slice_index_or ps i d).block ≡ b
 
--- they are sorted by storage, or at least those of each block are
+-- the replicas are sorted by storage, or at least those of each block are
 abbrev pub AreByStorage : List ReplicaId → Type 0
 AreByStorage ps = IsNonDecreasingBy (λ p. p.storage) ps
 
@@ -67,14 +67,14 @@ AreInOrder ps =
     (i j : ℕ) (d : ReplicaId) → i ≤ j → j < length ps → (slice_index_or ps i d).block ≡ (slice_index_or ps j d).block
     → (slice_index_or ps i d).storage ≤ (slice_index_or ps j d).storage
 
--- of a replica that is one too many, and of one that is to be deleted
+-- the marks of a surplus replica, and of one that is to be deleted
 abbrev pub as_excess : Marks → Marks
 as_excess m = record m { excess = true }
 
 abbrev pub as_ordered : Marks → Marks
 as_ordered m = record m { ordered = true }
 
--- the marks of a replica on this storage, where the list has all of its block that are too many
+-- the marks of a replica on this storage, given a list of the surplus of its block
 abbrev pub excess_on : List ReplicaId → ℕ → Marks → Marks
 excess_on ps s m = if has_storage ps s then as_excess m else m
 

@@ -10,11 +10,11 @@ use Rattle.bm_levels.specs.Judged.{is_plain}
 abbrev pub none : Count
 none = record { live = 0; drained = 0; first = None; is_spread = false; is_plain = true }
 
--- the rack of one more live replica
+-- a count with the rack of one more live replica
 unfoldable pub seen : Count → ℕ → Count
 seen k r = option_map_or (λ f. record k { is_spread = k.is_spread || not (r == f) }) k.first (record k { first = Some r })
 
--- one more replica, on a storage, with these marks
+-- a count with one more replica, on a storage, with these marks
 unfoldable pub one_more : (ℕ → Option ℕ) → (ℕ → Bool) → Count → ℕ → Marks → Count
 one_more rack draining k s m =
     let plain = record k { is_plain = k.is_plain && is_plain m } in
@@ -22,17 +22,17 @@ one_more rack draining k s m =
     else if draining s then record plain { drained = k.drained + 1 }
     else option_map_or (seen (record plain { live = k.live + 1 })) (rack s) (record plain { live = k.live + 1 })
 
--- all replicas of a list, after those that were counted
+-- a count with all replicas of a list
 abbrev pub counted_on : (ℕ → Option ℕ) → (ℕ → Bool) → Count → List (ℕ × Marks) → Count
 counted_on rack draining k [] = k
 counted_on rack draining k (r ∷ rs) = counted_on rack draining (one_more rack draining k r.0 r.1) rs
 
--- the number of racks of the live ones, 2 for more
+-- the number of racks of the live replicas, at most 2
 unfoldable pub racks_of : Count → ℕ
 racks_of k = if k.is_spread then 2 else from_bool (is_some k.first)
 
--- The replicas of a list, counted: all of them, or the first ones. It may stop if the list has more
--- than are wanted, and as many as are wanted are live among the first, on two racks.
+-- k counts all replicas of a list, or the first ones. It may stop if the list has more than are
+-- wanted, and enough of the first ones are live, on two racks.
 pub record IsCountOf (rack : ℕ → Option ℕ) (draining : ℕ → Bool) (wanted : ℕ) (rs : List (ℕ × Marks)) (k : Count) : Type 0 where
   pub rest : List (ℕ × Marks)
   pub counted : counted_on rack draining k rest ≡ counted_on rack draining none rs

@@ -5,6 +5,6 @@ use Rattle.bm_base.specs.State.{Holdings, by_replica}
 use Rattle.bm_arena.specs.Contents.{Contents}
 use Rattle.bm_arena.specs.Holding.{replicas_of, blocks_of}
 
--- with these transfers on their way
+-- the holdings with these pending transfers
 unfoldable pub holdings_with : Contents → Map by_replica ℕ → Holdings
 holdings_with a pending = record { blocks = blocks_of a; replicas = replicas_of a; pending = pending }

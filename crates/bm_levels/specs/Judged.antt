@@ -13,7 +13,7 @@ use Rattle.bm_base.specs.Spread.{spread}
 use Rattle.bm_arena.specs.Triplets.{Block}
 use Rattle.bm_levels.specs.declared.around.Turning.{Turning}
 
--- whether the node of a storage drains, where a node begins or ceases to
+-- whether the node of a storage drains, once a node begins or ceases to
 unfoldable pub drains_then : Cluster → Option Turning → ℕ → Bool
 drains_then C None s = is_draining C s
 drains_then C (Some t) s = option_map_or (λ n. if n == t.node then t.drains else drains C n) (node_of C s) false
@@ -22,7 +22,7 @@ drains_then C (Some t) s = option_map_or (λ n. if n == t.node then t.drains els
 abbrev pub storages_at : (ℕ → Marks → Bool) → List (ℕ × Marks) → List ℕ
 storages_at p rs = map (λ r. r.0) (filter (λ r. p r.0 r.1) rs)
 
--- live and drained replicas, if these storages are on nodes that drain
+-- whether a replica is live, and whether it is drained, given the storages on nodes that drain
 abbrev pub is_live_by : (ℕ → Bool) → ℕ → Marks → Bool
 is_live_by draining s m = is_usable m && not (draining s)
 
@@ -45,8 +45,8 @@ level_in C o = level_by (rack_of C) (is_draining C) (is_multi_rack C) o
 abbrev pub is_plain : Marks → Bool
 is_plain m = is_good m.tag && not m.excess && not m.ordered
 
--- Whether a round need not scan the block at a slot: all replicas are good ones with no mark, and
--- there are no more of them than are wanted.
+-- Whether a round need not scan the block at a slot: all replicas are good without marks, and there
+-- are no more of them than are wanted.
 unfoldable pub is_settled_at : Option Block → Bool
 is_settled_at o =
     option_map_or (λ (k : Block). not (list_any (λ r. not (is_plain r.1)) k.replicas) && option_map_or (λ (i : BlockInfo). nat_le (length k.replicas) i.repl) k.info true) o true

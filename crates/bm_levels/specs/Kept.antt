@@ -13,7 +13,7 @@ use Rattle.bm_arena.specs.Contents.{Contents, block_at}
 use Rattle.bm_levels.specs.declared.judging.Judged.{Judged}
 use Rattle.bm_levels.specs.Judged.{level_by, is_settled_at}
 
--- the levels of the slots, and the slots at which a round has to look
+-- the levels of the slots, and the slots that a round has to scan
 pub record Kept : Type 0 where
   pub levels : Levels
   pub unsettled : Members
@@ -57,7 +57,7 @@ KeepsRoom old new = (bound : ℕ) → HasRoomFor old bound → HasRoomFor new bo
 abbrev pub GrowsWithin : ℕ → Kept → Kept → Type 0
 GrowsWithin most old new = (length new.levels.levels ≤ max (length old.levels.levels) most) × (new.unsettled.room ≤ max old.unsettled.room most)
 
--- these are just the slots at a level
+-- these are exactly the slots at a level
 abbrev pub AreSlotsAt : Kept → Level → List ℕ → Type 0
 AreSlotsAt K l slots = (slot : ℕ) → Among slot slots ↔ (level_of_slot K slot ≡ Some l)
 

@@ -14,7 +14,7 @@ pub record IsLeaving (leaves : ℕ → Bool) (old new : Contents) (n : ℕ) : Ty
   pub others : (q : ReplicaId) → leaves q.storage ≡ false → get (replicas_of new) q ≡ get (replicas_of old) q
   pub count : n + len (replicas_of new) ≡ len (replicas_of old)
 
--- n left, all of one storage
+-- n replicas left, all of one storage
 abbrev pub IsLeavingStorage : ℕ → Contents → Contents → ℕ → Type 0
 IsLeavingStorage storage old new n = IsLeaving (λ s. s == storage) old new n
 
@@ -22,7 +22,7 @@ IsLeavingStorage storage old new n = IsLeaving (λ s. s == storage) old new n
 abbrev pub HasFirstSlots : Contents → ℕ → List ℕ → Type 0
 HasFirstSlots a storage slots = (rest : List ℕ) × (list_of a storage ≡ slots ++ rest)
 
--- of the list of a storage, which began with these slots, the rest is left
+-- the storage's list, which began with these slots, keeps only the rest
 abbrev pub DropsFirstSlots : ℕ → List ℕ → Contents → Contents → Type 0
 DropsFirstSlots storage slots old new = (rest : List ℕ) → list_of old storage ≡ slots ++ rest → list_of new storage ≡ rest
 
@@ -30,6 +30,6 @@ DropsFirstSlots storage slots old new = (rest : List ℕ) → list_of old storag
 abbrev pub HasNoHeads : (ℕ → Bool) → Contents → Type 0
 HasNoHeads leaves a = (storage : ℕ) → leaves storage ≡ true → HasHead a storage → ⊥
 
--- no storage has a head that had none
+-- no storage has a new head
 abbrev pub MakesNoHead : Contents → Contents → Type 0
 MakesNoHead old new = (storage : ℕ) → HasHead new storage → HasHead old storage

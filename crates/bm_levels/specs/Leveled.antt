@@ -17,7 +17,7 @@ pub record IsLeveled (v : Leveled) : Type 0 where
   pub blank : info_at v.arena v.arena.delimiter ≡ None
   -- there is capacity for every slot that is held
   pub room : (slot : ℕ) → IsSome (block_at v.arena slot) → HasRoomFor v.kept (slot + 1)
-  -- the unsettled slots are just those of the blocks that are not settled
+  -- the unsettled slots are exactly those of the blocks that are not settled
   pub unsettled : (slot : ℕ) → IsUnsettled v.kept slot ↔ (is_settled_at (block_at v.arena slot) ≡ false)
   -- a slot without a known block has no level
   pub unknown : (slot : ℕ) → info_at v.arena slot ≡ None → level_of_slot v.kept slot ≡ None
@@ -26,6 +26,6 @@ pub record IsLeveled (v : Leveled) : Type 0 where
 abbrev pub AreLevels : Cluster → Leveled → Type 0
 AreLevels C v = (slot : ℕ) → level_of_slot v.kept slot ≡ level_in C (block_at v.arena slot)
 
--- where that is so before a change, it is so after it
+-- a change keeps the levels right in a cluster
 abbrev pub KeepsLevels : Cluster → Leveled → Leveled → Type 0
 KeepsLevels C old new = AreLevels C old → AreLevels C new

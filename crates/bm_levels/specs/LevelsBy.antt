@@ -1,4 +1,4 @@
--- Levels by racks and nodes that drain which need not be those of one cluster.
+-- Levels by given racks and draining nodes, which need not be those of one cluster.
 use Rattle.std.specs.Prelude.{◌≡◌, ℕ, if◌then◌else◌, Bool, true, Option, IsSome}
 use Rattle.bm_base.specs.declared.replica.ReplicaId.{ReplicaId}
 use Rattle.bm_base.specs.Map.{get}
@@ -18,16 +18,17 @@ abbrev pub AreLevelsBy : (ℕ → Option ℕ) → (ℕ → Bool) → Bool → Le
 AreLevelsBy rack draining multi v = (slot : ℕ) → level_of_slot v.kept slot ≡ level_by rack draining multi (block_at v.arena slot)
 
 -- the same by the racks and the draining nodes of a cluster; whether its alive nodes are on two
--- racks or more is given apart
+-- racks or more is a separate argument
 abbrev pub AreLevelsWith : Cluster → Bool → Leveled → Type 0
 AreLevelsWith C multi v = AreLevelsBy (rack_of C) (is_draining C) multi v
 
--- whatever they are by: where that is so before a change, it is so after it
+-- a change keeps the levels right by whatever racks and draining nodes
 abbrev pub KeepsAllLevels : Leveled → Leveled → Type 0
 KeepsAllLevels old new =
     (rack : ℕ → Option ℕ) (draining : ℕ → Bool) (multi : Bool) → AreLevelsBy rack draining multi old → AreLevelsBy rack draining multi new
 
--- the storage of each replica is on the same rack in D as in C, and drains in D if it does in C
+-- the storage of each replica is on the same rack in D as in C, and drains in D exactly if it does
+-- in C
 pub record IsSameForHeld (C D : Cluster) (a : Contents) : Type 0 where
   pub rack : (q : ReplicaId) → IsSome (get (replicas_of a) q) → rack_of D q.storage ≡ rack_of C q.storage
   pub draining : (q : ReplicaId) → IsSome (get (replicas_of a) q) → is_draining D q.storage ≡ is_draining C q.storage

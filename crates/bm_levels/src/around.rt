@@ -41,7 +41,7 @@ impl<'a> Around<'a> {
         }
     }
 
-    /// Where a storage is; `None` where it is not known.
+    /// The rack of a storage, and whether its node drains; `None` for an unknown storage.
     #[inline]
     #[tactic(auto, unfolding(crate::specs::Judged::drains_then, bm_base::specs::Replicas::is_draining))]
     pub(crate) fn spot_of(&self, storage: StorageId) -> Option<Spot>

@@ -37,7 +37,7 @@ impl LeveledBlocks {
         }
     }
 
-    /// Drops the entry at a slot, where there is one that has neither a block nor a replica.
+    /// Drops the entry at a slot if it is unused, with neither a block nor a replica.
     fn drop_at(&mut self, slot: Slot)
         ensures blocks { blocks_of self.new.arena ≡ blocks_of self.old.arena }
         ensures replicas { replicas_of self.new.arena ≡ replicas_of self.old.arena }

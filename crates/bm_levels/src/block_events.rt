@@ -80,7 +80,7 @@ impl LeveledBlocks {
         }
     }
 
-    /// The replica is bad, if it is there. Takes no memory.
+    /// Makes a replica bad, if it exists. Takes no memory.
     pub fn make_bad(&mut self, topology: &Topology, storage: StorageId, id: BlockId)
         ensures replicas { replicas_of self.new.arena
             ≡ revise_at (replicas_of self.old.arena) (replica_at id storage) as_bad }
@@ -125,7 +125,7 @@ impl LeveledBlocks {
         true
     }
 
-    /// What is known of the block at a slot.
+    /// The information on the block at a slot.
     fn info_of(&self, slot: Slot) -> Option<BlockInfo>
         ensures { result ≡ info_at self.now.arena slot }
     {
@@ -139,8 +139,8 @@ impl LeveledBlocks {
         self.arena.marks(slot, storage)
     }
 
-    /// Changes the marks of all replicas of the block at the slot of a number, and what is known of
-    /// it.
+    /// Changes the marks of all replicas of the block at the slot of a number, and the information
+    /// on it.
     fn change_block(
         &mut self,
         topology: &Topology,

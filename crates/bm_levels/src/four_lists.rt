@@ -21,7 +21,7 @@ struct Four {
 }
 
 impl Four {
-    /// One storage alone.
+    /// Only one storage.
     fn one(storage: StorageId) -> Four
         ensures { result.fourth ≡ storage }
     {
@@ -141,8 +141,8 @@ impl LeveledBlocks {
         removed
     }
 
-    /// Removes the replicas of these first blocks in the lists of four storages, on those that are
-    /// a node's. Returns how many left.
+    /// For each of four storages that is the node's, removes the replicas of these first blocks of
+    /// its list. Returns how many left.
     fn remove_first_of_four(
         &mut self,
         around: &Around<'_>,

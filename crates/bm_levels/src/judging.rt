@@ -15,7 +15,7 @@ use bm_base::{Level, level_of};
 /// The status of a block: what is stored with its slot.
 #[derive(Clone, Copy, Debug, PartialEq, Eq)]
 pub(crate) struct Judged {
-    /// How urgently it wants replicas.
+    /// How urgently it needs replicas.
     pub level: Option<Level>,
     /// Whether a round need not scan it.
     pub is_settled: bool,

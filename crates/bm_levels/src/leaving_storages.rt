@@ -39,7 +39,7 @@ impl LeveledBlocks {
     }
 
     /// Removes the replicas on all storages of a node, and their lists. Returns how many. `multi`
-    /// tells whether the alive nodes are on two racks or more without it. If that changes, all
+    /// is whether the alive nodes are on two racks or more without it. If that changes, all
     /// blocks are reclassified, else those that lose a replica. Unused entries are dropped. Takes
     /// no memory. Reads each storage of the cluster, and takes one step for each of the replicas.
     pub fn forget_node(&mut self, topology: &Topology, node: NodeId, multi: bool) -> u128

@@ -78,7 +78,7 @@ impl LeveledBlocks {
         Ok(())
     }
 
-    /// Changes what is known of the block at the slot of a number; `None` makes it unknown. Takes
+    /// Changes the information on the block at the slot of a number; `None` makes it unknown. Takes
     /// no memory.
     pub fn set_info(&mut self, topology: &Topology, slot: Slot, info: Option<BlockInfo>)
         requires { (id : ℕ) × (slot_of self.old.arena id ≡ Some slot) }

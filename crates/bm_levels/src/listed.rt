@@ -22,7 +22,7 @@ fn other_block_in(listed: &[ReplicaId], block: BlockId) -> Option<usize>
     listed.iter().position(|replica| replica.block != block)
 }
 
-/// The marks of a replica that is one too many.
+/// The marks of a surplus replica.
 pub(crate) fn with_excess(marks: Marks) -> Marks
     ensures { result ≡ as_excess marks }
 {

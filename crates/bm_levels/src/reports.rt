@@ -1,4 +1,4 @@
-// Full reports and notices of received replicas: prepared, given up or applied, with the levels of
+// Full reports and notices of received replicas: prepared, aborted or applied, with the levels of
 // the changed blocks.
 ghost use Rattle.std.specs.Prelude.{◌≡◌, ◌==◌, ◌<◌, ◌≤◌, ◌^◌, ◌∷◌, [], ℕ, length, take, IfErr, OnOk, OnErr};
 ghost use Rattle.bm_base.specs.declared.refusal.Refusal.TheVariants.{Memory};
@@ -24,7 +24,7 @@ use bm_topo::Topology;
 impl LeveledBlocks {
     /// Finds the slot of each number of the part that the entries name, gives an entry to a new
     /// number, and reserves all that the end of the report needs. All blocks and replicas stay.
-    /// `Memory`: then the report is given up, and no new entry stays.
+    /// `Memory`: then the report is aborted, and no new entry stays.
     pub fn ready_report(
         &mut self,
         report: &mut Report,
@@ -90,8 +90,8 @@ impl LeveledBlocks {
         Ok(())
     }
 
-    /// Gives up a prepared report: unused entries of its numbers are dropped, and it names none any
-    /// more. All blocks and replicas stay. Takes no memory.
+    /// Aborts a prepared report: drops the unused entries of its numbers, and forgets the numbers.
+    /// All blocks and replicas stay. Takes no memory.
     pub fn abort_report(&mut self, report: &mut Report)
         ensures told { told report.new ≡ [] }
         ensures blocks { blocks_of self.new.arena ≡ blocks_of self.old.arena }

@@ -161,7 +161,7 @@ impl LeveledBlocks {
         }
     }
 
-    /// A replica is in excess, if it is there.
+    /// Marks a replica as excess, if it exists.
     fn mark_excess(&mut self, topology: &Topology, replica: &ReplicaId)
         ensures replicas { replicas_of self.new.arena
             ≡ revise_at (replicas_of self.old.arena) replica.now as_excess }

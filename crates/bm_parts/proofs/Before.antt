@@ -1,4 +1,4 @@
--- Merging the parts before a bound gives the merged parts, before it.
+-- Merging the wishes of parts that come before a bound gives the merged wishes before it.
 use Rattle.std.proofs.Common.{◌≡◌, ℕ, Bool, true, false, cond, List, [], ◌∷◌, ◌++◌, map, filter, flat_map, Option, Some, None, refl, sym, ap, ◌∙◌, true≢false, T}
 use Rattle.std.specs.Prelude.{option_and_then}
 use Rattle.std.specs.Ordering.{eq_by_cmp}
@@ -19,7 +19,7 @@ use Rattle.bm_base.proofs.Keeping.{keep-insert}
 use Rattle.bm_parts.specs.Before.{is_before, wishes_before, part_before}
 use Rattle.bm_parts.proofs.Filters.{filtered_alike, map_filter}
 
--- What rises by its keys still does where some are left out.
+-- A list that is ascending by keys stays so if some elements are left out.
 
 module _ {K X : Type 0} (o : Order K) (key : X → K) (q : K → Bool) where
   abbrev passing : X → Bool
@@ -41,7 +41,7 @@ module _ {K X : Type 0} (o : Order K) (key : X → K) (q : K → Bool) where
       by true rest = both _ _ (below_still (key x) xs (first _ _ h)) rest
       by false rest = rest
 
--- Elements in the order of their keys, of which those are left whose keys pass.
+-- Sorting the elements whose keys pass gives the sorted elements whose keys pass.
 
 module _ {X : Type 0} (key : X → ℕ × ℕ) (q : ℕ × ℕ → Bool) where
   abbrev passes : X → Bool
@@ -106,7 +106,7 @@ wishes_cut bound (p ∷ ps) =
     ap (λ ws. wishes_before bound p.wishes ++ ws) (wishes_cut bound ps)
     ∙ sym (filter-append (λ (w : Wish). is_before bound (wish_key w)) p.wishes (flat_map (λ (p : RoundPart). p.wishes) ps))
 
--- merged, the wishes before a bound are those of the parts before it
+-- the parts' wishes before a bound, merged, are the merged wishes before it
 pub merged_before : (bound : Option (ℕ × ℕ)) (ps : List RoundPart) → merged_wishes (map (part_before bound) ps) ≡ wishes_before bound (merged_wishes ps)
 unfolding merged_wishes
 merged_before bound ps = ap (ordered_by by_pair wish_key) (wishes_cut bound ps) ∙ sym (left_in_order wish_key (is_before bound) (flat_map (λ (p : RoundPart). p.wishes) ps))

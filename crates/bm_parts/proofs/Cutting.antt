@@ -1,4 +1,4 @@
--- What a round finds in a part is what it finds in the whole of the part's blocks.
+-- What a round finds in a part is what it finds in the whole about the part's blocks.
 use Rattle.std.proofs.Common.{◌≡◌, ℕ, ◌-◌, Bool, true, false, cond, not, ◌&&◌, ◌||◌, List, [], ◌∷◌, map, filter, length, Option, Some, None, refl, sym, ap, ◌∙◌, eqb-true}
 use Rattle.std.proofs.lemmas.Bool.{false≢true}
 use Rattle.std.specs.Prelude.{◌==◌, if◌then◌else◌, nat_le, option_map, option_and_then}
@@ -27,7 +27,7 @@ use Rattle.bm_parts.proofs.Filters.{filter_within, map_filter}
 use Rattle.bm_parts.proofs.PartMaps.{part, part_is, get_in, get_out, part_revised, part_inserted_all}
 use Rattle.bm_parts.proofs.Parts.{own, cut_to}
 
--- The part of a map whose values change by their keys.
+-- The part of a map in which each value changes by its key.
 part_revised_by : {K X : Type 0} {o : Order K} (p : K → Bool) (m : Map o X) (f g : K → X → X) → ((q : K) → p q ≡ true → f q ≡ g q) → part p (revise m f) ≡ revise (part p m) g
 part_revised_by p m f g same =
     part_is p (revise m f) (revise (part p m) g)
@@ -68,7 +68,7 @@ module _ (index shards : ℕ) where
   unfolding cut
   pending_cut H = entries-keep by_replica H.pending (λ q _. mine q.block)
 
-  -- Words on one block.
+  -- Definitions on one block.
 
   pub storages_cut : (p : ℕ → Marks → Bool) (H : Holdings) (b : ℕ) → mine b ≡ true → storages_where p (cut_of H) b ≡ storages_where p H b
   unfolding storages_where

@@ -36,7 +36,7 @@ rack_elsewhere C n s h = ap (option_and_then (λ m. get (without_node C n).nodes
     by_node None e = refl
     by_node (Some m) e = get_left C.nodes n m (eqb-false m n e)
 
--- Another storage than one that failed.
+-- A storage other than the one that failed.
 module _ (C : Cluster) (t s : ℕ) (other : (s == t) ≡ false) where
   node_left : node_of (without_storage C t) s ≡ node_of C s
   unfolding without_storage

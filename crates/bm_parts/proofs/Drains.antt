@@ -1,4 +1,4 @@
--- What nodes that begin or cease to drain leave of levels.
+-- Which levels stay when nodes begin or cease to drain.
 use Rattle.std.proofs.Common.{◌≡◌, ◌≢◌, ℕ, Bool, true, false, not, Option, Some, None, is_some, refl, ap, ◌∙◌}
 use Rattle.std.specs.Prelude.{◌==◌, if◌then◌else◌}
 use Rattle.std.specs.Option.{option_map_or}
@@ -18,7 +18,7 @@ module _ (C D : Cluster) (n s : ℕ) (storages : node_of D s ≡ node_of C s) (e
   draining_by None e = refl
   draining_by (Some m) e = elsewhere m (eqb-false m n e)
 
-  -- a storage of another node
+  -- a storage of another node drains as before
   still_drains : has_storage C n s ≡ false → is_draining D s ≡ is_draining C s
   unfolding has_storage is_draining
   still_drains off = ap (λ z. option_map_or (drains D) z false) storages ∙ draining_by (node_of C s) off
@@ -48,7 +48,7 @@ module _ (C : Cluster) (n : ℕ) where
   unfolding is_multi_rack undrain
   multi_undrain = refl
 
--- levels don't depend on transfers on their way
+-- levels don't depend on pending transfers
 level_unsent : (D : Cluster) (H : Holdings) (pending : Map by_replica ℕ) (b : ℕ) → level D (record H { pending = pending }) b ≡ level D H b
 unfolding level storages_where
 level_unsent D H pending b = refl

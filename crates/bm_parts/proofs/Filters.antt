@@ -1,4 +1,4 @@
--- Lists that are filtered twice, and lists of what passes.
+-- Lists that are filtered twice, and lists of elements that pass.
 use Rattle.std.proofs.Common.{◌≡◌, ◌≤◌, Bool, true, false, cond, ◌&&◌, List, [], ◌∷◌, map, filter, length, arith, refl, sym, ap, ◌∙◌}
 use Rattle.std.specs.List.{All, list_any}
 use Rattle.std.proofs.lemmas.List.Elements.{All-nil, All-cons}
@@ -27,7 +27,7 @@ module _ {X : Type 0} where
   filtered_alike p q [] h = refl
   filtered_alike p q (x ∷ xs) h = λ i. cond (h.0 i) (x ∷ filtered_alike p q xs h.1 i) (filtered_alike p q xs h.1 i)
 
-  -- fewer pass a test that wants more
+  -- fewer elements pass a stronger test
   pub fewer_passing : (p q : X → Bool) → ((x : X) → p x ≡ true → q x ≡ true) → (xs : List X) → length (filter p xs) ≤ length (filter q xs)
   fewer_passing p q more [] = omega arith
   fewer_passing p q more (x ∷ xs) = fewer_head (p x) (q x) x (filter p xs) (filter q xs) (more x) (fewer_passing p q more xs)
@@ -40,11 +40,11 @@ module _ {X : Type 0} where
   filter_all [] = refl
   filter_all (x ∷ xs) = ap (λ ys. x ∷ ys) (filter_all xs)
 
-  -- what passes the second test passes the first anyway
+  -- if the second test implies the first, filtering by both is filtering by the second
   pub filter_within : (p t u : X → Bool) → ((x : X) → p x ≡ true → t x ≡ u x) → ((x : X) → u x ≡ true → p x ≡ true) → (xs : List X) → filter t (filter p xs) ≡ filter u xs
   filter_within p t u same only xs = filter_filter t p xs ∙ ap (λ (s : X → Bool). filter s xs) (λ i x. within (p x) (t x) (u x) (same x) (only x) i)
 
-  -- two tests, one of which matters only where the other passes
+  -- of two tests, one matters only for elements that pass the other
   pub filter_swap : (p t u : X → Bool) → ((x : X) → p x ≡ true → t x ≡ u x) → (xs : List X) → filter t (filter p xs) ≡ filter p (filter u xs)
   filter_swap p t u same xs = filter_filter t p xs ∙ ap (λ (s : X → Bool). filter s xs) (λ i x. swapped (p x) (t x) (u x) (same x) i) ∙ sym (filter_filter p u xs)
 
@@ -56,13 +56,13 @@ map_filter f p (x ∷ xs) = ap (λ ys. cond (p (f x)) (f x ∷ ys) ys) (map_filt
     by_test true ys = refl
     by_test false ys = refl
 
--- Whether one passes.
+-- Whether some element passes.
 
--- some entry that is kept by p passes g, as f shows it
+-- g holds of some f x with p x exactly if it holds of an element of the filtered and mapped list
 pub any_shown : {X Y : Type 0} (g : Y → Bool) (f : X → Y) (p : X → Bool) (xs : List X) → list_any g (map f (filter p xs)) ≡ list_any (λ x. p x && g (f x)) xs
 any_shown g f p xs = any_map g f (filter p xs) ∙ any_filter (λ x. g (f x)) p xs
 
--- what holds of each, in std's word
+-- a property of each element, as std defines it
 pub all_each : {X : Type 0} (P : X → Type 0) (xs : List X) → Each P xs → All P xs
 all_each P [] h = All-nil P
 all_each P (x ∷ xs) h = All-cons P x xs h.0 (all_each P xs h.1)

@@ -34,7 +34,7 @@ use Rattle.bm_base.proofs.Listed.{any_map}
 use Rattle.bm_parts.proofs.JoinedReplicas.{listed_rises}
 use Rattle.bm_parts.proofs.Gathered.{gathered_alike}
 
--- Entries of a map by replica that pass, as a list of their keys.
+-- The keys of the entries that pass, in a map by replica.
 
 module _ {X : Type 0} (m : Map by_replica X) (p : ReplicaId × X → Bool) where
   abbrev passing_keys : List ReplicaId
@@ -129,7 +129,7 @@ any_made t f (c ∷ bs) b w e is h = by_test (c == b) refl e (any_made t f bs b 
     by_test false at e rest = more (f c) (rest e is h)
 
 module _ (C : Cluster) (H : Holdings) where
-  -- what is wished at a level is a wish of that level
+  -- each wish that is made at a level is a wish of that level
   wished_at : (l : Level) (b : ℕ) (w : Wish) → wish_at C H l b ≡ Some w → IsWished C H w
   wished_at l b w e = let is = wish_is C H l b w e in ap (λ (v : Wish). wish_at C H v.level v.block) (sym is.2) ∙ e
 
@@ -147,7 +147,7 @@ module _ (C : Cluster) (H : Holdings) where
       by_wish None e rest = rest
       by_wish (Some w) e rest = (wished_at l b w e, rest)
 
-  -- nothing is wished of a block without a usable replica
+  -- a block without a usable replica has no wish
   none_unusable : (b : ℕ) (w : Wish) → wish_at C H NoUsableReplica b ≡ Some w → ⊥
   unfolding wish_at
   none_unusable b w e = never (is_at NoUsableReplica (level C H b)) (get H.blocks b) e

@@ -1,4 +1,4 @@
--- Ascending lists with the same elements are the same.
+-- Ascending lists with the same elements are equal.
 use Rattle.std.proofs.Common.{◌≡◌, Bool, true, false, cond, ◌||◌, List, [], ◌∷◌, map, Option, Some, None, is_some, refl, sym, ap, subst, ◌∙◌}
 use Rattle.std.specs.Ordering.{eq_by_cmp}
 use Rattle.std.proofs.lemmas.Bool.{false≢true}
@@ -17,7 +17,7 @@ use Rattle.bm_parts.specs.Found.{IsGathered}
 use Rattle.bm_parts.proofs.Joined.{values_again}
 
 module _ {K X : Type 0} (o : Order K) (key : X → K) (P : X → Type 0) where
-  -- what is found in a list by a key is one of its elements, and has the key
+  -- an element that is found by a key is in the list and has the key
   found_by : (xs : List X) → Each P xs → (q : K) (x : X) → find o.cmp q (map (λ x. (key x, x)) xs) ≡ Some x → P x × (key x ≡ q)
   found_by [] each q x e = cc
   found_by (y ∷ ys) each q x e = by_tie (eq_by_cmp o.cmp q (key y)) refl e (found_by ys each.1 q x)
@@ -47,7 +47,7 @@ module _ {K X : Type 0} (o : Order K) (key : X → K) (P : X → Type 0) where
     own_values : map (λ (e : K × X). e.1) (entries (gathered_map xs)) ≡ xs
     own_values = ap (map (λ (e : K × X). e.1)) (entries-of_sorted o (map (λ x. (key x, x)) xs) is.rises) ∙ values_again o key xs
 
-  -- where a key says which element it is
+  -- an element is determined by its key
   module _ (one : (x y : X) → P x → P y → key x ≡ key y → x ≡ y) (xs ys : List X) (is : IsGathered o key P xs) (too : IsGathered o key P ys) where
     agree : (q : K) (a b : Option X) → get (gathered_map xs) q ≡ a → get (gathered_map ys) q ≡ b → a ≡ b
     agree q None None e f = refl

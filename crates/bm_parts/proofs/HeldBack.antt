@@ -26,7 +26,7 @@ any_flat : {X Y : Type 0} (t : Y → Bool) (f : X → List Y) (xs : List X) → 
 any_flat t f [] = refl
 any_flat t f (x ∷ xs) = list_any-append t (f x) (flat_map f xs) ∙ ap (λ b. list_any t (f x) || b) (any_flat t f xs)
 
--- some share has one that passes exactly where the list has
+-- some element of the shares passes exactly if some element of the list does
 any_share : {X : Type 0} (t : X → Bool) (shard : X → ℕ) (shards : ℕ) → ((x : X) → shard x < shards) → (xs : List X) → list_any t (flat_map (share shard xs) (count_up 0 shards)) ≡ list_any t xs
 any_share t shard shards below xs = by_test (list_any t xs) refl
   where
@@ -36,7 +36,7 @@ any_share t shard shards below xs = by_test (list_any t xs) refl
         none_of t (flat_map (share shard xs) (count_up 0 shards))
         (each_of_numbers (λ x. t x ≡ false) (share shard xs) 0 shards (λ i. each_filtered (λ x. t x ≡ false) (λ x. shard x == i) xs (none_passes t xs e)))
 
--- tests that agree where a filter passes
+-- tests that agree on the elements that a filter keeps
 any_alike : {X : Type 0} (p t u : X → Bool) → ((x : X) → p x ≡ true → t x ≡ u x) → (xs : List X) → list_any t (filter p xs) ≡ list_any u (filter p xs)
 any_alike p t u same [] = refl
 any_alike p t u same (x ∷ xs) = by_test (p x) refl (any_alike p t u same xs)

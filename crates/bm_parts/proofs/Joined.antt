@@ -1,4 +1,4 @@
--- The shares of a list, sorted by their keys, are the sorted list.
+-- Joining the shares of a list and sorting them by key gives the sorted list.
 use Rattle.std.proofs.Common.{◌≡◌, ℕ, zero, suc, ◌+◌, ◌<◌, ◌≤◌, Bool, true, false, cond, ◌||◌, List, [], ◌∷◌, ◌++◌, map, filter, flat_map, Option, Some, None, refl, sym, ap, subst, ◌∙◌, arith, eq-eqb, eqb-true, true≢false, T}
 use Rattle.std.specs.Prelude.{◌==◌}
 use Rattle.std.specs.Ordering.{eq_by_cmp}
@@ -16,17 +16,17 @@ use Rattle.bm_base.proofs.Each.{Each, each_filtered, each_appended}
 use Rattle.bm_base.proofs.Maps.{same_key, key_itself, each_entry, passes_entry}
 
 module _ {K X : Type 0} {o : Order K} (m : Map o X) where
-  -- an entry of m put into a map
+  -- inserting an entry of m makes its key agree with m
   put_one : (a : Map o X) (e : K × X) (q : K) → get m e.0 ≡ Some e.1 → (b : Bool) → eq_by_cmp o.cmp q e.0 ≡ b → (b ≡ false → get a q ≡ get m q) → cond b (Some e.1) (get a q) ≡ get m q
   put_one a e q here true t h = sym here ∙ sym (ap (get m) (same_key o q e.0 t))
   put_one a e q here false t h = h refl
 
-  -- putting entries of m keeps what agrees with m
+  -- inserting entries of m keeps agreeing keys
   pub put_agreeing : (a : Map o X) (es : List (K × X)) (q : K) → Each (λ e. get m e.0 ≡ Some e.1) es → get a q ≡ get m q → get (insert_all a es) q ≡ get m q
   put_agreeing a [] q each h = h
   put_agreeing a (e ∷ es) q each h = put_agreeing (insert a e.0 e.1) es q each.1 (get-insert a e.0 e.1 q ∙ put_one a e q each.0 (eq_by_cmp o.cmp q e.0) refl (λ _. h))
 
-  -- and makes agree what is put
+  -- each inserted key agrees with m
   pub put_all : (a : Map o X) (es : List (K × X)) (q : K) → Each (λ e. get m e.0 ≡ Some e.1) es → list_any (λ e. eq_by_cmp o.cmp q e.0) es ≡ true → get (insert_all a es) q ≡ get m q
   put_all a [] q each there = cc
   put_all a (e ∷ es) q each there =
@@ -40,7 +40,7 @@ module _ {K X : Type 0} {o : Order K} (m : Map o X) where
   gathered_at es q each all None h = put_agreeing (empty {o = o}) es q each (get-empty {X = X} o q ∙ sym h)
   gathered_at es q each all (Some x) h = put_all (empty {o = o}) es q each (all x h)
 
-  -- entries of m, and all of them, in any order
+  -- inserting all entries of m into the empty map, in any order, gives m
   pub gathered : (es : List (K × X)) → Each (λ e. get m e.0 ≡ Some e.1) es → ((q : K) (x : X) → get m q ≡ Some x → list_any (λ e. eq_by_cmp o.cmp q e.0) es ≡ true) → insert_all (empty {o = o}) es ≡ m
   gathered es each all = same_map (insert_all (empty {o = o}) es) m (λ q. gathered_at es q each (all q) (get m q) refl)
 
@@ -53,7 +53,7 @@ module _ {K X : Type 0} {o : Order K} (m : Map o X) where
 -- Shares.
 
 module _ {X : Type 0} (shard : X → ℕ) where
-  -- what a shard has of a list
+  -- the share of a shard in a list
   abbrev pub share : List X → ℕ → List X
   share xs i = filter (λ x. shard x == i) xs
 
@@ -65,7 +65,7 @@ module _ {X : Type 0} (shard : X → ℕ) where
   passing_tail t true x ys h = or_right (t x) (list_any t ys) h
   passing_tail t false x ys h = h
 
-  -- one that passes is in a share
+  -- if some element passes, one in some share does
   pub in_a_share : (t : X → Bool) (n : ℕ) → ((x : X) → shard x < n) → (xs : List X) → list_any t xs ≡ true → (i : ℕ) × (i < n) × (list_any t (share xs i) ≡ true)
   in_a_share t n below [] h = cc
   in_a_share t n below (x ∷ xs) h =
@@ -74,7 +74,7 @@ module _ {X : Type 0} (shard : X → ℕ) where
         | false ↦ λ e f. let rest = in_a_share t n below xs f in (rest.0, rest.1, passing_tail t (shard x == rest.0) x (share xs rest.0) rest.2)
       ]) refl h
 
--- one of the lists of some numbers has one that passes
+-- if an element of one list passes, one of the joined lists does
 pub any_of_numbers : {X : Type 0} (t : X → Bool) (f : ℕ → List X) (j n i : ℕ) → j ≤ i → i < j + n → list_any t (f i) ≡ true → list_any t (flat_map f (count_up j n)) ≡ true
 any_of_numbers t f j zero i low high h = absurd (omega (arith, low, high))
 any_of_numbers t f j (suc n) i low high h =
@@ -109,7 +109,7 @@ module _ {K X : Type 0} (o : Order K) (key : X → K) where
   values_again [] = refl
   values_again (x ∷ xs) = ap (λ ys. x ∷ ys) (values_again xs)
 
-  -- the shares of a list whose keys rise, in the order of the keys
+  -- the shares of a list with ascending keys, joined and sorted by key, are the list
   pub shares_in_order : (xs : List X) → T (is_sorted o.cmp (keyed xs)) → (shard : X → ℕ) (n : ℕ) → ((x : X) → shard x < n)
       → ordered_by o key (flat_map (share shard xs) (count_up 0 n)) ≡ xs
   unfolding ordered_by

@@ -24,7 +24,7 @@ use Rattle.bm_parts.proofs.Cutting.{replicas_cut}
 use Rattle.bm_base.proofs.WholeChoices.{flat_map_same}
 use Rattle.bm_base.proofs.RisingParts.{lesser_block}
 
--- What is made of entries in their order, each result with its entry's key, rises.
+-- Results for sorted entries, each with its entry's key, are sorted.
 module _ {K X Y : Type 0} (R : K → K → Ordering) (f : K × X → Y) (p : K × X → Bool) (key : Y → K) (is : (e : K × X) → key (f e) ≡ e.0) where
   below_listed : (k : K) (es : List (K × X)) → T (below_all R k es) → T (below_all R k (map (λ y. (key y, y)) (map f (filter p es))))
   below_listed k [] h = tt
@@ -42,7 +42,7 @@ module _ {K X Y : Type 0} (R : K → K → Ordering) (f : K × X → Y) (p : K �
       by true rest = both _ _ (subst (λ q. T (below_all R q (map (λ y. (key y, y)) (map f (filter p es))))) (sym (is e)) (below_listed e.0 es (first _ _ h))) rest
       by false rest = rest
 
--- a list of the whole that rises, of which each part has its share
+-- a sorted list of the whole, of which each part lists its share
 pub joins : {K Y : Type 0} (o : Order K) (key : Y → K) (list : Holdings → List Y) (block : Y → ℕ) (H : Holdings) (shards : ℕ) → 1 ≤ shards
     → T (is_sorted o.cmp (map (λ y. (key y, y)) (list H))) → ((i : ℕ) → list (cut H i shards) ≡ filter (λ y. shard_of (block y) shards == i) (list H))
     → ordered_by o key (flat_map list (parts H shards)) ≡ list H

@@ -1,4 +1,4 @@
--- What events on the cluster leave of levels.
+-- Which levels stay under events on the cluster.
 use Rattle.std.proofs.Common.{◌≡◌, ◌≢◌, ℕ, Bool, true, false, not, ◌&&◌, Option, Some, None, is_some, List, [], ◌∷◌, map, length, refl, sym, ap, ◌∙◌, true≢false}
 use Rattle.std.specs.Prelude.{◌==◌, option_map, option_and_then, filter_map}
 use Rattle.std.specs.Option.{option_map_or}
@@ -25,8 +25,8 @@ use Rattle.bm_parts.specs.LevelLaws.{IsRacked}
 use Rattle.bm_parts.proofs.Storages.{storages_left, none_leaves, each_where, usable_fails}
 use Rattle.bm_parts.proofs.Deaths.{draining_elsewhere, rack_elsewhere, rack_left, draining_left}
 
--- A level depends on the cluster by the racks of the block's usable replicas, by which of them are
--- on nodes that drain, and by whether there are several racks.
+-- A level depends on the cluster only by the racks of the block's usable replicas, by which of them
+-- are on nodes that drain, and by whether there are several racks.
 
 filter_map_same : (f g : ℕ → Option ℕ) (ss : List ℕ) → Each (λ s. f s ≡ g s) ss → filter_map f ss ≡ filter_map g ss
 filter_map_same f g [] each = refl
@@ -42,12 +42,12 @@ unfolding level
 level_by C D H G b known lives spent each multi =
     λ j. option_and_then (λ (i : BlockInfo). level_of (length (lives j)) (length (spent j)) i.repl (length ((ap (racks D) lives ∙ racks_of_each D C (live C H b) each) j)) (multi j)) (known j)
 
--- a storage stands in cluster D as in C
+-- a storage is on the same rack in D as in C, and drains in D exactly if it does in C
 abbrev pub StandsAlike : Cluster → Cluster → ℕ → Type 0
 StandsAlike C D s = (rack_of D s ≡ rack_of C s) × (is_draining D s ≡ is_draining C s)
 
 module _ (C D : Cluster) (H : Holdings) (gone : ℕ → Bool) (b : ℕ) (stay : (s : ℕ) (m : Marks) → get H.replicas (replica_at b s) ≡ Some m → is_usable m ≡ true → (gone s ≡ false) × StandsAlike C D s) where
-  -- a test of usable replicas and of where they stand
+  -- a test of usable replicas and of whether their storages drain
   tested : (f : Bool → Bool) (s : ℕ) (m : Marks) → get H.replicas (replica_at b s) ≡ Some m → (not (gone s) && (is_usable m && f (is_draining D s))) ≡ (is_usable m && f (is_draining C s))
   tested f s m there = by_test (is_usable m) refl
     where
@@ -73,7 +73,7 @@ module _ (C D : Cluster) (H : Holdings) (gone : ℕ → Bool) (b : ℕ) (stay : 
       (storages_left H gone (is_live_on D) (is_live_on C) b (tested not)) (storages_left H gone (is_drained_on D) (is_drained_on C) b (tested (λ d. d)))
       (each_where (λ s. rack_of D s ≡ rack_of C s) (is_live_on C) H b (λ s m there h. (stay s m there (usable_of (is_usable m) (not (is_draining C s)) h)).1.0)) multi
 
--- where all replicas stay
+-- the same if all replicas stay
 pub level_alike : (C D : Cluster) (H : Holdings) (b : ℕ) → ((s : ℕ) (m : Marks) → get H.replicas (replica_at b s) ≡ Some m → is_usable m ≡ true → StandsAlike C D s)
     → is_multi_rack D ≡ is_multi_rack C → level D H b ≡ level C H b
 level_alike C D H b stay multi =
@@ -100,10 +100,10 @@ heartbeat_leaves_racks C rs = (rack_heard C rs, draining_heard C rs, multi_heard
 pub heartbeat_leaves_levels : law.heartbeat_leaves_levels
 heartbeat_leaves_levels C rs H b = level_alike C (heartbeat C rs) H b (λ s m there u. (rack_heard C rs s, draining_heard C rs s)) (multi_heard C rs)
 
--- Register.
+-- New nodes.
 
 module _ (C : Cluster) (n rack : ℕ) (ss : List ℕ) (new : contains_key C.nodes n ≡ false) (unknown : list_any (knows_storage C) ss ≡ false) where
-  -- a known storage is none of those that are new
+  -- a known storage is none of the new ones
   not_named : (s : ℕ) → contains_key C.storages s ≡ true → (ts : List ℕ) → Each (λ t. knows_storage C t ≡ false) ts
       → Each (λ (e : ℕ × StorageInfo). eq_by_cmp nat_cmp s e.0 ≡ false) (map (λ s. (s, record { node = n; remaining = 0 })) ts)
   unfolding knows_storage
@@ -136,7 +136,7 @@ module _ (C : Cluster) (n rack : ℕ) (ss : List ℕ) (new : contains_key C.node
     ap (λ z. option_map_or (drains (register C n rack ss)) z false) (node_before s i e) ∙ drains_before i.node h,
   )
 
-  -- storages that had a rack stand as before
+  -- a storage that had a rack keeps it, and drains as before
   pub stands_before : (s : ℕ) → is_some (rack_of C s) ≡ true → StandsAlike C (register C n rack ss) s
   unfolding rack_of is_draining node_of
   stands_before s h = alike_by s (get C.storages s) refl h

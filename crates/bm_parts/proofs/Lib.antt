@@ -30,7 +30,7 @@ pub mod Deaths
 pub mod Leveling
 pub mod Drains
 pub mod Racked
--- Where replicas stand.
+-- Where replicas are.
 pub mod WellPlaced
 -- Sorted lists merged.
 pub mod MergedLists

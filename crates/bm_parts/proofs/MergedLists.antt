@@ -36,7 +36,7 @@ take_drop zero xs = refl
 take_drop (suc n) [] = refl
 take_drop (suc n) (x ∷ xs) = ap (λ ys. x ∷ ys) (take_drop n xs)
 
--- a slice from a place to the end
+-- the slice from an index to the end
 pub slice_rest : {X : Type 0} (j : ℕ) (xs : List X) → take (length xs - j) (drop j xs) ≡ drop j xs
 slice_rest zero xs = let e : length xs - 0 ≡ length xs = omega arith in ap (λ n. take n xs) e ∙ take_whole xs
 slice_rest (suc j) [] = take_none (0 - suc j)
@@ -52,14 +52,14 @@ module _ {X : Type 0} where
       → put pair_cmp k v (e ∷ es) ≡ by_order o ((k, v) ∷ e ∷ es) ((e.0, v) ∷ es) (e ∷ put pair_cmp k v es)
   put_by k v e es o is = ap (λ r. by_order r ((k, v) ∷ e ∷ es) ((e.0, v) ∷ es) (e ∷ put pair_cmp k v es)) is
 
-  -- what is put behind an entry leaves it first
+  -- inserting entries that come after the first one leaves it first
   head_stays : (x : (ℕ × ℕ) × X) (xs ys : List ((ℕ × ℕ) × X)) → T (below_all pair_cmp x.0 ys) → put_all (x ∷ xs) ys ≡ x ∷ put_all xs ys
   head_stays x xs [] h = refl
   head_stays x xs (y ∷ ys) h =
       ap (λ es. put_all es ys) (put_by y.0 y.1 x xs Greater (reversed x.0 y.0 Less (less _ (first _ _ h))))
       ∙ head_stays x (put pair_cmp y.0 y.1 xs) ys (second _ _ h)
 
-  -- a list that rises, put into none
+  -- inserting an ascending list into the empty list gives the list
   pub put_into_none : (ys : List ((ℕ × ℕ) × X)) → T (is_sorted pair_cmp ys) → put_all [] ys ≡ ys
   put_into_none [] h = refl
   put_into_none (y ∷ ys) h = head_stays y [] ys (first _ _ h) ∙ ap (λ es. y ∷ es) (put_into_none ys (second _ _ h))
@@ -88,7 +88,7 @@ module _ {X : Type 0} where
   next : (xs : List ((ℕ × ℕ) × X)) (i : ℕ) (x : (ℕ × ℕ) × X) → x ≡ get_or xs i x → i < length xs → drop i xs ≡ x ∷ drop (i + 1) xs
   next xs i x e below = at_drop_more (λ ys. ys) xs i x below ∙ ap (λ y. y ∷ drop (i + 1) xs) (sym e)
 
-  -- one entry goes over to what is merged
+  -- one entry moves from the rest to the merged list
   over : (out more rest all : List ((ℕ × ℕ) × X)) (x : (ℕ × ℕ) × X) (left : List ((ℕ × ℕ) × X)) → more ≡ out ++ x ∷ [] → left ≡ x ∷ rest → out ++ left ≡ all → more ++ rest ≡ all
   over out more rest all x left e f h = ap (λ es. es ++ rest) e ∙ append_assoc out (x ∷ []) rest ∙ ap (λ es. out ++ es) (sym f) ∙ h
 
@@ -118,7 +118,7 @@ module _ {X : Type 0} where
         (two ∙ merge_greater x (drop (i + 1) low) y (drop (j + 1) high) o rises
         ∙ ap (λ es. y ∷ put_all es (drop (j + 1) high)) (sym (next low i x at_low below_low))) so_far
 
-  -- one list is at its end
+  -- one list has no more entries
   pub low_ends : (low high : List ((ℕ × ℕ) × X)) (i j : ℕ) (out all : List ((ℕ × ℕ) × X)) → T (is_sorted pair_cmp high) → length low ≤ i → out ++ put_all (drop i low) (drop j high) ≡ all
       → (out ++ drop i low) ++ drop j high ≡ all
   low_ends low high i j out all sorted past h =
@@ -136,7 +136,7 @@ module _ {X : Type 0} where
       ∙ sym (at_drop_all (λ es. out ++ put_all (drop i low) es) high j past)
       ∙ h
 
--- Lists of lists, merged by halves.
+-- Lists of lists, merged pairwise.
 
 abbrev or_else : {X : Type 0} → Option X → Option X → Option X
 or_else None b = b
@@ -158,7 +158,7 @@ module _ {X : Type 0} where
       ∙ ap (λ o. or_else (or_else (get (insert_all (empty {X = X} {o = by_pair}) es) q) o) (get m q)) (sym (get-insert (empty {X = X} {o = by_pair}) e.0 e.1 q))
       ∙ ap (λ o. or_else o (get m q)) (sym (get-insert_all (insert (empty {X = X} {o = by_pair}) e.0 e.1) es q))
 
-  -- the entries of a map with others put in are those put into its list
+  -- inserting entries into a map inserts them into its list
   pub list-insert_all : (m : Map by_pair X) (es : List ((ℕ × ℕ) × X)) → (insert_all m es).list ≡ put_all m.list es
   unfolding insert
   list-insert_all m [] = refl
@@ -181,7 +181,7 @@ module _ {X : Type 0} where
       same_map (insert_all m n.list) (insert_all m fs) (λ q.
       get-insert_all m n.list q ∙ ap (λ k. or_else (get k q) (get m q)) (own_entries n) ∙ sym (get-insert_all m fs q))
 
-  -- to put in what was put in order first is to put it in
+  -- sorting entries before they are inserted makes no difference
   pub in_order_first : (es fs : List ((ℕ × ℕ) × X)) → T (is_sorted pair_cmp es) → put_all es (put_all [] fs) ≡ put_all es fs
   in_order_first es fs h =
       let m : Map by_pair X = of_sorted {o = by_pair} es in
@@ -211,14 +211,14 @@ module _ {X : Type 0} where
     sorted_back (suc n) [] h = tt
     sorted_back (suc n) (x ∷ xs) h = sorted_back n xs h.1
 
-    -- the merged halves, merged
+    -- merging the two merged halves merges the whole
     pub halves : (n : ℕ) (xs : List L) → put_all (put_all [] (flat_map f (take n xs))) (put_all [] (flat_map f (drop n xs))) ≡ put_all [] (flat_map f xs)
     halves n xs =
         in_order_first (put_all [] (flat_map f (take n xs))) (flat_map f (drop n xs)) (sorted_put_all [] (flat_map f (take n xs)) tt)
         ∙ sym (put_all_append [] (flat_map f (take n xs)) (flat_map f (drop n xs)))
         ∙ ap (put_all []) (sym (flat_append (take n xs) (drop n xs)) ∙ ap (flat_map f) (take_drop n xs))
 
-    -- the only list
+    -- one list alone is merged already
     pub first_of : (xs : List L) (x : L) → length xs ≡ 1 → AreSorted (map f xs) → f (get_or xs 0 x) ≡ put_all [] (flat_map f xs)
     first_of [] x e h = absurd (omega arith)
     first_of (y ∷ []) x e h = sym (put_into_none (f y) h.0) ∙ ap (put_all []) (sym (append-nil (f y)))

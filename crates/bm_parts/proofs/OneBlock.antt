@@ -1,4 +1,4 @@
--- Properties of a block that depend only on its own replicas; an event on another block keeps them.
+-- Properties of a block that depend only on its own replicas: an event on another block keeps them.
 use Rattle.std.proofs.Common.{◌≡◌, ◌≢◌, ℕ, ◌+◌, ◌%◌, Bool, true, false, List, Some, length, sym, ap, ◌∙◌, arith, mod-eq_of_lt, refl}
 use Rattle.std.specs.Prelude.{if◌then◌else◌, option_and_then}
 use Rattle.bm_base.specs.declared.commands.Transfer.{Transfer}
@@ -20,7 +20,7 @@ use Rattle.bm_parts.specs.Settled.{IsSettled}
 use Rattle.bm_parts.proofs.Parts.{cut_is_part, one_part_changed}
 use Rattle.bm_parts.proofs.Storages.{storages_of_same, storages_revised}
 
--- with so many shards that the two blocks are in different ones
+-- the number of shards is so great that the two blocks are in different ones
 module _ (H G : Holdings) (b c : ℕ) (same : cut G c (b + c + 1) ≡ cut H c (b + c + 1)) where
   c_own : shard_of c (b + c + 1) ≡ c
   c_own = mod-eq_of_lt (omega arith)
@@ -64,7 +64,7 @@ unseen : (f : Marks → Bool) → ((m : Marks) → f (record m { ordered = true 
 unseen f same true m = same m
 unseen f same false m = refl
 
--- tests that don't see what is ordered
+-- tests that ignore whether a delete is ordered
 storages_at_end : (p : ℕ → Marks → Bool) → ((s : ℕ) (m : Marks) → p s (record m { ordered = true }) ≡ p s m) → (r : ℕ) (G : Holdings) (ts : List Transfer) (ds : List Delete) (b : ℕ)
     → storages_where p (finished r G ts ds) b ≡ storages_where p G b
 unfolding finished storages_where

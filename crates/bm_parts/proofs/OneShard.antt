@@ -1,4 +1,4 @@
--- An event on one block, made on one shard.
+-- An event on one block needs one shard only.
 use Rattle.std.specs.Prelude.{◌≡◌, ℕ, zero, suc, ◌+◌, ◌<◌, ◌==◌, if◌then◌else◌, List, [], ◌∷◌, Some, is_some, slice_get, slice_set}
 use Rattle.std.proofs.Common.{refl, sym, ap, ◌∙◌, arith, eq-eqb, ne_eqb}
 use Rattle.std.proofs.lemmas.Option.{same_Some}
@@ -17,7 +17,7 @@ use Rattle.bm_parts.specs.Whole.{EachPart, done_of_all}
 use Rattle.bm_parts.specs.EventLaws as law
 use Rattle.bm_parts.proofs.Changing.{whole_changes_by_event, done_adds_up}
 
--- an event on a block leaves the cluster
+-- an event on a block keeps the cluster
 pub same_cluster : (C : Cluster) (e : Event) (b : ℕ) → block_of e ≡ Some b → change_cluster C e ≡ C
 unfolding change_cluster
 same_cluster C (Register n rack ss) b on = cc

@@ -1,4 +1,4 @@
--- What one shard is asked of its block.
+-- Queries that one shard answers about its block.
 use Rattle.std.proofs.Common.{◌≡◌, ℕ, Bool, true, false, ◌&&◌, [], ◌∷◌, Some, refl, ap, subst, ◌∙◌, eqb-true, eq-eqb}
 use Rattle.std.specs.Prelude.{◌==◌, not, is_some, nat_le}
 use Rattle.std.specs.Option.{option_map_or}

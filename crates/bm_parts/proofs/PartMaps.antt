@@ -1,4 +1,4 @@
--- The part of a map whose keys pass, under changes.
+-- The part of a map with the keys that pass, under changes of the map.
 use Rattle.std.proofs.Common.{◌≡◌, Bool, true, false, cond, List, [], ◌∷◌, filter, Option, Some, None, refl, sym, ap, ◌∙◌, true≢false}
 use Rattle.std.specs.Prelude.{option_and_then, option_map}
 use Rattle.std.specs.Ordering.{eq_by_cmp}
@@ -30,7 +30,7 @@ module _ {K X : Type 0} {o : Order K} (p : K → Bool) where
   pub get_out : (m : Map o X) (q : K) → p q ≡ false → get (part m) q ≡ None
   get_out m q h = get-keep m (λ k _. p k) q ∙ none_stays (p q) (get m q) h
 
-  -- a map that answers like m where keys pass, and nothing else, is its part
+  -- a map that answers as m for keys that pass, and has no others, is the part of m
   pub part_is : (m n : Map o X) → ((q : K) → p q ≡ true → get m q ≡ get n q) → ((q : K) → p q ≡ false → get n q ≡ None) → part m ≡ n
   part_is m n inside outside =
       same_map (part m) n (λ q.
@@ -47,14 +47,14 @@ module _ {K X : Type 0} {o : Order K} (p : K → Bool) where
       part_is (revise m f) (revise (part m) f) (λ q t. get-revise m f q ∙ ap (option_map (f q)) (sym (get_in m q t)) ∙ sym (get-revise (part m) f q))
       (λ q t. get-revise (part m) f q ∙ mapped_none (f q) (get (part m) q) (get_out m q t))
 
-  -- changes of other keys
+  -- changes of keys that do not pass
   pub part_revised_others : (m : Map o X) (f : K → X → X) → ((q : K) → p q ≡ true → (x : X) → f q x ≡ x) → part (revise m f) ≡ part m
   part_revised_others m f same = part_same (revise m f) m (λ q t. get-revise m f q ∙ mapped_same (f q) (same q t) (get m q))
 
   pub part_kept_others : (m : Map o X) (r : K → Bool) → ((q : K) → p q ≡ true → r q ≡ true) → part (keep m (λ q _. r q)) ≡ part m
   part_kept_others m r all = part_same (keep m (λ q _. r q)) m (λ q t. get-keep m (λ q _. r q) q ∙ all_stays (r q) (get m q) (all q t))
 
-  -- kept by tests that agree on the keys that pass
+  -- keeping by tests that agree on the keys that pass
   pub part_kept : (m : Map o X) (r s : K → Bool) → ((q : K) → p q ≡ true → r q ≡ s q) → part (keep m (λ q _. r q)) ≡ keep (part m) (λ q _. s q)
   part_kept m r s same =
       part_is (keep m (λ q _. r q)) (keep (part m) (λ q _. s q))

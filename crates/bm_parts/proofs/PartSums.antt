@@ -1,4 +1,4 @@
--- What the parts answer adds up.
+-- The answers of the parts add up to that of the whole.
 use Rattle.std.proofs.Common.{◌≡◌, ℕ, zero, suc, ◌+◌, ◌<◌, ◌≤◌, Bool, true, false, cond, not, is_some, List, [], ◌∷◌, filter, count_by, refl, sym, ap, ◌∙◌, arith, mod-lt, eqb-true, ne_eqb}
 use Rattle.std.specs.Prelude.{◌==◌}
 use Rattle.std.proofs.lemmas.Bool.{eqb-false}
@@ -15,7 +15,7 @@ use Rattle.bm_parts.proofs.PartMaps.{part, get_in}
 use Rattle.bm_parts.proofs.Parts.{parts_changed}
 use Rattle.bm_parts.specs.Parts as law
 
--- how many pass, by recursion
+-- the number of elements that pass, by recursion
 abbrev tally : {X : Type 0} → (X → Bool) → List X → ℕ
 tally p [] = 0
 tally p (x ∷ xs) = cond (p x) (1 + tally p xs) (tally p xs)
@@ -37,7 +37,7 @@ sum_same : (n : ℕ) (f g : ℕ → ℕ) → ((i : ℕ) → f i ≡ g i) → law
 sum_same zero f g h = refl
 sum_same (suc n) f g h = λ i. sum_same n f g h i + h n i
 
--- one for a single shard
+-- c for one shard, 0 for the others
 abbrev one_at : ℕ → ℕ → ℕ → ℕ
 one_at x c i = cond (x == i) c 0
 
@@ -90,7 +90,7 @@ module _ {X : Type 0} (shards : ℕ) (shard : X → ℕ) (below : (x : X) → sh
       ∙ (λ k. sum_one shards (shard x) (cond (p x) 1 0) (below x) k + tallies_add_up xs k)
       ∙ sym (counted_one (p x) (tally p xs))
 
--- tests that agree where a filter passes
+-- tests that agree on the elements that a filter keeps
 same_head : {X : Type 0} (p q : X → Bool) (b : Bool) (x : X) (ys : List X) → (b ≡ true → p x ≡ q x) → tally p ys ≡ tally q ys → tally p (cond b (x ∷ ys) ys) ≡ tally q (cond b (x ∷ ys) ys)
 same_head p q true x ys h e = λ i. cond (h refl i) (1 + e i) (e i)
 same_head p q false x ys h e = e
@@ -103,7 +103,7 @@ module _ (index shards : ℕ) where
   abbrev mine : ReplicaId → Bool
   mine q = shard_of q.block shards == index
 
-  -- what is new in a part
+  -- the new replicas of a part
   new_in_part : (old new : Map by_replica Marks) → new_replicas (part mine old) (part mine new) ≡ tally (λ e. not (contains_key old e.0)) (filter (λ e. mine e.0) (entries new))
   unfolding new_replicas
   new_in_part old new =

@@ -48,7 +48,7 @@ wish_at_cut index shards C H urgency b h =
     then option_and_then (λ i. if nat_lt 0 (counted_cut index shards C H urgency i.repl b h j) then Some (wish_of_cut index shards C H urgency b i h j) else None) (known_cut index shards H b h j)
     else None
 
--- What is made of the keys that pass, where each result passes as its key does.
+-- Results for the keys that pass, if each result passes exactly if its key does.
 module _ {X Y : Type 0} (p : X → Bool) (q : Y → Bool) (f g : X → Option Y) (inside : (x : X) → p x ≡ true → g x ≡ f x) (same : (x : X) (y : Y) → f x ≡ Some y → q y ≡ p x) where
   of_passing : (xs : List X) → filter_map g (filter p xs) ≡ filter q (filter_map f xs)
   of_passing [] = refl

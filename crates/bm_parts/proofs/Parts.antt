@@ -47,7 +47,7 @@ module _ (index shards : ℕ) where
     no_other_pending = λ p e. get_out own_replica H.pending p (ne_eqb _ _ e);
   }
 
-  -- two holdings whose parts agree map by map
+  -- holdings whose parts agree map by map have the same part
   cut_by : (H G : Holdings) → part own H.blocks ≡ part own G.blocks → part own_replica H.replicas ≡ part own_replica G.replicas → part own_replica H.pending ≡ part own_replica G.pending
       → cut H index shards ≡ cut G index shards
   unfolding cut
@@ -83,7 +83,7 @@ module _ (index shards : ℕ) where
   unfolding add_block
   added_other H b stamp repl h = cut_by (add_block H b stamp repl) H (part_inserted_other own H.blocks b (record { stamp = stamp; repl = repl }) h) refl refl
 
-  -- the marks of another block's replicas, and its transfers
+  -- another block's replicas, with changed marks, and its transfers
   remarked_other : (H : Holdings) (b : ℕ) (f : Marks → Marks) → own b ≡ false → part own_replica (revise H.replicas (λ q m. if q.block == b then f m else m)) ≡ part own_replica H.replicas
   remarked_other H b f h = part_revised_others own_replica H.replicas (λ q m. if q.block == b then f m else m) (λ q t m. if_same (q.block == b) (f m) m (other_block b q.block h t))
 
@@ -149,7 +149,7 @@ module _ (index shards : ℕ) where
   found_other H p h =
       cut_by (make_bad H p) H refl (part_revised_others own_replica H.replicas (λ q m. if eq_by_cmp replica_cmp q p then as_bad m else m) (λ q t m. if_same (eq_by_cmp replica_cmp q p) (as_bad m) m (other_tie p q h t))) refl
 
-  -- what is entered depends on the block's part alone
+  -- the marks of an entered replica depend only on the block's part
   entered_own : (H : Holdings) (p : ReplicaId) (stamp : Stamp) → own p.block ≡ true → entered (cut H index shards) p stamp ≡ entered H p stamp
   unfolding cut entered entered_tag was_bad was_excess
   entered_own H p stamp h = entered_by (get_in own_replica H.replicas p h) (get_in own H.blocks p.block h)
@@ -258,7 +258,7 @@ module _ (index shards : ℕ) where
 pub parts_changed : law.parts_change_by_themselves
 parts_changed C H e index shards = part_changed index shards C H e
 
--- an event on another block
+-- an event on a block of another shard
 not_concerned : (C : Cluster) (P : Holdings) (e : Event) (b index shards : ℕ) → law.block_of e ≡ Some b → (shard_of b shards == index) ≡ false → law.change_part C P index shards e ≡ P
 not_concerned C P (FullReport s es) b index shards is other = cc
 not_concerned C P (Register n rack ss) b index shards is other = cc

@@ -34,11 +34,11 @@ use Rattle.bm_parts.specs.Parts.{told_of}
 use Rattle.bm_parts.proofs.Deaths.{rack_elsewhere, rack_left}
 use Rattle.bm_parts.proofs.Leveling.{rack_heard, stands_before}
 
--- where storages that had a rack have it still
+-- all replicas stay on racks if each storage with a rack keeps it
 racked_alike : (C D : Cluster) (H : Holdings) → ((s : ℕ) → is_some (rack_of C s) ≡ true → rack_of D s ≡ rack_of C s) → IsRacked C H → IsRacked D H
 racked_alike C D H same racked q here = let was = racked q here in ap is_some (same q.storage was) ∙ was
 
--- where the storages that stay have theirs
+-- the same if the storages that stay keep their racks
 racked_left : (C D : Cluster) (H : Holdings) (gone : ℕ → Bool) → ((s : ℕ) → gone s ≡ false → rack_of D s ≡ rack_of C s) → IsRacked C H → IsRacked D (without_storages H gone)
 unfolding without_storages
 racked_left C D H gone same racked q here =
@@ -68,7 +68,7 @@ rack_undrained : (C : Cluster) (n s : ℕ) → rack_of (undrain C n) s ≡ rack_
 unfolding undrain rack_of node_of
 rack_undrained C n s = refl
 
--- a node that begins to drain leaves all replicas
+-- a node that begins to drain keeps all replicas
 same_replicas : (C : Cluster) (H : Holdings) (n : ℕ) → (begun_to_drain C H n).replicas ≡ H.replicas
 unfolding begun_to_drain
 same_replicas C H n = by_test (drains C n)
@@ -94,11 +94,11 @@ module _ (C : Cluster) (P : Holdings) (racked : IsRacked C P) where
   either true G h = h
   either false G h = racked
 
-  -- marks that are changed
+  -- replicas whose marks changed
   racked_revised : (f : ReplicaId → Marks → Marks) (q : ReplicaId) (m : Marks) → get (revise P.replicas f) q ≡ Some m → IsSome (get P.replicas q)
   racked_revised f q m e = let was = get_revised P.replicas f q m e in is_there (get P.replicas q) was.0 was.1
 
--- The storage that a report tells of.
+-- The storage of a report.
 
 known_rack : (C : Cluster) (s : ℕ) → IsLawfulCluster C → knows_storage C s ≡ true → IsSome (rack_of C s)
 unfolding rack_of node_of knows_storage

@@ -26,7 +26,7 @@ use Rattle.bm_base.specs.Rounds.{is_commanded, finished}
 use Rattle.std.specs.List.{list_any}
 use Rattle.bm_base.proofs.Maps.{get_kept, get_revised}
 
--- no more are live than are usable
+-- a block has no more live replicas than usable ones
 fewer_live : (C : Cluster) (H : Holdings) (b : ℕ) → length (live C H b) ≤ length (usable H b)
 fewer_live C H b = fewer_where (is_live_on C) (λ _ m. is_usable m) H b (λ s m h. (and_parts (is_usable m) (not (is_draining C s)) h).0)
 
@@ -116,7 +116,7 @@ drain_keeps_settled C H n b settled = by_test (drains C n)
     by_test true = settled
     by_test false = settled_is_of_its_block H (record H { pending = keep H.pending (λ q _. not (has_storage C n q.storage)) }) b refl (λ s. refl) settled
 
--- a delete of another block
+-- deletes of other blocks do not command a replica
 none_commanded : (ds : List Delete) (q : ReplicaId) → list_any (λ d. d.block == q.block) ds ≡ false → is_commanded ds q ≡ false
 unfolding is_commanded
 none_commanded [] q none = refl
@@ -129,7 +129,7 @@ module _ (C : Cluster) (pend r : ℕ) (H : Holdings) (ts : List Transfer) (ds : 
   abbrev begun_round : Holdings
   begun_round = started_holdings C pend r H
 
-  -- the end of the round leaves each of its replicas
+  -- the end of the round changes none of its replicas
   not_ordered : (s : ℕ) → get (finished r begun_round ts ds).replicas (replica_at b s) ≡ get begun_round.replicas (replica_at b s)
   unfolding finished
   not_ordered s =

@@ -1,4 +1,4 @@
--- A list that was sorted is in the order of its keys.
+-- A list that was sorted is ascending by its keys.
 use Rattle.std.proofs.Common.{◌≡◌, Some, List, map, sym, ap, subst, ◌∙◌, T}
 use Rattle.std.specs.Ordering.{eq_by_cmp}
 use Rattle.std.specs.FinMap.{is_sorted}
@@ -14,7 +14,7 @@ use Rattle.bm_base.proofs.Maps.{key_itself, each_entry, passes_entry}
 use Rattle.bm_parts.proofs.Filters.{all_each}
 use Rattle.bm_parts.proofs.Joined.{gathered, values_again}
 
--- what was sorted, and whose keys rise strictly, is what was to be sorted in the order of its keys
+-- a permutation with strictly ascending keys is the list in the order of its keys
 pub sorted_is_ordered : (K X : Type 0) (o : Order K) (key : X → K) (xs ys : List X) → T (is_sorted o.cmp (map (λ y. (key y, y)) ys)) → IsPermutation xs ys → ordered_by o key xs ≡ ys
 unfolding ordered_by
 sorted_is_ordered K X o key xs ys rises moved =

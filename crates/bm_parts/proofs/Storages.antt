@@ -1,4 +1,4 @@
--- Storages of a block's replicas, under changes that leave its replicas' marks.
+-- The storages of a block's replicas, under changes that keep the replicas' marks.
 use Rattle.std.proofs.Common.{◌≡◌, ℕ, ◌≤◌, Bool, true, false, not, ◌&&◌, Option, Some, None, map, filter, length, arith, refl, sym, ap, ◌∙◌, eqb-true, eq-eqb, true≢false}
 use Rattle.std.specs.Prelude.{◌==◌, option_and_then}
 use Rattle.std.specs.List.{list_any}
@@ -19,8 +19,7 @@ use Rattle.bm_base.proofs.Maps.{each_entry, passes_entry}
 use Rattle.bm_parts.proofs.Filters.{filtered_alike, fewer_passing, map_filter, any_shown}
 use Rattle.bm_parts.proofs.PartMaps.{part, part_same}
 
--- Storages of replicas that are left, where a test of what is left comes to a test of what was
--- there.
+-- The storages of the replicas that stay, if p of the ones that stay comes to q of the ones before.
 module _ (H : Holdings) (gone : ℕ → Bool) (p q : ℕ → Marks → Bool) (b : ℕ) (same : (s : ℕ) (m : Marks) → get H.replicas (replica_at b s) ≡ Some m → (not (gone s) && p s m) ≡ q s m) where
   at_entry : (k : ReplicaId) (m : Marks) (t : Bool) → (k.block == b) ≡ t → get H.replicas k ≡ Some m → (not (gone k.storage) && (t && p k.storage m)) ≡ (t && q k.storage m)
   at_entry k m true e is = same k.storage m (ap (λ c. get H.replicas (replica_at c k.storage)) (sym (eqb-true k.block b e)) ∙ is)
@@ -37,7 +36,7 @@ module _ (H : Holdings) (gone : ℕ → Bool) (p q : ℕ → Marks → Bool) (b 
       (each_then (λ e. get H.replicas e.0 ≡ Some e.1) (λ e. (stays e && test e) ≡ ((e.0.block == b) && q e.0.storage e.1)) (entries H.replicas) (each_entry H.replicas) (λ e is. at_entry e.0 e.1 (e.0.block == b) refl is)) in
       ap (map (λ e. e.0.storage)) lists
 
--- where none leaves, all is as before
+-- if nothing leaves, the map stays
 all_kept : {K X : Type 0} {o : Order K} (m : Map o X) → keep m (λ _ _. true) ≡ m
 all_kept m = same_map (keep m (λ _ _. true)) m (λ q. get-keep m (λ _ _. true) q ∙ itself (get m q))
   where
@@ -49,12 +48,11 @@ pub none_leaves : (H : Holdings) → without_storages H (λ _. false) ≡ H
 unfolding without_storages
 none_leaves H = λ i. record H { replicas = all_kept H.replicas i; pending = all_kept H.pending i }
 
--- what holds of the storage of each of the block's replicas that pass
+-- a property of the storages of the block's replicas that pass
 pub each_where : (P : ℕ → Type 0) (p : ℕ → Marks → Bool) (H : Holdings) (b : ℕ) → ((s : ℕ) (m : Marks) → get H.replicas (replica_at b s) ≡ Some m → p s m ≡ true → P s) → Each P (storages_where p H b)
 each_where P p H b holds = each_then (HasOne p H b) P (storages_where p H b) (each_storage p H b) (λ s one. holds s one.0 one.1 one.2)
 
--- where none of the block's usable replicas stands on a storage that passes, the storage of each
--- fails
+-- if t holds of none of the storages of the block's usable replicas, it fails for each of them
 pub usable_fails : (t : ℕ → Bool) (H : Holdings) (b s : ℕ) (m : Marks) → list_any t (usable H b) ≡ false → get H.replicas (replica_at b s) ≡ Some m → is_usable m ≡ true → t s ≡ false
 unfolding storages_where
 usable_fails t H b s m none there can = by_test (t s) refl
@@ -65,7 +63,7 @@ usable_fails t H b s m none there can = by_test (t s) refl
         let one = passes_entry H.replicas (λ e. ((e.0.block == b) && is_usable e.1) && t e.0.storage) (replica_at b s) m there (and_from ((b == b) && is_usable m) (t s) (and_from (b == b) (is_usable m) (eq-eqb b b refl) can) e) in
         absurd (true≢false (sym one ∙ sym (any_shown t (λ (e : ReplicaId × Marks). e.0.storage) (λ e. (e.0.block == b) && is_usable e.1) (entries H.replicas)) ∙ none))
 
--- the block's storages after replicas' marks changed, where the test does not see the change
+-- a block's storages after marks changed, if the test ignores the change
 pub storages_revised : (H : Holdings) (f : ReplicaId → Marks → Marks) (p : ℕ → Marks → Bool) (b : ℕ) → ((q : ReplicaId) (m : Marks) → q.block ≡ b → get H.replicas q ≡ Some m → p q.storage (f q m) ≡ p q.storage m)
     → storages_where p (record H { replicas = revise H.replicas f }) b ≡ storages_where p H b
 unfolding storages_where
@@ -89,7 +87,7 @@ own_replicas p K b =
     sym (ap (λ es. map (λ (e : ReplicaId × Marks). e.0.storage) (filter (λ e. p e.0.storage e.1) es)) (entries-keep by_replica K.replicas (λ q _. q.block == b))
     ∙ ap (map (λ (e : ReplicaId × Marks). e.0.storage)) (filter_filter (λ (e : ReplicaId × Marks). p e.0.storage e.1) (λ e. e.0.block == b) (entries K.replicas)))
 
--- the block's storages by its own replicas
+-- a block's storages depend only on its own replicas
 pub storages_of_same : (p : ℕ → Marks → Bool) (H G : Holdings) (b : ℕ) → ((s : ℕ) → get G.replicas (replica_at b s) ≡ get H.replicas (replica_at b s)) → storages_where p G b ≡ storages_where p H b
 storages_of_same p H G b same =
     own_replicas p G b ∙ ap (λ m. map (λ (e : ReplicaId × Marks). e.0.storage) (filter (λ e. p e.0.storage e.1) (entries m))) (part_same (λ (q : ReplicaId). q.block == b) G.replicas H.replicas alike) ∙ sym (own_replicas p H b)
@@ -97,7 +95,7 @@ storages_of_same p H G b same =
     alike : (q : ReplicaId) → (q.block == b) ≡ true → get G.replicas q ≡ get H.replicas q
     alike q t = let is = eqb-true q.block b t in ap (λ c. get G.replicas (replica_at c q.storage)) is ∙ same q.storage ∙ ap (λ c. get H.replicas (replica_at c q.storage)) (sym is)
 
--- fewer pass a test that wants more
+-- fewer replicas pass a stronger test
 pub fewer_where : (p q : ℕ → Marks → Bool) (H : Holdings) (b : ℕ) → ((s : ℕ) (m : Marks) → p s m ≡ true → q s m ≡ true) → length (storages_where p H b) ≤ length (storages_where q H b)
 unfolding storages_where
 fewer_where p q H b more =

@@ -1,5 +1,5 @@
--- Replicas stay on known storages, a node keeps at most one of a block, and only good ones are in
--- excess.
+-- Replicas stay on known storages, a node keeps at most one replica of a block, and only good ones
+-- are in excess.
 use Rattle.std.proofs.Common.{◌≡◌, ℕ, Bool, true, false, not, ◌&&◌, Some, None, is_some, IsTrue, List, [], ◌∷◌, refl, sym, ap, subst, ◌∙◌, ◌⊎◌, inl, inr, eqb-true}
 use Rattle.std.specs.Prelude.{◌==◌, if◌then◌else◌}
 use Rattle.std.specs.Ordering.{eq_by_cmp, nat_cmp}
@@ -41,7 +41,7 @@ use Rattle.bm_parts.specs.Parts.{told_of}
 pub lawful_is_placed : law.lawful_is_placed
 lawful_is_placed C H L = record { stored = L.stored; once = L.once; excess_is_good = L.excess_is_good }
 
--- G beside D has only replicas that H has beside C, on storages whose nodes stay
+-- G in D has only replicas that H has in C, on storages that keep their nodes
 module _ (C D : Cluster) (H G : Holdings) (L : IsPlaced C H) (was : (p : ReplicaId) → is_some (get G.replicas p) ≡ true → is_some (get H.replicas p) ≡ true)
     (nodes : (p : ReplicaId) → is_some (get G.replicas p) ≡ true → node_of D p.storage ≡ node_of C p.storage)
     (excess : (p : ReplicaId) (m : Marks) → get G.replicas p ≡ Some m → IsTrue m.excess → IsTrue (is_good m.tag)) where
@@ -52,13 +52,13 @@ module _ (C D : Cluster) (H G : Holdings) (L : IsPlaced C H) (was : (p : Replica
     excess_is_good = excess;
   }
 
--- the same replicas
+-- the replicas stay
 same_placed : (C D : Cluster) (H G : Holdings) → G.replicas ≡ H.replicas → ((s : ℕ) → contains_key C.storages s ≡ true → node_of D s ≡ node_of C s) → IsPlaced C H → IsPlaced D G
 same_placed C D H G same stays L =
     let was : (p : ReplicaId) → is_some (get G.replicas p) ≡ true → is_some (get H.replicas p) ≡ true = λ p e. sym (ap (λ m. contains_key m p) same) ∙ e in
     placed_among C D H G L was (λ p e. stays p.storage (L.stored p (was p e))) (λ p m e. L.excess_is_good p m (sym (ap (λ x. get x p) same) ∙ e))
 
--- those on storages that stay
+-- the replicas on storages that stay
 without_placed : (C D : Cluster) (H : Holdings) (gone : ℕ → Bool) → ((s : ℕ) → gone s ≡ false → node_of D s ≡ node_of C s) → IsPlaced C H → IsPlaced D (without_storages H gone)
 unfolding without_storages
 without_placed C D H gone stays L =
@@ -117,7 +117,7 @@ module _ (C : Cluster) (H G : Holdings) (f : ReplicaId → Marks → Marks) (rev
       placed_among C C H G L (λ q e. sym (known_revised H.replicas f q) ∙ sym (ap (λ m. contains_key m q) revised) ∙ e) (λ _ _. refl)
       (λ q m e. let was = get_revised H.replicas f q m (sym (ap (λ x. get x q) revised) ∙ e) in subst (λ (n : Marks). IsTrue n.excess → IsTrue (is_good n.tag)) was.2 (good q was.0 was.1))
 
--- marks where a test passes, none of which is then in excess
+-- marks that change only if a test passes, and are then not in excess
 plain_where : (t : Bool) (f : Marks → Marks) (m : Marks) → (f m).excess ≡ false → (IsTrue m.excess → IsTrue (is_good m.tag)) → IsTrue (if t then f m else m).excess → IsTrue (is_good (if t then f m else m).tag)
 plain_where true f m none good e = absurd (false≢true (sym none ∙ e))
 plain_where false f m none good e = good e

@@ -1,4 +1,4 @@
--- The whole of parts has each of them as its part.
+-- Cutting the whole of several parts gives the parts.
 use Rattle.std.proofs.Common.{◌≡◌, ℕ, zero, suc, ◌+◌, ◌<◌, ◌≤◌, Bool, true, false, ◌&&◌, List, [], ◌∷◌, map, filter, length, refl, sym, ap, subst, ◌∙◌, arith, eqb-true, ne_eqb}
 use Rattle.std.specs.Prelude.{◌==◌}
 use Rattle.std.proofs.lemmas.Bool.{eqb-false}
@@ -16,9 +16,9 @@ use Rattle.bm_parts.proofs.PartMaps.{part, part_is, get_out, part_inserted_all}
 use Rattle.bm_parts.proofs.Parts.{own, own_replica, cut_to, whole_from_parts}
 use Rattle.bm_parts.proofs.Joined.{own_entries}
 
--- One map beside another, where each has keys that pass its own test alone.
+-- The union of two maps, each with keys that pass its own test only.
 
--- no entry passes two tests, one of which fails where the other passes
+-- no element passes two tests that exclude each other
 filter_other : {X : Type 0} (p q : X → Bool) → ((x : X) → p x ≡ true → q x ≡ false) → (xs : List X) → filter q (filter p xs) ≡ []
 filter_other p q other xs = filter_filter q p xs ∙ filter_none (λ x. p x && q x) xs (each_of (λ x. (p x && q x) ≡ false) xs (λ x. fails (p x) (q x) (other x)))
   where
@@ -27,7 +27,7 @@ filter_other p q other xs = filter_filter q p xs ∙ filter_none (λ x. p x && q
     fails false b h = refl
 
 module _ {K X : Type 0} {o : Order K} where
-  -- the part of what is put beside others, where it is all there is of the part
+  -- the part of a union that one of the maps is
   put_own : (p : K → Bool) (m n : Map o X) → part p m ≡ m → part p n ≡ empty → part p (insert_all n (entries m)) ≡ m
   put_own p m n mine none =
       part_inserted_all p n (entries m)
@@ -36,7 +36,7 @@ module _ {K X : Type 0} {o : Order K} where
       own_again : filter (λ e. p e.0) (entries m) ≡ entries m
       own_again = ap (λ k. filter (λ e. p e.0) (entries k)) (sym mine) ∙ ap (filter (λ (e : K × X). p e.0)) (entries-keep o m (λ k _. p k)) ∙ filter_within (λ (e : K × X). p e.0) (λ e. p e.0) (λ e. p e.0) (λ _ _. refl) (λ _ h. h) (entries m) ∙ sym (entries-keep o m (λ k _. p k)) ∙ ap entries mine
 
-  -- the part of others, where nothing that is put is of it
+  -- the part of a union to which one of the maps adds nothing
   put_other : (p q : K → Bool) (m n : Map o X) → part p m ≡ m → ((k : K) → p k ≡ true → q k ≡ false) → part q (insert_all n (entries m)) ≡ part q n
   put_other p q m n mine other =
       part_inserted_all q n (entries m)
@@ -81,7 +81,7 @@ cut_beside_other P W i j shards other mine = λ k. record {
   pending = put_other (own_replica i shards) (own_replica j shards) P.pending W.pending (ap (λ H. H.pending) mine) (λ q. apart i j shards q.block other) k;
 }
 
--- a shard below the first has nothing of the whole
+-- a shard before the first has nothing of the whole
 cut_below : (shards i : ℕ) (Ps : List Holdings) (index : ℕ) → i < index → AreOwn shards index Ps → cut (whole_of Ps) i shards ≡ empty_holdings
 cut_below shards i [] index less each = cut_empty i shards
 cut_below shards i (P ∷ Ps) index less each =
@@ -101,7 +101,7 @@ parts_again shards (P ∷ Ps) index each =
 pub whole_has_its_parts : law.whole_has_its_parts
 whole_has_its_parts Ps shards each long = ap (λ n. parts_from (whole_of Ps) shards 0 n) long ∙ parts_again shards Ps 0 each
 
--- and the parts of the whole are the whole
+-- each part of the whole has its own blocks only
 pub cuts_are_own : (H : Holdings) (shards index n : ℕ) → AreOwn shards index (parts_from H shards index n)
 cuts_are_own H shards index zero = tt
 cuts_are_own H shards index (suc n) = (cut_again H index shards, cuts_are_own H shards (suc index) n)

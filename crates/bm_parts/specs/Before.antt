@@ -6,7 +6,7 @@ use Rattle.bm_base.specs.declared.round.Wish.{Wish}
 use Rattle.bm_base.specs.Ordered.{pair_cmp}
 use Rattle.bm_base.specs.RoundParts.{wish_key}
 
--- whether a level and a block come before a bound; where there is none, each does
+-- whether a level and a block come before a bound; always true without a bound
 abbrev pub is_before : Option (ℕ × ℕ) → ℕ × ℕ → Bool
 is_before None key = true
 is_before (Some bound) key = is_lt (pair_cmp key bound)
@@ -15,6 +15,6 @@ is_before (Some bound) key = is_lt (pair_cmp key bound)
 abbrev pub wishes_before : Option (ℕ × ℕ) → List Wish → List Wish
 wishes_before bound ws = filter (λ w. is_before bound (wish_key w)) ws
 
--- a part with these of its wishes alone
+-- a part with its wishes before a bound only
 abbrev pub part_before : Option (ℕ × ℕ) → RoundPart → RoundPart
 part_before bound p = record p { wishes = wishes_before bound p.wishes }

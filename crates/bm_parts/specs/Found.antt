@@ -1,4 +1,4 @@
--- What a round finds in holdings, by the elements of each of its lists: an ascending list with
+-- What a round finds in holdings, by the elements of each of its lists. An ascending list with
 -- exactly these elements is the list, in whatever order they were found.
 use Rattle.std.specs.Prelude.{◌≡◌, ℕ, ◌-◌, true, nat_le, List, map, Some, IsSome, T}
 use Rattle.std.specs.Ordering.{eq_by_cmp}
@@ -17,17 +17,17 @@ use Rattle.bm_base.specs.Deletes.{is_deletable}
 use Rattle.bm_base.specs.Ordered.{by_pair}
 use Rattle.bm_base.specs.RoundParts.{started_holdings, wish_at, wish_key, delete_key, round_part}
 
--- the keys are ascending, each element passes, and for each that passes one with its key is there
+-- the keys are ascending, each element passes, and the key of each one that passes is in the list
 pub record IsGathered {K X : Type 0} (o : Order K) (key : X → K) (P : X → Type 0) (xs : List X) : Type 0 where
   pub rises : T (is_sorted o.cmp (map (λ x. (key x, x)) xs))
   pub only : All P xs
   pub all : (x : X) → P x → list_any (λ y. eq_by_cmp o.cmp (key x) (key y)) xs ≡ true
 
--- a transfer on its way that is too old in round r
+-- a pending transfer that is too old in round r
 abbrev pub IsExpired : ℕ → ℕ → Holdings → ReplicaId → Type 0
 IsExpired pend r H q = (t : ℕ) × (get H.pending q ≡ Some t) × (nat_le pend (r - t) ≡ true)
 
--- a live replica of which there are too many
+-- a surplus live replica
 abbrev pub IsTooMany : Cluster → Holdings → ReplicaId → Type 0
 IsTooMany C H q = IsSome (get H.replicas q) × (has (excess_in C H q.block) q.storage ≡ true)
 
@@ -40,17 +40,17 @@ abbrev pub IsToDelete : Cluster → Holdings → Delete → Type 0
 IsToDelete C H d =
     (contains_key C.storages d.storage ≡ true) × ((m : Marks) × (get H.replicas (replica_at d.block d.storage) ≡ Some m) × (is_deletable C H (replica_at d.block d.storage) m ≡ true))
 
--- each list of the part as round r begins
+-- each list of the part has exactly its elements as round r begins
 pub record IsFound (C : Cluster) (pend r : ℕ) (H : Holdings) (p : RoundPart) : Type 0 where
   pub expired : IsGathered by_replica (λ (q : ReplicaId). q) (IsExpired pend r H) p.expired
   pub excess : IsGathered by_replica (λ (q : ReplicaId). q) (IsTooMany C (without_unordered_excess (without_expired pend r H))) p.excess
   pub wishes : IsGathered by_pair wish_key (IsWished C (started_holdings C pend r H)) p.wishes
   pub deletes : IsGathered by_pair delete_key (IsToDelete C (started_holdings C pend r H)) p.deletes
 
--- what a round finds is so
+-- what a round finds has this property
 abbrev pub round_part_is_found : Type 0
 round_part_is_found = (C : Cluster) (pend r : ℕ) (H : Holdings) → IsFound C pend r H (round_part C pend r H)
 
--- and nothing else is
+-- and nothing else has it
 abbrev pub found_is_round_part : Type 0
 found_is_round_part = (C : Cluster) (pend r : ℕ) (H : Holdings) (p : RoundPart) → IsFound C pend r H p → p ≡ round_part C pend r H

@@ -1,4 +1,5 @@
--- The storages of replicas, and which are in excess: what events and rounds keep of a part.
+-- Laws on the storages of replicas, and on which are in excess, that events and rounds keep in a
+-- part.
 use Rattle.std.specs.Prelude.{◌≡◌, ℕ, false, IsTrue, List, Some, None, IsSome}
 use Rattle.bm_base.specs.declared.commands.Transfer.{Transfer}
 use Rattle.bm_base.specs.declared.commands.Delete.{Delete}
@@ -15,7 +16,7 @@ use Rattle.bm_base.specs.RoundParts.{round_on_part}
 use Rattle.bm_base.specs.Lawful.{IsLawfulCluster, IsLawfulHoldings}
 use Rattle.bm_parts.specs.Parts.{change_part}
 
--- replicas as a cluster allows them
+-- the laws that a cluster sets for replicas
 pub record IsPlaced (C : Cluster) (H : Holdings) : Type 0 where
   -- each replica is on a known storage
   pub stored : (p : ReplicaId) → IsSome (get H.replicas p) → IsTrue (contains_key C.storages p.storage)
@@ -24,21 +25,21 @@ pub record IsPlaced (C : Cluster) (H : Holdings) : Type 0 where
   -- only good replicas are in excess
   pub excess_is_good : (p : ReplicaId) (m : Marks) → get H.replicas p ≡ Some m → IsTrue m.excess → IsTrue (is_good m.tag)
 
--- those of lawful holdings are so
+-- lawful holdings keep these laws
 abbrev pub lawful_is_placed : Type 0
 lawful_is_placed = (C : Cluster) (H : Holdings) → IsLawfulHoldings C H → IsPlaced C H
 
--- and those of a part, where an event that the cluster does not refuse comes
+-- an event that the cluster does not refuse keeps them in a part
 abbrev pub event_keeps_placed : Type 0
 event_keeps_placed =
     (C : Cluster) (P : Holdings) (e : Event) (index shards : ℕ) → IsLawfulCluster C → first_of (cluster_checks C e) ≡ None → IsPlaced C P
     → IsPlaced (change_cluster C e) (change_part C P index shards e)
 
--- for a report of a known storage with any blocks
+-- a report of a known storage keeps them, whatever blocks it lists
 abbrev pub report_keeps_placed : Type 0
 report_keeps_placed = (C : Cluster) (P : Holdings) (s : ℕ) (ts : List Told) → IsTrue (contains_key C.storages s) → IsPlaced C P → IsPlaced C (report C P s ts)
 
--- and in a round
+-- a round keeps them
 abbrev pub round_keeps_placed : Type 0
 round_keeps_placed =
     (C : Cluster) (pend r : ℕ) (P : Holdings) (index shards : ℕ) (ts : List Transfer) (ds : List Delete) → IsPlaced C P → IsPlaced C (round_on_part C pend r P index shards ts ds)

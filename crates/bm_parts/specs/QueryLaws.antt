@@ -17,7 +17,7 @@ use Rattle.bm_base.specs.Ordered.{ordered_by}
 use Rattle.bm_parts.specs.Parts.{block_of}
 use Rattle.bm_parts.specs.Whole.{parts}
 
--- What all shards are asked.
+-- Queries to all shards.
 
 abbrev pub replica_key : Replica → ReplicaId
 replica_key r = replica_at r.block r.storage
@@ -25,7 +25,7 @@ replica_key r = replica_at r.block r.storage
 abbrev pub replicas_join : Type 0
 replicas_join = (H : Holdings) (shards : ℕ) → 1 ≤ shards → ordered_by by_replica replica_key (flat_map all_replicas (parts H shards)) ≡ all_replicas H
 
--- so those whose marks pass a test, as those that are corrupt, and those in excess
+-- the same of the replicas whose marks pass a test, like corrupt ones and those in excess
 abbrev pub marked_replicas_join : Type 0
 marked_replicas_join =
     (p : Marks → Bool) (H : Holdings) (shards : ℕ) → 1 ≤ shards → ordered_by by_replica (λ (q : ReplicaId). q) (flat_map (replicas_where p) (parts H shards)) ≡ replicas_where p H
@@ -43,21 +43,21 @@ tables_join = (H : Holdings) (shards : ℕ) → 1 ≤ shards → ordered_by by_n
 unfoldable pub holds_back : Cluster → ℕ → Holdings → Bool
 holds_back C n H = list_any (is_held_back_by C H n) (keys H.blocks)
 
--- a node is held back by the whole exactly where it is by some part
+-- the whole holds a node back exactly if some part does
 abbrev pub held_back_by_some_part : Type 0
 held_back_by_some_part = (C : Cluster) (n : ℕ) (H : Holdings) (shards : ℕ) → 1 ≤ shards → list_any (holds_back C n) (parts H shards) ≡ holds_back C n H
 
--- so it is retired where it drains and no part holds it back
+-- a node is retired exactly if it drains and no part holds it back
 abbrev pub retired_by_all_parts : Type 0
 retired_by_all_parts = (C : Cluster) (n : ℕ) (H : Holdings) (shards : ℕ) → 1 ≤ shards → is_retired C H n ≡ (drains C n && not (list_any (holds_back C n) (parts H shards)))
 
--- A query of one block is answered by its shard.
+-- A block's shard answers a query about the block.
 
 abbrev pub own_shard_answers : Type 0
 own_shard_answers =
     (C : Cluster) (H : Holdings) (b shards : ℕ) → let P = cut H (shard_of b shards) shards in
     (block_refusal P b ≡ block_refusal H b) × (places P b ≡ places H b) × (level C P b ≡ level C H b)
 
--- and so are the checks of an event on one block
+-- the block's shard makes the checks of an event on the block
 abbrev pub own_shard_checks : Type 0
 own_shard_checks = (H : Holdings) (e : Event) (b shards : ℕ) → block_of e ≡ Some b → block_checks (cut H (shard_of b shards) shards) e ≡ block_checks H e

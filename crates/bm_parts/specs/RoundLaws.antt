@@ -14,20 +14,20 @@ use Rattle.bm_base.specs.Choices.{merged_wishes, merged_deletes, chosen_transfer
 use Rattle.bm_parts.specs.Whole.{whole_of, parts, AreOwn, EachPart}
 use Rattle.bm_parts.specs.EventLaws.{IsWholeOf}
 
--- the parts of round r, as the shards find them
+-- the round parts that the shards find in round r
 abbrev pub round_parts : Cluster → ℕ → ℕ → Holdings → ℕ → List RoundPart
 round_parts C pend r H shards = map (round_part C pend r) (parts H shards)
 
--- parts, each as a round leaves it in which these transfers and deletes were chosen
+-- each part is left by a round that chose these transfers and deletes
 abbrev pub AreLeftBy : Cluster → ℕ → ℕ → List Transfer → List Delete → ℕ → List Holdings → List Holdings → Type 0
 AreLeftBy C pend r ts ds shards Ps Qs = EachPart (λ index P Q. Q ≡ round_on_part C pend r P index shards ts ds) 0 Ps Qs
 
--- a round begins in each part as in the whole
+-- a round's start in a part is the part of the round's start
 abbrev pub start_cuts_to_start : Type 0
 start_cuts_to_start =
     (C : Cluster) (pend r : ℕ) (H : Holdings) (index shards : ℕ) → cut (started_holdings C pend r H) index shards ≡ started_holdings C pend r (cut H index shards)
 
--- and ends in each part as in the whole, if each part gets its own transfers and deletes alone
+-- a round's end in a part, with its own transfers and deletes only, is the part of the round's end
 abbrev pub end_cuts_to_end : Type 0
 end_cuts_to_end =
     (C : Cluster) (pend r : ℕ) (H : Holdings) (ts : List Transfer) (ds : List Delete) (index shards : ℕ)
@@ -38,25 +38,25 @@ abbrev pub wishes_join : Type 0
 wishes_join =
     (C : Cluster) (pend r : ℕ) (H : Holdings) (shards : ℕ) → 1 ≤ shards → merged_wishes (round_parts C pend r H shards) ≡ wishes_by_block C (started_holdings C pend r H)
 
--- and so are the replicas that are to be deleted
+-- the deletable replicas of the parts, sorted, are those of the whole
 abbrev pub deletes_join : Type 0
 deletes_join =
     (C : Cluster) (pend r : ℕ) (H : Holdings) (shards : ℕ) → 1 ≤ shards → merged_deletes (round_parts C pend r H shards) ≡ deletable C (started_holdings C pend r H)
 
--- so of the parts the same transfers are chosen as of the whole
+-- the transfers that are chosen from the parts are those chosen from the whole
 abbrev pub parts_choose_transfers : Type 0
 parts_choose_transfers =
     (limits : RoundLimits) (C : Cluster) (r : ℕ) (H : Holdings) (shards : ℕ) → 1 ≤ shards
     → chosen_transfers limits C (round_parts C limits.pend r H shards) ≡ transfers limits C (started_holdings C limits.pend r H)
 
--- and the same deletes
+-- the deletes that are chosen from the parts are those chosen from the whole
 abbrev pub parts_choose_deletes : Type 0
 parts_choose_deletes =
     (limits : RoundLimits) (C : Cluster) (r : ℕ) (H : Holdings) (shards : ℕ) → 1 ≤ shards
     → chosen_deletes limits C (round_parts C limits.pend r H shards) ≡ deletes limits C (started_holdings C limits.pend r H)
 
--- the whole round in these words: it commands what is chosen from the parts, and has the state
--- after these transfers and deletes
+-- the whole round, by its parts: it commands what is chosen from them, and the next state has these
+-- transfers and deletes
 abbrev pub whole_round_is : Type 0
 whole_round_is =
     (M : State) (shards : ℕ) → 1 ≤ shards

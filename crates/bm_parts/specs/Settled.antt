@@ -1,4 +1,4 @@
--- Blocks at which a round need not look for marks or deletes.
+-- Blocks that a round need not scan for marks or deletes.
 use Rattle.std.specs.Prelude.{◌≡◌, ℕ, ◌≤◌, Bool, false, ◌==◌, List, [], length, Some}
 use Rattle.std.specs.List.{list_any}
 use Rattle.bm_base.specs.declared.commands.Transfer.{Transfer}
@@ -17,12 +17,12 @@ use Rattle.bm_base.specs.Events.{without_storages, begun_to_drain}
 use Rattle.bm_base.specs.Rounds.{finished}
 use Rattle.bm_base.specs.RoundParts.{started_holdings}
 
--- good, not in excess and not ordered
+-- the marks of a replica that is good, not in excess and not ordered
 abbrev pub plain : Marks
 plain = record { tag = Good; excess = false; ordered = false }
 
--- All replicas of the block are good ones with no mark, and there are no more of them than are
--- wanted, whichever nodes drain.
+-- All replicas of the block are good without marks, and there are no more of them than are wanted,
+-- whichever nodes drain.
 pub record IsSettled (H : Holdings) (b : ℕ) : Type 0 where
   pub all_plain : (q : ReplicaId) (m : Marks) → q.block ≡ b → get H.replicas q ≡ Some m → m ≡ plain
   pub few : (i : BlockInfo) → get H.blocks b ≡ Some i → length (usable H b) ≤ i.repl
@@ -33,7 +33,7 @@ settled_is_left =
     (C : Cluster) (pend r : ℕ) (H : Holdings) (b : ℕ) → IsSettled H b → let G = started_holdings C pend r H in
     (excess_in C (without_unordered_excess (without_expired pend r H)) b ≡ []) × (live C G b ≡ live C H b) × (drained C G b ≡ drained C H b) × (level C G b ≡ level C H b)
 
--- and none of its replicas is to be deleted
+-- a round deletes none of its replicas
 abbrev pub settled_is_kept : Type 0
 settled_is_kept =
     (C : Cluster) (pend r : ℕ) (H : Holdings) (q : ReplicaId) (m : Marks) → IsSettled H q.block
@@ -41,20 +41,20 @@ settled_is_kept =
 
 -- Which changes leave a block settled.
 
--- whether it is settled depends only on what is known of it and on its own replicas
+-- whether a block is settled depends only on its information and on its own replicas
 abbrev pub settled_is_of_its_block : Type 0
 settled_is_of_its_block =
     (H G : Holdings) (b : ℕ) → get G.blocks b ≡ get H.blocks b → ((s : ℕ) → get G.replicas (replica_at b s) ≡ get H.replicas (replica_at b s)) → IsSettled H b → IsSettled G b
 
--- replicas may leave
+-- a block stays settled if replicas leave
 abbrev pub leaving_keeps_settled : Type 0
 leaving_keeps_settled = (H : Holdings) (gone : ℕ → Bool) (b : ℕ) → IsSettled H b → IsSettled (without_storages H gone) b
 
--- nodes may begin to drain
+-- a block stays settled if nodes begin to drain
 abbrev pub drain_keeps_settled : Type 0
 drain_keeps_settled = (C : Cluster) (H : Holdings) (n b : ℕ) → IsSettled H b → IsSettled (begun_to_drain C H n) b
 
--- and a round that deletes none of its replicas keeps it settled
+-- a block stays settled in a round that deletes none of its replicas
 abbrev pub round_keeps_settled : Type 0
 round_keeps_settled =
     (C : Cluster) (pend r : ℕ) (H : Holdings) (ts : List Transfer) (ds : List Delete) (b : ℕ) → list_any (λ d. d.block == b) ds ≡ false → IsSettled H b

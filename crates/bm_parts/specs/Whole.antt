@@ -15,7 +15,7 @@ beside P Q = record {
   pending = insert_all Q.pending (entries P.pending);
 }
 
--- what all of them hold
+-- the union of all these holdings
 abbrev pub whole_of : List Holdings → Holdings
 whole_of [] = empty_holdings
 whole_of (P ∷ Ps) = beside P (whole_of Ps)
@@ -28,12 +28,12 @@ parts_from H shards index n = map (λ i. cut H i shards) (count_up index n)
 abbrev pub parts : Holdings → ℕ → List Holdings
 parts H shards = parts_from H shards 0 shards
 
--- each holds blocks of its own numbers alone, where the first has this index
+-- each of these parts has blocks of its own shard only; the first shard has this index
 abbrev pub AreOwn : ℕ → ℕ → List Holdings → Type 0
 AreOwn shards index [] = Unit {0}
 AreOwn shards index (P ∷ Ps) = (cut P index shards ≡ P) × AreOwn shards (suc index) Ps
 
--- of two lists of parts, pairwise at the same index, from this index on
+-- R holds of the two lists of parts pairwise, at each index from this one on
 abbrev pub EachPart : (ℕ → Holdings → Holdings → Type 0) → ℕ → List Holdings → List Holdings → Type 0
 EachPart R index [] [] = Unit {0}
 EachPart R index (P ∷ Ps) (Q ∷ Qs) = R index P Q × EachPart R (suc index) Ps Qs
@@ -49,6 +49,6 @@ done_of_all _ _ = record { added = 0; removed = 0 }
 abbrev pub parts_are_the_whole : Type 0
 parts_are_the_whole = (H : Holdings) (shards : ℕ) → 1 ≤ shards → whole_of (parts H shards) ≡ H
 
--- and the parts of a whole that was put together are those of which it was
+-- cutting a whole gives the parts of which it was made
 abbrev pub whole_has_its_parts : Type 0
 whole_has_its_parts = (Ps : List Holdings) (shards : ℕ) → AreOwn shards 0 Ps → shards ≡ length Ps → parts (whole_of Ps) shards ≡ Ps

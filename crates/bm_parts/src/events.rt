@@ -29,7 +29,7 @@ pub fn block_of(event: &Event) -> Option<BlockId>
     }
 }
 
-/// Where an event is made on every part, it is made on the whole.
+/// An event that is applied to every part is applied to the whole.
 pub fn whole_changes_by_event()
     ensures { law.whole_changes_by_event }
 {}

@@ -3,7 +3,7 @@
 
 ghost use Rattle.bm_parts.specs.LevelLaws as law;
 
-/// A block's level depends only on what is known of it and on its own replicas.
+/// A block's level depends only on its information and on its own replicas.
 pub fn level_is_of_its_block()
     ensures { law.level_is_of_its_block }
 {}

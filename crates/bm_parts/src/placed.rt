@@ -1,4 +1,4 @@
-// Where replicas stand, and which are in excess: what events and rounds keep of a part.
+// Laws on the storages of replicas, and on which are in excess, that events and rounds keep.
 #![tactic(auto)]
 
 ghost use Rattle.bm_parts.specs.PlacedLaws as law;
@@ -9,7 +9,7 @@ pub fn lawful_is_placed()
     ensures { law.lawful_is_placed }
 {}
 
-/// An event that the cluster does not refuse keeps that of the replicas of a part.
+/// An event that the cluster does not refuse keeps these laws in a part.
 pub fn event_keeps_placed()
     ensures { law.event_keeps_placed }
 {}

@@ -1,4 +1,4 @@
-// What parts are asked, joined.
+// The answers of parts, joined.
 #![tactic(auto)]
 
 ghost use Rattle.bm_parts.specs.QueryLaws as law;
@@ -8,7 +8,7 @@ pub fn replicas_join()
     ensures { law.replicas_join }
 {}
 
-/// So are those whose marks pass a test, as the corrupt ones, and those in excess.
+/// So are those whose marks pass a test, like the corrupt ones, and those in excess.
 pub fn marked_replicas_join()
     ensures { law.marked_replicas_join }
 {}
@@ -28,12 +28,12 @@ pub fn tables_join()
     ensures { law.tables_join }
 {}
 
-/// A node is held back by some block of the whole exactly where it is by some block of some part.
+/// Some block of the whole holds a node back exactly if some block of some part does.
 pub fn held_back_by_some_part()
     ensures { law.held_back_by_some_part }
 {}
 
-/// A node is retired exactly where it drains and no part holds it back.
+/// A node is retired exactly if it drains and no part holds it back.
 pub fn retired_by_all_parts()
     ensures { law.retired_by_all_parts }
 {}

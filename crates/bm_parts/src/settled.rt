@@ -14,17 +14,17 @@ pub fn settled_is_kept()
     ensures { law.settled_is_kept }
 {}
 
-/// Whether a block is settled depends only on what is known of it and on its own replicas.
+/// Whether a block is settled depends only on its information and on its own replicas.
 pub fn settled_is_of_its_block()
     ensures { law.settled_is_of_its_block }
 {}
 
-/// A settled block stays settled where storages leave with their replicas.
+/// A settled block stays settled if storages leave with their replicas.
 pub fn leaving_keeps_settled()
     ensures { law.leaving_keeps_settled }
 {}
 
-/// A settled block stays settled where a node begins to drain.
+/// A settled block stays settled if a node begins to drain.
 pub fn drain_keeps_settled()
     ensures { law.drain_keeps_settled }
 {}

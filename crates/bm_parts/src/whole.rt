@@ -8,7 +8,7 @@ pub fn parts_are_the_whole()
     ensures { law.parts_are_the_whole }
 {}
 
-/// Parts that each hold blocks of their own numbers alone are the parts of what they are together.
+/// Parts that each hold only blocks of their own numbers are the parts of their whole.
 pub fn whole_has_its_parts()
     ensures { law.whole_has_its_parts }
 {}

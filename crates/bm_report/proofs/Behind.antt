@@ -1,4 +1,4 @@
--- The slots after the delimiter, as slots are linked and moved before it.
+-- The slots after the delimiter when slots are linked, or moved, before it.
 use Rattle.std.proofs.Common.{◌≡◌, ◌≢◌, ℕ, List, [], ◌∷◌, eqb, false, refl, inl, inr, sym, ◌∙◌}
 use Rattle.std.proofs.lemmas.Bool.{cases_Bool, eqb-true, ne_eqb}
 use Rattle.bm_base.specs.SlotLists.{Among, Distinct, without}
@@ -31,18 +31,18 @@ after-without d x (y ∷ ys) apart distinct =
     ]
 
 module _ (old new : Contents) (s slot : ℕ) (delimiter : new.delimiter ≡ old.delimiter) (apart : slot ≢ old.delimiter) where
-  -- linked in front
+  -- a slot is linked at the head
   pub behind-linked : (Among slot (list_of old s) → ⊥) → list_of new s ≡ slot ∷ list_of old s → behind new s ≡ without slot (behind old s)
   behind-linked absent list =
       (λ i. after (delimiter i) (list i)) ∙ after-front old.delimiter slot (list_of old s) apart
       ∙ sym (without-absent slot (behind old s) (λ m. absent (Among-after old.delimiter slot (list_of old s) m)))
 
-  -- moved to the front
+  -- a slot is moved to the head
   pub behind-moved : Distinct (list_of old s) → list_of new s ≡ slot ∷ without slot (list_of old s) → behind new s ≡ without slot (behind old s)
   behind-moved distinct list =
       (λ i. after (delimiter i) (list i)) ∙ after-front old.delimiter slot (without slot (list_of old s)) apart
       ∙ after-without old.delimiter slot (list_of old s) apart distinct
 
-  -- as before
+  -- the list stays
   pub behind-kept : list_of new s ≡ list_of old s → behind new s ≡ behind old s
   behind-kept list = λ i. after (delimiter i) (list i)

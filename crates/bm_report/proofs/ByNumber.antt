@@ -32,7 +32,7 @@ named-ids a b ts e = ap (named_by_ids ts) e
 split : (a : Contents) (xs ys : List Told) → named_of a (xs ++ ys) ≡ named_of a xs ++ named_of a ys
 split a xs ys = map-append (named_in a) xs ys
 
--- numbers that have their places are looked up
+-- numbers that have their entries are looked up
 is_at : (P : ℕ → Type 0) (o : Option ℕ) → IsSomeAnd o P → o ≡ Some (unwrap_or o 0)
 is_at P None h = absurd h
 is_at P (Some x) h = refl
@@ -66,7 +66,7 @@ pub told_back : (a : Contents) (ts : List Told) → map told_of (named_of a ts) 
 told_back a [] = refl
 told_back a (t ∷ ts) = ap (λ l. t ∷ l) (told_back a ts)
 
--- with the slots of another arena that has the same numbers
+-- the same with the slots of an arena that has the same numbers
 pub entered_as : (C : Cluster) (s : ℕ) (ts : List Told) (a b c : Contents) → b.ids ≡ a.ids → IsEntered C s (named_of b ts) b c → IsEntered C s (named_of a ts) b c
 entered_as C s ts a b c e f = let P : List Named → Type 0 = λ l. IsEntered C s l b c in subst P (named-ids a b ts e) f
 
@@ -76,7 +76,7 @@ counted_as C s ts a b c t u e f = let P : List Named → Type 0 = λ l. IsCounte
 pub drops_as : (s : ℕ) (ts : List Told) (a b c : Contents) → b.ids ≡ a.ids → DropsLostExcess s (named_of b ts) b c → DropsLostExcess s (named_of a ts) b c
 drops_as s ts a b c e f = let P : List Named → Type 0 = λ l. DropsLostExcess s l b c in subst P (named-ids a b ts e) f
 
--- so many numbers are told to a part as all entries name, at most
+-- the reported numbers of a part are at most those that the entries name
 length-filter_le : {X : Type 0} (p : X → Bool) (xs : List X) → length (filter p xs) ≤ length xs
 length-filter_le p [] = omega arith
 length-filter_le p (x ∷ xs) = by (p x) (filter p xs) (length-filter_le p xs)
@@ -88,7 +88,7 @@ length-filter_le p (x ∷ xs) = by (p x) (filter p xs) (length-filter_le p xs)
 pub few_told : (p : Part) (es : List Entry) (n : ℕ) → numbers_in es ≤ n → length (told_to p es) ≤ n
 few_told p es n few = let h = length-filter_le (λ (t : Told). shard_of t.id p.shards == p.index) (expanded es) in let e = length-expanded es in omega (arith, few, h, e)
 
--- of the numbers `all` those that are left are still to be entered
+-- `rest` are the numbers of `all` that are still to be entered
 module _ (C : Cluster) (s : ℕ) (all : List Told) (first : Contents) (t : Tally) where
   abbrev pub IsLeft : List Told → Contents → Tally → Type 0
   IsLeft rest now u = (now.ids ≡ first.ids) × IsUnderway C s (named_of first all) (named_of first rest) first now t u
@@ -128,7 +128,7 @@ module _ (C : Cluster) (s : ℕ) (all : List Told) (first : Contents) (t : Tally
   pub left-last : (now : Contents) (u : Tally) → IsLeft [] now u → IsEntered C s (named_of first all) first now × IsCounted C s (named_of first all) first now t u
   left-last now u f = underway-last C s (named_of first all) [] first now t u refl f.1
 
--- and with lost excess still to be dropped
+-- `rest` are the numbers of `all` whose lost excess is still to be dropped
 module _ (s : ℕ) (all : List Told) (first : Contents) where
   abbrev pub HasExcessToDrop : List Told → Contents → Type 0
   HasExcessToDrop rest now =
@@ -158,7 +158,7 @@ module _ (s : ℕ) (all : List Told) (first : Contents) where
   pub to_drop-last : (now : Contents) → HasExcessToDrop [] now → DropsLostExcess s (named_of first all) first now
   to_drop-last now f = f.2 now (drops-same s [] now refl)
 
--- the slot of a told number
+-- the slot of a reported number
 pub told_slot : (a : Contents) (s : ℕ) (ts : List Told) → ((b : ℕ) → IsTrue (is_named ts b) → HasPlace a s b) → (slot : ℕ) → Among slot (map slot_in (named_of a ts)) → (b : ℕ) × IsTrue (is_named ts b) × (slot_of a b ≡ Some slot)
 told_slot a s ts places slot m = in_list ts (here_of a s ts places) slot m
   where

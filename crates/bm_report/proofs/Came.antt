@@ -1,4 +1,4 @@
--- Which slots are listed as the blocks of named numbers are entered: theirs alone.
+-- Entering the blocks of named numbers lists only their slots.
 use Rattle.std.proofs.Common.{◌≡◌, ◌⊎◌, ℕ, zero, suc, List, [], ◌∷◌, ◌++◌, map, Some, inl, inr, subst, sym, ap, ◌∙◌}
 use Rattle.std.specs.Prelude.{slice_get}
 use Rattle.std.proofs.lemmas.Option.{none-some, same_Some}
@@ -10,7 +10,7 @@ use Rattle.bm_report.specs.Midway.{AreHere, slot_in, told_of}
 use Rattle.bm_report.specs.Ready.{IsToldAt}
 use Rattle.bm_report.proofs.ByNumber.{first_named, then_named}
 
--- all that is listed was listed before, or is a slot of these numbers
+-- each listed slot was listed before, or is that of one of these numbers
 abbrev pub Came : List Named → List ℕ → List ℕ → Type 0
 Came ns before after = (slot : ℕ) → Among slot after → Among slot before ⊎ Among slot (map slot_in ns)
 
@@ -28,13 +28,13 @@ pub slots-back : (ns ms : List Named) (slot : ℕ) → Among slot (map slot_in m
 slots-back [] ms slot h = h
 slots-back (n ∷ ns) ms slot h = inr (slots-back ns ms slot h)
 
--- one slot was pushed
+-- one slot is pushed
 pub came-push : (slot : ℕ) (xs ys : List ℕ) → ys ≡ xs ++ slot ∷ [] → (x : ℕ) → Among x ys → Among x xs ⊎ (x ≡ slot)
 came-push slot xs ys is x m =
     let P : List ℕ → Type 0 = λ l. Among x l in
     elim (Among-append x xs (slot ∷ []) (subst P is m)) [ inl was ↦ inl was | inr (inl same) ↦ inr same | inr (inr none) ↦ absurd none ]
 
--- a slot of named numbers that stand there is that of a number that is told
+-- the slot of a named number is that of a reported number
 pub slot-told : (a : Contents) (ns : List Named) (slot : ℕ) → AreHere a ns → Among slot (map slot_in ns) → IsToldAt a (map told_of ns) slot
 slot-told a [] slot here m = absurd m
 slot-told a (n ∷ ns) slot here (inl same) = (n.id, first_named (told_of n) (map told_of ns), here.0 ∙ ap (λ k. Some k) (sym same))

@@ -1,4 +1,4 @@
--- One named block entered, and many one after another.
+-- Entering one named block, and many one after another.
 use Rattle.std.proofs.Common.{◌≡◌, ◌≢◌, map, inl, inr, ℕ, suc, ◌+◌, ◌≤◌, Bool, true, false, cond, not, ◌||◌, List, [], ◌∷◌, ◌++◌, Option, Some, None, is_some, IsSome, refl, subst, sym, ap, ◌∙◌, arith, add-one, length-append}
 use Rattle.std.specs.Option.{option_and_then}
 use Rattle.std.specs.Map.{lookup}
@@ -23,7 +23,7 @@ pub entered_one_is : (C : Cluster) (B : Map by_number BlockInfo) (s : ℕ) (n : 
 unfolding entered_one
 entered_one_is C B s n K = refl
 
--- what a block's marks are to be, by its slot
+-- the marks that a block gets, by its slot
 module _ (C : Cluster) (a : Contents) (s : ℕ) (n : Named) (here : slot_of a n.id ≡ Some n.slot) (was : Option Marks) (was_is : was ≡ marks_at a n.slot s) (marks : Marks)
     (marks_is : marks ≡ midway_marks (info_at a n.slot) was n.stamp) where
   got : get (replicas_of a) (replica_at n.id s) ≡ was
@@ -55,7 +55,7 @@ both_good true t e = absurd (false≢true (sym e))
 both_good false true e = (refl, refl)
 both_good false false e = absurd (false≢true (sym e))
 
--- one block entered
+-- one block is entered
 module _ (C : Cluster) (a c : Contents) (s : ℕ) (n : Named) (here : slot_of a n.id ≡ Some n.slot) (was : Option Marks) (was_is : was ≡ marks_at a n.slot s) (marks : Marks)
     (marks_is : marks ≡ midway_marks (info_at a n.slot) was n.stamp) (behind_is : behind c s ≡ without n.slot (behind a s)) (frame : IsFramed s a c) where
   module _ (replicas : replicas_of c ≡ entered_at C (replicas_of a) (replica_at n.id s) marks) where
@@ -126,7 +126,7 @@ module _ (C : Cluster) (a c : Contents) (s : ℕ) (n : Named) (here : slot_of a 
           good = stays_good replicas_too t.has_lost_excess is_good_too good_is;
         })
 
--- none entered
+-- no block is entered
 pub entered-none : (C : Cluster) (s : ℕ) (a : Contents) → IsEntered C s [] a a
 entered-none C s a = record { replicas = refl; behind = refl; frame = framed-none s a; others = λ x out. refl }
 
@@ -141,7 +141,7 @@ counted-none C s a t = record {
   good = λ e. (e, λ good. good);
 }
 
--- some and then others
+-- entering two lists one after the other
 entered_all-append : (C : Cluster) (B : Map by_number BlockInfo) (s : ℕ) (xs ys : List Named) (K : Held) → entered_all C B s (xs ++ ys) K ≡ entered_all C B s ys (entered_all C B s xs K)
 entered_all-append C B s [] ys K = refl
 entered_all-append C B s (x ∷ xs) ys K = entered_all-append C B s xs ys (entered_one C B s x K)
@@ -186,7 +186,7 @@ module _ (C : Cluster) (s : ℕ) (xs ys : List Named) (a b c : Contents) (f : Is
         good = λ e. let y = q.good e in let x = p.good y.0 in (x.0, λ good. y.1 (x.1 good));
       }
 
--- what the rest of the blocks wants stays
+-- the remaining named blocks keep their slots
 pub here-framed : (s : ℕ) (a b : Contents) (ns : List Named) → IsFramed s a b → AreHere a ns → AreHere b ns
 here-framed s a b [] f h = tt
 here-framed s a b (n ∷ ns) f h = (ap (λ l. lookup (nat_eq n.id) l) f.ids ∙ h.0, here-framed s a b ns f h.1)

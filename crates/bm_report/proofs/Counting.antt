@@ -1,4 +1,4 @@
--- How many replicas came and went by a report.
+-- How many replicas came and went in a report.
 use Rattle.std.proofs.Common.{◌≡◌, ◌≢◌, ℕ, ◌+◌, Bool, true, false, cond, not, ◌&&◌, ◌||◌, List, [], ◌∷◌, length, Option, Some, None, is_some, refl, sym, ap, ◌∙◌, arith}
 use Rattle.std.specs.Prelude.{◌==◌}
 use Rattle.std.specs.List.{list_any}
@@ -28,7 +28,7 @@ use Rattle.bm_report.proofs.Reported.{last_stamp, entered-own, out-at, lost_exce
 abbrev pub has : Held → ReplicaId → Bool
 has K q = contains_key K q
 
--- maps with the same keys are as long
+-- maps with the same keys have the same length
 abbrev even : Held → Held
 even K = revise K (λ _ _. record { tag = Good; excess = false; ordered = false })
 
@@ -45,7 +45,7 @@ len-same K L same = sym (len-even K) ∙ ap len (same_map (even K) (even L) (λ 
     by (Some x) None e = cc
     by (Some x) (Some y) e = refl
 
--- those that a map has and another has not
+-- the entries of L whose keys K has not
 abbrev apart_from : Held → Held → Held
 apart_from K L = keep L (λ q _. not (has K q))
 
@@ -101,7 +101,7 @@ new-more K L M p m not_k not_l more =
         not_tied false is = refl
     by q false e = more q e
 
--- came and went
+-- the new entries and the old ones
 parts : (K L : Held) → len (apart_from K L) + len (keep L (λ q _. has K q)) ≡ len L
 unfolding len
 parts K L =
@@ -123,7 +123,7 @@ came_and_went K L =
     swap false true = refl
     swap false false = refl
 
--- entered blocks
+-- Entered blocks.
 
 pub has-entered : (C : Cluster) (K : Held) (p : ReplicaId) (m : Marks) (q : ReplicaId) → has (entered_at C K p m) q ≡ (tie q p || (not (replaces C p q) && has K q))
 has-entered C K p m q = ap is_some (get-entered_at C K p m q) ∙ by (tie q p) (replaces C p q) (get K q)
@@ -134,7 +134,7 @@ has-entered C K p m q = ap is_some (get-entered_at C K p m q) ∙ by (tie q p) (
     by false false z = refl
 
 module _ (C : Cluster) (B : Map by_number BlockInfo) (s : ℕ) (K : Held) where
-  -- on s nothing has left, elsewhere nothing has come
+  -- no replica on s has left, and none elsewhere has come
   abbrev pub IsBetween : Held → Type 0
   IsBetween L = ((q : ReplicaId) → q.storage ≡ s → has K q ≡ true → has L q ≡ true) × ((q : ReplicaId) → q.storage ≢ s → has L q ≡ true → has K q ≡ true)
 
@@ -198,7 +198,7 @@ module _ (C : Cluster) (B : Map by_number BlockInfo) (s : ℕ) (K : Held) where
           not_in true f = absurd (false≢true (sym e ∙ between.0 (replica_at n.id s) refl f))
           not_in false f = refl
 
-  -- swept, and lost excess dropped
+  -- the sweep, and then the drop of lost excess
   module _ (ns : List Named) (bs : List ℕ) (named_stay : (b : ℕ) → is_some (last_stamp ns b) ≡ true → list_any (λ k. k == b) bs ≡ false) where
     abbrev entered_then : Held
     entered_then = entered_all C B s ns K

@@ -27,7 +27,7 @@ module _ (a : Contents) (s b : ℕ) (there : HasReplica a s b) where
   pub head_there : IsLawful a → HasHead a s
   head_there lawful = head-lawful a lawful slot_known.0 s (marks_there slot_known.0 slot_known.1)
 
--- after a step that changes nothing the replica is there, and so the next step changes nothing
+-- a step that changes nothing keeps the replica, so the next step changes nothing
 pub still_there : {X : Type 0} (a b c : Contents) (s id slot : ℕ) → HasReplica a s id → b ≡ a → slot_of b id ≡ Some slot → (IsSome (marks_at b slot s) → X × (c ≡ b)) → c ≡ a
 still_there a b c s id slot there same here next =
     (next (marks_there b s id (subst (λ (x : Contents). HasReplica x s id) (sym same) there) slot here)).1 ∙ same

@@ -1,5 +1,5 @@
--- A full report keeps that a node has at most one replica of a block, and that only good replicas
--- are in excess.
+-- After a full report a node still has at most one replica of a block, and only good replicas are
+-- in excess.
 use Rattle.std.proofs.Common.{◌≡◌, ℕ, Bool, true, false, cond, ◌&&◌, List, [], ◌∷◌, map, Option, Some, None, is_some, IsSome, IsTrue, refl, subst, inl, inr, sym, ap, ◌∙◌, eqb, eqb-true}
 use Rattle.std.specs.Prelude.{◌==◌}
 use Rattle.std.specs.Option.{option_map}
@@ -23,7 +23,7 @@ module _ (C : Cluster) (H : Holdings) (s : ℕ) (ns : List Named) where
   abbrev after_it : Held
   after_it = (report C H s (map told_of ns)).replicas
 
-  -- a replica on s was named
+  -- each replica on s was named
   own_named : (q : ReplicaId) → (q.storage == s) ≡ true → IsSome (get after_it q) → is_some (last_stamp ns q.block) ≡ true
   own_named q own some = by (last_stamp ns q.block) (sym (ap is_some (report_own C H s ns q own)) ∙ some)
     where
@@ -31,7 +31,8 @@ module _ (C : Cluster) (H : Holdings) (s : ℕ) (ns : List Named) where
       by None e = absurd (false≢true e)
       by (Some st) e = refl
 
-  -- one on another storage was there, and is of no named block where that storage is a sister
+  -- each replica on another storage was there before; if the storage shares its node with s, the
+  -- block is not named
   other_kept : (q : ReplicaId) → (q.storage == s) ≡ false → IsSome (get after_it q) → IsSome (get H.replicas q) × ((is_some (last_stamp ns q.block) && are_sisters C s q.storage) ≡ false)
   other_kept q other some = by (is_some (last_stamp ns q.block) && are_sisters C s q.storage) (sym (ap is_some (report_other C H s ns q other)) ∙ some)
     where
@@ -82,7 +83,7 @@ module _ (C : Cluster) (H : Holdings) (s : ℕ) (ns : List Named) where
           let P : Marks → Type 0 = λ k. IsTrue k.excess → IsTrue (is_good k.tag) in
           subst P same (λ h. (and_parts (is_good x.tag) x.excess h).0) excess
 
--- a slot plays no part in what is told
+-- a reported block without a slot, since slots do not matter for a report
 abbrev unslotted : Told → Named
 unslotted t = record { id = t.id; slot = 0; stamp = t.stamp }
 

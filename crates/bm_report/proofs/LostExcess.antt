@@ -24,7 +24,7 @@ excess_as true e h = refl
 excess_as false true h = cc
 excess_as false false h = refl
 
--- where excess is good, none is lost
+-- if excess is good, none is lost
 pub nothing_lost : (m : Marks) → is_excess_good m ≡ true → without_lost_excess m ≡ m
 nothing_lost m h = let e = excess_as (is_good m.tag) m.excess h in λ i. record { tag = m.tag; excess = e i; ordered = m.ordered }
 

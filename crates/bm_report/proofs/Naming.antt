@@ -1,4 +1,4 @@
--- Which numbers are named by the part of a report that is left.
+-- Which numbers the rest of a report names.
 use Rattle.std.proofs.Common.{◌≡◌, ℕ, Bool, true, false, ◌+◌, ◌<◌, ◌≤◌, ◌||◌, List, ◌∷◌, ◌++◌, drop, Some, refl, sym, ap, ◌∙◌, eq-eqb}
 use Rattle.std.specs.Prelude.{◌==◌, slice_get}
 use Rattle.std.proofs.lemmas.Bool.{false≢true}
@@ -34,7 +34,7 @@ named_either : (ts us : List Told) (b : ℕ) → is_named (ts ++ us) b ≡ (is_n
 unfolding is_named
 named_either ts us b = list_any-append (λ t. t.id == b) ts us
 
--- the next number of the part is named, and what is named behind it
+-- the next number of the part is named, and so is each later one
 module _ (p : Part) (e : Entry) (next b : ℕ) (small : p.index < p.shards) (own : shard_of next p.shards ≡ p.index) (within : next ≤ e.to) where
   pub next_named : b ≡ next → is_named (of_part p (told_from e next)) b ≡ true
   next_named same = ap (λ l. is_named l b) (told_next p e next small own within) ∙ named_first (record { id = next; stamp = e.stamp }) (of_part p (told_from e (next + p.shards))) b same
@@ -42,7 +42,7 @@ module _ (p : Part) (e : Entry) (next b : ℕ) (small : p.index < p.shards) (own
   pub later_named : is_named (of_part p (told_from e (next + p.shards))) b ≡ true → is_named (of_part p (told_from e next)) b ≡ true
   later_named in_it = ap (λ l. is_named l b) (told_next p e next small own within) ∙ named_later (record { id = next; stamp = e.stamp }) (of_part p (told_from e (next + p.shards))) b in_it
 
--- what the next entry names, and what is named behind it
+-- the next entry's numbers are named, and so are those of later entries
 module _ (p : Part) (es : List Entry) (i : ℕ) (e : Entry) (b : ℕ) (at : slice_get es i ≡ Some e) where
   parts : is_named (of_part p (expanded (drop i es))) b ≡ (is_named (of_part p (told_by e)) b || is_named (of_part p (expanded (drop (i + 1) es))) b)
   parts = ap (λ l. is_named l b) (told_rest p es i e at) ∙ named_either (of_part p (told_by e)) (of_part p (expanded (drop (i + 1) es))) b

@@ -18,11 +18,11 @@ held_below a s x lawful some = by (block_at a x) refl some
     by None e some = absurd (false≢true some)
     by (Some b) e some = lawful.bounded x b e
 
--- a storage's list has no more slots than were ever held
+-- a storage's list is no longer than the bound of the slots
 pub list_within : (a : Contents) (s : ℕ) → IsLawful a → length (list_of a s) ≤ a.bound
 list_within a s lawful = length-distinct_below a.bound (list_of a s) (lawful.distinct s) (λ x among. held_below a s x lawful ((lawful.exact x s).0 among))
 
--- what was looked up has its places
+-- each number that was looked up has its entry
 pub places_of : (a : Contents) (s : ℕ) (ns : List Named) → AreHere a ns → HaveRoom a s ns → (b : ℕ) → IsTrue (is_named (map told_of ns) b) → HasPlace a s b
 unfolding is_named
 places_of a s [] here room b told = absurd (false≢true told)

@@ -15,7 +15,7 @@ use Rattle.bm_arena.specs.Contents.{Contents, block_at, marks_at, find_marks, Is
 use Rattle.bm_report.specs.declared.types.Named.{Named}
 use Rattle.bm_report.specs.Midway.{midway_marks, without_lost_excess, told_of, Stands, AllStand, AreHere}
 
--- by the block in a slot alone
+-- the same, by the block in a slot
 abbrev StandsAs : ℕ → Stamp → Option Block → Type 0
 StandsAs s t o =
     option_and_then (λ (b : Block). find_marks b.replicas s) o
@@ -53,9 +53,9 @@ pub nothing_left : {X : Type 0} (xs : List X) → length xs ≡ 0 → xs ≡ []
 nothing_left [] e = refl
 nothing_left (x ∷ xs) e = absurd (omega (arith, e))
 
--- in words of holdings
+-- In terms of holdings.
 
--- marks that stay without lost excess are in excess only where they are good
+-- marks that stay without lost excess are in excess only if they are good
 excess_kept : (info : Option BlockInfo) (was : Option Marks) (t : Stamp) → was ≡ Some (without_lost_excess (midway_marks info was t)) → was ≡ Some (midway_marks info was t)
 excess_kept info was t is =
     let kept : (midway_marks info was t).excess ≡ (without_lost_excess (midway_marks info was t)).excess = ap (λ o. option_map_or (λ (m : Marks). m.excess) o false) is in

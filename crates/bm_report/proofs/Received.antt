@@ -1,4 +1,4 @@
--- A replica that was received, and one that was deleted.
+-- A replica is received, or deleted.
 use Rattle.std.proofs.Common.{◌≡◌, ◌≢◌, ℕ, ◌+◌, Bool, true, false, cond, not, ◌&&◌, ◌||◌, Option, Some, None, is_some, IsSome, refl, subst, sym, ap, ◌∙◌, arith}
 use Rattle.std.specs.Option.{option_and_then}
 use Rattle.bm_base.specs.declared.replica.ReplicaId.{ReplicaId}
@@ -43,7 +43,7 @@ module _ (C : Cluster) (a : Contents) (s : ℕ) (n : Named) (here : slot_of a n.
   unfolding enter holdings_of
   entering_is m is = ap (entered_at C (replicas_of a) (replica_at n.id s)) (is ∙ marks_are)
 
--- it was there: its marks are set
+-- the replica is there already: its marks are set
 module _ (C : Cluster) (a : Contents) (s : ℕ) (n : Named) (lawful : IsLawful a) (here : slot_of a n.id ≡ Some n.slot) (once : IsOncePerNode C (replicas_of a))
     (was : Marks) (at : marks_at a n.slot s ≡ Some was) (m : Marks) (m_is : m ≡ marks_then C a s n here) where
   there : IsSome (get (replicas_of a) (replica_at n.id s))
@@ -87,7 +87,7 @@ module _ (C : Cluster) (a : Contents) (s : ℕ) (n : Named) (lawful : IsLawful a
     entries = set-entries a n.slot s m;
   }
 
--- it was not there: it is linked
+-- the replica is new: it is linked
 pub received-new : (C : Cluster) (a c : Contents) (s : ℕ) (n : Named) (here : slot_of a n.id ≡ Some n.slot) → marks_at a n.slot s ≡ None → (m : Marks) → m ≡ marks_then C a s n here
     → replicas_of c ≡ entered_at C (replicas_of a) (replica_at n.id s) m → IsFramed s a c → ((slot : ℕ) → slot ≢ n.slot → block_at c slot ≡ block_at a slot)
     → (has_left : Bool) → cond has_left 1 0 + len (replicas_of c) ≡ len (replicas_of a) + 1 → c.steps ≡ count_ups (cond has_left 2 1) a.steps
@@ -126,7 +126,7 @@ received-new C a c s n here absent m m_is replicas frame others has_left lengths
     sums true e f = omega (arith, e, f, one)
     sums false e f = omega (arith, e, f, one)
 
--- a replica that is not there is not removed
+-- removing a replica that does not exist changes nothing
 pub remove-absent : (K : Held) (p : ReplicaId) → get K p ≡ None → K ≡ remove K p
 remove-absent K p none =
     same_map K (remove K p) (λ q. by q (tie q p) refl ∙ sym (get-remove K p q))
@@ -135,7 +135,7 @@ remove-absent K p none =
     by q true e = ap (get K) (tied q p e) ∙ none
     by q false e = refl
 
--- deleted
+-- a replica is deleted
 module _ (a c : Contents) (s b slot : ℕ) (lawful : IsLawful a) (here : slot_of a b ≡ Some slot) (there : IsSome (marks_at a slot s)) (others : KeepsOthers a c slot s) (gone : marks_at c slot s ≡ None) where
   pub deleted-replicas : replicas_of c ≡ remove (replicas_of a) (replica_at b s)
   deleted-replicas = replicas-out a c lawful slot s b here others.ids others.blocks others.marks gone

@@ -1,4 +1,4 @@
--- What was entered and swept, without lost excess, is the report of the definition.
+-- Entering, sweeping and dropping lost excess gives the report of the definition.
 use Rattle.std.proofs.Common.{◌≡◌, ℕ, Bool, true, false, cond, not, ◌&&◌, ◌||◌, List, [], ◌∷◌, map, Option, Some, None, is_some, IsSome, refl, inl, inr, sym, ap, ◌∙◌, eqb-true, eqb}
 use Rattle.std.specs.Prelude.{◌==◌, if◌then◌else◌}
 use Rattle.std.specs.List.{list_any}
@@ -24,12 +24,12 @@ use Rattle.bm_report.proofs.Maps.{Held, tie, tied}
 use Rattle.bm_report.proofs.Once.{get-entered_at}
 use Rattle.bm_report.proofs.Chaining.{entered_one_is}
 
--- the stamp that counts of a named block: that of its last entry
+-- the stamp that counts for a named block: that of its last entry
 abbrev pub last_stamp : List Named → ℕ → Option Stamp
 last_stamp [] b = None
 last_stamp (n ∷ ns) b = option_or (last_stamp ns b) (if n.id == b then Some n.stamp else None)
 
--- marks of a block that is named twice
+-- The marks of a block that is named twice.
 
 twice : (i : Option BlockInfo) (w : Option Marks) (x y : Stamp) → midway_marks i (Some (midway_marks i w x)) y ≡ midway_marks i w y
 twice None w x y = refl
@@ -45,7 +45,7 @@ twice (Some i) (Some m) x y = λ j. record { tag = tag_of (is_bad m.tag) (same_s
     tag_of false true = refl
     tag_of false false = refl
 
--- the map after all named blocks were entered
+-- The map after all named blocks were entered.
 
 abbrev enter_marks : Map by_number BlockInfo → Option Marks → ℕ → Option Stamp → Option Marks
 enter_marks B w b o = option_map_or (λ st. Some (midway_marks (get B b) w st)) o w
@@ -73,7 +73,7 @@ own_kept C q b s own = ap (λ t. (q.block == b) && t) (ap (are_sisters C s) (eqb
     right false = refl
 
 module _ (C : Cluster) (B : Map by_number BlockInfo) (s : ℕ) where
-  -- one entered, seen at a replica on s and elsewhere
+  -- one block was entered: replicas on s, and elsewhere
   one_own : (n : Named) (K : Held) (q : ReplicaId) → (q.storage == s) ≡ true → get (entered_one C B s n K) q ≡ enter_marks B (get K q) q.block (cond (n.id == q.block) (Some n.stamp) None)
   one_own n K q own =
       ap (λ L. get L q) (entered_one_is C B s n K) ∙ get-entered_at C K (replica_at n.id s) (midway_marks (get B n.id) (get K (replica_at n.id s)) n.stamp) q
@@ -130,7 +130,7 @@ module _ (C : Cluster) (B : Map by_number BlockInfo) (s : ℕ) where
       joined (Some l) false true z = refl
       joined (Some l) false false z = refl
 
--- what was swept
+-- the replicas after the sweep
 pub out-at : (s : ℕ) (bs : List ℕ) (K : Held) (q : ReplicaId) → get (out_all s bs K) q ≡ cond ((q.storage == s) && list_any (λ b. b == q.block) bs) None (get K q)
 out-at s [] K q = sym (never (q.storage == s) (get K q))
   where
@@ -151,7 +151,7 @@ out-at s (b ∷ bs) K q =
     joined false true a z = refl
     joined false false a z = refl
 
--- what has no lost excess any more
+-- The replicas after lost excess was dropped.
 
 dropped_twice : (o : Option Marks) → option_map without_lost_excess (option_map without_lost_excess o) ≡ option_map without_lost_excess o
 dropped_twice None = refl
@@ -204,7 +204,7 @@ lost_excess_out_all-at s (n ∷ ns) K q =
     joined false true l z = refl
     joined false false l z = refl
 
--- the report of the definition
+-- The report of the definition.
 
 module _ (C : Cluster) (H : Holdings) (s : ℕ) where
   abbrev put_by : Told → ReplicaId × Marks
@@ -304,7 +304,7 @@ module _ (C : Cluster) (H : Holdings) (s : ℕ) where
   unfolding entered entered_tag was_bad was_excess
   entered_without_lost_excess q st = refl
 
-  -- in the end
+  -- both are the same
   pub reported : (ns : List Named) (bs : List ℕ)
       → ((b : ℕ) → is_some (last_stamp ns b) ≡ true → list_any (λ k. k == b) bs ≡ false)
       → ((b : ℕ) → is_some (last_stamp ns b) ≡ false → IsSome (get H.replicas (replica_at b s)) → list_any (λ k. k == b) bs ≡ true)

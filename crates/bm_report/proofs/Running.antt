@@ -13,7 +13,7 @@ use Rattle.bm_base.specs.Shards.{shard_of}
 use Rattle.bm_report.proofs.Underway.{drop_next, drop_all}
 use Rattle.bm_report.specs.Expanded.{of_part, told_to}
 
--- what an entry tells of its numbers from b on
+-- the numbers of an entry from b on, with its stamp
 abbrev pub told_from : Entry → ℕ → List Told
 told_from e b = map (λ n. record { id = n; stamp = e.stamp }) (count_up b (e.to + 1 - b))
 
@@ -24,7 +24,7 @@ nothing (x ∷ l) = ap (λ t. x ∷ t) (nothing l)
 abbrev told_of_all : Stamp → List ℕ → List Told
 told_of_all t bs = map (λ n. record { id = n; stamp = t }) bs
 
--- numbers of other shards are stepped over
+-- the next numbers of other shards are skipped
 passed : (p : Part) (t : Stamp) (k b n : ℕ) → ((i : ℕ) → i < k → shard_of (b + i) p.shards ≢ p.index)
     → of_part p (told_of_all t (count_up b n)) ≡ of_part p (told_of_all t (count_up (b + k) (n - k)))
 passed p t zero b n apart = let e : b + 0 ≡ b = omega arith in let f : n - 0 ≡ n = omega arith in λ i. of_part p (told_of_all t (count_up (sym e i) (sym f i)))
@@ -40,11 +40,11 @@ passed p t (suc k) b (suc n) apart =
 suc_times : (k s : ℕ) → suc k * s ≡ k * s + s
 suc_times k s = grind arith
 
--- the remainder of a number that is told by quotient and remainder
+-- the remainder of a number that is given by quotient and remainder
 remainder : (k i s : ℕ) → i < s → (k * s + i) % s ≡ i
 remainder k i s below = mul-add-mod_self_right k s i ∙ mod-eq_of_lt below
 
--- numbers that are less than s apart leave different remainders
+-- different numbers that are less than s apart have different remainders
 differs : (x d s r : ℕ) → 0 < d → d < s → r < s → x % s ≡ r → (x + d) % s ≢ r
 differs x d s r some below small is same =
     let parts : x / s * s + x % s ≡ x = div-add-mod' x s in
@@ -60,7 +60,7 @@ differs x d s r some below small is same =
           absurd (omega (arith, f, some, below, over))
     ]
 
--- the first number of a part from b on: the remainder of b is brought up to the part's
+-- the first number of a part from b on: b plus the difference of the remainders
 pub ahead : (b g s r i : ℕ) → b % s ≡ r → i < s → r ≤ i → g ≡ i - r → (b + g) % s ≡ i
 ahead b g s r i is small under gap =
     let parts : b / s * s + b % s ≡ b = div-add-mod' b s in
@@ -74,7 +74,7 @@ around b g s r i is below small over gap =
     let e : b + g ≡ suc (b / s) * s + i = omega (arith, parts, is, gap, over, below, t) in
     ap (λ n. n % s) e ∙ remainder (suc (b / s)) i s small
 
--- what an entry tells the part from one number on is what it tells from the next one of the part on
+-- the part's numbers of an entry from one of them on are this one and those from the next one on
 pub told_next : (p : Part) (e : Entry) (b : ℕ) → p.index < p.shards → shard_of b p.shards ≡ p.index → b ≤ e.to
     → of_part p (told_from e b) ≡ record { id = b; stamp = e.stamp } ∷ of_part p (told_from e (b + p.shards))
 told_next p e b small own within =
@@ -89,7 +89,7 @@ told_next p e b small own within =
     λ h. differs b (i + 1) p.shards p.index (omega arith) (omega (arith, below)) small own (ap (λ n. n % p.shards) (sym t) ∙ h))
     ∙ (λ i. of_part p (told_of_all e.stamp (count_up (on i) (less i)))))
 
--- and what it tells from its first number on what it tells from the first one of the part on
+-- the part's numbers of an entry are those from the first one of the part on
 pub told_first : (p : Part) (e : Entry) (b : ℕ) → p.index < p.shards → shard_of b p.shards ≡ p.index → e.from ≤ b → b < e.from + p.shards → of_part p (told_by e) ≡ of_part p (told_from e b)
 unfolding told_by
 told_first p e b small own from near =
@@ -104,14 +104,14 @@ told_first p e b small own from near =
 pub told_past : (p : Part) (e : Entry) (b : ℕ) → e.to < b → of_part p (told_from e b) ≡ []
 told_past p e b past = let none : e.to + 1 - b ≡ 0 = omega (arith, past) in ap (λ n. of_part p (told_of_all e.stamp (count_up b n))) none
 
--- what is looked up so far and what is left of a run
+-- one more number of a run is looked up
 pub run_step : (p : Part) (e : Entry) (b : ℕ) (xs ys all : List Told) → p.index < p.shards → shard_of b p.shards ≡ p.index → b ≤ e.to
     → xs ++ of_part p (told_from e b) ≡ all → ys ≡ xs ++ record { id = b; stamp = e.stamp } ∷ [] → ys ++ of_part p (told_from e (b + p.shards)) ≡ all
 run_step p e b xs ys all small own within so_far is =
     ap (λ l. l ++ of_part p (told_from e (b + p.shards))) is ∙ append_assoc xs (record { id = b; stamp = e.stamp } ∷ []) (of_part p (told_from e (b + p.shards)))
     ∙ sym (ap (λ l. xs ++ l) (told_next p e b small own within)) ∙ so_far
 
--- entry after entry
+-- one more entry is looked up
 pub told_on : (p : Part) (es : List Entry) (i : ℕ) (e : Entry) (xs ys all : List Told) → slice_get es i ≡ Some e → xs ++ of_part p (expanded (drop i es)) ≡ all
     → ys ≡ xs ++ of_part p (told_by e) → ys ++ of_part p (expanded (drop (i + 1) es)) ≡ all
 unfolding expanded
@@ -123,14 +123,14 @@ pub told_end : (p : Part) (es : List Entry) (i : ℕ) (xs all : List Told) → l
 unfolding expanded
 told_end p es i xs all past so_far = sym (nothing xs) ∙ sym (ap (λ l. xs ++ of_part p (expanded l)) (drop_all es i past)) ∙ so_far
 
--- one number is told by its one entry, to its own part
+-- an entry of one number reports this number to its part
 pub told_one : (p : Part) (b : ℕ) (t : Stamp) → shard_of b p.shards ≡ p.index → told_to p (record { from = b; to = b; stamp = t } ∷ []) ≡ record { id = b; stamp = t } ∷ []
 unfolding expanded told_by
 told_one p b t own =
     let one : b + 1 - b ≡ 1 = omega arith in
     ap (λ n. of_part p (told_of_all t (count_up b n) ++ [])) one ∙ ap (λ c. cond c (record { id = b; stamp = t } ∷ []) []) (eq-eqb _ _ own)
 
--- what is left of entries, one after another
+-- the reported numbers of the remaining entries are those of the next one and of those after it
 pub told_rest : (p : Part) (es : List Entry) (i : ℕ) (e : Entry) → slice_get es i ≡ Some e → of_part p (expanded (drop i es)) ≡ of_part p (told_by e) ++ of_part p (expanded (drop (i + 1) es))
 unfolding expanded
 told_rest p es i e at =

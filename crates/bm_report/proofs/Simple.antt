@@ -1,4 +1,4 @@
--- Where each block has one replica at most, a node has no two of a block.
+-- If each block has at most one replica, no node has two of a block.
 use Rattle.std.proofs.Common.{◌≡◌, ℕ, ◌≤◌, ◌<◌, ◌+◌, Bool, true, false, cond, List, [], ◌∷◌, length, Option, Some, None, IsSome, refl, subst, sym, ap, ◌∙◌, arith, eqb-true}
 use Rattle.std.proofs.Common.{◌*◌, drop, add-one, Result, Ok, Err}
 use Rattle.std.specs.Prelude.{OnOk}
@@ -65,7 +65,7 @@ module _ (a : Contents) (single : (slot : ℕ) → IsSingle a slot) where
   pub simple_good : HasGoodExcess (replicas_of a)
   simple_good p m e excess = good_in p.storage m (slot_of a p.block) (sym (get-replicas_of a p) ∙ e) excess
 
--- a slot with at most one replica, whose marks were tried
+-- a slot with at most one replica, whose marks were tested
 module _ (a : Contents) (slot : ℕ) (few : option_map_or (λ (b : Block). length b.replicas) (block_at a slot) 0 ≤ 1) where
   few_in : (b : Block) → block_at a slot ≡ Some b → length b.replicas ≤ 1
   few_in b e = let is = ap (λ o. option_map_or (λ (x : Block). length x.replicas) o 0) e in omega (arith, few, is)
@@ -111,7 +111,7 @@ module _ (a : Contents) (slot : ℕ) (few : option_map_or (λ (b : Block). lengt
     good = λ s m e. let f = found_in (block_at a slot) few_in s m e in absurd (none-some f.0 (sym none ∙ f.1));
   }
 
--- a slot that is not held
+-- an empty slot
 pub single-vacant : (a : Contents) (slot : ℕ) → block_at a slot ≡ None → IsSingle a slot
 single-vacant a slot vacant =
     single-none a slot (let is = ap (λ o. option_map_or (λ (x : Block). length x.replicas) o 0) vacant in omega (arith, is)) (ap (option_and_then (λ (b : Block). slice_get b.replicas 0)) vacant)
@@ -123,7 +123,7 @@ single-beyond a slot lawful past = by (block_at a slot) refl
     by None e = single-vacant a slot e
     by (Some b) e = absurd (let h = lawful.bounded slot b e in omega (arith, h, past))
 
--- only good replicas are in excess, by the test of code
+-- only good replicas are in excess, as code tests it
 pub good_excess : (K : Map by_replica Marks) → HasGoodExcess K → IsExcessGood K
 good_excess K good p m e = by m.excess (is_good m.tag) (good p m e)
   where
@@ -149,7 +149,7 @@ low_next es i e at low so_far rest =
 pub low_all : (es : List Entry) (i : ℕ) → length es ≤ i → (AreLow (drop i es) → AreLow es) → AreLow es
 low_all es i past so_far = let P : List Entry → Type 0 = AreLow in so_far (subst P (sym (drop_all es i past)) tt)
 
--- what holds of a result that is good
+-- a property of a good result
 pub ok_then : (r : Result (Unit {0}) Refusal) (P : Type 0) → is_ok r ≡ true → OnOk r P → P
 ok_then (Ok x) P ok h = h
 ok_then (Err e) P ok h = absurd (false≢true ok)

@@ -1,5 +1,5 @@
--- The stages of a report: the delimiter put, blocks entered, unreported ones swept out, the
--- delimiter taken, lost excess dropped.
+-- The phases of a report: insert the delimiter, enter blocks, sweep out the unreported ones, remove
+-- the delimiter, drop lost excess.
 use Rattle.std.proofs.Common.{◌≡◌, ◌≢◌, ℕ, ◌<◌, ◌≤◌, Bool, true, false, cond, List, [], ◌∷◌, length, map, Option, Some, None, is_some, IsSome, refl, subst, inl, inr, sym, ap, ◌∙◌, arith, eqb, eq-eqb, eqb-true, ne_eqb}
 use Rattle.std.specs.Prelude.{◌==◌, nat_eq, IsSomeAnd, ◌⊎◌}
 use Rattle.std.specs.List.{list_any}
@@ -36,7 +36,7 @@ use Rattle.bm_report.proofs.Counting.{came, came_and_went, len-lost_excess_out}
 same_slot : (x y : ℕ) → Some x ≡ Some y → x ≡ y
 same_slot x y e = cc
 
--- replicas do not change with the delimiter's block
+-- changing the delimiter's block does not change replicas
 pub replicas-beside : (a c : Contents) → IsLawful a → c.ids ≡ a.ids → ((other : ℕ) → other ≢ a.delimiter → block_at c other ≡ block_at a other) → replicas_of c ≡ replicas_of a
 replicas-beside a c lawful ids blocks =
     same_map (replicas_of c) (replicas_of a) (λ q.
@@ -46,7 +46,7 @@ replicas-beside a c lawful ids blocks =
     by q None e = refl
     by q (Some k) e = ap (λ o. option_and_then (λ (b : Block). find_marks b.replicas q.storage) o) (blocks k (lawful.found q.block k e).0)
 
--- what stays behind the delimiter
+-- The slots that stay after the delimiter.
 
 pub length-without_all : (ns : List Named) (l : List ℕ) → length (without_all ns l) ≤ length l
 length-without_all [] l = omega arith
@@ -76,7 +76,7 @@ gone-named a (n ∷ ns) b here named x at l d m =
     rest None e = e
     rest (Some y) e = e
 
--- that of another stays
+-- the slot of any other block stays
 kept-other : (a : Contents) → IsLawful a → (ns : List Named) (b : ℕ) → AreHere a ns → is_some (last_stamp ns b) ≡ false → (x : ℕ) → slot_of a b ≡ Some x → (l : List ℕ) → Among x l → Among x (without_all ns l)
 kept-other a lawful [] b here named x at l m = m
 kept-other a lawful (n ∷ ns) b here named x at l m =
@@ -96,7 +96,7 @@ kept-other a lawful (n ∷ ns) b here named x at l m =
     rest None e = e
     rest (Some y) e = e
 
--- numbers of slots
+-- The numbers of slots.
 any-out : (f : ℕ → ℕ) (b : ℕ) (xs : List ℕ) → ((x : ℕ) → Among x xs → f x ≢ b) → list_any (λ k. k == b) (map f xs) ≡ false
 any-out f b [] h = refl
 any-out f b (x ∷ xs) h = rw (ne_eqb (f x) b (h x (inl refl))) (any-out f b xs (λ y m. h y (inr m)))
@@ -147,7 +147,7 @@ module _ (C : Cluster) (s : ℕ) (ns : List Named) (a0 a1 : Contents) (lawful0 :
   pub once1 : IsOncePerNode C (replicas_of a0) → IsOncePerNode C (replicas_of a1)
   once1 once = let P : Held → Type 0 = λ K. IsOncePerNode C K in subst P (sym replicas1) once
 
-  -- no more stands behind than the list had
+  -- there are at most as many slots after the delimiter as the list had
   pub behind-fits : (a2 : Contents) → IsEntered C s ns a1 a2 → length (behind a2 s) ≤ length (list_of a0 s)
   behind-fits a2 entered =
       let is : behind a2 s ≡ without_all ns (list_of a0 s) = entered.behind ∙ ap (without_all ns) behind1 in
@@ -168,7 +168,7 @@ module _ (C : Cluster) (s : ℕ) (ns : List Named) (a0 a1 : Contents) (lawful0 :
     slot2 : (b : ℕ) → slot_of a2 b ≡ slot_of a0 b
     slot2 b = ap (λ l. lookup (nat_eq b) l) ids2
 
-    -- a slot behind is led to by its number
+    -- a slot after the delimiter is that of a number
     leads2 : (x : ℕ) → Among x (behind a2 s) → slot_of a2 (id_at a2 x) ≡ Some x
     leads2 x m =
         let P : ℕ → Type 0 = λ k. Among k (behind a2 s) in
@@ -212,7 +212,7 @@ module _ (C : Cluster) (s : ℕ) (ns : List Named) (a0 a1 : Contents) (lawful0 :
     pub delimiter3 : a3.delimiter ≡ a0.delimiter
     delimiter3 = swept.delimiter ∙ entered.frame.delimiter ∙ others1.delimiter
 
-    -- the delimiter's block from the first stage to the last but two
+    -- the delimiter's block is the same after the sweep as before entering
     marker3 : block_at a3 a0.delimiter ≡ block_at a1 a0.delimiter
     marker3 =
         let d1 : a0.delimiter ≡ a1.delimiter = sym others1.delimiter in
@@ -261,7 +261,7 @@ module _ (C : Cluster) (s : ℕ) (ns : List Named) (a0 a1 : Contents) (lawful0 :
               let at = number-leads a0 lawful0 slot s apart (some_is (marks_at a0 slot s) m e) in
               drops.others slot m (marks4 ∙ e) (good (replica_at (id_at a0 slot) s) m (get-here a0 (id_at a0 slot) slot s at ∙ e)) ∙ same4
 
-      -- a block that is on another storage alone and is not named
+      -- a block that is not on s and not named does not change
       pub others5 : (slot : ℕ) → slot ≢ a0.delimiter → marks_at a0 slot s ≡ None → (Among slot (map slot_in ns) → ⊥) → block_at a5 slot ≡ block_at a0 slot
       others5 slot apart absent out =
           let found : Option Block → Option Marks = λ o. option_and_then (λ (b : Block). find_marks b.replicas s) o in
@@ -278,7 +278,7 @@ module _ (C : Cluster) (s : ℕ) (ns : List Named) (a0 a1 : Contents) (lawful0 :
           by (inl before) = inl before
           by (inr led) = inr (led.0, ap (λ l. lookup (nat_eq led.0) l) (sym others1.ids) ∙ led.1)
 
-      -- the replicas in the end, by the maps before
+      -- the replicas after all phases, by the maps before
       in_the_end : replicas_of a5 ≡ lost_excess_out_all s ns (out_all s bs (entered_all C (blocks_of a0) s ns (replicas_of a0)))
       in_the_end =
           drops.replicas ∙ ap (lost_excess_out_all s ns) (replicas4 ∙ replicas3 ∙ ap (out_all s bs) (entered.replicas ∙ (λ i. entered_all C (blocks1 i) s ns (replicas1 i))))

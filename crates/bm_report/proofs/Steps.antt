@@ -1,4 +1,4 @@
--- One named block entered: where it is on the storage, and where it is not.
+-- Entering one named block that is on the storage, or that is not.
 use Rattle.std.proofs.Common.{◌≡◌, ◌≢◌, ℕ, ◌+◌, ◌∷◌, true, Option, Some, None, IsSome, refl, subst, sym, ap, ◌∙◌, arith}
 use Rattle.std.specs.Prelude.{nat_eq}
 use Rattle.std.specs.Map.{lookup}
@@ -18,7 +18,7 @@ use Rattle.bm_arena.proofs.Staying.{entries-others, set-entries}
 use Rattle.bm_report.proofs.Sisters.{sisters_apart}
 use Rattle.bm_report.proofs.Maps.{get-here, insert-same, some_is, is_replaced, put-alone, put-moved, len-put_new, len-out}
 
--- it is there: moved to the head, and then its marks set
+-- it is there: it is moved to the head, and then its marks are set
 module _ (a c : Contents) (s b slot : ℕ) (was : Marks) (lawful : IsLawful a) (here : slot_of a b ≡ Some slot) (at : marks_at a slot s ≡ Some was)
     (others : KeepsOthers a c slot s) (same : c.blocks ≡ a.blocks) (list : list_of c s ≡ slot ∷ without slot (list_of a s)) where
   known-apart : slot ≢ a.delimiter
@@ -56,7 +56,7 @@ module _ (a c : Contents) (s b slot : ℕ) (was : Marks) (lawful : IsLawful a) (
         (framed c (set_at c slot s m) s slot (λ e. known-apart (e ∙ others.delimiter)) refl refl (set-elsewhere c slot s m) (set-known c slot s m) (λ t h. h)
         (is_there (marks_at (set_at c slot s m) slot s) m put) (set-entries c slot s m))
 
--- it is not there: linked, and then taken from a sister storage
+-- it is not there: it is linked, and then removed from another storage of the node
 module _ (C : Cluster) (a c : Contents) (s b slot : ℕ) (m : Marks) (lawful : IsLawful a) (here : slot_of a b ≡ Some slot) (absent : marks_at a slot s ≡ None)
     (others : KeepsOthers a c slot s) (put : marks_at c slot s ≡ Some m) (list : list_of c s ≡ slot ∷ list_of a s) (once : IsOncePerNode C (replicas_of a)) where
   linked-apart : slot ≢ a.delimiter

@@ -20,7 +20,7 @@ use Rattle.bm_report.proofs.Frames.{some_there}
 use Rattle.bm_report.proofs.Maps.{get-here, len-out}
 use Rattle.bm_report.proofs.Underway.{listed-none, listed-chain, listed-push}
 
--- some of the slots behind the delimiter are out, and the rest is to be
+-- some of the slots after the delimiter are removed, and the rest still to be
 pub record IsSweeping (s : ℕ) (first now : Contents) (t u : Tally) (listed_first listed_now : List ℕ) : Type 0 where
   pub put : IsSome (marks_at now now.delimiter s)
   pub swept : (last : Contents) (v : Tally) → IsSwept s (behind now s) now last u v → IsSwept s (behind first s) first last t v
@@ -28,12 +28,12 @@ pub record IsSweeping (s : ℕ) (first now : Contents) (t u : Tally) (listed_fir
   pub removed : u.removed + length (behind now s) < 2 ^ 127
   pub steps : u.steps + length (behind now s) < 2 ^ 127
 
--- the slot after the delimiter is the first one behind it
+-- the slot after the delimiter is the first of those after it
 pub first-after : (d : ℕ) (xs : List ℕ) → slot_after d xs ≡ first_of (after d xs)
 first-after d [] = refl
 first-after d (x ∷ xs) = elim (cases_Bool (eqb x d)) [ inl here ↦ rw here refl | inr other ↦ rw other (first-after d xs) ]
 
--- the delimiter is not behind itself
+-- the delimiter is not after itself
 pub delimiter_before : (d : ℕ) (xs : List ℕ) → Distinct xs → Among d (after d xs) → ⊥
 delimiter_before d [] distinct m = m
 delimiter_before d (x ∷ xs) distinct m =
@@ -46,7 +46,7 @@ pub empty_first : (xs : List ℕ) → first_of xs ≡ None → xs ≡ []
 empty_first [] e = refl
 empty_first (x ∷ xs) e = cc
 
--- the list behind the delimiter, by its first
+-- the list without its first slot
 rest_of : List ℕ → List ℕ
 rest_of [] = []
 rest_of (x ∷ xs) = xs
@@ -67,7 +67,7 @@ map_same : (f g : ℕ → ℕ) (xs : List ℕ) → ((x : ℕ) → f x ≡ g x) �
 map_same f g [] e = refl
 map_same f g (x ∷ xs) e = λ i. e x i ∷ map_same f g xs e i
 
--- a slot with a replica is led to by its number
+-- a slot with a replica is that of its number
 pub number-leads : (a : Contents) → IsLawful a → (x s : ℕ) → x ≢ a.delimiter → IsSome (marks_at a x s) → slot_of a (id_at a x) ≡ Some x
 number-leads a lawful x s apart some = by (block_at a x) refl
   where
@@ -75,7 +75,7 @@ number-leads a lawful x s apart some = by (block_at a x) refl
     by None e = absurd (some_there (marks_at a x s) some (ap (λ o. option_and_then (λ (b : Block). find_marks b.replicas s) o) e))
     by (Some b) e = ap (λ o. slot_of a (option_map_or (λ (k : Block). k.id) o 0)) e ∙ lawful.known x b e apart
 
--- none, one, and one after another
+-- Sweeping no slot, one slot, and slots one after another.
 
 pub swept-none : (s : ℕ) (a : Contents) (t : Tally) → IsSwept s [] a a t t
 swept-none s a t = record {

@@ -17,8 +17,8 @@ use Rattle.bm_report.specs.Midway.{AreHere, HaveRoom, IsOncePerNode, IsEntered, 
 use Rattle.bm_report.proofs.Chaining.{entered-none, counted-none, entered-append, counted-append, here-framed, room-framed}
 use Rattle.bm_report.proofs.Once.{once-entered_all}
 
--- Some of the named blocks are entered, and the rest is to be: what stands now, and what comes of
--- it in the end.
+-- Some of the named blocks are entered, and `rest` are still to be: the conditions for entering
+-- these, and the final result.
 pub record IsUnderway (C : Cluster) (s : ℕ) (all rest : List Named) (first now : Contents) (t u : Tally) : Type 0 where
   pub here : AreHere now rest
   pub room : HaveRoom now s rest
@@ -28,7 +28,7 @@ pub record IsUnderway (C : Cluster) (s : ℕ) (all rest : List Named) (first now
   pub entered : (last : Contents) → IsEntered C s rest now last → IsEntered C s all first last
   pub counted : (last : Contents) (v : Tally) → IsCounted C s rest now last u v → IsCounted C s all first last t v
 
--- listing
+-- Listing.
 
 pub listed-none : (a : Contents) (xs : List ℕ) → IsListed a a xs xs
 listed-none a xs = record { same = λ slot out. refl; more = λ slot m. m; only = λ slot m. inl m; ids = refl }
@@ -45,7 +45,7 @@ listed-chain a b c xs ys zs f g = record {
     by slot (inl m) = f.only slot m
     by slot (inr led) = inr (led.0, ap (λ l. lookup (nat_eq led.0) l) (sym f.ids) ∙ led.1)
 
--- one block changed, and its slot pushed
+-- one block changes, and its slot is pushed
 pub listed-push : (a b : Contents) (slot : ℕ) (xs ys : List ℕ) → ((other : ℕ) → other ≢ slot → block_at b other ≡ block_at a other) → ys ≡ xs ++ slot ∷ [] → IsEntry a slot → b.ids ≡ a.ids → IsListed a b xs ys
 listed-push a b slot xs ys others is entry ids =
     let P : List ℕ → Type 0 = λ l. IsListed a b xs l in
@@ -71,7 +71,7 @@ listed-push a b slot xs ys others is entry ids =
         in_rest (inl there) = inl (inr there)
         in_rest (inr led) = inr led
 
--- counting
+-- Counting.
 
 pub small-next : (C : Cluster) (s k : ℕ) (xs : List Named) (a b : Contents) (t u : Tally) → IsCounted C s xs a b t u → IsSmall t (length xs + k) → IsSmall u k
 small-next C s k xs a b t u f h = record {
@@ -80,7 +80,7 @@ small-next C s k xs a b t u f h = record {
   steps = omega (arith, f.few_removed, f.steps, h.steps);
 }
 
--- from here on
+-- First, next and last step.
 
 pub underway-first : (C : Cluster) (s : ℕ) (all : List Named) (a : Contents) (t : Tally) → AreHere a all → HaveRoom a s all → IsOncePerNode C (replicas_of a) → HasHead a s → IsSmall t (length all)
     → IsUnderway C s all all a a t t
@@ -137,7 +137,7 @@ pub underway-last : (C : Cluster) (s : ℕ) (all rest : List Named) (first now :
 underway-last C s all [] first now t u none f = (f.entered now (entered-none C s now), f.counted now u (counted-none C s now u))
 underway-last C s all (n ∷ rest) first now t u none f = cc
 
--- the next of a list
+-- the next item of a list
 pub drop_next : {X : Type 0} (xs : List X) (i : ℕ) (x : X) → slice_get xs i ≡ Some x → drop i xs ≡ x ∷ drop (suc i) xs
 drop_next [] i x e = absurd (none-some x e)
 drop_next (y ∷ ys) zero x e = let same : y ≡ x = cc in ap (λ z. z ∷ ys) same

@@ -19,7 +19,7 @@ use Rattle.bm_report.specs.declared.tally.Tally.{Tally}
 use Rattle.bm_arena.specs.Holding.{replicas_of, blocks_of, info_at, id_at}
 
 -- The marks of a reported replica while the report runs. The mark "in excess" means that it was so
--- before the report, also if it is not good now; so a block that is named again finds the state
+-- before the report, even if it is not good now. So a block that is named again finds the state
 -- before the report.
 abbrev pub reported_tag : Option BlockInfo → Bool → Stamp → Tag
 reported_tag info was_bad stamp = option_map_or (λ (i : BlockInfo). if was_bad then Bad else if same_stamp stamp i.stamp then Good else Stale) info Stray
@@ -31,19 +31,19 @@ midway_marks info was stamp = record {
   ordered = false;
 }
 
--- The marks after the report: only a good replica stays in excess. The mark of one that is no
--- longer good is lost excess.
+-- The marks after the report: only a good replica stays in excess. The mark "in excess" of any
+-- other one is lost excess.
 abbrev pub without_lost_excess : Marks → Marks
 without_lost_excess m = record m { excess = is_good m.tag && m.excess }
 
 abbrev pub is_excess_good : Marks → Bool
 is_excess_good m = not (m.excess && not (is_good m.tag))
 
--- the replica p is added with marks m, and those on the other storages of its node leave
+-- adds replica p with marks m, and drops those on the other storages of its node
 abbrev pub entered_at : Cluster → Map by_replica Marks → ReplicaId → Marks → Map by_replica Marks
 entered_at C K p m = insert (keep K (λ q _. not (replaces C p q))) p m
 
--- what one named block makes of the replicas
+-- the replicas after one named block was entered
 unfoldable pub entered_one : Cluster → Map by_number BlockInfo → ℕ → Named → Map by_replica Marks → Map by_replica Marks
 entered_one C B s n K =
     entered_at C K (replica_at n.id s) (midway_marks (get B n.id) (get K (replica_at n.id s)) n.stamp)
@@ -80,12 +80,12 @@ abbrev pub without_all : List Named → List ℕ → List ℕ
 without_all [] xs = xs
 without_all (n ∷ ns) xs = without_all ns (without n.slot xs)
 
--- the replicas of these blocks on s are out
+-- removes the replicas of these blocks on s
 abbrev pub out_all : ℕ → List ℕ → Map by_replica Marks → Map by_replica Marks
 out_all s [] K = K
 out_all s (b ∷ bs) K = out_all s bs (remove K (replica_at b s))
 
--- the lost excess of the named blocks on s is out
+-- drops the lost excess of the named blocks on s
 abbrev pub lost_excess_out_one : ℕ → ℕ → Map by_replica Marks → Map by_replica Marks
 lost_excess_out_one s b K = option_map_or (λ m. insert K (replica_at b s) (without_lost_excess m)) (get K (replica_at b s)) K
 
@@ -96,7 +96,7 @@ lost_excess_out_all s (n ∷ ns) K = lost_excess_out_all s ns (lost_excess_out_o
 abbrev pub told_of : Named → Told
 told_of n = record { id = n.id; stamp = n.stamp }
 
--- n steps more
+-- n more steps
 abbrev pub count_ups : ℕ → ℕ → ℕ
 count_ups zero n = n
 count_ups (suc k) n = count_up (count_ups k n)
@@ -135,14 +135,14 @@ pub record IsFramed (s : ℕ) (old new : Contents) : Type 0 where
 abbrev pub slot_in : Named → ℕ
 slot_in n = n.slot
 
--- what entering named blocks on s makes of an arena
+-- what entering named blocks on s changes in an arena
 pub record IsEntered (C : Cluster) (s : ℕ) (ns : List Named) (old new : Contents) : Type 0 where
   pub replicas : replicas_of new ≡ entered_all C (blocks_of old) s ns (replicas_of old)
   pub behind : behind new s ≡ without_all ns (behind old s)
   pub frame : IsFramed s old new
   pub others : (slot : ℕ) → (Among slot (map slot_in ns) → ⊥) → block_at new slot ≡ block_at old slot
 
--- the counts meanwhile
+-- what entering named blocks on s changes in the counts
 pub record IsCounted (C : Cluster) (s : ℕ) (ns : List Named) (old new : Contents) (before after : Tally) : Type 0 where
   pub rises : (n : ℕ) → old.steps ≡ count_ups before.steps n → new.steps ≡ count_ups after.steps n
   pub steps : after.steps + before.removed ≡ before.steps + after.removed + length ns
@@ -167,13 +167,13 @@ linked_tally t has_left is_excess_good = record {
 abbrev pub swept_tally : Tally → Tally
 swept_tally t = record t { removed = t.removed + 1; steps = t.steps + 1 }
 
--- counts that can count n blocks more without overflow
+-- counting n more blocks does not overflow
 pub record IsSmall (t : Tally) (n : ℕ) : Type 0 where
   pub added : t.added + 2 * n < 2 ^ 128
   pub removed : t.removed + 2 * n < 2 ^ 128
   pub steps : t.steps + 2 * n < 2 ^ 128
 
--- blocks that are not listed are as before, and the slots of numbers alone come into the list
+-- blocks that are not listed are as before, and only slots of numbers are added to the list
 pub record IsListed (old new : Contents) (before after : List ℕ) : Type 0 where
   pub same : (slot : ℕ) → (Among slot after → ⊥) → block_at new slot ≡ block_at old slot
   pub more : (slot : ℕ) → Among slot before → Among slot after
@@ -207,7 +207,7 @@ pub record DropsLostExcess (s : ℕ) (ns : List Named) (old new : Contents) : Ty
   pub blocks : blocks_of new ≡ blocks_of old
   pub lists : new.lists ≡ old.lists
   pub steps : new.steps ≡ old.steps
-  -- a block whose replicas are others had a replica on s with lost excess
+  -- a block changes only if its replica on s has lost excess
   pub others : (slot : ℕ) (m : Marks) → marks_at old slot s ≡ Some m → is_excess_good m ≡ true → block_at new slot ≡ block_at old slot
   pub absent : (slot : ℕ) → marks_at old slot s ≡ None → block_at new slot ≡ block_at old slot
   pub entries : KeepsEntries old new

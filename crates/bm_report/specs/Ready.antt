@@ -14,15 +14,15 @@ use Rattle.bm_report.specs.Midway.{AreHere, HaveRoom, IsOncePerNode, IsSmall, to
 use Rattle.bm_report.specs.declared.tally.Tally.{Tally}
 use Rattle.bm_arena.specs.Holding.{replicas_of}
 
--- what a report keeps
+-- a report as it was looked up
 pub record Looked : Type 0 where
   -- the numbers that it names, in their order, with their slots
   pub named : List Named
   -- the slots whose blocks changed
   pub changed : List ℕ
-  -- how many of them were listed before the sweep
+  -- how many changed slots were listed before the sweep
   pub came : ℕ
-  -- how many slots can be listed in all with no memory taken
+  -- how many slots can be listed in all without allocation
   pub room : ℕ
 
 -- the reported blocks of its numbers
@@ -61,7 +61,7 @@ HasReplica a s b = IsSome (get (replicas_of a) (replica_at b s))
 abbrev pub HaveReplicas : Contents → ℕ → List Told → Type 0
 HaveReplicas a s ts = (b : ℕ) → IsTrue (is_named ts b) → HasReplica a s b
 
--- each reported replica on s is there with exactly the marks with which it is entered
+-- each reported replica is on s already, with exactly the marks with which it is entered
 abbrev pub StandAlready : Holdings → ℕ → List Told → Type 0
 StandAlready H s [] = Unit {0}
 StandAlready H s (t ∷ ts) = (get H.replicas (replica_at t.id s) ≡ Some (entered H (replica_at t.id s) t.stamp)) × StandAlready H s ts

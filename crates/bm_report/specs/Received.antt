@@ -1,4 +1,4 @@
--- What the notice of a received replica makes of an arena.
+-- What the notice of a received replica changes in an arena.
 use Rattle.std.specs.Prelude.{◌≡◌, ◌≢◌, ℕ, ◌+◌, Some}
 use Rattle.bm_base.specs.declared.replica.Stamp.{Stamp}
 use Rattle.bm_base.specs.State.{Cluster, replica_at}
@@ -10,7 +10,7 @@ use Rattle.bm_report.specs.declared.types.Applied.{Applied}
 use Rattle.bm_report.specs.Midway.{count_ups}
 
 -- A replica of block b with this stamp was received on storage s: it is added, and those on the
--- other storages of the node leave. Only that block changes, and the delimiter stays where it is.
+-- other storages of the node leave. Only that block changes, and the delimiter keeps its slot.
 pub record HasReceived (C : Cluster) (s b : ℕ) (stamp : Stamp) (old new : Contents) (r : Applied) : Type 0 where
   pub replicas : replicas_of new ≡ (enter C (holdings_of old) (replica_at b s) stamp).replicas
   pub blocks : blocks_of new ≡ blocks_of old

@@ -34,7 +34,7 @@ fn look_ahead(arena: &Arena, storage: StorageId, chunk: &[Named]) -> [Option<Mar
     ahead
 }
 
-/// The marks of a block on the storage: those read ahead, where no block has changed since.
+/// The marks of a block on the storage: those read ahead, if no block has changed since.
 fn marks_now(
     arena: &Arena,
     storage: StorageId,
@@ -52,7 +52,7 @@ fn marks_now(
     }
 }
 
-/// Enters a block, and lists its slot where its replicas are others then: whether they are.
+/// Enters a block, and lists its slot if its replicas changed. Returns whether they did.
 fn enter_listed(
     arena: &mut Arena,
     topology: &Topology,

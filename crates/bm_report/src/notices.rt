@@ -83,7 +83,7 @@ pub fn apply_received(
     }
 }
 
-/// Removes a replica of the block `id` from a storage, if it is there. Only that block changes.
+/// Removes the replica of the block `id` on a storage, if it exists. Only that block changes.
 /// Takes no memory.
 pub fn apply_deleted(arena: &mut Arena, storage: StorageId, id: BlockId) -> Applied
     ensures replicas { replicas_of arena.new

@@ -197,8 +197,8 @@ impl Report {
         receive(arena, topology, storage, &self.named[0])
     }
 
-    /// Gives up what was looked up: drops the unused entries of its numbers, without a block and
-    /// replicas, and forgets them. All blocks and replicas stay. Takes no memory.
+    /// Aborts the report: drops the unused entries of its numbers, without a block and replicas,
+    /// and forgets the numbers. All blocks and replicas stay. Takes no memory.
     pub fn abort(&mut self, arena: &mut Arena)
         ensures told { told self.new ≡ [] }
         ensures replicas { replicas_of arena.new ≡ replicas_of arena.old }

@@ -42,7 +42,7 @@ pub fn ready(
     Ok(())
 }
 
-/// Makes the replicas on a storage those of a full report, for which its numbers of the part were
+/// Makes the replicas on a storage those of a full report, whose numbers of the part were
 /// made ready. Each number is looked up again, and no slots are listed: a shard uses `Report`,
 /// which is faster. Takes no memory.
 ///

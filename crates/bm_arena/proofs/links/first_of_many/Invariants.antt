@@ -3,7 +3,7 @@ use Rattle.std.specs.List.{position_or_len}
 use Rattle.bm_arena.specs.Triplets.{is_of}
 use Rattle.bm_arena.proofs.links.first_of_many.Given as goal
 
--- the first of the places that were looked at
+-- searching from `place` on gives the first index of the storage
 abbrev pub invariant-loop-place : goal.invariant-loop-place
 invariant-loop-place l =
     record {

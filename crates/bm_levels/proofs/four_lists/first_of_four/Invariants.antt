@@ -2,7 +2,7 @@ use Rattle.std.proofs.Common.{◌≡◌, ◌≤◌, ◌++◌, length}
 use Rattle.bm_arena.specs.Contents.{list_of}
 use Rattle.bm_levels.proofs.four_lists.first_of_four.Given as goal
 
--- what was read of each list, and what is left of the walks
+-- each list is the slots read so far and the rest of its walk
 abbrev pub invariant-loop-place : goal.invariant-loop-place
 invariant-loop-place l =
     record {

@@ -4,8 +4,8 @@ use Rattle.bm_levels.specs.Around.{rack_around, drains_around}
 use Rattle.bm_arena.specs.Triplets.{seen_triplet}
 use Rattle.bm_levels.proofs.judging.count.Given as goal
 
--- the replicas from this place on, counted behind those before it, are all, counted; and no more
--- were counted than stand before it
+-- counting the replicas from this index on gives the count of all; at most one per earlier replica
+-- was counted
 pub record CountsOn (l : goal.Live-loop-triplet) : Type 0 where
   pub rest : counted_on (rack_around l.around) (drains_around l.around) l.count (drop l.triplet-index (map seen_triplet l.triplets))
       ≡ counted_on (rack_around l.around) (drains_around l.around) none (map seen_triplet l.triplets)

@@ -5,7 +5,7 @@ use Rattle.bm_arena.specs.Contents.{block_at}
 use Rattle.bm_arena.specs.Triplets.{Block}
 use Rattle.bm_levels.proofs.judging_chunks.count_ahead.Given as goal
 
--- how many replicas the blocks have whose entries were read
+-- the number of replicas of each block whose entry was read
 abbrev pub invariant-loop-place : goal.invariant-loop-place
 invariant-loop-place l =
     record {

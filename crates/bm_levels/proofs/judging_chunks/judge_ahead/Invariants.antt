@@ -5,7 +5,7 @@ use Rattle.bm_levels.specs.declared.judging.Judged.{Judged}
 use Rattle.bm_levels.specs.Around.{IsJudgedAsAround}
 use Rattle.bm_levels.proofs.judging_chunks.judge_ahead.Given as goal
 
--- what the blocks are judged at which it was looked
+-- the status of each block that was scanned
 abbrev pub invariant-loop-place : goal.invariant-loop-place
 invariant-loop-place l =
     record {

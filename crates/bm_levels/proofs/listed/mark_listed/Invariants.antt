@@ -5,7 +5,7 @@ use Rattle.bm_levels.specs.Changes.{excess_on}
 use Rattle.bm_levels.proofs.AllMarks.{changed_first}
 use Rattle.bm_levels.proofs.listed.mark_listed.Given as goal
 
--- the replicas before this place have their new marks, and nothing else changed
+-- the replicas before this index have their new marks, and nothing else changed
 pub record AreMarkedSoFar (l : goal.Live-loop-place) : Type 0 where
   pub replicas : replicas_at l.arena l.slot ≡ changed_first (excess_on l.listed) l.place (replicas_at l.initial.arena l.slot)
   pub known : known_of (block_at l.arena l.slot) ≡ known_of (block_at l.initial.arena l.slot)

@@ -5,7 +5,7 @@ use Rattle.bm_levels.specs.Changes.{changed}
 use Rattle.bm_levels.proofs.AllMarks.{changed_first}
 use Rattle.bm_levels.proofs.marking.change_marks.Given as goal
 
--- the replicas before this place have their new marks, and nothing else changed
+-- the replicas before this index have their new marks, and nothing else changed
 pub record AreChangedSoFar (l : goal.Live-loop-place) : Type 0 where
   pub replicas : replicas_at l.arena l.slot ≡ changed_first (λ s m. changed l.change m) l.place (replicas_at l.initial.arena l.slot)
   pub known : known_of (block_at l.arena l.slot) ≡ known_of (block_at l.initial.arena l.slot)

@@ -5,7 +5,7 @@ use Rattle.bm_levels.proofs.Keeping.{among_next}
 use Rattle.bm_levels.proofs.Unlinking.{AreUnlinked, unlinked_none, next_there, unlinked_more}
 use Rattle.bm_levels.proofs.one_list.unlink_all.Goals as goal
 
--- the slot that is next, and those behind it
+-- the rest of a list is its next slot and those after it
 next_is : (xs : List ℕ) (i : ℕ) → i < length xs → drop i xs ≡ get_or xs i 0 ∷ drop (i + 1) xs
 next_is xs i less = rw (add-one, drop-cons xs i 0) refl
 

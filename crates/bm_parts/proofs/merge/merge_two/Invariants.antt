@@ -2,7 +2,7 @@ use Rattle.std.proofs.Common.{◌≡◌, ◌≤◌, ◌+◌, ◌-◌, ◌++◌, 
 use Rattle.bm_parts.specs.Merging.{put_all}
 use Rattle.bm_parts.proofs.merge.merge_two.Given as goal
 
--- what is merged, and then what is left merged, is all merged
+-- the merged entries, and then the rest merged, are all entries merged
 abbrev pub invariant-loop-i : goal.invariant-loop-i
 invariant-loop-i g l = record {
   whole : l.merged.items ++ put_all (drop l.i l.low) (drop l.j l.high) ≡ put_all l.low l.high;

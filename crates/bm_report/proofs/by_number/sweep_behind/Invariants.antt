@@ -6,6 +6,6 @@ use Rattle.bm_report.proofs.by_number.sweep_behind.Given as goal
 abbrev pub decreases-loop-slot : goal.decreases-loop-slot
 decreases-loop-slot l = length (behind l.arena l.storage)
 
--- the slots that went out, of which no list is kept, are some list
+-- the removed slots are some list, which is not kept
 abbrev pub invariant-loop-slot : goal.invariant-loop-slot
 invariant-loop-slot l = (gone : List ℕ) × IsSweeping l.storage l.initial.arena l.arena l.initial.tally l.tally [] gone

@@ -4,7 +4,7 @@ use Rattle.bm_arena.specs.Contents.{marks_at}
 use Rattle.bm_report.specs.declared.types.Named.{Named}
 use Rattle.bm_report.proofs.entering_chunks.look_ahead.Given as goal
 
--- the marks of the blocks that were looked at
+-- the marks of the blocks that were read
 abbrev pub invariant-loop-place : goal.invariant-loop-place
 invariant-loop-place l =
     record {

@@ -2,7 +2,7 @@ use Rattle.std.proofs.Common.{◌≡◌, ◌≤◌, ◌<◌, ◌++◌, length}
 use Rattle.bm_arena.specs.Contents.{list_of}
 use Rattle.bm_levels.proofs.first_slots.FirstSlots.of.Given as goal
 
--- what was read, and what is left of the walk
+-- the list is the slots read so far and the rest of the walk
 abbrev pub invariant-loop-place : goal.invariant-loop-place
 invariant-loop-place l =
     record {

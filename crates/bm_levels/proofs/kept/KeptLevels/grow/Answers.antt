@@ -1,4 +1,4 @@
--- Neither part grows beyond the bound that is asked for.
+-- Neither part grows beyond the requested bound.
 use Rattle.std.proofs.Common.{◌≡◌, ◌-◌, ◌≤◌, ◌++◌, ℕ, Bool, true, false, Result, Ok, Err, Option, None, List, length, replicate, subst, sym, arith, length-append}
 use Rattle.std.specs.Prelude.{OnOk, OnErr, max, nat_lt, if◌then◌else◌}
 use Rattle.std.proofs.lemmas.List.{length-replicate}

@@ -5,7 +5,7 @@ use Rattle.bm_levels.specs.Around.{rack_around, drains_around}
 use Rattle.bm_levels.proofs.Keeping.{IsUnderway}
 use Rattle.bm_levels.proofs.kept.KeptLevels.judge_all.Given as goal
 
--- the slots that have gone are judged, and there is room for all
+-- the slots so far are classified, and there is capacity for all
 pub record AreJudgedSoFar (l : goal.Live-loop-rest) : Type 0 where
   pub underway : IsUnderway (rack_around l.around) (drains_around l.around) l.around.multi l.arena l.slots l.rest l.initial.self l.self
   pub listed : (slot : ℕ) → Among slot l.rest → Among slot l.slots

@@ -4,7 +4,7 @@ use Rattle.bm_levels.specs.Around.{rack_around, drains_around}
 use Rattle.bm_levels.proofs.Keeping.{IsUnderway}
 use Rattle.bm_levels.proofs.kept.KeptLevels.judge_chunk.Given as goal
 
--- the slots that have gone are kept as judged, and there is room for all
+-- the status of the slots so far is stored, and there is capacity for all
 pub record AreKeptSoFar (l : goal.Live-loop-place) : Type 0 where
   pub underway : IsUnderway (rack_around l.around) (drains_around l.around) l.around.multi l.arena l.chunk (drop l.place l.chunk) l.initial.self l.self
   pub room : (bound : ℕ) → HasRoomFor l.initial.self bound → HasRoomFor l.self bound

@@ -6,7 +6,7 @@ use Rattle.bm_levels.specs.Around.{IsJudgedAround}
 use Rattle.bm_levels.proofs.Places.{HaveGone}
 use Rattle.bm_levels.proofs.kept.KeptLevels.judge_node.Given as goal
 
--- the slots on the storages at the first places are judged, and there is room for all
+-- the slots on the storages so far are classified, and there is capacity for all
 pub record AreJudgedSoFar (l : goal.Live-loop-place) : Type 0 where
   pub each : (slot : ℕ) → IsJudgedAround l.around (block_at l.arena slot) l.self slot
       ⊎ (IsSameAt l.initial.self l.self slot × HaveGone l.around.topology.now.cluster l.node (λ s. Among slot (list_of l.arena s) → ⊥) l.place)

@@ -11,7 +11,7 @@ both_true : (a b : Bool) → (a && b) ≡ true → (a ≡ true) × (b ≡ true)
 both_true true b e = (refl, e)
 both_true false b e = cc
 
--- what is read at a place within a list follows from no default
+-- what is read within a list does not depend on the default
 kept_here : (K : Kept) (x slot : ℕ) (k : Judged) (js : List Judged) (p : ℕ) (d default : Judged) → IsKeptAs K x k → x ≡ slot → k ≡ slice_index_or js p d → p < length js → IsKeptAs K slot (slice_index_or js p default)
 kept_here K x slot k js p d default h same is low =
     let read = is ∙ same_Some _ _ (sym (slice_get-get_or js p d low) ∙ slice_get-get_or js p default low) in

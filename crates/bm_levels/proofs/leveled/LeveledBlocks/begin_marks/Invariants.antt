@@ -2,7 +2,7 @@ use Rattle.bm_levels.specs.Leveled.{AreLevels}
 use Rattle.bm_levels.proofs.Going.{IsGoing}
 use Rattle.bm_levels.proofs.leveled.LeveledBlocks.begin_marks.Given as goal
 
--- the slots that have gone have their new marks
+-- the slots so far have their new marks
 pub record AreBegunSoFar (l : goal.Live-loop-step) : Type 0 where
   pub going : IsGoing l.initial.self l.self l.at l._step l._step-end
   pub levels : AreLevels l.topology.cluster l.initial.self → AreLevels l.topology.cluster l.self

@@ -6,7 +6,7 @@ use Rattle.bm_levels.specs.Leaving.{IsLeaving, MakesNoHead}
 use Rattle.bm_levels.specs.Around.{KeepsLevelsAround}
 use Rattle.bm_levels.proofs.leveled.LeveledBlocks.clear.Given as goal
 
--- so many have left, and no more are to leave than there are slots
+-- `removed` replicas have left, and with those still to leave there are at most `bound`
 pub record AreLeaving (l : goal.Live-loop-self) : Type 0 where
   pub left : IsLeaving (λ s. s == l.storage) l.initial.self.arena l.self.arena l.removed
   pub few : l.removed + length (list_of l.self.arena l.storage) ≤ l.bound

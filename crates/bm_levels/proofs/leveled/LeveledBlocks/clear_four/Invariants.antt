@@ -4,7 +4,7 @@ use Rattle.bm_levels.specs.Leaving.{IsLeaving, MakesNoHead}
 use Rattle.bm_levels.specs.Around.{is_on_node, KeepsLevelsAround}
 use Rattle.bm_levels.proofs.leveled.LeveledBlocks.clear_four.Given as goal
 
--- so many have left
+-- `removed` replicas have left
 pub record AreLeaving (l : goal.Live-loop-pass) : Type 0 where
   pub left : IsLeaving (is_on_node l.around l.node) l.initial.self.arena l.self.arena l.removed
   pub few : l.removed ≤ l.pass * 256

@@ -6,7 +6,7 @@ use Rattle.bm_levels.specs.Around.{is_on_node, KeepsLevelsAround}
 use Rattle.bm_levels.proofs.Places.{HaveGone}
 use Rattle.bm_levels.proofs.leveled.LeveledBlocks.clear_node.Given as goal
 
--- the storages at the first places have left
+-- the replicas on the node's storages so far have left
 pub record AreLeaving (l : goal.Live-loop-place) : Type 0 where
   pub left : IsLeaving (is_on_node l.around l.node) l.fn.self.arena l.self.arena l.removed
   pub none : HaveGone l.around.topology.now.cluster l.node (λ s. list_of l.self.arena s ≡ []) l.place

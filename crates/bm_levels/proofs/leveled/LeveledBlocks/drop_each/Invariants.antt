@@ -6,7 +6,7 @@ use Rattle.bm_levels.specs.Bare.{IsBare, KeepsSlots}
 use Rattle.bm_levels.specs.LevelsBy.{KeepsAllLevels}
 use Rattle.bm_levels.proofs.leveled.LeveledBlocks.drop_each.Given as goal
 
--- numbers keep their entries or lose them, and of those at the slots so far none is bare
+-- numbers keep their entries or lose them, and no number of the slots so far has an unused entry
 pub record AreDroppedSoFar (l : goal.Live-loop-slot) : Type 0 where
   pub blocks : blocks_of l.self.arena ≡ blocks_of l.fn.self.arena
   pub replicas : replicas_of l.self.arena ≡ replicas_of l.fn.self.arena

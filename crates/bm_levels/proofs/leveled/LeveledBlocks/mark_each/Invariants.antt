@@ -7,8 +7,8 @@ use Rattle.bm_levels.specs.Leveled.{AreLevels}
 use Rattle.bm_levels.proofs.Flagging.{excess_by}
 use Rattle.bm_levels.proofs.leveled.LeveledBlocks.mark_each.Given as goal
 
--- with the replicas from this place on marked too, all of them are, and blocks of which none is
--- listed are as before
+-- marking the replicas from this index on completes the marks, and blocks without a listed replica
+-- are as before
 pub record AreMarkedSoFar (l : goal.Live-loop-replica) : Type 0 where
   pub replicas : revise (replicas_of l.self.arena) (excess_by (drop l.replica-index l.listed)) ≡ revise (replicas_of l.initial.self.arena) (excess_by l.listed)
   pub others : (slot : ℕ) → ((b : ℕ) → slot_of l.initial.self.arena b ≡ Some slot → has_block l.listed b ≡ false) → block_at l.self.arena slot ≡ block_at l.initial.self.arena slot

@@ -5,7 +5,7 @@ use Rattle.bm_levels.specs.Leveled.{AreLevels}
 use Rattle.bm_levels.proofs.Flagging.{with_deletes_ordered}
 use Rattle.bm_levels.proofs.leveled.LeveledBlocks.mark_ordered.Given as goal
 
--- with the deletes from this place on ordered too, all of them are
+-- ordering the deletes from this index on completes the orders
 pub record AreOrderedSoFar (l : goal.Live-loop-delete) : Type 0 where
   pub replicas : revise (replicas_of l.self.arena) (with_deletes_ordered l.part.index l.part.shards (drop l.delete-index l.deletes)) ≡ revise (replicas_of l.initial.self.arena) (with_deletes_ordered l.part.index l.part.shards l.deletes)
   pub blocks : blocks_of l.self.arena ≡ blocks_of l.initial.self.arena

@@ -10,7 +10,7 @@ use Rattle.bm_levels.proofs.Bare.{bare_again}
 use Rattle.bm_levels.proofs.Readied.{alike_ready, leveled_again, levels_again, leveled_alike, levels_alike}
 use Rattle.bm_levels.proofs.leveled.LeveledBlocks.ready_notice.Goals as goal
 
--- given up
+-- The notice is aborted.
 
 pub invariant_of-self-then-is_err : goal.invariant_of-self-then-is_err
 invariant_of-self-then-is_err c =
@@ -35,7 +35,7 @@ returns-then-is_err-clause-given_up c =
     let P : Leveled → Type 0 = λ v. MakesNoneBare v.arena c.abort.new.arena in
     subst P c.self.view_is (bare_again c.self.inside.arena c.ready_one-found.new.arena c.abort.new.arena (is_named (told c.ready_one-found.new.self)) c.lawful-2.ensures k.kept.blocks k.kept.replicas k.fresh r.blocks r.replicas r.numbers)
 
--- it is ready
+-- The notice is ready.
 
 abbrev start : goal.Else-is_err-2 → Leveled
 start c = record { arena = c.self.inside.arena; kept = c.self.inside.kept }

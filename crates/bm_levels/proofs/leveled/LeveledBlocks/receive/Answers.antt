@@ -12,7 +12,7 @@ use Rattle.bm_levels.specs.Leveled.{Leveled, IsLeveled, AreLevels}
 use Rattle.bm_levels.proofs.OneSlot.{IsChangedAt, held_by, leveled_after, levels_after}
 use Rattle.bm_levels.proofs.leveled.LeveledBlocks.receive.Goals as goal
 
--- the one number that is told has this slot
+-- the one reported number has this slot
 led : (a : Contents) (ns : List Named) (t : Told) (slot : ℕ) → map told_of ns ≡ t ∷ [] → map slot_in ns ≡ slot ∷ [] → AreHere a ns → slot_of a t.id ≡ Some slot
 led a [] t slot e at h = cc
 led a (n ∷ ns) t slot e at h =
@@ -26,11 +26,11 @@ slot_of_one-slot-requires c = one c.args.report.now.named c.requires.told
     one : (ns : List Named) {t : Told} → map told_of ns ≡ t ∷ [] → length ns ≡ 1
     one ns e = sym (length-map ns told_of) ∙ ap length e
 
--- and so it is seen of the fields
+-- the same in the view of the fields
 found : (v w : Leveled) (r : Looked) (id slot : ℕ) (stamp : Stamp) → v ≡ w → told r ≡ record { id = id; stamp = stamp } ∷ [] → map slot_in r.named ≡ slot ∷ [] → AreHere w.arena r.named → slot_of v.arena id ≡ Some slot
 found v w r id slot stamp same is at here = ap (λ (x : Leveled). slot_of x.arena id) same ∙ led w.arena r.named (record { id = id; stamp = stamp }) slot is at here
 
--- and has room for what is kept of it
+-- there is capacity for the status of this slot
 room_at : (v w : Leveled) (r : Looked) (id slot : ℕ) (stamp : Stamp) → v ≡ w → told r ≡ record { id = id; stamp = stamp } ∷ [] → map slot_in r.named ≡ slot ∷ [] → AreHere w.arena r.named → IsLawful v.arena → IsLeveled v → HasRoomAt v.kept slot
 room_at v w r id slot stamp same is at here lawful h = (slot + 1, omega arith, h.room slot (held_by v.arena slot (lawful.found id slot (found v w r id slot stamp same is at here))))
 

@@ -19,7 +19,7 @@ returns-in_default-clause-replicas c =
 pub returns-in_default-clause-removed : goal.returns-in_default-clause-removed
 returns-in_default-clause-removed c = sym (ap is_some (replica_absent c.args.self.now.arena c.args.id c.args.storage (sym c.in_default.ensures)))
 
--- the replica was not there
+-- the replica does not exist
 gone : (c : goal.Then-is_none) → get (replicas_of c.args.self.now.arena) (replica_at c.args.id c.args.storage) ≡ None
 gone c =
     get-here c.args.self.now.arena c.args.id c.in-Some.slot c.args.storage (sym c.in-Some.ensures)
