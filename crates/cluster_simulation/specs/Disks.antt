@@ -1,4 +1,4 @@
--- What is on the disks, whatever the manager knows of it.
+-- The content of the disks, whatever the manager knows of it.
 use Rattle.std.specs.Prelude.{ℕ, Bool, false, List, [], ◌+◌, ◌-◌, ◌*◌, ◌==◌, ◌^◌, min, slice_get, slice_set}
 use Rattle.std.specs.Option.{option_map_or}
 use Rattle.std.specs.List.{list_any}
