@@ -48,7 +48,7 @@ is_prepared (prepared.Entry n) r b = n == b
 is_prepared (prepared.Notice s) r b = is_named (told r) b
 is_prepared (prepared.Report s) r b = is_named (told r) b
 
--- all that the end of what was prepared needs is there
+-- all that the end of a reservation needs
 abbrev pub HasPrepared : Prepared → Looked → Contents → Type 0
 HasPrepared (prepared.Notice s) r a = IsLookedUp r a s
 HasPrepared (prepared.Report s) r a = IsReady r a s × (r.changed ≡ [])
