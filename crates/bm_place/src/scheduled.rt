@@ -114,7 +114,7 @@ impl Scheduled {
     }
 }
 
-/// The storages of a cluster, by ascending number, with nothing scheduled yet.
+/// The storages of a cluster, ascending, with nothing scheduled yet.
 fn rows_of(alloc: Global, topology: &Topology) -> Result<NumberMap<Target>, AllocError>
     ensures { IfOk result
         (λ rows. rows.map ≡ targets.target_table topology.now.cluster nothing_yet) }
@@ -160,7 +160,7 @@ fn renew(foremost: &mut Vec<Target>, rows: &NumberMap<Target>, seats: &[Seat], t
     }
 }
 
-/// A storage to which nothing is sent yet.
+/// A storage with nothing scheduled to it yet.
 fn target_at(topology: &Topology, storage: StorageId) -> Target
     ensures { result ≡ targets.target_at topology.now.cluster (λ _. 0) storage }
 {
