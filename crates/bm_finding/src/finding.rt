@@ -1,4 +1,4 @@
-// What a round finds in the blocks of a shard.
+// The findings of a round in the blocks of a shard.
 ghost use Rattle.std.specs.Prelude.{◌≡◌, IsSome, IsTrue, IfOk, IfErr};
 ghost use Rattle.bm_base.specs.declared.refusal.Refusal.TheVariants.{Memory};
 ghost use Rattle.bm_base.specs.declared.replica.ReplicaId.{ReplicaId};

@@ -24,13 +24,13 @@ use std::alloc::{AllocError, Global};
 #[derive(Drop)]
 pub(crate) struct Look {
     pub id: BlockId,
-    /// What is known of it; `None` for an unknown block.
+    /// The block's entry; `None` for an unknown block.
     pub info: Option<BlockInfo>,
     /// The storages of its surplus live replicas, ascending.
     pub excess: Vec<StorageId>,
-    /// All its replicas as the round chooses, those that are too many marked.
+    /// All its replicas with the marks of the round: those that are surplus are marked.
     pub replicas: ReplicaMap<Marks>,
-    /// A scratch buffer for its storages where it is settled.
+    /// A scratch buffer for the storages of a settled block.
     pub storages: Vec<StorageId>,
     /// A scratch buffer to sort its replicas, if it has more than a few.
     triplets: Vec<(StorageId, Marks)>,
@@ -39,7 +39,7 @@ pub(crate) struct Look {
 }
 
 impl Look {
-    /// At no block so far. Takes no memory.
+    /// Scans no block yet. Takes no memory.
     pub(crate) fn new(alloc: Global) -> Look
         ensures { result.replicas ≡ empty }
     {
