@@ -20,14 +20,14 @@
 //! drawn. There are four nodes, two on each of two racks, and six blocks, each with one replica on
 //! each rack. In round 5 the nodes of one rack die:
 //! - Round 5: each block has one live replica, and wants two, so all six are of the highest
-//!   urgency, and one copy of each is requested.
-//!   A round commands two copies for each of the two nodes that are left: four. A node may send four of the highest urgency, and the
-//!   other node of the rack, which has no replica of the block, is the target.
-//! - Round 6: no copy has come yet. Copies on their way count as there, so the two blocks without
-//!   one get theirs, and six are awaited.
-//! - Round 7: the first four copies have come. Their blocks have two live replicas; both are on one
-//!   rack, but it is the only one.
-//! - Round 8: the other two have come, and nothing more is requested.
+//!   urgency, and one copy of each is requested. A round commands two copies for each of the two
+//!   nodes that are left: four. A node may send four of the highest urgency, and the other node of
+//!   the rack, which has no replica of the block, is the target.
+//! - Round 6: no copy has arrived yet. Pending copies count like replicas, so the two blocks
+//!   without one get theirs, and six are pending.
+//! - Round 7: the first four copies have arrived. Their blocks have two live replicas; both are on
+//!   one rack, but it is the only one.
+//! - Round 8: the other two have arrived, and nothing more is requested.
 //!
 //! The exit status is 1 when out of memory or when a write fails, and 2 for invalid options.
 #![tactic(auto)]
