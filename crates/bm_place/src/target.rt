@@ -49,7 +49,7 @@ pub fn least_target(
 }
 
 /// The same, in the order of the best targets: it ends at the first eligible one of the better
-/// class, and where no further one has enough free bytes.
+/// class, or at one with too few free bytes.
 fn least_fitting(
     held: &[StorageId],
     barred: &[StorageId],

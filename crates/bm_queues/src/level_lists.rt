@@ -110,8 +110,8 @@ impl LevelLists {
         Ok(())
     }
 
-    /// Gives a slot a level, or none. It leaves its list, where the first slot takes its index, and
-    /// becomes the first slot of its new level. If it has the level already nothing changes. Takes
+    /// Gives a slot a level, or none. The first slot of its old list takes its index there, and the
+    /// slot becomes the first of its new level. If it has the level already, nothing changes. Takes
     /// no memory.
     pub fn set(&mut self, slot: usize, level: Option<Level>)
         requires { slot < length self.old.levels }

@@ -15,10 +15,10 @@ use std::sync::Wait;
 use std::thread::Threads;
 
 /// Answers each line of the input by a line of the output. The tables hash by a secret that is
-/// drawn here, so that nobody can make slow lines by colliding numbers; no clause speaks of it,
-/// since no answer depends on it. A crew of threads works a call on all shards, as many as the
-/// configuration has workers, and the calling one waits for the others: so the clauses state what
-/// holds if a run returns.
+/// drawn here, so that nobody can make slow lines by colliding numbers. No clause states that,
+/// since no answer depends on it. A crew of threads, with the configured number of workers, works a
+/// call on all shards, and the calling thread waits for the others: so the clauses state what holds
+/// if a run returns.
 pub fn run<R: Source, W: Sink, H: Threads + Wait + RandomSource + Sync>(
     rt: &H,
     alloc: Global,

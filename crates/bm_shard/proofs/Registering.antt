@@ -1,4 +1,4 @@
--- A new node keeps the replicas where they are.
+-- A new node leaves the replicas on their storages.
 use Rattle.std.proofs.Common.{◌≡◌, ℕ, false, None, List, is_some, ap, ◌∙◌}
 use Rattle.std.specs.Prelude.{◌||◌, IsSome, option_map, option_and_then}
 use Rattle.std.specs.List.{list_any}

@@ -14,7 +14,7 @@ use Rattle.bm_shard.specs.Seen.{LookUp, NoticeOf, ReportOf}
 use Rattle.bm_shard.specs.declared.shard.Prepared.{Prepared}
 use Rattle.bm_shard.specs.declared.shard.Prepared.TheVariants as prepared
 
--- a map with the level of a block, where it has one
+-- a map with the level of a block, if it has one
 abbrev pub with_level : Map by_number Level → ℕ → Option Level → Map by_number Level
 with_level m b l = option_map_or (λ x. insert m b x) l (remove m b)
 

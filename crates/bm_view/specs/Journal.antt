@@ -29,7 +29,7 @@ pub record Known : Type 0 where
   pub home : Home
   pub log : List Entry
 
--- the entry of a line, and those that go on from it, where the pen was the one that had its turn
+-- the entry of a line and those that continue from it, if the pen was the one that had its turn
 abbrev pub chain_if : Bool → Entry → List Entry → List Entry → List Entry
 chain_if true e on off = e ∷ on
 chain_if false e on off = off

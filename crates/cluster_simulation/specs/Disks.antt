@@ -23,7 +23,7 @@ bytes_left capacity d = capacity - d.replicas * 2 ^ 27
 abbrev pub free_bytes : Disks → ℕ → ℕ
 free_bytes D s = option_map_or (bytes_left D.capacity) (slice_get D.disks.items s) 0
 
--- one disk changed, if it is there
+-- one disk changed, if it exists
 abbrev pub change_at : (Disk → Disk) → ℕ → List Disk → List Disk
 change_at f s disks = option_map_or (λ d. slice_set disks s (f d)) (slice_get disks s) disks
 
