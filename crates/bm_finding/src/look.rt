@@ -56,8 +56,8 @@ impl Look {
 
     /// Scans the block of a number with this slot, and returns the storages of its usable replicas:
     /// a few reads of each of its replicas, and O(n log n) steps for n replicas, more than eight.
-    /// It takes memory only if more than four are live or drained, if it has more replicas than
-    /// each block before, or if a list of its surplus grows past its capacity.
+    /// It takes memory only in three cases: more than four are live or drained; the block has more
+    /// replicas than each block before; a list of surplus grows past its capacity.
     pub(crate) fn look_at(
         &mut self,
         alloc: Global,

@@ -90,7 +90,7 @@ module _ (C : Cluster) (w : Standing) (urgency : Level) (barred : List ℕ) (len
   ends_behind cs i best all inv = sym inv ∙ at_drop_all (λ xs. scan order may best xs) cs i all
 
 -- The invariant of the walk: a scan of the rest from the best so far gives the result of a scan of
--- all, and none of the rest comes before the best so far by free bytes.
+-- all. None of the rest comes before the best so far by free bytes.
 pub record IsWalked (R : Target → Target → Ordering) (p : Target → Bool) (cs : List Target) (i : ℕ) (best : Option Target) : Type 0 where
   pub scanned : scan R p best (drop i cs) ≡ scan R p None cs
   pub behind : (d : Target) → IsAmong (drop i cs) d → IfSome best (λ b. goes_before d b ≡ false)

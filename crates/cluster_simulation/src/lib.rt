@@ -10,10 +10,10 @@
 //! At the start of each round DataNodes report what they have done: a command is carried out
 //! `delay` rounds after it was given, if the disks that it needs are still alive. The incidents
 //! happen in round `--at`. Then DataNodes report the free bytes of their disks, each of which has
-//! capacity for twice its share of the replicas, and the manager takes its round. The counts are
-//! those after it: the blocks at each level (`missing` are those without a usable replica), the
-//! copies that the manager awaits, the replicas in excess and the corrupt ones, the copies and
-//! deletes that the round commands, and the calls that the manager refused since the previous
+//! capacity for twice its share of the replicas, and the manager takes its round. After that the
+//! blocks at each level are counted (`missing` are those without a usable replica), the copies that
+//! the manager awaits, the replicas in excess and the corrupt ones. The other counts are the copies
+//! and deletes that the round commands, and the calls that the manager refused since the previous
 //! round. Dead nodes report nothing, so the manager has nothing to refuse.
 //!
 //! The numbers of `examples/stories/one_of_two_racks_dies.csv` follow from the rules, whatever is

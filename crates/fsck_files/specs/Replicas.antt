@@ -5,7 +5,7 @@ use Rattle.fsck_text.specs.declared.mark.Mark.TheVariants as mark
 use Rattle.fsck_text.specs.declared.list.Listed.{Listed}
 
 -- Whether a replica with a mark is corrupt. If fsck reports each known replica of its block as
--- corrupt, so is one without a mark, and one whose mark only reports that its node is
+-- corrupt, so is one without a mark. So is one whose mark only reports that its node is
 -- decommissioned or in maintenance.
 abbrev pub is_corrupt : Mark → Bool → Bool
 is_corrupt mark.Corrupt block_is_corrupt = true
