@@ -27,7 +27,7 @@ pub struct Crew;
 #[derive(Drop)]
 pub struct Ready<T, U> {
     room: usize,
-    /// `None` where there are no workers but the calling thread.
+    /// `None` if the calling thread is the only worker.
     team: Option<Team<T, U>>,
     /// The capacity is for a team: without one, no slot is needed.
     slots: Vec<Option<(u32, U)>>,

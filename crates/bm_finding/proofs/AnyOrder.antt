@@ -1,4 +1,4 @@
--- The replicas of a block make one map, in whatever order they are inserted.
+-- The replicas of a block give one map, in whatever order they are inserted.
 use Rattle.std.specs.Prelude.{◌≡◌, ℕ, Bool, true, false, ◌==◌, List, [], ◌∷◌, map, Option, Some, None, option_map}
 use Rattle.std.specs.Option.{option_map_or, option_or}
 use Rattle.std.specs.List.Sorted.{IsPermutation}
@@ -22,7 +22,7 @@ use Rattle.bm_finding.proofs.Permuted.{distinct_moved}
 abbrev storages : List (ℕ × Marks) → List ℕ
 storages rs = map (λ r. r.0) rs
 
--- each replica is the one that is found on its storage
+-- a search for the storage of a replica finds the replica
 found_each : (rs : List (ℕ × Marks)) → Distinct (storages rs) → Each (λ r. find_marks rs r.0 ≡ Some r.1) rs
 found_each [] d = tt
 found_each (r ∷ rs) d = (
@@ -38,7 +38,7 @@ found_each (r ∷ rs) d = (
         absurd (sure (sym (absent_marks rs q.0 (λ there. d.0 (let P : ℕ → Type 0 = λ s. Among s (storages rs) in subst P (sym (eqb-true r.0 q.0 e)) there))) ∙ h))
     by q false e h = h
 
--- where f finds each of them, what is found among them is what f finds
+-- if f finds each of them, a search among them finds what f finds
 found_by : (f : ℕ → Option Marks) (rs : List (ℕ × Marks)) → Each (λ r. f r.0 ≡ Some r.1) rs → (s : ℕ) (m : Marks) → find_marks rs s ≡ Some m → f s ≡ Some m
 found_by f [] h s m e = cc
 found_by f (r ∷ rs) h s m e = by (r.0 == s) refl e (found_by f rs h.1 s m)
@@ -60,7 +60,7 @@ same_option (Some m) p f g = sym (f m refl)
 distinct_too : (xs ys : List (ℕ × Marks)) → IsPermutation xs ys → Distinct (storages xs) → Distinct (storages ys)
 distinct_too xs ys moved d = distinct_moved (storages xs) (storages ys) (IsPermutation-map (λ (r : ℕ × Marks). r.0) xs ys moved) d
 
--- the same are found in another order
+-- a search in another order finds the same
 found_moved : (xs ys : List (ℕ × Marks)) → IsPermutation xs ys → Distinct (storages xs) → (s : ℕ) → find_marks ys s ≡ find_marks xs s
 found_moved xs ys moved d s =
     same_option (find_marks ys s) (find_marks xs s) (one_way xs ys moved d s) (one_way ys xs (IsPermutation-sym xs ys moved) (distinct_too xs ys moved d) s)
@@ -76,6 +76,6 @@ distinct_at : (a : Contents) (slot : ℕ) (o : Option Block) → IsLawful a → 
 distinct_at a slot None lawful is = tt
 distinct_at a slot (Some k) lawful is = lawful.once slot k is
 
--- those at a slot come to the same map in another order
+-- the replicas at a slot give the same map in another order
 pub put_reordered : (a : Contents) (slot b : ℕ) (m : Map by_replica Marks) (ys : List (ℕ × Marks)) → IsLawful a → IsPermutation (replicas_at a slot) ys → put_on b m ys ≡ put_on b m (replicas_at a slot)
 put_reordered a slot b m ys lawful moved = put_moved b m (replicas_at a slot) ys moved (distinct_at a slot (block_at a slot) lawful refl)

@@ -1,4 +1,4 @@
--- The findings of blocks one after another, where each block's list has just its own elements.
+-- The findings of several blocks, if each block's list has only its own elements.
 use Rattle.std.specs.Prelude.{◌≡◌, ℕ, Bool, true, false, ◌==◌, List, [], ◌∷◌, ◌++◌}
 use Rattle.std.specs.List.{flat_map, list_any, IsDistinct, AllByRecursion}
 use Rattle.std.proofs.Common.{inl, inr, sym, ap, ◌∙◌, ne_eqb}
@@ -25,7 +25,7 @@ module _ {X : Type 0} (e : X → X → Bool) where
   distinct_appended [] ys d g apart = g
   distinct_appended (x ∷ xs) ys d g apart = (all_appended (λ y. e x y ≡ false) xs ys d.0 apart.0, distinct_appended xs ys d.1 g apart.1)
 
--- each block's list has just those of the elements that are of the block, each once
+-- each block's list has exactly the elements of the block, each once
 pub record IsListed {K X : Type 0} (o : Order K) (key : X → K) (block : X → ℕ) (P : X → Type 0) (f : ℕ → List X) : Type 0 where
   pub differ : (x y : X) → (block x == block y) ≡ false → tie o key x y ≡ false
   pub of_block : (b : ℕ) → Each (λ x. block x ≡ b) (f b)
@@ -58,7 +58,7 @@ module _ {K X : Type 0} (o : Order K) (key : X → K) (block : X → ℕ) (P : X
         | inr later ↦ or_right (list_any t (f c)) (list_any t (flat_map f bs)) (any_there t b bs later h)
       ]
 
-  -- what is found of different blocks, put in order, is gathered, if no other block has any
+  -- the findings of different blocks, sorted, are the gathered list, if no other block has findings
   pub gathered_of : (bs : List ℕ) (ys : List X) → Distinct bs → ((x : X) → P x → Among (block x) bs) → IsInOrder o key (flat_map f bs) ys → IsGathered o key P ys
   gathered_of bs ys d covers order =
       gathered_sorted o key P (flat_map f bs) ys order (all_apart bs d) (each_flat P f bs (each_of (λ b. Each P (f b)) bs is.only))

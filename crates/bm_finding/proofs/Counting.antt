@@ -1,4 +1,4 @@
--- How many of the replicas at a slot pass, counted one after another.
+-- The number of replicas at a slot that pass, counted one after another.
 use Rattle.std.specs.Prelude.{◌≡◌, ◌+◌, ℕ, Bool, true, false, List, ◌∷◌, map, filter, length}
 use Rattle.std.proofs.Common.{cond, ap, ◌∙◌, arith}
 use Rattle.bm_base.specs.declared.replica.Marks.{Marks}

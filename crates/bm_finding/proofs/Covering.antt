@@ -73,7 +73,7 @@ module _ (v : Leveled) (lawful : IsLawful v.arena) (leveled : IsLeveled v) (is :
   own_id : (b slot : ℕ) → slot_of a b ≡ Some slot → id_at a slot ≡ b
   own_id b slot here = let found = lawful.found b slot here in ap (λ o. option_map_or (λ (k : Block). k.id) o 0) found.2 ∙ found.3
 
-  -- Where a replica or a block comes from.
+  -- The blocks of replicas, and the slots of blocks.
 
   was_counted : (q : ReplicaId) (m : Marks) → get U.replicas q ≡ Some m → (k : Marks) × (get H.replicas q ≡ Some k)
   unfolding without_unordered_excess without_expired
@@ -93,7 +93,7 @@ module _ (v : Leveled) (lawful : IsLawful v.arena) (leveled : IsLeveled v) (is :
   unfolding started_holdings marked without_unordered_excess without_expired holdings_with
   slot_of_block b i e = let one = chained (λ slot. info_at a slot) (slot_of a b) i (sym (get-blocks_of a b) ∙ e) in (one.0, one.1)
 
-  -- nothing is wished of a block without a usable replica
+  -- a block without a usable replica has no wish
   none_unusable : (b : ℕ) (w : Wish) → wish_at C G NoUsableReplica b ≡ Some w → ⊥
   unfolding wish_at
   none_unusable b w e = never (is_at NoUsableReplica (level C G b)) (get G.blocks b) e
@@ -122,7 +122,7 @@ module _ (v : Leveled) (lawful : IsLawful v.arena) (leveled : IsLeveled v) (is :
   unfolding round_part expired holdings_with
   same_expired = refl
 
-  -- Where a round looks at some of the slots, in any order.
+  -- The scanned slots, in any order.
 
   module _ (bound : Option (ℕ × ℕ)) (keyed : List ((ℕ × ℕ) × ℕ)) (moved : IsPermutation (map (keyed_at v.kept v.arena) (visits v.kept v.arena bound has_enough)) keyed) where
     abbrev told : List ℕ
@@ -157,7 +157,7 @@ module _ (v : Leveled) (lawful : IsLawful v.arena) (leveled : IsLeveled v) (is :
         among_moved (map (id_at a) told) ids ids_moved b
         (let P : ℕ → Type 0 = λ c. Among c (map (id_at a) told) in subst P (own_id b slot here) (mapped_among (id_at a) slot told h))
 
-    -- a block with a number is settled, or a round looks at it
+    -- a block with a slot is settled or is scanned
     settled_or : (b slot : ℕ) → slot_of a b ≡ Some slot → IsSettled H b ⊎ Among b ids
     settled_or b slot here =
         elim (cases_Bool (is_settled_at (block_at a slot))) [

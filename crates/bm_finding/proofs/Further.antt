@@ -1,4 +1,4 @@
--- The findings of one block more.
+-- The findings of one more block.
 use Rattle.std.specs.Prelude.{◌≡◌, ℕ, Bool, true, false, nat_le, length, map, filter, List, [], ◌∷◌, ◌++◌, Option, option_and_then, option_to_list}
 use Rattle.std.specs.Option.{option_map_or}
 use Rattle.std.specs.List.{flat_map}
@@ -29,16 +29,16 @@ use Rattle.bm_finding.specs.Gathering.{excess_at, wishes_at, deletes_at, HasFoun
 use Rattle.bm_finding.proofs.Owning.{storages_own}
 use Rattle.bm_finding.proofs.OwnWish.{wish_known}
 
--- what a look at a block came to
+-- the result of the scan of a block
 pub record IsSeen (C : Cluster) (l : Look) (u : Usable) (e : Bool) : Type 0 where
   pub usable : AreUsable C (entries l.replicas) u
   pub enough : e ≡ option_map_or (λ (i : BlockInfo). nat_le i.repl (length u.live)) l.info false
 
--- what the block wishes for by it
+-- the wish of the block by this scan
 abbrev wish_seen : Cluster → ℕ → ℕ → OnTheWay → Look → Usable → Option Wish
 wish_seen C pend r p l u = option_and_then (λ i. wish_by C l.id i u.live u.drained (storages_in (λ _ _. true) (entries l.replicas)) (targets_left pend r p l.id)) l.info
 
--- it was put behind what was found
+-- the findings of the block are appended
 pub record IsPut (C : Cluster) (pend r : ℕ) (bound : Option (ℕ × ℕ)) (p : OnTheWay) (l : Look) (u : Usable) (e : Bool) (f g : Found) : Type 0 where
   pub excess : g.excess.items ≡ f.excess.items ++ replicas_on l.excess.items (entries l.replicas)
   pub wishes : g.wishes.items ≡ f.wishes.items ++ wishes_before bound (option_to_list (wish_seen C pend r p l u))

@@ -1,4 +1,4 @@
--- A list of elements with different keys that was sorted by them.
+-- A list of elements with different keys that is sorted by them.
 use Rattle.std.specs.Prelude.{get_or, ◌≡◌, suc, ◌+◌, Bool, true, false, List, [], ◌∷◌, map, T}
 use Rattle.std.specs.declared.cmp.Ordering.{Ordering}
 use Rattle.std.specs.declared.cmp.Ordering.TheVariants.{Less, Equal, Greater}
@@ -18,7 +18,7 @@ use Rattle.bm_parts.specs.Found.{IsGathered}
 use Rattle.bm_parts.proofs.Filters.{all_each}
 use Rattle.bm_finding.specs.Gathering.{IsInOrder}
 
--- neither greater nor equal
+-- an order that is neither greater nor equal is less
 less_left : (r : Ordering) → is_lt (ordering_reverse r) ≡ false → is_eq r ≡ false → T (is_lt r)
 less_left Less e f = tt
 less_left Equal e f = absurd (true≢false f)

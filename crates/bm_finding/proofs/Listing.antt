@@ -1,4 +1,4 @@
--- Excess, wishes and deletes of one block are just those of the block.
+-- Excess, wishes and deletes of one block belong to the block.
 use Rattle.std.specs.Prelude.{◌≡◌, ℕ, Bool, true, false, ◌&&◌, ◌==◌, ◌||◌, if◌then◌else◌, List, [], ◌∷◌, map, filter, Option, Some, None, option_map, option_and_then, option_to_list, IsSome, is_some, T}
 use Rattle.std.specs.declared.cmp.Ordering.{Ordering}
 use Rattle.std.specs.declared.cmp.Ordering.TheVariants.{Less, Equal, Greater}
@@ -38,7 +38,7 @@ use Rattle.bm_finding.specs.Gathering.{excess_at, wishes_at, deletes_at}
 use Rattle.bm_finding.proofs.Collecting.{IsListed}
 use Rattle.bm_finding.proofs.InOrder.{tie}
 
--- What is made of entries in their order differs as their keys do.
+-- Elements that are made of entries with different keys differ.
 
 not_equal : (r : Ordering) → T (is_lt r) → is_eq r ≡ false
 not_equal Less h = refl
@@ -174,7 +174,7 @@ module _ (C : Cluster) (pend r : ℕ) (H : Holdings) where
   if_true true o x e = refl
   if_true false o x e = absurd (false≢true (ap is_some e))
 
-  -- a wish is of the block's own level
+  -- a wish of a block is at the block's own level
   pub wish_level : (l : Level) (b : ℕ) (w : Wish) → wish_at C G l b ≡ Some w → level C G b ≡ Some l
   unfolding wish_at
   wish_level l b w e = at_level l (level C G b) (if_true (is_at l (level C G b)) _ w e)

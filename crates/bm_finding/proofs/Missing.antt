@@ -1,4 +1,4 @@
--- A number that would be between two of a list is not in it.
+-- A number between two adjacent ones of a sorted list is not in the list.
 use Rattle.std.proofs.Common.{◌≡◌, ℕ, ◌-◌, ◌<◌, ◌≤◌, false, List, length, get_or, inl, inr, arith}
 use Rattle.std.specs.Prelude.{◌⊎◌, ◌==◌}
 use Rattle.std.specs.List.Sorted.{IsNonDecreasing}

@@ -1,4 +1,4 @@
--- A filter that lets none pass.
+-- A filter that no element passes.
 use Rattle.std.specs.Prelude.{◌≡◌, false, List, [], ◌∷◌, filter}
 use Rattle.std.proofs.Common.{refl}
 

@@ -1,4 +1,4 @@
--- The wish of one block, by what is seen of it.
+-- The wish of one block, from its own replicas and transfers.
 use Rattle.std.specs.Prelude.{◌≡◌, ℕ, nat_lt, if◌then◌else◌, true, length, Option, Some, None, option_and_then}
 use Rattle.std.proofs.Common.{refl}
 use Rattle.bm_base.specs.declared.level.Level.{Level}
@@ -20,7 +20,7 @@ module _ (C : Cluster) (G : Holdings) (b : ℕ) where
   abbrev level_for : ℕ → Option Level
   level_for repl = level_of lives (length (drained C G b)) repl (length (racks C (live C G b))) (is_multi_rack C)
 
-  -- the wish at a level, counted by it
+  -- the wish at a level, from the counts of the scan
   abbrev wish_counted : BlockInfo → Level → Option Wish
   wish_counted i urgency =
       let n = count_at urgency i.repl lives (length (pending_targets G b)) in

@@ -25,7 +25,7 @@ use Rattle.bm_finding.specs.declared.look.Look.{Look}
 use Rattle.bm_finding.specs.Marking.{marked_if, put_on, storages_in}
 use Rattle.bm_finding.specs.Looked.{own_replicas, too_many, IsLook}
 
--- what is kept of a map that was revised is what is kept of it, revised
+-- a filter of a map with changed values is the filtered map with changed values
 kept_revised : {X : Type 0} (m : Map by_replica X) (p : ReplicaId → Bool) (f g : ReplicaId → X → X) → ((q : ReplicaId) (x : X) → p q ≡ true → f q x ≡ g q x)
     → keep (revise m f) (λ q _. p q) ≡ revise (keep m (λ q _. p q)) g
 kept_revised {X} m p f g same =
@@ -39,7 +39,7 @@ kept_revised {X} m p f g same =
     by q false e None = refl
     by q false e (Some x) = refl
 
--- the storages of a block's replicas, by these alone
+-- the storages of a block's replicas depend only on these replicas
 pub storages_own : (p : ℕ → Marks → Bool) (H : Holdings) (b : ℕ) → storages_in p (entries (own_replicas H b)) ≡ storages_where p H b
 unfolding storages_where
 storages_own p H b =
@@ -54,7 +54,7 @@ absent_marks (r ∷ rs) s none = by (r.0 == s) refl (absent_marks rs s (λ h. no
     by true e rest = absurd (none (inl (sym (eqb-true r.0 s e))))
     by false e rest = rest
 
--- one more replica, of a storage that comes no more
+-- one more replica, on a storage that does not occur again
 put_one : (t u : Bool) (v : Marks) (found rest : Option Marks) → (u ≡ true → found ≡ None)
     → cond t (option_or (option_map counted_again found) (cond (t && u) (Some (counted_again v)) rest)) (cond (t && u) (Some (counted_again v)) rest)
     ≡ cond t (option_or (option_map counted_again (cond u (Some v) found)) rest) rest
@@ -81,7 +81,7 @@ module _ (a : Contents) (pending : Map by_replica ℕ) (lawful : IsLawful a) (b 
   abbrev H : Holdings
   H = holdings_with a pending
 
-  -- as it is counted again
+  -- the holdings without expired transfers and without unordered excess
   abbrev U : Holdings
   U = without_unordered_excess (without_expired pend r H)
 
@@ -116,21 +116,21 @@ module _ (a : Contents) (pending : Map by_replica ℕ) (lawful : IsLawful a) (b 
       sym (kept_revised U.replicas (λ q. q.block == b) (λ q m. marked_if (has (excess_in C U q.block) q.storage) m) (λ q m. marked_if (has (excess_in C U b) q.storage) m)
       (λ q x e. ap (λ c. marked_if (has (excess_in C U c) q.storage) x) (eqb-true q.block b e)))
 
--- what is counted again of a block are its own replicas
+-- the block's replicas without unordered excess are its own replicas
 own_of : (a : Contents) (C : Cluster) (b slot : ℕ) (m : Map by_replica Marks) → IsLawful a → slot_of a b ≡ Some slot → m ≡ put_on b empty (replicas_at a slot)
     → (pend r : ℕ) (pending : Map by_replica ℕ) → m ≡ own_replicas (without_unordered_excess (without_expired pend r (holdings_with a pending))) b
 own_of a C b slot m lawful here counted pend r pending =
     let found = lawful.found b slot here in
     counted ∙ ap (λ o. put_on b empty (option_map_or (λ (z : Block). z.replicas) o [])) found.2 ∙ own_counted a pending lawful b slot found.1 here found.2 C pend r
 
--- each storage is listed once
+-- each storage occurs once
 pub storages_once : (a : Contents) (C : Cluster) (b slot : ℕ) (m : Map by_replica Marks) → IsLawful a → slot_of a b ≡ Some slot → m ≡ put_on b empty (replicas_at a slot)
     → (p : ℕ → Marks → Bool) → has_repeats (storages_in p (entries m)) ≡ false
 storages_once a C b slot m lawful here counted p =
     let H : Holdings = without_unordered_excess (without_expired 0 0 (holdings_with a empty)) in
     ap (λ n. has_repeats (storages_in p (entries n))) (own_of a C b slot m lawful here counted 0 0 empty) ∙ ap has_repeats (storages_own p H b) ∙ once_where p H b
 
--- a look that was made of these parts
+-- a scan with these parts is the defined one
 pub look_is : (a : Contents) (C : Cluster) (l : Look) (slot : ℕ) (m : Map by_replica Marks) → IsLawful a → slot_of a l.id ≡ Some slot
     → m ≡ put_on l.id empty (replicas_at a slot) → l.info ≡ option_and_then (λ (k : Block). k.info) (block_at a slot)
     → ((s : ℕ) → has l.excess.items s ≡ has (option_map_or (λ i. excess_of C (storages_in (is_live_on C) (entries m)) i.repl) l.info []) s) → l.replicas ≡ revise m (λ q x. marked_if (has l.excess.items q.storage) x)

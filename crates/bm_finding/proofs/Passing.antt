@@ -1,4 +1,4 @@
--- Of the findings of each block, and of all, the elements whose keys pass a test.
+-- The findings of one block and of all blocks, reduced to the elements whose keys pass a test.
 use Rattle.std.specs.Prelude.{◌≡◌, ℕ, Bool, true, false, ◌||◌, List, [], ◌∷◌, filter}
 use Rattle.std.specs.List.{list_any, IsDistinct, AllByRecursion}
 use Rattle.std.proofs.Common.{cond, refl, sym, ap, ◌∙◌, true≢false}
@@ -15,7 +15,7 @@ module _ {K X : Type 0} (o : Order K) (key : X → K) (q : K → Bool) where
   abbrev pub passes : X → Bool
   passes x = q (key x)
 
-  -- of the elements that are as said, one that passes
+  -- an element with the property that passes
   abbrev pub Passing : (X → Type 0) → X → Type 0
   Passing P x = P x × (q (key x) ≡ true)
 
@@ -50,7 +50,7 @@ module _ {K X : Type 0} (o : Order K) (key : X → K) (q : K → Bool) where
       by false is true at g rest = absurd (true≢false (sym h ∙ ap q (same_key o (key x) (key y) at) ∙ is))
       by false is false at g rest = rest g
 
-  -- what passes of each block's list
+  -- the passing elements of each block's list
   pub passing_listed : (block : X → ℕ) (P : X → Type 0) (f : ℕ → List X) → IsListed o key block P f → IsListed o key block (Passing P) (λ b. filter passes (f b))
   passing_listed block P f is = record {
     differ = is.differ;
@@ -60,7 +60,7 @@ module _ {K X : Type 0} (o : Order K) (key : X → K) (q : K → Bool) where
     all = λ x p. still_there x (f (block x)) p.1 (is.all x p.0);
   }
 
-  -- what passes of what is gathered
+  -- the passing elements of the gathered list
   pub passing_gathered : (P : X → Type 0) (xs : List X) → IsGathered o key P xs → IsGathered o key (Passing P) (filter passes xs)
   passing_gathered P xs is = record {
     rises = rises_still o key q xs is.rises;

@@ -37,6 +37,6 @@ of_ties (x ∷ xs) d = (not_among x xs d.0, of_ties xs d.1)
 flipped : (x y : ℕ) → (x == y) ≡ (y == x)
 flipped x y = grind (arith, nat_tests)
 
--- none stands twice in the other order either
+-- the other order has no duplicates either
 pub distinct_moved : (xs ys : List ℕ) → IsPermutation xs ys → Distinct xs → Distinct ys
 distinct_moved xs ys moved d = of_ties ys (IsDistinct-IsPermutation (λ (x y : ℕ). x == y) flipped xs ys moved (as_ties xs d))

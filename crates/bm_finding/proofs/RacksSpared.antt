@@ -6,7 +6,7 @@ use Rattle.bm_base.specs.declared.level.Level.{Level}
 use Rattle.bm_base.specs.declared.level.Level.TheVariants.{Highest, VeryUnderReplicated, UnderReplicated, BadlyDistributed}
 use Rattle.bm_base.specs.Levels.{level_of, level_without_live}
 
--- where fewer replicas are live than are wanted, their racks do not count
+-- if fewer replicas are live than are wanted, their racks do not matter
 pub few_live : (live drained repl r s : ℕ) (m n : Bool) → live < repl → level_of live drained repl r m ≡ level_of live drained repl s n
 unfolding level_of
 few_live live drained repl r s m n few =
@@ -26,7 +26,7 @@ alike : (t m n : Bool) → (t && false && m) ≡ (t && false && n)
 alike true m n = refl
 alike false m n = refl
 
--- where they do not stand on just one rack, it does not count whether the cluster has several
+-- if they are not on exactly one rack, it does not matter whether the cluster has several racks
 pub not_on_one : (live drained repl r : ℕ) (m n : Bool) → r ≢ 1 → level_of live drained repl r m ≡ level_of live drained repl r n
 unfolding level_of
 not_on_one live drained repl r m n apart =

@@ -33,7 +33,7 @@ use Rattle.bm_levels.proofs.Levels.{alike}
 use Rattle.bm_finding.proofs.InOrder.{gathered_sorted}
 use Rattle.bm_finding.proofs.Permuted.{as_ties}
 
--- A number of each key that passes, where the numbers rise as the keys do.
+-- A number of each key that passes, if the numbers ascend as the keys do.
 module _ {K X : Type 0} (R : K → K → Ordering) (number : K → ℕ) (q : K × X → Bool)
     (less : (e f : K × X) → q e ≡ true → q f ≡ true → T (is_lt (R e.0 f.0)) → T (is_lt (nat_cmp (number e.0) (number f.0)))) where
   abbrev numbers : List (K × X) → List ℕ
@@ -83,7 +83,7 @@ module _ (p : ℕ → Marks → Bool) (a : Contents) (pending : Map by_replica �
   abbrev H : Holdings
   H = holdings_with a pending
 
-  -- the storages of those of its replicas that pass
+  -- the storages of the block's replicas that pass
   pub sorted_where : (ys : List ℕ) → IsPermutation (storages_at p k.replicas) ys → IsSortedByKey (λ (n : ℕ). n) nat_cmp ys → ys ≡ storages_where p H b
   sorted_where ys moved sorted =
       let xs = storages_at p k.replicas in

@@ -41,7 +41,7 @@ use Rattle.bm_finding.proofs.NoneKept.{none_kept}
 use Rattle.bm_finding.proofs.OwnWish.{wish_known}
 use Rattle.bm_finding.proofs.Rising.{sorted_where}
 
--- a block that is settled at its slot is settled
+-- a block whose entry at its slot is settled is settled
 pub settled_there : (a : Contents) (pending : Map by_replica ℕ) → IsLawful a → (b slot : ℕ) → slot_of a b ≡ Some slot → is_settled_at (block_at a slot) ≡ true → IsSettled (holdings_with a pending) b
 settled_there a pending lawful b slot here settled =
     let found = lawful.found b slot here in
@@ -52,8 +52,7 @@ settled_there a pending lawful b slot here settled =
       few = few_at a pending lawful b slot k here found.2 at;
     }
 
--- those of a block's storages that pass, where a test of its replicas comes to one of their
--- storages
+-- the storages of a block's replicas that pass, if the test of a replica is a test of its storage
 storages_passing : (q : ℕ → Bool) (p : ℕ → Marks → Bool) (H : Holdings) (b : ℕ) → ((k : ReplicaId) (m : Marks) → k.block ≡ b → get H.replicas k ≡ Some m → p k.storage m ≡ q k.storage)
     → filter q (storages_where (λ _ _. true) H b) ≡ storages_where p H b
 unfolding storages_where
@@ -70,7 +69,7 @@ storages_passing q p H b same =
     passes e there true is = sym (same e.0 e.1 (eqb-true e.0.block b is) there)
     passes e there false is = refl
 
--- as a round begins its replicas are on the same storages
+-- as a round begins, the block's replicas are on the same storages
 all_left : (C : Cluster) (pend r : ℕ) (H : Holdings) (b : ℕ) → storages_where (λ _ _. true) (started_holdings C pend r H) b ≡ storages_where (λ _ _. true) H b
 unfolding started_holdings marked without_unordered_excess without_expired storages_where
 all_left C pend r H b =
@@ -126,7 +125,7 @@ module _ (C : Cluster) (pend r : ℕ) (a : Contents) (way : OnTheWay) (lawful : 
   unfolding started_holdings marked without_unordered_excess without_expired holdings_with
   known = sym (get-blocks_of a b ∙ ap (λ o. option_and_then (λ x. info_at a x) o) here)
 
-  -- Its wish by the storages at its slot, sorted.
+  -- The block's wish, from the sorted storages at its slot.
 
   module _ (ys : List ℕ) (moved : IsPermutation (storages_at (λ _ _. true) (replicas_at a slot)) ys) (sorted : IsSortedByKey (λ (n : ℕ). n) nat_cmp ys) where
     held : ys ≡ storages_where (λ _ _. true) H b

@@ -12,8 +12,7 @@ use Rattle.bm_base.specs.declared.commands.Delete.{Delete}
 use Rattle.bm_base.specs.Ordered.{pair_cmp}
 use Rattle.bm_base.specs.RoundParts.{delete_key}
 
--- a pair is not less where its first number is not, and its second is not where both first ones are
--- equal
+-- a pair is not less if its first number is not, and its second is not if the first ones are equal
 not_less : (a b c d : ℕ) → is_lt (nat_cmp a c) ≡ false → (c ≡ a → d ≤ b) → is_lt (ordering_then (nat_cmp a c) (nat_cmp b d)) ≡ false
 not_less a b c d first second = by (nat_cmp a c) refl first
   where

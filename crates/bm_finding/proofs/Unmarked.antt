@@ -1,4 +1,4 @@
--- Where no replica of a block is too many, and where none is there.
+-- Blocks without surplus replicas, and blocks without replicas.
 use Rattle.std.specs.Prelude.{◌≡◌, ℕ, List, [], Option, Some, None, option_map}
 use Rattle.std.proofs.Common.{refl, sym, ap, ◌∙◌}
 use Rattle.bm_base.specs.declared.replica.Marks.{Marks}
@@ -13,7 +13,7 @@ same_option : (o : Option Marks) → o ≡ option_map (λ m. m) o
 same_option None = refl
 same_option (Some m) = refl
 
--- marks of no storage change nothing
+-- marks on no storage change nothing
 pub marked_by_none : (m : Map by_replica Marks) (ss : List ℕ) → ss ≡ [] → m ≡ revise m (λ q x. marked_if (has ss q.storage) x)
 marked_by_none m ss none = same_map m (revise m (λ q x. marked_if (has ss q.storage) x)) (λ q. same_option (get m q) ∙ ap (λ xs. option_map (marked_if (has xs q.storage)) (get m q)) (sym none) ∙ sym (get-revise m (λ q x. marked_if (has ss q.storage) x) q))
 

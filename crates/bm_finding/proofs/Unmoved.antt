@@ -1,4 +1,4 @@
--- No transfer is on its way.
+-- Without pending transfers.
 use Rattle.std.specs.Prelude.{◌≡◌, ℕ, true, [], length, not, ◌==◌, filter, map, Option, Some, None, IsSome, is_some}
 use Rattle.std.proofs.Common.{refl, sym, ap, ◌∙◌}
 use Rattle.std.proofs.lemmas.Bool.{false≢true}
@@ -24,7 +24,7 @@ module _ (p : OnTheWay) (listed : (q : ReplicaId) → IsSome (get p.map q) → h
   unfolding entries empty
   no_entries = ap (λ (m : Map by_replica ℕ). entries m) no_map
 
-  -- so none of a block is left
+  -- so no transfer of a block stays pending
   pub none_left : (pend r b : ℕ) → [] ≡ targets_left pend r p b
   none_left pend r b =
       sym (ap (λ es. map (λ (e : ReplicaId × ℕ). e.0.storage) (filter (λ e. e.0.block == b) es))

@@ -82,7 +82,7 @@ module _ (f : ℕ → ℕ) where
 
 -- The slots that a round scans.
 
--- where copies are wished for there is a level
+-- a block of which copies are wished for has a level
 level_wishing : (o : Option Level) → wishes_copies o ≡ true → (l : Level) × (o ≡ Some l)
 level_wishing None e = absurd (true≢false (sym e))
 level_wishing (Some l) e = (l, refl)
@@ -102,7 +102,7 @@ former : (s t : Bool) → (s && t) ≡ true → s ≡ true
 former true t e = refl
 former false t e = absurd (true≢false (sym e))
 
--- what is known of the sets of slots
+-- the properties of the sets of slots
 pub record AreListed (K : Kept) : Type 0 where
   pub unsettled : Distinct K.unsettled.slots
   pub wishing : AreWishing K (wishing_slots K)
@@ -144,7 +144,7 @@ module _ (K : Kept) (is : AreListed K) where
               (and_from (is_before bound (key_at K a slot)) (not (has u slot) && not (has_enough slot)) early (and_from (not (has u slot)) (not (has_enough slot)) (ap not none) (ap not lacks))))
         ]
 
-    -- each is unsettled, or has a level
+    -- each scanned slot is unsettled, or has a level
     visit_is : (slot : ℕ) → Among slot slots → IsUnsettled K slot ⊎ ((l : Level) × (level_of_slot K slot ≡ Some l))
     visit_is slot h =
         elim (Among-append slot u settled h) [
@@ -156,7 +156,7 @@ module _ (v : Leveled) (lawful : IsLawful v.arena) (leveled : IsLeveled v) (is :
   abbrev a : Contents
   a = v.arena
 
-  -- the block at a slot that is held and is not the delimiter's
+  -- an occupied slot other than the delimiter's is the slot of its block's number
   known_at : (slot : ℕ) → slot ≢ a.delimiter → (o : Option Block) → block_at a slot ≡ o → o ≢ None → slot_of a (id_at a slot) ≡ Some slot
   known_at slot other None stands some = absurd (some refl)
   known_at slot other (Some k) stands some = ap (slot_of a) (ap (λ o. option_map_or (λ (b : Block). b.id) o 0) stands) ∙ lawful.known slot k stands other
@@ -174,7 +174,7 @@ module _ (v : Leveled) (lawful : IsLawful v.arena) (leveled : IsLeveled v) (is :
       never : None ≡ Some l → ⊥
       never e = cc
 
-  -- a slot at which a round looks is that of its block's number
+  -- a scanned slot is the slot of its block's number
   pub visit_known : (slot : ℕ) → Among slot (visits v.kept a bound has_enough) → slot_of a (id_at a slot) ≡ Some slot
   visit_known slot h =
       elim (visit_is v.kept is a bound has_enough slot h) [
@@ -187,7 +187,7 @@ module _ (v : Leveled) (lawful : IsLawful v.arena) (leveled : IsLeveled v) (is :
   pub ids_once : Distinct (map (id_at a) (visits v.kept a bound has_enough))
   ids_once = distinct_mapped (id_at a) (slot_of a) (visits v.kept a bound has_enough) (visits_once v.kept is a bound has_enough) visit_known
 
--- the slots of each of the four levels put behind those that are there come to all
+-- the slots of the four levels, appended level by level, are the list of all
 pub told_by_level : {Y : Type 0} (f : ℕ → Y) (p : ℕ → Bool) (u w x y z : List ℕ)
     → (((map f u ++ map f (filter p w)) ++ map f (filter p x)) ++ map f (filter p y)) ++ map f (filter p z) ≡ map f (u ++ filter p (w ++ (x ++ (y ++ z))))
 told_by_level f p u w x y z = simp (filter-append, map-append, append_assoc)

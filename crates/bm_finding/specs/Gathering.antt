@@ -14,7 +14,7 @@ use Rattle.bm_finding.specs.Looked.{own_replicas, too_many, replicas_on, deletes
 use Rattle.bm_finding.specs.Wanting.{wish_in}
 use Rattle.bm_finding.specs.declared.visiting.Found.{Found}
 
--- the replicas of a block that are too many as round r begins
+-- the surplus replicas of a block as round r begins
 abbrev pub excess_at : Cluster → ℕ → ℕ → Holdings → ℕ → List ReplicaId
 excess_at C pend r H b = replicas_on (too_many C pend r H b) (entries (own_replicas (started_holdings C pend r H) b))
 
@@ -22,7 +22,7 @@ excess_at C pend r H b = replicas_on (too_many C pend r H b) (entries (own_repli
 abbrev pub wishes_at : Cluster → ℕ → ℕ → Holdings → ℕ → List Wish
 wishes_at C pend r H b = option_to_list (wish_in C (started_holdings C pend r H) b)
 
--- its replicas that are to be deleted then
+-- the block's replicas that are to be deleted then
 abbrev pub deletes_at : Cluster → ℕ → ℕ → Holdings → ℕ → List Delete
 deletes_at C pend r H b = let G = started_holdings C pend r H in deletes_of (has_enough_live C G b) (entries (own_replicas G b))
 

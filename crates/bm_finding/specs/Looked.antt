@@ -13,34 +13,34 @@ use Rattle.bm_finding.specs.declared.look.Look.{Look}
 use Rattle.bm_finding.specs.declared.replicas.Usable.{Usable}
 use Rattle.bm_finding.specs.Marking.{storages_in}
 
--- the replicas of one block, among all
+-- the replicas of one block, among those of all blocks
 abbrev pub own_replicas : Holdings → ℕ → Map by_replica Marks
 own_replicas H b = keep H.replicas (λ q _. q.block == b)
 
--- which of a block's live replicas are too many as round r begins
+-- the storages of a block's surplus live replicas as round r begins
 abbrev pub too_many : Cluster → ℕ → ℕ → Holdings → ℕ → List ℕ
 too_many C pend r H b = excess_in C (without_unordered_excess (without_expired pend r H)) b
 
--- the scan of a block as round r begins: what is known of it, which replicas are surplus (in
--- whatever order), and all of them with their marks
+-- the scan of a block as round r begins: the block's entry, the storages of its surplus replicas in
+-- any order, and all its replicas with their marks
 pub record IsLook (C : Cluster) (pend r : ℕ) (H : Holdings) (l : Look) : Type 0 where
   pub info : l.info ≡ get H.blocks l.id
   pub excess : (s : ℕ) → has l.excess.items s ≡ has (too_many C pend r H l.id) s
   pub replicas : l.replicas ≡ own_replicas (started_holdings C pend r H) l.id
 
--- the storages of live replicas, of these, and of drained ones
+-- the storages of live replicas and of drained ones, among these
 pub record AreUsable (C : Cluster) (es : List (ReplicaId × Marks)) (u : Usable) : Type 0 where
   pub live : u.live ≡ storages_in (is_live_on C) es
   pub drained : u.drained ≡ storages_in (is_drained_on C) es
 
--- of these replicas, those on these storages
+-- those of these replicas that are on these storages
 abbrev pub replicas_on : List ℕ → List (ReplicaId × Marks) → List ReplicaId
 replicas_on ss es = map (λ e. e.0) (filter (λ e. has ss e.0.storage) es)
 
--- whether a replica is to be deleted, where enough of its block are live or not
+-- whether a replica is to be deleted, by whether enough replicas of its block are live
 abbrev pub is_to_go : Bool → Marks → Bool
 is_to_go enough m = not m.ordered && (is_stray m.tag || m.excess || (is_corrupt m.tag && enough))
 
--- the deletes of those that are
+-- the deletes of these replicas
 abbrev pub deletes_of : Bool → List (ReplicaId × Marks) → List Delete
 deletes_of enough es = map (λ e. record { storage = e.0.storage; block = e.0.block }) (filter (λ e. is_to_go enough e.1) es)

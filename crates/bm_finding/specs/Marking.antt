@@ -6,16 +6,16 @@ use Rattle.bm_base.specs.Map.{Map, insert}
 use Rattle.bm_base.specs.State.{by_replica, replica_at}
 use Rattle.bm_base.specs.Excess.{counted_again}
 
--- one that is too many is in excess
+-- a surplus replica is marked as in excess
 abbrev pub marked_if : Bool → Marks → Marks
 marked_if t m = if t then record m { excess = true } else m
 
--- the replicas of a block, counted again, inserted one after another
+-- the replicas of a block without unordered excess, inserted one after another
 abbrev pub put_on : ℕ → Map by_replica Marks → List (ℕ × Marks) → Map by_replica Marks
 put_on b m [] = m
 put_on b m (r ∷ rs) = put_on b (insert m (replica_at b r.0) (counted_again r.1)) rs
 
--- of these replicas, the storages of those that pass
+-- the storages of those of these replicas that pass
 abbrev pub storages_in : (ℕ → Marks → Bool) → List (ReplicaId × Marks) → List ℕ
 storages_in p es = map (λ e. e.0.storage) (filter (λ e. p e.0.storage e.1) es)
 

@@ -17,7 +17,7 @@ use Rattle.bm_levels.specs.Kept.{Kept, IsUnsettled, level_of_slot, wishing_slots
 abbrev pub AreMarked : Kept → Contents → Type 0
 AreMarked K a = (slot : ℕ) → IsUnsettled K slot ↔ (is_settled_at (block_at a slot) ≡ false)
 
--- the level and the number of the block at a slot; 5 where it has no level
+-- the level and the number of the block at a slot; 5 if it has no level
 abbrev pub key_at : Kept → Contents → ℕ → ℕ × ℕ
 key_at K a slot = (option_map_or level_number (level_of_slot K slot) 5, id_at a slot)
 

@@ -13,14 +13,14 @@ use Rattle.bm_base.specs.RoundParts.{wish_at}
 unfoldable pub wish_in : Cluster → Holdings → ℕ → Option Wish
 wish_in C H b = option_and_then (λ urgency. wish_at C H urgency b) (level C H b)
 
--- the number of copies that a block at a level needs, by the numbers of wanted, live and pending
--- ones
+-- the number of copies that a block at a level needs, from the numbers of wanted, live and pending
+-- replicas
 abbrev pub count_at : Level → ℕ → ℕ → ℕ → ℕ
 count_at BadlyDistributed repl live pending = if pending == 0 then 1 else 0
 count_at NoUsableReplica repl live pending = 0
 count_at _ repl live pending = repl - (live + pending)
 
--- n copies of a block, with all that a choice needs to know of it; none if it needs none
+-- n copies of a block, with all that a choice needs; none if n is 0
 abbrev pub wish_if : ℕ → Wish → Option Wish
 wish_if n w = if nat_lt 0 n then Some w else None
 

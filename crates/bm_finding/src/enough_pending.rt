@@ -1,4 +1,4 @@
-// Whether the transfers on their way to a settled block make up for the replicas that it lacks.
+// Whether the pending transfers of a settled block make up for the replicas that it lacks.
 ghost use Rattle.std.specs.Prelude.{◌≡◌, length, map};
 ghost use Rattle.bm_base.specs.Replicas as replicas;
 ghost use Rattle.bm_arena.specs.Holding.{id_at};
@@ -56,7 +56,7 @@ fn is_live_on(topology: &Topology, storage: StorageId, marks: Marks) -> bool
     is_usable && !topology.is_draining(storage)
 }
 
-/// How many of these replicas are live.
+/// The number of live ones among these replicas.
 fn live_count(topology: &Topology, triplets: &[Triplet]) -> usize
     ensures { result ≡ length (storages_at (replicas.is_live_on topology.now.cluster)
         (map seen_triplet triplets.now)) }

@@ -1,4 +1,4 @@
-// What a round finds in the blocks of a shard.
+// The findings of a round in the blocks of a shard.
 ghost use Rattle.std.specs.Prelude.{◌≡◌, IsSome, IsTrue, IfOk, IfErr};
 ghost use Rattle.bm_base.specs.declared.refusal.Refusal.TheVariants.{Memory};
 ghost use Rattle.bm_base.specs.declared.replica.ReplicaId.{ReplicaId};
@@ -25,12 +25,12 @@ use std::alloc::Global;
 ///
 /// It scans the unsettled blocks, and those before the bound at a level at which copies are wanted,
 /// and iterates over the pending transfers once. So its cost does not grow with the number of the
-/// other blocks, but for one step of dense memory, and the comparison of a level and a number, for
-/// each at such a level. Of a settled block with a pending transfer the live replicas are counted
-/// first: it is left out if they and the pending transfers are as many as wanted. Each scanned
-/// block costs a few steps for each of its replicas; one with n of them, more than eight, costs O(n
-/// log n) steps: they are sorted, and each is searched for among those in excess. The result is
-/// sorted.
+/// other blocks, but for those at such a level: each of these costs one step of dense memory, and
+/// the comparison of a level and a number. Of a settled block with a pending transfer the live
+/// replicas are counted first: it is left out if the live replicas and the pending transfers reach
+/// the number wanted. Each scanned block costs a few steps for each of its replicas; one with n of
+/// them, more than eight, costs O(n log n) steps: they are sorted, and each is searched for among
+/// those in excess. The result is sorted.
 pub fn find_round(
     alloc: Global,
     blocks: &LeveledBlocks,

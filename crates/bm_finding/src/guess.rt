@@ -15,12 +15,13 @@ const WISHING_FOR_UNSETTLED: usize = 4;
 const SAMPLES_BEFORE: usize = 128;
 
 /// A bound before which about `most` blocks have wishes; a block with a pending transfer counts as
-/// one without. `None` if fewer blocks have wishes, and if unsettled blocks are more than a quarter
-/// of those at a level at which copies are wanted: a round scans all unsettled ones, bound or no
-/// bound, and twice if the wishes before a bound do not fill it. Only a guess, from about `samples`
-/// samples, or up to four times as many if few of them come before the bound, evenly spread over
-/// the slots at such a level: nothing but the time of a round may depend on it. It costs the same
-/// however many blocks there are, and takes no samples if no more than `most` are at such a level.
+/// one without a wish. `None` if fewer blocks have wishes, and if unsettled blocks are more than a
+/// quarter of those at a level at which copies are wanted: a round scans all unsettled ones, bound
+/// or no bound, and twice if the wishes before a bound do not fill it. Only a guess: nothing but
+/// the time of a round may depend on it. It takes about `samples` samples, evenly spread over the
+/// slots at such a level, and up to four times that number if few come before the bound. It costs
+/// the same however many blocks there are, and takes no samples if no more than `most` are at such
+/// a level.
 pub fn likely_bound(
     alloc: Global,
     blocks: &LeveledBlocks,
@@ -65,7 +66,7 @@ fn push_keys(
     Ok(())
 }
 
-/// Appends the level and the number of the block at a slot, unless a transfer of it is on its way.
+/// Appends the level and the number of the block at a slot, unless it has a pending transfer.
 fn push_key(
     blocks: &LeveledBlocks,
     pending: &PendingTransfers,

@@ -1,4 +1,4 @@
-// By what slots are put in order: the level of their block, and its number.
+// The keys of slots: the level of the block, and its number.
 ghost use Rattle.std.specs.Prelude.{◌≡◌, Some};
 ghost use Rattle.bm_parts.specs.Before as before;
 ghost use Rattle.bm_arena.specs.Holding as holding;
@@ -24,7 +24,7 @@ pub(crate) fn key_of(kept: &KeptLevels, arena: &Arena, slot: Slot) -> Key
     (level as u64, number_of(arena, slot))
 }
 
-/// The same where the level is known, so that nothing is read but the number.
+/// The same for a known level, so that only the number is read.
 pub(crate) fn key_at_level(_kept: &KeptLevels, arena: &Arena, slot: Slot, level: Level) -> Key
     requires { kept_levels.level_of_slot _kept.now slot ≡ Some level }
     ensures { result ≡ visits.key_at _kept.now arena.now slot }

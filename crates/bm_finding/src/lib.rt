@@ -1,5 +1,5 @@
-//! What a round finds in the blocks of a shard: expired transfers, replicas in excess, wishes, and
-//! replicas to be deleted.
+//! The findings of a round in the blocks of a shard: expired transfers, replicas in excess, wishes,
+//! and replicas to be deleted.
 //!
 //! A round scans the unsettled blocks and those at a level at which copies are wanted, never all
 //! blocks. A settled block has at most a wish, and none if enough transfers are pending. The

@@ -24,13 +24,13 @@ use std::alloc::{AllocError, Global};
 #[derive(Drop)]
 pub(crate) struct Look {
     pub id: BlockId,
-    /// What is known of it; `None` for an unknown block.
+    /// The block's entry; `None` for an unknown block.
     pub info: Option<BlockInfo>,
     /// The storages of its surplus live replicas, ascending.
     pub excess: Vec<StorageId>,
-    /// All its replicas as the round chooses, those that are too many marked.
+    /// All its replicas with the marks of the round: those that are surplus are marked.
     pub replicas: ReplicaMap<Marks>,
-    /// A scratch buffer for its storages where it is settled.
+    /// A scratch buffer for the storages of a settled block.
     pub storages: Vec<StorageId>,
     /// A scratch buffer to sort its replicas, if it has more than a few.
     triplets: Vec<(StorageId, Marks)>,
@@ -39,7 +39,7 @@ pub(crate) struct Look {
 }
 
 impl Look {
-    /// At no block so far. Takes no memory.
+    /// Scans no block yet. Takes no memory.
     pub(crate) fn new(alloc: Global) -> Look
         ensures { result.replicas ≡ empty }
     {
@@ -56,8 +56,8 @@ impl Look {
 
     /// Scans the block of a number with this slot, and returns the storages of its usable replicas:
     /// a few reads of each of its replicas, and O(n log n) steps for n replicas, more than eight.
-    /// It takes memory only if more than four are live or drained, if it has more replicas than
-    /// each block before, or if a list of its surplus grows past its capacity.
+    /// It takes memory only in three cases: more than four are live or drained; the block has more
+    /// replicas than each block before; a list of surplus grows past its capacity.
     pub(crate) fn look_at(
         &mut self,
         alloc: Global,

@@ -14,7 +14,8 @@ use bm_base::{BlockId, Marks, Rack, ReplicaId, ReplicaMap, StorageId, StorageIds
 use bm_topo::Topology;
 use std::alloc::{AllocError, Global};
 
-/// How many replicas, at most, are put as they were linked. More are put in order first.
+/// The maximum number of replicas that are inserted in the order in which they were linked. More
+/// are sorted first.
 const FEW: usize = 8;
 
 /// The storages of a block's usable replicas.

@@ -1,4 +1,4 @@
-// The slots at which a round looks.
+// The slots that a round scans.
 ghost use Rattle.std.specs.Prelude.{◌≡◌, ◌++◌, filter, map, IfOk, OnOk};
 ghost use Rattle.std.specs.List.Sorted.{IsPermutation};
 ghost use Rattle.bm_levels.specs.Kept.{slots_at};

@@ -1,4 +1,4 @@
-// What was found is put in order.
+// The sorts of the findings.
 ghost use Rattle.std.specs.Prelude.{◌≡◌, OnOk, IsTrue};
 ghost use Rattle.std.specs.List.Sorted.{IsSortedByKey};
 ghost use Rattle.bm_base.specs.declared.replica.ReplicaId.{ReplicaId};
@@ -25,8 +25,8 @@ pub(crate) fn sort_wishes(wishes: &mut Vec<Wish>) -> Result<(), AllocError>
     wishes.sort_by_key(|wish| (wish.level.number(), wish.block))
 }
 
-/// By storage and block. They are found block by block. So they are sorted by blocks first, which
-/// is mostly their order, and then by storages with a stable sort, which has few runs.
+/// By storage and block. The deletes are found block by block. So they are sorted by blocks first,
+/// which is mostly their order, and then by storages with a stable sort, which has few runs.
 pub(crate) fn sort_deletes(deletes: &mut Vec<Delete>) -> Result<(), AllocError>
     ensures { OnOk result (IsInOrder by_pair parts.delete_key deletes.old.items deletes.new.items) }
 {

@@ -21,11 +21,11 @@ use bm_pending::PendingTransfers;
 use bm_topo::Topology;
 use std::alloc::Global;
 
-/// The greatest capacity for wishes before any is found. A wish is large, and is copied whenever
+/// The maximum capacity for wishes before any is found. A wish is large, and is copied whenever
 /// their list grows.
 const WISHES_AT_FIRST: usize = 4096;
 
-/// What was found so far, in the order in which it was come upon.
+/// The findings so far, in the order of the scan.
 #[derive(Drop)]
 pub(crate) struct Found {
     pub excess: Vec<ReplicaId>,
@@ -33,11 +33,11 @@ pub(crate) struct Found {
     pub deletes: Vec<Delete>,
 }
 
-/// A round as it begins, with all that it reads.
+/// The start of a round, with all that the scan reads.
 #[derive(Clone, Copy)]
 pub(crate) struct Start<'a> {
     pub arena: &'a Arena,
-    /// Which of its slots are unsettled, and the levels of all.
+    /// The unsettled slots, and the levels of all slots.
     pub kept: &'a KeptLevels,
     pub pending: &'a PendingTransfers,
     pub topology: &'a Topology,
@@ -114,7 +114,7 @@ impl<'a> Start<'a> {
     }
 }
 
-/// Whether as many replicas as are wanted are live; not for an unknown block.
+/// Whether at least the number of wanted replicas is live; not for an unknown block.
 fn has_enough(info: Option<BlockInfo>, live: usize) -> bool
     ensures { result ≡ option_map_or (λ i. nat_le i.repl live) info false }
 {

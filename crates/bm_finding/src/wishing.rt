@@ -1,4 +1,4 @@
-// What one block wishes for.
+// The wish of one block.
 ghost use Rattle.std.specs.Prelude.{◌≡◌, length, ◌++◌, option_and_then, option_to_list, OnOk, IfOk, IfErr};
 ghost use Rattle.bm_base.specs.declared.refusal.Refusal.TheVariants.{Memory};
 ghost use Rattle.bm_base.specs.Replicas as replicas;
@@ -111,7 +111,7 @@ fn level_among(topology: &Topology, repl: u32, live: &[StorageId], drained: usiz
     level_of(live.len(), drained, repl, racks, topology.multi_rack())
 }
 
-/// How many copies a block at a level wants.
+/// The number of copies that a block at a level needs.
 fn count_at(level: Level, repl: u32, live: usize, pending: usize) -> u32
     ensures { result ≡ count_at level repl live pending }
 {

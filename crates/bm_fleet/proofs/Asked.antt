@@ -32,7 +32,7 @@ use Rattle.bm_fleet.proofs.Joins.{sorted_lists}
 use Rattle.bm_fleet.proofs.PartLists.{passing, passing_join, own_passing, own_missing, own_blocks_on, own_rows}
 use Rattle.bm_fleet.proofs.Staying.{count_of}
 
--- The shard of a block answers as all of them: `ss` is seen as F, and P is what the block's own
+-- The shard of a block answers for all shards: `ss` is seen as F, and P is what the block's own
 -- shard holds.
 
 module _ (b : ℕ) (ss items : List (ℕ × Seen)) (P : Holdings) (F : Whole) (own : P ≡ cut (held_by ss) (shard_of b (length ss)) (length ss)) (is : ss ≡ items)
@@ -69,7 +69,7 @@ no_block_checks H e is = refl
 pub no_check : (H : Holdings) (e : Event) → block_of e ≡ None → checked None ≡ checked (first_of (block_checks H e))
 no_check H e none = ap checked (sym (no_block_checks H e none))
 
--- each stands in a cluster, as they are seen
+-- if the whole is up to date in a cluster, so is each shard
 pub stands_inside : (C : Cluster) (items : List (ℕ × Seen)) (F : Whole) → record { holdings = held_by items; shards = items } ≡ F → StandsIn C F → EachStandsIn C items
 unfolding StandsIn
 stands_inside C items F seen h = subst (λ (G : Whole). EachStandsIn C G.shards) (sym seen) h

@@ -29,7 +29,7 @@ use Rattle.bm_fleet.specs.RoundChosen.{next_parts, next_excess, HasExcess}
 use Rattle.bm_fleet.specs.Whole.{parts_of, held_by, AreShards, EachTook}
 use Rattle.bm_fleet.proofs.Staying.{count_of}
 
--- no number stands twice among those that are left
+-- a number that is not in a list is not in a filtered part of it
 none_left : {X : Type 0} (number : X → ℕ) (p : X → Bool) (b : ℕ) (xs : List X) → has (map number xs) b ≡ false → has (map number (filter p xs)) b ≡ false
 none_left number p b [] none = none
 none_left number p b (x ∷ xs) none = let two = none_has (number x == b) (has (map number xs) b) none in by (p x) two.0 (none_left number p b xs two.1)
@@ -48,7 +48,7 @@ once_left number p (x ∷ xs) once =
     by true other rest = ap (λ u. u || has_repeats (map number (filter p xs))) other ∙ rest
     by false other rest = rest
 
--- where there is no bound, parts are whole
+-- parts that are cut by no bound are whole
 pub uncut : (ps : List RoundPart) → map (part_before None) ps ≡ ps
 uncut [] = refl
 uncut (p ∷ ps) = λ j. record p { wishes = filter_all p.wishes j } ∷ uncut ps j
@@ -64,7 +64,7 @@ module _ (C : Cluster) where
   deletes_sorted [] = tt
   deletes_sorted (s ∷ ss) = (round_deletes_rise C s.1.pend (s.1.round + 1) s.1.holdings, deletes_sorted ss)
 
-  -- They are the parts of the whole.
+  -- They are the parts of the holdings of all shards.
 
   each_part : (last pend : ℕ) (ss : List (ℕ × Seen)) → EachTook last pend ss → next_parts C ss ≡ map (round_part C pend (last + 1)) (parts_of ss)
   each_part last pend [] took = refl
@@ -91,7 +91,7 @@ module _ (C : Cluster) where
     pub deletes_of_all : chosen_deletes limits C ps ≡ deletes limits C G
     deletes_of_all = ap (chosen_deletes limits C) (whole_parts last limits.pend ss ps is h took) ∙ parts_choose_deletes limits C (last + 1) (held_by ss) (length ss) h.some
 
-  -- The parts, cut to the wishes before a bound.
+  -- The parts, reduced to the wishes before a bound.
 
   cut_parts : (bound : Option (ℕ × ℕ)) (ss : List (ℕ × Seen)) → map (λ (s : ℕ × Seen). part_before bound (next_part C s.1)) ss ≡ map (part_before bound) (next_parts C ss)
   cut_parts bound [] = refl

@@ -1,4 +1,4 @@
--- Shards that were prepared for an event, and shards that were changed by it, all together.
+-- Shards after the preparation of an event, and after the event, all together.
 use Rattle.std.specs.Prelude.{◌≡◌, ℕ, suc, ◌+◌, ◌≤◌, List, [], ◌∷◌, map, length, Ok}
 use Rattle.std.specs.List.{All}
 use Rattle.std.proofs.Common.{refl, sym, ap, subst, ◌∙◌, arith}
@@ -20,7 +20,7 @@ use Rattle.bm_fleet.proofs.Gathered.{prepared_same, prepared_ready}
 use Rattle.bm_fleet.proofs.Staying.{count_of, are_shards, same_stands}
 
 module _ (C : Cluster) (e : Event) where
-  -- Prepared.
+  -- After the preparation.
 
   can_commit : (ss : List (ℕ × Seen)) → EachStandsIn C ss → All (λ (s : ℕ × Seen). IsReadyFor e s.1) ss → All (λ (s : ℕ × Seen). CanCommit C e s.1) ss
   can_commit [] stands ready = All-nil (λ (s : ℕ × Seen). CanCommit C e s.1)
@@ -28,13 +28,13 @@ module _ (C : Cluster) (e : Event) where
       All-cons (λ (s : ℕ × Seen). CanCommit C e s.1) s ss (record { stands = stands.0; ready = All-head (λ (s : ℕ × Seen). IsReadyFor e s.1) s ss ready })
       (can_commit ss stands.1 (All-tail (λ (s : ℕ × Seen). IsReadyFor e s.1) s ss ready))
 
-  -- where none was refused, each may be changed
+  -- if no preparation was refused, each shard may be changed
   pub all_ready : (ss : List (ℕ × Seen)) (ps : List (ℕ × Asked (Unit {0}))) → EachBecame (IsPrepared (IsReadyFor e)) ss ps → EachStandsIn C ss → first_fault ps ≡ Ok tt
       → All (λ (s : ℕ × Seen). CanCommit C e s.1) (map shard_answered ps)
   all_ready ss ps each stands fine =
       can_commit (map shard_answered ps) (same_stands C ss (map shard_answered ps) (prepared_same (IsReadyFor e) ss ps each) stands) (prepared_ready (IsReadyFor e) ss ps each fine)
 
-  -- Changed.
+  -- After the event.
 
   each_changed : (shards index : ℕ) (ss : List (ℕ × Seen)) (cs : List (ℕ × Answered Done)) → EachBecame (IsCommitted C e) ss cs → AreIndexed shards index ss
       → EachPart (λ i P Q. Q ≡ change_part C P i shards e) index (parts_of ss) (parts_of (map shard_answered cs))
@@ -90,7 +90,7 @@ module _ (C : Cluster) (e : Event) where
         done_told ss cs each ∙ done_adds_up C e shards Ps Qs h.some long h.own changed,
       )
 
-  -- The same, as a body has it.
+  -- The same, in the form of a function's goals.
 
   as_long : (ss : List (ℕ × Seen)) (cs : List (ℕ × Answered Done)) → EachBecame (IsCommitted C e) ss cs → length cs ≡ length ss
   as_long [] [] each = refl

@@ -18,13 +18,13 @@ excess_at (p ∷ ps) zero = refl
 excess_at (p ∷ ps) (suc i) = excess_at ps i
 
 module _ (C : Cluster) where
-  -- each may be asked for its part in its next round
+  -- each shard may be asked for its part in its next round
   pub can_find : (last pend : ℕ) (ss : List (ℕ × Seen)) → EachStandsIn C ss → EachTook last pend ss → All (λ (s : ℕ × Seen). CanFind C (last + 1) s.1) ss
   can_find last pend [] stands took = All-nil (λ (s : ℕ × Seen). CanFind C (last + 1) s.1)
   can_find last pend (s ∷ ss) stands took =
       All-cons (λ (s : ℕ × Seen). CanFind C (last + 1) s.1) s ss (record { next = ap (λ x. x + 1) (sym took.0); stands = stands.0 }) (can_find last pend ss stands.1 took.2)
 
-  -- What each has in excess stands at its index.
+  -- The excess of each shard is at its index.
 
   abbrev excess_of : ℕ × Seen → List ReplicaId
   excess_of s = (next_part C s.1).excess

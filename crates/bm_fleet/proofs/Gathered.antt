@@ -1,4 +1,4 @@
--- What shards that were worked one by one answered, gathered.
+-- The gathered answers of shards that were worked one by one.
 use Rattle.std.specs.Prelude.{◌≡◌, ℕ, ◌+◌, List, [], ◌∷◌, ◌++◌, map, Some, Result, Ok, Err, IfOk, IfErr, OnOk, OnErr}
 use Rattle.std.specs.Result.{result_and, result_ok}
 use Rattle.std.specs.List.{All, AllZip, filter_map, cons_option}
@@ -20,7 +20,7 @@ pub on_err : {X E : Type 0} (r : Result X E) (P : Type 0) → P → OnErr r P
 on_err (Ok x) P h = tt
 on_err (Err e) P h = h
 
--- One more is gathered.
+-- The step of the loop that gathers one more.
 
 pub map_push : {X Y : Type 0} (f : X → Y) (xs : List X) (x : X) → map f (xs ++ x ∷ []) ≡ map f xs ++ f x ∷ []
 map_push f [] x = refl
@@ -31,7 +31,7 @@ pub done_push : (cs : List (ℕ × Answered Done)) (c : ℕ × Answered Done)
 done_push [] c = (omega arith, omega arith)
 done_push (d ∷ cs) c = let rest = done_push cs c in (omega (arith, rest.0), omega (arith, rest.1))
 
--- the first of what is left holds what all hold
+-- the first of the remaining elements has what all elements have
 pub first_left : {X : Type 0} (P : X → Type 0) (all taken left rest : List X) (x : X) → all ≡ taken ++ left → left ≡ x ∷ rest → All P all → P x
 first_left {X} P all taken left rest x is front h =
     let there : all ≡ taken ++ (x ∷ rest) = is ∙ ap (λ l. taken ++ l) front in
@@ -71,9 +71,9 @@ module _ {A : Type 0} where
   pub answers_push : (fs : List (ℕ × Asked A)) (f : ℕ × Asked A) → answers_in (fs ++ f ∷ []) ≡ answers_in fs ++ cons_option (result_ok f.1.answer) []
   answers_push fs f = filter_map-append (λ (f : ℕ × Asked A). result_ok f.1.answer) fs (f ∷ [])
 
-  -- All of them.
+  -- Facts about all answers.
 
-  -- where each refusal is for want of memory, so is the first
+  -- if each refusal is `Memory`, so is the first
   pub memory_refused : (R : Seen → Asked A → Type 0) → ((S : Seen) (m : Asked A) → R S m → IfErr m.answer (λ e. e ≡ Memory))
       → (ss : List (ℕ × Seen)) (fs : List (ℕ × Asked A)) (r : Refusal) → EachBecame R ss fs → first_fault fs ≡ Err r → r ≡ Memory
   memory_refused R by [] [] r each e = cc
@@ -97,7 +97,7 @@ module _ {A : Type 0} where
     answered_ok (Ok a) n e h = ap Some h
     answered_ok (Err r) n e h = cc
 
-    -- where none was refused, the answers are those of the shards
+    -- if no shard refused, the answers are those of the shards
     pub all_answers : (ss : List (ℕ × Seen)) (fs : List (ℕ × Asked A)) → EachBecame (HasAnswered f) ss fs → first_fault fs ≡ Ok tt → answers_in fs ≡ map (λ (s : ℕ × Seen). f s.1) ss
     all_answers [] [] each fine = refl
     all_answers [] (m ∷ fs) each fine = absurd each
@@ -106,7 +106,7 @@ module _ {A : Type 0} where
         let both = or_ok (fault_in m.1.answer) (first_fault fs) fine in
         λ j. cons_option (answered_ok m.1.answer (f s.1) both.0 each.0.1.answer j) (all_answers ss fs each.1 both.1 j)
 
--- Prepared, so that each is ready or was refused.
+-- After a preparation each shard is ready or was refused.
 module _ (IsReady : Seen → Type 0) where
   pub prepared_same : (ss : List (ℕ × Seen)) (ps : List (ℕ × Asked (Unit {0}))) → EachBecame (IsPrepared IsReady) ss ps → AllZip IsSame ss (map shard_answered ps)
   prepared_same [] [] each = tt
@@ -117,7 +117,7 @@ module _ (IsReady : Seen → Type 0) where
   pub prepared_refused : (ss : List (ℕ × Seen)) (ps : List (ℕ × Asked (Unit {0}))) (r : Refusal) → EachBecame (IsPrepared IsReady) ss ps → first_fault ps ≡ Err r → r ≡ Memory
   prepared_refused = memory_refused (IsPrepared IsReady) (λ s p h. h.refused)
 
-  -- where none was refused, each is ready
+  -- if no preparation was refused, each shard is ready
   pub prepared_ready : (ss : List (ℕ × Seen)) (ps : List (ℕ × Asked (Unit {0}))) → EachBecame (IsPrepared IsReady) ss ps → first_fault ps ≡ Ok tt
       → All (λ (s : ℕ × Seen). IsReady s.1) (map shard_answered ps)
   prepared_ready [] [] each fine = All-nil (λ (s : ℕ × Seen). IsReady s.1)

@@ -1,4 +1,4 @@
--- What all shards list, once sorted, is what they list together.
+-- The sorted list of all shards' elements is the list of their joint holdings.
 use Rattle.std.proofs.Common.{◌≡◌, ℕ, suc, ◌≤◌, true, false, List, [], ◌∷◌, ◌++◌, map, flat_map, length, Ordering, Less, Equal, Greater, refl, sym, ap, subst, ◌∙◌, arith, eqb-true, T}
 use Rattle.std.specs.Prelude.{◌==◌}
 use Rattle.std.specs.Ordering.{is_lt, is_eq, eq_by_cmp}
@@ -20,7 +20,7 @@ use Rattle.bm_shard.specs.Seen.{Seen}
 use Rattle.bm_fleet.specs.Whole.{parts_of, held_by, AreShards}
 use Rattle.bm_fleet.proofs.Staying.{count_of}
 
--- Elements in the order of their keys have keys that differ.
+-- A list that is ordered by keys has elements with different keys.
 
 untied : (r : Ordering) → T (is_lt r) → is_eq r ≡ false
 untied Less h = refl
@@ -73,7 +73,7 @@ module _ {K Y : Type 0} (o : Order K) (key : Y → K) (number : K → ℕ) (list
     of_part : (P : Holdings) (index : ℕ) → cut P index shards ≡ P → Each (λ y. (index_of y == index) ≡ true) (list P)
     of_part P index is = subst (λ Q. Each (λ y. (index_of y == index) ≡ true) (list Q)) is (own P index shards)
 
-    -- those of the parts from an index on are of no part before it
+    -- elements of the parts from an index on belong to no part before it
     later : (index : ℕ) (Ps : List Holdings) → AreOwn shards index Ps → Each (λ y. index ≤ index_of y) (flat_map list Ps)
     later index [] h = tt
     later index (P ∷ Ps) h =

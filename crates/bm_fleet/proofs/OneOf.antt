@@ -1,4 +1,4 @@
--- One shard among all.
+-- One shard among all shards.
 use Rattle.std.specs.Prelude.{◌≡◌, ℕ, zero, suc, ◌+◌, ◌<◌, if◌then◌else◌, List, [], ◌∷◌, map, length, Some, slice_get, slice_set, slice_index_or, Result, Ok, Err, IfOk, OnOk, OnErr}
 use Rattle.std.proofs.Common.{refl, sym, ap, subst, ◌∙◌, arith, eq-eqb}
 use Rattle.std.proofs.lemmas.Option.{same_Some, slice_get_within}
@@ -75,14 +75,14 @@ number_at f i (suc m) (suc k) less =
     let more : k + suc i ≡ suc k + i = omega arith in
     number_at f (suc i) m k (omega (arith, less)) ∙ ap (λ n. Some (f n)) more
 
--- each holds what the whole has of its numbers
+-- each shard holds what all shards hold of its numbers
 own_at : (shards : ℕ) (Ps : List Holdings) (k : ℕ) (P : Holdings) → AreOwn shards 0 Ps → slice_get Ps k ≡ Some P → cut (whole_of Ps) k shards ≡ P
 own_at shards Ps k P own e =
     let zero_more : k + 0 ≡ k = omega arith in
     ap (λ n. cut (whole_of Ps) n shards) (sym zero_more)
     ∙ same_Some _ _ (sym (number_at (λ i. cut (whole_of Ps) i shards) 0 (length Ps) k (slice_get_within Ps k P e)) ∙ ap (λ Qs. slice_get Qs k) (parts_again shards Ps 0 own) ∙ e)
 
--- the shard of a block holds what the whole has of the shard's numbers
+-- the shard of a block holds what all shards hold of the shard's numbers
 pub own_holdings : (b place : ℕ) (ss : List (ℕ × Seen)) (s : ℕ × Seen) → AreShards (length ss) ss → place ≡ shard_of b (length ss) → slice_get ss place ≡ Some s
     → s.1.holdings ≡ cut (held_by ss) (shard_of b (length ss)) (length ss)
 own_holdings b place ss s h at there =
@@ -135,7 +135,7 @@ module _ (C : Cluster) (e : Event) (b : ℕ) (ss ts : List (ℕ × Seen)) (h : A
     pub one_took : (round pend : ℕ) → EachTook round pend ss → EachTook round pend ts
     one_took round pend took = subst (EachTook round pend) (sym made.now) (took_set round pend ss place S (S.0, made.made) took made.there made.holds.round made.holds.pend)
 
-  -- where it stayed the same in all but room
+  -- if it changed only its capacity
   module _ (made : IsMadeAt IsSameButRoom place ss ts) where
     abbrev O : ℕ × Seen
     O = made.shard
@@ -168,7 +168,7 @@ module _ (C : Cluster) (e : Event) (b : ℕ) (ss ts : List (ℕ × Seen)) (h : A
     still_took round pend took =
         subst (EachTook round pend) (sym made.now) (took_set round pend ss place O (O.0, made.made) took made.there (ap (λ s. s.round) made.holds.rest) (ap (λ s. s.pend) made.holds.rest))
 
--- what was lent from a place stands there
+-- an element that was borrowed at an index is at that index
 pub item_there : {X : Type 0} (xs : List X) (k : ℕ) (x : X) → k < length xs → x ≡ slice_index_or xs k x → slice_get xs k ≡ Some x
 item_there [] k x less is = absurd (omega (arith, less))
 item_there (y ∷ ys) zero x less is = ap Some (sym is)
@@ -184,7 +184,7 @@ pub made_err : {D E : Type 0} (R : Seen → Seen → Type 0) (o : Result D E) (k
 made_err R (Ok d) k ss s T there h = h
 made_err R (Err x) k ss s T there h = record { shard = s; made = T; there = there; now = refl; holds = h }
 
--- What a body answers of its outcome.
+-- The outcome of an event, in the form of a function's goals.
 module _ (C : Cluster) (e : Event) (b place : ℕ) (ss ts : List (ℕ × Seen)) (o : Result Done Refusal) (h : AreShards (length ss) ss) (is : block_of e ≡ Some b) (at : place ≡ shard_of b (length ss))
     (changed : IfOk o (λ d. IsMadeAt (λ S T. IsChanged C e S T d) place ss ts)) (same : OnErr o (IsMadeAt IsSameButRoom place ss ts)) where
   abbrev AtEnd : Result Done Refusal → Type 0

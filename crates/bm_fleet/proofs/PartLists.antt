@@ -1,4 +1,4 @@
--- What a part lists is of its own blocks.
+-- The lists of a part have only its own blocks.
 use Rattle.std.proofs.Common.{◌≡◌, ℕ, ◌≤◌, Bool, true, List, map, filter, flat_map, refl, sym, ap, subst, ◌∙◌, T}
 use Rattle.std.specs.Prelude.{◌==◌, take}
 use Rattle.std.specs.FinMap.{is_sorted}

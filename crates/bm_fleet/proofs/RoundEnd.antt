@@ -1,4 +1,4 @@
--- How a round of all shards ends.
+-- The end of a round of all shards.
 use Rattle.std.specs.Prelude.{◌≡◌, ℕ, ◌+◌, List, length, Result, Ok, Err, OnOk, OnErr}
 use Rattle.std.specs.List.{AllZip}
 use Rattle.std.proofs.Common.{subst, ◌∙◌}
@@ -20,7 +20,7 @@ use Rattle.bm_fleet.proofs.RoundsTaken.{are_after, held_after, stands_after, too
 use Rattle.bm_fleet.proofs.Staying.{still_shards, same_held, same_stands, same_took}
 
 module _ (C : Cluster) (limits : RoundLimits) (last : ℕ) (ss : List (ℕ × Seen)) (h : AreShards (length ss) ss) (took : EachTook last limits.pend ss) where
-  -- Taken.
+  -- The round was taken.
   module _ (chosen : Chosen) (back ts : List (ℕ × Seen)) (o : Result (Unit {0}) Refusal) (u : Unit {0}) (from : back ≡ ss)
       (done : OnOk o (EachBecame (HasTakenRound C chosen) back ts)) (is : o ≡ Ok u) where
     each : EachBecame (HasTakenRound C chosen) ss ts
@@ -40,7 +40,7 @@ module _ (C : Cluster) (limits : RoundLimits) (last : ℕ) (ss : List (ℕ × Se
     end_held all_ts all_ds =
         held_after C chosen last limits.pend ss ts each h took ∙ (λ i. finished (last + 1) (started_holdings C limits.pend (last + 1) (held_by ss)) (all_ts i) (all_ds i))
 
-  -- Given up.
+  -- The round was given up.
   module _ (back ts : List (ℕ × Seen)) (o : Result (Unit {0}) Refusal) (e : Refusal) (from : back ≡ ss) (same : OnErr o (AllZip IsSame back ts)) (is : o ≡ Err e) where
     still : AllZip IsSame ss ts
     still = subst (λ (xs : List (ℕ × Seen)). AllZip IsSame xs ts) from (subst (λ r. OnErr r (AllZip IsSame back ts)) is same)
@@ -57,7 +57,7 @@ module _ (C : Cluster) (limits : RoundLimits) (last : ℕ) (ss : List (ℕ × Se
     pub still_took : EachTook last limits.pend ts
     still_took = same_took last limits.pend ss ts still took
 
--- what is commanded
+-- the commands of the round
 pub all_commands : (C : Cluster) (limits : RoundLimits) (last : ℕ) (ss : List (ℕ × Seen)) (chosen : Chosen) (k : Commands)
     → chosen.transfers ≡ transfers limits C (started_holdings C limits.pend (last + 1) (held_by ss)) → chosen.deletes ≡ deletes limits C (started_holdings C limits.pend (last + 1) (held_by ss))
     → k ≡ commands_of C (last + 1) chosen.transfers chosen.deletes → k ≡ commands_in limits C (last + 1) (held_by ss)

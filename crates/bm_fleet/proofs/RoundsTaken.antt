@@ -1,4 +1,4 @@
--- Shards that took a round.
+-- Shards after the preparation of a round, and after the round.
 use Rattle.std.specs.Prelude.{◌≡◌, ℕ, suc, ◌+◌, ◌<◌, ◌^◌, List, [], ◌∷◌, map, length, Some, Ok, option_map, slice_get}
 use Rattle.std.specs.List.{All, AllZip}
 use Rattle.std.proofs.Common.{sym, ap, subst, ◌∙◌}
@@ -21,7 +21,7 @@ use Rattle.bm_fleet.proofs.Gathered.{prepared_same, prepared_ready}
 use Rattle.bm_fleet.proofs.Staying.{count_of, are_shards, same_all, same_stands}
 
 module _ (C : Cluster) (chosen : Chosen) where
-  -- Prepared.
+  -- After the preparation.
 
   abbrev IsCounted : ℕ × Seen → Type 0
   IsCounted s = s.1.round + 1 < 2 ^ 64
@@ -34,7 +34,7 @@ module _ (C : Cluster) (chosen : Chosen) where
       (record { stands = stands.0; part = All-head (HasPart C all) s ss has; ready = All-head (λ (s : ℕ × Seen). IsReadyForRound chosen s.1) s ss ready; counted = All-head IsCounted s ss few })
       (can_commit_round all ss (All-tail (HasPart C all) s ss has) stands.1 (All-tail IsCounted s ss few) (All-tail (λ (s : ℕ × Seen). IsReadyForRound chosen s.1) s ss ready))
 
-  -- where none was refused, each may take the round
+  -- if no preparation was refused, each shard may take the round
   pub all_ready_for_round : (all : List RoundPart) (ss : List (ℕ × Seen)) (ps : List (ℕ × Asked (Unit {0}))) → EachBecame (IsPrepared (IsReadyForRound chosen)) ss ps → All (HasPart C all) ss
       → EachStandsIn C ss → All IsCounted ss → first_fault ps ≡ Ok tt → All (CanCommitRound C all chosen) (map shard_answered ps)
   all_ready_for_round all ss ps each has stands few fine =
@@ -44,7 +44,7 @@ module _ (C : Cluster) (chosen : Chosen) where
       (same_stands C ss (map shard_answered ps) same stands)
       (same_all IsCounted (λ s t one h. subst (λ n. n + 1 < 2 ^ 64) (sym (ap (λ S. S.round) one.1.rest)) h) ss (map shard_answered ps) same few) (prepared_ready (IsReadyForRound chosen) ss ps each fine)
 
-  -- Taken, of shards that are the same in all but room.
+  -- After the round, for shards that changed only their capacity before it.
 
   after_same : (s r t : ℕ × Seen) → IsSame s r → IsResultOf (λ _. HasTakenRound C chosen) r t → IsResultOf (λ _. HasTakenRound C chosen) s t
   after_same s r t same h =
@@ -67,7 +67,7 @@ module _ (C : Cluster) (chosen : Chosen) where
   all_after_same (s ∷ ss) (r ∷ rs) [] same each = absurd each
   all_after_same (s ∷ ss) (r ∷ rs) (t ∷ ts) same each = (after_same s r t same.0 each.0, all_after_same ss rs ts same.1 each.1)
 
-  -- All of them.
+  -- Facts about all shards.
 
   each_taken : (last pend shards index : ℕ) (ss ts : List (ℕ × Seen)) → EachBecame (HasTakenRound C chosen) ss ts → AreIndexed shards index ss → EachTook last pend ss
       → EachPart (λ i P Q. Q ≡ round_on_part C pend (last + 1) P i shards chosen.transfers chosen.deletes) index (parts_of ss) (parts_of ts)
@@ -114,7 +114,7 @@ module _ (C : Cluster) (chosen : Chosen) where
       → held_by ts ≡ finished (last + 1) (started_holdings C pend (last + 1) (held_by ss)) chosen.transfers chosen.deletes
   held_after last pend ss ts each h took = (taken_shards last pend ss ts each h took).1
 
--- each is at a round of which the next is still a number of 64 bits
+-- the number after each shard's last round fits into 64 bits
 pub all_counted : (last pend : ℕ) (ss : List (ℕ × Seen)) → last + 1 < 2 ^ 64 → EachTook last pend ss → All (λ (s : ℕ × Seen). s.1.round + 1 < 2 ^ 64) ss
 all_counted last pend [] few took = All-nil (λ (s : ℕ × Seen). s.1.round + 1 < 2 ^ 64)
 all_counted last pend (s ∷ ss) few took =

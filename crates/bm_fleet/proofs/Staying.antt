@@ -1,4 +1,4 @@
--- Shards that stay the same in all but capacity.
+-- Shards that change only their capacity.
 use Rattle.std.specs.Prelude.{◌≡◌, ℕ, zero, suc, List, [], ◌∷◌, length}
 use Rattle.std.specs.List.{All, AllZip}
 use Rattle.std.proofs.Common.{refl, sym, ap, subst, ◌∙◌, get_or}
@@ -17,7 +17,7 @@ use Rattle.bm_fleet.specs.Whole.{parts_of, held_by, AreIndexed, AreShards, EachS
 use Rattle.bm_fleet.specs.Answers.{EachBecame}
 use Rattle.bm_fleet.specs.Worked.{IsSame}
 
--- as many parts as shards
+-- there are as many parts as shards
 pub count_of : (ss : List (ℕ × Seen)) → length (parts_of ss) ≡ length ss
 count_of [] = refl
 count_of (s ∷ ss) = ap suc (count_of ss)
@@ -30,7 +30,7 @@ stands_still C S T same h =
       placed = subst (IsPlaced C) (sym held) h.placed;
     }
 
--- so it is after another step that changes nothing but room
+-- two steps that each change only the capacity, one after the other, change only the capacity
 pub same_again : (R S T : Seen) → IsSameButRoom R S → IsSameButRoom S T → IsSameButRoom R T
 same_again R S T first next =
     let with_room : Seen → Seen = λ s. record s { levels = T.levels; room = T.room } in
@@ -39,7 +39,7 @@ same_again R S T first next =
       levels = λ C h. next.levels C (stands_still C R S first h) ∙ first.levels C h;
     }
 
--- and no number has an entry for nothing, if the step keeps the entries
+-- no number has an unused entry afterwards, if the step keeps the entries
 pub bare_again : (S T : Seen) → IsSameButRoom S T → T.room.entries ≡ S.room.entries → HasNoneBare S → HasNoneBare T
 bare_again S T same entries none b bare =
     let held : T.holdings ≡ S.holdings = ap (λ s. s.holdings) same.rest in
@@ -61,7 +61,7 @@ pub all_same : (ss : List (ℕ × Seen)) → AllZip IsSame ss ss
 all_same [] = tt
 all_same (s ∷ ss) = ((refl, record { rest = refl; levels = λ C h. refl }), all_same ss)
 
--- so it is where one of them changes nothing but room
+-- if one shard is changed only in its capacity, all still are
 pub same_set : (ss ts : List (ℕ × Seen)) (k : ℕ) (d u : ℕ × Seen) → AllZip IsSame ss ts → IsSame (get_or ts k d) u → AllZip IsSame ss (set ts k u)
 same_set [] [] k d u each one = tt
 same_set [] (r ∷ ts) k d u each one = absurd each
@@ -69,7 +69,7 @@ same_set (s ∷ ss) [] k d u each one = absurd each
 same_set (s ∷ ss) (r ∷ ts) zero d u each one = ((one.0 ∙ each.0.0, same_again s.1 r.1 u.1 each.0.1 one.1), each.1)
 same_set (s ∷ ss) (r ∷ ts) (suc k) d u each one = (each.0, same_set ss ts k d u each.1 one)
 
--- what all of them hold, where room makes no difference to it, all hold still
+-- what each shard has whatever its capacity, each shard still has
 pub same_all : (Q : ℕ × Seen → Type 0) → ((s t : ℕ × Seen) → IsSame s t → Q s → Q t) → (ss ts : List (ℕ × Seen)) → AllZip IsSame ss ts → All Q ss → All Q ts
 same_all Q one [] [] each h = All-nil Q
 same_all Q one [] (t ∷ ts) each h = absurd each
@@ -124,6 +124,6 @@ are_shards shards ss h = subst (λ n. AreShards n ss) h.long h
 pub still_shards : (ss ts : List (ℕ × Seen)) → AllZip IsSame ss ts → AreShards (length ss) ss → AreShards (length ts) ts
 still_shards ss ts each h = are_shards (length ss) ts (same_shards (length ss) ss ts each h)
 
--- what is so of shards that were taken out is so of those that they were
+-- a relation to the shards that were taken out is one to the original shards
 pub still_taken : {U : Type 0} (R : Seen → U → Type 0) (ss taken : List (ℕ × Seen)) (made : List (ℕ × U)) → taken ≡ ss → EachBecame R taken made → EachBecame R ss made
 still_taken R ss taken made from each = subst (λ xs. EachBecame R xs made) from each

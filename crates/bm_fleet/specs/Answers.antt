@@ -1,4 +1,4 @@
--- What shards answered that were worked one by one, each beside its index, and what is gathered of it.
+-- The answers of shards that were worked one by one, each with its index, and the gathered answers.
 use Rattle.std.specs.Prelude.{◌≡◌, ℕ, ◌+◌, ◌<◌, ◌^◌, List, [], ◌∷◌, map, Result, Ok, Err, IfOk, IfErr, Vec}
 use Rattle.std.specs.Result.{result_and}
 use Rattle.std.specs.List.{AllZip}
@@ -9,7 +9,7 @@ use Rattle.bm_crew.specs.Work.{IsResultOf}
 use Rattle.bm_shard.specs.Seen.{Seen}
 use Rattle.bm_fleet.specs.declared.answers.Answered.{Answered}
 
--- each shard stands beside its index still, and what came of it is so related to it
+-- each shard keeps its index, and its result is in this relation to it
 abbrev pub EachBecame : {U : Type 0} → (Seen → U → Type 0) → List (ℕ × Seen) → List (ℕ × U) → Type 0
 EachBecame R ss us = AllZip (IsResultOf (λ _. R)) ss us
 
@@ -23,12 +23,12 @@ pub record HasAnswered {A : Type 0} (f : Seen → A) (S : Seen) (made : Asked A)
   pub answer : IfOk made.answer (λ a. a ≡ f S)
   pub refused : IfErr made.answer (λ e. e ≡ Memory)
 
--- what shards answer, where each answers f of itself
+-- the answers of shards, if each answers f of itself
 abbrev pub each_answer : {A : Type 0} → (Seen → A) → List (ℕ × Seen) → List A
 each_answer f ss = map (λ s. f s.1) ss
 
--- of shards that were each to answer f of itself: they come back unchanged, with all their answers,
--- or out of memory
+-- the results of shards that were each asked for f of themselves: unchanged shards with all their
+-- answers, or out of memory
 pub record HasGathered {A G : Type 0} (f : Seen → A) (ss : List (ℕ × Seen)) (back : List (ℕ × Seen)) (made : Result (Vec A G) Refusal) : Type 0 where
   pub shards : back ≡ ss
   pub answers : IfOk made (λ v. v.items ≡ each_answer f ss)
@@ -46,7 +46,7 @@ abbrev pub first_fault : {A : Type 0} → List (ℕ × Asked A) → Result (Unit
 first_fault [] = Ok tt
 first_fault (f ∷ fs) = result_and (fault_in f.1.answer) (first_fault fs)
 
--- the answers of changed shards, added up
+-- the sum of the answers of changed shards
 abbrev pub done_of : List (ℕ × Answered Done) → Done
 done_of [] = record { added = 0; removed = 0 }
 done_of (c ∷ cs) = record { added = c.1.answer.added + (done_of cs).added; removed = c.1.answer.removed + (done_of cs).removed }

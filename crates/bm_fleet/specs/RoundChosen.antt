@@ -10,22 +10,22 @@ use Rattle.bm_shard.specs.Seen.{Seen}
 use Rattle.bm_shard.specs.Standing.{next_part}
 use Rattle.bm_fleet.specs.declared.round_choice.ChosenCommands.{ChosenCommands}
 
--- what all these shards have for their next round
+-- the parts of all these shards in their next round
 abbrev pub next_parts : Cluster → List (ℕ × Seen) → List RoundPart
 next_parts C ss = map (λ (s : ℕ × Seen). next_part C s.1) ss
 
 abbrev pub next_excess : Cluster → List (ℕ × Seen) → List (List ReplicaId)
 next_excess C ss = map (λ (s : ℕ × Seen). (next_part C s.1).excess) ss
 
--- the parts with the wishes before a bound alone
+-- the parts with only the wishes before a bound
 abbrev pub next_parts_before : Option (ℕ × ℕ) → Cluster → List (ℕ × Seen) → List RoundPart
 next_parts_before bound C ss = map (λ (s : ℕ × Seen). part_before bound (next_part C s.1)) ss
 
--- of the parts at least which replicas are in excess is what the shards have
+-- the lists of excess of these parts are those of the shards' parts
 abbrev pub HasExcess : Cluster → List (ℕ × Seen) → List RoundPart → Type 0
 HasExcess C ss ps = map (λ (p : RoundPart). p.excess) ps ≡ next_excess C ss
 
--- the choice is the one from all parts of the shards, with its commands
+-- the choice from all parts of the shards, with its commands
 pub record IsChosen (limits : RoundLimits) (C : Cluster) (r : ℕ) (ss : List (ℕ × Seen)) (c : ChosenCommands) : Type 0 where
   pub transfers : c.chosen.transfers ≡ chosen_transfers limits C (next_parts C ss)
   pub deletes : c.chosen.deletes ≡ chosen_deletes limits C (next_parts C ss)

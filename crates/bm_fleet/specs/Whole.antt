@@ -40,7 +40,7 @@ abbrev pub EachTook : ℕ → ℕ → List (ℕ × Seen) → Type 0
 EachTook round pend [] = Unit {0}
 EachTook round pend (s ∷ ss) = (s.1.round ≡ round) × (s.1.pend ≡ pend) × EachTook round pend ss
 
--- the same of a whole: what a caller hands on from call to call
+-- the same for all shards together: the facts that a caller passes on from call to call
 
 unfoldable pub StandsIn : Cluster → Whole → Type 0
 StandsIn C F = EachStandsIn C F.shards

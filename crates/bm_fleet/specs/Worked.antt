@@ -38,7 +38,7 @@ pub record HasGivenUp (S : Seen) : Type 0 where
   pub bare : HasNoneBare S
   pub freed : HasNoSpareRoom S
 
--- the same shard in all but room, which is ready, or this was refused for want of memory
+-- the same shard in all but capacity, which is ready, or out of memory
 pub record IsPrepared (IsReady : Seen → Type 0) (S : Seen) (made : Asked (Unit {0})) : Type 0 where
   pub same : IsSameButRoom S made.shard
   pub ready : OnOk made.answer (IsReady made.shard)

@@ -1,4 +1,4 @@
-// Shards that the workers worked one by one, and what each answered. Nothing here takes memory.
+// The answers of shards that the workers worked one by one. Nothing here takes memory.
 ghost use Rattle.std.specs.Prelude.{◌≡◌, ◌≤◌, ◌<◌, ◌+◌, ◌++◌, ℕ, [], List, map, length, vec_len, vec_capacity};
 ghost use Rattle.std.specs.Result.{result_and, result_ok};
 ghost use Rattle.std.specs.List.{All, filter_map, cons_option};

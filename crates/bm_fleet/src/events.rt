@@ -16,10 +16,12 @@ use bm_parts::events::block_of;
 use bm_topo::Topology;
 
 impl Fleet {
-    /// Changes the shards by an event that no check on the cluster refuses. A heartbeat touches none; an event on a block touches the block's shard alone;
-    /// any other is made by the workers, on all shards or on none. `topology` is the cluster before
-    /// the event, `multi` says whether the alive nodes stand on two racks or more after it. Answers how many replicas came and went.
-    /// `Memory`, but for an event that takes no memory, and then nothing that is seen has changed but room.
+    /// Changes the shards by an event that no check on the cluster refuses. A heartbeat changes
+    /// none; an event on a block changes the block's shard alone; any other is made by the workers,
+    /// on all shards or on none. `topology` is the cluster before the event, `multi` tells whether
+    /// the alive nodes are on two racks or more after it. Returns how many replicas came and went.
+    /// `Memory`, but for an event that takes no memory, and then a contract sees no change but of
+    /// capacity.
     #[tactic(auto, unfolding(crate::specs::Whole::StandsIn, crate::specs::Whole::HasTaken))]
     pub fn change<W: Workers>(
         &mut self,

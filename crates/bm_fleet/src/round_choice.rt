@@ -13,7 +13,7 @@ use bm_round::{choose, commands};
 use bm_topo::Topology;
 use std::alloc::Global;
 
-/// What was chosen for a round, and what it commands.
+/// The choice of a round, and its commands.
 #[derive(Drop)]
 pub(crate) struct ChosenCommands {
     pub chosen: Chosen,

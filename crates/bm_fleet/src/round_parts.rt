@@ -67,7 +67,7 @@ pub(crate) fn find_round<W: Workers>(
     Ok(FoundRound { parts, choice })
 }
 
-/// Whether what was chosen of the wishes before a bound is what is chosen of all wishes.
+/// Whether the choice from the wishes before a bound is the choice from all wishes.
 fn is_of_all(chosen: &Chosen, bound: Option<Key>, topology: &Topology, config: &Config) -> bool
     ensures { (whole : List RoundPart) → result ≡ true
         → chosen.now.transfers ≡ choices.chosen_transfers (limits_of config.now)

@@ -78,7 +78,7 @@ pub(crate) fn prepare_round_one(
     }
 }
 
-/// Takes the next round in the shard of an index, which is ready for it.
+/// Takes the next round in the shard with this index, which is ready for it.
 pub(crate) fn commit_round_one(
     index: u32,
     mut shard: Shard,

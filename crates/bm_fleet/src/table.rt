@@ -35,7 +35,7 @@ impl Fleet {
     }
 }
 
-/// The table of all these shards, which stay as they are.
+/// The table of all these shards, which stay unchanged.
 fn make_table<W: Workers>(
     alloc: Global,
     workers: &W,
@@ -52,7 +52,7 @@ fn make_table<W: Workers>(
     Ok(rows)
 }
 
-/// The rows of each of these shards, which stay as they are.
+/// The rows of each of these shards, which stay unchanged.
 fn gather_tables<W: Workers>(
     alloc: Global,
     workers: &W,

@@ -59,7 +59,7 @@ pub struct Threaded<R: Threads + Wait, G> {
 }
 
 impl<'a, R: Threads + Wait> Threaded<R, &'a (dyn Gate + Sync)> {
-    /// `count` workers, the calling thread among them; one where `count` is 0.
+    /// `count` workers, the calling thread among them; one if `count` is 0.
     pub fn new(rt: &R, gate: &'a (dyn Gate + Sync), count: usize) -> Self {
         Threaded {
             rt: RuntimeToken::of(rt),

@@ -1,4 +1,4 @@
-// Who works the shards.
+// The workers of the shards.
 ghost use Rattle.std.specs.Prelude.{◌≡◌, ◌<◌, ◌≤◌, None, vec_len};
 ghost use Rattle.std.specs.List.{All};
 ghost use Rattle.bm_base.specs.Replicas.{is_multi_rack};

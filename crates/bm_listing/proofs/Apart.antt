@@ -26,7 +26,7 @@ module _ {K X : Type 0} (o : Order K) (key : X → K) where
   abbrev pub IsNew : X → List X → Type 0
   IsNew x ys = Each (λ y. eq_by_cmp o.cmp (key x) (key y) ≡ false) ys
 
-  -- no two of these have one key
+  -- all keys differ
   abbrev pub AreApart : List X → Type 0
   AreApart [] = Unit {0}
   AreApart (x ∷ xs) = IsNew x xs × AreApart xs
@@ -68,12 +68,12 @@ module _ {K X : Type 0} (o : Order K) (key : X → K) where
   keyed_rise [] h = tt
   keyed_rise (x ∷ xs) h = both _ _ (below (key x) xs h.0) (keyed_rise xs h.1)
 
-  -- what has keys that differ rises strictly once it is sorted
+  -- a list with different keys is strictly ascending once it is sorted
   pub sorted_rises : (xs ys : List X) → AreApart xs → IsPermutation xs ys → IsSortedByKey key o.cmp ys → T (is_sorted o.cmp (map (λ y. (key y, y)) ys))
   sorted_rises xs ys apart moved sorted =
       keyed_rise ys (strictly ys sorted (IsDistinct-IsPermutation (eq_by_cmp o.cmp) (eq_by_cmp_equiv o.total).symm (map key xs) (map key ys) (IsPermutation-map key xs ys moved) (apart_distinct xs apart)))
 
-  -- what was gathered with keys that differ, and then sorted
+  -- a gathered list with different keys, sorted
   pub gathered_sorted : (P : X → Type 0) (xs ys : List X) → AreApart xs → Each P xs → ((x : X) → P x → list_any (λ y. eq_by_cmp o.cmp (key x) (key y)) xs ≡ true) → IsPermutation xs ys → IsSortedByKey key o.cmp ys
       → IsGathered o key P ys
   gathered_sorted P xs ys apart only all moved sorted = record {

@@ -34,7 +34,7 @@ use Rattle.bm_listing.proofs.Numbers.{Rise, numbers_rise, lesser_storage, same_n
 abbrev pub good_storages : Contents → ℕ → List ℕ
 good_storages a b = option_map_or (λ slot. storages_at (λ _ m. is_good m.tag) (replicas_at a slot)) (slot_of a b) []
 
--- Going over the replicas at a slot.
+-- Iteration over the replicas at a slot.
 
 module _ (p : ℕ → Marks → Bool) (rs rest : List (ℕ × Marks)) (r : ℕ × Marks) (e : rs ≡ r ∷ rest) where
   abbrev storages : List (ℕ × Marks) → List ℕ
@@ -113,7 +113,7 @@ module _ (a : Contents) (lawful : IsLawful a) (pending : Map by_replica ℕ) (b 
   unfolding is_still_stored holdings_with
   still_stored answer e = e ∙ sym (any_of_block (λ _ m. is_stray m.tag))
 
-  -- The storages of its good replicas.
+  -- The storages of the block's good replicas.
 
   has_good : (s : ℕ) → has (places (holdings_with a pending) b) s ≡ has (good_storages a b) s
   unfolding holdings_with
@@ -141,7 +141,7 @@ module _ (a : Contents) (lawful : IsLawful a) (pending : Map by_replica ℕ) (b 
       same_numbers (good_storages a b) ys (places (holdings_with a pending) b) good_once (λ x t. has_good x ∙ among_has (good_storages a b) x t) (λ x t. has_among (good_storages a b) x (sym (has_good x) ∙ t))
       (subst P is moved) sorted (where_rise (λ _ m. is_good m.tag) (holdings_with a pending) b)
 
--- Whether it is known.
+-- Whether the block is known.
 
 pub known : (a : Contents) (pending : Map by_replica ℕ) (b : ℕ) (answer : Bool) → answer ≡ option_map_or (λ slot. is_some (info_at a slot)) (slot_of a b) false → answer ≡ knows_block (holdings_with a pending) b
 unfolding knows_block holdings_with

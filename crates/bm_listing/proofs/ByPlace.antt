@@ -9,7 +9,7 @@ drop_at [] i x e = cc
 drop_at (y ∷ ys) zero x e = let same : y ≡ x = cc in ap (λ z. z ∷ ys) same
 drop_at (y ∷ ys) (suc i) x e = drop_at ys i x e
 
--- what stands at a place is the next of those from it on
+-- the element at an index is the first of the rest from the index on
 pub next_place : {X : Type 0} (xs : List X) (i : ℕ) (x : X) → Some x ≡ slice_get xs i → drop i xs ≡ x ∷ drop (i + 1) xs
 next_place xs i x e = drop_at xs i x (sym e) ∙ (let same : suc i ≡ i + 1 = omega arith in ap (λ k. x ∷ drop k xs) same)
 

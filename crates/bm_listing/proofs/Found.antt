@@ -1,4 +1,4 @@
--- The replicas come upon at the slots of an arena are just those of its map, each once.
+-- The replicas found at the slots of an arena are exactly those of its map, each once.
 use Rattle.std.proofs.Common.{◌≡◌, ◌≢◌, ℕ, Bool, true, false, cond, ◌&&◌, ◌||◌, List, [], ◌∷◌, ◌++◌, map, filter, flat_map, Some, refl, sym, ap, subst, inl, inr, ◌∙◌, eqb-true, eq-eqb}
 use Rattle.std.specs.Prelude.{◌==◌, option_and_then}
 use Rattle.std.specs.Ordering.{eq_by_cmp}
@@ -41,7 +41,7 @@ other_storages : (s : ℕ) (rs : List (ℕ × Marks)) → (Among s (keys_at rs) 
 other_storages s [] h = tt
 other_storages s (r ∷ rs) h = (λ same. h (inl same), other_storages s rs (λ there. h (inr there)))
 
--- each replica is the one that its storage finds
+-- a search for the storage of a replica finds the replica
 pub each_marks : (rs : List (ℕ × Marks)) → Distinct (keys_at rs) → Each (λ (r : ℕ × Marks). find_marks rs r.0 ≡ Some r.1) rs
 each_marks [] h = tt
 each_marks (r ∷ rs) h = (
@@ -55,7 +55,7 @@ each_marks (r ∷ rs) h = (
     by {q} true e ne g = absurd (ne (eqb-true r.0 q.0 e))
     by {q} false e ne g = g
 
--- one that a storage finds is among them
+-- a replica that a search finds is in the list
 pub marks_pass : (test : ℕ × Marks → Bool) (rs : List (ℕ × Marks)) (s : ℕ) (m : Marks) → find_marks rs s ≡ Some m → test (s, m) ≡ true → list_any test rs ≡ true
 marks_pass test [] s m e h = cc
 marks_pass test (r ∷ rs) s m e h = by (r.0 == s) refl e (marks_pass test rs s m)
@@ -86,7 +86,7 @@ module _ (p : Marks → Bool) (id : ℕ) where
   those_of : (rs : List (ℕ × Marks)) → Each (λ (y : Replica). y.block ≡ id) (those p id rs)
   those_of rs = each_mapped (λ (y : Replica). y.block ≡ id) (shown id) (filter (λ (r : ℕ × Marks). p r.1) rs) (each_of (λ (r : ℕ × Marks). id ≡ id) (filter (λ (r : ℕ × Marks). p r.1) rs) (λ _. refl))
 
--- one of the lists that are made of some slots
+-- an element of one of several lists
 pub any_on : {Y : Type 0} (t : Y → Bool) (f : ℕ → List Y) (ss : List ℕ) (s : ℕ) → has ss s ≡ true → list_any t (f s) ≡ true → list_any t (flat_map f ss) ≡ true
 any_on t f [] s e h = cc
 any_on t f (u ∷ ss) s e h = list_any-append t (f u) (flat_map f ss) ∙ by (u == s) refl e (any_on t f ss s)
@@ -201,7 +201,7 @@ module _ (p : Marks → Bool) (m : Map by_replica Marks) where
       some : {k l : Marks} → Some k ≡ Some l → k ≡ l
       some e = cc
 
--- what was come upon at the slots, once sorted
+-- the replicas found at the slots, sorted
 pub sorted_replicas : (p : Marks → Bool) (a : Contents) → IsLawful a → (ys : List Replica) → IsPermutation (listed_on p a (slots_led a)) ys → IsSortedByKey replica_key replica_cmp ys → ys ≡ replicas_passing p (replicas_of a)
 sorted_replicas p a lawful ys moved sorted =
     gathered_alike by_replica replica_key (IsListed p (replicas_of a)) (one_replica p (replicas_of a)) ys (replicas_passing p (replicas_of a)) (gathered_replicas p a lawful ys moved sorted) (passing_gathered p (replicas_of a))

@@ -1,4 +1,5 @@
--- The known blocks at the slots of an arena are, once sorted, those of its map, each with its slot.
+-- The known blocks found at the slots of an arena are, once sorted, those of its map, each with its
+-- slot.
 use Rattle.std.proofs.Common.{◌≡◌, ◌≢◌, ℕ, Bool, true, false, cond, ◌&&◌, ◌||◌, List, [], ◌∷◌, ◌++◌, map, filter, Option, Some, is_some, refl, sym, ap, subst, inl, inr, ◌∙◌, eqb-true, append_assoc, T, ◌+◌, ◌<◌, ◌≤◌, take, length, zero, suc, arith}
 use Rattle.std.specs.Prelude.{◌==◌, option_and_then, slice_index_or}
 use Rattle.std.specs.Option.{unwrap_or}
@@ -41,7 +42,7 @@ use Rattle.bm_listing.proofs.Owned.{led_to, id_found, one_slot}
 abbrev number : ℕ × ℕ → ℕ
 number p = p.0
 
--- a slot's block was put behind, or it has none that is known
+-- the known block at a slot was appended, or there is none
 pub put_known : (a : Contents) (xs : List (ℕ × ℕ)) (slots rest : List ℕ) (slot : ℕ) → slots ≡ slot ∷ rest → (xs ++ known_on a (slot ∷ [])) ++ known_on a rest ≡ xs ++ known_on a slots
 put_known a xs slots rest slot e =
     append_assoc xs (known_on a (slot ∷ [])) (known_on a rest)
@@ -70,7 +71,7 @@ module _ (a : Contents) (lawful : IsLawful a) where
   abbrev pair : ℕ → ℕ × ℕ
   pair slot = (id_at a slot, slot)
 
-  -- a number that leads to a slot where a block is known
+  -- a number whose slot has a known block
   abbrev IsKnown : ℕ × ℕ → Type 0
   IsKnown p = (slot_of a p.0 ≡ Some p.1) × (is_known p.1 ≡ true)
 
@@ -138,24 +139,24 @@ module _ (a : Contents) (lawful : IsLawful a) where
             ∙ is.1;
       }
 
-  -- what was come upon at the slots, once sorted
+  -- the blocks found at the slots, sorted
   pub sorted_blocks : (ys : List (ℕ × ℕ)) → IsPermutation (known_on a (slots_led a)) ys → IsSortedByKey number nat_cmp ys → ys ≡ map (with_slot a) (keys (blocks_of a))
   sorted_blocks ys moved sorted =
       gathered_alike by_number number IsKnown one_known ys (map (with_slot a) (keys (blocks_of a)))
       (gathered_sorted by_number number IsKnown (known_on a (slots_led a)) ys (known_apart (slots_led a) (led_once a lawful) (led_own a lawful)) only_known all_known moved sorted) listed_known
 
-  -- so each slot is that of its number
+  -- each slot is that of its number
   pub slots_found : All (λ (p : ℕ × ℕ). slot_of a p.0 ≡ Some p.1) (map (with_slot a) (keys (blocks_of a)))
   slots_found =
       all_each (λ (p : ℕ × ℕ). slot_of a p.0 ≡ Some p.1) (map (with_slot a) (keys (blocks_of a)))
       (each_then IsKnown (λ (p : ℕ × ℕ). slot_of a p.0 ≡ Some p.1) (map (with_slot a) (keys (blocks_of a))) (each_all IsKnown (map (with_slot a) (keys (blocks_of a))) listed_known.only) (λ p h. h.0))
 
--- The rows of these.
+-- The rows of these blocks.
 
 abbrev pub row_in : Contents → Map by_replica ℕ → ℕ × ℕ → Row
 row_in a pending p = (p.0, take MAX_PLACES (places (holdings_with a pending) p.0))
 
--- a row more was put behind
+-- one more row was appended
 pub row_put : (f : ℕ × ℕ → Row) (ps : List (ℕ × ℕ)) (i : ℕ) (p : ℕ × ℕ) → i < length ps → p ≡ slice_index_or ps i p → map f (take i ps) ++ f p ∷ [] ≡ map f (take (i + 1) ps)
 row_put f ps i p lt is =
     ap (λ x. map f (take i ps) ++ f x ∷ []) is

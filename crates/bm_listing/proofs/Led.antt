@@ -1,4 +1,4 @@
--- The slots to which the numbers of an arena lead: each once, each with the block of its number.
+-- The slots of the numbers of an arena: each once, each with the block of its number.
 use Rattle.std.proofs.Common.{◌≡◌, ℕ, Bool, true, false, cond, ◌||◌, List, [], ◌∷◌, map, Some, refl, sym, ap, subst, inl, inr, ◌∙◌, eq-eqb}
 use Rattle.std.specs.Prelude.{◌==◌, nat_eq}
 use Rattle.std.specs.Map.{lookup, keys_of}
@@ -13,7 +13,7 @@ use Rattle.bm_arena.specs.Contents.{Contents, block_at, slot_of, IsLawful}
 use Rattle.bm_arena.proofs.Held.{one_number}
 use Rattle.bm_levels.specs.Kept.{slots_led}
 
--- the block at a slot, to which its number leads
+-- the slot has a block, and is the slot of its number
 pub record IsOwn (a : Contents) (slot : ℕ) : Type 0 where
   pub block : Block
   pub here : block_at a slot ≡ Some block
@@ -28,7 +28,7 @@ others_keys : (k : ℕ) (es : List (ℕ × ℕ)) → AllByRecursion (λ y. nat_e
 others_keys k [] h = tt
 others_keys k (e ∷ es) h = (h.0, others_keys k es h.1)
 
--- each entry is the one that its key finds
+-- a search for the key of an entry finds the entry
 each_found : (es : List (ℕ × ℕ)) → IsDistinct nat_eq (keys_of es) → Each (λ (q : ℕ × ℕ). lookup (nat_eq q.0) es ≡ Some q.1) es
 unfolding IsDistinct
 each_found [] h = tt
@@ -76,7 +76,7 @@ module _ (a : Contents) (lawful : IsLawful a) where
           either true e = refl
           either false e = e
 
-  -- a number leads to one of the slots
+  -- the slot of a number is one of the slots
   pub has_led : (id slot : ℕ) → slot_of a id ≡ Some slot → has (slots_led a) slot ≡ true
   has_led id slot e = led_by id slot a.ids e
 

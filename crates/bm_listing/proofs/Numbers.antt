@@ -27,7 +27,7 @@ use Rattle.bm_listing.proofs.Apart.{AreApart, gathered_sorted}
 abbrev pub Rise : List ℕ → Type 0
 Rise xs = T (is_sorted nat_cmp (map (λ n. (n, n)) xs))
 
--- A number of each key that passes, where the numbers rise as the keys do.
+-- A number of each key that passes, if the numbers ascend as the keys do.
 module _ {K X : Type 0} (R : K → K → Ordering) (number : K → ℕ) (q : K × X → Bool)
     (less : (e f : K × X) → q e ≡ true → q f ≡ true → T (is_lt (R e.0 f.0)) → T (is_lt (nat_cmp (number e.0) (number f.0)))) where
   abbrev numbers : List (K × X) → List ℕ
@@ -74,7 +74,7 @@ each_has P (x ∷ xs) h = (h x (or_left (x == x) (has xs x) (same_again x)), eac
 pub any_same : (x : ℕ) (xs : List ℕ) → list_any (λ y. eq_by_cmp nat_cmp x y) xs ≡ has xs x
 any_same x xs = any_agree (λ y. eq_by_cmp nat_cmp x y) (λ y. y == x) (λ y. number_tie x y ∙ eqb_turned x y) xs
 
--- numbers each of which stands once, sorted, are the rising list in which just they stand
+-- different numbers, sorted, are the ascending list with these members
 pub same_numbers : (xs ys zs : List ℕ) → Distinct xs → ((x : ℕ) → Among x xs → has zs x ≡ true) → ((x : ℕ) → has zs x ≡ true → Among x xs) → IsPermutation xs ys → IsSortedByKey (λ (n : ℕ). n) nat_cmp ys → Rise zs → ys ≡ zs
 same_numbers xs ys zs once only all moved sorted rise =
     let P : ℕ → Type 0 = λ x. has zs x ≡ true in

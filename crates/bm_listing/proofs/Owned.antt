@@ -1,4 +1,4 @@
--- Slots with blocks of their own: their numbers, and what is found by them.
+-- Slots with blocks of their own: their numbers, and searches by them.
 use Rattle.std.proofs.Common.{◌≡◌, ◌≢◌, ℕ, List, [], ◌∷◌, map, length, get_or, Option, Some, None, is_some, refl, sym, ap, subst, inl, inr, ◌∙◌, ◌<◌, arith, zero, suc}
 use Rattle.std.specs.Prelude.{IsSome}
 use Rattle.std.specs.Option.{option_map_or}
@@ -41,7 +41,7 @@ module _ (a : Contents) where
   pub id_found : IsLawful a → (id slot : ℕ) → slot_of a id ≡ Some slot → id_at a slot ≡ id
   id_found lawful id slot e = let f = lawful.found id slot e in ap (λ o. option_map_or (λ (b : Block). b.id) o 0) f.2 ∙ f.3
 
-  -- the number that a call answers is that of the slot
+  -- the number that a call returns is that of the slot
   pub answered_id : (slot id : ℕ) → IsOwn a slot → ((b : Block) → block_at a slot ≡ Some b → id ≡ b.id) → id ≡ id_at a slot
   answered_id slot id own says = says own.block own.here ∙ sym (id_is slot own)
 
@@ -61,7 +61,7 @@ module _ (a : Contents) where
     ids_distinct xs once.1 (λ slot h. own slot (inr h)),
   )
 
--- a slot that is held and is not the delimiter's
+-- an occupied slot other than the delimiter's
 own_held : (a : Contents) → IsLawful a → (slot : ℕ) → IsSome (block_at a slot) → slot ≢ a.delimiter → IsOwn a slot
 own_held a lawful slot held other =
     let b = there (block_at a slot) held in
@@ -86,7 +86,7 @@ module _ (v : Leveled) (lawful : IsLawful v.arena) (leveled : IsLeveled v) where
           let block = chained _ (block_at v.arena slot) i known in
           own_held v.arena lawful slot (ap is_some block.1) (λ same. false≢true (ap is_some (sym leveled.blank ∙ ap (info_at v.arena) (sym same) ∙ known)))
 
--- the slot of a turn is one of those that are gone over
+-- the slot of an iteration is one of those that are iterated over
 pub among_turn : (all yielded : List ℕ) (slot : ℕ) → (length yielded < length all) × (slot ≡ get_or all (length yielded) slot) → Among slot all
 among_turn all yielded slot turn = let P : ℕ → Type 0 = λ x. Among x all in subst P (sym turn.1) (among_at all (length yielded) slot turn.0)
 

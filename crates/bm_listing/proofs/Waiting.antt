@@ -1,4 +1,4 @@
--- A node is held back exactly if a block waits in the list of one of its storages, while it drains.
+-- A node is held back exactly if it drains and a block waits in the list of one of its storages.
 use Rattle.std.proofs.Common.{◌≡◌, ℕ, Bool, true, false, not, ◌&&◌, List, [], ◌∷◌, length, Option, Some, None, is_some, refl, sym, ap, inl, inr, ◌∙◌, arith}
 use Rattle.std.specs.Prelude.{nat_lt, nat_le, option_and_then}
 use Rattle.std.specs.Option.{option_map_or}
@@ -95,7 +95,7 @@ module _ (C : Cluster) (n : ℕ) (v : Leveled) (lawful : IsLawful v.arena) (leve
       let listed : Among slot.0 (list_of a s) = (lawful.exact slot.0 s).1 (ap is_some marks) in
       (s, known_storage C n s at.2, and_from (has_storage C n s && is_draining C s) (waits_on C a s) (and_from (has_storage C n s) (is_draining C s) at.2 parts.1) (any_among (waits_at C a s) (list_of a s) slot.0 listed waits))
 
-  -- and one that waits holds it back
+  -- a block that waits holds the node back
   then_held : (s : ℕ) → waits_for C v.arena n s ≡ true → (b : ℕ) × (contains_key H.blocks b ≡ true) × (is_held_back_by C H n b ≡ true)
   unfolding is_held_back_by
   then_held s waits =

@@ -16,7 +16,7 @@ use Rattle.bm_levels.specs.Judged.{storages_at}
 use Rattle.bm_listing.specs.declared.replicas.Wanted.{Wanted}
 use Rattle.bm_listing.specs.declared.replicas.Wanted.TheVariants.{All, Corrupt, Excess}
 
--- whether a replica with these marks is one of those that are listed
+-- whether a replica with these marks is listed
 abbrev pub wants : Wanted → Marks → Bool
 wants All m = true
 wants Corrupt m = is_corrupt m.tag
@@ -30,7 +30,7 @@ shown id r = record { block = id; storage = r.0; tag = r.1.tag }
 abbrev pub listed_at : (Marks → Bool) → Option Block → List Replica
 listed_at p o = option_map_or (λ (b : Block). map (shown b.id) (filter (λ r. p r.1) b.replicas)) o []
 
--- those at these slots
+-- the replicas at these slots that pass
 abbrev pub listed_on : (Marks → Bool) → Contents → List ℕ → List Replica
 listed_on p a slots = flat_map (λ slot. listed_at p (block_at a slot)) slots
 
@@ -46,19 +46,19 @@ lacks_live C o = option_map_or (λ (b : Block). option_map_or (λ (i : BlockInfo
 abbrev pub waits_at : Cluster → Contents → ℕ → ℕ → Bool
 waits_at C a storage slot = option_map_or is_usable (marks_at a slot storage) false && lacks_live C (block_at a slot)
 
--- whether a block of a storage does
+-- whether such a block is in the list of a storage
 abbrev pub waits_on : Cluster → Contents → ℕ → Bool
 waits_on C a storage = list_any (waits_at C a storage) (list_of a storage)
 
--- whether a block of a storage of a node that drains does
+-- whether the storage is one of the node, which drains, and such a block is in its list
 abbrev pub waits_for : Cluster → Contents → ℕ → ℕ → Bool
 waits_for C a n storage = (has_storage C n storage && is_draining C storage) && waits_on C a storage
 
--- of these slots, those of known blocks, each with the block's number
+-- the known blocks at these slots, each with its number
 abbrev pub known_on : Contents → List ℕ → List (ℕ × ℕ)
 known_on a slots = map (λ slot. (id_at a slot, slot)) (filter (λ slot. is_some (info_at a slot)) slots)
 
--- a block's number is paired with its slot
+-- a block's number with its slot
 abbrev pub HasItsSlot : Contents → ℕ × ℕ → Type 0
 HasItsSlot a e = slot_of a e.0 ≡ Some e.1
 

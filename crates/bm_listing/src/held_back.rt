@@ -22,7 +22,7 @@ fn is_live_on(topology: &Topology, storage: StorageId, marks: Marks) -> bool
     is_usable && !topology.is_draining(storage)
 }
 
-/// How many replicas at a slot are live.
+/// The number of live replicas at a slot.
 fn live_count(topology: &Topology, arena: &Arena, slot: Slot) -> usize
     ensures { result ≡ length
         (storages_at (replicas.is_live_on topology.now.cluster) (replicas_at arena.now slot)) }
@@ -62,7 +62,7 @@ fn waits_at(topology: &Topology, arena: &Arena, storage: StorageId, slot: Slot) 
     }
 }
 
-/// Whether a block of a storage does.
+/// Whether such a block is in the list of a storage.
 fn waits_on(topology: &Topology, arena: &Arena, storage: StorageId) -> bool
     ensures { result ≡ waits_on topology.now.cluster arena.now storage }
 {
@@ -74,7 +74,7 @@ fn waits_on(topology: &Topology, arena: &Arena, storage: StorageId) -> bool
     false
 }
 
-/// Whether a block of a storage of the node does, and the node drains.
+/// Whether the storage is one of the node, which drains, and such a block is in its list.
 fn waits_for(topology: &Topology, arena: &Arena, node: NodeId, storage: StorageId) -> bool
     ensures { result ≡ waits_for topology.now.cluster arena.now node storage }
 {

@@ -78,7 +78,7 @@ fn has_stray(arena: &Arena, slot: Slot) -> bool
     false
 }
 
-/// Whether a stray replica of the number is there. Takes no memory.
+/// Whether a stray replica of the number exists. Takes no memory.
 pub fn is_still_stored(blocks: &LeveledBlocks, id: BlockId) -> bool
     ensures { (pending : Map by_replica ℕ)
         → result ≡ refusals.is_still_stored (holdings_with blocks.now.arena pending) id }

@@ -12,7 +12,7 @@ use Rattle.bm_place.specs.declared.scheduled.Target.{Target}
 use Rattle.bm_place.specs.Targets.{room_on}
 use Rattle.bm_place.specs.Foremost.{are_alike, cmp_alike, goes_before}
 
--- what two targets that are alike have in common
+-- the common properties of two targets of one node
 pub record IsLike (s t : Target) : Type 0 where
   pub node : s.node ≡ t.node
   pub rack : s.rack ≡ t.rack
@@ -72,13 +72,13 @@ ranks = ranks_by cmp_alike_total (λ t. t)
 pub not_before_itself : (t : Target) → goes_before t t ≡ false
 not_before_itself t = ap is_lt (tied_itself cmp_alike_total t)
 
--- one that another does not go before has as much room
+-- a target before which another does not come has no less free bytes
 pub more_room : (c t : Target) → goes_before t c ≡ false → room_on t ≤ room_on c
 more_room c t e = by (nat_cmp t.storage c.storage) e
   where
     by : (r : _) → is_lt (ordering_then (nat_cmp (room_on c) (room_on t)) r) ≡ false → room_on t ≤ room_on c
     by r e = grind (arith, nat_tests)
 
--- with less room it goes no further to the front
+-- with no more free bytes a target does not come earlier
 pub less_room : (s t : Target) → s.storage ≡ t.storage → room_on s ≤ room_on t → goes_before s t ≡ false
 less_room s t same less = grind (arith, nat_tests)

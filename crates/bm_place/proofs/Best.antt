@@ -19,7 +19,7 @@ module _ (R : ℕ → ℕ → Ordering) (o : IsStrictWeakOrder (λ x y. is_lt (R
   itself x true e = o.one_way x x e
   itself x false e = e
 
-  -- the first of the numbers, or one behind it
+  -- the first of the numbers, or one after it
   first_or : (P : ℕ → Type 0) (x y : ℕ) (xs : List ℕ) (b : Bool) → (x == y) ≡ b → (b || has xs y) ≡ true → P x → (has xs y ≡ true → P y) → P y
   first_or P x y xs true e h here rest = subst P (eqb-true x y e) here
   first_or P x y xs false e h here rest = rest h
@@ -69,6 +69,6 @@ module _ (R : ℕ → ℕ → Ordering) (o : IsStrictWeakOrder (λ x y. is_lt (R
         | false ↦ λ e. passed_over x xs (least R (filter p xs)) e (least_of xs)
       ] refl
 
--- the same of a total order
+-- the same for a total order
 pub least-bears : (R : ℕ → ℕ → Ordering) → IsTotalOrder R → (p : ℕ → Bool) (xs : List ℕ) → IsLeastOf R p xs (least R (filter p xs))
 least-bears R total p xs = least_of R (ranks_by total (λ x. x)) p xs

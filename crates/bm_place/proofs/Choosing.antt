@@ -23,7 +23,7 @@ module _ {X Y : Type 0} (f : X → Y) (R : Y → Y → Ordering) (p : Y → Bool
       ∙ ap (λ o. scan R p o (map f xs)) (taken_row (p (f x) && is_better (λ x y. R (f x) (f y)) best x) best x)
       ∙ scan-rows (cond (p (f x) && is_better (λ x y. R (f x) (f y)) best x) (Some x) best) xs
 
-  -- where the rows are ordered and tested as the numbers are
+  -- if the order and the test on rows are those on the numbers
   pub scan-found : (order : X → X → Ordering) (test : X → Bool) → IsTotalOrder order → ((x y : X) → R (f x) (f y) ≡ order x y) → ((x : X) → p (f x) ≡ test x)
       → (xs : List X) → scan R p None (map f xs) ≡ option_map f (least order (filter test xs))
   scan-found order test total ordered tested xs =

@@ -61,7 +61,7 @@ shape-put r (a ∷ b ∷ c ∷ es) = put_more r a b c es (put nat_cmp r tt es) (
 abbrev marked : List ℕ → Set
 marked xs = map (λ x. (x, tt)) xs
 
--- the different ones seen, with each of these
+-- the different numbers so far, and then each of these
 abbrev with_numbers : Few → List ℕ → Few
 with_numbers seen [] = seen
 with_numbers seen (n ∷ ns) = with_numbers (with_number seen n) ns
@@ -71,7 +71,7 @@ unfolding insert
 shape-all [] m = refl
 shape-all (x ∷ xs) m = shape-all xs (insert m x tt) ∙ ap (λ w. with_numbers w xs) (shape-put x m.list)
 
--- A standing is of the racks and of the storages.
+-- A standing depends on the racks and on the storages.
 
 racks_with : (C : Cluster) (w : Standing) (ss : List ℕ) → (with_storages C w ss).racks ≡ with_numbers w.racks (filter_map (rack_of C) ss)
 racks_with C w [] = refl
@@ -92,7 +92,7 @@ not_one n = grind arith
 not_two : (n : ℕ) → (suc (suc (suc n)) == 2) ≡ false
 not_two n = grind arith
 
--- what is chosen by tests that fail
+-- the choice if both tests fail
 passed : (p q : Bool) (x y z : ℕ) → p ≡ false → q ≡ false → cond p x (cond q y z) ≡ z
 passed p q x y z e f = ap (λ t. cond t x (cond q y z)) e ∙ ap (λ t. cond t y z) f
 

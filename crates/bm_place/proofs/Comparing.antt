@@ -1,4 +1,4 @@
--- The remaining ones, looked up: the first in excess among them, and the rest without it.
+-- The remaining storages, looked up: the first in excess among them, and the rest without it.
 use Rattle.std.specs.Prelude.{option_map}
 use Rattle.std.proofs.Common.{◌≡◌, ◌≤◌, ◌==◌, ℕ, Bool, true, false, cond, not, List, [], ◌∷◌, map, drop, filter, length, count_by, Option, None, refl, sym, ap, ◌∙◌, arith}
 use Rattle.std.proofs.lemmas.List.{at_drop_all}
@@ -32,7 +32,7 @@ module _ {X Y : Type 0} (f : X → Y) where
       by true rest = ap (λ ys. f x ∷ ys) rest
       by false rest = rest
 
--- a scan that has nothing left has found what is in excess first
+-- a scan with nothing left has found the first in excess
 pub few_found : (C : Cluster) (left : List ℕ) (hs : List Holder) (best : Option Candidate) (i : ℕ) → hs ≡ map (holder_at C) left → length hs ≤ i
     → scan cmp_candidates (λ _. true) best (map (candidate_among hs) (drop i hs)) ≡ scan cmp_candidates (λ _. true) None (map (candidate_among hs) hs)
     → option_map (λ (c : Candidate). c.storage) best ≡ least (excess_cmp C left) left
@@ -42,6 +42,6 @@ few_found C left hs best i is all inv =
     ∙ inv
     ∙ ap (scan cmp_candidates (λ _. true) None) (ap (map (candidate_among hs)) is ∙ mapped_twice (holder_at C) (candidate_among hs) left))
 
--- those that are left when a storage is out
+-- the remaining storages without one storage
 pub few_without : (C : Cluster) (left : List ℕ) (hs rest : List Holder) (x : ℕ) → hs ≡ map (holder_at C) left → rest ≡ filter (λ h. not (h.storage == x)) hs → rest ≡ map (holder_at C) (filter (λ s. not (s == x)) left)
 few_without C left hs rest x is out = out ∙ ap (filter (λ h. not (h.storage == x))) is ∙ filter_mapped (holder_at C) (λ h. not (h.storage == x)) left

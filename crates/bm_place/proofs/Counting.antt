@@ -24,14 +24,14 @@ use Rattle.bm_place.specs.Sources.{max_transfers, Senders, sender_table, transfe
 use Rattle.bm_place.specs.Targets.{target_at, target_table}
 use Rattle.bm_place.proofs.Tables.{get-table, has-keys, equal_back}
 
--- A row that changes.
+-- A changed row.
 
 module _ {X : Type 0} (f g : ℕ → X) (k : ℕ) (h : X → X) (is : (q : ℕ) → g q ≡ cond (k == q) (h (f q)) (f q)) where
   changed_row : (there : Bool) (q : ℕ) (b : Bool) → g q ≡ cond b (h (f q)) (f q) → option_map (λ x. cond b (h x) x) (cond there (Some (f q)) None) ≡ cond there (Some (g q)) None
   changed_row true q b e = ap Some (sym e)
   changed_row false q b e = refl
 
-  -- a table whose row at one number changes
+  -- a table with a changed row at one number
   pub table-revised : (ks : List ℕ) → revise_at (table f ks) k h ≡ table g ks
   unfolding revise_at
   table-revised ks =
@@ -41,7 +41,7 @@ module _ {X : Type 0} (f g : ℕ → X) (k : ℕ) (h : X → X) (is : (q : ℕ) 
       ∙ changed_row (has ks q) q (k == q) (is q)
       ∙ sym (get-table g ks q))
 
--- Sums with one more.
+-- Sums with one more summand.
 
 sum_one : {X : Type 0} (f : X → ℕ) (xs : List X) (x : X) → sum_by f (xs ++ x ∷ []) ≡ sum_by f xs + f x
 sum_one f xs x =
@@ -77,7 +77,7 @@ pub scheduled-more : (chosen : List Transfer) (t : Transfer) (s : ℕ) → sched
 unfolding scheduled_to
 scheduled-more chosen t s = sum_one (λ u. if u.target == s then u.stamp.len else 0) chosen t
 
--- a transfer more
+-- one more transfer is chosen
 pub targets-chosen : (C : Cluster) (chosen : List Transfer) (t : Transfer)
     → revise_at (target_table C (scheduled_to chosen)) t.target (λ u. record u { scheduled = u.scheduled + t.stamp.len }) ≡ target_table C (scheduled_to (chosen ++ t ∷ []))
 targets-chosen C chosen t =
@@ -108,7 +108,7 @@ node_listed C s n e =
     ap (λ m. has (map (node_number C) (keys C.storages)) m) (sym (ap (λ o. unwrap_or o 0) e))
     ∙ has_mapped (node_number C) (keys C.storages) s (has-keys C.storages s ∙ some_mapped (get C.storages s) n e)
 
--- what the table says of the node of a storage
+-- the count in the table for the node of a storage
 pub count_as : (C : Cluster) (sends : ℕ → ℕ) (s : ℕ) → streams_by C (count_at (sender_table C sends).counts) s ≡ streams_by C sends s
 unfolding count_at
 count_as C sends s = by (node_of C s) refl
@@ -118,7 +118,7 @@ count_as C sends s = by (node_of C s) refl
     by (Some n) e =
         ap (λ o. unwrap_or o 0) (get-table sends (map (node_number C) (keys C.storages)) n) ∙ ap (λ b. unwrap_or (cond b (Some (sends n)) None) 0) (node_listed C s n e)
 
--- the streams of the node of a storage are those from it
+-- the transfers that the node of a storage sends are those from its storages
 pub streams_as : (C : Cluster) (chosen : List Transfer) (s : ℕ) → streams_by C (transfers_by C chosen) s ≡ streams_from C chosen s
 unfolding transfers_by streams_from
 streams_as C chosen s = by (node_of C s)
@@ -156,15 +156,15 @@ more_node C sends more s is =
         ap (λ t. record (sender_table C sends) { counts = t })
         (table-revised sends more m (λ k. k + 1) (λ q. h q ∙ more_or (sends q) 1 (m == q)) (map (node_number C) (keys C.storages)))
 
--- one transfer more from a storage
+-- one more transfer is sent from a storage
 pub senders-more : (C : Cluster) (sends : ℕ → ℕ) (s : ℕ) → with_one_from s (sender_table C sends) ≡ sender_table C (λ n. sends n + cond (has_storage C n s) 1 0)
 senders-more C sends s = more_node C sends (λ n. sends n + cond (has_storage C n s) 1 0) s (λ n. refl)
 
--- a transfer more
+-- one more transfer is chosen
 pub senders-chosen : (C : Cluster) (chosen : List Transfer) (t : Transfer) → with_one_from t.source (sender_table C (transfers_by C chosen)) ≡ sender_table C (transfers_by C (chosen ++ t ∷ []))
 senders-chosen C chosen t = more_node C (transfers_by C chosen) (transfers_by C (chosen ++ t ∷ [])) t.source (sent-more C chosen t)
 
--- what is counted where the node of the storage is known, and where it is not
+-- the count if the node of the storage is known, and if it is not
 pub one_counted : (S : Senders) (s n : ℕ) (counts : Map by_number ℕ) → get S.nodes s ≡ Some n → counts ≡ revise_at S.counts n (λ k. k + 1) → record S { counts = counts } ≡ with_one_from s S
 unfolding with_one_from
 one_counted S s n counts there is =
@@ -174,7 +174,7 @@ pub none_counted : (S : Senders) (s : ℕ) → get S.nodes s ≡ None → S ≡ 
 unfolding with_one_from
 none_counted S s none = sym (ap (λ o. option_map_or (λ m. record S { counts = revise_at S.counts m (λ k. k + 1) }) o S) none)
 
--- The node of a storage that was found is the source of few.
+-- The node of a source that was found sends few transfers.
 
 few_at : (counts : Map by_number ℕ) (o : Option ℕ) (limit : ℕ) → limit ≤ 4 → option_map_or (count_at counts) o 0 < limit → IfSome o (λ n. count_at counts n < max_transfers)
 few_at counts None limit most few = tt

@@ -11,18 +11,18 @@ use Rattle.bm_place.specs.declared.scheduled.Target.{Target}
 use Rattle.bm_place.specs.Foremost.{IsAmong, goes_before, first_at, with_first, with_firsts}
 use Rattle.bm_place.proofs.Alike.{ranks, not_before_itself}
 
--- what is true of the first targets of the nodes of some targets
+-- the best targets of the nodes of some targets
 pub record AreFirst (M : Target → Type 0) (firsts : Map by_number Target) : Type 0 where
-  -- they are of these, each by its node
+  -- each is one of these targets, and of its node
   pub known : (n : ℕ) (c : Target) → get firsts n ≡ Some c → M c × (c.node ≡ Some n)
-  -- for each that has a node there is one
+  -- for each target with a node there is one that is not worse
   pub first : (t : Target) (n : ℕ) → M t → t.node ≡ Some n → (c : Target) × (get firsts n ≡ Some c) × (goes_before t c ≡ false)
 
 abbrev IsOneMore : (Target → Type 0) → Target → Target → Type 0
 IsOneMore M t x = (t ≡ x) ⊎ M x
 
 module _ (M : Target → Type 0) (firsts : Map by_number Target) (t : Target) (h : AreFirst M firsts) where
-  -- it is entered
+  -- it is inserted
   inserted : (n : ℕ) → t.node ≡ Some n → ((c : Target) → get firsts n ≡ Some c → goes_before t c ≡ true) → AreFirst (IsOneMore M t) (insert firsts n t)
   inserted n on before = record { known = λ m c is. known m c is; first = λ x m of at. first_of x m of at }
     where
@@ -45,7 +45,7 @@ module _ (M : Target → Type 0) (firsts : Map by_number Target) (t : Target) (h
           (t, ap (get (insert firsts n t)) key ∙ get_here firsts n t, subst (λ x. goes_before x t ≡ false) e (not_before_itself t))
       first_of x m (inr of) at = let old = h.first x m of at in first_old x m (eq_by_cmp nat_cmp m n) refl old.0 old.1 old.2
 
-  -- one that stands for it is there already
+  -- one that is not worse is in the table already
   left_out : ((n : ℕ) → t.node ≡ Some n → (c : Target) × (get firsts n ≡ Some c) × (goes_before t c ≡ false)) → AreFirst (IsOneMore M t) firsts
   left_out there = record { known = λ m c is. known m c is; first = λ x m of at. first_of x m of at }
     where
@@ -90,7 +90,7 @@ all_entered : (M : Target → Type 0) (ts : List Target) (firsts : Map by_number
 all_entered M [] firsts h = record { known = λ n c is. let k = h.known n c is in (inl k.0, k.1); first = λ x n m on. h.first x n (elim m [ inl m ↦ m | inr none ↦ absurd none ]) on }
 all_entered M (t ∷ ts) firsts h = regrouped M t ts (with_firsts (with_first firsts t) ts) (all_entered (IsOneMore M t) ts (with_first firsts t) (one_entered M firsts t h))
 
--- what entering some targets one by one makes of none
+-- the result of inserting some targets one by one
 pub covered : (ts : List Target) → AreFirst (IsAmong ts) (with_firsts empty ts)
 covered ts =
     let none : AreFirst (λ _. ⊥) (empty {o = by_number}) = record { known = λ n c is. absurd (none-some c (sym (get-empty by_number n) ∙ is)); first = λ x n none on. absurd none } in

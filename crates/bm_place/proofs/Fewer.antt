@@ -54,7 +54,7 @@ module _ (R : ℕ → ℕ → Ordering) (total : IsTotalOrder R) (exact : (x y :
       let above = ranked.chain y w.0 x w.3 (h.2 w.0 w.1 w.2) in
       ap Some (exact x y (no_less_both (R x y) (R y x) (g.2 x (of x h.1) h.0) above (total.antisymm x y)))
 
--- What stands for a target may be taken where the target may, and the target does not go before it.
+-- What stands for a target is eligible if the target is, and the target does not come before it.
 
 fits_of : (a b c d : Bool) → ((a && b && c) && d) ≡ true → b ≡ true
 fits_of true true c d e = refl
@@ -108,7 +108,7 @@ then_equal Less q e = cc
 then_equal Equal q e = e
 then_equal Greater q e = cc
 
--- The foremost targets of the table of a cluster.
+-- The best targets of the table of a cluster.
 
 module _ (C : Cluster) (sent : ℕ → ℕ) (urgency : Level) (holders barred : List ℕ) (len : ℕ) where
   exact : (s t : ℕ) → target_cmp C sent holders s t ≡ Equal → s ≡ t
@@ -160,7 +160,7 @@ module _ (C : Cluster) (sent : ℕ → ℕ) (urgency : Level) (holders barred : 
     storage_again None = refl
     storage_again (Some s) = refl
 
-    -- what the scan of all ends at is the target
+    -- the result of the scan of all is the target
     pub target_found : (w : Standing) (best : Option Target) → w ≡ standing_of C holders → scan (cmp_targets w) (is_free C w urgency barred len) None cs ≡ best
         → option_map (λ (t : Target). t.storage) best ≡ least_target_by C sent urgency holders barred len
     target_found w best stands inv =

@@ -14,12 +14,12 @@ use Rattle.bm_place.specs.declared.compared.Holder.{Holder}
 use Rattle.bm_place.specs.Compared.{holder_at}
 use Rattle.bm_place.specs.Pass.{cmp_in_class}
 
--- what the sort asks of the order
+-- the sort's requirement of the order
 pub ranks_in_class : IsStrictWeakOrder (λ (g h : Holder). is_lt (cmp_in_class g h))
 ranks_in_class =
     ranks_by (then_total (on_total (λ (h : Holder). h.remaining) nat_cmp_total) (on_total (λ (h : Holder). h.storage) (back_total nat_cmp_total))) (λ (h : Holder). h)
 
--- a number of a list is one of the list with another, too
+-- a number of a list is also in the list with one more number
 pub has_more : (xs ys : List ℕ) (x y : ℕ) → has (xs ++ ys) y ≡ true → has (xs ++ x ∷ ys) y ≡ true
 has_more [] ys x y there = or_right (x == y) (has ys y) there
 has_more (z ∷ xs) ys x y there = by (z == y) there (has_more xs ys x y)
@@ -29,11 +29,11 @@ has_more (z ∷ xs) ys x y there = by (z == y) there (has_more xs ys x y)
     by false there rest = rest there
 
 module _ (C : Cluster) where
-  -- whether one goes before the other where they are of one class
+  -- whether one storage comes before another, if both are of one class
   abbrev pub goes_before : ℕ → ℕ → Bool
   goes_before s t = is_lt (cmp_in_class (holder_at C s) (holder_at C t))
 
-  -- none goes before one that stands before it
+  -- no storage comes before an earlier one
   abbrev pub InOrder : List ℕ → Type 0
   InOrder [] = Unit {0}
   InOrder (x ∷ xs) = ((y : ℕ) → has xs y ≡ true → goes_before y x ≡ false) × InOrder xs
@@ -59,7 +59,7 @@ module _ (C : Cluster) where
       by true e there = subst (λ s. goes_before s x ≡ false) (eqb-true z y e) first
       by false e there = ranks_in_class.chain (holder_at C y) (holder_at C z) (holder_at C x) (rest.0 y there) first
 
-  -- what a sort leaves
+  -- the result of a sort
   pub sorted_order : (xs : List ℕ) → IsSorted cmp_in_class (map (holder_at C) xs) → InOrder xs
   sorted_order [] h = tt
   sorted_order (x ∷ []) h = (λ y none. absurd (false≢true none), tt)

@@ -1,4 +1,4 @@
--- The invariant of a table of storages and its best targets, when it is made.
+-- A new table of storages and its best targets meets the invariant.
 use Rattle.std.specs.Prelude.{◌⊎◌, option_map, option_and_then}
 use Rattle.std.specs.List.Sorted.{IsPermutation}
 use Rattle.std.specs.Option.{option_map_or}
@@ -123,7 +123,7 @@ module _ (rows : Map by_number Target) (at_storage : (s : ℕ) (t : Target) → 
             record { alike = alike_on c.0 t k.0 there (k.1 ∙ sym n.1); before = c.2 },
           )
 
--- A table of a cluster to whose storages nothing is sent yet.
+-- A table of a cluster with nothing scheduled yet.
 
 row_made : (C : Cluster) (s : ℕ) (t : Target) → get (target_table C (λ _. 0)) s ≡ Some t → (target_at C (λ _. 0) s ≡ t) × (has (keys C.storages) s ≡ true)
 row_made C s t is = let h = cond_some (has (keys C.storages) s) (target_at C (λ _. 0) s) t (sym (get-table (target_at C (λ _. 0)) (keys C.storages) s) ∙ is) in (h.1, h.0)

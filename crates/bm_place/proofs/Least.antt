@@ -12,7 +12,7 @@ module _ {X : Type 0} (R : X → X → Ordering) where
   abbrev lt : X → X → Bool
   lt x y = is_lt (R x y)
 
-  -- the best so far, or the least of the rest where it comes before
+  -- the best so far, or the least of the rest if that comes before it
   abbrev first_of : Option X → Option X → Option X
   first_of None m = m
   first_of (Some b) None = Some b

@@ -1,4 +1,4 @@
--- Storages that are looked up and put in another order are the same storages.
+-- Storages that are looked up and put in another order stay the same storages.
 use Rattle.std.specs.Prelude.{if◌then◌else◌}
 use Rattle.std.specs.List.Sorted.{IsPermutation}
 use Rattle.std.proofs.Common.{◌≡◌, ℕ, List, [], ◌∷◌, map, refl, ap, ◌∙◌}
@@ -18,7 +18,7 @@ use Rattle.bm_place.proofs.Reordered.{HaveAlike}
 abbrev pub storages : List Holder → List ℕ
 storages holders = map (λ h. h.storage) holders
 
--- one that is as a look-up of its storage gives it
+-- a holder is the look-up of its storage
 abbrev IsLookedUp : Cluster → Holder → Type 0
 IsLookedUp C h = h ≡ holder_at C h.storage
 
@@ -27,19 +27,19 @@ looked_up C [] each = refl
 looked_up C (h ∷ hs) each = λ i. each.0 i ∷ looked_up C hs each.1 i
 
 module _ (C : Cluster) (ss : List ℕ) (holders : List Holder) (moved : IsPermutation (map (holder_at C) ss) holders) where
-  -- they are what look-ups give
+  -- the holders are look-ups
   pub moved_looked_up : holders ≡ map (holder_at C) (storages holders)
   moved_looked_up =
       looked_up C holders
       (each_all (IsLookedUp C) holders (All-permutation (IsLookedUp C) (map (holder_at C) ss) holders moved (All-map (IsLookedUp C) (holder_at C) ss (λ k d lt. refl))))
 
-  -- and each of the storages is among them as often
+  -- each of the storages occurs the same number of times
   pub moved_alike : HaveAlike (storages holders) ss
   moved_alike p =
       count_mapped (λ (h : Holder). h.storage) p holders
       ∙ sum_by-IsPermutation (λ (h : Holder). if p h.storage then 1 else 0) (map (holder_at C) ss) holders moved
       ∙ count_mapped (holder_at C) (λ (h : Holder). p h.storage) ss
 
--- counts of what is looked up count the storages
+-- counts of holders are counts of their storages
 pub counts_storages : (C : Cluster) (ss : List ℕ) (holders : List Holder) (counts : Map by_number ℕ) → holders ≡ map (holder_at C) ss → ((r : ℕ) → count_at counts r ≡ count_among holders r) → CountsRacks C ss counts
 counts_storages C ss holders counts is counted r = counted r ∙ ap (λ hs. count_among hs r) is ∙ count_mapped (holder_at C) (λ (h : Holder). is_rack r h.rack) ss

@@ -1,4 +1,4 @@
--- Where no element of a list passes a test.
+-- Lists of which no element passes a test.
 use Rattle.std.specs.Prelude.{position}
 use Rattle.std.specs.List.{position_or_len}
 use Rattle.std.proofs.Common.{◌≡◌, ◌<◌, ◌≤◌, Bool, true, false, List, [], ◌∷◌, length, None, inl, inr, sym, subst, ◌∙◌, arith}

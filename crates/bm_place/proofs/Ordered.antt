@@ -1,4 +1,4 @@
--- Sorted targets, and one that is inserted.
+-- Sorted targets, and the insertion of one.
 use Rattle.std.specs.Prelude.{◌⊎◌, slice_get}
 use Rattle.std.specs.List.{count_by}
 use Rattle.std.specs.List.Sorted.{IsPermutation, IsSorted}
@@ -11,7 +11,7 @@ use Rattle.bm_place.specs.declared.scheduled.Target.{Target}
 use Rattle.bm_place.specs.Foremost.{IsAmong, are_alike, cmp_alike, goes_before, with_in_order, put_back, IsBehind, IsInOrder}
 use Rattle.bm_place.proofs.Alike.{like, alike, like_back, like_itself, like_then, ranks}
 
--- that no two of these are alike
+-- no two of these are of one node
 abbrev pub AreApart : List Target → Type 0
 AreApart [] = Unit {0}
 AreApart (t ∷ ts) = ((d : Target) → IsAmong ts d → are_alike t d ≡ false) × AreApart ts
@@ -23,7 +23,7 @@ not_alike_back s t e = by (are_alike t s) refl
     by false f = f
     by true f = absurd (true≢false (sym (alike s t (like_back t s (like t s f))) ∙ e))
 
--- what is alike to one is alike to no other than that
+-- a target of the same node as another is of no other node
 not_alike_too : (s t u : Target) → are_alike s t ≡ true → are_alike s u ≡ false → are_alike t u ≡ false
 not_alike_too s t u same e = by (are_alike t u) refl
   where
@@ -31,7 +31,7 @@ not_alike_too s t u same e = by (are_alike t u) refl
     by false f = f
     by true f = absurd (true≢false (sym (alike s u (like_then s t u (like s t same) (like t u f))) ∙ e))
 
--- A target behind those that go before it.
+-- A target after those that come before it.
 
 pub among_entered : (cs : List Target) (t x : Target) → IsAmong (with_in_order cs t) x → (t ≡ x) ⊎ IsAmong cs x
 among_entered [] t x h = h
@@ -71,7 +71,7 @@ entered_in_order (c ∷ cs) t h apart = by (goes_before c t) refl (entered_in_or
     by true e rest = (λ d there. behind e d there, rest)
     by false e rest = (λ d there. in_front e d there, h)
 
--- Targets that were sorted.
+-- Sorted targets.
 
 abbrev one_if : Bool → ℕ
 one_if b = cond b 1 0
@@ -88,7 +88,7 @@ one_alike [] c d none same = absurd none
 one_alike (t ∷ ts) c d (inl e) same = omega (arith, count_first c t ts, ap one_if (ap (are_alike c) e ∙ same))
 one_alike (t ∷ ts) c d (inr there) same = omega (arith, count_first c t ts, one_alike ts c d there same)
 
--- of targets that are apart at most one is alike to another
+-- at most one of targets of different nodes is of a given node
 once_alike : (ts : List Target) (c : Target) → AreApart ts → count_by (are_alike c) ts ≤ 1
 once_alike [] c apart = omega arith
 once_alike (t ∷ ts) c apart = by (are_alike c t) refl (once_alike ts c apart.1)
@@ -99,7 +99,7 @@ once_alike (t ∷ ts) c apart = by (are_alike c t) refl (once_alike ts c apart.1
         let others = none_alike ts c (λ d there. not_alike_too t c d (alike t c (like_back c t (like c t e))) (apart.0 d there)) in
         omega (arith, count_first c t ts, others, ap one_if e)
 
--- none of these goes before one that is further to the front
+-- no target comes before an earlier one
 abbrev AreRanked : List Target → Type 0
 AreRanked cs = (i j : ℕ) (d : Target) → i ≤ j → j < length cs → goes_before (get_or cs j d) (get_or cs i d) ≡ false
 
@@ -128,9 +128,9 @@ pub sorted_in_order : (ts cs : List Target) → AreApart ts → IsPermutation ts
 sorted_in_order ts cs apart same up =
     ranked_in_order cs (sorted_far (λ s t. is_lt (cmp_alike s t)) ranks cs up) (λ c. omega (arith, once_alike ts c apart, sum_by-IsPermutation (λ t. cond (are_alike c t) 1 0) ts cs same))
 
--- A target in the place of another.
+-- A target that replaces another one.
 
--- the others than the one at a place
+-- all targets but the one at an index
 abbrev pub without : ℕ → List Target → List Target
 without i [] = []
 without zero (c ∷ cs) = cs
@@ -167,14 +167,14 @@ among_at i [] c at = cc
 among_at zero (d ∷ cs) c at = inl (same_Some d c at)
 among_at (suc i) (d ∷ cs) c at = inr (among_at i cs c at)
 
--- the others are not alike to the one at the place
+-- the others are not of the node of the one at the index
 pub apart_without : (i : ℕ) (cs : List Target) (c x : Target) → IsInOrder cs → slice_get cs i ≡ Some c → IsAmong (without i cs) x → are_alike c x ≡ false
 apart_without i [] c x h at none = absurd none
 apart_without zero (d ∷ cs) c x h at there = subst (λ d. are_alike d x ≡ false) (same_Some d c at) (h.0 x there).other
 apart_without (suc i) (d ∷ cs) c x h at (inl e) = subst (λ x. are_alike c x ≡ false) e (not_alike_back d c (h.0 c (among_at i cs c at)).other)
 apart_without (suc i) (d ∷ cs) c x h at (inr there) = apart_without i cs c x h.1 at there
 
--- one that is alike to the one at the place is that one
+-- one of the same node as the one at the index is that one
 pub only_alike : (i : ℕ) (cs : List Target) (c x : Target) → IsInOrder cs → slice_get cs i ≡ Some c → IsAmong cs x → are_alike c x ≡ true → c ≡ x
 only_alike i cs c x h at there same =
     elim (here_or_without i cs c x at there) [
@@ -182,7 +182,7 @@ only_alike i cs c x h at there same =
       | inr other ↦ absurd (true≢false (sym same ∙ apart_without i cs c x h at other))
     ]
 
--- one that is alike to the one in whose place it comes, and does not go before it
+-- one of the same node as the one that it replaces, which does not come before that
 pub put_in_order : (i : ℕ) (cs : List Target) (c t : Target) → IsInOrder cs → slice_get cs i ≡ Some c → are_alike c t ≡ true → goes_before t c ≡ false → IsInOrder (put_back t i cs)
 put_in_order i [] c t h at same less = tt
 put_in_order zero (d ∷ cs) c t h at same less = entered_in_order cs t h.1 (λ x there. not_alike_too c t x same (apart_without zero (d ∷ cs) c x h at there))
@@ -213,7 +213,7 @@ put_next i cs t d at before =
     let one : suc i ≡ i + 1 = omega arith in
     subst (λ j. put_back t j (set cs i d) ≡ put_back t i cs) one (put_moved i cs t d (ap (slice_get cs) one ∙ at) before)
 
--- at the end it takes the place
+-- at the end of the list it takes the index
 pub put_last : (i : ℕ) (cs : List Target) (t : Target) → i < length cs → length cs ≤ i + 1 → put_back t i cs ≡ set cs i t
 put_last i [] t within last = refl
 put_last zero (c ∷ []) t within last = refl
@@ -226,18 +226,18 @@ put_above zero (b ∷ []) t d at not_before = refl
 put_above zero (b ∷ c ∷ cs) t d at not_before = ap (λ b. cond b (c ∷ with_in_order cs t) (t ∷ c ∷ cs)) (ap (λ c. goes_before c t) (same_Some c d at) ∙ not_before)
 put_above (suc i) (c ∷ cs) t d at not_before = ap (λ xs. c ∷ xs) (put_above i cs t d at not_before)
 
--- before one that does not go before it too
+-- it stays before one that does not come before it
 pub put_here : (i : ℕ) (cs : List Target) (t d : Target) → slice_get cs (i + 1) ≡ Some d → goes_before d t ≡ false → put_back t i cs ≡ set cs i t
 put_here i cs t d at not_before = let one : suc i ≡ i + 1 = omega arith in put_above i cs t d (ap (slice_get cs) one ∙ at) not_before
 
--- what stands behind a place does not go before what stands there
+-- what is after an index does not come before what is at the index
 pub behind_at : (i : ℕ) (cs : List Target) (c d : Target) → IsInOrder cs → slice_get cs i ≡ Some c → IsAmong (drop (suc i) cs) d → goes_before d c ≡ false
 behind_at i [] c d h at there = cc
 behind_at zero (b ∷ cs) c d h at there = subst (λ b. goes_before d b ≡ false) (same_Some b c at) (h.0 d there).order
 behind_at (suc i) (b ∷ cs) c d h at there = behind_at i cs c d h.1 at there
 
--- What is true while others move up: what is left to do makes of them now what all makes of them as
--- they were.
+-- The invariant while others move up: the remaining steps on the current list give the result of
+-- all steps on the original list.
 pub record IsMovedTo (t : Target) (place : ℕ) (before : List Target) (i : ℕ) (now : List Target) : Type 0 where
   pub within : i < length now
   pub same : put_back t i now ≡ put_back t place before

@@ -1,4 +1,4 @@
--- One pass over sorted storages finds the excess: first those whose rack holds another at that
+-- One pass over sorted storages finds the excess: first each one whose rack holds another at that
 -- moment, then those that are kept.
 use Rattle.std.specs.Prelude.{option_map, slice_get}
 use Rattle.std.specs.Option.{option_map_or}
@@ -33,7 +33,7 @@ has_middle : (xs ys : List ℕ) (x : ℕ) → has (xs ++ x ∷ ys) x ≡ true
 has_middle [] ys x = or_left (x == x) (has ys x) (same_again x)
 has_middle (z ∷ xs) ys x = or_right (z == x) (has (xs ++ x ∷ ys) x) (has_middle xs ys x)
 
--- one that stands before it, is it, or stands behind it
+-- a member of the list is before x, is x, or is after x
 in_parts : (P : ℕ → Type 0) (xs ys : List ℕ) (x y : ℕ) → has (xs ++ x ∷ ys) y ≡ true → (has xs y ≡ true → P y) → P x → (has ys y ≡ true → P y) → P y
 in_parts P xs ys x y there before here behind = by (has xs y) refl (x == y) refl (sym (list_any-append (λ z. z == y) xs (x ∷ ys)) ∙ there)
   where
@@ -50,7 +50,7 @@ all_others x (y ∷ xs) none = by (y == x) none (all_others x xs)
     by true none rest = absurd (true≢false none)
     by false none rest = ap (λ ys. y ∷ ys) (rest none)
 
--- where each stands once, the others are those before it and those behind it
+-- if each occurs once, the others are those before it and those after it
 pub others_are : (xs ys : List ℕ) (x : ℕ) → has_repeats (xs ++ x ∷ ys) ≡ false → filter (λ s. not (s == x)) (xs ++ x ∷ ys) ≡ xs ++ ys
 others_are [] ys x once =
     ap (λ b. cond (not b) (x ∷ filter (λ s. not (s == x)) ys) (filter (λ s. not (s == x)) ys)) (same_again x) ∙ all_others x ys (or_parts (has ys x) (has_repeats ys) once).0
@@ -74,7 +74,7 @@ count_middle p xs ys x =
     omega (arith, all, others, one)
 
 module _ (C : Cluster) where
-  -- none of these has another on its rack, of those that are left
+  -- none of these has another remaining one on its rack
   abbrev pub StandAlone : List ℕ → List ℕ → Type 0
   StandAlone left xs = (y : ℕ) → has xs y ≡ true → has_rack_mate C left y ≡ false
 
@@ -86,8 +86,7 @@ module _ (C : Cluster) where
       less true n m e f = grind (arith, e, f)
       less false n m e f = grind (arith, e, f)
 
-  -- one with another on its rack, or one of those without, goes first where none goes before it in
-  -- its class
+  -- one with another on its rack comes first, if none of its class comes before it
   after_mate : (a b : Bool) (o : Ordering) → b ≡ true → (a ≡ true → is_lt o ≡ false) → is_lt (ordering_then (nat_cmp (cond a 0 1) (cond b 0 1)) o) ≡ false
   after_mate true true o e f = f refl
   after_mate false true o e f = refl
@@ -106,7 +105,7 @@ module _ (C : Cluster) where
   unfolding excess_cmp
   behind_alone left x y alone first = after_alone (has_rack_mate C left y) (has_rack_mate C left x) (cmp_in_class (holder_at C y) (holder_at C x)) alone first
 
-  -- the next one that has another on its rack is in excess first, where those before it have none
+  -- the next one with another on its rack is the first in excess, if those before it have none
   next_first : (xs ys : List ℕ) (x : ℕ) → InOrder C (xs ++ x ∷ ys) → StandAlone (xs ++ x ∷ ys) xs → has_rack_mate C (xs ++ x ∷ ys) x ≡ true
       → least (excess_cmp C (xs ++ x ∷ ys)) (xs ++ x ∷ ys) ≡ Some x
   next_first xs ys x ordered alone mate =
@@ -117,7 +116,7 @@ module _ (C : Cluster) where
       (behind_mate left x x mate (λ _. not_itself C x))
       (λ behind. behind_mate left x y mate (λ _. order_behind C xs ys x ordered y behind)))
 
-  -- where none has another on its rack they are in excess in their order
+  -- if none has another on its rack, they are in excess in their order
   pub all_alone : (k : ℕ) (left : List ℕ) → InOrder C left → has_repeats left ≡ false → StandAlone left left → excess_among C k left ≡ take k left
   all_alone zero left ordered once alone = refl
   all_alone (suc k) [] ordered once alone = refl
@@ -133,7 +132,7 @@ module _ (C : Cluster) where
       ∙ ap (λ ss. x ∷ excess_among C k ss) (others_are [] xs x once)
       ∙ ap (λ ss. x ∷ ss) (all_alone k xs ordered.1 (once_without [] xs x once) (λ y there. fewer_mates [] xs x y (alone y (or_right (x == y) (has xs y) there))))
 
--- What is true as the rest are still to be passed, with so many still to be chosen.
+-- The invariant of the pass: some storages remain to be passed, and `more` remain to be chosen.
 pub record Passes (C : Cluster) (counts : Map by_number ℕ) (more : ℕ) (chosen kept rest whole : List ℕ) : Type 0 where
   pub ordered : InOrder C (kept ++ rest)
   pub once : has_repeats (kept ++ rest) ≡ false
@@ -141,7 +140,7 @@ pub record Passes (C : Cluster) (counts : Map by_number ℕ) (more : ℕ) (chose
   pub counted : CountsRacks C (kept ++ rest) counts
   pub all : chosen ++ excess_among C more (kept ++ rest) ≡ whole
 
--- before the first is passed
+-- the invariant before the first storage
 pub none_passed : (C : Cluster) (ss : List ℕ) (holders : List Holder) (counts : Map by_number ℕ) (more : ℕ) (chosen : List ℕ) → AreReady C ss holders counts
     → Passes C counts more chosen [] ss (chosen ++ excess_among C more ss)
 none_passed C ss holders counts more chosen ready =
@@ -153,11 +152,11 @@ none_passed C ss holders counts more chosen ready =
       all = refl;
     }
 
--- whether a rack counts more than one, of the counts
+-- whether a rack counts more than one
 abbrev pub counts_more : Map by_number ℕ → Option ℕ → Bool
 counts_more counts rack = option_map_or (λ r. nat_lt 1 (count_at counts r)) rack false
 
--- the next one is chosen where its rack counts another, and it is counted no more
+-- the next one is chosen if its rack counts another, and the rack then counts one fewer
 pub one_chosen : (C : Cluster) (counts lowered : Map by_number ℕ) (more less x : ℕ) (chosen kept rest whole : List ℕ) → Passes C counts more chosen kept (x ∷ rest) whole
     → counts_more counts (rack_of C x) ≡ true → ((r : ℕ) → count_at lowered r + cond (is_on C r x) 1 0 ≡ count_at counts r) → more ≡ less + 1
     → Passes C lowered less (chosen ++ x ∷ []) kept rest whole
@@ -178,7 +177,7 @@ one_chosen C counts lowered more less x chosen kept rest whole p mate lower fewe
           ∙ p.all;
     }
 
--- else it is kept
+-- else the next one is kept
 pub one_kept : (C : Cluster) (counts after : Map by_number ℕ) (more x : ℕ) (chosen kept rest whole : List ℕ) → Passes C counts more chosen kept (x ∷ rest) whole
     → counts_more counts (rack_of C x) ≡ false → ((r : ℕ) → count_at after r ≡ count_at counts r) → Passes C after more chosen (kept ++ x ∷ []) rest whole
 one_kept C counts after more x chosen kept rest whole p none as_before =
@@ -194,14 +193,14 @@ one_kept C counts after more x chosen kept rest whole p none as_before =
       all = ap (λ ss. chosen ++ excess_among C more ss) (sym same) ∙ p.all;
     }
 
--- the same of equal lists and numbers
+-- the same for equal lists and numbers
 pub same_passes : (C : Cluster) (counts : Map by_number ℕ) (more n : ℕ) (chosen xs kept ys rest whole : List ℕ) → n ≡ more → xs ≡ chosen → ys ≡ kept
     → Passes C counts more chosen kept rest whole → Passes C counts n xs ys rest whole
 same_passes C counts more n chosen xs kept ys rest whole e f g p =
     subst (λ k. Passes C counts k xs ys rest whole) (sym e)
     (subst (λ ss. Passes C counts more ss ys rest whole) (sym f) (subst (λ ss. Passes C counts more chosen ss rest whole) (sym g) p))
 
--- once all are passed, the first of those that are kept are all that is still to be chosen
+-- at the end of the pass, the first kept ones are those that remain to be chosen
 pub all_passed : (C : Cluster) (counts : Map by_number ℕ) (more : ℕ) (chosen kept rest whole : List ℕ) → Passes C counts more chosen kept rest whole → rest ≡ [] → chosen ++ take more kept ≡ whole
 all_passed C counts more chosen kept rest whole p none =
     let same : kept ++ rest ≡ kept = ap (λ ss. kept ++ ss) none ∙ append-nil kept in
@@ -210,7 +209,7 @@ all_passed C counts more chosen kept rest whole p none =
     (all_alone C more kept (subst (InOrder C) same p.ordered) (subst (λ ss. has_repeats ss ≡ false) same p.once) (subst (λ ss. StandAlone C ss kept) same p.alone)))
     ∙ ap (λ ss. chosen ++ excess_among C more ss) (sym same) ∙ p.all
 
--- the next of those that are looked up
+-- the next of the looked up storages
 pub next_looked_up : (C : Cluster) (ss : List ℕ) (i : ℕ) (h : Holder) → slice_get (map (holder_at C) ss) i ≡ Some h → (h ≡ holder_at C h.storage) × (drop i ss ≡ h.storage ∷ drop (i + 1) ss)
 next_looked_up C ss i h at = by (slice_get ss i) refl (sym (slice_get-map (holder_at C) ss i) ∙ at)
   where

@@ -23,7 +23,7 @@ use Rattle.bm_place.proofs.Seating.{made_among, of_made}
 use Rattle.bm_place.proofs.NonePasses.{none_passes}
 use Rattle.bm_place.proofs.Ordered.{without, among_put, put_among, of_without, here_or_without, among_at, apart_without, only_alike, put_in_order}
 
--- so many bytes more are sent to a target
+-- len bytes more are scheduled to a target
 abbrev pub sent_more : ℕ → Target → Target
 sent_more len t = record t { scheduled = t.scheduled + len }
 
@@ -31,7 +31,7 @@ module _ (rows : Map by_number Target) (target len : ℕ) where
   abbrev pub added : Map by_number Target
   added = revise_at rows target (sent_more len)
 
-  -- what a row was before
+  -- a row before the transfer
   pub row_before : (s : ℕ) (t : Target) → get added s ≡ Some t → (x : Target) × (get rows s ≡ Some x) × (cond (s == target) (sent_more len x) x ≡ t)
   unfolding revise_at
   row_before s t is =
@@ -56,7 +56,7 @@ module _ (rows : Map by_number Target) (target len : ℕ) where
   no_more_room true x = omega arith
   no_more_room false x = omega arith
 
-  -- what stands for a row stands for it with more sent to it
+  -- the best target of a row stays so with more scheduled to the row
   stands_still : (b : Bool) (c x : Target) → StandsFor c x → StandsFor c (cond b (sent_more len x) x)
   stands_still b c x h = record {
     alike = alike c (cond b (sent_more len x) x) (like_then c x (cond b (sent_more len x) x) (like c x h.alike) (like_back (cond b (sent_more len x) x) x (like_before b x)));
@@ -76,18 +76,18 @@ module _ (rows : Map by_number Target) (target len : ℕ) where
             subst (λ (t : Target). t.scheduled ≤ t.remaining) more (omega arith)
         by false same x at other = subst (λ (t : Target). t.scheduled ≤ t.remaining) other (kept.within s x at)
 
-    -- what stands for a row stands for it still
+    -- the best target of a row stays so
     still_first : (t : Target) → get added t.storage ≡ Some t → (c : Target) × IsAmong cs c × StandsFor c t
     still_first t e =
         let h = row_before t.storage t e in
         let old = kept.foremost.first h.0 (ap (get rows) (kept.at_storage t.storage h.0 h.1) ∙ h.1) in
         (old.0, old.1, subst (StandsFor old.0) h.2 (stands_still (t.storage == target) old.0 h.0 old.2))
 
-    -- another than the target is as it was
+    -- a target other than this one is unchanged
     still_known : (c : Target) → IsAmong cs c → (c.storage == target) ≡ false → get added c.storage ≡ Some c
     still_known c among other = row_after c.storage c (kept.foremost.known c among) ∙ ap (λ b. Some (cond b (sent_more len c) c)) other
 
-    -- where the target is not among the foremost, they are the foremost still
+    -- if the target is not among the best ones, they stay the best ones
     pub kept_apart : ((c : Target) → IsAmong cs c → (c.storage == target) ≡ false) → IsKept added cs
     kept_apart apart = record {
       at_storage = λ s t e. at_storage s t e;
@@ -115,7 +115,7 @@ module _ (rows : Map by_number Target) (target len : ℕ) where
       best_like : IsLike best row
       best_like = like best row ((found (λ c. are_alike c row) row best ts is).passes (alike row row (like_itself row)))
 
-      -- what is like the row is stood for by the best
+      -- the best target of the node stands for each row of the node
       stood_for_by_best : (s : ℕ) (t : Target) → get added s ≡ Some t → IsLike t row → StandsFor best t
       stood_for_by_best s t e h = record {
         alike = alike best t (like_then best row t best_like (like_back t row h));
@@ -125,14 +125,14 @@ module _ (rows : Map by_number Target) (target len : ℕ) where
       old_among : IsAmong cs old
       old_among = among_at place cs old at
 
-      -- the one at the place is like the row
+      -- the target at the index is of the node
       old_like : IsLike old row
       old_like =
           let h = row_before target row there in
           let one = same_Some old h.0 (sym (kept.foremost.known old old_among) ∙ ap (get rows) of_target ∙ h.1) in
           subst (λ c. IsLike c row) (sym one) (subst (IsLike h.0) h.2 (like_back (cond (target == target) (sent_more len h.0) h.0) h.0 (like_before (target == target) h.0)))
 
-      -- the best stood behind the one at the place before, and has no more room now
+      -- the best target was after the one at the index before, and has no more free bytes now
       not_before_old : goes_before best old ≡ false
       not_before_old =
           let first = still_first best best_known in
@@ -140,7 +140,7 @@ module _ (rows : Map by_number Target) (target len : ℕ) where
           let one = only_alike place cs old first.0 kept.foremost.ordered at first.1 (alike old first.0 (like_then old best first.0 like_old (like_back first.0 best (like first.0 best first.2.alike)))) in
           subst (λ c. goes_before best c ≡ false) (sym one) first.2.before
 
-      -- the others are of other storages
+      -- the others have other storages
       other_storage : (c : Target) → IsAmong (without place cs) c → (c.storage == target) ≡ false
       other_storage c among = by (c.storage == target) refl
         where
@@ -167,7 +167,7 @@ module _ (rows : Map by_number Target) (target len : ℕ) where
             | inr other ↦ (h.0, put_among place cs best h.0 (slice_get_within cs place old at) (inr other), h.2)
           ]
 
-      -- where the best of the target's node comes in the place of the target
+      -- if the node's best target replaces the target
       pub kept_added : IsKept added (put_back best place cs)
       kept_added = record {
         at_storage = λ s t e. at_storage s t e;
@@ -181,7 +181,7 @@ module _ (rows : Map by_number Target) (target len : ℕ) where
             };
       }
 
-  -- the storages stay where they are seated
+  -- the storages keep their seats
   pub seated_added : (seats : List Seat) → AreSeated rows seats → AreSeated added seats
   seated_added seats seated s t is = let h = row_before s t is in subst (λ t. IsAmong seats (seat_of t)) h.2 (by (s == target) h.0 (seated s h.0 h.1))
     where
@@ -189,7 +189,7 @@ module _ (rows : Map by_number Target) (target len : ℕ) where
       by true x h = h
       by false x h = h
 
--- the same of what is equal to these, where the best is sought among the storages of the node
+-- the same for equal lists, if the best target is found among the storages of the node
 pub kept_renewed : (old new : Map by_number Target) (target len : ℕ) (cs ds : List Target) (seats near : List Seat) (row best : Target) (place : ℕ) → IsKept old cs → IfSome (get old target) (λ t. len + t.scheduled ≤ t.remaining)
     → new ≡ revise_at old target (sent_more len) → get new target ≡ Some row → position (λ c. c.storage == target) cs ≡ Some place → AreSeated new seats → ((e : Seat) → IsAmong seats e → e.node ≡ row.node → IsAmong near e)
     → scan cmp_alike (λ c. are_alike c row) (Some row) (filter_map (λ e. get new e.storage) near) ≡ Some best → ds ≡ put_back best place cs → IsKept new ds
@@ -218,12 +218,12 @@ kept_renewed old new target len cs ds seats near row best place kept fits made t
         let seat = subst (λ m. AreSeated m seats) made seated s t e in
         made_among (λ (e : Seat). get rows e.storage) near (seat_of t) t (nearby (seat_of t) seat (like t row same).node) (ap (get rows) (stands_at s t e) ∙ e)
 
--- where the target is not among the foremost, or is unknown
+-- if the target is not among the best ones, or is unknown
 pub kept_same : (old new : Map by_number Target) (target len : ℕ) (cs : List Target) → IsKept old cs → IfSome (get old target) (λ t. len + t.scheduled ≤ t.remaining) → new ≡ revise_at old target (sent_more len)
     → position (λ c. c.storage == target) cs ≡ None → IsKept new cs
 kept_same old new target len cs kept fits made none = subst (λ m. IsKept m cs) (sym made) (kept_apart old target len cs kept fits (λ c there. none_passes (λ (c : Target). c.storage == target) cs none c there))
 
--- of an unknown storage nothing changes
+-- for an unknown storage nothing changes
 pub kept_unknown : (old new : Map by_number Target) (target len : ℕ) (cs : List Target) → IsKept old cs → new ≡ revise_at old target (sent_more len) → get new target ≡ None → IsKept new cs
 kept_unknown old new target len cs kept made none =
     subst (λ m. IsKept m cs) (no_change old target (sent_more len) (by (get old target) refl) ∙ sym made) kept

@@ -15,7 +15,7 @@ use Rattle.bm_place.specs.Least.{IsLeastOf}
 use Rattle.bm_place.proofs.Best.{least-bears}
 use Rattle.bm_place.proofs.Surplus.{count_cons, all_pass, excess_cmp_total}
 
--- The least is told by what is true of it, where only equal numbers tie.
+-- The least number is determined by its properties, if only equal numbers tie.
 
 module _ (R : ℕ → ℕ → Ordering) (total : IsTotalOrder R) (apart : (x y : ℕ) → is_lt (R x y) ≡ false → is_lt (R y x) ≡ false → x ≡ y) where
   bears : (xs : List ℕ) → IsLeastOf R (λ _. true) xs (least R xs)
@@ -52,7 +52,7 @@ tie_first Less a b e f = cc
 tie_first Equal a b e f = (e, f)
 tie_first Greater a b e f = cc
 
--- where neither of two goes before the other, their first numbers do not part them
+-- if neither of two pairs comes before the other, neither second part does
 first_ties : (p q : ℕ) (a b : Ordering) → is_lt (ordering_then (nat_cmp p q) a) ≡ false → is_lt (ordering_then (nat_cmp q p) b) ≡ false → (is_lt a ≡ false) × (is_lt b ≡ false)
 first_ties p q a b e f = tie_first (nat_cmp q p) a b (subst (λ o. is_lt (ordering_then o a) ≡ false) (nat_cmp_total.antisymm p q) e) f
 
@@ -62,7 +62,7 @@ equal_numbers r s e f = grind (arith, e, f)
 pub alone_apart : (p q r s : ℕ) → is_lt (ordering_then (nat_cmp p q) (nat_cmp s r)) ≡ false → is_lt (ordering_then (nat_cmp q p) (nat_cmp r s)) ≡ false → r ≡ s
 alone_apart p q r s e f = let last = first_ties p q (nat_cmp s r) (nat_cmp r s) e f in equal_numbers r s last.0 last.1
 
--- of two storages one is in excess before the other
+-- of two different storages one is in excess before the other
 pub excess_apart : (C : Cluster) (left : List ℕ) (s t : ℕ) → is_lt (excess_cmp C left s t) ≡ false → is_lt (excess_cmp C left t s) ≡ false → s ≡ t
 unfolding excess_cmp
 excess_apart C left s t e f =
@@ -71,7 +71,7 @@ excess_apart C left s t e f =
     (ordering_then (nat_cmp (remaining C s) (remaining C t)) (nat_cmp t s)) (ordering_then (nat_cmp (remaining C t) (remaining C s)) (nat_cmp s t)) e f in
     alone_apart (remaining C s) (remaining C t) s t rest.0 rest.1
 
--- Lists that have each number equally often.
+-- Lists in which each number occurs equally often.
 
 abbrev pub HaveAlike : List ℕ → List ℕ → Type 0
 HaveAlike xs ys = (p : ℕ → Bool) → count_by p xs ≡ count_by p ys
@@ -126,7 +126,7 @@ counted_once (y ∷ ys) most =
     by false e one all rest = rest
     by true e one all rest = let n = some (count_by (λ z. z == y) ys) e in absurd (omega (arith, one, all, n))
 
--- each number is there once in both or in neither
+-- if each number occurs once in one list, so it does in the other
 pub once_alike : (xs ys : List ℕ) → HaveAlike xs ys → has_repeats ys ≡ false → has_repeats xs ≡ false
 once_alike xs ys alike once = counted_once xs (λ x. subst (λ n. n ≤ 1) (sym (alike (λ y. y == x))) (once_counted ys once x))
 
@@ -137,7 +137,7 @@ alike_cmp C xs ys alike =
     ordering_then (nat_cmp (cond (nat_lt 1 (alike (share_rack C s) i)) 0 1) (cond (nat_lt 1 (alike (share_rack C t) i)) 0 1))
     (ordering_then (nat_cmp (remaining C s) (remaining C t)) (nat_cmp t s))
 
--- the same is in excess of them
+-- both lists have the same excess
 pub excess_alike : (C : Cluster) (k : ℕ) (xs ys : List ℕ) → HaveAlike xs ys → excess_among C k xs ≡ excess_among C k ys
 excess_alike C zero xs ys alike = refl
 excess_alike C (suc k) xs ys alike =

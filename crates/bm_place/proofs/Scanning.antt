@@ -1,4 +1,4 @@
--- A scan that starts from a target ends at one that comes before all that pass.
+-- A scan that starts at a target ends at one that comes before all that pass.
 use Rattle.std.specs.Prelude.{◌⊎◌}
 use Rattle.std.specs.List.{cons_option}
 use Rattle.std.proofs.Common.{◌≡◌, Bool, true, false, cond, ◌&&◌, List, [], ◌∷◌, Option, Some, None, refl, inl, inr, sym, ap, subst, ◌∙◌}
@@ -9,7 +9,7 @@ use Rattle.bm_place.specs.Foremost.{IsAmong, are_alike, better_of, cmp_alike, go
 use Rattle.bm_place.proofs.Alike.{ranks, not_before_itself}
 
 module _ (p : Target → Bool) where
-  -- what was found from b on among xs
+  -- the result of a scan of xs that starts at b
   pub record IsFound (b : Target) (xs : List Target) (r : Target) : Type 0 where
     pub among : (b ≡ r) ⊎ IsAmong xs r
     pub passes : p b ≡ true → p r ≡ true
@@ -52,7 +52,7 @@ module _ (p : Target → Bool) where
       by true false e f is with_x with_b = passed_by b x r xs (λ _. f) (with_b is)
       by false u e f is with_x with_b = passed_by b x r xs (λ t. cc) (with_b is)
 
--- with one more, which may be missing
+-- with one more target, if there is one
 pub scan-more : (t b : Target) (o : Option Target) (xs : List Target) → scan cmp_alike (λ c. are_alike c t) (Some b) (cons_option o xs) ≡ scan cmp_alike (λ c. are_alike c t) (Some (better_of b t o)) xs
 scan-more t b None xs = refl
 scan-more t b (Some c) xs = ap (λ o. scan cmp_alike (λ c. are_alike c t) o xs) (by (are_alike c t && goes_before c b))

@@ -13,14 +13,14 @@ use Rattle.bm_place.specs.Seats.{seat_of, number_of, AreSeated}
 use Rattle.bm_place.proofs.Keeping.{among_mapped, among_map, row_among}
 use Rattle.bm_place.proofs.Among.{place_among, moved_among, among_take, at_drop}
 
--- in whatever order
+-- in any order
 pub seated : (rows : Map by_number Target) (seats : List Seat) → IsPermutation (map (λ e. seat_of e.1) (entries rows)) seats → AreSeated rows seats
 seated rows seats moved s t is =
     let row = among_mapped (λ (e : ℕ × Target). e.1) (entries rows) t (row_among rows s t is) in
     let seat = among_map (λ (e : ℕ × Target). seat_of e.1) (entries rows) row.0 row.1 in
     moved_among (map (λ e. seat_of e.1) (entries rows)) seats (seat_of t) moved (subst (λ t. IsAmong (map (λ e. seat_of e.1) (entries rows)) (seat_of t)) row.2 seat)
 
--- all of a node are among those that a binary search finds
+-- all storages of a node are among those that a binary search finds
 pub near_found : (seats rest : List Seat) (node : Option ℕ) (n first count : ℕ) → n ≡ number_of node → rest ≡ drop first seats
     → IsPartitionPoint (λ (e : Seat). nat_lt (number_of e.node) n ≡ true) (λ (e : Seat). nat_lt (number_of e.node) n ≡ false) seats first
     → IsPartitionPoint (λ (e : Seat). nat_le (number_of e.node) n ≡ true) (λ (e : Seat). nat_le (number_of e.node) n ≡ false) rest count
@@ -56,7 +56,7 @@ near_found seats rest node n first count same is start end e there on = among_ta
         by true h = grind (arith, nat_tests)
         by false h = absurd (no_more _ _ (number rest (p.0 - first) at) (end.1 (p.0 - first) e (grind (arith, nat_tests)) (slice_get_within rest (p.0 - first) e at)))
 
--- What is made of some elements.
+-- The images of some elements.
 
 module _ {X Y : Type 0} (f : X → Option Y) where
   pub made_among : (xs : List X) (x : X) (y : Y) → IsAmong xs x → f x ≡ Some y → IsAmong (filter_map f xs) y

@@ -32,7 +32,7 @@ storage_again : (C : Cluster) (streams : ℕ → ℕ) (o : Option ℕ) → optio
 storage_again C streams None = refl
 storage_again C streams (Some s) = refl
 
--- a scan that has nothing left has found the source
+-- a scan with nothing left has found the source
 pub source_found : (C : Cluster) (streams : ℕ → ℕ) (urgency : Level) (usable : List ℕ) (best : Option Source) (i : ℕ) → length usable ≤ i
     → scan cmp_sources (may_send urgency) best (map (source_at C streams) (drop i usable)) ≡ scan cmp_sources (may_send urgency) None (map (source_at C streams) usable)
     → option_map (λ (s : Source). s.storage) best ≡ least_source_by C streams urgency usable
@@ -46,7 +46,7 @@ source_found C streams urgency usable best i all inv =
     )
     ∙ storage_again C streams (least (source_cmp C streams) (filter test usable))
 
--- a node that drains may be the source of four, whatever the level
+-- a node that drains may send four transfers, whatever the level
 limit_drained : (urgency : Level) → stream_limit urgency true ≡ 4
 limit_drained Highest = refl
 limit_drained VeryUnderReplicated = refl

@@ -1,5 +1,5 @@
--- Excess: the scan of the remaining ones ends at the first, the racks are counted, and one choice
--- follows another.
+-- Excess: the scan of the remaining storages ends at the first in excess, the racks are counted,
+-- and one choice follows another.
 use Rattle.std.specs.Prelude.{option_map}
 use Rattle.std.specs.Option.{option_map_or}
 use Rattle.std.proofs.Common.{append-nil, append_assoc, arith}
@@ -29,7 +29,7 @@ excess_cmp_total C left = then_total (on_total (λ s. cond (has_rack_mate C left
 
 -- Candidates.
 
--- a storage as a candidate, where so many are counted on each rack
+-- a storage as a candidate, with these counts of racks
 abbrev candidate_by : Cluster → (ℕ → ℕ) → ℕ → Candidate
 candidate_by C count s = record { class = cond (option_map_or (λ r. nat_lt 1 (count r)) (rack_of C s) false) 0 1; remaining = remaining C s; storage = s }
 
@@ -54,7 +54,7 @@ storage_again : (C : Cluster) (count : ℕ → ℕ) (o : Option ℕ) → option_
 storage_again C count None = refl
 storage_again C count (Some s) = refl
 
--- a scan of all has found what is in excess first
+-- a scan of all has found the first in excess
 pub found_by : (C : Cluster) (left : List ℕ) (count : ℕ → ℕ) (best : Option Candidate) → ((r : ℕ) → count r ≡ count_by (is_on C r) left)
     → best ≡ scan cmp_candidates (λ _. true) None (map (candidate_by C count) left)
     → option_map (λ (c : Candidate). c.storage) best ≡ least (excess_cmp C left) left
@@ -71,13 +71,13 @@ found_by C left count best counted is =
 pub count_cons : {X : Type 0} (p : X → Bool) (x : X) (xs : List X) → count_by p (x ∷ xs) ≡ cond (p x) 1 0 + count_by p xs
 count_cons p x xs = sum_by-cons (λ y. cond (p y) 1 0) x xs
 
--- Counting the racks of what is looked up.
+-- Counting the racks of looked up storages.
 
 module _ {X : Type 0} (rack : X → Option ℕ) where
   abbrev stands_on : ℕ → X → Bool
   stands_on r x = is_rack r (rack x)
 
-  -- the count of those that are left, of which the first is known
+  -- the count of a list by its first element and the rest
   count_left : (p : X → Bool) (xs : List X) (i : ℕ) (x : X) (b : Bool) → drop i xs ≡ x ∷ drop (i + 1) xs → p x ≡ b → count_by p (drop i xs) ≡ cond b 1 0 + count_by p (drop (i + 1) xs)
   count_left p xs i x b next is = ap (count_by p) next ∙ count_cons p x (drop (i + 1) xs) ∙ ap (λ t. cond t 1 0 + count_by p (drop (i + 1) xs)) is
 
@@ -94,14 +94,14 @@ module _ {X : Type 0} (rack : X → Option ℕ) where
       by true e left new inv = let same = ap (count_at counts) (eqb-true k r e) in omega (arith, inv, left, new, count, same)
       by false e left new inv = omega (arith, inv, left, new)
 
-  -- one without a rack is not
+  -- one without a rack is not counted
   pub skipped_next : (counts : Map by_number ℕ) (xs : List X) (i : ℕ) (x : X) (whole : ℕ → ℕ) → drop i xs ≡ x ∷ drop (i + 1) xs → rack x ≡ None
       → ((r : ℕ) → count_at counts r + count_by (stands_on r) (drop i xs) ≡ whole r) → (r : ℕ) → count_at counts r + count_by (stands_on r) (drop (i + 1) xs) ≡ whole r
   skipped_next counts xs i x whole next none inv r =
       let left = count_left (stands_on r) xs i x false next (ap (is_rack r) none) in
       omega (arith, inv r, left)
 
-  -- a count with one more fits, since it is at most the number of them
+  -- a count with one more is at most the number of the elements
   pub count_fits : (counts : Map by_number ℕ) (xs : List X) (i : ℕ) (x : X) (k : ℕ) → drop i xs ≡ x ∷ drop (i + 1) xs → rack x ≡ Some k
       → ((r : ℕ) → count_at counts r + count_by (stands_on r) (drop i xs) ≡ count_by (stands_on r) xs) → count_at counts k + 1 ≤ length xs
   count_fits counts xs i x k next on inv =
@@ -114,7 +114,7 @@ none_chosen : (C : Cluster) (k : ℕ) (left : List ℕ) → None ≡ least (exce
 none_chosen C zero left e = refl
 none_chosen C (suc k) left e = ap (λ m. option_map_or (λ x. x ∷ excess_among C k (filter (λ s. not (s == x)) left)) m []) (sym e)
 
--- where none is in excess, or none is asked for, all are chosen
+-- if none is in excess, or none is to be chosen, all are chosen
 pub all_chosen : (C : Cluster) (k : ℕ) (left chosen all : List ℕ) → None ≡ least (excess_cmp C left) left → chosen ++ excess_among C k left ≡ all → chosen ≡ all
 all_chosen C k left chosen all e inv = sym (append-nil chosen) ∙ ap (λ xs. chosen ++ xs) (sym (none_chosen C k left e)) ∙ inv
 

@@ -18,7 +18,7 @@ pub equal_back : (q k : ℕ) (b : Bool) → (q == k) ≡ b → (k == q) ≡ b
 equal_back q k b e = grind (arith, nat_tests)
 
 module _ {X : Type 0} (f : ℕ → X) where
-  -- the number that is looked for, or what stands behind it
+  -- the number that is searched, or one after it
   here_or : (q k : ℕ) (rest : Bool) (o : Option X) (b : Bool) → (q == k) ≡ b → cond rest (Some (f q)) (cond b (Some (f k)) o) ≡ cond (b || rest) (Some (f q)) o
   here_or q k true o true e = refl
   here_or q k false o true e = ap (λ x. Some (f x)) (sym (eqb-true q k e))
@@ -40,7 +40,7 @@ module _ {X : Type 0} (f : ℕ → X) where
   unfolding table
   get-table ks q = get-listed ks empty q ∙ ap (cond (has ks q) (Some (f q))) (get-empty by_number q)
 
--- a value that is there already
+-- a value that is in the map already
 pub same_inserted : {X : Type 0} (m : Map by_number X) (k : ℕ) (v : X) → get m k ≡ Some v → m ≡ insert m k v
 same_inserted m k v is = same_map m (insert m k v) (λ q. by q (eq_by_cmp nat_cmp q k) refl ∙ sym (get-insert m k v q))
   where
@@ -48,7 +48,7 @@ same_inserted m k v is = same_map m (insert m k v) (λ q. by q (eq_by_cmp nat_cm
     by q true e = ap (get m) (eqb-true q k (sym (number_tie q k) ∙ e)) ∙ is
     by q false e = refl
 
--- a number is among the keys just where the map has it
+-- a number is among the keys exactly if the map has it
 has-bare : {Y : Type 0} (es : List (ℕ × Y)) (q : ℕ) → has (map (λ e. e.0) es) q ≡ is_some (find nat_cmp q es)
 has-bare [] q = refl
 has-bare (e ∷ es) q =
@@ -70,7 +70,7 @@ revised None g false z = refl
 revised (Some x) g true z = refl
 revised (Some x) g false z = refl
 
--- a count that is changed to one that is 0 where it was
+-- a count after a change that keeps 0
 pub count-revised : (m : Map by_number ℕ) (k : ℕ) (g : ℕ → ℕ) → g 0 ≡ 0 → (q : ℕ) → count_at (revise_at m k g) q ≡ cond (k == q) (g (count_at m q)) (count_at m q)
 unfolding count_at revise_at
 count-revised m k g z q =
@@ -94,7 +94,7 @@ pub count-empty : (q : ℕ) → count_at empty q ≡ 0
 unfolding count_at
 count-empty q = ap (λ o. unwrap_or o 0) (get-empty by_number q)
 
--- Lists as loops go over them.
+-- Lists in loops.
 
 head : {A : Type 0} (x y : A) → Some x ≡ Some y → x ≡ y
 head x y e = cc
@@ -104,7 +104,7 @@ next [] i x h = cc
 next (y ∷ xs) zero x h = ap (λ z. z ∷ xs) (head y x h)
 next (y ∷ xs) (suc i) x h = next xs i x h
 
--- what is left before the element at a place is it and what is left behind it
+-- the rest of a list at an index is the element there and the rest after it
 pub drop-next : {A : Type 0} (xs : List A) (i : ℕ) (x : A) → slice_get xs i ≡ Some x → drop i xs ≡ x ∷ drop (i + 1) xs
 drop-next xs i x h = let one : suc i ≡ i + 1 = omega arith in next xs i x h ∙ ap (λ n. x ∷ drop n xs) one
 
@@ -114,7 +114,7 @@ none_past [] (suc i) h = refl
 none_past (y ∷ xs) zero h = cc
 none_past (y ∷ xs) (suc i) h = none_past xs i h
 
--- A table that is made row by row: `left` are the numbers that are left.
+-- A table that is made row by row: the numbers from index i on are left.
 
 module _ {X : Type 0} (f : ℕ → X) (ks : List ℕ) (i : ℕ) (whole : Map by_number X) where
   -- one row more
@@ -123,7 +123,7 @@ module _ {X : Type 0} (f : ℕ → X) (ks : List ℕ) (i : ℕ) (whole : Map by_
   row_made m more s k v at same value is inv =
       ap (λ n. insert_all n (listed f (drop (i + 1) ks))) (is ∙ (λ j. insert m (same j) (value j))) ∙ sym (ap (λ xs. insert_all m (listed f xs)) (drop-next ks i s at)) ∙ inv
 
-  -- the same where the rows are of numbers that are made of those
+  -- the same if the rows are of numbers that are computed from these
   pub row_made_of : (g : ℕ → ℕ) (m more : Map by_number X) (s k : ℕ) (v : X) → slice_get ks i ≡ Some s → k ≡ g s → v ≡ f (g s) → more ≡ insert m k v
       → insert_all m (listed f (map g (drop i ks))) ≡ whole → insert_all more (listed f (map g (drop (i + 1) ks))) ≡ whole
   row_made_of g m more s k v at same value is inv =
@@ -135,14 +135,14 @@ module _ {X : Type 0} (f : ℕ → X) (ks : List ℕ) (i : ℕ) (whole : Map by_
   all_made_of : (g : ℕ → ℕ) (m : Map by_number X) → drop i ks ≡ [] → insert_all m (listed f (map g (drop i ks))) ≡ whole → m ≡ whole
   all_made_of g m none inv = sym (ap (λ xs. insert_all m (listed f (map g xs))) none) ∙ inv
 
-  -- no row is left where no number stands at the place
+  -- no row is left if there is no number at the index
   pub made_past : (m : Map by_number X) → slice_get ks i ≡ None → insert_all m (listed f (drop i ks)) ≡ whole → m ≡ whole
   made_past m none inv = all_made m (none_past ks i none) inv
 
   pub made_past_of : (g : ℕ → ℕ) (m : Map by_number X) → slice_get ks i ≡ None → insert_all m (listed f (map g (drop i ks))) ≡ whole → m ≡ whole
   made_past_of g m none inv = all_made_of g m (none_past ks i none) inv
 
--- no storage stands past their number
+-- there is no storage past their number
 pub none_behind : {Y : Type 0} (m : Map by_number Y) (i : ℕ) → len m ≤ i → slice_get (keys m) i ≡ None
 unfolding keys len
 none_behind m i h = slice_get_past (keys m) i (omega (arith, h, length-map (entries m) (λ e. e.0)))

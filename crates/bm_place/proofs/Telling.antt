@@ -30,7 +30,7 @@ not_true : (b : Bool) → not b ≡ true → b ≡ false
 not_true true e = cc
 not_true false e = refl
 
--- what a target is
+-- the properties of a target
 pub parts : (C : Cluster) (sent : ℕ → ℕ) (urgency : Level) (holders barred : List ℕ) (len s : ℕ) → is_target C sent urgency holders barred len s ≡ true → (len + sent s ≤ remaining C s) × (is_draining C s ≡ false) × (is_barred C barred s ≡ false)
 unfolding is_target
 parts C sent urgency holders barred len s e =

@@ -22,12 +22,12 @@ use Rattle.bm_place.proofs.Alike.{more_room}
 use Rattle.bm_place.proofs.Ordered.{behind_at}
 use Rattle.bm_place.proofs.Tables.{drop-next}
 
--- what passes no test changes nothing
+-- a scan of elements that do not pass changes nothing
 scan_none : {X : Type 0} (R : X → X → Ordering) (p : X → Bool) (best : Option X) (xs : List X) → ((x : X) → IsAmong xs x → p x ≡ false) → scan R p best xs ≡ best
 scan_none R p best [] none = refl
 scan_none R p best (x ∷ xs) none = ap (λ b. scan R p (cond (b && is_better R best x) (Some x) best) xs) (none x (inl refl)) ∙ scan_none R p best xs (λ y there. none y (inr there))
 
--- nor does what does not come before the best
+-- a scan of elements that do not come before the best changes nothing
 scan_best : {X : Type 0} (R : X → X → Ordering) (p : X → Bool) (b : X) (xs : List X) → ((x : X) → IsAmong xs x → is_lt (R x b) ≡ false) → scan R p (Some b) xs ≡ Some b
 scan_best R p b [] least = refl
 scan_best R p b (x ∷ xs) least =
@@ -37,7 +37,7 @@ scan_best R p b (x ∷ xs) least =
     never true = refl
     never false = refl
 
--- of a target of the better class only one goes before that goes before it on the same rack
+-- if x does not come before t by free bytes, and t is of the better class, x does not come before t
 not_before_first : (w : Standing) (x t : Target) → class_in w t.rack ≡ 0 → goes_before x t ≡ false → is_lt (cmp_targets w x t) ≡ false
 not_before_first w x t first less = ap (λ n. is_lt (ordering_then (nat_cmp (class_in w x.rack) n) (cmp_alike x t))) first ∙ by (nat_cmp (class_in w x.rack) 0) (cmp_alike x t) (grind (arith, nat_tests)) less
   where
@@ -53,7 +53,7 @@ module _ (C : Cluster) (w : Standing) (urgency : Level) (barred : List ℕ) (len
   abbrev order : Target → Target → Ordering
   order = cmp_targets w
 
-  -- what has too little room may not be taken
+  -- a target with too few free bytes is not eligible
   too_full : (t : Target) → room_on t < len → may t ≡ false
   too_full t less = by t.is_draining (nat_le (len + t.scheduled) t.remaining) refl
     where
@@ -64,7 +64,7 @@ module _ (C : Cluster) (w : Standing) (urgency : Level) (barred : List ℕ) (len
       by false true e = let fits = leb-true (len + t.scheduled) t.remaining e in absurd (omega arith)
 
   module _ (cs : List Target) (ordered : IsInOrder cs) (i : ℕ) (t : Target) (at : slice_get cs i ≡ Some t) (best : Option Target) (inv : scan order may best (drop i cs) ≡ scan order may None cs) where
-    -- none from t on may be taken where t has too little room
+    -- no target from t on is eligible if t has too few free bytes
     pub ends_at_room : room_on t < len → scan order may None cs ≡ best
     ends_at_room less = sym inv ∙ ap (scan order may best) (drop-next cs i t at) ∙ scan_none order may best (t ∷ drop (i + 1) cs) (λ x there. none x there)
       where
@@ -75,7 +75,7 @@ module _ (C : Cluster) (w : Standing) (urgency : Level) (barred : List ℕ) (len
             let more = more_room t x (behind_at i cs t x ordered at (subst (λ j. IsAmong (drop j cs) x) one there)) in
             too_full x (omega arith)
 
-    -- none behind t goes before it where it is of the better class
+    -- if t is eligible and of the better class, no target after it comes before it
     pub ends_at_first : (may t && is_better order best t) ≡ true → class_in w t.rack ≡ 0 → scan order may None cs ≡ Some t
     ends_at_first taken first =
         sym inv
@@ -85,12 +85,12 @@ module _ (C : Cluster) (w : Standing) (urgency : Level) (barred : List ℕ) (len
         let one : i + 1 ≡ suc i = omega arith in
         not_before_first w x t first (behind_at i cs t x ordered at (subst (λ j. IsAmong (drop j cs) x) one there)))
 
-  -- none is left behind the last
+  -- none is left after the last
   pub ends_behind : (cs : List Target) (i : ℕ) (best : Option Target) → length cs ≤ i → scan order may best (drop i cs) ≡ scan order may None cs → scan order may None cs ≡ best
   ends_behind cs i best all inv = sym inv ∙ at_drop_all (λ xs. scan order may best xs) cs i all
 
--- What is true on the way along the foremost targets: what is left makes of the best so far what
--- all make of none, and does not go before it.
+-- The invariant of the walk: a scan of the rest from the best so far gives the result of a scan of
+-- all. None of the rest comes before the best so far by free bytes.
 pub record IsWalked (R : Target → Target → Ordering) (p : Target → Bool) (cs : List Target) (i : ℕ) (best : Option Target) : Type 0 where
   pub scanned : scan R p best (drop i cs) ≡ scan R p None cs
   pub behind : (d : Target) → IsAmong (drop i cs) d → IfSome best (λ b. goes_before d b ≡ false)

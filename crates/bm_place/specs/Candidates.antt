@@ -17,6 +17,6 @@ is_on C r s = is_rack r (rack_of C s)
 abbrev pub CountsRacks : Cluster → List ℕ → Map by_number ℕ → Type 0
 CountsRacks C ss counts = (r : ℕ) → count_at counts r ≡ count_by (is_on C r) ss
 
--- which is in excess before which: `excess_cmp` of candidates
+-- the order in which candidates are in excess: `excess_cmp` of candidates
 abbrev pub cmp_candidates : Candidate → Candidate → Ordering
 cmp_candidates s t = ordering_then (nat_cmp s.class t.class) (ordering_then (nat_cmp s.remaining t.remaining) (nat_cmp t.storage s.storage))

@@ -1,4 +1,4 @@
--- The different numbers of a list, as far as two.
+-- The different numbers of a list, up to two.
 use Rattle.std.specs.Prelude.{ℕ, Bool, true, false}
 use Rattle.std.specs.declared.cmp.Ordering.{Ordering}
 use Rattle.std.specs.declared.cmp.Ordering.TheVariants.{Less, Equal, Greater}
@@ -25,12 +25,12 @@ with_number (One p) n = two_of (nat_cmp n p) n p
 with_number (Two p q) n = three_of (nat_cmp n p) (nat_cmp n q) p q
 with_number More n = More
 
--- whether it is just one
+-- whether it is exactly one
 abbrev pub is_one : Few → Bool
 is_one (One p) = true
 is_one _ = false
 
--- whether they are just two
+-- whether they are exactly two
 abbrev pub are_two : Few → Bool
 are_two (Two p q) = true
 are_two _ = false

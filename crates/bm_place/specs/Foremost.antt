@@ -32,16 +32,16 @@ abbrev pub better_of : Target → Target → Option Target → Target
 better_of best t None = best
 better_of best t (Some c) = if are_alike c t && goes_before c best then c else best
 
--- the first targets of the nodes, by node, with a target of node n more, where c is the one so far
+-- the best targets of the nodes, by node, with one more target of node n, where c is the one so far
 abbrev pub first_at : Map by_number Target → ℕ → Target → Option Target → Map by_number Target
 first_at firsts n t None = insert firsts n t
 first_at firsts n t (Some c) = if goes_before t c then insert firsts n t else firsts
 
--- the same with a target more; nothing changes for one that has no node
+-- the same with one more target; nothing changes for one without a node
 abbrev pub with_first : Map by_number Target → Target → Map by_number Target
 with_first firsts t = option_map_or (λ n. first_at firsts n t (get firsts n)) t.node firsts
 
--- the same with each of these
+-- the same with each of these targets
 abbrev pub with_firsts : Map by_number Target → List Target → Map by_number Target
 with_firsts firsts [] = firsts
 with_firsts firsts (t ∷ ts) = with_firsts (with_first firsts t) ts
@@ -51,11 +51,11 @@ abbrev pub with_in_order : List Target → Target → List Target
 with_in_order [] t = t ∷ []
 with_in_order (c ∷ cs) t = if goes_before c t then c ∷ with_in_order cs t else t ∷ c ∷ cs
 
--- the first of these targets of each node
+-- the best of these targets for each node
 abbrev pub firsts_of : List Target → List Target
 firsts_of ts = values (entries (with_firsts empty ts))
 
--- that these are the first of those targets of each node, in order
+-- these are the best of those targets for each node, in order
 pub record AreFirstsInOrder (ts cs : List Target) : Type 0 where
   pub same : IsPermutation (firsts_of ts) cs
   pub in_order : IsSorted cmp_alike cs
@@ -66,17 +66,17 @@ put_back t i [] = []
 put_back t zero (c ∷ cs) = with_in_order cs t
 put_back t (suc i) (c ∷ cs) = c ∷ put_back t i cs
 
--- that a target may replace another: they are of one node, and the other is not better
+-- a target may replace another: they are of one node, and the other is not better
 pub record StandsFor (c t : Target) : Type 0 where
   pub alike : are_alike c t ≡ true
   pub before : goes_before t c ≡ false
 
--- that d may come after c: it is not better, and of another node
+-- d may come after c: it is not better, and of another node
 pub record IsBehind (d c : Target) : Type 0 where
   pub order : goes_before d c ≡ false
   pub other : are_alike c d ≡ false
 
--- that these targets are sorted, no two of them of one node
+-- these targets are sorted, no two of them of one node
 abbrev pub IsInOrder : List Target → Type 0
 IsInOrder [] = Unit {0}
 IsInOrder (c ∷ cs) = ((d : Target) → IsAmong cs d → IsBehind d c) × IsInOrder cs
@@ -87,14 +87,15 @@ pub record AreForemost (rows : Map by_number Target) (cs : List Target) : Type 0
   pub known : (c : Target) → IsAmong cs c → get rows c.storage ≡ Some c
   -- for each row of the table there is one
   pub first : (t : Target) → get rows t.storage ≡ Some t → (c : Target) × IsAmong cs c × StandsFor c t
-  -- no more is sent to a storage than remains on it
+  -- no more is scheduled to a storage than remains on it
   pub within : (c : Target) → IsAmong cs c → c.scheduled ≤ c.remaining
   -- they are sorted
   pub ordered : IsInOrder cs
 
 -- The invariant of a table of storages and its best targets.
 pub record IsKept (rows : Map by_number Target) (cs : List Target) : Type 0 where
-  -- each row is at the number of its storage, and no more is sent to a storage than remains on it
+  -- each row has the number of its storage, and no more is scheduled to a storage than remains on
+  -- it
   pub at_storage : (s : ℕ) (t : Target) → get rows s ≡ Some t → t.storage ≡ s
   pub within : (s : ℕ) (t : Target) → get rows s ≡ Some t → t.scheduled ≤ t.remaining
   pub foremost : AreForemost rows cs

@@ -1,4 +1,4 @@
--- What the choices of a round find.
+-- The results of the choices of a round.
 use Rattle.std.specs.Prelude.{◌≡◌, ◌<◌, ◌≤◌, ◌+◌, ℕ, true, false, nat_lt, List, Option, Some}
 use Rattle.std.specs.Option.{IfSome}
 use Rattle.bm_base.specs.declared.level.Level.{Level}
@@ -36,15 +36,15 @@ pub record IsLeastTarget (C : Cluster) (sent : ℕ → ℕ) (urgency : Level) (h
   pub not_draining : IfSome found (λ s. is_draining C s ≡ false)
   pub other_rack : LeavesRack C sent urgency holders barred len found
 
--- the table of sources where these transfers are chosen
+-- the table of sources for these chosen transfers
 abbrev pub senders_with : Cluster → List Transfer → Senders
 senders_with C chosen = sender_table C (transfers_by C chosen)
 
--- the table of targets where these transfers are chosen
+-- the table of targets for these chosen transfers
 abbrev pub targets_with : Cluster → List Transfer → Map by_number Target
 targets_with C chosen = target_table C (scheduled_to chosen)
 
--- one transfer more from a storage can be counted, if it is there
+-- one more transfer from a storage can be counted, if it is known
 abbrev pub IsCountable : Senders → ℕ → Type 0
 IsCountable S s = IfSome (get S.nodes s) (λ n. count_at S.counts n < max_transfers)
 

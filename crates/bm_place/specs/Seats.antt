@@ -15,7 +15,7 @@ seat_of t = record { node = t.node; storage = t.storage }
 abbrev pub seats_of : List (ℕ × Target) → List Seat
 seats_of rows = map (λ e. seat_of e.1) rows
 
--- a number for each node, and a greater one where there is none
+-- a number for each node, and a greater one for none
 abbrev pub number_of : Option ℕ → ℕ
 number_of node = option_map_or (λ n. n) node 18446744073709551615
 

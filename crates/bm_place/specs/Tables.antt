@@ -2,7 +2,7 @@
 use Rattle.std.specs.Prelude.{ℕ, List, map, unwrap_or}
 use Rattle.bm_base.specs.Map.{Map, by_number, empty, get, insert_all}
 
--- the numbers with what f makes of each
+-- the numbers, each with its image under f
 abbrev pub listed : {X : Type 0} → (ℕ → X) → List ℕ → List (ℕ × X)
 listed f ks = map (λ k. (k, f k)) ks
 
@@ -10,7 +10,7 @@ listed f ks = map (λ k. (k, f k)) ks
 unfoldable pub table : {X : Type 0} → (ℕ → X) → List ℕ → Map by_number X
 table f ks = insert_all empty (listed f ks)
 
--- 0 for each number: nothing was sent yet
+-- 0 for each number: nothing is scheduled yet
 abbrev pub nothing_yet : ℕ → ℕ
 nothing_yet = λ _. 0
 

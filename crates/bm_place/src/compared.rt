@@ -24,7 +24,7 @@ pub struct Holder {
 /// first.
 #[derive(Clone, Copy)]
 pub struct Candidate {
-    /// 0 where the rack holds another candidate, else 1.
+    /// 0 if the rack holds another candidate, else 1.
     pub class: u32,
     pub remaining: u64,
     pub storage: StorageId,

@@ -17,9 +17,9 @@ const FEW: usize = 8;
 /// Scratch buffers for the choice of excess, used again from block to block.
 #[derive(Drop)]
 pub struct ExcessRoom {
-    /// Where few are live: those that are left, looked up. Where more are: all, in order.
+    /// For few live replicas: the remaining ones, looked up. For many: all, in order.
     holders: Vec<Holder>,
-    /// Where more are: those that had their rack for themselves when the pass reached them.
+    /// For many live replicas: those that had their rack for themselves when the pass reached them.
     kept: Vec<StorageId>,
     /// For many replicas: the number of remaining ones on each rack.
     racks: NumberMap<usize>,
@@ -36,14 +36,14 @@ impl ExcessRoom {
     }
 }
 
-/// The storages of those of a block's live replicas that are in excess where `repl` are wanted, in
-/// the order of choice. They are chosen one after another: first one whose rack holds another
-/// remaining one, then one on whose storage fewer bytes remain, then the greater storage. An
-/// unknown storage has no rack and no remaining bytes. `live` names each storage once.
+/// The storages of a block's live replicas that are in excess if `repl` are wanted, in the order of
+/// choice. They are chosen one after another: first one whose rack holds another remaining one,
+/// then one on whose storage fewer bytes remain, then the greater storage. An unknown storage has
+/// no rack and no remaining bytes. `live` names each storage once.
 ///
 /// Each replica is looked up once. Up to eight are compared with one another. More of them, n, are
 /// sorted, their racks are counted, and one pass chooses, in O(n log n) steps. If none is in excess
-/// it takes no memory; else `Memory` where a list cannot grow.
+/// it takes no memory; else `Memory` if a list cannot grow.
 pub fn excess_of(
     alloc: Global,
     live: &[StorageId],
@@ -65,7 +65,7 @@ pub fn excess_of(
 /// scratch space and may have been used for any block before.
 ///
 /// It takes memory only if some are in excess, and then only if `into` or a list of `room` grows
-/// past its capacity. `Memory` where such a growth is refused; then the contents of `into` are
+/// past its capacity. `Memory` if such a growth is refused; then the contents of `into` are
 /// unspecified.
 pub fn fill_excess(
     into: &mut Vec<StorageId>,

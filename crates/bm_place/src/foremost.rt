@@ -1,4 +1,4 @@
-// The targets that go before the others of their nodes.
+// The best targets of the nodes.
 ghost use Rattle.std.specs.Prelude.{◌≡◌, ◌<◌, ◌==◌, filter_map, length, Some, position, IfOk, OnOk};
 ghost use Rattle.std.specs.List.Sorted.{IsPermutation, IsSorted};
 ghost use Rattle.bm_base.specs.Map as table;

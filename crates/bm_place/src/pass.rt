@@ -1,4 +1,4 @@
-// Excess among many live replicas: they are sorted, and then passed over once.
+// Excess among many live replicas: they are sorted, and then one pass chooses.
 ghost use Rattle.std.specs.Prelude.{◌≡◌, ◌+◌, ◌-◌, ◌++◌, ◌&&◌, if◌then◌else◌, false, nat_lt, take, ℕ, List, OnOk, IfOk};
 ghost use Rattle.std.specs.Option.{option_map_or};
 ghost use Rattle.std.specs.List.Sorted.{IsPermutation, IsSorted};

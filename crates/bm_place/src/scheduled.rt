@@ -68,7 +68,7 @@ impl Model for Scheduled {
 }
 
 impl Scheduled {
-    /// Nothing is scheduled yet to any storage of the cluster. `Memory` where a table cannot grow.
+    /// Nothing is scheduled yet to any storage of the cluster. `Memory` if a table cannot grow.
     /// Iterates over the storages of the cluster once, with a few look-ups each, and sorts them by
     /// their nodes, and one of each node by free bytes.
     pub fn new(alloc: Global, topology: &Topology) -> Result<Scheduled, Refusal>
@@ -88,7 +88,7 @@ impl Scheduled {
         })
     }
 
-    /// Counts `len` bytes more as scheduled to `target`, where they fit, as to the target that
+    /// Counts `len` bytes more as scheduled to `target`, on which they fit, as on the target that
     /// [`least_target`](crate::least_target) just found for this length; ignores an unknown
     /// storage. A few look-ups, one for each storage of the node, and a scan of the best targets
     /// before it and of those that it moves past. Takes no memory.
@@ -114,7 +114,7 @@ impl Scheduled {
     }
 }
 
-/// The storages of a cluster, by ascending number, with nothing scheduled yet.
+/// The storages of a cluster, ascending, with nothing scheduled yet.
 fn rows_of(alloc: Global, topology: &Topology) -> Result<NumberMap<Target>, AllocError>
     ensures { IfOk result
         (λ rows. rows.map ≡ targets.target_table topology.now.cluster nothing_yet) }
@@ -160,7 +160,7 @@ fn renew(foremost: &mut Vec<Target>, rows: &NumberMap<Target>, seats: &[Seat], t
     }
 }
 
-/// A storage to which nothing is sent yet.
+/// A storage with nothing scheduled to it yet.
 fn target_at(topology: &Topology, storage: StorageId) -> Target
     ensures { result ≡ targets.target_at topology.now.cluster (λ _. 0) storage }
 {

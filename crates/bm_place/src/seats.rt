@@ -1,4 +1,4 @@
-// The storages of each node side by side.
+// The storages sorted by node, so that those of one node are adjacent.
 ghost use Rattle.std.specs.Prelude.{◌≡◌, IfOk};
 ghost use Rattle.std.specs.List.Sorted.{IsPermutation};
 ghost use Rattle.bm_place.specs.Foremost.{IsAmong};
@@ -52,7 +52,7 @@ pub fn seats_near(seats: &[Seat], node: Option<NodeId>) -> &[Seat]
     &rest[..count]
 }
 
-/// A number for each node, and a greater one where there is none.
+/// A number for each node, and a greater one for none.
 fn number_of(node: Option<NodeId>) -> u64
     ensures { result ≡ seating.number_of node }
 {

@@ -114,7 +114,7 @@ fn may_send(source: &Source, level: Level) -> bool
     source.streams < stream_limit(level, source.is_drained)
 }
 
-/// Of how many transfers a node, which drains or not, may be the source at this level.
+/// The number of transfers that a node, which drains or not, may send at this level.
 fn stream_limit(level: Level, is_drained: bool) -> u32
     ensures { result ≡ transfers.stream_limit level is_drained }
 {

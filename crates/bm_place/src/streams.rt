@@ -1,4 +1,4 @@
-// Of how many transfers each node is the source in a round.
+// The number of transfers that each node sends in a round.
 ghost use Rattle.std.specs.Prelude.{◌≡◌, ◌<◌, ◌+◌, if◌then◌else◌, ℕ, List, [], ◌∷◌, ◌++◌, Some, IfOk, IfErr, OnOk};
 ghost use Rattle.std.specs.Option.{IfSome};
 ghost use Rattle.bm_base.specs.declared.refusal.Refusal.TheVariants.{Memory};
@@ -37,7 +37,7 @@ impl Model for Streams {
 }
 
 impl Streams {
-    /// No node sends yet. `Memory` where a table cannot grow. Looks up each storage of the cluster
+    /// No node sends yet. `Memory` if a table cannot grow. Looks up each storage of the cluster
     /// once.
     pub fn new(alloc: Global, topology: &Topology) -> Result<Streams, Refusal>
         ensures none_yet { IfOk result
@@ -62,7 +62,7 @@ impl Streams {
     }
 
     /// Counts one transfer more for the node of `source`; ignores an unknown storage. The node
-    /// sends fewer than 256,000 so far, as that of the source that
+    /// sends fewer than 256,000 so far, like that of the source that
     /// [`least_source`](crate::least_source) just found. Two look-ups. Takes no memory.
     pub fn add(&mut self, source: StorageId)
         requires countable { IsCountable self.old source }
@@ -79,7 +79,7 @@ impl Streams {
         }
     }
 
-    /// Of how many transfers a node is the source.
+    /// The number of transfers that a node sends.
     #[tactic(auto, unfolding(crate::specs::Tables::count_at))]
     pub(crate) fn count_of(&self, node: NodeId) -> u32
         ensures { result ≡ tables.count_at self.now.counts node }

@@ -24,9 +24,9 @@ use bm_topo::Topology;
 /// go first. Then more free bytes, then the lesser storage. `None` only if none is eligible.
 ///
 /// `scheduled` was made from the same cluster; else the answer is unspecified. It iterates over
-/// `held` once, with a look-up each, and then over the best targets of the nodes, from the one with
-/// most free bytes on, to the first eligible one of the better class, or until the length fits no
-/// longer. For each of them, free bytes, class and whether the node drains take constant time.
+/// `held` once, with a look-up each, and then over the best targets of the nodes, by descending
+/// free bytes. It ends at the first eligible one of the better class, or as soon as the length fits
+/// no longer. For each of them, free bytes, class and whether the node drains take constant time.
 /// Whether the node is excluded is tested last, only if the storage would be taken, with a look-up
 /// for each of `barred`. Takes no memory.
 pub fn least_target(
@@ -49,7 +49,7 @@ pub fn least_target(
 }
 
 /// The same, in the order of the best targets: it ends at the first eligible one of the better
-/// class, and where no further one has enough free bytes.
+/// class, or at one with too few free bytes.
 fn least_fitting(
     held: &[StorageId],
     barred: &[StorageId],

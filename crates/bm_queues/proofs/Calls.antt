@@ -1,4 +1,4 @@
--- What the calls on one slot leave, as their code writes it.
+-- The results of the calls on one slot, in the form of their code.
 use Rattle.std.proofs.Common.{◌≡◌, ℕ, Bool, true, false, ◌<◌, ◌≤◌, ◌+◌, ◌-◌, ◌++◌, take, replicate, List, ◌∷◌, length, set, get_or, zero, suc, refl, arith, [], Option, Some, None, ◌∙◌}
 use Rattle.bm_base.specs.SlotLinks.{end_of_links}
 use Rattle.std.specs.Prelude.{if◌then◌else◌, ◌==◌}
@@ -11,7 +11,7 @@ get_or-default [] i d e low = absurd (omega arith)
 get_or-default (x ∷ xs) zero d e low = refl
 get_or-default (x ∷ xs) (suc i) d e low = get_or-default xs i d e (omega arith)
 
--- what an index in bounds reads
+-- the value that a read at an index in bounds gives
 pub read : (links : List (Option ℕ)) (i : ℕ) (v : Option ℕ) → i < length links → v ≡ get_or links i v → v ≡ link_at links i
 read links i v low is = is ∙ get_or-default links i v None low
 

@@ -43,7 +43,7 @@ module _ {Z : Type 0} (cells : List Cell) (arrays : List (Vec ℕ Z)) (are : Are
     pub index-here : get_or (indices_in cells) slot 0 ≡ cell.index
     index-here = get_or-map (λ (c : Cell). c.index) cells slot cell 0 slot-below ∙ ap (λ (c : Cell). c.index) (sym read)
 
-    -- a slot that leaves
+    -- the slot leaves its list
     module _ (l : Level) (is : cell.level ≡ Some l) (n : ℕ) (number : n ≡ level_number l) (v : Vec ℕ Z) (at : v ≡ get_or arrays n v) where
       abbrev xs : List ℕ
       xs = array_of (arrays_in arrays) l
@@ -113,7 +113,7 @@ module _ {Z : Type 0} (cells : List Cell) (arrays : List (Vec ℕ Z)) (are : Are
                 rw same (room-set arrays n v (number-below arrays are.five l n number) at w (length levels) (omega (arith, capacity)) room)),
           )
 
-  -- a slot that enters
+  -- the slot enters a list
   module _ (none : level_in (levels_in cells) slot ≡ None) (l : Level) (n : ℕ) (number : n ≡ level_number l) (v : Vec ℕ Z) (at : v ≡ get_or arrays n v) where
     abbrev ys : List ℕ
     ys = array_of (arrays_in arrays) l

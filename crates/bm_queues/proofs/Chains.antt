@@ -1,4 +1,4 @@
--- Lemmas on the chain of one list: what remains of it after a few links are written.
+-- Lemmas on the chain of one list: what a few writes to links leave of it.
 use Rattle.std.proofs.Common.{◌≡◌, ◌≢◌, ◌⊎◌, ℕ, zero, suc, ◌<◌, ◌≤◌, ◌+◌, eqb, List, [], ◌∷◌, length, Option, Some, inl, inr, subst, sym, ap, ◌∙◌, refl, arith}
 use Rattle.std.proofs.lemmas.Bool.{cases_Bool, eq-eqb, ne_eqb, eqb-true, eqb-false}
 use Rattle.std.proofs.lemmas.Option.{none-some, same_Some}
@@ -6,7 +6,7 @@ use Rattle.bm_base.specs.SlotLists.{Among, Distinct, without, first_of, slot_aft
 use Rattle.bm_queues.specs.Links.{walk, Chain}
 use Rattle.bm_base.proofs.SlotLists.{apart}
 
--- the cell is that of none of the slots
+-- the cell is none of the slots' cells
 abbrev pub Off : ℕ → ℕ → List ℕ → Type 0
 Off k cell xs = (z : ℕ) → Among z xs → cell ≢ k + z
 
@@ -16,14 +16,14 @@ off_slot k y ys absent z there e =
     let same : z ≡ y = omega (arith, e) in
     absent (let P : ℕ → Type 0 = λ w. Among w ys in subst P same there)
 
--- a chain is not touched by writes elsewhere
+-- writes elsewhere do not change a chain
 pub Chain-frame : (k : ℕ) (next new back new_back : ℕ → Option ℕ) (cell : ℕ) (xs : List ℕ) → Chain k next back cell xs → new cell ≡ next cell → ((z : ℕ) → Among z xs → (new (k + z) ≡ next (k + z)) × (new_back z ≡ back z)) → Chain k new new_back cell xs
 Chain-frame k next new back new_back cell [] chain here same = here ∙ chain
 Chain-frame k next new back new_back cell (x ∷ xs) chain here same =
     let at = same x (inl refl) in
     (here ∙ chain.0, at.1 ∙ chain.1, Chain-frame k next new back new_back (k + x) xs chain.2 at.0 (λ z h. same z (inr h)))
 
--- the walk by the next links meets the slots of a chain
+-- the walk by the next links visits the slots of a chain
 pub walk-chain : (k : ℕ) (next back : ℕ → Option ℕ) (cell : ℕ) (xs : List ℕ) (n : ℕ) → Chain k next back cell xs → length xs ≤ n → walk (λ x. next (k + x)) n (next cell) ≡ xs
 walk-chain k next back cell [] zero chain fits = refl
 walk-chain k next back cell [] (suc n) chain fits = rw chain refl
@@ -49,13 +49,13 @@ after-chain k next back cell (y ∷ ys) x chain there =
           ])
     ]
 
--- a slot of a chain links back
+-- a slot of a chain has a back link
 pub back-chain : (k : ℕ) (next back : ℕ → Option ℕ) (cell : ℕ) (xs : List ℕ) (x : ℕ) → Chain k next back cell xs → Among x xs → (c : ℕ) × (back x ≡ Some c)
 back-chain k next back cell [] x chain there = absurd there
 back-chain k next back cell (y ∷ ys) x chain (inl same) = (cell, ap back same ∙ chain.1)
 back-chain k next back cell (y ∷ ys) x chain (inr there) = back-chain k next back (k + y) ys x chain.2 there
 
--- to the chain's own cell or to that of a slot of the chain
+-- a back link leads to the chain's own cell or to the cell of a slot of the chain
 pub before-chain : (k : ℕ) (next back : ℕ → Option ℕ) (cell : ℕ) (xs : List ℕ) (x p : ℕ) → Chain k next back cell xs → Among x xs → back x ≡ Some p → (p ≡ cell) ⊎ ((q : ℕ) × Among q xs × (p ≡ k + q))
 before-chain k next back cell [] x p chain there is = absurd there
 before-chain k next back cell (y ∷ ys) x p chain (inl same) is = inl (same_Some p cell (sym is ∙ ap back same ∙ chain.1))
@@ -85,7 +85,7 @@ next_among k next back cell (y ∷ ys) x q chain (inr there) is = inr (next_amon
 cell_apart : (k x z : ℕ) → x ≢ z → k + x ≢ k + z
 cell_apart k x z differs = omega (arith, differs)
 
--- the list after a slot that was in none was put at its front
+-- the list after a slot that was in no list was put at its front
 pub Chain-front : (k : ℕ) (next new back new_back : ℕ → Option ℕ) (l x : ℕ) (xs : List ℕ) → l < k → Chain k next back l xs → Distinct xs → (Among x xs → ⊥)
     → new l ≡ Some x → new (k + x) ≡ next l → ((c : ℕ) → c ≢ l → c ≢ k + x → new c ≡ next c)
     → new_back x ≡ Some l → ((y : ℕ) → y ≢ x → next l ≡ Some y → new_back y ≡ Some (k + x)) → ((z : ℕ) → z ≢ x → next l ≢ Some z → new_back z ≡ back z)

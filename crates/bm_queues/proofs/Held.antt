@@ -1,5 +1,5 @@
--- Properties of links that hold lists, and what unlinking a slot or linking one at the front does
--- to them.
+-- Properties of links that hold lists, and the effect of unlinking a slot or linking one at the
+-- front.
 use Rattle.std.proofs.Common.{◌≡◌, ◌≢◌, ◌⊎◌, ℕ, zero, suc, ◌<◌, ◌≤◌, ◌+◌, ◌-◌, List, [], ◌∷◌, ◌++◌, length, get_or, set, take, replicate, Option, Some, None, inl, inr, subst, sym, ap, ◌∙◌, refl, arith}
 use Rattle.std.proofs.lemmas.Bool.{cases_eq, cases_lt, eq-eqb, ne_eqb}
 use Rattle.std.proofs.lemmas.Option.{none-some, same_Some}
@@ -41,7 +41,7 @@ nones zero i = refl
 nones (suc n) zero = refl
 nones (suc n) (suc i) = nones n i
 
--- links cut to n, or filled up to n with none, read as before where none is cut off
+-- links cut to n, or filled up to n with none, read as before if none is cut off
 pub resized : {A : Type 0} (links : List (Option A)) (n c : ℕ) → (n ≤ c → get_or links c None ≡ None) → get_or (take n links ++ replicate (n - length links) None) c None ≡ get_or links c None
 resized [] zero c cut = refl
 resized [] (suc n) c cut = let e : suc n - 0 ≡ suc n = omega arith in rw e (nones (suc n) c)
@@ -70,7 +70,7 @@ module _ (k : ℕ) (next back : List (Option ℕ)) (f : ℕ → List ℕ) (held 
   pub length-listed : (l : ℕ) → l < k → length (f l) ≤ length back
   length-listed l low = length-distinct_below (length back) (f l) (held.distinct l low) (λ x h. listed_below l x low h)
 
-  -- the walk from a head meets its list
+  -- the walk from a head visits its list
   pub list-is : (l : ℕ) → l < k → list_from k next back l ≡ f l
   list-is l low =
       walk-chain k (link_at next) (link_at back) l (f l) (length back) (held.chain l low) (length-listed l low)
@@ -123,7 +123,7 @@ module _ (k : ℕ) (next back : List (Option ℕ)) (f : ℕ → List ℕ) (held 
   pub next-held : (l x : ℕ) → l < k → Among x (f l) → link_at next (k + x) ≡ slot_after x (f l)
   next-held l x low there = after-chain k (link_at next) (link_at back) l (f l) x (held.chain l low) there
 
-  -- a slot in no list is taken out of none
+  -- a slot in no list is removed from none
   pub unlinked-absent : (x : ℕ) → link_at back x ≡ None → (l : ℕ) → l < k → without x (f l) ≡ f l
   unlinked-absent x none l low = without-absent x (f l) (λ h. let b = listed_back l x low h in none-some b.0 (sym none ∙ b.1))
 
@@ -347,7 +347,7 @@ module _ (k : ℕ) (next back : List (Option ℕ)) (f : ℕ → List ℕ) (held 
           | inr differs ↦ rw (ne_eqb l at differs) (held.distinct l low)
         ]
 
-    -- a member of a new list is x in the one that it was put into, or was there before
+    -- a member of a new list is x in the list that x was put into, or was a member before
     put-member : (l z : ℕ) → Among z (put_lists l) → ((z ≡ x) × (l ≡ at)) ⊎ Among z (f l)
     put-member l z h =
         elim (cases_eq l at) [
@@ -407,7 +407,7 @@ module _ (k : ℕ) (next back : List (Option ℕ)) (f : ℕ → List ℕ) (held 
       clear = put-clear;
     }
 
-  -- links that read alike hold the same lists
+  -- links with the same values hold the same lists
   pub alike : (next' back' : List (Option ℕ)) → k + length back' ≤ length next' → k + length back' ≤ end_of_links
       → ((c : ℕ) → link_at next' c ≡ link_at next c) → ((x : ℕ) → link_at back' x ≡ link_at back x) → HoldLists k next' back' f
   alike next' back' size small same same_back = record {
@@ -434,7 +434,7 @@ module _ (k : ℕ) (next back : List (Option ℕ)) (f : ℕ → List ℕ) (held 
       (λ c. ap (λ xs. link_at xs c) is ∙ resized next (k + n) c (next_none n more c))
       (λ x. ap (λ xs. link_at xs x) is_back ∙ resized back n x (λ far. get_or_past back x None (omega (arith, far, more))))
 
-  -- the cells alone grew
+  -- only the next links grew
   pub half_grown : (n : ℕ) → length back < n → (next' : List (Option ℕ)) → length next' ≡ k + n
       → next' ≡ take (k + n) next ++ replicate (k + n - length next) None → HoldLists k next' back f
   half_grown n more next' len is =

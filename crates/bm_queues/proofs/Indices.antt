@@ -70,11 +70,11 @@ apart-reverse xs apart i j low_i low_j same =
 pub distinct-reverse : (xs : List ℕ) → AreApart xs → Distinct (reverse xs)
 distinct-reverse xs apart = distinct_apart (reverse xs) (apart-reverse xs apart)
 
--- the first of them is the last one
+-- the first of them is the last one of the array
 pub first-taken : (xs : List ℕ) (k : ℕ) → k < length xs → first_of (reverse (take (k + 1) xs)) ≡ Some (get_or xs k 0)
 first-taken xs k low = ap first_of (ap reverse (take_more xs k 0 low) ∙ reverse-append (take k xs) (get_or xs k 0 ∷ []))
 
--- as it is read
+-- the same, as the code reads it
 pub first-read : (xs ys : List ℕ) (z : ℕ) → ys ≡ reverse xs → slice_get ys (length ys - 1) ≡ Some z → Some z ≡ first_of xs
 first-read [] ys z is at = absurd (none-some z (rw is at at))
 first-read (x ∷ xs) ys z is at =
@@ -85,7 +85,7 @@ first-read (x ∷ xs) ys z is at =
     ∙ get_or-reverse (x ∷ xs) (length xs) 0 (omega arith) ∙ ap (λ i. get_or (x ∷ xs) i 0) none in
     ap Some read
 
--- where a list is cut at a slot that is not before it
+-- a list that is cut at a slot that is not before the cut
 from-cut : (z : ℕ) (xs ys : List ℕ) → (Among z xs → ⊥) → slots_from (xs ++ z ∷ ys) (Some z) ≡ z ∷ ys
 from-cut z [] ys absent = rw (eq-eqb z z refl) refl
 from-cut z (x ∷ xs) ys absent = rw (ne_eqb x z (λ e. absent (inl (sym e)))) (from-cut z xs ys (λ h. absent (inr h)))
@@ -116,7 +116,7 @@ module _ (xs : List ℕ) (apart : AreApart xs) (i : ℕ) (low : i < length xs) w
       let same : i + 1 + found.0 ≡ i = apart (i + 1 + found.0) i (grind (arith, common_steps, inside)) low at in
       absurd (omega (arith, same))
 
-  -- from a slot on those are to come that are before it in the array
+  -- from a slot on, the slots before it in the array are to come
   pub from-index : slots_from (reverse xs) (Some z) ≡ reverse (take (i + 1) xs)
   from-index = ap (λ ys. slots_from ys (Some z)) cut-reverse ∙ from-cut z (reverse (drop (i + 1) xs)) (reverse (take i xs)) not-later ∙ sym taken-reverse
 
@@ -175,7 +175,7 @@ module _ (xs : List ℕ) (apart : AreApart xs) (slot place : ℕ) (low : place <
         ],
   )
 
-  -- where in the list the slot at an index of the rest was
+  -- the index in the list of the slot at an index of the rest
   was_at : (i : ℕ) → i < last → (k : ℕ) × (k < length xs) × (get_or rest i 0 ≡ get_or xs k 0) × (((i ≡ place) × (k ≡ last)) ⊎ ((i ≢ place) × (k ≡ i)))
   was_at i below =
       elim (cases_eq i place) [
@@ -206,7 +206,7 @@ module _ (xs : List ℕ) (apart : AreApart xs) (slot place : ℕ) (low : place <
   taken-rest i below =
       take-take (i + 1) last (set xs place (get_or xs last slot)) (omega (arith, below, low)) ∙ take-set-le (i + 1) xs place (get_or xs last slot) (omega (arith, below))
 
-  -- the slots still to come stay the same, if it was left behind
+  -- the slots still to come stay the same if the slot was left behind
   pub rest-from : (p : Option ℕ) → IsPast slot p (reverse xs) → slots_from (reverse rest) p ≡ slots_from (reverse xs) p
   rest-from None past = refl
   rest-from (Some y) past =

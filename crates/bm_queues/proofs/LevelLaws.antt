@@ -1,4 +1,4 @@
--- The invariant of level lists in arrays, and that a growth and a change of level keep it.
+-- The invariant of level lists in arrays; a growth and a change of level keep it.
 use Rattle.std.proofs.Common.{◌≡◌, ◌≢◌, ◌⊎◌, ℕ, zero, suc, ◌<◌, ◌≤◌, ◌+◌, ◌-◌, ◌++◌, List, [], ◌∷◌, length, get_or, set, map, take, reverse, replicate, Option, Some, None, inl, inr, subst, sym, ap, ◌∙◌, refl, arith}
 use Rattle.std.specs.Prelude.{if◌then◌else◌, ◌==◌, ◌↔◌, option_and_then}
 use Rattle.std.specs.List.{swap_remove, All}
@@ -41,7 +41,7 @@ back_again NoUsableReplica = refl
 same_level : (l m : Level) → level_number l ≡ level_number m → l ≡ m
 same_level l m same = same_Some l m (sym (back_again l) ∙ ap level_of_byte same ∙ back_again m)
 
--- each number below five is a level's
+-- each number below five is the number of a level
 level_with : (n : ℕ) → n < 5 → (l : Level) × (level_number l ≡ n)
 level_with zero h = (Highest, refl)
 level_with (suc zero) h = (VeryUnderReplicated, refl)
@@ -50,7 +50,7 @@ level_with (suc (suc (suc zero))) h = (BadlyDistributed, refl)
 level_with (suc (suc (suc (suc zero)))) h = (NoUsableReplica, refl)
 level_with (suc (suc (suc (suc (suc n))))) h = absurd (omega (arith, h))
 
--- two levels are one, or their numbers differ
+-- two levels are equal, or their numbers differ
 cases_level : (l m : Level) → (l ≡ m) ⊎ (level_number l ≢ level_number m)
 cases_level l m = elim (cases_eq (level_number l) (level_number m)) [ inl same ↦ inl (same_level l m same) | inr apart ↦ inr apart ]
 
@@ -62,7 +62,7 @@ held_below levels slot l is =
       | inr past ↦ absurd (none-some l (sym (get_or_past levels slot None past) ∙ is))
     ]
 
--- more of what a list has past its end
+-- a list with default values appended reads as before
 pub padded : {A : Type 0} (d : A) (xs : List A) (k i : ℕ) → get_or (xs ++ replicate k d) i d ≡ get_or xs i d
 padded d [] zero i = refl
 padded d [] (suc k) zero = refl
@@ -74,7 +74,7 @@ map-replicate : {A B : Type 0} (f : A → B) (k : ℕ) (x : A) → map f (replic
 map-replicate f zero x = refl
 map-replicate f (suc k) x = ap (λ ys. f x ∷ ys) (map-replicate f k x)
 
--- cells of slots without a level after the others
+-- cells without a level after the others
 module _ (cells new : List Cell) (n k : ℕ) (o : Option Level) (none : o ≡ None) (is : new ≡ take n cells ++ replicate (n - k) (record { level = o; index = 0 })) (few : length cells ≤ n) where
   mapped : {B : Type 0} (f : Cell → B) → map f new ≡ map f cells ++ replicate (n - k) (f (record { level = o; index = 0 }))
   mapped f =
@@ -94,7 +94,7 @@ seen-list levels arrays l = get_or-map reverse arrays (level_number l) []
 pub seen-array : (levels : List (Option Level)) (arrays : List (List ℕ)) (l : Level) → reverse (slots_of (seen levels arrays) l) ≡ array_of arrays l
 seen-array levels arrays l = ap reverse (seen-list levels arrays l) ∙ reverse-reverse (array_of arrays l)
 
--- what one array's change does to the lists
+-- the effect of one array's change on the lists
 module _ (arrays : List (List ℕ)) (l : Level) (ys : List ℕ) where
   pub own-array : length arrays ≡ 5 → array_of (set arrays (level_number l) ys) l ≡ ys
   own-array five = get_or-set_same arrays (level_number l) ys [] (let low = level_below l in omega (arith, low, five))
@@ -176,7 +176,7 @@ module _ (levels : List (Option Level)) (indices : List ℕ) (arrays : List (Lis
         let inside = are.inside l slot is in
         sym (behind-slot ∙ ap (λ j. first_of (reverse (take j (array_of arrays l)))) next ∙ first-taken (array_of arrays l) i (omega (arith, inside, next)))
 
-  -- a slot that takes no level with it
+  -- a slot that leaves its list
   module _ (slot : ℕ) (l : Level) (is : level_in levels slot ≡ Some l) where
     abbrev xs : List ℕ
     xs = array_of arrays l
@@ -221,7 +221,7 @@ module _ (levels : List (Option Level)) (indices : List ℕ) (arrays : List (Lis
     other-index : (s : ℕ) → s ≢ last → get_or (set indices last place) s 0 ≡ get_or indices s 0
     other-index s differs = get_or-set_other indices last s place 0 differs
 
-    -- the element at an index of the rest
+    -- the slot at an index of the rest
     moved : (i : ℕ) → i < end → (s : ℕ) × (get_or rest i 0 ≡ s) × (s ≢ slot) × (level_in levels s ≡ Some l) × (((s ≡ last) × (i ≡ place)) ⊎ ((s ≢ last) × (get_or indices s 0 ≡ i)))
     moved i below =
         elim (cases_eq i place) [
@@ -285,7 +285,7 @@ module _ (levels : List (Option Level)) (indices : List ℕ) (arrays : List (Lis
                 ap (λ ys. get_or (set indices last place) (get_or ys i 0) 0) array ∙ other-index (get_or (array_of arrays m) i 0) other ∙ are.index m i inside
           ]
 
-      -- a slot that still has a level is where its index says
+      -- a slot that still has a level is at its index
       left-found : (m : Level) (s : ℕ) → level_in (set levels slot None) s ≡ Some m
           → (get_or (set indices last place) s 0 < length (array_of arrays' m)) × (get_or (array_of arrays' m) (get_or (set indices last place) s 0) 0 ≡ s)
       left-found m s now =
@@ -333,7 +333,7 @@ module _ (levels : List (Option Level)) (indices : List ℕ) (arrays : List (Lis
         small = (let old = are.small in let len = length-set levels slot None in omega (arith, old, len));
       }
 
-    -- what is seen of it
+    -- the lists afterwards, as contracts see them
     left-list : slots_of (seen (set levels slot None) arrays') l ≡ reverse rest
     left-list = seen-list (set levels slot None) arrays' l ∙ ap reverse kept-array
 
@@ -382,7 +382,7 @@ module _ (levels : List (Option Level)) (indices : List ℕ) (arrays : List (Lis
     grown-array : array_of arrays+ l ≡ more
     grown-array = own-array arrays l more are.five
 
-    -- a slot with a level is another one
+    -- a slot with a level is a different one
     levelled : (s : ℕ) (m : Level) → level_in levels s ≡ Some m → s ≢ slot
     levelled s m at e = none-some m (sym none ∙ sym (ap (level_in levels) e) ∙ at)
 
@@ -403,7 +403,7 @@ module _ (levels : List (Option Level)) (indices : List ℕ) (arrays : List (Lis
       index-now : get_or (set indices slot (length ys)) slot 0 ≡ length ys
       index-now = get_or-set_same indices slot (length ys) 0 (omega (arith, below, long))
 
-      -- the element at an index of an array
+      -- the slot at an index of an array
       abbrev AtIndex : Level → ℕ → ℕ → Type 0
       AtIndex m i s = (level_in (set levels slot (Some l)) s ≡ Some m) × (get_or (set indices slot (length ys)) s 0 ≡ i)
 
@@ -479,7 +479,7 @@ module _ (levels : List (Option Level)) (indices : List ℕ) (arrays : List (Lis
           | inr apart ↦ seen-list (set levels slot (Some l)) arrays+ m ∙ ap reverse (other-array arrays l more m apart) ∙ sym (seen-list levels arrays m)
         ]
 
--- a level set for one slot, as the calls have it
+-- a level set for one slot, in the form of the calls
 pub level-set : (levels : List (Option Level)) (slot : ℕ) (level : Option Level) → slot < length levels → (other : ℕ)
     → level_in (set levels slot level) other ≡ (if other == slot then level else level_in levels other)
 level-set levels slot level below other =

@@ -21,7 +21,7 @@ module _ (k : ℕ) (next back : List (Option ℕ)) (one : k ≡ 1) where
         | inr away ↦ absent (λ l low there. away (only_list slot (l, low, there))) ∙ sym (slot_after-absent slot (list_from k next back 0) away)
       ]
 
--- membership after a slot was removed
+-- a removed slot is no member
 pub gone-without : (slot : ℕ) (xs ys : List ℕ) → ys ≡ without slot xs → Distinct xs → Among slot ys → ⊥
 gone-without slot xs ys is distinct there = without-gone slot xs distinct (rw is at there)
 

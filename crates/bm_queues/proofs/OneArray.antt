@@ -1,4 +1,4 @@
--- One of the arrays of the levels: what a read returns, and what a change does to all.
+-- One of the arrays of the levels: the result of a read, and the effect of a change on all arrays.
 use Rattle.std.proofs.Common.{◌≡◌, ℕ, ◌+◌, ◌<◌, ◌≤◌, List, [], length, get_or, set, take, vec_capacity, subst, sym, ap, ◌∙◌, arith}
 use Rattle.std.specs.List.{All}
 use Rattle.std.specs.declared.vec.Vec.{Vec}

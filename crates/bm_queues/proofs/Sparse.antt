@@ -50,7 +50,7 @@ module _ (order places : List ℕ) (capacity : ℕ) (are : AreSparse order place
   pub lawful_members : IsLawful (record { slots = order; room = length places })
   lawful_members = record { distinct = distinct_members; below = below_room; small = are.small }
 
-  -- there is capacity for all members, and for one more if a slot is none
+  -- there is capacity for all members, and for one more if some slot is no member
   pub members_fit : length order ≤ length places
   members_fit = length-distinct_below (length places) order distinct_members below_room
 

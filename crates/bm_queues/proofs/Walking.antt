@@ -60,7 +60,7 @@ past-next x xs distinct =
       | inr absent ↦ rw (slot_after-absent x xs absent) (λ e. none-some x e, λ h. h)
     ]
 
--- and so does to take it out
+-- the removal of a slot that was left behind keeps the slots still to come
 pub from-without : (x : ℕ) (xs : List ℕ) (at : Option ℕ) → IsPast x at xs → slots_from (without x xs) at ≡ slots_from xs at
 from-without x xs None past = refl
 from-without x [] (Some z) past = refl
@@ -78,7 +78,7 @@ pub on-without : (x : ℕ) (xs : List ℕ) (at : Option ℕ) → IsPast x at xs 
 on-without x xs None past on = tt
 on-without x xs (Some z) past on = Among-without_other x z xs on (λ e. past.0 (ap Some e))
 
--- What the first slot and the next slot are, in the words of the calls.
+-- The first slot and the next slot, in the form of the calls.
 
 module _ (xs : List ℕ) (r : Option ℕ) where
   pub all-from : r ≡ first_of xs → slots_from xs r ≡ xs

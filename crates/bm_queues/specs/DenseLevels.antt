@@ -37,7 +37,7 @@ pub record AreDense (levels : List (Option Level)) (indices : List ℕ) (arrays 
   -- each slot in an array has its level, and the index where it is
   pub level : (l : Level) (i : ℕ) → i < length (array_of arrays l) → level_in levels (slice_index_or (array_of arrays l) i 0) ≡ Some l
   pub index : (l : Level) (i : ℕ) → i < length (array_of arrays l) → slice_index_or indices (slice_index_or (array_of arrays l) i 0) 0 ≡ i
-  -- and each slot that has a level is in the array of that
+  -- each slot with a level is in the array of the level
   pub inside : (l : Level) (slot : ℕ) → level_in levels slot ≡ Some l → slice_index_or indices slot 0 < length (array_of arrays l)
   pub there : (l : Level) (slot : ℕ) → level_in levels slot ≡ Some l → slice_index_or (array_of arrays l) (slice_index_or indices slot 0) 0 ≡ slot
   -- 32 bits can name all slots below the capacity

@@ -31,13 +31,13 @@ with_room v room = record v { levels = v.levels ++ replicate (room - length v.le
 abbrev pub visited : Levels → Level → List ℕ
 visited v l = walk (next_of v) (length (slots_of v l)) (first_of (slots_of v l))
 
--- what holds of level lists after every call
+-- the invariant of level lists
 pub record IsLawful (v : Levels) : Type 0 where
   -- there is a list for each level
   pub five : length v.lists ≡ 5
   -- a list has no slot twice
   pub distinct : (l : Level) → Distinct (slots_of v l)
-  -- and has just the slots of its level
+  -- it has exactly the slots of its level
   pub exact : (l : Level) (slot : ℕ) → Among slot (slots_of v l) ↔ (level_at v slot ≡ Some l)
   -- they are below the capacity
   pub below : (l : Level) (slot : ℕ) → Among slot (slots_of v l) → slot < length v.levels

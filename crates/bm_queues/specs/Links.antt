@@ -42,7 +42,7 @@ pub record HoldLists (k : ℕ) (next back : List (Option ℕ)) (lists : ℕ → 
 abbrev pub AreLinks : ℕ → List (Option ℕ) → List (Option ℕ) → Type 0
 AreLinks k next back = HoldLists k next back (list_from k next back)
 
--- a back link set, where the slot is one
+-- sets the back link of a slot, if there is a slot
 abbrev pub back_set : List (Option ℕ) → Option ℕ → Option ℕ → List (Option ℕ)
 back_set back None cell = back
 back_set back (Some x) cell = slice_set back x cell

@@ -13,18 +13,18 @@ pub record Members : Type 0 where
 abbrev pub visited : Members → List ℕ
 visited v = walk (λ slot. slot_after slot v.slots) (length v.slots) (first_of v.slots)
 
--- capacity for n slots, or more
+-- the same members, with capacity for n slots or more
 abbrev pub with_room : Members → ℕ → Members
 with_room v room = record v { room = if nat_lt v.room room then room else v.room }
 
--- what holds of a set after every call
+-- the invariant of a set
 pub record IsLawful (v : Members) : Type 0 where
   pub distinct : Distinct v.slots
   pub below : (slot : ℕ) → Among slot v.slots → slot < v.room
   -- links can name all slots below the capacity
   pub small : v.room + 1 ≤ end_of_links
 
--- how the fields represent it
+-- the representation of a set by its fields
 pub record AreMembers (k : ℕ) (next back : List (Option ℕ)) (count : ℕ) : Type 0 where
   pub heads : k ≡ 1
   pub links : AreLinks k next back

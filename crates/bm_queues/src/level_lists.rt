@@ -13,7 +13,7 @@ use bm_base::{Level, Refusal, fits_link};
 use std::alloc::Global;
 use std::marker::Model;
 
-/// The level of a slot, or none, and its index in the array of that level; any number where it has
+/// The level of a slot, or none, and its index in the array of that level; any number if it has
 /// none.
 #[derive(Clone, Copy)]
 pub(crate) struct Cell {
@@ -83,7 +83,7 @@ impl LevelLists {
     }
 
     /// Grows the capacity to the slots below `room`; new slots have no level. If the capacity is
-    /// there already, nothing changes. May answer `Memory`, also where 32 bits could not name all
+    /// sufficient already, nothing changes. May answer `Memory`, also if 32 bits could not name all
     /// slots; capacity that the arrays gained is kept then.
     pub fn grow_to(&mut self, room: usize) -> Result<(), Refusal>
         ensures after { OnOk result (self.new ≡ with_room self.old room) }
@@ -110,8 +110,8 @@ impl LevelLists {
         Ok(())
     }
 
-    /// Gives a slot a level, or none. It leaves its list, where the first slot takes its index, and
-    /// becomes the first slot of its new level. If it has the level already nothing changes. Takes
+    /// Gives a slot a level, or none. The first slot of its old list takes its index there, and the
+    /// slot becomes the first of its new level. If it has the level already, nothing changes. Takes
     /// no memory.
     pub fn set(&mut self, slot: usize, level: Option<Level>)
         requires { slot < length self.old.levels }
@@ -140,7 +140,7 @@ impl LevelLists {
         }
     }
 
-    /// Takes a slot out of the list that it is in, if it is in one: it has no level then.
+    /// Takes a slot out of its list, if it is in one: it has no level then.
     fn leave(&mut self, slot: usize)
         requires { slot < length self.old.levels }
         ensures left { (l : Level) → level_at self.old slot ≡ Some l
@@ -166,7 +166,7 @@ impl LevelLists {
         }
     }
 
-    /// Puts a slot that has no level at the front of the list of one.
+    /// Puts a slot that has no level at the front of a level's list.
     fn enter(&mut self, slot: usize, level: Level)
         requires inside { slot < length self.old.levels }
         requires absent { level_at self.old slot ≡ None }
@@ -214,9 +214,9 @@ impl LevelLists {
         Some(*first as usize)
     }
 
-    /// The next slot in the list of a slot's level; none after the last one, and where the slot has
-    /// no level. A caller that iterates may change the level of the slot that it has left: the
-    /// slots still to come stay the same.
+    /// The next slot in the list of a slot's level; none after the last one, and if the slot has no
+    /// level. A caller that iterates may change the level of the slot that it has left: the slots
+    /// still to come stay the same.
     pub fn next(&self, slot: usize) -> Option<usize>
         requires { slot < length self.now.levels }
         ensures slot { result ≡ next_of self.now slot }

@@ -3,7 +3,7 @@
 //! The list of a level is an array, whose end is the front. One kind of set is a doubly linked list
 //! through arrays by slot. Both may be changed behind a caller that iterates over them. The other
 //! kind keeps its members in an array too. Each change is a constant number of steps and takes no
-//! memory. A caller that reads the slots of a level, or of a set, reads no other.
+//! memory. A caller that reads the slots of a level, or of a set, reads no other slot.
 #![tactic(auto)]
 
 mod arrays;

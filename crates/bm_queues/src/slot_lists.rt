@@ -19,7 +19,7 @@ pub(crate) struct SlotLists {
     pub(crate) heads: usize,
     // The slot after each cell.
     pub(crate) next: Vec<SlotLink>,
-    // The cell before each slot; none where the slot is in no list.
+    // The cell before each slot; none if the slot is in no list.
     pub(crate) previous: Vec<SlotLink>,
 }
 
@@ -89,7 +89,7 @@ impl SlotLists {
         self.previous.resize(room, NO_LINK)
     }
 
-    /// Takes a slot out of the list that it is in, if it is in one.
+    /// Takes a slot out of its list, if it is in one.
     pub(crate) fn unlink(&mut self, slot: usize)
         requires lawful { AreLinked self.old }
         requires slot { slot < room_of self.old }
@@ -139,7 +139,7 @@ impl SlotLists {
         self.next[list].slot()
     }
 
-    /// The next slot in a slot's list; none after the last one, and where the slot is in no list.
+    /// The next slot in a slot's list; none after the last one, and if the slot is in no list.
     pub(crate) fn next(&self, slot: usize) -> Option<usize>
         requires lawful { AreLinked self.now }
         requires slot { slot < room_of self.now }

@@ -1,4 +1,4 @@
-// A set of slots in the order in which they came, the last one first.
+// A set of slots in reverse order of insertion.
 ghost use Rattle.std.specs.Prelude.{◌≡◌, ◌≢◌, ℕ, ◌<◌, ◌≤◌, IsTrue, ◌↔◌, [], ◌∷◌, length, Option, Some, IfOk, IfErr, OnOk, OnErr, IsOk};
 ghost use Rattle.bm_base.specs.declared.refusal.Refusal.TheVariants.{Memory};
 ghost use Rattle.bm_base.specs.SlotLists.{Among, without, first_of, slot_after};
@@ -65,8 +65,8 @@ impl SlotSet {
         self.lists.room()
     }
 
-    /// Grows the capacity to the slots below `room`. If it is there already, nothing changes. May
-    /// answer `Memory`, also where a link of 32 bits could not name all slots.
+    /// Grows the capacity to the slots below `room`. If it is sufficient already, nothing changes.
+    /// May answer `Memory`, also if a link of 32 bits could not name all slots.
     pub fn grow_to(&mut self, room: usize) -> Result<(), Refusal>
         ensures after { OnOk result (self.new ≡ with_room self.old room) }
         ensures slots { self.new.slots ≡ self.old.slots }
@@ -79,7 +79,7 @@ impl SlotSet {
         Ok(())
     }
 
-    /// Puts a slot at the front; where it is in the set nothing changes. Takes no memory.
+    /// Puts a slot at the front; nothing changes if it is in the set already. Takes no memory.
     pub fn insert(&mut self, slot: usize)
         requires { slot < self.old.room }
         ensures same { Among slot self.old.slots → self.new ≡ self.old }
@@ -128,7 +128,7 @@ impl SlotSet {
         self.lists.is_listed(slot)
     }
 
-    /// How many slots are in the set.
+    /// The number of slots in the set.
     pub fn len(&self) -> usize
         ensures count { result ≡ length self.now.slots }
         ensures few { result ≤ self.now.room }
@@ -136,7 +136,7 @@ impl SlotSet {
         self.count
     }
 
-    /// The slot at the front; none where the set is empty. All slots are to come from there on.
+    /// The slot at the front; none if the set is empty. From there on all slots are to come.
     pub fn first(&self) -> Option<usize>
         ensures slot { result ≡ first_of self.now.slots }
         ensures on { IsOn result self.now.slots }
@@ -145,7 +145,7 @@ impl SlotSet {
         self.lists.first(0)
     }
 
-    /// The next slot after a slot; none after the last one, and where the slot is not in the set. A
+    /// The next slot after a slot; none after the last one, and if the slot is not in the set. A
     /// caller that iterates may remove the slot that it has left, or insert it again: the slots
     /// still to come stay the same.
     pub fn next(&self, slot: usize) -> Option<usize>

@@ -1,5 +1,5 @@
-// A set of slots whose members are in one array, so that an iteration does not wait for each member
-// to learn of the next.
+// A set of slots whose members are in one array, so that an iteration need not read one member to
+// find the next.
 ghost use Rattle.std.specs.Prelude.{◌≡◌, ◌≢◌, ℕ, ◌<◌, ◌≤◌, IsTrue, ◌↔◌, [], ◌∷◌, ◌++◌, length, slice_index_or, Some, None, IfErr, OnOk, OnErr, IsOk};
 ghost use Rattle.std.specs.List.Sorted.{IsPermutation};
 ghost use Rattle.std.specs.Option.{IfSome};
@@ -62,8 +62,8 @@ impl SparseSet {
         self.places.len()
     }
 
-    /// Grows the capacity to the slots below `room`. If it is there already, nothing changes. May
-    /// answer `Memory`, also where 32 bits could not name all slots.
+    /// Grows the capacity to the slots below `room`. If it is sufficient already, nothing changes.
+    /// May answer `Memory`, also if 32 bits could not name all slots.
     pub fn grow_to(&mut self, room: usize) -> Result<(), Refusal>
         ensures after { OnOk result (self.new ≡ with_room self.old room) }
         ensures slots { self.new.slots ≡ self.old.slots }
@@ -83,7 +83,7 @@ impl SparseSet {
         Ok(())
     }
 
-    /// Appends a slot to the members; if it is one already nothing changes. Takes no memory.
+    /// Appends a slot to the members; nothing changes if it is one already. Takes no memory.
     pub fn insert(&mut self, slot: usize)
         requires { slot < self.old.room }
         ensures same { Among slot self.old.slots → self.new ≡ self.old }

@@ -1,4 +1,4 @@
-// The walk along a list.
+// An iterator along a list.
 ghost use Rattle.std.specs.Prelude.{◌≡◌};
 ghost use Rattle.bm_queues.specs.Links.{link_at};
 ghost use Rattle.std.specs.Iterator.{YieldsFirst, item_count};

@@ -1,10 +1,10 @@
--- The lines of bytes that are split.
+-- Bytes that are split into lines and a rest.
 use Rattle.std.proofs.Common.{◌≡◌, ℕ, List, [], ◌∷◌, ◌++◌, refl, sym, ap, ◌∙◌, append_assoc, append-nil}
 use Rattle.std.specs.List.{flat_map, AllByRecursion}
 use Rattle.std.proofs.lemmas.List.Concat.{flat_map-append}
 use Rattle.bm_lines.specs.Lines.{line_end, onto, lines_of, whole_lines, IsPart, ended, Splits}
 
--- the rest as a line, where it is not empty
+-- the rest as a line, if it is not empty
 abbrev pub rest_line : List ℕ → List (List ℕ)
 rest_line [] = []
 rest_line (b ∷ bs) = (b ∷ bs) ∷ []
@@ -45,7 +45,7 @@ pub IsPart-append : (a b : List ℕ) → IsPart a → IsPart b → IsPart (a ++ 
 IsPart-append [] b p q = q
 IsPart-append (x ∷ a) b p q = (p.0, IsPart-append a b p.1 q)
 
--- the lines of all, where the bytes at the front split
+-- the lines of all bytes, if the bytes at the front are split
 module _ {bytes rest : List ℕ} {lines : List (List ℕ)} (splits : Splits bytes lines rest) where
   pub lines_of-split : lines_of bytes ≡ lines ++ rest_line rest
   lines_of-split = rw splits.whole (lines_of-front lines rest splits.each ∙ ap (λ xs. lines ++ xs) (lines_of-part rest splits.partial))
@@ -59,7 +59,7 @@ module _ {bytes rest : List ℕ} {lines : List (List ℕ)} (splits : Splits byte
   pub lines_of-begin : (more : List ℕ) → lines_of (bytes ++ more) ≡ lines ++ lines_of (rest ++ more)
   lines_of-begin more = rw (splits.whole, append_assoc (flat_map ended lines) rest more) (lines_of-front lines (rest ++ more) splits.each)
 
-  -- more bytes without a line end
+  -- more bytes follow, without a line end
   pub splits_part : (part : List ℕ) → IsPart part → Splits (bytes ++ part) lines (rest ++ part)
   splits_part part p = record {
     whole = rw (splits.whole, append_assoc (flat_map ended lines) rest part) refl;
@@ -67,7 +67,7 @@ module _ {bytes rest : List ℕ} {lines : List (List ℕ)} (splits : Splits byte
     partial = IsPart-append rest part splits.partial p;
   }
 
-  -- a line end
+  -- a line end follows
   pub splits_end : Splits (bytes ++ line_end ∷ []) (lines ++ rest ∷ []) []
   splits_end = record {
     whole = rw (splits.whole, flat_map-append ended lines (rest ∷ [])) (append_assoc (flat_map ended lines) rest (line_end ∷ []) ∙ (ap (λ xs. flat_map ended lines ++ xs) (sym (append-nil (ended rest))) ∙ sym (append-nil (flat_map ended lines ++ flat_map ended (rest ∷ [])))));

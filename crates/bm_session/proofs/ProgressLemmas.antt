@@ -1,4 +1,4 @@
--- How a run comes further.
+-- The progress of a run, step by step.
 use Rattle.std.proofs.Common.{◌≡◌, ℕ, zero, suc, ◌+◌, ◌-◌, ◌<◌, ◌≤◌, ◌==◌, Bool, true, false, List, [], ◌∷◌, ◌++◌, length, take, refl, sym, ap, ◌∙◌, append_assoc, append-nil, add-one, arith, length-append, inl, inr, ◌⊎◌, if◌then◌else◌}
 use Rattle.std.specs.Prelude.{Option, Some, None, Result, Ok, Err, is_err, OnOk}
 use Rattle.std.specs.Int.{from_bool}
@@ -36,7 +36,7 @@ Appends-keeps (Some old) None c xs p q = absurd p
 Appends-keeps (Some old) (Some mid) None xs p q = absurd q
 Appends-keeps (Some old) (Some mid) (Some new) xs p q = q ∙ p
 
--- what holds at success, where a call did not fail
+-- a fact about success, if a call did not fail
 pub at_success : {T E P : Type 0} (r : Result T E) (b : Bool) → b ≡ is_err r → b ≡ false → OnOk r P → P
 at_success (Ok x) b e f p = p
 at_success (Err x) b e f p = absurd (cc (e, f))
@@ -57,7 +57,7 @@ progress_none M start s empty first lines refused = record {
   begun = λ h. absurd (omega arith);
 }
 
--- a line end, whose line was answered
+-- after a line end, the line was answered
 pub progress_end : (M : State) (start old new : Option (List ℕ)) (s t : Session) (bytes : List ℕ) (a : Asked) → Progress M start old s bytes
     → ((rest : List ℕ) → Holds s.line rest → a ≡ asked rest) → Appends old new (ended (text_of (answer_to s.manager a))) → t.manager ≡ asked_next s.manager a
     → t.lines ≡ s.lines + 1 → t.refused ≡ s.refused + (if is_refusal (answer_to s.manager a) then 1 else 0) → Holds t.line [] → Progress M start new t (bytes ++ line_end ∷ [])
@@ -76,7 +76,7 @@ progress_end M start old new s t bytes a p ask wrote next lines refused empty =
       begun = λ h. absurd (omega arith);
     }
 
--- bytes without a line end
+-- after bytes without a line end
 pub progress_part : (M : State) (start now : Option (List ℕ)) (s t : Session) (bytes part : List ℕ) → Progress M start now s bytes → IsPart part
     → s.lines < MAX_LINES → ((rest : List ℕ) → Holds s.line rest → Holds t.line (rest ++ part))
     → t.manager ≡ s.manager → t.lines ≡ s.lines → t.refused ≡ s.refused → Progress M start now t (bytes ++ part)
@@ -96,7 +96,7 @@ take_front : (xs ys : List (List ℕ)) → take (length xs) (xs ++ ys) ≡ xs
 take_front [] ys = refl
 take_front (x ∷ xs) ys = ap (λ zs. x ∷ zs) (take_front xs ys)
 
--- where a run stops, the lines so far are the first ones
+-- if a run stops, the lines answered so far are the first ones
 pub progress_answered : (M : State) (start now : Option (List ℕ)) (s : Session) (done piece : List ℕ) → (p : Progress M start now s done) → Answered M start now done piece (length p.lines)
 progress_answered M start now s done piece p = record {
   no_fewer = omega (arith, ap length (whole_lines-split p.splits));
@@ -124,7 +124,7 @@ worked_line M ls l more s now e (inr next) = inr (rw (add-one, take_next ls l mo
 lines_of-end : (rest more : List ℕ) → IsPart rest → lines_of (rest ++ line_end ∷ more) ≡ rest ∷ lines_of more
 lines_of-end rest more p = rw append_assoc at (lines_of-first rest more p)
 
--- the line in work is the next one that ends in the piece
+-- the current line is the next one that ends in the piece
 pub interrupted_line : (M : State) (start now : Option (List ℕ)) (s : Session) (state : State) (done part more : List ℕ) → (p : Progress M start now s done) → IsPart part → MayBeWorked s.manager (p.rest ++ part) state
     → Interrupted M start now state done (part ++ line_end ∷ more)
 interrupted_line M start now s state done part more p no_end h = record {
@@ -138,7 +138,7 @@ nonempty_line : (r : List ℕ) → (r ≡ [] → ⊥) → rest_line r ≡ r ∷ 
 nonempty_line [] h = absurd (h refl)
 nonempty_line (x ∷ r) h = refl
 
--- the line in work is the rest of the input
+-- the current line is the rest of the input
 pub interrupted_rest : (M : State) (start now : Option (List ℕ)) (s : Session) (state : State) (done : List ℕ) → (p : Progress M start now s done) → (p.rest ≡ [] → ⊥) → MayBeWorked s.manager p.rest state
     → Interrupted M start now state done []
 interrupted_rest M start now s state done p some h = record {
@@ -151,7 +151,7 @@ pub may_be_worked : (M : State) (a : Asked) (line : List ℕ) (now : State) → 
 unfolding line_next
 may_be_worked M a line now e h = rw (← e) h
 
--- a line that was not answered leaves what was written
+-- a line that was not answered leaves the output unchanged
 pub piece_fault_of_line : (M : State) (start old new : Option (List ℕ)) (state : State) (done piece : List ℕ) (before now : ℕ) (f : Fault) → LineFault old new before now f → Interrupted M start old state done piece
     → PieceFault M start new state done piece before now f
 piece_fault_of_line M start old new state done piece before now Config h s = absurd h
@@ -174,7 +174,7 @@ pub one_if : (b : Bool) → from_bool b ≡ (if b then 1 else 0)
 one_if true = refl
 one_if false = refl
 
--- too many lines: as many as may be are answered, and more bytes are there
+-- too many lines: the maximum number is answered, and there are more bytes
 pub progress_overflows : (M : State) (start now : Option (List ℕ)) (s : Session) (bytes more : List ℕ) → Progress M start now s bytes → s.lines ≡ MAX_LINES → 0 < length more → Overflows M start now (bytes ++ more)
 progress_overflows M start now s bytes more p full some =
     let all : length p.lines ≡ MAX_LINES = sym p.count ∙ full in (
@@ -267,7 +267,7 @@ few_by : (n k : ℕ) (r : List ℕ) → n ≤ MAX_LINES → (0 < length r → n 
 few_by n k r few begun e (inl none) = omega (arith, none)
 few_by n k r few begun e (inr h) = omega (arith, h.0, begun h.1)
 
--- no more lines are read than may be, the one that is held counted
+-- no more than the maximum number of lines is read, including the current one
 pub few_lines : {M : State} {start now : Option (List ℕ)} {s : Session} {bytes : List ℕ} → Progress M start now s bytes → length (lines_of bytes) ≤ MAX_LINES
 few_lines {s = s} {bytes = bytes} p =
     few_by (length p.lines) (length (lines_of bytes)) p.rest (omega (arith, p.count, s.few)) p.begun

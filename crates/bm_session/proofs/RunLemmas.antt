@@ -1,4 +1,4 @@
--- A whole run: what was read and handed on.
+-- A whole run: the bytes that were read, and those that were passed to the session.
 use Rattle.std.proofs.Common.{◌≡◌, ℕ, Bool, true, zero, suc, ◌+◌, ◌<◌, ◌≤◌, List, [], ◌∷◌, ◌++◌, length, take, drop, refl, sym, ap, ◌∙◌, append_assoc, append-nil, arith, inl, inr}
 use Rattle.std.specs.Prelude.{Option, Some, None, Result, Ok, Err, IfOk, IfErr, IfSome, OnOk}
 use Rattle.std.specs.Io.KnownBytes.{Appends, Consumes, Keeps, IsAtEnd}
@@ -53,7 +53,7 @@ take-take (suc m) zero xs h = absurd (omega arith)
 take-take (suc m) (suc n) [] h = refl
 take-take (suc m) (suc n) (x ∷ xs) h = ap (λ ys. x ∷ ys) (take-take m n xs (omega arith))
 
--- what is taken of what was read: all that there is room for
+-- the bytes that are taken of a piece: all that fit within the limit
 pub take_room : (xs ys : List ℕ) (most room n : ℕ) → length xs + room ≡ most → room ≤ n → take most (xs ++ take n ys) ≡ xs ++ take room ys
 take_room xs ys most room n e h = rw (← e, take-append-add xs (take n ys) room, take-take room n ys h) refl
 
@@ -90,7 +90,7 @@ config_at_start config fault.Write h = absurd h
 config_at_start config fault.Memory h = h
 config_at_start config fault.TooMuch h = absurd h
 
--- a run that began was configured well
+-- the configuration of a run that began is valid
 pub config_of_piece : (config : Config) (start new : Option (List ℕ)) (state : State) (done piece : List ℕ) (before now : ℕ) (f : Fault) → config_refusal config ≡ None
     → PieceFault (first_state config) start new state done piece before now f → ConfigOfFault config f
 config_of_piece config start new state done piece before now fault.Config allowed h = absurd h
@@ -120,7 +120,7 @@ flushed_of_piece M start new state done piece before now was is fault.Write h e 
 flushed_of_piece M start new state done piece before now was is fault.Memory h e = cc
 flushed_of_piece M start new state done piece before now was is fault.TooMuch h e = cc
 
--- the bytes that were handed on are the first of the input
+-- the bytes that were passed on are the first of the input
 pub faulted_of_piece : (config : Config) (done piece more : List ℕ) (last : ℕ) (old new : Option (List ℕ)) (state : State) (before now : ℕ) (f : Fault) → take MAX_BYTES (done ++ (piece ++ more)) ≡ done ++ piece
     → length (piece ++ more) ≤ last → length (piece ++ more) ≤ PIECE → PieceFault (first_state config) old new state done piece before now f → Faulted config (done ++ (piece ++ more)) last old new f
 faulted_of_piece config done piece more last old new state before now fault.Config t l b h = absurd h
@@ -129,7 +129,7 @@ faulted_of_piece config done piece more last old new state before now fault.Writ
 faulted_of_piece config done piece more last old new state before now fault.Memory t l b h = record { done = done; piece = piece ++ more; read = refl; is_last = l; bounded = b; answered = h.1.answered; written = answered_more _ old new done piece more _ h.1.written }
 faulted_of_piece config done piece more last old new state before now fault.TooMuch t l b h = (inr (rw t h.1.0), rw t h.1.1)
 
--- the same where all of them were handed on
+-- the same if all bytes were passed on
 pub faulted_of_whole : (config : Config) (done piece : List ℕ) (last : ℕ) (old new : Option (List ℕ)) (state : State) (before now : ℕ) (f : Fault) → take MAX_BYTES (done ++ piece) ≡ done ++ piece
     → length piece ≤ last → length piece ≤ PIECE → PieceFault (first_state config) old new state done piece before now f → Faulted config (done ++ piece) last old new f
 faulted_of_whole config done piece last old new state before now f t l b h =
@@ -143,7 +143,7 @@ counts_of_piece M start new state done piece reads reads' before now fault.Write
 counts_of_piece M start new state done piece reads reads' before now fault.Memory e h = (e, h.0)
 counts_of_piece M start new state done piece reads reads' before now fault.TooMuch e h = (e, h.0)
 
--- too many bytes: all lines of those that are taken are answered
+-- too many bytes: all lines of the bytes that are taken are answered
 pub too_many_bytes : (config : Config) (all bytes : List ℕ) (last : ℕ) (old new : Option (List ℕ)) (s : Session) → take MAX_BYTES all ≡ bytes → MAX_BYTES < length all
     → Progress (first_state config) old new s bytes → Faulted config all last old new fault.TooMuch
 too_many_bytes config all bytes last old new s t many p =
@@ -165,7 +165,7 @@ finished_causes M start new state done piece reads reads' before now result same
 pub room_split : (ys : List ℕ) (room n : ℕ) → room ≤ n → take n ys ≡ take room ys ++ drop room (take n ys)
 room_split ys room n h = rw (← take-take room n ys h, take-append-drop) refl
 
--- all that the reader told was read
+-- all bytes that the reader had were read
 pub text_of_known : (config : Config) (before left : Option (List ℕ)) (input : List ℕ) (old new : Option (List ℕ)) (result : Result Summary Fault) → Consumes before left input → IsAtEnd left
     → IfOk result (λ summary. Appends old new (texts (first_state config) (lines_of input)) × IsSummary (first_state config) (lines_of input) summary)
     → OnOk result (IfSome before (λ xs. Appends old new (text config xs)))

@@ -1,4 +1,4 @@
--- One line more.
+-- Text with one more line.
 use Rattle.std.proofs.Common.{◌≡◌, ℕ, ◌+◌, List, [], ◌∷◌, ◌++◌, refl, sym, append_assoc, append-nil, arith, if◌then◌else◌}
 use Rattle.bm_base.specs.State.{State}
 use Rattle.bm_lines.specs.Lines.{ended}

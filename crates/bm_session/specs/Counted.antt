@@ -1,4 +1,4 @@
--- What a counted reader or writer holds.
+-- The content of a counted reader or writer.
 use Rattle.std.specs.Prelude.{ℕ, Bool}
 use Rattle.bm_session.specs.declared.ends.Counted.{Counted}
 

@@ -13,7 +13,7 @@ use Rattle.bm_lines.specs.Lines.{lines_of, whole_lines}
 use Rattle.bm_session.specs.Text.{texts, text}
 use Rattle.bm_session.specs.Progress.{Answered, IsSummary}
 
--- more bytes or lines were read than a run takes
+-- more bytes or lines were read than a run accepts
 abbrev pub IsTooMuch : List ℕ → Type 0
 IsTooMuch input = (MAX_BYTES < length input) ⊎ (MAX_LINES < length (lines_of (take MAX_BYTES input)))
 
@@ -63,7 +63,7 @@ abbrev pub ConfigOfFault : Config → Fault → Type 0
 ConfigOfFault config fault.Config = config_refusal config ≡ Some BadConfig
 ConfigOfFault config _ = config_refusal config ≡ None
 
--- a run refuses the configuration exactly where it is outside its ranges
+-- a run refuses the configuration exactly if it is outside its ranges
 abbrev pub ChecksConfig : Config → Result Summary Fault → Type 0
 ChecksConfig config result = MatchResult result (λ _. config_refusal config ≡ None) (ConfigOfFault config)
 

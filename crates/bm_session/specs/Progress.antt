@@ -42,7 +42,7 @@ pub record Interrupted (M : State) (start now : Option (List ℕ)) (state : Stat
   pub written : Answered M start now done piece answered
   pub worked : (state ≡ after M (take answered (lines_of (done ++ piece)))) ⊎ (state ≡ after M (take (answered + 1) (lines_of (done ++ piece))))
 
--- there are too many lines, and those that may be are answered
+-- there are too many lines, and the maximum number is answered
 abbrev pub Overflows : State → Option (List ℕ) → Option (List ℕ) → List ℕ → Type 0
 Overflows M start now bytes = (MAX_LINES < length (lines_of bytes)) × Appends start now (texts M (take MAX_LINES (whole_lines bytes)))
 

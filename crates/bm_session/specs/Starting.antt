@@ -6,7 +6,7 @@ use Rattle.bm_base.specs.Configuration.{config_refusal}
 use Rattle.bm_session.specs.declared.fault.Fault.{Fault}
 use Rattle.bm_session.specs.declared.fault.Fault.TheVariants.{Config, Read, Write, Memory, TooMuch}
 
--- the configuration is outside its ranges; else memory lacks
+-- the configuration is outside its ranges; else the run is out of memory
 abbrev pub StartFault : base.Config → Fault → Type 0
 StartFault config Config = config_refusal config ≡ Some BadConfig
 StartFault config Read = ⊥

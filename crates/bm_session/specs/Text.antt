@@ -16,7 +16,7 @@ unfoldable pub after : State → List (List ℕ) → State
 after M [] = M
 after M (l ∷ ls) = after (line_next M l) ls
 
--- how many of the lines are refused
+-- the number of lines that are refused
 unfoldable pub refusals : State → List (List ℕ) → ℕ
 refusals M [] = 0
 refusals M (l ∷ ls) = (if line_refused M l then 1 else 0) + refusals (line_next M l) ls

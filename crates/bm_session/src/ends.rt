@@ -10,13 +10,13 @@ use std::io::{Read, Write};
 /// A source of bytes. A read is allowed only if none has failed before: so a reader has to stop at
 /// the first failure.
 pub trait Source {
-    /// The bytes that are left, where they are known.
+    /// The remaining bytes, if they are known.
     ghost remaining: { Self → Option (List ℕ) };
 
-    /// How many reads have failed.
+    /// The number of failed reads.
     ghost faults: { Self → ℕ };
 
-    /// How many bytes the last read gave.
+    /// The number of bytes that the last read gave.
     ghost last: { Self → ℕ };
 
     fn read(&mut self, buf: &mut [u8]) -> io::Result<usize>
@@ -27,12 +27,12 @@ pub trait Source {
         ensures cause { Counts (faults self.old) (faults self.new) result };
 }
 
-/// Where bytes go. A write is allowed only where no write and no flush has failed before.
+/// A destination of bytes. A write is allowed only if no write and no flush has failed before.
 pub trait Sink {
-    /// The bytes that are held, where they are known.
+    /// The content, if it is known.
     ghost contents: { Self → Option (List ℕ) };
 
-    /// How many writes and flushes have failed.
+    /// The number of failed writes and flushes.
     ghost faults: { Self → ℕ };
 
     /// Whether nothing was written since the last flush.
@@ -56,7 +56,7 @@ pub trait Sink {
 pub struct Counted<T> {
     inner: T,
     faults: u64,
-    // How many bytes the last read gave.
+    // The number of bytes that the last read gave.
     last: usize,
     // Whether nothing was written since the last flush.
     is_flushed: bool,

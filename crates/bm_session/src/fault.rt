@@ -1,4 +1,4 @@
-// How a run ends: why it ended early, or the counts of its lines.
+// The end of a run: why it ended early, or the counts of its lines.
 ghost use Rattle.std.specs.Prelude.{◌≡◌};
 ghost use Rattle.bm_session.specs.declared.fault.Fault.TheVariants.{Memory};
 
@@ -15,7 +15,7 @@ pub enum Fault {
     Write,
     /// Memory was refused.
     Memory,
-    /// There are more lines or bytes than a run takes.
+    /// There are more lines or bytes than a run accepts.
     TooMuch,
 }
 
@@ -35,7 +35,7 @@ impl<T: Drop> From<AllocFailed<T>> for Fault {
     }
 }
 
-/// How many lines there were, and how many of them were refused.
+/// The number of lines, and the number of refused ones.
 #[derive(Clone, Copy, Debug, PartialEq, Eq)]
 pub struct Summary {
     pub lines: u64,

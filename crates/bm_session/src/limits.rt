@@ -1,10 +1,10 @@
-// How much is read at most.
+// The limits of the input.
 
-/// The lines of a run.
+/// The maximum number of lines of a run.
 pub const MAX_LINES: u64 = 1_048_576;
 
-/// The bytes of a run.
+/// The maximum number of bytes of a run.
 pub const MAX_BYTES: usize = 1_073_741_824;
 
-/// The bytes of a piece, that is of one read.
+/// The maximum number of bytes of a piece, which is one read.
 pub const PIECE: usize = 65_536;

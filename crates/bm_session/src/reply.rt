@@ -1,4 +1,4 @@
-// The line that answers a line.
+// The answer to a line, as a line.
 ghost use Rattle.std.specs.Prelude.{◌≡◌, ◌⊎◌, IfOk, OnOk, OnErr, string_bytes};
 ghost use Rattle.bm_lines.specs.Lines.{ended};
 ghost use Rattle.bm_answers.specs.OneLine.{answer_to, asked_next, text_of, is_refusal};
@@ -16,7 +16,7 @@ pub struct Reply {
     pub is_refused: bool,
 }
 
-/// Makes the call, if there is one. Where memory runs out, the manager took it or not.
+/// Makes the call, if there is one. When out of memory, the manager has made the call or not.
 pub fn reply_to<H: Threads + Wait + Sync>(
     rt: &H,
     alloc: Global,

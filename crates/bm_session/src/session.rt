@@ -18,7 +18,7 @@ use std::alloc::Global;
 use std::sync::Wait;
 use std::thread::Threads;
 
-/// The manager, the line that is being read, and how many lines were answered and refused.
+/// The manager, the line that is being read, and the numbers of answered and refused lines.
 #[derive(Drop)]
 pub struct Session {
     pub alloc: Global,
@@ -37,7 +37,7 @@ impl Session {
     ghost use Rattle.std.specs.Io.KnownBytes.{Appends};
     ghost use Rattle.bm_session.specs.Progress.{Progress, MayBeWorked, LineFault, PieceFault, IsSummary};
 
-    /// Nothing is read and nothing answered yet.
+    /// Nothing is read or answered yet.
     pub fn new(alloc: Global, config: &Config, secret: HashSecret) -> Result<Session, Fault>
         ensures allowed { OnOk result (config_refusal config.now ≡ None) }
         ensures ok { IfOk result (λ s. (start : Option (List ℕ))
@@ -54,7 +54,7 @@ impl Session {
         })
     }
 
-    /// Answers the line that is held, and begins the next.
+    /// Answers the line that was read, and begins the next.
     pub fn end_line<W: Sink, H: Threads + Wait + Sync>(
         &mut self,
         rt: &H,

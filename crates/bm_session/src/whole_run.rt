@@ -15,10 +15,10 @@ use std::sync::Wait;
 use std::thread::Threads;
 
 /// Answers each line of the input by a line of the output. The tables hash by a secret that is
-/// drawn here, so that nobody can make slow lines by colliding numbers; no clause speaks of it,
-/// since no answer depends on it. A crew of threads works a call on all shards, as many as the
-/// configuration has workers, and the calling one waits for the others: so the clauses state what
-/// holds if a run returns.
+/// drawn here, so that nobody can make slow lines by colliding numbers. No clause states that,
+/// since no answer depends on it. A crew of threads, with the configured number of workers, works a
+/// call on all shards, and the calling thread waits for the others: so the clauses state what holds
+/// if a run returns.
 pub fn run<R: Source, W: Sink, H: Threads + Wait + RandomSource + Sync>(
     rt: &H,
     alloc: Global,
@@ -28,7 +28,7 @@ pub fn run<R: Source, W: Sink, H: Threads + Wait + RandomSource + Sync>(
 ) -> Result<Summary, Fault>
     requires reads { R.faults reader.old ≡ 0 }
     requires writes { W.faults writer.old ≡ 0 }
-    // The configuration is refused exactly where it is outside its ranges.
+    // The configuration is refused exactly if it is outside its ranges.
     ensures config { ChecksConfig config.now result }
     // If the reader counts its bytes, the output is their text.
     ensures text { OnOk result (IfSome (R.remaining reader.old) (λ input.
@@ -39,7 +39,7 @@ pub fn run<R: Source, W: Sink, H: Threads + Wait + RandomSource + Sync>(
         × Leaves config.now input (R.remaining reader.new) (R.last reader.new)
         (W.contents writer.old) (W.contents writer.new) result }
     ensures flushed { OnOk result (W.is_flushed writer.new ≡ true) }
-    // Where a read fails, no answer to what was read before is held back.
+    // If a read fails, all answers to earlier input are flushed.
     ensures at_reads { IsFlushedAtRead (W.is_flushed writer.old) (W.is_flushed writer.new) result }
     // A fault of the reader or the writer comes only after a failed read, or a failed write or
     // flush.
@@ -66,7 +66,7 @@ pub fn run<R: Source, W: Sink, H: Threads + Wait + RandomSource + Sync>(
     }
 }
 
-/// Random bytes of the system; no secret where it gives none.
+/// Random bytes of the system; no secret if it gives none.
 fn secret_of<H: RandomSource>(rt: &H) -> HashSecret {
     let mut bytes = [0; 8];
     match rt.fill_bytes(&mut bytes) {

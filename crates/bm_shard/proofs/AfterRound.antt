@@ -1,4 +1,4 @@
--- What is seen of a shard after a round.
+-- The content of a shard after a round, as contracts see it.
 use Rattle.std.proofs.Common.{◌≡◌, ℕ, not, List, map, refl, ap, subst, ◌∙◌}
 use Rattle.std.specs.Prelude.{true, if◌then◌else◌}
 use Rattle.bm_base.specs.declared.commands.Transfer.{Transfer}
@@ -21,18 +21,18 @@ use Rattle.bm_shard.specs.Inside.{levels_of}
 use Rattle.bm_shard.specs.Standing.{IsSameButRoom}
 use Rattle.bm_shard.proofs.Same.{seen_of}
 
--- a replica that is to be deleted is ordered
+-- a replica whose delete is commanded becomes ordered
 abbrev pub as_commanded : List Delete → ReplicaId → Marks → Marks
 as_commanded ds q m = if is_commanded ds q then record m { ordered = true } else m
 
--- which replicas are too many does not depend on transfers
+-- the surplus replicas do not depend on transfers
 pub same_surplus : (C : Cluster) (pend r : ℕ) (a : Contents) (P : Map by_replica ℕ)
     → surplus C (without_unordered_excess (without_expired pend r (holdings_with a P))) ≡ surplus C (without_unordered_excess (holdings_of a))
 unfolding surplus without_unordered_excess without_expired holdings_with holdings_of excess_in storages_where
 same_surplus C pend r a P = refl
 
 module _ (C : Cluster) (pend r index shards : ℕ) (ts : List Transfer) (ds : List Delete) (a b c : Contents) (P Q R : Map by_replica ℕ) where
-  -- the marks of a round, its deletes and its transfers come to the round
+  -- the marks of a round, its deletes and its transfers make up the round
   pub on_part : blocks_of b ≡ blocks_of a → replicas_of b ≡ (marked C (without_unordered_excess (holdings_of a))).replicas
       → blocks_of c ≡ blocks_of b → replicas_of c ≡ revise (replicas_of b) (as_commanded (own_deletes index shards ds))
       → Q ≡ keep P (λ _ t. not (is_expired pend r t)) → R ≡ insert_all Q (map (λ t. (replica_at t.block t.target, r)) (own_transfers index shards ts))
@@ -43,7 +43,7 @@ module _ (C : Cluster) (pend r index shards : ℕ) (ts : List Transfer) (ds : Li
       let pending = put ∙ ap (λ m. insert_all m (map (λ t. (replica_at t.block t.target, r)) (own_transfers index shards ts))) left in
       λ i. record { blocks = (blocks_c ∙ blocks_b) i; replicas = replicas i; pending = pending i }
 
--- with other room for transfers, all else that is seen stays
+-- with other capacity for transfers, all else that is seen stays
 pub same_without_room : (v : Leveled) (P Q : Map by_replica ℕ) → Q ≡ P → (part : Part) (round pend : ℕ) (room room' : Room) (before : Seen) → seen_of v P part round pend room ≡ before
     → IsSameButRoom before (seen_of v Q part round pend room')
 same_without_room v P Q same part round pend room room' before is = subst (λ s. IsSameButRoom s (seen_of v Q part round pend room')) is (record {

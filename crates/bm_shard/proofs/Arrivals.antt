@@ -1,4 +1,4 @@
--- Transfers that leave as their replicas come.
+-- Transfers that leave as their replicas arrive.
 use Rattle.std.proofs.Common.{◌≡◌, ℕ, zero, suc, ◌+◌, ◌<◌, arith, Bool, true, false, cond, not, ◌&&◌, ◌||◌, List, [], ◌∷◌, map, length, drop, Option, Some, None, is_some, refl, sym, ap, ◌∙◌, eqb-true}
 use Rattle.std.specs.Prelude.{◌==◌, IsSome, slice_get, option_and_then, option_map}
 use Rattle.std.specs.Option.{option_or}
@@ -19,16 +19,16 @@ use Rattle.bm_report.specs.Midway.{told_of}
 use Rattle.bm_report.proofs.Reported.{last_stamp, report_own}
 use Rattle.bm_shard.specs.Arrived.{has_arrived}
 
--- what passes where a test fails
+-- a value that stays if a test fails
 abbrev pass : Bool → ℕ → Option ℕ
 pass t v = cond (not t) (Some v) None
 
 module _ (a : Contents) (s : ℕ) where
-  -- the transfers of the blocks in a list that have arrived are out
+  -- without the transfers of the listed blocks that have arrived
   abbrev pub dropped : List ℕ → Map by_replica ℕ → Map by_replica ℕ
   dropped xs m = keep m (λ q _. not (has xs q.block && has_arrived a s q))
 
-  -- those of one block
+  -- without those of one block
   abbrev pub dropped_at : ℕ → Map by_replica ℕ → Map by_replica ℕ
   dropped_at b m = keep m (λ q _. not ((b == q.block) && has_arrived a s q))
 
@@ -55,7 +55,7 @@ module _ (a : Contents) (s : ℕ) where
       all None = refl
       all (Some v) = refl
 
-  -- where all blocks with transfers are listed, all that have arrived are out
+  -- if all blocks with transfers are listed, all transfers that have arrived leave
   pub dropped-all : (xs : List ℕ) (m : Map by_replica ℕ) → ((q : ReplicaId) → IsSome (get m q) → has xs q.block ≡ true) → dropped xs m ≡ keep m (λ q _. not (has_arrived a s q))
   dropped-all xs m listed =
       same_map (dropped xs m) (keep m (λ q _. not (has_arrived a s q))) (λ q.
@@ -66,7 +66,7 @@ module _ (a : Contents) (s : ℕ) where
       where_some x z None h = refl
       where_some x z (Some v) h = ap (λ t. pass (t && z) v) (h refl)
 
-  -- the block's transfer to s alone is meant
+  -- the test passes the block's transfer to s alone
   same_arrived : (b : ℕ) (q : ReplicaId) → ((b == q.block) && has_arrived a s q) ≡ (eq_by_cmp by_replica.cmp q (replica_at b s) && contains_key (replicas_of a) (replica_at b s))
   same_arrived b q =
       ap (λ t. t && has_arrived a s q) (eqb_turned b q.block) ∙ by (q.block == b) (q.storage == s) refl refl
@@ -95,7 +95,7 @@ module _ (a : Contents) (s : ℕ) where
       out false None = refl
       out false (Some v) = refl
 
-  -- nothing leaves where there is no such transfer or no such replica
+  -- nothing leaves without such a transfer and such a replica
   pub dropped-none : (b : ℕ) (m : Map by_replica ℕ) → (contains_key m (replica_at b s) && contains_key (replicas_of a) (replica_at b s)) ≡ false → m ≡ dropped_at b m
   dropped-none b m none =
       same_map m (dropped_at b m) (λ q. by q (eq_by_cmp by_replica.cmp q (replica_at b s)) refl ∙ sym (get-dropped_at b m q))
@@ -117,7 +117,7 @@ pub none_to_drop : (x y : Bool) → y ≡ false → (x && y) ≡ false
 none_to_drop true y e = e
 none_to_drop false y e = refl
 
--- the block at a place, and the places behind it
+-- the block at an index, and the blocks after it
 pub drop_here : (xs : List ℕ) (i : ℕ) → i < length xs → (b : ℕ) × (slice_get xs i ≡ Some b) × (drop i xs ≡ b ∷ drop (i + 1) xs)
 drop_here [] i less = absurd (omega (arith, less))
 drop_here (x ∷ xs) zero less = (x, refl, refl)
@@ -126,7 +126,7 @@ drop_here (x ∷ xs) (suc i) less =
     let next : suc i + 1 ≡ suc (i + 1) = omega arith in
     (rest.0, rest.1, rest.2 ∙ ap (λ k. rest.0 ∷ drop k (x ∷ xs)) (sym next))
 
--- After a report a named block has a replica on the storage, and no other has.
+-- After a report exactly the named blocks have a replica on the storage.
 
 named_last : (ns : List Named) (b : ℕ) → is_named (map told_of ns) b ≡ is_some (last_stamp ns b)
 unfolding is_named
@@ -139,7 +139,7 @@ named_last (n ∷ ns) b = ap (λ t. (n.id == b) || t) (named_last ns b) ∙ join
     joined (Some x) true = refl
     joined (Some x) false = refl
 
--- a named block has a replica there, and no other block
+-- exactly the named blocks have a replica there
 pub named_there : (C : Cluster) (H : Holdings) (s : ℕ) (ns : List Named) (a : Contents) → replicas_of a ≡ (report C H s (map told_of ns)).replicas
     → (q : ReplicaId) → (q.storage == s) ≡ true → contains_key (replicas_of a) q ≡ is_named (map told_of ns) q.block
 named_there C H s ns a is q own = ap (λ k. contains_key k q) is ∙ ap is_some (report_own C H s ns q own) ∙ there (last_stamp ns q.block) ∙ sym (named_last ns q.block)

@@ -1,4 +1,4 @@
--- Numbers with an unused entry: what is seen of them, and when none are left.
+-- Numbers with an unused entry as contracts see them, and when there are none.
 use Rattle.std.proofs.Common.{◌≡◌, ℕ, Bool, true, false, cond, List, [], ◌∷◌, map, take, drop, Option, Some, None, Result, Ok, Err, is_some, refl, sym, ap, subst, inl, inr, ◌∙◌}
 use Rattle.std.specs.Prelude.{◌≢◌, ◌==◌, ◌||◌, IsTrue, OnErr, option_map}
 use Rattle.std.proofs.lemmas.Bool.{cases_eq, eqb-true, eq-eqb, false≢true}
@@ -41,7 +41,7 @@ use Rattle.bm_shard.proofs.Numbers.{entered, has_entry}
 use Rattle.bm_base.specs.Excess.{marked, without_unordered_excess}
 use Rattle.bm_shard.proofs.Same.{seen_of}
 
--- What is seen of these fields.
+-- The same for the fields of a shard.
 module _ (v : Leveled) (P : Map by_replica ℕ) (part : Part) (round pend : ℕ) (report : Option LookUp) (transfers : List (ℕ × ℕ)) where
   abbrev seen : Seen
   seen = seen_of v P part round pend (record { entries = numbers_of v.arena; lists = heads_of v.arena; report = report; transfers = transfers })
@@ -57,15 +57,15 @@ module _ (v : Leveled) (P : Map by_replica ℕ) (part : Part) (round pend : ℕ)
   pub none_outside : levels.HasNoneBare v.arena → HasNoneBare seen
   none_outside none b bare = none b (bare_inside b bare)
 
-  -- where what was seen before is given
+  -- for a shard that was seen as `before`
   pub none_inside : (before : Seen) → seen ≡ before → HasNoneBare before → levels.HasNoneBare v.arena
   none_inside before is none b bare = let P : Seen → Type 0 = λ S. HasNoneBare S in subst P (sym is) none b (bare_outside b bare)
 
-  -- and no number is bare that was not
+  -- no number has an unused entry that had none before
   pub none_kept : (w : Leveled) (before : Seen) → seen ≡ before → HasNoneBare before → levels.MakesNoneBare v.arena w.arena → levels.HasNoneBare w.arena
   none_kept w before is none keeps b bare = none_inside before is none b (keeps b bare)
 
--- only these are bare, where none was and none but these became so
+-- only these numbers have unused entries, if none had one before, and only these got one
 pub only_these : (a c : Contents) (these : ℕ → Bool) → levels.HasNoneBare a → levels.MakesBareOnly these a c → (b : ℕ) → levels.IsBare c b → IsTrue (these b)
 only_these a c these none keeps b bare = by (these b) refl
   where
@@ -77,13 +77,13 @@ only_these a c these none keeps b bare = by (these b) refl
 pub same_bare : (a c : Contents) → c ≡ a → levels.MakesNoneBare a c
 same_bare a c is b bare = let P : Contents → Type 0 = λ x. levels.IsBare x b in subst P is bare
 
--- where no number is bare that was not, and none was
+-- no number has an unused entry, if none had one before, and none got one
 pub none_more : (a c : Contents) → levels.HasNoneBare a → levels.MakesNoneBare a c → levels.HasNoneBare c
 none_more a c none keeps b bare = none b (keeps b bare)
 
--- Changes in place, at the same numbers.
+-- Changes in place, of the same numbers.
 
--- a changed value is there where it was
+-- a changed value has the same key
 pub none_revised : {K X : Type 0} {o : Order K} (m n : Map o X) (f : K → X → X) → n ≡ revise m f → (q : K) → get n q ≡ None → get m q ≡ None
 none_revised {K} {X} m n f is q none = by (get m q) (sym (get-revise m f q) ∙ ap (λ k. get k q) (sym is) ∙ none)
   where
@@ -95,7 +95,7 @@ pub none_revised_at : {K X : Type 0} {o : Order K} (m n : Map o X) (k : K) (f : 
 unfolding revise_at
 none_revised_at m n k f is = none_revised m n _ is
 
--- a value that was put takes none out
+-- an insertion removes no entry
 pub none_put : (m n : Map by_number BlockInfo) (b : ℕ) (i : BlockInfo) → n ≡ insert m b i → (q : ℕ) → get n q ≡ None → get m q ≡ None
 none_put m n b i is q none = by (q == b) (ap (λ t. cond t (Some i) (get m q)) (sym (number_tie q b)) ∙ sym (get-insert m b i q) ∙ ap (λ k. get k q) (sym is) ∙ none)
   where
@@ -110,7 +110,8 @@ bare_by a c ids unknown empty b bare = bare_before a c b (some_before (same_numb
 pub same_none : {K X : Type 0} {o : Order K} (m n : Map o X) → n ≡ m → (q : K) → get n q ≡ None → get m q ≡ None
 same_none m n is q none = sym (ap (λ k. get k q) is) ∙ none
 
--- Where none but a number of which a replica was received were bare, none is.
+-- After the insertion of a received replica no entry is unused, if at most the entry of its number
+-- was before.
 pub none_received : (C : Cluster) (H : Holdings) (a c : Contents) (s b : ℕ) (stamp : Stamp) → IsLawful a → c.ids ≡ a.ids
     → ((slot : ℕ) → slot_of a b ≢ Some slot → block_at c slot ≡ block_at a slot) → replicas_of c ≡ (enter C H (replica_at b s) stamp).replicas
     → ((n : ℕ) → levels.IsBare a n → b ≡ n) → levels.HasNoneBare c
@@ -127,8 +128,8 @@ none_received C H a c s b stamp lawful ids others is only n bare =
           differs (sym (only n (bare_elsewhere a c n led.0 here led.1 (others led.0 apart) bare)))
     ]
 
--- Where none but the numbers of a report were bare, and the slots that it swept have no bare entry
--- any more, none is: the other slots that it changed are those of its numbers.
+-- After a report no entry is unused, if at most those of its numbers were before, and none at the
+-- slots that it swept is: the other slots that it changed are those of its numbers.
 pub none_reported : (C : Cluster) (H : Holdings) (s : ℕ) (ns : List Named) (a m c : Contents) (changed : List ℕ) (came : ℕ) → IsLawful a → m.ids ≡ a.ids
     → levels.IsSameBeside changed a m → ((slot : ℕ) → Among slot (take came changed) → IsToldAt a (map told_of ns) slot) → replicas_of m ≡ (report C H s (map told_of ns)).replicas
     → ((n : ℕ) → levels.IsBare a n → IsTrue (is_named (map told_of ns) n)) → levels.MakesNoneBare m c
@@ -159,7 +160,7 @@ none_reported C H s ns a m c changed came lawful ids others told is only keeps l
         let P : List ℕ → Type 0 = λ l. Among slot l in
         elim (Among-append slot (take came changed) (drop came changed) (subst P (sym (take-append-drop came changed)) h)) [ inl x ↦ front x | inr y ↦ back y ]
 
--- What was prepared.
+-- The reservation of an event.
 
 pub prepared_report : (p : Prepared) (r : Looked) (s : ℕ) (b : ℕ) → p ≡ prepared.Report s → IsTrue (is_prepared p r b) → IsTrue (is_named (told r) b)
 prepared_report p r s b is h = let P : Prepared → Type 0 = λ x. IsTrue (is_prepared x r b) in subst P is h
@@ -178,7 +179,7 @@ prepared_one p r s b stamp n is named h =
     one true e = refl
     one false e = e
 
--- the one number that is told is named
+-- only the number of the notice is named
 pub named_alone : (r : Looked) (b : ℕ) (stamp : Stamp) (n : ℕ) → told r ≡ record { id = b; stamp = stamp } ∷ [] → IsTrue (b == n) → IsTrue (is_named (told r) n)
 unfolding is_named
 named_alone r b stamp n is h = let P : List Told → Type 0 = λ ts. IsTrue (is_named ts n) in subst P (sym is) (ap (λ t. t || false) h)
@@ -194,12 +195,12 @@ may_add part e S b stamp repl is h = let P : Event → Type 0 = λ x. HasBareOnl
 pub may_receive : (part : Part) (e : Event) (S : Seen) (s b : ℕ) (stamp : Stamp) → e ≡ Received s b stamp → HasBareOnly (λ n. b == n) S → HasBareOnly (may_enter part e) S
 may_receive part e S s b stamp is h = let P : Event → Type 0 = λ x. HasBareOnly (may_enter part x) S in subst P (sym is) h
 
--- marks of excess take no replica out
+-- marks of excess remove no replica
 pub none_marked : (C : Cluster) (H : Holdings) (n : Map by_replica Marks) → n ≡ (marked C (without_unordered_excess H)).replicas → (q : ReplicaId) → get n q ≡ None → get H.replicas q ≡ None
 unfolding marked without_unordered_excess
 none_marked C H n is q none = none_revised H.replicas _ _ refl q (none_revised _ n _ is q none)
 
--- what holds, holds also of a refusal
+-- a fact also holds for a refusal
 pub on_err : {X E P : Type 0} (r : Result X E) → P → OnErr r P
 on_err (Ok x) h = tt
 on_err (Err e) h = h

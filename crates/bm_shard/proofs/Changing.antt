@@ -1,5 +1,5 @@
--- An event that changes blocks, replicas and transfers, with the levels of the blocks: what is seen
--- of it.
+-- An event that changes blocks, replicas and transfers, with the levels of the blocks, as contracts
+-- see it.
 use Rattle.std.proofs.Common.{◌≡◌, ℕ, refl, sym, ap, subst, ◌∙◌}
 use Rattle.bm_base.specs.declared.ids.Part.{Part}
 use Rattle.bm_base.specs.declared.event.Done.{Done}
@@ -29,15 +29,15 @@ module _ (C D : Cluster) (v w : Leveled) (P Q : Map by_replica ℕ) (lawful_v : 
     pend = refl;
   }
 
-  -- where what was seen before is given
+  -- for a shard that was seen as `before`
   pub changed_seen : (to : Holdings → Holdings) (answer : Done) (before : Seen) → seen_of v P part round pend room ≡ before
       → holdings_with w.arena Q ≡ to (holdings_with v.arena P) → answer ≡ done (holdings_with v.arena P) (to (holdings_with v.arena P))
       → HasChanged C D before (seen_of w Q part round pend room') (to before.holdings) answer
   changed_seen to answer before seen is answers =
       subst (λ s. HasChanged C D s (seen_of w Q part round pend room') (to s.holdings) answer) seen (has_changed (to (holdings_with v.arena P)) answer is answers)
 
--- A shard that stands in a cluster does so still where only room changed; and so what an event
--- makes of it then, it makes of what was.
+-- A shard that changes only its capacity is up to date in the same clusters. So an event has the
+-- same effect on it as before.
 
 pub stands_still : (C : Cluster) (old mid : Seen) → StandsIn C old → IsSameButRoom old mid → StandsIn C mid
 stands_still C old mid stands same =

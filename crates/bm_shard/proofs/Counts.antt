@@ -1,4 +1,4 @@
--- Counting the pairs that came and went.
+-- The numbers of pairs that came and went.
 use Rattle.std.proofs.Common.{◌≡◌, ◌+◌, ◌-◌, ◌≤◌, fold, Bool, true, false, cond, not, List, [], ◌∷◌, Option, Some, is_some, count_by, None, refl, sym, ap, ◌∙◌, is_eq}
 use Rattle.std.specs.Prelude.{option_map, option_and_then}
 use Rattle.std.specs.FinMap.{find}
@@ -12,7 +12,7 @@ use Rattle.bm_base.proofs.Differences.{none_new, none_came, some_left, len-keep-
 use Rattle.bm_base.specs.State.{by_replica}
 use Rattle.bm_base.specs.Calls.{new_replicas}
 
--- a key that is found among some is found among more
+-- a key that is found among some entries is found among more
 found_more : {X : Type 0} (b : Bool) (x : X) (o : Option X) → is_some o ≡ true → is_some (cond b (Some x) o) ≡ true
 found_more true x o h = refl
 found_more false x o h = h
@@ -29,7 +29,7 @@ pub same_replicas : (m : Map by_replica Marks) → new_replicas m m ≡ 0
 unfolding new_replicas get entries
 same_replicas m = none_missing by_replica m.list m.list (λ q h. h)
 
--- What came and went by each change in place.
+-- The pairs that came and went by each change in place.
 
 pub none_by_revise : (m : Map by_replica Marks) (f : ReplicaId → Marks → Marks) → (new_replicas m (revise m f) ≡ 0) × (new_replicas (revise m f) m ≡ 0)
 unfolding new_replicas
@@ -46,7 +46,7 @@ pub gone_by_keep : (m : Map by_replica Marks) (p : ReplicaId → Bool) → (new_
 unfolding new_replicas
 gone_by_keep m p = (none_came m p, some_left m p)
 
--- to remove a key is to keep all others
+-- a removal of a key keeps all others
 pub removed_is_kept : (m : Map by_replica Marks) (k : ReplicaId) → remove m k ≡ keep m (λ q _. not (eq_by_cmp by_replica.cmp q k))
 removed_is_kept m k =
     same_map (remove m k) (keep m (λ q _. not (eq_by_cmp by_replica.cmp q k))) (λ q.

@@ -1,4 +1,4 @@
--- A storage that is listed has a head; and an event that is another shard's takes no storage out.
+-- A storage with a list has a head; and an event of another shard removes no storage.
 use Rattle.std.proofs.Common.{◌≡◌, ℕ, Bool, true, false, cond, List, [], ◌∷◌, map, Some, refl, inl, inr, sym, ◌∙◌}
 use Rattle.std.specs.Prelude.{nat_eq, IsSome, ◌==◌}
 use Rattle.std.specs.Map.{lookup}
@@ -25,7 +25,7 @@ among_found s (p ∷ ps) h = by (s == p.0) refl h (among_found s ps)
 pub none_listed : (a : Contents) (left : ℕ → Bool) → HasNoHeads left a → (s : ℕ) → left s ≡ true → Among s (heads_of a) → ⊥
 none_listed a left none s e there = none s e (among_found s a.lists there)
 
--- an event on a block takes no storage out
+-- an event on a block removes no storage
 pub none_leaves : (C : Cluster) (e : Event) (b : ℕ) → block_of e ≡ Some b → (s : ℕ) → leaves C e s ≡ true → ⊥
 none_leaves C (Dead n) b on s h = cc
 none_leaves C (StorageFailed t) b on s h = cc

@@ -51,7 +51,7 @@ pub get-levels_of : (v : Leveled) (b : ℕ) → get (levels_of v) b ≡ option_a
 unfolding levels_of
 get-levels_of v b = get-levels_among v.kept v.arena.ids b
 
--- where the slots are right in a cluster, so are the numbers
+-- if the levels of the slots are right in a cluster, so are those of the numbers
 pub right_by_number : (C : Cluster) (v : Leveled) (P : Map by_replica ℕ) → IsLawful v.arena → AreLevels C v → (b : ℕ) → get (levels_of v) b ≡ level C (holdings_with v.arena P) b
 right_by_number C v P lawful right b = get-levels_of v b ∙ at (slot_of v.arena b) ∙ sym (level_is_at_slot C v.arena P b lawful)
   where
@@ -59,7 +59,7 @@ right_by_number C v P lawful right b = get-levels_of v b ∙ at (slot_of v.arena
     at None = refl
     at (Some slot) = right slot
 
--- and where the numbers are right, so are the slots
+-- if the levels of the numbers are right, so are those of the slots
 pub right_by_slot : (C : Cluster) (v : Leveled) (P : Map by_replica ℕ) → IsLawful v.arena → IsLeveled v → ((b : ℕ) → get (levels_of v) b ≡ level C (holdings_with v.arena P) b) → AreLevels C v
 right_by_slot C v P lawful leveled right slot = at (block_at v.arena slot) refl
   where

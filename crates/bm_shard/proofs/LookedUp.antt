@@ -1,4 +1,4 @@
--- What was looked up of a notice or a report.
+-- The look-up of a notice or a report.
 use Rattle.std.proofs.Common.{◌≡◌, ℕ, List, Some}
 use Rattle.bm_base.specs.Entries.{Told}
 use Rattle.bm_report.specs.Ready.{Looked, told}
@@ -7,14 +7,14 @@ use Rattle.bm_shard.specs.declared.shard.Prepared.TheVariants as prepared
 use Rattle.bm_shard.specs.Seen.{NoticeOf, ReportOf}
 use Rattle.bm_shard.specs.Inside.{report_of}
 
--- a report is seen only where one of that storage was prepared
+-- a report is seen only if one of that storage was prepared
 pub looked_up : (r : Looked) (p : Prepared) (s : ℕ) (ts : List Told) → report_of r p ≡ Some (ReportOf s ts) → (p ≡ prepared.Report s) × (told r ≡ ts)
 looked_up r prepared.Nothing s ts e = cc
 looked_up r (prepared.Entry b) s ts e = cc
 looked_up r (prepared.Notice t) s ts e = cc
 looked_up r (prepared.Report t) s ts e = (cc, cc)
 
--- and so is a notice
+-- a notice is seen only if one of that storage was prepared
 pub noticed : (r : Looked) (p : Prepared) (s : ℕ) (ts : List Told) → report_of r p ≡ Some (NoticeOf s ts) → (p ≡ prepared.Notice s) × (told r ≡ ts)
 noticed r prepared.Nothing s ts e = cc
 noticed r (prepared.Entry b) s ts e = cc

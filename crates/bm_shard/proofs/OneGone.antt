@@ -1,4 +1,4 @@
--- A replica that is taken out counts one, if it was there.
+-- A removed replica counts one, if it existed.
 use Rattle.std.proofs.Common.{◌≡◌, ◌+◌, ◌-◌, Bool, true, false, cond, Option, Some, None, is_some, refl, sym, ap, ◌∙◌, arith}
 use Rattle.std.specs.Ordering.{eq_by_cmp}
 use Rattle.bm_base.specs.declared.replica.Marks.{Marks}
@@ -12,7 +12,7 @@ use Rattle.bm_base.proofs.Maps.{get_taken}
 use Rattle.bm_shard.proofs.Counts.{gone_by_remove}
 
 module _ (m : Map by_replica Marks) (k : ReplicaId) where
-  -- where nothing stood, nothing leaves
+  -- without an entry nothing is removed
   nothing_left : get m k ≡ None → remove m k ≡ m
   nothing_left none = same_map (remove m k) m (λ q. get-remove m k q ∙ by q (eq_by_cmp by_replica.cmp q k) refl)
     where
@@ -20,7 +20,7 @@ module _ (m : Map by_replica Marks) (k : ReplicaId) where
       by q true t = sym (ap (get m) (by_replica.same q k (equal _ t)) ∙ none)
       by q false t = refl
 
-  -- what left, put back
+  -- a removed entry that is inserted again
   put_back : (x : Marks) → get m k ≡ Some x → insert (remove m k) k x ≡ m
   put_back x found = same_map (insert (remove m k) k x) m (λ q. get-insert (remove m k) k x q ∙ ap (cond (eq_by_cmp by_replica.cmp q k) (Some x)) (get-remove m k q) ∙ by q (eq_by_cmp by_replica.cmp q k) refl)
     where

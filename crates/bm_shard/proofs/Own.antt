@@ -43,13 +43,13 @@ module _ (part : Part) (e : Event) where
 pub not_owned : (part : Part) (e : Event) → owns part e ≡ false → (b : ℕ) × (block_of e ≡ Some b)
 not_owned part e = on_block part e (block_of e) refl
 
--- so what it makes of the shard's holdings is what it makes of any
+-- so its effect on the shard's holdings is the effect that the definition gives
 pub by_own : (C : Cluster) (old new : Seen) (answer : Done) (e : Event) (b : ℕ) → block_of e ≡ Some b → owns old.part e ≡ true
     → HasChanged C (change_cluster C e) old new (change_holdings C old.holdings e) answer
     → HasChanged C (change_cluster C e) old new (change_part C old.holdings old.part.index old.part.shards e) answer
 by_own C old new answer e b on is h = subst (λ H. HasChanged C (change_cluster C e) old new H answer) (sym (own_changes old.part e C old.holdings b on is)) h
 
--- an event that is another shard's leaves all but room
+-- an event of another shard changes only the capacity
 pub left_alone : (C : Cluster) (e : Event) (old new : Seen) → owns old.part e ≡ false → StandsIn C old → IsSameButRoom old new
     → (new.holdings ≡ change_part C old.holdings old.part.index old.part.shards e) × (record { added = 0; removed = 0 } ≡ done old.holdings new.holdings) × StandsIn (change_cluster C e) new
 left_alone C e old new other stands same =
@@ -63,7 +63,7 @@ left_alone C e old new other stands same =
       }),
     )
 
--- where the holdings stay, few replicas come and go: none
+-- if the holdings stay, no replicas come or go
 pub none_few : (H : Holdings) (answer : Done) → answer ≡ done H H → (answer.added < 2 ^ 100) × (answer.removed < 2 ^ 100)
 none_few H answer is =
     let added = ap (λ (d : Done). d.added) (is ∙ nothing_done H) in

@@ -1,4 +1,4 @@
--- Putting the transfers of a shard's own blocks, one after another.
+-- The insertion of the transfers of a shard's own blocks, one after another.
 use Rattle.std.proofs.Common.{◌≡◌, ℕ, ◌≤◌, ◌<◌, ◌+◌, Bool, true, false, cond, List, ◌∷◌, filter, map, length, arith, refl, sym, ap, subst, ◌∙◌}
 use Rattle.std.specs.Prelude.{◌==◌, suc, if◌then◌else◌}
 use Rattle.std.proofs.lemmas.Bool.{false≢true, eqb-true, eq-eqb}
@@ -20,7 +20,7 @@ count_of b ts = length (filter (λ t. t.block == b) ts)
 abbrev pub own : Part → List Transfer → List Transfer
 own part ts = own_transfers part.index part.shards ts
 
--- with the own transfers of a list put too, all are on their way, and there is room for them
+-- with the own transfers of a list inserted too, all are pending, and there is capacity for them
 pub record AreAhead (part : Part) (round : ℕ) (p : OnTheWay) (ts : List Transfer) (all : Map by_replica ℕ) : Type 0 where
   pub transfers : insert_all p.map (to_put round (own part ts)) ≡ all
   pub places : (b : ℕ) → count_of b (own part ts) ≤ room p b
@@ -29,7 +29,7 @@ at_most_one : (t : Bool) → cond t 1 0 ≤ 1
 at_most_one true = omega arith
 at_most_one false = omega arith
 
--- the first takes a place of its block, so many are left for the others
+-- the first takes capacity of its block, and enough is left for the others
 left_over : (x b F R Q : ℕ) → (t : Bool) → (x == b) ≡ t → (if x == b then suc F else F) ≤ R → R ≤ Q + (if b == x then 1 else 0) → F ≤ Q
 left_over x b F R Q true e h less =
     let one : suc F ≤ R = subst (λ t. cond t (suc F) F ≤ R) e h in
@@ -57,21 +57,21 @@ module _ (part : Part) (round : ℕ) (p : OnTheWay) (t : Transfer) (ts : List Tr
     first_counts : (b : ℕ) → cond (t.block == b) (suc (count_of b (own part ts))) (count_of b (own part ts)) ≤ room p b
     first_counts b = subst (λ n. n ≤ room p b) (ap (count_of b) own_next ∙ counted b) (h.places b)
 
-    -- there is room for the first
+    -- there is capacity for the first
     pub has_room : 0 < room p t.block
     has_room =
         let first : suc (count_of t.block (own part ts)) ≤ room p t.block =
         subst (λ u. cond u (suc (count_of t.block (own part ts))) (count_of t.block (own part ts)) ≤ room p t.block) (eq-eqb t.block t.block refl) (first_counts t.block) in
         omega (arith, first)
 
-    -- and it is put
+    -- it is inserted
     pub put_one : (q : OnTheWay) → q.map ≡ insert p.map (replica_at t.block t.target) round → ((b : ℕ) → room p b ≤ room q b + (if b == t.block then 1 else 0)) → AreAhead part round q ts all
     put_one q is less = record {
       transfers = ap (λ m. insert_all m (to_put round (own part ts))) is ∙ sym (ap (λ xs. insert_all p.map (to_put round xs)) own_next) ∙ h.transfers;
       places = λ b. left_over t.block b (count_of b (own part ts)) (room p b) (room q b) (t.block == b) refl (first_counts b) (less b);
     }
 
-  -- one of another shard is left out
+  -- one of another shard is skipped
   pub skip_one : (shard_of t.block part.shards == part.index) ≡ false → AreAhead part round p (t ∷ ts) all → AreAhead part round p ts all
   skip_one other h =
       let P : List Transfer → Type 0 = λ xs. (insert_all p.map (to_put round xs) ≡ all) × ((b : ℕ) → count_of b xs ≤ room p b) in

@@ -11,7 +11,7 @@ use Rattle.bm_base.specs.RoundParts.{own_transfers}
 use Rattle.bm_shard.specs.Standing.{IsSameButRoom}
 use Rattle.bm_shard.specs.Seen.{Seen, IsReadyFor, IsReadyForRound, takes_room}
 
--- an event for which nothing has to be made ready
+-- an event that needs no reservation
 pub ready_without : (e : Event) (S : Seen) → takes_room e ≡ false → IsReadyFor e S
 unfolding IsReadyFor
 ready_without (AddBlock b stamp repl) S none = absurd (true≢false none)
@@ -19,7 +19,7 @@ ready_without (Received s b stamp) S none = absurd (true≢false none)
 ready_without (FullReport s es) S none = absurd (true≢false none)
 ready_without e S none = tt
 
--- for a round stays ready what was
+-- a shard that is ready for a round stays so, if it changes only other capacity
 pub ready_still : (chosen : Chosen) (old mid : Seen) → IsSameButRoom old mid → mid.room.transfers ≡ old.room.transfers → IsReadyForRound chosen old → IsReadyForRound chosen mid
 unfolding IsReadyForRound
 ready_still chosen old mid same rooms ready b =

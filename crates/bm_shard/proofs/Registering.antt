@@ -1,4 +1,4 @@
--- A new node keeps the replicas where they are.
+-- A new node leaves the replicas on their storages.
 use Rattle.std.proofs.Common.{◌≡◌, ℕ, false, None, List, is_some, ap, ◌∙◌}
 use Rattle.std.specs.Prelude.{◌||◌, IsSome, option_map, option_and_then}
 use Rattle.std.specs.List.{list_any}
@@ -29,7 +29,7 @@ is_new C n rack ss e =
     let fails = all_fail NodeKnown StorageKnown TooMany (contains_key C.nodes n) (has_repeats ss || list_any (knows_storage C) ss) _ e in
     (fails.0, (or_parts (has_repeats ss) (list_any (knows_storage C) ss) fails.1).1)
 
--- a known storage stands on a rack
+-- a known storage is on a rack
 on_rack : (C : Cluster) (s : ℕ) → IsLawfulCluster C → IsSome (get C.storages s) → IsSome (rack_of C s)
 unfolding rack_of node_of
 on_rack C s lawful known =

@@ -14,13 +14,13 @@ use Rattle.bm_shard.specs.Standing.{IsSameButRoom}
 use Rattle.bm_shard.specs.Inside.{levels_of}
 use Rattle.bm_shard.proofs.Levels.{right_by_number, right_by_slot}
 
--- blocks and replicas are those that were, and levels are right where they were
+-- blocks and replicas stay, and levels that were right stay right
 pub record KeepsHeld (v w : Leveled) : Type 0 where
   pub blocks : blocks_of w.arena ≡ blocks_of v.arena
   pub replicas : replicas_of w.arena ≡ replicas_of v.arena
   pub levels : (C : Cluster) → AreLevels C v → AreLevels C w
 
--- what is seen of these fields
+-- the view of contracts on these fields
 abbrev pub seen_of : Leveled → Map by_replica ℕ → Part → ℕ → ℕ → Room → Seen
 seen_of v P part round pend room = record { holdings = holdings_with v.arena P; part = part; round = round; pend = pend; levels = levels_of v; room = room }
 
@@ -40,6 +40,6 @@ module _ (v w : Leveled) (P : Map by_replica ℕ) (lawful_v : IsLawful v.arena) 
     levels = λ C stands. levels_same C stands.levels;
   }
 
-  -- the same, where what was seen before is given
+  -- for a shard that was seen as `before`
   pub same_seen : (part : Part) (round pend : ℕ) (room room' : Room) (before : Seen) → seen_of v P part round pend room ≡ before → IsSameButRoom before (seen_of w P part round pend room')
   same_seen part round pend room room' before is = subst (λ s. IsSameButRoom s (seen_of w P part round pend room')) is (same_but_room part round pend room room')

@@ -21,7 +21,7 @@ use Rattle.bm_shard.proofs.Counts.{same_replicas}
 pub record NoneTo (m : Map by_replica ℕ) (s : ℕ) : Type 0 where
   pub none : (q : ReplicaId) → q.storage ≡ s → get m q ≡ None
 
--- the transfers to the node's storages at the first places have left, and none to others
+-- the transfers to the node's storages before this index have left, and no others
 pub record AreGone (C : Cluster) (n : ℕ) (old new : Map by_replica ℕ) (place : ℕ) : Type 0 where
   pub others : (q : ReplicaId) → has_storage C n q.storage ≡ false → get new q ≡ get old q
   pub gone : HaveGone C n (NoneTo new) place
@@ -44,7 +44,7 @@ pub gone_at_first : (C : Cluster) (n : ℕ) (old : Map by_replica ℕ) → AreGo
 gone_at_first C n old = record { others = λ q _. refl; gone = gone_none C n (NoneTo old) }
 
 module _ (C : Cluster) (n : ℕ) (old m : Map by_replica ℕ) (place : ℕ) (before : AreGone C n old m place) where
-  -- the storage at the next place is the node's, and the transfers to it leave
+  -- the storage at this index is the node's, and the transfers to it leave
   pub gone_one : (s : ℕ) (new : Map by_replica ℕ) → slice_get (keys C.storages) place ≡ Some s → has_storage C n s ≡ true → new ≡ keep m (λ q _. not (q.storage == s)) → AreGone C n old new (place + 1)
   gone_one s new at own is = record {
     others = λ q off. at_key q ∙ passing (q.storage == s) (get m q) (other q (q.storage == s) refl off) ∙ before.others q off;
@@ -67,7 +67,7 @@ module _ (C : Cluster) (n : ℕ) (old m : Map by_replica ℕ) (place : ℕ) (bef
       here : (t : ℕ) → s ≡ t → NoneTo new t
       here t same = record { none = λ q is_t. at_key q ∙ failing (q.storage == s) (get m q) (eq-eqb q.storage s (is_t ∙ sym same)) }
 
-  -- the storage at the next place is not the node's
+  -- the storage at this index is not the node's
   pub gone_other : (s : ℕ) → slice_get (keys C.storages) place ≡ Some s → has_storage C n s ≡ false → AreGone C n old m (place + 1)
   gone_other s at off = record {
     others = before.others;
@@ -77,7 +77,7 @@ module _ (C : Cluster) (n : ℕ) (old m : Map by_replica ℕ) (place : ℕ) (bef
       some_same : {x y : ℕ} → Some x ≡ Some y → x ≡ y
       some_same e = cc
 
-  -- there is none at the next place
+  -- there is no storage at this index
   pub gone_past : slice_get (keys C.storages) place ≡ None → AreGone C n old m (place + 1)
   gone_past at = record { others = before.others; gone = gone_more C n (NoneTo m) place before.gone (λ t there mine. absurd (none_some (sym at ∙ there))) }
     where
@@ -91,7 +91,7 @@ module _ (C : Cluster) (n : ℕ) (old m : Map by_replica ℕ) (place : ℕ) (bef
       by q true e = (gone_all C n (NoneTo m) place past before.gone q.storage e).none q refl ∙ sym (failing (has_storage C n q.storage) (get old q) e)
       by q false e = before.others q e ∙ sym (passing (has_storage C n q.storage) (get old q) e)
 
--- whether a node drains, where it is known
+-- whether a node drains, if it is known
 pub drains_known : (C : Cluster) (n : ℕ) → IsLawfulCluster C → unwrap_or (if knows_node C n then Some (drains C n) else None) false ≡ drains C n
 unfolding knows_node
 drains_known C n lawful = by (contains_key C.nodes n) refl (drains C n) refl
@@ -101,7 +101,7 @@ drains_known C n lawful = by (contains_key C.nodes n) refl (drains C n) refl
     by false e false f = refl
     by false e true f = absurd (false≢true (sym e ∙ lawful.draining_alive n f))
 
--- what is held where a node begins or ceases to drain
+-- the holdings after a node begins or ceases to drain
 pub turned : (C : Cluster) (a b : Contents) (P Q : Map by_replica ℕ) (n : ℕ) (d : Bool) → b ≡ a → Q ≡ (if d && not (drains C n) then keep P (λ q _. not (has_storage C n q.storage)) else P)
     → holdings_with b Q ≡ (if d then begun_to_drain C (holdings_with a P) n else holdings_with a P)
 unfolding holdings_with begun_to_drain

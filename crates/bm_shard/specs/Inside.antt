@@ -14,7 +14,7 @@ use Rattle.bm_shard.specs.Seen.{LookUp, NoticeOf, ReportOf}
 use Rattle.bm_shard.specs.declared.shard.Prepared.{Prepared}
 use Rattle.bm_shard.specs.declared.shard.Prepared.TheVariants as prepared
 
--- a map with the level of a block, where it has one
+-- a map with the level of a block, if it has one
 abbrev pub with_level : Map by_number Level → ℕ → Option Level → Map by_number Level
 with_level m b l = option_map_or (λ x. insert m b x) l (remove m b)
 
@@ -48,7 +48,7 @@ is_prepared (prepared.Entry n) r b = n == b
 is_prepared (prepared.Notice s) r b = is_named (told r) b
 is_prepared (prepared.Report s) r b = is_named (told r) b
 
--- all that the end of what was prepared needs is there
+-- all that the end of a reservation needs
 abbrev pub HasPrepared : Prepared → Looked → Contents → Type 0
 HasPrepared (prepared.Notice s) r a = IsLookedUp r a s
 HasPrepared (prepared.Report s) r a = IsReady r a s × (r.changed ≡ [])

@@ -19,7 +19,7 @@ pub data LookUp : Type 0 where
   NoticeOf : (storage : ℕ) → (told : List Told) → LookUp
   ReportOf : (storage : ℕ) → (told : List Told) → LookUp
 
--- What was made ready. Only the calls that make it and the calls that need it read it.
+-- The reservations. Only the calls that make them and the calls that need them read them.
 pub record Room : Type 0 where
   -- the numbers that have an entry
   pub entries : List ℕ
@@ -32,30 +32,30 @@ pub record Room : Type 0 where
 
 pub record Seen : Type 0 where
   pub holdings : Holdings
-  -- which shard it is, of how many
+  -- the index of the shard, and the number of shards
   pub part : Part
-  -- the number of the last round, and after how many rounds a transfer is given up
+  -- the number of the last round, and the number of rounds after which a transfer is given up
   pub round : ℕ
   pub pend : ℕ
   -- the stored level of each known block that has one
   pub levels : Map by_number Level
   pub room : Room
 
--- what was made ready suffices for an event; what other events change takes no memory
+-- the reservations suffice for an event; other events take no memory
 unfoldable pub IsReadyFor : Event → Seen → Type 0
 IsReadyFor (AddBlock b stamp repl) S = Among b S.room.entries
 IsReadyFor (Received s b stamp) S = S.room.report ≡ Some (NoticeOf s (record { id = b; stamp = stamp } ∷ []))
 IsReadyFor (FullReport s es) S = S.room.report ≡ Some (ReportOf s (told_of S.part.index S.part.shards (expanded es)))
 IsReadyFor _ S = Unit {0}
 
--- whether an event needs something made ready, so that its preparation may be refused memory
+-- whether an event needs a reservation, so that its preparation may be out of memory
 abbrev pub takes_room : Event → Bool
 takes_room (AddBlock b stamp repl) = true
 takes_room (Received s b stamp) = true
 takes_room (FullReport s es) = true
 takes_room _ = false
 
--- and for what a round chose: each block has capacity for its transfers
+-- the reservations suffice for the choice of a round: each block has capacity for its transfers
 unfoldable pub IsReadyForRound : Chosen → Seen → Type 0
 IsReadyForRound chosen S =
     (b : ℕ) → length (filter (λ t. t.block == b) (own_transfers S.part.index S.part.shards chosen.transfers)) ≤ unwrap_or (lookup (nat_eq b) S.room.transfers) 0

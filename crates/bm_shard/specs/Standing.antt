@@ -18,6 +18,6 @@ pub record IsSameButRoom (old new : Seen) : Type 0 where
   pub rest : new ≡ record old { levels = new.levels; room = new.room }
   pub levels : (C : Cluster) → StandsIn C old → new.levels ≡ old.levels
 
--- what the shard finds as its next round begins
+-- the part of the shard as its next round begins
 abbrev pub next_part : Cluster → Seen → RoundPart
 next_part C S = round_part C S.pend (S.round + 1) S.holdings

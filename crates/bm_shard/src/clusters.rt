@@ -62,7 +62,7 @@ impl Shard {
         Done { added: 0, removed }
     }
 
-    /// A node begins or ceases to drain. Where it begins to, the transfers to its storages leave.
+    /// A node begins or ceases to drain. If it begins, the transfers to its storages leave.
     pub(crate) fn set_draining(&mut self, topology: &Topology, node: NodeId, drains: bool) -> Done
         requires none { HasNoneBare self.old }
         ensures changed { HasChanged topology.now.cluster
@@ -133,7 +133,7 @@ impl Shard {
     }
 }
 
-/// Where a node begins to drain that did not yet, the transfers to its storages leave.
+/// If a node begins to drain that did not drain yet, the transfers to its storages leave.
 fn drop_drained_transfers(
     pending: &mut PendingTransfers,
     topology: &Topology,

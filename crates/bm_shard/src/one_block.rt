@@ -92,7 +92,7 @@ impl Shard {
         NOTHING
     }
 
-    /// A replica is bad, if it is there.
+    /// A replica is bad, if it exists.
     pub(crate) fn make_bad(&mut self, topology: &Topology, storage: StorageId, id: BlockId) -> Done
         requires none { HasNoneBare self.old }
         ensures changed { HasChanged topology.now.cluster topology.now.cluster self.old self.new
@@ -107,7 +107,7 @@ impl Shard {
         NOTHING
     }
 
-    /// A replica leaves, if it is there.
+    /// A replica leaves, if it exists.
     pub(crate) fn delete_replica(
         &mut self,
         topology: &Topology,
@@ -131,7 +131,7 @@ impl Shard {
     }
 }
 
-/// One where it is so, else none.
+/// 1 if it is true, else 0.
 fn one_if(is_so: bool) -> u128
     ensures { result ≡ (if is_so then 1 else 0) }
 {

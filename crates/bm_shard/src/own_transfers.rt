@@ -1,4 +1,4 @@
-// Of the transfers that were chosen of all shards, those of a shard's own blocks.
+// The chosen transfers of a shard's own blocks, among those of all shards.
 ghost use Rattle.std.specs.Prelude.{◌≡◌, ◌<◌, ◌≤◌, ℕ, ◌==◌, length, filter, map};
 ghost use Rattle.bm_base.specs.Map.{insert_all};
 ghost use Rattle.bm_base.specs.State.{replica_at};
@@ -8,7 +8,7 @@ ghost use Rattle.bm_pending.specs.OnTheWay.{room};
 use bm_base::{Part, Transfer, shard_of};
 use bm_pending::PendingTransfers;
 
-/// The transfers of the part's own blocks are on their way since this round. Takes no memory.
+/// Makes the chosen transfers of the part's own blocks pending since this round. Takes no memory.
 pub(crate) fn insert_own(
     pending: &mut PendingTransfers,
     transfers: &[Transfer],

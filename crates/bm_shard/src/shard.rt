@@ -12,15 +12,15 @@ use bm_report::Report;
 use std::alloc::Global;
 use std::marker::Model;
 
-/// What the last `prepare` made ready.
+/// The reservation of the last `prepare`.
 #[derive(Clone, Copy)]
 pub(crate) enum Prepared {
     Nothing,
     /// An entry of a number.
     Entry(BlockId),
-    /// What was looked up in `report` is of a notice of this storage.
+    /// The look-up in `report` is of a notice of this storage.
     Notice(StorageId),
-    /// What was looked up in `report` is of a full report of this storage.
+    /// The look-up in `report` is of a full report of this storage.
     Report(StorageId),
 }
 

@@ -1,4 +1,4 @@
--- The versions of a journal, and of its beginnings.
+-- The versions of a journal, and of its prefixes.
 use Rattle.std.proofs.Common.{◌≡◌, ℕ, ◌+◌, ◌-◌, ◌<◌, ◌≤◌, Bool, true, false, List, [], ◌∷◌, ◌++◌, length, get_or, refl, sym, ap, ◌∙◌, subst, ⊎_elim, arith, length-append}
 use Rattle.std.proofs.Math.Seq.{get_or-append_seam}
 use Rattle.std.proofs.lemmas.List.{append-nil, get_or_append_left, get_or_default}
@@ -26,7 +26,7 @@ history_push list v h up = record {
   rises = IsNonDecreasingBy-push (λ (v : Version). v.calls) list v h.rises (λ d some. subst (λ (w : Version). w.calls ≤ v.calls) (get_or_default list (length list - 1) opening d (omega arith)) up);
 }
 
--- a beginning of a history has no more calls
+-- a prefix of a history has no more calls
 pub last_of-prefix : (early late : List Version) → IsPrefix early late → IsHistory late → (last_of early).calls ≤ (last_of late).calls
 last_of-prefix [] late p h = omega arith
 last_of-prefix (v ∷ vs) late p h =
@@ -69,7 +69,7 @@ versions-proposed xs v = versions-append xs (proposed v ∷ []) ∙ append-nil (
 pub versions-settled : (xs : List Entry) (v : Version) → versions (xs ++ settled v ∷ []) ≡ versions xs ++ v ∷ []
 versions-settled xs v = versions-append xs (settled v ∷ [])
 
--- once a proposal is settled, it has been told whole
+-- a journal that ends with a settled proposal may be learnt
 pub settles : (xs : List Entry) (v : Version) → IsSettled ((xs ++ proposed v ∷ []) ++ settled v ∷ [])
 settles xs v shown pre close some =
     let open_log = xs ++ proposed v ∷ [] in
@@ -87,7 +87,7 @@ settles xs v shown pre close some =
     subst (λ log. IsPrefix (versions all) (shown_in log)) (sym same) (versions_shown_in all))
     (cases_lt (length shown) (length all))
 
--- what was told is a prefix of the current value, unless that is older
+-- the learnt versions are a prefix of the current value, unless that is older
 pub told_begins : (told shown both : List Entry) → IsPrefix told both → IsPrefix shown both → IsSettled told → length told ≤ length shown + 1 → 0 < length shown → IsPrefix (versions told) (shown_in shown)
 told_begins told shown both p q whole close some =
     ⊎_elim

@@ -1,4 +1,4 @@
--- What a search by block number finds among sorted rows.
+-- The result of a search by block number among sorted rows.
 use Rattle.std.proofs.Common.{◌≡◌, ◌≢◌, ℕ, zero, suc, ◌<◌, ◌≤◌, List, [], ◌∷◌, length, get_or, Result, Ok, Err, MatchResult, refl, ap, sym, arith}
 use Rattle.std.specs.List.Sorted.{IsSearchInRange, IsBinarySearchResult, IsNonDecreasingBy}
 use Rattle.std.specs.Ordering.{nat_cmp, ordering_index}
@@ -29,7 +29,7 @@ module _ (rows : List Row) (rises : RisesById rows) (id : ℕ) where
       let ids_rise : (get_or rows i d).0 ≤ (get_or rows j d).0 = grind (arith, rises i j d, λ (same : i ≡ j). ap (λ (k : ℕ). (get_or rows k d).0) same) in
       grind (arith, nat_tests)
 
-  -- a binary search finds the row of the block, or there is none
+  -- a binary search finds the row of the block, if it exists
   pub searched : (r : Result ℕ ℕ) → IsSearchInRange r (length rows) → IsBinarySearchResult (λ (r : Row). nat_cmp r.0 id) rows r
       → MatchResult r (λ at. (d : Row) → places_in rows id ≡ (get_or rows at d).1) (λ _. places_in rows id ≡ [])
   searched (Ok at) within equal = λ d. places_in-at rows at d id rises within (ranked _ id _ (sym (equal d)))

@@ -21,7 +21,7 @@ pub fits_later : (v : Option Evidence) (s t : Evidence) → BeginsShown v s → 
 fits_later None s t f g = tt
 fits_later (Some v) s t f g = goes_trans v s t f g
 
--- one seat's view changes
+-- the view of one seat changes
 kept_set : (shown : Evidence) (views : List (Option Evidence)) (seat : ℕ) (w : Option Evidence) → ((j : ℕ) (u : Option Evidence) → get_elem? views j ≡ some u → BeginsShown u shown) → BeginsShown w shown → Kept shown (set views seat w)
 kept_set shown views seat w others mine j u e =
     ⊎_elim
@@ -45,11 +45,11 @@ shows seat v x y next goes is views h at =
     let later : Extends x y = subst (Extends x) (sym is) goes in
     (Some y, kept_set y views seat (Some y) (λ j u e. fits_later u x y (h j u e) later) (goes_self y), refl)
 
--- the publisher tells what it saw
+-- the publisher passes on what it saw
 pub tells : (seat : ℕ) (v : Option Evidence) → Forks Holds seat v v v
 tells seat v x views h at = kept_snoc x (set views seat v) v (kept_set x views seat v h (h seat v at)) (h seat v at)
 
--- and it is learnt
+-- a locator learns it
 pub learns : (seat : ℕ) (v : Option Evidence) (other : ℕ) (note : Option Evidence) → Merges Holds seat v other note note None
 learns seat v other note x views h at apart there =
     let theirs = ⊎_elim (λ (t : (other ≡ seat) × (note ≡ note)). absurd (apart t.0)) (λ (t : (other ≢ seat) × (get_elem? views other ≡ some note)). h other note t.1) (at_set views seat other note note there) in

@@ -1,4 +1,4 @@
--- What a publish does to the journal, and what it shows.
+-- The effect of a publish on the journal, and the value that it shows.
 use Rattle.std.proofs.Common.{◌≡◌, ◌≤◌, ℕ, ◌+◌, ◌*◌, true, false, true≢false, List, [], ◌∷◌, ◌++◌, length, Result, Ok, Err, is_err, MatchResult, refl, sym, ap, ◌∙◌, subst, arith, length-append}
 use Rattle.bm_view.specs.declared.journal.Entry.{Entry}
 use Rattle.bm_base.specs.Versions.{Version}

@@ -1,4 +1,4 @@
--- What a reader knows after it looked.
+-- The knowledge of a reader after a read.
 use Rattle.std.proofs.Math.Seq.{get_or-append_seam}
 use Rattle.std.proofs.Common.{ℕ, IfSome, length, arith, length-append, ◌≤◌, [], ◌∷◌, ◌++◌, All, ◌≡◌, List, Option, Some, None, sym, ◌∙◌, subst, refl}
 use mathlib.Core.List.{IsPrefix}
@@ -28,18 +28,18 @@ later (Some s) x w home list saw sees =
       now = subst (λ w. HasSeen w x.home (shown_in x.log)) (sym sees.1) (refl, prefix_self (shown_in x.log));
     }
 
--- all that was told is a prefix of a longer list
+-- all learnt lists are prefixes of a longer list too
 pub all_begin : (told : List (List Version)) (now longer : List Version) → All (λ known. IsPrefix known now) told → IsPrefix now longer → All (λ known. IsPrefix known longer) told
 all_begin told now longer h p = λ k d lt. prefix_trans _ now longer (h k d lt) p
 
--- and so does one list more
+-- with one more list
 pub all_told : (told : List (List Version)) (now longer one : List Version) → All (λ known. IsPrefix known now) told → IsPrefix now longer → IsPrefix one longer → All (λ known. IsPrefix known longer) (told ++ one ∷ [])
 all_told told now longer one h p q = All-push (λ known. IsPrefix known longer) told one (all_begin told now longer h p) q
 
 pub none_older : (told : List (List Version)) (now : List Version) → All (λ known. IsPrefix known now) told → IsHistory now → All (λ known. (last_of known).calls ≤ (last_of now).calls) told
 none_older told now h history = λ k d lt. last_of-prefix _ now (h k d lt) history
 
--- what holds of all lists told of holds of the last
+-- what is true of all learnt lists is true of the last
 pub latest : (told : List (List Version)) (one : List Version) (n : ℕ) → All (λ known. (last_of known).calls ≤ n) (told ++ one ∷ []) → (last_of one).calls ≤ n
 latest told one n h = subst (λ (l : List Version). (last_of l).calls ≤ n) (get_or-append_seam told one [] []) (h (length told) [] (omega (arith, length-append told (one ∷ []))))
 

@@ -12,11 +12,11 @@ use Rattle.bm_base.specs.Versions.{Version}
 use Rattle.bm_view.specs.Version.{opening}
 use Rattle.bm_view.specs.Holders.{Home}
 
--- what is to be published; and, after a proposal, that nothing was published
+-- a version that is to be published, or, after a proposal, its withdrawal
 abbrev pub proposed : Version → Entry
 proposed v = record { done = false; table = v }
 
--- what was shown
+-- what was published
 abbrev pub settled : Version → Entry
 settled v = record { done = true; table = v }
 
@@ -24,12 +24,12 @@ settled v = record { done = true; table = v }
 abbrev pub opening_log : List Entry
 opening_log = proposed opening ∷ settled opening ∷ []
 
--- what contracts see of a `Journal`, and of a token that says how it began
+-- what contracts see of a `Journal`, and of a token for a prefix of one
 pub record Known : Type 0 where
   pub home : Home
   pub log : List Entry
 
--- the entry of a line, and those that go on from it, where the pen was the one that had its turn
+-- the entry of a line and those that continue from it, if the pen was the one that had its turn
 abbrev pub chain_if : Bool → Entry → List Entry → List Entry → List Entry
 chain_if true e on off = e ∷ on
 chain_if false e on off = off

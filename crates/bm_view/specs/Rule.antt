@@ -9,11 +9,11 @@ use Rattle.bm_view.specs.Journal.{Known}
 use Rattle.bm_view.specs.Holders.{Home}
 use Rattle.bm_view.specs.History.{shown_in}
 
--- how a journal began
+-- a prefix of a journal
 abbrev pub Evidence : Type 0
 Evidence = Known
 
--- of the same journal, and the early list begins the late one
+-- of the same journal, and the early list is a prefix of the late one
 pub record Extends (early late : Evidence) : Type 0 where
   pub home : early.home ≡ late.home
   pub list : IsPrefix (shown_in early.log) (shown_in late.log)
@@ -23,7 +23,7 @@ abbrev pub BeginsShown : Option Evidence → Evidence → Type 0
 BeginsShown None shown = Unit {0}
 BeginsShown (Some seen) shown = Extends seen shown
 
--- so it is for each seat
+-- the same for each seat
 abbrev pub Kept : Evidence → List (Option Evidence) → Type 0
 Kept shown views = (seat : ℕ) (v : Option Evidence) → get_elem? views seat ≡ some v → BeginsShown v shown
 
@@ -31,7 +31,7 @@ Kept shown views = (seat : ℕ) (v : Option Evidence) → get_elem? views seat �
 abbrev pub Sees : Option Evidence → Evidence → Option Evidence → Type 0
 Sees v shown w = BeginsShown v shown × (w ≡ Some shown)
 
--- a seat with this view saw that list at least, of this journal
+-- a seat with this view saw at least that list, of this journal
 abbrev pub HasSeen : Option Evidence → Home → List Version → Type 0
 HasSeen None home list = ⊥
 HasSeen (Some seen) home list = (seen.home ≡ home) × IsPrefix list (shown_in seen.log)

@@ -1,5 +1,4 @@
--- The lists that a locator was told of: those of the value before, and then the one that was told
--- last.
+-- The lists that a locator learnt: those of the value before, and then the last one.
 use Rattle.std.specs.Prelude.{List, [], ◌∷◌, ◌++◌, Option, Some, None}
 use Rattle.core.specs.declared.snapshot.Snapshot.{Snapshot}
 use Rattle.bm_base.specs.Versions.{Version}

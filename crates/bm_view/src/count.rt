@@ -1,4 +1,4 @@
-//! A count that has no end but memory.
+//! A count that is limited by memory alone.
 ghost use Rattle.std.specs.Prelude.{◌≡◌, ◌+◌, ◌<◌, ◌↔◌, IfOk, IsTrue};
 
 use std::alloc::{AllocError, Global};
@@ -7,9 +7,9 @@ use std::marker::Model;
 /// The number of proposals so far. A contract sees the number, which has no upper limit.
 #[derive(Drop)]
 pub struct Count {
-    /// The number, but for full turns of this u64.
+    /// The number modulo 2^64.
     low: u64,
-    /// One byte for each full turn of `low`: so none in practice, and then it takes no memory.
+    /// One byte for each overflow of `low`: none in practice, and then it takes no memory.
     turns: Vec<u8>,
 }
 

@@ -1,9 +1,9 @@
 //! The journal of proposals. It has no bytes that anyone reads; its entries exist in proofs alone.
 //!
 //! Each publish adds two entries: the version that is about to be published (proposed), and the
-//! outcome: the version again, as done, or an entry that is not done, where it could not be
-//! published. The versions of the done entries are the one list of which publisher, receipts and
-//! locators hold prefixes.
+//! outcome: the version again, as done, or an entry that is not done, if it could not be published.
+//! The versions of the done entries are the one list of which publisher, receipts and locators hold
+//! prefixes.
 //!
 //! An entry is written with a pen of the crate `logbook`, which has one owner and is used up by it.
 //! Each line names the pen of the next one. So all lines after a pen are written by one owner:
@@ -61,7 +61,7 @@ impl Rule<Line, u64> for JournalRule {
     ghost moves = { λ ask before after answer. Unit {0} };
 }
 
-/// A step hands nothing over.
+/// A step passes on nothing.
 pub struct NoGain;
 
 impl Gain<Line, u64> for NoGain {
@@ -114,7 +114,7 @@ impl Plain<Wanted, Line, u64> for AsWanted {
     ghost state = { λ w. None };
 }
 
-/// A step that writes nothing asks for nothing in particular.
+/// For a step that writes nothing, the requested line does not matter.
 pub struct AsNothing;
 
 impl Plain<(), Line, u64> for AsNothing {
@@ -127,7 +127,8 @@ impl Plain<(), Line, u64> for AsNothing {
     ghost state = { λ _. None };
 }
 
-/// How a journal began: a token that takes no bytes. Of two of one journal, one begins the other.
+/// A prefix of a journal: a token that takes no bytes. Of two of one journal, one is a prefix of
+/// the other.
 #[derive(Drop)]
 pub struct Evidence {
     seen: Seen<Line, u64, JournalRule>,
@@ -147,7 +148,7 @@ impl Model for Evidence {
 }
 
 impl Evidence {
-    /// A copy.
+    /// Copies the token.
     pub fn again(&self) -> Evidence
         ensures { result ≡ self.now }
     {
@@ -156,7 +157,7 @@ impl Evidence {
         }
     }
 
-    /// For proofs alone: both begin one journal.
+    /// For proofs alone: both tokens have the same journal.
     pub fn meet(&self, other: &Evidence)
         requires { other.now.home ≡ self.now.home }
         ensures { (both : List Entry) × IsPrefix self.now.log both × IsPrefix other.now.log both }
@@ -197,7 +198,7 @@ impl Model for Journal {
         × (j.pen.nib ≡ nib may_write (tip j.first.key j.seen.log) 0) };
 }
 
-// A new pen, and the word that it may write. Whoever asks gets one.
+// A new pen, and the word that it may write. There is no limit to the number of pens.
 fn new_pen(
     head: &Word<Line, u64, JournalRule>,
     seen: &Seen<Line, u64, JournalRule>,

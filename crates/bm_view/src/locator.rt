@@ -30,14 +30,13 @@ pub struct Located {
 /// Answers where a block is. It takes no memory and waits for no one.
 ///
 /// A contract sees the list of versions up to the one that it answered from last, the lists that it
-/// was told of by receipts, and the call of `open_view`. Its list has each list that it was told of
-/// as a prefix.
+/// learnt by receipts, and the call of `open_view`. Each learnt list is a prefix of its list.
 #[derive(Drop)]
 pub struct Locator {
     seat: Seat,
-    /// The journal that what it answered from last came with. It has no bytes.
+    /// The journal of the version that it answered from last. It has no bytes.
     answered: Evidence,
-    /// The longest journal that it was told of. It has no bytes.
+    /// The longest journal that it learnt. It has no bytes.
     heard: Evidence,
     told: Told,
 }
@@ -67,22 +66,22 @@ impl Model for Locator {
         × All (λ known. IsPrefix known (versions l.heard.log)) l.told };
 }
 
-// A reader, and the length in proposals of the longest journal that it was told of.
+// A reader, and the number of proposals in the longest journal that it learnt.
 #[derive(Drop)]
 struct Seat {
     reader: VersionReader,
     heard_number: Count,
 }
 
-// What a reader found, and the journal that it came with.
+// The result of a read, and the journal that came with it.
 struct Glimpse {
     found: Located,
     evidence: Evidence,
-    // Whether it is from a proposal before one that was told.
+    // Whether it is from a proposal before a learnt one.
     is_older: bool,
 }
 
-// Enters and reads the current table. Returns the reader where `left_right` refuses to enter.
+// Enters and reads the current table. Returns the reader if `left_right` refuses to enter.
 fn enter(reader: VersionReader) -> Result<VersionReading, VersionReader>
     ensures { MatchResult result
         (λ r. Sees (sight reader.place) r.part.value (sight r.place))
@@ -91,7 +90,7 @@ fn enter(reader: VersionReader) -> Result<VersionReading, VersionReader>
     reader.enter_as::<See>()
 }
 
-// Reads the version that is shown. It is `None` where `left_right` refuses to enter.
+// Reads the version that is shown. `None` if `left_right` refuses to enter.
 fn read(seat: Seat, id: BlockId) -> (Seat, Option<Glimpse>)
     ensures number { result.0.heard_number ≡ seat.heard_number }
     ensures seen { MatchOption result.1

@@ -1,4 +1,4 @@
-//! What makes a publisher with its locators.
+//! Opens a publisher with its locators.
 ghost use Rattle.std.specs.Prelude.{◌≡◌, ◌^◌, ◌<◌, ◌↔◌, ◌⊎◌, [], ◌∷◌, All, IfOk, IfErr, vec_len};
 ghost use Rattle.std.specs.Arc.{arc_value};
 ghost use Rattle.left_right.specs.Sides.{view as sight};
@@ -19,7 +19,7 @@ use bm_base::Refusal;
 use std::alloc::{AllocError, Global};
 use std::sync::{Arc, Wait};
 
-/// How many locators there can be.
+/// The maximum number of locators.
 const MAX_READERS: usize = 16;
 
 // The opening version: no calls and no rows.
@@ -30,7 +30,7 @@ fn first_table(alloc: Global) -> Result<Arc<Table>, AllocError>
 }
 
 // Makes a writer with capacity for `readers` readers, and publishes the opening version. So its own
-// view is the current one, and each locator can be told that.
+// view is the current one, and each locator can get it.
 fn open_writer<R: Wait>(
     rt: &R,
     alloc: Global,
@@ -59,7 +59,7 @@ fn open_writer<R: Wait>(
     }
 }
 
-// Makes `readers` locators, each told what the writer has seen.
+// Makes `readers` locators, each with the view of the writer.
 fn make_locators(
     alloc: Global,
     writer: &mut VersionWriter,

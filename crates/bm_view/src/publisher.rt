@@ -26,7 +26,7 @@ use std::sync::{Arc, Wait};
 pub struct Publisher {
     writer: VersionWriter,
     journal: Journal,
-    /// How many proposals there were.
+    /// The number of proposals.
     number: Count,
     /// The calls of the version that was published last.
     calls: u64,

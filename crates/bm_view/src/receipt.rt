@@ -13,7 +13,7 @@ use std::marker::Model;
 pub struct Receipt {
     /// The journal as it was once the last version was settled. It has no bytes.
     evidence: Evidence,
-    /// How many proposals there were, that of the last version among them.
+    /// The number of proposals, including that of the last version.
     number: Count,
     /// The calls of the last version.
     calls: u64,
@@ -57,7 +57,7 @@ impl Receipt {
         self.calls
     }
 
-    // The journal and how many proposals it has.
+    // The journal, and its number of proposals.
     pub(crate) fn into_parts(self) -> (Evidence, Count)
         ensures seen { (result.0.home ≡ self.home) × (versions result.0.log ≡ self.list) }
         ensures number { length result.0.log ≡ 2 * result.1 }

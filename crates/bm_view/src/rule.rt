@@ -1,6 +1,6 @@
 //! The rule of the current value: what a seat has seen once stays a prefix of it. A seat is a
-//! locator, or the publisher. The structs here have no values: they name what a step tells the seat
-//! that takes it.
+//! locator, or the publisher. The structs here have no values: they name what a step passes to the
+//! seat that takes it.
 ghost use Rattle.std.specs.Prelude.{◌≡◌, None, Some};
 ghost use Rattle.bm_view.specs.Rule.{Kept, Sees};
 
@@ -34,7 +34,7 @@ impl Outcome<Shown, Option<Evidence>> for Show {
     ghost then = { λ v x y w. w ≡ Some y };
 }
 
-/// The publisher tells a new locator what it saw last.
+/// The publisher passes to a new locator what it saw last.
 pub struct Note;
 
 impl Split<Option<Evidence>> for Note {

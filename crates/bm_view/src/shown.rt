@@ -18,7 +18,7 @@ pub struct Shown {
     table: Arc<Table>,
     /// The journal up to the proposal of the table. It has no bytes.
     evidence: Evidence,
-    /// How many proposals there were, this one among them.
+    /// The number of proposals, including this one.
     number: Count,
 }
 

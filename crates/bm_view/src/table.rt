@@ -1,11 +1,11 @@
-//! One version: what locators read.
+//! One version, as locators read it.
 ghost use Rattle.std.specs.Prelude.{◌≡◌};
 ghost use Rattle.bm_view.specs.Version.{RisesById, places_in};
 
 use bm_base::{BlockId, Places};
 use std::marker::Model;
 
-/// How many calls were accepted, and where each block was then. It never changes. A contract sees
+/// The number of accepted calls, and where each block was then. It never changes. A contract sees
 /// the number and the list of rows.
 #[derive(Drop)]
 pub struct Table {
@@ -34,14 +34,14 @@ impl Table {
         Table { calls, rows }
     }
 
-    /// After how many accepted calls this was.
+    /// The number of accepted calls.
     pub fn calls(&self) -> u64
         ensures { result ≡ self.now.calls }
     {
         self.calls
     }
 
-    /// Where the block was. A block without a row has no places.
+    /// The places of the block. A block without a row has no places.
     pub fn places(&self, id: BlockId) -> Places
         ensures { result ≡ places_in self.now.rows id }
     {

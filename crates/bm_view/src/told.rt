@@ -1,5 +1,5 @@
-//! The lists that a locator was told of. They exist in proofs; at run time one byte says whether
-//! there are any.
+//! The lists that a locator learnt. They exist in proofs; at run time one byte tells whether there
+//! are any.
 ghost use Rattle.std.specs.Prelude.{◌≡◌, ◌++◌, ◌∷◌, []};
 ghost use Rattle.bm_view.specs.History.{versions};
 
@@ -7,7 +7,7 @@ use crate::journal::Evidence;
 use core::snapshot::Snapshot;
 use std::marker::Model;
 
-/// Some lists of versions, in the order in which they were told. A contract sees these lists. A
+/// Some lists of versions, in the order in which they were learnt. A contract sees these lists. A
 /// `Snapshot` keeps an earlier value for proofs alone: so each `Told` holds the one before it.
 #[derive(Drop)]
 pub struct Told {
@@ -37,7 +37,7 @@ impl Told {
         Told { last: None }
     }
 
-    /// One list more: the versions that were settled in that journal.
+    /// Adds one list: the versions that were settled in that journal.
     pub fn add(&mut self, evidence: &Evidence)
         ensures { self.new ≡ self.old ++ versions evidence.now.log ∷ [] }
     {

@@ -1,4 +1,4 @@
--- Which replicas losses leave.
+-- The replicas that remain after losses.
 use Rattle.std.proofs.Common.{◌≡◌, ℕ, ◌≤◌, Bool, true, false, cond, not, ◌&&◌, ◌||◌, Option, Some, None, List, [], ◌∷◌, map, filter, length, refl, sym, ap, ◌∙◌, eqb-true, eq-eqb}
 use Rattle.std.specs.Prelude.{◌==◌, if◌then◌else◌, option_and_then, option_map}
 use Rattle.std.specs.Option.{option_map_or}
@@ -26,7 +26,7 @@ use Rattle.cluster_lost.specs.Losses as losses
 use Rattle.cluster_lost.specs.Losses.{is_loss, are_losses, after_losses, takes, is_taken, is_missing, has_replica_left}
 use Rattle.cluster_lost.proofs.Tests.{none_if_empty, any_either, neither, level_is_missing}
 
--- a test of the storages of a block's replicas, as one of the entries
+-- a test of the storages of a block's replicas, as a test of one of the entries
 pub any_stored : (t : ℕ → Bool) (p : ℕ → Marks → Bool) (H : Holdings) (b : ℕ)
     → list_any t (storages_where p H b) ≡ list_any (λ e. ((e.0.block == b) && p e.0.storage e.1) && t e.0.storage) (entries H.replicas)
 unfolding storages_where
@@ -51,7 +51,8 @@ some_usable C H b =
     (λ e. split (e.0.block == b) (is_usable e.1) (is_draining C e.0.storage)) (entries H.replicas)
     ∙ sym (any_stored (λ _. true) (λ _ m. is_usable m) H b)
 
--- A known block of which at least one replica is wanted is missing exactly if it has no usable replica.
+-- A known block of which at least one replica is wanted is missing exactly if it has no usable
+-- replica.
 pub missing_is_unusable : (M : State) (b : ℕ) (i : BlockInfo) → get M.holdings.blocks b ≡ Some i → 1 ≤ i.repl → is_missing M b ≡ not (list_any (λ _. true) (usable M.holdings b))
 unfolding level
 missing_is_unusable M b i e h =
@@ -63,7 +64,7 @@ missing_is_unusable M b i e h =
     ∙ neither (list_any (λ _. true) (live C H b)) (list_any (λ _. true) (drained C H b))
     ∙ ap not (some_usable C H b)
 
--- What one loss leaves.
+-- The replicas after one loss.
 
 moved : (g a t : Bool) → (not g && (a && t)) ≡ (a && (not g && t))
 moved true true t = refl
@@ -128,7 +129,7 @@ blocks_by_loss C H (Deleted s c) h = cc
 blocks_by_loss C H (Corrupt s c) h = cc
 blocks_by_loss C H (FullReport s es) h = cc
 
--- A storage that stays is where it was.
+-- A storage that stays is on the same node and rack.
 
 stays_without_node : (C : Cluster) (n m s : ℕ) → has_storage C n s ≡ false → has_storage (without_node C n) m s ≡ has_storage C m s
 unfolding without_node has_storage node_of
@@ -171,7 +172,7 @@ takes_as_before C D s same (Deleted t c) = refl
 takes_as_before C D s same (Corrupt t c) = refl
 takes_as_before C D s same (FullReport t es) = refl
 
--- Losses, one after another.
+-- Several losses, one after another.
 
 first_is_loss : (e : Event) (es : List Event) → are_losses (e ∷ es) ≡ true → (is_loss e ≡ true) × (are_losses es ≡ true)
 first_is_loss e es h = by_first (is_loss e) (list_any (λ e. not (is_loss e)) es) h

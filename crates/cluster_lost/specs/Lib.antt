@@ -1,2 +1,2 @@
--- What is lost with nodes and storages.
+-- Blocks that are lost with nodes and storages.
 pub mod Losses

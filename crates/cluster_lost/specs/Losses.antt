@@ -1,4 +1,4 @@
--- What is lost with nodes and storages, where no round comes between.
+-- Blocks that are lost with nodes and storages, if no round is taken between.
 use Rattle.std.specs.Prelude.{◌≡◌, ℕ, Bool, true, false, not, ◌&&◌, ◌==◌, List, filter, length}
 use Rattle.std.specs.List.{fold, list_any}
 use Rattle.bm_base.specs.declared.event.Event.{Event}
@@ -23,7 +23,7 @@ is_loss _ = false
 abbrev pub are_losses : List Event → Bool
 are_losses es = not (list_any (λ e. not (is_loss e)) es)
 
--- the state after losses, with no round between
+-- the state after losses, without a round between
 abbrev pub after_losses : State → List Event → State
 after_losses M es = fold after_event M es
 
@@ -45,24 +45,26 @@ has_replica_left M es b = list_any (λ s. not (is_taken M.cluster es s)) (usable
 abbrev pub has_replica : State → ℕ → Bool
 has_replica M b = not (length (usable M.holdings b) == 0)
 
--- whether a block is lost: it has usable replicas, and all of them are on storages that are taken away
+-- whether a block is lost: it has usable replicas, and all of them are on storages that are taken
+-- away
 abbrev pub is_lost : State → List Event → ℕ → Bool
 is_lost M es b = has_replica M b && not (has_replica_left M es b)
 
--- the known blocks that are lost, ascending
+-- the lost blocks among the known ones, ascending
 unfoldable pub lost_blocks : State → List Event → List ℕ
 lost_blocks M es = filter (is_lost M es) (keys M.holdings.blocks)
 
 abbrev pub is_missing : State → ℕ → Bool
 is_missing M b = is_at NoUsableReplica (level M.cluster M.holdings b)
 
--- After losses a known block is missing exactly if no usable replica of it was on a storage that stays.
+-- After losses a known block is missing exactly if no usable replica of it was on a storage that
+-- stays.
 abbrev pub missing_has_no_replica_left : Type 0
 missing_has_no_replica_left =
     (M : State) (es : List Event) (b : ℕ) → IsLawfulHoldings M.cluster M.holdings → are_losses es ≡ true → contains_key M.holdings.blocks b ≡ true
     → is_missing (after_losses M es) b ≡ not (has_replica_left M es b)
 
--- these blocks are missing before the losses, and those after them
+-- the blocks that are missing before the losses, and those that are missing after them
 pub record AreMissing (M : State) (es : List Event) (before after : List ℕ) : Type 0 where
   pub lawful : IsLawfulHoldings M.cluster M.holdings
   pub losses : are_losses es ≡ true

@@ -1,7 +1,8 @@
-//! Which blocks are lost with nodes and storages.
+//! The blocks that are lost with nodes and storages.
 //!
-//! The manager answers which blocks are missing before the losses and after them. [`lost_blocks`] takes the first from the second. Its
-//! contract says what that is in an operator's words: the blocks whose usable replicas were all on what is lost.
+//! The manager lists the missing blocks before the losses and after them. [`lost_blocks`] takes the
+//! first list from the second. Its contract states the result in an operator's words: the blocks
+//! whose usable replicas were all on lost storages.
 #![tactic(auto)]
 
 ghost use Rattle.std.specs.Prelude.{◌≡◌, List, IfOk, not, filter};
@@ -14,12 +15,13 @@ ghost use Rattle.cluster_lost.specs.Losses as law;
 use bm_base::{BlockId, Items, NumberMap};
 use std::alloc::{AllocError, Global};
 
-/// After losses with no round between, a known block is missing exactly if no usable replica of it was on a storage that stays.
+/// After losses without a round between, a known block is missing exactly if no usable replica of
+/// it was on a storage that stays.
 pub fn missing_has_no_replica_left()
     ensures { law.missing_has_no_replica_left }
 {}
 
-/// The lost blocks, ascending, from those that are missing before the losses and after them.
+/// The lost blocks, ascending, from the blocks that are missing before the losses and after them.
 pub fn lost_blocks(
     alloc: Global,
     before: &[BlockId],
@@ -33,7 +35,7 @@ pub fn lost_blocks(
     Ok(Items::from_vec(lost))
 }
 
-/// A set of these blocks, which ascend.
+/// A set of these blocks, which are ascending.
 fn set_of(alloc: Global, blocks: &[BlockId]) -> Result<NumberMap<bool>, AllocError>
     ensures { IfOk result (λ set. (b : _)
         → map_of.contains_key set.map b ≡ has blocks.now b) }
@@ -51,7 +53,7 @@ fn number_of(block: &BlockId) -> u64
     block.0
 }
 
-/// Those of these blocks that are not in a set.
+/// Those of these blocks that are not in the set.
 fn new_blocks(
     alloc: Global,
     set: &NumberMap<bool>,

@@ -1,4 +1,4 @@
--- Paths in a set of texts, and blocks in a map.
+-- Laws of paths in a set of texts, and of blocks in a map.
 use Rattle.std.proofs.Common.{◌≡◌, ℕ, suc, ◌+◌, Bool, true, false, not, cond, List, [], ◌∷◌, ◌++◌, ◌||◌, map, length, nat_lt, Option, Some, None, is_some, position, String, string_bytes, refl, sym, ap, ◌∙◌}
 use Rattle.std.specs.List.{list_any, position_or_len}
 use Rattle.std.specs.Map.{lookup}

@@ -1,4 +1,4 @@
--- Rows of numbers and names.
+-- Laws of rows of numbers and names.
 use Rattle.std.proofs.Common.{◌≡◌, ℕ, Bool, true, false, cond, not, ◌&&◌, List, [], ◌∷◌, ◌++◌, map, find, Option, Some, None, is_none, is_some, option_map, nat_eq, string_bytes, refl, sym, ap, subst, ◌∙◌}
 use Rattle.std.specs.Str.{bytes_eq}
 use Rattle.std.proofs.lemmas.Slice.Eq.{bytes_eq-Decides}
@@ -8,7 +8,7 @@ use Rattle.cluster_names.specs.Names.{row_of}
 use Rattle.cluster_names.specs.Rows.{Text, Rows, name_of, number_of, IsOneToOne}
 use Rattle.cluster_names.specs.declared.name_table.Row.{Row}
 
--- what is found among mapped items
+-- a search among mapped items finds the image of the item found
 pub find-map : {A B : Type 0} (p : B → Bool) (f : A → B) (xs : List A) → find p (map f xs) ≡ option_map f (find (λ x. p (f x)) xs)
 find-map p f [] = refl
 find-map p f (x ∷ xs) = by (p (f x)) (find-map p f xs)
@@ -26,14 +26,14 @@ first_mapped : (o : Option Row) → option_map (λ r. r.0) (option_map row_of o)
 first_mapped None = refl
 first_mapped (Some r) = refl
 
--- a look-up by number is that of the row which is found
+-- a look-up by number gives the name of the row found
 pub name_found : (rows : List Row) (number : ℕ) (o : Option Row) → o ≡ find (λ r. nat_eq r.number number) rows
     → option_map (λ r. string_bytes r.name) o ≡ name_of (map row_of rows) number
 name_found rows number o e =
     ap (option_map (λ r. string_bytes r.name)) e
     ∙ sym (ap (option_map (λ r. r.1)) (find-map (λ r. nat_eq r.0 number) row_of rows) ∙ second_mapped _)
 
--- a look-up by name is that of the row which is found
+-- a look-up by name gives the number of the row found
 pub number_found : (rows : List Row) (name : Text) (o : Option Row) → o ≡ find (λ r. bytes_eq (string_bytes r.name) name) rows
     → option_map (λ r. r.number) o ≡ number_of (map row_of rows) name
 number_found rows name o e =
@@ -103,7 +103,7 @@ module _ (rows : Rows) (n : ℕ) (t : Text) (one : IsOneToOne rows) (new_number 
       ∙ ap (λ b. cond b (Some t) None) (eq-eqb n n refl)
       ∙ ap Some ((bytes_eq-Decides t u).0 same.0)
 
-  -- with one more row, whose number has no name and whose name no number
+  -- with one more row, if its number had no name and its name no number
   pub one_to_one-push : IsOneToOne (rows ++ (n, t) ∷ [])
   one_to_one-push = record {
     of_name = λ m u e. by_name m u (name_of rows m) refl (sym (name_of-push rows n t m) ∙ e);
@@ -121,7 +121,7 @@ none_if (Some x) e = cc
 none_mapped : {A B : Type 0} (f : A → B) (o : Option A) → o ≡ None → option_map f o ≡ None
 none_mapped f o e = ap (option_map f) e
 
--- the rows after one more, where neither its number nor its name is in them
+-- the rows with one more, if neither its number nor its name is in them
 pub one_to_one-rows : (rows : List Row) (row : Row) → IsOneToOne (map row_of rows)
     → name_of (map row_of rows) row.number ≡ None → number_of (map row_of rows) (string_bytes row.name) ≡ None
     → IsOneToOne (map row_of (rows ++ row ∷ []))
@@ -129,7 +129,7 @@ one_to_one-rows rows row one number name =
     subst IsOneToOne (sym (map-push row_of rows row))
     (one_to_one-push (map row_of rows) row.number (string_bytes row.name) one number name)
 
--- what a look-up that found nothing says
+-- a look-up that finds nothing means that no row has the key
 pub no_name : (rows : Rows) (number : ℕ) (o : Option (Bor Text)) → option_map (λ t. t.now) o ≡ name_of rows number → false ≡ is_some o → name_of rows number ≡ None
 no_name rows number o e none = sym e ∙ none_mapped (λ t. t.now) o (none_if o none)
 

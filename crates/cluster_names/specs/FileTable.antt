@@ -6,7 +6,7 @@ use Rattle.std.specs.Str.{bytes_eq}
 use Rattle.cluster_names.specs.Rows.{Text}
 use Rattle.cluster_names.specs.declared.files.FilePlace.{FilePlace}
 
--- the paths, each once, and the blocks with their places, in the order in which they were added
+-- the paths, each once, and the blocks with their places, in the order of their addition
 pub record FileTable : Type 0 where
   pub paths : List Text
   pub places : List (ℕ × FilePlace)
@@ -25,15 +25,15 @@ has_block f block = is_some (place_of f block)
 abbrev pub path_of : FileTable → ℕ → Option (Text × ℕ)
 path_of f block = option_and_then (λ p. option_map (λ path. (path, p.index)) (slice_get f.paths p.file)) (place_of f block)
 
--- the index of a path; a new one comes after all others
+-- the index of a path; a new one comes last
 abbrev pub path_index : List Text → Text → ℕ
 path_index paths path = position_or_len (bytes_eq path) paths
 
--- the paths with this one, which comes at the end if it is new
+-- the paths with this one, which is added at the end if it is new
 abbrev pub with_path : List Text → Text → List Text
 with_path paths path = if list_any (bytes_eq path) paths then paths else paths ++ path ∷ []
 
--- with one more block
+-- adds a block
 abbrev pub with_block : FileTable → ℕ → Text → ℕ → FileTable
 with_block f block path index = record {
   paths = with_path f.paths path;

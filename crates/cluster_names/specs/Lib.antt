@@ -1,4 +1,4 @@
--- Names of a cluster.
+-- The names of a cluster.
 pub mod Rows
 pub mod Names
 pub mod FileTable

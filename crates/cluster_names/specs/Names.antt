@@ -1,4 +1,4 @@
--- What a contract sees of a row.
+-- The content of a row, as contracts see it.
 use Rattle.std.specs.Prelude.{ℕ, string_bytes}
 use Rattle.cluster_names.specs.Rows.{Text}
 use Rattle.cluster_names.specs.declared.name_table.Row.{Row}

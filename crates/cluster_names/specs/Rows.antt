@@ -7,7 +7,7 @@ use Rattle.std.specs.Str.{bytes_eq}
 abbrev pub Text : Type 0
 Text = List ℕ
 
--- numbers with their names, in the order in which they were added
+-- numbers with their names, in the order of their addition
 abbrev pub Rows : Type 0
 Rows = List (ℕ × Text)
 
@@ -28,11 +28,11 @@ pub record IsOneToOne (rows : Rows) : Type 0 where
   pub of_name : (number : ℕ) (name : Text) → name_of rows number ≡ Some name → number_of rows name ≡ Some number
   pub of_number : (number : ℕ) (name : Text) → number_of rows name ≡ Some number → name_of rows number ≡ Some name
 
--- a name, or what is numbered and its number
+-- a name, or the kind of the thing and its number
 abbrev pub shown : Option Text → Text → ℕ → Text
 shown (Some name) kind number = name
 shown None kind number = kind ++ decimal number
 
--- the name of a number, or what is numbered and the number
+-- the name of a number, or the kind of the thing and the number
 abbrev pub name_or_number : Text → Rows → ℕ → Text
 name_or_number kind rows number = shown (name_of rows number) kind number

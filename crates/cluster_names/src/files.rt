@@ -7,14 +7,15 @@ use indexmap::{IndexMap, IndexSet};
 use std::alloc::{AllocError, Global};
 use std::marker::Model;
 
-/// Where a block is: the file, by the index of its path, and the index of the block in the file.
+/// The place of a block: its file, by the index of its path, and the block's index in the file.
 #[derive(Clone, Copy, Debug, PartialEq, Eq, Drop)]
 pub struct FilePlace {
     pub file: usize,
     pub index: u64,
 }
 
-/// The files and their blocks. A path is kept once, a block has one place; a look-up is by hash.
+/// The files and their blocks. Each path is stored once, each block has one place; a look-up is by
+/// hash.
 #[derive(Drop)]
 pub struct Files {
     paths: IndexSet<String>,
@@ -34,7 +35,7 @@ impl Model for Files {
 }
 
 impl Files {
-    /// No block is in a file. Takes no memory.
+    /// A table without files. Takes no memory.
     pub fn new(alloc: Global) -> Files
         ensures { result ≡ no_blocks }
     {
@@ -44,14 +45,14 @@ impl Files {
         }
     }
 
-    /// How many files have a block.
+    /// The number of files that have a block.
     pub fn file_count(&self) -> usize
         ensures { result ≡ length self.now.paths }
     {
         self.paths.len()
     }
 
-    /// How many blocks are in a file.
+    /// The number of blocks that are in a file.
     pub fn block_count(&self) -> usize
         ensures { result ≡ length self.now.places }
     {
@@ -75,7 +76,7 @@ impl Files {
         self.places.get(&block.0).copied()
     }
 
-    /// The block and its place at an index, in the order in which they were added.
+    /// The block and its place at an index, in the order of their addition.
     pub fn get(&self, index: usize) -> Option<(BlockId, FilePlace)>
         ensures { result ≡ slice_get self.now.places index }
     {
@@ -92,7 +93,7 @@ impl Files {
         Some((path, place.index))
     }
 
-    /// Adds a block of a file. `false` if the block has a place already: then nothing changes.
+    /// Adds a block of a file. `false` if the block has a place already; then nothing changes.
     pub fn add(
         &mut self,
         alloc: Global,

@@ -1,4 +1,5 @@
-//! The names of a cluster: hosts, racks and storages by their numbers, and the file of each block. Two tables of text hold them.
+//! The names of a cluster: of hosts, racks and storages by their numbers, and the file of each
+//! block.
 #![tactic(auto)]
 
 mod files;

@@ -12,7 +12,8 @@ struct Row {
     name: String,
 }
 
-/// Names of one kind. No number has two names, and no name two numbers. A look-up costs a look at each row: there are at most 4,096.
+/// Names of one kind. No number has two names, and no name two numbers. A look-up scans all rows:
+/// there are at most 4,096.
 #[derive(Drop)]
 pub struct NameTable {
     rows: Vec<Row>,
@@ -32,7 +33,7 @@ impl Model for NameTable {
 }
 
 impl NameTable {
-    /// No name. Takes no memory.
+    /// A table without names. Takes no memory.
     pub fn new(alloc: Global) -> NameTable
         ensures { result ≡ [] }
     {
@@ -47,7 +48,7 @@ impl NameTable {
         self.rows.len()
     }
 
-    /// The number and the name at an index, in the order in which they were added.
+    /// The number and the name at an index, in the order of their addition.
     pub fn get(&self, index: usize) -> Option<(u32, &str)>
         ensures { option_map (λ r. (r.0, r.1.now)) result ≡ slice_get self.now index }
     {
@@ -73,7 +74,8 @@ impl NameTable {
         Some(row.number)
     }
 
-    /// Adds a number with its name. `false` if the number has a name or the name a number already: then nothing changes.
+    /// Adds a number with its name. `false` if the number has a name already, or the name a number;
+    /// then nothing changes.
     pub fn add(&mut self, alloc: Global, number: u32, name: &str) -> Result<bool, AllocError>
         ensures added { IfOk result (λ added. added ≡ is_free self.old number name.now) }
         ensures rows { IfOk result (λ added. self.new

@@ -1,4 +1,4 @@
-// The names of a cluster by what they name.
+// The names of a cluster: racks, nodes and storages.
 ghost use Rattle.std.specs.Prelude.{◌≡◌, ◌++◌, [], codes, option_map, option_copied, OnOk, string_bytes};
 ghost use Rattle.cluster_names.specs.Rows.{name_of, number_of, name_or_number, shown};
 
@@ -15,7 +15,7 @@ pub struct Names {
 }
 
 impl Names {
-    /// Nothing is named. Takes no memory.
+    /// No names. Takes no memory.
     pub fn new(alloc: Global) -> Names
         ensures racks { result.racks ≡ [] }
         ensures nodes { result.nodes ≡ [] }
@@ -64,7 +64,7 @@ impl Names {
         Some(StorageId(self.storages.number(name)?))
     }
 
-    /// Appends the host of a node, or `node` and its number where it has no name.
+    /// Appends the host of a node, or `node` and its number if it has no name.
     pub fn write_host(&self, text: &mut String, node: NodeId) -> Result<(), AllocError>
         ensures { OnOk result (string_bytes text.new ≡ string_bytes text.old
             ++ name_or_number (codes "node ") self.now.nodes node) }
@@ -89,7 +89,7 @@ impl Names {
     }
 }
 
-/// Appends the name, or what is numbered and its number.
+/// Appends the name, or the kind of the thing and its number.
 fn write_name(
     text: &mut String,
     name: Option<&str>,

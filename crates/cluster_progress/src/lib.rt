@@ -1,13 +1,13 @@
-//! How far a run is, on one line of standard error that is written again and again. No program in Rattle can ask whether standard error
-//! is a terminal, so its caller says whether a line is to be shown.
+//! The progress of a run, on one line of standard error that is overwritten. No program in Rattle
+//! can ask whether standard error is a terminal, so its caller decides whether the line is shown.
 #![tactic(auto)]
 
 ghost use Rattle.std.specs.Prelude.{◌≤◌, ◌≡◌, IsSome, false};
 
-/// Takes the line away, so that another can be written in its place.
+/// Clears the line, so that another one can be written in its place.
 const CLEARED: &str = "\r\x1b[K";
 
-/// The line, which nobody sees where `is_shown` is false. A write of it that fails is passed over.
+/// The progress line. It writes nothing if `is_shown` is false, and ignores failed writes.
 #[derive(Clone, Copy)]
 pub struct Progress {
     is_shown: bool,
@@ -31,7 +31,7 @@ impl Progress {
         }
     }
 
-    /// Shows `34 % of the input`, where the number changed.
+    /// Shows `34 % of the input`, if the number changed.
     pub fn show_input<R: Eprint>(&mut self, rt: &R, read: u64, all: u64) {
         let percent = percent_of(read, all);
         if self.is_new(percent) {
@@ -39,7 +39,7 @@ impl Progress {
         }
     }
 
-    /// Takes the line away.
+    /// Clears the line.
     pub fn end<R: Eprint>(&mut self, rt: &R) {
         if self.number.is_some() {
             let _ = rt.eprint(CLEARED);
@@ -47,7 +47,7 @@ impl Progress {
         self.number = None;
     }
 
-    /// Whether the line is to be written for this number, which it then has.
+    /// Whether the line is to be written for this number, which is then stored.
     fn is_new(&mut self, number: u64) -> bool
         ensures { self.old.is_shown ≡ false → result ≡ false }
     {
@@ -59,7 +59,7 @@ impl Progress {
     }
 }
 
-/// How many hundredths `part` is of `whole`, rounded down; 100 where it is all, or more.
+/// The percentage of `part` in `whole`, rounded down; 100 if it is all of it, or more.
 fn percent_of(part: u64, whole: u64) -> u64
     ensures { result ≤ 100 }
 {

@@ -1,4 +1,4 @@
--- The numbers at which a test gives true, below the next one.
+-- The numbers below n that pass a test, and the step to n + 1.
 use Rattle.std.proofs.Common.{◌≡◌, ◌+◌, ℕ, zero, suc, Bool, true, false, List, [], ◌∷◌, ◌++◌, map, filter, ap, ◌∙◌, arith}
 use Rattle.std.specs.List.{range_with_len}
 use Rattle.std.proofs.lemmas.List.Elements.{filter-append}
@@ -17,6 +17,6 @@ nothing_added : {X : Type 0} (p : X → Bool) (xs : List X) (x : X) → p x ≡ 
 nothing_added p [] x h = grind arith
 nothing_added p (y ∷ xs) x h = grind (arith, nothing_added p xs x h)
 
--- it does not
+-- the next number fails the test
 pub no_more_number : (p : ℕ → Bool) (n : ℕ) → p n ≡ false → numbers_where p (n + 1) ≡ numbers_where p n
 no_more_number p n h = ap (filter p) (one_longer 0 n n (omega arith)) ∙ nothing_added p (range_with_len 0 n) n h

@@ -1,4 +1,4 @@
--- What a round leaves, counted from the manager's answers.
+-- The counts after a round, from the manager's answers.
 use Rattle.std.specs.Prelude.{◌≡◌, ℕ, Option, List, map, length, count_by}
 use Rattle.std.specs.List.{range_with_len}
 use Rattle.bm_base.specs.declared.level.Level.{Level}
@@ -8,15 +8,15 @@ use Rattle.bm_base.specs.Levels.{is_at, level}
 use Rattle.bm_base.specs.Queries.{excess_replicas, corrupt_replicas}
 use Rattle.cluster_simulation.specs.declared.counts.Counts.{Counts}
 
--- the levels of the blocks 0, 1, .. below n
+-- the levels of the blocks below n
 abbrev pub levels_below : State → ℕ → List (Option Level)
 levels_below M n = map (level M.cluster M.holdings) (range_with_len 0 n)
 
--- how many of them are at a level
+-- the number of these blocks at a level
 abbrev pub blocks_at : Level → State → ℕ → ℕ
 blocks_at urgency M n = count_by (is_at urgency) (levels_below M n)
 
--- the counts are what the manager answers
+-- the counts agree with the manager's answers
 pub record IsCounted (M : State) (n : ℕ) (c : Counts) : Type 0 where
   pub highest : c.highest ≡ blocks_at Highest M n
   pub very_under_replicated : c.very_under_replicated ≡ blocks_at VeryUnderReplicated M n

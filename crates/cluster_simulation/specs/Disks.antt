@@ -1,4 +1,4 @@
--- What is on the disks, whatever the manager knows of it.
+-- The content of the disks, whatever the manager knows of it.
 use Rattle.std.specs.Prelude.{ℕ, Bool, false, List, [], ◌+◌, ◌-◌, ◌*◌, ◌==◌, ◌^◌, min, slice_get, slice_set}
 use Rattle.std.specs.Option.{option_map_or}
 use Rattle.std.specs.List.{list_any}
@@ -23,7 +23,7 @@ bytes_left capacity d = capacity - d.replicas * 2 ^ 27
 abbrev pub free_bytes : Disks → ℕ → ℕ
 free_bytes D s = option_map_or (bytes_left D.capacity) (slice_get D.disks.items s) 0
 
--- one disk changed, if it is there
+-- one disk changed, if it exists
 abbrev pub change_at : (Disk → Disk) → ℕ → List Disk → List Disk
 change_at f s disks = option_map_or (λ d. slice_set disks s (f d)) (slice_get disks s) disks
 

@@ -1,4 +1,4 @@
--- What incidents take from a cluster, and what the manager is told of it.
+-- What a cluster loses by incidents, and the events that report it to the manager.
 use Rattle.std.specs.Prelude.{ℕ, Bool, false, List, ◌==◌, ◌/◌, ◌%◌, ◌*◌, ◌&&◌, ◌||◌, not, map, filter, ◌++◌}
 use Rattle.std.specs.List.{list_any, range_with_len}
 use Rattle.bm_base.specs.declared.event.Event.{Event}
@@ -7,13 +7,13 @@ use Rattle.cluster_simulation.specs.declared.shape.Shape.{Shape}
 use Rattle.cluster_simulation.specs.declared.incident.Incident.{Incident}
 use Rattle.cluster_simulation.specs.declared.incident.Incident.TheVariants.{NodeDies, RackDies, NodeDrains, DiskFails}
 
--- the node is not heard of again
+-- the node is lost
 unfoldable pub kills_node : Incident → Shape → ℕ → Bool
 kills_node (NodeDies n) shape k = k == n
 kills_node (RackDies r) shape k = k % shape.racks == r
 kills_node _ shape k = false
 
--- the disk is not heard of again
+-- the disk is lost
 unfoldable pub kills : Incident → Shape → ℕ → Bool
 kills (DiskFails t) shape s = s == t
 kills incident shape s = kills_node incident shape (s / shape.storages)
@@ -32,15 +32,15 @@ any_kills incidents shape s = list_any (λ i. kills i shape s) incidents
 abbrev pub any_drains : List Incident → ℕ → Bool
 any_drains incidents k = list_any (λ i. drains i k) incidents
 
--- no copy can come to the disk any more
+-- no copy can reach the disk any more
 abbrev pub any_bars : List Incident → Shape → ℕ → Bool
 any_bars incidents shape s = any_kills incidents shape s || any_drains incidents (s / shape.storages)
 
--- the disk is gone, and its node is not
+-- the disk is lost, and its node is not
 abbrev pub fails_alone : List Incident → Shape → ℕ → Bool
 fails_alone incidents shape s = any_kills incidents shape s && not (any_kills_node incidents shape (s / shape.storages))
 
--- the node begins to drain, and is not gone
+-- the node begins to drain, and is not lost
 abbrev pub drains_alive : List Incident → Shape → ℕ → Bool
 drains_alive incidents shape k = any_drains incidents k && not (any_kills_node incidents shape k)
 
@@ -53,11 +53,12 @@ failure s = StorageFailed s
 abbrev pub drain : ℕ → Event
 drain n = Drain n
 
--- the numbers below n at which the test gives true, ascending
+-- the numbers below n that pass a test, ascending
 abbrev pub numbers_where : (ℕ → Bool) → ℕ → List ℕ
 numbers_where test n = filter test (range_with_len 0 n)
 
--- what the manager is told: each node that is gone, each disk that is gone without its node, and each further node that drains, once
+-- the events, one each: a death for each lost node, a failure for each disk lost without its node,
+-- a drain for each node that drains and is not lost
 abbrev pub reported : List Incident → Shape → List Event
 reported incidents shape =
     map death (numbers_where (any_kills_node incidents shape) shape.nodes)

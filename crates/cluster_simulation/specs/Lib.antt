@@ -1,4 +1,4 @@
--- What the parts of a simulation are.
+-- Definitions of the parts of a simulation.
 pub mod Orders
 pub mod Incidents
 pub mod Awaited

@@ -1,4 +1,4 @@
--- The orders that DataNodes have not carried out yet, the oldest first.
+-- The orders that DataNodes have not carried out yet, oldest first.
 use Rattle.std.specs.Prelude.{ℕ, Option, None, Some, List, ◌++◌, ◌-◌, map, nat_lt, slice_get, if◌then◌else◌}
 use Rattle.std.specs.Option.{option_and_then}
 use Rattle.bm_base.specs.declared.commands.Transfer.{Transfer}
@@ -14,10 +14,10 @@ given_copy round t = record { round = round; order = order.Copy t }
 abbrev pub given_delete : ℕ → Delete → Given
 given_delete round d = record { round = round; order = order.Delete d }
 
--- what a round commands a node: its copies and then its deletes, each in turn
+-- the orders of a round to a node: its copies, then its deletes
 abbrev pub given_to : ℕ → NodeCommands → List Given
 given_to round k = map (given_copy round) k.transfers ++ map (given_delete round) k.deletes
 
--- the oldest order, where it was given `delay` rounds before this one or earlier
+-- the oldest order, if it was given `delay` rounds before this one or earlier
 abbrev pub oldest_due : ℕ → ℕ → List Given → Option Order
 oldest_due delay round given = option_and_then (λ g. if nat_lt (round - g.round) delay then None else Some g.order) (slice_get given 0)

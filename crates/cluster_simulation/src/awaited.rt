@@ -1,4 +1,5 @@
-// The copies that the manager awaits. It answers no question about them, so they are kept here by its rules.
+// The copies that the manager awaits. No query of the manager lists them, so they are tracked here
+// by the manager's rules.
 ghost use Rattle.std.specs.Prelude.{◌≡◌, ◌++◌, [], OnOk};
 ghost use Rattle.std.specs.List.{flat_map};
 ghost use Rattle.std.specs.Vec.{vec_len};
@@ -13,11 +14,11 @@ use std::alloc::{AllocError, Global};
 struct Awaited {
     block: BlockId,
     target: StorageId,
-    /// The round that commanded it.
+    /// The round that commanded the copy.
     round: u32,
 }
 
-/// What was commanded, has not come, and was not given up.
+/// The commanded copies that have neither arrived nor been given up.
 #[derive(Drop)]
 pub struct AwaitedCopies {
     copies: Vec<Awaited>,
@@ -38,7 +39,7 @@ impl AwaitedCopies {
         self.copies.len()
     }
 
-    /// The copies that a round commands.
+    /// Adds the copies that a round commands.
     pub fn add_all(&mut self, round: u32, commands: &Commands) -> Result<(), AllocError>
         ensures { OnOk result (self.new.copies.items
             ≡ self.old.copies.items ++ flat_map (commanded_to round) commands.now.nodes) }
@@ -63,7 +64,7 @@ impl AwaitedCopies {
         Ok(())
     }
 
-    /// A notice may tell that a copy has come.
+    /// Removes the copy that a notice reports as received.
     #[tactic(auto, unfolding(crate::specs::Awaited::after_notice))]
     pub fn take_note(&mut self, notice: &Event)
         ensures { self.new.copies.items ≡ after_notice notice.now self.old.copies.items }
@@ -80,7 +81,8 @@ impl AwaitedCopies {
             .retain(|copy| !(copy.block == block && copy.target == target));
     }
 
-    /// Copies for which rounds waited so long are given up as the next round begins.
+    /// Removes the copies that were commanded `patience` rounds ago or earlier: the manager gives
+    /// them up as the round begins.
     pub fn give_up_old(&mut self, round: u32, patience: u32)
         ensures { self.new.copies.items ≡ without_old round patience self.old.copies.items }
     {
@@ -88,7 +90,7 @@ impl AwaitedCopies {
             .retain(|copy| round.saturating_sub(copy.round) < patience);
     }
 
-    /// No copy is awaited on a disk that is lost, or on a node that begins to drain.
+    /// Removes the copies to lost disks and to nodes that begin to drain.
     pub fn forget_lost(&mut self, incidents: &[Incident], shape: Shape)
         ensures { self.new.copies.items ≡ without_lost incidents.now shape self.old.copies.items }
     {

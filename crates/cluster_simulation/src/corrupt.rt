@@ -5,8 +5,8 @@ use crate::disks::Disks;
 use bm_base::{BlockId, Event, StorageId};
 use std::alloc::{AllocError, Global};
 
-/// Of `count` blocks, at equal distances among all `blocks`, one replica on a disk that is alive is found corrupt. The first block and
-/// the replicas are drawn.
+/// Reports one replica on an alive disk as corrupt for each of `count` blocks, which are at equal
+/// distances among all `blocks`. The first block and the replicas are drawn.
 pub fn corrupt_events(
     alloc: Global,
     dice: &mut Dice,
@@ -26,7 +26,8 @@ pub fn corrupt_events(
     Ok(events)
 }
 
-/// The block with this number among `count` blocks at equal distances among all `blocks`, from `first` on and round.
+/// Returns block `number` of `count` blocks at equal distances among all `blocks`, from `first` on,
+/// cyclically.
 fn block_at(first: u32, number: u32, count: u32, blocks: u32) -> BlockId {
     let distance = (u64::from(number) * u64::from(blocks))
         .checked_div(u64::from(count))
@@ -39,7 +40,7 @@ fn block_at(first: u32, number: u32, count: u32, blocks: u32) -> BlockId {
     )
 }
 
-/// The disks that are alive and hold the block.
+/// The alive disks that hold the block.
 fn alive_holders(alloc: Global, disks: &Disks, id: BlockId) -> Result<Vec<StorageId>, AllocError> {
     let mut alive = Vec::new(alloc);
     for storage in disks.holders(id) {
@@ -50,7 +51,7 @@ fn alive_holders(alloc: Global, disks: &Disks, id: BlockId) -> Result<Vec<Storag
     Ok(alive)
 }
 
-/// One of the disks, if there is any.
+/// Draws one of the disks, if there are any.
 fn drawn(dice: &mut Dice, storages: &[StorageId]) -> Option<StorageId> {
     let count = u32::try_from(storages.len()).unwrap_or(u32::MAX);
     if count == 0 {

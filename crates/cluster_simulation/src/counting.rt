@@ -1,4 +1,4 @@
-// What the manager answers about its blocks, counted.
+// Counts of blocks and replicas, from the manager's answers.
 ghost use Rattle.std.specs.Prelude.{◌≡◌, IfOk, OnOk, map, length, count_by};
 ghost use Rattle.std.specs.List.{range_with_len};
 ghost use Rattle.bm_base.specs.Levels.{is_at, level};
@@ -10,7 +10,8 @@ use bm_base::{BlockId, Level};
 use bm_manager::Manager;
 use std::alloc::{AllocError, Global};
 
-/// Counts the blocks at each level, by a question for each of the first `blocks` numbers, and the replicas in excess and the corrupt ones.
+/// Counts the blocks at each level by one query for each number below `blocks`, and the excess and
+/// corrupt replicas.
 pub fn count_blocks(
     alloc: Global,
     manager: &Manager,
@@ -31,7 +32,7 @@ pub fn count_blocks(
     Ok(())
 }
 
-/// The level of each of these blocks; none of one that is not known.
+/// The level of each of these blocks; `None` for an unknown block.
 fn levels_of(
     alloc: Global,
     manager: &Manager,
@@ -63,7 +64,7 @@ fn count_at(levels: &[Option<Level>], urgency: Level) -> u64
     count as u64
 }
 
-/// Whether a level is there and is this one.
+/// Whether there is a level, and it is this one.
 fn is_at(found: &Option<Level>, urgency: Level) -> bool
     ensures { result ≡ is_at urgency found.now }
 {
@@ -73,7 +74,7 @@ fn is_at(found: &Option<Level>, urgency: Level) -> bool
     }
 }
 
-/// Refused where memory is, as the next.
+/// These two fail only when out of memory.
 fn count_excess(manager: &Manager) -> Result<u64, AllocError>
     ensures { IfOk result (λ n. n ≡ length (excess_replicas manager.now.holdings)) }
 {

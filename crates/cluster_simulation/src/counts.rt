@@ -1,26 +1,26 @@
-// What is counted in each round.
+// The counts of each round.
 
 use bm_base::Commands;
 
-/// The counts as a round leaves them.
+/// The counts after a round.
 #[derive(Clone, Copy)]
 pub struct Counts {
     pub round: u32,
-    /// The blocks at each level.
+    /// The number of blocks at each level.
     pub highest: u64,
     pub very_under_replicated: u64,
     pub under_replicated: u64,
     pub badly_distributed: u64,
     pub missing: u64,
-    /// The copies that are on their way.
+    /// The number of pending copies.
     pub pending: u64,
-    /// The replicas in excess, and those that are stale or bad.
+    /// The numbers of replicas in excess, and of stale or bad ones.
     pub excess: u64,
     pub corrupt: u64,
-    /// What the round commands.
+    /// The numbers of commands of the round.
     pub copies: u64,
     pub deletes: u64,
-    /// What the manager refused since the round before.
+    /// The number of calls that the manager refused since the previous round.
     pub refused: u64,
 }
 
@@ -42,7 +42,7 @@ impl Counts {
         }
     }
 
-    /// What the round commands all nodes.
+    /// Counts the commands of the round to all nodes.
     pub fn add_commands(&mut self, commands: &Commands) {
         for node in commands.nodes.as_slice() {
             let copies = node.transfers.as_slice().len() as u64;
@@ -85,7 +85,7 @@ pub enum Series {
     Refused,
 }
 
-/// All of them, in the order of the columns.
+/// All series, in the order of the columns.
 pub static ALL_SERIES: [Series; 11] = [
     Series::Highest,
     Series::VeryUnderReplicated,
@@ -118,7 +118,7 @@ impl Series {
         }
     }
 
-    /// The greatest of the counts.
+    /// The maximum of the series.
     pub fn greatest(self, rows: &[Counts]) -> u64 {
         let mut greatest = 0u64;
         for row in rows {

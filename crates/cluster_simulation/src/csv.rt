@@ -1,4 +1,4 @@
-// The counts as a table: a heading, and a line for each round.
+// The counts as a table (CSV): a heading, and a line for each round.
 use crate::counts::{ALL_SERIES, Counts};
 use std::alloc::{AllocError, Global};
 

@@ -1,4 +1,5 @@
-// What DataNodes tell the manager: themselves, what is free on their disks, and what they have done. The dead tell nothing.
+// What DataNodes report to the manager: their registration, the free bytes of their disks, and what
+// they have done. Dead nodes report nothing.
 ghost use Rattle.std.specs.Prelude.{◌≡◌, ◌<◌, ◌&&◌, ◌++◌, ◌∷◌, [], is_some, IsSome, IfOk, false};
 ghost use Rattle.cluster_simulation.specs.Disks.{is_alive, holders, holds};
 
@@ -8,7 +9,7 @@ use crate::shape::Shape;
 use bm_base::{Delete, Event, Items, NodeId, Rack, Remaining, StorageId, Transfer};
 use std::alloc::{AllocError, Global};
 
-/// A node comes with its storages.
+/// Registers a node with its storages.
 pub fn registration(alloc: Global, shape: Shape, node: u32) -> Result<Event, AllocError>
     requires { node < shape.nodes }
 {
@@ -23,7 +24,7 @@ pub fn registration(alloc: Global, shape: Shape, node: u32) -> Result<Event, All
     })
 }
 
-/// What a node tells to be free on its disks that are alive. `None` where it has no such disk.
+/// The heartbeat of a node, with the free bytes of its alive disks. `None` if it has none.
 pub fn heartbeat(
     alloc: Global,
     shape: Shape,
@@ -49,7 +50,7 @@ pub fn heartbeat(
     }))
 }
 
-/// Does what was ordered, if that can be done still. The notice of it.
+/// Carries out an order, if that is still possible, and returns the notice of it.
 pub fn carry_out(disks: &mut Disks, order: Order) -> Result<Option<Event>, AllocError> {
     match order {
         Order::Copy(transfer) => copy(disks, transfer),
@@ -57,7 +58,7 @@ pub fn carry_out(disks: &mut Disks, order: Order) -> Result<Option<Event>, Alloc
     }
 }
 
-/// Both disks have to be alive, and the source has to hold the replica still.
+/// Copies a replica, if both disks are alive and the source still holds it.
 fn copy(disks: &mut Disks, transfer: Transfer) -> Result<Option<Event>, AllocError>
     ensures done { IfOk result (λ notice. is_some notice
         ≡ (is_alive disks.old transfer.source

@@ -1,7 +1,7 @@
-// Numbers that look random, and are the same in each run of one seed.
+// Pseudorandom numbers, the same in each run of one seed.
 ghost use Rattle.std.specs.Prelude.{◌<◌};
 
-/// A linear congruential generator, of which the upper bits are taken.
+/// A linear congruential generator; its upper bits are used.
 #[derive(Clone, Copy)]
 pub struct Dice {
     state: u64,

@@ -1,4 +1,4 @@
-// What stands on the disks of the DataNodes, whatever the manager knows of it.
+// The content of the DataNodes' disks, whatever the manager knows of it.
 ghost use Rattle.std.specs.Prelude.{◌≡◌, ◌<◌, ◌+◌, ◌-◌, ◌*◌, ◌/◌, ◌^◌, ◌==◌, ◌++◌, ◌∷◌, [], max, false, OnOk, IfOk, IsSome, slice_get, if◌then◌else◌};
 ghost use Rattle.std.specs.Int.{div_ceil};
 ghost use Rattle.std.specs.List.{list_any};
@@ -8,7 +8,7 @@ use crate::shape::Shape;
 use bm_base::{BlockId, Gen, Stamp, StorageId};
 use std::alloc::{AllocError, Global};
 
-/// The version and the length of every block.
+/// The stamp and the length of every block.
 pub const STAMP: Stamp = Stamp {
     generation: Gen(1),
     len: LENGTH,
@@ -17,14 +17,14 @@ pub const STAMP: Stamp = Stamp {
 /// 128 MiB.
 const LENGTH: u64 = 128 << 20;
 
-/// Each disk has room for so many replicas at least: 4 TiB.
+/// The least capacity of a disk in replicas: 4 TiB.
 const LEAST_ROOM: u64 = 32_768;
 
 /// One disk. Each is one storage.
 #[derive(Clone, Copy)]
 struct Disk {
     is_alive: bool,
-    /// How many replicas stand on it.
+    /// The number of replicas on it.
     replicas: u32,
 }
 
@@ -37,19 +37,19 @@ impl Disk {
     }
 }
 
-/// All disks, and which of them hold which block.
+/// All disks, and the disks that hold each block.
 #[derive(Drop)]
 pub struct Disks {
-    /// The bytes of each disk.
+    /// The capacity of each disk in bytes.
     capacity: u64,
-    /// By the storage's number.
+    /// Indexed by the storage's number.
     disks: Vec<Disk>,
-    /// By the block's number: the storages that hold it, in the order in which they came.
+    /// Indexed by the block's number: the storages that hold it, in the order in which they got it.
     holders: Vec<Vec<StorageId>>,
 }
 
 impl Disks {
-    /// All of them alive and empty, each with capacity for twice its even share of `replicas`.
+    /// All disks, alive and empty, each with capacity for twice its even share of `replicas`.
     pub fn new(alloc: Global, shape: Shape, replicas: u64) -> Result<Disks, AllocError>
         ensures { IfOk result (λ d. replicas < 2 ^ 32 → d.capacity
             ≡ max (div_ceil replicas (max (shape.nodes * shape.storages) 1) * 2) 32768 * 2 ^ 27) }
@@ -68,7 +68,7 @@ impl Disks {
         })
     }
 
-    /// The next block, with a replica on each of these storages.
+    /// Adds the next block, with a replica on each of these storages.
     pub fn add_block(&mut self, storages: Vec<StorageId>) -> Result<(), AllocError> {
         for storage in &storages {
             self.count_one_more(*storage);
@@ -83,7 +83,7 @@ impl Disks {
         matches!(self.disks.get(storage.0 as usize), Some(disk) if disk.is_alive)
     }
 
-    /// The storages that hold a block, dead ones too.
+    /// The storages that hold a block, failed ones too.
     pub fn holders(&self, block: BlockId) -> &[StorageId]
         ensures { result.now ≡ holders self.now block }
     {
@@ -99,7 +99,7 @@ impl Disks {
         self.holders(block).contains(&storage)
     }
 
-    /// The bytes that a heartbeat tells to be free.
+    /// The free bytes of a disk, as a heartbeat reports them.
     pub fn free_bytes(&self, storage: StorageId) -> u64
         ensures { result ≡ free_bytes self.now storage }
     {
@@ -109,7 +109,7 @@ impl Disks {
         }
     }
 
-    /// A replica comes.
+    /// Adds a replica.
     pub fn put(&mut self, storage: StorageId, block: BlockId) -> Result<(), AllocError>
         ensures stored { OnOk result (IsSome (slice_get self.old.holders.items block)
             → holders self.new block ≡ holders self.old block ++ storage ∷ []) }
@@ -123,7 +123,7 @@ impl Disks {
         Ok(())
     }
 
-    /// A replica goes, if it is there.
+    /// Removes a replica, if it exists.
     pub fn take(&mut self, storage: StorageId, block: BlockId)
         ensures gone { holds self.new storage block ≡ false }
         ensures counted { self.new.disks.items ≡ (if holds self.old storage block
@@ -139,7 +139,7 @@ impl Disks {
         self.count_one_fewer(storage);
     }
 
-    /// The disk is never heard of again.
+    /// The disk fails for good.
     pub fn fail(&mut self, storage: u32)
         ensures { self.new.disks.items ≡ change_at failed storage self.old.disks.items }
     {
@@ -175,7 +175,7 @@ fn remove_holder(holders: &mut Vec<StorageId>, storage: StorageId)
     holders.retain(|holder| *holder != storage);
 }
 
-/// The bytes of each disk: capacity for twice its even share of `replicas`.
+/// The capacity of each disk in bytes: twice its even share of `replicas`.
 fn capacity_for(storages: u64, replicas: u64) -> u64
     requires { 0 < storages }
     ensures { replicas < 2 ^ 32

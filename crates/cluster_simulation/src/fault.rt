@@ -11,7 +11,7 @@ pub enum Fault {
 }
 
 impl Fault {
-    /// Whether nobody reads the output any more, of which nobody wants to hear.
+    /// Whether the reader of the output has closed it, so that no message is needed.
     pub fn is_closed_pipe(&self) -> bool {
         matches!(self, Fault::Write(error) if error.kind() == ErrorKind::BrokenPipe)
     }

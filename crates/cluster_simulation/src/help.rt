@@ -1,4 +1,4 @@
-// Texts of the help.
+// Help texts.
 
 pub static EXAMPLES: &str = "\
 Examples:

@@ -1,11 +1,11 @@
-// What can be taken from a cluster.
+// Incidents: what a cluster can lose.
 ghost use Rattle.std.specs.Prelude.{◌≡◌};
 ghost use Rattle.cluster_simulation.specs.Incidents.{kills_node, kills, drains, any_kills_node, any_kills, any_bars, any_drains};
 
 use crate::shape::Shape;
 use std::fmt;
 
-/// What is taken from a cluster, by its number.
+/// An incident, by the number of the rack, node or disk.
 #[derive(Clone, Copy)]
 pub enum Incident {
     NodeDies(u32),
@@ -15,7 +15,7 @@ pub enum Incident {
 }
 
 impl Incident {
-    /// Whether it takes the node out of the cluster, alone or with its rack.
+    /// Whether the node is lost, alone or with its rack.
     #[tactic(auto, unfolding(crate::specs::Incidents::kills_node))]
     fn kills_node(&self, shape: Shape, node: u32) -> bool
         ensures { result ≡ kills_node self.now shape node }
@@ -27,7 +27,7 @@ impl Incident {
         }
     }
 
-    /// Whether it takes the disk out of the cluster, alone or with its node.
+    /// Whether the disk is lost, alone or with its node.
     #[tactic(auto, unfolding(crate::specs::Incidents::kills))]
     fn kills(&self, shape: Shape, storage: u32) -> bool
         ensures { result ≡ kills self.now shape storage }
@@ -47,7 +47,7 @@ impl Incident {
     }
 }
 
-/// Whether one of the incidents takes the node out of the cluster.
+/// Whether the node is lost by one of the incidents.
 pub fn any_kills_node(incidents: &[Incident], shape: Shape, node: u32) -> bool
     ensures { result ≡ any_kills_node incidents.now shape node }
 {
@@ -56,7 +56,7 @@ pub fn any_kills_node(incidents: &[Incident], shape: Shape, node: u32) -> bool
         .any(|incident| incident.kills_node(shape, node))
 }
 
-/// Whether one of the incidents takes the disk out of the cluster.
+/// Whether the disk is lost by one of the incidents.
 pub fn any_kills(incidents: &[Incident], shape: Shape, storage: u32) -> bool
     ensures { result ≡ any_kills incidents.now shape storage }
 {
@@ -65,14 +65,14 @@ pub fn any_kills(incidents: &[Incident], shape: Shape, storage: u32) -> bool
         .any(|incident| incident.kills(shape, storage))
 }
 
-/// Whether one of the incidents makes the node drain.
+/// Whether the node begins to drain by one of the incidents.
 pub fn any_drains(incidents: &[Incident], node: u32) -> bool
     ensures { result ≡ any_drains incidents.now node }
 {
     incidents.iter().any(|incident| incident.drains(node))
 }
 
-/// Whether no copy can come to the disk any more: it is gone, or its node drains.
+/// Whether no copy can reach the disk any more: it is lost, or its node drains.
 pub fn any_bars(incidents: &[Incident], shape: Shape, storage: u32) -> bool
     ensures { result ≡ any_bars incidents.now shape storage }
 {

@@ -1,28 +1,35 @@
-//! A made-up cluster: its nodes, the blocks placed on them, and DataNodes that obey the commands of each round with a delay. In one
-//! round racks, nodes and disks are lost, nodes drain, or replicas are found corrupt. What the block manager answers is counted round
-//! by round, and written as a table (CSV) or as a picture (SVG). The same words give the same bytes.
+//! A simulated cluster: its nodes, the blocks placed on them, and DataNodes that carry out the
+//! commands of each round with a delay. In one round racks, nodes and disks are lost, nodes drain,
+//! or replicas are found corrupt. The block manager's answers are counted after each round, and
+//! written as a table (CSV) or as a picture (SVG). The same options give the same bytes.
 //!
 //! ```text
 //! puljemrod_cluster simulate --lose rack:1 --rounds 100 --svg > rack.svg
 //! ```
 //!
-//! In each round DataNodes first report what they have done: what a round commands is done `delay` rounds later, if the disks that it
-//! takes are still alive. In the round `--at` it goes wrong. Then DataNodes report the free bytes of their disks, each of which has
-//! capacity for twice its share of the replicas, and the manager takes its round. The counts are those after it: the blocks at each
-//! level (`missing` is that of no usable replica), the copies that the manager awaits, the replicas in excess and the corrupt ones, the
-//! copies and deletes that the round commands, and the calls that the manager refused since the round before. The dead report nothing,
-//! so it has nothing to refuse.
+//! At the start of each round DataNodes report what they have done: a command is carried out
+//! `delay` rounds after it was given, if the disks that it needs are still alive. The incidents
+//! happen in round `--at`. Then DataNodes report the free bytes of their disks, each of which has
+//! capacity for twice its share of the replicas, and the manager takes its round. After that the
+//! blocks at each level are counted (`missing` are those without a usable replica), the copies that
+//! the manager awaits, the replicas in excess and the corrupt ones. The other counts are the copies
+//! and deletes that the round commands, and the calls that the manager refused since the previous
+//! round. Dead nodes report nothing, so the manager has nothing to refuse.
 //!
-//! The numbers of `examples/stories/one_of_two_racks_dies.csv` follow from the rules, whatever is drawn. There are four nodes, two on each of two racks, and six
-//! blocks, each with one replica on each rack. In round 5 the nodes of one rack die:
-//! - Round 5: each block has one live replica, and wants two, so all six are of the highest urgency, and one copy of each is requested.
-//!   A round commands two copies for each of the two nodes that are left: four. A node may send four of the highest urgency, and the
-//!   other node of the rack, which has no replica of the block, is the target.
-//! - Round 6: no copy has come yet. Copies on their way count as there, so the two blocks without one get theirs, and six are awaited.
-//! - Round 7: the first four copies have come. Their blocks have two live replicas; both are on one rack, but it is the only one.
-//! - Round 8: the other two have come, and nothing more is requested.
+//! The numbers of `examples/stories/one_of_two_racks_dies.csv` follow from the rules, whatever is
+//! drawn. There are four nodes, two on each of two racks, and six blocks, each with one replica on
+//! each rack. In round 5 the nodes of one rack die:
+//! - Round 5: each block has one live replica, and wants two, so all six are of the highest
+//!   urgency, and one copy of each is requested. A round commands two copies for each of the two
+//!   nodes that are left: four. A node may send four of the highest urgency, and the other node of
+//!   the rack, which has no replica of the block, is the target.
+//! - Round 6: no copy has arrived yet. Pending copies count like replicas, so the two blocks
+//!   without one get theirs, and six are pending.
+//! - Round 7: the first four copies have arrived. Their blocks have two live replicas; both are on
+//!   one rack, but it is the only one.
+//! - Round 8: the other two have arrived, and nothing more is requested.
 //!
-//! Ends with status 1 where memory or a write is refused, and with status 2 where the words ask for nothing that there is.
+//! The exit status is 1 when out of memory or when a write fails, and 2 for invalid options.
 #![tactic(auto)]
 
 mod awaited;
@@ -68,7 +75,8 @@ const FAULTED: u8 = 1;
 
 const MISUSED: u8 = 2;
 
-/// Writes what the words of a command line ask for, the program's name first, on standard output. The result is the exit status.
+/// Runs the command line in `words`, the program's name first, and writes to standard output. The
+/// result is the exit status.
 pub fn simulate_by_words<R: Print + Eprint + AllocGlobal + Threads + Wait + Sync>(
     rt: &R,
     words: &[String],
@@ -82,7 +90,7 @@ pub fn simulate_by_words<R: Print + Eprint + AllocGlobal + Threads + Wait + Sync
     }
 }
 
-/// Says why there is no simulation.
+/// Reports why there is no simulation.
 fn say_error<R: Print + Eprint>(rt: &R, error: &Error) -> u8 {
     if matches!(error.kind(), ErrorKind::OutOfMemory) {
         return say_fault(rt, Fault::Memory);
@@ -113,7 +121,7 @@ fn simulate<R: Print + Eprint + AllocGlobal + Threads + Wait + Sync>(
     }
 }
 
-/// The table or the picture of all rounds.
+/// Writes the table or the picture of all rounds.
 fn text_of<R: Eprint + Threads + Wait + Sync>(
     rt: &R,
     alloc: Global,

@@ -1,4 +1,4 @@
-// The events by which the manager learns of the incidents.
+// The events that report the incidents to the manager.
 ghost use Rattle.std.specs.Prelude.{◌≡◌, ◌*◌, ◌++◌, OnOk, IfOk, map};
 ghost use Rattle.cluster_simulation.specs.Incidents.{numbers_where, any_kills_node, fails_alone, drains_alive, death, failure, drain, reported};
 
@@ -7,8 +7,8 @@ use crate::shape::Shape;
 use bm_base::{Event, NodeId, StorageId};
 use std::alloc::{AllocError, Global};
 
-/// Each node that is gone dies, each disk that is gone without its node fails, and each further node that is to drain does so: each
-/// once, however many incidents name it.
+/// Returns a death for each lost node, a failure for each disk lost without its node, and a drain
+/// for each node that drains and is not lost. Each comes once, however many incidents name it.
 pub fn events_of(
     alloc: Global,
     shape: Shape,
@@ -73,7 +73,7 @@ fn push_drains(
     Ok(())
 }
 
-/// Whether the disk is gone and its node is not.
+/// Whether the disk is lost and its node is not.
 fn fails_alone(incidents: &[Incident], shape: Shape, storage: u32) -> bool
     ensures { result ≡ fails_alone incidents.now shape storage }
 {
@@ -81,7 +81,7 @@ fn fails_alone(incidents: &[Incident], shape: Shape, storage: u32) -> bool
         && !any_kills_node(incidents, shape, shape.node_of(storage))
 }
 
-/// Whether the node is to drain and is not gone.
+/// Whether the node drains and is not lost.
 fn drains_alive(incidents: &[Incident], shape: Shape, node: u32) -> bool
     ensures { result ≡ drains_alive incidents.now shape node }
 {

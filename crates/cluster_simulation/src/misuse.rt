@@ -1,4 +1,4 @@
-// Why the words of a command line ask for nothing that there is.
+// Why a command line is invalid.
 
 use std::alloc::AllocError;
 use std::fmt;
@@ -6,22 +6,22 @@ use std::fmt;
 #[derive(Clone, Copy)]
 pub enum Misuse<'a> {
     Memory,
-    /// A value of `--lose` has another form.
+    /// A value of `--lose` is malformed.
     NoLoss(&'a str),
     /// A value of `--drain` is not a number.
     NoNode(&'a str),
-    /// The cluster has `count` of this kind, numbered from 0.
+    /// The cluster has only `count` of this kind, numbered from 0.
     Absent {
         kind: &'static str,
         number: u32,
         count: u32,
     },
-    /// More corrupt replicas than blocks.
+    /// `--corrupt` asks for more replicas than there are blocks.
     FewBlocks {
         corrupt: u32,
         blocks: u32,
     },
-    /// It would happen after the last round.
+    /// `--at` is after the last round.
     TooLate {
         round: u32,
         rounds: u32,

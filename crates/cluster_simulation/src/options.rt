@@ -12,38 +12,38 @@ use std::alloc::{AllocError, Global};
 
 const MOST_BLOCKS: u32 = 1_000_000;
 
-/// The round in which it goes wrong without `--at` is always among the rounds.
+/// At least the default of `--at`, so that this round is always among the rounds.
 const LEAST_ROUNDS: u32 = 5;
 
 const MOST_ROUNDS: u32 = 1_000;
 
 const NONE_CORRUPT: u32 = 0;
 
-/// How the counts are written.
+/// The format of the counts.
 #[derive(Clone, Copy)]
 pub enum Form {
     Csv,
     Svg,
 }
 
-/// What is asked for.
+/// A parsed command line.
 #[derive(Drop)]
 pub struct Asked {
     pub options: Options,
     pub plan: Plan,
-    /// Whether standard error shows how many rounds are made.
+    /// Whether standard error shows the progress in rounds.
     pub shows_progress: bool,
 }
 
-/// The cluster, its course and how it is written.
+/// The cluster, the course of the run, and the format of the output.
 #[derive(Clone, Copy)]
 pub struct Options {
     pub shape: Shape,
     pub blocks: u32,
-    /// How many replicas of each block are wanted.
+    /// The number of wanted replicas of each block.
     pub replication: u32,
     pub seed: u64,
-    /// How many rounds there are between a command and its being done.
+    /// The number of rounds between a command and its execution.
     pub delay: u32,
     pub rounds: u32,
     pub form: Form,
@@ -51,8 +51,8 @@ pub struct Options {
     ghost rounds_fit: { (5 ≤ rounds) × (rounds ≤ 1000) },
 }
 
-/// What the words of a command line ask for, the program's name first. An `Err` is a request for help, a command line that is refused,
-/// or out of memory.
+/// Parses a command line, the program's name first. `Err` is a request for help, a refused command
+/// line, or out of memory.
 pub fn asked_by(alloc: Global, words: &[String]) -> Result<Asked, Error> {
     let command = command(alloc)?;
     let matches = command.try_get_matches_from(words)?;
@@ -67,7 +67,7 @@ pub fn asked_by(alloc: Global, words: &[String]) -> Result<Asked, Error> {
     }
 }
 
-/// The error that says why the words ask for nothing that there is.
+/// The error that explains a misuse.
 fn refusal(alloc: Global, misuse: Misuse<'_>) -> Result<Error, AllocError> {
     if matches!(misuse, Misuse::Memory) {
         return Err(AllocError);
@@ -86,7 +86,7 @@ struct Number {
     help: &'static str,
 }
 
-/// What the cluster is.
+/// The options that describe the cluster.
 static CLUSTER: [Number; 5] = [
     Number {
         name: "nodes",
@@ -125,7 +125,7 @@ static CLUSTER: [Number; 5] = [
     },
 ];
 
-/// How long things take.
+/// The options that describe the course.
 static COURSE: [Number; 2] = [
     Number {
         name: "delay",
@@ -158,7 +158,7 @@ fn command<'a>(alloc: Global) -> Result<Command<'a>, AllocError> {
     with_form(alloc, with_plan(alloc, command)?)
 }
 
-/// The command with what goes wrong.
+/// Adds the options of the incidents to the command.
 fn with_plan<'a>(alloc: Global, command: Command<'a>) -> Result<Command<'a>, AllocError> {
     let command = with(command, lose(alloc))?;
     let command = with(command, drain(alloc))?;
@@ -166,7 +166,7 @@ fn with_plan<'a>(alloc: Global, command: Command<'a>) -> Result<Command<'a>, All
     with(command, argument(alloc, &AT))
 }
 
-/// The command with the form of the output.
+/// Adds the options of the format to the command.
 fn with_form<'a>(alloc: Global, command: Command<'a>) -> Result<Command<'a>, AllocError> {
     let command = with(command, csv(alloc))?;
     let command = with(command, svg(alloc)?)?;
@@ -191,7 +191,7 @@ fn with_numbers<'a>(
     Ok(command)
 }
 
-/// The command with one more argument.
+/// Adds one argument to the command.
 fn with<'a>(command: Command<'a>, arg: Arg<'a>) -> Result<Command<'a>, AllocError> {
     command.arg(arg)
 }
@@ -246,7 +246,7 @@ fn quiet<'a>(alloc: Global) -> Arg<'a> {
     flag(alloc, "quiet").help("shows no progress on standard error")
 }
 
-/// For a caller that knows standard error to be a terminal.
+/// A hidden option, for a caller that knows that standard error is a terminal.
 fn progress<'a>(alloc: Global) -> Arg<'a> {
     flag(alloc, "progress").hide(true)
 }
@@ -273,7 +273,7 @@ fn new_arg<'a>(alloc: Global, name: &'a str) -> Arg<'a> {
     Arg::new(alloc, name)
 }
 
-/// What was found. Each option has a value within its range, so no other number counts.
+/// The parsed options. Each is within its range already, so the clamps change nothing.
 fn options_in(matches: &ArgMatches<'_>) -> Options {
     Options {
         shape: Shape::new(
@@ -298,7 +298,7 @@ fn number_in(matches: &ArgMatches<'_>, name: &str) -> u32 {
     matches.get_one::<u32>(name).unwrap_or(0)
 }
 
-/// What goes wrong, if the cluster has what is named, and the rounds get that far.
+/// The parsed incidents, if the cluster has what they name and their round is among the rounds.
 fn plan_in<'a>(
     alloc: Global,
     matches: &ArgMatches<'a>,
@@ -317,7 +317,7 @@ fn plan_in<'a>(
     }
 }
 
-/// What is wrong with the numbers of a plan.
+/// The misuse in the numbers of a plan, if any.
 fn misuse_of<'a>(plan: &Plan, options: &Options) -> Option<Misuse<'a>> {
     let Options { blocks, rounds, .. } = *options;
     if plan.corrupt > blocks {

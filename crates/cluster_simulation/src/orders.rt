@@ -1,4 +1,4 @@
-// What DataNodes were told to do, each order on its way for so many rounds.
+// The orders to DataNodes, each of which is carried out `delay` rounds after it was given.
 ghost use Rattle.std.specs.Prelude.{◌≡◌, ◌++◌, ◌∷◌, [], OnOk, map, length, drop};
 ghost use Rattle.std.specs.List.{flat_map};
 ghost use Rattle.std.specs.Option.{option_to_list};
@@ -22,10 +22,10 @@ struct Given {
     order: Order,
 }
 
-/// The orders that are not carried out yet, the oldest first.
+/// The orders that are not carried out yet, oldest first.
 #[derive(Drop)]
 pub struct Orders {
-    /// How many rounds there are between a command and its being done.
+    /// The number of rounds between a command and its execution.
     delay: u32,
     given: VecDeque<Given>,
 }
@@ -47,7 +47,7 @@ impl Orders {
         self.given.len()
     }
 
-    /// An order of this round, which is no earlier than that of the order before.
+    /// Adds an order of this round, which is no earlier than that of the previous order.
     pub fn give(&mut self, round: u32, order: Order) -> Result<(), AllocError>
         ensures given { OnOk result (self.new.given.items
             ≡ self.old.given.items ++ record { round = round; order = order } ∷ []) }
@@ -57,7 +57,7 @@ impl Orders {
         Ok(())
     }
 
-    /// The oldest order that is to be done by this round. It leaves.
+    /// Removes and returns the oldest order that is due by this round.
     pub fn next_due(&mut self, round: u32) -> Option<Order>
         ensures due { result ≡ oldest_due self.old.delay round self.old.given.items }
         ensures rest { self.new.given.items
@@ -72,7 +72,7 @@ impl Orders {
         Some(oldest.order)
     }
 
-    /// All that a round commands.
+    /// Adds all commands of a round.
     pub fn give_all(&mut self, round: u32, commands: &Commands) -> Result<(), AllocError>
         ensures given { OnOk result (self.new.given.items
             ≡ self.old.given.items ++ flat_map (given_to round) commands.now.nodes) }

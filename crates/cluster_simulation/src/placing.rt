@@ -1,4 +1,4 @@
-// Where the replicas of a new block stand: each on a node of its own, and on two racks where there are two.
+// Placement of a new block's replicas: each on another node, on two racks if there are two.
 ghost use Rattle.std.specs.Prelude.{◌<◌, IfSome};
 
 use crate::dice::Dice;
@@ -6,7 +6,7 @@ use crate::shape::Shape;
 use bm_base::StorageId;
 use std::alloc::{AllocError, Global};
 
-/// On which rack the next replica is to stand.
+/// The rack of the next replica.
 #[derive(Clone, Copy)]
 enum Wish {
     AnyRack,
@@ -15,8 +15,8 @@ enum Wish {
 }
 
 impl Wish {
-    /// The first replica stands anywhere, the second on another rack, the third on the rack of the second, and each further one
-    /// anywhere.
+    /// The first replica may be on any rack, the second is on another one, the third on the rack of
+    /// the second; each further one may be on any rack.
     fn after(shape: Shape, nodes: &[u32]) -> Wish {
         match nodes {
             [first] => Wish::OtherThan(shape.rack_of(*first)),
@@ -34,7 +34,8 @@ impl Wish {
     }
 }
 
-/// The storages of a new block's replicas: as many as are wanted, or one on each node where there are fewer nodes. They are drawn.
+/// Draws the storages of a new block's replicas: `replication` of them, or one on each node if
+/// there are fewer nodes.
 pub fn place(
     alloc: Global,
     dice: &mut Dice,
@@ -54,7 +55,8 @@ pub fn place(
     Ok(storages)
 }
 
-/// The node of the next replica: from `start` on the first that suits, or else the first that has no replica yet.
+/// The node of the next replica: the first suitable one from `start` on, or else the first without
+/// a replica.
 fn next_node(shape: Shape, start: u32, nodes: &[u32]) -> Option<u32>
     ensures { IfSome result (λ node. node < shape.nodes) }
 {
@@ -64,7 +66,7 @@ fn next_node(shape: Shape, start: u32, nodes: &[u32]) -> Option<u32>
     }
 }
 
-/// From `start` on, round the cluster, the first node that has no replica yet and suits.
+/// The first suitable node without a replica, from `start` on, cyclically.
 fn free_node(shape: Shape, start: u32, nodes: &[u32], wish: Wish) -> Option<u32>
     ensures { IfSome result (λ node. node < shape.nodes) }
 {

@@ -1,4 +1,4 @@
-// What goes wrong in a cluster, and when.
+// The incidents of a run, and their round.
 
 use crate::incident::Incident;
 use crate::misuse::Misuse;
@@ -6,12 +6,12 @@ use crate::shape::Shape;
 use std::alloc::{AllocError, Global};
 use std::fmt;
 
-/// What goes wrong, all of it in one round.
+/// The incidents, all in one round.
 #[derive(Drop)]
 pub struct Plan {
     pub round: u32,
     pub incidents: Vec<Incident>,
-    /// How many blocks have one replica that is found corrupt.
+    /// The number of blocks with one replica that is found corrupt.
     pub corrupt: u32,
 }
 
@@ -34,7 +34,7 @@ impl fmt::Display for Plan {
     }
 }
 
-/// The first two, and how many more there are.
+/// Writes the first two incidents, and the number of further ones.
 fn write_incidents<W: fmt::Write>(
     f: &mut fmt::Formatter<W>,
     incidents: &[Incident],
@@ -63,7 +63,7 @@ fn write_corrupt<W: fmt::Write>(
     }
 }
 
-/// What the values of `--lose` and `--drain` name in a cluster of this shape.
+/// The incidents that the values of `--lose` and `--drain` name in a cluster of this shape.
 pub fn incidents_of<'a>(
     alloc: Global,
     shape: Shape,
@@ -91,7 +91,7 @@ fn add(incidents: &mut Vec<Incident>, incident: Incident) -> Result<(), AllocErr
     Ok(())
 }
 
-/// What `rack:N`, `node:N` or `storage:N` names.
+/// The incident that `rack:N`, `node:N` or `storage:N` names.
 fn loss_of(word: &str) -> Option<Incident> {
     let (kind, number) = word.split_once(':')?;
     let number = number_of(number)?;

@@ -1,9 +1,9 @@
-// How rounds and counts become points of the picture, in whole numbers.
+// The scale of the picture: rounds and counts as points, in whole numbers.
 ghost use Rattle.std.specs.Prelude.{◌<◌, ◌≤◌};
 
 use crate::counts::{ALL_SERIES, Counts};
 
-/// The field of the lines, in points of the picture.
+/// The area of the lines, in points of the picture.
 pub const LEFT: u64 = 76;
 
 pub const TOP: u64 = 88;
@@ -16,24 +16,25 @@ pub const RIGHT: u64 = LEFT + WIDTH;
 
 pub const BOTTOM: u64 = TOP + HEIGHT;
 
-/// At most so many steps have marks at each side.
+/// The maximum numbers of marked steps on the two axes.
 const STEPS_UP: u64 = 6;
 
 const STEPS_ASIDE: u64 = 10;
 
-/// From one mark to the next.
+/// The possible distances between two marks.
 const STEPS: [u64; 22] = [
     1, 2, 5, 10, 20, 50, 100, 200, 500, 1_000, 2_000, 5_000, 10_000, 20_000, 50_000, 100_000,
     200_000, 500_000, 1_000_000, 2_000_000, 5_000_000, 10_000_000,
 ];
 
-/// Each round is as wide as any other, the first at the left and the last at the right; 0 is at the bottom and `most` at the top.
+/// All rounds have the same width, the first at the left and the last at the right. 0 is at the
+/// bottom and `most` at the top.
 #[derive(Clone, Copy)]
 pub struct Scale {
     rounds: u64,
-    /// The rounds between two marks.
+    /// The number of rounds between two marks.
     pub round_step: u64,
-    /// The counts between two marks, and how many such steps there are.
+    /// The distance between two marks in counts, and the number of these steps.
     pub count_step: u64,
     pub count_steps: u64,
     most: u64,
@@ -42,7 +43,7 @@ pub struct Scale {
 }
 
 impl Scale {
-    /// The scale on which all counts of these rounds have room.
+    /// The scale on which all counts of these rounds fit.
     pub fn new(rows: &[Counts]) -> Scale {
         let mut greatest = 1u64;
         for series in &ALL_SERIES {
@@ -60,12 +61,12 @@ impl Scale {
         }
     }
 
-    /// How many rounds there are.
+    /// The number of rounds.
     pub fn rounds(&self) -> u64 {
         self.rounds
     }
 
-    /// Where a round begins, from the left.
+    /// The distance from the left at which a round begins.
     pub fn x_of(&self, round: u64) -> u64
         ensures left { LEFT ≤ result }
         ensures right { result ≤ RIGHT }
@@ -74,7 +75,7 @@ impl Scale {
         LEFT + (past.saturating_mul(WIDTH) / self.rounds).min(WIDTH)
     }
 
-    /// Where a count stands, from the top.
+    /// The distance of a count from the top.
     pub fn y_of(&self, count: u64) -> u64
         ensures top { TOP ≤ result }
         ensures bottom { result ≤ BOTTOM }
@@ -83,7 +84,7 @@ impl Scale {
     }
 }
 
-/// The least step by which so many steps reach the greatest number.
+/// The least step that reaches `greatest` in at most `steps` steps.
 fn step_for(greatest: u64, steps: u64) -> u64
     ensures { 0 < result }
 {

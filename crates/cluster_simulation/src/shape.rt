@@ -1,13 +1,13 @@
-// How large the cluster is, and which storage stands on which node and rack.
+// The size of the cluster, and the node and rack of each storage.
 ghost use Rattle.std.specs.Prelude.{◌≡◌, ◌*◌, ◌/◌, ◌%◌, ◌<◌, ◌≤◌};
 
-/// Nodes, racks, storages and blocks are numbered from 0. Node `n` stands on rack `n % racks`, and its storages are those from
-/// `n * storages` on.
+/// Nodes, racks, storages and blocks are numbered from 0. Node `n` is on rack `n % racks`, and its
+/// storages begin with `n * storages`.
 #[derive(Clone, Copy)]
 pub struct Shape {
     pub nodes: u32,
     pub racks: u32,
-    /// How many storages each node has.
+    /// The number of storages of each node.
     pub storages: u32,
     ghost nodes_fit: { (1 ≤ nodes) × (nodes ≤ 256) },
     ghost racks_fit: { (1 ≤ racks) × (racks ≤ 256) },
@@ -21,7 +21,7 @@ pub const MOST_RACKS: u32 = 256;
 pub const MOST_STORAGES: u32 = 16;
 
 impl Shape {
-    /// Numbers outside their ranges, which the options let through none of, are taken as the nearest within.
+    /// Clamps numbers to their ranges; the options refuse all others.
     pub fn new(nodes: u32, racks: u32, storages: u32) -> Shape {
         Shape {
             nodes: nodes.clamp(1, MOST_NODES),
@@ -43,7 +43,7 @@ impl Shape {
         storage / self.storages
     }
 
-    /// The storage of a node with this place, which counts from 0.
+    /// The storage of a node at this index, from 0.
     pub fn storage_at(&self, node: u32, place: u32) -> u32
         requires node { node < self.now.nodes }
         requires place { place < self.now.storages }
@@ -52,14 +52,14 @@ impl Shape {
         node * self.storages + place
     }
 
-    /// How many storages the whole cluster has.
+    /// The number of storages of the cluster.
     pub fn all_storages(&self) -> u32
         ensures { result ≡ self.now.nodes * self.now.storages }
     {
         self.nodes * self.storages
     }
 
-    /// How many racks have a node.
+    /// The number of racks that have a node.
     pub fn used_racks(&self) -> u32
         ensures { 0 < result }
     {

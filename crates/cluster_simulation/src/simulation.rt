@@ -25,7 +25,7 @@ use std::alloc::{AllocError, Global};
 use std::sync::Wait;
 use std::thread::Threads;
 
-/// The whole cluster.
+/// The simulated cluster with its manager.
 #[derive(Drop)]
 pub struct Simulation {
     alloc: Global,
@@ -36,12 +36,12 @@ pub struct Simulation {
     disks: Disks,
     orders: Orders,
     awaited: AwaitedCopies,
-    /// How many calls the manager refused since they were counted last.
+    /// The number of calls that the manager refused since the last count.
     refused: u64,
 }
 
 impl Simulation {
-    /// All nodes are registered, and all blocks are placed.
+    /// Registers all nodes, and places all blocks.
     pub fn new<R: Threads + Wait + Sync>(
         rt: &R,
         alloc: Global,
@@ -56,7 +56,7 @@ impl Simulation {
         Ok(simulation)
     }
 
-    /// No node is registered yet.
+    /// A cluster without registered nodes.
     fn before_all(alloc: Global, options: Options, plan: Plan) -> Result<Simulation, AllocError> {
         match Manager::new(alloc, Config::standard()) {
             Ok(manager) => Simulation::around(alloc, options, plan, manager),
@@ -64,7 +64,7 @@ impl Simulation {
         }
     }
 
-    /// Around a manager that knows nothing yet.
+    /// A cluster around an empty manager.
     fn around(
         alloc: Global,
         options: Options,
@@ -100,8 +100,9 @@ impl Simulation {
         &self.plan
     }
 
-    /// The next round: first DataNodes report what they have done, then it may go wrong, then DataNodes report what is free, and then
-    /// the manager commands. The counts after it.
+    /// Takes the next round, and returns the counts after it. First DataNodes report what they have
+    /// done, then incidents may happen, then DataNodes report their free bytes, and then the
+    /// manager commands.
     pub fn next_round<R: Threads + Wait + Sync>(
         &mut self,
         rt: &R,
@@ -121,7 +122,7 @@ impl Simulation {
         Ok(counts)
     }
 
-    /// Tells the manager of an event. A refusal is counted.
+    /// Applies an event to the manager, and counts a refusal.
     fn tell<R: Threads + Wait + Sync>(&mut self, rt: &R, event: &Event) -> Result<(), AllocError>
         ensures { OnOk result (IsSome (refusal_of self.old.manager event.now)
             → self.old.refused < 2 ^ 64 - 1 → self.new.refused ≡ self.old.refused + 1) }
@@ -132,7 +133,7 @@ impl Simulation {
         }
     }
 
-    /// Counts a refusal; one for want of memory ends the run.
+    /// Counts a refusal; out of memory ends the run.
     fn note_refusal(&mut self, why: Refusal) -> Result<(), AllocError>
         ensures memory { OnErr result (why ≡ Memory) }
         ensures counted { OnOk result (self.old.refused < 2 ^ 64 - 1
@@ -172,7 +173,7 @@ impl Simulation {
         Ok(())
     }
 
-    /// A file has a new block, and DataNodes received its replicas.
+    /// Adds a new block to a file, with replicas that DataNodes received.
     fn place_block<R: Threads + Wait + Sync>(
         &mut self,
         rt: &R,
@@ -228,7 +229,7 @@ impl Simulation {
         self.tell(rt, &received)
     }
 
-    /// DataNodes do what is due, and tell of it.
+    /// DataNodes carry out the orders that are due, and report it.
     fn carry_out_due<R: Threads + Wait + Sync>(
         &mut self,
         rt: &R,
@@ -264,7 +265,7 @@ impl Simulation {
         Ok(())
     }
 
-    /// What is planned happens, and the manager gets the events.
+    /// The planned incidents happen, and the manager gets the events.
     fn go_wrong<R: Threads + Wait + Sync>(&mut self, rt: &R) -> Result<(), AllocError> {
         let Options { shape, blocks, .. } = self.options;
         self.fail_disks(shape);
@@ -318,7 +319,7 @@ impl Simulation {
         }
     }
 
-    /// The manager's round. What it commands is on its way from now on.
+    /// Takes the manager's round, and queues its commands as orders.
     fn command<R: Threads + Wait + Sync>(
         &mut self,
         rt: &R,
@@ -339,7 +340,7 @@ impl Simulation {
         Ok(())
     }
 
-    /// Counts what the round leaves. The refusals are counted from 0 again from here on.
+    /// Counts the blocks after the round, and resets the count of refusals.
     fn count(&mut self, counts: &mut Counts) -> Result<(), AllocError>
         ensures answered { OnOk result
             (IsCounted self.new.manager self.new.options.blocks counts.new) }

@@ -1,4 +1,4 @@
-// The counts as a picture: a line for each count that is ever more than nothing, with axes and a legend.
+// The counts as a picture: a line for each count that is not always 0, with axes and a legend.
 
 mod axes;
 mod legend;
@@ -31,7 +31,8 @@ pub(crate) fn svg_text(
     picture_text(alloc, heading.as_str(), below.as_str(), marked, rows)
 }
 
-/// The picture of these counts, with a heading, a line below it, and perhaps a mark at a round.
+/// Makes the picture of these counts, with a heading, a line below it, and a mark at the round of
+/// the incidents, if any.
 pub fn picture_text(
     alloc: Global,
     heading: &str,

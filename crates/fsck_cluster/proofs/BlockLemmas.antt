@@ -1,10 +1,10 @@
--- Blocks in a map by their numbers.
+-- Laws of blocks in a map by their numbers.
 use Rattle.std.proofs.Common.{◌≡◌, Bool, true, false, cond, List, [], ◌∷◌, ◌||◌, Option, Some, None, is_some, refl, sym, true≢false}
 use Rattle.std.specs.List.{list_any}
 use Rattle.std.specs.Map.{lookup}
 
 module _ {K X : Type 0} (test : K → Bool) where
-  -- a look-up finds what a test of the keys says
+  -- a look-up finds an entry exactly if a key passes the test
   pub is_some-lookup : (es : List (K × X)) → is_some (lookup test es) ≡ list_any (λ e. test e.0) es
   is_some-lookup [] = refl
   is_some-lookup (e ∷ es) = by (test e.0) (is_some-lookup es)

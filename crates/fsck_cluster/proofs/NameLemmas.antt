@@ -1,4 +1,4 @@
--- Names in a set of texts.
+-- Laws of names in a set of texts.
 use Rattle.std.proofs.Common.{◌≡◌, ℕ, suc, ◌+◌, Bool, true, false, not, cond, List, [], ◌∷◌, ◌++◌, ◌||◌, map, length, nat_lt, Some, None, position, String, string_bytes, refl, sym, ap, ◌∙◌}
 use Rattle.std.specs.List.{list_any, position_or_len}
 use Rattle.std.specs.Str.{bytes_eq}
@@ -33,7 +33,7 @@ some_of_cond : (b : Bool) (n i : ℕ) → cond b (Some n) None ≡ Some i → n 
 some_of_cond true n i e = cc
 some_of_cond false n i e = cc
 
--- the place that a look-up found
+-- the index that a look-up found
 pub place-found : {A : Type 0} (p : A → Bool) (xs : List A) (i : ℕ) → Some i ≡ position p xs → i ≡ position_or_len p xs
 place-found p xs i e = sym (some_of_cond _ _ i (sym e))
 

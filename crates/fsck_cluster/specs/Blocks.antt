@@ -3,7 +3,7 @@ use Rattle.std.specs.Prelude.{ℕ, Bool, List, [], ◌∷◌, ◌++◌, nat_eq}
 use Rattle.std.specs.List.{list_any}
 use Rattle.bm_base.specs.declared.replica.BlockInfo.{BlockInfo}
 
--- blocks by their numbers
+-- blocks with their numbers
 abbrev pub Named : Type 0
 Named = List (ℕ × BlockInfo)
 

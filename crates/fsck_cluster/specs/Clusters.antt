@@ -1,4 +1,4 @@
--- A cluster, block by block.
+-- A cluster that is read block by block.
 use Rattle.std.specs.Prelude.{◌≡◌, ⊤, ℕ, ◌||◌, Bool, false, not, nat_lt, length, List, [], ◌∷◌, ◌++◌, Option, Some, None, unwrap_or, position, slice_get, Result, Ok, Err, if◌then◌else◌, codes}
 use Rattle.std.specs.Option.{option_map_or}
 use Rattle.std.specs.Str.{bytes_eq}
@@ -36,24 +36,25 @@ no_cluster = record {
   draining = [];
 }
 
--- what a line makes of a cluster, or why it is refused
+-- the cluster after a step, or why the step is refused
 abbrev pub After : Type 0
 After = Result Cluster Why
 
--- the rack of a place; by Hadoop's name where the place has none
+-- the rack of a place; Hadoop's name of the default rack if the place has none
 abbrev pub rack_name : Option Text → Text
 rack_name rack = unwrap_or rack (codes "/default-rack")
 
--- a rack that a place has is that of its node; without one it is the default rack, or is known from the report on DataNodes
+-- a rack in a place is that of its node; a place without one is on the default rack, or the report
+-- on DataNodes has the rack
 abbrev pub fits_rack : Cluster → Option Text → NodeRow → Bool
 fits_rack c (Some rack) row = bytes_eq (name_of c.racks row.rack) rack
 fits_rack c None row = c.knows_nodes || bytes_eq (name_of c.racks row.rack) (codes "/default-rack")
 
--- the same of the node at an index
+-- the same for the node at an index
 abbrev pub is_on_rack : Cluster → ℕ → Option Text → Bool
 is_on_rack c index rack = option_map_or (fits_rack c rack) (slice_get c.node_rows index) false
 
--- with the node of a place
+-- adds the node of a place
 abbrev pub after_new_node : Cluster → Place → Cluster
 after_new_node c p = record c {
   racks = with_name c.racks (rack_name p.rack);
@@ -70,7 +71,7 @@ abbrev pub at_node : Cluster → Place → Option ℕ → After
 at_node c p (Some index) = if is_on_rack c index p.rack then Ok c else Err why.Elsewhere
 at_node c p None = with_new_node c p
 
--- with the node of a place: a known one is on the rack on which it was
+-- adds the node of a place; a known one must be on the same rack
 abbrev pub after_node : Cluster → Place → After
 after_node c p = at_node c p (position (bytes_eq p.address) c.nodes)
 
@@ -78,7 +79,7 @@ after_node c p = at_node c p (position (bytes_eq p.address) c.nodes)
 abbrev pub is_on_node : Cluster → ℕ → Text → Bool
 is_on_node c index address = option_map_or (λ row. bytes_eq (name_of c.nodes row.node) address) (slice_get c.rows index) false
 
--- with the storage of a place
+-- adds the storage of a place
 abbrev pub after_new_storage : Cluster → Place → Cluster
 after_new_storage c p = record c {
   nodes = with_name c.nodes p.address;
@@ -90,75 +91,76 @@ abbrev pub at_storage : Cluster → Place → Option ℕ → After
 at_storage c p (Some index) = if is_on_node c index p.address then Ok c else Err why.Elsewhere
 at_storage c p None = if nat_lt (length c.storages) 4096 then Ok (after_new_storage c p) else Err why.TooManyStorages
 
--- with the storage of a place: a known one is on the node on which it was
+-- adds the storage of a place; a known one must be on the same node
 abbrev pub after_storage : Cluster → Place → After
 after_storage c p = at_storage c p (position (bytes_eq p.storage) c.storages)
 
--- with a replica that is corrupt, if it is
+-- lists a replica as corrupt, if it is
 abbrev pub with_bad : Cluster → Bad → Bool → Cluster
 with_bad c b corrupt = record c { bad = if corrupt then c.bad ++ b ∷ [] else c.bad }
 
--- with a node that drains, if it does
+-- lists a node as draining, if it does
 abbrev pub with_draining : Cluster → ℕ → Bool → Cluster
 with_draining c node drains = record c { draining = if drains then with_number c.draining node else c.draining }
 
--- with a replica of a block on the storage at an index
+-- adds a replica of a block to the storage at an index
 abbrev pub with_replica : Cluster → ℕ → ℕ → Stamp → Cluster
 with_replica c at id stamp = record c { rows = with_held_at c.rows at (record { id = id; stamp = stamp }) }
 
--- a replica on the storage at an index, with what its mark says of it and of its node
+-- adds a replica to the storage at an index, with the marks of the replica and of its node
 abbrev pub with_listed : Cluster → Block → Listed → ℕ → Row → Cluster
 with_listed c b l at row =
     with_draining (with_bad (with_replica c at b.id b.stamp) (record { storage = row.number; id = b.id }) (is_corrupt l.mark b.is_corrupt)) row.node (is_draining l.mark)
 
--- a storage has one replica of a block, and no more
+-- a storage has at most one replica of a block
 abbrev pub on_row : Cluster → Block → Listed → ℕ → Row → After
 on_row c b l at row = if ends_with row b.id then Err why.StorageTwice else Ok (with_listed c b l at row)
 
--- with a replica on the storage of its place, which is known
+-- adds a replica to the storage of its place, which is known
 abbrev pub after_replica : Cluster → Block → Listed → After
 after_replica c b l =
     option_map_or (λ at. option_map_or (on_row c b l at) (slice_get c.rows at) (Ok c)) (position (bytes_eq l.place.storage) c.storages) (Ok c)
 
--- with one replica, which may be the first on its rack, its node or its storage
+-- adds one replica, which may be the first on its rack, its node or its storage
 abbrev pub after_place : Cluster → Block → Listed → After
 after_place c b l = after_ok (λ e. after_replica e b l) (after_ok (λ d. after_storage d l.place) (after_node c l.place))
 
--- with the replicas of a block, one after another
+-- adds the replicas of a block, one after another
 abbrev pub after_places : Cluster → Block → List Listed → After
 after_places c b [] = Ok c
 after_places c b (l ∷ ls) = after_ok (λ d. after_places d b ls) (after_place c b l)
 
--- with a block and its replicas
+-- adds a block and its replicas
 abbrev pub after_block : Cluster → Block → After
 after_block c b =
     if has_block c.blocks b.id then Err why.BlockTwice
     else after_places (record c { blocks = with_block c.blocks b.id (record { stamp = b.stamp; repl = b.wanted }) }) b b.replicas
 
--- with a storage of the node's own name
+-- adds a storage of the node's own name
 abbrev pub with_spare : Cluster → ℕ → Cluster
 with_spare c node = record c {
   storages = with_name c.storages (name_of c.nodes node);
   rows = c.rows ++ new_row (name_number c.storages (name_of c.nodes node)) node ∷ [];
 }
 
--- with a storage for a node, if it has none; a storage of this name on another node is refused
+-- adds a storage for a node without one; a storage of this name on another node is refused
 abbrev pub after_spare : Cluster → ℕ → After
 after_spare c node =
     if has_storage c.rows node then Ok c
     else (if not (is_new c.storages (name_of c.nodes node)) then Err why.Elsewhere
     else (if nat_lt (length c.storages) 4096 then Ok (with_spare c node) else Err why.TooManyStorages))
 
--- the same for these nodes
+-- the same for several nodes
 abbrev pub after_spares : Cluster → List NodeRow → After
 after_spares c [] = Ok c
 after_spares c (row ∷ rows) = after_ok (λ d. after_spares d rows) (after_spare c row.number)
 
--- with a storage for each node that has none, if the nodes are known from the report on DataNodes: nothing says which storages they have that hold nothing
+-- Adds a storage for each node without one, if the nodes are known from the report on DataNodes. No
+-- text has the names of storages without replicas.
 abbrev pub with_spares : Cluster → After
 with_spares c = if c.knows_nodes then after_spares c c.node_rows else Ok c
 
--- the fault is this refusal, or memory that was refused
+-- the fault is this refusal, or out of memory
 abbrev pub IsCause : ClusterFault → After → Type 0
 IsCause fault.Memory after = ⊤
 IsCause (fault.Refused w) after = after ≡ Err w

@@ -1,4 +1,4 @@
--- The DataNodes, by the report on them.
+-- The DataNodes, from the report on them.
 use Rattle.std.specs.Prelude.{◌≡◌, ⊤, ℕ, ◌==◌, ◌||◌, Bool, true, false, not, nat_lt, is_none, length, ◌∷◌, ◌++◌, [], Option, Some, None, Result, Ok, Err, if◌then◌else◌, codes}
 use Rattle.std.specs.Option.{option_map_or}
 use Rattle.fsck_text.specs.Cuts.{Text}
@@ -23,11 +23,11 @@ use Rattle.fsck_cluster.specs.declared.node_list.NodeWhy.TheVariants as why
 abbrev pub no_list : NodeList
 no_list = record { cluster = record no_cluster { knows_nodes = true }; is_live = false; announced = 0; was_live = false; row = None; has_status = false }
 
--- what a line makes of the list, or why it is refused
+-- the list after a line, or why the line is refused
 abbrev pub After : Type 0
 After = Result NodeList NodeRefusal
 
--- with a node on the rack of this name
+-- adds a node on the rack of this name
 abbrev pub with_row_on : NodeList → NodeRow → Text → NodeList
 with_row_on s row rack = record s {
   cluster = record s.cluster { racks = with_name s.cluster.racks rack; node_rows = s.cluster.node_rows ++ record row { rack = name_number s.cluster.racks rack } ∷ [] };
@@ -37,7 +37,8 @@ with_row_on s row rack = record s {
 abbrev pub with_row : NodeList → NodeRow → NodeList
 with_row s row = record s { cluster = record s.cluster { node_rows = s.cluster.node_rows ++ row ∷ [] }; row = None }
 
--- the node that was being read ends: it has a line on its free bytes and one on its state, and is on the default rack if no line says another
+-- Ends the node that was being read: it has a line with its free bytes and one with its state. It
+-- is on the default rack if no line has another.
 abbrev pub after_row : NodeList → Option NodeRow → After
 after_row s None = Ok s
 after_row s (Some row) =
@@ -48,7 +49,7 @@ after_row s (Some row) =
 abbrev pub ended_row : NodeList → After
 ended_row s = after_row s s.row
 
--- as many live nodes were read as the heading of their section says
+-- the number of live nodes read is the one in the heading of their section
 abbrev pub compared : NodeList → After
 compared s =
     if length s.cluster.nodes == s.announced then Ok s
@@ -57,14 +58,14 @@ compared s =
 abbrev pub counted : NodeList → After
 counted s = if s.is_live then compared s else Ok s
 
--- the section that was being read ends
+-- ends the section that was being read
 abbrev pub ended_section : NodeList → After
 ended_section s = after_ok counted (ended_row s)
 
 abbrev pub sectioned : Bool → ℕ → NodeList → After
 sectioned live count s = Ok (record s { is_live = live; announced = count; was_live = s.was_live || live })
 
--- a section begins, of so many nodes if they are live
+-- begins a section, with the number of its nodes if they are live
 abbrev pub after_section : NodeList → Bool → ℕ → After
 after_section s live count = after_ok (sectioned live count) (ended_section s)
 
@@ -80,7 +81,7 @@ with_node address s =
     if not (is_new s.cluster.nodes address) then Err (refusal.Why why.NodeTwice)
     else (if nat_lt (length s.cluster.nodes) 256 then Ok (named s address) else Err (refusal.Why why.TooManyNodes))
 
--- a node begins
+-- begins a node
 abbrev pub after_name : NodeList → Text → After
 after_name s address = after_ok (with_node address) (ended_row s)
 
@@ -90,7 +91,7 @@ on_rack s rack row = record s {
   row = Some (record row { rack = name_number s.cluster.racks rack });
 }
 
--- the rack of the node
+-- sets the rack of the node
 abbrev pub after_rack : NodeList → Text → NodeList
 after_rack s rack = option_map_or (on_rack s rack) s.row s
 
@@ -98,16 +99,16 @@ after_rack s rack = option_map_or (on_rack s rack) s.row s
 abbrev pub with_status : NodeList → NodeList
 with_status s = record s { has_status = true }
 
--- whether the node drains
+-- sets whether the node drains
 abbrev pub after_drains : NodeList → Bool → NodeList
 after_drains s drains =
     option_map_or (λ row. if drains then with_status (record s { cluster = record s.cluster { draining = with_number s.cluster.draining row.number } }) else with_status s) s.row s
 
--- the free bytes of the node
+-- sets the free bytes of the node
 abbrev pub after_remaining : NodeList → ℕ → NodeList
 after_remaining s bytes = option_map_or (λ row. record s { row = Some (record row { remaining = Some bytes }) }) s.row s
 
--- of the live nodes alone
+-- only nodes of the live section are read
 abbrev pub when_live : NodeList → After → After
 when_live s after = if s.is_live then after else Ok s
 
@@ -124,15 +125,15 @@ abbrev pub read_as : {A B : Type 0} → (A → Result B NodeRefusal) → Result 
 read_as f (Ok x) = f x
 read_as f (Err w) = Err (refusal.Wrong w)
 
--- after one more line
+-- the list after one more line
 abbrev pub after_line : NodeList → Text → After
 after_line s line = read_as (after_kind s) (node_line_of line)
 
--- at the end of the report, which has a section of live nodes
+-- ends the report, which must have a section of live nodes
 abbrev pub at_end : NodeList → Result Cluster NodeRefusal
 at_end s = after_ok (λ t. if t.was_live then Ok t.cluster else Err (refusal.Why why.NoLiveNodes)) (ended_section s)
 
--- the fault is this refusal, or memory that was refused
+-- the fault is this refusal, or out of memory
 abbrev pub IsCause : {A : Type 0} → NodeFault → Result A NodeRefusal → Type 0
 IsCause fault.Memory after = ⊤
 IsCause (fault.Refused r) after = after ≡ Err r

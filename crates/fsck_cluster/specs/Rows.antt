@@ -5,7 +5,7 @@ use Rattle.std.specs.Option.{option_map_or}
 use Rattle.fsck_cluster.specs.declared.rows.Held.{Held}
 use Rattle.fsck_cluster.specs.declared.rows.Row.{Row}
 
--- a storage of this number and this node, with no replicas
+-- a storage with this number and this node, without replicas
 abbrev pub new_row : ℕ → ℕ → Row
 new_row number node = record { number = number; node = node; held = [] }
 
@@ -13,7 +13,7 @@ new_row number node = record { number = number; node = node; held = [] }
 abbrev pub ends_with : Row → ℕ → Bool
 ends_with row id = option_map_or (λ h. h.id == id) (slice_get row.held (length row.held - 1)) false
 
--- one more replica on the storage at an index
+-- adds a replica to the storage at an index
 abbrev pub with_held_at : List Row → ℕ → Held → List Row
 with_held_at rows at held =
     option_map_or (λ row. slice_set rows at (record row { held = row.held ++ held ∷ [] })) (slice_get rows at) rows

@@ -7,7 +7,7 @@ use indexmap::IndexMap;
 use std::alloc::{AllocError, Global};
 use std::marker::Model;
 
-/// The blocks by their numbers, found by hash.
+/// The blocks, with a hash table of their numbers.
 #[derive(Drop)]
 pub struct Blocks {
     map: IndexMap<u64, BlockInfo>,
@@ -31,7 +31,7 @@ impl Blocks {
         }
     }
 
-    /// Adds a block, and says whether it is new. A known one stays as it was.
+    /// Adds a block, and returns whether it is new. A known one stays unchanged.
     pub fn add(&mut self, id: BlockId, info: BlockInfo) -> Result<bool, AllocError>
         ensures new { IfOk result (λ added. added ≡ not (has_block self.old id)) }
         ensures blocks { IfOk result

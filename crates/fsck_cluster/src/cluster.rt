@@ -1,4 +1,4 @@
-// A cluster, block by block.
+// A cluster that is read block by block.
 ghost use Rattle.std.specs.Prelude.{◌≡◌, Ok, Err, OnOk, IfErr, option_copied, option_map, slice_get};
 ghost use Rattle.fsck_cluster.specs.Clusters.{no_cluster, is_on_rack, is_on_node, after_block, after_places, after_place, after_node, after_new_node, after_storage, after_new_storage, after_replica, with_bad, with_draining, after_spare, after_spares, with_spares, IsCause};
 
@@ -11,7 +11,7 @@ use fsck_text::{Listed, Piece, Place};
 use std::alloc::{AllocError, Global};
 use thiserror::Error;
 
-/// Hadoop's name for the rack of a node whose rack is not known.
+/// Hadoop's name of the default rack.
 pub const DEFAULT_RACK: &str = "/default-rack";
 
 /// A DataNode.
@@ -19,7 +19,7 @@ pub const DEFAULT_RACK: &str = "/default-rack";
 pub struct NodeRow {
     pub number: u32,
     pub rack: u32,
-    /// Its free bytes, where the report on DataNodes says them.
+    /// Its free bytes, if the report on DataNodes has them.
     pub remaining: Option<u64>,
 }
 
@@ -30,26 +30,26 @@ pub struct Bad {
     pub id: BlockId,
 }
 
-/// A cluster as far as it was read. Racks, nodes and storages are numbered from 1 in the order in which
-/// they come first.
+/// A cluster as read so far. Racks, nodes and storages are numbered from 1 in the order of their
+/// first occurrence.
 #[derive(Drop)]
 pub struct Cluster {
     pub racks: Names,
     /// The nodes by host and port.
     pub nodes: Names,
     pub node_rows: Items<NodeRow>,
-    /// All nodes are known from the report on DataNodes.
+    /// Whether all nodes are known from the report on DataNodes.
     pub knows_nodes: bool,
     pub storages: Names,
     pub rows: Rows,
     pub blocks: Blocks,
-    /// The corrupt replicas in the order of the text.
+    /// The corrupt replicas, in the order of the text.
     pub bad: Items<Bad>,
     /// The numbers of the nodes that are being decommissioned, or have been.
     pub draining: Numbers,
 }
 
-/// Why a block is not taken.
+/// Why a block is refused.
 #[derive(Clone, Copy, Debug, Drop, Error)]
 pub enum Why {
     #[error("the block was read before")]
@@ -66,7 +66,7 @@ pub enum Why {
     TooManyStorages,
 }
 
-/// Why a block is not taken, or memory that was refused.
+/// Why a block is refused, or out of memory.
 #[derive(Clone, Copy, Debug, Drop)]
 pub enum ClusterFault {
     Memory,
@@ -102,7 +102,7 @@ impl Cluster {
         }
     }
 
-    /// Takes a block with its replicas.
+    /// Adds a block with its replicas.
     pub fn take_block(&mut self, alloc: Global, block: &Block) -> Result<(), ClusterFault>
         ensures ok { OnOk result (after_block self.old block.now ≡ Ok self.new) }
         ensures refused { IfErr result (λ f. IsCause f (after_block self.old block.now)) }
@@ -117,7 +117,7 @@ impl Cluster {
         self.take_places(alloc, block)
     }
 
-    /// Takes the replicas of a block, one after another.
+    /// Adds the replicas of a block, one after another.
     fn take_places(&mut self, alloc: Global, block: &Block) -> Result<(), ClusterFault>
         ensures ok { OnOk result (after_places self.old block.now block.now.replicas ≡ Ok self.new) }
         ensures refused { IfErr result (λ f. IsCause f (after_places self.old block.now block.now.replicas)) }
@@ -128,7 +128,7 @@ impl Cluster {
         Ok(())
     }
 
-    /// Takes one replica, which may be the first on its rack, its node or its storage.
+    /// Adds one replica, which may be the first on its rack, its node or its storage.
     fn take_place(
         &mut self,
         alloc: Global,
@@ -143,7 +143,7 @@ impl Cluster {
         self.take_replica(block, listed)
     }
 
-    /// Takes the node of a place.
+    /// Adds the node of a place; a known one must be on the same rack.
     fn take_node(&mut self, alloc: Global, place: &Place) -> Result<(), ClusterFault>
         ensures ok { OnOk result (after_node self.old place.now ≡ Ok self.new) }
         ensures refused { IfErr result (λ f. IsCause f (after_node self.old place.now)) }
@@ -159,7 +159,7 @@ impl Cluster {
         }
     }
 
-    /// Whether the node at an index is on a rack, as far as the place has one.
+    /// Whether the rack of a place is that of the node at an index.
     fn is_on_rack(&self, index: usize, rack: &Option<Piece>) -> bool
         ensures { result ≡ is_on_rack self.now index rack.now }
     {
@@ -189,7 +189,7 @@ impl Cluster {
         })
     }
 
-    /// Takes the storage of a place, whose node is known.
+    /// Adds the storage of a place whose node is known; a known storage must be on the same node.
     fn take_storage(&mut self, alloc: Global, place: &Place) -> Result<(), ClusterFault>
         ensures ok { OnOk result (after_storage self.old place.now ≡ Ok self.new) }
         ensures refused { IfErr result (λ f. IsCause f (after_storage self.old place.now)) }
@@ -223,7 +223,7 @@ impl Cluster {
         self.rows.push(alloc, storage.number, node.number)
     }
 
-    /// Takes a replica on the storage of its place, which is known.
+    /// Adds a replica to the storage of its place, which is known.
     fn take_replica(&mut self, block: &Block, listed: &Listed) -> Result<(), ClusterFault>
         ensures ok { OnOk result (after_replica self.old block.now listed.now ≡ Ok self.new) }
         ensures refused { IfErr result (λ f. IsCause f (after_replica self.old block.now listed.now)) }
@@ -251,7 +251,7 @@ impl Cluster {
         Ok(self.take_draining(node, is_draining(listed.mark))?)
     }
 
-    /// Lists a replica, if it is corrupt.
+    /// Lists a replica as corrupt, if it is.
     fn take_bad(&mut self, bad: Bad, is_corrupt: bool) -> Result<(), AllocError>
         ensures { OnOk result (self.new ≡ with_bad self.old bad is_corrupt) }
     {
@@ -262,7 +262,7 @@ impl Cluster {
         }
     }
 
-    /// Adds a node to those that drain, if it does.
+    /// Lists a node as draining, if it does.
     fn take_draining(&mut self, node: u32, is_draining: bool) -> Result<(), AllocError>
         ensures { OnOk result (self.new ≡ with_draining self.old node is_draining) }
     {
@@ -273,8 +273,8 @@ impl Cluster {
         }
     }
 
-    /// Gives each known node without a storage one of its own name: nothing says which storages a node
-    /// has that hold nothing.
+    /// Gives each known node without a storage one of the node's name: no text has the names of
+    /// storages without replicas.
     pub fn add_spares(&mut self, alloc: Global) -> Result<(), ClusterFault>
         ensures ok { OnOk result (with_spares self.old ≡ Ok self.new) }
         ensures refused { IfErr result (λ f. IsCause f (with_spares self.old)) }
@@ -286,7 +286,7 @@ impl Cluster {
         self.add_spares_of(alloc, nodes.as_slice())
     }
 
-    /// The same for these nodes.
+    /// The same for several nodes.
     fn add_spares_of(&mut self, alloc: Global, nodes: &[NodeRow]) -> Result<(), ClusterFault>
         ensures ok { OnOk result (after_spares self.old nodes.now ≡ Ok self.new) }
         ensures refused { IfErr result (λ f. IsCause f (after_spares self.old nodes.now)) }
@@ -297,7 +297,7 @@ impl Cluster {
         Ok(())
     }
 
-    /// The same for a node.
+    /// The same for one node.
     fn add_spare(&mut self, alloc: Global, node: u32) -> Result<(), ClusterFault>
         ensures ok { OnOk result (after_spare self.old node ≡ Ok self.new) }
         ensures refused { IfErr result (λ f. IsCause f (after_spare self.old node)) }

@@ -1,5 +1,5 @@
-//! A cluster as `hdfs fsck` and `hdfs dfsadmin -report` describe it, and the calls that make a block
-//! manager know it.
+//! A cluster as `hdfs fsck` and `hdfs dfsadmin -report` describe it: its nodes, storages, blocks
+//! and replicas.
 #![tactic(auto)]
 
 mod blocks;

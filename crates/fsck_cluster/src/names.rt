@@ -1,4 +1,4 @@
-// The names of one kind, numbered from 1 in the order in which they come first.
+// The names of one kind, numbered from 1 in the order of their first occurrence.
 ghost use Rattle.std.specs.Prelude.{◌≡◌, ◌+◌, true, not, is_some, IfOk, OnOk, [], length, position, bytes_eq};
 ghost use Rattle.fsck_cluster.specs.Names.{is_new, name_number, name_of, with_name};
 
@@ -6,7 +6,7 @@ use indexmap::IndexSet;
 use std::alloc::{AllocError, Global};
 use std::marker::Model;
 
-/// Names, found by hash.
+/// Names, with a hash table of their indices.
 #[derive(Drop)]
 pub struct Names {
     set: IndexSet<String>,
@@ -43,7 +43,8 @@ impl Names {
         self.set.len()
     }
 
-    /// The number of a name, which it gets now if it is new. `Err` also past the numbers of 32 bits.
+    /// The number of a name; a new name is added. `Err` when out of memory, or if the number does
+    /// not fit into 32 bits.
     pub fn number_of(&mut self, alloc: Global, name: &str) -> Result<Numbered, AllocError>
         ensures number { IfOk result (λ r. r.number ≡ name_number self.old name.now) }
         ensures new { IfOk result (λ r. r.is_new ≡ is_new self.old name.now) }
@@ -56,7 +57,7 @@ impl Names {
         }
     }
 
-    /// The index of a name, and whether it was put there now.
+    /// The index of a name, and whether it was added now.
     fn index_of(&mut self, alloc: Global, name: &str) -> Result<(usize, bool), AllocError>
         ensures index { IfOk result (λ r. r.0 + 1 ≡ name_number self.old name.now) }
         ensures new { IfOk result (λ r. r.1 ≡ is_new self.old name.now) }
@@ -68,7 +69,7 @@ impl Names {
         }
     }
 
-    /// Adds a new name at the end; its index.
+    /// Adds a new name at the end, and returns its index.
     fn put(&mut self, alloc: Global, name: &str) -> Result<usize, AllocError>
         requires { is_new self.old name.now ≡ true }
         ensures index { IfOk result (λ at. at + 1 ≡ name_number self.old name.now) }
@@ -87,7 +88,7 @@ impl Names {
         self.set.get_index_of(name)
     }
 
-    /// The name of a number; empty if there is none.
+    /// The name of a number; empty if it has none.
     pub fn name(&self, number: u32) -> &str
         ensures { result.now ≡ name_of self.now number }
     {

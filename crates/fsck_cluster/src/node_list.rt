@@ -1,4 +1,4 @@
-// The DataNodes, by the report on them.
+// The DataNodes, from the report on them.
 ghost use Rattle.std.specs.Prelude.{◌≡◌, Ok, Err, Some, OnOk, IfOk, IfErr};
 ghost use Rattle.fsck_cluster.specs.declared.node_list.NodeRefusal.TheVariants as refusal;
 ghost use Rattle.fsck_cluster.specs.NodeLists.{no_list, ended_row, after_row, counted, ended_section, after_name, after_rack, after_drains, after_remaining, after_section, after_line, at_end, IsCause};
@@ -9,23 +9,23 @@ use fsck_text::{NodeLine, Wrong, node_line_of};
 use std::alloc::{AllocError, Global};
 use thiserror::Error;
 
-/// The live nodes so far.
+/// The live nodes read so far.
 #[derive(Drop)]
 pub struct NodeList {
     pub cluster: Cluster,
-    /// The section of the live nodes is being read.
+    /// Whether the section of the live nodes is being read.
     pub is_live: bool,
-    /// How many these are by its heading.
+    /// The number of live nodes in its heading.
     pub announced: u64,
-    /// That section was begun.
+    /// Whether that section was begun.
     pub was_live: bool,
-    /// The node that is being read; its rack is 0 as long as no line says it.
+    /// The node that is being read; its rack is 0 until a line has it.
     pub row: Option<NodeRow>,
-    /// A line said the state of this node.
+    /// Whether a line had the state of this node.
     pub has_status: bool,
 }
 
-/// Why a line of the report is not taken whose words are understood.
+/// Why a line of the report is refused though its words are understood.
 #[derive(Clone, Copy, Debug, Drop, Error)]
 pub enum NodeWhy {
     #[error("the node was read before")]
@@ -42,7 +42,7 @@ pub enum NodeWhy {
     NoLiveNodes,
 }
 
-/// Why a line of the report is not taken.
+/// Why a line of the report is refused.
 #[derive(Drop)]
 pub enum NodeRefusal<'a> {
     /// A word is not understood.
@@ -50,7 +50,7 @@ pub enum NodeRefusal<'a> {
     Why(NodeWhy),
 }
 
-/// Why a line is not taken, or memory that was refused.
+/// Why a line is refused, or out of memory.
 #[derive(Drop)]
 pub enum NodeFault<'a> {
     Memory,
@@ -116,7 +116,7 @@ impl NodeList {
         }
     }
 
-    /// The nodes, at the end of the report.
+    /// Ends the report, and returns the nodes.
     pub fn end<'a>(mut self, alloc: Global) -> Result<Cluster, NodeFault<'a>>
         ensures ok { IfOk result (λ c. at_end self ≡ Ok c) }
         ensures refused { IfErr result (λ f. IsCause f (at_end self)) }
@@ -153,7 +153,7 @@ impl NodeList {
         Ok(())
     }
 
-    /// Ends the section that was being read: it has as many nodes as its heading says.
+    /// Ends the section that was being read, and checks its number of nodes.
     fn end_section<'a>(&mut self, alloc: Global) -> Result<(), NodeFault<'a>>
         ensures ok { OnOk result (ended_section self.old ≡ Ok self.new) }
         ensures refused { IfErr result (λ f. IsCause f (ended_section self.old)) }
@@ -165,7 +165,7 @@ impl NodeList {
         }
     }
 
-    /// As many live nodes were read as the heading of their section says.
+    /// Checks that the number of live nodes read is the one in the heading of their section.
     fn counted(&self) -> Result<(), NodeWhy>
         ensures ok { OnOk result (counted self.now ≡ Ok self.now) }
         ensures refused { IfErr result (λ why. counted self.now ≡ Err (refusal.Why why)) }

@@ -6,14 +6,14 @@ use bm_base::{BlockId, Items, Stamp};
 use std::alloc::{AllocError, Global};
 use std::marker::Model;
 
-/// A replica on a storage: its block, with the stamp of the text.
+/// A replica on a storage: its block and its stamp.
 #[derive(Clone, Copy, Drop)]
 pub struct Held {
     pub id: BlockId,
     pub stamp: Stamp,
 }
 
-/// A storage: its number and its node's, and the replicas on it in the order of the text.
+/// A storage: its number, its node's number, and its replicas in the order of the text.
 #[derive(Drop)]
 pub struct Row {
     pub number: u32,
@@ -57,7 +57,7 @@ impl Rows {
         }
     }
 
-    /// One more storage, of this number and this node, with no replicas.
+    /// Adds a storage with this number and this node, without replicas.
     pub fn push(&mut self, alloc: Global, number: u32, node: u32) -> Result<(), AllocError>
         ensures { OnOk result (self.new ≡ self.old ++ new_row number node ∷ []) }
     {
@@ -69,7 +69,7 @@ impl Rows {
         Ok(self.rows.push(row)?)
     }
 
-    /// One more replica on the storage at an index.
+    /// Adds a replica to the storage at an index.
     pub fn add(&mut self, at: usize, held: Held) -> Result<(), AllocError>
         ensures { OnOk result (self.new ≡ with_held_at self.old at held) }
     {

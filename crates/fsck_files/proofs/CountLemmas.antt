@@ -1,4 +1,4 @@
--- A block whose live replicas are counted.
+-- A block with a count of live replicas.
 use Rattle.std.proofs.Common.{◌≡◌, ℕ, Bool, false, List, Option, Result, Ok, IfOk, IfErr, refl, subst}
 use Rattle.fsck_text.specs.declared.block.BlockLine.{BlockLine}
 use Rattle.fsck_text.specs.declared.list.Listed.{Listed}
@@ -10,7 +10,7 @@ use Rattle.fsck_files.specs.declared.files.LineFault.{LineFault}
 use Rattle.fsck_files.specs.declared.replicas.Block.{Block}
 
 module _ (s : Files) (b : BlockLine) (repl : ℕ) (listed : List Listed) (live places : ℕ) (corrupt : Bool) where
-  -- the number of live replicas is compared with that of the places
+  -- the number of live replicas is compared with the number of places
   compared : corrupt ≡ has_number s.corrupt b.id → false ≡ are_unmarked corrupt listed → places ≡ claims corrupt listed → by_places s b repl listed places live ≡ by_count s b repl listed live
   compared is marked claimed = rw (← is, ← marked, claimed) refl
 

@@ -60,16 +60,16 @@ no_files skips unclear = record {
   maintained = 0;
 }
 
--- what a line makes of what was read, or why it is refused
+-- the state after a line, or why the line is refused
 abbrev pub After : Type 0
 After = Result Files Why
 
--- the first line of fsck comes before all files, and once
+-- the first line of fsck comes once, before all files
 abbrev pub after_first : Files → Part → After
 after_first s part.Before = Ok (record s { part = part.Begun })
 after_first s _ = Err why.OutOfPlace
 
--- the file is left out, if files of this kind are
+-- the file is left out, if its kind is
 abbrev pub left_out : Files → Kind → After
 left_out s kind =
     if skips s.skips kind
@@ -94,22 +94,23 @@ headed s h = record s {
   counts = with_blocks s.counts (is_coded h.layout) h.blocks;
 }
 
--- fewer blocks of the file were read than it has
+-- fewer blocks of the file were read than its heading announces
 abbrev pub lacks_blocks : File → Bool
 lacks_blocks f = nat_lt f.read f.announced
 
--- of the blocks that fsck calls corrupt under the heading of the file, fewer were read; those of a file that is left out are not known
+-- Fewer corrupt blocks of the file were read than fsck reports under its heading. Those of a file
+-- that is left out are not known.
 abbrev pub lacks_corrupt : Files → Bool
 lacks_corrupt s = not s.file.is_left_out && nat_lt s.file.corrupt_read (length s.corrupt)
 
--- why neither the heading of the next file nor the summary may come here
+-- why the next heading or the summary may not come here
 abbrev pub unended : Files → Option Why
 unended s =
     if not (may_head s.part) then Some why.OutOfPlace
     else (if lacks_blocks s.file then Some why.BlockLeftOut
     else (if lacks_corrupt s then Some why.CorruptElsewhere else None))
 
--- the heading of the next file, after all blocks of the file before
+-- the heading of the next file comes after all blocks of the previous file
 abbrev pub after_heading : Files → Heading → After
 after_heading s h =
     option_map_or (λ reason. Err reason) (unended s) (option_map_or (left_out (headed s h)) (kind_of h) (Ok (headed s h)))
@@ -118,11 +119,11 @@ abbrev pub is_files : Part → Bool
 is_files part.Files = true
 is_files _ = false
 
--- a line about a file comes after its heading, and before its blocks
+-- a line about a file comes after its heading and before its blocks
 abbrev pub is_open : Files → Bool
 is_open s = is_files s.part && (s.file.read == 0)
 
--- a number of a block, or why it cannot be read
+-- the result for a parsed line, or the fault of the line
 abbrev pub read_as : {A B : Type 0} → (A → Result B Refusal) → Result A Wrong → Result B Refusal
 read_as f (Ok x) = f x
 read_as f (Err w) = Err (refusal.Wrong w)
@@ -130,7 +131,7 @@ read_as f (Err w) = Err (refusal.Wrong w)
 abbrev pub counted_corrupt : Files → Files
 counted_corrupt s = record s { counts = with_corrupt s.counts s.file.is_coded }
 
--- fsck calls a block of the file corrupt
+-- fsck reports a block of the file as corrupt
 abbrev pub after_corrupt : Files → Text → Result Files Refusal
 after_corrupt s text =
     if not (is_open s) then Err (refusal.Why why.OutOfPlace)
@@ -140,7 +141,7 @@ after_corrupt s text =
 abbrev pub with_target : Files → ℕ → Files
 with_target s target = record s { file = record s.file { target = Some target } }
 
--- a line says how many replicas are wanted of a block of the file, and so of all
+-- a line has the number of wanted replicas of one block of the file, and so of all
 abbrev pub after_target : Files → ℕ → After
 after_target s target =
     if not (is_open s) then Err why.OutOfPlace
@@ -149,7 +150,7 @@ after_target s target =
     else (if over_replicated target then left_out (with_target s target) kind.OverReplicated
     else Ok (with_target s target))))
 
--- the summary begins, after all blocks of the last file
+-- the summary begins after all blocks of the last file
 abbrev pub after_status : Files → Bool → After
 after_status s healthy =
     option_map_or (λ reason. Err reason) (unended s) (Ok (record s { part = part.Summary; is_healthy = healthy }))
@@ -158,31 +159,31 @@ abbrev pub is_summary : Part → Bool
 is_summary part.Summary = true
 is_summary _ = false
 
--- a number of the summary is that of what was read
+-- a number of the summary agrees with what was read
 abbrev pub compared : Files → Count → ℕ → After
 compared s count sum =
     if sum == number_of s.counts count then Ok (record s { summed = with_sum s.summed count })
     else Err (why.Mismatch (record { count = count; sum = sum; read = number_of s.counts count }))
 
--- a number of the summary, or of another part of the text, which says nothing
+-- a number of the summary is compared; a number outside the summary is ignored
 abbrev pub after_sum : Files → Count → ℕ → After
 after_sum s count sum = if is_summary s.part then compared s count sum else Ok s
 
--- the summary counts files that are not in the text
+-- the summary reports the number of files that are not in the text
 abbrev pub after_unlisted : Files → ℕ → Files
 after_unlisted s files = if is_summary s.part then record s { unlisted = plus s.unlisted files } else s
 
--- the summary and the last line call all files healthy, or neither does
+-- the summary and the last line both report all files as healthy, or neither does
 abbrev pub agrees : Bool → Bool → Bool
 agrees first second = if first then second else not second
 
--- both say of the health what was read
+-- the health in both is that of the blocks that were read
 abbrev pub ended : Files → Bool → Bool → After
 ended s healthy of_all =
     if agrees (is_healthy s.counts) healthy && agrees s.is_healthy healthy
     then Ok (record s { part = part.Behind; is_of_all = of_all }) else Err why.OtherHealth
 
--- the last line of fsck: the summary has the numbers of blocks and of corrupt blocks
+-- the last line of fsck comes after a summary with the numbers of blocks and of corrupt blocks
 abbrev pub after_last : Files → Bool → Bool → After
 after_last s healthy of_all =
     if not (is_summary s.part) then Err why.OutOfPlace
@@ -190,19 +191,20 @@ after_last s healthy of_all =
     else (if not s.summed.corrupt then Err why.NoCorruptSum
     else ended s healthy of_all))
 
--- how many replicas are wanted of a block: what was said of its file, else as many as are live, and at least one
+-- the number of wanted replicas of a block: that of its file if known, else the number of live
+-- replicas, and at least 1
 abbrev pub wanted : Option ℕ → Option ℕ → ℕ
 wanted (Some count) live = count
 wanted None live = max 1 (unwrap_or live 1)
 
--- what a line makes of what was read, and the block that is taken, if one is
+-- the state after a line, and the block that it adds, if any; or why the line is refused
 abbrev pub Taken : Type 0
 Taken = Result (Files × Option Block) Refusal
 
 abbrev pub refused : {A : Type 0} → Why → Result A Refusal
 refused reason = Err (refusal.Why reason)
 
--- no block is taken
+-- no block is added
 abbrev pub without : After → Taken
 without (Ok s) = Ok (s, None)
 without (Err reason) = Err (refusal.Why reason)
@@ -211,7 +213,7 @@ abbrev pub without_block : Result Files Refusal → Taken
 without_block (Ok s) = Ok (s, None)
 without_block (Err r) = Err r
 
--- with a block, whose replicas are clear or are taken as good
+-- adds a block, whose replicas are clear or are taken as good
 abbrev pub emitted : Files → BlockLine → ℕ → List Listed → Taken
 emitted s b repl listed =
     Ok (
@@ -222,30 +224,32 @@ emitted s b repl listed =
 abbrev pub one_unclear : Files → Files
 one_unclear s = record s { unclear_blocks = plus s.unclear_blocks 1 }
 
--- a block with more places that may be live than live replicas is refused, left out, or taken with each place as a good replica
+-- if more places may be live than replicas are, the block is refused, left out, or added with each
+-- place as a good replica
 abbrev pub unclear_by : Unclear → Files → BlockLine → ℕ → List Listed → ℕ → ℕ → Taken
 unclear_by unclear.Refuse s b repl listed places live = refused (why.MoreThanLive places live)
 unclear_by unclear.Omit s b repl listed places live = Ok (one_unclear s, None)
 unclear_by unclear.Good s b repl listed places live = emitted (one_unclear s) b repl listed
 
--- by how many places may be live, and how many replicas are
+-- compares the number of places that may be live with the number of live replicas
 abbrev pub by_places : Files → BlockLine → ℕ → List Listed → ℕ → ℕ → Taken
 by_places s b repl listed places live =
     if nat_lt places live then refused (why.FewerThanLive places live)
     else (if nat_lt live places then unclear_by s.unclear s b repl listed places live else emitted s b repl listed)
 
--- by how many replicas fsck counts as live. If each known replica of a block is corrupt, and the places have no marks, the number is not compared: Hadoop 2.6 writes that of the places there, later versions 0
+-- Compares the count of live replicas. If each known replica of a block is corrupt, and the places
+-- have no marks, nothing is compared: Hadoop 2.6 writes the number of the places, later versions 0.
 abbrev pub by_count : Files → BlockLine → ℕ → List Listed → ℕ → Taken
 by_count s b repl listed live =
     if are_unmarked (has_number s.corrupt b.id) listed then emitted s b repl listed
     else by_places s b repl listed (claims (has_number s.corrupt b.id) listed) live
 
--- the same, if fsck counts them
+-- the same if fsck counts live replicas; else the block is missing
 abbrev pub by_live : Files → BlockLine → ℕ → List Listed → Option ℕ → Taken
 by_live s b repl listed None = emitted (record s { counts = with_missing s.counts false }) b repl listed
 by_live s b repl listed (Some live) = by_count s b repl listed live
 
--- with one more block, which fsck calls corrupt or not
+-- the file with one more block read, which fsck reports as corrupt or not
 abbrev pub with_one_read : File → Bool → File
 with_one_read f corrupt = record f { read = f.read + 1; corrupt_read = if corrupt then plus f.corrupt_read 1 else f.corrupt_read }
 
@@ -256,12 +260,13 @@ abbrev pub after_listed : Files → BlockLine → ℕ → Result (List Listed) W
 after_listed s b repl (Ok listed) = by_live (one_read s (has_number s.corrupt b.id)) b repl listed b.live
 after_listed s b repl (Err w) = Err (refusal.Wrong w)
 
--- more than 16 replicas are wanted of a block: its file is left out, if that shows at its first block
+-- more than 16 replicas of a block are wanted: its file is left out, if this is its first block
 abbrev pub after_over : Files → Taken
 after_over s =
     if s.file.read == 0 then without (left_out (one_read s false) kind.OverReplicated) else refused (why.Unsupported kind.OverReplicated)
 
--- a block whose line is understood. Hadoop 2 says nothing of the replication of a file whose blocks all have enough replicas, so that one with more than 16 shows at its first block
+-- A block whose line is understood. Hadoop 2 does not print the replication of a file without
+-- under-replicated blocks, so its first block shows whether more than 16 replicas are wanted.
 abbrev pub after_block : Files → BlockLine → Taken
 after_block s b =
     let repl = wanted s.file.target b.live in
@@ -269,25 +274,25 @@ after_block s b =
     else (if over_replicated repl then after_over s
     else after_listed s b repl (list_of b.list))
 
--- a block of a file that is left out
+-- a block of a file that is left out is counted if it is missing
 abbrev pub passed : Files → Text → Files
 passed s text = if is_missing text then record s { counts = with_missing s.counts s.file.is_coded } else s
 
--- a block of this index is the next of the file
+-- a block of this index is the next one of the file
 abbrev pub is_next : File → ℕ → Bool
 is_next f index = (index == f.read) && nat_lt f.read f.announced
 
--- a block that is being written and has no bytes yet comes behind those that the heading counts
+-- a block that is being written and still empty follows those that the heading counts
 abbrev pub is_begun : File → ℕ → Text → Bool
 is_begun f index text = (index == f.read) && is_being_written text
 
--- a block of a file that is left out
+-- a line of a block whose file is left out
 abbrev pub after_passed : Files → ℕ → Text → Taken
 after_passed s index text =
     if is_next s.file index then Ok (passed (one_read s false) text, None)
     else (if is_begun s.file index text then Ok (s, None) else refused why.NotNext)
 
--- the line of a block of this index
+-- a line of a block with this index
 abbrev pub after_indexed : Files → ℕ → Text → Taken
 after_indexed s index text =
     if s.file.is_left_out then after_passed s index text
@@ -313,16 +318,16 @@ after_kind s (line.Unlisted files) = Ok (after_unlisted s files, None)
 after_kind s (line.Last healthy of_all) = without (after_last s healthy of_all)
 after_kind s line.Other = Ok (s, None)
 
--- after one more line
+-- the state after one more line
 abbrev pub after_line : Files → Text → Taken
 after_line s text = read_as (after_kind s) (line_of text)
 
--- the fault of a list, as one of its line
+-- the fault of a list, as the fault of its line
 abbrev pub line_fault : Fault → LineFault
 line_fault text_fault.Memory = fault.Memory
 line_fault (text_fault.Wrong w) = fault.Refused (refusal.Wrong w)
 
--- the fault is this refusal, or memory that was refused
+-- the fault is this refusal, or out of memory
 abbrev pub IsCause : {A : Type 0} → LineFault → Result A Refusal → Type 0
 IsCause fault.Memory after = ⊤
 IsCause (fault.Refused r) after = after ≡ Err r

@@ -1,4 +1,4 @@
--- The files of a text of fsck.
+-- The files of an fsck text.
 pub mod Skips
 pub mod Counts
 pub mod Numbers

@@ -1,10 +1,12 @@
--- The replicas of a block that is taken.
+-- The replicas of a block that is added.
 use Rattle.std.specs.Prelude.{ℕ, ◌==◌, ◌&&◌, Bool, true, false, not, List, if◌then◌else◌, count_by, length, nat_lt}
 use Rattle.fsck_text.specs.declared.mark.Mark.{Mark}
 use Rattle.fsck_text.specs.declared.mark.Mark.TheVariants as mark
 use Rattle.fsck_text.specs.declared.list.Listed.{Listed}
 
--- whether a replica with a mark is corrupt, by whether fsck says that each known replica of its block is: without a mark it is then corrupt, and if the node is decommissioned or in maintenance, the mark says that alone, also of a corrupt replica
+-- Whether a replica with a mark is corrupt. If fsck reports each known replica of its block as
+-- corrupt, so is one without a mark. So is one whose mark only reports that its node is
+-- decommissioned or in maintenance.
 abbrev pub is_corrupt : Mark → Bool → Bool
 is_corrupt mark.Corrupt block_is_corrupt = true
 is_corrupt mark.Absent block_is_corrupt = block_is_corrupt
@@ -14,13 +16,14 @@ is_corrupt mark.EnteringMaintenance block_is_corrupt = block_is_corrupt
 is_corrupt mark.InMaintenance block_is_corrupt = block_is_corrupt
 is_corrupt _ block_is_corrupt = false
 
--- whether the node of a replica with this mark is being decommissioned, or has been
+-- whether a node with this mark is being decommissioned, or has been
 abbrev pub is_draining : Mark → Bool
 is_draining mark.Decommissioned = true
 is_draining mark.Decommissioning = true
 is_draining _ = false
 
--- fsck counts a replica with this mark as live; without a mark it may, unless it says that each known replica of the block is corrupt
+-- Whether fsck counts a replica with this mark as live. Without a mark it may, unless fsck reports
+-- each known replica of the block as corrupt.
 abbrev pub claims_live : Bool → Mark → Bool
 claims_live block_is_corrupt mark.Absent = not block_is_corrupt
 claims_live block_is_corrupt mark.Live = true
@@ -33,7 +36,7 @@ is_maintained mark.EnteringMaintenance = true
 is_maintained mark.InMaintenance = true
 is_maintained _ = false
 
--- how many replicas are live by their marks, or may be without a mark
+-- the number of replicas that are live by their marks, or may be without a mark
 abbrev pub claims : Bool → List Listed → ℕ
 claims block_is_corrupt listed = count_by (λ one. claims_live block_is_corrupt one.mark) listed
 
@@ -41,10 +44,11 @@ abbrev pub is_marked : Mark → Bool
 is_marked mark.Absent = false
 is_marked _ = true
 
--- whether fsck says that each known replica of a block is corrupt, and none of the replicas there has a mark
+-- whether fsck reports each known replica of a block as corrupt, and none of the listed replicas
+-- has a mark
 abbrev pub are_unmarked : Bool → List Listed → Bool
 are_unmarked block_is_corrupt listed = block_is_corrupt && nat_lt 0 (length listed) && (count_by (λ one. is_marked one.mark) listed == 0)
 
--- how many replicas on nodes in maintenance count as good: none of a corrupt block
+-- the number of replicas on nodes in maintenance that count as good: none of a corrupt block
 abbrev pub maintained : Bool → List Listed → ℕ
 maintained is_corrupt listed = if is_corrupt then 0 else count_by (λ one. is_maintained one.mark) listed

@@ -8,7 +8,7 @@ use Rattle.fsck_files.specs.declared.skips.Kind.TheVariants as kind
 use Rattle.fsck_files.specs.declared.skips.Skips.{Skips}
 use Rattle.fsck_files.specs.declared.skips.LeftOut.{LeftOut}
 
--- more replicas are wanted than a manager takes
+-- more replicas are wanted than a manager accepts
 abbrev pub over_replicated : ℕ → Bool
 over_replicated wanted = nat_lt 16 wanted
 
@@ -23,7 +23,7 @@ kind_by layout.Replicated heading =
     if heading.is_open then Some kind.Open
     else (if heading.is_snapshot then Some kind.Snapshot else over_kind heading.target)
 
--- the kind of a file, if it is one of these; the first that applies
+-- the kind of a file, if it is one of these: the first that applies
 abbrev pub kind_of : Heading → Option Kind
 kind_of heading = kind_by heading.layout heading
 
@@ -34,11 +34,11 @@ skips s kind.Open = s.open_files
 skips s kind.Snapshot = s.snapshots
 skips s kind.OverReplicated = s.over_replicated
 
--- a counter of 64 bits, which stays at its maximum
+-- a counter of 64 bits that saturates
 abbrev pub plus : ℕ → ℕ → ℕ
 plus count more = min (count + more) (2 ^ 64 - 1)
 
--- with one more file that was left out
+-- the numbers of left out files, with one more
 abbrev pub left_out_with : LeftOut → Kind → LeftOut
 left_out_with l kind.ErasureCoded = record l { erasure_coded = plus l.erasure_coded 1 }
 left_out_with l kind.Open = record l { open_files = plus l.open_files 1 }

@@ -1,11 +1,11 @@
-// The numbers of the summary, and what was read.
+// The counts of what was read, and the numbers of the summary.
 ghost use Rattle.std.specs.Prelude.{◌≡◌};
 ghost use Rattle.fsck_files.specs.Counts.{no_counts, none_summed, with_blocks, with_missing, with_corrupt, is_healthy, number_of, with_sum};
 
 use crate::skips::plus;
 use fsck_text::Count;
 
-/// What was read, also of files that are left out.
+/// The counts of what was read, including files that are left out.
 #[derive(Clone, Copy, Drop)]
 pub struct Counts {
     pub blocks: u64,
@@ -30,7 +30,7 @@ impl Counts {
         }
     }
 
-    /// With the blocks of one more file.
+    /// The counts with the blocks of one more file.
     pub fn with_blocks(self, is_coded: bool, blocks: u32) -> Counts
         ensures { result ≡ with_blocks self is_coded blocks }
     {
@@ -48,7 +48,7 @@ impl Counts {
         }
     }
 
-    /// With one more block of which no replica is known.
+    /// The counts with one more block of which no replica is known.
     pub fn with_missing(self, is_coded: bool) -> Counts
         ensures { result ≡ with_missing self is_coded }
     {
@@ -65,7 +65,7 @@ impl Counts {
         }
     }
 
-    /// With one more block of which each known replica is corrupt.
+    /// The counts with one more block of which each known replica is corrupt.
     pub fn with_corrupt(self, is_coded: bool) -> Counts
         ensures { result ≡ with_corrupt self is_coded }
     {
@@ -82,7 +82,7 @@ impl Counts {
         }
     }
 
-    /// Whether fsck would call all files healthy.
+    /// Whether fsck would report all files as healthy.
     pub fn is_healthy(self) -> bool
         ensures { result ≡ is_healthy self }
     {
@@ -92,7 +92,7 @@ impl Counts {
             && self.corrupt_groups == 0
     }
 
-    /// How many were read of what the summary counts.
+    /// The count of what the summary counts too.
     pub fn number_of(self, count: Count) -> u64
         ensures { result ≡ number_of self count }
     {
@@ -107,7 +107,7 @@ impl Counts {
     }
 }
 
-/// Which of the numbers were read that each summary has.
+/// The numbers that each summary has, and whether they were read.
 #[derive(Clone, Copy, Drop)]
 pub struct Summed {
     pub blocks: bool,
@@ -124,7 +124,7 @@ impl Summed {
         }
     }
 
-    /// With a number of the summary.
+    /// The numbers read, with one more of the summary.
     pub fn with(self, count: Count) -> Summed
         ensures { result ≡ with_sum self count }
     {

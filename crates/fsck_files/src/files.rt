@@ -30,13 +30,14 @@ pub enum Part {
 /// The file that is being read.
 #[derive(Clone, Copy, Drop)]
 pub struct File {
-    /// How many replicas are wanted of its blocks, if a line said so.
+    /// The number of wanted replicas of its blocks, if a line had it.
     pub target: Option<u32>,
-    /// How many blocks it has.
+    /// The number of its blocks by its heading.
     pub announced: u32,
-    /// How many of them were read.
+    /// The number of its blocks that were read.
     pub read: u32,
-    /// How many of these fsck calls corrupt; those of a file that is left out are not counted.
+    /// The number of these that fsck reports as corrupt; those of a file that is left out are not
+    /// counted.
     pub corrupt_read: u64,
     pub is_coded: bool,
     pub is_left_out: bool,
@@ -46,7 +47,7 @@ impl File {
     ghost use Rattle.std.specs.Prelude.{◌≡◌, ◌<◌};
     ghost use Rattle.fsck_files.specs.Files.{with_one_read};
 
-    /// With one more block, which fsck calls corrupt or not.
+    /// The file with one more block read, which fsck reports as corrupt or not.
     fn with_one_read(self, is_corrupt: bool) -> File
         requires { self.read < self.announced }
         ensures { result ≡ with_one_read self is_corrupt }
@@ -64,27 +65,27 @@ impl File {
     }
 }
 
-/// What was read of a text.
+/// The state of the reader: what was read so far.
 #[derive(Drop)]
 pub struct Files {
     pub skips: Skips,
     pub unclear: Unclear,
     pub part: Part,
     pub file: File,
-    /// The blocks that fsck calls corrupt under the heading of the file.
+    /// The blocks that fsck reports as corrupt under the heading of the file.
     pub corrupt: Numbers,
     pub counts: Counts,
     pub summed: Summed,
-    /// The summary begins by calling all files healthy.
+    /// Whether the first line of the summary reports all files as healthy.
     pub is_healthy: bool,
-    /// The last line was read, and is about the path `/`.
+    /// Whether the last line was read, and is about the path `/`.
     pub is_of_all: bool,
-    /// How many files are being written and are not in the text, by the summary.
+    /// The number of open files that are not in the text, from the summary.
     pub unlisted: u64,
     pub left_out: LeftOut,
-    /// How many blocks had more places without a mark than live replicas.
+    /// The number of blocks with more unmarked places than live replicas.
     pub unclear_blocks: u64,
-    /// How many replicas are on nodes in maintenance.
+    /// The number of replicas on nodes in maintenance.
     pub maintained: u64,
 }
 
@@ -178,7 +179,7 @@ impl Files {
         }
     }
 
-    /// Takes one more line, and the block that it adds if it adds one.
+    /// Takes one more line, and returns the block that it adds, if any.
     pub fn take_line<'a>(
         &mut self,
         alloc: Global,
@@ -213,7 +214,7 @@ impl Files {
         Ok(())
     }
 
-    /// Leaves the file out, if files of this kind are.
+    /// Leaves the file out, if its kind is left out.
     fn leave_out(&mut self, kind: Kind) -> Result<(), Why>
         ensures ok { OnOk result (left_out self.old kind ≡ Ok self.new) }
         ensures refused { IfErr result (λ why. left_out self.old kind ≡ Err why) }
@@ -226,7 +227,7 @@ impl Files {
         Ok(())
     }
 
-    /// Why neither the heading of the next file nor the summary may come here.
+    /// Why the next heading or the summary may not come here.
     fn unended(&self) -> Option<Why>
         ensures { result ≡ unended self.now }
     {
@@ -366,7 +367,7 @@ impl Files {
         Ok(())
     }
 
-    /// Takes the line of a block of this index.
+    /// Takes a line of a block with this index.
     fn take_placed<'a>(
         &mut self,
         alloc: Global,
@@ -403,8 +404,8 @@ impl Files {
         self.take_block(alloc, block)
     }
 
-    /// Passes over a block of a file that is left out. A block that is being written and has no bytes
-    /// yet comes behind those that the heading counts.
+    /// Skips a block of a file that is left out. A block that is being written and still empty
+    /// follows those that the heading counts.
     fn take_passed(&mut self, index: u64, text: &str) -> Result<(), Why>
         ensures ok { OnOk result (after_passed self.old index text.now ≡ Ok (self.new, None)) }
         ensures refused { IfErr result (λ why. after_passed self.old index text.now ≡ refused why) }
@@ -423,7 +424,7 @@ impl Files {
         }
     }
 
-    /// Whether a block of this index is the next of the file.
+    /// Whether a block of this index is the next one of the file.
     fn is_next(&self, index: u64) -> bool
         ensures { result ≡ is_next self.now.file index }
     {
@@ -453,7 +454,8 @@ impl Files {
         self.take_listed(block, repl, listed)
     }
 
-    /// The file of a block of which too many replicas are wanted is left out, if that shows at its first.
+    /// More than 16 replicas of a block are wanted: leaves its file out, if this is its first
+    /// block.
     fn take_over_replicated<'a>(&mut self) -> Result<Option<Block<'a>>, LineFault<'a>>
         requires { self.old.file.read < self.old.file.announced }
         ensures ok { IfOk result (λ taken. after_over self.old ≡ Ok (self.new, taken)) }
@@ -467,7 +469,7 @@ impl Files {
         Ok(None)
     }
 
-    /// Takes a block with its list of replicas.
+    /// Adds a block with its list of replicas.
     fn take_listed<'a>(
         &mut self,
         block: BlockLine<'a>,
@@ -484,8 +486,8 @@ impl Files {
         self.take_counted(block, repl, listed, live)
     }
 
-    /// Takes a block of which fsck counts the live replicas. If the block is corrupt and the places have
-    /// no marks, the number is not compared: Hadoop 2.6 writes that of the places.
+    /// Adds a block with fsck's count of live replicas. If the block is corrupt and the places have
+    /// no marks, the count is not compared: Hadoop 2.6 writes the number of the places.
     fn take_counted<'a>(
         &mut self,
         block: BlockLine<'a>,
@@ -504,7 +506,8 @@ impl Files {
         self.take_places(block, repl, listed, places, live)
     }
 
-    /// Takes a block with places that may be live, by how many replicas are.
+    /// Adds a block, after it compares the number of places that may be live with the number of
+    /// live replicas.
     fn take_places<'a>(
         &mut self,
         block: BlockLine<'a>,
@@ -537,7 +540,7 @@ impl Files {
         Ok(Some(self.emit(block, repl, listed)))
     }
 
-    /// The block that is taken.
+    /// The block that is added.
     fn emit<'a>(&mut self, block: BlockLine<'a>, repl: u32, listed: Items<Listed<'a>>) -> Block<'a>
         ensures { emitted self.old block.entry repl listed.entry ≡ Ok (self.new, Some result) }
     {
@@ -561,7 +564,7 @@ impl Files {
     }
 }
 
-/// How many replicas are wanted of a block.
+/// The number of wanted replicas of a block.
 fn wanted(target: Option<u32>, live: Option<u32>) -> u32
     ensures { result ≡ wanted target live }
 {

@@ -1,8 +1,8 @@
-//! The files of a text of `hdfs fsck`: which of its blocks are taken, with which replicas, and which
-//! lines are refused.
+//! The files of an `hdfs fsck` text: the blocks that are taken from it, with their replicas, and
+//! the lines that are refused.
 //!
-//! A line is refused if it leaves open what its file or its replicas are, and at the end of the
-//! text if the numbers of the summary are not those of what was read.
+//! A line is refused if it leaves open what its file or its replicas are. At the end, the text is
+//! refused if the numbers of the summary differ from what was read.
 #![tactic(auto)]
 
 mod counts;

@@ -6,7 +6,7 @@ use indexmap::IndexSet;
 use std::alloc::{AllocError, Global};
 use std::marker::Model;
 
-/// Numbers, found by hash.
+/// Numbers, in a hash table.
 #[derive(Drop)]
 pub struct Numbers {
     set: IndexSet<u64>,

@@ -3,18 +3,18 @@ use crate::skips::Kind;
 use fsck_text::{Count, Wrong};
 use thiserror::Error;
 
-/// A number of the summary that is not the one that was read.
+/// A number of the summary that differs from what was read.
 #[derive(Clone, Copy, Debug, Drop, Error)]
 #[error("the number of {count} is {sum} in the summary, and {read} in the files above it")]
 pub struct Mismatch {
     pub count: Count,
-    /// What the summary says.
+    /// The number in the summary.
     pub sum: u64,
-    /// What was read.
+    /// The number of blocks read.
     pub read: u64,
 }
 
-/// Why a line is refused whose words are understood.
+/// Why a line is refused though its words are understood.
 #[derive(Clone, Copy, Debug, Drop, Error)]
 pub enum Why {
     #[error("the line may not come in this part of the text")]
@@ -34,7 +34,7 @@ pub enum Why {
     TwoTargets,
     #[error("no replica is wanted of the block")]
     NoneWanted,
-    /// It is not known which of the places are live.
+    /// The text leaves open which of the places are live.
     #[error("more places ({places}) than live replicas ({live}): -replicaDetails and -maintenance of fsck say which are live, --unclear=omit leaves such blocks out, --unclear=good takes each place as good")]
     MoreThanLive { places: usize, live: u32 },
     #[error("fewer places ({places}) than live replicas ({live})")]

@@ -1,26 +1,26 @@
-// The replicas of a block that is taken.
+// The replicas of a block that is added.
 ghost use Rattle.std.specs.Prelude.{◌≡◌};
 ghost use Rattle.fsck_files.specs.Replicas.{is_corrupt, is_draining, claims_live, is_maintained, claims, is_marked, are_unmarked, maintained};
 
 use bm_base::{BlockId, Items, Stamp};
 use fsck_text::{Listed, Mark};
 
-/// A block that is taken.
+/// A block that is added.
 #[derive(Drop)]
 pub struct Block<'a> {
     pub id: BlockId,
     pub stamp: Stamp,
-    /// How many replicas are wanted, 1 to 16.
+    /// The number of wanted replicas, 1 to 16.
     pub wanted: u32,
-    /// fsck says that each known replica is corrupt.
+    /// Whether fsck reports each known replica as corrupt.
     pub is_corrupt: bool,
     /// The replicas in the order of the list.
     pub replicas: Items<Listed<'a>>,
 }
 
-/// Whether a replica with a mark is corrupt, by whether fsck calls its block corrupt: then one without
-/// a mark is. If the node is decommissioned or in maintenance, the mark says that alone, also of a
-/// corrupt replica.
+/// Whether a replica with a mark is corrupt. If fsck reports its block as corrupt, so is one
+/// without a mark, and one whose mark only reports that its node is decommissioned or in
+/// maintenance.
 pub fn is_corrupt(mark: Mark, block_is_corrupt: bool) -> bool
     ensures { result ≡ is_corrupt mark block_is_corrupt }
 {
@@ -35,15 +35,15 @@ pub fn is_corrupt(mark: Mark, block_is_corrupt: bool) -> bool
     }
 }
 
-/// Whether the node of a replica with this mark is being decommissioned, or has been.
+/// Whether a node with this mark is being decommissioned, or has been.
 pub fn is_draining(mark: Mark) -> bool
     ensures { result ≡ is_draining mark }
 {
     matches!(mark, Mark::Decommissioned | Mark::Decommissioning)
 }
 
-/// Whether fsck counts a replica with this mark as live; without a mark it may, unless it calls the
-/// block corrupt.
+/// Whether fsck counts a replica with this mark as live. Without a mark it may, unless fsck reports
+/// the block as corrupt.
 fn claims_live(block_is_corrupt: bool, mark: Mark) -> bool
     ensures { result ≡ claims_live block_is_corrupt mark }
 {
@@ -60,7 +60,7 @@ fn is_maintained(mark: Mark) -> bool
     matches!(mark, Mark::EnteringMaintenance | Mark::InMaintenance)
 }
 
-/// How many replicas are live by their marks, or may be without a mark.
+/// The number of replicas that are live by their marks, or may be without a mark.
 pub fn claims(block_is_corrupt: bool, listed: &[Listed]) -> usize
     ensures { result ≡ claims block_is_corrupt listed.now }
 {
@@ -76,7 +76,7 @@ fn is_marked(mark: Mark) -> bool
     !matches!(mark, Mark::Absent)
 }
 
-/// Whether a block is corrupt, and none of the replicas there has a mark.
+/// Whether a block is corrupt, and none of the listed replicas has a mark.
 pub fn are_unmarked(block_is_corrupt: bool, listed: &[Listed]) -> bool
     ensures { result ≡ are_unmarked block_is_corrupt listed.now }
 {
@@ -84,7 +84,7 @@ pub fn are_unmarked(block_is_corrupt: bool, listed: &[Listed]) -> bool
     block_is_corrupt && listed.len() > 0 && marked == 0
 }
 
-/// How many replicas on nodes in maintenance count as good: none of a corrupt block.
+/// The number of replicas on nodes in maintenance that count as good: none of a corrupt block.
 pub fn maintained(is_corrupt: bool, listed: &[Listed]) -> usize
     ensures { result ≡ maintained is_corrupt listed.now }
 {

@@ -28,17 +28,17 @@ pub struct Skips {
     pub over_replicated: bool,
 }
 
-/// What is done with a block that has more places without a mark than live replicas.
+/// The treatment of a block with more unmarked places than live replicas.
 #[derive(Clone, Copy, Debug, PartialEq, Drop)]
 pub enum Unclear {
     Refuse,
     /// The block is left out.
     Omit,
-    /// Each place is taken as a good replica.
+    /// The block is taken, with each place as a good replica.
     Good,
 }
 
-/// How many files of each kind were left out.
+/// The numbers of left out files, by kind.
 #[derive(Clone, Copy, Drop)]
 pub struct LeftOut {
     pub erasure_coded: u64,
@@ -47,14 +47,14 @@ pub struct LeftOut {
     pub over_replicated: u64,
 }
 
-/// Whether more replicas are wanted than a manager takes.
+/// Whether more replicas are wanted than a manager accepts.
 pub fn over_replicated(wanted: u32) -> bool
     ensures { result ≡ over_replicated wanted }
 {
     wanted > MAX_REPLICATION
 }
 
-/// The kind of a file, if it is one of these; the first that applies.
+/// The kind of a file, if it is one of these: the first that applies.
 pub fn kind_of(heading: Heading) -> Option<Kind>
     ensures { result ≡ kind_of heading }
 {
@@ -73,7 +73,7 @@ pub fn kind_of(heading: Heading) -> Option<Kind>
     }
 }
 
-/// A counter that stays at its maximum.
+/// A counter that saturates.
 pub fn plus(count: u64, more: u64) -> u64
     ensures { result ≡ plus count more }
 {
@@ -94,7 +94,7 @@ impl Skips {
 }
 
 impl LeftOut {
-    /// With one more file.
+    /// The numbers with one more file.
     pub fn with(self, kind: Kind) -> LeftOut
         ensures { result ≡ left_out_with self kind }
     {

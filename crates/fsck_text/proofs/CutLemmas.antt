@@ -1,4 +1,4 @@
--- Where a text is cut.
+-- Laws of cuts of a text.
 use Rattle.std.proofs.Common.{◌≡◌, ◌≢◌, ℕ, ◌<◌, ◌≤◌, ◌+◌, [], ◌∷◌, ◌++◌, Option, Some, None, option_map, MatchOption, suc, length, get_or, take, drop, arith, refl, sym, ap, ◌∙◌, inl, inr, zero, unwrap_or}
 use Rattle.std.proofs.lemmas.Bool.{ne_eqb, eq-eqb}
 use Rattle.std.proofs.lemmas.Bool.Decides.{eqb_tells}
@@ -20,7 +20,7 @@ pub cut_at-none : (mark : ℕ) (xs : Text) → IsWithout mark xs → cut_at mark
 cut_at-none mark [] none = refl
 cut_at-none mark (x ∷ xs) none = rw (ne_eqb x mark (none 0 (omega arith)), cut_at-none mark xs (λ i h. none (suc i) (omega arith))) refl
 
--- what a call of split_once gives
+-- the result of a call of split_once
 pub cut_at-from : (mark : ℕ) (bs : Text) (r : Option (Bor Text × Bor Text))
     → MatchOption r (IsWithout mark bs) (λ x. (bs ≡ x.0.now ++ (mark ∷ x.1.now)) × IsWithout mark x.0.now)
     → option_map (λ p. (p.0.now, p.1.now)) r ≡ cut_at mark bs
@@ -35,7 +35,7 @@ pub last_cut_at-parts : (mark : ℕ) (xs ys : Text) → IsWithout mark ys → la
 last_cut_at-parts mark [] ys none = rw (last_cut_at-none mark ys none, eq-eqb mark mark refl) refl
 last_cut_at-parts mark (x ∷ xs) ys none = rw (last_cut_at-parts mark xs ys none) refl
 
--- what a call of rsplit_once gives
+-- the result of a call of rsplit_once
 pub last_cut_at-from : (mark : ℕ) (bs : Text) (r : Option (Bor Text × Bor Text))
     → MatchOption r (RFindsChar mark bs None) (λ x. (i : ℕ) × (j : ℕ) × RFindsChar mark bs (Some (i, j)) × (x.0.now ≡ take i bs) × (x.1.now ≡ drop j bs) × (i ≤ j) × (length x.0.now ≡ i) × (length x.1.now + j ≡ length bs))
     → mark < 128
@@ -58,7 +58,7 @@ after_prefix-none (a ∷ p) (b ∷ bs) none = elim (eqb_tells a b) [
   | inr e ↦ rw e.0 refl
 ]
 
--- what a call of strip_prefix gives
+-- the result of a call of strip_prefix
 pub after_prefix-from : (p bs : Text) (r : Option (Bor Text))
     → MatchOption r (FindsTextPrefix p bs None) (λ x. (n : ℕ) × FindsTextPrefix p bs (Some n) × (x.now ≡ drop n bs) × (length x.now + n ≡ length bs))
     → option_map (λ t. t.now) r ≡ after_prefix p bs
@@ -80,7 +80,7 @@ bytes_before-none word (b ∷ bs) none =
     rw (after_prefix-none word (b ∷ bs) (λ r. none 0 (omega arith) r))
     (omega (arith, bytes_before-none word bs (λ i le r. none (suc i) (omega arith) r)))
 
--- what a call of find gives
+-- the result of a call of find
 pub bytes_before-from : (word line : Text) (r : Option ℕ)
     → MatchOption r (FindsText word line None) (MatchBeginsAt (FindsText word) line) → unwrap_or r (length line) ≡ bytes_before word line
 bytes_before-from word line None h = sym (bytes_before-none word line h)

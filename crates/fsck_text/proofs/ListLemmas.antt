@@ -1,4 +1,4 @@
--- The items of a list.
+-- Laws of the items of a list.
 use Rattle.std.proofs.Common.{◌≡◌, ◌≢◌, ℕ, ◌+◌, ◌<◌, ◌≤◌, Bool, true, false, List, [], ◌∷◌, ◌++◌, Option, Some, None, Result, Ok, Err, option_map, MatchOption, suc, zero, length, get_or, take, drop, arith, append_assoc, is_ok, true≢false, append-nil, refl, sym, ap, subst, IfSome, ◌∙◌, inl, inr, ◌==◌, ◌&&◌, if◌then◌else◌}
 use Rattle.std.proofs.lemmas.Bool.{eq-eqb}
 use Rattle.std.proofs.lemmas.Bool.Decides.{eqb_tells}
@@ -12,7 +12,7 @@ use Rattle.fsck_text.specs.declared.wrong.Wrong.{Wrong}
 use Rattle.fsck_text.specs.declared.wrong.Fault.{Fault}
 use Rattle.fsck_text.specs.declared.wrong.Fault.TheVariants as fault
 
--- the items of a text that is cut so
+-- the items of a text with this cut
 abbrev pub cut_items : Text → Option (Text × Text) → List Text
 cut_items text None = text ∷ []
 cut_items text (Some p) = p.0 ∷ items_of p.1
@@ -39,7 +39,7 @@ next-item text item after h = ap all_listed (items-cut text ∙ ap (cut_items te
 pub last-item : (text : Text) → cut_item text ≡ None → replicas_in text ≡ onto_listed (listed_of text) (Ok [])
 last-item text h = ap all_listed (items-cut text ∙ ap (cut_items text) h)
 
--- replicas before those of a list, if they are understood
+-- some replicas and then those of a list, if the list is understood
 abbrev pub prefixed : List Listed → Result (List Listed) Wrong → Result (List Listed) Wrong
 prefixed xs (Ok ys) = Ok (xs ++ ys)
 prefixed xs (Err w) = Err w
@@ -48,7 +48,7 @@ pub prefixed-one : (xs : List Listed) (one : Listed) (r : Result (List Listed) W
 prefixed-one xs one (Ok ys) = ap Ok (sym (append_assoc xs (one ∷ []) ys))
 prefixed-one xs one (Err w) = refl
 
--- where split_once cuts at a comma and a space
+-- the cut of split_once at a comma and a space
 is-end : (b c : ℕ) → b ≡ 44 → c ≡ 32 → (b == 44 && c == 32) ≡ true
 is-end b c e f = rw (eq-eqb b 44 e, eq-eqb c 32 f) refl
 
@@ -79,14 +79,14 @@ cut_item-none (b ∷ []) none = refl
 cut_item-none (b ∷ c ∷ bs) none =
     rw (not-end b c bs (λ r. none 0 (omega arith) r)) (ap (option_map (onto_cut b)) (cut_item-none (c ∷ bs) (λ i le r. none (suc i) (omega arith) r)))
 
--- what a call of split_once gives
+-- the result of a call of split_once
 pub cut_item-from : (bs : Text) (r : Option (Bor Text × Bor Text))
     → MatchOption r (FindsText (44 ∷ 32 ∷ []) bs None) (λ x. (i : ℕ) × (j : ℕ) × FindsText (44 ∷ 32 ∷ []) bs (Some (i, j)) × (x.0.now ≡ take i bs) × (x.1.now ≡ drop j bs) × (i ≤ j) × (length x.0.now ≡ i) × (length x.1.now + j ≡ length bs))
     → option_map (λ p. (p.0.now, p.1.now)) r ≡ cut_item bs
 cut_item-from bs None h = sym (cut_item-none bs h)
 cut_item-from bs (Some x) h = rw (h.3, h.4) (sym (cut_item-at bs h.0 (drop h.1 bs) h.2.1.split h.2.0))
 
--- what is left is shorter
+-- the rest is shorter
 abbrev pub IsShorter : Text → Option (Text × Text) → Type 0
 IsShorter text cut = IfSome cut (λ p. length p.1 < length text)
 
@@ -121,7 +121,7 @@ pub next_listed : (text rest item after : Text) (xs ys : List Listed) → replic
 next_listed text rest item after xs ys so_far cut one =
     so_far ∙ ap (prefixed xs) (next-item rest item after cut) ∙ pushed-onto xs ys (listed_of item) (replicas_in after) one
 
--- its end
+-- the last step of the loop
 pub last_listed : (text rest : Text) (xs ys : List Listed) → replicas_in text ≡ prefixed xs (replicas_in rest) → cut_item rest ≡ None
     → pushed xs (listed_of rest) ≡ Ok ys → replicas_in text ≡ Ok ys
 last_listed text rest xs ys so_far cut one =

@@ -10,7 +10,7 @@ use Rattle.fsck_text.specs.declared.block.Replicas.{Replicas}
 use Rattle.fsck_text.specs.declared.wrong.Reason.TheVariants as reason
 use Rattle.fsck_text.specs.declared.wrong.Wrong.{Wrong}
 
--- the number of a block of this name; a number below 0 begins with a minus, 45
+-- the number in the name of a block; a number below 0 begins with a minus, 45
 abbrev pub id_of : Text → Text → Result ℕ Wrong
 id_of name id =
     if is_some (after_first 45 id) then Err (wrong reason.NegativeBlock name) else or_wrong reason.NotABlock name (number_of id)
@@ -26,16 +26,17 @@ numbers_of name = option_and_then (cut_at 95) (after_prefix (codes "blk_") (with
 abbrev pub stamped : Text → Text → ℕ → Result Named Wrong
 stamped name generation id = or_wrong reason.NotABlock name (option_map (λ g. record { id = id; generation = g }) (number_of generation))
 
--- the block of a name, with which a text begins: a pool and a colon, or nothing, then blk_, its number and its generation stamp
+-- the block of a name at the start of a text: a pool and a colon, or nothing, then blk_, its number
+-- and its generation stamp
 abbrev pub block_named : Text → Text → Result Named Wrong
 block_named name text =
     option_map_or (λ p. after_ok (stamped name p.1) (id_of name p.0)) (numbers_of name) (Err (wrong reason.NotABlock (shown name text)))
 
--- the length of a block in bytes, by the word with which a text begins
+-- the length of a block in bytes, from the first word of a text
 abbrev pub length_of : Text → Text → Result ℕ Wrong
 length_of word text = or_wrong reason.NotALength (shown word text) (option_and_then number_of (after_prefix (codes "len=") word))
 
--- how many replicas are live, by the word with which a text begins
+-- the number of live replicas, from the first word of a text
 abbrev pub live_of : Text → Text → Result ℕ Wrong
 live_of word text =
     or_wrong reason.NotACount (shown word text)
@@ -45,7 +46,7 @@ live_of word text =
 abbrev pub bracketed : Text → Option Text
 bracketed list = option_and_then (before_last 93) (after_first 91 list)
 
--- the same after one more space, 32, or none; empty for no text
+-- the same after at most one more space, 32; empty for no text
 abbrev pub list_text : Text → Result Text Wrong
 list_text text =
     let list = unwrap_or (after_first 32 text) text in
@@ -54,11 +55,11 @@ list_text text =
 abbrev pub with_list : Text → ℕ → Result Replicas Wrong
 with_list text live = after_ok (λ list. Ok (record { live = Some live; list = list })) (list_text text)
 
--- no replica is known, and no list is there
+-- no replica is known, and the line has no list
 abbrev pub no_replicas : Text → Result Replicas Wrong
 no_replicas rest = if is_empty rest then Ok (record { live = None; list = rest }) else Err (wrong reason.NotAList rest)
 
--- what a block's line says after its length
+-- the count and the list of a block's line, after its length
 abbrev pub replicas_of : Text → Result Replicas Wrong
 replicas_of text =
     let p = word_and_rest text in
@@ -68,7 +69,7 @@ abbrev pub block_line : Named → ℕ → Replicas → BlockLine
 block_line named len told =
     record { id = named.id; stamp = record { generation = named.generation; len = len }; live = told.live; list = told.list }
 
--- what a block's line says after its index: its name, its length, and its replicas
+-- the parsed line of a block, after its index: its name, its length, and its replicas
 abbrev pub block_of : Text → Result BlockLine Wrong
 block_of text =
     let name = word_and_rest text in
@@ -79,15 +80,16 @@ block_of text =
 abbrev pub after_length : Text → Text
 after_length text = (word_and_rest (word_and_rest (word_and_rest text).1).1).0
 
--- whether it says that no replica is known
+-- whether no replica of the block is known
 abbrev pub is_missing : Text → Bool
 is_missing text = bytes_eq (after_length text) (codes "MISSING!")
 
--- whether the block is being written: then fsck counts the places at which replicas are expected
+-- whether the block is being written: then fsck counts the expected locations
 abbrev pub is_being_written : Text → Bool
 is_being_written text = is_some (after_prefix (codes "Expected_repl=") (after_length text))
 
--- the number of the block that fsck calls corrupt, by the text after CORRUPT blockpool: the pool, and the block
+-- the number of the block that fsck reports as corrupt, from the text after CORRUPT blockpool: the
+-- pool, and the block
 abbrev pub corrupt_block : Text → Result ℕ Wrong
 corrupt_block text =
     let rest = (word_and_rest text).1 in

@@ -12,7 +12,7 @@ use Rattle.fsck_text.specs.declared.heading.Begun.{Begun}
 use Rattle.fsck_text.specs.declared.wrong.Reason.TheVariants as reason
 use Rattle.fsck_text.specs.declared.wrong.Wrong.{Wrong}
 
--- the value of a key up to a comma, 44, and the text after that
+-- the value of a key up to a comma, 44, and the text after the comma
 abbrev pub after_key : Text → Text → Option (Text × Text)
 after_key key text = option_and_then (cut_at 44) (after_prefix key text)
 
@@ -20,20 +20,20 @@ abbrev pub begun : Layout → Option ℕ → ℕ → Bool → Text → Begun
 begun layout replication blocks is_open problem =
     record { layout = layout; replication = replication; blocks = blocks; is_open = is_open; problem = problem }
 
--- the first of two that is there
+-- the first of two that exists
 abbrev pub first_of : {A : Type 0} → Option A → Option A → A → A
 first_of (Some x) _ none = x
 first_of None (Some x) none = x
 first_of None None none = none
 
--- so many blocks, and the end of the heading of a file that is written or is not
+-- a number of blocks, and the end of the heading of a file that is open or not
 abbrev pub ended : Layout → Option ℕ → Text → ℕ → Result Begun Wrong
 ended layout replication rest blocks =
     first_of (option_map (λ problem. Ok (begun layout replication blocks false problem)) (after_prefix (codes "block(s):") rest))
     (option_map (λ problem. Ok (begun layout replication blocks true problem)) (after_prefix (codes "block(s), OPENFORWRITE:") rest))
     (Err (wrong reason.NotAHeading rest))
 
--- the number of blocks, whether the file is open, and the problem after that
+-- the number of blocks, whether the file is open, and then the problem
 abbrev pub counted : Layout → Option ℕ → Text → Result Begun Wrong
 counted layout replication text =
     let words = unwrap_or (after_first 32 text) text in
@@ -51,7 +51,7 @@ abbrev pub coded : Text → Result Begun Wrong
 coded text =
     option_map_or (λ p. counted layout.ErasureCoded None p.1) (after_key (codes " policy=") text) (Err (wrong reason.NotAHeading text))
 
--- the last word
+-- the last word of a text
 abbrev pub last_word : Text → Text
 last_word text = option_map_or (λ p. p.1) (last_cut_at 32 text) text
 
@@ -67,7 +67,7 @@ old_open front problem =
     option_map_or (λ p. if bytes_eq p.1 (codes "block(s),") then old p.0 problem true else Err (wrong reason.NotAHeading front))
     (last_cut_at 32 front) (Err (wrong reason.NotAHeading front))
 
--- by the last word before the colon
+-- the start of a heading, by the last word before the colon
 abbrev pub begun_of : Text → Text → Text → Result Begun Wrong
 begun_of front last after =
     if bytes_eq last (codes "replicated") then replicated after
@@ -79,23 +79,25 @@ begun_of front last after =
 abbrev pub number_at : Text → Result ℕ Wrong
 number_at text = or_wrong reason.NotATarget (shown (word_and_rest text).0 text) (small_number_of (word_and_rest text).0)
 
--- how many replicas are wanted of a block, by the text after Under replicated: the block, and the number
+-- the number of wanted replicas of a block, from the text after Under replicated: the block, and
+-- the number
 abbrev pub target_of : Text → Result ℕ Wrong
 target_of text =
     let rest = (word_and_rest text).1 in
     option_map_or number_at (after_prefix (codes "Target Replicas is ") rest) (Err (wrong reason.NotATarget rest))
 
--- the same, where a problem is one of too few
+-- the number of wanted replicas, if the problem is an under-replicated block
 abbrev pub problem_target : Text → Result (Option ℕ) Wrong
 problem_target problem =
     option_map_or (λ text. after_ok (λ n. Ok (Some n)) (target_of text)) (after_prefix (codes "  Under replicated ") problem) (Ok None)
 
--- both are there and differ
+-- both exist and differ
 abbrev pub differ : Option ℕ → Option ℕ → Bool
 differ (Some a) (Some b) = not (a == b)
 differ _ _ = false
 
--- whether a path has the component by which HDFS names snapshots; a slash, 47, comes before each
+-- whether a path has the component with which HDFS names snapshots; a slash, 47, comes before each
+-- component
 abbrev pub is_in_snapshot : Text → Bool
 is_in_snapshot path = list_any (bytes_eq (codes ".snapshot")) (slice_split (λ b. b == 47) path)
 
@@ -110,7 +112,7 @@ heading_by front begun target =
       target = option_or begun.replication target;
     })
 
--- a heading may end with nothing, with OK, or with the first problem of the file
+-- a heading ends with nothing, with OK, or with the first problem of the file
 abbrev pub is_ending : Text → Bool
 is_ending text =
     bytes_eq text [] || bytes_eq text (codes " ") || bytes_eq text (codes "  OK")
@@ -127,7 +129,7 @@ abbrev pub heading_with : Text → Text → Text → Result Heading Wrong
 heading_with front last after =
     after_ok (ended_by front) (begun_of front last after)
 
--- the heading of a file, by its text before the first colon and after it
+-- the heading of a file, from its text before the first colon and after it
 abbrev pub heading_of : Text → Text → Result Heading Wrong
 heading_of before after =
     option_map_or (λ p. heading_with p.0 p.1 after) (last_cut_at 32 before) (Err (wrong reason.NotAHeading before))

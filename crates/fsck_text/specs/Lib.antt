@@ -1,4 +1,4 @@
--- What a line of fsck, or of the report on DataNodes, says.
+-- The meaning of a line of fsck, or of the report on DataNodes.
 pub mod Cuts
 pub mod Wrongs
 pub mod Marks

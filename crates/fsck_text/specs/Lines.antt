@@ -18,7 +18,8 @@ begins line text = starts_with nat_eq line text
 abbrev pub ends : Text → Text → Bool
 ends line text = ends_with nat_eq line text
 
--- a line that begins with a path: it is the heading of a file, or says that a block is corrupt, if it has a colon, 58, which no path has
+-- A line that begins with a path. If it has a colon, 58, which no path has, it is the heading of a
+-- file, or reports a corrupt block.
 abbrev pub path_line : Text → Result Line Wrong
 path_line text =
     option_map_or (λ p. option_map_or (λ rest. Ok (line.Corrupt rest)) (after_prefix (codes " CORRUPT blockpool ") p.1)
@@ -30,13 +31,13 @@ abbrev pub block_line : Text → Option (ℕ × Text)
 block_line text =
     option_and_then (λ p. option_and_then (λ index. option_map (λ rest. (index, rest)) (after_prefix (codes " ") p.1)) (number_of p.0)) (cut_at 46 text)
 
--- whether the summary begins, and calls all files healthy
+-- whether the summary begins, and reports all files as healthy
 abbrev pub health_of : Text → Option Bool
 health_of text =
     if bytes_eq text (codes "Status: HEALTHY") then Some true
     else (if bytes_eq text (codes "Status: CORRUPT") then Some false else None)
 
--- whether this is the last line, and calls all files healthy
+-- whether this is the last line, and reports all files as healthy
 abbrev pub last_of : Text → Option Bool
 last_of text =
     if begins text (codes "The filesystem under path '")
@@ -47,7 +48,8 @@ last_of text =
 abbrev pub is_of_all : Text → Bool
 is_of_all text = begins text (codes "The filesystem under path '/' is ")
 
--- the number of files that are being written and are not in the text, between the last parentheses, 40 and 41, of a line
+-- the number of open files that are not in the text, between the last parentheses, 40 and 41, of a
+-- line
 abbrev pub unlisted_of : Text → Option ℕ
 unlisted_of text =
     option_and_then (λ p. option_and_then (λ rest. option_and_then number_of (before_last 41 rest)) (after_prefix (codes "Files currently being written: ") p.1)) (last_cut_at 40 text)
@@ -56,7 +58,7 @@ abbrev pub sum_line : Option (Count × ℕ) → Line
 sum_line (Some p) = line.Sum p.0 p.1
 sum_line None = line.Other
 
--- a line that is none of a file
+-- a line that is not about a file
 abbrev pub summary_line : Text → Result Line Wrong
 summary_line text =
     if begins text (codes "FSCK started by ") then Ok line.First
@@ -65,7 +67,7 @@ summary_line text =
     (option_map_or (λ files. Ok (line.Unlisted files)) (unlisted_of text)
     (after_ok (λ sum. Ok (sum_line sum)) (sum_of text))))
 
--- what a line is
+-- the parsed line
 abbrev pub line_of : Text → Result Line Wrong
 line_of text =
     if begins text (codes "/") then path_line text

@@ -12,18 +12,18 @@ use Rattle.fsck_text.specs.declared.list.Listed.{Listed}
 use Rattle.fsck_text.specs.declared.wrong.Reason.TheVariants as reason
 use Rattle.fsck_text.specs.declared.wrong.Wrong.{Wrong}
 
--- the text before the first comma, 44, that a space, 32, follows, and the text after that space
+-- the text before the first comma, 44, with a space, 32, after it, and the text after that space
 abbrev pub cut_item : Text → Option (Text × Text)
 cut_item [] = None
 cut_item (b ∷ []) = None
 cut_item (b ∷ c ∷ bs) = if b == 44 && c == 32 then Some ([], bs) else option_map (onto_cut b) (cut_item (c ∷ bs))
 
--- an item with one more byte in front of the first
+-- an item with one more byte at its start
 abbrev pub onto_first : ℕ → List Text → List Text
 onto_first b [] = (b ∷ []) ∷ []
 onto_first b (item ∷ items) = (b ∷ item) ∷ items
 
--- the items of a list, with a comma and a space between them
+-- the items of a list, separated by a comma and a space
 abbrev pub items_of : Text → List Text
 items_of [] = [] ∷ []
 items_of (b ∷ []) = (b ∷ []) ∷ []
@@ -37,7 +37,8 @@ listed_by item (Some place) None = Err (wrong reason.NotAMark item)
 abbrev pub listed_with : Text → Text → Option Mark → Result Listed Wrong
 listed_with item place mark = listed_by item (place_of place) mark
 
--- a replica by its item: its place, and its mark after an opening parenthesis, 40, if there is one
+-- a replica from its item: its place, and its mark after an opening parenthesis, 40, if there is
+-- one
 abbrev pub listed_of : Text → Result Listed Wrong
 listed_of item = option_map_or (λ p. listed_with item p.0 (mark_of p.1)) (cut_at 40 item) (listed_with item item (Some mark.Absent))
 
@@ -46,7 +47,7 @@ abbrev pub pushed : List Listed → Result Listed Wrong → Result (List Listed)
 pushed list (Ok one) = Ok (list ++ one ∷ [])
 pushed list (Err w) = Err w
 
--- the replica before the others, if all are understood; else what is wrong with the first that is not
+-- the replica and then the others, if all are understood; else the fault of the first that is not
 abbrev pub onto_listed : Result Listed Wrong → Result (List Listed) Wrong → Result (List Listed) Wrong
 onto_listed (Err w) rest = Err w
 onto_listed (Ok one) (Err w) = Err w
@@ -60,7 +61,7 @@ all_listed (item ∷ items) = onto_listed (listed_of item) (all_listed items)
 abbrev pub replicas_in : Text → Result (List Listed) Wrong
 replicas_in text = all_listed (items_of text)
 
--- what is wrong with an item of a list; the whole list is quoted for an empty item
+-- the fault of an item of a list; the whole list is quoted for an empty item
 abbrev pub within : Text → Wrong → Wrong
 within text w = wrong w.why (shown w.word text)
 

@@ -1,4 +1,4 @@
--- What fsck says of a replica after its place.
+-- The mark of a replica, after its place.
 use Rattle.std.specs.Prelude.{◌&&◌, ◌||◌, Bool, Option, Some, None, is_some, option_and_then, if◌then◌else◌, codes}
 use Rattle.std.specs.Str.{bytes_eq}
 use Rattle.fsck_text.specs.Cuts.{Text, is_empty, cut_at, after_prefix, before_last}
@@ -28,6 +28,7 @@ mark_with name rest =
     if is_some (after_prefix (codes "ud=") name) then (if is_empty rest then Some mark.Absent else None)
     else (if is_empty rest || is_domain rest then mark_named name else None)
 
--- the mark, by what comes after its opening parenthesis; an upgrade domain may come after it or in its place
+-- the mark, from the text after its opening parenthesis; an upgrade domain may come after it or in
+-- its place
 abbrev pub mark_of : Text → Option Mark
 mark_of text = option_and_then (λ p. mark_with p.0 p.1) (cut_at 41 text)

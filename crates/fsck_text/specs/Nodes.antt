@@ -25,7 +25,7 @@ rack_line value =
     option_map_or (λ rack. if is_rack rack then Ok (node.Rack rack) else Err (wrong reason.NotANode value))
     (after_prefix (codes " ") value) (Err (wrong reason.NotANode value))
 
--- the states that a node which does not drain may have; maintenance in both spellings of its words
+-- the states of a node that does not drain; maintenance in both spellings
 abbrev pub stays : Text → Bool
 stays value =
     bytes_eq value (codes " Normal") || bytes_eq value (codes " Entering maintenance") || bytes_eq value (codes " Entering Maintenance")
@@ -44,7 +44,7 @@ remaining_line value = after_ok (λ bytes. Ok (node.Remaining bytes)) (or_wrong 
 abbrev pub live_section : Text → Result NodeLine Wrong
 live_section count = after_ok (λ n. Ok (node.Live n)) (or_wrong reason.NotANode count (option_and_then number_of (before_last 41 count)))
 
--- a section, if its heading is one: of the live nodes, or of those in another state
+-- a section, if this is its heading: of the live nodes, or of those in another state
 abbrev pub section_with : Text → Text → Result NodeLine Wrong
 section_with name count =
     if bytes_eq name (codes "Live datanodes ") then live_section count
@@ -53,7 +53,7 @@ section_with name count =
 abbrev pub section_of : Text → Result NodeLine Wrong
 section_of key = option_map_or (λ p. section_with p.0 p.1) (cut_at 40 key) (Ok node.Other)
 
--- by the text before the first colon and after it
+-- a line, by its text before the first colon and after it
 abbrev pub keyed_line : Text → Text → Result NodeLine Wrong
 keyed_line key value =
     if bytes_eq key (codes "Name") then address_line value
@@ -62,6 +62,6 @@ keyed_line key value =
     else (if bytes_eq key (codes "DFS Remaining") then remaining_line value
     else section_of key)))
 
--- what a line of the report says
+-- the meaning of a line of the report
 abbrev pub node_line_of : Text → Result NodeLine Wrong
 node_line_of line = option_map_or (λ p. keyed_line p.0 p.1) (cut_at 58 line) (Ok node.Other)

@@ -11,14 +11,15 @@ without_word text = option_map (λ p. p.0) (last_cut_at 32 text)
 abbrev pub before_size : Text → Option Text
 before_size text = option_and_then without_word (without_word text)
 
--- the path, by the last word before the colon and the text before that: Hadoop 2 writes the number of blocks there
+-- the path, by the last word before the colon and the text before that: in Hadoop 2 the number of
+-- blocks comes before the colon
 abbrev pub path_before : Text → Text → Option Text
 path_before front last =
     if bytes_eq last (codes "block(s)") then option_and_then before_size (without_word front)
     else (if bytes_eq last (codes "OPENFORWRITE") then option_and_then before_size (option_and_then without_word (without_word front))
     else before_size front)
 
--- the path, by the text before the first colon
+-- the path, from the text before the first colon
 abbrev pub heading_path : Text → Option Text
 heading_path before = option_and_then (λ p. path_before p.0 p.1) (last_cut_at 32 before)
 

@@ -1,4 +1,4 @@
--- Where a replica is.
+-- The place of a replica.
 use Rattle.std.specs.Prelude.{ℕ, ◌==◌, ◌&&◌, ◌||◌, Bool, false, not, Option, Some, None, is_some, is_none, option_and_then, if◌then◌else◌, codes}
 use Rattle.std.specs.List.{list_any}
 use Rattle.std.specs.Option.{option_map_or}
@@ -42,7 +42,8 @@ abbrev pub bare_place : Text → Option Place
 bare_place address =
     if is_address address then Some (record { rack = None; address = address; storage = address }) else None
 
--- a node by its path: its rack, if there is one, a slash, its host and port; it has one storage, of its own name
+-- a node from its path: its rack, if it has one, a slash, its host and port; it has one storage,
+-- with the node's name
 abbrev pub node_place : Text → Option Place
 node_place path = option_map_or (λ p. racked_place p.0 p.1) (last_cut_at 47 path) (bare_place path)
 
@@ -51,7 +52,7 @@ storage_at address storage type =
     if is_address address && is_name storage && is_type type
     then Some (record { rack = None; address = address; storage = storage }) else None
 
--- a node and its storage: host and port, the storage's name and its type with commas, 44, between them
+-- a node and its storage: host and port, the storage's name and its type, separated by commas, 44
 abbrev pub stored_by : Text → Option Place
 stored_by parts = option_and_then (λ p. option_and_then (λ q. storage_at p.0 q.0 q.1) (cut_at 44 p.1)) (cut_at 44 parts)
 
@@ -59,7 +60,7 @@ stored_by parts = option_and_then (λ p. option_and_then (λ q. storage_at p.0 q
 abbrev pub stored_place : Text → Option Place
 stored_place text = option_and_then stored_by (before_last 93 text)
 
--- the place that a text names: a node and its storage after an opening bracket, 91, or a node
+-- the place that a text names: a node and its storage after an opening bracket, 91, or a node alone
 abbrev pub place_of : Text → Option Place
 place_of text =
     option_map_or (λ p. if bytes_eq p.0 (codes "DatanodeInfoWithStorage") then stored_place p.1 else None) (cut_at 91 text) (node_place text)

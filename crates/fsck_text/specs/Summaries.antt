@@ -9,7 +9,7 @@ use Rattle.fsck_text.specs.declared.summary.Count.TheVariants as count
 use Rattle.fsck_text.specs.declared.wrong.Reason.TheVariants as reason
 use Rattle.fsck_text.specs.declared.wrong.Wrong.{Wrong}
 
--- what a line about replicated files counts, by its text before the colon
+-- the count that a line about replicated files has, from its text before the colon
 abbrev pub blocks_named : Text → Option Count
 blocks_named name =
     if bytes_eq name (codes " Total blocks (validated)") then Some count.Blocks
@@ -19,7 +19,7 @@ blocks_named name =
     else (if bytes_eq name (codes "  CORRUPT BLOCKS") then Some count.Corrupt
     else None))))
 
--- the same of a line about erasure coded files
+-- the same for a line about erasure coded files
 abbrev pub groups_named : Text → Option Count
 groups_named name =
     if bytes_eq name (codes " Total block groups (validated)") then Some count.Groups
@@ -37,7 +37,7 @@ sum_at text = or_wrong reason.NotASum text (number_of (after_tab text))
 abbrev pub sum_with : Text → Count → Result (Option (Count × ℕ)) Wrong
 sum_with text count = after_ok (λ n. Ok (Some (count, n))) (sum_at text)
 
--- what a line of the summary counts, and how many; nothing for any other line
+-- the count of a line of the summary, and its number; none for any other line
 abbrev pub sum_of : Text → Result (Option (Count × ℕ)) Wrong
 sum_of line =
     option_map_or (λ p. option_map_or (sum_with p.1) (option_or (blocks_named p.0) (groups_named p.0)) (Ok None)) (cut_at 58 line) (Ok None)

@@ -8,32 +8,32 @@ use crate::cuts::{
 use crate::wrong::{Piece, Reason, Wrong, shown};
 use bm_base::{BlockId, Gen, Stamp};
 
-/// What the line of a block says.
+/// The content of a block's line.
 #[derive(Drop)]
 pub struct BlockLine<'a> {
     pub id: BlockId,
     pub stamp: Stamp,
-    /// How many live replicas fsck counts; `None` for `MISSING!`.
+    /// The number of live replicas as fsck counts them; `None` for `MISSING!`.
     pub live: Option<u32>,
     /// The text between the brackets of the list; empty without a list.
     pub list: Piece<'a>,
 }
 
-/// A block by its name: its number and its generation stamp.
+/// A block's name: its number and its generation stamp.
 #[derive(Clone, Copy, Drop)]
 struct Named {
     id: BlockId,
     generation: Gen,
 }
 
-/// The replicas of a block: how many are live, and the text of the list.
+/// The replicas of a block: the number of live ones, and the text of the list.
 #[derive(Drop)]
 struct Replicas<'a> {
     live: Option<u32>,
     list: Piece<'a>,
 }
 
-/// What a block's line says after its index.
+/// Parses a block's line after its index.
 pub fn block_of(text: &str) -> Result<BlockLine<'_>, Wrong<'_>>
     ensures { result ≡ block_of text.now }
 {
@@ -53,15 +53,15 @@ pub fn block_of(text: &str) -> Result<BlockLine<'_>, Wrong<'_>>
     })
 }
 
-/// Whether a block's line, after its index, says that no replica is known: also where the line is
-/// otherwise not understood, as of an erasure coded file.
+/// Whether no replica of the block is known, from the line after its index. The rest of the line
+/// need not be understood, as for an erasure coded file.
 pub fn is_missing(text: &str) -> bool
     ensures { result ≡ is_missing text.now }
 {
     after_length(text) == "MISSING!"
 }
 
-/// Whether a block's line, after its index, is of a block that is being written.
+/// Whether the block of a line, after its index, is being written.
 pub fn is_being_written(text: &str) -> bool
     ensures { result ≡ is_being_written text.now }
 {
@@ -78,7 +78,7 @@ fn after_length(text: &str) -> &str
     word
 }
 
-/// The number of the block that fsck calls corrupt, by the text after `CORRUPT blockpool`.
+/// The number of the block that fsck reports as corrupt, from the text after `CORRUPT blockpool`.
 pub fn corrupt_block(text: &str) -> Result<BlockId, Wrong<'_>>
     ensures { result ≡ corrupt_block text.now }
 {
@@ -93,7 +93,7 @@ pub fn corrupt_block(text: &str) -> Result<BlockId, Wrong<'_>>
     }
 }
 
-/// The number of a block of this name; a number below 0 begins with a minus.
+/// The number in the name of a block; a number below 0 begins with a minus.
 fn id_of<'a>(name: &'a str, id: &'a str) -> Result<BlockId, Wrong<'a>>
     ensures { result ≡ id_of name.entry.now id.entry.now }
 {
@@ -116,8 +116,8 @@ fn without_pool(name: &str) -> &str
     }
 }
 
-/// The block of a name: a pool and a colon, or nothing, then `blk_`, its number, `_` and its stamp. The
-/// text begins with the name.
+/// The block of a name at the start of a text: a pool and a colon, or nothing, then `blk_`, its
+/// number, `_` and its stamp.
 fn block_named<'a>(name: &'a str, text: &'a str) -> Result<Named, Wrong<'a>>
     ensures { result ≡ block_named name.entry.now text.entry.now }
 {
@@ -135,7 +135,7 @@ fn block_named<'a>(name: &'a str, text: &'a str) -> Result<Named, Wrong<'a>>
     }
 }
 
-/// The length of the block in bytes. The text begins with the word.
+/// The length of the block in bytes, from the first word of the text.
 fn length_of<'a>(word: &'a str, text: &'a str) -> Result<u64, Wrong<'a>>
     ensures { result ≡ length_of word.entry.now text.entry.now }
 {
@@ -145,7 +145,7 @@ fn length_of<'a>(word: &'a str, text: &'a str) -> Result<u64, Wrong<'a>>
     }
 }
 
-/// How many replicas are live. The text begins with the word.
+/// The number of live replicas, from the first word of the text.
 fn live_of<'a>(word: &'a str, text: &'a str) -> Result<u32, Wrong<'a>>
     ensures { result ≡ live_of word.entry.now text.entry.now }
 {
@@ -160,7 +160,7 @@ fn live_of<'a>(word: &'a str, text: &'a str) -> Result<u32, Wrong<'a>>
 }
 
 /// The text between the brackets of a list; empty for no text. Hadoop 2.8 and later write one more
-/// space in front of it.
+/// space before it.
 fn list_text(text: &str) -> Result<Piece<'_>, Wrong<'_>>
     ensures { result ≡ list_text text.now }
 {
@@ -174,7 +174,7 @@ fn list_text(text: &str) -> Result<Piece<'_>, Wrong<'_>>
     }
 }
 
-/// What a block's line says after its length.
+/// Parses the count and the list of a block's line, after its length.
 fn replicas_of(text: &str) -> Result<Replicas<'_>, Wrong<'_>>
     ensures { result ≡ replicas_of text.now }
 {

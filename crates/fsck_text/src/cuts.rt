@@ -1,4 +1,4 @@
-// Cutting a text in two, and reading a number.
+// Cuts of a text in two, and numbers in decimal digits.
 ghost use Rattle.std.specs.Prelude.{◌≡◌, ◌<◌, option_map};
 ghost use Rattle.fsck_text.specs.Cuts.{cut_at, last_cut_at, after_prefix, after_first, before_last, word_and_rest, column_of, first_column_of, number_of, with_digit, small_number_of};
 
@@ -20,7 +20,7 @@ pub fn last_cut_at(text: &str, mark: char) -> Option<(&str, &str)>
     text.rsplit_once(mark)
 }
 
-/// The text after `prefix`, if it begins so.
+/// The text after `prefix`, if it begins with that.
 pub fn after_prefix<'a>(text: &'a str, prefix: &str) -> Option<&'a str>
     ensures { option_map (λ t. t.now) result ≡ after_prefix prefix.now text.entry.now }
 {
@@ -49,7 +49,8 @@ pub fn before_last(text: &str, mark: char) -> Option<&str>
     }
 }
 
-/// The text before the first space, and the text after it; all and nothing if there is no space.
+/// The text before the first space, and the text after it; the whole text and nothing if it has no
+/// space.
 pub fn word_and_rest(text: &str) -> (&str, &str)
     ensures { (result.0.now, result.1.now) ≡ word_and_rest text.now }
 {
@@ -59,8 +60,8 @@ pub fn word_and_rest(text: &str) -> (&str, &str)
     }
 }
 
-/// The column at which a word begins in a line, in bytes from 1: at the end of the line if that is the
-/// word, else where the word first occurs.
+/// The column of a word in a line, in bytes from 1: at the end of the line if the line ends with
+/// it, else at its first occurrence.
 pub fn column_of(line: &str, word: &str) -> usize
     ensures { result ≡ column_of word.now line.now }
 {
@@ -71,14 +72,14 @@ pub fn column_of(line: &str, word: &str) -> usize
     }
 }
 
-/// The column at which a word first occurs in a line; past the end if it does not occur.
+/// The column of the first occurrence of a word in a line; past the end if it does not occur.
 fn first_column_of(line: &str, word: &str) -> usize
     ensures { result ≡ first_column_of word.now line.now }
 {
     line.find(word).unwrap_or(line.len()) + 1
 }
 
-/// The number that a text of decimal digits writes, if it is below 2^64.
+/// The number in a text of decimal digits, if it is below 2^64.
 pub fn number_of(text: &str) -> Option<u64>
     ensures { result ≡ number_of text.now }
 {
@@ -92,7 +93,7 @@ pub fn number_of(text: &str) -> Option<u64>
     Some(value)
 }
 
-/// The number with one more digit.
+/// The value with one more digit.
 fn with_digit(value: u64, digit: u8) -> Option<u64>
     ensures { result ≡ with_digit value digit }
 {
@@ -102,7 +103,7 @@ fn with_digit(value: u64, digit: u8) -> Option<u64>
     value.checked_mul(10)?.checked_add(u64::from(digit - b'0'))
 }
 
-/// The same, if it is below 2^32.
+/// The same, below 2^32.
 pub fn small_number_of(text: &str) -> Option<u32>
     ensures { result ≡ small_number_of text.now }
 {

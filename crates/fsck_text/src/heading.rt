@@ -5,29 +5,29 @@ ghost use Rattle.fsck_text.specs.Headings.{after_key, counted, replicated, coded
 use crate::cuts::{after_first, after_prefix, cut_at, last_cut_at, small_number_of, word_and_rest};
 use crate::wrong::{Piece, Reason, Wrong, shown};
 
-/// How a file is laid out.
+/// The layout of a file.
 #[derive(Clone, Copy, Debug, PartialEq, Drop)]
 pub enum Layout {
     Replicated,
     ErasureCoded,
 }
 
-/// What the heading of a file says.
+/// The content of a file's heading.
 #[derive(Clone, Copy, Drop)]
 pub struct Heading {
     pub layout: Layout,
-    /// The file is being written.
+    /// Whether the file is being written.
     pub is_open: bool,
-    /// The file is in a snapshot.
+    /// Whether the file is in a snapshot.
     pub is_snapshot: bool,
-    /// How many blocks it has.
+    /// The number of its blocks.
     pub blocks: u32,
-    /// How many replicas are wanted of each block. Hadoop 2 says so only of a file that has a block
-    /// with too few.
+    /// The number of wanted replicas of each block. Hadoop 2 reports it only for a file with an
+    /// under-replicated block.
     pub target: Option<u32>,
 }
 
-/// A heading up to the problem that may stand at its end.
+/// A heading up to the problem at its end, if any.
 #[derive(Drop)]
 struct Begun<'a> {
     layout: Layout,
@@ -37,8 +37,8 @@ struct Begun<'a> {
     problem: Piece<'a>,
 }
 
-/// What the heading of a file says, by its text before the first colon and after it. A path of HDFS has
-/// no colon.
+/// Parses the heading of a file from its text before the first colon and after it. A path of HDFS
+/// has no colon.
 pub fn heading_of<'a>(before: &'a str, after: &'a str) -> Result<Heading, Wrong<'a>>
     ensures { result ≡ heading_of before.entry.now after.entry.now }
 {
@@ -63,7 +63,7 @@ pub fn heading_of<'a>(before: &'a str, after: &'a str) -> Result<Heading, Wrong<
     })
 }
 
-/// Whether a heading may end so: with nothing, with `OK`, or with the first problem of the file.
+/// Whether a heading may end with this text: nothing, `OK`, or the first problem of the file.
 fn is_ending(text: &str) -> bool
     ensures { result ≡ is_ending text.now }
 {
@@ -73,14 +73,14 @@ fn is_ending(text: &str) -> bool
         || after_prefix(text, "  MISSING ").is_some()
 }
 
-/// Whether a path has the component by which HDFS names snapshots.
+/// Whether a path has the component with which HDFS names snapshots.
 fn is_in_snapshot(path: &str) -> bool
     ensures { result ≡ is_in_snapshot path.now }
 {
     path.split('/').any(|name| ".snapshot" == name)
 }
 
-/// By the last word before the colon.
+/// Parses the start of a heading by the last word before the colon.
 fn begun_of<'a>(front: &'a str, last: &'a str, after: &'a str) -> Result<Begun<'a>, Wrong<'a>>
     ensures { result ≡ begun_of front.entry.now last.entry.now after.entry.now }
 {
@@ -93,7 +93,7 @@ fn begun_of<'a>(front: &'a str, last: &'a str, after: &'a str) -> Result<Begun<'
     }
 }
 
-/// The value of a key up to a comma, and the text after that.
+/// The value of a key up to a comma, and the text after the comma.
 fn after_key<'a>(text: &'a str, key: &str) -> Option<(&'a str, &'a str)>
     ensures { option_map (λ p. (p.0.now, p.1.now)) result ≡ after_key key.now text.entry.now }
 {
@@ -123,7 +123,7 @@ fn coded(text: &str) -> Result<Begun<'_>, Wrong<'_>>
     }
 }
 
-/// The number of blocks, whether the file is open, and the problem behind that.
+/// The number of blocks, whether the file is open, and then the problem.
 fn counted(layout: Layout, replication: Option<u32>, text: &str) -> Result<Begun<'_>, Wrong<'_>>
     ensures { result ≡ counted layout replication text.now }
 {
@@ -178,7 +178,7 @@ fn old_open<'a>(front: &'a str, problem: &'a str) -> Result<Begun<'a>, Wrong<'a>
     }
 }
 
-/// How many replicas are wanted, by the problem at the end of a heading, if it is one of too few.
+/// The number of wanted replicas, if the problem of a heading is an under-replicated block.
 fn problem_target(problem: &str) -> Result<Option<u32>, Wrong<'_>>
     ensures { result ≡ problem_target problem.now }
 {
@@ -188,7 +188,7 @@ fn problem_target(problem: &str) -> Result<Option<u32>, Wrong<'_>>
     }
 }
 
-/// How many replicas are wanted of a block, by the text after `Under replicated`.
+/// The number of wanted replicas of a block, from the text after `Under replicated`.
 pub fn target_of(text: &str) -> Result<u32, Wrong<'_>>
     ensures { result ≡ target_of text.now }
 {
@@ -199,7 +199,7 @@ pub fn target_of(text: &str) -> Result<u32, Wrong<'_>>
     }
 }
 
-/// The number of wanted replicas that a text begins with.
+/// The number of wanted replicas at the start of a text.
 fn number_at(text: &str) -> Result<u32, Wrong<'_>>
     ensures { result ≡ number_at text.now }
 {
@@ -210,7 +210,7 @@ fn number_at(text: &str) -> Result<u32, Wrong<'_>>
     }
 }
 
-/// Whether both are there and differ.
+/// Whether both exist and differ.
 fn differ(first: Option<u32>, second: Option<u32>) -> bool
     ensures { result ≡ differ first second }
 {

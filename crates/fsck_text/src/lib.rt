@@ -1,7 +1,7 @@
-//! A line of what `hdfs fsck` or `hdfs dfsadmin -report` prints, as a value, for Hadoop 2.6 to 3.4.
+//! Parses a line that `hdfs fsck` or `hdfs dfsadmin -report` prints, for Hadoop 2.6 to 3.4.
 //!
-//! The forms are those of Hadoop's `NamenodeFsck` and `DatanodeInfo`; where versions differ, all are
-//! read. Nothing here is about more than one line.
+//! The forms are those of Hadoop's `NamenodeFsck` and `DatanodeInfo`; where versions differ, all
+//! are read. No call depends on more than one line.
 #![tactic(auto)]
 
 mod block;

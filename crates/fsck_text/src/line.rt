@@ -7,32 +7,33 @@ use crate::heading::{Heading, heading_of, target_of};
 use crate::summary::{Count, sum_of};
 use crate::wrong::{Piece, Wrong};
 
-/// What a line of fsck is.
+/// A parsed line of fsck.
 #[derive(Drop)]
 pub enum Line<'a> {
     /// The first line.
     First,
     /// The heading of a file, with the problem at its end.
     Heading(Heading),
-    /// Each known replica of a block is corrupt: the text after `CORRUPT blockpool`.
+    /// Each known replica of a block is corrupt; the text after `CORRUPT blockpool`.
     Corrupt(Piece<'a>),
-    /// How many replicas are wanted of a block of the file.
+    /// The number of wanted replicas of a block of the file.
     Target(u32),
     /// A block, by its index in the file and the text after that.
     Block(u64, Piece<'a>),
-    /// The summary begins; whether fsck calls all files healthy.
+    /// The summary begins; whether fsck reports all files as healthy.
     Status(bool),
     /// A number of the summary.
     Sum(Count, u64),
-    /// The number of files that are being written and are not in the text.
+    /// The number of open files that are not in the text.
     Unlisted(u64),
-    /// The last line; whether fsck calls all files healthy, and whether it is about the path `/`.
+    /// The last line; whether fsck reports all files as healthy, and whether it is about the path
+    /// `/`.
     Last(bool, bool),
     /// Any other line.
     Other,
 }
 
-/// What a line is. A line that begins with a slash and has a colon is one of a file.
+/// Parses a line. A line that begins with a slash and has a colon is about a file.
 pub fn line_of(line: &str) -> Result<Line<'_>, Wrong<'_>>
     ensures { result ≡ line_of line.now }
 {
@@ -60,7 +61,7 @@ pub fn ends(line: &str, text: &str) -> bool
     line.ends_with(text)
 }
 
-/// A line that begins with a path.
+/// Parses a line that begins with a path.
 fn path_line(line: &str) -> Result<Line<'_>, Wrong<'_>>
     ensures { result ≡ path_line line.now }
 {
@@ -81,7 +82,7 @@ fn block_line(line: &str) -> Option<(u64, &str)>
     Some((number_of(index)?, after_prefix(text, " ")?))
 }
 
-/// Whether the summary begins with this line, and calls all files healthy.
+/// Whether the summary begins with this line, and reports all files as healthy.
 fn health_of(line: &str) -> Option<bool>
     ensures { result ≡ health_of line.now }
 {
@@ -92,7 +93,7 @@ fn health_of(line: &str) -> Option<bool>
     }
 }
 
-/// Whether this is the last line, and calls all files healthy.
+/// Whether this is the last line, and reports all files as healthy.
 fn last_of(line: &str) -> Option<bool>
     ensures { result ≡ last_of line.now }
 {
@@ -114,7 +115,7 @@ fn is_of_all(line: &str) -> bool
     begins(line, "The filesystem under path '/' is ")
 }
 
-/// The number of files that are being written and are not in the text, at the end of a line.
+/// The number of open files that are not in the text, from the end of a line.
 fn unlisted_of(line: &str) -> Option<u64>
     ensures { result ≡ unlisted_of line.now }
 {
@@ -123,7 +124,7 @@ fn unlisted_of(line: &str) -> Option<u64>
     number_of(before_last(number, ')')?)
 }
 
-/// A line that is none of a file.
+/// Parses a line that is not about a file.
 fn summary_line(line: &str) -> Result<Line<'_>, Wrong<'_>>
     ensures { result ≡ summary_line line.now }
 {

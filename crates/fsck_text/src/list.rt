@@ -32,7 +32,7 @@ pub fn list_of<'a>(alloc: Global, text: &'a str) -> Result<Items<Listed<'a>>, Fa
     }
 }
 
-/// What is wrong with an item of a list; the whole list is quoted for an empty item.
+/// The fault of an item of a list; the whole list is quoted for an empty item.
 fn within<'a>(wrong: Wrong<'a>, text: &'a str) -> Wrong<'a>
     ensures { result ≡ within text.entry.now wrong.entry }
 {
@@ -68,14 +68,14 @@ fn push_item<'a>(list: &mut Items<Listed<'a>>, item: &'a str) -> Result<(), Faul
     Ok(list.push(one)?)
 }
 
-/// The first item, and the items after it, if there are more.
+/// The first item, and the items after it, if there are any.
 fn cut_item(items: &str) -> Option<(&str, &str)>
     ensures { option_map (λ p. (p.0.now, p.1.now)) result ≡ cut_item items.now }
 {
     items.split_once(", ")
 }
 
-/// A replica by its item: its place, and its mark in parentheses if there is one.
+/// A replica from its item: its place, and its mark in parentheses if there is one.
 fn listed_of(item: &str) -> Result<Listed<'_>, Wrong<'_>>
     ensures { result ≡ listed_of item.now }
 {

@@ -1,10 +1,10 @@
-// What fsck says of a replica after its place.
+// The mark of a replica, after its place.
 ghost use Rattle.std.specs.Prelude.{◌≡◌};
 ghost use Rattle.fsck_text.specs.Marks.{mark_named, mark_of, is_domain};
 
 use crate::cuts::{after_prefix, before_last, cut_at};
 
-/// What `-replicaDetails` says of a replica.
+/// A mark of a replica, as `-replicaDetails` prints it.
 #[derive(Clone, Copy, Debug, PartialEq, Drop)]
 pub enum Mark {
     /// No mark, as without `-replicaDetails`.
@@ -20,7 +20,7 @@ pub enum Mark {
     StaleContent,
 }
 
-/// The mark by its name in the text.
+/// The mark of this name.
 fn mark_named(name: &str) -> Option<Mark>
     ensures { result ≡ mark_named name.now }
 {
@@ -38,7 +38,7 @@ fn mark_named(name: &str) -> Option<Mark>
     }
 }
 
-/// The mark, by what comes after its opening parenthesis. An upgrade domain, `(ud=NAME)`, may come
+/// The mark, from the text after its opening parenthesis. An upgrade domain, `(ud=NAME)`, may come
 /// after it or in its place, and is ignored.
 pub fn mark_of(text: &str) -> Option<Mark>
     ensures { result ≡ mark_of text.now }

@@ -7,7 +7,7 @@ use crate::line::ends;
 use crate::place::{is_address, is_rack};
 use crate::wrong::{Piece, Reason, Wrong};
 
-/// What a line of the report says of a DataNode.
+/// A parsed line of the report on DataNodes.
 #[derive(Drop)]
 pub enum NodeLine<'a> {
     /// The section of the live nodes begins, with their number.
@@ -17,14 +17,14 @@ pub enum NodeLine<'a> {
     /// A node begins, by its host and port.
     Node(Piece<'a>),
     Rack(Piece<'a>),
-    /// Whether it is being decommissioned, or has been.
+    /// Whether the node is being decommissioned, or has been.
     Drains(bool),
     /// Free bytes.
     Remaining(u64),
     Other,
 }
 
-/// What a line of the report says.
+/// Parses a line of the report.
 pub fn node_line_of(line: &str) -> Result<NodeLine<'_>, Wrong<'_>>
     ensures { result ≡ node_line_of line.now }
 {
@@ -34,7 +34,7 @@ pub fn node_line_of(line: &str) -> Result<NodeLine<'_>, Wrong<'_>>
     }
 }
 
-/// By the text before the first colon and after it.
+/// Parses a line by its text before the first colon and after it.
 fn keyed_line<'a>(key: &'a str, value: &'a str) -> Result<NodeLine<'a>, Wrong<'a>>
     ensures { result ≡ keyed_line key.entry.now value.entry.now }
 {
@@ -47,7 +47,7 @@ fn keyed_line<'a>(key: &'a str, value: &'a str) -> Result<NodeLine<'a>, Wrong<'a
     }
 }
 
-/// A section, if its heading is one: `Live datanodes (N)`, or of nodes in another state.
+/// A section, if this is its heading: `Live datanodes (N)`, or one of nodes in another state.
 fn section_of(key: &str) -> Result<NodeLine<'_>, Wrong<'_>>
     ensures { result ≡ section_of key.now }
 {
@@ -58,7 +58,7 @@ fn section_of(key: &str) -> Result<NodeLine<'_>, Wrong<'_>>
     }
 }
 
-/// The section of the live nodes, by their number up to a closing parenthesis.
+/// The section of the live nodes, from their number up to a closing parenthesis.
 fn live_section(count: &str) -> Result<NodeLine<'_>, Wrong<'_>>
     ensures { result ≡ live_section count.now }
 {
@@ -89,7 +89,7 @@ fn rack_line(value: &str) -> Result<NodeLine<'_>, Wrong<'_>>
     }
 }
 
-/// Whether a node of this state drains. The words for maintenance are read in both spellings.
+/// Whether a node of this state drains. Maintenance is read in both spellings.
 fn status_line(value: &str) -> Result<NodeLine<'_>, Wrong<'_>>
     ensures { result ≡ status_line value.now }
 {

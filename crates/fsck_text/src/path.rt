@@ -4,7 +4,7 @@ ghost use Rattle.fsck_text.specs.Paths.{without_word, before_size, heading_path,
 
 use crate::cuts::{after_prefix, cut_at, last_cut_at};
 
-/// The path of a file, if this line is its heading: what comes before the size, which is two words.
+/// The path of a file, if this line is its heading: the text before the size, which is two words.
 pub fn path_of(line: &str) -> Option<&str>
     ensures { option_map (λ t. t.now) result ≡ path_of line.now }
 {
@@ -15,7 +15,7 @@ pub fn path_of(line: &str) -> Option<&str>
     heading_path(before)
 }
 
-/// The path, by the text before the first colon.
+/// The path, from the text before the first colon.
 fn heading_path(before: &str) -> Option<&str>
     ensures { option_map (λ t. t.now) result ≡ heading_path before.now }
 {

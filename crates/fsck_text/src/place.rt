@@ -1,11 +1,12 @@
-// Where a replica is.
+// The place of a replica.
 ghost use Rattle.std.specs.Prelude.{◌≡◌};
 ghost use Rattle.fsck_text.specs.Places.{is_reserved, has_reserved, is_plain, is_rack, is_name, is_address, is_type, node_place, stored_place, place_of};
 
 use crate::cuts::{after_first, before_last, cut_at, last_cut_at, number_of};
 use crate::wrong::Piece;
 
-/// A node by its host and port, with its rack if the text has it, and a storage of it by its name.
+/// A node, by its host and port, with its rack if the text has it; and one of its storages, by
+/// name.
 #[derive(Drop)]
 pub struct Place<'a> {
     pub rack: Option<Piece<'a>>,
@@ -13,8 +14,8 @@ pub struct Place<'a> {
     pub storage: Piece<'a>,
 }
 
-/// The place that a text names: a node by its path, which has one storage of its own name, or a node
-/// and its storage in brackets.
+/// Parses a place: a node by its path, with one storage of the node's name, or a node and its
+/// storage in brackets.
 pub fn place_of(text: &str) -> Option<Place<'_>>
     ensures { result ≡ place_of text.now }
 {
@@ -25,7 +26,7 @@ pub fn place_of(text: &str) -> Option<Place<'_>>
     }
 }
 
-/// Whether a byte has a meaning in the list, so that no name has it.
+/// Whether a byte is a delimiter of the list, so that no name has it.
 fn is_reserved(byte: u8) -> bool
     ensures { result ≡ is_reserved byte }
 {
@@ -78,7 +79,7 @@ fn is_type(text: &str) -> bool
     )
 }
 
-/// A node by its path: its rack, if there is one, a slash, its host and port.
+/// A node from its path: its rack, if it has one, a slash, its host and port.
 fn node_place(path: &str) -> Option<Place<'_>>
     ensures { result ≡ node_place path.now }
 {

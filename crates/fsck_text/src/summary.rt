@@ -6,16 +6,16 @@ use crate::cuts::{cut_at, last_cut_at, number_of, word_and_rest};
 use crate::wrong::{Reason, Wrong};
 use thiserror::Error;
 
-/// What a number of the summary counts.
+/// What a line of the summary counts.
 #[derive(Clone, Copy, Debug, Drop, Error)]
 pub enum Count {
     /// Blocks of replicated files.
     #[error("blocks")]
     Blocks,
-    /// Those of which no replica is known.
+    /// Blocks of which no replica is known.
     #[error("missing blocks")]
     Missing,
-    /// Those of which each known replica is corrupt.
+    /// Blocks of which each known replica is corrupt.
     #[error("corrupt blocks")]
     Corrupt,
     /// Block groups of erasure coded files.
@@ -27,7 +27,7 @@ pub enum Count {
     CorruptGroups,
 }
 
-/// What a line about replicated files counts, by its text before the colon.
+/// The count that a line about replicated files has, from its text before the colon.
 fn blocks_named(name: &str) -> Option<Count>
     ensures { result ≡ blocks_named name.now }
 {
@@ -39,7 +39,7 @@ fn blocks_named(name: &str) -> Option<Count>
     }
 }
 
-/// The same of a line about erasure coded files.
+/// The same for a line about erasure coded files.
 fn groups_named(name: &str) -> Option<Count>
     ensures { result ≡ groups_named name.now }
 {
@@ -51,7 +51,7 @@ fn groups_named(name: &str) -> Option<Count>
     }
 }
 
-/// What a line of the summary counts, and how many; `None` for any other line.
+/// The count of a line of the summary, and its number; `None` for any other line.
 pub fn sum_of(line: &str) -> Result<Option<(Count, u64)>, Wrong<'_>>
     ensures { result ≡ sum_of line.now }
 {

@@ -1,4 +1,4 @@
-// Why a line is not understood.
+// Why a line is refused.
 ghost use Rattle.std.specs.Prelude.{◌≡◌};
 ghost use Rattle.fsck_text.specs.Wrongs.{shown};
 
@@ -6,7 +6,7 @@ use std::alloc::AllocError;
 use std::marker::Model;
 use thiserror::Error;
 
-/// What is wrong with a word of a line.
+/// The fault of a word in a line.
 #[derive(Clone, Copy, Debug, Drop, Error)]
 pub enum Reason {
     #[error("is not a heading that Hadoop 2.6 to 3.4 write")]
@@ -18,7 +18,7 @@ pub enum Reason {
     /// Not `[POOL:]blk_NUMBER_STAMP`.
     #[error("is not the name of a block")]
     NotABlock,
-    /// As in old clusters and in erasure coded files.
+    /// Old clusters and erasure coded files have such blocks.
     #[error("names a block with a number below 0")]
     NegativeBlock,
     /// Not `len=` and a number below 2^64.
@@ -41,7 +41,7 @@ pub enum Reason {
     NotANode,
 }
 
-/// A part of a line.
+/// A part of a line that is quoted.
 #[derive(Drop)]
 pub struct Piece<'a> {
     text: &'a str,
@@ -92,14 +92,14 @@ impl<'a> Wrong<'a> {
     }
 }
 
-/// The word to quote: a text in place of an empty word at its beginning.
+/// The word to quote: the text in place of an empty word at its start.
 pub fn shown<'a>(word: &'a str, text: &'a str) -> &'a str
     ensures { result.now ≡ shown word.entry.now text.entry.now }
 {
     if word.is_empty() { text } else { word }
 }
 
-/// Why a line has no value.
+/// Why a line could not be parsed.
 #[derive(Drop)]
 pub enum Fault<'a> {
     Memory,

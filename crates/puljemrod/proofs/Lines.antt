@@ -1,4 +1,4 @@
--- A line is answered where what it asks for is done.
+-- A line is answered if its call is made.
 use Rattle.std.proofs.Common.{◌≡◌, ℕ, List, IsTrue, Result, Ok, Err, ap, ◌∙◌}
 use Rattle.std.specs.Prelude.{OnErr}
 use Rattle.bm_base.specs.State.{State}
@@ -17,7 +17,7 @@ answered M line a k e p = record {
   no_memory = p.no_memory;
 }
 
--- memory lacks for no line that is too long
+-- memory is refused for no line that is too long
 not_long : (M : State) (line : List ℕ) (a : Asked) → a ≡ asked line → IsTrue (asked_may_lack M a) → asked line ≡ Long → ⊥
 not_long M line a e may is = absurd (cc (may, ap (asked_may_lack M) (e ∙ is)))
 

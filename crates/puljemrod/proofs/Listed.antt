@@ -1,4 +1,4 @@
--- What an event may come to, one with a list may.
+-- The outcomes of an event are outcomes of an event with a list.
 use Rattle.std.proofs.Common.{ℕ, Option, None, Some, inl, inr}
 use Rattle.bm_base.specs.declared.event.Event.{Event}
 use Rattle.puljemrod.specs.declared.kept.Kept.{Kept}

@@ -26,7 +26,7 @@ take_both n [] ys = let e : n - 0 ≡ n = omega arith in ap₂ (λ a b. a ++ b) 
 take_both zero (x ∷ xs) ys = let e : 0 - length (x ∷ xs) ≡ 0 = omega arith in ap (λ k. take k ys) (sym e)
 take_both (suc n) (x ∷ xs) ys = let e : suc n - length (x ∷ xs) ≡ n - length xs = omega arith in ap (λ l. x ∷ l) (take_both n xs ys ∙ ap (λ k. take n xs ++ take k ys) (sym e))
 
--- one list more of several, copied behind what was copied of those before
+-- one more list of several, copied after those before
 one_list : {Y : Type 0} (old now after all r : List Y) (from left count copied : ℕ)
     → count ≡ min (length old) (length (drop from all)) → now ≡ take count (drop from all) ++ drop count old
     → left ≡ from - length all → copied ≡ min (length (drop count now)) (length (drop left r))
@@ -47,7 +47,7 @@ one_list old now after all r from left count copied is held lefts is_copied is_a
     ap₂ (λ a k. a ++ take k E) (sym first) (sym rest) ∙ sym (take_both (count + copied) D E) ∙ ap (take (count + copied)) (sym whole) in
     (total, is_after ∙ ap₂ (λ a b. a ++ (take copied E ++ drop copied b)) front back ∙ sym (append_assoc (take count D) (take copied E) _) ∙ ap₂ (λ a b. a ++ b) rows (drop-drop copied count old))
 
--- the same where the list is one of items, and what is left of `out` is lent for it
+-- the same for a list of items, if the rest of `out` is borrowed for it
 pub one_node : {X Y : Type 0} (f : X → Y) (items : List X) (old now new : List Y) (all more : List Y) (from left count copied : ℕ)
     → more ≡ all ++ map f items
     → count ≡ min (length old) (length (drop from all)) → now ≡ take count (drop from all) ++ drop count old

@@ -20,7 +20,7 @@ use Rattle.puljemrod.specs.declared.codes.TheConstants.{MEMORY, CLOSED, NO_TEXT}
 use Rattle.puljemrod.specs.declared.options.Options.{Options}
 use Rattle.puljemrod.specs.declared.kept.Kept.{Kept}
 
--- one worker, and the rest by the options
+-- one worker, and the options
 abbrev pub config_of : Options → Config
 config_of o = record { shards = o.shards; workers = 1; work = o.work; invalidate = o.invalidate; pend = o.pend; first_round = o.first_round; first_call = o.first_call }
 
@@ -29,7 +29,7 @@ abbrev pub text_in : Option Kept → List ℕ
 text_in None = []
 text_in (Some k) = k.text.items
 
--- the text of the last answer, be it made or not
+-- the text of the last answer, whether it is made or not
 abbrev pub text_with : Option LineAnswer → List ℕ → List ℕ
 text_with None text = text
 text_with (Some a) text = text_of a
@@ -88,8 +88,8 @@ IsCall k c now code = ((code ≡ MEMORY) × (now ≡ k) × IsTrue (may_lack_memo
 abbrev pub IsListed : Kept → Call → Kept → ℕ → Type 0
 IsListed k c now code = ((code ≡ MEMORY) × (now ≡ k)) ⊎ IsMade k c now code
 
--- The same of a heartbeat, whose list is copied into memory that the handle keeps: memory may be
--- refused only where that is too small for the list.
+-- The same for a heartbeat, whose list is copied into memory that the handle keeps: memory may be
+-- refused only if that is too small for the list.
 abbrev pub IsBeat : Kept → ℕ → List Remaining → Kept → ℕ → Type 0
 IsBeat k node rs now code = ((code ≡ MEMORY) × (now ≡ k) × (k.spare < length rs)) ⊎ IsMade k (Apply (Heartbeat node rs)) now code
 

@@ -1,4 +1,4 @@
--- What a round commands, as rows of C.
+-- The commands of a round, as rows of C.
 use Rattle.std.specs.Prelude.{ℕ, List, [], map, flat_map, Option, Some, None}
 use Rattle.bm_base.specs.declared.commands.Transfer.{Transfer}
 use Rattle.bm_base.specs.declared.commands.Delete.{Delete}
@@ -22,7 +22,7 @@ copies_for c = map (copy_row c.node) c.transfers
 abbrev pub deletes_for : NodeCommands → List DeleteRow
 deletes_for c = map (delete_row c.node) c.deletes
 
--- the commands of the last answer, where it is that of a round
+-- the commands of the last answer, if it is that of a round
 abbrev pub nodes_by_answer : Option LineAnswer → List NodeCommands
 nodes_by_answer (Some (Answered c (Commanded cs))) = cs.nodes
 nodes_by_answer _ = []

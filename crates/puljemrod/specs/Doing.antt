@@ -1,4 +1,4 @@
--- What an event did, as a row of C.
+-- The effect of an event, as a row of C.
 use Rattle.std.specs.Prelude.{◌^◌, ◌/◌, ◌%◌, Option, Some}
 use Rattle.bm_base.specs.declared.event.Done.{Done}
 use Rattle.bm_base.specs.declared.call.Answer.TheVariants as answer
@@ -9,7 +9,7 @@ use Rattle.puljemrod.specs.declared.done.DoneRow.{DoneRow}
 abbrev pub done_row : Done → DoneRow
 done_row d = record { added = d.added % 2 ^ 64; added_high = d.added / 2 ^ 64; removed = d.removed % 2 ^ 64; removed_high = d.removed / 2 ^ 64 }
 
--- zeros where the last answer is not that of an event
+-- zeros if the last answer is not that of an event
 abbrev pub done_by_answer : Option LineAnswer → DoneRow
 done_by_answer (Some (Answered c (answer.Done d))) = done_row d
 done_by_answer _ = record { added = 0; added_high = 0; removed = 0; removed_high = 0 }

@@ -1,4 +1,4 @@
--- The definitions of what C may call.
+-- Definitions for the functions that C may call.
 pub mod Handles
 pub mod Calls
 pub mod Rows

@@ -17,7 +17,7 @@ tag_number Stale = 1
 tag_number Bad = 2
 tag_number Stray = 3
 
--- the rows of lists have nothing in common
+-- different kinds of rows have nothing in common
 
 abbrev pub replica_row : Unit {0} → Replica → ReplicaRow
 replica_row _ r = record { block = r.block; storage = r.storage; tag = tag_number r.tag }
@@ -28,7 +28,7 @@ pair_row _ r = record { block = r.block; storage = r.storage }
 abbrev pub number_row : Unit {0} → ℕ → ℕ
 number_row _ n = n
 
--- the list of the last answer, where it is one of such items
+-- the list of the last answer, if it has items of this kind
 
 abbrev pub replicas_by_answer : Option LineAnswer → List ReplicaRow
 replicas_by_answer (Some (Answered c (answer.Replicas rs))) = map (replica_row tt) rs

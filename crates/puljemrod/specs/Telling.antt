@@ -15,7 +15,7 @@ abbrev pub level_or_none : Option Level → ℕ
 level_or_none None = NO_LEVEL
 level_or_none (Some l) = level_number l
 
--- 0 where there is neither a number nor a list
+-- 0 if there is neither a number nor a list
 abbrev pub told_by : Answer → ℕ
 told_by (answer.LevelIs l) = level_or_none l
 told_by (answer.IsRetired true) = 1

@@ -1,12 +1,12 @@
-// The codes that are no number of a refusal.
+// The codes that are not the number of a refusal.
 
 /// Memory was refused, and nothing is changed: the number of [`bm_base::Refusal::Memory`].
 pub const MEMORY: u32 = 14;
 
-/// The handle is closed, where it must be open.
+/// The handle is closed, but must be open.
 pub const CLOSED: u32 = 32;
 
-/// The handle is open, where it must be closed.
+/// The handle is open, but must be closed.
 pub const OPEN: u32 = 33;
 
 /// The line is answered, and memory was refused for the text of its answer.

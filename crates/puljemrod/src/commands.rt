@@ -167,7 +167,7 @@ pub extern "C" fn puljemrod_copies(
     count
 }
 
-/// The same of the commands to delete.
+/// The same for the commands to delete.
 #[unsafe(no_mangle)]
 pub extern "C" fn puljemrod_deletes(
     alloc: Global,

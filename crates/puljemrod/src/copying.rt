@@ -9,7 +9,8 @@ pub trait Row<C, T>: Copy {
         ensures { result ≡ row_of common item.now };
 }
 
-/// Copies the items from `from` on, as far as they and `out` go, and returns how many it copied.
+/// Copies the items from `from` on, up to the end of the list or of `out`, and returns how many it
+/// copied.
 pub fn copy_rows<C: Copy, T, R: Row<C, T>>(
     common: C,
     items: &[T],
@@ -38,7 +39,7 @@ fn write_rows<C: Copy, T, R: Row<C, T>>(common: C, items: &[T], out: &mut [R])
     }
 }
 
-/// The same, where a contract has the rows of the whole list.
+/// The same, for a contract with the rows of the whole list.
 pub fn copy_list<C: Copy, T, R: Row<C, T>>(
     common: C,
     items: &[T],

@@ -20,7 +20,7 @@ pub struct DoneRow {
     pub removed_high: u64,
 }
 
-/// What the last event did.
+/// The effect of the last event.
 #[unsafe(no_mangle)]
 pub extern "C" fn puljemrod_done(alloc: Global, slot: &mut Slot, done: &mut DoneRow) -> u32
     ensures open { (k : Kept) → slot.old.handle.kept ≡ Some k

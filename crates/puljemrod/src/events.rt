@@ -48,7 +48,7 @@ pub extern "C" fn puljemrod_storage_failed(alloc: Global, slot: &mut Slot, stora
     )
 }
 
-/// A DataNode is to be taken away.
+/// A DataNode is to be decommissioned.
 #[unsafe(no_mangle)]
 pub extern "C" fn puljemrod_drain(alloc: Global, slot: &mut Slot, node: u32) -> u32
     ensures { AfterEvent slot.old.handle.kept (event.Drain node) slot.new.handle.kept result }
@@ -56,7 +56,7 @@ pub extern "C" fn puljemrod_drain(alloc: Global, slot: &mut Slot, node: u32) -> 
     apply(alloc, slot, Event::Drain { node: NodeId(node) })
 }
 
-/// A DataNode is not to be taken away after all.
+/// A DataNode is not to be decommissioned after all.
 #[unsafe(no_mangle)]
 pub extern "C" fn puljemrod_undrain(alloc: Global, slot: &mut Slot, node: u32) -> u32
     ensures { AfterEvent slot.old.handle.kept (event.Undrain node) slot.new.handle.kept result }

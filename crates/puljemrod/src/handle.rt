@@ -1,4 +1,4 @@
-// What C keeps between two calls.
+// The state that C keeps between two calls.
 ghost use Rattle.std.specs.Prelude.{◌≡◌, Option, None, Some, IfSome, IfNone, is_some};
 ghost use Rattle.puljemrod.specs.declared.kept.Kept.{Kept};
 ghost use Rattle.puljemrod.specs.Handles.{kept_coded, handle_owns};
@@ -9,7 +9,7 @@ use std::alloc::Global;
 use std::marker::Model;
 use std::{mem, ptr};
 
-/// A box of the handle's state, or none, as a pointer that C may hold. C never follows it.
+/// A box of the handle's state, or none, as a pointer that C may hold. C never dereferences it.
 #[repr(C)]
 #[derive(Drop)]
 pub struct Handle {
@@ -56,7 +56,7 @@ impl Handle {
     }
 }
 
-/// A handle, and whether it is open. C begins with one of zeros, which is closed.
+/// A handle, and whether it is open. C starts with all zeros, which is closed.
 #[repr(C)]
 #[derive(Drop)]
 pub struct Slot {
@@ -89,7 +89,7 @@ impl Slot {
         }
     }
 
-    /// Keeps what was taken.
+    /// Stores the state, which opens the slot.
     pub fn put(&mut self, kept: Box<Kept>)
         requires { self.old.handle.kept ≡ None }
         ensures { self.new.handle.kept ≡ Some kept.value }

@@ -1,4 +1,4 @@
-// What an open handle leads to.
+// The state of an open handle.
 ghost use Rattle.std.specs.Prelude.{◌≡◌, [], true, map, None, IfOk, IfErr, OnOk, OnErr, IsTrue};
 ghost use Rattle.bm_base.specs.Configuration.{config_refusal};
 ghost use Rattle.bm_base.specs.Answering.{Refuses};
@@ -82,7 +82,7 @@ pub fn take_call(alloc: Global, kept: &mut Kept, call: Call) -> u32
     }
 }
 
-/// Makes a heartbeat, whose list is copied into memory of an earlier one, if that has room.
+/// Makes a heartbeat. Its list is copied into memory of an earlier one, if that suffices.
 pub fn take_heartbeat(alloc: Global, kept: &mut Kept, node: u32, rows: &[RemainingRow]) -> u32
     ensures { IsBeat kept.old node (map remaining_of rows.now) kept.new result }
 {
@@ -99,7 +99,7 @@ pub fn take_heartbeat(alloc: Global, kept: &mut Kept, node: u32, rows: &[Remaini
     }
 }
 
-/// Makes the call that is asked for, and keeps the answer.
+/// Makes the requested call, and keeps the answer.
 fn answer_asked(alloc: Global, kept: &mut Kept, asked: Asked) -> Result<(), AllocError>
     ensures answered { OnOk result (IsAsked kept.old.manager asked kept.new) }
     ensures unchanged { OnErr result (kept.new ≡ kept.old) }

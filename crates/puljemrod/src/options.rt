@@ -1,4 +1,4 @@
-// How C sets up a manager.
+// The options by which C sets up a manager.
 ghost use Rattle.std.specs.Prelude.{◌≡◌};
 ghost use Rattle.puljemrod.specs.Calls.{config_of};
 

@@ -26,7 +26,7 @@ pub extern "C" fn puljemrod_level(alloc: Global, slot: &mut Slot, id: u64, level
     ask(alloc, slot, Call::LevelOf(BlockId(id)), level)
 }
 
-/// Whether a DataNode can be taken away: 1 or 0.
+/// Whether a DataNode can be decommissioned: 1 or 0.
 #[unsafe(no_mangle)]
 pub extern "C" fn puljemrod_retired(
     alloc: Global,
@@ -55,7 +55,7 @@ pub extern "C" fn puljemrod_rounds(alloc: Global, slot: &mut Slot, rounds: &mut 
     ask(alloc, slot, Call::Rounds, rounds)
 }
 
-/// The replicas, which the handle keeps, and how many they are.
+/// The list of replicas, which the handle keeps, and their number.
 #[unsafe(no_mangle)]
 pub extern "C" fn puljemrod_replicas(alloc: Global, slot: &mut Slot, count: &mut u64) -> u32
     ensures { AfterQuestion slot.old.handle.kept call.Replicas slot.new.handle.kept result count.old count.new }

@@ -37,8 +37,8 @@ impl Spare {
         }
     }
 
-    /// Hands the first list out with a copy of the rows, in their order. It takes memory only where
-    /// that list has no room for them.
+    /// Moves the first list out with a copy of the rows, in their order. It takes memory only if
+    /// that list has too little capacity for them.
     pub fn copy(
         &mut self,
         alloc: Global,
@@ -56,7 +56,7 @@ impl Spare {
         Ok(Items::from_vec(list))
     }
 
-    /// Takes the list back from an answer that is kept no longer.
+    /// Takes the list back from an answer that is dropped.
     pub fn take_back(&mut self, answer: Option<LineAnswer>)
         ensures { self.old ≤ self.new }
     {
@@ -90,7 +90,7 @@ impl Spare {
     }
 }
 
-/// Appends the rows to a list that has room for them.
+/// Appends the rows to a list that has capacity for them.
 fn push_rows(list: &mut Vec<Remaining>, rows: &[RemainingRow])
     requires { vec_len list.old + length rows.now ≤ vec_capacity list.old }
     ensures { list.new.items ≡ list.old.items ++ map remaining_of rows.now }

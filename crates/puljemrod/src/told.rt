@@ -8,7 +8,8 @@ use bm_answers::LineAnswer;
 use bm_base::{Answer, Level};
 use std::alloc::Global;
 
-/// The handle is as it was.
+/// The number in the last answer, or the length of its list; 0 if it has neither. The handle is
+/// unchanged.
 pub fn told(alloc: Global, slot: &mut Slot) -> u64
     ensures told { result ≡ told_in slot.old.handle.kept }
     ensures unchanged { slot.new.handle.kept ≡ slot.old.handle.kept }

@@ -1,11 +1,13 @@
-//! Clusters, by the first word: `import` writes what `hdfs fsck` says of one as lines of the line tool, `report` says how the cluster
-//! of such lines stands, `what-if` what is lost with a part of it, `simulate` shows how a made-up one mends.
+//! Tools for clusters, chosen by the first word. `import` converts the output of `hdfs fsck` to
+//! lines of the line tool. `report` prints the health of the cluster of such lines. `what-if`
+//! prints what is lost with a part of it. `simulate` shows how a simulated cluster recovers.
 //!
 //! ```text
 //! puljemrod_cluster report < cluster.jsonl
 //! ```
 //!
-//! The exit status is 0, 1 after a fault or where `report` met a refused line, and 2 where the words ask for nothing that there is.
+//! The exit status is 0; or 1 after a fault, or if `report` met a refused line; or 2 for invalid
+//! options.
 //! The stored run is a report, which `crates/cluster_report` explains.
 #![tactic(auto)]
 
@@ -45,7 +47,7 @@ fn status_of<
     }
 }
 
-/// The words of the command line. Each is pushed, so that no refused growth is passed over.
+/// The words of the command line. Each is pushed, so that no refused growth is ignored.
 fn words_of<R: Env + AllocGlobal>(rt: &R) -> io::Result<Vec<String>> {
     let mut words = Vec::new(rt.alloc());
     for word in env::args(rt)? {
@@ -56,7 +58,7 @@ fn words_of<R: Env + AllocGlobal>(rt: &R) -> io::Result<Vec<String>> {
     Ok(words)
 }
 
-/// Runs what the first word asks for, with the words behind it as its options.
+/// Runs the command of the first word, with the other words as its options.
 fn status_by_words<
     R: Input + Print + Eprint + Files + AllocGlobal + Threads + Wait + Sync,
     N: Print,

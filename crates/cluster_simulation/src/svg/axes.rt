@@ -3,7 +3,8 @@
 use crate::scale::{BOTTOM, LEFT, RIGHT, Scale, TOP};
 use std::alloc::AllocError;
 
-/// A grey line and a number for each step upwards, and a number for each step aside.
+/// Draws a grey line and a number for each step of the counts, and a number for each step of the
+/// rounds.
 pub fn write_axes(text: &mut String, scale: &Scale) -> Result<(), AllocError> {
     for number in 0..=scale.count_steps {
         write_count_mark(text, scale, scale.count_step.saturating_mul(number))?;
@@ -59,7 +60,7 @@ fn write_round_mark(text: &mut String, scale: &Scale, round: u64) -> Result<(), 
     )
 }
 
-/// A line at a round.
+/// Draws a vertical line at a round.
 pub fn write_marked_round(text: &mut String, scale: &Scale, round: u32) -> Result<(), AllocError> {
     let x = scale.x_of(u64::from(round));
     write!(text, "<line x1='{x}' y1='{TOP}' x2='{x}' y2='{BOTTOM}' ")?;

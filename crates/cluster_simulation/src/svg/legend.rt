@@ -1,15 +1,15 @@
-// What the lines are.
+// The legend.
 
 use super::paint::{Paint, label_of, paint_of};
 use crate::counts::{ALL_SERIES, Counts, Series};
 use std::alloc::AllocError;
 
-/// Where the first entry stands, and how far below it the next.
+/// The height of the first entry, and the distance between two entries.
 const FIRST: u64 = 96;
 
 const APART: u64 = 24;
 
-/// An entry for each count, with its greatest value; a grey one without a line where that is nothing.
+/// Writes an entry for each count with its maximum; grey and without a line if that is 0.
 pub fn write_legend(text: &mut String, rows: &[Counts]) -> Result<(), AllocError> {
     let mut y = FIRST;
     for series in &ALL_SERIES {

@@ -1,11 +1,11 @@
-// The lines of the counts: steps, since what a round leaves stands until the next.
+// The lines of the counts, as steps: a count holds until the next round.
 
 use super::paint::{Paint, paint_of};
 use crate::counts::{ALL_SERIES, Counts, Series};
 use crate::scale::Scale;
 use std::alloc::AllocError;
 
-/// A line for each count that is ever more than nothing.
+/// Draws a line for each count that is not always 0.
 pub fn write_lines(text: &mut String, scale: &Scale, rows: &[Counts]) -> Result<(), AllocError> {
     for series in &ALL_SERIES {
         if series.greatest(rows) > 0 {
@@ -35,7 +35,7 @@ pub fn write_line(
     text.push_str("'/>\n")
 }
 
-/// The begin and the end of each round.
+/// Writes the start and the end of each round as points.
 fn write_points(
     text: &mut String,
     scale: &Scale,

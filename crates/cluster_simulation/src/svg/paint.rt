@@ -1,13 +1,15 @@
-// The colours of the lines, which those who see red and green alike can tell apart, and their dashes.
+// The colours of the lines, which people with red-green colour blindness can distinguish, and their
+// dashes.
 use crate::counts::Series;
 
 /// How a line is drawn.
 #[derive(Clone, Copy)]
 pub struct Paint {
     pub colour: &'static str,
-    /// In points of the picture. Levels have broad lines, so that they are seen behind another line of the same height.
+    /// In points of the picture. Levels have broad lines, so that they show behind another line of
+    /// the same height.
     pub width: u32,
-    /// How long its dashes and gaps are; `none` of an unbroken line.
+    /// The lengths of dashes and gaps; `none` for an unbroken line.
     pub dashes: &'static str,
 }
 

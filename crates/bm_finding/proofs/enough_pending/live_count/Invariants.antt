@@ -4,7 +4,7 @@ use Rattle.bm_arena.specs.Triplets.{seen_triplet}
 use Rattle.bm_levels.specs.Judged.{storages_at}
 use Rattle.bm_finding.proofs.enough_pending.live_count.Given as goal
 
--- those that were counted and those that are left are all, and no more were counted than have gone
+-- the count so far and that of the rest are the count of all, and it is at most the index
 pub record CountsOn (l : goal.Live-loop-triplet) : Type 0 where
   pub rest : l.count + length (storages_at (is_live_on l.topology.cluster) (drop l.triplet-index (map seen_triplet l.triplets))) ≡ length (storages_at (is_live_on l.topology.cluster) (map seen_triplet l.triplets))
   pub few : l.count ≤ l.triplet-index

@@ -6,7 +6,7 @@ use Rattle.bm_levels.proofs.Slots.{next_at, none_at}
 use Rattle.bm_finding.proofs.replicas.fill_triplets.Goals as goal
 use Rattle.bm_finding.proofs.replicas.fill_triplets.Goals.{in-Some+in_ok-push, in_default}
 
--- one more is put behind those that were put
+-- one more is appended
 one_put : {X : Type 0} (xs ys ds rest : List X) (x : X) → ds ≡ x ∷ rest → ys ≡ xs ++ x ∷ [] → ys ++ rest ≡ xs ++ ds
 one_put xs ys ds rest x here is = ap (λ zs. zs ++ rest) is ∙ append_assoc xs (x ∷ []) rest ∙ ap (λ zs. xs ++ zs) (sym here)
 

@@ -2,6 +2,6 @@ use Rattle.std.proofs.Common.{◌≡◌, ◌++◌, drop}
 use Rattle.bm_arena.specs.Holding.{replicas_at}
 use Rattle.bm_finding.proofs.replicas.fill_triplets.Given as goal
 
--- those from this place on, behind those that were put, are all
+-- those so far and the rest are all
 abbrev pub invariant-loop-place : goal.invariant-loop-place
 invariant-loop-place l = l.into.items ++ drop l.place (replicas_at l.arena l.slot) ≡ replicas_at l.arena l.slot

@@ -12,7 +12,7 @@ use Rattle.bm_finding.proofs.replicas.mark_on.Goals as goal
 use Rattle.bm_finding.proofs.replicas.mark_on.Goals.{in-Some, in_default}
 
 module _ {A : Type 0} (f : A → A) where
-  -- the entry behind those that are done
+  -- the entry after the changed ones
   next_of : (xs : List A) (i : ℕ) (x : A) → slice_get (map f (take i xs) ++ drop i xs) i ≡ Some x → slice_set (map f (take i xs) ++ drop i xs) i (f x) ≡ map f (take (suc i) xs) ++ drop (suc i) xs
   next_of [] zero x h = cc
   next_of [] (suc i) x h = cc

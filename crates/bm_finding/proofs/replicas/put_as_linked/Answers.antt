@@ -10,7 +10,7 @@ use Rattle.bm_finding.specs.Marking.{put_on}
 use Rattle.bm_finding.proofs.replicas.put_as_linked.Goals as goal
 use Rattle.bm_finding.proofs.replicas.put_as_linked.Goals.{in-Some+in_ok-insert, in_default}
 
--- one more is put
+-- one more is inserted
 one_put : (b : ℕ) (m n : Map by_replica Marks) (s : ℕ) (u v : Marks) (ds rest : List (ℕ × Marks)) → ds ≡ (s, v) ∷ rest → n ≡ insert m (replica_at b s) u → u ≡ counted_again v → put_on b n rest ≡ put_on b m ds
 one_put b m n s u v ds rest here is same = ap (λ k. put_on b k rest) (is ∙ ap (insert m (replica_at b s)) same) ∙ sym (ap (put_on b m) here)
 

@@ -6,7 +6,7 @@ use Rattle.bm_base.specs.Replicas.{is_live_on, is_drained_on}
 use Rattle.bm_finding.specs.Marking.{storages_in}
 use Rattle.bm_finding.proofs.replicas.usable_among.Given as goal
 
--- those of the replicas that are left, behind those that were found, are all
+-- those so far and those of the rest are all
 pub record Reaches (C : Cluster) (ls ds : List ℕ) (rest all : List (ReplicaId × Marks)) : Type 0 where
   pub live : ls ++ storages_in (is_live_on C) rest ≡ storages_in (is_live_on C) all
   pub drained : ds ++ storages_in (is_drained_on C) rest ≡ storages_in (is_drained_on C) all

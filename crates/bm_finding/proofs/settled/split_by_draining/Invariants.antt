@@ -2,7 +2,7 @@ use Rattle.std.proofs.Common.{◌≡◌, not, filter, take}
 use Rattle.bm_base.specs.Replicas.{is_draining}
 use Rattle.bm_finding.proofs.settled.split_by_draining.Given as goal
 
--- those that have gone, by whether their nodes drain
+-- the storages so far, split by whether their nodes drain
 pub record AreSplit (l : goal.Live-loop-storage) : Type 0 where
   pub live : l.live ≡ filter (λ s. not (is_draining l.topology.cluster s)) (take l.storage-index l.storages)
   pub drained : l.drained ≡ filter (is_draining l.topology.cluster) (take l.storage-index l.storages)

@@ -3,7 +3,7 @@ use Rattle.bm_levels.specs.Kept.{slots_at}
 use Rattle.bm_finding.specs.Visits.{keyed_at, is_told, has_enough_pending}
 use Rattle.bm_finding.proofs.slots.push_settled.Given as goal
 
--- those that are left and told, behind those that were put, come to all
+-- those so far and the passing ones of the rest are all
 abbrev pub invariant-loop-member : goal.invariant-loop-member
 invariant-loop-member l =
     let s = l.start in

@@ -4,7 +4,7 @@ use Rattle.bm_base.specs.Map.{keys}
 use Rattle.bm_listing.specs.Listed.{waits_for}
 use Rattle.bm_listing.proofs.held_back.is_held_back.Given as goal
 
--- none of those that have gone does
+-- a storage of the rest does exactly if one of all does
 abbrev pub invariant-loop-place : goal.invariant-loop-place
 invariant-loop-place l =
     list_any (waits_for l.topology.cluster l.arena l.node) (drop l.place (keys l.topology.cluster.storages)) ≡ list_any (waits_for l.topology.cluster l.arena l.node) (keys l.topology.cluster.storages)

@@ -4,7 +4,7 @@ use Rattle.bm_arena.specs.Holding.{replicas_at}
 use Rattle.bm_levels.specs.Judged.{storages_at}
 use Rattle.bm_listing.proofs.held_back.live_count.Given as goal
 
--- those that were counted and those that are left are all, and no more were counted than have gone
+-- the count so far and that of the rest are the count of all, and it is at most the index
 pub record CountsOn (l : goal.Live-loop-place) : Type 0 where
   pub rest : l.count + length (storages_at (is_live_on l.topology.cluster) (drop l.place (replicas_at l.arena l.slot))) ≡ length (storages_at (is_live_on l.topology.cluster) (replicas_at l.arena l.slot))
   pub few : l.count ≤ l.place

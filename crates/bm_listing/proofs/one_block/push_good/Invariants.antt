@@ -4,7 +4,7 @@ use Rattle.bm_arena.specs.Holding.{replicas_at}
 use Rattle.bm_levels.specs.Judged.{storages_at}
 use Rattle.bm_listing.proofs.one_block.push_good.Given as goal
 
--- what came in and what is still to come are all
+-- those so far and those of the rest are all
 abbrev pub invariant-loop-place : goal.invariant-loop-place
 invariant-loop-place l =
     l.into.items ++ storages_at (λ _ m. is_good m.tag) (drop l.place (replicas_at l.arena l.slot)) ≡ l.fn.into.items ++ storages_at (λ _ m. is_good m.tag) (replicas_at l.arena l.slot)

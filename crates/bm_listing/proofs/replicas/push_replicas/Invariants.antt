@@ -4,7 +4,7 @@ use Rattle.bm_listing.specs.Listed.{wants}
 use Rattle.bm_listing.proofs.Gathering.{those}
 use Rattle.bm_listing.proofs.replicas.push_replicas.Given as goal
 
--- what came in and what is still to come are all
+-- those so far and those of the rest are all
 abbrev pub invariant-loop-place : goal.invariant-loop-place
 invariant-loop-place l =
     l.into.items ++ those (wants l.wanted) l.block (drop l.place (replicas_at l.arena l.slot)) ≡ l.fn.into.items ++ those (wants l.wanted) l.block (replicas_at l.arena l.slot)

@@ -4,7 +4,7 @@ use Rattle.bm_place.specs.Compared.{candidate_among}
 use Rattle.bm_place.specs.Scan.{scan}
 use Rattle.bm_place.proofs.compared.first_among.Given as goal
 
--- the scan of what is left ends where the scan of all does
+-- the scan of the rest gives the result of the scan of all
 abbrev pub invariant-loop-holder : goal.invariant-loop-holder
 invariant-loop-holder l =
     let row = candidate_among l.holders in

@@ -5,8 +5,8 @@ use Rattle.bm_place.specs.declared.compared.Holder.{Holder}
 use Rattle.bm_place.specs.Compared.{holder_at}
 use Rattle.bm_place.proofs.compared.push_of_few.Given as goal
 
--- those that are left, looked up; and what is chosen, with k that are still to be chosen of them,
--- is all
+-- the remaining holders are look-ups; the chosen storages and the next k of the remaining ones are
+-- the whole
 pub record Reaches (C : Cluster) (k : ℕ) (holders : List Holder) (chosen whole : List ℕ) : Type 0 where
   pub left : List ℕ
   pub looked_up : holders ≡ map (holder_at C) left

@@ -3,6 +3,6 @@ use Rattle.bm_base.specs.Map.{empty}
 use Rattle.bm_place.specs.Foremost.{with_firsts}
 use Rattle.bm_place.proofs.foremost.firsts_of.Given as goal
 
--- what is left makes of them what all makes of none
+-- the rest, added to the table so far, gives the result of all
 abbrev pub invariant-loop-row : goal.invariant-loop-row
 invariant-loop-row l = with_firsts l.firsts.map (map (λ e. e.1) (drop l.row-index l.rows)) ≡ with_firsts empty (map (λ e. e.1) l.rows)

@@ -3,6 +3,6 @@ use Rattle.bm_place.specs.Compared.{count_among}
 use Rattle.bm_place.specs.Tables.{count_at}
 use Rattle.bm_place.proofs.pass.count_racks.Given as goal
 
--- with those that are left each rack has its count
+-- the counts so far and those of the rest are the counts of all
 abbrev pub invariant-loop-holder : goal.invariant-loop-holder
 invariant-loop-holder l = (r : ℕ) → count_at l.counts.map r + count_among (drop l.holder-index l.holders) r ≡ count_among l.holders r

@@ -5,7 +5,7 @@ use Rattle.bm_place.specs.Pass.{AreReady}
 use Rattle.bm_place.proofs.Passing.{Passes}
 use Rattle.bm_place.proofs.pass.push_rack_mates.Given as goal
 
--- those that are kept and those that are still to be passed are left
+-- the remaining storages are those that are kept and those that are still to be passed
 abbrev pub invariant-loop-holder : goal.invariant-loop-holder
 invariant-loop-holder l =
     (C : Cluster) (ss : List ℕ) → AreReady C ss l.holders l.initial.racks.map

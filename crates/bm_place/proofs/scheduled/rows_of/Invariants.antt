@@ -4,7 +4,7 @@ use Rattle.bm_place.specs.Tables.{listed}
 use Rattle.bm_place.specs.Targets.{target_at, target_table}
 use Rattle.bm_place.proofs.scheduled.rows_of.Given as goal
 
--- with the storages that are left the table is whole
+-- the table so far and the rows of the rest are the whole table
 abbrev pub invariant-loop-place : goal.invariant-loop-place
 invariant-loop-place l =
     let C = l.topology.cluster in

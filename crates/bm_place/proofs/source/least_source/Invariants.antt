@@ -4,7 +4,7 @@ use Rattle.bm_place.specs.Tables.{count_at}
 use Rattle.bm_place.specs.Scan.{scan}
 use Rattle.bm_place.proofs.source.least_source.Given as goal
 
--- the scan of what is left ends where the scan of all does
+-- the scan of the rest gives the result of the scan of all
 abbrev pub invariant-loop-storage : goal.invariant-loop-storage
 invariant-loop-storage l =
     let row = source_at l.topology.cluster (streams_by l.topology.cluster (count_at l.streams.counts)) in

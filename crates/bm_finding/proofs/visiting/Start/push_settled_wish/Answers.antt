@@ -16,7 +16,7 @@ use Rattle.bm_finding.specs.Wanting.{wish_by}
 use Rattle.bm_finding.proofs.SettledBlocks.{wish_is}
 use Rattle.bm_finding.proofs.visiting.Start.push_settled_wish.Goals as goal
 
--- what is seen of a slot that is held
+-- the replicas at an occupied slot
 replicas_there : (o : Option Block) (rs : List (ℕ × Marks)) → Some rs ≡ option_map (λ (b : Block). b.replicas) o → rs ≡ option_map_or (λ (b : Block). b.replicas) o []
 replicas_there None rs e = absurd (none-some rs (sym e))
 replicas_there (Some b) rs e = cc

@@ -50,7 +50,7 @@ is_not : (b : Bool) → not b ≡ true → false ≡ b
 is_not true e = e
 is_not false e = refl
 
--- a slot that is not unsettled is settled
+-- a slot that is not among the unsettled ones is settled
 settled_slot : (us : List ℕ) (slot : ℕ) (settled : Bool) → false ≡ has us slot → (settled ≡ false → Among slot us) → settled ≡ true
 settled_slot us slot true none there = refl
 settled_slot us slot false none there = absurd (false≢true (none ∙ among_has us slot (there refl)))

@@ -2,7 +2,7 @@ use Rattle.std.proofs.Common.{◌<◌, ℕ, zero, suc, List, [], ◌∷◌, map,
 use Rattle.bm_base.specs.SlotLists.{Among}
 use Rattle.bm_finding.proofs.visiting.Start.visit_all.Goals as goal
 
--- the slot at a place is one of them
+-- the slot at an index is one of the slots
 slot_at : (xs : List ((ℕ × ℕ) × ℕ)) (i : ℕ) (d : (ℕ × ℕ) × ℕ) → i < length xs → Among (get_or xs i d).1 (map (λ (e : (ℕ × ℕ) × ℕ). e.1) xs)
 slot_at [] i d below = absurd (omega (arith, below))
 slot_at (x ∷ xs) zero d below = inl refl

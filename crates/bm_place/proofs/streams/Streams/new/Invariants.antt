@@ -6,7 +6,7 @@ use Rattle.bm_place.specs.Tables.{listed}
 use Rattle.bm_place.specs.Sources.{sender_table}
 use Rattle.bm_place.proofs.streams.Streams.new.Given as goal
 
--- with the storages that are left the tables are whole
+-- the tables so far and the rows of the rest are the whole tables
 abbrev pub invariant-loop-place : goal.invariant-loop-place
 invariant-loop-place l =
     let C = l.topology.cluster in

@@ -10,7 +10,7 @@ use Rattle.bm_shard.specs.Changed.{HasChanged}
 use Rattle.bm_shard.proofs.Own.{by_own, none_few}
 use Rattle.bm_shard.proofs.shard.Shard.change.Goals as goal
 
--- what is to be shown of an event
+-- the goal of an event
 abbrev Changes : Cluster → Seen → Seen → Done → Event → Type 0
 Changes C old new answer e = HasChanged C (change_cluster C e) old new (change_part C old.holdings old.part.index old.part.shards e) answer
 

@@ -23,7 +23,7 @@ returns-then-not-owns-clause-done c = (left_alone c.args.topology.now.cluster c.
 pub returns-then-not-owns-clause-standing : goal.returns-then-not-owns-clause-standing
 returns-then-not-owns-clause-standing c = (left_alone c.args.topology.now.cluster c.args.event.now c.args.self.now c.abort.new.self (sym c.owns.ensures ∙ c.if-not-owns.true) c.requires.standing c.abort.ensures.same).2
 
--- an event for which something was made ready
+-- an event with a reservation
 
 pub returns-then-takes_room-clause-standing : goal.returns-then-takes_room-clause-standing
 returns-then-takes_room-clause-standing c =
@@ -35,7 +35,7 @@ returns-then-takes_room-clause-standing c =
       placed = subst (λ H. IsPlaced D H) (sym c.change.ensures.changed.holdings) (event_keeps_placed C old.holdings c.args.event.now old.part.index old.part.shards c.lawful.ensures c.requires.cluster c.requires.standing.placed);
     }
 
--- another one, after what was prepared is given up
+-- an event without one, after what was reserved is given up
 
 pub change-requires-2 : goal.change-requires-2
 change-requires-2 c =

@@ -33,7 +33,7 @@ insert_own-requires-clause-room c b =
     let Q : List Transfer → Type 0 = λ ts. length (filter (λ t. t.block == b) (own_transfers c.self.inside.part.index c.self.inside.part.shards ts)) ≤ room c.self.inside.pending b in
     omega (arith, subst Q (sym c.as_slice-3.ensures) (ready b), c.drop_expired.ensures.rooms b)
 
--- of a round that is a shard's own, what it leaves
+-- the holdings after a round, of the shard's own blocks
 abbrev left_of : (c : goal.After-self-2-1) → Seen → Holdings
 left_of c S = round_on_part c.args.topology.now.cluster S.pend (S.round + 1) S.holdings S.part.index S.part.shards c.args.chosen.now.transfers c.args.chosen.now.deletes
 

@@ -1,4 +1,4 @@
--- A handle may cross to another thread, as the box may that it stands for.
+-- A handle may move to another thread, as the box that it represents may.
 use mir.Raw.{raw}
 use base.Shift.{Keyless}
 use denote.Memory.{lone}

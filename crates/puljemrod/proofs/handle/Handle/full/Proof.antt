@@ -1,4 +1,4 @@
--- `full` moves two fields, the pointer as one to bytes, and what they own goes with them.
+-- `full` moves two fields, the pointer as one to bytes, with all that they own.
 use mathlib.Core.Path.{refl, sym, subst}
 use mathlib.Core.List.{List, [], ◌∷◌, ◌++◌}
 use Rattle.std.proofs.Common.{Some}

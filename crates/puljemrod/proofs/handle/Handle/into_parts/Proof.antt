@@ -1,4 +1,4 @@
--- `into_parts` moves two fields of a full handle, and what they own goes with them.
+-- `into_parts` moves two fields of a full handle, with all that they own.
 use mathlib.Core.Path.{refl, sym, subst}
 use mathlib.Core.List.{List, [], ◌∷◌, ◌++◌}
 use Rattle.std.proofs.Common.{◌≡◌, Option, Some}
