@@ -165,7 +165,7 @@ uint32_t puljemrod_register(puljemrod *handle, uint32_t node, uint32_t rack,
                             const uint32_t *storages, size_t storage_count);
 uint32_t puljemrod_dead(puljemrod *handle, uint32_t node);
 uint32_t puljemrod_storage_failed(puljemrod *handle, uint32_t storage);
-/* A DataNode is to be taken away, and is not to be taken away after all. */
+/* A DataNode is to be decommissioned, and is not to be decommissioned after all. */
 uint32_t puljemrod_drain(puljemrod *handle, uint32_t node);
 uint32_t puljemrod_undrain(puljemrod *handle, uint32_t node);
 /* The last item of a storage counts. */
@@ -211,7 +211,7 @@ enum { PULJEMROD_NO_LEVEL = 5 };
 
 /* How urgently a block wants replicas: its queue, 0 to 4, or PULJEMROD_NO_LEVEL. */
 uint32_t puljemrod_level(puljemrod *handle, uint64_t id, uint64_t *level);
-/* Whether a DataNode can be taken away: 1 or 0. */
+/* Whether a DataNode is decommissioned and can be taken away: 1 or 0. */
 uint32_t puljemrod_retired(puljemrod *handle, uint32_t node, uint64_t *is_retired);
 /* The number of accepted events and rounds, and the number of the last round. No line asks for
  * these: their text is empty. */
