@@ -60,9 +60,6 @@ module _ (a : Contents) (slot s : ℕ) (m : Marks) where
       let before : find_marks b.replicas s ≡ None = sym (ap (λ o. option_and_then (λ (c : Block). find_marks c.replicas s) o) is) ∙ none in
       ap (λ o. option_and_then (λ (c : Block). find_marks c.replicas s) o) after ∙ found_last b.replicas before
 
-  pub marks_at-linked_slot : (other q : ℕ) → other ≢ slot → marks_at (linked_front a slot s m) other q ≡ marks_at a other q
-  marks_at-linked_slot other q differs = ap (λ o. option_and_then (λ (c : Block). find_marks c.replicas q) o) (get_or-set_other a.blocks slot other _ None differs)
-
 -- the list after a slot was moved to its head
 pub list_of-moved_front : (a : Contents) (slot s : ℕ) → HasHead a s → list_of (moved_front a slot s) s ≡ slot ∷ without slot (list_of a s)
 list_of-moved_front a slot s head = list_of-with_list a s (slot ∷ without slot (list_of a s)) head

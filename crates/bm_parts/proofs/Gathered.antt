@@ -7,9 +7,8 @@ use Rattle.std.specs.FinMap.{find}
 use Rattle.std.specs.List.{list_any}
 use Rattle.bm_base.specs.Map.{Map, Order, get, entries}
 use Rattle.bm_base.specs.OfSorted.{of_sorted}
-use Rattle.bm_base.proofs.OfSorted.{entries-of_sorted}
+use Rattle.bm_base.proofs.OfSorted.{entries-of_sorted, get-of_sorted}
 use Rattle.bm_base.proofs.MapLaws.{same_map}
-use Rattle.bm_base.proofs.SortedLaws.{get-of_sorted}
 use Rattle.bm_base.proofs.Options.{there}
 use Rattle.bm_base.proofs.Each.{Each, each_all}
 use Rattle.bm_base.proofs.Maps.{same_key}

@@ -5,7 +5,6 @@
 ghost use Rattle.std.specs.Prelude.{◌≡◌, All};
 ghost use Rattle.bm_view.specs.Holders.{IsNewAt};
 
-use crate::dice::Dice;
 use crate::drawing;
 use crate::pair::{Pair, Run};
 use crate::readers::{Home, List, Notice, Reads, make_notice, read_both};
@@ -14,6 +13,7 @@ use bm_crew::NoGate;
 use bm_manager::Manager;
 use bm_view::{Located, Locator, Publisher, open_view};
 use crossbeam_channel::{Receiver, Sender, unbounded};
+use rand_pcg::Pcg32;
 use std::alloc::{AllocError, Global};
 use std::marker::Brand;
 use std::sync::Wait;
@@ -67,8 +67,8 @@ fn read_list<R: Threads + Wait + Sync>(
     alloc: Global,
     run: &mut Run<'_>,
 ) -> Result<Reads, Refusal> {
-    let block = drawing::block(&mut run.dice);
-    let located = locate_after_each(rt, alloc, run.dice, block)?;
+    let block = drawing::block(&mut run.rng);
+    let located = locate_after_each(rt, alloc, run.rng.clone()?, block)?;
     let list = List { block, located };
     let mut pair = Pair::new(alloc, config(SHARDS, WORKERS))?;
     let reads = read_pair(rt, alloc, &mut pair, run, &list);
@@ -92,12 +92,12 @@ fn config(shards: u32, workers: u32) -> Config {
 fn locate_after_each<R: Threads + Wait + Sync>(
     rt: &R,
     alloc: Global,
-    dice: Dice,
+    rng: Pcg32,
     block: BlockId,
 ) -> Result<Vec<Located>, Refusal> {
     let mut manager = Manager::new(alloc, config(1, 1))?;
     let mut located = Vec::new(alloc);
-    let kept = locate_each(rt, alloc, &mut manager, dice, block, &mut located);
+    let kept = locate_each(rt, alloc, &mut manager, rng, block, &mut located);
     drop(manager);
     kept?;
     Ok(located)
@@ -107,14 +107,14 @@ fn locate_each<R: Threads + Wait + Sync>(
     rt: &R,
     alloc: Global,
     manager: &mut Manager,
-    dice: Dice,
+    rng: Pcg32,
     block: BlockId,
     located: &mut Vec<Located>,
 ) -> Result<(), AllocError> {
-    let mut dice = dice;
+    let mut rng = rng;
     located.push(locate_in(manager, block))?;
     for _ in 0..LIST {
-        make_next(rt, alloc, manager, &mut dice)?;
+        make_next(rt, alloc, manager, &mut rng)?;
         located.push(locate_in(manager, block))?;
     }
     Ok(())
@@ -125,9 +125,9 @@ fn make_next<R: Threads + Wait + Sync>(
     rt: &R,
     alloc: Global,
     manager: &mut Manager,
-    dice: &mut Dice,
+    rng: &mut Pcg32,
 ) -> Result<(), AllocError> {
-    let call = drawing::call(dice, alloc)?;
+    let call = drawing::call(rng, alloc)?;
     drop(manager.answer(rt, &NoGate, &call));
     drop(call);
     Ok(())

@@ -1,8 +1,9 @@
 // Calls that are drawn: of all kinds, on so few nodes, storages and blocks that most of them hit something.
 ghost use Rattle.std.specs.Prelude.{◌<◌};
 
-use crate::dice::Dice;
 use bm_base::{BlockId, Call, Entry, Event, Gen, Items, NodeId, Rack, Remaining, Stamp, StorageId};
+use rand::RngExt;
+use rand_pcg::Pcg32;
 use std::alloc::{AllocError, Global};
 
 /// Nodes 1 to 6, on racks 0 to 2.
@@ -17,109 +18,109 @@ const STORAGES_OF_A_NODE: u32 = 2;
 const BLOCKS: u32 = 30;
 
 /// A round, a question or an event.
-pub fn call(dice: &mut Dice, alloc: Global) -> Result<Call, AllocError> {
-    match dice.below(10) {
+pub fn call(rng: &mut Pcg32, alloc: Global) -> Result<Call, AllocError> {
+    match rng.random_range(0..10u32) {
         0 => Ok(Call::Round),
-        1 => Ok(question(dice)),
-        _ => Ok(Call::Apply(event(dice, alloc)?)),
+        1 => Ok(question(rng)),
+        _ => Ok(Call::Apply(event(rng, alloc)?)),
     }
 }
 
-fn question(dice: &mut Dice) -> Call {
-    match dice.below(10) {
+fn question(rng: &mut Pcg32) -> Call {
+    match rng.random_range(0..10u32) {
         0 => Call::Replicas,
         1 => Call::Corrupt,
         2 => Call::Excess,
         3 => Call::Missing,
-        4 => Call::BlocksOn(storage(dice)),
-        5 => Call::Places(block(dice)),
-        6 => Call::LevelOf(block(dice)),
-        7 => Call::Retired(node(dice)),
+        4 => Call::BlocksOn(storage(rng)),
+        5 => Call::Places(block(rng)),
+        6 => Call::LevelOf(block(rng)),
+        7 => Call::Retired(node(rng)),
         8 => Call::Calls,
         _ => Call::Rounds,
     }
 }
 
 /// An event: those that bring nodes, blocks and replicas more often than the others.
-fn event(dice: &mut Dice, alloc: Global) -> Result<Event, AllocError> {
-    match dice.below(40) {
-        0..=5 => register(dice, alloc),
-        6..=8 => heartbeat(dice, alloc),
-        9..=10 => report(dice, alloc),
-        11 => Ok(Event::Dead { node: node(dice) }),
+fn event(rng: &mut Pcg32, alloc: Global) -> Result<Event, AllocError> {
+    match rng.random_range(0..40u32) {
+        0..=5 => register(rng, alloc),
+        6..=8 => heartbeat(rng, alloc),
+        9..=10 => report(rng, alloc),
+        11 => Ok(Event::Dead { node: node(rng) }),
         12 => Ok(Event::StorageFailed {
-            storage: storage(dice),
+            storage: storage(rng),
         }),
-        13 => Ok(Event::Drain { node: node(dice) }),
-        14 => Ok(Event::Undrain { node: node(dice) }),
-        _ => Ok(block_event(dice)),
+        13 => Ok(Event::Drain { node: node(rng) }),
+        14 => Ok(Event::Undrain { node: node(rng) }),
+        _ => Ok(block_event(rng)),
     }
 }
 
 /// An event on one block.
-fn block_event(dice: &mut Dice) -> Event {
-    let id = block(dice);
-    match dice.below(20) {
+fn block_event(rng: &mut Pcg32) -> Event {
+    let id = block(rng);
+    match rng.random_range(0..20u32) {
         0..=4 => Event::AddBlock {
             id,
-            stamp: stamp(dice),
-            repl: dice.below(5),
+            stamp: stamp(rng),
+            repl: rng.random_range(0..5),
         },
         5 => Event::DeleteBlock { id },
         6..=7 => Event::SetReplication {
             id,
-            repl: dice.below(5),
+            repl: rng.random_range(0..5),
         },
         8..=9 => Event::Restamp {
             id,
-            stamp: of_generation(dice.below(4)),
+            stamp: of_generation(rng.random_range(0..4)),
         },
         10..=11 => Event::Deleted {
-            storage: storage(dice),
+            storage: storage(rng),
             id,
         },
         12 => Event::Corrupt {
-            storage: storage(dice),
+            storage: storage(rng),
             id,
         },
         _ => Event::Received {
-            storage: storage(dice),
+            storage: storage(rng),
             id,
-            stamp: stamp(dice),
+            stamp: stamp(rng),
         },
     }
 }
 
 /// A node with its two storages, or, once in four times, with one of another node beside them.
-fn register(dice: &mut Dice, alloc: Global) -> Result<Event, AllocError> {
-    let node = node(dice);
+fn register(rng: &mut Pcg32, alloc: Global) -> Result<Event, AllocError> {
+    let node = node(rng);
     let mut storages = Vec::new(alloc);
     for place in 0..STORAGES_OF_A_NODE {
         storages.push(storage_of(node, place))?;
     }
-    if dice.below(4) == 0 {
-        storages.push(storage(dice))?;
+    if rng.random_range(0..4u32) == 0 {
+        storages.push(storage(rng))?;
     }
     Ok(Event::Register {
         node,
-        rack: Rack(dice.below(RACKS)),
+        rack: Rack(rng.random_range(0..RACKS)),
         storages: Items::from_vec(storages),
     })
 }
 
 /// The remaining bytes of one storage of a node, or, once in four times, of any other.
-fn heartbeat(dice: &mut Dice, alloc: Global) -> Result<Event, AllocError> {
-    let node = node(dice);
-    let own = storage_of(node, dice.below(STORAGES_OF_A_NODE));
-    let storage = if dice.below(4) == 0 {
-        storage(dice)
+fn heartbeat(rng: &mut Pcg32, alloc: Global) -> Result<Event, AllocError> {
+    let node = node(rng);
+    let own = storage_of(node, rng.random_range(0..STORAGES_OF_A_NODE));
+    let storage = if rng.random_range(0..4u32) == 0 {
+        storage(rng)
     } else {
         own
     };
     let mut remaining = Vec::new(alloc);
     remaining.push(Remaining {
         storage,
-        remaining: u64::from(dice.below(100)),
+        remaining: u64::from(rng.random_range(0..100u32)),
     })?;
     Ok(Event::Heartbeat {
         node,
@@ -128,15 +129,15 @@ fn heartbeat(dice: &mut Dice, alloc: Global) -> Result<Event, AllocError> {
 }
 
 /// A report of up to four runs of up to eight blocks.
-fn report(dice: &mut Dice, alloc: Global) -> Result<Event, AllocError> {
-    let storage = storage(dice);
+fn report(rng: &mut Pcg32, alloc: Global) -> Result<Event, AllocError> {
+    let storage = storage(rng);
     let mut entries = Vec::new(alloc);
-    for _ in 0..dice.below(5) {
-        let from = block(dice);
+    for _ in 0..rng.random_range(0..5u32) {
+        let from = block(rng);
         entries.push(Entry {
             from,
-            to: BlockId(from.0.saturating_add(u64::from(dice.below(8)))),
-            stamp: stamp(dice),
+            to: BlockId(from.0.saturating_add(u64::from(rng.random_range(0..8u32)))),
+            stamp: stamp(rng),
         })?;
     }
     Ok(Event::FullReport {
@@ -145,13 +146,13 @@ fn report(dice: &mut Dice, alloc: Global) -> Result<Event, AllocError> {
     })
 }
 
-fn node(dice: &mut Dice) -> NodeId {
-    NodeId(dice.below(NODES).wrapping_add(1))
+fn node(rng: &mut Pcg32) -> NodeId {
+    NodeId(rng.random_range(0..NODES).wrapping_add(1))
 }
 
-fn storage(dice: &mut Dice) -> StorageId {
-    let node = node(dice);
-    storage_of(node, dice.below(STORAGES_OF_A_NODE))
+fn storage(rng: &mut Pcg32) -> StorageId {
+    let node = node(rng);
+    storage_of(node, rng.random_range(0..STORAGES_OF_A_NODE))
 }
 
 fn storage_of(node: NodeId, place: u32) -> StorageId {
@@ -159,13 +160,13 @@ fn storage_of(node: NodeId, place: u32) -> StorageId {
 }
 
 /// Any of the blocks.
-pub fn block(dice: &mut Dice) -> BlockId {
-    BlockId(u64::from(dice.below(BLOCKS)))
+pub fn block(rng: &mut Pcg32) -> BlockId {
+    BlockId(u64::from(rng.random_range(0..BLOCKS)))
 }
 
 /// Mostly of the first generation.
-fn stamp(dice: &mut Dice) -> Stamp {
-    of_generation(u32::from(dice.below(6) == 0))
+fn stamp(rng: &mut Pcg32) -> Stamp {
+    of_generation(u32::from(rng.random_range(0..6u32) == 0))
 }
 
 /// So many generations after the first.

@@ -16,7 +16,6 @@
 mod alike;
 mod beside;
 mod counts;
-mod dice;
 mod drawing;
 mod pair;
 mod readers;

@@ -2,11 +2,12 @@
 
 use crate::alike::are_alike;
 use crate::counts::Counts;
-use crate::dice::Dice;
 use crate::drawing;
 use bm_base::{Answer, Call, Config, HashSecret, Refusal};
 use bm_crew::NoGate;
 use bm_manager::Manager;
+use rand::{RngExt, SeedableRng};
+use rand_pcg::Pcg32;
 use std::alloc::{AllocError, Global};
 use std::sync::Wait;
 use std::thread::Threads;
@@ -15,10 +16,10 @@ use std::thread::Threads;
 pub const LIST: u32 = 2000;
 
 /// What calls are drawn from, what happened in them, and where differences are printed.
-#[derive(Clone, Copy)]
+#[derive(Drop)]
 pub struct Run<'a> {
     pub host: &'a HostRuntime,
-    pub dice: Dice,
+    pub rng: Pcg32,
     pub counts: Counts,
 }
 
@@ -26,7 +27,7 @@ impl<'a> Run<'a> {
     pub fn new(host: &'a HostRuntime, seed: u64) -> Run<'a> {
         Run {
             host,
-            dice: Dice::new(seed),
+            rng: Pcg32::seed_from_u64(seed),
             counts: Counts::new(),
         }
     }
@@ -58,7 +59,7 @@ fn is_list_alike<R: Threads + Wait + Sync>(
     run: &mut Run<'_>,
     count: u32,
 ) -> Result<bool, Refusal> {
-    let mut pair = Pair::new(alloc, draw_config(&mut run.dice))?;
+    let mut pair = Pair::new(alloc, draw_config(&mut run.rng))?;
     let is_alike = pair.are_alike(rt, alloc, run, count);
     drop(pair);
     Ok(is_alike?)
@@ -66,12 +67,12 @@ fn is_list_alike<R: Threads + Wait + Sync>(
 
 /// Any numbers of shards and workers; rounds with few commands, and copies that are soon given up, so that the limits of both
 /// are met.
-fn draw_config(dice: &mut Dice) -> Config {
-    let shards = 1 + dice.below(64);
-    let workers = 1 + dice.below(16);
-    let work = 1 + dice.below(3);
-    let invalidate = 1 + dice.below(5);
-    let pend = 1 + dice.below(5);
+fn draw_config(rng: &mut Pcg32) -> Config {
+    let shards = 1 + rng.random_range(0..64);
+    let workers = 1 + rng.random_range(0..16);
+    let work = 1 + rng.random_range(0..3);
+    let invalidate = 1 + rng.random_range(0..5);
+    let pend = 1 + rng.random_range(0..5);
     Config {
         shards,
         workers,
@@ -135,7 +136,7 @@ impl Pair {
         run: &mut Run<'_>,
         number: u32,
     ) -> Result<bool, AllocError> {
-        let call = drawing::call(&mut run.dice, alloc)?;
+        let call = drawing::call(&mut run.rng, alloc)?;
         let is_alike = self.is_answered_alike(rt, run, number, &call);
         drop(call);
         Ok(is_alike)
