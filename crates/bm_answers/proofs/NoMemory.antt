@@ -9,10 +9,10 @@ use Rattle.bm_base.specs.declared.call.Answer.{Answer}
 use Rattle.bm_base.specs.declared.call.Answer.TheVariants as answer
 use Rattle.bm_base.specs.declared.refusal.Refusal.{Refusal}
 use Rattle.bm_base.specs.declared.refusal.Refusal.TheVariants as refusal
-use Rattle.bm_base.specs.State.{Cluster, Holdings, State}
-use Rattle.bm_base.specs.Refusals.{first_of, ◌when◌, ◌before◌, knows_node, knows_storage, knows_block, last_number, cluster_checks, block_checks, calls_spent, refusal_of, round_refusal, node_refusal, storage_refusal, block_refusal}
-use Rattle.bm_base.specs.Calls.{step, refused_or}
-use Rattle.bm_base.specs.Answering.{wants_memory, MayAnswer, may_lack_memory}
+use Rattle.bm_base.specs.Machine.State.{Cluster, Holdings, State}
+use Rattle.bm_base.specs.Machine.Refusals.{first_of, ◌when◌, ◌before◌, knows_node, knows_storage, knows_block, last_number, cluster_checks, block_checks, calls_spent, refusal_of, round_refusal, node_refusal, storage_refusal, block_refusal}
+use Rattle.bm_base.specs.Machine.Calls.{step, refused_or}
+use Rattle.bm_base.specs.Machine.Answering.{wants_memory, MayAnswer, may_lack_memory}
 
 abbrev IsOther : Option Refusal → Type 0
 IsOther None = Unit {0}

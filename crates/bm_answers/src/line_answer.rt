@@ -1,6 +1,6 @@
 // The answer to what a line asks.
 ghost use Rattle.std.specs.Prelude.{◌≡◌, IfOk, OnOk, OnErr, IsTrue, string_bytes, true, false};
-ghost use Rattle.bm_base.specs.Answering.{wants_memory};
+ghost use Rattle.bm_base.specs.Machine.Answering.{wants_memory};
 ghost use Rattle.bm_answers.specs.declared.line_answer.LineAnswer.TheVariants.{Answered};
 ghost use Rattle.bm_answers.specs.OneLine.{answer_to, asked_next, asked_may_lack, text_of, is_refusal, number_of};
 

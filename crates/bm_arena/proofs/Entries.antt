@@ -11,8 +11,8 @@ use Rattle.slab.specs.Slab.{Slab, get, Updates}
 use Rattle.bm_arena.specs.declared.types.Entry.{Entry}
 use Rattle.bm_arena.specs.declared.types.TheConstants.{TRIPLETS_IN_PLACE}
 use Rattle.bm_arena.specs.Triplets.{Block, find_triplet, triplet_at, links_of, seen_slots, seen_entry}
-use Rattle.bm_base.specs.SlotLists.{Distinct}
-use Rattle.bm_base.specs.SlotLinks.{end_of_links}
+use Rattle.bm_maps.specs.SlotLists.{Distinct}
+use Rattle.bm_maps.specs.SlotLinks.{end_of_links}
 use Rattle.bm_arena.specs.Contents.{IsAdded, empty_block}
 use Rattle.bm_arena.specs.Inside.{list_from, lists_from, storages_of, IsSound, IsArena}
 use Rattle.bm_arena.proofs.Triplets.{read}

@@ -11,7 +11,7 @@ use Rattle.std.proofs.Math.ListN.{get_or-map}
 use Rattle.indexmap.specs.IndexMap.{swap_remove_entry}
 use Rattle.slab.specs.Slab.{Slab}
 use Rattle.bm_arena.specs.declared.types.Entry.{Entry}
-use Rattle.bm_base.specs.SlotLists.{Among}
+use Rattle.bm_maps.specs.SlotLists.{Among}
 use Rattle.bm_arena.specs.Inside.{list_from, lists_from, IsArena}
 use Rattle.bm_arena.proofs.Seeing.{lookup-lists_from}
 

@@ -10,9 +10,9 @@ use Rattle.slab.specs.Slab.{Slab}
 use Rattle.bm_arena.specs.declared.types.Entry.{Entry}
 use Rattle.bm_arena.specs.declared.types.Triplet.{Triplet}
 use Rattle.bm_arena.specs.Triplets.{triplet_at, links_of, seen_slots}
-use Rattle.bm_base.specs.SlotLists.{Among, Distinct}
+use Rattle.bm_maps.specs.SlotLists.{Among, Distinct}
 use Rattle.bm_arena.specs.Lists.{Chain}
-use Rattle.bm_base.specs.SlotLists.{slot_after, first_of}
+use Rattle.bm_maps.specs.SlotLists.{slot_after, first_of}
 use Rattle.bm_arena.specs.Contents.{IsLawful, before_in, slot_before}
 use Rattle.bm_arena.specs.Inside.{list_from, lists_from, IsSound, IsBoundedArena}
 use Rattle.bm_arena.proofs.Sound.{Chain-member}

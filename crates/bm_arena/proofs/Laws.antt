@@ -10,7 +10,7 @@ use Rattle.std.proofs.lemmas.List.{get_or-set_other}
 use Rattle.bm_base.specs.declared.replica.Marks.{Marks}
 use Rattle.bm_arena.specs.declared.types.Triplet.{Triplet}
 use Rattle.bm_arena.specs.Triplets.{Block, change_block, find_triplet, fill_first, is_of, seen_triplet}
-use Rattle.bm_base.specs.SlotLists.{Among, Distinct, without}
+use Rattle.bm_maps.specs.SlotLists.{Among, Distinct, without}
 use Rattle.bm_arena.specs.Contents.{Contents, block_at, list_of, HasHead, marks_at, find_marks, with_list, with_replica, without_replica, linked_front, unlinked, moved_front, HasRoom, IsLawful, KeepsOthers, known_of, room_at}
 use Rattle.bm_arena.proofs.Replicas.{keys, map-fill_first, find_marks-seen, found-fill_first_here, found-fill_first_other}
 use Rattle.bm_arena.proofs.Triplets.{get_or-set_here}

@@ -13,11 +13,11 @@ use Rattle.bm_arena.specs.declared.types.Entry.{Entry}
 use Rattle.bm_arena.specs.declared.types.Triplet.{Triplet}
 use Rattle.bm_base.specs.declared.replica.Marks.{Marks}
 use Rattle.bm_arena.specs.Triplets.{Block, find_triplet, triplet_at, links_of, seen_slots, seen_entry, change_block, added, removed, previous_set, detached, fill_first, is_of, with_triplets, change_at, as_first, first_after}
-use Rattle.bm_base.specs.SlotLists.{Among, Distinct, without}
+use Rattle.bm_maps.specs.SlotLists.{Among, Distinct, without}
 use Rattle.bm_arena.specs.Lists.{IsList}
 use Rattle.bm_arena.specs.Contents.{Contents, with_replica, without_replica, linked_front, unlinked, moved_front, count_up}
 use Rattle.bm_arena.specs.Inside.{list_from, lists_from, storages_of, IsSound}
-use Rattle.bm_base.proofs.SlotLists.{Among-without_other, without-gone}
+use Rattle.bm_maps.proofs.SlotLists.{Among-without_other, without-gone}
 use Rattle.bm_arena.proofs.Lists.{next-apart, previous-apart}
 use Rattle.bm_arena.proofs.Triplets.{read, triplet_at-elsewhere, triplet_at-kept, triplet_at-change_same, triplet_at-change_storage, get-at_slot, length-at_slot, length-change, seen-change}
 use Rattle.bm_arena.proofs.Replicas.{seen-added, seen-removed, keys, none-absent, found-push_here, found-push_other, found-fill_first_here, found-fill_first_other, Distinct-push, Distinct-fill_first, map-fill_first}

@@ -13,11 +13,11 @@ use Rattle.bm_arena.specs.declared.types.Entry.{Entry}
 use Rattle.bm_arena.specs.declared.types.Triplet.{Triplet}
 use Rattle.bm_base.specs.declared.replica.Marks.{Marks}
 use Rattle.bm_arena.specs.Triplets.{Block, find_triplet, triplet_at, links_of, seen_slots, seen_entry, seen_triplet, at_slot, with_capacity, capacity_at, change_block}
-use Rattle.bm_base.specs.SlotLists.{Among, Distinct, without}
+use Rattle.bm_maps.specs.SlotLists.{Among, Distinct, without}
 use Rattle.bm_arena.specs.Lists.{walk, Chain}
 use Rattle.bm_arena.specs.Contents.{Contents, with_room, room_at}
 use Rattle.bm_arena.specs.Inside.{list_from, lists_from, storages_of, IsSound, IsArena}
-use Rattle.bm_base.proofs.SlotLists.{length-distinct_below, length-without, Among-without_other}
+use Rattle.bm_maps.proofs.SlotLists.{length-distinct_below, length-without, Among-without_other}
 use Rattle.bm_arena.proofs.Lists.{walk-chain}
 use Rattle.bm_arena.proofs.Triplets.{read}
 use Rattle.bm_arena.proofs.Replicas.{keys, none-absent}

@@ -14,7 +14,7 @@ use Rattle.bm_base.specs.declared.replica.Marks.{Marks}
 use Rattle.bm_base.specs.declared.replica.BlockInfo.{BlockInfo}
 use Rattle.bm_arena.specs.Contents.{with_info, with_room, with_marks, change_marks}
 use Rattle.bm_arena.specs.Triplets.{with_capacity, with_triplet_marks, seen_triplet, Block, find_triplet, triplet_at, links_of, seen_slots, seen_entry, at_slot, change_block, change_at, change_triplet, with_triplets}
-use Rattle.bm_base.specs.SlotLists.{Distinct}
+use Rattle.bm_maps.specs.SlotLists.{Distinct}
 use Rattle.bm_arena.specs.Lists.{Chain, IsList}
 use Rattle.bm_arena.specs.Inside.{list_from, lists_from, storages_of, IsSound, IsArena}
 use Rattle.bm_arena.proofs.Triplets.{find_triplet-change_same, find_triplet-change_other, read, get-at_slot, get_or-set_here, triplet_at-elsewhere, seen-at_slot}

@@ -12,7 +12,7 @@ use Rattle.bm_arena.specs.declared.types.Entry.{Entry}
 use Rattle.bm_arena.specs.declared.types.Triplet.{Triplet}
 use Rattle.bm_base.specs.declared.replica.Marks.{Marks}
 use Rattle.bm_arena.specs.Triplets.{Block, triplet_at, seen_slots, seen_entry, seen_triplet, change_block}
-use Rattle.bm_base.specs.SlotLists.{Distinct}
+use Rattle.bm_maps.specs.SlotLists.{Distinct}
 use Rattle.bm_arena.specs.Contents.{find_marks}
 use Rattle.bm_arena.specs.Inside.{list_from, lists_from, storages_of}
 use Rattle.bm_arena.proofs.Triplets.{read, get_or-set_here}

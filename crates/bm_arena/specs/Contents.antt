@@ -10,7 +10,7 @@ use Rattle.bm_base.specs.declared.replica.Tag.TheVariants.{Good}
 use Rattle.bm_base.specs.declared.replica.BlockInfo.{BlockInfo}
 use Rattle.bm_arena.specs.declared.types.TheConstants.{TRIPLETS_IN_PLACE}
 use Rattle.bm_arena.specs.Triplets.{Block, change_block, fill_first}
-use Rattle.bm_base.specs.SlotLists.{Among, Distinct, without}
+use Rattle.bm_maps.specs.SlotLists.{Among, Distinct, without}
 
 -- The block, if there is one, at each slot; each block's number with its slot; each storage with a
 -- head, and the slots of its list in order. `delimiter` is the slot that marks a position in a

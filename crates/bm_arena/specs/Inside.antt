@@ -5,9 +5,9 @@ use Rattle.std.specs.List.{IsDistinct}
 use Rattle.slab.specs.Slab.{Slab, get}
 use Rattle.bm_arena.specs.declared.types.Entry.{Entry}
 use Rattle.bm_arena.specs.declared.types.Triplet.{Triplet}
-use Rattle.bm_base.specs.SlotLinks.{end_of_links}
+use Rattle.bm_maps.specs.SlotLinks.{end_of_links}
 use Rattle.bm_arena.specs.Triplets.{Block, links_of, seen_slots, triplet_at}
-use Rattle.bm_base.specs.SlotLists.{Among, Distinct}
+use Rattle.bm_maps.specs.SlotLists.{Among, Distinct}
 use Rattle.bm_arena.specs.Lists.{walk, IsList}
 
 -- the slots met from `first` on by the next links of a storage

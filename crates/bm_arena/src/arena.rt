@@ -1,14 +1,15 @@
 // The arena: its fields, what a contract sees of them, and its constructors.
 ghost use Rattle.std.specs.Prelude.{◌≡◌, ◌≢◌, ◌+◌, ℕ, None, Some, [], IfOk, IfErr};
 ghost use Rattle.bm_base.specs.declared.refusal.Refusal.TheVariants.{Memory};
-ghost use Rattle.bm_base.specs.Map.{empty};
+ghost use Rattle.bm_base.specs.Maps.Map.{empty};
 ghost use Rattle.bm_arena.specs.Contents.{block_at, empty_block, count_up, IsLawful};
 ghost use Rattle.bm_arena.specs.Holding.{replicas_of, blocks_of};
 
 use crate::numbers::Numbers;
 use crate::types::Entry;
 use crate::usual_slots::UsualSlots;
-use bm_base::{HashSecret, Refusal, SlotLink};
+use bm_base::{HashSecret, Refusal};
+use bm_maps::SlotLink;
 use indexmap::IndexMap;
 use slab::Slab;
 use smallvec::SmallVec;

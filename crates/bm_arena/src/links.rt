@@ -6,12 +6,13 @@ ghost use Rattle.std.specs.Option.{option_map, option_and_then};
 ghost use Rattle.slab.specs.Slab.{get};
 ghost use Rattle.bm_arena.specs.declared.types.Entry.{Entry};
 ghost use Rattle.smallvec.specs.SmallVec.{HasRoomFor};
-ghost use Rattle.bm_base.specs.SlotLinks.{end_of_links};
-ghost use Rattle.bm_base.specs.SlotLists.{Distinct};
+ghost use Rattle.bm_maps.specs.SlotLinks.{end_of_links};
+ghost use Rattle.bm_maps.specs.SlotLists.{Distinct};
 ghost use Rattle.bm_arena.specs.Triplets.{seen_triplet, with_capacity, capacity_at, at_slot, added, removed, fill_first, is_of, as_first, first_after, previous_set, detached, find_triplet, change_triplet, storages_in, with_previous, with_next, with_triplet_marks, triplet_at, change_at};
 
 use crate::types::{Entry, TRIPLETS_IN_PLACE, Triplet};
-use bm_base::{BlockInfo, Marks, NO_LINK, SlotLink, StorageId};
+use bm_base::{BlockInfo, Marks, StorageId};
+use bm_maps::{NO_LINK, SlotLink};
 use slab::Slab;
 use smallvec::SmallVec;
 use std::alloc::AllocError;

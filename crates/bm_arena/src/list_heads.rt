@@ -4,7 +4,8 @@ ghost use Rattle.std.specs.Option.{option_map};
 ghost use Rattle.std.specs.Map.{lookup, set_value, keys_of};
 ghost use Rattle.std.specs.List.{IsDistinct};
 
-use bm_base::{HashSecret, SlotLink};
+use bm_base::HashSecret;
+use bm_maps::SlotLink;
 use indexmap::IndexMap;
 
 // The head of a storage's list: the first slot, and the index of the head.

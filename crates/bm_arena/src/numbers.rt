@@ -6,10 +6,11 @@ ghost use Rattle.std.specs.Option.{option_map};
 ghost use Rattle.slab.specs.Slab.{HasRoomFor};
 ghost use Rattle.indexmap.specs.IndexMap.{insert_entry, swap_remove_entry};
 ghost use Rattle.bm_base.specs.declared.refusal.Refusal.TheVariants.{Memory};
-ghost use Rattle.bm_base.specs.SlotLinks.{end_of_links};
+ghost use Rattle.bm_maps.specs.SlotLinks.{end_of_links};
 
 use crate::types::Entry;
-use bm_base::{HashSecret, Refusal, fits_link};
+use bm_base::{HashSecret, Refusal};
+use bm_maps::fits_link;
 use indexmap::{IndexMap, map};
 use slab::Slab;
 use std::alloc::Global;

@@ -4,18 +4,19 @@ ghost use Rattle.std.specs.Prelude.{nat_eq, slice_index, EachIndex, ◌≡◌, �
 ghost use Rattle.std.specs.Option.{unwrap_or};
 ghost use Rattle.indexmap.specs.IndexMap.{swap_remove_entry};
 ghost use Rattle.bm_base.specs.declared.refusal.Refusal.TheVariants.{Memory};
-ghost use Rattle.bm_base.specs.SlotLists.{slot_after};
+ghost use Rattle.bm_maps.specs.SlotLists.{slot_after};
 ghost use Rattle.bm_arena.specs.Contents.{IsReserved, no_marks, list_of, slot_before, HasHead, HasRoom, marks_at, linked_front, unlinked, moved_front, KeepsOthers, IsLawful, slot_of};
 ghost use Rattle.bm_arena.specs.Holding.{replicas_of, blocks_of};
-ghost use Rattle.bm_base.specs.Map.{insert, remove};
-ghost use Rattle.bm_base.specs.State.{replica_at};
-ghost use Rattle.bm_base.specs.SlotLists.{without};
+ghost use Rattle.bm_base.specs.Maps.Map.{insert, remove};
+ghost use Rattle.bm_base.specs.Machine.State.{replica_at};
+ghost use Rattle.bm_maps.specs.SlotLists.{without};
 
 use crate::arena::{Arena, Slot, count_up};
 use crate::types::{NO_MARKS, Triplet};
 use crate::walk::Walk;
 use crate::{links, list_heads};
-use bm_base::{Marks, NO_LINK, Refusal, StorageId};
+use bm_base::{Marks, Refusal, StorageId};
+use bm_maps::NO_LINK;
 
 impl Arena {
     /// Makes a head for each of the storages, so that linking a block with capacity, and putting

@@ -2,7 +2,8 @@
 ghost use Rattle.std.specs.Prelude.{◌≡◌};
 ghost use Rattle.bm_arena.specs.Triplets.{seen_triplet};
 
-use bm_base::{BlockInfo, Marks, NO_LINK, SlotLink, StorageId, Tag};
+use bm_base::{BlockInfo, Marks, StorageId, Tag};
+use bm_maps::{NO_LINK, SlotLink};
 use smallvec::SmallVec;
 
 /// A replica of a block: its storage, the neighbours of the block in that storage's list, and its

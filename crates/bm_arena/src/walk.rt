@@ -3,7 +3,7 @@ ghost use Rattle.std.specs.Iterator.{YieldsFirst, item_count};
 
 use crate::links;
 use crate::types::Entry;
-use bm_base::{NO_LINK, SlotLink};
+use bm_maps::{NO_LINK, SlotLink};
 use slab::Slab;
 use std::marker::Model;
 

@@ -13,13 +13,13 @@ use Rattle.bm_base.specs.declared.replica.BlockInfo.{BlockInfo}
 use Rattle.bm_base.specs.declared.commands.Delete.{Delete}
 use Rattle.bm_base.specs.declared.round.Wish.{Wish}
 use Rattle.bm_base.specs.declared.round.RoundPart.{RoundPart}
-use Rattle.bm_base.specs.Map.{Map, get, contains_key}
-use Rattle.bm_base.specs.State.{Cluster, Holdings, by_replica, replica_at}
-use Rattle.bm_base.specs.SlotLists.{Among, Distinct}
+use Rattle.bm_base.specs.Maps.Map.{Map, get, contains_key}
+use Rattle.bm_base.specs.Machine.State.{Cluster, Holdings, by_replica, replica_at}
+use Rattle.bm_maps.specs.SlotLists.{Among, Distinct}
 use Rattle.bm_base.specs.Ordered.{by_pair}
-use Rattle.bm_base.specs.Lists.{has}
-use Rattle.bm_base.specs.Levels.{level, level_number, is_at}
-use Rattle.bm_base.specs.Excess.{without_expired, without_unordered_excess, marked, excess_in}
+use Rattle.bm_base.specs.Maps.Lists.{has}
+use Rattle.bm_base.specs.Machine.Levels.{level, level_number, is_at}
+use Rattle.bm_base.specs.Machine.Excess.{without_expired, without_unordered_excess, marked, excess_in}
 use Rattle.bm_base.specs.RoundParts.{started_holdings, expired, round_part, wish_of, wish_at, wish_key, delete_key}
 use Rattle.bm_base.proofs.Maps.{get_revised}
 use Rattle.bm_base.proofs.Options.{there, is_there, chained}

@@ -11,8 +11,8 @@ use Rattle.std.proofs.Common.{sym, ap, ◌∙◌, arith, true≢false}
 use Rattle.std.proofs.lemmas.Cmp.{eq_by_cmp_equiv}
 use Rattle.std.proofs.lemmas.Map.Keys.{IsDistinct-IsPermutation}
 use Rattle.std.proofs.lemmas.List.Sorted.{ranks_by, sorted_far, All-permutation, list_any-IsPermutation}
-use Rattle.bm_base.specs.Conjunction.{both}
-use Rattle.bm_base.specs.Map.{Order}
+use Rattle.bm_base.specs.Maps.Conjunction.{both}
+use Rattle.bm_base.specs.Maps.Map.{Order}
 use Rattle.bm_base.proofs.Each.{Each, each_all}
 use Rattle.bm_parts.specs.Found.{IsGathered}
 use Rattle.bm_parts.proofs.Filters.{all_each}

@@ -8,20 +8,20 @@ use Rattle.std.specs.FinMap.Entries.{below_all}
 use Rattle.std.specs.List.{list_any, IsDistinct, AllByRecursion}
 use Rattle.std.proofs.Common.{cond, refl, sym, ap, ◌∙◌, eqb-true, eq-eqb}
 use Rattle.std.proofs.lemmas.Bool.{and_from, false≢true}
-use Rattle.bm_base.specs.Conjunction.{first, second}
+use Rattle.bm_base.specs.Maps.Conjunction.{first, second}
 use Rattle.bm_base.specs.declared.replica.ReplicaId.{ReplicaId}
 use Rattle.bm_base.specs.declared.replica.Marks.{Marks}
 use Rattle.bm_base.specs.declared.commands.Delete.{Delete}
 use Rattle.bm_base.specs.declared.round.Wish.{Wish}
 use Rattle.bm_base.specs.declared.level.Level.{Level}
-use Rattle.bm_base.specs.Map.{Map, get, entries, contains_key}
-use Rattle.bm_base.specs.State.{Cluster, Holdings, by_replica, replica_cmp, replica_at}
+use Rattle.bm_base.specs.Maps.Map.{Map, get, entries, contains_key}
+use Rattle.bm_base.specs.Machine.State.{Cluster, Holdings, by_replica, replica_cmp, replica_at}
 use Rattle.bm_base.specs.Ordered.{by_pair, pair_cmp}
-use Rattle.bm_base.specs.Lists.{has}
-use Rattle.bm_base.specs.Replicas.{has_enough_live}
-use Rattle.bm_base.specs.Levels.{level, level_number, is_at}
-use Rattle.bm_base.specs.Excess.{without_expired, without_unordered_excess, excess_in, marked}
-use Rattle.bm_base.specs.Deletes.{is_deletable}
+use Rattle.bm_base.specs.Maps.Lists.{has}
+use Rattle.bm_base.specs.Machine.Replicas.{has_enough_live}
+use Rattle.bm_base.specs.Machine.Levels.{level, level_number, is_at}
+use Rattle.bm_base.specs.Machine.Excess.{without_expired, without_unordered_excess, excess_in, marked}
+use Rattle.bm_base.specs.Machine.Deletes.{is_deletable}
 use Rattle.bm_base.specs.RoundParts.{started_holdings, wish_at, wish_key, delete_key}
 use Rattle.bm_base.proofs.MapLaws.{get-revise}
 use Rattle.bm_base.proofs.AtLevel.{at_level}

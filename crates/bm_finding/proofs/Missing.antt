@@ -5,7 +5,7 @@ use Rattle.std.specs.List.Sorted.{IsNonDecreasing}
 use Rattle.std.proofs.lemmas.Bool.{ne_eqb}
 use Rattle.std.proofs.lemmas.List.Folds.{list_any_none}
 use Rattle.std.proofs.lemmas.List.Elements.{All-from_get_or}
-use Rattle.bm_base.specs.Lists.{has}
+use Rattle.bm_base.specs.Maps.Lists.{has}
 
 module _ (xs : List ℕ) (x at : ℕ) (up : IsNonDecreasing xs) where
   lesser : (at ≡ 0) ⊎ (get_or xs (at - 1) 0 < x) → at ≤ length xs → (k : ℕ) → k < at → get_or xs k 0 < x

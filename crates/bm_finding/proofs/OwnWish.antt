@@ -5,11 +5,11 @@ use Rattle.bm_base.specs.declared.level.Level.{Level}
 use Rattle.bm_base.specs.declared.level.Level.TheVariants.{Highest, VeryUnderReplicated, UnderReplicated, BadlyDistributed, NoUsableReplica}
 use Rattle.bm_base.specs.declared.replica.BlockInfo.{BlockInfo}
 use Rattle.bm_base.specs.declared.round.Wish.{Wish}
-use Rattle.bm_base.specs.Map.{get}
-use Rattle.bm_base.specs.State.{Cluster, Holdings}
-use Rattle.bm_base.specs.Replicas.{live, drained, storages_where, racks, is_multi_rack}
-use Rattle.bm_base.specs.Levels.{level, level_of, is_at}
-use Rattle.bm_base.specs.Transfers.{pending_targets, wished_count}
+use Rattle.bm_base.specs.Maps.Map.{get}
+use Rattle.bm_base.specs.Machine.State.{Cluster, Holdings}
+use Rattle.bm_base.specs.Machine.Replicas.{live, drained, storages_where, racks, is_multi_rack}
+use Rattle.bm_base.specs.Machine.Levels.{level, level_of, is_at}
+use Rattle.bm_base.specs.Machine.Transfers.{pending_targets, wished_count}
 use Rattle.bm_base.specs.RoundParts.{wish_of, wish_at}
 use Rattle.bm_finding.specs.Wanting.{wish_in, count_at, wish_if, wish_by}
 

@@ -4,12 +4,12 @@ use Rattle.std.specs.Option.{option_map_or, option_or}
 use Rattle.std.proofs.Common.{cond, inl, inr, refl, sym, ap, subst, ◌∙◌, eqb-true}
 use Rattle.bm_base.specs.declared.replica.ReplicaId.{ReplicaId}
 use Rattle.bm_base.specs.declared.replica.Marks.{Marks}
-use Rattle.bm_base.specs.Map.{Map, get, empty, insert, keep, revise, entries}
-use Rattle.bm_base.specs.State.{Cluster, Holdings, by_replica, replica_at}
-use Rattle.bm_base.specs.SlotLists.{Among, Distinct}
-use Rattle.bm_base.specs.Lists.{has, has_repeats}
-use Rattle.bm_base.specs.Replicas.{storages_where, is_live_on}
-use Rattle.bm_base.specs.Excess.{without_expired, counted_again, without_unordered_excess, excess_of, excess_in, marked}
+use Rattle.bm_base.specs.Maps.Map.{Map, get, empty, insert, keep, revise, entries}
+use Rattle.bm_base.specs.Machine.State.{Cluster, Holdings, by_replica, replica_at}
+use Rattle.bm_maps.specs.SlotLists.{Among, Distinct}
+use Rattle.bm_base.specs.Maps.Lists.{has, has_repeats}
+use Rattle.bm_base.specs.Machine.Replicas.{storages_where, is_live_on}
+use Rattle.bm_base.specs.Machine.Excess.{without_expired, counted_again, without_unordered_excess, excess_of, excess_in, marked}
 use Rattle.bm_base.specs.RoundParts.{started_holdings}
 use Rattle.bm_base.proofs.MapLaws.{same_map, get-empty, get-insert, get-keep, get-revise, entries-keep}
 use Rattle.bm_base.proofs.Ties.{replica_tie}

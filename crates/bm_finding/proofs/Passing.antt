@@ -2,7 +2,7 @@
 use Rattle.std.specs.Prelude.{◌≡◌, ℕ, Bool, true, false, ◌||◌, List, [], ◌∷◌, filter}
 use Rattle.std.specs.List.{list_any, IsDistinct, AllByRecursion}
 use Rattle.std.proofs.Common.{cond, refl, sym, ap, ◌∙◌, true≢false}
-use Rattle.bm_base.specs.Map.{Order}
+use Rattle.bm_base.specs.Maps.Map.{Order}
 use Rattle.bm_base.proofs.Maps.{same_key}
 use Rattle.bm_base.proofs.Each.{each_all, each_both, each_filtered, each_passing}
 use Rattle.bm_parts.specs.Found.{IsGathered}

@@ -6,7 +6,7 @@ use Rattle.std.proofs.Common.{inl, inr, sym, ◌∙◌, ne_eqb, eq-eqb, true≢f
 use Rattle.std.proofs.lemmas.Bool.Decides.{nat_tests}
 use Rattle.std.proofs.lemmas.Map.Keys.{IsDistinct-IsPermutation}
 use Rattle.std.proofs.lemmas.List.Sorted.{list_any-IsPermutation}
-use Rattle.bm_base.specs.SlotLists.{Among, Distinct}
+use Rattle.bm_maps.specs.SlotLists.{Among, Distinct}
 use Rattle.bm_levels.proofs.Alike.{has_among, among_has}
 
 module _ (xs ys : List ℕ) (moved : IsPermutation xs ys) where

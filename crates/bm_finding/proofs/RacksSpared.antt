@@ -4,7 +4,7 @@ use Rattle.std.proofs.Common.{refl, sym, ap, ◌∙◌, arith}
 use Rattle.std.proofs.lemmas.Bool.Decides.{nat_tests}
 use Rattle.bm_base.specs.declared.level.Level.{Level}
 use Rattle.bm_base.specs.declared.level.Level.TheVariants.{Highest, VeryUnderReplicated, UnderReplicated, BadlyDistributed}
-use Rattle.bm_base.specs.Levels.{level_of, level_without_live}
+use Rattle.bm_base.specs.Machine.Levels.{level_of, level_without_live}
 
 -- if fewer replicas are live than are wanted, their racks do not matter
 pub few_live : (live drained repl r s : ℕ) (m n : Bool) → live < repl → level_of live drained repl r m ≡ level_of live drained repl s n

@@ -10,14 +10,14 @@ use Rattle.std.specs.List.{list_any, IsDistinct}
 use Rattle.std.specs.List.Sorted.{IsPermutation, IsSortedByKey}
 use Rattle.std.proofs.Common.{cond, refl, sym, ap, subst, ◌∙◌, eqb-true}
 use Rattle.std.proofs.lemmas.Bool.{and_parts}
-use Rattle.bm_base.specs.Conjunction.{both, first, second}
+use Rattle.bm_base.specs.Maps.Conjunction.{both, first, second}
 use Rattle.bm_base.specs.declared.replica.ReplicaId.{ReplicaId}
 use Rattle.bm_base.specs.declared.replica.Marks.{Marks}
-use Rattle.bm_base.specs.Map.{Map, by_number, entries}
-use Rattle.bm_base.specs.State.{Holdings, by_replica, replica_cmp}
-use Rattle.bm_base.specs.Lists.{has}
-use Rattle.bm_base.specs.Replicas.{storages_where}
-use Rattle.bm_base.specs.SlotLists.{Distinct}
+use Rattle.bm_base.specs.Maps.Map.{Map, by_number, entries}
+use Rattle.bm_base.specs.Machine.State.{Holdings, by_replica, replica_cmp}
+use Rattle.bm_base.specs.Maps.Lists.{has}
+use Rattle.bm_base.specs.Machine.Replicas.{storages_where}
+use Rattle.bm_maps.specs.SlotLists.{Distinct}
 use Rattle.bm_base.proofs.Clusters.{eqb_turned}
 use Rattle.bm_base.proofs.Each.{Each}
 use Rattle.bm_base.proofs.Listed.{any_agree, same_again, or_left, or_right}

@@ -9,12 +9,12 @@ use Rattle.std.proofs.lemmas.List.{flat_map_more}
 use Rattle.bm_base.specs.declared.replica.BlockInfo.{BlockInfo}
 use Rattle.bm_base.specs.declared.replica.ReplicaId.{ReplicaId}
 use Rattle.bm_base.specs.declared.replica.Marks.{Marks}
-use Rattle.bm_base.specs.Map.{Map, get, entries}
-use Rattle.bm_base.specs.State.{Cluster, Holdings, by_replica, replica_at}
-use Rattle.bm_base.specs.Replicas.{is_draining, is_live_on, is_drained_on, live, drained, storages_where, has_enough_live}
-use Rattle.bm_base.specs.Excess.{without_expired, without_unordered_excess, marked, marked_at, counted_again}
-use Rattle.bm_base.specs.Deletes.{is_deletable}
-use Rattle.bm_base.specs.Transfers.{pending_targets}
+use Rattle.bm_base.specs.Maps.Map.{Map, get, entries}
+use Rattle.bm_base.specs.Machine.State.{Cluster, Holdings, by_replica, replica_at}
+use Rattle.bm_base.specs.Machine.Replicas.{is_draining, is_live_on, is_drained_on, live, drained, storages_where, has_enough_live}
+use Rattle.bm_base.specs.Machine.Excess.{without_expired, without_unordered_excess, marked, marked_at, counted_again}
+use Rattle.bm_base.specs.Machine.Deletes.{is_deletable}
+use Rattle.bm_base.specs.Machine.Transfers.{pending_targets}
 use Rattle.bm_base.specs.RoundParts.{started_holdings}
 use Rattle.bm_base.proofs.Each.{each_then}
 use Rattle.bm_base.proofs.Listed.{filter_filter}

@@ -2,10 +2,10 @@
 use Rattle.std.specs.Prelude.{◌≡◌, ℕ, List, [], Option, Some, None, option_map}
 use Rattle.std.proofs.Common.{refl, sym, ap, ◌∙◌}
 use Rattle.bm_base.specs.declared.replica.Marks.{Marks}
-use Rattle.bm_base.specs.Map.{Map, get, revise, empty, entries}
-use Rattle.bm_base.specs.MapCode.{same_entries_map}
-use Rattle.bm_base.specs.State.{by_replica}
-use Rattle.bm_base.specs.Lists.{has}
+use Rattle.bm_base.specs.Maps.Map.{Map, get, revise, empty, entries}
+use Rattle.bm_base.specs.Maps.MapCode.{same_entries_map}
+use Rattle.bm_base.specs.Machine.State.{by_replica}
+use Rattle.bm_base.specs.Maps.Lists.{has}
 use Rattle.bm_base.proofs.MapLaws.{same_map, get-revise}
 use Rattle.bm_finding.specs.Marking.{marked_if}
 

@@ -4,11 +4,11 @@ use Rattle.std.proofs.Common.{refl, sym, ap, ◌∙◌}
 use Rattle.std.proofs.lemmas.Bool.{false≢true}
 use Rattle.std.proofs.lemmas.List.{nil_from_length}
 use Rattle.bm_base.specs.declared.replica.ReplicaId.{ReplicaId}
-use Rattle.bm_base.specs.Map.{Map, get, empty, entries}
-use Rattle.bm_base.specs.State.{by_replica}
-use Rattle.bm_base.specs.Lists.{has}
+use Rattle.bm_base.specs.Maps.Map.{Map, get, empty, entries}
+use Rattle.bm_base.specs.Machine.State.{by_replica}
+use Rattle.bm_base.specs.Maps.Lists.{has}
 use Rattle.bm_base.proofs.MapLaws.{same_map, get-empty, entries-keep}
-use Rattle.bm_base.specs.Excess.{is_expired}
+use Rattle.bm_base.specs.Machine.Excess.{is_expired}
 use Rattle.bm_pending.specs.OnTheWay.{OnTheWay, blocks_in}
 use Rattle.bm_pending.specs.Remaining.{targets_left}
 

@@ -7,8 +7,8 @@ use Rattle.std.proofs.lemmas.List.{append_assoc, map-append}
 use Rattle.std.proofs.lemmas.List.Elements.{filter-append}
 use Rattle.bm_base.specs.declared.level.Level.{Level}
 use Rattle.bm_base.specs.declared.level.Level.TheVariants.{Highest, VeryUnderReplicated, UnderReplicated, BadlyDistributed, NoUsableReplica}
-use Rattle.bm_base.specs.SlotLists.{Among, Distinct}
-use Rattle.bm_base.specs.Lists.{has}
+use Rattle.bm_maps.specs.SlotLists.{Among, Distinct}
+use Rattle.bm_base.specs.Maps.Lists.{has}
 use Rattle.bm_arena.specs.Triplets.{Block}
 use Rattle.bm_arena.specs.Contents.{Contents, block_at, slot_of, IsLawful}
 use Rattle.bm_arena.specs.Holding.{info_at, id_at}

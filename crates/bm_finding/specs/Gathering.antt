@@ -5,9 +5,9 @@ use Rattle.std.specs.List.Sorted.{IsPermutation, IsSortedByKey}
 use Rattle.bm_base.specs.declared.replica.ReplicaId.{ReplicaId}
 use Rattle.bm_base.specs.declared.commands.Delete.{Delete}
 use Rattle.bm_base.specs.declared.round.Wish.{Wish}
-use Rattle.bm_base.specs.Map.{Order, entries}
-use Rattle.bm_base.specs.State.{Cluster, Holdings}
-use Rattle.bm_base.specs.Replicas.{has_enough_live}
+use Rattle.bm_base.specs.Maps.Map.{Order, entries}
+use Rattle.bm_base.specs.Machine.State.{Cluster, Holdings}
+use Rattle.bm_base.specs.Machine.Replicas.{has_enough_live}
 use Rattle.bm_base.specs.RoundParts.{started_holdings}
 use Rattle.bm_parts.specs.Before.{wishes_before}
 use Rattle.bm_finding.specs.Looked.{own_replicas, too_many, replicas_on, deletes_of}

@@ -3,11 +3,11 @@ use Rattle.std.specs.Prelude.{◌≡◌, ℕ, Bool, ◌&&◌, ◌||◌, ◌==◌
 use Rattle.bm_base.specs.declared.replica.ReplicaId.{ReplicaId}
 use Rattle.bm_base.specs.declared.replica.Marks.{Marks}
 use Rattle.bm_base.specs.declared.commands.Delete.{Delete}
-use Rattle.bm_base.specs.Map.{Map, get, keep}
-use Rattle.bm_base.specs.State.{Cluster, Holdings, by_replica}
-use Rattle.bm_base.specs.Lists.{has}
-use Rattle.bm_base.specs.Replicas.{is_stray, is_corrupt, is_live_on, is_drained_on}
-use Rattle.bm_base.specs.Excess.{without_expired, without_unordered_excess, excess_in}
+use Rattle.bm_base.specs.Maps.Map.{Map, get, keep}
+use Rattle.bm_base.specs.Machine.State.{Cluster, Holdings, by_replica}
+use Rattle.bm_base.specs.Maps.Lists.{has}
+use Rattle.bm_base.specs.Machine.Replicas.{is_stray, is_corrupt, is_live_on, is_drained_on}
+use Rattle.bm_base.specs.Machine.Excess.{without_expired, without_unordered_excess, excess_in}
 use Rattle.bm_base.specs.RoundParts.{started_holdings}
 use Rattle.bm_finding.specs.declared.look.Look.{Look}
 use Rattle.bm_finding.specs.declared.replicas.Usable.{Usable}

@@ -2,9 +2,9 @@
 use Rattle.std.specs.Prelude.{ℕ, Bool, true, if◌then◌else◌, List, [], ◌∷◌, map, filter}
 use Rattle.bm_base.specs.declared.replica.ReplicaId.{ReplicaId}
 use Rattle.bm_base.specs.declared.replica.Marks.{Marks}
-use Rattle.bm_base.specs.Map.{Map, insert}
-use Rattle.bm_base.specs.State.{by_replica, replica_at}
-use Rattle.bm_base.specs.Excess.{counted_again}
+use Rattle.bm_base.specs.Maps.Map.{Map, insert}
+use Rattle.bm_base.specs.Machine.State.{by_replica, replica_at}
+use Rattle.bm_base.specs.Machine.Excess.{counted_again}
 
 -- a surplus replica is marked as in excess
 abbrev pub marked_if : Bool → Marks → Marks

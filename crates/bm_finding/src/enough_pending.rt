@@ -1,6 +1,6 @@
 // Whether the pending transfers of a settled block make up for the replicas that it lacks.
 ghost use Rattle.std.specs.Prelude.{◌≡◌, length, map};
-ghost use Rattle.bm_base.specs.Replicas as replicas;
+ghost use Rattle.bm_base.specs.Machine.Replicas as replicas;
 ghost use Rattle.bm_arena.specs.Holding.{id_at};
 ghost use Rattle.bm_arena.specs.Triplets.{seen_triplet};
 ghost use Rattle.bm_levels.specs.Judged.{storages_at};

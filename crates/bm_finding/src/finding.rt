@@ -2,7 +2,7 @@
 ghost use Rattle.std.specs.Prelude.{◌≡◌, IsSome, IsTrue, IfOk, IfErr};
 ghost use Rattle.bm_base.specs.declared.refusal.Refusal.TheVariants.{Memory};
 ghost use Rattle.bm_base.specs.declared.replica.ReplicaId.{ReplicaId};
-ghost use Rattle.bm_base.specs.Map.{get, contains_key};
+ghost use Rattle.bm_base.specs.Maps.Map.{get, contains_key};
 ghost use Rattle.bm_base.specs.RoundParts.{round_part};
 ghost use Rattle.bm_parts.specs.Before.{part_before};
 ghost use Rattle.bm_arena.specs.Holding.{replicas_of};

@@ -3,10 +3,10 @@ ghost use Rattle.std.specs.Prelude.{◌≡◌, ℕ, false, Some, IfOk, IfErr, On
 ghost use Rattle.std.specs.Option.{option_map_or};
 ghost use Rattle.std.specs.List.Sorted.{IsNonDecreasing, IsPermutation};
 ghost use Rattle.bm_base.specs.declared.refusal.Refusal.TheVariants.{Memory};
-ghost use Rattle.bm_base.specs.Lists.{has, has_repeats};
-ghost use Rattle.bm_base.specs.Map.{Map, empty, entries, revise};
-ghost use Rattle.bm_base.specs.State.{by_replica};
-ghost use Rattle.bm_base.specs.Excess as excess;
+ghost use Rattle.bm_base.specs.Maps.Lists.{has, has_repeats};
+ghost use Rattle.bm_base.specs.Maps.Map.{Map, empty, entries, revise};
+ghost use Rattle.bm_base.specs.Machine.State.{by_replica};
+ghost use Rattle.bm_base.specs.Machine.Excess as excess;
 ghost use Rattle.bm_arena.specs.Contents.{slot_of};
 ghost use Rattle.bm_levels.specs.Held.{holdings_with};
 ghost use Rattle.bm_finding.specs.Marking.{marked_if};
@@ -15,7 +15,8 @@ ghost use Rattle.std.specs.Prelude.{[]};
 
 use crate::replicas::{Usable, contains_near, fill_counted, mark_on, usable_among};
 use bm_arena::{Arena, Slot};
-use bm_base::{BlockId, BlockInfo, Delete, Marks, Refusal, ReplicaId, ReplicaMap, StorageId};
+use bm_base::{BlockId, BlockInfo, Delete, Marks, Refusal, ReplicaId, StorageId};
+use bm_maps::ReplicaMap;
 use bm_place::{ExcessRoom, fill_excess};
 use bm_topo::Topology;
 use std::alloc::{AllocError, Global};

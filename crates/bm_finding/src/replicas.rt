@@ -1,16 +1,17 @@
 // The replicas of one block, with their marks as a round begins.
 ghost use Rattle.std.specs.Prelude.{◌≡◌, true, false, filter_map, IfOk, OnOk};
 ghost use Rattle.std.specs.List.Sorted.{IsNonDecreasing};
-ghost use Rattle.bm_base.specs.Map as map_of;
-ghost use Rattle.bm_base.specs.Lists.{has};
-ghost use Rattle.bm_base.specs.Replicas as replicas;
+ghost use Rattle.bm_base.specs.Maps.Map as map_of;
+ghost use Rattle.bm_base.specs.Maps.Lists.{has};
+ghost use Rattle.bm_base.specs.Machine.Replicas as replicas;
 ghost use Rattle.bm_base.specs.Spread.{spread};
 ghost use Rattle.bm_arena.specs.Holding.{replicas_at};
 ghost use Rattle.bm_finding.specs.Marking.{marked_if, put_on, all_storages};
 ghost use Rattle.bm_finding.specs.Looked.{AreUsable};
 
 use bm_arena::{Arena, Slot};
-use bm_base::{BlockId, Marks, Rack, ReplicaId, ReplicaMap, StorageId, StorageIds};
+use bm_base::{BlockId, Marks, Rack, ReplicaId, StorageId, StorageIds};
+use bm_maps::ReplicaMap;
 use bm_topo::Topology;
 use std::alloc::{AllocError, Global};
 

@@ -1,7 +1,7 @@
 // The wish of a settled block: none of its replicas is in excess, and none is to be deleted.
 ghost use Rattle.std.specs.Prelude.{◌≡◌, ◌++◌, true, not, filter, map, Some, IfOk, IfErr, OnOk};
 ghost use Rattle.bm_base.specs.declared.refusal.Refusal.TheVariants.{Memory};
-ghost use Rattle.bm_base.specs.Replicas as replicas;
+ghost use Rattle.bm_base.specs.Machine.Replicas as replicas;
 ghost use Rattle.bm_parts.specs.Before.{wishes_before};
 ghost use Rattle.bm_arena.specs.Contents.{block_at, slot_of};
 ghost use Rattle.bm_arena.specs.Triplets.{seen_triplet};

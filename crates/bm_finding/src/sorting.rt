@@ -2,7 +2,7 @@
 ghost use Rattle.std.specs.Prelude.{◌≡◌, OnOk, IsTrue};
 ghost use Rattle.std.specs.List.Sorted.{IsSortedByKey};
 ghost use Rattle.bm_base.specs.declared.replica.ReplicaId.{ReplicaId};
-ghost use Rattle.bm_base.specs.State.{by_replica};
+ghost use Rattle.bm_base.specs.Machine.State.{by_replica};
 ghost use Rattle.bm_base.specs.Ordered.{by_pair};
 ghost use Rattle.bm_base.specs.RoundParts as parts;
 ghost use Rattle.bm_finding.specs.Gathering.{IsInOrder};

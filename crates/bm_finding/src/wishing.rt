@@ -1,8 +1,8 @@
 // The wish of one block.
 ghost use Rattle.std.specs.Prelude.{◌≡◌, length, ◌++◌, option_and_then, option_to_list, OnOk, IfOk, IfErr};
 ghost use Rattle.bm_base.specs.declared.refusal.Refusal.TheVariants.{Memory};
-ghost use Rattle.bm_base.specs.Replicas as replicas;
-ghost use Rattle.bm_base.specs.Levels as levels;
+ghost use Rattle.bm_base.specs.Machine.Replicas as replicas;
+ghost use Rattle.bm_base.specs.Machine.Levels as levels;
 ghost use Rattle.bm_parts.specs.Before.{wishes_before};
 ghost use Rattle.bm_pending.specs.Remaining.{targets_left};
 ghost use Rattle.bm_finding.specs.Wanting.{count_at, wish_by};

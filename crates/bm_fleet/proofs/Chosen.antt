@@ -5,15 +5,15 @@ use Rattle.std.proofs.Common.{cond, refl, sym, ap, subst, ◌∙◌}
 use Rattle.bm_base.specs.declared.commands.Delete.{Delete}
 use Rattle.bm_base.specs.declared.round.RoundPart.{RoundPart}
 use Rattle.bm_base.specs.declared.round.Wish.{Wish}
-use Rattle.bm_base.specs.Lists.{has, has_repeats}
+use Rattle.bm_base.specs.Maps.Lists.{has, has_repeats}
 use Rattle.bm_base.specs.Ordered.{by_pair, ordered_by}
-use Rattle.bm_base.specs.State.{RoundLimits, Cluster, Holdings}
-use Rattle.bm_base.specs.Transfers.{transfers}
-use Rattle.bm_base.specs.Deletes.{deletes}
+use Rattle.bm_base.specs.Machine.State.{RoundLimits, Cluster, Holdings}
+use Rattle.bm_base.specs.Machine.Transfers.{transfers}
+use Rattle.bm_base.specs.Machine.Deletes.{deletes}
 use Rattle.bm_base.specs.RoundParts.{started_holdings, round_part, wish_key, delete_key}
 use Rattle.bm_base.specs.Choices.{merged_wishes, merged_deletes, first_of_each_node, chosen_transfers, chosen_deletes}
 use Rattle.bm_base.proofs.OneWish.{one_wish}
-use Rattle.bm_base.proofs.OnePart.{round_wishes_rise, round_deletes_rise}
+use Rattle.bm_parts.proofs.OnePart.{round_wishes_rise, round_deletes_rise}
 use Rattle.bm_parts.specs.RoundLaws.{round_parts}
 use Rattle.bm_parts.specs.Merging.{AreSorted}
 use Rattle.bm_parts.specs.Before.{is_before, part_before}

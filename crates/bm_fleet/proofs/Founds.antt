@@ -5,7 +5,7 @@ use Rattle.std.proofs.Common.{refl, sym, ap, ◌∙◌, arith}
 use Rattle.std.proofs.lemmas.List.Elements.{All-nil, All-cons}
 use Rattle.bm_base.specs.declared.replica.ReplicaId.{ReplicaId}
 use Rattle.bm_base.specs.declared.round.RoundPart.{RoundPart}
-use Rattle.bm_base.specs.State.{Cluster}
+use Rattle.bm_base.specs.Machine.State.{Cluster}
 use Rattle.bm_shard.specs.Seen.{Seen}
 use Rattle.bm_shard.specs.Standing.{next_part}
 use Rattle.bm_fleet.specs.Whole.{AreIndexed, EachStandsIn, EachTook}

@@ -2,11 +2,11 @@
 use Rattle.std.specs.Prelude.{◌≡◌, ℕ, suc, ◌+◌, ◌≤◌, Bool, true, false, not, ◌&&◌, nat_le, None, List, [], ◌∷◌, ◌++◌, length, ◌==◌}
 use Rattle.std.proofs.Common.{refl, sym, subst, ◌∙◌, arith}
 use Rattle.bm_base.specs.declared.config.Config.{Config}
-use Rattle.bm_base.specs.Map.{Order, empty}
-use Rattle.bm_base.specs.State.{Cluster, empty_holdings}
+use Rattle.bm_base.specs.Maps.Map.{Order, empty}
+use Rattle.bm_base.specs.Machine.State.{Cluster, empty_holdings}
 use Rattle.bm_base.specs.Shards.{shard_of, cut}
-use Rattle.bm_base.specs.Configuration.{config_refusal, is_up_to}
-use Rattle.bm_base.specs.Refusals.{first_of, ◌when◌}
+use Rattle.bm_base.specs.Machine.Configuration.{config_refusal, is_up_to}
+use Rattle.bm_base.specs.Machine.Refusals.{first_of, ◌when◌}
 use Rattle.bm_base.specs.declared.refusal.Refusal.TheVariants.{BadConfig}
 use Rattle.std.proofs.lemmas.Bool.{leb-true}
 use Rattle.bm_base.proofs.MapLaws.{get-empty}

@@ -5,11 +5,11 @@ use Rattle.std.proofs.Common.{subst, ◌∙◌}
 use Rattle.bm_base.specs.declared.commands.Commands.{Commands}
 use Rattle.bm_base.specs.declared.refusal.Refusal.{Refusal}
 use Rattle.bm_base.specs.declared.round.Chosen.{Chosen}
-use Rattle.bm_base.specs.State.{RoundLimits, Cluster}
-use Rattle.bm_base.specs.Transfers.{transfers}
-use Rattle.bm_base.specs.Deletes.{deletes}
+use Rattle.bm_base.specs.Machine.State.{RoundLimits, Cluster}
+use Rattle.bm_base.specs.Machine.Transfers.{transfers}
+use Rattle.bm_base.specs.Machine.Deletes.{deletes}
 use Rattle.bm_base.specs.RoundParts.{started_holdings}
-use Rattle.bm_base.specs.Rounds.{commands_of, finished}
+use Rattle.bm_base.specs.Machine.Rounds.{commands_of, finished}
 use Rattle.bm_shard.specs.Seen.{Seen}
 use Rattle.bm_fleet.specs.Whole.{held_by, AreShards, EachStandsIn, EachTook}
 use Rattle.bm_fleet.specs.Answers.{EachBecame}

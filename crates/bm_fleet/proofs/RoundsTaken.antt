@@ -5,8 +5,8 @@ use Rattle.std.proofs.Common.{sym, ap, subst, ◌∙◌}
 use Rattle.std.proofs.lemmas.List.Elements.{All-nil, All-cons, All-head, All-tail}
 use Rattle.bm_base.specs.declared.round.RoundPart.{RoundPart}
 use Rattle.bm_base.specs.declared.round.Chosen.{Chosen}
-use Rattle.bm_base.specs.State.{Cluster}
-use Rattle.bm_base.specs.Rounds.{finished}
+use Rattle.bm_base.specs.Machine.State.{Cluster}
+use Rattle.bm_base.specs.Machine.Rounds.{finished}
 use Rattle.bm_base.specs.RoundParts.{started_holdings, round_on_part}
 use Rattle.bm_parts.specs.Whole.{EachPart}
 use Rattle.bm_parts.proofs.Changing.{whole_changes_by_round}

@@ -1,11 +1,11 @@
 -- A round of all shards: its commands, and the holdings after it.
 use Rattle.std.specs.Prelude.{ℕ}
 use Rattle.bm_base.specs.declared.commands.Commands.{Commands}
-use Rattle.bm_base.specs.State.{RoundLimits, Cluster, Holdings}
+use Rattle.bm_base.specs.Machine.State.{RoundLimits, Cluster, Holdings}
 use Rattle.bm_base.specs.RoundParts.{started_holdings}
-use Rattle.bm_base.specs.Transfers.{transfers}
-use Rattle.bm_base.specs.Deletes.{deletes}
-use Rattle.bm_base.specs.Rounds.{commands_of, finished}
+use Rattle.bm_base.specs.Machine.Transfers.{transfers}
+use Rattle.bm_base.specs.Machine.Deletes.{deletes}
+use Rattle.bm_base.specs.Machine.Rounds.{commands_of, finished}
 
 -- what round r commands
 abbrev pub commands_in : RoundLimits → Cluster → ℕ → Holdings → Commands

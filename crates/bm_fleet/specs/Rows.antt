@@ -1,6 +1,6 @@
 -- The rows of a shard.
 use Rattle.std.specs.Prelude.{List}
-use Rattle.bm_base.specs.Versions.{Row, table}
+use Rattle.bm_base.specs.Promises.Versions.{Row, table}
 use Rattle.bm_shard.specs.Seen.{Seen}
 
 abbrev pub rows_of : Seen → List Row

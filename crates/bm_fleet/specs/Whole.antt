@@ -1,6 +1,6 @@
 -- All shards of a manager, each with its index, and what contracts see of them.
 use Rattle.std.specs.Prelude.{◌≡◌, ℕ, suc, ◌≤◌, List, [], ◌∷◌, map, length}
-use Rattle.bm_base.specs.State.{Cluster, Holdings}
+use Rattle.bm_base.specs.Machine.State.{Cluster, Holdings}
 use Rattle.bm_parts.specs.Whole.{whole_of, AreOwn}
 use Rattle.bm_shard.specs.Seen.{Seen}
 use Rattle.bm_shard.specs.Standing as shard

@@ -1,10 +1,10 @@
 // An event, made on all shards, on one of them, or on none.
 ghost use Rattle.std.specs.Prelude.{◌≡◌, ℕ, None, IfOk, IfErr, OnOk, OnErr};
-ghost use Rattle.bm_base.specs.Replicas.{is_multi_rack};
-ghost use Rattle.bm_base.specs.Events.{change_cluster, change_holdings};
-ghost use Rattle.bm_base.specs.Calls.{done};
-ghost use Rattle.bm_base.specs.Refusals.{first_of, cluster_checks};
-ghost use Rattle.bm_base.specs.Answering.{Refuses, takes_memory};
+ghost use Rattle.bm_base.specs.Machine.Replicas.{is_multi_rack};
+ghost use Rattle.bm_base.specs.Machine.Events.{change_cluster, change_holdings};
+ghost use Rattle.bm_base.specs.Machine.Calls.{done};
+ghost use Rattle.bm_base.specs.Machine.Refusals.{first_of, cluster_checks};
+ghost use Rattle.bm_base.specs.Machine.Answering.{Refuses, takes_memory};
 ghost use Rattle.bm_fleet.specs.Whole.{StandsIn, HasTaken};
 
 use crate::event_on_all::change_all;

@@ -1,8 +1,8 @@
 // All shards of a manager, and what a contract sees of them.
 ghost use Rattle.std.specs.Prelude.{◌≡◌, ℕ, None, length, vec_len, IfOk, IfErr};
 ghost use Rattle.bm_base.specs.declared.refusal.Refusal.TheVariants.{Memory};
-ghost use Rattle.bm_base.specs.Configuration.{config_refusal};
-ghost use Rattle.bm_base.specs.State.{Cluster, empty_holdings};
+ghost use Rattle.bm_base.specs.Machine.Configuration.{config_refusal};
+ghost use Rattle.bm_base.specs.Machine.State.{Cluster, empty_holdings};
 ghost use Rattle.bm_fleet.specs.Whole.{StandsIn, HasTaken};
 ghost use Rattle.bm_fleet.specs.Worked.{AreNew};
 

@@ -2,8 +2,8 @@
 ghost use Rattle.std.specs.Prelude.{◌≡◌, IfOk, IfErr, length};
 ghost use Rattle.std.specs.List.{flat_map};
 ghost use Rattle.bm_base.specs.declared.refusal.Refusal.TheVariants.{Memory};
-ghost use Rattle.bm_base.specs.State.{Cluster};
-ghost use Rattle.bm_base.specs.Queries as queries;
+ghost use Rattle.bm_base.specs.Machine.State.{Cluster};
+ghost use Rattle.bm_base.specs.Machine.Queries as queries;
 ghost use Rattle.bm_listing.specs.Listed.{wants, replicas_passing};
 ghost use Rattle.bm_fleet.specs.Whole.{AreShards, EachStandsIn, held_by};
 

@@ -2,12 +2,12 @@
 ghost use Rattle.std.specs.Prelude.{◌≡◌, true, false, None, length, IfOk, IfErr, OnOk};
 ghost use Rattle.std.specs.List.{list_any};
 ghost use Rattle.bm_base.specs.declared.refusal.Refusal.TheVariants.{Memory};
-ghost use Rattle.bm_base.specs.State.{Cluster};
+ghost use Rattle.bm_base.specs.Machine.State.{Cluster};
 ghost use Rattle.bm_base.specs.Shards.{shard_of, cut};
-ghost use Rattle.bm_base.specs.Queries as queries;
-ghost use Rattle.bm_base.specs.Levels as levels;
-ghost use Rattle.bm_base.specs.Refusals.{first_of, block_checks, block_refusal};
-ghost use Rattle.bm_base.specs.Answering.{checked, Refuses};
+ghost use Rattle.bm_base.specs.Machine.Queries as queries;
+ghost use Rattle.bm_base.specs.Machine.Levels as levels;
+ghost use Rattle.bm_base.specs.Machine.Refusals.{first_of, block_checks, block_refusal};
+ghost use Rattle.bm_base.specs.Machine.Answering.{checked, Refuses};
 ghost use Rattle.bm_parts.specs.QueryLaws as asked;
 ghost use Rattle.bm_shard.specs.Standing as shard;
 ghost use Rattle.bm_fleet.specs.Whole.{StandsIn, AreShards, EachStandsIn, held_by};

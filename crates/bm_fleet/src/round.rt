@@ -2,8 +2,8 @@
 ghost use Rattle.std.specs.Prelude.{◌≡◌, ◌<◌, ◌≤◌, ◌+◌, ◌^◌, None, length, IfOk, IfErr, OnOk, OnErr, vec_len};
 ghost use Rattle.std.specs.List.{All, AllZip};
 ghost use Rattle.bm_base.specs.declared.refusal.Refusal.TheVariants.{Memory};
-ghost use Rattle.bm_base.specs.State.{limits_of};
-ghost use Rattle.bm_base.specs.Configuration.{config_refusal};
+ghost use Rattle.bm_base.specs.Machine.State.{limits_of};
+ghost use Rattle.bm_base.specs.Machine.Configuration.{config_refusal};
 ghost use Rattle.bm_fleet.specs.Whole.{StandsIn, HasTaken, AreShards, EachStandsIn, EachTook, held_by};
 ghost use Rattle.bm_fleet.specs.Answers.{EachBecame};
 ghost use Rattle.bm_fleet.specs.Worked.{IsSame, HasGivenUp};

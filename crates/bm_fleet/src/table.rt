@@ -2,7 +2,7 @@
 ghost use Rattle.std.specs.Prelude.{◌≡◌, length, IfOk, IfErr};
 ghost use Rattle.std.specs.List.{flat_map};
 ghost use Rattle.bm_base.specs.declared.refusal.Refusal.TheVariants.{Memory};
-ghost use Rattle.bm_base.specs.Versions as versions;
+ghost use Rattle.bm_base.specs.Promises.Versions as versions;
 ghost use Rattle.bm_fleet.specs.Answers.{each_answer};
 ghost use Rattle.bm_fleet.specs.Rows.{rows_of};
 ghost use Rattle.bm_fleet.specs.Whole.{AreShards, held_by};

@@ -4,9 +4,9 @@ use Rattle.std.specs.Option.{option_map_or}
 use Rattle.std.proofs.Common.{cond, refl, sym, ap, subst, ◌∙◌, arith, inl, inr, ◌⊎◌}
 use Rattle.std.proofs.lemmas.Bool.{eqb-true, eq-eqb, cases_Bool, true≢false}
 use Rattle.bm_base.specs.declared.replica.Marks.{Marks}
-use Rattle.bm_base.specs.Lists.{has, has_repeats}
-use Rattle.bm_base.specs.SlotLists.{Among, Distinct, without}
-use Rattle.bm_base.proofs.SlotLists.{Among-without, Among-without_other, Distinct-without, length-without, without-gone}
+use Rattle.bm_base.specs.Maps.Lists.{has, has_repeats}
+use Rattle.bm_maps.specs.SlotLists.{Among, Distinct, without}
+use Rattle.bm_maps.proofs.SlotLists.{Among-without, Among-without_other, Distinct-without, length-without, without-gone}
 use Rattle.bm_arena.specs.Contents.{find_marks}
 use Rattle.bm_levels.specs.Judged.{storages_at}
 

@@ -12,8 +12,8 @@ use Rattle.std.proofs.Common.{cond, refl, sym, ap, subst, ◌∙◌, arith, inl,
 use Rattle.std.proofs.lemmas.Bool.{cases_eq, cases_Bool, eq-eqb, ne_eqb, eqb-true}
 use Rattle.bm_base.specs.declared.replica.Marks.{Marks}
 use Rattle.bm_base.specs.declared.replica.ReplicaId.{ReplicaId}
-use Rattle.bm_base.specs.SlotLists.{Among, Distinct}
-use Rattle.bm_base.specs.Map.{revise}
+use Rattle.bm_maps.specs.SlotLists.{Among, Distinct}
+use Rattle.bm_base.specs.Maps.Map.{revise}
 use Rattle.bm_base.proofs.MapLaws.{same_map, get-revise}
 use Rattle.bm_arena.specs.Triplets.{Block, change_block}
 use Rattle.bm_arena.specs.Contents.{Contents, block_at, slot_of, marks_at, find_marks, change_marks, with_marks, known_of, IsLawful, KeepsAllBut}

@@ -6,11 +6,11 @@ use Rattle.std.specs.List.{list_any}
 use Rattle.std.proofs.Common.{refl, sym, ap, subst, ◌∙◌, inl, inr, ◌⊎◌}
 use Rattle.std.proofs.lemmas.Bool.{cases_eq, eq-eqb, or_left, or_right}
 use Rattle.bm_base.specs.declared.replica.ReplicaId.{ReplicaId}
-use Rattle.bm_base.specs.SlotLists.{Among, Distinct}
+use Rattle.bm_maps.specs.SlotLists.{Among, Distinct}
 use Rattle.bm_arena.specs.Triplets.{Block}
 use Rattle.bm_arena.specs.Contents.{Contents, block_at}
 use Rattle.bm_arena.specs.Holding.{replicas_at}
-use Rattle.bm_base.specs.Excess.{counted_again}
+use Rattle.bm_base.specs.Machine.Excess.{counted_again}
 use Rattle.bm_levels.specs.Changes.{all_changed, has_block}
 
 -- `left` are the slots still to come of `all`: each other one of them has its new marks, and each

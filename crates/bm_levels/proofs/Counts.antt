@@ -5,7 +5,7 @@ use Rattle.std.specs.Int.{from_bool}
 use Rattle.std.specs.List.{list_any, cons_option}
 use Rattle.std.proofs.Common.{cond, refl, sym, ap, ◌∙◌, arith}
 use Rattle.bm_base.specs.declared.replica.Marks.{Marks}
-use Rattle.bm_base.specs.Replicas.{is_usable}
+use Rattle.bm_base.specs.Machine.Replicas.{is_usable}
 use Rattle.bm_base.specs.Spread.{spread_from}
 use Rattle.bm_levels.specs.declared.count.Count.{Count}
 use Rattle.bm_levels.specs.Judged.{is_plain, storages_at, is_live_by, is_drained_by}

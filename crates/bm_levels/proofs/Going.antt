@@ -2,8 +2,8 @@
 -- the block is reclassified.
 use Rattle.std.specs.Prelude.{◌≡◌, ◌≢◌, ◌+◌, ◌<◌, ◌≤◌, ℕ, List, [], ◌∷◌, length, Option, Some, None}
 use Rattle.std.proofs.Common.{refl, sym, ap, subst, ◌∙◌, arith, inl, inr}
-use Rattle.bm_base.specs.Excess.{counted_again}
-use Rattle.bm_base.specs.SlotLists.{Among, Distinct}
+use Rattle.bm_base.specs.Machine.Excess.{counted_again}
+use Rattle.bm_maps.specs.SlotLists.{Among, Distinct}
 use Rattle.bm_queues.specs.Walks.{slots_from, IsOn, IsPast}
 use Rattle.bm_arena.specs.Contents.{block_at, KeepsEntries}
 use Rattle.bm_arena.specs.Holding.{replicas_at}

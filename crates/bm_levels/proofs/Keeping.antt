@@ -3,8 +3,8 @@ use Rattle.std.specs.Prelude.{◌≡◌, ◌≢◌, ℕ, zero, suc, Bool, List, 
 use Rattle.std.proofs.Common.{refl, sym, ap, subst, ◌∙◌, inl, inr, ◌⊎◌}
 use Rattle.std.proofs.lemmas.Bool.{cases_eq}
 use Rattle.std.proofs.lemmas.Option.{same_Some}
-use Rattle.bm_base.specs.SlotLists.{Among}
-use Rattle.bm_base.proofs.SlotLists.{dec_among}
+use Rattle.bm_maps.specs.SlotLists.{Among}
+use Rattle.bm_maps.proofs.SlotLists.{dec_among}
 use Rattle.bm_arena.specs.Triplets.{Block}
 use Rattle.bm_arena.specs.Contents.{Contents, block_at}
 use Rattle.bm_levels.specs.declared.judging.Judged.{Judged}

@@ -10,11 +10,11 @@ use Rattle.std.proofs.lemmas.Bool.{cases_Bool, eqb-true, eq-eqb}
 use Rattle.std.proofs.lemmas.Option.{none-some}
 use Rattle.bm_base.specs.declared.replica.Marks.{Marks}
 use Rattle.bm_base.specs.declared.replica.BlockInfo.{BlockInfo}
-use Rattle.bm_base.specs.Map.{Map, Order, by_number, get, insert, remove, revise, revise_at}
-use Rattle.bm_base.specs.State.{replica_at}
+use Rattle.bm_base.specs.Maps.Map.{Map, Order, by_number, get, insert, remove, revise, revise_at}
+use Rattle.bm_base.specs.Machine.State.{replica_at}
 use Rattle.bm_base.proofs.MapLaws.{same_map, get-remove, get-revise}
 use Rattle.bm_base.proofs.Maps.{same_key}
-use Rattle.bm_base.proofs.Replacing.{same_change, no_change, insert_there}
+use Rattle.bm_maps.proofs.Replacing.{same_change, no_change, insert_there}
 use Rattle.bm_arena.specs.Contents.{Contents, slot_of, marks_at, find_marks}
 use Rattle.bm_arena.specs.Holding.{replicas_at, replicas_of, blocks_of, info_at, with_known}
 use Rattle.bm_arena.proofs.Held.{get-replicas_of, get-blocks_of}

@@ -9,13 +9,13 @@ use Rattle.std.proofs.Common.{cond, refl, sym, ap, ◌∙◌, inl, inr}
 use Rattle.std.proofs.lemmas.Bool.{cases_Bool, eqb-true, false≢true, and_parts, eq-eqb}
 use Rattle.bm_base.specs.declared.replica.Marks.{Marks}
 use Rattle.bm_base.specs.declared.replica.ReplicaId.{ReplicaId}
-use Rattle.bm_base.specs.SlotLists.{Among}
-use Rattle.bm_base.proofs.SlotLists.{dec_among}
-use Rattle.bm_base.specs.Map.{Map, get, revise, entries, empty}
-use Rattle.bm_base.specs.State.{Cluster, Holdings, by_replica, replica_at}
-use Rattle.bm_base.specs.Lists.{has}
-use Rattle.bm_base.specs.Replicas.{storages_where}
-use Rattle.bm_base.specs.Excess.{excess_in, without_expired, counted_again, without_unordered_excess, marked}
+use Rattle.bm_maps.specs.SlotLists.{Among}
+use Rattle.bm_maps.proofs.SlotLists.{dec_among}
+use Rattle.bm_base.specs.Maps.Map.{Map, get, revise, entries, empty}
+use Rattle.bm_base.specs.Machine.State.{Cluster, Holdings, by_replica, replica_at}
+use Rattle.bm_base.specs.Maps.Lists.{has}
+use Rattle.bm_base.specs.Machine.Replicas.{storages_where}
+use Rattle.bm_base.specs.Machine.Excess.{excess_in, without_expired, counted_again, without_unordered_excess, marked}
 use Rattle.bm_base.specs.RoundParts.{surplus}
 use Rattle.bm_base.proofs.MapLaws.{same_map, get-revise}
 use Rattle.bm_base.proofs.Maps.{entry_passes, passes_entry}

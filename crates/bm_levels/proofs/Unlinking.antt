@@ -2,10 +2,10 @@
 use Rattle.std.specs.Prelude.{◌≡◌, ◌≢◌, ℕ, ◌+◌, ◌==◌, Bool, List, ◌∷◌, ◌++◌, Option, Some, None, IsSome, option_and_then}
 use Rattle.std.proofs.Common.{cond, refl, sym, ap, subst, ◌∙◌, inl, inr, ◌⊎◌}
 use Rattle.std.proofs.lemmas.Bool.{cases_eq, eq-eqb}
-use Rattle.bm_base.specs.Map.{remove}
-use Rattle.bm_base.specs.State.{replica_at}
-use Rattle.bm_base.specs.SlotLists.{Among, without}
-use Rattle.bm_base.proofs.SlotLists.{dec_among}
+use Rattle.bm_base.specs.Maps.Map.{remove}
+use Rattle.bm_base.specs.Machine.State.{replica_at}
+use Rattle.bm_maps.specs.SlotLists.{Among, without}
+use Rattle.bm_maps.proofs.SlotLists.{dec_among}
 use Rattle.bm_base.proofs.Options.{there}
 use Rattle.bm_arena.specs.Triplets.{Block}
 use Rattle.bm_arena.specs.Contents.{Contents, block_at, slot_of, list_of, marks_at, find_marks, known_of, unlinked, IsLawful, KeepsOthers}

@@ -4,7 +4,7 @@ use Rattle.std.proofs.Common.{◌⊎◌, inl, inr, sym, ap, ◌∙◌, refl}
 use Rattle.std.proofs.lemmas.Bool.{true≢false}
 use Rattle.bm_base.specs.declared.level.Level.{Level}
 use Rattle.bm_base.specs.declared.level.Level.TheVariants.{Highest, VeryUnderReplicated, UnderReplicated, BadlyDistributed, NoUsableReplica}
-use Rattle.bm_base.specs.SlotLists.{Among, Distinct}
+use Rattle.bm_maps.specs.SlotLists.{Among, Distinct}
 use Rattle.bm_arena.proofs.Replicas.{Among-append, Among-left}
 use Rattle.bm_levels.specs.Kept.{Kept, level_of_slot, slots_at, wishing_slots, wishes_copies, AreSlotsAt, AreWishing}
 

@@ -1,8 +1,8 @@
 -- Levels and statuses in the cluster after an event.
 use Rattle.std.specs.Prelude.{◌≡◌, ◌⊎◌, ℕ, Bool, List, Option, Some, slice_get, slice_index_or}
 use Rattle.bm_base.specs.declared.level.Level.{Level}
-use Rattle.bm_base.specs.SlotLists.{Among}
-use Rattle.bm_base.specs.Replicas.{rack_of, has_storage}
+use Rattle.bm_maps.specs.SlotLists.{Among}
+use Rattle.bm_base.specs.Machine.Replicas.{rack_of, has_storage}
 use Rattle.bm_arena.specs.Triplets.{Block}
 use Rattle.bm_arena.specs.Contents.{Contents, block_at, list_of}
 use Rattle.bm_levels.specs.declared.around.Around.{Around}

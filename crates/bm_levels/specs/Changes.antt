@@ -7,10 +7,10 @@ use Rattle.bm_base.specs.declared.replica.Marks.{Marks}
 use Rattle.bm_base.specs.declared.replica.Stamp.{Stamp}
 use Rattle.bm_base.specs.declared.replica.BlockInfo.{BlockInfo}
 use Rattle.bm_base.specs.declared.commands.Delete.{Delete}
-use Rattle.bm_base.specs.Events.{as_stray, as_restamped}
-use Rattle.bm_base.specs.Rounds.{is_commanded}
-use Rattle.bm_base.specs.State.{Holdings}
-use Rattle.bm_base.specs.Excess.{counted_again, without_unordered_excess}
+use Rattle.bm_base.specs.Machine.Events.{as_stray, as_restamped}
+use Rattle.bm_base.specs.Machine.Rounds.{is_commanded}
+use Rattle.bm_base.specs.Machine.State.{Holdings}
+use Rattle.bm_base.specs.Machine.Excess.{counted_again, without_unordered_excess}
 use Rattle.bm_arena.specs.Contents.{Contents}
 use Rattle.bm_arena.specs.Holding.{holdings_of}
 use Rattle.bm_levels.specs.declared.marking.MarkChange.{MarkChange}

@@ -3,7 +3,7 @@ use Rattle.std.specs.Prelude.{◌≡◌, ℕ, ◌+◌, ◌<◌, ◌≤◌, ◌�
 use Rattle.std.specs.Option.{option_map_or}
 use Rattle.std.specs.Int.{from_bool}
 use Rattle.bm_base.specs.declared.replica.Marks.{Marks}
-use Rattle.bm_base.specs.Replicas.{is_usable}
+use Rattle.bm_base.specs.Machine.Replicas.{is_usable}
 use Rattle.bm_levels.specs.declared.count.Count.{Count}
 use Rattle.bm_levels.specs.Judged.{is_plain}
 

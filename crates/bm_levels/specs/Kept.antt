@@ -2,9 +2,9 @@
 use Rattle.std.specs.Prelude.{◌≡◌, ◌↔◌, ℕ, ◌+◌, ◌<◌, ◌≤◌, max, Bool, true, false, List, ◌++◌, length, map, reverse, Option, Some, None, slice_get, slice_index_or}
 use Rattle.bm_base.specs.declared.level.Level.{Level}
 use Rattle.bm_base.specs.declared.level.Level.TheVariants.{Highest, VeryUnderReplicated, UnderReplicated, BadlyDistributed, NoUsableReplica}
-use Rattle.bm_base.specs.SlotLists.{Among}
-use Rattle.bm_base.specs.State.{Cluster}
-use Rattle.bm_base.specs.Replicas.{rack_of, is_draining, is_multi_rack}
+use Rattle.bm_maps.specs.SlotLists.{Among}
+use Rattle.bm_base.specs.Machine.State.{Cluster}
+use Rattle.bm_base.specs.Machine.Replicas.{rack_of, is_draining, is_multi_rack}
 use Rattle.bm_queues.specs.Levels.{Levels, level_at, slots_of}
 use Rattle.bm_queues.specs.Members.{Members}
 use Rattle.bm_queues.specs.Walks.{slots_from, IsOn, IsPast}

@@ -1,7 +1,7 @@
 -- Replicas that leave with their storages.
 use Rattle.std.specs.Prelude.{◌≡◌, ◌==◌, ℕ, ◌+◌, ◌++◌, Bool, true, false, List}
 use Rattle.bm_base.specs.declared.replica.ReplicaId.{ReplicaId}
-use Rattle.bm_base.specs.Map.{get, len}
+use Rattle.bm_base.specs.Maps.Map.{get, len}
 use Rattle.bm_arena.specs.Contents.{Contents, HasHead, list_of}
 use Rattle.bm_arena.specs.Holding.{replicas_of, blocks_of}
 

@@ -1,7 +1,7 @@
 // The cluster after an event, as far as levels depend on it.
 ghost use Rattle.std.specs.Prelude.{◌≡◌, None, false, option_map};
 ghost use Rattle.std.specs.Option.{option_map_or};
-ghost use Rattle.bm_base.specs.Replicas as replicas;
+ghost use Rattle.bm_base.specs.Machine.Replicas as replicas;
 ghost use Rattle.bm_levels.specs.Around.{rack_around, drains_around};
 
 use bm_base::{NodeId, StorageId};
@@ -43,7 +43,7 @@ impl<'a> Around<'a> {
 
     /// The rack of a storage, and whether its node drains; `None` for an unknown storage.
     #[inline]
-    #[tactic(auto, unfolding(crate::specs::Judged::drains_then, bm_base::specs::Replicas::is_draining))]
+    #[tactic(auto, unfolding(crate::specs::Judged::drains_then, bm_base::specs::Machine::Replicas::is_draining))]
     pub(crate) fn spot_of(&self, storage: StorageId) -> Option<Spot>
         ensures rack { option_map (λ p. p.rack) result ≡ rack_around self.now storage }
         ensures drains { option_map_or (λ p. p.drains) result false ≡ drains_around self.now storage }

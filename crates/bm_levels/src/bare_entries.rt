@@ -1,6 +1,6 @@
 // Unused entries: those of numbers with neither a block nor a replica.
 ghost use Rattle.std.specs.Prelude.{◌≡◌, ◌≢◌, ℕ, [], Some, None, IsSomeAnd};
-ghost use Rattle.bm_base.specs.State.{Cluster};
+ghost use Rattle.bm_base.specs.Machine.State.{Cluster};
 ghost use Rattle.bm_arena.specs.Contents.{block_at, slot_of};
 ghost use Rattle.bm_arena.specs.Holding.{replicas_at, replicas_of, blocks_of, info_at};
 ghost use Rattle.bm_levels.specs.Bare.{IsBare, HasNoneBareAt, MakesNoneBare, KeepsSlots};

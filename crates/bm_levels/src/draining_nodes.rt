@@ -1,6 +1,6 @@
 // Nodes that begin or cease to drain.
 ghost use Rattle.std.specs.Prelude.{◌≡◌, ℕ, ◌+◌};
-ghost use Rattle.bm_base.specs.SlotLists.{Among};
+ghost use Rattle.bm_maps.specs.SlotLists.{Among};
 ghost use Rattle.bm_arena.specs.Contents.{list_of};
 ghost use Rattle.bm_levels.specs.Kept.{HasRoomFor, HasRoomForEach, KeepsRoom};
 ghost use Rattle.bm_levels.specs.Leveled.{AreLevels};

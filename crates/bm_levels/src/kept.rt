@@ -2,7 +2,7 @@
 ghost use Rattle.std.specs.Prelude.{◌≡◌, true, ◌≢◌, ℕ, ◌+◌, ◌≤◌, None, length, IfOk, IfErr, OnOk, IsOk};
 ghost use Rattle.bm_base.specs.declared.refusal.Refusal.TheVariants.{Memory};
 ghost use Rattle.bm_base.specs.declared.level.Level.{Level};
-ghost use Rattle.bm_base.specs.SlotLists.{Distinct};
+ghost use Rattle.bm_maps.specs.SlotLists.{Distinct};
 ghost use Rattle.bm_levels.specs.Kept.{level_of_slot, IsUnsettled, HasRoomFor, HasRoomAt, KeepsRoom, GrowsWithin, AreSlotsAt, AreWishing, slots_at, wishing_slots, IsKeptAs, IsSameAt, KeepsAhead};
 
 use crate::judging::Judged;

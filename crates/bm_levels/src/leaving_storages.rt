@@ -1,9 +1,9 @@
 // Storages and nodes that leave with all their replicas.
 ghost use Rattle.std.specs.Prelude.{◌≡◌, ◌<◌, ◌^◌, ◌==◌, not, ℕ, [], true};
-ghost use Rattle.bm_base.specs.Map.{keep};
-ghost use Rattle.bm_base.specs.Replicas as replicas;
-ghost use Rattle.bm_base.specs.Events as events;
-ghost use Rattle.bm_base.specs.Calls as calls;
+ghost use Rattle.bm_base.specs.Maps.Map.{keep};
+ghost use Rattle.bm_base.specs.Machine.Replicas as replicas;
+ghost use Rattle.bm_base.specs.Machine.Events as events;
+ghost use Rattle.bm_base.specs.Machine.Calls as calls;
 ghost use Rattle.bm_arena.specs.Contents.{list_of, HasHead};
 ghost use Rattle.bm_arena.specs.Holding.{replicas_of, blocks_of};
 ghost use Rattle.bm_levels.specs.Bare.{MakesNoneBare};

@@ -1,7 +1,7 @@
 // Racks that come and go: the alive nodes get onto two racks or more, or back onto one.
 ghost use Rattle.std.specs.Prelude.{◌≡◌};
-ghost use Rattle.bm_base.specs.State.{Cluster};
-ghost use Rattle.bm_base.specs.Replicas as replicas;
+ghost use Rattle.bm_base.specs.Machine.State.{Cluster};
+ghost use Rattle.bm_base.specs.Machine.Replicas as replicas;
 ghost use Rattle.bm_levels.specs.Leveled.{AreLevels};
 ghost use Rattle.bm_levels.specs.LevelsBy.{AreLevelsWith, IsSameForHeld};
 

@@ -2,10 +2,10 @@
 // the changed blocks.
 ghost use Rattle.std.specs.Prelude.{◌≡◌, ◌==◌, ◌<◌, ◌≤◌, ◌^◌, ◌∷◌, [], ℕ, length, take, IfErr, OnOk, OnErr};
 ghost use Rattle.bm_base.specs.declared.refusal.Refusal.TheVariants.{Memory};
-ghost use Rattle.bm_base.specs.SlotLists.{Among};
-ghost use Rattle.bm_base.specs.State.{Cluster};
-ghost use Rattle.bm_base.specs.Events as events;
-ghost use Rattle.bm_base.specs.Calls as calls;
+ghost use Rattle.bm_maps.specs.SlotLists.{Among};
+ghost use Rattle.bm_base.specs.Machine.State.{Cluster};
+ghost use Rattle.bm_base.specs.Machine.Events as events;
+ghost use Rattle.bm_base.specs.Machine.Calls as calls;
 ghost use Rattle.bm_arena.specs.Contents.{HasHead, KeepsEntries};
 ghost use Rattle.bm_arena.specs.Holding.{replicas_of, blocks_of, holdings_of};
 ghost use Rattle.bm_report.specs.Expanded.{told_to};

@@ -1,8 +1,8 @@
 // What a round changes in marks as it begins: those of replicas in excess.
 ghost use Rattle.std.specs.Prelude.{◌≡◌, ◌≢◌, ℕ, ◌<◌, length, false, Some, if◌then◌else◌};
-ghost use Rattle.bm_base.specs.Map.{revise, revise_at};
-ghost use Rattle.bm_base.specs.Excess as excess;
-ghost use Rattle.bm_base.specs.Excess.{counted_again};
+ghost use Rattle.bm_base.specs.Maps.Map.{revise, revise_at};
+ghost use Rattle.bm_base.specs.Machine.Excess as excess;
+ghost use Rattle.bm_base.specs.Machine.Excess.{counted_again};
 ghost use Rattle.bm_base.specs.RoundParts as parts;
 ghost use Rattle.bm_arena.specs.Contents.{block_at, slot_of, KeepsEntries};
 ghost use Rattle.bm_arena.specs.Holding.{replicas_at, replicas_of, blocks_of};

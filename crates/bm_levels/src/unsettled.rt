@@ -1,7 +1,7 @@
 // The slots that a round has to scan.
 ghost use Rattle.std.specs.Prelude.{◌≡◌, ◌∷◌, length, Some};
-ghost use Rattle.bm_base.specs.Lists.{has};
-ghost use Rattle.bm_base.specs.SlotLists.{Distinct};
+ghost use Rattle.bm_base.specs.Maps.Lists.{has};
+ghost use Rattle.bm_maps.specs.SlotLists.{Distinct};
 ghost use Rattle.bm_queues.specs.Walks.{slots_from, IsOn, IsPast};
 ghost use Rattle.bm_levels.specs.Kept.{IsUnsettled};
 

@@ -6,7 +6,7 @@ use Rattle.bm_base.specs.declared.event.Event.{Event}
 use Rattle.bm_base.specs.declared.event.Event.TheVariants.{Register, Heartbeat, Dead, StorageFailed, Drain, Undrain, AddBlock, DeleteBlock, SetReplication, Restamp, Received, Deleted, Corrupt, FullReport}
 use Rattle.bm_base.specs.declared.call.Call.{Call}
 use Rattle.bm_base.specs.declared.call.Call.TheVariants as call
-use Rattle.bm_base.specs.Fitting.{FitsStamp}
+use Rattle.bm_base.specs.Promises.Fitting.{FitsStamp}
 
 abbrev pub FitsEntry : Entry → Type 0
 FitsEntry e = (e.from < 2 ^ 64) × (e.to < 2 ^ 64) × FitsStamp e.stamp

@@ -10,8 +10,8 @@ use Rattle.std.specs.List.Sorted.{IsSortedByKey, IsPermutation, IsStrictlySorted
 use Rattle.std.proofs.Math.ListN.{get_or-map}
 use Rattle.std.proofs.lemmas.List.Sorted.{IsPermutation-map, All-permutation, list_any-IsPermutation}
 use Rattle.std.proofs.lemmas.Map.Keys.{IsDistinct-IsPermutation, apart_from_distinct, sorted_from_all_adjacent}
-use Rattle.bm_base.specs.Conjunction.{both}
-use Rattle.bm_base.specs.Map.{Order}
+use Rattle.bm_base.specs.Maps.Conjunction.{both}
+use Rattle.bm_base.specs.Maps.Map.{Order}
 use Rattle.bm_base.proofs.Each.{Each, each_appended}
 use Rattle.bm_parts.specs.Found.{IsGathered}
 use Rattle.bm_parts.proofs.Filters.{all_each}

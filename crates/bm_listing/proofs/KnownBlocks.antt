@@ -12,13 +12,13 @@ use Rattle.std.proofs.lemmas.Simd.{map-map}
 use Rattle.std.proofs.lemmas.List.{map-append}
 use Rattle.std.proofs.Math.Seq.{take-suc}
 use Rattle.bm_base.specs.declared.replica.BlockInfo.{BlockInfo}
-use Rattle.bm_base.specs.Map.{Map, by_number, get, entries, keys}
+use Rattle.bm_base.specs.Maps.Map.{Map, by_number, get, entries, keys}
 use Rattle.bm_base.specs.declared.limits.TheConstants.{MAX_PLACES}
-use Rattle.bm_base.specs.State.{by_replica}
-use Rattle.bm_base.specs.Queries.{places}
-use Rattle.bm_base.specs.Versions.{Row, table}
-use Rattle.bm_base.specs.Lists.{has}
-use Rattle.bm_base.specs.SlotLists.{Among, Distinct}
+use Rattle.bm_base.specs.Machine.State.{by_replica}
+use Rattle.bm_base.specs.Machine.Queries.{places}
+use Rattle.bm_base.specs.Promises.Versions.{Row, table}
+use Rattle.bm_base.specs.Maps.Lists.{has}
+use Rattle.bm_maps.specs.SlotLists.{Among, Distinct}
 use Rattle.bm_base.proofs.Each.{Each, each_all, each_then, each_both, each_mapped, each_filtered, each_passing}
 use Rattle.bm_base.proofs.Listed.{any_map}
 use Rattle.bm_base.proofs.Maps.{key_itself, not_tied, each_entry}

@@ -4,8 +4,8 @@ use Rattle.std.specs.Prelude.{◌==◌, nat_eq}
 use Rattle.std.specs.Map.{lookup, keys_of}
 use Rattle.std.specs.List.{IsDistinct, AllByRecursion}
 use Rattle.std.proofs.lemmas.Bool.{false≢true}
-use Rattle.bm_base.specs.Lists.{has}
-use Rattle.bm_base.specs.SlotLists.{Among, Distinct}
+use Rattle.bm_base.specs.Maps.Lists.{has}
+use Rattle.bm_maps.specs.SlotLists.{Among, Distinct}
 use Rattle.bm_base.proofs.Clusters.{eqb_turned}
 use Rattle.bm_base.proofs.Each.{Each, each_then, each_both, each_mapped}
 use Rattle.bm_arena.specs.Triplets.{Block}

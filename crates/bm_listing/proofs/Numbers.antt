@@ -8,12 +8,12 @@ use Rattle.std.specs.FinMap.Entries.{below_all}
 use Rattle.std.specs.List.{list_any}
 use Rattle.std.specs.List.Sorted.{IsSortedByKey, IsPermutation}
 use Rattle.std.proofs.lemmas.Bool.{or_left, or_right}
-use Rattle.bm_base.specs.Conjunction.{both, first, second}
+use Rattle.bm_base.specs.Maps.Conjunction.{both, first, second}
 use Rattle.bm_base.specs.declared.replica.ReplicaId.{ReplicaId}
-use Rattle.bm_base.specs.Map.{by_number}
-use Rattle.bm_base.specs.State.{replica_cmp}
-use Rattle.bm_base.specs.Lists.{has}
-use Rattle.bm_base.specs.SlotLists.{Among, Distinct}
+use Rattle.bm_base.specs.Maps.Map.{by_number}
+use Rattle.bm_base.specs.Machine.State.{replica_cmp}
+use Rattle.bm_base.specs.Maps.Lists.{has}
+use Rattle.bm_maps.specs.SlotLists.{Among, Distinct}
 use Rattle.bm_base.proofs.Clusters.{eqb_turned}
 use Rattle.bm_base.proofs.Each.{Each}
 use Rattle.bm_base.proofs.Listed.{any_agree, same_again}

@@ -2,11 +2,11 @@
 ghost use Rattle.std.specs.Prelude.{◌≡◌, ◌++◌, ℕ, IfOk, IfErr, OnOk};
 ghost use Rattle.std.specs.List.{list_any};
 ghost use Rattle.bm_base.specs.declared.refusal.Refusal.TheVariants.{Memory};
-ghost use Rattle.bm_base.specs.Map.{Map};
-ghost use Rattle.bm_base.specs.State.{by_replica};
-ghost use Rattle.bm_base.specs.Queries as queries;
-ghost use Rattle.bm_base.specs.Refusals as refusals;
-ghost use Rattle.bm_base.specs.Replicas as replicas;
+ghost use Rattle.bm_base.specs.Maps.Map.{Map};
+ghost use Rattle.bm_base.specs.Machine.State.{by_replica};
+ghost use Rattle.bm_base.specs.Machine.Queries as queries;
+ghost use Rattle.bm_base.specs.Machine.Refusals as refusals;
+ghost use Rattle.bm_base.specs.Machine.Replicas as replicas;
 ghost use Rattle.bm_arena.specs.Holding.{replicas_at};
 ghost use Rattle.bm_levels.specs.Held.{holdings_with};
 ghost use Rattle.bm_levels.specs.Judged.{storages_at};

@@ -2,16 +2,16 @@
 use Rattle.std.proofs.Common.{◌≡◌, ℕ, ◌+◌, ◌<◌, None, sym, ap, subst, ◌∙◌}
 use Rattle.bm_base.specs.declared.config.Config.{Config}
 use Rattle.bm_base.specs.declared.event.Event.{Event}
-use Rattle.bm_base.specs.State.{Cluster, limits_of, empty_cluster, empty_holdings}
-use Rattle.bm_base.specs.Events.{change_cluster, change_holdings}
-use Rattle.bm_base.specs.Refusals.{refusal_of, last_number}
-use Rattle.bm_base.specs.Configuration.{config_refusal}
-use Rattle.bm_base.specs.Calls.{after_event}
-use Rattle.bm_base.specs.Lawful.{IsLawful}
-use Rattle.bm_base.specs.Fitting.{FitsEvent, HasFittingStart}
-use Rattle.bm_base.proofs.First.{first_lawful}
-use Rattle.bm_base.proofs.Accepting.{event_lawful}
-use Rattle.bm_base.proofs.Rounding.{round_lawful}
+use Rattle.bm_base.specs.Machine.State.{Cluster, limits_of, empty_cluster, empty_holdings}
+use Rattle.bm_base.specs.Machine.Events.{change_cluster, change_holdings}
+use Rattle.bm_base.specs.Machine.Refusals.{refusal_of, last_number}
+use Rattle.bm_base.specs.Machine.Configuration.{config_refusal}
+use Rattle.bm_base.specs.Machine.Calls.{after_event}
+use Rattle.bm_base.specs.Promises.Lawful.{IsLawful}
+use Rattle.bm_base.specs.Promises.Fitting.{FitsEvent, HasFittingStart}
+use Rattle.laws_of_states.proofs.First.{first_lawful}
+use Rattle.laws_of_states.proofs.Accepting.{event_lawful}
+use Rattle.laws_of_states.proofs.Rounding.{round_lawful}
 use Rattle.bm_fleet.specs.Whole.{Whole, StandsIn, HasTaken}
 use Rattle.bm_fleet.specs.Rounds.{left_by_round}
 use Rattle.bm_manager.specs.Managers.{IsManager, state_of}

@@ -3,15 +3,15 @@ use Rattle.std.proofs.Common.{◌≡◌, ◌+◌, Result, Ok, Err, refl, sym, ap
 use Rattle.std.specs.Prelude.{IfOk, OnOk}
 use Rattle.bm_base.specs.declared.refusal.Refusal.{Refusal}
 use Rattle.bm_base.specs.declared.commands.Commands.{Commands}
-use Rattle.bm_base.specs.State.{Holdings, State}
-use Rattle.bm_base.specs.Excess.{begun, started}
-use Rattle.bm_base.specs.Rounds.{whole_round}
+use Rattle.bm_base.specs.Machine.State.{Holdings, State}
+use Rattle.bm_base.specs.Machine.Excess.{begun, started}
+use Rattle.bm_base.specs.Machine.Rounds.{whole_round}
 use Rattle.bm_base.specs.RoundParts.{started_holdings}
-use Rattle.bm_base.specs.Calls.{counted}
-use Rattle.bm_base.specs.Lawful.{IsLawful}
-use Rattle.bm_base.specs.Sparing.{SparesLastGood, KeepsEnoughLive}
-use Rattle.bm_base.proofs.Rounding.{orderly}
-use Rattle.bm_base.proofs.LastGood.{round_spares, round_keeps}
+use Rattle.bm_base.specs.Machine.Calls.{counted}
+use Rattle.bm_base.specs.Promises.Lawful.{IsLawful}
+use Rattle.bm_base.specs.Promises.Sparing.{SparesLastGood, KeepsEnoughLive}
+use Rattle.laws_of_states.proofs.Rounding.{orderly}
+use Rattle.laws_of_states.proofs.LastGood.{round_spares, round_keeps}
 use Rattle.bm_fleet.specs.Rounds.{commands_in, left_by_round}
 
 pub whole_commands : (M : State) → commands_in M.limits M.cluster (M.round + 1) M.holdings ≡ (whole_round M).0

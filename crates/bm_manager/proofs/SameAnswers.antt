@@ -3,8 +3,8 @@ use Rattle.std.proofs.Common.{◌≡◌, Bool, true, false, List, [], ◌∷◌,
 use Rattle.std.specs.Prelude.{◌||◌, if◌then◌else◌}
 use Rattle.bm_base.specs.declared.call.Call.{Call}
 use Rattle.bm_base.specs.declared.call.Answer.{Answer}
-use Rattle.bm_base.specs.State.{State}
-use Rattle.bm_base.specs.Answering.{MayAnswer, MayAnswerAll, state_left, wants_memory}
+use Rattle.bm_base.specs.Machine.State.{State}
+use Rattle.bm_base.specs.Machine.Answering.{MayAnswer, MayAnswerAll, state_left, wants_memory}
 use Rattle.bm_manager.specs.Alike.{AreAlike}
 
 module _ (step : State → Call → Answer × State) where

@@ -8,13 +8,13 @@ use Rattle.std.proofs.Common.{subst, sym, arith, ap}
 use Rattle.std.proofs.lemmas.Bool.Decides.{nat_tests}
 use Rattle.std.proofs.lemmas.List.Elements.{All-nil, All-cons}
 use Rattle.std.proofs.lemmas.List.Kept.{AllPairs-cons}
-use Rattle.bm_base.specs.Conjunction.{first, second}
+use Rattle.bm_base.specs.Maps.Conjunction.{first, second}
 use Rattle.bm_base.specs.declared.limits.TheConstants.{MAX_PLACES}
 use Rattle.bm_base.specs.declared.replica.BlockInfo.{BlockInfo}
-use Rattle.bm_base.specs.Map.{keys, entries}
-use Rattle.bm_base.specs.State.{Holdings}
-use Rattle.bm_base.specs.Queries.{places}
-use Rattle.bm_base.specs.Versions.{Row, table}
+use Rattle.bm_base.specs.Maps.Map.{keys, entries}
+use Rattle.bm_base.specs.Machine.State.{Holdings}
+use Rattle.bm_base.specs.Machine.Queries.{places}
+use Rattle.bm_base.specs.Promises.Versions.{Row, table}
 use Rattle.bm_view.specs.Version.{RisesById}
 
 module _ (f : ℕ → List ℕ) where

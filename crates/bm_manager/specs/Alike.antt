@@ -1,7 +1,7 @@
 -- Answers of two managers that were made the same calls.
 use Rattle.std.specs.Prelude.{◌≡◌, ◌||◌, IsTrue, ◌⊎◌, List, [], ◌∷◌}
 use Rattle.bm_base.specs.declared.call.Answer.{Answer}
-use Rattle.bm_base.specs.Answering.{wants_memory}
+use Rattle.bm_base.specs.Machine.Answering.{wants_memory}
 
 -- The answers are equal pairwise, up to the first index at which one of the two lists is out of
 -- memory. After that they may differ: one of the two has skipped a call that the other one may have

@@ -2,9 +2,9 @@
 -- numbers.
 use Rattle.std.specs.Prelude.{◌≡◌, ℕ, None}
 use Rattle.bm_base.specs.declared.config.Config.{Config}
-use Rattle.bm_base.specs.State.{Cluster, Holdings, State, limits_of}
-use Rattle.bm_base.specs.Configuration.{config_refusal}
-use Rattle.bm_base.specs.Lawful.{IsLawful}
+use Rattle.bm_base.specs.Machine.State.{Cluster, Holdings, State, limits_of}
+use Rattle.bm_base.specs.Machine.Configuration.{config_refusal}
+use Rattle.bm_base.specs.Promises.Lawful.{IsLawful}
 use Rattle.bm_fleet.specs.Whole.{Whole, StandsIn, HasTaken}
 
 -- the state that they are

@@ -1,9 +1,9 @@
 // The queries of a manager. No query changes anything, and none counts as an accepted call.
 ghost use Rattle.std.specs.Prelude.{◌≡◌, true, false, None, IfOk, IfErr, OnOk};
-ghost use Rattle.bm_base.specs.Queries as queries;
-ghost use Rattle.bm_base.specs.Levels as levels;
-ghost use Rattle.bm_base.specs.Refusals.{node_refusal, storage_refusal, block_refusal};
-ghost use Rattle.bm_base.specs.Answering.{Refuses};
+ghost use Rattle.bm_base.specs.Machine.Queries as queries;
+ghost use Rattle.bm_base.specs.Machine.Levels as levels;
+ghost use Rattle.bm_base.specs.Machine.Refusals.{node_refusal, storage_refusal, block_refusal};
+ghost use Rattle.bm_base.specs.Machine.Answering.{Refuses};
 ghost use Rattle.bm_base.specs.declared.refusal.Refusal.TheVariants.{Memory};
 
 use crate::manager::Manager;
@@ -50,7 +50,7 @@ impl Manager {
 
     /// The blocks of all replicas on a storage, whatever their tags, ascending. `UnknownStorage`;
     /// `Memory`.
-    #[tactic(auto, unfolding(bm_base::specs::Refusals::storage_refusal))]
+    #[tactic(auto, unfolding(bm_base::specs::Machine::Refusals::storage_refusal))]
     pub fn blocks_on(&self, storage: StorageId) -> Result<Items<BlockId>, Refusal>
         ensures known { OnOk result (storage_refusal self.now.cluster storage ≡ None) }
         ensures blocks { IfOk result (λ v. v ≡ queries.blocks_on self.now.holdings storage) }
@@ -83,7 +83,7 @@ impl Manager {
 
     /// Whether a node is decommissioned and can be switched off: it drains, and each block with a
     /// drained replica on it has as many live ones as are wanted. `UnknownNode`. Takes no memory.
-    #[tactic(auto, unfolding(bm_base::specs::Refusals::node_refusal, bm_base::specs::Queries::is_retired, bm_parts::specs::QueryLaws::holds_back))]
+    #[tactic(auto, unfolding(bm_base::specs::Machine::Refusals::node_refusal, bm_base::specs::Machine::Queries::is_retired, bm_parts::specs::QueryLaws::holds_back))]
     pub fn retired(&self, node: NodeId) -> Result<bool, Refusal>
         ensures known { OnOk result (node_refusal self.now.cluster node ≡ None) }
         ensures retired { IfOk result

@@ -1,8 +1,8 @@
 // Calls as values: one call, and lists of calls.
 ghost use Rattle.std.specs.Prelude.{◌≡◌, IfOk, OnErr};
-ghost use Rattle.bm_base.specs.Answering.{MayAnswer, MayAnswerAll, state_left, state_left_by};
-ghost use Rattle.bm_base.specs.Calls.{step};
-ghost use Rattle.bm_base.specs.Lawful.{IsLawful};
+ghost use Rattle.bm_base.specs.Machine.Answering.{MayAnswer, MayAnswerAll, state_left, state_left_by};
+ghost use Rattle.bm_base.specs.Machine.Calls.{step};
+ghost use Rattle.bm_base.specs.Promises.Lawful.{IsLawful};
 
 use crate::manager::Manager;
 use bm_base::{Answer, Call, Items};

@@ -1,11 +1,11 @@
 // The manager: one call after another.
 ghost use Rattle.std.specs.Prelude.{◌≡◌, ◌<◌, true, None, IfOk, IfErr, OnOk, OnErr};
-ghost use Rattle.bm_base.specs.State.{first_state};
-ghost use Rattle.bm_base.specs.Refusals.{refusal_of, first_of, cluster_checks, block_checks, last_number};
-ghost use Rattle.bm_base.specs.Configuration.{config_refusal};
-ghost use Rattle.bm_base.specs.Calls.{done_by, after_event};
-ghost use Rattle.bm_base.specs.Lawful.{IsLawful};
-ghost use Rattle.bm_base.specs.Answering.{checked, Refuses, takes_memory};
+ghost use Rattle.bm_base.specs.Machine.State.{first_state};
+ghost use Rattle.bm_base.specs.Machine.Refusals.{refusal_of, first_of, cluster_checks, block_checks, last_number};
+ghost use Rattle.bm_base.specs.Machine.Configuration.{config_refusal};
+ghost use Rattle.bm_base.specs.Machine.Calls.{done_by, after_event};
+ghost use Rattle.bm_base.specs.Promises.Lawful.{IsLawful};
+ghost use Rattle.bm_base.specs.Machine.Answering.{checked, Refuses, takes_memory};
 
 use bm_base::{Config, Done, Event, HashSecret, Refusal};
 use bm_crew::Gate;
@@ -44,7 +44,7 @@ pub struct Manager {
 }
 
 impl Model for Manager {
-    ghost use Rattle.bm_base.specs.State.{State};
+    ghost use Rattle.bm_base.specs.Machine.State.{State};
     ghost use Rattle.bm_base.specs.Codes.{coded_state};
     ghost use Rattle.bm_manager.specs.Managers.{state_of, IsManager};
 
@@ -130,7 +130,7 @@ impl Manager {
     }
 
     /// Takes one event by these workers.
-    #[tactic(auto, unfolding(bm_base::specs::Calls::after_event, bm_base::specs::Calls::done_by))]
+    #[tactic(auto, unfolding(bm_base::specs::Machine::Calls::after_event, bm_base::specs::Machine::Calls::done_by))]
     pub(crate) fn apply_by<W: Workers>(
         &mut self,
         workers: &W,
@@ -174,7 +174,7 @@ impl Manager {
     }
 
     /// The first refusal of an event.
-    #[tactic(auto, unfolding(bm_base::specs::Refusals::refusal_of, bm_base::specs::Refusals::calls_spent))]
+    #[tactic(auto, unfolding(bm_base::specs::Machine::Refusals::refusal_of, bm_base::specs::Machine::Refusals::calls_spent))]
     fn check(&self, event: &Event) -> Result<(), Refusal>
         ensures refusal { result ≡ checked (refusal_of self.now event.now) }
         ensures room { OnOk result (self.now.calls < last_number) }

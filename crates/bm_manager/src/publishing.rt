@@ -1,7 +1,7 @@
 // Versions of a manager's state for readers.
 ghost use Rattle.std.specs.Prelude.{◌≡◌, ◌≤◌, ◌++◌, ◌∷◌, [], IfOk, IfErr, OnOk, OnErr};
 ghost use Rattle.bm_base.specs.declared.refusal.Refusal.TheVariants.{Memory};
-ghost use Rattle.bm_base.specs.Versions.{version};
+ghost use Rattle.bm_base.specs.Promises.Versions.{version};
 ghost use Rattle.bm_view.specs.History.{last_of, IsHistory};
 
 use crate::manager::Manager;
@@ -47,7 +47,7 @@ impl Manager {
     }
 
     /// The version of the state.
-    #[tactic(auto, unfolding(bm_base::specs::Versions::version))]
+    #[tactic(auto, unfolding(bm_base::specs::Promises::Versions::version))]
     fn version<R: Threads + Wait + Sync>(&mut self, rt: &R) -> Result<Table, Refusal>
         ensures same { self.new ≡ self.old }
         ensures version { IfOk result (λ t. t ≡ version self.old) }

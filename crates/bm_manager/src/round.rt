@@ -1,11 +1,11 @@
 // The manager's rounds.
 ghost use Rattle.std.specs.Prelude.{◌≡◌, ◌<◌, true, None, IfOk, IfErr, OnOk, OnErr};
 ghost use Rattle.bm_base.specs.declared.refusal.Refusal.TheVariants.{Memory};
-ghost use Rattle.bm_base.specs.Rounds.{whole_round};
-ghost use Rattle.bm_base.specs.Sparing.{SparesLastGood, KeepsEnoughLive};
-ghost use Rattle.bm_base.specs.Refusals.{round_refusal, last_number};
-ghost use Rattle.bm_base.specs.Calls.{counted};
-ghost use Rattle.bm_base.specs.Answering.{checked, Refuses};
+ghost use Rattle.bm_base.specs.Machine.Rounds.{whole_round};
+ghost use Rattle.bm_base.specs.Promises.Sparing.{SparesLastGood, KeepsEnoughLive};
+ghost use Rattle.bm_base.specs.Machine.Refusals.{round_refusal, last_number};
+ghost use Rattle.bm_base.specs.Machine.Calls.{counted};
+ghost use Rattle.bm_base.specs.Machine.Answering.{checked, Refuses};
 
 use crate::manager::Manager;
 use bm_base::{Commands, Refusal};
@@ -75,7 +75,7 @@ impl Manager {
     }
 
     /// The first refusal of a round.
-    #[tactic(auto, unfolding(bm_base::specs::Refusals::round_refusal, bm_base::specs::Refusals::calls_spent))]
+    #[tactic(auto, unfolding(bm_base::specs::Machine::Refusals::round_refusal, bm_base::specs::Machine::Refusals::calls_spent))]
     fn check_round(&self) -> Result<(), Refusal>
         ensures refusal { result ≡ checked (round_refusal self.now) }
         ensures round { OnOk result (self.now.round < last_number) }

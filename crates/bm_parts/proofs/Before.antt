@@ -7,15 +7,15 @@ use Rattle.std.specs.FinMap.Entries.{below_all}
 use Rattle.std.proofs.lemmas.List.Elements.{filter-append}
 use Rattle.bm_base.specs.declared.round.RoundPart.{RoundPart}
 use Rattle.bm_base.specs.declared.round.Wish.{Wish}
-use Rattle.bm_base.specs.Conjunction.{both, first, second}
-use Rattle.bm_base.specs.Map.{Order, Map, get, empty, entries, insert, insert_all, keep}
+use Rattle.bm_base.specs.Maps.Conjunction.{both, first, second}
+use Rattle.bm_base.specs.Maps.Map.{Order, Map, get, empty, entries, insert, insert_all, keep}
 use Rattle.bm_base.specs.Ordered.{pair_cmp, by_pair, ordered_by}
 use Rattle.bm_base.specs.RoundParts.{wish_key}
 use Rattle.bm_base.specs.Choices.{merged_wishes}
 use Rattle.bm_base.proofs.Each.{Each, each_then}
 use Rattle.bm_base.proofs.MapLaws.{same_map, get-keep, get-insert, get-empty, entries-keep}
 use Rattle.bm_base.proofs.Maps.{same_key, each_entry, holds_insert_all}
-use Rattle.bm_base.proofs.Keeping.{keep-insert}
+use Rattle.bm_parts.proofs.Keeping.{keep-insert}
 use Rattle.bm_parts.specs.Before.{is_before, wishes_before, part_before}
 use Rattle.bm_parts.proofs.Filters.{filtered_alike, map_filter}
 

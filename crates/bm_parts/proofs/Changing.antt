@@ -1,9 +1,9 @@
 -- Changing each part changes the whole.
 use Rattle.std.proofs.Common.{◌≡◌, ℕ, zero, suc, ◌+◌, ◌≤◌, List, [], ◌∷◌, length, refl, sym, ap, subst, ◌∙◌, arith}
-use Rattle.bm_base.specs.State.{Cluster, Holdings}
-use Rattle.bm_base.specs.Events.{change_holdings}
-use Rattle.bm_base.specs.Rounds.{finished}
-use Rattle.bm_base.specs.Calls.{done}
+use Rattle.bm_base.specs.Machine.State.{Cluster, Holdings}
+use Rattle.bm_base.specs.Machine.Events.{change_holdings}
+use Rattle.bm_base.specs.Machine.Rounds.{finished}
+use Rattle.bm_base.specs.Machine.Calls.{done}
 use Rattle.bm_base.specs.declared.event.Event.{Event}
 use Rattle.bm_base.specs.Shards.{cut}
 use Rattle.bm_parts.specs.Parts.{change_part, sum_over, done_in}

@@ -5,8 +5,8 @@ use Rattle.std.proofs.lemmas.Bool.{false≢true}
 use Rattle.std.proofs.lemmas.Option.{same_Some}
 use Rattle.std.specs.FinMap.{find}
 use Rattle.std.specs.List.{list_any}
-use Rattle.bm_base.specs.Map.{Map, Order, get, entries}
-use Rattle.bm_base.specs.OfSorted.{of_sorted}
+use Rattle.bm_base.specs.Maps.Map.{Map, Order, get, entries}
+use Rattle.bm_base.specs.Maps.OfSorted.{of_sorted}
 use Rattle.bm_base.proofs.OfSorted.{entries-of_sorted, get-of_sorted}
 use Rattle.bm_base.proofs.MapLaws.{same_map}
 use Rattle.bm_base.proofs.Options.{there}

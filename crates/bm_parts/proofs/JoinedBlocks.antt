@@ -4,13 +4,13 @@ use Rattle.std.specs.Prelude.{◌==◌, take}
 use Rattle.std.specs.Ordering.{nat_cmp}
 use Rattle.std.specs.FinMap.{is_sorted}
 use Rattle.bm_base.specs.declared.replica.BlockInfo.{BlockInfo}
-use Rattle.bm_base.specs.Map.{by_number, entries, keys}
-use Rattle.bm_base.specs.State.{Holdings}
-use Rattle.bm_base.specs.Replicas.{is_good}
-use Rattle.bm_base.specs.Levels.{level, is_at}
+use Rattle.bm_base.specs.Maps.Map.{by_number, entries, keys}
+use Rattle.bm_base.specs.Machine.State.{Holdings}
+use Rattle.bm_base.specs.Machine.Replicas.{is_good}
+use Rattle.bm_base.specs.Machine.Levels.{level, is_at}
 use Rattle.bm_base.specs.declared.level.Level.TheVariants.{NoUsableReplica}
-use Rattle.bm_base.specs.Queries.{missing_blocks, places}
-use Rattle.bm_base.specs.Versions.{table}
+use Rattle.bm_base.specs.Machine.Queries.{missing_blocks, places}
+use Rattle.bm_base.specs.Promises.Versions.{table}
 use Rattle.bm_base.specs.declared.limits.TheConstants.{MAX_PLACES}
 use Rattle.bm_base.specs.Shards.{shard_of, cut}
 use Rattle.bm_base.specs.Ordered.{ordered_by}
@@ -20,7 +20,7 @@ use Rattle.bm_parts.proofs.Parts.{own}
 use Rattle.bm_parts.proofs.Filters.{filter_swap, map_filter, filter_all}
 use Rattle.std.proofs.lemmas.Simd.{map-map}
 use Rattle.bm_parts.proofs.Cutting.{keys_cut, storages_cut, level_cut}
-use Rattle.bm_base.proofs.WholeChoices.{flat_map_same}
+use Rattle.bm_parts.proofs.WholeChoices.{flat_map_same}
 use Rattle.bm_parts.proofs.JoinedReplicas.{listed_rises, joins}
 
 -- Known blocks.

@@ -4,14 +4,14 @@ use Rattle.std.specs.Prelude.{◌==◌}
 use Rattle.std.specs.Ordering.{is_lt, nat_cmp}
 use Rattle.std.specs.FinMap.{is_sorted}
 use Rattle.std.specs.FinMap.Entries.{below_all}
-use Rattle.bm_base.specs.Conjunction.{both, first, second}
+use Rattle.bm_base.specs.Maps.Conjunction.{both, first, second}
 use Rattle.bm_base.specs.declared.replica.ReplicaId.{ReplicaId}
 use Rattle.bm_base.specs.declared.replica.Marks.{Marks}
 use Rattle.bm_base.specs.declared.replica.Replica.{Replica}
-use Rattle.bm_base.specs.Map.{Order, by_number, entries}
-use Rattle.bm_base.specs.State.{Holdings, by_replica, replica_cmp}
-use Rattle.bm_base.specs.Queries.{all_replicas, replicas_where, blocks_on}
-use Rattle.bm_base.specs.Entries.{count_up}
+use Rattle.bm_base.specs.Maps.Map.{Order, by_number, entries}
+use Rattle.bm_base.specs.Machine.State.{Holdings, by_replica, replica_cmp}
+use Rattle.bm_base.specs.Machine.Queries.{all_replicas, replicas_where, blocks_on}
+use Rattle.bm_base.specs.Machine.Entries.{count_up}
 use Rattle.bm_base.specs.Shards.{shard_of, cut}
 use Rattle.bm_base.specs.Ordered.{ordered_by}
 use Rattle.bm_parts.specs.Whole.{parts}
@@ -21,7 +21,7 @@ use Rattle.bm_parts.proofs.Joined.{shares_in_order}
 use Rattle.bm_parts.proofs.Filters.{filter_swap, map_filter, filter_all}
 use Rattle.std.proofs.lemmas.List.Folds.{flat_map-map}
 use Rattle.bm_parts.proofs.Cutting.{replicas_cut}
-use Rattle.bm_base.proofs.WholeChoices.{flat_map_same}
+use Rattle.bm_parts.proofs.WholeChoices.{flat_map_same}
 use Rattle.bm_base.proofs.RisingParts.{lesser_block}
 
 -- Results for sorted entries, each with its entry's key, are sorted.

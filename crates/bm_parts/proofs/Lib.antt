@@ -1,3 +1,11 @@
+-- Events on the holdings of one part.
+pub mod Keeping
+pub mod Among
+pub mod Entering
+-- What a round chooses of a part.
+pub mod ChosenCopies
+pub mod WholeChoices
+pub mod OnePart
 -- Lists.
 pub mod Filters
 pub mod Joined

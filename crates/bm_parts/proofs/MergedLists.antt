@@ -6,12 +6,12 @@ use Rattle.std.specs.Ordering.{is_lt, ordering_reverse, eq_by_cmp}
 use Rattle.std.specs.FinMap.{put, is_sorted}
 use Rattle.std.specs.FinMap.Entries.{below_all, by_order, is_sorted-put}
 use Rattle.std.proofs.lemmas.List.{at_drop_more, at_drop_all}
-use Rattle.bm_base.specs.Map.{Map, get, insert, insert_all, empty}
-use Rattle.bm_base.specs.MapCode.{same_entries_map}
-use Rattle.bm_base.specs.OfSorted.{of_sorted}
+use Rattle.bm_base.specs.Maps.Map.{Map, get, insert, insert_all, empty}
+use Rattle.bm_base.specs.Maps.MapCode.{same_entries_map}
+use Rattle.bm_base.specs.Maps.OfSorted.{of_sorted}
 use Rattle.bm_base.proofs.OfSorted.{list-of_sorted}
 use Rattle.bm_base.proofs.MapLaws.{same_map, get-insert, get-empty}
-use Rattle.bm_base.specs.Conjunction.{both, first, second}
+use Rattle.bm_base.specs.Maps.Conjunction.{both, first, second}
 use Rattle.bm_base.specs.Ordered.{pair_cmp, pair_cmp-same, by_pair}
 use Rattle.bm_parts.specs.Merging.{put_all, AreSorted}
 

@@ -4,16 +4,16 @@ use Rattle.std.proofs.lemmas.List.Folds.{flat_map-map}
 use Rattle.bm_base.specs.declared.commands.Delete.{Delete}
 use Rattle.bm_base.specs.declared.round.Wish.{Wish}
 use Rattle.bm_base.specs.declared.round.RoundPart.{RoundPart}
-use Rattle.bm_base.specs.State.{Cluster, Holdings}
-use Rattle.bm_base.specs.Entries.{count_up}
-use Rattle.bm_base.specs.Rounds.{commands_of, finished}
+use Rattle.bm_base.specs.Machine.State.{Cluster, Holdings}
+use Rattle.bm_base.specs.Machine.Entries.{count_up}
+use Rattle.bm_base.specs.Machine.Rounds.{commands_of, finished}
 use Rattle.bm_base.specs.Shards.{shard_of, cut}
 use Rattle.bm_base.specs.Ordered.{by_pair, ordered_by}
 use Rattle.bm_base.specs.RoundParts.{started_holdings, wishes_by_block, deletable, round_part, wish_key, delete_key}
 use Rattle.bm_base.specs.Choices.{merged_wishes, merged_deletes, one_by_one, transfers_over, chosen_transfers, first_of_each_node, chosen_deletes}
 use Rattle.bm_base.proofs.RisingParts.{wishes_rise, deletes_rise}
-use Rattle.bm_base.proofs.WholeChoices.{flat_map_same, transfers_of_wishes, deletes_of_nodes}
-use Rattle.bm_base.proofs.OnePart as one_part
+use Rattle.bm_parts.proofs.WholeChoices.{flat_map_same, transfers_of_wishes, deletes_of_nodes}
+use Rattle.bm_parts.proofs.OnePart as one_part
 use Rattle.bm_parts.specs.Whole.{parts}
 use Rattle.bm_parts.specs.RoundLaws as law
 use Rattle.bm_parts.proofs.Joined.{share, shares_in_order}

@@ -2,9 +2,9 @@
 use Rattle.std.proofs.Common.{◌≡◌, Bool, true, false, cond, List, [], ◌∷◌, filter, Option, Some, None, refl, sym, ap, ◌∙◌, true≢false}
 use Rattle.std.specs.Prelude.{option_and_then, option_map}
 use Rattle.std.specs.Ordering.{eq_by_cmp}
-use Rattle.bm_base.specs.Map.{Map, Order, get, insert, insert_all, keep, revise, remove}
+use Rattle.bm_base.specs.Maps.Map.{Map, Order, get, insert, insert_all, keep, revise, remove}
 use Rattle.bm_base.proofs.MapLaws.{same_map, get-keep, get-revise, get-remove}
-use Rattle.bm_base.proofs.Keeping.{keep-insert, get-keep_there}
+use Rattle.bm_parts.proofs.Keeping.{keep-insert, get-keep_there}
 use Rattle.bm_base.proofs.Options.{none_stays, all_stays, not_taken}
 use Rattle.bm_base.proofs.Maps.{same_key, get_elsewhere}
 

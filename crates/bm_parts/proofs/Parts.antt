@@ -9,13 +9,13 @@ use Rattle.bm_base.specs.declared.replica.Stamp.{Stamp}
 use Rattle.bm_base.specs.declared.replica.BlockInfo.{BlockInfo}
 use Rattle.bm_base.specs.declared.event.Event.{Event}
 use Rattle.bm_base.specs.declared.event.Event.TheVariants.{Register, Dead, StorageFailed, Heartbeat, Drain, Undrain, AddBlock, DeleteBlock, SetReplication, Restamp, Received, Deleted, Corrupt, FullReport}
-use Rattle.bm_base.specs.Map.{Map, by_number, get, insert, insert_all, keep, revise, revise_at}
-use Rattle.bm_base.specs.State.{Cluster, Holdings, by_replica, replica_at, replica_cmp}
-use Rattle.bm_base.specs.Replicas.{has_storage, drains, are_sisters}
-use Rattle.bm_base.specs.Entries.{Told, expanded}
-use Rattle.bm_base.specs.Events.{was_bad, was_excess, entered_tag, entered, replaces, enter, is_named, leaves_by_report, report, without_pending, revise_block, add_block, delete_block, set_replication, restamp, make_bad, remove_replica, without_storages, begun_to_drain, change_holdings, as_stray, as_restamped, as_bad}
+use Rattle.bm_base.specs.Maps.Map.{Map, by_number, get, insert, insert_all, keep, revise, revise_at}
+use Rattle.bm_base.specs.Machine.State.{Cluster, Holdings, by_replica, replica_at, replica_cmp}
+use Rattle.bm_base.specs.Machine.Replicas.{has_storage, drains, are_sisters}
+use Rattle.bm_base.specs.Machine.Entries.{Told, expanded}
+use Rattle.bm_base.specs.Machine.Events.{was_bad, was_excess, entered_tag, entered, replaces, enter, is_named, leaves_by_report, report, without_pending, revise_block, add_block, delete_block, set_replication, restamp, make_bad, remove_replica, without_storages, begun_to_drain, change_holdings, as_stray, as_restamped, as_bad}
 use Rattle.bm_base.specs.Shards.{shard_of, cut}
-use Rattle.bm_base.proofs.Keeping.{keep-insert, keep-keep, keep-remove}
+use Rattle.bm_parts.proofs.Keeping.{keep-insert, keep-keep, keep-remove}
 use Rattle.bm_base.proofs.MapLaws.{same_map}
 use Rattle.bm_base.proofs.Ties.{number_tie, replica_tie}
 use Rattle.bm_parts.proofs.PartMaps.{part, get_in, get_out, part_revised, part_revised_others, part_kept, part_kept_others, part_inserted_other, part_removed_other, part_inserted_all}

@@ -12,18 +12,18 @@ use Rattle.bm_base.specs.declared.replica.ReplicaId.{ReplicaId}
 use Rattle.bm_base.specs.declared.replica.Marks.{Marks}
 use Rattle.bm_base.specs.declared.replica.Stamp.{Stamp}
 use Rattle.bm_base.specs.declared.storage.StorageInfo.{StorageInfo}
-use Rattle.bm_base.specs.Map.{Map, get, keep, revise, revise_at, contains_key}
-use Rattle.bm_base.specs.State.{Cluster, Holdings, by_replica, replica_at, replica_cmp}
-use Rattle.bm_base.specs.Lists.{has_repeats}
+use Rattle.bm_base.specs.Maps.Map.{Map, get, keep, revise, revise_at, contains_key}
+use Rattle.bm_base.specs.Machine.State.{Cluster, Holdings, by_replica, replica_at, replica_cmp}
+use Rattle.bm_base.specs.Maps.Lists.{has_repeats}
 use Rattle.bm_base.specs.Shards.{shard_of}
-use Rattle.bm_base.specs.Replicas.{node_of, rack_of, has_storage, drains}
-use Rattle.bm_base.specs.Entries.{Told, expanded}
-use Rattle.bm_base.specs.Events.{register, heartbeat, without_node, without_storage, drain, undrain, without_storages, begun_to_drain, entered, replaces, enter, leaves_by_report, report, without_pending, revise_block, add_block, delete_block, set_replication, restamp, make_bad, remove_replica, as_stray, as_restamped, as_bad, change_cluster, change_holdings}
-use Rattle.bm_base.specs.Excess.{without_expired, without_unordered_excess, marked}
-use Rattle.bm_base.specs.Rounds.{finished}
+use Rattle.bm_base.specs.Machine.Replicas.{node_of, rack_of, has_storage, drains}
+use Rattle.bm_base.specs.Machine.Entries.{Told, expanded}
+use Rattle.bm_base.specs.Machine.Events.{register, heartbeat, without_node, without_storage, drain, undrain, without_storages, begun_to_drain, entered, replaces, enter, leaves_by_report, report, without_pending, revise_block, add_block, delete_block, set_replication, restamp, make_bad, remove_replica, as_stray, as_restamped, as_bad, change_cluster, change_holdings}
+use Rattle.bm_base.specs.Machine.Excess.{without_expired, without_unordered_excess, marked}
+use Rattle.bm_base.specs.Machine.Rounds.{finished}
 use Rattle.bm_base.specs.RoundParts.{started_holdings}
-use Rattle.bm_base.specs.Refusals.{first_of, cluster_checks, knows_node, knows_storage, is_too_long}
-use Rattle.bm_base.specs.Lawful.{IsLawfulCluster}
+use Rattle.bm_base.specs.Machine.Refusals.{first_of, cluster_checks, knows_node, knows_storage, is_too_long}
+use Rattle.bm_base.specs.Promises.Lawful.{IsLawfulCluster}
 use Rattle.bm_base.proofs.Checks.{first_fails, all_fail}
 use Rattle.bm_base.proofs.Options.{there, is_there, not_passed, fails_not}
 use Rattle.bm_base.proofs.Each.{each_of, each_mapped}

@@ -5,8 +5,8 @@ use Rattle.std.specs.FinMap.{is_sorted}
 use Rattle.std.specs.List.{list_any}
 use Rattle.std.specs.List.Sorted.{IsPermutation}
 use Rattle.std.proofs.lemmas.List.Sorted.{All-permutation, IsPermutation-sym, IsPermutation-map, list_any-IsPermutation}
-use Rattle.bm_base.specs.Map.{Map, Order, get, entries}
-use Rattle.bm_base.specs.OfSorted.{of_sorted}
+use Rattle.bm_base.specs.Maps.Map.{Map, Order, get, entries}
+use Rattle.bm_base.specs.Maps.OfSorted.{of_sorted}
 use Rattle.bm_base.proofs.OfSorted.{entries-of_sorted}
 use Rattle.bm_base.specs.Ordered.{ordered_by}
 use Rattle.bm_base.proofs.Each.{Each, each_all}

@@ -11,19 +11,19 @@ use Rattle.bm_base.specs.declared.refusal.Refusal.TheVariants.{TooMany, UnknownS
 use Rattle.bm_base.specs.declared.replica.ReplicaId.{ReplicaId}
 use Rattle.bm_base.specs.declared.replica.Marks.{Marks}
 use Rattle.bm_base.specs.declared.replica.Stamp.{Stamp}
-use Rattle.bm_base.specs.Map.{by_number, get, keep, revise, revise_at, contains_key}
-use Rattle.bm_base.specs.State.{Cluster, Holdings, replica_at, replica_cmp}
-use Rattle.bm_base.specs.Lists.{has}
+use Rattle.bm_base.specs.Maps.Map.{by_number, get, keep, revise, revise_at, contains_key}
+use Rattle.bm_base.specs.Machine.State.{Cluster, Holdings, replica_at, replica_cmp}
+use Rattle.bm_base.specs.Maps.Lists.{has}
 use Rattle.bm_base.specs.Shards.{shard_of}
-use Rattle.bm_base.specs.Replicas.{node_of, has_storage, is_good, are_sisters}
-use Rattle.bm_base.specs.Entries.{Told, expanded}
-use Rattle.bm_base.specs.Events.{register, heartbeat, without_node, without_storage, drain, undrain, without_storages, begun_to_drain, replaces, enter, is_named, leaves_by_report, report, without_pending, revise_block, add_block, delete_block, set_replication, restamp, make_bad, remove_replica, as_stray, as_restamped, as_bad, change_cluster, change_holdings}
-use Rattle.bm_base.specs.Excess.{without_expired, without_unordered_excess, excess_in, marked}
-use Rattle.bm_base.specs.Rounds.{finished, is_commanded}
+use Rattle.bm_base.specs.Machine.Replicas.{node_of, has_storage, is_good, are_sisters}
+use Rattle.bm_base.specs.Machine.Entries.{Told, expanded}
+use Rattle.bm_base.specs.Machine.Events.{register, heartbeat, without_node, without_storage, drain, undrain, without_storages, begun_to_drain, replaces, enter, is_named, leaves_by_report, report, without_pending, revise_block, add_block, delete_block, set_replication, restamp, make_bad, remove_replica, as_stray, as_restamped, as_bad, change_cluster, change_holdings}
+use Rattle.bm_base.specs.Machine.Excess.{without_expired, without_unordered_excess, excess_in, marked}
+use Rattle.bm_base.specs.Machine.Rounds.{finished, is_commanded}
 use Rattle.bm_base.specs.RoundParts.{started_holdings, own_transfers, own_deletes}
-use Rattle.bm_base.specs.Refusals.{first_of, cluster_checks, knows_storage, is_too_long}
+use Rattle.bm_base.specs.Machine.Refusals.{first_of, cluster_checks, knows_storage, is_too_long}
 use Rattle.bm_base.proofs.MapLaws.{get-remove}
-use Rattle.bm_base.proofs.Keeping.{get-keep_there}
+use Rattle.bm_parts.proofs.Keeping.{get-keep_there}
 use Rattle.bm_base.proofs.Ties.{number_tie}
 use Rattle.bm_base.proofs.Checks.{first_fails}
 use Rattle.bm_base.proofs.Options.{there, is_there, not_passed, not_failed, not_taken, fails_not}
@@ -31,9 +31,9 @@ use Rattle.bm_base.proofs.Each.{each_mapped, each_then, none_passes}
 use Rattle.bm_base.proofs.Maps.{Holds, same_key, get_kept, get_revised, get_removed, known_revised, get_insert_all_elsewhere}
 use Rattle.bm_base.proofs.Clusters.{same_node, as_known, same_sisters, sisters_turned, no_sister_itself}
 use Rattle.bm_base.proofs.ClusterEvents.{IsRegistrable, registrable, fresh, same_nodes}
-use Rattle.bm_base.proofs.Among.{drained_replicas}
-use Rattle.bm_base.proofs.Entering.{IsKept, IsPut, enter_origin, report_origin, stays_by, entered_excess}
-use Rattle.bm_base.proofs.ChosenCopies.{in_excess_usable}
+use Rattle.bm_parts.proofs.Among.{drained_replicas}
+use Rattle.bm_parts.proofs.Entering.{IsKept, IsPut, enter_origin, report_origin, stays_by, entered_excess}
+use Rattle.bm_parts.proofs.ChosenCopies.{in_excess_usable}
 use Rattle.bm_parts.specs.PlacedLaws as law
 use Rattle.bm_parts.specs.PlacedLaws.{IsPlaced}
 use Rattle.bm_parts.specs.Parts.{told_of}

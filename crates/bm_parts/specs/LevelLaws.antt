@@ -6,16 +6,16 @@ use Rattle.bm_base.specs.declared.commands.Delete.{Delete}
 use Rattle.bm_base.specs.declared.event.Event.{Event}
 use Rattle.bm_base.specs.declared.event.Remaining.{Remaining}
 use Rattle.bm_base.specs.declared.replica.ReplicaId.{ReplicaId}
-use Rattle.bm_base.specs.Map.{get, contains_key}
-use Rattle.bm_base.specs.State.{Cluster, Holdings, replica_at}
-use Rattle.bm_base.specs.Lists.{has}
-use Rattle.bm_base.specs.Replicas.{rack_of, has_storage, is_draining, is_multi_rack, usable}
-use Rattle.bm_base.specs.Levels.{level}
-use Rattle.bm_base.specs.Events.{register, heartbeat, without_node, without_storage, drain, undrain, without_storages, begun_to_drain, change_cluster, change_holdings}
-use Rattle.bm_base.specs.Refusals.{knows_storage, first_of, cluster_checks}
-use Rattle.bm_base.specs.Rounds.{finished}
+use Rattle.bm_base.specs.Maps.Map.{get, contains_key}
+use Rattle.bm_base.specs.Machine.State.{Cluster, Holdings, replica_at}
+use Rattle.bm_base.specs.Maps.Lists.{has}
+use Rattle.bm_base.specs.Machine.Replicas.{rack_of, has_storage, is_draining, is_multi_rack, usable}
+use Rattle.bm_base.specs.Machine.Levels.{level}
+use Rattle.bm_base.specs.Machine.Events.{register, heartbeat, without_node, without_storage, drain, undrain, without_storages, begun_to_drain, change_cluster, change_holdings}
+use Rattle.bm_base.specs.Machine.Refusals.{knows_storage, first_of, cluster_checks}
+use Rattle.bm_base.specs.Machine.Rounds.{finished}
 use Rattle.bm_base.specs.RoundParts.{round_on_part}
-use Rattle.bm_base.specs.Lawful.{IsLawfulCluster}
+use Rattle.bm_base.specs.Promises.Lawful.{IsLawfulCluster}
 use Rattle.bm_parts.specs.Parts.{block_of, change_part}
 
 -- each replica is on a storage of an alive node

@@ -8,8 +8,8 @@ use Rattle.std.specs.Map.{lookup, keys_of}
 use Rattle.std.proofs.lemmas.Bool.{false≢true}
 use Rattle.std.proofs.lemmas.Option.{slice_get-map}
 use Rattle.bm_base.specs.declared.replica.ReplicaId.{ReplicaId}
-use Rattle.bm_base.specs.Map.{get}
-use Rattle.bm_base.specs.Lists.{has}
+use Rattle.bm_base.specs.Maps.Map.{get}
+use Rattle.bm_base.specs.Maps.Lists.{has}
 use Rattle.bm_base.proofs.Clusters.{eqb_turned}
 use Rattle.bm_pending.specs.Inside.{Targets, map_of, rooms_of}
 use Rattle.bm_pending.specs.OnTheWay.{OnTheWay, blocks_in}

@@ -4,8 +4,8 @@ use Rattle.std.specs.Ordering.{nat_cmp}
 use Rattle.std.specs.FinMap.{is_sorted}
 use Rattle.std.proofs.Common.{refl, sym, ap, ◌∙◌}
 use Rattle.bm_base.specs.declared.replica.ReplicaId.{ReplicaId}
-use Rattle.bm_base.specs.Map.{entries}
-use Rattle.bm_base.specs.Excess.{is_expired}
+use Rattle.bm_base.specs.Maps.Map.{entries}
+use Rattle.bm_base.specs.Machine.Excess.{is_expired}
 use Rattle.bm_pending.specs.Inside.{Targets, map_of, rooms_of, targets_at}
 use Rattle.bm_pending.specs.Remaining.{targets_left}
 use Rattle.bm_pending.proofs.Blocks.{filtered-targets}

@@ -10,12 +10,12 @@ use Rattle.std.specs.Option.{option_or}
 use Rattle.std.proofs.Common.{refl, sym, ap, subst, ◌∙◌, arith, eqb-true, eq-eqb, true≢false}
 use Rattle.std.proofs.lemmas.Bool.Decides.{nat_tests}
 use Rattle.std.proofs.lemmas.List.{map-append}
-use Rattle.bm_base.specs.Conjunction.{both, first, second}
+use Rattle.bm_base.specs.Maps.Conjunction.{both, first, second}
 use Rattle.bm_base.specs.declared.replica.ReplicaId.{ReplicaId}
-use Rattle.bm_base.specs.Map.{Map, entries, get, keep}
-use Rattle.bm_base.specs.State.{by_replica, replica_at, replica_cmp}
+use Rattle.bm_base.specs.Maps.Map.{Map, entries, get, keep}
+use Rattle.bm_base.specs.Machine.State.{by_replica, replica_at, replica_cmp}
 use Rattle.bm_base.proofs.MapLaws.{same_map, entries-keep}
-use Rattle.bm_base.specs.Excess.{is_expired}
+use Rattle.bm_base.specs.Machine.Excess.{is_expired}
 use Rattle.bm_pending.specs.OnTheWay.{expired_of}
 use Rattle.bm_pending.specs.Inside.{Targets, map_of, targets_at}
 use Rattle.bm_pending.proofs.Seeing.{get-map_of}

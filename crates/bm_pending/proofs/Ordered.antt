@@ -6,10 +6,10 @@ use Rattle.std.specs.FinMap.{find, is_sorted}
 use Rattle.std.specs.FinMap.Entries.{below_all}
 use Rattle.std.proofs.Common.{refl, sym, ap, subst, ◌∙◌, eqb-true}
 use Rattle.std.proofs.lemmas.List.{length-map, nil_from_length}
-use Rattle.bm_base.specs.Conjunction.{both, first, second}
+use Rattle.bm_base.specs.Maps.Conjunction.{both, first, second}
 use Rattle.bm_base.specs.declared.replica.ReplicaId.{ReplicaId}
-use Rattle.bm_base.specs.Map.{Map, entries, get, keep}
-use Rattle.bm_base.specs.State.{by_replica, replica_at, replica_cmp}
+use Rattle.bm_base.specs.Maps.Map.{Map, entries, get, keep}
+use Rattle.bm_base.specs.Machine.State.{by_replica, replica_at, replica_cmp}
 use Rattle.bm_base.proofs.MapLaws.{same_map, get-keep, entries-keep}
 use Rattle.bm_base.proofs.Ties.{number_tie, replica_tie}
 use Rattle.bm_pending.specs.OnTheWay.{targets_of}

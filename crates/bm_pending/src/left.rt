@@ -1,6 +1,6 @@
 // The targets of a block that remain pending after a round.
 ghost use Rattle.std.specs.Prelude.{◌≡◌, count_by, not, IfOk};
-ghost use Rattle.bm_base.specs.Excess.{is_expired};
+ghost use Rattle.bm_base.specs.Machine.Excess.{is_expired};
 ghost use Rattle.bm_pending.specs.Inside.{storages_left};
 
 use crate::targets::is_expired;

@@ -7,7 +7,7 @@ use Rattle.std.specs.Ordering.{is_lt}
 use Rattle.std.specs.Cmp.{IsTotalOrder, IsStrictWeakOrder}
 use Rattle.std.proofs.lemmas.List.MinMax.{ranks_by}
 use Rattle.std.proofs.lemmas.Bool.{eqb-true}
-use Rattle.bm_base.specs.Lists.{has, least}
+use Rattle.bm_base.specs.Maps.Lists.{has, least}
 use Rattle.bm_place.specs.Least.{IsLeastOf}
 
 or_true : (b : Bool) → (b || true) ≡ true

@@ -3,7 +3,7 @@ use Rattle.std.specs.Prelude.{option_map}
 use Rattle.std.proofs.Common.{◌≡◌, Bool, true, false, cond, ◌&&◌, List, [], ◌∷◌, map, filter, Option, Some, None, refl, ap, ◌∙◌}
 use Rattle.std.specs.declared.cmp.Ordering.{Ordering}
 use Rattle.std.specs.Cmp.{IsTotalOrder}
-use Rattle.bm_base.specs.Lists.{least}
+use Rattle.bm_base.specs.Maps.Lists.{least}
 use Rattle.bm_place.specs.Scan.{scan, is_better}
 use Rattle.bm_place.proofs.Least.{scan-least}
 

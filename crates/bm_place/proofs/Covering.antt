@@ -4,7 +4,7 @@ use Rattle.std.specs.Ordering.{eq_by_cmp, nat_cmp}
 use Rattle.std.specs.Option.{option_map_or}
 use Rattle.std.proofs.Common.{◌≡◌, ℕ, Bool, true, false, cond, List, [], ◌∷◌, Option, Some, None, refl, inl, inr, sym, ap, subst, ◌∙◌}
 use Rattle.std.proofs.lemmas.Option.{same_Some, none-some}
-use Rattle.bm_base.specs.Map.{Map, by_number, empty, get, insert}
+use Rattle.bm_base.specs.Maps.Map.{Map, by_number, empty, get, insert}
 use Rattle.bm_base.proofs.Maps.{same_key, get_inserted, get_here, get_elsewhere}
 use Rattle.bm_base.proofs.MapLaws.{get-empty}
 use Rattle.bm_place.specs.declared.scheduled.Target.{Target}

@@ -5,7 +5,7 @@ use Rattle.std.specs.Ordering.{is_lt}
 use Rattle.std.specs.Option.{option_map_or}
 use Rattle.std.specs.Cmp.{IsTotalOrder, IsStrictWeakOrder}
 use Rattle.std.proofs.lemmas.List.MinMax.{ranks_by}
-use Rattle.bm_base.specs.Lists.{least}
+use Rattle.bm_base.specs.Maps.Lists.{least}
 use Rattle.bm_place.specs.Scan.{scan, is_better}
 
 module _ {X : Type 0} (R : X → X → Ordering) where

@@ -6,11 +6,11 @@ use Rattle.std.proofs.Common.{◌≡◌, ◌≤◌, ℕ, Bool, true, false, cond
 use Rattle.std.proofs.lemmas.Bool.{eqb-true}
 use Rattle.std.proofs.lemmas.List.Quantifiers.{position-Some}
 use Rattle.std.proofs.lemmas.Option.{same_Some, none-some, slice_get-get_or, slice_get_within}
-use Rattle.bm_base.specs.Map.{Map, by_number, get, revise_at}
+use Rattle.bm_base.specs.Maps.Map.{Map, by_number, get, revise_at}
 use Rattle.bm_base.proofs.MapLaws.{get-revise}
 use Rattle.bm_base.proofs.Maps.{get_revised}
 use Rattle.bm_base.proofs.Ties.{number_tie}
-use Rattle.bm_base.proofs.Replacing.{no_change}
+use Rattle.bm_maps.proofs.Replacing.{no_change}
 use Rattle.bm_place.specs.declared.scheduled.Target.{Target}
 use Rattle.bm_place.specs.declared.seats.Seat.{Seat}
 use Rattle.bm_place.specs.Targets.{room_on}

@@ -5,7 +5,7 @@ use Rattle.std.specs.List.Sorted.{IsPermutation, IsPartitionPoint}
 use Rattle.std.proofs.lemmas.Bool.Decides.{nat_tests}
 use Rattle.std.proofs.lemmas.Option.{same_Some, slice_get-get_or, slice_get_within}
 use Rattle.std.proofs.Common.{◌≡◌, ◌≤◌, ◌<◌, ◌-◌, ℕ, zero, suc, Bool, true, false, List, [], ◌∷◌, map, take, drop, get_or, arith, Option, Some, None, refl, inl, inr, sym, ap, subst, ◌∙◌}
-use Rattle.bm_base.specs.Map.{Map, by_number, entries}
+use Rattle.bm_base.specs.Maps.Map.{Map, by_number, entries}
 use Rattle.bm_place.specs.declared.scheduled.Target.{Target}
 use Rattle.bm_place.specs.declared.seats.Seat.{Seat}
 use Rattle.bm_place.specs.Foremost.{IsAmong}

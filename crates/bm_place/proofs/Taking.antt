@@ -6,11 +6,11 @@ use Rattle.std.specs.Cmp.{IsTotalOrder, nat_cmp_total}
 use Rattle.std.proofs.lemmas.Cmp.{on_total, then_total, back_total}
 use Rattle.bm_base.specs.declared.level.Level.{Level}
 use Rattle.bm_base.specs.declared.level.Level.TheVariants.{BadlyDistributed}
-use Rattle.bm_base.specs.State.{Cluster}
-use Rattle.bm_base.specs.Replicas.{rack_of, has_storage, is_draining}
-use Rattle.bm_base.specs.Levels.{is_at}
-use Rattle.bm_base.specs.Excess.{remaining}
-use Rattle.bm_base.specs.Transfers.{room, class_of, target_cmp, is_barred, is_target}
+use Rattle.bm_base.specs.Machine.State.{Cluster}
+use Rattle.bm_base.specs.Machine.Replicas.{rack_of, has_storage, is_draining}
+use Rattle.bm_base.specs.Machine.Levels.{is_at}
+use Rattle.bm_base.specs.Machine.Excess.{remaining}
+use Rattle.bm_base.specs.Machine.Transfers.{room, class_of, target_cmp, is_barred, is_target}
 use Rattle.bm_place.specs.Standing.{standing_of, class_in, is_one}
 use Rattle.bm_place.specs.Targets.{target_at, cmp_targets, is_free, is_barred_by}
 use Rattle.bm_place.proofs.Classes.{class_standing, one_standing}

@@ -10,8 +10,8 @@ use Rattle.std.proofs.lemmas.Bool.Decides.{nat_tests}
 use Rattle.std.proofs.lemmas.List.{at_drop_all}
 use Rattle.bm_base.specs.declared.level.Level.{Level}
 use Rattle.bm_base.specs.declared.level.Level.TheVariants.{BadlyDistributed}
-use Rattle.bm_base.specs.Levels.{is_at}
-use Rattle.bm_base.specs.State.{Cluster}
+use Rattle.bm_base.specs.Machine.Levels.{is_at}
+use Rattle.bm_base.specs.Machine.State.{Cluster}
 use Rattle.bm_place.specs.declared.scheduled.Target.{Target}
 use Rattle.bm_place.specs.declared.standing.Standing.{Standing}
 use Rattle.bm_place.specs.Scan.{scan, is_better}

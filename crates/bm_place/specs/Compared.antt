@@ -1,9 +1,9 @@
 -- Storages with a live replica, looked up, and compared with one another.
 use Rattle.std.specs.Prelude.{ℕ, false, nat_lt, if◌then◌else◌, List, count_by}
 use Rattle.std.specs.Option.{option_map_or}
-use Rattle.bm_base.specs.State.{Cluster}
-use Rattle.bm_base.specs.Replicas.{rack_of}
-use Rattle.bm_base.specs.Excess.{remaining}
+use Rattle.bm_base.specs.Machine.State.{Cluster}
+use Rattle.bm_base.specs.Machine.Replicas.{rack_of}
+use Rattle.bm_base.specs.Machine.Excess.{remaining}
 use Rattle.bm_place.specs.declared.compared.Candidate.{Candidate}
 use Rattle.bm_place.specs.declared.compared.Holder.{Holder}
 use Rattle.bm_place.specs.Standing.{is_rack}

@@ -5,7 +5,7 @@ use Rattle.std.specs.Ordering.{nat_cmp, ordering_then, is_lt}
 use Rattle.std.specs.Bool.{beq}
 use Rattle.std.specs.List.Sorted.{IsPermutation, IsSorted}
 use Rattle.std.specs.Option.{option_eq, option_map_or}
-use Rattle.bm_base.specs.Map.{Map, by_number, empty, entries, get, insert, values}
+use Rattle.bm_base.specs.Maps.Map.{Map, by_number, empty, entries, get, insert, values}
 use Rattle.bm_place.specs.declared.scheduled.Target.{Target}
 use Rattle.bm_place.specs.Targets.{room_on}
 

@@ -3,12 +3,12 @@ use Rattle.std.specs.Prelude.{◌≡◌, ◌<◌, ◌≤◌, ◌+◌, ℕ, true,
 use Rattle.std.specs.Option.{IfSome}
 use Rattle.bm_base.specs.declared.level.Level.{Level}
 use Rattle.bm_base.specs.declared.commands.Transfer.{Transfer}
-use Rattle.bm_base.specs.Map.{Map, by_number, get, keys, revise_at}
-use Rattle.bm_base.specs.State.{Cluster}
-use Rattle.bm_base.specs.Lists.{has}
-use Rattle.bm_base.specs.Replicas.{node_of, has_storage, is_draining}
-use Rattle.bm_base.specs.Excess.{remaining}
-use Rattle.bm_base.specs.Transfers.{least_source_by, source_cmp, stream_limit, least_target_by, target_cmp, is_target, scheduled_to}
+use Rattle.bm_base.specs.Maps.Map.{Map, by_number, get, keys, revise_at}
+use Rattle.bm_base.specs.Machine.State.{Cluster}
+use Rattle.bm_base.specs.Maps.Lists.{has}
+use Rattle.bm_base.specs.Machine.Replicas.{node_of, has_storage, is_draining}
+use Rattle.bm_base.specs.Machine.Excess.{remaining}
+use Rattle.bm_base.specs.Machine.Transfers.{least_source_by, source_cmp, stream_limit, least_target_by, target_cmp, is_target, scheduled_to}
 use Rattle.bm_place.specs.declared.scheduled.Target.{Target}
 use Rattle.bm_place.specs.Least.{IsLeastOf}
 use Rattle.bm_place.specs.Tables.{count_at}

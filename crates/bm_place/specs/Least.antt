@@ -2,7 +2,7 @@
 use Rattle.std.specs.Prelude.{◌≡◌, ℕ, Bool, true, false, List, Option, Some, None}
 use Rattle.std.specs.declared.cmp.Ordering.{Ordering}
 use Rattle.std.specs.Ordering.{is_lt}
-use Rattle.bm_base.specs.Lists.{has}
+use Rattle.bm_base.specs.Maps.Lists.{has}
 
 -- In the order R, of the numbers xs, those that pass p: the result is one of the numbers and
 -- passes, and none that passes comes before it; there is no result exactly if none passes.

@@ -3,9 +3,9 @@ use Rattle.std.specs.Prelude.{◌≡◌, ℕ, false, List, map}
 use Rattle.std.specs.declared.cmp.Ordering.{Ordering}
 use Rattle.std.specs.Ordering.{nat_cmp, ordering_then}
 use Rattle.std.specs.List.Sorted.{IsSorted}
-use Rattle.bm_base.specs.Map.{Map, by_number}
-use Rattle.bm_base.specs.Lists.{has_repeats}
-use Rattle.bm_base.specs.State.{Cluster}
+use Rattle.bm_base.specs.Maps.Map.{Map, by_number}
+use Rattle.bm_base.specs.Maps.Lists.{has_repeats}
+use Rattle.bm_base.specs.Machine.State.{Cluster}
 use Rattle.bm_place.specs.declared.compared.Holder.{Holder}
 use Rattle.bm_place.specs.Candidates.{CountsRacks}
 use Rattle.bm_place.specs.Compared.{holder_at}

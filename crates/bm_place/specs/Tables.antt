@@ -1,6 +1,6 @@
 -- Tables made by a function: an entry for each of some numbers.
 use Rattle.std.specs.Prelude.{ℕ, List, map, unwrap_or}
-use Rattle.bm_base.specs.Map.{Map, by_number, empty, get, insert_all}
+use Rattle.bm_base.specs.Maps.Map.{Map, by_number, empty, get, insert_all}
 
 -- the numbers, each with its image under f
 abbrev pub listed : {X : Type 0} → (ℕ → X) → List ℕ → List (ℕ × X)

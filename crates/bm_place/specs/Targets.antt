@@ -7,13 +7,13 @@ use Rattle.std.specs.List.{list_any}
 use Rattle.std.specs.Coded.{Coded, code_by, coded×, coded_ℕ, coded_bool, coded_option}
 use Rattle.bm_base.specs.declared.level.Level.{Level}
 use Rattle.bm_base.specs.declared.level.Level.TheVariants.{BadlyDistributed}
-use Rattle.bm_base.specs.Map.{Map, by_number, keys}
-use Rattle.bm_base.specs.State.{Cluster}
-use Rattle.bm_base.specs.Lists.{has}
-use Rattle.bm_base.specs.Replicas.{node_of, rack_of, is_draining, racks}
-use Rattle.bm_base.specs.Levels.{is_at}
-use Rattle.bm_base.specs.Excess.{remaining}
-use Rattle.bm_base.specs.Transfers.{is_target, is_on_racks}
+use Rattle.bm_base.specs.Maps.Map.{Map, by_number, keys}
+use Rattle.bm_base.specs.Machine.State.{Cluster}
+use Rattle.bm_base.specs.Maps.Lists.{has}
+use Rattle.bm_base.specs.Machine.Replicas.{node_of, rack_of, is_draining, racks}
+use Rattle.bm_base.specs.Machine.Levels.{is_at}
+use Rattle.bm_base.specs.Machine.Excess.{remaining}
+use Rattle.bm_base.specs.Machine.Transfers.{is_target, is_on_racks}
 use Rattle.bm_place.specs.declared.scheduled.Target.{Target}
 use Rattle.bm_place.specs.declared.standing.Standing.{Standing}
 use Rattle.bm_place.specs.Standing.{class_in, is_one}

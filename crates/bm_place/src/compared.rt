@@ -1,9 +1,9 @@
 // Excess among few live replicas: each is looked up once, and then compared with the others.
 ghost use Rattle.std.specs.Prelude.{◌≡◌, ◌++◌, false, nat_lt, ℕ, List, map, option_map, OnOk};
 ghost use Rattle.std.specs.Option.{option_map_or};
-ghost use Rattle.bm_base.specs.Excess as excess;
-ghost use Rattle.bm_base.specs.Lists.{least};
-ghost use Rattle.bm_base.specs.State.{Cluster};
+ghost use Rattle.bm_base.specs.Machine.Excess as excess;
+ghost use Rattle.bm_base.specs.Maps.Lists.{least};
+ghost use Rattle.bm_base.specs.Machine.State.{Cluster};
 ghost use Rattle.bm_place.specs.Candidates as candidates;
 ghost use Rattle.bm_place.specs.Compared as compared;
 ghost use Rattle.bm_place.specs.Scan as scanned;

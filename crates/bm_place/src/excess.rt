@@ -1,12 +1,13 @@
 // Which replicas of a block are in excess.
 ghost use Rattle.std.specs.Prelude.{◌≡◌, ◌++◌, ◌≤◌, false, length, IsOk, IfOk, IfErr, OnOk};
 ghost use Rattle.bm_base.specs.declared.refusal.Refusal.TheVariants.{Memory};
-ghost use Rattle.bm_base.specs.Excess as excess;
-ghost use Rattle.bm_base.specs.Lists.{has_repeats};
+ghost use Rattle.bm_base.specs.Machine.Excess as excess;
+ghost use Rattle.bm_base.specs.Maps.Lists.{has_repeats};
 
 use crate::compared::{Holder, fill_holders, push_of_few};
 use crate::pass::{count_racks, push_in_order, sort_holders};
-use bm_base::{NumberMap, Refusal, StorageId};
+use bm_base::{Refusal, StorageId};
+use bm_maps::NumberMap;
 use bm_topo::Topology;
 use std::alloc::{AllocError, Global};
 

@@ -1,14 +1,15 @@
 // The best targets of the nodes.
 ghost use Rattle.std.specs.Prelude.{◌≡◌, ◌<◌, ◌==◌, filter_map, length, Some, position, IfOk, OnOk};
 ghost use Rattle.std.specs.List.Sorted.{IsPermutation, IsSorted};
-ghost use Rattle.bm_base.specs.Map as table;
+ghost use Rattle.bm_base.specs.Maps.Map as table;
 ghost use Rattle.bm_place.specs.Foremost as nodes;
 ghost use Rattle.bm_place.specs.Scan as scanned;
 ghost use Rattle.bm_place.specs.Targets as targets;
 
 use crate::scheduled::Target;
 use crate::seats::Seat;
-use bm_base::{NumberMap, StorageId};
+use bm_base::StorageId;
+use bm_maps::NumberMap;
 use std::alloc::{AllocError, Global};
 
 /// The best target of each node, sorted. Iterates over the targets once, with a look-up or two

@@ -2,16 +2,17 @@
 ghost use Rattle.std.specs.Prelude.{◌≡◌, ◌+◌, ◌-◌, ◌++◌, ◌&&◌, if◌then◌else◌, false, nat_lt, take, ℕ, List, OnOk, IfOk};
 ghost use Rattle.std.specs.Option.{option_map_or};
 ghost use Rattle.std.specs.List.Sorted.{IsPermutation, IsSorted};
-ghost use Rattle.bm_base.specs.Excess as excess;
-ghost use Rattle.bm_base.specs.Map as map;
-ghost use Rattle.bm_base.specs.State.{Cluster};
+ghost use Rattle.bm_base.specs.Machine.Excess as excess;
+ghost use Rattle.bm_base.specs.Maps.Map as map;
+ghost use Rattle.bm_base.specs.Machine.State.{Cluster};
 ghost use Rattle.bm_place.specs.Compared as compared;
 ghost use Rattle.bm_place.specs.Pass as pass;
 ghost use Rattle.bm_place.specs.Standing.{is_rack};
 ghost use Rattle.bm_place.specs.Tables as tables;
 
 use crate::compared::Holder;
-use bm_base::{NumberMap, Rack, StorageId};
+use bm_base::{Rack, StorageId};
+use bm_maps::NumberMap;
 use std::alloc::AllocError;
 
 /// Sorts them by the order of choice within a class: first one on whose storage fewer bytes remain,

@@ -3,9 +3,9 @@ ghost use Rattle.std.specs.Prelude.{◌≡◌, ◌≤◌, ◌+◌, ◌==◌, fal
 ghost use Rattle.std.specs.Option.{IfSome};
 ghost use Rattle.bm_base.specs.declared.refusal.Refusal.TheVariants.{Memory};
 ghost use Rattle.bm_base.specs.declared.commands.Transfer.{Transfer};
-ghost use Rattle.bm_base.specs.State.{Cluster};
-ghost use Rattle.bm_base.specs.Map as map;
-ghost use Rattle.bm_base.specs.Transfers as transfers;
+ghost use Rattle.bm_base.specs.Machine.State.{Cluster};
+ghost use Rattle.bm_base.specs.Maps.Map as map;
+ghost use Rattle.bm_base.specs.Machine.Transfers as transfers;
 ghost use Rattle.bm_place.specs.Tables.{nothing_yet};
 ghost use Rattle.bm_place.specs.Targets as targets;
 ghost use Rattle.bm_place.specs.Found.{HasRoomFor, with_sent, targets_with};
@@ -15,7 +15,8 @@ ghost use Rattle.bm_place.specs.declared.scheduled.Target.{Target};
 
 use crate::foremost::{foremost_beside, foremost_of, place_of, put_back};
 use crate::seats::{Seat, seats_near, seats_of};
-use bm_base::{NodeId, NumberMap, Rack, Refusal, StorageId};
+use bm_base::{NodeId, Rack, Refusal, StorageId};
+use bm_maps::NumberMap;
 use bm_topo::Topology;
 use std::alloc::{AllocError, Global};
 use std::marker::Model;
@@ -51,8 +52,8 @@ pub struct Scheduled {
 
 impl Model for Scheduled {
     ghost use Rattle.std.specs.Coded.{coded_ℕ};
-    ghost use Rattle.bm_base.specs.Map.{Map, by_number};
-    ghost use Rattle.bm_base.specs.MapCode.{code};
+    ghost use Rattle.bm_base.specs.Maps.Map.{Map, by_number};
+    ghost use Rattle.bm_base.specs.Maps.MapCode.{code};
     ghost use Rattle.bm_place.specs.declared.scheduled.Target.{Target};
     ghost use Rattle.bm_place.specs.Targets.{coded_target};
 

@@ -1,9 +1,9 @@
 // The source of a copy.
 ghost use Rattle.std.specs.Prelude.{◌≡◌, ◌<◌, ◌&&◌, nat_lt, option_map, ℕ, List};
 ghost use Rattle.bm_base.specs.declared.commands.Transfer.{Transfer};
-ghost use Rattle.bm_base.specs.Map as map;
-ghost use Rattle.bm_base.specs.Replicas.{is_draining};
-ghost use Rattle.bm_base.specs.Transfers as transfers;
+ghost use Rattle.bm_base.specs.Maps.Map as map;
+ghost use Rattle.bm_base.specs.Machine.Replicas.{is_draining};
+ghost use Rattle.bm_base.specs.Machine.Transfers as transfers;
 ghost use Rattle.bm_place.specs.Found.{IsFoundSource, senders_with};
 ghost use Rattle.bm_place.specs.Sources as sources;
 ghost use Rattle.bm_place.specs.Tables as tables;
@@ -63,7 +63,7 @@ fn storage_of(source: &Option<Source>) -> Option<StorageId>
 }
 
 /// A storage as a source.
-#[tactic(auto, unfolding(bm_base::specs::Transfers::node_number))]
+#[tactic(auto, unfolding(bm_base::specs::Machine::Transfers::node_number))]
 fn source_at(topology: &Topology, streams: &Streams, storage: StorageId) -> Source
     ensures { result ≡ sources.source_at topology.now.cluster
         (sources.streams_by topology.now.cluster (tables.count_at streams.now.counts)) storage }

@@ -3,15 +3,16 @@ ghost use Rattle.std.specs.Prelude.{◌≡◌, ◌<◌, ◌+◌, if◌then◌els
 ghost use Rattle.std.specs.Option.{IfSome};
 ghost use Rattle.bm_base.specs.declared.refusal.Refusal.TheVariants.{Memory};
 ghost use Rattle.bm_base.specs.declared.commands.Transfer.{Transfer};
-ghost use Rattle.bm_base.specs.State.{Cluster};
-ghost use Rattle.bm_base.specs.Map as map;
-ghost use Rattle.bm_base.specs.Replicas.{has_storage};
-ghost use Rattle.bm_base.specs.Transfers as transfers;
+ghost use Rattle.bm_base.specs.Machine.State.{Cluster};
+ghost use Rattle.bm_base.specs.Maps.Map as map;
+ghost use Rattle.bm_base.specs.Machine.Replicas.{has_storage};
+ghost use Rattle.bm_base.specs.Machine.Transfers as transfers;
 ghost use Rattle.bm_place.specs.Found.{IsCountable, senders_with};
 ghost use Rattle.bm_place.specs.Sources as sources;
 ghost use Rattle.bm_place.specs.Tables as tables;
 
-use bm_base::{NodeId, NumberMap, Refusal, StorageId};
+use bm_base::{NodeId, Refusal, StorageId};
+use bm_maps::NumberMap;
 use bm_topo::Topology;
 use std::alloc::{AllocError, Global};
 use std::marker::Model;
@@ -115,7 +116,7 @@ fn add_one(counts: &mut NumberMap<u32>, node: NodeId)
 }
 
 /// The node of a storage; 0 of an unknown one.
-#[tactic(auto, unfolding(bm_base::specs::Transfers::node_number))]
+#[tactic(auto, unfolding(bm_base::specs::Machine::Transfers::node_number))]
 pub(crate) fn node_number(topology: &Topology, storage: StorageId) -> NodeId
     ensures { result ≡ transfers.node_number topology.now.cluster storage }
 {

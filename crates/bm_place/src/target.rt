@@ -2,7 +2,7 @@
 ghost use Rattle.std.specs.Prelude.{◌≡◌, ◌&&◌, false, ℕ, List, option_map};
 ghost use Rattle.std.specs.Option.{IfSome};
 ghost use Rattle.bm_base.specs.declared.commands.Transfer.{Transfer};
-ghost use Rattle.bm_base.specs.Transfers as transfers;
+ghost use Rattle.bm_base.specs.Machine.Transfers as transfers;
 ghost use Rattle.bm_place.specs.Found.{IsFoundTarget, targets_with};
 ghost use Rattle.bm_place.specs.Targets as targets;
 ghost use Rattle.bm_place.specs.Foremost as nodes;

@@ -1,8 +1,8 @@
 -- The results of the calls on one slot, in the form of their code.
 use Rattle.std.proofs.Common.{◌≡◌, ℕ, Bool, true, false, ◌<◌, ◌≤◌, ◌+◌, ◌-◌, ◌++◌, take, replicate, List, ◌∷◌, length, set, get_or, zero, suc, refl, arith, [], Option, Some, None, ◌∙◌}
-use Rattle.bm_base.specs.SlotLinks.{end_of_links}
+use Rattle.bm_maps.specs.SlotLinks.{end_of_links}
 use Rattle.std.specs.Prelude.{if◌then◌else◌, ◌==◌}
-use Rattle.bm_base.specs.SlotLists.{Among, without}
+use Rattle.bm_maps.specs.SlotLists.{Among, without}
 use Rattle.bm_queues.specs.Links.{link_at, list_from, HoldLists, AreLinks, back_set}
 use Rattle.bm_queues.proofs.Held.{unlinked, linked, grown, half_grown}
 

@@ -5,7 +5,7 @@ use Rattle.std.specs.declared.vec.Vec.{Vec}
 use Rattle.std.proofs.Math.Seq.{map-set_same}
 use Rattle.std.proofs.lemmas.List.{get_or-map, get_or_default, length-map, length-set, map-set}
 use Rattle.bm_base.specs.declared.level.Level.{Level}
-use Rattle.bm_base.specs.Levels.{level_number}
+use Rattle.bm_base.specs.Machine.Levels.{level_number}
 use Rattle.bm_queues.specs.declared.level_lists.Cell.{Cell}
 use Rattle.bm_queues.specs.DenseLevels.{AreDense, HaveRoom, seen, level_in, array_of, levels_in, indices_in, arrays_in}
 use Rattle.bm_queues.proofs.LevelLaws.{level_below, last-below, left-dense, more-dense, room-for-one}

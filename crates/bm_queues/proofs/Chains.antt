@@ -2,9 +2,9 @@
 use Rattle.std.proofs.Common.{◌≡◌, ◌≢◌, ◌⊎◌, ℕ, zero, suc, ◌<◌, ◌≤◌, ◌+◌, eqb, List, [], ◌∷◌, length, Option, Some, inl, inr, subst, sym, ap, ◌∙◌, refl, arith}
 use Rattle.std.proofs.lemmas.Bool.{cases_Bool, eq-eqb, ne_eqb, eqb-true, eqb-false}
 use Rattle.std.proofs.lemmas.Option.{none-some, same_Some}
-use Rattle.bm_base.specs.SlotLists.{Among, Distinct, without, first_of, slot_after}
+use Rattle.bm_maps.specs.SlotLists.{Among, Distinct, without, first_of, slot_after}
 use Rattle.bm_queues.specs.Links.{walk, Chain}
-use Rattle.bm_base.proofs.SlotLists.{apart}
+use Rattle.bm_maps.proofs.SlotLists.{apart}
 
 -- the cell is none of the slots' cells
 abbrev pub Off : ℕ → ℕ → List ℕ → Type 0

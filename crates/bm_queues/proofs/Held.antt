@@ -5,10 +5,10 @@ use Rattle.std.proofs.lemmas.Bool.{cases_eq, cases_lt, eq-eqb, ne_eqb}
 use Rattle.std.proofs.lemmas.Option.{none-some, same_Some}
 use Rattle.std.proofs.lemmas.List.{get_or_past, get_or-set_same, get_or-set_other, length-set, length-replicate}
 use Rattle.std.specs.Prelude.{if◌then◌else◌, ◌==◌}
-use Rattle.bm_base.specs.SlotLinks.{end_of_links}
-use Rattle.bm_base.specs.SlotLists.{Among, Distinct, without, first_of, slot_after}
+use Rattle.bm_maps.specs.SlotLinks.{end_of_links}
+use Rattle.bm_maps.specs.SlotLists.{Among, Distinct, without, first_of, slot_after}
 use Rattle.bm_queues.specs.Links.{link_at, Chain, list_from, HoldLists, AreLinks, back_set}
-use Rattle.bm_base.proofs.SlotLists.{Among-without, Among-without_other, without-absent, Distinct-without, length-distinct_below}
+use Rattle.bm_maps.proofs.SlotLists.{Among-without, Among-without_other, without-absent, Distinct-without, length-distinct_below}
 use Rattle.bm_queues.proofs.Chains.{Off, Chain-frame, walk-chain, first-chain, after-chain, back-chain, before-chain, next_among, not_itself, Chain-front, Chain-without}
 
 link_below : (links : List (Option ℕ)) (i v : ℕ) → link_at links i ≡ Some v → i < length links

@@ -8,8 +8,8 @@ use Rattle.std.proofs.lemmas.Bool.{cases_eq, eq-eqb, ne_eqb}
 use Rattle.std.proofs.lemmas.List.{get_or_default, get_or-reverse, get_or-drop, get_or-take, length-reverse, length-take-le, reverse-append, reverse-reverse, take-append-drop, take-take, take-set-le, take_more}
 use Rattle.std.proofs.lemmas.List.Sorted.{IsPermutation-swap_remove, IsPermutation-reverse, IsPermutation-sym, IsPermutation-trans, IsPermutation-cons}
 use Rattle.std.proofs.lemmas.Grind.{common_steps}
-use Rattle.bm_base.specs.SlotLists.{Among, Distinct, first_of, slot_after}
-use Rattle.bm_base.proofs.SlotLists.{dec_among}
+use Rattle.bm_maps.specs.SlotLists.{Among, Distinct, first_of, slot_after}
+use Rattle.bm_maps.proofs.SlotLists.{dec_among}
 use Rattle.bm_queues.specs.Walks.{slots_from, IsOn, IsPast}
 use Rattle.bm_queues.proofs.Visits.{below_or_past}
 

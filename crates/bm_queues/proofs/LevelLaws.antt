@@ -9,10 +9,10 @@ use Rattle.std.proofs.lemmas.Option.{none-some, same_Some}
 use Rattle.std.proofs.lemmas.List.{get_or-set_same, get_or-set_other, get_or_append_left, get_or_push, get_or_past, length-append, length-map, length-replicate, length-set, length_push, get_or_default, map-append, reverse-append, reverse-reverse, take_all}
 use Rattle.bm_base.specs.declared.level.Level.{Level}
 use Rattle.bm_base.specs.declared.level.Level.TheVariants.{Highest, VeryUnderReplicated, UnderReplicated, BadlyDistributed, NoUsableReplica}
-use Rattle.bm_base.specs.Levels.{level_number}
-use Rattle.bm_base.specs.SlotLinks.{end_of_links}
-use Rattle.bm_base.specs.SlotLists.{Among, Distinct, first_of, slot_after}
-use Rattle.bm_base.proofs.SlotLists.{length-distinct_below}
+use Rattle.bm_base.specs.Machine.Levels.{level_number}
+use Rattle.bm_maps.specs.SlotLinks.{end_of_links}
+use Rattle.bm_maps.specs.SlotLists.{Among, Distinct, first_of, slot_after}
+use Rattle.bm_maps.proofs.SlotLists.{length-distinct_below}
 use Rattle.bm_queues.specs.LevelBytes.{level_of_byte}
 use Rattle.bm_queues.specs.Levels.{Levels, IsLawful, visited, level_at, slots_of, next_of}
 use Rattle.bm_queues.specs.declared.level_lists.Cell.{Cell}

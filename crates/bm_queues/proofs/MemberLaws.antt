@@ -1,9 +1,9 @@
 -- The one list of a set.
 use Rattle.std.proofs.Common.{◌≡◌, ◌≢◌, ℕ, ◌<◌, List, Option, None, inl, inr, subst, sym, ◌∙◌, arith}
 use Rattle.std.specs.Prelude.{◌↔◌}
-use Rattle.bm_base.specs.SlotLists.{Among, Distinct, without, slot_after}
+use Rattle.bm_maps.specs.SlotLists.{Among, Distinct, without, slot_after}
 use Rattle.bm_queues.specs.Links.{list_from}
-use Rattle.bm_base.proofs.SlotLists.{dec_among, slot_after-absent, without-gone, Among-without, Among-without_other}
+use Rattle.bm_maps.proofs.SlotLists.{dec_among, slot_after-absent, without-gone, Among-without, Among-without_other}
 
 module _ (k : ℕ) (next back : List (Option ℕ)) (one : k ≡ 1) where
   pub only_list : (slot : ℕ) → (l : ℕ) × (l < k) × Among slot (list_from k next back l) → Among slot (list_from k next back 0)

@@ -4,8 +4,8 @@ use Rattle.std.specs.Prelude.{◌↔◌, Option, Some, None, IsTrue, is_some}
 use Rattle.std.specs.Option.{IfSome}
 use Rattle.std.proofs.lemmas.Bool.{cases_eq, false≢true}
 use Rattle.std.proofs.lemmas.List.{get_or_push, get_or_append_left, get_or-set_same, get_or-set_other, length-set, length-append}
-use Rattle.bm_base.specs.SlotLists.{Among, Distinct}
-use Rattle.bm_base.proofs.SlotLists.{length-distinct_below}
+use Rattle.bm_maps.specs.SlotLists.{Among, Distinct}
+use Rattle.bm_maps.proofs.SlotLists.{length-distinct_below}
 use Rattle.bm_queues.proofs.Indices.{place_among, among_here, distinct_apart}
 use Rattle.bm_queues.specs.Members.{IsLawful}
 use Rattle.bm_queues.specs.Sparse.{AreSparse}

@@ -1,7 +1,7 @@
 -- Iteration over a list of slots by `next`.
 use Rattle.std.proofs.Common.{◌≡◌, ◌≢◌, ◌⊎◌, ℕ, zero, suc, ◌<◌, ◌≤◌, List, [], ◌∷◌, length, Option, inl, inr, subst, sym, ap, ◌∙◌, refl, arith}
 use Rattle.std.proofs.lemmas.Bool.{eq-eqb, ne_eqb}
-use Rattle.bm_base.specs.SlotLists.{Among, Distinct, first_of, slot_after}
+use Rattle.bm_maps.specs.SlotLists.{Among, Distinct, first_of, slot_after}
 use Rattle.bm_queues.specs.Links.{walk}
 
 -- a function that returns the next slot of each slot visits all of them, in their order

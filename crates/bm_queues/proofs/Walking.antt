@@ -4,8 +4,8 @@ use Rattle.std.proofs.Common.{◌≡◌, ◌≢◌, ℕ, eqb, List, [], ◌∷�
 use Rattle.std.specs.Option.{IfSome}
 use Rattle.std.proofs.lemmas.Bool.{cases_Bool, eq-eqb, ne_eqb, eqb-true, eqb-false}
 use Rattle.std.proofs.lemmas.Option.{none-some, same_Some}
-use Rattle.bm_base.specs.SlotLists.{Among, Distinct, without, first_of, slot_after}
-use Rattle.bm_base.proofs.SlotLists.{dec_among, slot_after-absent, without-absent, Among-without_other}
+use Rattle.bm_maps.specs.SlotLists.{Among, Distinct, without, first_of, slot_after}
+use Rattle.bm_maps.proofs.SlotLists.{dec_among, slot_after-absent, without-absent, Among-without_other}
 use Rattle.bm_queues.specs.Walks.{slots_from, IsOn, IsPast}
 
 if_some : (r : Option ℕ) (P : ℕ → Type 0) → ((z : ℕ) → r ≡ Some z → P z) → IfSome r P

@@ -3,8 +3,8 @@ use Rattle.std.specs.Prelude.{◌≡◌, ℕ, ◌+◌, ◌<◌, ◌≤◌, List,
 use Rattle.std.specs.List.{All}
 use Rattle.std.specs.declared.vec.Vec.{Vec}
 use Rattle.bm_base.specs.declared.level.Level.{Level}
-use Rattle.bm_base.specs.Levels.{level_number}
-use Rattle.bm_base.specs.SlotLinks.{end_of_links}
+use Rattle.bm_base.specs.Machine.Levels.{level_number}
+use Rattle.bm_maps.specs.SlotLinks.{end_of_links}
 use Rattle.bm_queues.specs.Levels.{Levels}
 use Rattle.bm_queues.specs.declared.level_lists.Cell.{Cell}
 

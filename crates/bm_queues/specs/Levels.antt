@@ -2,9 +2,9 @@
 -- Source: the queues of Hadoop 2's UnderReplicatedBlocks.
 use Rattle.std.specs.Prelude.{◌≡◌, ◌↔◌, ℕ, ◌+◌, ◌-◌, ◌<◌, ◌≤◌, ◌++◌, List, [], length, replicate, Option, Some, None, slice_index_or, option_and_then}
 use Rattle.bm_base.specs.declared.level.Level.{Level}
-use Rattle.bm_base.specs.Levels.{level_number}
-use Rattle.bm_base.specs.SlotLists.{Among, Distinct, first_of, slot_after}
-use Rattle.bm_base.specs.SlotLinks.{end_of_links}
+use Rattle.bm_base.specs.Machine.Levels.{level_number}
+use Rattle.bm_maps.specs.SlotLists.{Among, Distinct, first_of, slot_after}
+use Rattle.bm_maps.specs.SlotLinks.{end_of_links}
 use Rattle.bm_queues.specs.Links.{walk}
 
 -- the level of each slot below the capacity, and by number of level its slots, in order from the

@@ -2,8 +2,8 @@
 -- cell k + x, after the k heads. `next` has for each cell the slot after it, `back` for each slot
 -- the cell before it, if it is in a list.
 use Rattle.std.specs.Prelude.{◌≡◌, ℕ, zero, suc, ◌+◌, ◌<◌, ◌≤◌, List, [], ◌∷◌, length, Option, Some, None, slice_index_or, slice_set}
-use Rattle.bm_base.specs.SlotLinks.{end_of_links}
-use Rattle.bm_base.specs.SlotLists.{Among, Distinct}
+use Rattle.bm_maps.specs.SlotLinks.{end_of_links}
+use Rattle.bm_maps.specs.SlotLists.{Among, Distinct}
 
 abbrev pub link_at : List (Option ℕ) → ℕ → Option ℕ
 link_at links i = slice_index_or links i None

@@ -1,7 +1,7 @@
 -- What a contract sees of a set of slots.
 use Rattle.std.specs.Prelude.{◌≡◌, ℕ, ◌+◌, ◌<◌, ◌≤◌, if◌then◌else◌, nat_lt, List, length, Option}
-use Rattle.bm_base.specs.SlotLists.{Among, Distinct, first_of, slot_after}
-use Rattle.bm_base.specs.SlotLinks.{end_of_links}
+use Rattle.bm_maps.specs.SlotLists.{Among, Distinct, first_of, slot_after}
+use Rattle.bm_maps.specs.SlotLinks.{end_of_links}
 use Rattle.bm_queues.specs.Links.{AreLinks, list_from, walk}
 
 -- the slots in order from the front, and the capacity

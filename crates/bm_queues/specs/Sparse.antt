@@ -1,6 +1,6 @@
 -- How a dense list of slots, and an index for each slot, represent a set.
 use Rattle.std.specs.Prelude.{◌≡◌, ℕ, ◌+◌, ◌<◌, ◌≤◌, List, length, slice_index_or}
-use Rattle.bm_base.specs.SlotLinks.{end_of_links}
+use Rattle.bm_maps.specs.SlotLinks.{end_of_links}
 
 -- The slots of the list are the members. The index of any other slot may be any number, also that
 -- of a member.

@@ -1,7 +1,7 @@
 -- The position of an iteration over a list of slots by `next`: at a slot, or at the end.
 use Rattle.std.specs.Prelude.{◌≡◌, ◌≢◌, ℕ, ◌==◌, List, [], ◌∷◌, Option, Some, None, if◌then◌else◌}
 use Rattle.std.specs.Option.{IfSome}
-use Rattle.bm_base.specs.SlotLists.{Among}
+use Rattle.bm_maps.specs.SlotLists.{Among}
 
 -- the slots that are still to come: from that slot on, in order
 abbrev pub slots_from : List ℕ → Option ℕ → List ℕ

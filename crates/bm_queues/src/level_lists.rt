@@ -3,13 +3,14 @@ ghost use Rattle.std.specs.Prelude.{◌≡◌, ◌≢◌, ◌<◌, ◌≤◌, �
 ghost use Rattle.std.specs.List.Sorted.{IsPermutation};
 ghost use Rattle.bm_base.specs.declared.level.Level.{Level};
 ghost use Rattle.bm_base.specs.declared.refusal.Refusal.TheVariants.{Memory};
-ghost use Rattle.bm_base.specs.SlotLists.{Among, Distinct, first_of};
+ghost use Rattle.bm_maps.specs.SlotLists.{Among, Distinct, first_of};
 ghost use Rattle.bm_queues.specs.Levels.{level_at, slots_of, next_of, with_room, visited, IsLawful};
 ghost use Rattle.bm_queues.specs.Walks.{slots_from, IsOn, IsPast, GoesOn};
 
 use crate::arrays::{new_arrays, reserve_each};
 use crate::level_byte::{LevelByte, no_level};
-use bm_base::{Level, Refusal, fits_link};
+use bm_base::{Level, Refusal};
+use bm_maps::fits_link;
 use std::alloc::Global;
 use std::marker::Model;
 

@@ -1,12 +1,12 @@
 // Doubly linked lists over slots, one for each head: `SlotSet` is built on one.
 ghost use Rattle.std.specs.Prelude.{◌≡◌, ◌<◌, ◌≤◌, ℕ, ◌∷◌, ◌==◌, ◌+◌, ◌↔◌, if◌then◌else◌, length, nat_lt, IfOk, OnOk, OnErr, IsOk, IsTrue, Some, None};
-ghost use Rattle.bm_base.specs.SlotLinks.{end_of_links};
-ghost use Rattle.bm_base.specs.SlotLists.{Among, without, first_of, slot_after};
+ghost use Rattle.bm_maps.specs.SlotLinks.{end_of_links};
+ghost use Rattle.bm_maps.specs.SlotLists.{Among, without, first_of, slot_after};
 ghost use Rattle.bm_queues.specs.Links.{back_set};
 ghost use Rattle.bm_queues.specs.Linked.{room_of, list_of, AreLinked};
 
 use crate::walk::Walk;
-use bm_base::{END_OF_LINKS, NO_LINK, SlotLink};
+use bm_maps::{END_OF_LINKS, NO_LINK, SlotLink};
 use std::alloc::{AllocError, Global};
 
 /// Lists of slots. Each slot below the capacity is in one list or in none; each operation on one

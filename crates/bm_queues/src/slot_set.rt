@@ -1,7 +1,7 @@
 // A set of slots in reverse order of insertion.
 ghost use Rattle.std.specs.Prelude.{◌≡◌, ◌≢◌, ℕ, ◌<◌, ◌≤◌, IsTrue, ◌↔◌, [], ◌∷◌, length, Option, Some, IfOk, IfErr, OnOk, OnErr, IsOk};
 ghost use Rattle.bm_base.specs.declared.refusal.Refusal.TheVariants.{Memory};
-ghost use Rattle.bm_base.specs.SlotLists.{Among, without, first_of, slot_after};
+ghost use Rattle.bm_maps.specs.SlotLists.{Among, without, first_of, slot_after};
 ghost use Rattle.bm_queues.specs.Members.{with_room, visited, IsLawful};
 ghost use Rattle.bm_queues.specs.Walks.{slots_from, IsOn, IsPast};
 

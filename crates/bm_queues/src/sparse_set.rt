@@ -4,10 +4,11 @@ ghost use Rattle.std.specs.Prelude.{◌≡◌, ◌≢◌, ℕ, ◌<◌, ◌≤�
 ghost use Rattle.std.specs.List.Sorted.{IsPermutation};
 ghost use Rattle.std.specs.Option.{IfSome};
 ghost use Rattle.bm_base.specs.declared.refusal.Refusal.TheVariants.{Memory};
-ghost use Rattle.bm_base.specs.SlotLists.{Among};
+ghost use Rattle.bm_maps.specs.SlotLists.{Among};
 ghost use Rattle.bm_queues.specs.Members.{with_room, IsLawful};
 
-use bm_base::{Refusal, fits_link};
+use bm_base::Refusal;
+use bm_maps::fits_link;
 use std::alloc::Global;
 use std::marker::Model;
 

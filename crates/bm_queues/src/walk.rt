@@ -3,7 +3,7 @@ ghost use Rattle.std.specs.Prelude.{◌≡◌};
 ghost use Rattle.bm_queues.specs.Links.{link_at};
 ghost use Rattle.std.specs.Iterator.{YieldsFirst, item_count};
 
-use bm_base::{NO_LINK, SlotLink};
+use bm_maps::{NO_LINK, SlotLink};
 use std::marker::Model;
 
 /// The remaining slots of a list. A contract sees it as the list of those slots. Takes no memory.

@@ -1,8 +1,8 @@
 -- The slots after the delimiter when slots are linked, or moved, before it.
 use Rattle.std.proofs.Common.{◌≡◌, ◌≢◌, ℕ, List, [], ◌∷◌, eqb, false, refl, inl, inr, sym, ◌∙◌}
 use Rattle.std.proofs.lemmas.Bool.{cases_Bool, eqb-true, ne_eqb}
-use Rattle.bm_base.specs.SlotLists.{Among, Distinct, without}
-use Rattle.bm_base.proofs.SlotLists.{without-absent}
+use Rattle.bm_maps.specs.SlotLists.{Among, Distinct, without}
+use Rattle.bm_maps.proofs.SlotLists.{without-absent}
 use Rattle.bm_arena.specs.Contents.{Contents, list_of}
 use Rattle.bm_report.specs.Midway.{after, behind}
 

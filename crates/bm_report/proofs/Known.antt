@@ -3,7 +3,7 @@ use Rattle.std.proofs.Common.{◌≡◌, ℕ, Option, Some, None, IsSome, refl, 
 use Rattle.std.specs.Option.{option_and_then}
 use Rattle.std.proofs.lemmas.Bool.{false≢true}
 use Rattle.bm_base.specs.declared.replica.Marks.{Marks}
-use Rattle.bm_base.specs.State.{replica_at}
+use Rattle.bm_base.specs.Machine.State.{replica_at}
 use Rattle.bm_arena.specs.Contents.{Contents, slot_of, marks_at, HasHead, IsLawful}
 use Rattle.bm_arena.proofs.Held.{get-replicas_of}
 use Rattle.bm_arena.proofs.Laws.{head-lawful}

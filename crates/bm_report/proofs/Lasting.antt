@@ -7,11 +7,11 @@ use Rattle.std.proofs.lemmas.Bool.{cases_Bool, false≢true, and_parts}
 use Rattle.bm_base.specs.declared.replica.ReplicaId.{ReplicaId}
 use Rattle.bm_base.specs.declared.replica.Marks.{Marks}
 use Rattle.bm_base.specs.declared.replica.Stamp.{Stamp}
-use Rattle.bm_base.specs.Entries.{Told}
-use Rattle.bm_base.specs.Map.{get}
-use Rattle.bm_base.specs.State.{Cluster, Holdings}
-use Rattle.bm_base.specs.Replicas.{is_good, are_sisters}
-use Rattle.bm_base.specs.Events.{entered, report}
+use Rattle.bm_base.specs.Machine.Entries.{Told}
+use Rattle.bm_base.specs.Maps.Map.{get}
+use Rattle.bm_base.specs.Machine.State.{Cluster, Holdings}
+use Rattle.bm_base.specs.Machine.Replicas.{is_good, are_sisters}
+use Rattle.bm_base.specs.Machine.Events.{entered, report}
 use Rattle.bm_report.specs.declared.types.Named.{Named}
 use Rattle.bm_report.specs.Midway.{midway_marks, without_lost_excess, told_of, IsOncePerNode}
 use Rattle.bm_report.specs.Ready.{HasGoodExcess}

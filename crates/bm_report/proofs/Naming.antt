@@ -5,8 +5,8 @@ use Rattle.std.proofs.lemmas.Bool.{false≢true}
 use Rattle.std.proofs.lemmas.List.Folds.{list_any-append}
 use Rattle.bm_base.specs.declared.event.Entry.{Entry}
 use Rattle.bm_base.specs.declared.ids.Part.{Part}
-use Rattle.bm_base.specs.Entries.{Told, told_by, expanded}
-use Rattle.bm_base.specs.Events.{is_named}
+use Rattle.bm_base.specs.Machine.Entries.{Told, told_by, expanded}
+use Rattle.bm_base.specs.Machine.Events.{is_named}
 use Rattle.bm_base.specs.Shards.{shard_of}
 use Rattle.bm_report.specs.Expanded.{of_part}
 use Rattle.bm_report.proofs.Running.{told_from, told_next, told_rest}

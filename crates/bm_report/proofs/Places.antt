@@ -3,10 +3,10 @@ use Rattle.std.proofs.Common.{◌≡◌, ℕ, ◌<◌, ◌≤◌, Bool, true, fa
 use Rattle.std.specs.Prelude.{◌==◌, IsTrue, IsSomeAnd}
 use Rattle.std.specs.Option.{option_and_then}
 use Rattle.std.proofs.lemmas.Bool.{false≢true}
-use Rattle.bm_base.proofs.SlotLists.{length-distinct_below}
+use Rattle.bm_maps.proofs.SlotLists.{length-distinct_below}
 use Rattle.bm_arena.specs.Triplets.{Block}
 use Rattle.bm_arena.specs.Contents.{Contents, block_at, marks_at, slot_of, find_marks, list_of, HasRoom, IsLawful}
-use Rattle.bm_base.specs.Events.{is_named}
+use Rattle.bm_base.specs.Machine.Events.{is_named}
 use Rattle.bm_report.specs.declared.types.Named.{Named}
 use Rattle.bm_report.specs.Midway.{AreHere, HaveRoom, told_of}
 use Rattle.bm_report.specs.Ready.{HasPlace}

@@ -2,7 +2,7 @@
 use Rattle.std.proofs.Common.{false, ◌≡◌, ◌≢◌, ℕ, List, [], ◌∷◌, ◌++◌, length, map, Option, Some, refl, subst, sym, ap, ◌∙◌, slice_get, zero, suc, arith}
 use Rattle.std.specs.Option.{option_and_then, option_map_or}
 use Rattle.bm_base.specs.declared.replica.BlockInfo.{BlockInfo}
-use Rattle.bm_base.specs.State.{Cluster}
+use Rattle.bm_base.specs.Machine.State.{Cluster}
 use Rattle.bm_arena.specs.Holding.{holdings_of, info_at}
 use Rattle.bm_report.specs.Ready.{StandAlready}
 use Rattle.bm_report.proofs.Maps.{get-here}

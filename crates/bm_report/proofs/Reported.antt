@@ -9,11 +9,11 @@ use Rattle.bm_base.specs.declared.replica.Tag.TheVariants.{Good, Stale, Bad}
 use Rattle.bm_base.specs.declared.replica.Marks.{Marks}
 use Rattle.bm_base.specs.declared.replica.Stamp.{Stamp}
 use Rattle.bm_base.specs.declared.replica.BlockInfo.{BlockInfo}
-use Rattle.bm_base.specs.Entries.{Told}
-use Rattle.bm_base.specs.Map.{Map, by_number, get, insert, insert_all, keep, remove}
-use Rattle.bm_base.specs.State.{Cluster, Holdings, replica_at}
-use Rattle.bm_base.specs.Replicas.{is_good, is_bad, are_sisters}
-use Rattle.bm_base.specs.Events.{same_stamp, was_bad, was_excess, entered_tag, entered, replaces, is_named, leaves_by_report, report}
+use Rattle.bm_base.specs.Machine.Entries.{Told}
+use Rattle.bm_base.specs.Maps.Map.{Map, by_number, get, insert, insert_all, keep, remove}
+use Rattle.bm_base.specs.Machine.State.{Cluster, Holdings, replica_at}
+use Rattle.bm_base.specs.Machine.Replicas.{is_good, is_bad, are_sisters}
+use Rattle.bm_base.specs.Machine.Events.{same_stamp, was_bad, was_excess, entered_tag, entered, replaces, is_named, leaves_by_report, report}
 use Rattle.bm_base.proofs.MapLaws.{same_map, get-insert, get-keep, get-remove}
 use Rattle.bm_base.proofs.Ties.{replica_tie}
 use Rattle.bm_report.specs.declared.types.Named.{Named}

@@ -8,7 +8,7 @@ use Rattle.std.proofs.lemmas.List.Elements.{filter-append}
 use Rattle.bm_base.specs.declared.event.Entry.{Entry}
 use Rattle.bm_base.specs.declared.ids.Part.{Part}
 use Rattle.bm_base.specs.declared.replica.Stamp.{Stamp}
-use Rattle.bm_base.specs.Entries.{Told, count_up, told_by, expanded, run_length}
+use Rattle.bm_base.specs.Machine.Entries.{Told, count_up, told_by, expanded, run_length}
 use Rattle.bm_base.specs.Shards.{shard_of}
 use Rattle.bm_report.proofs.Underway.{drop_next, drop_all}
 use Rattle.bm_report.specs.Expanded.{of_part, told_to}

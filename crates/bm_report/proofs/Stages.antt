@@ -9,15 +9,15 @@ use Rattle.std.proofs.lemmas.Bool.{cases_Bool, cases_eq, eqb-false, false≢true
 use Rattle.bm_base.specs.declared.replica.ReplicaId.{ReplicaId}
 use Rattle.bm_base.specs.declared.replica.Marks.{Marks}
 use Rattle.bm_base.specs.declared.replica.Stamp.{Stamp}
-use Rattle.bm_base.specs.Map.{get, remove, len}
-use Rattle.bm_base.specs.Calls.{new_replicas}
-use Rattle.bm_base.specs.State.{Cluster, replica_at}
-use Rattle.bm_base.specs.Events.{report}
+use Rattle.bm_base.specs.Maps.Map.{get, remove, len}
+use Rattle.bm_base.specs.Machine.Calls.{new_replicas}
+use Rattle.bm_base.specs.Machine.State.{Cluster, replica_at}
+use Rattle.bm_base.specs.Machine.Events.{report}
 use Rattle.bm_base.proofs.MapLaws.{same_map, get-remove}
 use Rattle.bm_arena.specs.Triplets.{Block}
-use Rattle.bm_base.specs.SlotLists.{Among, Distinct, without}
+use Rattle.bm_maps.specs.SlotLists.{Among, Distinct, without}
 use Rattle.bm_arena.specs.Contents.{Contents, block_at, slot_of, marks_at, list_of, find_marks, IsLawful, KeepsOthers, KeepsEntries, IsEntry}
-use Rattle.bm_base.proofs.SlotLists.{Among-without, Among-without_other, without-gone, Distinct-without}
+use Rattle.bm_maps.proofs.SlotLists.{Among-without, Among-without_other, without-gone, Distinct-without}
 use Rattle.bm_report.specs.declared.types.Named.{Named}
 use Rattle.bm_report.specs.declared.tally.Tally.{Tally}
 use Rattle.bm_arena.specs.Holding.{replicas_of, blocks_of, holdings_of, id_at}

@@ -4,11 +4,11 @@ use Rattle.std.specs.Option.{option_map_or, option_and_then}
 use Rattle.std.proofs.lemmas.Bool.{cases_Bool, cases_eq, eqb-true}
 use Rattle.bm_base.specs.declared.replica.Marks.{Marks}
 use Rattle.bm_base.specs.declared.replica.BlockInfo.{BlockInfo}
-use Rattle.bm_base.specs.Map.{get, remove, len}
-use Rattle.bm_base.specs.State.{replica_at}
+use Rattle.bm_base.specs.Maps.Map.{get, remove, len}
+use Rattle.bm_base.specs.Machine.State.{replica_at}
 use Rattle.bm_arena.specs.Triplets.{Block}
-use Rattle.bm_base.specs.SlotLists.{Among, Distinct, without}
-use Rattle.bm_base.specs.SlotLists.{first_of, slot_after}
+use Rattle.bm_maps.specs.SlotLists.{Among, Distinct, without}
+use Rattle.bm_maps.specs.SlotLists.{first_of, slot_after}
 use Rattle.bm_arena.specs.Contents.{Contents, block_at, slot_of, marks_at, list_of, find_marks, known_of, count_up, IsLawful, KeepsOthers}
 use Rattle.bm_report.specs.declared.tally.Tally.{Tally}
 use Rattle.bm_arena.specs.Holding.{replicas_of, id_at}

@@ -6,8 +6,8 @@ use Rattle.std.proofs.lemmas.Bool.{cases_Bool, eqb-true, eqb-false}
 use Rattle.std.proofs.lemmas.Option.{none-some}
 use Rattle.std.proofs.lemmas.List.{take-append-drop}
 use Rattle.std.proofs.Common.{take}
-use Rattle.bm_base.specs.State.{Cluster}
-use Rattle.bm_base.specs.SlotLists.{Among}
+use Rattle.bm_base.specs.Machine.State.{Cluster}
+use Rattle.bm_maps.specs.SlotLists.{Among}
 use Rattle.bm_arena.specs.Contents.{Contents, block_at, IsEntry, HasHead}
 use Rattle.bm_arena.proofs.Replicas.{Among-left, Among-last}
 use Rattle.bm_report.specs.declared.types.Named.{Named}

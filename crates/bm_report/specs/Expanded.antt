@@ -2,7 +2,7 @@
 use Rattle.std.specs.Prelude.{◌≡◌, ◌≢◌, ℕ, ◌≤◌, List, IsSome, Some}
 use Rattle.bm_base.specs.declared.ids.Part.{Part}
 use Rattle.bm_base.specs.declared.event.Entry.{Entry}
-use Rattle.bm_base.specs.Entries.{Told, expanded}
+use Rattle.bm_base.specs.Machine.Entries.{Told, expanded}
 use Rattle.bm_parts.specs.Parts.{told_of}
 use Rattle.bm_arena.specs.Triplets.{Block}
 use Rattle.bm_arena.specs.Contents.{Contents, block_at, slot_of, marks_at, list_of, room_at, with_room, HasHead, HasRoom}

@@ -3,11 +3,11 @@ use Rattle.std.specs.Prelude.{◌≡◌, ℕ, ◌+◌, ◌≤◌, List, [], ◌�
 use Rattle.std.specs.Option.{unwrap_or}
 use Rattle.bm_base.specs.declared.replica.ReplicaId.{ReplicaId}
 use Rattle.bm_base.specs.declared.replica.Marks.{Marks}
-use Rattle.bm_base.specs.Map.{Map, get}
-use Rattle.bm_base.specs.State.{Cluster, Holdings, by_replica, replica_at}
-use Rattle.bm_base.specs.Replicas.{is_good}
-use Rattle.bm_base.specs.Entries.{Told}
-use Rattle.bm_base.specs.Events.{is_named, entered}
+use Rattle.bm_base.specs.Maps.Map.{Map, get}
+use Rattle.bm_base.specs.Machine.State.{Cluster, Holdings, by_replica, replica_at}
+use Rattle.bm_base.specs.Machine.Replicas.{is_good}
+use Rattle.bm_base.specs.Machine.Entries.{Told}
+use Rattle.bm_base.specs.Machine.Events.{is_named, entered}
 use Rattle.bm_arena.specs.Contents.{Contents, slot_of, marks_at, list_of, HasHead, HasRoom}
 use Rattle.bm_report.specs.declared.types.Named.{Named}
 use Rattle.bm_report.specs.Midway.{AreHere, HaveRoom, IsOncePerNode, IsSmall, told_of}

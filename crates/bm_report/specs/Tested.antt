@@ -1,7 +1,7 @@
 -- Arenas that tests can check to be lawful.
 use Rattle.std.specs.Prelude.{◌≡◌, ℕ, ◌≤◌, length, IsTrue, Some}
 use Rattle.bm_base.specs.declared.replica.Marks.{Marks}
-use Rattle.bm_base.specs.Replicas.{is_good}
+use Rattle.bm_base.specs.Machine.Replicas.{is_good}
 use Rattle.bm_arena.specs.Triplets.{Block}
 use Rattle.bm_arena.specs.Contents.{Contents, block_at, marks_at}
 

@@ -1,8 +1,8 @@
 // A full report is applied by the delimiter.
 ghost use Rattle.std.specs.Prelude.{◌≡◌, ◌≢◌, ◌≤◌, ◌<◌, ◌+◌, ◌^◌, ℕ, length, map, take, vec_len, vec_capacity, None, ◌⊎◌};
-ghost use Rattle.bm_base.specs.Events as events;
-ghost use Rattle.bm_base.specs.Calls as calls;
-ghost use Rattle.bm_base.specs.SlotLists.{Among};
+ghost use Rattle.bm_base.specs.Machine.Events as events;
+ghost use Rattle.bm_base.specs.Machine.Calls as calls;
+ghost use Rattle.bm_maps.specs.SlotLists.{Among};
 ghost use Rattle.bm_arena.specs.Contents.{block_at, marks_at, list_of, HasHead, IsEntry, KeepsEntries};
 ghost use Rattle.bm_arena.specs.Holding.{replicas_of, blocks_of, holdings_of};
 ghost use Rattle.bm_report.specs.Midway.{AreHere, HaveRoom, IsOncePerNode, IsExcessGood, told_of, slot_in, count_ups, AllStand};

@@ -1,6 +1,6 @@
 // Numbers of a report entered one after another, each looked up again: no slots are kept.
 ghost use Rattle.std.specs.Prelude.{◌≡◌, ◌<◌, ◌+◌, ◌^◌, ◌∷◌, [], length, false, IsSome};
-ghost use Rattle.bm_base.specs.Entries.{told_by};
+ghost use Rattle.bm_base.specs.Machine.Entries.{told_by};
 ghost use Rattle.bm_arena.specs.Contents.{marks_at};
 ghost use Rattle.bm_arena.specs.Holding.{replicas_of};
 ghost use Rattle.bm_report.specs.Midway.{behind, AreHere, IsCounted, IsEntered, IsExcessGood, DropsLostExcess, IsSwept};

@@ -1,8 +1,8 @@
 // Entering one block that a report names.
 ghost use Rattle.std.specs.Prelude.{◌≡◌, ◌≢◌, ◌+◌, ◌∷◌, [], ℕ, if◌then◌else◌, true, false, None, Some};
-ghost use Rattle.bm_base.specs.Map.{insert, len};
-ghost use Rattle.bm_base.specs.State.{replica_at};
-ghost use Rattle.bm_base.specs.SlotLists.{without};
+ghost use Rattle.bm_base.specs.Maps.Map.{insert, len};
+ghost use Rattle.bm_base.specs.Machine.State.{replica_at};
+ghost use Rattle.bm_maps.specs.SlotLists.{without};
 ghost use Rattle.bm_arena.specs.Contents.{block_at, slot_of, marks_at, count_up, HasHead, HasRoom};
 ghost use Rattle.bm_arena.specs.Holding.{replicas_of};
 ghost use Rattle.bm_report.specs.Midway.{behind, entered_at, IsFramed, IsOncePerNode, count_ups, IsEntered, IsCounted, IsSmall, Stands};

@@ -4,7 +4,7 @@
 // overlapping cache misses, and the moves and links after that find the blocks' entries in the
 // cache.
 ghost use Rattle.std.specs.Prelude.{◌≡◌, ◌≤◌, ◌<◌, ◌+◌, ◌≢◌, ◌∷◌, [], ℕ, ◌⊎◌, length, map, slice_get, slice_index_or, vec_len, vec_capacity, true, false, None, Some};
-ghost use Rattle.bm_base.specs.SlotLists.{Among};
+ghost use Rattle.bm_maps.specs.SlotLists.{Among};
 ghost use Rattle.bm_arena.specs.Contents.{block_at, slot_of, marks_at, HasHead, HasRoom};
 ghost use Rattle.bm_report.specs.declared.types.Named.{Named};
 ghost use Rattle.bm_arena.specs.Holding.{replicas_of};

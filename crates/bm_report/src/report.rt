@@ -1,9 +1,9 @@
 // A full report, and a notice of a received replica, from the look-up of its numbers to its end.
 ghost use Rattle.std.specs.Prelude.{◌≡◌, ◌≢◌, ◌<◌, ◌≤◌, ◌+◌, ◌^◌, ◌∷◌, ◌&&◌, [], ℕ, if◌then◌else◌, length, take, drop, map, None, Some, IsSome, IsTrue, OnOk, IsOk, IfOk, IfErr, ◌⊎◌, ◌↔◌, false};
 ghost use Rattle.bm_base.specs.declared.refusal.Refusal.TheVariants.{Memory};
-ghost use Rattle.bm_base.specs.Events as events;
-ghost use Rattle.bm_base.specs.Calls as calls;
-ghost use Rattle.bm_base.specs.SlotLists.{Among};
+ghost use Rattle.bm_base.specs.Machine.Events as events;
+ghost use Rattle.bm_base.specs.Machine.Calls as calls;
+ghost use Rattle.bm_maps.specs.SlotLists.{Among};
 ghost use Rattle.bm_arena.specs.Contents.{block_at, slot_of, marks_at, HasHead, IsEntry, KeepsEntries};
 ghost use Rattle.bm_arena.specs.Holding.{replicas_of, blocks_of, holdings_of};
 ghost use Rattle.bm_report.specs.Midway.{IsOncePerNode, count_ups, slot_in};

@@ -1,7 +1,7 @@
 // Sibling storages: a node keeps one replica of a block, so a new one replaces one on a sibling
 // storage.
 ghost use Rattle.std.specs.Prelude.{◌≡◌, ℕ, true, None, Some, IsSome, IfSome, IfNone};
-ghost use Rattle.bm_base.specs.Replicas as replicas;
+ghost use Rattle.bm_base.specs.Machine.Replicas as replicas;
 ghost use Rattle.bm_arena.specs.Contents.{marks_at};
 
 use bm_arena::{Arena, Slot};
@@ -10,7 +10,7 @@ use bm_topo::Topology;
 
 /// Whether another storage than this one is of its node.
 #[inline]
-#[tactic(auto, unfolding(bm_base::specs::Replicas::are_sisters))]
+#[tactic(auto, unfolding(bm_base::specs::Machine::Replicas::are_sisters))]
 fn is_sister(topology: &Topology, node: NodeId, storage: StorageId, other: StorageId) -> bool
     requires { replicas.node_of topology.now.cluster storage ≡ Some node }
     ensures { result ≡ replicas.are_sisters topology.now.cluster storage other }

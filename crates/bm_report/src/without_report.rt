@@ -4,9 +4,9 @@
 ghost use Rattle.std.specs.Prelude.{◌≡◌, ◌<◌, ◌≤◌, ◌+◌, ℕ, length, None, Some, OnOk, IfErr, IsTrue, false, ◌≢◌};
 ghost use Rattle.bm_base.specs.declared.refusal.Refusal.TheVariants.{Memory};
 ghost use Rattle.bm_base.specs.declared.limits.TheConstants.{MAX_NUMBERS};
-ghost use Rattle.bm_base.specs.Entries.{numbers_in};
-ghost use Rattle.bm_base.specs.Events as events;
-ghost use Rattle.bm_base.specs.Calls as calls;
+ghost use Rattle.bm_base.specs.Machine.Entries.{numbers_in};
+ghost use Rattle.bm_base.specs.Machine.Events as events;
+ghost use Rattle.bm_base.specs.Machine.Calls as calls;
 ghost use Rattle.bm_arena.specs.Contents.{block_at, slot_of, marks_at, KeepsEntries};
 ghost use Rattle.bm_arena.specs.Holding.{replicas_of, blocks_of, holdings_of};
 ghost use Rattle.bm_report.specs.Midway.{IsOncePerNode, count_ups};

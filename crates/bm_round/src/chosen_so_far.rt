@@ -1,8 +1,8 @@
 // The transfers chosen so far in a round, with the tables from which the next one is chosen.
 ghost use Rattle.std.specs.Prelude.{◌≡◌, ◌*◌, ◌++◌, ◌∷◌, [], nat_le, length, IfOk, IfErr, OnOk};
 ghost use Rattle.bm_base.specs.declared.refusal.Refusal.TheVariants.{Memory};
-ghost use Rattle.bm_base.specs.Map as map;
-ghost use Rattle.bm_base.specs.State.{Cluster};
+ghost use Rattle.bm_base.specs.Maps.Map as map;
+ghost use Rattle.bm_base.specs.Machine.State.{Cluster};
 ghost use Rattle.bm_base.specs.Choices as choices;
 ghost use Rattle.bm_place.specs.Found.{IsCountable, HasRoomFor};
 ghost use Rattle.bm_round.specs.Counted.{IsCounted};

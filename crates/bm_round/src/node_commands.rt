@@ -2,7 +2,7 @@
 ghost use Rattle.std.specs.Prelude.{◌≡◌, filter, IfOk, IfErr};
 ghost use Rattle.std.specs.List.{All};
 ghost use Rattle.bm_base.specs.declared.refusal.Refusal.TheVariants.{Memory};
-ghost use Rattle.bm_base.specs.Rounds as rounds;
+ghost use Rattle.bm_base.specs.Machine.Rounds as rounds;
 ghost use Rattle.bm_round.specs.Commanded as commanded;
 
 use crate::groups::Groups;
@@ -15,7 +15,7 @@ use std::alloc::{AllocError, Global};
 /// without a command are left out. Commands for storages outside the cluster are ignored. `Memory`
 /// where a list cannot grow; nothing else is refused. Scans each transfer and each delete once,
 /// with two binary searches, and no node where there is neither.
-#[tactic(auto, unfolding(bm_base::specs::Rounds::commands_of))]
+#[tactic(auto, unfolding(bm_base::specs::Machine::Rounds::commands_of))]
 pub fn commands(
     alloc: Global,
     round: u64,

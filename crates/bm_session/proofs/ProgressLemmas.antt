@@ -4,7 +4,7 @@ use Rattle.std.specs.Prelude.{Option, Some, None, Result, Ok, Err, is_err, OnOk}
 use Rattle.std.specs.Int.{from_bool}
 use Rattle.std.specs.Io.KnownBytes.{Appends, Keeps}
 use Rattle.std.proofs.lemmas.List.{length_push, take-append-le}
-use Rattle.bm_base.specs.State.{State}
+use Rattle.bm_base.specs.Machine.State.{State}
 use Rattle.bm_session.specs.declared.limits.TheConstants.{MAX_LINES}
 use Rattle.bm_session.specs.declared.session.Session.{Session}
 use Rattle.bm_answers.specs.declared.asked.Asked.{Asked}

@@ -1,6 +1,6 @@
 -- Text with one more line.
 use Rattle.std.proofs.Common.{◌≡◌, ℕ, ◌+◌, List, [], ◌∷◌, ◌++◌, refl, sym, append_assoc, append-nil, arith, if◌then◌else◌}
-use Rattle.bm_base.specs.State.{State}
+use Rattle.bm_base.specs.Machine.State.{State}
 use Rattle.bm_lines.specs.Lines.{ended}
 use Rattle.bm_answers.specs.OneLine.{line_text, line_next, line_refused}
 use Rattle.bm_session.specs.Text.{texts, after, refusals}

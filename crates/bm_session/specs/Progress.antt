@@ -1,7 +1,7 @@
 -- The progress of a run, and the output when it ends.
 use Rattle.std.specs.Prelude.{◌≡◌, ℕ, ◌+◌, ◌<◌, ◌≤◌, ◌⊎◌, List, ◌++◌, length, take, Option}
 use Rattle.std.specs.Io.KnownBytes.{Appends}
-use Rattle.bm_base.specs.State.{State}
+use Rattle.bm_base.specs.Machine.State.{State}
 use Rattle.bm_session.specs.declared.limits.TheConstants.{MAX_LINES}
 use Rattle.bm_session.specs.declared.session.Session.{Session}
 use Rattle.bm_session.specs.declared.fault.Summary.{Summary}

@@ -2,7 +2,7 @@
 use Rattle.std.specs.Prelude.{◌≡◌, Some, None}
 use Rattle.bm_base.specs.declared.config.Config as base
 use Rattle.bm_base.specs.declared.refusal.Refusal.TheVariants.{BadConfig}
-use Rattle.bm_base.specs.Configuration.{config_refusal}
+use Rattle.bm_base.specs.Machine.Configuration.{config_refusal}
 use Rattle.bm_session.specs.declared.fault.Fault.{Fault}
 use Rattle.bm_session.specs.declared.fault.Fault.TheVariants.{Config, Read, Write, Memory, TooMuch}
 

@@ -2,7 +2,7 @@
 -- the first state, and each answer is a line.
 use Rattle.std.specs.Prelude.{ℕ, ◌+◌, List, [], ◌∷◌, ◌++◌, if◌then◌else◌}
 use Rattle.bm_base.specs.declared.config.Config.{Config}
-use Rattle.bm_base.specs.State.{State, first_state}
+use Rattle.bm_base.specs.Machine.State.{State, first_state}
 use Rattle.bm_lines.specs.Lines.{lines_of, ended}
 use Rattle.bm_answers.specs.OneLine.{line_text, line_next, line_refused}
 

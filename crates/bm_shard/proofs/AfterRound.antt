@@ -5,11 +5,11 @@ use Rattle.bm_base.specs.declared.commands.Transfer.{Transfer}
 use Rattle.bm_base.specs.declared.commands.Delete.{Delete}
 use Rattle.bm_base.specs.declared.replica.ReplicaId.{ReplicaId}
 use Rattle.bm_base.specs.declared.replica.Marks.{Marks}
-use Rattle.bm_base.specs.Map.{Map, revise, keep, insert_all}
-use Rattle.bm_base.specs.State.{Cluster, by_replica, replica_at}
-use Rattle.bm_base.specs.Replicas.{storages_where}
-use Rattle.bm_base.specs.Excess.{is_expired, without_expired, without_unordered_excess, marked, excess_in}
-use Rattle.bm_base.specs.Rounds.{is_commanded, finished}
+use Rattle.bm_base.specs.Maps.Map.{Map, revise, keep, insert_all}
+use Rattle.bm_base.specs.Machine.State.{Cluster, by_replica, replica_at}
+use Rattle.bm_base.specs.Machine.Replicas.{storages_where}
+use Rattle.bm_base.specs.Machine.Excess.{is_expired, without_expired, without_unordered_excess, marked, excess_in}
+use Rattle.bm_base.specs.Machine.Rounds.{is_commanded, finished}
 use Rattle.bm_base.specs.RoundParts.{surplus, started_holdings, round_on_part, own_transfers, own_deletes}
 use Rattle.bm_arena.specs.Contents.{Contents}
 use Rattle.bm_arena.specs.Holding.{replicas_of, blocks_of, holdings_of}

@@ -9,11 +9,11 @@ use Rattle.bm_base.specs.declared.replica.Stamp.{Stamp}
 use Rattle.bm_base.specs.declared.replica.BlockInfo.{BlockInfo}
 use Rattle.bm_base.specs.declared.event.Event.{Event}
 use Rattle.bm_base.specs.declared.event.Event.TheVariants.{AddBlock, Received}
-use Rattle.bm_base.specs.Map.{Map, Order, by_number, contains_key, get, insert, revise, revise_at}
-use Rattle.bm_base.specs.State.{Cluster, Holdings, by_replica, replica_at}
-use Rattle.bm_base.specs.Entries.{Told}
-use Rattle.bm_base.specs.Events.{enter, is_named, report}
-use Rattle.bm_base.proofs.SlotLists.{dec_among}
+use Rattle.bm_base.specs.Maps.Map.{Map, Order, by_number, contains_key, get, insert, revise, revise_at}
+use Rattle.bm_base.specs.Machine.State.{Cluster, Holdings, by_replica, replica_at}
+use Rattle.bm_base.specs.Machine.Entries.{Told}
+use Rattle.bm_base.specs.Machine.Events.{enter, is_named, report}
+use Rattle.bm_maps.proofs.SlotLists.{dec_among}
 use Rattle.bm_base.proofs.Options.{there}
 use Rattle.bm_base.proofs.MapLaws.{get-insert, get-revise}
 use Rattle.bm_base.proofs.Maps.{get_here}
@@ -22,7 +22,7 @@ use Rattle.bm_arena.specs.Contents.{Contents, block_at, slot_of, IsLawful}
 use Rattle.bm_arena.specs.Holding.{replicas_of, blocks_of}
 use Rattle.bm_arena.proofs.Held.{one_number}
 use Rattle.bm_arena.proofs.Replicas.{Among-append}
-use Rattle.bm_base.specs.SlotLists.{Among}
+use Rattle.bm_maps.specs.SlotLists.{Among}
 use Rattle.std.proofs.lemmas.List.{take-append-drop}
 use Rattle.bm_report.specs.declared.types.Named.{Named}
 use Rattle.bm_report.specs.Midway.{told_of}
@@ -38,7 +38,7 @@ use Rattle.bm_shard.specs.Bare.{IsBare, HasNoneBare, HasBareOnly, may_enter}
 use Rattle.bm_shard.specs.Inside.{numbers_of, heads_of, is_prepared}
 use Rattle.bm_shard.proofs.Arrivals.{named_there}
 use Rattle.bm_shard.proofs.Numbers.{entered, has_entry}
-use Rattle.bm_base.specs.Excess.{marked, without_unordered_excess}
+use Rattle.bm_base.specs.Machine.Excess.{marked, without_unordered_excess}
 use Rattle.bm_shard.proofs.Same.{seen_of}
 
 -- The same for the fields of a shard.

@@ -5,8 +5,8 @@ use Rattle.std.specs.Map.{lookup}
 use Rattle.std.proofs.lemmas.Bool.{false≢true, eq-eqb}
 use Rattle.bm_base.specs.declared.event.Event.{Event}
 use Rattle.bm_base.specs.declared.event.Event.TheVariants.{Dead, StorageFailed}
-use Rattle.bm_base.specs.State.{Cluster}
-use Rattle.bm_base.specs.SlotLists.{Among}
+use Rattle.bm_base.specs.Machine.State.{Cluster}
+use Rattle.bm_maps.specs.SlotLists.{Among}
 use Rattle.bm_parts.specs.Parts.{block_of}
 use Rattle.bm_arena.specs.Contents.{Contents}
 use Rattle.bm_levels.specs.Leaving.{HasNoHeads}

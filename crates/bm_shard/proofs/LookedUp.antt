@@ -1,6 +1,6 @@
 -- The look-up of a notice or a report.
 use Rattle.std.proofs.Common.{◌≡◌, ℕ, List, Some}
-use Rattle.bm_base.specs.Entries.{Told}
+use Rattle.bm_base.specs.Machine.Entries.{Told}
 use Rattle.bm_report.specs.Ready.{Looked, told}
 use Rattle.bm_shard.specs.declared.shard.Prepared.{Prepared}
 use Rattle.bm_shard.specs.declared.shard.Prepared.TheVariants as prepared

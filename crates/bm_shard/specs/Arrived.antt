@@ -1,7 +1,7 @@
 -- Transfers whose replicas have come.
 use Rattle.std.specs.Prelude.{ℕ, Bool, ◌&&◌, ◌==◌}
 use Rattle.bm_base.specs.declared.replica.ReplicaId.{ReplicaId}
-use Rattle.bm_base.specs.Map.{contains_key}
+use Rattle.bm_base.specs.Maps.Map.{contains_key}
 use Rattle.bm_arena.specs.Contents.{Contents}
 use Rattle.bm_arena.specs.Holding.{replicas_of}
 

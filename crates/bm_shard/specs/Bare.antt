@@ -7,12 +7,12 @@ use Rattle.std.specs.Map.{lookup}
 use Rattle.bm_base.specs.declared.ids.Part.{Part}
 use Rattle.bm_base.specs.declared.event.Event.{Event}
 use Rattle.bm_base.specs.declared.event.Event.TheVariants.{AddBlock, Received, FullReport}
-use Rattle.bm_base.specs.Map.{get}
-use Rattle.bm_base.specs.State.{replica_at}
-use Rattle.bm_base.specs.Entries.{expanded}
-use Rattle.bm_base.specs.Events.{is_named}
-use Rattle.bm_base.specs.Transfers.{pending_targets}
-use Rattle.bm_base.specs.SlotLists.{Among}
+use Rattle.bm_base.specs.Maps.Map.{get}
+use Rattle.bm_base.specs.Machine.State.{replica_at}
+use Rattle.bm_base.specs.Machine.Entries.{expanded}
+use Rattle.bm_base.specs.Machine.Events.{is_named}
+use Rattle.bm_base.specs.Machine.Transfers.{pending_targets}
+use Rattle.bm_maps.specs.SlotLists.{Among}
 use Rattle.bm_parts.specs.Parts.{told_of}
 use Rattle.bm_shard.specs.Seen.{Seen}
 

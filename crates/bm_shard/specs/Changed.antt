@@ -6,10 +6,10 @@ use Rattle.bm_base.specs.declared.event.Event.{Event}
 use Rattle.bm_base.specs.Shards.{shard_of}
 use Rattle.bm_parts.specs.Parts.{block_of}
 use Rattle.bm_base.specs.declared.event.Done.{Done}
-use Rattle.bm_base.specs.Map.{get}
-use Rattle.bm_base.specs.State.{Cluster, Holdings}
-use Rattle.bm_base.specs.Levels.{level}
-use Rattle.bm_base.specs.Calls.{done}
+use Rattle.bm_base.specs.Maps.Map.{get}
+use Rattle.bm_base.specs.Machine.State.{Cluster, Holdings}
+use Rattle.bm_base.specs.Machine.Levels.{level}
+use Rattle.bm_base.specs.Machine.Calls.{done}
 use Rattle.bm_shard.specs.Seen.{Seen}
 
 -- the stored levels are those of this cluster

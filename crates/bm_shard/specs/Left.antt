@@ -2,9 +2,9 @@
 use Rattle.std.specs.Prelude.{◌≡◌, ◌==◌, ℕ, Bool, true, false}
 use Rattle.bm_base.specs.declared.event.Event.{Event}
 use Rattle.bm_base.specs.declared.event.Event.TheVariants.{Dead, StorageFailed}
-use Rattle.bm_base.specs.State.{Cluster}
-use Rattle.bm_base.specs.Replicas.{has_storage}
-use Rattle.bm_base.specs.SlotLists.{Among}
+use Rattle.bm_base.specs.Machine.State.{Cluster}
+use Rattle.bm_base.specs.Machine.Replicas.{has_storage}
+use Rattle.bm_maps.specs.SlotLists.{Among}
 use Rattle.bm_shard.specs.Seen.{Seen}
 
 -- whether a storage leaves by an event: those of a dead node, and one that fails

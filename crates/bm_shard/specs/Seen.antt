@@ -7,10 +7,10 @@ use Rattle.bm_base.specs.declared.ids.Part.{Part}
 use Rattle.bm_base.specs.declared.event.Event.{Event}
 use Rattle.bm_base.specs.declared.event.Event.TheVariants.{AddBlock, Received, FullReport}
 use Rattle.bm_base.specs.declared.round.Chosen.{Chosen}
-use Rattle.bm_base.specs.Map.{Map, by_number}
-use Rattle.bm_base.specs.State.{Holdings}
-use Rattle.bm_base.specs.Entries.{Told, expanded}
-use Rattle.bm_base.specs.SlotLists.{Among}
+use Rattle.bm_base.specs.Maps.Map.{Map, by_number}
+use Rattle.bm_base.specs.Machine.State.{Holdings}
+use Rattle.bm_base.specs.Machine.Entries.{Told, expanded}
+use Rattle.bm_maps.specs.SlotLists.{Among}
 use Rattle.bm_base.specs.RoundParts.{own_transfers}
 use Rattle.bm_parts.specs.Parts.{told_of}
 

@@ -1,7 +1,7 @@
 -- Invariants of a shard together with its cluster.
 use Rattle.std.specs.Prelude.{◌≡◌, ◌+◌}
 use Rattle.bm_base.specs.declared.round.RoundPart.{RoundPart}
-use Rattle.bm_base.specs.State.{Cluster}
+use Rattle.bm_base.specs.Machine.State.{Cluster}
 use Rattle.bm_base.specs.RoundParts.{round_part}
 use Rattle.bm_parts.specs.PlacedLaws.{IsPlaced}
 use Rattle.bm_shard.specs.Seen.{Seen}

@@ -1,12 +1,12 @@
 // The queries of a shard. No query changes anything.
 ghost use Rattle.std.specs.Prelude.{◌≡◌, true, false, None, IfOk, IfErr, OnOk};
 ghost use Rattle.bm_base.specs.declared.refusal.Refusal.TheVariants.{Memory};
-ghost use Rattle.bm_base.specs.State.{Cluster};
-ghost use Rattle.bm_base.specs.Queries as queries;
-ghost use Rattle.bm_base.specs.Levels as levels;
-ghost use Rattle.bm_base.specs.Versions as versions;
-ghost use Rattle.bm_base.specs.Refusals.{block_refusal};
-ghost use Rattle.bm_base.specs.Answering.{Refuses};
+ghost use Rattle.bm_base.specs.Machine.State.{Cluster};
+ghost use Rattle.bm_base.specs.Machine.Queries as queries;
+ghost use Rattle.bm_base.specs.Machine.Levels as levels;
+ghost use Rattle.bm_base.specs.Promises.Versions as versions;
+ghost use Rattle.bm_base.specs.Machine.Refusals.{block_refusal};
+ghost use Rattle.bm_base.specs.Machine.Answering.{Refuses};
 ghost use Rattle.bm_parts.specs.QueryLaws.{holds_back};
 ghost use Rattle.bm_listing.specs.Listed.{wants, replicas_passing};
 ghost use Rattle.bm_shard.specs.Standing.{StandsIn};
@@ -76,7 +76,7 @@ impl Shard {
 
     /// The storages of the block's good replicas, in excess or not, ascending. `UnknownBlock`;
     /// `Memory`.
-    #[tactic(auto, unfolding(bm_base::specs::Refusals::block_refusal))]
+    #[tactic(auto, unfolding(bm_base::specs::Machine::Refusals::block_refusal))]
     pub fn places(&self, id: BlockId) -> Result<Items<StorageId>, Refusal>
         ensures known { OnOk result (block_refusal self.now.holdings id ≡ None) }
         ensures places { IfOk result (λ v. v ≡ queries.places self.now.holdings id) }
@@ -99,7 +99,7 @@ impl Shard {
 
     /// How urgently the block needs replicas; `None` if it needs none. `UnknownBlock`. Takes no
     /// memory.
-    #[tactic(auto, unfolding(bm_base::specs::Refusals::block_refusal))]
+    #[tactic(auto, unfolding(bm_base::specs::Machine::Refusals::block_refusal))]
     pub fn level(&self, id: BlockId) -> Result<Option<Level>, Refusal>
         ensures known { OnOk result (block_refusal self.now.holdings id ≡ None) }
         ensures level { (C : Cluster) → StandsIn C self.now

@@ -1,8 +1,8 @@
 // The checks of an event on the blocks.
 ghost use Rattle.std.specs.Prelude.{◌≡◌, if◌then◌else◌};
-ghost use Rattle.bm_base.specs.Map.{get};
-ghost use Rattle.bm_base.specs.Refusals.{first_of, block_checks, knows_block, is_bad_replication, is_old};
-ghost use Rattle.bm_base.specs.Answering.{checked};
+ghost use Rattle.bm_base.specs.Maps.Map.{get};
+ghost use Rattle.bm_base.specs.Machine.Refusals.{first_of, block_checks, knows_block, is_bad_replication, is_old};
+ghost use Rattle.bm_base.specs.Machine.Answering.{checked};
 
 use crate::shard::Shard;
 use bm_base::{BlockId, BlockInfo, Event, MAX_REPLICATION, Refusal, Stamp};
@@ -12,7 +12,7 @@ impl Shard {
     /// The first check on the blocks that refuses the event: `UnknownBlock`, `BlockKnown`,
     /// `StillStored`, `BadReplication`, `OldGeneration`. An event on one block is checked by the
     /// shard of its number; other events have no such check. Takes no memory.
-    #[tactic(auto, unfolding(bm_base::specs::Refusals::block_checks))]
+    #[tactic(auto, unfolding(bm_base::specs::Machine::Refusals::block_checks))]
     pub fn check(&self, event: &Event) -> Result<(), Refusal>
         ensures { result ≡ checked (first_of (block_checks self.now.holdings event.now)) }
     {
@@ -78,7 +78,7 @@ impl Shard {
     }
 
     /// Whether the generation of a stamp is not greater than the block's.
-    #[tactic(auto, unfolding(bm_base::specs::Refusals::is_old))]
+    #[tactic(auto, unfolding(bm_base::specs::Machine::Refusals::is_old))]
     fn is_old(&self, id: BlockId, stamp: &Stamp) -> bool
         ensures { result ≡ is_old self.now.holdings id stamp.now }
     {

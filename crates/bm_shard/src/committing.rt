@@ -1,9 +1,9 @@
 // Events as they change a shard.
 ghost use Rattle.std.specs.Prelude.{◌≡◌, ◌<◌, ◌^◌, None, true, false};
-ghost use Rattle.bm_base.specs.Replicas.{is_multi_rack};
-ghost use Rattle.bm_base.specs.Events.{change_cluster};
-ghost use Rattle.bm_base.specs.Refusals.{first_of, cluster_checks};
-ghost use Rattle.bm_base.specs.Calls.{done};
+ghost use Rattle.bm_base.specs.Machine.Replicas.{is_multi_rack};
+ghost use Rattle.bm_base.specs.Machine.Events.{change_cluster};
+ghost use Rattle.bm_base.specs.Machine.Refusals.{first_of, cluster_checks};
+ghost use Rattle.bm_base.specs.Machine.Calls.{done};
 ghost use Rattle.bm_parts.specs.Parts.{block_of, change_part};
 ghost use Rattle.bm_parts.specs.PlacedLaws.{IsPlaced};
 ghost use Rattle.bm_shard.specs.Seen.{IsReadyFor, takes_room};

@@ -1,8 +1,8 @@
 // Events on one block, as they change a shard. None takes memory.
 ghost use Rattle.std.specs.Prelude.{◌≡◌, if◌then◌else◌};
-ghost use Rattle.bm_base.specs.State.{replica_at};
-ghost use Rattle.bm_base.specs.Events as events;
-ghost use Rattle.bm_base.specs.SlotLists.{Among};
+ghost use Rattle.bm_base.specs.Machine.State.{replica_at};
+ghost use Rattle.bm_base.specs.Machine.Events as events;
+ghost use Rattle.bm_maps.specs.SlotLists.{Among};
 ghost use Rattle.bm_shard.specs.Bare.{HasNoneBare};
 ghost use Rattle.bm_shard.specs.Changed.{HasChanged};
 

@@ -1,8 +1,8 @@
 // Reported replicas, as they change a shard. None takes memory.
 ghost use Rattle.std.specs.Prelude.{◌≡◌, ◌<◌, ◌^◌, ◌∷◌, [], List, Some};
-ghost use Rattle.bm_base.specs.Entries.{Told};
-ghost use Rattle.bm_base.specs.Events as events;
-ghost use Rattle.bm_base.specs.State.{replica_at};
+ghost use Rattle.bm_base.specs.Machine.Entries.{Told};
+ghost use Rattle.bm_base.specs.Machine.Events as events;
+ghost use Rattle.bm_base.specs.Machine.State.{replica_at};
 ghost use Rattle.bm_parts.specs.PlacedLaws.{IsPlaced};
 ghost use Rattle.bm_shard.specs.Bare.{HasNoneBare};
 ghost use Rattle.bm_shard.specs.Changed.{HasChanged};

@@ -14,7 +14,7 @@ use Rattle.clap.specs.declared.builder.action.ArgAction.TheVariants.{Set}
 use Rattle.clap.specs.declared.builder.value_parser.ValueParser.TheVariants.{Signed}
 use Rattle.clap.specs.declared.error.kind.ErrorKind.{ErrorKind}
 use Rattle.clap.specs.declared.error.kind.ErrorKind.TheVariants.{OutOfMemory}
-use Rattle.bm_base.specs.Configuration.{standard}
+use Rattle.bm_base.specs.Machine.Configuration.{standard}
 use Rattle.bm_base.specs.declared.config.Config.{Config}
 use Rattle.bm_tool.specs.Status.{end_of}
 use Rattle.bm_tool.specs.declared.status.End.{End}

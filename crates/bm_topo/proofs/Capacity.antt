@@ -2,8 +2,8 @@
 use Rattle.std.proofs.Common.{◌≡◌, ℕ, ◌≤◌, ◌-◌, true, false, cond, arith, refl, subst}
 use Rattle.std.specs.Prelude.{◌==◌}
 use Rattle.bm_base.specs.declared.storage.StorageInfo.{StorageInfo}
-use Rattle.bm_base.specs.Map.{Map, by_number, len, remove, revise_at}
-use Rattle.bm_base.specs.Table.{Table, capacity}
+use Rattle.bm_base.specs.Maps.Map.{Map, by_number, len, remove, revise_at}
+use Rattle.bm_maps.specs.Table.{Table, capacity}
 use Rattle.bm_topo.specs.Racks.{without_one}
 use Rattle.bm_topo.specs.Seen.{Seen, Room, IsSameCapacity, IsNoLess}
 use Rattle.bm_topo.specs.Sound.{IsSound}

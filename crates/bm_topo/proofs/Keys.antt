@@ -4,8 +4,8 @@ use Rattle.std.specs.List.{AllByRecursion}
 use Rattle.std.specs.Ordering.{nat_cmp}
 use Rattle.std.specs.FinMap.{put}
 use Rattle.std.specs.FinMap.Entries.{by_order}
-use Rattle.bm_base.specs.Map.{Map, by_number, entries, empty, insert, alter, keep, remove, revise, revise_at}
-use Rattle.bm_base.specs.Altered.{with_value, alter_list}
+use Rattle.bm_base.specs.Maps.Map.{Map, by_number, entries, empty, insert, alter, keep, remove, revise, revise_at}
+use Rattle.bm_base.specs.Maps.Altered.{with_value, alter_list}
 use Rattle.bm_topo.specs.Keys.{HasSmallKeys}
 
 module _ {X : Type 0} where

@@ -1,7 +1,7 @@
 -- How many entries a table has after each change.
 use Rattle.std.proofs.Common.{ℕ, ◌+◌, ◌≤◌, List, [], ◌∷◌, length, Option, Some, None, arith}
-use Rattle.bm_base.specs.Map.{Map, by_number, entries, len, alter, remove, revise, revise_at}
-use Rattle.bm_base.specs.Altered.{with_value, alter_list}
+use Rattle.bm_base.specs.Maps.Map.{Map, by_number, entries, len, alter, remove, revise, revise_at}
+use Rattle.bm_base.specs.Maps.Altered.{with_value, alter_list}
 
 module _ {X : Type 0} where
   one_longer : (k : ℕ) (v : Option X) (es : List (ℕ × X)) → length (with_value k v es) ≤ length es + 1

@@ -2,7 +2,7 @@
 use Rattle.std.specs.Prelude.{slice_get}
 use Rattle.std.proofs.Common.{◌≡◌, ℕ, zero, suc, List, [], ◌∷◌, Some, subst}
 use Rattle.std.proofs.lemmas.Option.{same_Some}
-use Rattle.bm_base.specs.Map.{Map, by_number, get, entries}
+use Rattle.bm_base.specs.Maps.Map.{Map, by_number, get, entries}
 use Rattle.bm_base.proofs.Each.{Each}
 use Rattle.bm_base.proofs.Maps.{each_entry}
 

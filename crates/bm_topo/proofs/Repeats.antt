@@ -9,7 +9,7 @@ use Rattle.std.proofs.lemmas.List.Folds.{list_any-append, list_any_at, list_any_
 use Rattle.std.proofs.lemmas.List.Elements.{All-from_get_or}
 use Rattle.std.proofs.lemmas.List.Sorted.{IsPermutation-sym, list_any-IsPermutation, searched}
 use Rattle.std.proofs.lemmas.Map.Keys.{IsDistinct-IsPermutation, IsDistinct-from_apart, apart_from_distinct, sorted_from_strictly_increasing, below_from_sorted}
-use Rattle.bm_base.specs.Lists.{has, has_repeats}
+use Rattle.bm_base.specs.Maps.Lists.{has, has_repeats}
 use Rattle.bm_topo.proofs.Counting.{eq_turned}
 
 abbrev same : ℕ → ℕ → Bool

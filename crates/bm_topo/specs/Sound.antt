@@ -1,9 +1,9 @@
 -- What holds of the tables of a topology.
 use Rattle.std.specs.Prelude.{ℕ}
 use Rattle.bm_base.specs.declared.storage.StorageInfo.{StorageInfo}
-use Rattle.bm_base.specs.Map.{Map, Set, by_number}
-use Rattle.bm_base.specs.State.{Cluster}
-use Rattle.bm_base.specs.Lawful.{IsLawfulCluster}
+use Rattle.bm_base.specs.Maps.Map.{Map, Set, by_number}
+use Rattle.bm_base.specs.Machine.State.{Cluster}
+use Rattle.bm_base.specs.Promises.Lawful.{IsLawfulCluster}
 use Rattle.bm_topo.specs.Keys.{HasSmallKeys}
 use Rattle.bm_topo.specs.Racks.{CountsRacks}
 

@@ -2,10 +2,10 @@
 // memory.
 ghost use Rattle.std.specs.Prelude.{◌≡◌, ◌≢◌, ℕ, ◌≤◌, ◌+◌, true, false, length, Some, None, IfErr, IsOk, OnOk};
 ghost use Rattle.bm_base.specs.declared.storage.StorageInfo.{StorageInfo};
-ghost use Rattle.bm_base.specs.Map as map;
-ghost use Rattle.bm_base.specs.Events as events;
-ghost use Rattle.bm_base.specs.Refusals.{first_of, cluster_checks};
-ghost use Rattle.bm_base.specs.Answering.{Refuses};
+ghost use Rattle.bm_base.specs.Maps.Map as map;
+ghost use Rattle.bm_base.specs.Machine.Events as events;
+ghost use Rattle.bm_base.specs.Machine.Refusals.{first_of, cluster_checks};
+ghost use Rattle.bm_base.specs.Machine.Answering.{Refuses};
 ghost use Rattle.bm_base.specs.declared.event.Event.TheVariants as event_of;
 ghost use Rattle.bm_topo.specs.Seen.{IsReadyFor, IsNoLess, IsSameCapacity, grows_cluster};
 
@@ -57,7 +57,7 @@ impl Topology {
     /// Changes the cluster by an event that no check on the cluster refuses, in the capacity that
     /// [`Topology::prepare`] of this event reserved. Takes no memory, and releases none: what
     /// leaves the cluster leaves its capacity.
-    #[tactic(auto, unfolding(bm_base::specs::Events::change_cluster))]
+    #[tactic(auto, unfolding(bm_base::specs::Machine::Events::change_cluster))]
     pub fn commit(&mut self, event: &Event)
         requires accepted { first_of (cluster_checks self.old.cluster event.now) ≡ None }
         requires ready { IsReadyFor event.now self.old.room }

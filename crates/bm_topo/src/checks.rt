@@ -2,13 +2,13 @@
 ghost use Rattle.std.specs.Prelude.{◌≡◌, ◌+◌, ◌-◌, ◌||◌, not, nat_le, nat_lt, length, Some, None, OnOk, if◌then◌else◌};
 ghost use Rattle.std.specs.List.{list_any};
 ghost use Rattle.std.specs.List.Sorted.{IsNonDecreasing};
-ghost use Rattle.bm_base.specs.Map as map;
-ghost use Rattle.bm_base.specs.Lists as lists;
-ghost use Rattle.bm_base.specs.Replicas as replicas;
-ghost use Rattle.bm_base.specs.Refusals.{first_of, cluster_checks, knows_node, knows_storage, is_too_long};
-ghost use Rattle.bm_base.specs.Entries.{run_length};
+ghost use Rattle.bm_base.specs.Maps.Map as map;
+ghost use Rattle.bm_base.specs.Maps.Lists as lists;
+ghost use Rattle.bm_base.specs.Machine.Replicas as replicas;
+ghost use Rattle.bm_base.specs.Machine.Refusals.{first_of, cluster_checks, knows_node, knows_storage, is_too_long};
+ghost use Rattle.bm_base.specs.Machine.Entries.{run_length};
 ghost use Rattle.bm_base.specs.declared.limits.TheConstants.{MAX_NODES, MAX_STORAGES};
-ghost use Rattle.bm_base.specs.Answering.{checked};
+ghost use Rattle.bm_base.specs.Machine.Answering.{checked};
 ghost use Rattle.bm_base.specs.declared.event.Event.TheVariants as event;
 
 use crate::topology::Topology;
@@ -67,7 +67,7 @@ impl Topology {
         remaining.iter().any(|r| !self.has_storage(node, r.storage))
     }
 
-    #[tactic(auto, unfolding(bm_base::specs::Refusals::cluster_checks))]
+    #[tactic(auto, unfolding(bm_base::specs::Machine::Refusals::cluster_checks))]
     fn check_register(
         &self,
         node: NodeId,
@@ -89,7 +89,7 @@ impl Topology {
         Ok(())
     }
 
-    #[tactic(auto, unfolding(bm_base::specs::Refusals::cluster_checks))]
+    #[tactic(auto, unfolding(bm_base::specs::Machine::Refusals::cluster_checks))]
     fn check_heartbeat(&self, node: NodeId, remaining: &[Remaining]) -> Result<(), Refusal>
         ensures { result ≡ checked
             (first_of (cluster_checks self.now.cluster (event.Heartbeat node remaining.now))) }
@@ -132,7 +132,7 @@ impl Topology {
     /// The first check of an event on the cluster that fails: `UnknownNode`, `NodeKnown`,
     /// `UnknownStorage`, `StorageKnown`, `TooMany`, `NotItsStorage`, as the event's variant names
     /// them. Takes no memory.
-    #[tactic(auto, unfolding(bm_base::specs::Refusals::cluster_checks))]
+    #[tactic(auto, unfolding(bm_base::specs::Machine::Refusals::cluster_checks))]
     pub fn check(&self, event: &Event) -> Result<(), Refusal>
         ensures refusal { result ≡ checked (first_of (cluster_checks self.now.cluster event.now)) }
         ensures accepted { OnOk result (first_of (cluster_checks self.now.cluster event.now)
@@ -170,7 +170,7 @@ impl Topology {
         }
     }
 
-    #[tactic(auto, unfolding(bm_base::specs::Refusals::knows_node))]
+    #[tactic(auto, unfolding(bm_base::specs::Machine::Refusals::knows_node))]
     fn knows_node(&self, node: NodeId) -> bool
         ensures { result ≡ knows_node self.now.cluster node }
     {
@@ -273,7 +273,7 @@ fn left_after(entry: &Entry, left: u64) -> Option<u64>
 }
 
 /// Whether a report has too many entries, or names too many numbers.
-#[tactic(auto, unfolding(bm_base::specs::Refusals::is_too_long, bm_base::specs::Entries::numbers_in))]
+#[tactic(auto, unfolding(bm_base::specs::Machine::Refusals::is_too_long, bm_base::specs::Machine::Entries::numbers_in))]
 fn is_too_long(entries: &[Entry]) -> bool
     ensures { result ≡ is_too_long entries.now }
 {

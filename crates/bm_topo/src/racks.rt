@@ -1,9 +1,9 @@
 // The racks of the nodes. Racks are counted as nodes come and go, so nothing here iterates over the
 // nodes.
 ghost use Rattle.std.specs.Prelude.{◌≡◌};
-ghost use Rattle.bm_base.specs.Map as map;
-ghost use Rattle.bm_base.specs.Replicas as replicas;
-ghost use Rattle.bm_base.specs.Events.{change_cluster};
+ghost use Rattle.bm_base.specs.Maps.Map as map;
+ghost use Rattle.bm_base.specs.Machine.Replicas as replicas;
+ghost use Rattle.bm_base.specs.Machine.Events.{change_cluster};
 ghost use Rattle.bm_topo.specs.Racks.{on_rack, first_other, is_multi};
 
 use crate::topology::Topology;
@@ -11,7 +11,7 @@ use bm_base::{Event, NodeId, Rack};
 
 impl Topology {
     /// Whether the alive nodes are on two racks or more. Takes no memory.
-    #[tactic(auto, unfolding(bm_base::specs::Replicas::is_multi_rack))]
+    #[tactic(auto, unfolding(bm_base::specs::Machine::Replicas::is_multi_rack))]
     pub fn multi_rack(&self) -> bool
         ensures { result ≡ replicas.is_multi_rack self.now.cluster }
     {
@@ -20,7 +20,7 @@ impl Topology {
 
     /// Whether the alive nodes will be on two racks or more once the event is committed. Takes no
     /// memory.
-    #[tactic(auto, unfolding(bm_base::specs::Events::change_cluster, bm_base::specs::Events::register, bm_base::specs::Events::without_node, bm_base::specs::Events::without_storage, bm_base::specs::Events::heartbeat, bm_base::specs::Events::drain, bm_base::specs::Events::undrain, bm_base::specs::Replicas::is_multi_rack, crate::specs::Racks::is_multi))]
+    #[tactic(auto, unfolding(bm_base::specs::Machine::Events::change_cluster, bm_base::specs::Machine::Events::register, bm_base::specs::Machine::Events::without_node, bm_base::specs::Machine::Events::without_storage, bm_base::specs::Machine::Events::heartbeat, bm_base::specs::Machine::Events::drain, bm_base::specs::Machine::Events::undrain, bm_base::specs::Machine::Replicas::is_multi_rack, crate::specs::Racks::is_multi))]
     pub fn multi_after(&self, event: &Event) -> bool
         ensures { result ≡ replicas.is_multi_rack (change_cluster self.now.cluster event.now) }
     {

@@ -1,14 +1,15 @@
 // Where each storage is, in a table parallel to that of the storages: its node, the rack and
 // whether the node drains. So one read answers all that a replica's classification needs.
 ghost use Rattle.std.specs.Prelude.{◌≡◌, ◌≤◌, ◌<◌, true, length, Some};
-ghost use Rattle.bm_base.specs.Map as map;
-ghost use Rattle.bm_base.specs.Lawful.{IsLawfulCluster};
+ghost use Rattle.bm_base.specs.Maps.Map as map;
+ghost use Rattle.bm_base.specs.Promises.Lawful.{IsLawfulCluster};
 ghost use Rattle.bm_topo.specs.Keys.{HasSmallKeys};
 ghost use Rattle.bm_topo.specs.Sound.{cluster_of};
 ghost use Rattle.bm_topo.specs.Spots.{IsSpot, AreSpots};
 
 use crate::likely_places::LikelyPlaces;
-use bm_base::{MAX_STORAGES, NodeId, NumberMap, Rack, StorageId, StorageInfo};
+use bm_base::{MAX_STORAGES, NodeId, Rack, StorageId, StorageInfo};
+use bm_maps::NumberMap;
 
 /// Where a known storage is: what only a change of the cluster changes, and no heartbeat.
 #[derive(Clone, Copy)]

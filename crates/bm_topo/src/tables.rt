@@ -1,13 +1,14 @@
 // Changes of one table, in reserved capacity.
 ghost use Rattle.std.specs.Prelude.{◌≡◌, ◌≤◌, ◌==◌, not, length};
-ghost use Rattle.bm_base.specs.Map as map;
-ghost use Rattle.bm_base.specs.Table.{capacity};
-ghost use Rattle.bm_base.specs.Events as events;
+ghost use Rattle.bm_base.specs.Maps.Map as map;
+ghost use Rattle.bm_maps.specs.Table.{capacity};
+ghost use Rattle.bm_base.specs.Machine.Events as events;
 ghost use Rattle.bm_topo.specs.Racks.{without_one};
 ghost use Rattle.bm_topo.specs.Named.{named};
 ghost use Rattle.bm_topo.specs.Keys.{HasSmallKeys};
 
-use bm_base::{NodeId, NumberMap, Rack, Remaining, StorageId, StorageInfo};
+use bm_base::{NodeId, Rack, Remaining, StorageId, StorageInfo};
+use bm_maps::NumberMap;
 
 /// Adds the storages of a node, with nothing free there yet.
 pub(crate) fn add_storages(

@@ -1,18 +1,19 @@
 // The tables of the cluster, and what they answer.
 ghost use Rattle.std.specs.Prelude.{◌≡◌, ◌≤◌, IfOk, IsOk, Some, None, false, option_map, slice_get, if◌then◌else◌};
 ghost use Rattle.std.specs.Option.{option_map_or};
-ghost use Rattle.bm_base.specs.Map as map;
-ghost use Rattle.bm_base.specs.State as state;
-ghost use Rattle.bm_base.specs.Replicas as replicas;
-ghost use Rattle.bm_base.specs.Excess as excess;
-ghost use Rattle.bm_base.specs.Refusals.{knows_node, knows_storage};
-ghost use Rattle.bm_base.specs.Lawful.{IsLawfulCluster};
+ghost use Rattle.bm_base.specs.Maps.Map as map;
+ghost use Rattle.bm_base.specs.Machine.State as state;
+ghost use Rattle.bm_base.specs.Machine.Replicas as replicas;
+ghost use Rattle.bm_base.specs.Machine.Excess as excess;
+ghost use Rattle.bm_base.specs.Machine.Refusals.{knows_node, knows_storage};
+ghost use Rattle.bm_base.specs.Promises.Lawful.{IsLawfulCluster};
 ghost use Rattle.bm_base.specs.declared.limits.TheConstants.{MAX_NODES, MAX_STORAGES};
 ghost use Rattle.bm_topo.specs.Seen.{no_room};
 
 use crate::likely_places::LikelyPlaces;
 use crate::spots::{Spot, no_spots, set_spots, spot_on};
-use bm_base::{MAX_STORAGES, NodeId, NumberMap, Rack, Refusal, StorageId, StorageInfo};
+use bm_base::{MAX_STORAGES, NodeId, Rack, Refusal, StorageId, StorageInfo};
+use bm_maps::NumberMap;
 use std::alloc::Global;
 use std::marker::Model;
 
@@ -81,7 +82,7 @@ impl Model for Topology {
 
 impl Topology {
     /// An empty cluster, with no capacity. Takes no memory yet, so it succeeds.
-    #[tactic(auto, unfolding(bm_base::specs::State::empty_cluster))]
+    #[tactic(auto, unfolding(bm_base::specs::Machine::State::empty_cluster))]
     pub fn new(alloc: Global) -> Result<Topology, Refusal>
         ensures empty { IfOk result (λ t. t.cluster ≡ state.empty_cluster) }
         ensures room { IfOk result (λ t. t.room ≡ no_room) }
@@ -148,7 +149,7 @@ impl Topology {
     }
 
     /// Whether a node is one of those that drain, as directly.
-    #[tactic(auto, unfolding(bm_base::specs::Replicas::drains))]
+    #[tactic(auto, unfolding(bm_base::specs::Machine::Replicas::drains))]
     fn drains(&self, node: NodeId) -> bool
         ensures { result ≡ replicas.drains self.now.cluster node }
     {
@@ -159,7 +160,7 @@ impl Topology {
 
     /// Where a storage is; `None` where it is not known.
     #[inline]
-    #[tactic(auto, unfolding(bm_base::specs::Replicas::node_of))]
+    #[tactic(auto, unfolding(bm_base::specs::Machine::Replicas::node_of))]
     pub fn spot_of(&self, storage: StorageId) -> Option<Spot>
         ensures node { option_map (λ p. p.node) result ≡ replicas.node_of self.now.cluster storage }
         ensures rack { option_map (λ p. p.rack) result ≡ replicas.rack_of self.now.cluster storage }
@@ -204,7 +205,7 @@ impl Topology {
     }
 
     /// Whether a storage is known.
-    #[tactic(auto, unfolding(bm_base::specs::Refusals::knows_storage, bm_base::specs::Replicas::node_of))]
+    #[tactic(auto, unfolding(bm_base::specs::Machine::Refusals::knows_storage, bm_base::specs::Machine::Replicas::node_of))]
     pub fn knows_storage(&self, storage: StorageId) -> bool
         ensures { result ≡ knows_storage self.now.cluster storage }
     {
@@ -212,7 +213,7 @@ impl Topology {
     }
 
     /// Whether a storage is one of a node; not where it is not known.
-    #[tactic(auto, unfolding(bm_base::specs::Replicas::has_storage))]
+    #[tactic(auto, unfolding(bm_base::specs::Machine::Replicas::has_storage))]
     pub fn has_storage(&self, node: NodeId, storage: StorageId) -> bool
         ensures { result ≡ replicas.has_storage self.now.cluster node storage }
     {
@@ -223,7 +224,7 @@ impl Topology {
     }
 
     /// Whether two storages are different ones of one node; not where one of them is not known.
-    #[tactic(auto, unfolding(bm_base::specs::Replicas::are_sisters))]
+    #[tactic(auto, unfolding(bm_base::specs::Machine::Replicas::are_sisters))]
     pub fn are_sisters(&self, a: StorageId, b: StorageId) -> bool
         ensures { result ≡ replicas.are_sisters self.now.cluster a b }
     {
@@ -257,7 +258,7 @@ impl Topology {
     }
 
     /// Where a storage is and what remains on it.
-    #[tactic(auto, unfolding(bm_base::specs::Excess::remaining))]
+    #[tactic(auto, unfolding(bm_base::specs::Machine::Excess::remaining))]
     pub fn location_of(&self, storage: StorageId) -> Location
         ensures node { result.node ≡ replicas.node_of self.now.cluster storage }
         ensures rack { result.rack ≡ replicas.rack_of self.now.cluster storage }
@@ -282,7 +283,7 @@ impl Topology {
     }
 
     /// Whether a node drains; `None` where it is not alive.
-    #[tactic(auto, unfolding(bm_base::specs::Replicas::drains, bm_base::specs::Refusals::knows_node))]
+    #[tactic(auto, unfolding(bm_base::specs::Machine::Replicas::drains, bm_base::specs::Machine::Refusals::knows_node))]
     pub fn node_drains(&self, node: NodeId) -> Option<bool>
         ensures { result ≡ (if knows_node self.now.cluster node then Some
             (replicas.drains self.now.cluster node) else None) }
@@ -322,7 +323,7 @@ impl Topology {
     }
 
     /// The storage at an index, in ascending order of numbers, from 0 on; `None` past the last.
-    #[tactic(auto, unfolding(bm_base::specs::Map::keys))]
+    #[tactic(auto, unfolding(bm_base::specs::Maps::Map::keys))]
     pub fn storage_at(&self, place: u32) -> Option<StorageId>
         ensures { result ≡ slice_get (map.keys self.now.cluster.storages) place }
     {
@@ -333,7 +334,7 @@ impl Topology {
     }
 
     /// The node at an index, in ascending order of numbers, from 0 on; `None` past the last.
-    #[tactic(auto, unfolding(bm_base::specs::Map::keys))]
+    #[tactic(auto, unfolding(bm_base::specs::Maps::Map::keys))]
     pub fn node_at(&self, place: u32) -> Option<NodeId>
         ensures { result ≡ slice_get (map.keys self.now.cluster.nodes) place }
     {

@@ -6,7 +6,7 @@ use Rattle.std.proofs.lemmas.List.Sorted.{IsNonDecreasingBy-push, IsNonDecreasin
 use Rattle.std.proofs.lemmas.Bool.{cases_lt}
 use mathlib.Core.List.{IsPrefix}
 use Rattle.bm_view.specs.declared.journal.Entry.{Entry}
-use Rattle.bm_base.specs.Versions.{Version}
+use Rattle.bm_base.specs.Promises.Versions.{Version}
 use Rattle.bm_view.specs.Version.{opening}
 use Rattle.bm_view.specs.Journal.{proposed, settled, opening_log}
 use Rattle.bm_view.specs.History.{last_of, IsHistory, put_if, versions, shown_in, IsSettled}

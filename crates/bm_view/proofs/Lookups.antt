@@ -4,7 +4,7 @@ use Rattle.std.specs.List.Sorted.{IsSearchInRange, IsBinarySearchResult, IsNonDe
 use Rattle.std.specs.Ordering.{nat_cmp, ordering_index}
 use Rattle.std.proofs.lemmas.Cmp.{ranked}
 use Rattle.std.proofs.lemmas.Bool.Decides.{nat_tests}
-use Rattle.bm_base.specs.Versions.{Row}
+use Rattle.bm_base.specs.Promises.Versions.{Row}
 use Rattle.bm_view.specs.Version.{RisesById, places_in}
 
 -- the row at an index is the one that a look-up of its number finds

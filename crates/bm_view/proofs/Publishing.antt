@@ -1,7 +1,7 @@
 -- The effect of a publish on the journal, and the value that it shows.
 use Rattle.std.proofs.Common.{◌≡◌, ◌≤◌, ℕ, ◌+◌, ◌*◌, true, false, true≢false, List, [], ◌∷◌, ◌++◌, length, Result, Ok, Err, is_err, MatchResult, refl, sym, ap, ◌∙◌, subst, arith, length-append}
 use Rattle.bm_view.specs.declared.journal.Entry.{Entry}
-use Rattle.bm_base.specs.Versions.{Version}
+use Rattle.bm_base.specs.Promises.Versions.{Version}
 use Rattle.bm_view.specs.Journal.{proposed, settled}
 use Rattle.bm_view.specs.History.{last_of, IsHistory, versions, shown_in, IsSettled}
 use Rattle.bm_view.specs.Rule.{Evidence, Extends}

@@ -3,7 +3,7 @@ use Rattle.std.proofs.Math.Seq.{get_or-append_seam}
 use Rattle.std.proofs.Common.{ℕ, IfSome, length, arith, length-append, ◌≤◌, [], ◌∷◌, ◌++◌, All, ◌≡◌, List, Option, Some, None, sym, ◌∙◌, subst, refl}
 use mathlib.Core.List.{IsPrefix}
 use Rattle.bm_view.specs.Holders.{Home}
-use Rattle.bm_base.specs.Versions.{Version}
+use Rattle.bm_base.specs.Promises.Versions.{Version}
 use Rattle.std.proofs.lemmas.List.Elements.{All-push}
 use Rattle.bm_view.specs.History.{shown_in, last_of, IsHistory}
 use Rattle.bm_view.specs.Rule.{Evidence, Sees, HasSeen}

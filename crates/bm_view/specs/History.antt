@@ -3,7 +3,7 @@ use Rattle.std.specs.Prelude.{ℕ, ◌+◌, ◌-◌, ◌<◌, ◌≤◌, Bool, t
 use Rattle.std.specs.List.Sorted.{IsNonDecreasingBy}
 use mathlib.Core.List.{IsPrefix}
 use Rattle.bm_view.specs.declared.journal.Entry.{Entry}
-use Rattle.bm_base.specs.Versions.{Version}
+use Rattle.bm_base.specs.Promises.Versions.{Version}
 use Rattle.bm_view.specs.Version.{opening}
 
 -- the last version; no list of a contract is empty

@@ -8,7 +8,7 @@ use Rattle.std.specs.Prelude.{◌≡◌, ℕ, ◌<◌, ◌==◌, Bool, true, fal
 use Rattle.logbook.specs.Pages.{Cell, cell, Step, View, Book, Named, nib, may_make}
 use Rattle.bm_view.specs.declared.journal.Entry.{Entry}
 use Rattle.bm_view.specs.declared.journal.Line.{Line}
-use Rattle.bm_base.specs.Versions.{Version}
+use Rattle.bm_base.specs.Promises.Versions.{Version}
 use Rattle.bm_view.specs.Version.{opening}
 use Rattle.bm_view.specs.Holders.{Home}
 

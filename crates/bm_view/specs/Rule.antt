@@ -4,7 +4,7 @@ use Rattle.std.specs.Prelude.{◌≡◌, ℕ, List, Option, Some, None}
 use mathlib.Core.Option.{some}
 use mathlib.Core.List.{IsPrefix}
 use lib.ListN.{get_elem?}
-use Rattle.bm_base.specs.Versions.{Version}
+use Rattle.bm_base.specs.Promises.Versions.{Version}
 use Rattle.bm_view.specs.Journal.{Known}
 use Rattle.bm_view.specs.Holders.{Home}
 use Rattle.bm_view.specs.History.{shown_in}

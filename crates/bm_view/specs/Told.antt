@@ -1,7 +1,7 @@
 -- The lists that a locator learnt: those of the value before, and then the last one.
 use Rattle.std.specs.Prelude.{List, [], ◌∷◌, ◌++◌, Option, Some, None}
 use Rattle.core.specs.declared.snapshot.Snapshot.{Snapshot}
-use Rattle.bm_base.specs.Versions.{Version}
+use Rattle.bm_base.specs.Promises.Versions.{Version}
 use Rattle.bm_view.specs.History.{versions}
 use Rattle.bm_view.specs.Rule.{Evidence}
 

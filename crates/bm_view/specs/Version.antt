@@ -1,6 +1,6 @@
 -- The content of a version, and where its rows put a block.
 use Rattle.std.specs.Prelude.{ℕ, ◌<◌, List, [], ◌∷◌, if◌then◌else◌, ◌==◌, AllPairs}
-use Rattle.bm_base.specs.Versions.{Row, Version}
+use Rattle.bm_base.specs.Promises.Versions.{Row, Version}
 
 -- the block numbers are strictly ascending
 abbrev pub RisesById : List Row → Type 0

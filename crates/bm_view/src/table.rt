@@ -14,7 +14,7 @@ pub struct Table {
 }
 
 impl Model for Table {
-    ghost use Rattle.bm_base.specs.Versions.{Version};
+    ghost use Rattle.bm_base.specs.Promises.Versions.{Version};
     ghost use Rattle.bm_view.specs.Version.{RisesById};
 
     ghost Value = { Version };

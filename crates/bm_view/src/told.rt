@@ -16,7 +16,7 @@ pub struct Told {
 
 impl Model for Told {
     ghost use Rattle.std.specs.Prelude.{List, length};
-    ghost use Rattle.bm_base.specs.Versions.{Version};
+    ghost use Rattle.bm_base.specs.Promises.Versions.{Version};
     ghost use Rattle.bm_view.specs.Told.{told_of};
 
     ghost Value = { List (List Version) };

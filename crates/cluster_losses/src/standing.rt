@@ -1,6 +1,6 @@
 // How a cluster stands before and after a loss.
 ghost use Rattle.std.specs.Prelude.{◌≡◌, IfOk, length};
-ghost use Rattle.bm_base.specs.Queries.{missing_blocks};
+ghost use Rattle.bm_base.specs.Machine.Queries.{missing_blocks};
 ghost use Rattle.cluster_report.specs.Levels.{levels_counted};
 ghost use Rattle.cluster_report.specs.Reports.{levels_held};
 

@@ -1,6 +1,6 @@
 // The cluster without what is lost.
 ghost use Rattle.std.specs.Prelude.{◌≡◌, true, IfOk, OnOk, length};
-ghost use Rattle.bm_base.specs.Queries.{missing_blocks};
+ghost use Rattle.bm_base.specs.Machine.Queries.{missing_blocks};
 ghost use Rattle.cluster_lost.specs.Losses.{are_losses, after_losses, lost_blocks};
 ghost use Rattle.cluster_report.specs.Levels.{levels_counted};
 ghost use Rattle.cluster_report.specs.Reports.{levels_held};

@@ -6,13 +6,14 @@
 #![tactic(auto)]
 
 ghost use Rattle.std.specs.Prelude.{◌≡◌, List, IfOk, not, filter};
-ghost use Rattle.bm_base.specs.Lists.{has};
-ghost use Rattle.bm_base.specs.Map as map_of;
+ghost use Rattle.bm_base.specs.Maps.Lists.{has};
+ghost use Rattle.bm_base.specs.Maps.Map as map_of;
 ghost use Rattle.bm_base.specs.declared.event.Event.{Event};
-ghost use Rattle.bm_base.specs.State.{State};
+ghost use Rattle.bm_base.specs.Machine.State.{State};
 ghost use Rattle.cluster_lost.specs.Losses as law;
 
-use bm_base::{BlockId, Items, NumberMap};
+use bm_base::{BlockId, Items};
+use bm_maps::NumberMap;
 use std::alloc::{AllocError, Global};
 
 /// After losses without a round between, a known block is missing exactly if no usable replica of

@@ -10,14 +10,14 @@ use Rattle.std.proofs.lemmas.Grind.{flat_map-append}
 use Rattle.bm_base.specs.declared.replica.ReplicaId.{ReplicaId}
 use Rattle.bm_base.specs.declared.commands.Transfer.{Transfer}
 use Rattle.bm_base.specs.declared.commands.Delete.{Delete}
-use Rattle.bm_base.specs.Map.{Map, Order, get, insert, insert_all, keep, keys}
-use Rattle.bm_base.specs.State.{Cluster, State, by_replica, replica_at}
-use Rattle.bm_base.specs.Replicas.{has_storage}
-use Rattle.bm_base.specs.Excess.{begun, started, marked, without_unordered_excess, without_expired}
-use Rattle.bm_base.specs.Transfers.{transfers}
-use Rattle.bm_base.specs.Deletes.{deletes}
-use Rattle.bm_base.specs.Rounds.{node_commands, has_commands, commands_of, finished, whole_round}
-use Rattle.bm_base.specs.Lawful.{IsLawful}
+use Rattle.bm_base.specs.Maps.Map.{Map, Order, get, insert, insert_all, keep, keys}
+use Rattle.bm_base.specs.Machine.State.{Cluster, State, by_replica, replica_at}
+use Rattle.bm_base.specs.Machine.Replicas.{has_storage}
+use Rattle.bm_base.specs.Machine.Excess.{begun, started, marked, without_unordered_excess, without_expired}
+use Rattle.bm_base.specs.Machine.Transfers.{transfers}
+use Rattle.bm_base.specs.Machine.Deletes.{deletes}
+use Rattle.bm_base.specs.Machine.Rounds.{node_commands, has_commands, commands_of, finished, whole_round}
+use Rattle.bm_base.specs.Promises.Lawful.{IsLawful}
 use Rattle.bm_base.proofs.MapLaws.{same_map, get-insert}
 use Rattle.bm_base.proofs.Each.{Each, each_of, each_mapped, each_flat, each_any}
 use Rattle.bm_base.proofs.Listed.{or_left, or_right, and_second, any_filter, any_map, any_weaker, any_agree}

@@ -1,6 +1,7 @@
 -- Lemmas.
 pub mod Taking
 -- Lines.
+pub mod Naming
 pub mod LineLemmas
 pub mod ReadLemmas
 -- The copies on their way, and all of the state after a call.

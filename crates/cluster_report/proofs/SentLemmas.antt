@@ -7,18 +7,18 @@ use Rattle.bm_base.specs.declared.replica.Marks.{Marks}
 use Rattle.bm_base.specs.declared.replica.ReplicaId.{ReplicaId}
 use Rattle.bm_base.specs.declared.replica.BlockInfo.{BlockInfo}
 use Rattle.bm_base.specs.declared.commands.Transfer.{Transfer}
-use Rattle.bm_base.specs.Map.{Map, get, contains_key, keys, revise, len}
-use Rattle.bm_base.specs.State.{RoundLimits, Cluster, Holdings, State, by_replica, replica_at}
-use Rattle.bm_base.specs.Replicas.{node_of, has_storage, is_draining, is_live_on, is_drained_on, live, drained, sources_of, storages_where}
-use Rattle.bm_base.specs.Excess.{begun, started, marked, without_unordered_excess, without_expired}
-use Rattle.bm_base.specs.Lawful.{IsLawful, IsLawfulCluster, IsLawfulHoldings}
-use Rattle.bm_base.specs.Transfers.{WishedCopy, streams_from, stream_limit, source_cmp, least_source, least_source_by, least_target, holders_of, barred_for, transfer_for, transfers_from, transfers, wishes}
+use Rattle.bm_base.specs.Maps.Map.{Map, get, contains_key, keys, revise, len}
+use Rattle.bm_base.specs.Machine.State.{RoundLimits, Cluster, Holdings, State, by_replica, replica_at}
+use Rattle.bm_base.specs.Machine.Replicas.{node_of, has_storage, is_draining, is_live_on, is_drained_on, live, drained, sources_of, storages_where}
+use Rattle.bm_base.specs.Machine.Excess.{begun, started, marked, without_unordered_excess, without_expired}
+use Rattle.bm_base.specs.Promises.Lawful.{IsLawful, IsLawfulCluster, IsLawfulHoldings}
+use Rattle.bm_base.specs.Machine.Transfers.{WishedCopy, streams_from, stream_limit, source_cmp, least_source, least_source_by, least_target, holders_of, barred_for, transfer_for, transfers_from, transfers, wishes}
 use Rattle.bm_base.proofs.Options.{there, is_there, revised, chained}
 use Rattle.bm_base.proofs.Each.{Each, each_then, each_appended, each_filtered, each_optional, least_is_one}
 use Rattle.bm_base.proofs.Listed.{same_again}
 use Rattle.bm_base.proofs.Sets.{passing_some, has_keys}
 use Rattle.bm_base.proofs.Maps.{known_revised}
-use Rattle.bm_base.proofs.ChosenCopies.{HasOne, each_storage, made, unless}
+use Rattle.bm_parts.proofs.ChosenCopies.{HasOne, each_storage, made, unless}
 
 -- the storage stands on an alive node
 abbrev pub HasNode : Cluster → ℕ → Type 0

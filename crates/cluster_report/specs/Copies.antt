@@ -2,7 +2,7 @@
 use Rattle.std.specs.Prelude.{ℕ, List, map}
 use Rattle.bm_base.specs.declared.replica.ReplicaId.{ReplicaId}
 use Rattle.bm_base.specs.declared.commands.NodeCommands.{NodeCommands}
-use Rattle.bm_base.specs.State.{replica_at}
+use Rattle.bm_base.specs.Machine.State.{replica_at}
 
 -- the copies that a node is commanded to make in this round, by block and target
 abbrev pub commanded_to : ℕ → NodeCommands → List (ReplicaId × ℕ)

@@ -1,7 +1,7 @@
 -- What a whole run writes.
 use Rattle.std.specs.Prelude.{◌≡◌, ⊤, ℕ, List}
 use Rattle.bm_base.specs.declared.config.Config.{Config}
-use Rattle.bm_base.specs.State.{State, first_state}
+use Rattle.bm_base.specs.Machine.State.{State, first_state}
 use Rattle.bm_lines.specs.Lines.{lines_of}
 use Rattle.cluster_report.specs.declared.fault.Fault.{Fault}
 use Rattle.cluster_report.specs.declared.fault.Fault.TheVariants as fault

@@ -1,6 +1,6 @@
 -- A session between two lines.
 use Rattle.std.specs.Prelude.{◌≡◌}
-use Rattle.bm_base.specs.State.{State}
+use Rattle.bm_base.specs.Machine.State.{State}
 use Rattle.cluster_report.specs.declared.book.Book.{Book}
 use Rattle.cluster_report.specs.declared.session.Session.{Session}
 

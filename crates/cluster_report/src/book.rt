@@ -1,13 +1,14 @@
 // What the manager cannot be asked: its nodes and storages, and the copies on their way, as the accepted calls tell of them.
 ghost use Rattle.std.specs.Prelude.{◌≡◌, IfOk, OnOk, OnErr, unwrap_or};
-ghost use Rattle.bm_base.specs.Map as map;
-ghost use Rattle.bm_base.specs.State.{Cluster, Holdings, empty_cluster};
-ghost use Rattle.bm_base.specs.Events.{change_cluster, change_holdings};
-ghost use Rattle.bm_base.specs.Refusals.{first_of, cluster_checks};
+ghost use Rattle.bm_base.specs.Maps.Map as map;
+ghost use Rattle.bm_base.specs.Machine.State.{Cluster, Holdings, empty_cluster};
+ghost use Rattle.bm_base.specs.Machine.Events.{change_cluster, change_holdings};
+ghost use Rattle.bm_base.specs.Machine.Refusals.{first_of, cluster_checks};
 ghost use Rattle.cluster_report.specs.Books.{IsAccepted, cluster_after, AreCopiesAfter};
 
 use crate::transfers::Transfers;
-use bm_base::{Answer, Call, Config, Event, NodeId, NumberMap, Rack, Refusal};
+use bm_base::{Answer, Call, Config, Event, NodeId, Rack, Refusal};
+use bm_maps::NumberMap;
 use bm_topo::Topology;
 use std::alloc::{AllocError, Global};
 
@@ -22,7 +23,7 @@ pub struct Book {
 
 impl Book {
     /// Nothing was told.
-    #[tactic(auto, unfolding(bm_base::specs::State::empty_cluster))]
+    #[tactic(auto, unfolding(bm_base::specs::Machine::State::empty_cluster))]
     pub fn new(alloc: Global, config: &Config) -> Result<Book, Refusal>
         ensures cluster { IfOk result (λ b. b.topology.cluster ≡ empty_cluster) }
         ensures copies { IfOk result (λ b. b.transfers.copies ≡ map.empty) }
@@ -83,7 +84,7 @@ impl Book {
 }
 
 /// A node comes to its rack, or leaves it.
-#[tactic(auto, unfolding(bm_base::specs::Events::change_cluster, bm_base::specs::Events::register, bm_base::specs::Events::without_node, bm_base::specs::Events::without_storage, bm_base::specs::Events::heartbeat, bm_base::specs::Events::drain, bm_base::specs::Events::undrain))]
+#[tactic(auto, unfolding(bm_base::specs::Machine::Events::change_cluster, bm_base::specs::Machine::Events::register, bm_base::specs::Machine::Events::without_node, bm_base::specs::Machine::Events::without_storage, bm_base::specs::Machine::Events::heartbeat, bm_base::specs::Machine::Events::drain, bm_base::specs::Machine::Events::undrain))]
 fn take_rack(racks: &mut NumberMap<Rack>, event: &Event) -> Result<(), AllocError>
     ensures ok { OnOk result ((C : Cluster) → racks.old.map ≡ C.nodes
         → racks.new.map ≡ (change_cluster C event.now).nodes) }

@@ -1,6 +1,6 @@
 // How many replicas there are of each tag, and which blocks they are of.
 ghost use Rattle.std.specs.Prelude.{◌≡◌, IfOk, count_by};
-ghost use Rattle.bm_base.specs.Replicas.{is_good, is_stale, is_bad, is_stray};
+ghost use Rattle.bm_base.specs.Machine.Replicas.{is_good, is_stale, is_bad, is_stray};
 ghost use Rattle.cluster_report.specs.Counting.{tags_counted, known_numbers, blocks_held};
 
 use bm_base::Replica;

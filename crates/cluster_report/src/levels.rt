@@ -1,6 +1,6 @@
 // How urgent blocks are, counted by level, and the most urgent ones.
 ghost use Rattle.std.specs.Prelude.{◌≡◌, ◌++◌, IfOk, map, count_by, is_none};
-ghost use Rattle.bm_base.specs.Levels.{is_at, level};
+ghost use Rattle.bm_base.specs.Machine.Levels.{is_at, level};
 ghost use Rattle.cluster_report.specs.Levels.{all_at, leveled, levels_counted, most_urgent};
 
 use bm_base::{BlockId, Level};
@@ -48,7 +48,7 @@ pub fn levels_of(
 }
 
 /// The level of a block; none of one that is not known.
-#[tactic(auto, unfolding(bm_base::specs::Levels::level, bm_base::specs::Refusals::block_refusal, bm_base::specs::Refusals::knows_block))]
+#[tactic(auto, unfolding(bm_base::specs::Machine::Levels::level, bm_base::specs::Machine::Refusals::block_refusal, bm_base::specs::Machine::Refusals::knows_block))]
 fn level_in(manager: &Manager, block: BlockId) -> Option<Level>
     ensures { result ≡ level manager.now.cluster manager.now.holdings block }
 {

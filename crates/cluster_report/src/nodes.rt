@@ -1,6 +1,6 @@
 // The nodes with their storages, as a report tells of them.
 ghost use Rattle.std.specs.Prelude.{◌≡◌, IfOk, map};
-ghost use Rattle.bm_base.specs.Map as map_of;
+ghost use Rattle.bm_base.specs.Maps.Map as map_of;
 ghost use Rattle.cluster_report.specs.Nodes.{storage_row, storage_rows, state_of, node_row};
 
 use crate::book::Book;
@@ -138,7 +138,7 @@ fn storage_rows(
     Ok(Items::from_vec(rows))
 }
 
-#[tactic(auto, unfolding(bm_base::specs::Excess::remaining))]
+#[tactic(auto, unfolding(bm_base::specs::Machine::Excess::remaining))]
 fn storage_row(
     manager: &Manager,
     topology: &Topology,

@@ -1,6 +1,6 @@
 // The whole report, counted.
 ghost use Rattle.std.specs.Prelude.{◌≡◌, IfOk, length, map, take};
-ghost use Rattle.bm_base.specs.Queries.{all_replicas, excess_replicas, missing_blocks};
+ghost use Rattle.bm_base.specs.Machine.Queries.{all_replicas, excess_replicas, missing_blocks};
 ghost use Rattle.cluster_report.specs.Counting.{blocks_held};
 ghost use Rattle.cluster_report.specs.Levels.{leveled};
 ghost use Rattle.cluster_report.specs.Reports.{levels_held, report_of};

@@ -1,7 +1,7 @@
 // A whole run, from a reader to a writer.
 ghost use Rattle.std.specs.Prelude.{◌≡◌, IfOk, IfErr, IfSome, OnOk, string_bytes};
 ghost use Rattle.std.specs.Io.KnownBytes.{Appends};
-ghost use Rattle.bm_base.specs.State.{first_state};
+ghost use Rattle.bm_base.specs.Machine.State.{first_state};
 ghost use Rattle.bm_lines.specs.Lines.{lines_of};
 ghost use Rattle.cluster_report.specs.Reading.{after_lines, SaysIfAccepted, notes_text};
 ghost use Rattle.cluster_report.specs.Sessions.{IsInStep};

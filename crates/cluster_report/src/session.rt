@@ -1,7 +1,7 @@
 // The manager and the book beside it, one line after another.
 ghost use Rattle.std.specs.Prelude.{◌≡◌, Some, IfOk, OnOk, option_map, string_bytes};
-ghost use Rattle.bm_base.specs.State.{first_state};
-ghost use Rattle.bm_base.specs.Calls.{step};
+ghost use Rattle.bm_base.specs.Machine.State.{first_state};
+ghost use Rattle.bm_base.specs.Machine.Calls.{step};
 ghost use Rattle.cluster_report.specs.Sessions.{IsInStep};
 ghost use Rattle.cluster_report.specs.Reading.{told, told_of, after_line};
 
@@ -24,7 +24,7 @@ pub struct Session {
 
 impl Session {
     /// No line was read.
-    #[tactic(auto, unfolding(bm_base::specs::State::empty_holdings))]
+    #[tactic(auto, unfolding(bm_base::specs::Machine::State::empty_holdings))]
     pub fn new(alloc: Global, config: &Config) -> Result<Session, Refusal>
         ensures state { IfOk result (λ s. s.manager ≡ first_state config.now) }
         ensures in_step { IfOk result IsInStep }

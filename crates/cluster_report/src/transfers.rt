@@ -2,17 +2,16 @@
 // its rules.
 ghost use Rattle.std.specs.Prelude.{◌≡◌, ◌==◌, ◌&&◌, ◌-◌, OnOk, None, true, not, nat_le, map, if◌then◌else◌};
 ghost use Rattle.std.specs.List.{flat_map, list_any};
-ghost use Rattle.bm_base.specs.Map as map_of;
-ghost use Rattle.bm_base.specs.State.{Holdings, replica_at};
-ghost use Rattle.bm_base.specs.Entries.{expanded};
-ghost use Rattle.bm_base.specs.Events.{change_holdings, is_named};
-ghost use Rattle.bm_base.specs.Refusals.{first_of, cluster_checks, knows_node};
-ghost use Rattle.bm_base.specs.Replicas.{drains, has_storage};
+ghost use Rattle.bm_base.specs.Maps.Map as map_of;
+ghost use Rattle.bm_base.specs.Machine.State.{Holdings, replica_at};
+ghost use Rattle.bm_base.specs.Machine.Entries.{expanded};
+ghost use Rattle.bm_base.specs.Machine.Events.{change_holdings, is_named};
+ghost use Rattle.bm_base.specs.Machine.Refusals.{first_of, cluster_checks, knows_node};
+ghost use Rattle.bm_base.specs.Machine.Replicas.{drains, has_storage};
 ghost use Rattle.cluster_report.specs.Copies.{commanded_to};
 
-use bm_base::{
-    BlockId, Commands, Entry, Event, NodeCommands, NodeId, ReplicaId, ReplicaMap, StorageId,
-};
+use bm_base::{BlockId, Commands, Entry, Event, NodeCommands, NodeId, ReplicaId, StorageId};
+use bm_maps::ReplicaMap;
 use bm_topo::Topology;
 use std::alloc::{AllocError, Global};
 
@@ -44,7 +43,7 @@ impl Transfers {
 
     /// Forgets the copies that an accepted event takes away, where the cluster is as it was before it. An event that takes some away costs
     /// a look at each.
-    #[tactic(auto, unfolding(bm_base::specs::Events::change_holdings, bm_base::specs::Events::without_storages, bm_base::specs::Events::begun_to_drain, bm_base::specs::Events::add_block, bm_base::specs::Events::delete_block, bm_base::specs::Events::without_pending, bm_base::specs::Events::revise_block, bm_base::specs::Events::set_replication, bm_base::specs::Events::restamp, bm_base::specs::Events::enter, bm_base::specs::Events::remove_replica, bm_base::specs::Events::make_bad, bm_base::specs::Events::report, bm_base::specs::Refusals::cluster_checks))]
+    #[tactic(auto, unfolding(bm_base::specs::Machine::Events::change_holdings, bm_base::specs::Machine::Events::without_storages, bm_base::specs::Machine::Events::begun_to_drain, bm_base::specs::Machine::Events::add_block, bm_base::specs::Machine::Events::delete_block, bm_base::specs::Machine::Events::without_pending, bm_base::specs::Machine::Events::revise_block, bm_base::specs::Machine::Events::set_replication, bm_base::specs::Machine::Events::restamp, bm_base::specs::Machine::Events::enter, bm_base::specs::Machine::Events::remove_replica, bm_base::specs::Machine::Events::make_bad, bm_base::specs::Machine::Events::report, bm_base::specs::Machine::Refusals::cluster_checks))]
     pub fn take_event(&mut self, topology: &Topology, event: &Event)
         requires { first_of (cluster_checks topology.now.cluster event.now) ≡ None }
         ensures copies { (H : Holdings) → self.old.copies ≡ H.pending

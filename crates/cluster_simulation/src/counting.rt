@@ -1,8 +1,8 @@
 // Counts of blocks and replicas, from the manager's answers.
 ghost use Rattle.std.specs.Prelude.{◌≡◌, IfOk, OnOk, map, length, count_by};
 ghost use Rattle.std.specs.List.{range_with_len};
-ghost use Rattle.bm_base.specs.Levels.{is_at, level};
-ghost use Rattle.bm_base.specs.Queries.{excess_replicas, corrupt_replicas};
+ghost use Rattle.bm_base.specs.Machine.Levels.{is_at, level};
+ghost use Rattle.bm_base.specs.Machine.Queries.{excess_replicas, corrupt_replicas};
 ghost use Rattle.cluster_simulation.specs.Counting.{IsCounted, levels_below};
 
 use crate::counts::Counts;
@@ -47,7 +47,7 @@ fn levels_of(
     Ok(levels)
 }
 
-#[tactic(auto, unfolding(bm_base::specs::Levels::level, bm_base::specs::Refusals::block_refusal, bm_base::specs::Refusals::knows_block))]
+#[tactic(auto, unfolding(bm_base::specs::Machine::Levels::level, bm_base::specs::Machine::Refusals::block_refusal, bm_base::specs::Machine::Refusals::knows_block))]
 fn level_of(manager: &Manager, block: BlockId) -> Option<Level>
     ensures { result ≡ level manager.now.cluster manager.now.holdings block }
 {

@@ -1,6 +1,6 @@
 // The manager and its DataNodes, round by round.
 ghost use Rattle.std.specs.Prelude.{◌≡◌, ◌<◌, ◌+◌, ◌-◌, ◌^◌, IsSome, IfOk, OnOk, OnErr};
-ghost use Rattle.bm_base.specs.Refusals.{refusal_of};
+ghost use Rattle.bm_base.specs.Machine.Refusals.{refusal_of};
 ghost use Rattle.bm_base.specs.declared.refusal.Refusal.TheVariants.{Memory};
 ghost use Rattle.cluster_simulation.specs.Counting.{IsCounted};
 

@@ -3,7 +3,7 @@ use Rattle.std.proofs.Common.{◌≡◌, ℕ, ◌==◌, ◌||◌, Bool, true, fa
 use Rattle.std.specs.List.{list_any, flat_map}
 use Rattle.std.proofs.lemmas.List.{append-nil}
 use Rattle.std.proofs.lemmas.List.Folds.{list_any-append}
-use Rattle.bm_base.specs.Lists.{has, has_repeats}
+use Rattle.bm_base.specs.Maps.Lists.{has, has_repeats}
 use Rattle.bm_base.specs.declared.replica.BlockInfo.{BlockInfo}
 use Rattle.fsck_files.specs.declared.replicas.Block.{Block}
 use Rattle.fsck_cluster.proofs.NameLemmas.{list_any-map}

@@ -6,7 +6,7 @@ use Rattle.std.specs.List.{flat_map, list_any, AllByRecursion}
 use Rattle.std.specs.Str.{bytes_eq}
 use Rattle.std.proofs.lemmas.Grind.{flat_map-append}
 use Rattle.std.proofs.lemmas.List.{append-nil, map-append, take-append-drop}
-use Rattle.bm_base.specs.Entries.{count_up, run_length, told_by, expanded}
+use Rattle.bm_base.specs.Machine.Entries.{count_up, run_length, told_by, expanded}
 use Rattle.bm_base.specs.declared.call.Call.{Call}
 use Rattle.bm_base.specs.declared.call.Call.TheVariants as call
 use Rattle.bm_base.specs.declared.event.Event.TheVariants.{FullReport}

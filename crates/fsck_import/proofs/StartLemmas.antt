@@ -5,7 +5,7 @@ use Rattle.std.specs.List.{list_any}
 use Rattle.std.specs.Option.{option_map_or}
 use Rattle.std.specs.Str.{bytes_eq}
 use Rattle.std.proofs.lemmas.List.{append-nil}
-use Rattle.bm_base.specs.Entries.{count_up}
+use Rattle.bm_base.specs.Machine.Entries.{count_up}
 use Rattle.fsck_text.specs.Cuts.{Text}
 use Rattle.fsck_text.specs.Nodes.{node_line_of}
 use Rattle.fsck_text.specs.declared.node.NodeLine.{NodeLine}

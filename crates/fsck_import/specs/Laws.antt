@@ -3,8 +3,8 @@ use Rattle.std.specs.Prelude.{◌≡◌, ◌≤◌, ◌&&◌, ℕ, Bool, true, f
 use Rattle.std.specs.List.{flat_map, list_any}
 use Rattle.std.specs.List.Sorted.{IsPermutation}
 use Rattle.std.specs.Str.{bytes_eq}
-use Rattle.bm_base.specs.Entries.{Told, count_up, expanded}
-use Rattle.bm_base.specs.Lists.{has_repeats}
+use Rattle.bm_base.specs.Machine.Entries.{Told, count_up, expanded}
+use Rattle.bm_base.specs.Maps.Lists.{has_repeats}
 use Rattle.bm_base.specs.declared.call.Call.{Call}
 use Rattle.bm_base.specs.declared.call.Call.TheVariants as call
 use Rattle.bm_base.specs.declared.event.Event.TheVariants.{AddBlock, FullReport, Received, Corrupt, Drain}

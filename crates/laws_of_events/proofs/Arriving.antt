@@ -18,27 +18,27 @@ use Rattle.bm_base.specs.declared.refusal.Refusal.{Refusal}
 use Rattle.bm_base.specs.declared.call.Call.{Call}
 use Rattle.bm_base.specs.declared.call.Call.TheVariants as call
 use Rattle.bm_base.specs.declared.call.Answer.{Answer}
-use Rattle.bm_base.specs.Map.{Map, get, keep, revise, revise_at, remove, contains_key, entries, keys, len}
-use Rattle.bm_base.specs.State.{RoundLimits, Cluster, Holdings, State, by_replica, replica_at, first_state, empty_holdings}
-use Rattle.bm_base.specs.Replicas.{node_of, has_storage, sources_of, storages_where}
-use Rattle.bm_base.specs.Entries.{expanded}
-use Rattle.bm_base.specs.Events.{change_holdings, without_storages, add_block, delete_block, set_replication, restamp, make_bad, remove_replica, without_pending, revise_block, enter, report, replaces, is_named}
-use Rattle.bm_base.specs.Excess.{without_expired, without_unordered_excess, marked, begun, started}
-use Rattle.bm_base.specs.Transfers.{WishedCopy, pending_targets, targets_of, holders_of, barred_for, is_barred, is_target, target_cmp, least_target_by, least_target, scheduled_to, least_source, transfer_for, transfers_from, transfers, wishes}
-use Rattle.bm_base.specs.Deletes.{deletes}
-use Rattle.bm_base.specs.Rounds.{finished, whole_round}
-use Rattle.bm_base.specs.Refusals.{refusal_of, round_refusal, node_refusal, storage_refusal, block_refusal}
-use Rattle.bm_base.specs.Calls.{step, refused_or, after_event, state_after}
+use Rattle.bm_base.specs.Maps.Map.{Map, get, keep, revise, revise_at, remove, contains_key, entries, keys, len}
+use Rattle.bm_base.specs.Machine.State.{RoundLimits, Cluster, Holdings, State, by_replica, replica_at, first_state, empty_holdings}
+use Rattle.bm_base.specs.Machine.Replicas.{node_of, has_storage, sources_of, storages_where}
+use Rattle.bm_base.specs.Machine.Entries.{expanded}
+use Rattle.bm_base.specs.Machine.Events.{change_holdings, without_storages, add_block, delete_block, set_replication, restamp, make_bad, remove_replica, without_pending, revise_block, enter, report, replaces, is_named}
+use Rattle.bm_base.specs.Machine.Excess.{without_expired, without_unordered_excess, marked, begun, started}
+use Rattle.bm_base.specs.Machine.Transfers.{WishedCopy, pending_targets, targets_of, holders_of, barred_for, is_barred, is_target, target_cmp, least_target_by, least_target, scheduled_to, least_source, transfer_for, transfers_from, transfers, wishes}
+use Rattle.bm_base.specs.Machine.Deletes.{deletes}
+use Rattle.bm_base.specs.Machine.Rounds.{finished, whole_round}
+use Rattle.bm_base.specs.Machine.Refusals.{refusal_of, round_refusal, node_refusal, storage_refusal, block_refusal}
+use Rattle.bm_base.specs.Machine.Calls.{step, refused_or, after_event, state_after}
 use Rattle.bm_base.proofs.MapLaws.{get-empty}
 use Rattle.bm_base.proofs.Options.{there, is_there}
 use Rattle.bm_base.proofs.Each.{Each, each_both, each_filtered, each_passing, each_appended, each_optional, least_is_one}
 use Rattle.bm_base.proofs.Maps.{get_kept, get_removed, known_revised, each_key, passes_entry}
 use Rattle.bm_base.proofs.Clusters.{some_node}
-use Rattle.bm_base.proofs.Among.{drained_replicas}
-use Rattle.bm_base.proofs.ChosenCopies.{made_of, unless}
-use Rattle.bm_base.proofs.Rounding.{all_pending}
-use Rattle.bm_base.proofs.Accepting.{pending_before}
-use Rattle.bm_base.proofs.Entering.{IsKept, IsPut, enter_origin, enter_pending, report_origin, report_pending, stays_by}
+use Rattle.bm_parts.proofs.Among.{drained_replicas}
+use Rattle.bm_parts.proofs.ChosenCopies.{made_of, unless}
+use Rattle.laws_of_states.proofs.Rounding.{all_pending}
+use Rattle.laws_of_states.proofs.Accepting.{pending_before}
+use Rattle.bm_parts.proofs.Entering.{IsKept, IsPut, enter_origin, enter_pending, report_origin, report_pending, stays_by}
 use Rattle.laws_of_events.proofs.ReportLaws.{held_report, held_received}
 use Rattle.laws_of_events.proofs.BlockChanges.{transfers_reported, transfer_received}
 use Rattle.laws_of_events.proofs.Reporting.{named_numbers}

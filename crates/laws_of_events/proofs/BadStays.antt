@@ -7,15 +7,15 @@ use Rattle.bm_base.specs.declared.replica.Tag.{Tag}
 use Rattle.bm_base.specs.declared.replica.Tag.TheVariants.{Stale, Bad}
 use Rattle.bm_base.specs.declared.replica.Marks.{Marks}
 use Rattle.bm_base.specs.declared.event.Event.TheVariants.{Register, Dead, StorageFailed, Heartbeat, Drain, Undrain, AddBlock, DeleteBlock, SetReplication, Restamp, Received, Deleted, Corrupt, FullReport}
-use Rattle.bm_base.specs.Map.{Map, get, revise, revise_at, remove, contains_key}
-use Rattle.bm_base.specs.State.{Holdings, State, by_replica, replica_at, replica_cmp}
-use Rattle.bm_base.specs.Replicas.{is_good, has_storage}
-use Rattle.bm_base.specs.Events.{add_block, delete_block, set_replication, restamp, make_bad, remove_replica, without_storages, without_pending, revise_block, change_holdings, as_stray, as_bad, as_restamped}
-use Rattle.bm_base.specs.Calls.{after_event}
-use Rattle.bm_base.specs.Lawful.{IsOrderly}
+use Rattle.bm_base.specs.Maps.Map.{Map, get, revise, revise_at, remove, contains_key}
+use Rattle.bm_base.specs.Machine.State.{Holdings, State, by_replica, replica_at, replica_cmp}
+use Rattle.bm_base.specs.Machine.Replicas.{is_good, has_storage}
+use Rattle.bm_base.specs.Machine.Events.{add_block, delete_block, set_replication, restamp, make_bad, remove_replica, without_storages, without_pending, revise_block, change_holdings, as_stray, as_bad, as_restamped}
+use Rattle.bm_base.specs.Machine.Calls.{after_event}
+use Rattle.bm_base.specs.Promises.Lawful.{IsOrderly}
 use Rattle.bm_base.proofs.Options.{there}
 use Rattle.bm_base.proofs.Maps.{get_kept, get_removed, get_revised, get_taken}
-use Rattle.bm_base.proofs.Among.{drained_replicas}
+use Rattle.bm_parts.proofs.Among.{drained_replicas}
 use Rattle.laws_of_events.proofs.ReportLaws.{report_leaves_bad, received_leaves_bad}
 use Rattle.laws_of_events.specs.Changes as law
 use Rattle.laws_of_events.specs.Reports.{IsBadIn}

@@ -11,17 +11,17 @@ use Rattle.bm_base.specs.declared.replica.BlockInfo.{BlockInfo}
 use Rattle.bm_base.specs.declared.event.Entry.{Entry}
 use Rattle.bm_base.specs.declared.event.Event.{Event}
 use Rattle.bm_base.specs.declared.event.Event.TheVariants.{DeleteBlock, Restamp, FullReport}
-use Rattle.bm_base.specs.Map.{Map, by_number, get, keep, revise, revise_at}
-use Rattle.bm_base.specs.Lists.{has}
-use Rattle.bm_base.specs.State.{Cluster, Holdings, State, by_replica, replica_at, replica_cmp}
-use Rattle.bm_base.specs.Replicas.{is_good}
-use Rattle.bm_base.specs.Entries.{Told, expanded}
-use Rattle.bm_base.specs.Events.{add_block, delete_block, set_replication, restamp, make_bad, remove_replica, without_pending, revise_block, enter, is_named, leaves_by_report, report, change_holdings, as_stray, as_bad, as_restamped}
-use Rattle.bm_base.specs.Calls.{after_event}
+use Rattle.bm_base.specs.Maps.Map.{Map, by_number, get, keep, revise, revise_at}
+use Rattle.bm_base.specs.Maps.Lists.{has}
+use Rattle.bm_base.specs.Machine.State.{Cluster, Holdings, State, by_replica, replica_at, replica_cmp}
+use Rattle.bm_base.specs.Machine.Replicas.{is_good}
+use Rattle.bm_base.specs.Machine.Entries.{Told, expanded}
+use Rattle.bm_base.specs.Machine.Events.{add_block, delete_block, set_replication, restamp, make_bad, remove_replica, without_pending, revise_block, enter, is_named, leaves_by_report, report, change_holdings, as_stray, as_bad, as_restamped}
+use Rattle.bm_base.specs.Machine.Calls.{after_event}
 use Rattle.bm_base.proofs.MapLaws.{get-keep, get-revise}
 use Rattle.bm_base.proofs.Options.{none_stays, all_stays}
 use Rattle.bm_base.proofs.Maps.{key_itself, not_tied, get_here, get_taken, get_left}
-use Rattle.bm_base.proofs.Entering.{stays_by}
+use Rattle.bm_parts.proofs.Entering.{stays_by}
 use Rattle.laws_of_events.proofs.Reporting.{named_numbers, reported_elsewhere}
 use Rattle.bm_parts.specs.Parts.{IsSameOf}
 use Rattle.bm_parts.proofs.OneBlock.{others_stay}

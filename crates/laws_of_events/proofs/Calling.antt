@@ -9,17 +9,17 @@ use Rattle.bm_base.specs.declared.event.Event.{Event}
 use Rattle.bm_base.specs.declared.refusal.Refusal.{Refusal}
 use Rattle.bm_base.specs.declared.call.Call.TheVariants as call
 use Rattle.bm_base.specs.declared.call.Answer.{Answer}
-use Rattle.bm_base.specs.Map.{Map, get, revise}
-use Rattle.bm_base.specs.State.{Cluster, Holdings, State, by_replica}
-use Rattle.bm_base.specs.Lists.{has}
-use Rattle.bm_base.specs.Excess.{without_expired, without_unordered_excess, excess_in, marked, begun, started}
-use Rattle.bm_base.specs.Transfers.{transfers}
-use Rattle.bm_base.specs.Deletes.{deletes}
-use Rattle.bm_base.specs.Rounds.{is_commanded, finished, whole_round}
-use Rattle.bm_base.specs.Refusals.{refusal_of, round_refusal, node_refusal, storage_refusal, block_refusal}
-use Rattle.bm_base.specs.Calls.{step, refused_or, after_event, counted}
+use Rattle.bm_base.specs.Maps.Map.{Map, get, revise}
+use Rattle.bm_base.specs.Machine.State.{Cluster, Holdings, State, by_replica}
+use Rattle.bm_base.specs.Maps.Lists.{has}
+use Rattle.bm_base.specs.Machine.Excess.{without_expired, without_unordered_excess, excess_in, marked, begun, started}
+use Rattle.bm_base.specs.Machine.Transfers.{transfers}
+use Rattle.bm_base.specs.Machine.Deletes.{deletes}
+use Rattle.bm_base.specs.Machine.Rounds.{is_commanded, finished, whole_round}
+use Rattle.bm_base.specs.Machine.Refusals.{refusal_of, round_refusal, node_refusal, storage_refusal, block_refusal}
+use Rattle.bm_base.specs.Machine.Calls.{step, refused_or, after_event, counted}
 use Rattle.bm_base.proofs.MapLaws.{get-revise}
-use Rattle.bm_base.proofs.Rounding.{cleared_tag, marked_tag, ordered_tag}
+use Rattle.laws_of_states.proofs.Rounding.{cleared_tag, marked_tag, ordered_tag}
 use Rattle.laws_of_events.specs.Calls as law
 
 either : (M : State) (o : Option Refusal) (a : Answer) → (refused_or M o (a, M)).1 ≡ M

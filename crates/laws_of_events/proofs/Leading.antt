@@ -5,17 +5,17 @@ use Rattle.bm_base.specs.declared.refusal.Refusal.{Refusal}
 use Rattle.bm_base.specs.declared.call.Call.{Call}
 use Rattle.bm_base.specs.declared.call.Call.TheVariants as call
 use Rattle.bm_base.specs.declared.call.Answer.{Answer}
-use Rattle.bm_base.specs.State.{State, first_state}
-use Rattle.bm_base.specs.Refusals.{refusal_of, round_refusal, node_refusal, storage_refusal, block_refusal}
-use Rattle.bm_base.specs.Calls.{step, refused_or, state_after}
-use Rattle.bm_base.specs.Answering.{is_refused, wants_memory, state_left, MayAnswerAll, state_left_by}
-use Rattle.bm_base.specs.Lawful.{IsLawful, IsOrderly}
-use Rattle.bm_base.specs.Fitting.{HasFittingStart, FitsCall, FitCalls}
+use Rattle.bm_base.specs.Machine.State.{State, first_state}
+use Rattle.bm_base.specs.Machine.Refusals.{refusal_of, round_refusal, node_refusal, storage_refusal, block_refusal}
+use Rattle.bm_base.specs.Machine.Calls.{step, refused_or, state_after}
+use Rattle.bm_base.specs.Machine.Answering.{is_refused, wants_memory, state_left, MayAnswerAll, state_left_by}
+use Rattle.bm_base.specs.Promises.Lawful.{IsLawful, IsOrderly}
+use Rattle.bm_base.specs.Promises.Fitting.{HasFittingStart, FitsCall, FitCalls}
 use Rattle.bm_base.proofs.Each.{Each, each_all}
-use Rattle.bm_base.proofs.First.{first_lawful, first_orderly}
-use Rattle.bm_base.proofs.Rounding.{round_lawful}
-use Rattle.bm_base.proofs.Accepting.{event_lawful}
-use Rattle.bm_base.proofs.Orderly.{by_refusal, step_orderly}
+use Rattle.laws_of_states.proofs.First.{first_lawful, first_orderly}
+use Rattle.laws_of_states.proofs.Rounding.{round_lawful}
+use Rattle.laws_of_states.proofs.Accepting.{event_lawful}
+use Rattle.laws_of_states.proofs.Orderly.{by_refusal, step_orderly}
 
 pub step_lawful : (M : State) (k : Call) → IsLawful M → FitsCall k → IsLawful (step M k).1
 unfolding step

@@ -6,14 +6,14 @@ use Rattle.bm_base.specs.declared.replica.ReplicaId.{ReplicaId}
 use Rattle.bm_base.specs.declared.replica.Tag.{Tag}
 use Rattle.bm_base.specs.declared.replica.Tag.TheVariants.{Good, Stale, Bad, Stray}
 use Rattle.bm_base.specs.declared.storage.StorageInfo.{StorageInfo}
-use Rattle.bm_base.specs.Map.{get, contains_key}
-use Rattle.bm_base.specs.State.{Cluster, State, first_state}
-use Rattle.bm_base.specs.Calls.{state_after}
-use Rattle.bm_base.specs.Replicas.{is_good, is_stray, drains, is_draining, node_of, has_storage, are_sisters}
-use Rattle.bm_base.specs.Lawful.{IsOrderly, IsLawfulCluster}
+use Rattle.bm_base.specs.Maps.Map.{get, contains_key}
+use Rattle.bm_base.specs.Machine.State.{Cluster, State, first_state}
+use Rattle.bm_base.specs.Machine.Calls.{state_after}
+use Rattle.bm_base.specs.Machine.Replicas.{is_good, is_stray, drains, is_draining, node_of, has_storage, are_sisters}
+use Rattle.bm_base.specs.Promises.Lawful.{IsOrderly, IsLawfulCluster}
 use Rattle.bm_base.proofs.Options.{there, not_there}
 use Rattle.bm_base.proofs.Clusters.{node_is, is_on}
-use Rattle.bm_base.proofs.Orderly.{calls_orderly}
+use Rattle.laws_of_states.proofs.Orderly.{calls_orderly}
 use Rattle.laws_of_events.proofs.Arriving.{still_to_come}
 use Rattle.laws_of_events.proofs.Spared.{node_off, none_sent_there}
 use Rattle.laws_of_events.specs.PlainWords as law

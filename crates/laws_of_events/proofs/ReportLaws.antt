@@ -16,14 +16,14 @@ use Rattle.bm_base.specs.declared.replica.Stamp.{Stamp}
 use Rattle.bm_base.specs.declared.replica.BlockInfo.{BlockInfo}
 use Rattle.bm_base.specs.declared.event.Entry.{Entry}
 use Rattle.bm_base.specs.declared.event.Event.TheVariants.{Received, FullReport}
-use Rattle.bm_base.specs.Map.{Map, get, keep, contains_key, entries}
-use Rattle.bm_base.specs.Lists.{has}
-use Rattle.bm_base.specs.State.{Cluster, Holdings, State, by_replica, replica_at, replica_cmp}
-use Rattle.bm_base.specs.Replicas.{is_good, is_bad, is_stray, are_sisters}
-use Rattle.bm_base.specs.Entries.{Told, count_up, expanded}
-use Rattle.bm_base.specs.Events.{was_bad, was_excess, same_stamp, entered_tag, entered, replaces, enter, is_named, leaves_by_report, report, change_cluster, change_holdings}
-use Rattle.bm_base.specs.Calls.{new_replicas, done, done_by, after_event}
-use Rattle.bm_base.specs.Lawful.{IsLawfulHoldings, IsOrderly}
+use Rattle.bm_base.specs.Maps.Map.{Map, get, keep, contains_key, entries}
+use Rattle.bm_base.specs.Maps.Lists.{has}
+use Rattle.bm_base.specs.Machine.State.{Cluster, Holdings, State, by_replica, replica_at, replica_cmp}
+use Rattle.bm_base.specs.Machine.Replicas.{is_good, is_bad, is_stray, are_sisters}
+use Rattle.bm_base.specs.Machine.Entries.{Told, count_up, expanded}
+use Rattle.bm_base.specs.Machine.Events.{was_bad, was_excess, same_stamp, entered_tag, entered, replaces, enter, is_named, leaves_by_report, report, change_cluster, change_holdings}
+use Rattle.bm_base.specs.Machine.Calls.{new_replicas, done, done_by, after_event}
+use Rattle.bm_base.specs.Promises.Lawful.{IsLawfulHoldings, IsOrderly}
 use Rattle.bm_base.proofs.MapLaws.{same_map, get-keep, get-insert}
 use Rattle.bm_base.proofs.Ties.{replica_tie}
 use Rattle.bm_base.proofs.Entries.{expanded-++, told_by-around, ids_told, has-count_up}
@@ -31,7 +31,7 @@ use Rattle.bm_base.proofs.Options.{there, staying, none_stays, all_stays, stays_
 use Rattle.bm_base.proofs.Each.{Each, each_then}
 use Rattle.bm_base.proofs.Maps.{each_entry, get_here}
 use Rattle.bm_base.proofs.Clusters.{no_sisters}
-use Rattle.bm_base.proofs.Entering.{IsKept, IsPut, enter_origin, report_origin, stays_by}
+use Rattle.bm_parts.proofs.Entering.{IsKept, IsPut, enter_origin, report_origin, stays_by}
 use Rattle.laws_of_events.proofs.Telling.{tag_where, told_marks}
 use Rattle.laws_of_events.proofs.Reporting.{named_since, named_numbers, last_is, put_or, reported_here, reported_elsewhere}
 use Rattle.laws_of_events.specs.Reports as law

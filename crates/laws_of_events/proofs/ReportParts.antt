@@ -13,20 +13,20 @@ use Rattle.bm_base.specs.declared.replica.Stamp.{Stamp}
 use Rattle.bm_base.specs.declared.replica.BlockInfo.{BlockInfo}
 use Rattle.bm_base.specs.declared.event.Entry.{Entry}
 use Rattle.bm_base.specs.declared.event.Event.TheVariants.{Received, FullReport}
-use Rattle.bm_base.specs.Map.{get, keep}
-use Rattle.bm_base.specs.Lists.{has}
-use Rattle.bm_base.specs.State.{Cluster, Holdings, State, replica_at, replica_cmp}
-use Rattle.bm_base.specs.Replicas.{is_good, is_bad, are_sisters}
-use Rattle.bm_base.specs.Entries.{Told, expanded}
-use Rattle.bm_base.specs.Events.{was_bad, was_excess, same_stamp, entered_tag, entered, replaces, enter, is_named, leaves_by_report, report, change_cluster, change_holdings}
-use Rattle.bm_base.specs.Calls.{after_event}
+use Rattle.bm_base.specs.Maps.Map.{get, keep}
+use Rattle.bm_base.specs.Maps.Lists.{has}
+use Rattle.bm_base.specs.Machine.State.{Cluster, Holdings, State, replica_at, replica_cmp}
+use Rattle.bm_base.specs.Machine.Replicas.{is_good, is_bad, are_sisters}
+use Rattle.bm_base.specs.Machine.Entries.{Told, expanded}
+use Rattle.bm_base.specs.Machine.Events.{was_bad, was_excess, same_stamp, entered_tag, entered, replaces, enter, is_named, leaves_by_report, report, change_cluster, change_holdings}
+use Rattle.bm_base.specs.Machine.Calls.{after_event}
 use Rattle.bm_base.proofs.MapLaws.{same_map, get-insert, get-keep, get-remove}
 use Rattle.bm_base.proofs.Ties.{replica_tie}
 use Rattle.bm_base.proofs.Clusters.{eqb_turned}
 use Rattle.bm_base.proofs.Entries.{expanded-++}
 use Rattle.bm_base.proofs.Options.{staying, all_stays}
 use Rattle.bm_base.proofs.Each.{Each}
-use Rattle.bm_base.proofs.Entering.{stays_by}
+use Rattle.bm_parts.proofs.Entering.{stays_by}
 use Rattle.laws_of_events.proofs.Telling.{tag_where}
 use Rattle.laws_of_events.proofs.Reporting.{last_is, put_or, reported_here, reported_elsewhere}
 use Rattle.laws_of_events.specs.Reports as law

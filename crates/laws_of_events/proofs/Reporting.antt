@@ -7,17 +7,17 @@ use Rattle.std.proofs.lemmas.Bool.{and_right}
 use Rattle.bm_base.specs.declared.replica.ReplicaId.{ReplicaId}
 use Rattle.bm_base.specs.declared.replica.Marks.{Marks}
 use Rattle.bm_base.specs.declared.replica.Stamp.{Stamp}
-use Rattle.bm_base.specs.Map.{Map, get, insert, insert_all, keep}
-use Rattle.bm_base.specs.Lists.{has}
-use Rattle.bm_base.specs.State.{Cluster, Holdings, by_replica, replica_at, replica_cmp}
-use Rattle.bm_base.specs.Entries.{Told}
-use Rattle.bm_base.specs.Events.{entered, is_named, report}
+use Rattle.bm_base.specs.Maps.Map.{Map, get, insert, insert_all, keep}
+use Rattle.bm_base.specs.Maps.Lists.{has}
+use Rattle.bm_base.specs.Machine.State.{Cluster, Holdings, by_replica, replica_at, replica_cmp}
+use Rattle.bm_base.specs.Machine.Entries.{Told}
+use Rattle.bm_base.specs.Machine.Events.{entered, is_named, report}
 use Rattle.bm_base.proofs.MapLaws.{get-insert}
 use Rattle.bm_base.proofs.Ties.{replica_tie}
 use Rattle.bm_base.proofs.Clusters.{eqb_turned}
 use Rattle.bm_base.proofs.Each.{each_mapped, each_of}
 use Rattle.bm_base.proofs.Maps.{get_insert_all_elsewhere}
-use Rattle.bm_base.proofs.Entering.{stays_by}
+use Rattle.bm_parts.proofs.Entering.{stays_by}
 use Rattle.laws_of_events.specs.Runs.{last_stamp}
 
 -- the reported numbers

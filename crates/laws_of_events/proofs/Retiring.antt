@@ -11,15 +11,15 @@ use Rattle.bm_base.specs.declared.refusal.Refusal.{Refusal}
 use Rattle.bm_base.specs.declared.call.Call.TheVariants as call
 use Rattle.bm_base.specs.declared.call.Answer.{Answer}
 use Rattle.bm_base.specs.declared.call.Answer.TheVariants as answer
-use Rattle.bm_base.specs.Map.{get, entries, keys}
-use Rattle.bm_base.specs.State.{Cluster, Holdings, State, replica_at}
-use Rattle.bm_base.specs.Lists.{has}
-use Rattle.bm_base.specs.Replicas.{is_usable, is_live_on, is_drained_on, node_of, has_storage, drains, is_draining, storages_where, live, drained, has_enough_live, usable}
-use Rattle.bm_base.specs.Queries.{missing_blocks, is_held_back_by, is_retired}
-use Rattle.bm_base.specs.Events.{without_node, without_storages, change_cluster, change_holdings}
-use Rattle.bm_base.specs.Refusals.{node_refusal}
-use Rattle.bm_base.specs.Calls.{step, refused_or, after_event}
-use Rattle.bm_base.specs.Lawful.{IsLawfulHoldings, IsOrderly}
+use Rattle.bm_base.specs.Maps.Map.{get, entries, keys}
+use Rattle.bm_base.specs.Machine.State.{Cluster, Holdings, State, replica_at}
+use Rattle.bm_base.specs.Maps.Lists.{has}
+use Rattle.bm_base.specs.Machine.Replicas.{is_usable, is_live_on, is_drained_on, node_of, has_storage, drains, is_draining, storages_where, live, drained, has_enough_live, usable}
+use Rattle.bm_base.specs.Machine.Queries.{missing_blocks, is_held_back_by, is_retired}
+use Rattle.bm_base.specs.Machine.Events.{without_node, without_storages, change_cluster, change_holdings}
+use Rattle.bm_base.specs.Machine.Refusals.{node_refusal}
+use Rattle.bm_base.specs.Machine.Calls.{step, refused_or, after_event}
+use Rattle.bm_base.specs.Promises.Lawful.{IsLawfulHoldings, IsOrderly}
 use Rattle.bm_base.proofs.Options.{not_failed, not_passed}
 use Rattle.bm_base.proofs.Maps.{entry_passes, passes_entry}
 use Rattle.laws_of_events.proofs.NodeChanges.{on_it, is_on_it, node_at, still_there}

@@ -9,13 +9,13 @@ use Rattle.std.specs.FinMap.Entries.{below_all}
 use Rattle.std.proofs.lemmas.Bool.{and_parts}
 use Rattle.bm_base.specs.declared.replica.ReplicaId.{ReplicaId}
 use Rattle.bm_base.specs.declared.replica.Marks.{Marks}
-use Rattle.bm_base.specs.Conjunction.{first, second}
+use Rattle.bm_base.specs.Maps.Conjunction.{first, second}
 use Rattle.bm_base.specs.declared.level.Level.TheVariants.{NoUsableReplica}
-use Rattle.bm_base.specs.Map.{Map, Order, by_number, entries, keys}
-use Rattle.bm_base.specs.State.{Cluster, Holdings, by_replica, replica_cmp}
-use Rattle.bm_base.specs.Replicas.{is_good, is_corrupt, storages_where}
-use Rattle.bm_base.specs.Levels.{level, is_at}
-use Rattle.bm_base.specs.Queries.{all_replicas, replicas_where, missing_blocks, blocks_on}
+use Rattle.bm_base.specs.Maps.Map.{Map, Order, by_number, entries, keys}
+use Rattle.bm_base.specs.Machine.State.{Cluster, Holdings, by_replica, replica_cmp}
+use Rattle.bm_base.specs.Machine.Replicas.{is_good, is_corrupt, storages_where}
+use Rattle.bm_base.specs.Machine.Levels.{level, is_at}
+use Rattle.bm_base.specs.Machine.Queries.{all_replicas, replicas_where, missing_blocks, blocks_on}
 use Rattle.bm_base.proofs.Each.{Each, each_mapped, each_then, each_filtered, each_passing, each_both}
 use Rattle.laws_of_events.specs.Queries as law
 

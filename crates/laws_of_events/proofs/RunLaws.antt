@@ -8,16 +8,16 @@ use Rattle.std.proofs.lemmas.List.Folds.{list_any-append, Any-from_list_any, lis
 use Rattle.bm_base.specs.declared.replica.ReplicaId.{ReplicaId}
 use Rattle.bm_base.specs.declared.event.Entry.{Entry}
 use Rattle.bm_base.specs.declared.event.Event.TheVariants.{FullReport}
-use Rattle.bm_base.specs.Map.{get, keep}
-use Rattle.bm_base.specs.Lists.{has}
-use Rattle.bm_base.specs.State.{Cluster, Holdings, State, replica_at}
-use Rattle.bm_base.specs.Replicas.{are_sisters}
-use Rattle.bm_base.specs.Entries.{Told, told_by, expanded}
-use Rattle.bm_base.specs.Events.{is_named, leaves_by_report, report, change_cluster, change_holdings}
-use Rattle.bm_base.specs.Calls.{done, done_by, after_event, counted}
+use Rattle.bm_base.specs.Maps.Map.{get, keep}
+use Rattle.bm_base.specs.Maps.Lists.{has}
+use Rattle.bm_base.specs.Machine.State.{Cluster, Holdings, State, replica_at}
+use Rattle.bm_base.specs.Machine.Replicas.{are_sisters}
+use Rattle.bm_base.specs.Machine.Entries.{Told, told_by, expanded}
+use Rattle.bm_base.specs.Machine.Events.{is_named, leaves_by_report, report, change_cluster, change_holdings}
+use Rattle.bm_base.specs.Machine.Calls.{done, done_by, after_event, counted}
 use Rattle.bm_base.proofs.MapLaws.{same_map}
 use Rattle.bm_base.proofs.Entries.{length-expanded, has-told_by, expanded-++, expanded-one_by_one, told_by-backwards, told_by-cut}
-use Rattle.bm_base.proofs.Entering.{stays_by}
+use Rattle.bm_parts.proofs.Entering.{stays_by}
 use Rattle.laws_of_events.proofs.Reporting.{named_since, put_or, reported_here, reported_elsewhere}
 use Rattle.laws_of_events.specs.Reports.{numbers_of}
 use Rattle.laws_of_events.specs.Runs as law

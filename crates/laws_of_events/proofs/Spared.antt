@@ -17,27 +17,27 @@ use Rattle.bm_base.specs.declared.refusal.Refusal.{Refusal}
 use Rattle.bm_base.specs.declared.call.Call.{Call}
 use Rattle.bm_base.specs.declared.call.Call.TheVariants as call
 use Rattle.bm_base.specs.declared.call.Answer.{Answer}
-use Rattle.bm_base.specs.Map.{Set, by_number, get, keep, remove, contains_key, keys, len}
-use Rattle.bm_base.specs.State.{RoundLimits, Cluster, Holdings, State, by_replica, first_state, empty_holdings}
-use Rattle.bm_base.specs.Lists.{has}
-use Rattle.bm_base.specs.Replicas.{node_of, has_storage, drains, is_draining, sources_of}
-use Rattle.bm_base.specs.Events.{register, heartbeat, without_node, without_storage, drain, undrain, begun_to_drain, change_cluster, change_holdings}
-use Rattle.bm_base.specs.Excess.{without_expired, without_unordered_excess, marked, begun, started}
-use Rattle.bm_base.specs.Transfers.{WishedCopy, holders_of, barred_for, is_target, target_cmp, least_target_by, least_target, scheduled_to, least_source, transfer_for, transfers_from, transfers, wishes}
-use Rattle.bm_base.specs.Deletes.{deletes}
-use Rattle.bm_base.specs.Rounds.{finished, whole_round}
-use Rattle.bm_base.specs.Refusals.{refusal_of, round_refusal, node_refusal, storage_refusal, block_refusal}
-use Rattle.bm_base.specs.Calls.{step, refused_or, after_event, state_after}
+use Rattle.bm_base.specs.Maps.Map.{Set, by_number, get, keep, remove, contains_key, keys, len}
+use Rattle.bm_base.specs.Machine.State.{RoundLimits, Cluster, Holdings, State, by_replica, first_state, empty_holdings}
+use Rattle.bm_base.specs.Maps.Lists.{has}
+use Rattle.bm_base.specs.Machine.Replicas.{node_of, has_storage, drains, is_draining, sources_of}
+use Rattle.bm_base.specs.Machine.Events.{register, heartbeat, without_node, without_storage, drain, undrain, begun_to_drain, change_cluster, change_holdings}
+use Rattle.bm_base.specs.Machine.Excess.{without_expired, without_unordered_excess, marked, begun, started}
+use Rattle.bm_base.specs.Machine.Transfers.{WishedCopy, holders_of, barred_for, is_target, target_cmp, least_target_by, least_target, scheduled_to, least_source, transfer_for, transfers_from, transfers, wishes}
+use Rattle.bm_base.specs.Machine.Deletes.{deletes}
+use Rattle.bm_base.specs.Machine.Rounds.{finished, whole_round}
+use Rattle.bm_base.specs.Machine.Refusals.{refusal_of, round_refusal, node_refusal, storage_refusal, block_refusal}
+use Rattle.bm_base.specs.Machine.Calls.{step, refused_or, after_event, state_after}
 use Rattle.bm_base.proofs.MapLaws.{get-empty}
 use Rattle.bm_base.proofs.Options.{there, is_there, not_passed, revised}
 use Rattle.bm_base.proofs.Each.{Each, each_passing, each_appended, each_optional, least_is_one}
 use Rattle.bm_base.proofs.Maps.{get_kept, get_removed, get_taken, get_other, known_before}
 use Rattle.bm_base.proofs.Clusters.{node_is}
 use Rattle.bm_base.proofs.ClusterEvents.{same_nodes}
-use Rattle.bm_base.proofs.Among.{fewer_sent}
-use Rattle.bm_base.proofs.ChosenCopies.{made_of, unless}
-use Rattle.bm_base.proofs.Rounding.{all_pending}
-use Rattle.bm_base.proofs.Accepting.{pending_before}
+use Rattle.bm_parts.proofs.Among.{fewer_sent}
+use Rattle.bm_parts.proofs.ChosenCopies.{made_of, unless}
+use Rattle.laws_of_states.proofs.Rounding.{all_pending}
+use Rattle.laws_of_states.proofs.Accepting.{pending_before}
 use Rattle.laws_of_events.proofs.NodeChanges.{new_or, new_storages}
 use Rattle.laws_of_events.specs.Draining as law
 

@@ -1,18 +1,18 @@
 -- Every state that calls lead to is lawful.
 use Rattle.std.specs.Prelude.{◌≡◌, IsTrue, IsSome, List, None}
 use Rattle.bm_base.specs.declared.replica.ReplicaId.{ReplicaId}
-use Rattle.bm_base.specs.Map.{get}
+use Rattle.bm_base.specs.Maps.Map.{get}
 use Rattle.bm_base.specs.declared.config.Config.{Config}
 use Rattle.bm_base.specs.declared.event.Event.{Event}
 use Rattle.bm_base.specs.declared.call.Call.{Call}
 use Rattle.bm_base.specs.declared.call.Answer.{Answer}
-use Rattle.bm_base.specs.State.{State, first_state}
-use Rattle.bm_base.specs.Refusals.{refusal_of, round_refusal}
-use Rattle.bm_base.specs.Rounds.{whole_round}
-use Rattle.bm_base.specs.Calls.{step, after_event, counted, state_after}
-use Rattle.bm_base.specs.Answering.{is_refused, MayAnswerAll, state_left_by}
-use Rattle.bm_base.specs.Lawful.{IsLawful, IsOrderly}
-use Rattle.bm_base.specs.Fitting.{HasFittingStart, FitsEvent, FitsCall, FitCalls}
+use Rattle.bm_base.specs.Machine.State.{State, first_state}
+use Rattle.bm_base.specs.Machine.Refusals.{refusal_of, round_refusal}
+use Rattle.bm_base.specs.Machine.Rounds.{whole_round}
+use Rattle.bm_base.specs.Machine.Calls.{step, after_event, counted, state_after}
+use Rattle.bm_base.specs.Machine.Answering.{is_refused, MayAnswerAll, state_left_by}
+use Rattle.bm_base.specs.Promises.Lawful.{IsLawful, IsOrderly}
+use Rattle.bm_base.specs.Promises.Fitting.{HasFittingStart, FitsEvent, FitsCall, FitCalls}
 
 -- the first state of every configuration whose first numbers fit is lawful, even if the
 -- configuration is not allowed

@@ -9,12 +9,12 @@ use Rattle.bm_base.specs.declared.storage.StorageInfo.{StorageInfo}
 use Rattle.bm_base.specs.declared.event.Entry.{Entry}
 use Rattle.bm_base.specs.declared.event.Event.{Event}
 use Rattle.bm_base.specs.declared.event.Event.TheVariants.{Received, FullReport}
-use Rattle.bm_base.specs.Map.{get, contains_key}
-use Rattle.bm_base.specs.Lists.{has, distinct}
-use Rattle.bm_base.specs.Queries.{blocks_on}
-use Rattle.bm_base.specs.Entries.{Told, expanded}
-use Rattle.bm_base.specs.State.{Cluster, Holdings, State, replica_at}
-use Rattle.bm_base.specs.Calls.{done_by, after_event}
+use Rattle.bm_base.specs.Maps.Map.{get, contains_key}
+use Rattle.bm_base.specs.Maps.Lists.{has, distinct}
+use Rattle.bm_base.specs.Machine.Queries.{blocks_on}
+use Rattle.bm_base.specs.Machine.Entries.{Told, expanded}
+use Rattle.bm_base.specs.Machine.State.{Cluster, Holdings, State, replica_at}
+use Rattle.bm_base.specs.Machine.Calls.{done_by, after_event}
 
 -- the holdings after an event
 abbrev pub held_after : State → Event → Holdings

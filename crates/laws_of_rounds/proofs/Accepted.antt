@@ -5,16 +5,16 @@ use Rattle.bm_base.specs.declared.event.Event.{Event}
 use Rattle.bm_base.specs.declared.refusal.Refusal.TheVariants.{UnknownStorage}
 use Rattle.bm_base.specs.declared.commands.Transfer.{Transfer}
 use Rattle.bm_base.specs.declared.commands.Delete.{Delete}
-use Rattle.bm_base.specs.Map.{keys}
-use Rattle.bm_base.specs.State.{RoundLimits, Cluster, Holdings, State}
-use Rattle.bm_base.specs.Replicas.{has_storage}
-use Rattle.bm_base.specs.Excess.{begun, started}
-use Rattle.bm_base.specs.Deletes.{deletes_of, deletes}
-use Rattle.bm_base.specs.Refusals.{first_of, ◌when◌, ◌before◌, knows_storage, cluster_checks, block_checks, calls_spent, refusal_of}
-use Rattle.bm_base.specs.NextRound.{IsAmong, IsTransferCommanded, deletes_commanded}
+use Rattle.bm_base.specs.Maps.Map.{keys}
+use Rattle.bm_base.specs.Machine.State.{RoundLimits, Cluster, Holdings, State}
+use Rattle.bm_base.specs.Machine.Replicas.{has_storage}
+use Rattle.bm_base.specs.Machine.Excess.{begun, started}
+use Rattle.bm_base.specs.Machine.Deletes.{deletes_of, deletes}
+use Rattle.bm_base.specs.Machine.Refusals.{first_of, ◌when◌, ◌before◌, knows_storage, cluster_checks, block_checks, calls_spent, refusal_of}
+use Rattle.bm_base.specs.Promises.NextRound.{IsAmong, IsTransferCommanded, deletes_commanded}
 use Rattle.bm_base.proofs.Each.{Each, each_all, each_of, each_then, each_flat_map}
 use Rattle.bm_base.proofs.Clusters.{some_node}
-use Rattle.bm_base.proofs.Commanded.{each_delete}
+use Rattle.laws_of_states.proofs.Commanded.{each_delete}
 use Rattle.laws_of_rounds.specs.Obedience.{copied, erased, Obeys, OnlyObeys, after_obeying}
 use Rattle.laws_of_rounds.proofs.Grouped.{each_on_node}
 use Rattle.laws_of_rounds.proofs.Sending.{fresh_node, node_is}

@@ -8,17 +8,17 @@ use Rattle.bm_base.specs.declared.level.Level.{Level}
 use Rattle.bm_base.specs.declared.level.Level.TheVariants.{Highest, VeryUnderReplicated, UnderReplicated, BadlyDistributed}
 use Rattle.bm_base.specs.declared.replica.BlockInfo.{BlockInfo}
 use Rattle.bm_base.specs.declared.commands.Transfer.{Transfer}
-use Rattle.bm_base.specs.Map.{get, keys, len}
-use Rattle.bm_base.specs.State.{RoundLimits, Cluster, Holdings}
-use Rattle.bm_base.specs.Lists.{has, least}
-use Rattle.bm_base.specs.Replicas.{sources_of, is_draining}
-use Rattle.bm_base.specs.Levels.{level, is_at}
-use Rattle.bm_base.specs.Transfers.{WishedCopy, wished_count, wishes_for, wishes, streams_from, stream_limit, source_cmp, least_source_by, least_source, holders_of, barred_for, target_cmp, is_target, least_target_by, least_target, scheduled_to, transfer_for, transfers_from, transfers}
+use Rattle.bm_base.specs.Maps.Map.{get, keys, len}
+use Rattle.bm_base.specs.Machine.State.{RoundLimits, Cluster, Holdings}
+use Rattle.bm_base.specs.Maps.Lists.{has, least}
+use Rattle.bm_base.specs.Machine.Replicas.{sources_of, is_draining}
+use Rattle.bm_base.specs.Machine.Levels.{level, is_at}
+use Rattle.bm_base.specs.Machine.Transfers.{WishedCopy, wished_count, wishes_for, wishes, streams_from, stream_limit, source_cmp, least_source_by, least_source, holders_of, barred_for, target_cmp, is_target, least_target_by, least_target, scheduled_to, transfer_for, transfers_from, transfers}
 use Rattle.std.proofs.lemmas.Option.{same_Some}
 use Rattle.bm_base.proofs.AtLevel.{at_level}
 use Rattle.bm_base.proofs.Each.{Each, each_of, each_flat_map}
 use Rattle.bm_base.proofs.Listed.{has_filter, and_first, and_second}
-use Rattle.bm_base.proofs.Surpluses.{least_among}
+use Rattle.laws_of_states.proofs.Surpluses.{least_among}
 
 -- P holds of each element, given those before it
 abbrev pub EachAfter : {X : Type 0} → (List X → X → Type 0) → List X → List X → Type 0

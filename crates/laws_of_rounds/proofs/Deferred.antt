@@ -12,23 +12,23 @@ use Rattle.bm_base.specs.declared.replica.BlockInfo.{BlockInfo}
 use Rattle.bm_base.specs.declared.commands.Transfer.{Transfer}
 use Rattle.bm_base.specs.declared.commands.Delete.{Delete}
 use Rattle.bm_base.specs.declared.commands.NodeCommands.{NodeCommands}
-use Rattle.bm_base.specs.Map.{Map, Order, get, entries, keys}
-use Rattle.bm_base.specs.State.{RoundLimits, Cluster, Holdings, State, by_replica}
-use Rattle.bm_base.specs.Lists.{has}
-use Rattle.bm_base.specs.Replicas.{is_stray, is_corrupt, node_of, has_storage, has_enough_live}
-use Rattle.bm_base.specs.Excess.{begun, started, marked, without_expired, without_unordered_excess}
-use Rattle.bm_base.specs.Deletes.{is_deletable, deletable_on, deletes_of, deletes}
-use Rattle.bm_base.specs.Lawful.{IsOrderly}
-use Rattle.bm_base.specs.Rounds.{whole_round, commands_of, node_commands, has_commands}
-use Rattle.bm_base.specs.NextRound.{IsAmong, IsDeleteCommanded, live_marked, transfers_chosen}
+use Rattle.bm_base.specs.Maps.Map.{Map, Order, get, entries, keys}
+use Rattle.bm_base.specs.Machine.State.{RoundLimits, Cluster, Holdings, State, by_replica}
+use Rattle.bm_base.specs.Maps.Lists.{has}
+use Rattle.bm_base.specs.Machine.Replicas.{is_stray, is_corrupt, node_of, has_storage, has_enough_live}
+use Rattle.bm_base.specs.Machine.Excess.{begun, started, marked, without_expired, without_unordered_excess}
+use Rattle.bm_base.specs.Machine.Deletes.{is_deletable, deletable_on, deletes_of, deletes}
+use Rattle.bm_base.specs.Promises.Lawful.{IsOrderly}
+use Rattle.bm_base.specs.Machine.Rounds.{whole_round, commands_of, node_commands, has_commands}
+use Rattle.bm_base.specs.Promises.NextRound.{IsAmong, IsDeleteCommanded, live_marked, transfers_chosen}
 use Rattle.laws_of_rounds.specs.Deletes.{IsToBeDeleted}
 use Rattle.std.proofs.lemmas.Option.{same_Some}
 use Rattle.bm_base.proofs.Listed.{same_again}
 use Rattle.bm_base.proofs.Maps.{same_key}
 use Rattle.laws_of_rounds.proofs.Grouped.{deletes_on_node}
 use Rattle.bm_base.proofs.Sets.{has_keys}
-use Rattle.bm_base.proofs.Commanded.{chosen_deletes_of}
-use Rattle.bm_base.proofs.Kept.{marks_before}
+use Rattle.laws_of_states.proofs.Commanded.{chosen_deletes_of}
+use Rattle.laws_of_states.proofs.Kept.{marks_before}
 use Rattle.laws_of_rounds.proofs.Sending.{storage_is}
 use Rattle.laws_of_rounds.proofs.Told.{no_cons, cons_head, cons_tail, among_cons, among_flat, among_map, among_filter, among_numbers, told_delete}
 use Rattle.bm_base.proofs.Options.{there}

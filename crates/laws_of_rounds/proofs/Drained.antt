@@ -13,22 +13,22 @@ use Rattle.bm_base.specs.declared.replica.ReplicaId.{ReplicaId}
 use Rattle.bm_base.specs.declared.replica.Marks.{Marks}
 use Rattle.bm_base.specs.declared.commands.Transfer.{Transfer}
 use Rattle.bm_base.specs.declared.commands.Delete.{Delete}
-use Rattle.bm_base.specs.Map.{get, entries}
-use Rattle.bm_base.specs.State.{Cluster, Holdings, State, replica_at}
-use Rattle.bm_base.specs.Lists.{has}
-use Rattle.bm_base.specs.Replicas.{live, drained, sources_of, is_usable, is_drained_on, is_draining, drains, has_storage, node_of, storages_where}
-use Rattle.bm_base.specs.Excess.{begun, started, marked, excess_in}
-use Rattle.bm_base.specs.Rounds.{finished, is_commanded, whole_round}
-use Rattle.bm_base.specs.Transfers.{stream_limit, streams_from, node_number, source_rank, source_cmp, least_source_by, least_source}
-use Rattle.bm_base.specs.NextRound.{IsTransferCommanded, transfers_chosen, unmarked, drained_unmarked, drained_marked, drained_after}
+use Rattle.bm_base.specs.Maps.Map.{get, entries}
+use Rattle.bm_base.specs.Machine.State.{Cluster, Holdings, State, replica_at}
+use Rattle.bm_base.specs.Maps.Lists.{has}
+use Rattle.bm_base.specs.Machine.Replicas.{live, drained, sources_of, is_usable, is_drained_on, is_draining, drains, has_storage, node_of, storages_where}
+use Rattle.bm_base.specs.Machine.Excess.{begun, started, marked, excess_in}
+use Rattle.bm_base.specs.Machine.Rounds.{finished, is_commanded, whole_round}
+use Rattle.bm_base.specs.Machine.Transfers.{stream_limit, streams_from, node_number, source_rank, source_cmp, least_source_by, least_source}
+use Rattle.bm_base.specs.Promises.NextRound.{IsTransferCommanded, transfers_chosen, unmarked, drained_unmarked, drained_marked, drained_after}
 use Rattle.bm_base.proofs.Listed.{has_filter, or_right, and_first, filter_append}
 use Rattle.bm_base.proofs.Stands.{revised_where, has_where}
 use Rattle.laws_of_rounds.proofs.Usable.{sources_are}
-use Rattle.bm_base.proofs.Lively.{drained_is}
+use Rattle.laws_of_states.proofs.Lively.{drained_is}
 use Rattle.laws_of_rounds.proofs.Racked.{least_below}
-use Rattle.bm_base.proofs.Commanded.{IsTested, deleted_is}
-use Rattle.bm_base.proofs.Marked.{marked_in, ordered_by, ordered_usable, unordered_dropped}
-use Rattle.bm_base.proofs.Kept.{surplus_of, marks_before, deleted_marks, live_is_kept, weaker_kind}
+use Rattle.laws_of_states.proofs.Commanded.{IsTested, deleted_is}
+use Rattle.laws_of_states.proofs.Marked.{marked_in, ordered_by, ordered_usable, unordered_dropped}
+use Rattle.laws_of_states.proofs.Kept.{surplus_of, marks_before, deleted_marks, live_is_kept, weaker_kind}
 use Rattle.laws_of_rounds.proofs.Reasons.{surplus_live, live_before_is}
 use Rattle.laws_of_rounds.proofs.Sending.{chosen_at, four_at_most, storage_is, streams_of_node, fresh_node}
 use Rattle.laws_of_rounds.proofs.Later.{commanded_chosen}

@@ -13,18 +13,18 @@ use Rattle.bm_base.specs.declared.replica.ReplicaId.{ReplicaId}
 use Rattle.bm_base.specs.declared.replica.Marks.{Marks}
 use Rattle.bm_base.specs.declared.event.Event.{Event}
 use Rattle.bm_base.specs.declared.commands.Transfer.{Transfer}
-use Rattle.bm_base.specs.Map.{get}
-use Rattle.bm_base.specs.State.{Cluster, State, by_replica, replica_cmp, replica_at}
-use Rattle.bm_base.specs.Lists.{has, has_repeats}
-use Rattle.bm_base.specs.Replicas.{is_usable, is_draining, node_of}
-use Rattle.bm_base.specs.Events.{replaces, entered}
-use Rattle.bm_base.specs.Calls.{after_event}
-use Rattle.bm_base.specs.NextRound.{IsAmong, IsTransferCommanded, transfers_commanded, deletes_commanded, transfers_commanded, after_round, live_after}
+use Rattle.bm_base.specs.Maps.Map.{get}
+use Rattle.bm_base.specs.Machine.State.{Cluster, State, by_replica, replica_cmp, replica_at}
+use Rattle.bm_base.specs.Maps.Lists.{has, has_repeats}
+use Rattle.bm_base.specs.Machine.Replicas.{is_usable, is_draining, node_of}
+use Rattle.bm_base.specs.Machine.Events.{replaces, entered}
+use Rattle.bm_base.specs.Machine.Calls.{after_event}
+use Rattle.bm_base.specs.Promises.NextRound.{IsAmong, IsTransferCommanded, transfers_commanded, deletes_commanded, transfers_commanded, after_round, live_after}
 use Rattle.bm_base.proofs.Options.{staying}
 use Rattle.bm_base.proofs.Each.{Each, each_all, each_then, each_any, each_appended, each_mapped}
 use Rattle.bm_base.proofs.Maps.{same_key}
 use Rattle.bm_base.proofs.Listed.{or_left, or_right, same_again, has_filter, once_filter, any_map, any_filter, and_first, and_second}
-use Rattle.bm_base.proofs.Surpluses.{others, others_fewer}
+use Rattle.laws_of_states.proofs.Surpluses.{others, others_fewer}
 use Rattle.laws_of_rounds.specs.Obedience.{copies_commanded}
 use Rattle.laws_of_rounds.specs.Obedience.{copied, erased, Obeys, ObeysAll, after_obeying, live_obeying, as_listed}
 use Rattle.laws_of_rounds.proofs.Grouped.{all_of_each}

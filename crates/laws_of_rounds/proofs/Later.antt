@@ -8,23 +8,23 @@ use Rattle.bm_base.specs.declared.replica.ReplicaId.{ReplicaId}
 use Rattle.bm_base.specs.declared.replica.Marks.{Marks}
 use Rattle.bm_base.specs.declared.commands.Transfer.{Transfer}
 use Rattle.bm_base.specs.declared.commands.Delete.{Delete}
-use Rattle.bm_base.specs.Map.{Map, get, insert, insert_all}
-use Rattle.bm_base.specs.State.{Holdings, State, by_replica, replica_cmp, replica_at}
-use Rattle.bm_base.specs.Replicas.{node_of}
-use Rattle.bm_base.specs.Excess.{begun, started, marked, without_expired, without_unordered_excess}
-use Rattle.bm_base.specs.Rounds.{finished, is_commanded, whole_round}
+use Rattle.bm_base.specs.Maps.Map.{Map, get, insert, insert_all}
+use Rattle.bm_base.specs.Machine.State.{Holdings, State, by_replica, replica_cmp, replica_at}
+use Rattle.bm_base.specs.Machine.Replicas.{node_of}
+use Rattle.bm_base.specs.Machine.Excess.{begun, started, marked, without_expired, without_unordered_excess}
+use Rattle.bm_base.specs.Machine.Rounds.{finished, is_commanded, whole_round}
 use Rattle.bm_base.proofs.MapLaws.{get-keep, get-insert}
 use Rattle.bm_base.proofs.Ties.{replica_tie}
-use Rattle.bm_base.specs.NextRound.{IsTransferCommanded, IsAmong, deletes_commanded, transfers_commanded, transfers_chosen, after_round}
+use Rattle.bm_base.specs.Promises.NextRound.{IsTransferCommanded, IsAmong, deletes_commanded, transfers_commanded, transfers_chosen, after_round}
 use Rattle.laws_of_rounds.specs.Rounds.{after_rounds}
 use Rattle.bm_base.proofs.Each.{Each, each_any, each_then}
 use Rattle.bm_base.proofs.Listed.{or_left, or_right, same_again}
 use Rattle.bm_base.proofs.Maps.{same_key}
-use Rattle.bm_base.proofs.Commanded.{IsTested, chosen_deletes_of, each_delete, each_transfer, at_same}
-use Rattle.bm_base.proofs.Kept.{marks_started, remarked, remarked_ordered, surplus_of}
+use Rattle.laws_of_states.proofs.Commanded.{IsTested, chosen_deletes_of, each_delete, each_transfer, at_same}
+use Rattle.laws_of_states.proofs.Kept.{marks_started, remarked, remarked_ordered, surplus_of}
 use Rattle.bm_base.proofs.Options.{revised}
-use Rattle.bm_base.proofs.Marked.{ordered_by}
-use Rattle.bm_base.proofs.AfterRound.{marks_after}
+use Rattle.laws_of_states.proofs.Marked.{ordered_by}
+use Rattle.laws_of_states.proofs.AfterRound.{marks_after}
 use Rattle.laws_of_rounds.proofs.Reasons.{not_ordered}
 use Rattle.laws_of_rounds.proofs.Sending.{fresh_node}
 

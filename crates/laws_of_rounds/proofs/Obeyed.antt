@@ -8,17 +8,17 @@ use Rattle.bm_base.specs.declared.replica.ReplicaId.{ReplicaId}
 use Rattle.bm_base.specs.declared.replica.Marks.{Marks}
 use Rattle.bm_base.specs.declared.event.Event.{Event}
 use Rattle.bm_base.specs.declared.commands.Transfer.{Transfer}
-use Rattle.bm_base.specs.Map.{get}
-use Rattle.bm_base.specs.State.{State, replica_at}
-use Rattle.bm_base.specs.Lists.{has}
-use Rattle.bm_base.specs.Replicas.{is_usable, is_draining}
-use Rattle.bm_base.specs.Events.{replaces}
-use Rattle.bm_base.specs.Calls.{after_event}
-use Rattle.bm_base.specs.NextRound.{IsAmong, IsTransferCommanded, after_round}
+use Rattle.bm_base.specs.Maps.Map.{get}
+use Rattle.bm_base.specs.Machine.State.{State, replica_at}
+use Rattle.bm_base.specs.Maps.Lists.{has}
+use Rattle.bm_base.specs.Machine.Replicas.{is_usable, is_draining}
+use Rattle.bm_base.specs.Machine.Events.{replaces}
+use Rattle.bm_base.specs.Machine.Calls.{after_event}
+use Rattle.bm_base.specs.Promises.NextRound.{IsAmong, IsTransferCommanded, after_round}
 use Rattle.bm_base.proofs.Options.{is_there}
 use Rattle.bm_base.proofs.Each.{Each}
 use Rattle.bm_base.proofs.Listed.{same_again}
-use Rattle.bm_base.proofs.Tested.{tested}
+use Rattle.laws_of_states.proofs.Tested.{tested}
 use Rattle.laws_of_rounds.specs.Obedience.{copied, Obeys, after_events, after_obeying, live_obeying}
 use Rattle.laws_of_rounds.proofs.Reasons.{not_ordered}
 use Rattle.laws_of_rounds.proofs.Sending.{fresh_node}

@@ -14,23 +14,23 @@ use Rattle.bm_base.specs.declared.replica.BlockInfo.{BlockInfo}
 use Rattle.bm_base.specs.declared.event.Event.{Event}
 use Rattle.bm_base.specs.declared.commands.Transfer.{Transfer}
 use Rattle.bm_base.specs.declared.commands.Delete.{Delete}
-use Rattle.bm_base.specs.Map.{get}
-use Rattle.bm_base.specs.State.{Cluster, Holdings, State, by_replica, replica_cmp, replica_at}
-use Rattle.bm_base.specs.Lists.{has}
-use Rattle.bm_base.specs.Replicas.{live, is_good, is_bad, is_usable, is_live_on, node_of, has_storage, is_draining, are_sisters}
-use Rattle.bm_base.specs.Events.{same_stamp, was_bad, was_excess, entered_tag, entered, replaces, enter, remove_replica, change_cluster, change_holdings}
-use Rattle.bm_base.specs.Calls.{after_event}
-use Rattle.bm_base.specs.NextRound.{IsAmong, IsDeleteCommanded, IsTransferCommanded, deletes_commanded, after_round, live_after}
+use Rattle.bm_base.specs.Maps.Map.{get}
+use Rattle.bm_base.specs.Machine.State.{Cluster, Holdings, State, by_replica, replica_cmp, replica_at}
+use Rattle.bm_base.specs.Maps.Lists.{has}
+use Rattle.bm_base.specs.Machine.Replicas.{live, is_good, is_bad, is_usable, is_live_on, node_of, has_storage, is_draining, are_sisters}
+use Rattle.bm_base.specs.Machine.Events.{same_stamp, was_bad, was_excess, entered_tag, entered, replaces, enter, remove_replica, change_cluster, change_holdings}
+use Rattle.bm_base.specs.Machine.Calls.{after_event}
+use Rattle.bm_base.specs.Promises.NextRound.{IsAmong, IsDeleteCommanded, IsTransferCommanded, deletes_commanded, after_round, live_after}
 use Rattle.bm_base.proofs.Options.{is_there, revised, not_passed, not_failed, staying, all_stays}
 use Rattle.bm_base.proofs.Each.{Each}
 use Rattle.bm_base.proofs.MapLaws.{get-insert, get-keep, get-remove}
 use Rattle.bm_base.proofs.Maps.{same_key, key_itself, not_tied}
 use Rattle.bm_base.proofs.Listed.{same_again}
 use Rattle.bm_base.proofs.Stands.{has_where}
-use Rattle.bm_base.proofs.Lively.{live_is}
-use Rattle.bm_base.proofs.Kept.{live_stays}
-use Rattle.bm_base.proofs.AfterRound.{same_tag}
-use Rattle.bm_base.proofs.Tested.{tested}
+use Rattle.laws_of_states.proofs.Lively.{live_is}
+use Rattle.laws_of_states.proofs.Kept.{live_stays}
+use Rattle.laws_of_states.proofs.AfterRound.{same_tag}
+use Rattle.laws_of_states.proofs.Tested.{tested}
 use Rattle.laws_of_rounds.specs.Obedience.{copied, erased, Obeys, after_events, after_obeying, live_obeying}
 use Rattle.laws_of_rounds.proofs.Sending.{fresh_node, source_usable, node_is}
 use Rattle.laws_of_rounds.proofs.Later.{commanded_chosen}

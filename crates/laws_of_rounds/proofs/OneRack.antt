@@ -6,12 +6,12 @@ use Rattle.std.proofs.lemmas.Bool.{eqb-true, lt-ltb, ltb-true, false≢true, tru
 use Rattle.std.proofs.lemmas.Bool.Decides.{nat_tests}
 use Rattle.bm_base.specs.declared.level.Level.TheVariants.{Highest, VeryUnderReplicated, UnderReplicated, BadlyDistributed, NoUsableReplica}
 use Rattle.bm_base.specs.declared.replica.BlockInfo.{BlockInfo}
-use Rattle.bm_base.specs.Map.{Map, by_number, get, entries}
-use Rattle.bm_base.specs.State.{Cluster, State, replica_at}
-use Rattle.bm_base.specs.Lists.{has, has_repeats, distinct}
-use Rattle.bm_base.specs.Replicas.{live, drained, is_live_on, racks, rack_of, node_of, is_multi_rack}
-use Rattle.bm_base.specs.Levels.{level, level_of}
-use Rattle.bm_base.specs.Lawful.{IsOrderly}
+use Rattle.bm_base.specs.Maps.Map.{Map, by_number, get, entries}
+use Rattle.bm_base.specs.Machine.State.{Cluster, State, replica_at}
+use Rattle.bm_base.specs.Maps.Lists.{has, has_repeats, distinct}
+use Rattle.bm_base.specs.Machine.Replicas.{live, drained, is_live_on, racks, rack_of, node_of, is_multi_rack}
+use Rattle.bm_base.specs.Machine.Levels.{level, level_of}
+use Rattle.bm_base.specs.Promises.Lawful.{IsOrderly}
 use Rattle.laws_of_rounds.specs.Levels.{AreOnOneRack, HasTwoRacks}
 use Rattle.laws_of_rounds.proofs.Needs.{level_known}
 use Rattle.std.proofs.lemmas.Option.{same_Some}

@@ -9,7 +9,7 @@ use Rattle.bm_base.specs.declared.call.Call.{Call}
 use Rattle.bm_base.specs.declared.call.Call.TheVariants as call
 use Rattle.bm_base.specs.declared.event.Event.{Event}
 use Rattle.bm_base.specs.declared.event.Event.TheVariants.{Register, Dead, StorageFailed, Heartbeat, Drain, Undrain, AddBlock, DeleteBlock, SetReplication, Restamp, Received, Deleted, Corrupt, FullReport}
-use Rattle.bm_base.specs.Entries.{Told, expanded}
+use Rattle.bm_base.specs.Machine.Entries.{Told, expanded}
 use Rattle.bm_base.specs.declared.refusal.Refusal.{Refusal}
 use Rattle.bm_base.specs.declared.call.Answer.{Answer}
 use Rattle.bm_base.specs.declared.replica.ReplicaId.{ReplicaId}
@@ -17,29 +17,29 @@ use Rattle.bm_base.specs.declared.replica.Tag.{Tag}
 use Rattle.bm_base.specs.declared.replica.Tag.TheVariants.{Good, Stale, Bad, Stray}
 use Rattle.bm_base.specs.declared.replica.Marks.{Marks}
 use Rattle.bm_base.specs.declared.replica.Stamp.{Stamp}
-use Rattle.bm_base.specs.Map.{Map, get, insert, insert_all, keep, revise, revise_at, remove}
-use Rattle.bm_base.specs.State.{Cluster, Holdings, State, by_replica, replica_cmp, replica_at, first_state, empty_holdings}
-use Rattle.bm_base.specs.Replicas.{is_good, is_stray, is_corrupt, is_usable, is_draining, drains, has_storage, has_enough_live}
-use Rattle.bm_base.specs.Events.{entered, enter, report, without_pending, revise_block, as_stray, as_bad, as_restamped, add_block, delete_block, set_replication, restamp, make_bad, remove_replica, without_storages, begun_to_drain, change_holdings}
-use Rattle.bm_base.specs.Excess.{begun, started}
-use Rattle.bm_base.specs.Lists.{has}
-use Rattle.bm_base.specs.Deletes.{is_deletable}
-use Rattle.bm_base.specs.Lawful.{IsOrderly}
+use Rattle.bm_base.specs.Maps.Map.{Map, get, insert, insert_all, keep, revise, revise_at, remove}
+use Rattle.bm_base.specs.Machine.State.{Cluster, Holdings, State, by_replica, replica_cmp, replica_at, first_state, empty_holdings}
+use Rattle.bm_base.specs.Machine.Replicas.{is_good, is_stray, is_corrupt, is_usable, is_draining, drains, has_storage, has_enough_live}
+use Rattle.bm_base.specs.Machine.Events.{entered, enter, report, without_pending, revise_block, as_stray, as_bad, as_restamped, add_block, delete_block, set_replication, restamp, make_bad, remove_replica, without_storages, begun_to_drain, change_holdings}
+use Rattle.bm_base.specs.Machine.Excess.{begun, started}
+use Rattle.bm_base.specs.Maps.Lists.{has}
+use Rattle.bm_base.specs.Machine.Deletes.{is_deletable}
+use Rattle.bm_base.specs.Promises.Lawful.{IsOrderly}
 use Rattle.bm_base.specs.declared.replica.BlockInfo.{BlockInfo}
-use Rattle.bm_base.specs.Rounds.{is_commanded}
-use Rattle.bm_base.specs.Refusals.{refusal_of, round_refusal, node_refusal, storage_refusal, block_refusal}
-use Rattle.bm_base.specs.Calls.{after_event, refused_or, step, state_after}
+use Rattle.bm_base.specs.Machine.Rounds.{is_commanded}
+use Rattle.bm_base.specs.Machine.Refusals.{refusal_of, round_refusal, node_refusal, storage_refusal, block_refusal}
+use Rattle.bm_base.specs.Machine.Calls.{after_event, refused_or, step, state_after}
 use Rattle.bm_base.proofs.MapLaws.{get-empty, get-insert, get-keep, get-revise, get-remove}
-use Rattle.bm_base.specs.NextRound.{after_round}
+use Rattle.bm_base.specs.Promises.NextRound.{after_round}
 use Rattle.std.proofs.lemmas.Option.{same_Some}
 use Rattle.bm_base.proofs.Each.{each_any}
 use Rattle.bm_base.proofs.Listed.{and_never}
-use Rattle.bm_base.proofs.Marked.{unordered_dropped, ordered_by}
-use Rattle.bm_base.proofs.Commanded.{IsTested, IsChosen, chosen_deletes, chosen_deletes_of, at_same}
-use Rattle.bm_base.proofs.Kept.{one_stays, remarked, surplus_of, marks_started, deleted_marks, live_is_kept, weaker_kind}
+use Rattle.laws_of_states.proofs.Marked.{unordered_dropped, ordered_by}
+use Rattle.laws_of_states.proofs.Commanded.{IsTested, IsChosen, chosen_deletes, chosen_deletes_of, at_same}
+use Rattle.laws_of_states.proofs.Kept.{one_stays, remarked, surplus_of, marks_started, deleted_marks, live_is_kept, weaker_kind}
 use Rattle.bm_base.proofs.Options.{revised}
-use Rattle.bm_base.proofs.AfterRound.{marks_after}
-use Rattle.bm_base.proofs.Lively.{live_is}
+use Rattle.laws_of_states.proofs.AfterRound.{marks_after}
+use Rattle.laws_of_states.proofs.Lively.{live_is}
 
 -- a replica whose delete was commanded is not usable
 abbrev pub IsDone : Marks → Type 0

@@ -6,15 +6,15 @@ use Rattle.std.proofs.lemmas.Bool.{true≢false, or_parts}
 use Rattle.bm_base.specs.declared.commands.Transfer.{Transfer}
 use Rattle.bm_base.specs.declared.commands.Delete.{Delete}
 use Rattle.bm_base.specs.declared.commands.NodeCommands.{NodeCommands}
-use Rattle.bm_base.specs.Map.{keys}
-use Rattle.bm_base.specs.State.{Cluster, State}
-use Rattle.bm_base.specs.Lists.{has, has_repeats}
-use Rattle.bm_base.specs.Replicas.{node_of, has_storage}
-use Rattle.bm_base.specs.Excess.{begun, started}
-use Rattle.bm_base.specs.Rounds.{node_commands, has_commands, commands_of, whole_round}
-use Rattle.bm_base.specs.NextRound.{IsAmong, IsTransferCommanded, transfers_chosen, transfers_commanded}
+use Rattle.bm_base.specs.Maps.Map.{keys}
+use Rattle.bm_base.specs.Machine.State.{Cluster, State}
+use Rattle.bm_base.specs.Maps.Lists.{has, has_repeats}
+use Rattle.bm_base.specs.Machine.Replicas.{node_of, has_storage}
+use Rattle.bm_base.specs.Machine.Excess.{begun, started}
+use Rattle.bm_base.specs.Machine.Rounds.{node_commands, has_commands, commands_of, whole_round}
+use Rattle.bm_base.specs.Promises.NextRound.{IsAmong, IsTransferCommanded, transfers_chosen, transfers_commanded}
 use Rattle.bm_base.proofs.Each.{Each, each_then, each_appended, each_filtered, each_mapped, each_filter_by, each_flat_map}
-use Rattle.bm_base.proofs.Commanded.{chosen_deletes_of}
+use Rattle.laws_of_states.proofs.Commanded.{chosen_deletes_of}
 use Rattle.laws_of_rounds.proofs.Grouped.{on_one_node}
 use Rattle.bm_base.proofs.OneWish.{once_keys}
 use Rattle.laws_of_rounds.proofs.Sending.{fresh_node}

@@ -10,19 +10,19 @@ use Rattle.std.proofs.lemmas.Bool.Decides.{nat_tests}
 use Rattle.std.proofs.lemmas.List.Sums.{length-filter}
 use Rattle.bm_base.specs.declared.replica.BlockInfo.{BlockInfo}
 use Rattle.bm_base.specs.declared.storage.StorageInfo.{StorageInfo}
-use Rattle.bm_base.specs.Map.{get}
-use Rattle.bm_base.specs.State.{Cluster, State, replica_at}
-use Rattle.bm_base.specs.Lists.{has, has_repeats, least}
-use Rattle.bm_base.specs.Replicas.{is_live_on, rack_of, node_of}
-use Rattle.bm_base.specs.Excess.{excess_cmp, excess_among, remaining, share_rack, has_rack_mate, started}
-use Rattle.bm_base.specs.Lawful.{IsOrderly}
-use Rattle.bm_base.specs.NextRound.{unmarked, live_unmarked, live_marked}
+use Rattle.bm_base.specs.Maps.Map.{get}
+use Rattle.bm_base.specs.Machine.State.{Cluster, State, replica_at}
+use Rattle.bm_base.specs.Maps.Lists.{has, has_repeats, least}
+use Rattle.bm_base.specs.Machine.Replicas.{is_live_on, rack_of, node_of}
+use Rattle.bm_base.specs.Machine.Excess.{excess_cmp, excess_among, remaining, share_rack, has_rack_mate, started}
+use Rattle.bm_base.specs.Promises.Lawful.{IsOrderly}
+use Rattle.bm_base.specs.Promises.NextRound.{unmarked, live_unmarked, live_marked}
 use Rattle.std.proofs.lemmas.Option.{same_Some}
 use Rattle.bm_base.proofs.Listed.{any_weaker, count_without, has_filter, once_filter, same_again, and_second}
 use Rattle.bm_base.proofs.Sets.{some_passing, passing_some}
 use Rattle.bm_base.proofs.Stands.{has_where, once_where}
-use Rattle.bm_base.proofs.Surpluses.{kept_of, others, kept_step, chosen_first, least_among, least_there}
-use Rattle.bm_base.proofs.Marked.{marked_is, marked_unmarked, unordered_dropped}
+use Rattle.laws_of_states.proofs.Surpluses.{kept_of, others, kept_step, chosen_first, least_among, least_there}
+use Rattle.laws_of_states.proofs.Marked.{marked_is, marked_unmarked, unordered_dropped}
 use Rattle.laws_of_rounds.proofs.Reasons.{marks_unmarked, none_unknown, none_made_live}
 
 -- The least of a list has the least class, if the class is compared first.

@@ -8,22 +8,22 @@ use Rattle.bm_base.specs.declared.replica.Tag.{Tag}
 use Rattle.bm_base.specs.declared.replica.Tag.TheVariants.{Good, Stale, Bad, Stray}
 use Rattle.bm_base.specs.declared.replica.Marks.{Marks}
 use Rattle.bm_base.specs.declared.replica.BlockInfo.{BlockInfo}
-use Rattle.bm_base.specs.Map.{get}
-use Rattle.bm_base.specs.State.{State, replica_at}
-use Rattle.bm_base.specs.Lists.{has}
-use Rattle.bm_base.specs.Replicas.{is_usable, is_live_on, is_good, is_stray, is_corrupt, is_draining, has_enough_live, storages_where}
-use Rattle.bm_base.specs.Excess.{begun, started, without_expired, without_unordered_excess, marked, excess_in, excess_of, excess_among}
-use Rattle.bm_base.specs.Lawful.{IsOrderly}
+use Rattle.bm_base.specs.Maps.Map.{get}
+use Rattle.bm_base.specs.Machine.State.{State, replica_at}
+use Rattle.bm_base.specs.Maps.Lists.{has}
+use Rattle.bm_base.specs.Machine.Replicas.{is_usable, is_live_on, is_good, is_stray, is_corrupt, is_draining, has_enough_live, storages_where}
+use Rattle.bm_base.specs.Machine.Excess.{begun, started, without_expired, without_unordered_excess, marked, excess_in, excess_of, excess_among}
+use Rattle.bm_base.specs.Promises.Lawful.{IsOrderly}
 use Rattle.bm_base.proofs.MapLaws.{get-revise}
-use Rattle.bm_base.specs.NextRound.{unmarked, live_unmarked, live_marked, live_after, drained_unmarked}
+use Rattle.bm_base.specs.Promises.NextRound.{unmarked, live_unmarked, live_marked, live_after, drained_unmarked}
 use Rattle.laws_of_rounds.specs.Deletes.{MayBeDeleted}
 use Rattle.std.proofs.lemmas.Option.{same_Some}
 use Rattle.bm_base.proofs.Listed.{has_filter, or_left, or_right, same_again, and_first, and_second}
 use Rattle.bm_base.proofs.Stands.{has_where}
-use Rattle.bm_base.proofs.Surpluses.{kept_of, chosen_among}
-use Rattle.bm_base.proofs.Marked.{marked_unmarked, marked_count, marked_is, after_marked, excess_known, unordered_dropped}
-use Rattle.bm_base.proofs.Commanded.{IsTested, deleted_is}
-use Rattle.bm_base.proofs.Kept.{deleted_marks, marks_before, marks_started, remarked_excess, remarked, remarked_ordered, remarked_tag, surplus_of, weaker_kind}
+use Rattle.laws_of_states.proofs.Surpluses.{kept_of, chosen_among}
+use Rattle.laws_of_states.proofs.Marked.{marked_unmarked, marked_count, marked_is, after_marked, excess_known, unordered_dropped}
+use Rattle.laws_of_states.proofs.Commanded.{IsTested, deleted_is}
+use Rattle.laws_of_states.proofs.Kept.{deleted_marks, marks_before, marks_started, remarked_excess, remarked, remarked_ordered, remarked_tag, surplus_of, weaker_kind}
 
 pub may_be_deleted : (M : State) (q : ReplicaId) → IsTested M q → MayBeDeleted M q
 may_be_deleted M q h =

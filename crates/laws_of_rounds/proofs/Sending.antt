@@ -16,24 +16,24 @@ use Rattle.bm_base.specs.declared.replica.BlockInfo.{BlockInfo}
 use Rattle.bm_base.specs.declared.commands.Transfer.{Transfer}
 use Rattle.bm_base.specs.declared.commands.Delete.{Delete}
 use Rattle.bm_base.specs.declared.commands.NodeCommands.{NodeCommands}
-use Rattle.bm_base.specs.Map.{get, keys, entries, len}
-use Rattle.bm_base.specs.State.{RoundLimits, Cluster, Holdings, State, replica_at}
-use Rattle.bm_base.specs.Lists.{has, has_repeats}
-use Rattle.bm_base.specs.Replicas.{sources_of, node_of, has_storage, is_draining, storages_where}
-use Rattle.bm_base.specs.Levels.{level, is_at}
-use Rattle.bm_base.specs.Excess.{begun, started, marked, without_expired, without_unordered_excess, remaining}
-use Rattle.bm_base.specs.Transfers.{pending_targets, streams_from, scheduled_to, stream_limit, targets_of, holders_of, barred_for, is_barred, is_target, class_of}
-use Rattle.bm_base.specs.Replicas.{racks}
-use Rattle.bm_base.specs.Rounds.{whole_round, commands_of, node_commands, has_commands}
-use Rattle.bm_base.specs.NextRound.{IsAmong, transfers_chosen, transfers_commanded, live_marked, drained_marked}
+use Rattle.bm_base.specs.Maps.Map.{get, keys, entries, len}
+use Rattle.bm_base.specs.Machine.State.{RoundLimits, Cluster, Holdings, State, replica_at}
+use Rattle.bm_base.specs.Maps.Lists.{has, has_repeats}
+use Rattle.bm_base.specs.Machine.Replicas.{sources_of, node_of, has_storage, is_draining, storages_where}
+use Rattle.bm_base.specs.Machine.Levels.{level, is_at}
+use Rattle.bm_base.specs.Machine.Excess.{begun, started, marked, without_expired, without_unordered_excess, remaining}
+use Rattle.bm_base.specs.Machine.Transfers.{pending_targets, streams_from, scheduled_to, stream_limit, targets_of, holders_of, barred_for, is_barred, is_target, class_of}
+use Rattle.bm_base.specs.Machine.Replicas.{racks}
+use Rattle.bm_base.specs.Machine.Rounds.{whole_round, commands_of, node_commands, has_commands}
+use Rattle.bm_base.specs.Promises.NextRound.{IsAmong, transfers_chosen, transfers_commanded, live_marked, drained_marked}
 use Rattle.laws_of_rounds.specs.Transfers.{IsFreshNode}
 use Rattle.bm_base.proofs.Listed.{and_first, and_second, or_left, or_right, same_again, filter_append, filter_filter, any_map, any_filter}
 use Rattle.bm_base.proofs.Stands.{has_where, has_listed, listed}
 use Rattle.laws_of_rounds.proofs.Grouped.{on_one_node, each_node, all_of_each}
 use Rattle.bm_base.proofs.Sets.{has_keys}
 use Rattle.bm_base.proofs.OneWish.{once_keys}
-use Rattle.bm_base.proofs.Commanded.{chosen_deletes_of}
-use Rattle.bm_base.proofs.Kept.{marks_started}
+use Rattle.laws_of_states.proofs.Commanded.{chosen_deletes_of}
+use Rattle.laws_of_states.proofs.Kept.{marks_started}
 use Rattle.bm_base.proofs.Sets.{passing_some}
 use Rattle.laws_of_rounds.proofs.Usable.{sources_are}
 use Rattle.laws_of_rounds.proofs.Choosing.{EachAfter, after_split, after_whole, IsChosenAfter, each_chosen, source_is, target_is}

@@ -10,16 +10,16 @@ use Rattle.bm_base.specs.declared.level.Level.TheVariants.{Highest}
 use Rattle.bm_base.specs.declared.commands.Transfer.{Transfer}
 use Rattle.bm_base.specs.declared.commands.Delete.{Delete}
 use Rattle.bm_base.specs.declared.commands.NodeCommands.{NodeCommands}
-use Rattle.bm_base.specs.Map.{get, keys}
-use Rattle.bm_base.specs.State.{RoundLimits, Cluster, Holdings, State, replica_at}
-use Rattle.bm_base.specs.Lists.{has}
-use Rattle.bm_base.specs.Replicas.{node_of, has_storage, sources_of, is_usable, drains, is_draining}
-use Rattle.bm_base.specs.Levels.{level}
-use Rattle.bm_base.specs.Excess.{begun, started, marked, without_expired, without_unordered_excess}
-use Rattle.bm_base.specs.Deletes.{deletes_of, deletes}
-use Rattle.bm_base.specs.Lawful.{IsOrderly}
-use Rattle.bm_base.specs.Rounds.{whole_round, commands_of, node_commands, has_commands, is_commanded, finished}
-use Rattle.bm_base.specs.NextRound.{IsAmong, IsTransferCommanded, deletes_commanded, transfers_chosen, after_round}
+use Rattle.bm_base.specs.Maps.Map.{get, keys}
+use Rattle.bm_base.specs.Machine.State.{RoundLimits, Cluster, Holdings, State, replica_at}
+use Rattle.bm_base.specs.Maps.Lists.{has}
+use Rattle.bm_base.specs.Machine.Replicas.{node_of, has_storage, sources_of, is_usable, drains, is_draining}
+use Rattle.bm_base.specs.Machine.Levels.{level}
+use Rattle.bm_base.specs.Machine.Excess.{begun, started, marked, without_expired, without_unordered_excess}
+use Rattle.bm_base.specs.Machine.Deletes.{deletes_of, deletes}
+use Rattle.bm_base.specs.Promises.Lawful.{IsOrderly}
+use Rattle.bm_base.specs.Machine.Rounds.{whole_round, commands_of, node_commands, has_commands, is_commanded, finished}
+use Rattle.bm_base.specs.Promises.NextRound.{IsAmong, IsTransferCommanded, deletes_commanded, transfers_chosen, after_round}
 use Rattle.std.proofs.lemmas.Option.{same_Some}
 use Rattle.bm_base.proofs.Options.{there}
 use Rattle.bm_base.proofs.Each.{Each, each_of, each_then, each_filter_by, each_flat_map, each_any}
@@ -28,14 +28,14 @@ use Rattle.bm_base.proofs.Stands.{has_where}
 use Rattle.laws_of_rounds.proofs.Usable.{sources_usable}
 use Rattle.laws_of_rounds.proofs.Grouped.{each_node, each_on_node, all_of_each}
 use Rattle.bm_base.proofs.Sets.{has_keys}
-use Rattle.bm_base.proofs.Commanded.{IsTested, chosen_deletes_of, deleted_is}
-use Rattle.bm_base.proofs.Kept.{marks_started, marks_before, remarked, remarked_ordered, surplus_of}
+use Rattle.laws_of_states.proofs.Commanded.{IsTested, chosen_deletes_of, deleted_is}
+use Rattle.laws_of_states.proofs.Kept.{marks_started, marks_before, remarked, remarked_ordered, surplus_of}
 use Rattle.bm_base.proofs.Options.{revised}
-use Rattle.bm_base.proofs.Marked.{ordered_by}
-use Rattle.bm_base.proofs.Tested.{commanded_among}
+use Rattle.laws_of_states.proofs.Marked.{ordered_by}
+use Rattle.laws_of_states.proofs.Tested.{commanded_among}
 use Rattle.laws_of_rounds.proofs.Sending.{node_is, storage_is, streams_of_node, two_below, source_usable}
 use Rattle.laws_of_rounds.proofs.Later.{each_among, each_is, commanded_chosen, ordered_by_round, pending_now}
-use Rattle.bm_base.proofs.AfterRound.{marks_after}
+use Rattle.laws_of_states.proofs.AfterRound.{marks_after}
 
 -- The commands of a node are for its own storages.
 

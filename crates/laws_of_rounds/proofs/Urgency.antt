@@ -7,17 +7,17 @@ use Rattle.std.specs.FinMap.{is_sorted}
 use Rattle.std.specs.FinMap.Entries.{below_all}
 use Rattle.std.proofs.Common.{cond, refl, sym, ap, subst, ◌∙◌, arith, inl, inr, append-nil}
 use Rattle.std.proofs.lemmas.Bool.{ltb-true}
-use Rattle.bm_base.specs.Conjunction.{first, second}
+use Rattle.bm_base.specs.Maps.Conjunction.{first, second}
 use Rattle.bm_base.specs.declared.level.Level.{Level}
 use Rattle.bm_base.specs.declared.level.Level.TheVariants.{Highest, VeryUnderReplicated, UnderReplicated, BadlyDistributed}
 use Rattle.bm_base.specs.declared.replica.BlockInfo.{BlockInfo}
 use Rattle.bm_base.specs.declared.commands.Transfer.{Transfer}
-use Rattle.bm_base.specs.Map.{Map, by_number, get, keys, entries}
-use Rattle.bm_base.specs.State.{RoundLimits, Cluster, Holdings, State}
-use Rattle.bm_base.specs.Levels.{level, level_number, is_at}
-use Rattle.bm_base.specs.Excess.{begun, started}
-use Rattle.bm_base.specs.Transfers.{WishedCopy, wished_count, wishes_for, wishes, transfer_for, transfers_from, transfers}
-use Rattle.bm_base.specs.NextRound.{transfers_chosen}
+use Rattle.bm_base.specs.Maps.Map.{Map, by_number, get, keys, entries}
+use Rattle.bm_base.specs.Machine.State.{RoundLimits, Cluster, Holdings, State}
+use Rattle.bm_base.specs.Machine.Levels.{level, level_number, is_at}
+use Rattle.bm_base.specs.Machine.Excess.{begun, started}
+use Rattle.bm_base.specs.Machine.Transfers.{WishedCopy, wished_count, wishes_for, wishes, transfer_for, transfers_from, transfers}
+use Rattle.bm_base.specs.Promises.NextRound.{transfers_chosen}
 use Rattle.std.proofs.lemmas.Option.{same_Some}
 use Rattle.bm_base.proofs.Each.{Each, each_of, each_appended, each_then, each_flat_map}
 use Rattle.laws_of_rounds.proofs.Choosing.{EachAfter, after_push, after_split, IsOfLevel, each_wish, each_replicate}

@@ -5,13 +5,13 @@ use Rattle.bm_base.specs.declared.replica.ReplicaId.{ReplicaId}
 use Rattle.bm_base.specs.declared.replica.Marks.{Marks}
 use Rattle.bm_base.specs.declared.level.Level.TheVariants.{Highest}
 use Rattle.bm_base.specs.declared.commands.Transfer.{Transfer}
-use Rattle.bm_base.specs.Map.{get}
-use Rattle.bm_base.specs.State.{State, replica_at}
-use Rattle.bm_base.specs.Replicas.{node_of, drains}
-use Rattle.bm_base.specs.Levels.{level}
-use Rattle.bm_base.specs.Excess.{started}
-use Rattle.bm_base.specs.Rounds.{whole_round}
-use Rattle.bm_base.specs.NextRound.{IsAmong, IsDeleteCommanded, IsTransferCommanded, transfers_chosen, after_round}
+use Rattle.bm_base.specs.Maps.Map.{get}
+use Rattle.bm_base.specs.Machine.State.{State, replica_at}
+use Rattle.bm_base.specs.Machine.Replicas.{node_of, drains}
+use Rattle.bm_base.specs.Machine.Levels.{level}
+use Rattle.bm_base.specs.Machine.Excess.{started}
+use Rattle.bm_base.specs.Machine.Rounds.{whole_round}
+use Rattle.bm_base.specs.Promises.NextRound.{IsAmong, IsDeleteCommanded, IsTransferCommanded, transfers_chosen, after_round}
 
 -- each node is commanded transfers from its own storages and deletes on its own storages
 abbrev pub EachNodeItsOwn : Type 0

@@ -6,12 +6,12 @@ use Rattle.bm_base.specs.declared.event.Event.{Event}
 use Rattle.bm_base.specs.declared.event.Event.TheVariants.{Received, Deleted}
 use Rattle.bm_base.specs.declared.commands.Transfer.{Transfer}
 use Rattle.bm_base.specs.declared.commands.Delete.{Delete}
-use Rattle.bm_base.specs.State.{State}
-use Rattle.bm_base.specs.Lists.{has}
-use Rattle.bm_base.specs.Replicas.{live}
-use Rattle.bm_base.specs.Refusals.{refusal_of, calls_spent}
-use Rattle.bm_base.specs.Calls.{after_event}
-use Rattle.bm_base.specs.NextRound.{IsAmong, IsTransferCommanded, transfers_commanded, deletes_commanded, after_round, live_after}
+use Rattle.bm_base.specs.Machine.State.{State}
+use Rattle.bm_base.specs.Maps.Lists.{has}
+use Rattle.bm_base.specs.Machine.Replicas.{live}
+use Rattle.bm_base.specs.Machine.Refusals.{refusal_of, calls_spent}
+use Rattle.bm_base.specs.Machine.Calls.{after_event}
+use Rattle.bm_base.specs.Promises.NextRound.{IsAmong, IsTransferCommanded, transfers_commanded, deletes_commanded, after_round, live_after}
 
 -- the notice of an obeyed transfer: its target has received the block, with the transfer's stamp
 abbrev pub copied : Transfer → Event

@@ -7,14 +7,14 @@ use Rattle.bm_base.specs.declared.level.Level.{Level}
 use Rattle.bm_base.specs.declared.level.Level.TheVariants.{BadlyDistributed}
 use Rattle.bm_base.specs.declared.storage.StorageInfo.{StorageInfo}
 use Rattle.bm_base.specs.declared.commands.Transfer.{Transfer}
-use Rattle.bm_base.specs.Map.{get, entries, len}
-use Rattle.bm_base.specs.State.{State, replica_at}
-use Rattle.bm_base.specs.Lists.{has}
-use Rattle.bm_base.specs.Replicas.{node_of, rack_of, has_storage, drains, is_draining}
-use Rattle.bm_base.specs.Levels.{level, level_number}
-use Rattle.bm_base.specs.Excess.{started}
-use Rattle.bm_base.specs.Rounds.{whole_round}
-use Rattle.bm_base.specs.NextRound.{IsAmong, IsTransferCommanded, transfers_chosen, transfers_commanded, live_marked, drained_marked}
+use Rattle.bm_base.specs.Maps.Map.{get, entries, len}
+use Rattle.bm_base.specs.Machine.State.{State, replica_at}
+use Rattle.bm_base.specs.Maps.Lists.{has}
+use Rattle.bm_base.specs.Machine.Replicas.{node_of, rack_of, has_storage, drains, is_draining}
+use Rattle.bm_base.specs.Machine.Levels.{level, level_number}
+use Rattle.bm_base.specs.Machine.Excess.{started}
+use Rattle.bm_base.specs.Machine.Rounds.{whole_round}
+use Rattle.bm_base.specs.Promises.NextRound.{IsAmong, IsTransferCommanded, transfers_chosen, transfers_commanded, live_marked, drained_marked}
 
 -- a property of each transfer of the next round, given those chosen before it
 abbrev pub ForEachTransfer : (State → List Transfer → Transfer → Type 0) → Type 0

@@ -3,7 +3,7 @@ use Rattle.std.proofs.Common.{◌≡◌, ℕ, List, inl, inr, subst, rules}
 use Rattle.bm_base.specs.declared.call.Call.TheVariants.{Apply}
 use Rattle.bm_base.specs.declared.event.Event.TheVariants.{Heartbeat}
 use Rattle.bm_base.specs.declared.event.Remaining.{Remaining}
-use Rattle.bm_base.specs.State.{State}
+use Rattle.bm_base.specs.Machine.State.{State}
 use Rattle.bm_answers.specs.declared.asked.Asked.TheVariants.{Asks}
 use Rattle.puljemrod.specs.declared.kept.Kept.{Kept}
 use Rattle.puljemrod.specs.Calls.{IsAsked, IsCall, IsBeat}

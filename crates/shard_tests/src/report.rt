@@ -3,7 +3,7 @@
 // functions.
 ghost use Rattle.std.specs.Prelude.{◌≡◌, ◌<◌, ◌≤◌, ℕ, true};
 ghost use Rattle.bm_base.specs.declared.limits.TheConstants.{MAX_NUMBERS};
-ghost use Rattle.bm_base.specs.Entries.{numbers_in};
+ghost use Rattle.bm_base.specs.Machine.Entries.{numbers_in};
 ghost use Rattle.bm_report.specs.Midway as midway;
 ghost use Rattle.bm_report.specs.Tested.{IsSingle};
 

@@ -1,6 +1,6 @@
 -- Holdings of an arena.
 use Rattle.std.proofs.Common.{◌≡◌}
-use Rattle.bm_base.specs.Map.{empty}
+use Rattle.bm_base.specs.Maps.Map.{empty}
 use Rattle.bm_arena.specs.Contents.{Contents}
 use Rattle.bm_arena.specs.Holding.{replicas_of, blocks_of, holdings_of}
 

@@ -1,7 +1,7 @@
 -- Members of a list to which slots are appended.
 use Rattle.std.proofs.Common.{◌≡◌, ◌≢◌, ◌↔◌, ◌⊎◌, ℕ, List, [], ◌∷◌, ◌++◌, refl, inl, inr}
 use Rattle.std.proofs.lemmas.Bool.{cases_eq}
-use Rattle.bm_base.specs.SlotLists.{Among}
+use Rattle.bm_maps.specs.SlotLists.{Among}
 
 among_front : (x y : ℕ) (xs : List ℕ) → Among x xs → Among x (xs ++ y ∷ [])
 among_front x y [] there = absurd there

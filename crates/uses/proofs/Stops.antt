@@ -5,10 +5,10 @@ use Rattle.std.proofs.lemmas.List.Sums.{fold_more}
 use Rattle.bm_base.specs.declared.event.Event.{Event}
 use Rattle.bm_base.specs.declared.refusal.Refusal.{Refusal}
 use Rattle.bm_base.specs.declared.refusal.Refusal.TheVariants.{Memory}
-use Rattle.bm_base.specs.State.{State}
-use Rattle.bm_base.specs.Calls.{after_event}
-use Rattle.bm_base.specs.Refusals.{refusal_of}
-use Rattle.bm_base.specs.Answering.{Refuses}
+use Rattle.bm_base.specs.Machine.State.{State}
+use Rattle.bm_base.specs.Machine.Calls.{after_event}
+use Rattle.bm_base.specs.Machine.Refusals.{refusal_of}
+use Rattle.bm_base.specs.Machine.Answering.{Refuses}
 use Rattle.uses.specs.Turns.{StopsAmong, event_refusal}
 
 -- a refusal is `Memory`, or the one that the definition gives

@@ -1,8 +1,8 @@
 -- What a locator knows after it learned of a list of versions.
 use Rattle.std.proofs.Common.{◌≡◌, ◌≤◌, ℕ, List, [], ◌∷◌, ◌++◌, All, Option, Some, None, IfSome, length, arith, length-append, subst, refl}
 use Rattle.std.proofs.Math.Seq.{get_or-append_seam}
-use Rattle.bm_base.specs.State.{State}
-use Rattle.bm_base.specs.Versions.{Version, version}
+use Rattle.bm_base.specs.Machine.State.{State}
+use Rattle.bm_base.specs.Promises.Versions.{Version, version}
 use Rattle.bm_view.specs.History.{last_of}
 
 -- no answer is older than the version that was learned last

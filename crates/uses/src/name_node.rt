@@ -1,8 +1,8 @@
 // A NameNode's loop: one turn of it, and the commands for each DataNode.
 ghost use Rattle.std.specs.Prelude.{◌≡◌, ◌==◌, false, fold, All, Contains, IfOk, IfErr, IfSome, IfNone, OnOk};
-ghost use Rattle.bm_base.specs.Calls.{after_event, counted};
-ghost use Rattle.bm_base.specs.Rounds.{whole_round};
-ghost use Rattle.bm_base.specs.Sparing.{SparesLastGood};
+ghost use Rattle.bm_base.specs.Machine.Calls.{after_event, counted};
+ghost use Rattle.bm_base.specs.Machine.Rounds.{whole_round};
+ghost use Rattle.bm_base.specs.Promises.Sparing.{SparesLastGood};
 ghost use Rattle.uses.specs.Turns.{StopsAt};
 
 use bm_base::{Commands, Event, NodeCommands, NodeId, Refusal};

@@ -1,9 +1,9 @@
 // An event on the cluster and on one shard: on both, or on neither.
 ghost use Rattle.std.specs.Prelude.{◌≡◌, ◌||◌, None, IfOk, IfErr, OnOk, OnErr};
-ghost use Rattle.bm_base.specs.Answering.{Refuses};
-ghost use Rattle.bm_base.specs.Calls.{done};
-ghost use Rattle.bm_base.specs.Events.{change_cluster};
-ghost use Rattle.bm_base.specs.Refusals.{◌before◌, first_of, block_checks, cluster_checks};
+ghost use Rattle.bm_base.specs.Machine.Answering.{Refuses};
+ghost use Rattle.bm_base.specs.Machine.Calls.{done};
+ghost use Rattle.bm_base.specs.Machine.Events.{change_cluster};
+ghost use Rattle.bm_base.specs.Machine.Refusals.{◌before◌, first_of, block_checks, cluster_checks};
 ghost use Rattle.bm_parts.specs.Parts.{change_part};
 ghost use Rattle.bm_shard.specs.Seen.{takes_room};
 ghost use Rattle.bm_shard.specs.Standing.{StandsIn, IsSameButRoom};

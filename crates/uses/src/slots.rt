@@ -1,7 +1,7 @@
 // A set of slots to be scanned, each once.
 ghost use Rattle.std.specs.Prelude.{◌≡◌, ◌<◌, ◌↔◌, ℕ, All, IfOk, IfErr};
 ghost use Rattle.bm_base.specs.declared.refusal.Refusal.TheVariants.{Memory};
-ghost use Rattle.bm_base.specs.SlotLists.{Among, Distinct};
+ghost use Rattle.bm_maps.specs.SlotLists.{Among, Distinct};
 
 use bm_base::Refusal;
 use bm_queues::SlotSet;

@@ -10,12 +10,12 @@ use Rattle.bm_base.specs.declared.storage.StorageInfo.{StorageInfo}
 use Rattle.bm_base.specs.declared.level.Level.{Level}
 use Rattle.bm_base.specs.declared.level.Level.TheVariants.{Highest, VeryUnderReplicated, UnderReplicated, BadlyDistributed, NoUsableReplica}
 use Rattle.bm_base.specs.declared.commands.Transfer.{Transfer}
-use Rattle.bm_base.specs.Map.{empty, insert_all}
-use Rattle.bm_base.specs.State.{Cluster, Holdings, replica_at}
-use Rattle.bm_base.specs.Levels.{level_number, level_of}
-use Rattle.bm_base.specs.Excess.{excess_of, excess_in, without_expired}
-use Rattle.bm_base.specs.Transfers.{wishes, least_source, least_target, holders_of, barred_for, transfers}
-use Rattle.bm_base.specs.Deletes.{deletes}
+use Rattle.bm_base.specs.Maps.Map.{empty, insert_all}
+use Rattle.bm_base.specs.Machine.State.{Cluster, Holdings, replica_at}
+use Rattle.bm_base.specs.Machine.Levels.{level_number, level_of}
+use Rattle.bm_base.specs.Machine.Excess.{excess_of, excess_in, without_expired}
+use Rattle.bm_base.specs.Machine.Transfers.{wishes, least_source, least_target, holders_of, barred_for, transfers}
+use Rattle.bm_base.specs.Machine.Deletes.{deletes}
 
 -- The cluster.
 

@@ -1,4 +1,5 @@
 -- Worked examples: scripts and their answers, computed by the definitions of the state machine.
+pub mod Runs
 pub mod Script
 pub mod Levels
 pub mod Copies

@@ -3,7 +3,7 @@ use Rattle.std.specs.Prelude.{◌≡◌, List, [], ◌∷◌, map, replicate, So
 use Rattle.bm_base.specs.declared.replica.Tag.TheVariants.{Stray}
 use Rattle.bm_base.specs.declared.refusal.Refusal.TheVariants.{UnknownNode, NodeKnown, UnknownStorage, StorageKnown, UnknownBlock, BlockKnown, StillStored, BadReplication, OldGeneration, NotItsStorage, RoundsSpent, CallsSpent, BadConfig}
 use Rattle.bm_base.specs.declared.config.Config.{Config}
-use Rattle.bm_base.specs.Configuration.{config_refusal}
+use Rattle.bm_base.specs.Machine.Configuration.{config_refusal}
 use Rattle.worked_examples.specs.Script.{◌gives◌, Holds, HoldsOnCluster, usual, register, dead, storage_failed, heartbeat, remaining, drain, undrain, add_block, delete_block, set_replication, restamp, received, deleted, corrupt, report, round, list_replicas, list_storage, places, level, retired, count_calls, count_rounds, ok, commands, replicas, replica, storages, is_not_retired, number, refused}
 
 abbrev pub refusals_are_named : Type 0

@@ -16,9 +16,9 @@ use Rattle.bm_base.specs.declared.call.Call.{Call}
 use Rattle.bm_base.specs.declared.call.Call.TheVariants as call
 use Rattle.bm_base.specs.declared.call.Answer.{Answer}
 use Rattle.bm_base.specs.declared.call.Answer.TheVariants as answer
-use Rattle.bm_base.specs.State.{replica_at}
-use Rattle.bm_base.specs.Configuration.{standard}
-use Rattle.bm_base.specs.Runs.{run_of}
+use Rattle.bm_base.specs.Machine.State.{replica_at}
+use Rattle.bm_base.specs.Machine.Configuration.{standard}
+use Rattle.worked_examples.specs.Runs.{run_of}
 
 -- a call with its answer
 infix 68 ◌gives◌

@@ -1,5 +1,5 @@
 // Worked examples of a round's choices on one small cluster: each tie, and each limit at its edge.
-#![tactic(auto, unfolding(bm_base::specs::Runs::run_of))]
+#![tactic(auto, unfolding(crate::specs::Runs::run_of))]
 
 ghost use Rattle.worked_examples.specs.Choices as row;
 

@@ -1,5 +1,5 @@
 // Which replicas are copied, from where and where to.
-#![tactic(auto, unfolding(bm_base::specs::Runs::run_of))]
+#![tactic(auto, unfolding(crate::specs::Runs::run_of))]
 
 ghost use Rattle.worked_examples.specs.Copies as example;
 

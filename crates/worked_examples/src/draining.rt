@@ -1,6 +1,6 @@
 // Nodes that drain: their replicas no longer count as live, and are copied to other nodes until the
 // node can be taken away.
-#![tactic(auto, unfolding(bm_base::specs::Runs::run_of))]
+#![tactic(auto, unfolding(crate::specs::Runs::run_of))]
 
 ghost use Rattle.worked_examples.specs.Draining as example;
 

@@ -1,5 +1,5 @@
 // How urgently blocks need replicas.
-#![tactic(auto, unfolding(bm_base::specs::Runs::run_of))]
+#![tactic(auto, unfolding(crate::specs::Runs::run_of))]
 
 ghost use Rattle.worked_examples.specs.Levels as example;
 

@@ -1,5 +1,5 @@
 // Limits of nodes, of storages, and of the entries and block numbers of a report.
-#![tactic(auto, unfolding(bm_base::specs::Runs::run_of))]
+#![tactic(auto, unfolding(crate::specs::Runs::run_of))]
 
 ghost use Rattle.worked_examples.specs.Limits as example;
 

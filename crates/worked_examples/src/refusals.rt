@@ -1,5 +1,5 @@
 // Which calls are refused, and by which of the checks that fail.
-#![tactic(auto, unfolding(bm_base::specs::Runs::run_of))]
+#![tactic(auto, unfolding(crate::specs::Runs::run_of))]
 
 ghost use Rattle.worked_examples.specs.Refusals as example;
 

@@ -1,5 +1,5 @@
 // The replicas after notices and full block reports.
-#![tactic(auto, unfolding(bm_base::specs::Runs::run_of))]
+#![tactic(auto, unfolding(crate::specs::Runs::run_of))]
 
 ghost use Rattle.worked_examples.specs.Reports as example;
 

@@ -2,7 +2,7 @@
 ghost use Rattle.std.specs.Prelude.{◌≡◌, true, false, IfOk, option_map};
 ghost use Rattle.serde_json.specs.View.{view};
 ghost use Rattle.bm_lines.specs.Asking.{has_op};
-ghost use Rattle.bm_base.specs.Answering.{IfFound};
+ghost use Rattle.bm_base.specs.Machine.Answering.{IfFound};
 ghost use Rattle.bm_lines.specs.Reading.CallOf.{call_for, call_in, call_of, view_of};
 ghost use Rattle.bm_lines.specs.Reading.Op.{has_list};
 

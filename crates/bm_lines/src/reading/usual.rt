@@ -3,7 +3,7 @@
 ghost use Rattle.std.specs.Prelude.{◌≡◌, ◌++◌, true, IfSome, codes};
 ghost use Rattle.bm_lines.specs.Asking.{has_op, line_text};
 ghost use Rattle.bm_lines.specs.Fitting.{FitsWhole};
-ghost use Rattle.bm_base.specs.Answering.{IfFound};
+ghost use Rattle.bm_base.specs.Machine.Answering.{IfFound};
 ghost use Rattle.bm_lines.specs.Reading.Usual.{Asks, op_text};
 
 use super::op::Op;

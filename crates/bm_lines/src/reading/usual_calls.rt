@@ -1,9 +1,9 @@
 // The fields of the canonical calls, in the order in which they are written: each up to the end of
 // the line.
 ghost use Rattle.std.specs.Prelude.{◌≡◌, ◌++◌, true, IfSome, codes};
-ghost use Rattle.bm_base.specs.Fitting.{FitsStamp};
+ghost use Rattle.bm_base.specs.Promises.Fitting.{FitsStamp};
 ghost use Rattle.bm_lines.specs.Asking.{stamp_text};
-ghost use Rattle.bm_base.specs.Answering.{IfFound};
+ghost use Rattle.bm_base.specs.Machine.Answering.{IfFound};
 ghost use Rattle.bm_lines.specs.Reading.Usual.{Asks};
 
 use super::usual_lists::list_then;

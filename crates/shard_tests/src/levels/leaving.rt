@@ -1,6 +1,6 @@
 // The level of a block before and after a node drains, a storage fails and a node dies.
 ghost use Rattle.std.specs.Prelude.{◌≡◌};
-ghost use Rattle.bm_base.specs.State.{empty_cluster};
+ghost use Rattle.bm_base.specs.Machine.State.{empty_cluster};
 
 use crate::support::{STAMP, join};
 use bm_base::{BlockId, BlockInfo, Event, HashSecret, Level, NodeId, StorageId};
@@ -63,7 +63,7 @@ fn level_when_turned(
 }
 
 /// The number of replicas that leave when a node dies.
-#[tactic(auto, unfolding(bm_base::specs::Events::change_cluster))]
+#[tactic(auto, unfolding(bm_base::specs::Machine::Events::change_cluster))]
 fn dead(topology: &Topology, blocks: &mut LeveledBlocks, node: NodeId) -> u128 {
     let multi = topology.multi_after(&Event::Dead { node });
     blocks.forget_node(topology, node, multi)

@@ -1,5 +1,5 @@
 use Rattle.std.proofs.Common.{◌+◌, ◌∷◌, map, drop, sym, ap, ◌∙◌, arith}
-use Rattle.bm_base.specs.Replicas.{is_live_on}
+use Rattle.bm_base.specs.Machine.Replicas.{is_live_on}
 use Rattle.bm_arena.specs.Triplets.{seen_triplet}
 use Rattle.bm_levels.proofs.Slots.{next_triplet}
 use Rattle.bm_finding.proofs.Counting.{counted_more, counted_same}

@@ -1,5 +1,5 @@
 use Rattle.std.proofs.Common.{◌≡◌, ◌≤◌, ◌+◌, length, map, drop}
-use Rattle.bm_base.specs.Replicas.{is_live_on}
+use Rattle.bm_base.specs.Machine.Replicas.{is_live_on}
 use Rattle.bm_arena.specs.Triplets.{seen_triplet}
 use Rattle.bm_levels.specs.Judged.{storages_at}
 use Rattle.bm_finding.proofs.enough_pending.live_count.Given as goal

@@ -2,7 +2,7 @@ use Rattle.std.proofs.Common.{◌≡◌, ℕ, List, map, sym, ap, subst, ◌∙�
 use Rattle.std.specs.List.Sorted.{IsPermutation}
 use Rattle.bm_base.specs.declared.replica.ReplicaId.{ReplicaId}
 use Rattle.bm_base.specs.declared.round.RoundPart.{RoundPart}
-use Rattle.bm_base.specs.State.{by_replica}
+use Rattle.bm_base.specs.Machine.State.{by_replica}
 use Rattle.bm_base.specs.Ordered.{by_pair}
 use Rattle.bm_base.specs.RoundParts.{wish_key, delete_key}
 use Rattle.bm_arena.specs.Contents.{Contents, slot_of, IsLawful}

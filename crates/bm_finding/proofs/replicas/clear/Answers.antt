@@ -1,7 +1,7 @@
 use Rattle.std.proofs.Common.{rules, ◌∙◌}
 use Rattle.std.specs.Prelude.{false}
 use Rattle.std.proofs.lemmas.Fn.{filter_same}
-use Rattle.bm_base.specs.Map.{entries}
+use Rattle.bm_base.specs.Maps.Map.{entries}
 use Rattle.bm_finding.proofs.NoneKept.{none_kept}
 use Rattle.bm_finding.proofs.Unmarked.{is_empty}
 use Rattle.bm_finding.proofs.replicas.clear.Goals as goal

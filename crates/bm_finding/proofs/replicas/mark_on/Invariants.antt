@@ -1,6 +1,6 @@
 use Rattle.std.proofs.Common.{◌≡◌, ◌++◌, map, take, drop}
-use Rattle.bm_base.specs.Map.{entries}
-use Rattle.bm_base.specs.Lists.{has}
+use Rattle.bm_base.specs.Maps.Map.{entries}
+use Rattle.bm_base.specs.Maps.Lists.{has}
 use Rattle.bm_finding.specs.Marking.{marked_if}
 use Rattle.bm_finding.proofs.replicas.mark_on.Given as goal
 

@@ -1,7 +1,7 @@
 use Rattle.std.proofs.Common.{◌≡◌, ◌≤◌, ℕ, List, length, [], drop, drop_of_length-le, ap, sym, ◌∙◌, arith}
 use Rattle.std.specs.Prelude.{filter_map}
 use Rattle.std.specs.Int.{from_bool}
-use Rattle.bm_base.specs.Replicas.{rack_of}
+use Rattle.bm_base.specs.Machine.Replicas.{rack_of}
 use Rattle.bm_base.specs.Spread.{spread_from}
 use Rattle.bm_base.proofs.Distinct.{spread_end}
 use Rattle.bm_finding.proofs.replicas.spread_of.Goals as goal

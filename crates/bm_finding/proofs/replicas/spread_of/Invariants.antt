@@ -1,6 +1,6 @@
 use Rattle.std.proofs.Common.{◌≡◌, drop}
 use Rattle.std.specs.Prelude.{filter_map}
-use Rattle.bm_base.specs.Replicas.{rack_of}
+use Rattle.bm_base.specs.Machine.Replicas.{rack_of}
 use Rattle.bm_base.specs.Spread.{spread, spread_from}
 use Rattle.bm_finding.proofs.replicas.spread_of.Given as goal
 

@@ -1,5 +1,5 @@
 use Rattle.std.proofs.Common.{◌≡◌, not, filter, take}
-use Rattle.bm_base.specs.Replicas.{is_draining}
+use Rattle.bm_base.specs.Machine.Replicas.{is_draining}
 use Rattle.bm_finding.proofs.settled.split_by_draining.Given as goal
 
 -- the storages so far, split by whether their nodes drain

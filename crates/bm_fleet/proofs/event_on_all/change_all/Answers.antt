@@ -1,6 +1,6 @@
 use Rattle.std.proofs.Common.{◌∙◌, ap}
-use Rattle.bm_base.specs.Events.{change_holdings}
-use Rattle.bm_base.specs.Calls.{done}
+use Rattle.bm_base.specs.Machine.Events.{change_holdings}
+use Rattle.bm_base.specs.Machine.Calls.{done}
 use Rattle.bm_fleet.specs.Whole.{held_by}
 use Rattle.bm_fleet.proofs.Staying.{all_same_again, still_shards, same_held, same_took, same_stands}
 use Rattle.bm_fleet.proofs.event_on_all.change_all.Goals as goal

@@ -1,6 +1,6 @@
 use Rattle.std.proofs.Common.{◌≡◌, take}
 use Rattle.std.specs.List.{flat_map}
-use Rattle.bm_base.specs.Queries.{blocks_on}
+use Rattle.bm_base.specs.Machine.Queries.{blocks_on}
 use Rattle.bm_fleet.proofs.lists.gather_blocks_on.Given as goal
 
 abbrev pub invariant-loop-one : goal.invariant-loop-one

@@ -1,7 +1,7 @@
 use Rattle.std.proofs.Common.{ℕ, ◌++◌, ◌∷◌, [], List, take, sym, ap, ◌∙◌, append-nil}
 use Rattle.std.specs.List.{flat_map}
 use Rattle.std.proofs.lemmas.Grind.{flat_map-append}
-use Rattle.bm_base.specs.Queries.{missing_blocks}
+use Rattle.bm_base.specs.Machine.Queries.{missing_blocks}
 use Rattle.bm_round.proofs.Taken.{take_next}
 use Rattle.bm_shard.specs.Seen.{Seen}
 use Rattle.bm_fleet.proofs.OneOf.{item_there, stands_at}

@@ -1,7 +1,7 @@
 use Rattle.std.proofs.Common.{◌≡◌, take}
 use Rattle.std.specs.List.{flat_map}
-use Rattle.bm_base.specs.State.{Cluster}
-use Rattle.bm_base.specs.Queries.{missing_blocks}
+use Rattle.bm_base.specs.Machine.State.{Cluster}
+use Rattle.bm_base.specs.Machine.Queries.{missing_blocks}
 use Rattle.bm_fleet.specs.Whole.{EachStandsIn}
 use Rattle.bm_fleet.proofs.lists.gather_missing.Given as goal
 

@@ -1,7 +1,7 @@
 use Rattle.std.specs.Prelude.{ℕ, ◌+◌, ◌<◌, ◌^◌}
 use Rattle.std.specs.List.{All}
 use Rattle.std.proofs.Common.{◌∙◌, refl, subst, sym}
-use Rattle.bm_base.specs.State.{limits_of}
+use Rattle.bm_base.specs.Machine.State.{limits_of}
 use Rattle.bm_shard.specs.Seen.{Seen}
 use Rattle.bm_fleet.specs.RoundWorked.{HasPart}
 use Rattle.bm_fleet.specs.RoundChosen.{next_parts, HasExcess}

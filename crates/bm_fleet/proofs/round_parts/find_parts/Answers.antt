@@ -1,5 +1,5 @@
 use Rattle.bm_base.specs.declared.round.RoundPart.{RoundPart}
-use Rattle.bm_base.specs.State.{Cluster}
+use Rattle.bm_base.specs.Machine.State.{Cluster}
 use Rattle.std.specs.Prelude.{ℕ, Option}
 use Rattle.std.proofs.Common.{ap}
 use Rattle.bm_parts.specs.Before.{part_before}

@@ -1,6 +1,6 @@
 use Rattle.std.specs.Prelude.{None}
 use Rattle.std.proofs.Common.{◌∙◌, ap}
-use Rattle.bm_base.specs.State.{limits_of}
+use Rattle.bm_base.specs.Machine.State.{limits_of}
 use Rattle.bm_base.specs.Choices.{chosen_transfers}
 use Rattle.bm_fleet.specs.RoundChosen.{next_parts, next_parts_before}
 use Rattle.bm_fleet.proofs.Chosen.{uncut, cut, cut_wishes_sorted, cut_deletes_sorted, cut_once, cut_excess, cut_deletes}

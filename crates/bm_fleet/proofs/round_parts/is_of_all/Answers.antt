@@ -1,6 +1,6 @@
 use Rattle.std.specs.Prelude.{map}
 use Rattle.std.proofs.Common.{◌∙◌, ap}
-use Rattle.bm_base.specs.State.{limits_of}
+use Rattle.bm_base.specs.Machine.State.{limits_of}
 use Rattle.bm_base.specs.Choices.{chosen_transfers}
 use Rattle.bm_parts.specs.Before.{part_before}
 use Rattle.bm_fleet.proofs.Chosen.{uncut}

@@ -1,7 +1,7 @@
 use Rattle.std.proofs.Common.{List, rules, subst}
 use Rattle.std.specs.List.Sorted.{IsPermutation}
 use Rattle.std.proofs.lemmas.List.Sorted.{answers_always}
-use Rattle.bm_base.specs.Versions.{Row}
+use Rattle.bm_base.specs.Promises.Versions.{Row}
 use Rattle.bm_fleet.proofs.Asked.{sorted_rows}
 use Rattle.bm_fleet.proofs.table.make_table.Goals as goal
 

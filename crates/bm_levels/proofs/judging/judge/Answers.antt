@@ -1,6 +1,6 @@
 use Rattle.std.proofs.Common.{◌≡◌, ◌&&◌, Bool, Some, true, false, refl, sym, ap, ◌∙◌}
 use Rattle.std.specs.Prelude.{nat_le}
-use Rattle.bm_base.specs.Levels.{level_of}
+use Rattle.bm_base.specs.Machine.Levels.{level_of}
 use Rattle.bm_arena.specs.Contents.{block_at}
 use Rattle.bm_levels.specs.Around.{rack_around, drains_around}
 use Rattle.bm_levels.proofs.Judgement.{level_judged, settled_judged, unknown_judged, unknown_level, none_judged}

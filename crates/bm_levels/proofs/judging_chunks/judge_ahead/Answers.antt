@@ -4,7 +4,7 @@ use Rattle.std.proofs.Math.ListN.{length-set}
 use Rattle.std.proofs.lemmas.Bool.{cases_eq}
 use Rattle.std.proofs.lemmas.List.{get_or-set_other}
 use Rattle.std.proofs.lemmas.Option.{get_or_from_slice_get, slice_get_within}
-use Rattle.bm_base.specs.Replicas.{rack_of}
+use Rattle.bm_base.specs.Machine.Replicas.{rack_of}
 use Rattle.bm_arena.specs.Contents.{block_at}
 use Rattle.bm_levels.specs.declared.judging.Judged.{Judged}
 use Rattle.bm_levels.specs.Judged.{drains_then}

@@ -3,7 +3,7 @@ use Rattle.std.specs.Prelude.{◌↔◌}
 use Rattle.std.specs.List.Sorted.{IsPermutation}
 use Rattle.std.proofs.lemmas.List.{map_more, take_all}
 use Rattle.bm_base.specs.declared.level.Level.TheVariants.{NoUsableReplica}
-use Rattle.bm_base.specs.SlotLists.{Among}
+use Rattle.bm_maps.specs.SlotLists.{Among}
 use Rattle.bm_arena.specs.Contents.{Contents, IsLawful}
 use Rattle.bm_arena.specs.Holding.{id_at}
 use Rattle.bm_levels.specs.Kept.{Kept, level_of_slot}

@@ -1,6 +1,6 @@
 use Rattle.std.proofs.Common.{◌≡◌, ◌+◌, ◌||◌, true, false, drop, ap, sym, ◌∙◌, subst, arith}
 use Rattle.std.specs.List.{list_any}
-use Rattle.bm_base.specs.Map.{keys}
+use Rattle.bm_base.specs.Maps.Map.{keys}
 use Rattle.bm_arena.specs.Contents.{Contents, IsLawful}
 use Rattle.bm_listing.specs.Listed.{waits_for}
 use Rattle.bm_listing.proofs.ByPlace.{next_place, no_place, count_keys, past_places}

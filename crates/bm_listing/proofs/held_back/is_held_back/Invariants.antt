@@ -1,6 +1,6 @@
 use Rattle.std.proofs.Common.{◌≡◌, drop}
 use Rattle.std.specs.List.{list_any}
-use Rattle.bm_base.specs.Map.{keys}
+use Rattle.bm_base.specs.Maps.Map.{keys}
 use Rattle.bm_listing.specs.Listed.{waits_for}
 use Rattle.bm_listing.proofs.held_back.is_held_back.Given as goal
 

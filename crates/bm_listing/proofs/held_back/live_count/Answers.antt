@@ -1,5 +1,5 @@
 use Rattle.std.proofs.Common.{◌+◌, drop, sym, ◌∙◌, arith}
-use Rattle.bm_base.specs.Replicas.{is_live_on}
+use Rattle.bm_base.specs.Machine.Replicas.{is_live_on}
 use Rattle.bm_arena.specs.Contents.{block_at}
 use Rattle.bm_arena.specs.Holding.{replicas_at}
 use Rattle.bm_levels.proofs.Slots.{next_at, none_at}

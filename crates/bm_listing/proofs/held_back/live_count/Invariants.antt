@@ -1,5 +1,5 @@
 use Rattle.std.proofs.Common.{◌≡◌, ◌≤◌, ◌+◌, length, drop}
-use Rattle.bm_base.specs.Replicas.{is_live_on}
+use Rattle.bm_base.specs.Machine.Replicas.{is_live_on}
 use Rattle.bm_arena.specs.Holding.{replicas_at}
 use Rattle.bm_levels.specs.Judged.{storages_at}
 use Rattle.bm_listing.proofs.held_back.live_count.Given as goal

@@ -1,6 +1,6 @@
 use Rattle.std.proofs.Common.{◌≡◌, ◌+◌, true, false, ◌||◌, drop, ap, sym, ◌∙◌, arith}
 use Rattle.std.specs.List.{list_any}
-use Rattle.bm_base.specs.Replicas.{is_stray}
+use Rattle.bm_base.specs.Machine.Replicas.{is_stray}
 use Rattle.bm_arena.specs.Contents.{block_at}
 use Rattle.bm_arena.specs.Holding.{replicas_at}
 use Rattle.bm_levels.proofs.Slots.{next_at, none_at, end_at}

@@ -1,6 +1,6 @@
 use Rattle.std.proofs.Common.{◌≡◌, drop}
 use Rattle.std.specs.List.{list_any}
-use Rattle.bm_base.specs.Replicas.{is_stray}
+use Rattle.bm_base.specs.Machine.Replicas.{is_stray}
 use Rattle.bm_arena.specs.Holding.{replicas_at}
 use Rattle.bm_listing.proofs.one_block.has_stray.Given as goal
 

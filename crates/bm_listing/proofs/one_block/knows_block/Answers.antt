@@ -1,6 +1,6 @@
 use Rattle.std.proofs.Common.{◌≡◌, ℕ, false, Option, is_some, ap, ◌∙◌, subst}
 use Rattle.std.specs.Option.{option_map_or}
-use Rattle.bm_base.specs.Refusals.{knows_block}
+use Rattle.bm_base.specs.Machine.Refusals.{knows_block}
 use Rattle.bm_arena.specs.Contents.{Contents}
 use Rattle.bm_arena.specs.Holding.{info_at}
 use Rattle.bm_levels.specs.Held.{holdings_with}

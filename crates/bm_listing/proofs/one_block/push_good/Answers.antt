@@ -1,6 +1,6 @@
 use Rattle.std.proofs.Common.{◌+◌, ◌++◌, drop, ap, sym, ◌∙◌, arith}
 use Rattle.std.proofs.lemmas.List.{append-nil}
-use Rattle.bm_base.specs.Replicas.{is_good}
+use Rattle.bm_base.specs.Machine.Replicas.{is_good}
 use Rattle.bm_arena.specs.Contents.{block_at}
 use Rattle.bm_arena.specs.Holding.{replicas_at}
 use Rattle.bm_levels.specs.Judged.{storages_at}

@@ -1,5 +1,5 @@
 use Rattle.std.proofs.Common.{◌≡◌, ◌++◌, drop}
-use Rattle.bm_base.specs.Replicas.{is_good}
+use Rattle.bm_base.specs.Machine.Replicas.{is_good}
 use Rattle.bm_arena.specs.Holding.{replicas_at}
 use Rattle.bm_levels.specs.Judged.{storages_at}
 use Rattle.bm_listing.proofs.one_block.push_good.Given as goal

@@ -1,7 +1,7 @@
 use Rattle.std.proofs.Common.{◌≡◌, ◌++◌, ℕ, [], Option, ap, sym, ◌∙◌, take}
 use Rattle.std.specs.Option.{option_map_or}
 use Rattle.bm_base.specs.declared.limits.TheConstants.{MAX_PLACES}
-use Rattle.bm_base.specs.Replicas.{is_good}
+use Rattle.bm_base.specs.Machine.Replicas.{is_good}
 use Rattle.bm_arena.specs.Holding.{replicas_at}
 use Rattle.bm_levels.specs.Judged.{storages_at}
 use Rattle.bm_listing.proofs.AtSlot.{sorted_places, good_storages}

@@ -1,5 +1,5 @@
 use Rattle.std.proofs.Common.{◌≡◌, ◌++◌, ◌∷◌, [], subst, ◌∙◌}
-use Rattle.bm_base.specs.Versions.{table}
+use Rattle.bm_base.specs.Promises.Versions.{table}
 use Rattle.bm_arena.specs.Contents.{Contents}
 use Rattle.bm_levels.specs.Held.{holdings_with}
 use Rattle.bm_listing.proofs.KnownBlocks.{row_in, row_put, all_rows}

@@ -1,5 +1,5 @@
-use Rattle.bm_base.specs.State.{first_state}
-use Rattle.bm_base.specs.Calls.{step}
+use Rattle.bm_base.specs.Machine.State.{first_state}
+use Rattle.bm_base.specs.Machine.Calls.{step}
 use Rattle.bm_manager.proofs.SameAnswers.{both_alike}
 use Rattle.bm_manager.proofs.alike.answers_alike.Goals as goal
 

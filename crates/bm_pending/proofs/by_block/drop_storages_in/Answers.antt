@@ -1,5 +1,5 @@
 use Rattle.std.proofs.Common.{rules, not, ℕ, filter}
-use Rattle.bm_base.specs.Lists.{has}
+use Rattle.bm_base.specs.Maps.Lists.{has}
 use Rattle.std.proofs.lemmas.Map.Made.{map_same_pairs}
 use Rattle.bm_pending.specs.Inside.{Targets}
 use Rattle.bm_pending.proofs.Blocks.{filtered-targets, filtered-rooms}

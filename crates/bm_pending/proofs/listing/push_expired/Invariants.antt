@@ -1,6 +1,6 @@
 use Rattle.std.proofs.Common.{◌≡◌, ◌++◌, map, filter, take}
-use Rattle.bm_base.specs.State.{replica_at}
-use Rattle.bm_base.specs.Excess.{is_expired}
+use Rattle.bm_base.specs.Machine.State.{replica_at}
+use Rattle.bm_base.specs.Machine.Excess.{is_expired}
 use Rattle.bm_pending.proofs.listing.push_expired.Given as goal
 
 abbrev pub invariant-loop-target : goal.invariant-loop-target

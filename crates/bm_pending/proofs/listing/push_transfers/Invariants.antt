@@ -1,5 +1,5 @@
 use Rattle.std.proofs.Common.{◌≡◌, ◌++◌, map, take}
-use Rattle.bm_base.specs.State.{replica_at}
+use Rattle.bm_base.specs.Machine.State.{replica_at}
 use Rattle.bm_pending.proofs.listing.push_transfers.Given as goal
 
 abbrev pub invariant-loop-target : goal.invariant-loop-target

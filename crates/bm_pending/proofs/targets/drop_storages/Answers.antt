@@ -1,5 +1,5 @@
 use Rattle.std.proofs.Common.{rules, not, ℕ}
-use Rattle.bm_base.specs.Lists.{has}
+use Rattle.bm_base.specs.Maps.Lists.{has}
 use Rattle.bm_pending.proofs.Lists.{filter-RetainsInTurn, same_vec}
 use Rattle.bm_pending.proofs.targets.drop_storages.Goals as goal
 

@@ -1,7 +1,7 @@
 use Rattle.std.proofs.Common.{◌≡◌, ◌<◌, ◌≤◌, ◌-◌, ◌==◌, ◌++◌, not, filter, None, Some, ap, refl, sym, ◌∙◌, rules, arith}
 use Rattle.std.proofs.lemmas.Fn.{filter_same}
-use Rattle.bm_base.specs.Lists.{least}
-use Rattle.bm_base.specs.Excess.{excess_cmp, excess_among}
+use Rattle.bm_base.specs.Maps.Lists.{least}
+use Rattle.bm_base.specs.Machine.Excess.{excess_cmp, excess_among}
 use Rattle.bm_place.proofs.Surplus.{all_chosen, one_chosen, enough_chosen}
 use Rattle.bm_place.proofs.Comparing.{few_without}
 use Rattle.bm_place.proofs.compared.push_of_few.Goals as goal

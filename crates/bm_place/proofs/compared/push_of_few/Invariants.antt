@@ -1,6 +1,6 @@
 use Rattle.std.proofs.Common.{◌≡◌, ◌-◌, ◌++◌, ℕ, List, map}
-use Rattle.bm_base.specs.State.{Cluster}
-use Rattle.bm_base.specs.Excess.{excess_among}
+use Rattle.bm_base.specs.Machine.State.{Cluster}
+use Rattle.bm_base.specs.Machine.Excess.{excess_among}
 use Rattle.bm_place.specs.declared.compared.Holder.{Holder}
 use Rattle.bm_place.specs.Compared.{holder_at}
 use Rattle.bm_place.proofs.compared.push_of_few.Given as goal

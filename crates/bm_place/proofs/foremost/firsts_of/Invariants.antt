@@ -1,5 +1,5 @@
 use Rattle.std.proofs.Common.{◌≡◌, map, drop}
-use Rattle.bm_base.specs.Map.{empty}
+use Rattle.bm_base.specs.Maps.Map.{empty}
 use Rattle.bm_place.specs.Foremost.{with_firsts}
 use Rattle.bm_place.proofs.foremost.firsts_of.Given as goal
 

@@ -1,7 +1,7 @@
 use Rattle.std.specs.Prelude.{filter_map}
 use Rattle.std.proofs.Common.{◌+◌, drop, Some, sym, ap, ◌∙◌}
 use Rattle.std.proofs.lemmas.Option.{slice_get-get_or}
-use Rattle.bm_base.specs.Map.{get}
+use Rattle.bm_base.specs.Maps.Map.{get}
 use Rattle.bm_place.specs.declared.seats.Seat.{Seat}
 use Rattle.bm_place.specs.Foremost.{cmp_alike, are_alike, better_of}
 use Rattle.bm_place.specs.Scan.{scan}

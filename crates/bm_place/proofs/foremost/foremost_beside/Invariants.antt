@@ -1,6 +1,6 @@
 use Rattle.std.proofs.Common.{◌≡◌, drop, Some}
 use Rattle.std.specs.Prelude.{filter_map}
-use Rattle.bm_base.specs.Map.{get}
+use Rattle.bm_base.specs.Maps.Map.{get}
 use Rattle.bm_place.specs.Foremost.{cmp_alike, are_alike}
 use Rattle.bm_place.specs.Scan.{scan}
 use Rattle.bm_place.proofs.foremost.foremost_beside.Given as goal

@@ -1,7 +1,7 @@
 use Rattle.std.proofs.Common.{◌≡◌, false, List, [], ◌∷◌, filter, refl, rules, ◌∙◌}
 use Rattle.std.proofs.lemmas.Fn.{filter_same}
-use Rattle.bm_base.specs.Map.{Map, by_number, empty, entries}
-use Rattle.bm_base.specs.MapCode.{same_entries_map}
+use Rattle.bm_base.specs.Maps.Map.{Map, by_number, empty, entries}
+use Rattle.bm_base.specs.Maps.MapCode.{same_entries_map}
 use Rattle.bm_place.proofs.pass.clear.Goals as goal
 
 none_kept : {X : Type 0} (xs : List X) → filter (λ _. false) xs ≡ []

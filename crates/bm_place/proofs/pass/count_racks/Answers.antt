@@ -1,6 +1,6 @@
 use Rattle.std.proofs.Common.{◌+◌, ap, refl, ◌∙◌, arith}
 use Rattle.std.proofs.lemmas.Option.{slice_get_read}
-use Rattle.bm_base.specs.Map.{insert}
+use Rattle.bm_base.specs.Maps.Map.{insert}
 use Rattle.bm_place.specs.declared.compared.Holder.{Holder}
 use Rattle.bm_place.specs.Compared.{count_among}
 use Rattle.bm_place.specs.Tables.{count_at}

@@ -1,6 +1,6 @@
 use Rattle.std.proofs.Common.{ap, sym, ◌-◌, ◌∙◌}
-use Rattle.bm_base.specs.Map.{get}
-use Rattle.bm_base.proofs.Replacing.{no_change, set_there}
+use Rattle.bm_base.specs.Maps.Map.{get}
+use Rattle.bm_maps.proofs.Replacing.{no_change, set_there}
 use Rattle.bm_place.proofs.pass.lower.Goals as goal
 
 pub returns-in-Some : goal.returns-in-Some

@@ -4,8 +4,8 @@ use Rattle.std.proofs.Common.{Some}
 use Rattle.bm_place.specs.declared.compared.Holder.{Holder}
 use Rattle.std.proofs.lemmas.List.{drop_all, length-map}
 use Rattle.std.proofs.lemmas.Option.{slice_get_read}
-use Rattle.bm_base.specs.Excess.{excess_among}
-use Rattle.bm_base.specs.Replicas.{rack_of}
+use Rattle.bm_base.specs.Machine.Excess.{excess_among}
+use Rattle.bm_base.specs.Machine.Replicas.{rack_of}
 use Rattle.bm_place.specs.Candidates.{is_on}
 use Rattle.bm_place.specs.Standing.{is_rack}
 use Rattle.bm_place.specs.Tables.{count_at}

@@ -1,6 +1,6 @@
 use Rattle.std.proofs.Common.{◌++◌, drop, ℕ, List}
-use Rattle.bm_base.specs.State.{Cluster}
-use Rattle.bm_base.specs.Excess.{excess_among}
+use Rattle.bm_base.specs.Machine.State.{Cluster}
+use Rattle.bm_base.specs.Machine.Excess.{excess_among}
 use Rattle.bm_place.specs.Pass.{AreReady}
 use Rattle.bm_place.proofs.Passing.{Passes}
 use Rattle.bm_place.proofs.pass.push_rack_mates.Given as goal

@@ -1,6 +1,6 @@
 use Rattle.std.proofs.Common.{refl, ap, sym, ◌+◌, ◌∙◌}
-use Rattle.bm_base.specs.Map.{get}
-use Rattle.bm_base.proofs.Replacing.{no_change, set_there}
+use Rattle.bm_base.specs.Maps.Map.{get}
+use Rattle.bm_maps.proofs.Replacing.{no_change, set_there}
 use Rattle.bm_place.specs.declared.scheduled.Target.{Target}
 use Rattle.bm_place.proofs.scheduled.add_to.Goals as goal
 

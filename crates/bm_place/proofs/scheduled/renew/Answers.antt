@@ -1,5 +1,5 @@
 use Rattle.std.proofs.Common.{◌≡◌, Some, None, ap, sym, ◌==◌, ◌∙◌, position}
-use Rattle.bm_base.specs.Map.{get}
+use Rattle.bm_base.specs.Maps.Map.{get}
 use Rattle.bm_place.specs.declared.scheduled.Target.{Target}
 use Rattle.bm_place.proofs.Renewing.{kept_renewed, kept_same, kept_unknown}
 use Rattle.bm_place.proofs.scheduled.renew.Goals as goal

@@ -1,5 +1,5 @@
 use Rattle.std.proofs.Common.{ap, sym, ◌∙◌, arith}
-use Rattle.bm_base.specs.Map.{keys, insert_all}
+use Rattle.bm_base.specs.Maps.Map.{keys, insert_all}
 use Rattle.bm_place.specs.Tables.{table, listed}
 use Rattle.bm_place.specs.Targets.{target_at, target_table}
 use Rattle.bm_place.proofs.Tables.{row_made, made_past, none_behind}

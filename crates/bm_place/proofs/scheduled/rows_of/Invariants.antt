@@ -1,5 +1,5 @@
 use Rattle.std.proofs.Common.{◌≡◌, drop}
-use Rattle.bm_base.specs.Map.{insert_all, keys}
+use Rattle.bm_base.specs.Maps.Map.{insert_all, keys}
 use Rattle.bm_place.specs.Tables.{listed}
 use Rattle.bm_place.specs.Targets.{target_at, target_table}
 use Rattle.bm_place.proofs.scheduled.rows_of.Given as goal

@@ -1,6 +1,6 @@
 use Rattle.std.proofs.Common.{◌+◌, List, length, drop, refl, subst}
 use Rattle.std.proofs.lemmas.Option.{slice_get_read}
-use Rattle.bm_base.specs.Entries.{Told, told_by, expanded}
+use Rattle.bm_base.specs.Machine.Entries.{Told, told_by, expanded}
 use Rattle.bm_report.specs.Expanded.{of_part, told_to}
 use Rattle.bm_report.specs.Ready.{named_of}
 use Rattle.bm_report.specs.Midway.{IsEntered, IsCounted}

@@ -1,5 +1,5 @@
 use Rattle.std.proofs.Common.{drop}
-use Rattle.bm_base.specs.Entries.{expanded}
+use Rattle.bm_base.specs.Machine.Entries.{expanded}
 use Rattle.bm_report.specs.Expanded.{of_part, told_to}
 use Rattle.bm_report.proofs.ByNumber.{IsLeft}
 use Rattle.bm_report.proofs.by_number.enter_entries.Given as goal

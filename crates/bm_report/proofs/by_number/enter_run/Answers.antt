@@ -1,7 +1,7 @@
 use Rattle.std.proofs.Common.{ℕ, ◌≡◌, ◌≤◌, ◌+◌, ◌%◌, List, [], ◌∷◌, subst, sym, ap, ◌∙◌, arith}
 use Rattle.std.proofs.Math.Nat.{add-mod_right}
 use Rattle.bm_base.specs.declared.event.Entry.{Entry}
-use Rattle.bm_base.specs.Entries.{Told, told_by}
+use Rattle.bm_base.specs.Machine.Entries.{Told, told_by}
 use Rattle.bm_report.specs.Expanded.{of_part}
 use Rattle.bm_report.specs.Ready.{named_of, CanBeEntered}
 use Rattle.bm_report.specs.Midway.{IsEntered, IsCounted}

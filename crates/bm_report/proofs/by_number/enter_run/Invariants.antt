@@ -1,5 +1,5 @@
 use Rattle.std.proofs.Common.{◌≡◌, ◌+◌, ◌-◌}
-use Rattle.bm_base.specs.Entries.{told_by}
+use Rattle.bm_base.specs.Machine.Entries.{told_by}
 use Rattle.bm_base.specs.Shards.{shard_of}
 use Rattle.bm_report.specs.Expanded.{of_part}
 use Rattle.bm_report.proofs.ByNumber.{IsLeft}

@@ -2,7 +2,7 @@ use Rattle.std.proofs.Common.{◌∷◌, true, ◌≡◌, ◌++◌, ℕ, length,
 use Rattle.std.specs.Prelude.{◌==◌}
 use Rattle.std.proofs.lemmas.Bool.{eqb-true}
 use Rattle.bm_report.specs.declared.types.Named.{Named}
-use Rattle.bm_base.specs.SlotLists.{Among}
+use Rattle.bm_maps.specs.SlotLists.{Among}
 use Rattle.bm_report.specs.Midway.{AllStand, slot_in}
 use Rattle.std.proofs.lemmas.List.{take-append-drop}
 use Rattle.bm_report.proofs.Came.{slots-front, slots-back}

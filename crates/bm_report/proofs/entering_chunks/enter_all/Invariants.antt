@@ -1,6 +1,6 @@
 use Rattle.std.proofs.Common.{◌≡◌, ◌+◌, ◌≤◌, ℕ, length, map, vec_len}
 use Rattle.std.specs.Prelude.{vec_capacity}
-use Rattle.bm_base.specs.SlotLists.{Among}
+use Rattle.bm_maps.specs.SlotLists.{Among}
 use Rattle.bm_report.specs.Midway.{IsListed, AllStand, slot_in}
 use Rattle.bm_report.proofs.Came.{Came}
 use Rattle.bm_report.proofs.Underway.{IsUnderway}

@@ -2,7 +2,7 @@ use Rattle.std.proofs.Common.{◌≡◌, suc, length, drop, ◌∷◌, [], false
 use Rattle.std.proofs.Common.{Bool, true, ◌||◌, List, ℕ, map, inl, inr, sym}
 use Rattle.std.proofs.lemmas.Option.{slice_get_read}
 use Rattle.bm_report.specs.declared.types.Named.{Named}
-use Rattle.bm_base.specs.SlotLists.{Among}
+use Rattle.bm_maps.specs.SlotLists.{Among}
 use Rattle.bm_report.specs.Midway.{slot_in}
 use Rattle.bm_report.proofs.Came.{slot-listed}
 use Rattle.bm_report.proofs.Quiet.{stands_same, one_of}

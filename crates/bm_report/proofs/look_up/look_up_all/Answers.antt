@@ -3,7 +3,7 @@ use Rattle.bm_report.specs.declared.types.Named.{Named}
 use Rattle.bm_report.specs.Aborted.{NamesNew}
 use Rattle.std.proofs.lemmas.Option.{slice_get_read}
 use Rattle.bm_arena.specs.Contents.{Contents}
-use Rattle.bm_base.specs.Entries.{told_by}
+use Rattle.bm_base.specs.Machine.Entries.{told_by}
 use Rattle.bm_report.specs.Expanded.{of_part}
 use Rattle.bm_report.specs.Midway.{told_of}
 use Rattle.bm_report.specs.Ready.{HaveReplicas}

@@ -1,11 +1,11 @@
 use Rattle.std.proofs.Common.{[], ◌≡◌, ℕ, true, false, ◌++◌, map, drop}
 use Rattle.bm_arena.specs.Contents.{slot_of}
-use Rattle.bm_base.specs.Events.{is_named}
+use Rattle.bm_base.specs.Machine.Events.{is_named}
 use Rattle.bm_report.specs.Midway.{AreHere, HaveRoom, told_of}
 use Rattle.bm_report.specs.Aborted.{NamesNew}
 use Rattle.bm_report.specs.Ready.{HaveReplicas}
 use Rattle.bm_report.specs.Expanded.{IsPrepared, of_part, told_to}
-use Rattle.bm_base.specs.Entries.{expanded}
+use Rattle.bm_base.specs.Machine.Entries.{expanded}
 use Rattle.bm_report.proofs.look_up.look_up_all.Given as goal
 
 abbrev pub invariant-loop-place : goal.invariant-loop-place

@@ -2,7 +2,7 @@ use Rattle.std.proofs.Common.{◌≡◌, ◌+◌, ◌%◌, ◌≤◌, ◌++◌, 
 use Rattle.std.proofs.Math.Nat.{add-mod_right}
 use Rattle.bm_base.specs.declared.event.Entry.{Entry}
 use Rattle.bm_report.specs.Expanded.{of_part}
-use Rattle.bm_base.specs.Events.{is_named}
+use Rattle.bm_base.specs.Machine.Events.{is_named}
 use Rattle.bm_arena.specs.Contents.{Contents}
 use Rattle.bm_report.specs.Midway.{told_of}
 use Rattle.bm_report.specs.Ready.{HasReplica}

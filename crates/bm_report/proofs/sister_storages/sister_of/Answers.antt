@@ -3,7 +3,7 @@ use Rattle.std.specs.Prelude.{slice_get}
 use Rattle.std.specs.Prelude.{IsSome}
 use Rattle.std.proofs.lemmas.Bool.{cases_eq}
 use Rattle.std.proofs.lemmas.Option.{same_Some, slice_get_read}
-use Rattle.bm_base.specs.Replicas.{are_sisters}
+use Rattle.bm_base.specs.Machine.Replicas.{are_sisters}
 use Rattle.bm_arena.specs.declared.types.Triplet.{Triplet}
 use Rattle.bm_arena.specs.Contents.{block_at, marks_at}
 use Rattle.bm_report.proofs.Listing.{found-in, none-in}

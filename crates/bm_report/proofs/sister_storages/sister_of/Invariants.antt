@@ -1,6 +1,6 @@
 use Rattle.std.proofs.Common.{◌≡◌, ℕ, ◌<◌, false, Some}
 use Rattle.std.specs.Prelude.{slice_get}
-use Rattle.bm_base.specs.Replicas.{are_sisters}
+use Rattle.bm_base.specs.Machine.Replicas.{are_sisters}
 use Rattle.bm_arena.specs.declared.types.Triplet.{Triplet}
 use Rattle.bm_report.proofs.sister_storages.sister_of.Given as goal
 

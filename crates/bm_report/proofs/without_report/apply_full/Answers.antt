@@ -1,7 +1,7 @@
 use Rattle.std.proofs.Common.{List, false, refl, subst, sym, ap, ◌∙◌, arith}
 use Rattle.std.proofs.lemmas.List.{length-map}
 use Rattle.bm_base.specs.declared.limits.TheConstants.{MAX_NUMBERS}
-use Rattle.bm_base.specs.Events.{report}
+use Rattle.bm_base.specs.Machine.Events.{report}
 use Rattle.bm_report.specs.declared.types.Named.{Named}
 use Rattle.bm_report.specs.declared.tally.Tally.{Tally}
 use Rattle.bm_arena.specs.Holding.{holdings_of}

@@ -1,7 +1,7 @@
 use Rattle.std.proofs.Common.{List, sym, subst}
 use Rattle.std.specs.Prelude.{IsTrue}
-use Rattle.bm_base.specs.Entries.{Told}
-use Rattle.bm_base.specs.Events.{is_named}
+use Rattle.bm_base.specs.Machine.Entries.{Told}
+use Rattle.bm_base.specs.Machine.Events.{is_named}
 use Rattle.bm_report.proofs.Places.{places_of}
 use Rattle.bm_report.proofs.without_report.ready.Goals as goal
 

@@ -1,5 +1,5 @@
 use Rattle.std.proofs.Common.{◌∙◌}
-use Rattle.bm_base.specs.Map.{keys}
+use Rattle.bm_base.specs.Maps.Map.{keys}
 use Rattle.bm_round.proofs.Firsts.{first_of_none}
 use Rattle.bm_round.proofs.choosing.first_by_node.Goals as goal
 

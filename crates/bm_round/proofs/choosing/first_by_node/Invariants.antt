@@ -1,5 +1,5 @@
 use Rattle.std.proofs.Common.{◌≡◌, map, take}
-use Rattle.bm_base.specs.Map.{keys}
+use Rattle.bm_base.specs.Maps.Map.{keys}
 use Rattle.bm_round.specs.Commanded.{first_commands}
 use Rattle.bm_round.specs.Places.{IsLookedUp}
 use Rattle.bm_round.proofs.choosing.first_by_node.Given as goal

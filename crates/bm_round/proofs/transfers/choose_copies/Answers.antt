@@ -1,5 +1,5 @@
 use Rattle.std.proofs.Common.{◌-◌, replicate, ◌+◌, ◌++◌, ap, sym, ◌∙◌}
-use Rattle.bm_base.specs.State.{limits_of}
+use Rattle.bm_base.specs.Machine.State.{limits_of}
 use Rattle.bm_base.specs.Choices.{transfers_over, holders_by, barred_by}
 use Rattle.bm_round.proofs.Copying.{none_left, one_less, joined_more}
 use Rattle.bm_round.proofs.transfers.choose_copies.Goals as goal

@@ -1,5 +1,5 @@
 use Rattle.std.proofs.Common.{◌≡◌, ◌-◌, replicate}
-use Rattle.bm_base.specs.State.{limits_of}
+use Rattle.bm_base.specs.Machine.State.{limits_of}
 use Rattle.bm_base.specs.Choices.{transfers_over, sources_by, holders_by, barred_by}
 use Rattle.bm_round.specs.Counted.{IsCounted}
 use Rattle.bm_round.proofs.transfers.choose_copies.Given as goal

@@ -1,7 +1,7 @@
 use Rattle.std.proofs.Common.{◌≡◌, ◌-◌, List, [], ◌++◌, ℕ, take, drop, refl, ◌∙◌, append-nil, arith, length-append}
 use Rattle.std.proofs.lemmas.List.{length-take-le}
 use Rattle.std.proofs.lemmas.Result.{err_from_is_err_and, IfOk-weaker, IfErr-weaker}
-use Rattle.bm_base.specs.State.{State, first_state}
+use Rattle.bm_base.specs.Machine.State.{State, first_state}
 use Rattle.bm_session.specs.declared.limits.TheConstants.{MAX_BYTES}
 use Rattle.bm_session.proofs.LineLemmas.{whole_lines-split}
 use Rattle.bm_session.proofs.ProgressLemmas.{few_lines}

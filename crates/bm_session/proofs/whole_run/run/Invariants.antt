@@ -1,6 +1,6 @@
 use Rattle.std.proofs.Common.{◌≡◌, ◌-◌, ◌≤◌, ℕ, true, List, length}
 use Rattle.std.specs.Io.KnownBytes.{Consumes}
-use Rattle.bm_base.specs.State.{first_state}
+use Rattle.bm_base.specs.Machine.State.{first_state}
 use Rattle.bm_session.specs.declared.limits.TheConstants.{MAX_BYTES, PIECE}
 use Rattle.bm_session.specs.Progress.{Progress}
 use Rattle.bm_session.proofs.whole_run.run.Given as goal

@@ -1,6 +1,6 @@
 use Rattle.std.proofs.Common.{is_some, sym, ap, ◌∙◌}
 use Rattle.std.specs.Prelude.{option_and_then}
-use Rattle.bm_base.specs.State.{replica_at}
+use Rattle.bm_base.specs.Machine.State.{replica_at}
 use Rattle.bm_arena.specs.Contents.{marks_at}
 use Rattle.bm_arena.proofs.Held.{get-replicas_of}
 use Rattle.bm_shard.proofs.arriving.has_replica.Goals as goal

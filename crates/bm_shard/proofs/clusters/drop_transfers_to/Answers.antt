@@ -1,5 +1,5 @@
 use Rattle.std.proofs.Common.{◌≡◌, ◌+◌, ◌≤◌, arith, sym, subst, ◌∙◌}
-use Rattle.bm_base.specs.Map.{len}
+use Rattle.bm_base.specs.Maps.Map.{len}
 use Rattle.bm_pending.specs.OnTheWay.{OnTheWay}
 use Rattle.bm_shard.proofs.Transfers.{AreGone, gone_at_first, gone_one, gone_other, gone_past, all_gone}
 use Rattle.bm_shard.proofs.clusters.drop_transfers_to.Goals.{in-Some+then-has_storage, in-Some+else-has_storage, in_default}

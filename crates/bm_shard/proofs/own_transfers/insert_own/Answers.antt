@@ -1,7 +1,7 @@
 use Rattle.std.proofs.Common.{◌≡◌, ◌≤◌, ◌+◌, ◌%◌, [], ◌∷◌, length, drop, drop_of_length-le, arith, refl, sym, ap, subst, ◌∙◌}
 use Rattle.std.proofs.lemmas.Grind.{common_steps}
 use Rattle.std.proofs.lemmas.Bool.{eq-eqb, ne_eqb}
-use Rattle.bm_base.specs.Map.{insert_all}
+use Rattle.bm_base.specs.Maps.Map.{insert_all}
 use Rattle.bm_pending.specs.OnTheWay.{OnTheWay}
 use Rattle.bm_shard.proofs.OwnTransfers.{AreAhead, to_put, own, has_room, put_one, skip_one}
 use Rattle.bm_shard.proofs.own_transfers.insert_own.Goals.{then-shard_of-part, else-shard_of-part}

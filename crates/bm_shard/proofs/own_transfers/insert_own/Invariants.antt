@@ -1,5 +1,5 @@
 use Rattle.std.proofs.Common.{drop}
-use Rattle.bm_base.specs.Map.{insert_all}
+use Rattle.bm_base.specs.Maps.Map.{insert_all}
 use Rattle.bm_shard.proofs.OwnTransfers.{AreAhead, to_put, own}
 use Rattle.bm_shard.proofs.own_transfers.insert_own.Given as goal
 

@@ -4,7 +4,7 @@ use Rattle.std.specs.Prelude.{string_bytes}
 use Rattle.clap.specs.Walk.{Text}
 use Rattle.clap.specs.Simple.{App, app_of}
 use Rattle.clap.specs.Faults.{fault_of, is_simple_and_free}
-use Rattle.bm_base.specs.Configuration.{config_refusal, is_allowed, is_up_to}
+use Rattle.bm_base.specs.Machine.Configuration.{config_refusal, is_allowed, is_up_to}
 use Rattle.bm_base.specs.declared.config.Config.{Config}
 use Rattle.bm_tool.specs.Options.{configured_by, tool}
 use Rattle.bm_tool.proofs.OptionNumbers.{IsGiven, option_number, shards_place, workers_place, work_place, invalidate_place, pend_place}

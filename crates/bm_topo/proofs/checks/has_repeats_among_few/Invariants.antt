@@ -1,5 +1,5 @@
 use Rattle.std.proofs.Common.{◌≡◌, length}
-use Rattle.bm_base.specs.Lists.{has_repeats}
+use Rattle.bm_base.specs.Maps.Lists.{has_repeats}
 use Rattle.bm_topo.proofs.checks.has_repeats_among_few.Given as goal
 
 abbrev pub invariant-loop-first : goal.invariant-loop-first

@@ -1,6 +1,6 @@
 use Rattle.std.proofs.Common.{◌≡◌, ◌≤◌, ◌+◌, ◌-◌, drop}
 use Rattle.std.specs.Prelude.{sum_by}
-use Rattle.bm_base.specs.Entries.{run_length}
+use Rattle.bm_base.specs.Machine.Entries.{run_length}
 use Rattle.bm_base.specs.declared.limits.TheConstants.{MAX_NUMBERS}
 use Rattle.bm_topo.proofs.checks.is_too_long.Given as goal
 

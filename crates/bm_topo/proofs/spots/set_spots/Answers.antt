@@ -1,6 +1,6 @@
 use Rattle.std.proofs.Common.{ap, sym, ◌∙◌, arith}
 use Rattle.std.proofs.Math.ListN.{length-set}
-use Rattle.bm_base.specs.Map.{get, contains_key}
+use Rattle.bm_base.specs.Maps.Map.{get, contains_key}
 use Rattle.bm_topo.specs.Sound.{cluster_of}
 use Rattle.bm_topo.proofs.SpotTable.{spot_is, set_next, entry_there, same_count}
 use Rattle.bm_topo.proofs.spots.set_spots.Goals as goal

@@ -1,6 +1,6 @@
 use Rattle.std.proofs.Common.{◌≡◌, ◌≤◌, drop, length}
-use Rattle.bm_base.specs.Map.{insert_all}
-use Rattle.bm_base.specs.Table.{capacity}
+use Rattle.bm_base.specs.Maps.Map.{insert_all}
+use Rattle.bm_maps.specs.Table.{capacity}
 use Rattle.bm_topo.specs.Named.{named}
 use Rattle.bm_topo.specs.Keys.{HasSmallKeys}
 use Rattle.bm_topo.proofs.tables.add_storages.Given as goal

@@ -1,7 +1,7 @@
 use Rattle.std.proofs.Common.{rules, not}
 use Rattle.std.specs.Prelude.{◌==◌}
 use Rattle.std.proofs.lemmas.Fn.{filter_same}
-use Rattle.bm_base.specs.Map.{by_number}
+use Rattle.bm_base.specs.Maps.Map.{by_number}
 use Rattle.bm_base.proofs.MapLaws.{keep-filter}
 use Rattle.bm_topo.proofs.tables.drop_storages.Goals as goal
 

@@ -1,7 +1,7 @@
 use Rattle.std.proofs.Common.{refl, ap, sym, ◌∙◌}
-use Rattle.bm_base.specs.Map.{get}
+use Rattle.bm_base.specs.Maps.Map.{get}
 use Rattle.bm_base.specs.declared.storage.StorageInfo.{StorageInfo}
-use Rattle.bm_base.proofs.Replacing.{no_change, set_there}
+use Rattle.bm_maps.proofs.Replacing.{no_change, set_there}
 use Rattle.bm_topo.proofs.tables.set_one.Goals as goal
 
 pub returns-in-Some-clause-after : goal.returns-in-Some-clause-after

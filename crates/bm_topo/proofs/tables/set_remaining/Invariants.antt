@@ -1,6 +1,6 @@
 use Rattle.std.proofs.Common.{◌≡◌, drop}
-use Rattle.bm_base.specs.Events.{set_remaining}
-use Rattle.bm_base.specs.Table.{capacity}
+use Rattle.bm_base.specs.Machine.Events.{set_remaining}
+use Rattle.bm_maps.specs.Table.{capacity}
 use Rattle.bm_topo.proofs.tables.set_remaining.Given as goal
 
 -- the rest takes the table to what all of it makes of the first one

@@ -1,6 +1,6 @@
 use Rattle.std.proofs.Common.{length}
 use Rattle.std.specs.Option.{IfSome}
-use Rattle.bm_base.specs.SlotLists.{Among}
+use Rattle.bm_maps.specs.SlotLists.{Among}
 use Rattle.bm_queues.specs.Walks.{slots_from}
 use Rattle.check_memory.proofs.slots.remove_all.Given as goal
 

@@ -1,6 +1,6 @@
 use Rattle.std.proofs.Common.{length}
 use Rattle.std.specs.Option.{IfSome}
-use Rattle.bm_base.specs.SlotLists.{Among}
+use Rattle.bm_maps.specs.SlotLists.{Among}
 use Rattle.bm_base.specs.declared.level.Level.TheVariants.{Highest}
 use Rattle.bm_queues.specs.Levels.{slots_of}
 use Rattle.bm_queues.specs.Walks.{slots_from}

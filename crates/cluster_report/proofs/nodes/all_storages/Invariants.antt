@@ -1,5 +1,5 @@
 use Rattle.std.proofs.Common.{◌≡◌, take}
-use Rattle.bm_base.specs.Map.{keys}
+use Rattle.bm_base.specs.Maps.Map.{keys}
 use Rattle.cluster_report.proofs.nodes.all_storages.Given as goal
 
 abbrev pub invariant-loop-place : goal.invariant-loop-place

@@ -1,4 +1,4 @@
-use Rattle.bm_base.proofs.AfterRound.{same_tag}
+use Rattle.laws_of_states.proofs.AfterRound.{same_tag}
 use Rattle.laws_of_rounds.proofs.commands.round_changes_no_tag.Goals as goal
 
 pub returns : goal.returns

@@ -1,8 +1,8 @@
-use Rattle.bm_base.specs.State.{first_state, replica_at}
-use Rattle.bm_base.specs.Calls.{state_after}
-use Rattle.bm_base.proofs.Orderly.{calls_orderly}
+use Rattle.bm_base.specs.Machine.State.{first_state, replica_at}
+use Rattle.bm_base.specs.Machine.Calls.{state_after}
+use Rattle.laws_of_states.proofs.Orderly.{calls_orderly}
 use Rattle.laws_of_rounds.proofs.Ordered.{done_reached, good_stays}
-use Rattle.bm_base.proofs.Tested.{tested}
+use Rattle.laws_of_states.proofs.Tested.{tested}
 use Rattle.laws_of_rounds.proofs.deletes.good_replica_is_left_by_all_rounds.Goals as goal
 
 pub returns : goal.returns

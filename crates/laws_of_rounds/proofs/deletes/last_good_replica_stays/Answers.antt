@@ -1,9 +1,9 @@
-use Rattle.bm_base.specs.Lawful.{IsOrderly}
-use Rattle.bm_base.specs.State.{State, replica_at}
-use Rattle.bm_base.proofs.Kept.{one_stays}
-use Rattle.bm_base.proofs.Orderly.{calls_orderly}
-use Rattle.bm_base.proofs.Rounding.{orderly}
-use Rattle.bm_base.proofs.Tested.{tested}
+use Rattle.bm_base.specs.Promises.Lawful.{IsOrderly}
+use Rattle.bm_base.specs.Machine.State.{State, replica_at}
+use Rattle.laws_of_states.proofs.Kept.{one_stays}
+use Rattle.laws_of_states.proofs.Orderly.{calls_orderly}
+use Rattle.laws_of_states.proofs.Rounding.{orderly}
+use Rattle.laws_of_states.proofs.Tested.{tested}
 use Rattle.laws_of_rounds.specs.Deletes.{LastGoodReplicaStays}
 use Rattle.laws_of_rounds.proofs.deletes.last_good_replica_stays.Goals as goal
 

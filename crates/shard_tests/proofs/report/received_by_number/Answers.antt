@@ -3,8 +3,8 @@ use Rattle.std.specs.Prelude.{IsTrue}
 use Rattle.std.proofs.Math.Nat.{mod-one}
 use Rattle.bm_base.specs.declared.ids.Part.{Part}
 use Rattle.bm_base.specs.declared.event.Entry.{Entry}
-use Rattle.bm_base.specs.Entries.{Told}
-use Rattle.bm_base.specs.Events.{is_named}
+use Rattle.bm_base.specs.Machine.Entries.{Told}
+use Rattle.bm_base.specs.Machine.Events.{is_named}
 use Rattle.bm_report.specs.Expanded.{told_to}
 use Rattle.bm_report.specs.Ready.{HasPlaces}
 use Rattle.bm_report.proofs.Simple.{ok_then, simple_once}

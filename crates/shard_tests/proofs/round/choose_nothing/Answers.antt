@@ -1,5 +1,5 @@
 use Rattle.std.proofs.Common.{map, ap, ◌∙◌}
-use Rattle.bm_base.specs.Lists.{has_repeats}
+use Rattle.bm_base.specs.Maps.Lists.{has_repeats}
 use Rattle.bm_base.specs.Choices.{merged_wishes}
 use Rattle.shard_tests.proofs.Tested.{no_part_once}
 use Rattle.shard_tests.proofs.round.choose_nothing.Goals as goal

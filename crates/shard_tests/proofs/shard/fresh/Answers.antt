@@ -1,6 +1,6 @@
 use Rattle.std.proofs.Common.{subst}
 use Rattle.std.specs.Prelude.{IfOk}
-use Rattle.bm_base.specs.State.{Cluster}
+use Rattle.bm_base.specs.Machine.State.{Cluster}
 use Rattle.bm_shard.specs.Standing.{StandsIn}
 use Rattle.shard_tests.proofs.shard.fresh.Goals as goal
 

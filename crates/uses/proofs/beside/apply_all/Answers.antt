@@ -1,7 +1,7 @@
 use Rattle.std.proofs.Common.{◌≡◌, ◌∙◌, ◌+◌, ap, sym, arith, fold, take}
 use Rattle.std.proofs.lemmas.Result.{err_from_is_err_and}
-use Rattle.bm_base.specs.State.{State}
-use Rattle.bm_base.specs.Calls.{after_event}
+use Rattle.bm_base.specs.Machine.State.{State}
+use Rattle.bm_base.specs.Machine.Calls.{after_event}
 use Rattle.uses.proofs.Stops.{one_more, stops_at, stops_behind, calls_of-after_event}
 use Rattle.uses.proofs.beside.apply_all.Goals as goal
 

@@ -1,5 +1,5 @@
 use Rattle.std.proofs.Common.{◌≡◌, ◌≤◌, fold, take}
-use Rattle.bm_base.specs.Calls.{after_event}
+use Rattle.bm_base.specs.Machine.Calls.{after_event}
 use Rattle.bm_view.specs.History.{last_of}
 use Rattle.uses.proofs.beside.apply_all.Given as goal
 

@@ -1,6 +1,6 @@
 use Rattle.std.proofs.Common.{◌≡◌, ◌∙◌, ap, arith}
-use Rattle.bm_base.specs.State.{State}
-use Rattle.bm_base.specs.Versions.{Version}
+use Rattle.bm_base.specs.Machine.State.{State}
+use Rattle.bm_base.specs.Promises.Versions.{Version}
 use Rattle.bm_view.specs.History.{last_of}
 use Rattle.bm_view.specs.Holders.{Listed}
 use Rattle.uses.proofs.Told.{calls_of-version}

@@ -1,5 +1,5 @@
 use Rattle.std.proofs.Common.{◌≤◌, ◌∙◌, All, ap, subst}
-use Rattle.bm_base.specs.Versions.{Version}
+use Rattle.bm_base.specs.Promises.Versions.{Version}
 use Rattle.bm_view.specs.History.{last_of}
 use Rattle.bm_view.specs.Holders.{Listed}
 use Rattle.bm_view.specs.declared.locator.Located.{Located}

@@ -1,5 +1,5 @@
 use Rattle.std.proofs.Common.{◌≡◌, fold, take}
-use Rattle.bm_base.specs.Calls.{after_event}
+use Rattle.bm_base.specs.Machine.Calls.{after_event}
 use Rattle.uses.proofs.name_node.turn.Given as goal
 
 -- the events so far are applied

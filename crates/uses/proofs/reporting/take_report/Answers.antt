@@ -1,5 +1,5 @@
 use Rattle.std.proofs.Common.{◌∙◌, ap}
-use Rattle.bm_base.specs.Events.{report}
+use Rattle.bm_base.specs.Machine.Events.{report}
 use Rattle.bm_arena.specs.Holding.{holdings_of}
 use Rattle.bm_report.specs.Ready.{told}
 use Rattle.uses.proofs.Holdings.{same_holdings}

@@ -1,6 +1,6 @@
 use Rattle.std.proofs.Common.{◌↔◌, ℕ, List, arith, sym, subst, take, take_all, slice_index_or}
 use Rattle.std.proofs.lemmas.List.{take_more}
-use Rattle.bm_base.specs.SlotLists.{Among}
+use Rattle.bm_maps.specs.SlotLists.{Among}
 use Rattle.uses.proofs.Members.{one_more}
 use Rattle.uses.proofs.slots.note_slots.Goals as goal
 

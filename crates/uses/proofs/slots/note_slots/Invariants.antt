@@ -1,5 +1,5 @@
 use Rattle.std.proofs.Common.{◌≤◌, ◌↔◌, ℕ, take}
-use Rattle.bm_base.specs.SlotLists.{Among}
+use Rattle.bm_maps.specs.SlotLists.{Among}
 use Rattle.uses.proofs.slots.note_slots.Given as goal
 
 -- the slots so far are the members

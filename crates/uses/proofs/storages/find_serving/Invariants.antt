@@ -1,6 +1,6 @@
 use Rattle.std.proofs.Common.{◌≡◌, ◌&&◌, not, filter, take}
-use Rattle.bm_base.specs.Refusals.{knows_storage}
-use Rattle.bm_base.specs.Replicas.{is_draining}
+use Rattle.bm_base.specs.Machine.Refusals.{knows_storage}
+use Rattle.bm_base.specs.Machine.Replicas.{is_draining}
 use Rattle.uses.proofs.storages.find_serving.Given as goal
 
 -- the list has those of the storages so far that serve

@@ -1,5 +1,5 @@
 use Rattle.std.proofs.Common.{refl}
-use Rattle.bm_base.specs.Levels.{level_of}
+use Rattle.bm_base.specs.Machine.Levels.{level_of}
 use Rattle.worked_examples.proofs.levels.first_replica_makes_a_block_the_first_to_copy.Goals as goal
 
 pub returns : goal.returns

@@ -6,7 +6,7 @@ use Rattle.std.specs.List.Sorted.{IsPermutation}
 use Rattle.bm_base.specs.declared.round.Wish.{Wish}
 use Rattle.bm_base.specs.declared.replica.BlockInfo.{BlockInfo}
 use Rattle.bm_base.specs.declared.replica.Marks.{Marks}
-use Rattle.bm_base.specs.Replicas.{is_draining}
+use Rattle.bm_base.specs.Machine.Replicas.{is_draining}
 use Rattle.bm_arena.specs.Triplets.{Block, seen_triplet}
 use Rattle.bm_arena.specs.Contents.{block_at}
 use Rattle.bm_levels.specs.Judged.{storages_at}

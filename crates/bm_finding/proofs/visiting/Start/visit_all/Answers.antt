@@ -1,5 +1,5 @@
 use Rattle.std.proofs.Common.{◌<◌, ℕ, zero, suc, List, [], ◌∷◌, map, length, get_or, inl, inr, refl, arith}
-use Rattle.bm_base.specs.SlotLists.{Among}
+use Rattle.bm_maps.specs.SlotLists.{Among}
 use Rattle.bm_finding.proofs.visiting.Start.visit_all.Goals as goal
 
 -- the slot at an index is one of the slots

@@ -1,5 +1,5 @@
 use Rattle.std.proofs.Common.{◌∙◌, ap}
-use Rattle.bm_base.specs.Queries.{blocks_on}
+use Rattle.bm_base.specs.Machine.Queries.{blocks_on}
 use Rattle.bm_fleet.specs.Whole.{Whole, held_by}
 use Rattle.bm_fleet.proofs.fleet.Fleet.blocks_on.Goals as goal
 

@@ -1,6 +1,6 @@
 use Rattle.std.specs.Prelude.{false, None, OnOk, IfOk, IfErr, ◌≡◌}
 use Rattle.std.proofs.Common.{subst, sym}
-use Rattle.bm_base.specs.Answering.{Refuses}
+use Rattle.bm_base.specs.Machine.Answering.{Refuses}
 use Rattle.bm_fleet.proofs.Asked.{own_refusal, own_level, stands_inside}
 use Rattle.bm_fleet.specs.Whole.{EachStandsIn}
 use Rattle.bm_fleet.proofs.fleet.Fleet.level.Goals as goal

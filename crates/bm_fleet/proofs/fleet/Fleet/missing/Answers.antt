@@ -1,5 +1,5 @@
 use Rattle.std.proofs.Common.{◌∙◌, ap, subst, sym}
-use Rattle.bm_base.specs.Queries.{missing_blocks}
+use Rattle.bm_base.specs.Machine.Queries.{missing_blocks}
 use Rattle.bm_fleet.specs.Whole.{Whole, held_by, EachStandsIn}
 use Rattle.bm_fleet.proofs.Asked.{stands_inside}
 use Rattle.bm_fleet.proofs.fleet.Fleet.missing.Goals as goal

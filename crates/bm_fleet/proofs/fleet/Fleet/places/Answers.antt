@@ -1,6 +1,6 @@
 use Rattle.std.specs.Prelude.{true, None, OnOk, IfOk, IfErr, ◌≡◌}
 use Rattle.std.proofs.Common.{subst}
-use Rattle.bm_base.specs.Answering.{Refuses}
+use Rattle.bm_base.specs.Machine.Answering.{Refuses}
 use Rattle.bm_fleet.proofs.Asked.{own_refusal, own_places}
 use Rattle.bm_fleet.proofs.fleet.Fleet.places.Goals as goal
 

@@ -1,5 +1,5 @@
 use Rattle.std.proofs.Common.{◌∙◌, ap}
-use Rattle.bm_base.specs.Queries.{all_replicas}
+use Rattle.bm_base.specs.Machine.Queries.{all_replicas}
 use Rattle.bm_listing.proofs.Found.{all_passing}
 use Rattle.bm_fleet.specs.Whole.{Whole, held_by}
 use Rattle.bm_fleet.proofs.fleet.Fleet.replicas.Goals as goal

@@ -2,8 +2,8 @@ use Rattle.std.proofs.Common.{◌≡◌, ◌⊎◌, ℕ, Bool, true, false, List
 use Rattle.std.specs.Prelude.{nat_lt, IsTrue, ◌↔◌}
 use Rattle.std.proofs.lemmas.Bool.{cases_Bool}
 use Rattle.std.proofs.lemmas.Bool.Decides.{nat_tests}
-use Rattle.bm_base.specs.Lists.{has}
-use Rattle.bm_base.specs.SlotLists.{Among}
+use Rattle.bm_base.specs.Maps.Lists.{has}
+use Rattle.bm_maps.specs.SlotLists.{Among}
 use Rattle.bm_levels.proofs.Alike.{has_among, among_has}
 use Rattle.bm_levels.proofs.kept.KeptLevels.is_unsettled.Goals as goal
 

@@ -2,8 +2,8 @@ use Rattle.std.proofs.Common.{◌≡◌, ◌++◌, ◌+◌, ℕ, List, [], ◌�
 use Rattle.std.specs.Prelude.{◌==◌}
 use Rattle.std.proofs.lemmas.Bool.{eqb-true}
 use Rattle.std.proofs.lemmas.List.{take-append-drop}
-use Rattle.bm_base.specs.Replicas.{rack_of}
-use Rattle.bm_base.specs.SlotLists.{Among}
+use Rattle.bm_base.specs.Machine.Replicas.{rack_of}
+use Rattle.bm_maps.specs.SlotLists.{Among}
 use Rattle.bm_arena.proofs.Replicas.{Among-left}
 use Rattle.bm_levels.specs.Judged.{drains_then}
 use Rattle.bm_levels.proofs.Keeping.{IsUnderway, underway_none, underway_chunk, underway_judged, underway_others, among_back}

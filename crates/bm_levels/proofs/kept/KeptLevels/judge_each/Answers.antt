@@ -1,5 +1,5 @@
 use Rattle.std.proofs.Common.{◌+◌, ℕ, List, drop, subst, sym, arith}
-use Rattle.bm_base.specs.Replicas.{rack_of}
+use Rattle.bm_base.specs.Machine.Replicas.{rack_of}
 use Rattle.bm_levels.specs.Judged.{drains_then}
 use Rattle.bm_levels.specs.Kept.{Kept, HasRoomFor, slots_led}
 use Rattle.bm_levels.proofs.Keeping.{IsUnderway, underway_none, underway_more, underway_judged, underway_others, among_next}

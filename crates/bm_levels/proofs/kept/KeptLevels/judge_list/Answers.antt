@@ -1,7 +1,7 @@
 use Rattle.std.proofs.Common.{◌≡◌, ◌+◌, ℕ, List, ◌∷◌, inl, inr, refl, subst, sym, ◌∙◌, arith}
-use Rattle.bm_base.specs.Replicas.{rack_of}
-use Rattle.bm_base.specs.SlotLists.{Among}
-use Rattle.bm_base.proofs.SlotLists.{dec_among}
+use Rattle.bm_base.specs.Machine.Replicas.{rack_of}
+use Rattle.bm_maps.specs.SlotLists.{Among}
+use Rattle.bm_maps.proofs.SlotLists.{dec_among}
 use Rattle.bm_arena.specs.Contents.{list_of}
 use Rattle.bm_levels.specs.Judged.{drains_then}
 use Rattle.bm_levels.proofs.Keeping.{IsUnderway, underway_none, underway_more, underway_judged, underway_others}

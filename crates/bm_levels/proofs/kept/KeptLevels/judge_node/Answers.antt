@@ -1,6 +1,6 @@
 use Rattle.std.proofs.Common.{◌≤◌, ◌+◌, inl, inr, arith}
-use Rattle.bm_base.specs.Map.{len}
-use Rattle.bm_base.specs.SlotLists.{Among}
+use Rattle.bm_base.specs.Maps.Map.{len}
+use Rattle.bm_maps.specs.SlotLists.{Among}
 use Rattle.bm_arena.specs.Contents.{list_of}
 use Rattle.bm_levels.proofs.Places.{gone_all}
 use Rattle.bm_levels.proofs.kept.KeptLevels.judge_node.Goals as goal

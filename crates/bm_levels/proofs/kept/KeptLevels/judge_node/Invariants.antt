@@ -1,5 +1,5 @@
 use Rattle.std.proofs.Common.{ℕ, ◌⊎◌}
-use Rattle.bm_base.specs.SlotLists.{Among}
+use Rattle.bm_maps.specs.SlotLists.{Among}
 use Rattle.bm_arena.specs.Contents.{list_of, block_at}
 use Rattle.bm_levels.specs.Kept.{HasRoomFor, IsSameAt}
 use Rattle.bm_levels.specs.Around.{IsJudgedAround}

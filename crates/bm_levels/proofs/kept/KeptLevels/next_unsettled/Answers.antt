@@ -1,5 +1,5 @@
 use Rattle.std.proofs.Common.{subst, sym}
-use Rattle.bm_base.specs.SlotLists.{Among}
+use Rattle.bm_maps.specs.SlotLists.{Among}
 use Rattle.bm_levels.specs.Kept.{Kept}
 use Rattle.bm_levels.proofs.kept.KeptLevels.next_unsettled.Goals as goal
 

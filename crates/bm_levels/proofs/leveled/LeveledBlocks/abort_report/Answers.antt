@@ -1,6 +1,6 @@
 use Rattle.std.proofs.Common.{subst}
-use Rattle.bm_base.specs.State.{Cluster}
-use Rattle.bm_base.specs.Events.{is_named}
+use Rattle.bm_base.specs.Machine.State.{Cluster}
+use Rattle.bm_base.specs.Machine.Events.{is_named}
 use Rattle.bm_report.specs.Ready.{told}
 use Rattle.bm_report.proofs.Prepared.{prepared-none}
 use Rattle.bm_levels.specs.Leveled.{Leveled, AreLevels}

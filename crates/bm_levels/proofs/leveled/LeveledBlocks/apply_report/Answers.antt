@@ -1,8 +1,8 @@
 use Rattle.std.proofs.Common.{◌≡◌, ℕ, List, ◌⊎◌, inl, inr, refl, subst}
 use Rattle.std.specs.Prelude.{◌≢◌}
-use Rattle.bm_base.specs.SlotLists.{Among}
-use Rattle.bm_base.proofs.SlotLists.{dec_among}
-use Rattle.bm_base.specs.Replicas.{rack_of, is_draining, is_multi_rack}
+use Rattle.bm_maps.specs.SlotLists.{Among}
+use Rattle.bm_maps.proofs.SlotLists.{dec_among}
+use Rattle.bm_base.specs.Machine.Replicas.{rack_of, is_draining, is_multi_rack}
 use Rattle.bm_arena.specs.Contents.{block_at}
 use Rattle.bm_levels.specs.Kept.{IsJudged, IsSameAt}
 use Rattle.bm_levels.specs.Leveled.{Leveled, AreLevels}

@@ -1,5 +1,5 @@
 use Rattle.std.proofs.Common.{◌≡◌, ◌+◌, subst, sym, arith}
-use Rattle.bm_base.specs.Excess.{counted_again}
+use Rattle.bm_base.specs.Machine.Excess.{counted_again}
 use Rattle.bm_arena.specs.Holding.{replicas_at}
 use Rattle.bm_levels.specs.Kept.{IsUnsettled}
 use Rattle.bm_levels.specs.Changes.{changed, all_changed}

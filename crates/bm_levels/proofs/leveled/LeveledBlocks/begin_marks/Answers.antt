@@ -1,6 +1,6 @@
 use Rattle.std.proofs.Common.{◌≡◌, ◌+◌, ◌∙◌, ℕ, Option, subst, sym, ap}
 use Rattle.std.specs.Prelude.{◌∷◌, Some, length}
-use Rattle.bm_base.specs.SlotLists.{Distinct}
+use Rattle.bm_maps.specs.SlotLists.{Distinct}
 use Rattle.bm_queues.specs.Walks.{slots_from, IsOn, IsPast}
 use Rattle.bm_levels.specs.Kept.{Kept}
 use Rattle.bm_levels.specs.Leveled.{Leveled, AreLevels}

@@ -1,7 +1,7 @@
 use Rattle.std.proofs.Common.{◌≡◌, ◌∙◌, ℕ, Some, subst, sym, ap}
 use Rattle.std.specs.Prelude.{◌==◌, if◌then◌else◌, nat_eq}
 use Rattle.std.specs.Map.{lookup}
-use Rattle.bm_base.specs.Map.{revise}
+use Rattle.bm_base.specs.Maps.Map.{revise}
 use Rattle.bm_arena.specs.Contents.{slot_of, KeepsAllBut}
 use Rattle.bm_arena.specs.Holding.{blocks_of, replicas_of, with_known}
 use Rattle.bm_levels.specs.Changes.{changed}

@@ -1,5 +1,5 @@
 use Rattle.std.proofs.Common.{◌≡◌, ◌≤◌, [], arith}
-use Rattle.bm_base.specs.Map.{len}
+use Rattle.bm_base.specs.Maps.Map.{len}
 use Rattle.bm_arena.specs.Contents.{list_of, HasHead}
 use Rattle.bm_levels.proofs.Places.{gone_all}
 use Rattle.bm_levels.proofs.leveled.LeveledBlocks.clear_node.Goals as goal

@@ -1,5 +1,5 @@
 use Rattle.std.proofs.Common.{◌≡◌, ◌<◌, ◌+◌, ℕ, refl, List, ◌∷◌, Some, length, get_or, drop, drop-cons, add-one, arith, ap, subst, inl, inr, ◌∙◌}
-use Rattle.bm_base.specs.SlotLists.{Among}
+use Rattle.bm_maps.specs.SlotLists.{Among}
 use Rattle.bm_levels.specs.Bare.{IsBare}
 use Rattle.bm_levels.proofs.Bare.{bare_held, some_before}
 use Rattle.bm_levels.proofs.leveled.LeveledBlocks.drop_each.Goals as goal

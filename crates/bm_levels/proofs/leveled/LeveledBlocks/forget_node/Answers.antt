@@ -1,5 +1,5 @@
 use Rattle.std.proofs.Common.{◌≡◌, ℕ, Bool, subst}
-use Rattle.bm_base.specs.Replicas.{rack_of, is_draining, has_storage}
+use Rattle.bm_base.specs.Machine.Replicas.{rack_of, is_draining, has_storage}
 use Rattle.bm_arena.specs.Contents.{Contents, IsLawful}
 use Rattle.bm_levels.specs.Judged.{drains_then}
 use Rattle.bm_levels.specs.Leaving.{IsLeaving}

@@ -1,7 +1,7 @@
 use Rattle.std.proofs.Common.{◌≡◌, ℕ, [], true, subst, ap, ◌∙◌}
 use Rattle.std.specs.Prelude.{◌==◌}
 use Rattle.std.proofs.lemmas.Bool.{eqb-true}
-use Rattle.bm_base.specs.Replicas.{is_multi_rack}
+use Rattle.bm_base.specs.Machine.Replicas.{is_multi_rack}
 use Rattle.bm_topo.specs.Seen.{Seen}
 use Rattle.bm_arena.specs.Contents.{Contents, list_of, IsLawful}
 use Rattle.bm_levels.proofs.Leaving.{kept_others, count_is}

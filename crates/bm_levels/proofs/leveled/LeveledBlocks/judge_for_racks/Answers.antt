@@ -1,5 +1,5 @@
 use Rattle.std.proofs.Common.{Bool, subst, sym}
-use Rattle.bm_base.specs.Replicas.{rack_of, is_draining}
+use Rattle.bm_base.specs.Machine.Replicas.{rack_of, is_draining}
 use Rattle.bm_arena.specs.Contents.{Contents, IsLawful}
 use Rattle.bm_levels.specs.LevelsBy.{AreLevelsBy, IsSameForHeld}
 use Rattle.bm_levels.proofs.Standing.{levels_for_held}

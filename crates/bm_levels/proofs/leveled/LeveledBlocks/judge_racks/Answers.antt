@@ -1,5 +1,5 @@
 use Rattle.std.proofs.Common.{subst}
-use Rattle.bm_base.specs.Replicas.{rack_of, is_draining}
+use Rattle.bm_base.specs.Machine.Replicas.{rack_of, is_draining}
 use Rattle.bm_levels.specs.Leveled.{Leveled, AreLevels}
 use Rattle.bm_levels.specs.LevelsBy.{AreLevelsBy}
 use Rattle.bm_levels.proofs.Rejudged.{led_held, leveled_each, levels_each}

@@ -1,7 +1,7 @@
 use Rattle.std.proofs.Common.{◌∙◌, sym}
-use Rattle.bm_base.specs.State.{replica_at}
-use Rattle.bm_base.specs.Events.{as_bad}
-use Rattle.bm_base.proofs.Replacing.{no_change}
+use Rattle.bm_base.specs.Machine.State.{replica_at}
+use Rattle.bm_base.specs.Machine.Events.{as_bad}
+use Rattle.bm_maps.proofs.Replacing.{no_change}
 use Rattle.bm_arena.specs.Holding.{replicas_of}
 use Rattle.bm_report.proofs.Maps.{get-here}
 use Rattle.bm_levels.proofs.Revising.{put_changed, replica_absent}

@@ -1,6 +1,6 @@
 use Rattle.std.proofs.Common.{◌∙◌, sym, ap}
-use Rattle.bm_base.specs.Map.{insert}
-use Rattle.bm_base.proofs.Replacing.{no_change}
+use Rattle.bm_base.specs.Maps.Map.{insert}
+use Rattle.bm_maps.proofs.Replacing.{no_change}
 use Rattle.bm_arena.specs.Holding.{replicas_of}
 use Rattle.bm_report.proofs.Maps.{get-here}
 use Rattle.bm_levels.specs.Changes.{as_excess}

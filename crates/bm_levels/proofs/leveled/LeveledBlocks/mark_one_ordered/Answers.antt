@@ -1,8 +1,8 @@
 use Rattle.std.proofs.Common.{ap, ◌∙◌, sym}
-use Rattle.bm_base.specs.State.{replica_at}
+use Rattle.bm_base.specs.Machine.State.{replica_at}
 use Rattle.bm_report.proofs.Maps.{get-here}
 use Rattle.bm_levels.specs.Changes.{as_ordered}
-use Rattle.bm_base.proofs.Replacing.{no_change}
+use Rattle.bm_maps.proofs.Replacing.{no_change}
 use Rattle.bm_arena.specs.Contents.{marks_at}
 use Rattle.bm_arena.specs.Holding.{replicas_of}
 use Rattle.bm_levels.specs.Leveled.{Leveled}

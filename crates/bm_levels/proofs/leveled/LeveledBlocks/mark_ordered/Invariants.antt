@@ -1,5 +1,5 @@
 use Rattle.std.proofs.Common.{◌≡◌, drop}
-use Rattle.bm_base.specs.Map.{revise}
+use Rattle.bm_base.specs.Maps.Map.{revise}
 use Rattle.bm_arena.specs.Holding.{replicas_of, blocks_of}
 use Rattle.bm_levels.specs.Leveled.{AreLevels}
 use Rattle.bm_levels.proofs.Flagging.{with_deletes_ordered}

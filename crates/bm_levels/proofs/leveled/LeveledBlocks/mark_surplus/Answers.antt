@@ -3,7 +3,7 @@ use Rattle.std.specs.Prelude.{◌==◌, nat_eq}
 use Rattle.std.specs.Map.{lookup}
 use Rattle.std.proofs.lemmas.List.Sums.{prefix_len-le-length}
 use Rattle.bm_base.specs.declared.replica.ReplicaId.{ReplicaId}
-use Rattle.bm_base.specs.Map.{revise}
+use Rattle.bm_base.specs.Maps.Map.{revise}
 use Rattle.bm_arena.specs.Holding.{replicas_of}
 use Rattle.bm_arena.proofs.Staying.{entries-chain}
 use Rattle.bm_levels.specs.Changes.{has_block, AreOfBlock, AreInOrder}

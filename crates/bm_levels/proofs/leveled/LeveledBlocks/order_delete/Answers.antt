@@ -1,6 +1,6 @@
 use Rattle.std.proofs.Common.{◌≡◌, false, Some, refl, subst, sym, ap, ◌∙◌}
 use Rattle.bm_base.specs.declared.replica.Marks.{Marks}
-use Rattle.bm_base.specs.Replicas.{rack_of, is_draining, is_multi_rack}
+use Rattle.bm_base.specs.Machine.Replicas.{rack_of, is_draining, is_multi_rack}
 use Rattle.bm_arena.specs.Triplets.{change_block}
 use Rattle.bm_arena.specs.Contents.{slot_of, marks_at, with_marks}
 use Rattle.bm_levels.specs.Changes.{as_ordered}

@@ -1,5 +1,5 @@
 use Rattle.std.proofs.Common.{◌≢◌, ◌≡◌, ℕ, Some, not, subst, sym, ap, ◌∙◌}
-use Rattle.bm_base.specs.State.{Cluster}
+use Rattle.bm_base.specs.Machine.State.{Cluster}
 use Rattle.bm_arena.specs.Contents.{Contents, block_at, slot_of, empty_block, IsAdded}
 use Rattle.bm_arena.specs.Holding.{blocks_of, replicas_of}
 use Rattle.bm_base.proofs.Options.{not_there}

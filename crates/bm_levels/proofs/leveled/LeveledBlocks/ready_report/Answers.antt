@@ -1,6 +1,6 @@
 use Rattle.std.proofs.Common.{◌≡◌, ℕ, not, subst, sym, ap, ◌∙◌}
-use Rattle.bm_base.specs.State.{Cluster}
-use Rattle.bm_base.specs.Events.{is_named}
+use Rattle.bm_base.specs.Machine.State.{Cluster}
+use Rattle.bm_base.specs.Machine.Events.{is_named}
 use Rattle.bm_arena.specs.Contents.{Contents, HasHead}
 use Rattle.bm_report.specs.Expanded.{told_to}
 use Rattle.bm_report.specs.Ready.{told, HaveReplicas}

@@ -1,7 +1,7 @@
 use Rattle.std.proofs.Common.{◌≡◌, ◌++◌, ℕ, List, length, subst, sym}
 use Rattle.std.specs.Prelude.{◌==◌}
-use Rattle.bm_base.specs.SlotLists.{Among}
-use Rattle.bm_base.specs.Replicas.{rack_of}
+use Rattle.bm_maps.specs.SlotLists.{Among}
+use Rattle.bm_base.specs.Machine.Replicas.{rack_of}
 use Rattle.bm_arena.specs.Contents.{block_at, list_of, HasHead}
 use Rattle.bm_levels.specs.Judged.{drains_then}
 use Rattle.bm_levels.specs.Leaving.{IsLeaving}

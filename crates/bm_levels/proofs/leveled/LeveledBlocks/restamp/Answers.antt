@@ -1,7 +1,7 @@
 use Rattle.std.proofs.Common.{◌∙◌, sym, ap}
 use Rattle.std.specs.Prelude.{option_map}
-use Rattle.bm_base.specs.Events.{as_restamped}
-use Rattle.bm_base.proofs.Replacing.{no_change}
+use Rattle.bm_base.specs.Machine.Events.{as_restamped}
+use Rattle.bm_maps.proofs.Replacing.{no_change}
 use Rattle.bm_arena.specs.Holding.{blocks_of, with_known}
 use Rattle.bm_levels.specs.Changes.{with_stamp}
 use Rattle.bm_levels.proofs.Revising.{known_revised, known_at, block_absent, replicas_absent}

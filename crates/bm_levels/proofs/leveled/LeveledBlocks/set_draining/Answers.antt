@@ -1,7 +1,7 @@
 use Rattle.std.proofs.Common.{subst, inl, inr, Some}
 use Rattle.std.specs.Prelude.{if◌then◌else◌}
-use Rattle.bm_base.specs.Replicas.{rack_of}
-use Rattle.bm_base.specs.Events.{drain, undrain}
+use Rattle.bm_base.specs.Machine.Replicas.{rack_of}
+use Rattle.bm_base.specs.Machine.Events.{drain, undrain}
 use Rattle.bm_levels.specs.Judged.{drains_then}
 use Rattle.bm_levels.specs.Leveled.{Leveled, AreLevels}
 use Rattle.bm_levels.proofs.Leaving.{held_on}

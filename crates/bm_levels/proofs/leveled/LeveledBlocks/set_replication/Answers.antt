@@ -1,6 +1,6 @@
 use Rattle.std.proofs.Common.{◌∙◌, sym, ap}
 use Rattle.std.specs.Prelude.{option_map}
-use Rattle.bm_base.proofs.Replacing.{no_change}
+use Rattle.bm_maps.proofs.Replacing.{no_change}
 use Rattle.bm_arena.specs.Holding.{blocks_of, with_known}
 use Rattle.bm_levels.specs.Changes.{with_repl}
 use Rattle.bm_levels.proofs.Revising.{known_revised, known_at, block_absent}

@@ -1,6 +1,6 @@
 use Rattle.std.proofs.Common.{◌≡◌, ◌≤◌, length, [], ◌++◌, ap, sym, subst, ◌∙◌, append-nil, drop, drop_of_length-le, arith}
-use Rattle.bm_base.specs.Answering.{MayAnswerAll, state_left_by}
-use Rattle.bm_base.specs.Calls.{step}
+use Rattle.bm_base.specs.Machine.Answering.{MayAnswerAll, state_left_by}
+use Rattle.bm_base.specs.Machine.Calls.{step}
 use Rattle.bm_manager.proofs.manager.Manager.answer_all_by.Given.{Over}
 use Rattle.bm_manager.proofs.manager.Manager.answer_all_by.Goals as goal
 

@@ -1,7 +1,7 @@
 use Rattle.std.proofs.Common.{◌≡◌, ◌≤◌, List, ◌++◌, drop, length, vec_len, vec_capacity}
 use Rattle.bm_base.specs.declared.call.Answer.{Answer}
-use Rattle.bm_base.specs.Answering.{MayAnswerAll, state_left_by}
-use Rattle.bm_base.specs.Calls.{step}
+use Rattle.bm_base.specs.Machine.Answering.{MayAnswerAll, state_left_by}
+use Rattle.bm_base.specs.Machine.Calls.{step}
 use Rattle.bm_manager.proofs.manager.Manager.answer_all_by.Given as goal
 
 -- the answers so far, with any that the remaining calls may give, are answers that all the calls

@@ -1,5 +1,5 @@
 use Rattle.std.proofs.Common.{ap, sym, ◌∙◌}
-use Rattle.bm_base.specs.Refusals.{refusal_of}
+use Rattle.bm_base.specs.Machine.Refusals.{refusal_of}
 use Rattle.bm_manager.proofs.Checks.{nothing_refused}
 use Rattle.bm_manager.proofs.Lawfulness.{changed_manager}
 use Rattle.bm_manager.proofs.manager.Manager.apply_by.Goals as goal

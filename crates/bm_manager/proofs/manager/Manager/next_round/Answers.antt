@@ -1,7 +1,7 @@
 use Rattle.std.proofs.Common.{◌<◌, ap, sym, subst, ◌∙◌}
-use Rattle.bm_base.specs.Rounds.{whole_round}
-use Rattle.bm_base.specs.Calls.{counted}
-use Rattle.bm_base.specs.Refusals.{last_number}
+use Rattle.bm_base.specs.Machine.Rounds.{whole_round}
+use Rattle.bm_base.specs.Machine.Calls.{counted}
+use Rattle.bm_base.specs.Machine.Refusals.{last_number}
 use Rattle.bm_manager.specs.contracts.manager.Manager.{the_view}
 use Rattle.bm_manager.proofs.Rounding.{whole_commands, whole_state}
 use Rattle.bm_manager.proofs.Lawfulness.{next_manager}

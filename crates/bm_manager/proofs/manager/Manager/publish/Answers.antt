@@ -1,5 +1,5 @@
 use Rattle.std.proofs.Common.{◌≤◌, ap, sym, subst, ◌∙◌}
-use Rattle.bm_base.specs.Versions.{Version, version}
+use Rattle.bm_base.specs.Promises.Versions.{Version, version}
 use Rattle.bm_view.specs.History.{last_of}
 use Rattle.bm_manager.proofs.manager.Manager.publish.Goals as goal
 

@@ -1,5 +1,5 @@
 use Rattle.std.proofs.Common.{not}
-use Rattle.bm_base.specs.Lists.{has}
+use Rattle.bm_base.specs.Maps.Lists.{has}
 use Rattle.bm_pending.proofs.Changes.{map-kept, rising-kept, room-kept}
 use Rattle.bm_pending.proofs.pending.PendingTransfers.drop_storages.Goals as goal
 

@@ -1,5 +1,5 @@
 use Rattle.std.proofs.Common.{sym, ◌∙◌}
-use Rattle.bm_base.specs.State.{replica_at}
+use Rattle.bm_base.specs.Machine.State.{replica_at}
 use Rattle.bm_pending.proofs.Seeing.{get-map_of}
 use Rattle.bm_pending.proofs.pending.PendingTransfers.get.Goals as goal
 

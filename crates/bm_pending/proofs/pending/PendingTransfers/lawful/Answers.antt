@@ -1,8 +1,8 @@
 use Rattle.std.proofs.Common.{◌≡◌, true, ap, ◌∙◌, subst, nat_eq}
 use Rattle.std.specs.Prelude.{IsSome}
 use Rattle.std.specs.List.{IsDistinct}
-use Rattle.bm_base.specs.Map.{get}
-use Rattle.bm_base.specs.Lists.{has}
+use Rattle.bm_base.specs.Maps.Map.{get}
+use Rattle.bm_base.specs.Maps.Lists.{has}
 use Rattle.bm_pending.specs.OnTheWay.{OnTheWay, blocks_in}
 use Rattle.bm_pending.proofs.ByPlaces.{places-seen, place-had, keys-seen}
 use Rattle.bm_pending.proofs.pending.PendingTransfers.lawful.Goals as goal

@@ -1,5 +1,5 @@
 use Rattle.std.proofs.Common.{ℕ, List, not, filter, ap, sym, map, ◌∙◌}
-use Rattle.bm_base.specs.Excess.{is_expired}
+use Rattle.bm_base.specs.Machine.Excess.{is_expired}
 use Rattle.bm_pending.proofs.Leaving.{left-seen}
 use Rattle.bm_pending.proofs.pending.PendingTransfers.targets_left.Goals as goal
 

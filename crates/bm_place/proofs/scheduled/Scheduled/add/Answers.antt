@@ -1,7 +1,7 @@
 use Rattle.std.proofs.Common.{ap, sym, subst, ◌+◌, ◌≤◌, ◌∙◌}
 use Rattle.std.specs.Option.{IfSome}
-use Rattle.bm_base.specs.Map.{get, revise_at}
-use Rattle.bm_base.specs.Transfers.{scheduled_to}
+use Rattle.bm_base.specs.Maps.Map.{get, revise_at}
+use Rattle.bm_base.specs.Machine.Transfers.{scheduled_to}
 use Rattle.bm_place.specs.declared.scheduled.Target.{Target}
 use Rattle.bm_place.specs.Targets.{target_table}
 use Rattle.bm_place.specs.Seats.{AreSeated, AreByNode}

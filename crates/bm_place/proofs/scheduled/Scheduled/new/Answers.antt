@@ -1,6 +1,6 @@
 use Rattle.std.proofs.Common.{map, subst}
 use Rattle.std.specs.List.Sorted.{IsPermutation}
-use Rattle.bm_base.specs.Transfers.{scheduled_to}
+use Rattle.bm_base.specs.Machine.Transfers.{scheduled_to}
 use Rattle.bm_place.specs.Foremost.{AreFirstsInOrder}
 use Rattle.bm_place.specs.Seats.{seat_of}
 use Rattle.bm_place.proofs.Keeping.{kept_made}

@@ -1,8 +1,8 @@
 use Rattle.std.proofs.Common.{◌<◌, length, subst, sym, ap, ◌∙◌, arith}
 use Rattle.std.proofs.lemmas.Bool.{false≢true}
-use Rattle.bm_base.specs.SlotLists.{Among}
+use Rattle.bm_maps.specs.SlotLists.{Among}
 use Rattle.bm_queues.specs.Links.{list_from}
-use Rattle.bm_base.proofs.SlotLists.{length-without, without-absent}
+use Rattle.bm_maps.proofs.SlotLists.{length-without, without-absent}
 use Rattle.bm_queues.specs.Walks.{slots_from, IsOn}
 use Rattle.bm_queues.proofs.Walking.{from-without, on-without}
 use Rattle.bm_queues.proofs.MemberLaws.{only_list, gone-without, others-without}

@@ -1,6 +1,6 @@
 use Rattle.std.proofs.Common.{◌≡◌, length, subst, sym, ◌∙◌, inl, inr, vec_capacity, arith}
 use Rattle.std.proofs.lemmas.Bool.{false≢true}
-use Rattle.bm_base.specs.SlotLists.{Among}
+use Rattle.bm_maps.specs.SlotLists.{Among}
 use Rattle.bm_queues.specs.Members.{Members}
 use Rattle.bm_queues.proofs.Sparse.{one_more_fits, members_fit, sparse_more, among_front, among_end, among_either}
 use Rattle.bm_queues.proofs.sparse_set.SparseSet.insert.Goals as goal

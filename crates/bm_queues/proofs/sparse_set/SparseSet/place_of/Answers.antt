@@ -1,6 +1,6 @@
 use Rattle.std.proofs.Common.{◌≡◌, get_or, subst, sym, ap, ◌∙◌, vec_capacity, arith}
 use Rattle.std.proofs.lemmas.List.{get_or_default}
-use Rattle.bm_base.specs.SlotLists.{Among}
+use Rattle.bm_maps.specs.SlotLists.{Among}
 use Rattle.bm_queues.specs.Members.{Members}
 use Rattle.bm_queues.proofs.Sparse.{absent_at}
 use Rattle.bm_queues.proofs.sparse_set.SparseSet.place_of.Goals.{else-place-len-via-then-place-len+else-index-slot, else-place-len-via-else-place-len}

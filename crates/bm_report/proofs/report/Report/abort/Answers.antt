@@ -1,5 +1,5 @@
 use Rattle.std.proofs.Common.{◌∙◌, ◌&&◌, cond, None, map, ap}
-use Rattle.bm_base.specs.Events.{is_named}
+use Rattle.bm_base.specs.Machine.Events.{is_named}
 use Rattle.bm_arena.specs.Contents.{slot_of}
 use Rattle.bm_report.specs.Ready.{Looked}
 use Rattle.bm_report.specs.Midway.{told_of}

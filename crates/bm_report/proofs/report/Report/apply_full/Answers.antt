@@ -1,6 +1,6 @@
 use Rattle.std.proofs.Common.{◌≡◌, ◌⊎◌, List, map, inl, inr, subst, sym, ap, ◌∙◌}
 use Rattle.bm_report.specs.declared.types.Named.{Named}
-use Rattle.bm_base.specs.SlotLists.{Among}
+use Rattle.bm_maps.specs.SlotLists.{Among}
 use Rattle.bm_arena.specs.Contents.{IsEntry}
 use Rattle.bm_arena.specs.Holding.{holdings_of}
 use Rattle.bm_report.specs.Midway.{AllStand, IsOncePerNode, slot_in}

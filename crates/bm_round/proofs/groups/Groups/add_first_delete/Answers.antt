@@ -1,7 +1,7 @@
 use Rattle.std.proofs.Common.{◌≤◌, ◌<◌, ◌++◌, ◌∷◌, [], length, set, get_or, ap, sym, ◌∙◌, arith}
 use Rattle.std.proofs.lemmas.Result.{IfOk-weaker}
-use Rattle.bm_base.specs.Map.{keys}
-use Rattle.bm_base.specs.Replicas.{has_storage}
+use Rattle.bm_base.specs.Maps.Map.{keys}
+use Rattle.bm_base.specs.Machine.Replicas.{has_storage}
 use Rattle.bm_round.specs.Commanded.{first_commands, first_by_node}
 use Rattle.bm_round.specs.Places.{place_where}
 use Rattle.bm_round.proofs.Placed.{unchanged, command_changed, place_below}

@@ -1,6 +1,6 @@
 use Rattle.std.proofs.Common.{◌≡◌, ℕ, List, ◌++◌, length}
 use Rattle.std.specs.Prelude.{Option}
-use Rattle.bm_base.specs.State.{State}
+use Rattle.bm_base.specs.Machine.State.{State}
 use Rattle.bm_session.specs.Progress.{Progress}
 use Rattle.bm_session.proofs.session.Session.take_piece.Given as goal
 

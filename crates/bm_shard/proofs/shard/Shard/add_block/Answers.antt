@@ -1,7 +1,7 @@
 use Rattle.std.proofs.Common.{◌∙◌, subst, sym}
-use Rattle.bm_base.specs.Events.{add_block}
-use Rattle.bm_base.specs.Calls.{done}
-use Rattle.bm_base.specs.SlotLists.{Among}
+use Rattle.bm_base.specs.Machine.Events.{add_block}
+use Rattle.bm_base.specs.Machine.Calls.{done}
+use Rattle.bm_maps.specs.SlotLists.{Among}
 use Rattle.bm_arena.specs.Contents.{IsLawful}
 use Rattle.bm_levels.specs.Held.{holdings_with}
 use Rattle.bm_shard.specs.Seen.{Seen}

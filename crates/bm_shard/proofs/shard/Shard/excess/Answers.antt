@@ -1,5 +1,5 @@
 use Rattle.std.proofs.Common.{◌∙◌, map, ap}
-use Rattle.bm_base.specs.Queries.{replicas_where}
+use Rattle.bm_base.specs.Machine.Queries.{replicas_where}
 use Rattle.bm_parts.specs.QueryLaws.{replica_key}
 use Rattle.bm_listing.specs.declared.replicas.Wanted.TheVariants.{Excess}
 use Rattle.bm_listing.specs.Listed.{wants}

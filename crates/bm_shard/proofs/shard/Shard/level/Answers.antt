@@ -1,5 +1,5 @@
 use Rattle.std.proofs.Common.{ap, subst, sym, ◌∙◌}
-use Rattle.bm_base.specs.Levels.{level}
+use Rattle.bm_base.specs.Machine.Levels.{level}
 use Rattle.bm_arena.specs.Contents.{IsLawful}
 use Rattle.bm_shard.specs.Seen.{Seen}
 use Rattle.bm_shard.specs.Standing.{StandsIn}

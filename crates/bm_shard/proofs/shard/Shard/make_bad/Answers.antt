@@ -1,8 +1,8 @@
 use Rattle.std.proofs.Common.{subst, sym}
-use Rattle.bm_base.specs.Map.{revise_at}
-use Rattle.bm_base.specs.State.{replica_at}
-use Rattle.bm_base.specs.Events as events
-use Rattle.bm_base.specs.Calls.{done}
+use Rattle.bm_base.specs.Maps.Map.{revise_at}
+use Rattle.bm_base.specs.Machine.State.{replica_at}
+use Rattle.bm_base.specs.Machine.Events as events
+use Rattle.bm_base.specs.Machine.Calls.{done}
 use Rattle.bm_arena.specs.Contents.{IsLawful}
 use Rattle.bm_levels.specs.Held.{holdings_with}
 use Rattle.bm_shard.proofs.Changing.{changed_seen}

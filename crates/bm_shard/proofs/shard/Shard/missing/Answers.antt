@@ -1,6 +1,6 @@
 use Rattle.std.proofs.Common.{◌≡◌, subst, sym}
 use Rattle.std.specs.Prelude.{IfOk}
-use Rattle.bm_base.specs.Queries.{missing_blocks}
+use Rattle.bm_base.specs.Machine.Queries.{missing_blocks}
 use Rattle.bm_arena.specs.Contents.{IsLawful}
 use Rattle.bm_shard.specs.Seen.{Seen}
 use Rattle.bm_shard.specs.Standing.{StandsIn}

@@ -5,8 +5,8 @@ use Rattle.bm_levels.specs.Bare.{HasNoneBare}
 use Rattle.bm_shard.proofs.Bare.{bare_inside, none_inside, none_outside, none_more, none_prepared, on_err, only_these}
 use Rattle.std.proofs.Common.{List, sym}
 use Rattle.std.specs.Prelude.{IsTrue}
-use Rattle.bm_base.specs.Entries.{Told}
-use Rattle.bm_base.specs.Events.{is_named}
+use Rattle.bm_base.specs.Machine.Entries.{Told}
+use Rattle.bm_base.specs.Machine.Events.{is_named}
 use Rattle.bm_report.specs.Expanded.{told_to}
 use Rattle.bm_shard.proofs.shard.Shard.ready_report.Goals as goal
 

@@ -1,6 +1,6 @@
 use Rattle.std.proofs.Common.{ap, subst, sym}
-use Rattle.bm_base.specs.Events.{register}
-use Rattle.bm_base.specs.Calls.{done}
+use Rattle.bm_base.specs.Machine.Events.{register}
+use Rattle.bm_base.specs.Machine.Calls.{done}
 use Rattle.bm_parts.specs.PlacedLaws.{IsPlaced}
 use Rattle.bm_arena.specs.Contents.{IsLawful}
 use Rattle.bm_levels.specs.Held.{holdings_with}

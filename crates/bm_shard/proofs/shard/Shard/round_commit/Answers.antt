@@ -1,5 +1,5 @@
 use Rattle.std.proofs.Common.{◌≡◌, ◌<◌, ◌+◌, ◌^◌, ap, subst, sym, ◌∙◌}
-use Rattle.bm_base.specs.State.{Holdings}
+use Rattle.bm_base.specs.Machine.State.{Holdings}
 use Rattle.bm_base.specs.RoundParts.{round_on_part}
 use Rattle.bm_shard.specs.Seen.{Seen}
 use Rattle.bm_shard.specs.Standing.{next_part}

@@ -1,6 +1,6 @@
 use Rattle.std.proofs.Common.{subst}
 use Rattle.std.specs.Prelude.{if◌then◌else◌}
-use Rattle.bm_base.specs.Events.{drain, undrain, begun_to_drain}
+use Rattle.bm_base.specs.Machine.Events.{drain, undrain, begun_to_drain}
 use Rattle.bm_arena.specs.Contents.{IsLawful}
 use Rattle.bm_levels.specs.Held.{holdings_with}
 use Rattle.bm_shard.proofs.Changing.{changed_seen}

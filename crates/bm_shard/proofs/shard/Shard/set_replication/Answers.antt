@@ -1,6 +1,6 @@
 use Rattle.std.proofs.Common.{subst, sym}
-use Rattle.bm_base.specs.Events as events
-use Rattle.bm_base.specs.Calls.{done}
+use Rattle.bm_base.specs.Machine.Events as events
+use Rattle.bm_base.specs.Machine.Calls.{done}
 use Rattle.bm_arena.specs.Contents.{IsLawful}
 use Rattle.bm_levels.specs.Held.{holdings_with}
 use Rattle.bm_shard.proofs.Changing.{changed_seen}

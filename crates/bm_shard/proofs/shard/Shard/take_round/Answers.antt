@@ -1,6 +1,6 @@
 use Rattle.std.proofs.Common.{◌≡◌, ◌≤◌, ◌+◌, ◌==◌, length, filter, List, arith, sym, ap, subst, ◌∙◌}
 use Rattle.bm_base.specs.declared.commands.Transfer.{Transfer}
-use Rattle.bm_base.specs.State.{Holdings}
+use Rattle.bm_base.specs.Machine.State.{Holdings}
 use Rattle.bm_base.specs.RoundParts.{round_part, round_on_part, own_transfers}
 use Rattle.bm_arena.specs.Contents.{IsLawful}
 use Rattle.bm_levels.specs.Held.{holdings_with}

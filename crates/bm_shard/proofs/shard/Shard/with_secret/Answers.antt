@@ -1,5 +1,5 @@
 use Rattle.std.proofs.Common.{subst}
-use Rattle.bm_base.specs.State.{empty_holdings}
+use Rattle.bm_base.specs.Machine.State.{empty_holdings}
 use Rattle.bm_arena.specs.Contents.{IsLawful}
 use Rattle.bm_levels.specs.Held.{holdings_with}
 use Rattle.bm_shard.proofs.Levels.{right_by_number}

@@ -1,8 +1,8 @@
 use Rattle.std.proofs.Common.{◌≡◌, ◌+◌, None, arith, ap, sym, subst, ◌∙◌}
 use Rattle.bm_base.specs.declared.event.Event.TheVariants.{Register}
-use Rattle.bm_base.specs.Map.{insert, insert_all, remove, len}
-use Rattle.bm_base.specs.Events.{register}
-use Rattle.bm_base.specs.Refusals.{first_of, cluster_checks}
+use Rattle.bm_base.specs.Maps.Map.{insert, insert_all, remove, len}
+use Rattle.bm_base.specs.Machine.Events.{register}
+use Rattle.bm_base.specs.Machine.Refusals.{first_of, cluster_checks}
 use Rattle.bm_topo.specs.Named.{named}
 use Rattle.bm_topo.specs.Racks.{on_rack}
 use Rattle.bm_topo.proofs.Counting.{on_rack-le}

@@ -1,5 +1,5 @@
 use Rattle.std.proofs.Common.{not, sym, ap, ◌∙◌}
-use Rattle.bm_base.specs.Answering.{checked}
+use Rattle.bm_base.specs.Machine.Answering.{checked}
 use Rattle.bm_topo.proofs.OwnStorages.{heard}
 use Rattle.bm_topo.proofs.topology.Topology.check_heartbeat.Goals as goal
 

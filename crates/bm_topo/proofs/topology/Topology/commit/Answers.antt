@@ -1,5 +1,5 @@
 use Rattle.std.proofs.Common.{◌≡◌, None, subst}
-use Rattle.bm_base.specs.Refusals.{first_of, cluster_checks}
+use Rattle.bm_base.specs.Machine.Refusals.{first_of, cluster_checks}
 use Rattle.bm_base.proofs.ClusterEvents.{drainable}
 use Rattle.bm_topo.proofs.topology.Topology.commit.Goals as goal
 

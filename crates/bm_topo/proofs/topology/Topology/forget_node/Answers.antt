@@ -1,5 +1,5 @@
 use Rattle.std.proofs.Common.{◌≡◌, Some, arith, refl, ap, sym, ◌∙◌}
-use Rattle.bm_base.specs.Map.{get, contains_key, len, remove}
+use Rattle.bm_base.specs.Maps.Map.{get, contains_key, len, remove}
 use Rattle.bm_topo.specs.Racks.{on_rack, without_one}
 use Rattle.bm_topo.proofs.Counting.{remove_absent, stands_there}
 use Rattle.bm_topo.proofs.Capacity.{same_capacity, no_less, len-without_one}

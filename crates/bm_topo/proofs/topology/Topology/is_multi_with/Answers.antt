@@ -1,6 +1,6 @@
 use Rattle.std.proofs.Common.{sym, ◌∙◌}
 use Rattle.std.specs.Prelude.{nat_lt}
-use Rattle.bm_base.specs.Map.{insert}
+use Rattle.bm_base.specs.Maps.Map.{insert}
 use Rattle.bm_topo.proofs.Spreading.{is_multi-counted, one_more_both}
 use Rattle.bm_topo.proofs.Counting.{on_rack-insert_there, len-insert_others}
 use Rattle.bm_topo.proofs.Others.{inserted_there}

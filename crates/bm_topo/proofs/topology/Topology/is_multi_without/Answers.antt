@@ -1,6 +1,6 @@
 use Rattle.std.proofs.Common.{sym, ◌∙◌}
 use Rattle.std.specs.Prelude.{nat_lt}
-use Rattle.bm_base.specs.Map.{remove}
+use Rattle.bm_base.specs.Maps.Map.{remove}
 use Rattle.bm_topo.proofs.Spreading.{is_multi-counted, is_multi-none}
 use Rattle.bm_topo.proofs.Others.{other_rack_there, no_others}
 use Rattle.bm_topo.proofs.topology.Topology.is_multi_without.Goals as goal

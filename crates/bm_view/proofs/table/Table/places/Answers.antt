@@ -1,6 +1,6 @@
 use Rattle.std.proofs.Common.{rules, ◌≡◌, ℕ, List, [], Result, MatchResult, get_or, sym, ◌∙◌, ap, subst}
 use Rattle.std.proofs.lemmas.List.Sorted.{answers_always}
-use Rattle.bm_base.specs.Versions.{Row}
+use Rattle.bm_base.specs.Promises.Versions.{Row}
 use Rattle.bm_view.specs.Version.{RisesById, places_in}
 use Rattle.bm_view.proofs.Lookups.{searched}
 use Rattle.bm_view.proofs.table.Table.places.Goals as goal

@@ -1,6 +1,6 @@
 use Rattle.std.proofs.Common.{◌≡◌, drop}
 use Rattle.std.specs.List.{fold}
-use Rattle.bm_base.specs.Calls.{after_event}
+use Rattle.bm_base.specs.Machine.Calls.{after_event}
 use Rattle.cluster_report.specs.Sessions.{IsInStep}
 use Rattle.cluster_losses.proofs.held.Held.apply_all.Given as goal
 

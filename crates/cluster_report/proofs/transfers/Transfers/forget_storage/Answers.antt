@@ -1,7 +1,7 @@
 use Rattle.std.proofs.Common.{rules, ◌==◌, not}
 use Rattle.std.proofs.lemmas.Fn.{filter_same}
 use Rattle.bm_base.proofs.MapLaws.{keep-filter}
-use Rattle.bm_base.specs.State.{by_replica}
+use Rattle.bm_base.specs.Machine.State.{by_replica}
 use Rattle.cluster_report.proofs.transfers.Transfers.forget_storage.Goals as goal
 
 pub returns-clause-copies : goal.returns-clause-copies

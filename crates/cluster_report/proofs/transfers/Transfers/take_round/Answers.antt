@@ -1,5 +1,5 @@
 use Rattle.std.proofs.Common.{ap, sym, ◌∙◌}
-use Rattle.bm_base.specs.Map.{insert_all}
+use Rattle.bm_base.specs.Maps.Map.{insert_all}
 use Rattle.cluster_report.specs.Copies.{commanded_to}
 use Rattle.cluster_report.proofs.CopyLemmas.{insert_more_all}
 use Rattle.cluster_report.proofs.transfers.Transfers.take_round.Goals as goal

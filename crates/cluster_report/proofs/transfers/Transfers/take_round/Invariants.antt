@@ -1,7 +1,7 @@
 use Rattle.std.proofs.Common.{◌≡◌, ◌-◌, not, take}
 use Rattle.std.specs.Prelude.{nat_le}
 use Rattle.std.specs.List.{flat_map}
-use Rattle.bm_base.specs.Map.{keep, insert_all}
+use Rattle.bm_base.specs.Maps.Map.{keep, insert_all}
 use Rattle.cluster_report.specs.Copies.{commanded_to}
 use Rattle.cluster_report.proofs.transfers.Transfers.take_round.Given as goal
 

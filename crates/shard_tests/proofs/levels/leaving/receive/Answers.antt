@@ -1,8 +1,8 @@
 use Rattle.std.proofs.Common.{rules, ◌≡◌, ℕ, false, sym, ap, ◌∙◌, ◌∷◌, []}
 use Rattle.std.proofs.lemmas.Option.{none-some}
-use Rattle.bm_base.specs.Map.{by_number, get}
-use Rattle.bm_base.specs.State.{Cluster, empty_cluster}
-use Rattle.bm_base.specs.Replicas.{are_sisters}
+use Rattle.bm_base.specs.Maps.Map.{by_number, get}
+use Rattle.bm_base.specs.Machine.State.{Cluster, empty_cluster}
+use Rattle.bm_base.specs.Machine.Replicas.{are_sisters}
 use Rattle.bm_base.proofs.MapLaws.{get-empty}
 use Rattle.bm_base.proofs.Clusters.{no_sisters}
 use Rattle.bm_report.proofs.Simple.{ok_then}

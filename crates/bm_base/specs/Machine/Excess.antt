@@ -1,0 +1,82 @@
+-- A round's start: expired transfers leave, and surplus live replicas are marked. Source: Hadoop
+-- 2's PendingReplicationBlocks (time-outs) and BlockManager.chooseExcessReplicates; the order of
+-- choice is this project's own.
+use Rattle.std.specs.Prelude.{ℕ, zero, suc, ◌+◌, ◌-◌, Bool, true, false, not, if◌then◌else◌, ◌==◌, nat_lt, nat_le, List, [], ◌∷◌, filter, length, count_by}
+use Rattle.std.specs.declared.cmp.Ordering.{Ordering}
+use Rattle.std.specs.Ordering.{nat_cmp, ordering_then}
+use Rattle.std.specs.Option.{option_map_or}
+use Rattle.bm_base.specs.declared.replica.ReplicaId.{ReplicaId}
+use Rattle.bm_base.specs.declared.replica.Marks.{Marks}
+use Rattle.bm_base.specs.Maps.Map.{get, keep, revise}
+use Rattle.bm_base.specs.Machine.State.{Cluster, Holdings, State}
+use Rattle.bm_base.specs.Maps.Lists.{has, least}
+use Rattle.bm_base.specs.Machine.Replicas.{live, rack_of}
+
+-- whether round t was `pend` rounds before round r, or earlier
+abbrev pub is_expired : ℕ → ℕ → ℕ → Bool
+is_expired pend r t = nat_le pend (r - t)
+
+-- drops the transfers that were commanded in such a round
+unfoldable pub without_expired : ℕ → ℕ → Holdings → Holdings
+without_expired pend r H = record H { pending = keep H.pending (λ _ t. not (is_expired pend r t)) }
+
+-- a replica in excess counts again if its delete was not ordered
+abbrev pub counted_again : Marks → Marks
+counted_again m = if m.ordered then m else record m { excess = false }
+
+unfoldable pub without_unordered_excess : Holdings → Holdings
+without_unordered_excess H = record H { replicas = revise H.replicas (λ _ m. counted_again m) }
+
+-- the remaining bytes of a storage; 0 of an unknown storage
+unfoldable pub remaining : Cluster → ℕ → ℕ
+remaining C s = option_map_or (λ i. i.remaining) (get C.storages s) 0
+
+-- whether two storages are on one rack
+unfoldable pub share_rack : Cluster → ℕ → ℕ → Bool
+share_rack C s t = option_map_or (λ r. option_map_or (λ q. q == r) (rack_of C t) false) (rack_of C s) false
+
+-- whether the rack of s holds two or more of the candidates, of which s is one
+unfoldable pub has_rack_mate : Cluster → List ℕ → ℕ → Bool
+has_rack_mate C candidates s = nat_lt 1 (count_by (share_rack C s) candidates)
+
+-- 0 if a test passes, else 1, so that what passes comes first
+abbrev pub first_where : Bool → ℕ
+first_where b = if b then 0 else 1
+
+-- The order of excess: first a candidate whose rack holds another one, then one with fewer
+-- remaining bytes, then the greater number.
+unfoldable pub excess_cmp : Cluster → List ℕ → ℕ → ℕ → Ordering
+excess_cmp C candidates s t =
+    ordering_then (nat_cmp (first_where (has_rack_mate C candidates s)) (first_where (has_rack_mate C candidates t)))
+    (ordering_then (nat_cmp (remaining C s) (remaining C t)) (nat_cmp t s))
+
+-- n of the candidates, one after another, each the least of the remaining ones
+abbrev pub excess_among : Cluster → ℕ → List ℕ → List ℕ
+excess_among C zero candidates = []
+excess_among C (suc k) candidates =
+    option_map_or (λ x. x ∷ excess_among C k (filter (λ s. not (s == x)) candidates)) (least (excess_cmp C candidates) candidates) []
+
+-- the surplus of a block's live replicas, if `repl` are wanted
+unfoldable pub excess_of : Cluster → List ℕ → ℕ → List ℕ
+excess_of C live repl = excess_among C (length live - repl) live
+
+-- the surplus of a known block; none of an unknown one
+unfoldable pub excess_in : Cluster → Holdings → ℕ → List ℕ
+excess_in C H b = option_map_or (λ i. excess_of C (live C H b) i.repl) (get H.blocks b) []
+
+-- the marks of a replica, in excess if it is in its block's surplus
+abbrev pub marked_at : Cluster → Holdings → ReplicaId → Marks → Marks
+marked_at C H q m = if has (excess_in C H q.block) q.storage then record m { excess = true } else m
+
+-- marks the surplus live replicas as excess
+unfoldable pub marked : Cluster → Holdings → Holdings
+marked C H = record H { replicas = revise H.replicas (marked_at C H) }
+
+-- the state as its next round begins: the round number is one greater, and expired transfers have
+-- left
+unfoldable pub begun : State → State
+begun M = let r = M.round + 1 in record M { round = r; holdings = without_expired M.limits.pend r M.holdings }
+
+-- the same with the replicas in excess marked again from scratch
+unfoldable pub started : State → State
+started M = let N = begun M in record N { holdings = marked N.cluster (without_unordered_excess N.holdings) }

@@ -1,0 +1,14 @@
+use Rattle.std.proofs.Common.{rules, not, ◌&&◌, ◌∙◌, sym, filter}
+use Rattle.std.specs.Prelude.{◌==◌}
+use Rattle.std.proofs.lemmas.Fn.{filter_same}
+use Rattle.bm_base.specs.Maps.Map.{entries}
+use Rattle.bm_base.proofs.MapLaws.{remove-filter}
+use Rattle.bm_base.specs.Machine.State.{by_replica}
+use Rattle.bm_base.proofs.Ties.{replica_tie}
+use Rattle.bm_maps.proofs.replica_map.ReplicaMap.remove.Goals as goal
+
+pub returns : goal.returns
+returns g c =
+    remove-filter by_replica c.args.self.now c.retain.new.self c.args.key
+    (filter_same _ (λ e. not ((e.0.block == c.args.key.block) && (e.0.storage == c.args.key.storage))) _ (λ x b f' k. search rules) _ _ c.retain.ensures
+    ∙ (λ i. filter (λ e. not (sym (replica_tie e.0 c.args.key) i)) (entries c.args.self.now)))

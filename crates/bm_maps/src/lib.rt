@@ -1,0 +1,12 @@
+//! Sorted maps and links between slots.
+#![tactic(auto)]
+
+mod number_map;
+mod number_places;
+mod replica_map;
+mod slot_link;
+pub mod sorted;
+
+pub use number_map::NumberMap;
+pub use replica_map::ReplicaMap;
+pub use slot_link::{END_OF_LINKS, NO_LINK, SlotLink, fits_link};

@@ -1,0 +1,163 @@
+// A map from numbers over a sorted vector.
+ghost use Rattle.std.specs.Prelude.{◌≡◌, ◌≤◌, ◌+◌, IfOk, OnOk, OnErr, IsOk, IsTrue};
+ghost use Rattle.bm_base.specs.Maps.Map as map;
+ghost use Rattle.bm_maps.specs.Table.{capacity};
+ghost use Rattle.std.specs.List.Retain.{IsFiltered};
+ghost use Rattle.std.specs.Fn.{CalledAt};
+
+use crate::number_places::{place_by_guess, place_of_number};
+use crate::sorted::{find_at, put, replace, reserve};
+use std::alloc::{AllocError, Global};
+use std::marker::Model;
+
+/// A map from numbers. A look-up is direct if the numbers are dense, and else a binary search;
+/// an insertion or a removal moves the entries after it. A contract sees the map, and its spare
+/// capacity in entries.
+#[derive(Drop)]
+pub struct NumberMap<V> {
+    entries: Vec<(u64, V)>,
+}
+
+impl<V> Model for NumberMap<V> {
+    ghost use Rattle.std.specs.Prelude.{T, vec_len, vec_capacity, ◌-◌};
+    ghost use Rattle.std.specs.Ordering.{nat_cmp};
+    ghost use Rattle.std.specs.FinMap.{is_sorted};
+    ghost use Rattle.bm_maps.specs.Table.{Table, coded_table};
+    ghost use Rattle.bm_base.specs.Maps.OfSorted.{of_sorted};
+
+    ghost Value = { Table V };
+
+    ghost coded = { coded_table V.code };
+
+    ghost view = { λ m. record {
+      map = of_sorted m.entries.items;
+      room = vec_capacity m.entries - vec_len m.entries;
+    } };
+
+    ghost invariant = { λ m. T (is_sorted nat_cmp m.entries.items) };
+}
+
+impl<V: Copy> NumberMap<V> {
+    /// No entry, and no capacity. Takes no memory.
+    pub fn new(alloc: Global) -> Self
+        ensures empty { result.map ≡ map.empty }
+        ensures room { result.room ≡ 0 }
+    {
+        NumberMap {
+            entries: Vec::new(alloc),
+        }
+    }
+
+    /// How many entries there are.
+    pub fn len(&self) -> usize
+        ensures { result ≡ map.len self.now.map }
+    {
+        self.entries.len()
+    }
+
+    /// The value at a key, if the map has the key.
+    pub fn get(&self, key: u64) -> Option<V>
+        ensures { result ≡ map.get self.now.map key }
+    {
+        find_at(&self.entries, &key, place_of_number(&self.entries, key))
+    }
+
+    /// As `get`, trying index `guess` first.
+    pub fn get_near(&self, key: u64, guess: usize) -> Option<V>
+        ensures { result ≡ map.get self.now.map key }
+    {
+        find_at(
+            &self.entries,
+            &key,
+            place_by_guess(&self.entries, key, guess),
+        )
+    }
+
+    /// Sets the value at a key. Takes memory only for a new key without spare capacity; an `Err`
+    /// changes nothing.
+    pub fn insert(&mut self, key: u64, value: V) -> Result<(), AllocError>
+        ensures ok { OnOk result (self.new.map ≡ map.insert self.old.map key value) }
+        ensures err { OnErr result (self.new.map ≡ self.old.map) }
+        ensures err_room { OnErr result (self.new.room ≡ self.old.room) }
+        ensures known { IsTrue (map.contains_key self.old.map key) → IsOk result }
+        ensures known_no_growth { IsTrue (map.contains_key self.old.map key)
+            → capacity self.new ≡ capacity self.old }
+        ensures reserved { 1 ≤ self.old.room → IsOk result }
+        ensures reserved_no_growth { 1 ≤ self.old.room → capacity self.new ≡ capacity self.old }
+        ensures no_less { capacity self.old ≤ capacity self.new }
+    {
+        let at = place_of_number(&self.entries, key);
+        put(&mut self.entries, at, key, value)?;
+        Ok(())
+    }
+
+    /// Reserves capacity for `additional` further entries; with enough capacity nothing changes.
+    /// The entries stay as they are, and an `Err` changes nothing.
+    pub fn reserve(&mut self, additional: usize) -> Result<(), AllocError>
+        ensures room { OnOk result (additional ≤ self.new.room) }
+        ensures succeeds { additional ≤ self.old.room → IsOk result }
+        ensures kept { self.old.room ≤ self.new.room }
+        ensures same { self.new.map ≡ self.old.map }
+        ensures enough { additional ≤ self.old.room → self.new.room ≡ self.old.room }
+        ensures err_room { OnErr result (self.new.room ≡ self.old.room) }
+    {
+        reserve(&mut self.entries, additional)
+    }
+
+    /// Inserts into reserved capacity. Takes no memory.
+    pub fn insert_reserved(&mut self, key: u64, value: V)
+        requires { 1 ≤ self.old.room }
+        ensures after { self.new.map ≡ map.insert self.old.map key value }
+        ensures room { self.old.room ≤ self.new.room + 1 }
+        ensures no_growth { capacity self.new ≡ capacity self.old }
+    {
+        let at = place_of_number(&self.entries, key);
+        match put(&mut self.entries, at, key, value) {
+            Ok(()) => {}
+            Err(_) => unreachable!(),
+        }
+    }
+
+    /// Sets the value at a known key; else nothing changes. Takes no memory.
+    pub fn replace(&mut self, key: u64, value: V)
+        ensures after { self.new.map ≡ map.revise_at self.old.map key (λ _. value) }
+        ensures room { self.new.room ≡ self.old.room }
+        ensures no_growth { capacity self.new ≡ capacity self.old }
+    {
+        let at = place_of_number(&self.entries, key);
+        replace(&mut self.entries, at, &key, value);
+    }
+
+    /// The entries, by ascending key.
+    pub fn entries(&self) -> &[(u64, V)]
+        ensures { result.now ≡ map.entries self.now.map }
+    {
+        &self.entries
+    }
+
+    /// Keeps the entries that pass. Takes no memory.
+    pub fn retain<F: FnMut(&(u64, V)) -> bool>(&mut self, f: F)
+        requires { F.IsAlwaysCallable f }
+        ensures filtered { IsFiltered (CalledAt F.FnMut) f (map.entries self.old.map)
+            (map.entries self.new.map) }
+        ensures no_growth { capacity self.new ≡ capacity self.old }
+    {
+        self.entries.retain(f);
+    }
+
+    /// The same map in memory of its own.
+    pub fn try_clone(&self) -> Result<Self, AllocError>
+        ensures { IfOk result (λ m. m.map ≡ self.now.map) }
+    {
+        let entries = Vec::from_slice(*self.entries.allocator(), &self.entries)?;
+        Ok(NumberMap { entries })
+    }
+
+    /// Removes a key's entry, if there is one. Takes no memory.
+    pub fn remove(&mut self, key: u64)
+        ensures after { self.new.map ≡ map.remove self.old.map key }
+        ensures no_growth { capacity self.new ≡ capacity self.old }
+    {
+        self.retain(|e| e.0 != key);
+    }
+}

@@ -1,0 +1,28 @@
+-- Which numbers the entries of a report name, by the ends of their runs.
+use Rattle.std.proofs.Common.{◌≡◌, ℕ, Bool, ◌&&◌, ◌||◌, List, [], ◌∷◌, map, refl, sym, ap, ◌∙◌}
+use Rattle.std.specs.Prelude.{◌==◌, nat_le, flat_map}
+use Rattle.std.specs.List.{list_any}
+use Rattle.std.proofs.lemmas.List.Folds.{list_any-append}
+use Rattle.bm_base.specs.declared.event.Entry.{Entry}
+use Rattle.bm_base.specs.Machine.Entries.{told_by, expanded}
+use Rattle.bm_base.specs.Machine.Events.{is_named}
+use Rattle.bm_base.proofs.Entries.{has-told_by}
+
+any_mapped : {X Y : Type 0} (p : Y → Bool) (f : X → Y) (xs : List X) → list_any p (map f xs) ≡ list_any (λ x. p (f x)) xs
+any_mapped p f [] = refl
+any_mapped p f (x ∷ xs) = ap (λ b. p (f x) || b) (any_mapped p f xs)
+
+any_flat : {X Y : Type 0} (p : Y → Bool) (f : X → List Y) (xs : List X) → list_any p (flat_map f xs) ≡ list_any (λ x. list_any p (f x)) xs
+any_flat p f [] = refl
+any_flat p f (x ∷ xs) = list_any-append p (f x) (flat_map f xs) ∙ ap (λ b. list_any p (f x) || b) (any_flat p f xs)
+
+any_same : {X : Type 0} (p q : X → Bool) (xs : List X) → ((x : X) → p x ≡ q x) → list_any p xs ≡ list_any q xs
+any_same p q [] h = refl
+any_same p q (x ∷ xs) h = λ i. h x i || any_same p q xs h i
+
+pub named_by : (e : Entry) (b : ℕ) → list_any (λ t. t.id == b) (told_by e) ≡ (nat_le e.from b && nat_le b e.to)
+named_by e b = sym (any_mapped (λ x. x == b) (λ t. t.id) (told_by e)) ∙ has-told_by e b
+
+pub named_in : (es : List Entry) (b : ℕ) → is_named (expanded es) b ≡ list_any (λ e. nat_le e.from b && nat_le b e.to) es
+unfolding is_named expanded
+named_in es b = any_flat (λ t. t.id == b) told_by es ∙ any_same _ _ es (λ e. named_by e b)
