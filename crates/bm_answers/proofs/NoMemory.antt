@@ -12,15 +12,15 @@ use Rattle.bm_base.specs.declared.refusal.Refusal.TheVariants as refusal
 use Rattle.bm_base.specs.Machine.State.{Cluster, Holdings, State}
 use Rattle.bm_base.specs.Machine.Refusals.{first_of, ◌when◌, ◌before◌, knows_node, knows_storage, knows_block, last_number, cluster_checks, block_checks, calls_spent, refusal_of, round_refusal, node_refusal, storage_refusal, block_refusal}
 use Rattle.bm_base.specs.Machine.Calls.{step, refused_or}
-use Rattle.bm_base.specs.Machine.Answering.{wants_memory, MayAnswer, may_lack_memory}
+use Rattle.bm_base.specs.Machine.Answering.{is_out_of_memory, MayAnswer, may_run_out_of_memory}
 
 abbrev IsOther : Option Refusal → Type 0
 IsOther None = Unit {0}
-IsOther (Some r) = wants_memory (answer.Refused r) ≡ false
+IsOther (Some r) = is_out_of_memory (answer.Refused r) ≡ false
 
 abbrev AreOthers : List (Refusal × Bool) → Type 0
 AreOthers [] = Unit {0}
-AreOthers (c ∷ cs) = (wants_memory (answer.Refused c.0) ≡ false) × AreOthers cs
+AreOthers (c ∷ cs) = (is_out_of_memory (answer.Refused c.0) ≡ false) × AreOthers cs
 
 first : (cs : List (Refusal × Bool)) → AreOthers cs → IsOther (first_of cs)
 first [] others = tt
@@ -93,11 +93,11 @@ of_block : (H : Holdings) (b : ℕ) → IsOther (block_refusal H b)
 unfolding block_refusal
 of_block H b = first ((refusal.UnknownBlock when not (knows_block H b)) ∷ []) (refl, tt)
 
-refused : (M : State) (o : Option Refusal) (next : Answer × State) → IsOther o → wants_memory next.0 ≡ false → wants_memory (refused_or M o next).0 ≡ false
+refused : (M : State) (o : Option Refusal) (next : Answer × State) → IsOther o → is_out_of_memory next.0 ≡ false → is_out_of_memory (refused_or M o next).0 ≡ false
 refused M None next other is = is
 refused M (Some r) next other is = other
 
-of_step : (M : State) (k : Call) → wants_memory (step M k).0 ≡ false
+of_step : (M : State) (k : Call) → is_out_of_memory (step M k).0 ≡ false
 unfolding step
 of_step M (call.Apply e) = refused M (refusal_of M e) _ (of_event M e) refl
 of_step M call.Round = refused M (round_refusal M) _ (of_round M) refl
@@ -112,6 +112,6 @@ of_step M (call.Retired n) = refused M (node_refusal M.cluster n) _ (of_node M.c
 of_step M call.Calls = refl
 of_step M call.Rounds = refl
 
-pub lacked : (M : State) (k : Call) (a : Answer) → MayAnswer step M k a → wants_memory a ≡ true → IsTrue (may_lack_memory step M k)
-lacked M k a (inl is) w = absurd (cc (w, ap wants_memory is, of_step M k))
+pub lacked : (M : State) (k : Call) (a : Answer) → MayAnswer step M k a → is_out_of_memory a ≡ true → IsTrue (may_run_out_of_memory step M k)
+lacked M k a (inl is) w = absurd (cc (w, ap is_out_of_memory is, of_step M k))
 lacked M k a (inr may) w = may.0

@@ -5,7 +5,7 @@ use Rattle.bm_base.specs.declared.call.Answer.{Answer}
 use Rattle.bm_base.specs.declared.call.Answer.TheVariants as answer
 use Rattle.bm_base.specs.Machine.State.{State}
 use Rattle.bm_base.specs.Machine.Calls.{step}
-use Rattle.bm_base.specs.Machine.Answering.{is_refused, may_lack_memory}
+use Rattle.bm_base.specs.Machine.Answering.{is_refused, may_run_out_of_memory}
 use Rattle.bm_base.specs.Machine.Refusals.{refusal_number}
 use Rattle.bm_lines.specs.declared.limits.TheConstants.{MAX_LINE}
 use Rattle.bm_lines.specs.Print.{answer_text}
@@ -36,7 +36,7 @@ asked_next M _ = M
 
 -- whether memory may lack for it: it is a call that takes some, and nothing else refuses it
 abbrev pub asked_may_lack : State → Asked → Bool
-asked_may_lack M (Asks k) = may_lack_memory step M k
+asked_may_lack M (Asks k) = may_run_out_of_memory step M k
 asked_may_lack M _ = false
 
 -- the text of an answer, whether it begins with `refused`, and the number after that word

@@ -1,6 +1,6 @@
 // The answer to what a line asks.
 ghost use Rattle.std.specs.Prelude.{◌≡◌, IfOk, OnOk, OnErr, IsTrue, string_bytes, true, false};
-ghost use Rattle.bm_base.specs.Machine.Answering.{wants_memory};
+ghost use Rattle.bm_base.specs.Machine.Answering.{is_out_of_memory};
 ghost use Rattle.bm_answers.specs.declared.line_answer.LineAnswer.TheVariants.{Answered};
 ghost use Rattle.bm_answers.specs.OneLine.{answer_to, asked_next, asked_may_lack, text_of, is_refusal, number_of};
 
@@ -111,10 +111,10 @@ pub fn make_call_alone(manager: &mut Manager, asked: Asked) -> Result<LineAnswer
 fn answered(call: Call, answer: Answer) -> Result<LineAnswer, AllocError>
     ensures answer { IfOk result (λ a. a ≡ Answered call answer) }
     ensures number { IfOk result (λ a. number_of a ≡ 14 → ⊥) }
-    ensures taken { OnOk result (wants_memory answer ≡ false) }
-    ensures refused { OnErr result (wants_memory answer ≡ true) }
+    ensures taken { OnOk result (is_out_of_memory answer ≡ false) }
+    ensures refused { OnErr result (is_out_of_memory answer ≡ true) }
 {
-    if answer.wants_memory() {
+    if answer.is_out_of_memory() {
         return Err(AllocError);
     }
     Ok(LineAnswer::Answered(call, answer))

@@ -8,16 +8,16 @@ use Rattle.std.proofs.lemmas.Bool.{cases_eq, cases_Bool, eqb-true, eqb-false, ne
 use Rattle.std.proofs.lemmas.Option.{none-some, same_Some}
 use Rattle.std.proofs.Math.ListN.{get_or-map}
 use Rattle.slab.specs.Slab.{Slab, get, Updates}
-use Rattle.bm_arena.specs.declared.types.Entry.{Entry}
-use Rattle.bm_arena.specs.declared.types.TheConstants.{TRIPLETS_IN_PLACE}
-use Rattle.bm_arena.specs.Triplets.{Block, find_triplet, triplet_at, links_of, seen_slots, seen_entry}
+use Rattle.bm_arena.specs.declared.types.BlockEntry.{BlockEntry}
+use Rattle.bm_arena.specs.declared.types.TheConstants.{INLINE_TRIPLETS}
+use Rattle.bm_arena.specs.Triplets.{Block, find_triplet, triplet_at, links_of, slot_views, entry_view}
 use Rattle.bm_maps.specs.SlotLists.{Distinct}
 use Rattle.bm_maps.specs.SlotLinks.{end_of_links}
 use Rattle.bm_arena.specs.Contents.{IsAdded, empty_block}
 use Rattle.bm_arena.specs.Inside.{list_from, lists_from, storages_of, IsSound, IsArena}
 use Rattle.bm_arena.proofs.Triplets.{read}
-use Rattle.bm_arena.proofs.Sound.{list_from-list, IsList-same}
-use Rattle.bm_arena.proofs.Seeing.{seen_at, storages_seen}
+use Rattle.bm_arena.proofs.SoundOperations.{list_from-list, IsList-same}
+use Rattle.bm_arena.proofs.EntryViews.{seen_at, storages_seen}
 
 -- a property of each key of a list holds of a key that is found
 among_keys : {X : Type 0} (P : ℕ → Type 0) (es : List (ℕ × X)) (s : ℕ) (v : X) → AllByRecursion P (keys_of es) → lookup (nat_eq s) es ≡ Some v → P s
@@ -29,7 +29,7 @@ among_keys P (e ∷ es) s v all is =
     ]
 
 -- the lists that are seen are the same if the list from each head is
-pub lists_from-same : (old new : Slab Entry) (es : List (ℕ × Option ℕ)) → IsDistinct nat_eq (keys_of es) → ((s : ℕ) (first : Option ℕ) → lookup (nat_eq s) es ≡ Some first → list_from new s first ≡ list_from old s first) → lists_from new es ≡ lists_from old es
+pub lists_from-same : (old new : Slab BlockEntry) (es : List (ℕ × Option ℕ)) → IsDistinct nat_eq (keys_of es) → ((s : ℕ) (first : Option ℕ) → lookup (nat_eq s) es ≡ Some first → list_from new s first ≡ list_from old s first) → lists_from new es ≡ lists_from old es
 unfolding IsDistinct
 lists_from-same old new [] distinct same = refl
 lists_from-same old new (e ∷ es) distinct same =
@@ -41,7 +41,7 @@ lists_from-same old new (e ∷ es) distinct same =
     rw (head, later) refl
 
 -- an entry without triplets is inserted at a vacant slot
-module _ (old new : Slab Entry) (key : ℕ) (e : Entry) (vacant : get old key ≡ None) (up : Updates old new key (Some e)) (bare : e.triplets.items ≡ []) where
+module _ (old new : Slab BlockEntry) (key : ℕ) (e : BlockEntry) (vacant : get old key ≡ None) (up : Updates old new key (Some e)) (bare : e.triplets.items ≡ []) where
   links-inserted : (s x : ℕ) → triplet_at new x s ≡ triplet_at old x s
   links-inserted s x =
       elim (cases_eq x key) [
@@ -50,15 +50,15 @@ module _ (old new : Slab Entry) (key : ℕ) (e : Entry) (vacant : get old key �
         | inr differs ↦ ap (read s) (up.others x differs)
       ]
 
-  pub seen-inserted_other : (x : ℕ) → x ≢ key → get_or (seen_slots new) x None ≡ get_or (seen_slots old) x None
+  pub seen-inserted_other : (x : ℕ) → x ≢ key → get_or (slot_views new) x None ≡ get_or (slot_views old) x None
   seen-inserted_other x differs =
-      get_or-map (option_map seen_entry) new.slots x None ∙ ap (option_map seen_entry) (up.others x differs) ∙ sym (get_or-map (option_map seen_entry) old.slots x None)
+      get_or-map (option_map entry_view) new.slots x None ∙ ap (option_map entry_view) (up.others x differs) ∙ sym (get_or-map (option_map entry_view) old.slots x None)
 
-  pub seen-inserted_here : get_or (seen_slots new) key None ≡ Some (seen_entry e)
+  pub seen-inserted_here : get_or (slot_views new) key None ≡ Some (entry_view e)
   seen-inserted_here = seen_at new key e up.changed
 
-  pub seen-inserted_before : get_or (seen_slots old) key None ≡ None
-  seen-inserted_before = get_or-map (option_map seen_entry) old.slots key None ∙ ap (option_map seen_entry) vacant
+  pub seen-inserted_before : get_or (slot_views old) key None ≡ None
+  seen-inserted_before = get_or-map (option_map entry_view) old.slots key None ∙ ap (option_map entry_view) vacant
 
   module _ (heads : List (ℕ × Option ℕ)) (sound : IsSound old heads) where
     same_list : (s : ℕ) (first : Option ℕ) → lookup (nat_eq s) heads ≡ Some first → list_from new s first ≡ list_from old s first
@@ -78,16 +78,16 @@ module _ (old new : Slab Entry) (key : ℕ) (e : Entry) (vacant : get old key �
       once = λ x b is.
           elim (cases_eq x key) [
             | inl same ↦
-                let now : Some (seen_entry e) ≡ Some b = sym seen-inserted_here ∙ (rw same at is) in
-                let none : Distinct (storages_of (seen_entry e)) = rw (storages_seen e, bare) tt in
+                let now : Some (entry_view e) ≡ Some b = sym seen-inserted_here ∙ (rw same at is) in
+                let none : Distinct (storages_of (entry_view e)) = rw (storages_seen e, bare) tt in
                 let P : Block → Type 0 = λ c. Distinct (storages_of c) in
-                subst P (same_Some (seen_entry e) b now) none
+                subst P (same_Some (entry_view e) b now) none
             | inr differs ↦ sound.once x b (sym (seen-inserted_other x differs) ∙ is)
           ];
     }
 
 -- a slab that only got more capacity
-pub IsArena-capacity : (slots new : Slab Entry) (capacity : ℕ) (ids : List (ℕ × ℕ)) (heads : List (ℕ × Option ℕ)) (delimiter : ℕ) → new ≡ record slots { capacity = capacity } → IsArena slots ids heads delimiter → IsArena new ids heads delimiter
+pub IsArena-capacity : (slots new : Slab BlockEntry) (capacity : ℕ) (ids : List (ℕ × ℕ)) (heads : List (ℕ × Option ℕ)) (delimiter : ℕ) → new ≡ record slots { capacity = capacity } → IsArena slots ids heads delimiter → IsArena new ids heads delimiter
 IsArena-capacity slots new capacity ids heads delimiter is arena =
     rw is (record {
       sound = record { lists = arena.sound.lists; complete = arena.sound.complete; once = arena.sound.once };
@@ -139,17 +139,17 @@ lookup-push q k v (e ∷ es) none =
     ]
 
 -- a new number gets an entry
-module _ (old new : Slab Entry) (key : ℕ) (e : Entry) (vacant : get old key ≡ None) (up : Updates old new key (Some e)) (bare : e.triplets.items ≡ [])
+module _ (old new : Slab BlockEntry) (key : ℕ) (e : BlockEntry) (vacant : get old key ≡ None) (up : Updates old new key (Some e)) (bare : e.triplets.items ≡ [])
     (ids : List (ℕ × ℕ)) (heads : List (ℕ × Option ℕ)) (delimiter : ℕ) (arena : IsArena old ids heads delimiter) (absent : lookup (nat_eq e.id) ids ≡ None)
     (below : key < end_of_links) where
-  seen_here : get_or (seen_slots new) key None ≡ Some (seen_entry e)
+  seen_here : get_or (slot_views new) key None ≡ Some (entry_view e)
   seen_here = seen-inserted_here old new key e vacant up bare
 
-  seen_elsewhere : (x : ℕ) → x ≢ key → get_or (seen_slots new) x None ≡ get_or (seen_slots old) x None
+  seen_elsewhere : (x : ℕ) → x ≢ key → get_or (slot_views new) x None ≡ get_or (slot_views old) x None
   seen_elsewhere = seen-inserted_other old new key e vacant up bare
 
   -- a slot that had a block is not the new slot
-  was_other : (x : ℕ) (b : Block) → get_or (seen_slots old) x None ≡ Some b → x ≢ key
+  was_other : (x : ℕ) (b : Block) → get_or (slot_views old) x None ≡ Some b → x ≢ key
   was_other x b is same = none-some b (sym (seen-inserted_before old new key e vacant up bare) ∙ (rw same at is))
 
   pub added_unmarked : key ≢ delimiter
@@ -165,12 +165,12 @@ module _ (old new : Slab Entry) (key : ℕ) (e : Entry) (vacant : get old key �
             | inl before ↦
                 let was = arena.numbers.there id slot before in
                 (was.0, was.1, seen_elsewhere slot (was_other slot was.1 was.2) ∙ was.2, was.3)
-            | inr now ↦ (λ s. added_unmarked (sym now.1 ∙ s), seen_entry e, rw now.1 seen_here, sym now.0)
+            | inr now ↦ (λ s. added_unmarked (sym now.1 ∙ s), entry_view e, rw now.1 seen_here, sym now.0)
           ];
       known = λ slot b is differs.
           elim (cases_eq slot key) [
             | inl same ↦
-                let one : seen_entry e ≡ b = same_Some (seen_entry e) b (sym seen_here ∙ (rw same at is)) in
+                let one : entry_view e ≡ b = same_Some (entry_view e) b (sym seen_here ∙ (rw same at is)) in
                 let P : Block → Type 0 = λ c. lookup (nat_eq c.id) (ids ++ (e.id, key) ∷ []) ≡ Some slot in
                 subst P one (rw same (lookup-push_here e.id key ids absent))
             | inr apart ↦ lookup-push_before b.id e.id key slot ids (arena.numbers.known slot b (sym (seen_elsewhere slot apart) ∙ is) differs)
@@ -187,10 +187,10 @@ module _ (old new : Slab Entry) (key : ℕ) (e : Entry) (vacant : get old key �
     };
   }
 
-  pub IsAdded-view : (steps bound : ℕ) → e.info ≡ None → e.triplets.capacity ≡ TRIPLETS_IN_PLACE
+  pub IsAdded-view : (steps bound : ℕ) → e.info ≡ None → e.triplets.capacity ≡ INLINE_TRIPLETS
       → IsAdded
-      (record { blocks = seen_slots old; ids = ids; lists = lists_from old heads; delimiter = delimiter; steps = steps; bound = bound })
-      (record { blocks = seen_slots new; ids = ids ++ (e.id, key) ∷ []; lists = lists_from new heads; delimiter = delimiter; steps = steps; bound = max bound (key + 1) })
+      (record { blocks = slot_views old; ids = ids; lists = lists_from old heads; delimiter = delimiter; steps = steps; bound = bound })
+      (record { blocks = slot_views new; ids = ids ++ (e.id, key) ∷ []; lists = lists_from new heads; delimiter = delimiter; steps = steps; bound = max bound (key + 1) })
       e.id key
   IsAdded-view steps bound no_info three = record {
     vacant = seen-inserted_before old new key e vacant up bare;
@@ -205,26 +205,26 @@ module _ (old new : Slab Entry) (key : ℕ) (e : Entry) (vacant : get old key �
     bound = refl;
   }
     where
-      empty_seen : e.info ≡ None → e.triplets.capacity ≡ TRIPLETS_IN_PLACE → seen_entry e ≡ empty_block e.id
+      empty_seen : e.info ≡ None → e.triplets.capacity ≡ INLINE_TRIPLETS → entry_view e ≡ empty_block e.id
       empty_seen no_info three = rw (no_info, three, bare) refl
 
 -- the first arena
-pub IsSound-first : (slots : Slab Entry) → slots.slots ≡ [] → IsSound slots []
+pub IsSound-first : (slots : Slab BlockEntry) → slots.slots ≡ [] → IsSound slots []
 IsSound-first slots empty = record {
   lists = λ s first is. absurd (none-some first is);
   complete = λ x s t is. absurd (none-some t (sym (nothing x s) ∙ is));
-  once = λ x b is. absurd (none-some b (sym (ap (λ l. get_or (map (option_map seen_entry) l) x None) empty) ∙ is));
+  once = λ x b is. absurd (none-some b (sym (ap (λ l. get_or (map (option_map entry_view) l) x None) empty) ∙ is));
 }
   where
     nothing : (x s : ℕ) → triplet_at slots x s ≡ None
     nothing x s = ap (λ l. read s (get_or l x None)) empty
 
-module _ (old new : Slab Entry) (key : ℕ) (e : Entry) (empty : old.slots ≡ []) (up : Updates old new key (Some e)) (bare : e.triplets.items ≡ []) where
+module _ (old new : Slab BlockEntry) (key : ℕ) (e : BlockEntry) (empty : old.slots ≡ []) (up : Updates old new key (Some e)) (bare : e.triplets.items ≡ []) where
   nothing_there : get old key ≡ None
   nothing_there = ap (λ l. get_or l key None) empty
 
-  pub first_blocks : (slot : ℕ) → slot ≢ key → get_or (seen_slots new) slot None ≡ None
-  first_blocks slot differs = seen-inserted_other old new key e nothing_there up bare slot differs ∙ ap (λ l. get_or (map (option_map seen_entry) l) slot None) empty
+  pub first_blocks : (slot : ℕ) → slot ≢ key → get_or (slot_views new) slot None ≡ None
+  first_blocks slot differs = seen-inserted_other old new key e nothing_there up bare slot differs ∙ ap (λ l. get_or (map (option_map entry_view) l) slot None) empty
 
   pub IsArena-first : (ids : List (ℕ × ℕ)) (heads : List (ℕ × Option ℕ)) → ids ≡ [] → heads ≡ [] → key < end_of_links → IsArena new ids heads key
   unfolding IsDistinct
@@ -235,7 +235,7 @@ module _ (old new : Slab Entry) (key : ℕ) (e : Entry) (empty : old.slots ≡ [
         numbers = record {
           there = λ id slot is. absurd (none-some slot is);
           known = λ slot b is differs. absurd (none-some b (sym (first_blocks slot differs) ∙ is));
-          marker = (seen_entry e, seen-inserted_here old new key e nothing_there up bare, omega arith);
+          marker = (entry_view e, seen-inserted_here old new key e nothing_there up bare, omega arith);
           each = tt;
           small = λ slot b is.
               elim (cases_eq slot key) [
@@ -247,7 +247,7 @@ module _ (old new : Slab Entry) (key : ℕ) (e : Entry) (empty : old.slots ≡ [
 
 -- the same, from the contracts of the calls of `add_entry`: the slab got capacity, the number was
 -- listed with the slot, and the entry was inserted there
-module _ (slots mid new : Slab Entry) (capacity key slot : ℕ) (e : Entry) (ids entries : List (ℕ × ℕ)) (heads : List (ℕ × Option ℕ)) (delimiter : ℕ)
+module _ (slots mid new : Slab BlockEntry) (capacity key slot : ℕ) (e : BlockEntry) (ids entries : List (ℕ × ℕ)) (heads : List (ℕ × Option ℕ)) (delimiter : ℕ)
     (grown : mid ≡ record slots { capacity = capacity }) (key_is : key ≡ mid.vacant_key) (slot_is : slot ≡ mid.vacant_key)
     (vacant : get mid key ≡ None) (up : Updates mid new key (Some e)) (bare : e.triplets.items ≡ [])
     (absent : None ≡ lookup (nat_eq e.id) ids) (entries_are : entries ≡ ids ++ (e.id, slot) ∷ []) (each : IsDistinct nat_eq (keys_of entries)) (below : slot < end_of_links) (arena : IsArena slots ids heads delimiter) where
@@ -266,10 +266,10 @@ module _ (slots mid new : Slab Entry) (capacity key slot : ℕ) (e : Entry) (ids
   pub add_entry-arena : IsArena new entries heads delimiter
   add_entry-arena = rw (entries_are, ← same_key) (IsArena-added mid new key e vacant up bare ids heads delimiter mid_arena (sym absent) key_below each_listed)
 
-  pub add_entry-added : (steps bound above : ℕ) → above ≡ max bound (slot + 1) → e.info ≡ None → e.triplets.capacity ≡ TRIPLETS_IN_PLACE
+  pub add_entry-added : (steps bound above : ℕ) → above ≡ max bound (slot + 1) → e.info ≡ None → e.triplets.capacity ≡ INLINE_TRIPLETS
       → IsAdded
-      (record { blocks = seen_slots slots; ids = ids; lists = lists_from slots heads; delimiter = delimiter; steps = steps; bound = bound })
-      (record { blocks = seen_slots new; ids = entries; lists = lists_from new heads; delimiter = delimiter; steps = steps; bound = above })
+      (record { blocks = slot_views slots; ids = ids; lists = lists_from slots heads; delimiter = delimiter; steps = steps; bound = bound })
+      (record { blocks = slot_views new; ids = entries; lists = lists_from new heads; delimiter = delimiter; steps = steps; bound = above })
       e.id slot
   add_entry-added steps bound above above_is no_info three =
       let added = IsAdded-view mid new key e vacant up bare ids heads delimiter mid_arena (sym absent) key_below steps bound no_info three in

@@ -8,14 +8,14 @@ use Rattle.std.proofs.lemmas.Bool.{cases_eq, false≢true}
 use Rattle.std.proofs.lemmas.Option.{none-some, same_Some}
 use Rattle.std.proofs.lemmas.List.{length-append, get_or-set_other}
 use Rattle.slab.specs.Slab.{Slab, get}
-use Rattle.bm_arena.specs.declared.types.Entry.{Entry}
-use Rattle.bm_arena.specs.Triplets.{Block, links_of, seen_slots, at_slot, with_capacity, capacity_at, change_block}
+use Rattle.bm_arena.specs.declared.types.BlockEntry.{BlockEntry}
+use Rattle.bm_arena.specs.Triplets.{Block, links_of, slot_views, at_slot, with_capacity, capacity_at, change_block}
 use Rattle.bm_arena.specs.Lists.{IsList}
 use Rattle.bm_arena.specs.Contents.{Contents, IsReserved, with_room, find_marks, room_at, block_at}
 use Rattle.bm_arena.specs.Inside.{list_from, lists_from, IsArena}
-use Rattle.bm_arena.proofs.Seeing.{lookup-lists_from, marks_in, entry_seen}
+use Rattle.bm_arena.proofs.EntryViews.{lookup-lists_from, marks_in, entry_seen}
 use Rattle.bm_arena.proofs.Entries.{lookup-push_before, lookup-push_here, lookup-push_cases}
-use Rattle.bm_arena.proofs.Reading.{walk-nowhere, room-seen, reserve-arena, reserve-blocks, reserve-lists}
+use Rattle.bm_arena.proofs.ListReads.{walk-nowhere, room-seen, reserve-arena, reserve-blocks, reserve-lists}
 use Rattle.bm_arena.proofs.Triplets.{get_or-set_here}
 
 pub IsReserved-refl : (a : Contents) → IsReserved a a
@@ -55,7 +55,7 @@ IsReserved-trans a b c p q = record {
     room_again (Some b) = refl
 
 -- a storage without a head gets one, of an empty list
-module _ (slots : Slab Entry) (ids : List (ℕ × ℕ)) (heads : List (ℕ × Option ℕ)) (delimiter s : ℕ) (arena : IsArena slots ids heads delimiter)
+module _ (slots : Slab BlockEntry) (ids : List (ℕ × ℕ)) (heads : List (ℕ × Option ℕ)) (delimiter s : ℕ) (arena : IsArena slots ids heads delimiter)
     (absent : lookup (nat_eq s) heads ≡ None) where
   abbrev pub more : List (ℕ × Option ℕ)
   more = heads ++ (s, None) ∷ []
@@ -66,7 +66,7 @@ module _ (slots : Slab Entry) (ids : List (ℕ × ℕ)) (heads : List (ℕ × Op
   nothing_listed : IsList (links_of slots s) None (list_from slots s None)
   nothing_listed = rw empty_list (record { chain = refl; distinct = tt })
 
-  pub head-arena : IsDistinct nat_eq (keys_of more) → ((b : Block) → get_or (seen_slots slots) delimiter None ≡ Some b → length heads + 1 ≤ b.room) → IsArena slots ids more delimiter
+  pub head-arena : IsDistinct nat_eq (keys_of more) → ((b : Block) → get_or (slot_views slots) delimiter None ≡ Some b → length heads + 1 ≤ b.room) → IsArena slots ids more delimiter
   head-arena unique room = record {
     sound = record {
       lists = λ q first is.
@@ -123,7 +123,7 @@ some_map : {A B : Type 0} (f : A → B) (o : Option A) → is_some (option_map f
 some_map f None = refl
 some_map f (Some x) = refl
 
-pub head-seen : (slots : Slab Entry) (heads : List (ℕ × Option ℕ)) (s : ℕ) (found : Bool) → found ≡ is_some (lookup (nat_eq s) heads) → found ≡ is_some (lookup (nat_eq s) (lists_from slots heads))
+pub head-seen : (slots : Slab BlockEntry) (heads : List (ℕ × Option ℕ)) (s : ℕ) (found : Bool) → found ≡ is_some (lookup (nat_eq s) heads) → found ≡ is_some (lookup (nat_eq s) (lists_from slots heads))
 head-seen slots heads s found is = is ∙ sym (ap is_some (lookup-lists_from slots s heads) ∙ some_map (list_from slots s) (lookup (nat_eq s) heads))
 
 pub no_lookup : {A : Type 0} (o : Option A) → is_some o ≡ false → o ≡ None
@@ -142,28 +142,28 @@ marks-change_room blocks x room y s =
     by (Some b) = refl
 
 -- the delimiter gets capacity, and then a storage gets a head
-module _ (slots new : Slab Entry) (ids : List (ℕ × ℕ)) (heads : List (ℕ × Option ℕ)) (delimiter : ℕ)
+module _ (slots new : Slab BlockEntry) (ids : List (ℕ × ℕ)) (heads : List (ℕ × Option ℕ)) (delimiter : ℕ)
     (is : new ≡ at_slot (with_capacity (capacity_at new delimiter)) slots delimiter) (grows : capacity_at slots delimiter ≤ capacity_at new delimiter)
     (arena : IsArena slots ids heads delimiter) (steps bound : ℕ) where
-  abbrev seen_as : Slab Entry → List (ℕ × Option ℕ) → Contents
-  seen_as s hs = record { blocks = seen_slots s; ids = ids; lists = lists_from s hs; delimiter = delimiter; steps = steps; bound = bound }
+  abbrev seen_as : Slab BlockEntry → List (ℕ × Option ℕ) → Contents
+  seen_as s hs = record { blocks = slot_views s; ids = ids; lists = lists_from s hs; delimiter = delimiter; steps = steps; bound = bound }
 
   pub roomier-arena : IsArena new ids heads delimiter
   roomier-arena = reserve-arena slots new delimiter is grows ids heads delimiter arena
 
-  marker-roomier : get_or (seen_slots new) delimiter None ≡ option_map (with_room (option_map_or (λ (b : Block). b.room) (get_or (seen_slots new) delimiter None) 0)) (get_or (seen_slots slots) delimiter None)
+  marker-roomier : get_or (slot_views new) delimiter None ≡ option_map (with_room (option_map_or (λ (b : Block). b.room) (get_or (slot_views new) delimiter None) 0)) (get_or (slot_views slots) delimiter None)
   marker-roomier =
       let blocks = reserve-blocks slots new delimiter is grows ids heads delimiter arena in
-      ap (λ bs. get_or bs delimiter None) blocks ∙ get_or-set_here (seen_slots slots) delimiter (option_map (with_room (capacity_at new delimiter))) refl
-      ∙ ap (λ r. option_map (with_room r) (get_or (seen_slots slots) delimiter None)) (sym (room-seen new delimiter))
+      ap (λ bs. get_or bs delimiter None) blocks ∙ get_or-set_here (slot_views slots) delimiter (option_map (with_room (capacity_at new delimiter))) refl
+      ∙ ap (λ r. option_map (with_room r) (get_or (slot_views slots) delimiter None)) (sym (room-seen new delimiter))
 
   pub roomier-kept : (after : List (ℕ × Option ℕ)) → after ≡ heads → IsReserved (seen_as slots heads) (seen_as new after)
   roomier-kept after same =
       let lists = reserve-lists slots new delimiter is grows ids heads delimiter arena in
       let blocks = reserve-blocks slots new delimiter is grows ids heads delimiter arena in
       rw same (record {
-        blocks = λ slot differs. ap (λ bs. get_or bs slot None) blocks ∙ get_or-set_other (seen_slots slots) delimiter slot _ None differs;
-        marks = λ slot s. ap (λ bs. marks_in bs slot s) blocks ∙ marks-change_room (seen_slots slots) delimiter (capacity_at new delimiter) slot s;
+        blocks = λ slot differs. ap (λ bs. get_or bs slot None) blocks ∙ get_or-set_other (slot_views slots) delimiter slot _ None differs;
+        marks = λ slot s. ap (λ bs. marks_in bs slot s) blocks ∙ marks-change_room (slot_views slots) delimiter (capacity_at new delimiter) slot s;
         lists = λ s. ap (λ ls. unwrap_or (lookup (nat_eq s) ls) []) lists;
         heads = λ s h. rw lists h;
         ids = refl;
@@ -180,7 +180,7 @@ module _ (slots new : Slab Entry) (ids : List (ℕ × ℕ)) (heads : List (ℕ �
       rw (same, lists) at some
 
   module _ (s : ℕ) (absent : lookup (nat_eq s) heads ≡ None) (after : List (ℕ × Option ℕ)) (after_is : after ≡ heads ++ (s, None) ∷ []) where
-    pub headed-arena : IsDistinct nat_eq (keys_of after) → (count additional : ℕ) → count ≡ length heads → additional ≡ count + 1 → ((e : Entry) → get new delimiter ≡ Some e → length e.triplets.items + additional ≤ e.triplets.capacity) → IsArena new ids after delimiter
+    pub headed-arena : IsDistinct nat_eq (keys_of after) → (count additional : ℕ) → count ≡ length heads → additional ≡ count + 1 → ((e : BlockEntry) → get new delimiter ≡ Some e → length e.triplets.items + additional ≤ e.triplets.capacity) → IsArena new ids after delimiter
     headed-arena unique count additional count_is additional_is room =
         let unique_more = rw after_is at unique in
         rw after_is (head-arena new ids heads delimiter s roomier-arena absent unique_more (λ b seen.

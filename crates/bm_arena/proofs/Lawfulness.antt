@@ -7,37 +7,37 @@ use Rattle.std.specs.Prelude.{nat_eq}
 use Rattle.std.proofs.lemmas.Bool.{cases_Bool, eqb-true, eqb-false, false≢true}
 use Rattle.std.proofs.lemmas.Option.{same_Some}
 use Rattle.slab.specs.Slab.{Slab}
-use Rattle.bm_arena.specs.declared.types.Entry.{Entry}
+use Rattle.bm_arena.specs.declared.types.BlockEntry.{BlockEntry}
 use Rattle.bm_arena.specs.declared.types.Triplet.{Triplet}
-use Rattle.bm_arena.specs.Triplets.{triplet_at, links_of, seen_slots}
-use Rattle.bm_maps.specs.SlotLists.{Among, Distinct}
+use Rattle.bm_arena.specs.Triplets.{triplet_at, links_of, slot_views}
+use Rattle.bm_maps.specs.SlotLists.{IsMember, Distinct}
 use Rattle.bm_arena.specs.Lists.{Chain}
 use Rattle.bm_maps.specs.SlotLists.{slot_after, first_of}
 use Rattle.bm_arena.specs.Contents.{IsLawful, before_in, slot_before}
 use Rattle.bm_arena.specs.Inside.{list_from, lists_from, IsSound, IsBoundedArena}
-use Rattle.bm_arena.proofs.Sound.{Chain-member}
-use Rattle.bm_arena.proofs.Seeing.{marks_in, marks_of, marks-seen, entry_seen, lookup-lists_from}
+use Rattle.bm_arena.proofs.SoundOperations.{Chain-member}
+use Rattle.bm_arena.proofs.EntryViews.{marks_in, marks_of, marks-seen, entry_seen, lookup-lists_from}
 
 -- each list visits each slot once, and visits exactly the slots that have a replica on its storage
-module _ (slots : Slab Entry) (heads : List (ℕ × Option ℕ)) (sound : IsSound slots heads) where
+module _ (slots : Slab BlockEntry) (heads : List (ℕ × Option ℕ)) (sound : IsSound slots heads) where
   distinct_from : (s : ℕ) (o : Option (Option ℕ)) → lookup (nat_eq s) heads ≡ o → Distinct (unwrap_or (option_map (list_from slots s) o) [])
   distinct_from s None is = tt
   distinct_from s (Some first) is = (sound.lists s first is).distinct
 
-  marked_from : (x s : ℕ) (o : Option (Option ℕ)) → lookup (nat_eq s) heads ≡ o → Among x (unwrap_or (option_map (list_from slots s) o) []) → IsSome (marks_in (seen_slots slots) x s)
+  marked_from : (x s : ℕ) (o : Option (Option ℕ)) → lookup (nat_eq s) heads ≡ o → IsMember x (unwrap_or (option_map (list_from slots s) o) []) → IsSome (marks_in (slot_views slots) x s)
   marked_from x s None is there = absurd there
   marked_from x s (Some first) is there =
       let t = Chain-member (links_of slots s) None first (list_from slots s first) x (sound.lists s first is).chain there in
       rw (marks-seen slots x s, t.1) refl
 
-  listed_from : (x s : ℕ) (o : Option Triplet) → triplet_at slots x s ≡ o → IsSome (option_map marks_of o) → Among x (unwrap_or (lookup (nat_eq s) (lists_from slots heads)) [])
+  listed_from : (x s : ℕ) (o : Option Triplet) → triplet_at slots x s ≡ o → IsSome (option_map marks_of o) → IsMember x (unwrap_or (lookup (nat_eq s) (lists_from slots heads)) [])
   listed_from x s None is some = absurd (false≢true some)
   listed_from x s (Some t) is some =
       let found = sound.complete x s t is in
       rw (lookup-lists_from slots s heads, found.1) found.2
 
-pub IsLawful-arena : (slots : Slab Entry) (heads : List (ℕ × Option ℕ)) (ids : List (ℕ × ℕ)) (delimiter bound : ℕ) → IsBoundedArena slots ids heads delimiter bound → (steps : ℕ)
-    → IsLawful (record { blocks = seen_slots slots; ids = ids; lists = lists_from slots heads; delimiter = delimiter; steps = steps; bound = bound })
+pub IsLawful-arena : (slots : Slab BlockEntry) (heads : List (ℕ × Option ℕ)) (ids : List (ℕ × ℕ)) (delimiter bound : ℕ) → IsBoundedArena slots ids heads delimiter bound → (steps : ℕ)
+    → IsLawful (record { blocks = slot_views slots; ids = ids; lists = lists_from slots heads; delimiter = delimiter; steps = steps; bound = bound })
 IsLawful-arena slots heads ids delimiter bound whole steps = record {
   distinct = λ s. rw (lookup-lists_from slots s heads) (distinct_from slots heads whole.arena.sound s (lookup (nat_eq s) heads) refl);
   exact = λ x s. (
@@ -53,7 +53,7 @@ IsLawful-arena slots heads ids delimiter bound whole steps = record {
 }
 
 -- the slot after a slot of a list is the one that its next link leads to
-pub slot_after-chain : (links : ℕ → Option Triplet) (x : ℕ) (t : Triplet) → links x ≡ Some t → (before start : Option ℕ) (xs : List ℕ) → Chain links before start xs → Among x xs → slot_after x xs ≡ t.next
+pub slot_after-chain : (links : ℕ → Option Triplet) (x : ℕ) (t : Triplet) → links x ≡ Some t → (before start : Option ℕ) (xs : List ℕ) → Chain links before start xs → IsMember x xs → slot_after x xs ≡ t.next
 slot_after-chain links x t own before start [] chain there = absurd there
 slot_after-chain links x t own before start (y ∷ ys) chain there =
     elim (cases_Bool (eqb y x)) [
@@ -71,14 +71,14 @@ slot_after-chain links x t own before start (y ∷ ys) chain there =
     front next [] chain = sym chain
     front next (z ∷ zs) chain = sym chain.0
 
-pub next_after-list : (slots : Slab Entry) (heads : List (ℕ × Option ℕ)) (s x : ℕ) (t : Triplet) → IsSound slots heads → Some t ≡ triplet_at slots x s → t.next ≡ slot_after x (unwrap_or (lookup (nat_eq s) (lists_from slots heads)) [])
+pub next_after-list : (slots : Slab BlockEntry) (heads : List (ℕ × Option ℕ)) (s x : ℕ) (t : Triplet) → IsSound slots heads → Some t ≡ triplet_at slots x s → t.next ≡ slot_after x (unwrap_or (lookup (nat_eq s) (lists_from slots heads)) [])
 next_after-list slots heads s x t sound own =
     let found = sound.complete x s t (sym own) in
     rw (lookup-lists_from slots s heads, found.1)
     (sym (slot_after-chain (links_of slots s) x t (sym own) None found.0 (list_from slots s found.0) (sound.lists s found.0 found.1).chain found.2))
 
 -- the slot before a slot of a list is the one that its previous link leads to
-before_in-chain : (links : ℕ → Option Triplet) (x : ℕ) (t : Triplet) → links x ≡ Some t → (before start : Option ℕ) (xs : List ℕ) → Chain links before start xs → Among x xs → before_in before x xs ≡ t.previous
+before_in-chain : (links : ℕ → Option Triplet) (x : ℕ) (t : Triplet) → links x ≡ Some t → (before start : Option ℕ) (xs : List ℕ) → Chain links before start xs → IsMember x xs → before_in before x xs ≡ t.previous
 before_in-chain links x t own before start [] chain there = absurd there
 before_in-chain links x t own before start (y ∷ ys) chain there =
     elim (cases_Bool (eqb y x)) [
@@ -92,7 +92,7 @@ before_in-chain links x t own before start (y ∷ ys) chain there =
           ])
     ]
 
-pub previous_before-list : (slots : Slab Entry) (heads : List (ℕ × Option ℕ)) (s x : ℕ) (t : Triplet) → IsSound slots heads → Some t ≡ triplet_at slots x s → t.previous ≡ slot_before x (unwrap_or (lookup (nat_eq s) (lists_from slots heads)) [])
+pub previous_before-list : (slots : Slab BlockEntry) (heads : List (ℕ × Option ℕ)) (s x : ℕ) (t : Triplet) → IsSound slots heads → Some t ≡ triplet_at slots x s → t.previous ≡ slot_before x (unwrap_or (lookup (nat_eq s) (lists_from slots heads)) [])
 previous_before-list slots heads s x t sound own =
     let found = sound.complete x s t (sym own) in
     rw (lookup-lists_from slots s heads, found.1)

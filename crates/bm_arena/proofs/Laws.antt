@@ -9,13 +9,13 @@ use Rattle.std.proofs.lemmas.Option.{none-some}
 use Rattle.std.proofs.lemmas.List.{get_or-set_other}
 use Rattle.bm_base.specs.declared.replica.Marks.{Marks}
 use Rattle.bm_arena.specs.declared.types.Triplet.{Triplet}
-use Rattle.bm_arena.specs.Triplets.{Block, change_block, find_triplet, fill_first, is_of, seen_triplet}
-use Rattle.bm_maps.specs.SlotLists.{Among, Distinct, without}
-use Rattle.bm_arena.specs.Contents.{Contents, block_at, list_of, HasHead, marks_at, find_marks, with_list, with_replica, without_replica, linked_front, unlinked, moved_front, HasRoom, IsLawful, KeepsOthers, known_of, room_at}
+use Rattle.bm_arena.specs.Triplets.{Block, change_block, find_triplet, fill_first, is_of, triplet_view}
+use Rattle.bm_maps.specs.SlotLists.{IsMember, Distinct, without}
+use Rattle.bm_arena.specs.Contents.{Contents, block_at, list_of, HasHead, marks_at, find_marks, with_list, with_replica, without_replica, linked_front, unlinked, moved_front, HasCapacity, IsLawful, KeepsOthers, known_of, room_at}
 use Rattle.bm_arena.proofs.Replicas.{keys, map-fill_first, find_marks-seen, found-fill_first_here, found-fill_first_other}
 use Rattle.bm_arena.proofs.Triplets.{get_or-set_here}
-use Rattle.bm_arena.proofs.Seeing.{marks_of}
-use Rattle.bm_arena.proofs.Sound.{lookup-set_same, lookup-set_other}
+use Rattle.bm_arena.proofs.EntryViews.{marks_of}
+use Rattle.bm_arena.proofs.SoundOperations.{lookup-set_same, lookup-set_other}
 
 -- the lists after that of a storage with a head was replaced
 module _ (a : Contents) (s : ℕ) (xs : List ℕ) where
@@ -74,7 +74,7 @@ head-lawful a lawful slot s some = by (lookup (nat_eq s) a.lists) refl
   where
     by : (o : Option (List ℕ)) → lookup (nat_eq s) a.lists ≡ o → IsSome (lookup (nat_eq s) a.lists)
     by None is =
-        let P : List ℕ → Type 0 = λ l. Among slot l in
+        let P : List ℕ → Type 0 = λ l. IsMember slot l in
         absurd (subst P (ap (λ o. unwrap_or o []) is) ((lawful.exact slot s).1 some))
     by (Some xs) is = rw is refl
 
@@ -93,7 +93,7 @@ module _ (a : Contents) (s : ℕ) (xs : List ℕ) where
 abbrev as_triplets : List (ℕ × Marks) → List Triplet
 as_triplets rs = map (λ (r : ℕ × Marks). record { storage = r.0; previous = None; next = None; marks = r.1 }) rs
 
-seen-as : (rs : List (ℕ × Marks)) → map seen_triplet (as_triplets rs) ≡ rs
+seen-as : (rs : List (ℕ × Marks)) → map triplet_view (as_triplets rs) ≡ rs
 seen-as [] = refl
 seen-as (r ∷ rs) = ap (λ l. r ∷ l) (seen-as rs)
 
@@ -104,7 +104,7 @@ keys-as (r ∷ rs) = ap (λ l. r.0 ∷ l) (keys-as rs)
 found-filled : (rs : List (ℕ × Marks)) (s q : ℕ) → find_marks (fill_first (λ (r : ℕ × Marks). eqb r.0 s) rs) q ≡ option_map marks_of (find_triplet (fill_first (is_of s) (as_triplets rs)) q)
 found-filled rs s q =
     ap (λ l. find_marks l q)
-    (ap (fill_first (λ (r : ℕ × Marks). eqb r.0 s)) (sym (seen-as rs)) ∙ sym (map-fill_first seen_triplet (λ (r : ℕ × Marks). eqb r.0 s) (as_triplets rs)))
+    (ap (fill_first (λ (r : ℕ × Marks). eqb r.0 s)) (sym (seen-as rs)) ∙ sym (map-fill_first triplet_view (λ (r : ℕ × Marks). eqb r.0 s) (as_triplets rs)))
     ∙ find_marks-seen (fill_first (is_of s) (as_triplets rs)) q
 
 found-as : (rs : List (ℕ × Marks)) (q : ℕ) → option_map marks_of (find_triplet (as_triplets rs) q) ≡ find_marks rs q
@@ -199,7 +199,7 @@ others-moved_front a slot s = record {
 }
 
 -- the marks of a replica that was linked, if the block has capacity
-pub marks_at-linked : (a : Contents) (slot s : ℕ) (m : Marks) → HasRoom a slot → marks_at a slot s ≡ None → marks_at (linked_front a slot s m) slot s ≡ Some m
+pub marks_at-linked : (a : Contents) (slot s : ℕ) (m : Marks) → HasCapacity a slot → marks_at a slot s ≡ None → marks_at (linked_front a slot s m) slot s ≡ Some m
 marks_at-linked a slot s m room none = by (block_at a slot) refl
   where
     by : (o : Option Block) → block_at a slot ≡ o → marks_at (linked_front a slot s m) slot s ≡ Some m

@@ -9,14 +9,14 @@ use Rattle.std.proofs.lemmas.Option.{none-some, same_Some}
 use Rattle.std.proofs.lemmas.List.{get_or-set_other}
 use Rattle.std.proofs.Math.ListN.{get_or-map}
 use Rattle.slab.specs.Slab.{Slab, get}
-use Rattle.bm_arena.specs.declared.types.Entry.{Entry}
+use Rattle.bm_arena.specs.declared.types.BlockEntry.{BlockEntry}
 use Rattle.bm_arena.specs.declared.types.Triplet.{Triplet}
 use Rattle.bm_base.specs.declared.replica.Marks.{Marks}
-use Rattle.bm_arena.specs.Triplets.{Block, find_triplet, triplet_at, seen_slots, seen_entry, change_block, added, removed, as_first, first_after, change_at, previous_set, detached}
-use Rattle.bm_arena.specs.Contents.{Contents, with_replica, without_replica, linked_front, unlinked, moved_front, count_up}
+use Rattle.bm_arena.specs.Triplets.{Block, find_triplet, triplet_at, slot_views, entry_view, change_block, added, removed, as_first, first_after, change_at, previous_set, detached}
+use Rattle.bm_arena.specs.Contents.{Contents, with_replica, without_replica, linked_front, unlinked, moved_front, saturating_next}
 use Rattle.bm_arena.specs.Inside.{list_from, lists_from, IsSound, AreIds, IsArena}
 use Rattle.bm_arena.proofs.Triplets.{read, get_or-set_here}
-use Rattle.bm_arena.proofs.Seeing.{marks_in, marks_of, none_inside, marks-seen, lookup-lists_from}
+use Rattle.bm_arena.proofs.EntryViews.{marks_in, marks_of, none_inside, marks-seen, lookup-lists_from}
 use Rattle.bm_arena.proofs.Operations.{linked-seen, out-seen, moved-seen, linked-sound, linked-view, out-sound, out-view, moved-sound, moved-view}
 
 length-set_value : (storage : ℕ) (w : Option ℕ) (es : List (ℕ × Option ℕ)) → length (set_value (nat_eq storage) es w) ≡ length es
@@ -70,75 +70,75 @@ AreIds-change blocks ids delimiter heads x h keeps_id keeps_room are = record {
         inside_of (Some b) e = (b, refl, sym (keeps_id b) ∙ ap (λ (d : Block). d.id) (same_Some (h b) c e))
 
 -- the same, from a contract of `link_front`
-module _ (slots : Slab Entry) (heads : List (ℕ × Option ℕ)) (first : Option ℕ) (storage x : ℕ) (marks : Marks)
+module _ (slots : Slab BlockEntry) (heads : List (ℕ × Option ℕ)) (first : Option ℕ) (storage x : ℕ) (marks : Marks)
     (ids : List (ℕ × ℕ)) (delimiter : ℕ) (arena : IsArena slots ids heads delimiter) (known : Some first ≡ lookup (nat_eq storage) heads)
-    (room : IsSomeAnd (get_or (seen_slots slots) x None) (λ (b : Block). length b.replicas < b.room))
-    (absent : marks_in (seen_slots slots) x storage ≡ None) where
+    (room : IsSomeAnd (get_or (slot_views slots) x None) (λ (b : Block). length b.replicas < b.room))
+    (absent : marks_in (slot_views slots) x storage ≡ None) where
   abbrev new_triplet : Triplet
   new_triplet = record { storage = storage; previous = None; next = first; marks = marks }
 
-  here : (e : Entry) × (get slots x ≡ Some e) × (find_triplet e.triplets.items storage ≡ None)
+  here : (e : BlockEntry) × (get slots x ≡ Some e) × (find_triplet e.triplets.items storage ≡ None)
   here = by (get slots x) refl
     where
-      by : (o : Option Entry) → get slots x ≡ o → (e : Entry) × (get slots x ≡ Some e) × (find_triplet e.triplets.items storage ≡ None)
+      by : (o : Option BlockEntry) → get slots x ≡ o → (e : BlockEntry) × (get slots x ≡ Some e) × (find_triplet e.triplets.items storage ≡ None)
       by None at =
-          let nothing : get_or (seen_slots slots) x None ≡ None = get_or-map (option_map seen_entry) slots.slots x None ∙ ap (option_map seen_entry) at in
+          let nothing : get_or (slot_views slots) x None ≡ None = get_or-map (option_map entry_view) slots.slots x None ∙ ap (option_map entry_view) at in
           let P : Option Block → Type 0 = λ o. IsSomeAnd o (λ (b : Block). length b.replicas < b.room) in
           absurd (subst P nothing room)
       by (Some e) at =
           let gone : triplet_at slots x storage ≡ None = none_inside marks_of (triplet_at slots x storage) (sym (marks-seen slots x storage) ∙ absent) in
           (e, at, sym (ap (read storage) at) ∙ gone)
 
-  pub link_front-sound : (mid new : Slab Entry) (entries : List (ℕ × Option ℕ)) (w : Option ℕ) → mid ≡ added slots x new_triplet → new ≡ previous_set mid first storage (Some x) → entries ≡ set_value (nat_eq storage) heads w → w ≡ Some x → IsDistinct nat_eq (keys_of entries) → IsArena new ids entries delimiter
+  pub link_front-sound : (mid new : Slab BlockEntry) (entries : List (ℕ × Option ℕ)) (w : Option ℕ) → mid ≡ added slots x new_triplet → new ≡ previous_set mid first storage (Some x) → entries ≡ set_value (nat_eq storage) heads w → w ≡ Some x → IsDistinct nat_eq (keys_of entries) → IsArena new ids entries delimiter
   link_front-sound mid new entries w mid_is new_is entries_is w_is unique =
       let unique_at = rw (entries_is, w_is) at unique in
       rw (entries_is, w_is, new_is, mid_is) (record {
         unique = unique_at;
         sound = linked-sound slots heads first storage arena.sound (sym known) x marks here.0 here.1 here.2;
         numbers = rw (linked-seen slots heads first storage arena.sound (sym known) x marks here.0 here.1 here.2, length-set_value storage (Some x) heads)
-            (AreIds-change (seen_slots slots) ids delimiter (length heads) x (with_replica storage marks) (λ _. refl) (λ _ _. omega arith) arena.numbers);
+            (AreIds-change (slot_views slots) ids delimiter (length heads) x (with_replica storage marks) (λ _. refl) (λ _ _. omega arith) arena.numbers);
       })
 
-  pub link_front-view : (mid new : Slab Entry) (entries : List (ℕ × Option ℕ)) (w : Option ℕ) (steps counted bound : ℕ) → mid ≡ added slots x new_triplet → new ≡ previous_set mid first storage (Some x) → entries ≡ set_value (nat_eq storage) heads w → w ≡ Some x → counted ≡ count_up steps
-      → ◌≡◌ {A = Contents} (record { ids = ids; delimiter = delimiter; blocks = seen_slots new; lists = lists_from new entries; steps = counted; bound = bound })
-      (linked_front (record { ids = ids; delimiter = delimiter; blocks = seen_slots slots; lists = lists_from slots heads; steps = steps; bound = bound }) x storage marks)
+  pub link_front-view : (mid new : Slab BlockEntry) (entries : List (ℕ × Option ℕ)) (w : Option ℕ) (steps counted bound : ℕ) → mid ≡ added slots x new_triplet → new ≡ previous_set mid first storage (Some x) → entries ≡ set_value (nat_eq storage) heads w → w ≡ Some x → counted ≡ saturating_next steps
+      → ◌≡◌ {A = Contents} (record { ids = ids; delimiter = delimiter; blocks = slot_views new; lists = lists_from new entries; steps = counted; bound = bound })
+      (linked_front (record { ids = ids; delimiter = delimiter; blocks = slot_views slots; lists = lists_from slots heads; steps = steps; bound = bound }) x storage marks)
   link_front-view mid new entries w steps counted bound mid_is new_is entries_is w_is counted_is =
       rw (entries_is, w_is, new_is, mid_is, counted_is) (linked-view slots heads first storage arena.sound (sym known) x marks here.0 here.1 here.2 arena.unique ids delimiter steps bound)
 
 -- a storage whose head is not found has none
-pub no_head : (slots : Slab Entry) (heads : List (ℕ × Option ℕ)) (storage : ℕ) → None ≡ lookup (nat_eq storage) heads → IsSome (lookup (nat_eq storage) (lists_from slots heads)) → ⊥
+pub no_head : (slots : Slab BlockEntry) (heads : List (ℕ × Option ℕ)) (storage : ℕ) → None ≡ lookup (nat_eq storage) heads → IsSome (lookup (nat_eq storage) (lists_from slots heads)) → ⊥
 no_head slots heads storage none some =
     let nothing : lookup (nat_eq storage) (lists_from slots heads) ≡ None = lookup-lists_from slots storage heads ∙ ap (option_map (list_from slots storage)) (sym none) in
     let P : Option (List ℕ) → Type 0 = λ o. IsSome o in
     false≢true (subst P nothing some)
 
 -- the same, from the contracts of `unlink` and `move_front`
-module _ (slots : Slab Entry) (heads : List (ℕ × Option ℕ)) (first : Option ℕ) (storage x : ℕ) (t : Triplet)
+module _ (slots : Slab BlockEntry) (heads : List (ℕ × Option ℕ)) (first : Option ℕ) (storage x : ℕ) (t : Triplet)
     (ids : List (ℕ × ℕ)) (delimiter : ℕ) (arena : IsArena slots ids heads delimiter) (known : Some first ≡ lookup (nat_eq storage) heads) (own : Some t ≡ triplet_at slots x storage) where
-  holder : (e : Entry) × (get slots x ≡ Some e)
+  holder : (e : BlockEntry) × (get slots x ≡ Some e)
   holder = by (get slots x) refl
     where
-      by : (o : Option Entry) → get slots x ≡ o → (e : Entry) × (get slots x ≡ Some e)
+      by : (o : Option BlockEntry) → get slots x ≡ o → (e : BlockEntry) × (get slots x ≡ Some e)
       by None at = absurd (none-some t (sym (own ∙ ap (read storage) at)))
       by (Some e) at = (e, at)
 
-  pub unlink-sound : (mid new : Slab Entry) (entries : List (ℕ × Option ℕ)) (w : Option ℕ) → mid ≡ removed slots x storage → new ≡ detached mid t storage → entries ≡ set_value (nat_eq storage) heads w → w ≡ first_after first t → IsDistinct nat_eq (keys_of entries) → IsArena new ids entries delimiter
+  pub unlink-sound : (mid new : Slab BlockEntry) (entries : List (ℕ × Option ℕ)) (w : Option ℕ) → mid ≡ removed slots x storage → new ≡ detached mid t storage → entries ≡ set_value (nat_eq storage) heads w → w ≡ first_after first t → IsDistinct nat_eq (keys_of entries) → IsArena new ids entries delimiter
   unlink-sound mid new entries w mid_is new_is entries_is w_is unique =
       let unique_at = rw (entries_is, w_is) at unique in
       rw (entries_is, w_is, new_is, mid_is) (record {
         unique = unique_at;
         sound = out-sound slots heads first storage arena.sound (sym known) x t holder.0 holder.1 (sym own);
         numbers = rw (out-seen slots heads first storage arena.sound (sym known) x t holder.0 holder.1 (sym own), length-set_value storage (first_after first t) heads)
-            (AreIds-change (seen_slots slots) ids delimiter (length heads) x (without_replica storage) (λ _. refl) (λ _ _. omega arith) arena.numbers);
+            (AreIds-change (slot_views slots) ids delimiter (length heads) x (without_replica storage) (λ _. refl) (λ _ _. omega arith) arena.numbers);
       })
 
-  pub unlink-view : (mid new : Slab Entry) (entries : List (ℕ × Option ℕ)) (w : Option ℕ) (steps counted bound : ℕ) → mid ≡ removed slots x storage → new ≡ detached mid t storage → entries ≡ set_value (nat_eq storage) heads w → w ≡ first_after first t → counted ≡ count_up steps
-      → ◌≡◌ {A = Contents} (record { ids = ids; delimiter = delimiter; blocks = seen_slots new; lists = lists_from new entries; steps = counted; bound = bound })
-      (unlinked (record { ids = ids; delimiter = delimiter; blocks = seen_slots slots; lists = lists_from slots heads; steps = steps; bound = bound }) x storage)
+  pub unlink-view : (mid new : Slab BlockEntry) (entries : List (ℕ × Option ℕ)) (w : Option ℕ) (steps counted bound : ℕ) → mid ≡ removed slots x storage → new ≡ detached mid t storage → entries ≡ set_value (nat_eq storage) heads w → w ≡ first_after first t → counted ≡ saturating_next steps
+      → ◌≡◌ {A = Contents} (record { ids = ids; delimiter = delimiter; blocks = slot_views new; lists = lists_from new entries; steps = counted; bound = bound })
+      (unlinked (record { ids = ids; delimiter = delimiter; blocks = slot_views slots; lists = lists_from slots heads; steps = steps; bound = bound }) x storage)
   unlink-view mid new entries w steps counted bound mid_is new_is entries_is w_is counted_is =
       rw (entries_is, w_is, new_is, mid_is, counted_is) (out-view slots heads first storage arena.sound (sym known) x t holder.0 holder.1 (sym own) arena.unique ids delimiter steps bound)
 
-  pub move_front-sound : (front mid new : Slab Entry) (middle w : Option ℕ) (entries : List (ℕ × Option ℕ)) → front ≡ change_at (as_first first) slots x storage → mid ≡ detached front t storage → middle ≡ first_after first t → new ≡ previous_set mid middle storage (Some x) → entries ≡ set_value (nat_eq storage) heads w → w ≡ Some x → IsDistinct nat_eq (keys_of entries) → IsArena new ids entries delimiter
+  pub move_front-sound : (front mid new : Slab BlockEntry) (middle w : Option ℕ) (entries : List (ℕ × Option ℕ)) → front ≡ change_at (as_first first) slots x storage → mid ≡ detached front t storage → middle ≡ first_after first t → new ≡ previous_set mid middle storage (Some x) → entries ≡ set_value (nat_eq storage) heads w → w ≡ Some x → IsDistinct nat_eq (keys_of entries) → IsArena new ids entries delimiter
   move_front-sound front mid new middle w entries front_is mid_is middle_is new_is entries_is w_is unique =
       let unique_at = rw (entries_is, w_is) at unique in
       rw (entries_is, w_is, new_is, mid_is, front_is, middle_is) (record {
@@ -147,25 +147,25 @@ module _ (slots : Slab Entry) (heads : List (ℕ × Option ℕ)) (first : Option
         numbers = rw (moved-seen slots heads first storage arena.sound (sym known) x t holder.0 holder.1 (sym own), length-set_value storage (Some x) heads) arena.numbers;
       })
 
-  pub move_front-view : (front mid new : Slab Entry) (middle w : Option ℕ) (entries : List (ℕ × Option ℕ)) (steps counted bound : ℕ) → front ≡ change_at (as_first first) slots x storage → mid ≡ detached front t storage → middle ≡ first_after first t → new ≡ previous_set mid middle storage (Some x) → entries ≡ set_value (nat_eq storage) heads w → w ≡ Some x → counted ≡ count_up steps
-      → ◌≡◌ {A = Contents} (record { ids = ids; delimiter = delimiter; blocks = seen_slots new; lists = lists_from new entries; steps = counted; bound = bound })
-      (moved_front (record { ids = ids; delimiter = delimiter; blocks = seen_slots slots; lists = lists_from slots heads; steps = steps; bound = bound }) x storage)
+  pub move_front-view : (front mid new : Slab BlockEntry) (middle w : Option ℕ) (entries : List (ℕ × Option ℕ)) (steps counted bound : ℕ) → front ≡ change_at (as_first first) slots x storage → mid ≡ detached front t storage → middle ≡ first_after first t → new ≡ previous_set mid middle storage (Some x) → entries ≡ set_value (nat_eq storage) heads w → w ≡ Some x → counted ≡ saturating_next steps
+      → ◌≡◌ {A = Contents} (record { ids = ids; delimiter = delimiter; blocks = slot_views new; lists = lists_from new entries; steps = counted; bound = bound })
+      (moved_front (record { ids = ids; delimiter = delimiter; blocks = slot_views slots; lists = lists_from slots heads; steps = steps; bound = bound }) x storage)
   move_front-view front mid new middle w entries steps counted bound front_is mid_is middle_is new_is entries_is w_is counted_is =
       rw (entries_is, w_is, new_is, mid_is, front_is, middle_is, counted_is) (moved-view slots heads first storage arena.sound (sym known) x t holder.0 holder.1 (sym own) arena.unique ids delimiter steps bound)
 
 -- a replica without a triplet is not seen
-pub no_replica : (slots : Slab Entry) (storage x : ℕ) → None ≡ triplet_at slots x storage → IsSome (marks_in (seen_slots slots) x storage) → ⊥
+pub no_replica : (slots : Slab BlockEntry) (storage x : ℕ) → None ≡ triplet_at slots x storage → IsSome (marks_in (slot_views slots) x storage) → ⊥
 no_replica slots storage x none some =
-    let nothing : marks_in (seen_slots slots) x storage ≡ None = marks-seen slots x storage ∙ ap (option_map marks_of) (sym none) in
+    let nothing : marks_in (slot_views slots) x storage ≡ None = marks-seen slots x storage ∙ ap (option_map marks_of) (sym none) in
     let P : Option Marks → Type 0 = λ o. IsSome o in
     false≢true (subst P nothing some)
 
-pub headed : (slots : Slab Entry) (heads : List (ℕ × Option ℕ)) (storage x : ℕ) (t : Triplet) → IsSound slots heads → Some t ≡ triplet_at slots x storage → None ≡ lookup (nat_eq storage) heads → ⊥
+pub headed : (slots : Slab BlockEntry) (heads : List (ℕ × Option ℕ)) (storage x : ℕ) (t : Triplet) → IsSound slots heads → Some t ≡ triplet_at slots x storage → None ≡ lookup (nat_eq storage) heads → ⊥
 headed slots heads storage x t sound own none =
     let found = sound.complete x storage t (sym own) in
     none-some found.0 (none ∙ found.1)
 
-pub no_list : (slots : Slab Entry) (heads : List (ℕ × Option ℕ)) (storage x : ℕ) → IsSound slots heads → None ≡ lookup (nat_eq storage) heads → IsSome (marks_in (seen_slots slots) x storage) → ⊥
+pub no_list : (slots : Slab BlockEntry) (heads : List (ℕ × Option ℕ)) (storage x : ℕ) → IsSound slots heads → None ≡ lookup (nat_eq storage) heads → IsSome (marks_in (slot_views slots) x storage) → ⊥
 no_list slots heads storage x sound none some = by (triplet_at slots x storage) refl
   where
     by : (o : Option Triplet) → triplet_at slots x storage ≡ o → ⊥

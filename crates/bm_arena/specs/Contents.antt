@@ -8,9 +8,9 @@ use Rattle.indexmap.specs.IndexMap.{swap_remove_entry}
 use Rattle.bm_base.specs.declared.replica.Marks.{Marks}
 use Rattle.bm_base.specs.declared.replica.Tag.TheVariants.{Good}
 use Rattle.bm_base.specs.declared.replica.BlockInfo.{BlockInfo}
-use Rattle.bm_arena.specs.declared.types.TheConstants.{TRIPLETS_IN_PLACE}
+use Rattle.bm_arena.specs.declared.types.TheConstants.{INLINE_TRIPLETS}
 use Rattle.bm_arena.specs.Triplets.{Block, change_block, fill_first}
-use Rattle.bm_maps.specs.SlotLists.{Among, Distinct, without}
+use Rattle.bm_maps.specs.SlotLists.{IsMember, Distinct, without}
 
 -- The block, if there is one, at each slot; each block's number with its slot; each storage with a
 -- head, and the slots of its list in order. `delimiter` is the slot that marks a position in a
@@ -44,12 +44,12 @@ abbrev pub marks_at : Contents → ℕ → ℕ → Option Marks
 marks_at a slot storage = option_and_then (λ (b : Block). find_marks b.replicas storage) (block_at a slot)
 
 -- one more replica of the block fits with no allocation
-abbrev pub HasRoom : Contents → ℕ → Type 0
-HasRoom a slot = IsSomeAnd (block_at a slot) (λ (b : Block). length b.replicas < b.room)
+abbrev pub HasCapacity : Contents → ℕ → Type 0
+HasCapacity a slot = IsSomeAnd (block_at a slot) (λ (b : Block). length b.replicas < b.room)
 
 -- a count that stays at its greatest value
-abbrev pub count_up : ℕ → ℕ
-count_up n = if nat_lt n (2 ^ 64 - 1) then n + 1 else n
+abbrev pub saturating_next : ℕ → ℕ
+saturating_next n = if nat_lt n (2 ^ 64 - 1) then n + 1 else n
 
 abbrev pub with_replica : ℕ → Marks → Block → Block
 with_replica storage marks b = record b { replicas = b.replicas ++ (storage, marks) ∷ [] }
@@ -66,7 +66,7 @@ abbrev pub linked_front : Contents → ℕ → ℕ → Marks → Contents
 linked_front a slot storage marks = record a {
   blocks = change_block (with_replica storage marks) a.blocks slot;
   lists = with_list a storage (slot ∷ list_of a storage);
-  steps = count_up a.steps;
+  steps = saturating_next a.steps;
 }
 
 -- the arena after a replica was taken out
@@ -74,14 +74,14 @@ abbrev pub unlinked : Contents → ℕ → ℕ → Contents
 unlinked a slot storage = record a {
   blocks = change_block (without_replica storage) a.blocks slot;
   lists = with_list a storage (without slot (list_of a storage));
-  steps = count_up a.steps;
+  steps = saturating_next a.steps;
 }
 
 -- the arena after a slot was moved to the head of its list
 abbrev pub moved_front : Contents → ℕ → ℕ → Contents
 moved_front a slot storage = record a {
   lists = with_list a storage (slot ∷ without slot (list_of a storage));
-  steps = count_up a.steps;
+  steps = saturating_next a.steps;
 }
 
 abbrev pub with_room : ℕ → Block → Block
@@ -108,7 +108,7 @@ IsEntry a slot = (id : ℕ) × (slot_of a id ≡ Some slot)
 
 -- an entry with no block and no replica: it has its inline capacity
 abbrev pub empty_block : ℕ → Block
-empty_block id = record { id = id; info = None; replicas = []; room = TRIPLETS_IN_PLACE }
+empty_block id = record { id = id; info = None; replicas = []; room = INLINE_TRIPLETS }
 
 -- a number that was not there has an empty entry at a slot that was vacant
 pub record IsAdded (old new : Contents) (id slot : ℕ) : Type 0 where
@@ -163,7 +163,7 @@ pub record IsLawful (a : Contents) : Type 0 where
   pub distinct : (storage : ℕ) → Distinct (list_of a storage)
   -- and visits exactly the slots that have a replica on its storage; the delimiter's slot is one
   -- more member while it is in the list
-  pub exact : (slot storage : ℕ) → Among slot (list_of a storage) ↔ IsSome (marks_at a slot storage)
+  pub exact : (slot storage : ℕ) → IsMember slot (list_of a storage) ↔ IsSome (marks_at a slot storage)
   -- a block has at most one replica on a storage
   pub once : (slot : ℕ) (b : Block) → block_at a slot ≡ Some b → Distinct (map (λ (r : ℕ × Marks). r.0) b.replicas)
   -- a number leads to the slot of its entry, which is not the delimiter's
@@ -192,7 +192,7 @@ pub record KeepsOthers (old new : Contents) (slot storage : ℕ) : Type 0 where
   pub known : known_of (block_at new slot) ≡ known_of (block_at old slot)
   pub ids : new.ids ≡ old.ids
   pub delimiter : new.delimiter ≡ old.delimiter
-  pub steps : new.steps ≡ count_up old.steps
+  pub steps : new.steps ≡ saturating_next old.steps
   pub bound : new.bound ≡ old.bound
   pub room : room_at new slot ≡ room_at old slot
 

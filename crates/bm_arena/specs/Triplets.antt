@@ -6,7 +6,7 @@ use Rattle.slab.specs.Slab.{Slab, get}
 use Rattle.bm_base.specs.declared.replica.Marks.{Marks}
 use Rattle.bm_base.specs.declared.replica.BlockInfo.{BlockInfo}
 use Rattle.bm_arena.specs.declared.types.Triplet.{Triplet}
-use Rattle.bm_arena.specs.declared.types.Entry.{Entry}
+use Rattle.bm_arena.specs.declared.types.BlockEntry.{BlockEntry}
 
 -- what is seen of a block: its number, its information, each replica's storage and marks, and its
 -- capacity
@@ -44,36 +44,36 @@ abbrev pub with_triplet_marks : Marks → Triplet → Triplet
 with_triplet_marks marks t = record t { marks = marks }
 
 -- the triplet of a storage in the block at a slot
-abbrev pub triplet_at : Slab Entry → ℕ → ℕ → Option Triplet
-triplet_at slots x storage = option_and_then (λ (e : Entry). find_triplet e.triplets.items storage) (get slots x)
+abbrev pub triplet_at : Slab BlockEntry → ℕ → ℕ → Option Triplet
+triplet_at slots x storage = option_and_then (λ (e : BlockEntry). find_triplet e.triplets.items storage) (get slots x)
 
 -- an entry with other triplets in the same capacity
-abbrev pub with_triplets : Entry → List Triplet → Entry
+abbrev pub with_triplets : BlockEntry → List Triplet → BlockEntry
 with_triplets e ts = record e { triplets = record e.triplets { items = ts } }
 
 -- an entry with the same triplets in another capacity
-abbrev pub with_capacity : ℕ → Entry → Entry
+abbrev pub with_capacity : ℕ → BlockEntry → BlockEntry
 with_capacity room e = record e { triplets = record e.triplets { capacity = room } }
 
 -- how many triplets fit at a slot with no allocation
-abbrev pub capacity_at : Slab Entry → ℕ → ℕ
-capacity_at slots x = option_map_or (λ (e : Entry). e.triplets.capacity) (get slots x) 0
+abbrev pub capacity_at : Slab BlockEntry → ℕ → ℕ
+capacity_at slots x = option_map_or (λ (e : BlockEntry). e.triplets.capacity) (get slots x) 0
 
 -- the blocks, with the one at a slot changed
 abbrev pub change_block : (Block → Block) → List (Option Block) → ℕ → List (Option Block)
 change_block h blocks x = slice_set blocks x (option_map h (slice_index_or blocks x None))
 
 -- the slab, with the block at a slot changed
-abbrev pub at_slot : (Entry → Entry) → Slab Entry → ℕ → Slab Entry
+abbrev pub at_slot : (BlockEntry → BlockEntry) → Slab BlockEntry → ℕ → Slab BlockEntry
 at_slot g slots x = record slots { slots = slice_set slots.slots x (option_map g (get slots x)) }
 
 -- the slab, with one triplet changed
-abbrev pub change_at : (Triplet → Triplet) → Slab Entry → ℕ → ℕ → Slab Entry
-change_at f slots x storage = at_slot (λ (e : Entry). with_triplets e (change_triplet f e.triplets.items storage)) slots x
+abbrev pub change_at : (Triplet → Triplet) → Slab BlockEntry → ℕ → ℕ → Slab BlockEntry
+change_at f slots x storage = at_slot (λ (e : BlockEntry). with_triplets e (change_triplet f e.triplets.items storage)) slots x
 
 -- the slab, with one triplet more
-abbrev pub added : Slab Entry → ℕ → Triplet → Slab Entry
-added slots x t = at_slot (λ (e : Entry). with_triplets e (e.triplets.items ++ t ∷ [])) slots x
+abbrev pub added : Slab BlockEntry → ℕ → Triplet → Slab BlockEntry
+added slots x t = at_slot (λ (e : BlockEntry). with_triplets e (e.triplets.items ++ t ∷ [])) slots x
 
 -- the list, with its last element in front
 abbrev pub last_to_front : {X : Type 0} → List X → List X
@@ -89,37 +89,37 @@ abbrev pub is_of : ℕ → Triplet → Bool
 is_of storage t = t.storage == storage
 
 -- the slab without a storage's triplet: the block's last triplet takes its index
-abbrev pub removed : Slab Entry → ℕ → ℕ → Slab Entry
-removed slots x storage = at_slot (λ (e : Entry). with_triplets e (fill_first (is_of storage) e.triplets.items)) slots x
+abbrev pub removed : Slab BlockEntry → ℕ → ℕ → Slab BlockEntry
+removed slots x storage = at_slot (λ (e : BlockEntry). with_triplets e (fill_first (is_of storage) e.triplets.items)) slots x
 
 -- the links of one storage
-abbrev pub links_of : Slab Entry → ℕ → ℕ → Option Triplet
+abbrev pub links_of : Slab BlockEntry → ℕ → ℕ → Option Triplet
 links_of slots storage x = triplet_at slots x storage
 
 -- what is seen of a replica: its storage and its marks
-abbrev pub seen_triplet : Triplet → ℕ × Marks
-seen_triplet t = (t.storage, t.marks)
+abbrev pub triplet_view : Triplet → ℕ × Marks
+triplet_view t = (t.storage, t.marks)
 
 -- the storages of triplets, as seen
 abbrev pub storages_in : List Triplet → List ℕ
-storages_in ts = map (λ r. r.0) (map seen_triplet ts)
+storages_in ts = map (λ r. r.0) (map triplet_view ts)
 
 -- what is seen of a block
-abbrev pub seen_entry : Entry → Block
-seen_entry e = record { id = e.id; info = e.info; replicas = map seen_triplet e.triplets.items; room = e.triplets.capacity }
+abbrev pub entry_view : BlockEntry → Block
+entry_view e = record { id = e.id; info = e.info; replicas = map triplet_view e.triplets.items; room = e.triplets.capacity }
 
-abbrev pub seen_slots : Slab Entry → List (Option Block)
-seen_slots s = map (option_map seen_entry) s.slots
+abbrev pub slot_views : Slab BlockEntry → List (Option Block)
+slot_views s = map (option_map entry_view) s.slots
 
 -- the slab after a neighbour's link was written, if there is a neighbour
-abbrev pub previous_set : Slab Entry → Option ℕ → ℕ → Option ℕ → Slab Entry
+abbrev pub previous_set : Slab BlockEntry → Option ℕ → ℕ → Option ℕ → Slab BlockEntry
 previous_set slots None storage previous = slots
 previous_set slots (Some y) storage previous = change_at (with_previous previous) slots y storage
 
-abbrev pub next_set : Slab Entry → Option ℕ → ℕ → Option ℕ → Slab Entry
+abbrev pub next_set : Slab BlockEntry → Option ℕ → ℕ → Option ℕ → Slab BlockEntry
 next_set slots None storage next = slots
 next_set slots (Some y) storage next = change_at (with_next next) slots y storage
 
 -- the slab after the neighbours of a triplet were linked to each other
-abbrev pub detached : Slab Entry → Triplet → ℕ → Slab Entry
+abbrev pub detached : Slab BlockEntry → Triplet → ℕ → Slab BlockEntry
 detached slots t storage = previous_set (next_set slots t.previous storage t.next) t.next storage t.previous

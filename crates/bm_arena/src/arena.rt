@@ -2,12 +2,12 @@
 ghost use Rattle.std.specs.Prelude.{◌≡◌, ◌≢◌, ◌+◌, ℕ, None, Some, [], IfOk, IfErr};
 ghost use Rattle.bm_base.specs.declared.refusal.Refusal.TheVariants.{Memory};
 ghost use Rattle.bm_base.specs.Maps.Map.{empty};
-ghost use Rattle.bm_arena.specs.Contents.{block_at, empty_block, count_up, IsLawful};
+ghost use Rattle.bm_arena.specs.Contents.{block_at, empty_block, saturating_next, IsLawful};
 ghost use Rattle.bm_arena.specs.Holding.{replicas_of, blocks_of};
 
-use crate::numbers::Numbers;
-use crate::types::Entry;
-use crate::usual_slots::UsualSlots;
+use crate::slot_index::SlotIndex;
+use crate::types::BlockEntry;
+use crate::predicted_slots::PredictedSlots;
 use bm_base::{HashSecret, Refusal};
 use bm_maps::SlotLink;
 use indexmap::IndexMap;
@@ -32,9 +32,9 @@ pub type Slot = usize;
 /// a number whose slot is predicted right, or that is above all that were added.
 #[derive(Drop)]
 pub struct Arena {
-    pub(crate) slots: Slab<Entry>,
+    pub(crate) slots: Slab<BlockEntry>,
     // The slot of each block number.
-    pub(crate) ids: Numbers,
+    pub(crate) ids: SlotIndex,
     // The first slot of each storage's list.
     pub(crate) heads: IndexMap<u32, SlotLink, HashSecret>,
     // The index in `heads` of the storage whose list changed last: a hint, since most changes in a
@@ -47,7 +47,7 @@ pub struct Arena {
     pub(crate) bound: usize,
     pub(crate) alloc: Global,
     // Where the slots of most block numbers are.
-    pub(crate) usual: UsualSlots,
+    pub(crate) predicted: PredictedSlots,
 }
 
 impl Model for Arena {
@@ -55,11 +55,11 @@ impl Model for Arena {
 
     ghost Value = { Contents };
 
-    ghost use Rattle.bm_arena.specs.Triplets.{seen_slots};
+    ghost use Rattle.bm_arena.specs.Triplets.{slot_views};
     ghost use Rattle.bm_arena.specs.Inside.{lists_from, IsBoundedArena};
 
     ghost view = { λ a. record {
-      blocks = seen_slots a.slots;
+      blocks = slot_views a.slots;
       ids = a.ids;
       lists = lists_from a.slots a.heads.entries;
       delimiter = a.delimiter;
@@ -71,8 +71,8 @@ impl Model for Arena {
 }
 
 // The next number; the last value stays.
-pub(crate) fn count_up(steps: u64) -> u64
-    ensures { result ≡ count_up steps }
+pub(crate) fn saturating_next(steps: u64) -> u64
+    ensures { result ≡ saturating_next steps }
 {
     if steps < u64::MAX { steps + 1 } else { steps }
 }
@@ -112,21 +112,21 @@ impl Arena {
     {
         let mut slots = Slab::new(alloc);
         slots.reserve(1)?;
-        let delimiter = slots.insert_reserved(Entry {
+        let delimiter = slots.insert_reserved(BlockEntry {
             id: 0,
             info: None,
             triplets: SmallVec::new(alloc),
         });
         Ok(Arena {
             slots,
-            ids: Numbers::new(alloc, secret),
+            ids: SlotIndex::new(alloc, secret),
             heads: IndexMap::with_hasher(alloc, secret),
             last_head: 0,
             delimiter,
             steps: 0,
             bound: delimiter + 1,
             alloc,
-            usual: UsualSlots::new(),
+            predicted: PredictedSlots::new(),
         })
     }
 
@@ -136,7 +136,7 @@ impl Arena {
     }
 
     /// For proofs alone: an arena is lawful at all times. Does nothing when it runs.
-    pub fn lawful(&self)
+    pub fn show_invariant(&self)
         ensures { IsLawful self.now }
     {
         let _ = &self.slots;

@@ -2,14 +2,14 @@
 ghost use Rattle.std.specs.Prelude.{◌≡◌, ◌≢◌, ◌≤◌, ◌==◌, ℕ, if◌then◌else◌, IsSome, IsSomeAnd, None, Some, [], IfOk, IfErr, OnOk, OnErr, IsOk};
 ghost use Rattle.bm_base.specs.declared.refusal.Refusal.TheVariants.{Memory};
 ghost use Rattle.bm_arena.specs.Triplets.{Block, change_block};
-ghost use Rattle.bm_arena.specs.Contents.{dropped, room_at, with_room, with_marks, with_info, block_at, marks_at, known_of, slot_of, IsAdded, HasRoom, IsLawful, KeepsAllBut};
+ghost use Rattle.bm_arena.specs.Contents.{dropped, room_at, with_room, with_marks, with_info, block_at, marks_at, known_of, slot_of, IsAdded, HasCapacity, IsLawful, KeepsAllBut};
 ghost use Rattle.bm_arena.specs.Holding.{replicas_of, blocks_of, with_known};
 ghost use Rattle.bm_base.specs.Maps.Map.{insert};
 ghost use Rattle.bm_base.specs.Machine.State.{replica_at};
 
 use crate::arena::{Arena, Slot};
 use crate::links;
-use crate::types::Entry;
+use crate::types::BlockEntry;
 use bm_base::{BlockId, BlockInfo, Marks, Refusal, StorageId};
 use smallvec::SmallVec;
 
@@ -29,19 +29,19 @@ impl Arena {
         ensures unchanged { OnErr result (self.new ≡ self.old) }
         ensures lawful { IsLawful self.new }
     {
-        self.lawful();
-        if let Some(slot) = self.find_usual(id) {
+        self.show_invariant();
+        if let Some(slot) = self.find_predicted(id) {
             return Ok(slot);
         }
         let (slot, is_new) = self.ids.slot_for(&mut self.slots, id.0)?;
         if is_new {
-            self.slots.insert_reserved(Entry {
+            self.slots.insert_reserved(BlockEntry {
                 id: id.0,
                 info: None,
                 triplets: SmallVec::new(self.alloc),
             });
             self.bound = self.bound.max(slot + 1);
-            self.usual.add(id.0, slot);
+            self.predicted.add(id.0, slot);
         }
         Ok(slot)
     }
@@ -62,7 +62,7 @@ impl Arena {
     {
         if let Some(id) = links::remove_entry(&mut self.slots, slot) {
             self.ids.remove(id);
-            self.usual.drop(id, slot);
+            self.predicted.drop(id, slot);
         }
     }
 
@@ -70,9 +70,9 @@ impl Arena {
     /// there already, nothing is done; so up to three replicas take no memory. `Memory`.
     pub fn reserve_triplet(&mut self, slot: Slot) -> Result<(), Refusal>
         requires { IsSome (block_at self.old slot) }
-        ensures room { OnOk result (HasRoom self.new slot) }
-        ensures succeeds { HasRoom self.old slot → IsOk result }
-        ensures had_room { HasRoom self.old slot → self.new ≡ self.old }
+        ensures room { OnOk result (HasCapacity self.new slot) }
+        ensures succeeds { HasCapacity self.old slot → IsOk result }
+        ensures had_room { HasCapacity self.old slot → self.new ≡ self.old }
         ensures rest { self.new
             ≡ record self.old {
               blocks = change_block (with_room (room_at self.new slot))

@@ -11,11 +11,11 @@ mod arena;
 mod block_entries;
 mod links;
 mod list_heads;
-mod look_ups;
-mod numbers;
+mod lookups;
+mod slot_index;
 mod storage_lists;
 mod types;
-mod usual_slots;
+mod predicted_slots;
 mod walk;
 
 pub use arena::{Arena, Slot};

@@ -4,13 +4,13 @@ ghost use Rattle.std.specs.Prelude.{OnSome, OnOk, OnErr, IsOk, IsSomeAnd, if◌t
 ghost use Rattle.std.specs.List.{position_or_len};
 ghost use Rattle.std.specs.Option.{option_map, option_and_then};
 ghost use Rattle.slab.specs.Slab.{get};
-ghost use Rattle.bm_arena.specs.declared.types.Entry.{Entry};
+ghost use Rattle.bm_arena.specs.declared.types.BlockEntry.{BlockEntry};
 ghost use Rattle.smallvec.specs.SmallVec.{HasRoomFor};
 ghost use Rattle.bm_maps.specs.SlotLinks.{end_of_links};
 ghost use Rattle.bm_maps.specs.SlotLists.{Distinct};
-ghost use Rattle.bm_arena.specs.Triplets.{seen_triplet, with_capacity, capacity_at, at_slot, added, removed, fill_first, is_of, as_first, first_after, previous_set, detached, find_triplet, change_triplet, storages_in, with_previous, with_next, with_triplet_marks, triplet_at, change_at};
+ghost use Rattle.bm_arena.specs.Triplets.{triplet_view, with_capacity, capacity_at, at_slot, added, removed, fill_first, is_of, as_first, first_after, previous_set, detached, find_triplet, change_triplet, storages_in, with_previous, with_next, with_triplet_marks, triplet_at, change_at};
 
-use crate::types::{Entry, TRIPLETS_IN_PLACE, Triplet};
+use crate::types::{BlockEntry, INLINE_TRIPLETS, Triplet};
 use bm_base::{BlockInfo, Marks, StorageId};
 use bm_maps::{NO_LINK, SlotLink};
 use slab::Slab;
@@ -19,10 +19,10 @@ use std::alloc::AllocError;
 
 // The index of a storage's triplet.
 #[inline]
-fn place_of(triplets: &[Triplet], storage: u32) -> Option<usize>
+fn index_of(triplets: &[Triplet], storage: u32) -> Option<usize>
     ensures { result ≡ position (λ t. t.storage == storage) triplets.now }
 {
-    let first = first_place(triplets, storage);
+    let first = first_index(triplets, storage);
     if first < triplets.len() {
         Some(first)
     } else {
@@ -33,7 +33,7 @@ fn place_of(triplets: &[Triplet], storage: u32) -> Option<usize>
 // The index of the first triplet of a storage; the number of triplets if there is none. Up to three
 // are compared with no loop and no branch, since the processor can't predict the index.
 #[inline]
-fn first_place(triplets: &[Triplet], storage: u32) -> usize
+fn first_index(triplets: &[Triplet], storage: u32) -> usize
     ensures { result ≡ position_or_len (λ t. t.storage == storage) triplets.now }
 {
     match triplets {
@@ -45,7 +45,7 @@ fn first_place(triplets: &[Triplet], storage: u32) -> usize
             b.storage == storage,
             c.storage == storage,
         ),
-        _ => first_of_many(triplets, storage),
+        _ => first_index_of_many(triplets, storage),
     }
 }
 
@@ -68,7 +68,7 @@ fn first_true(a: bool, b: bool, c: bool) -> usize
 }
 
 #[inline(never)]
-fn first_of_many(triplets: &[Triplet], storage: u32) -> usize
+fn first_index_of_many(triplets: &[Triplet], storage: u32) -> usize
     ensures { result ≡ position_or_len (λ t. t.storage == storage) triplets.now }
 {
     let mut first = triplets.len();
@@ -82,21 +82,21 @@ fn first_of_many(triplets: &[Triplet], storage: u32) -> usize
 
 // The index of a storage's triplet, if no two triplets are of one storage. Compares the triplet
 // at index `guess` first, and the others only if that one is of another storage.
-fn place_near(triplets: &[Triplet], storage: u32, guess: usize) -> Option<usize>
+fn index_near(triplets: &[Triplet], storage: u32, guess: usize) -> Option<usize>
     requires { Distinct (storages_in triplets.now) }
     ensures { result ≡ position (λ t. t.storage == storage) triplets.now }
 {
     if guess < triplets.len() && triplets[guess].storage == storage {
         return Some(guess);
     }
-    place_of(triplets, storage)
+    index_of(triplets, storage)
 }
 
 // The triplet of a storage.
 fn find_in(triplets: &[Triplet], storage: u32) -> Option<Triplet>
     ensures { result ≡ find_triplet triplets.now storage }
 {
-    match place_of(triplets, storage) {
+    match index_of(triplets, storage) {
         Some(place) => Some(triplets[place]),
         None => None,
     }
@@ -105,7 +105,7 @@ fn find_in(triplets: &[Triplet], storage: u32) -> Option<Triplet>
 fn set_previous_in(triplets: &mut [Triplet], storage: u32, previous: SlotLink)
     ensures { triplets.new ≡ change_triplet (with_previous previous) triplets.old storage }
 {
-    if let Some(place) = place_of(triplets, storage) {
+    if let Some(place) = index_of(triplets, storage) {
         triplets[place].previous = previous;
     }
 }
@@ -113,7 +113,7 @@ fn set_previous_in(triplets: &mut [Triplet], storage: u32, previous: SlotLink)
 fn set_next_in(triplets: &mut [Triplet], storage: u32, next: SlotLink)
     ensures { triplets.new ≡ change_triplet (with_next next) triplets.old storage }
 {
-    if let Some(place) = place_of(triplets, storage) {
+    if let Some(place) = index_of(triplets, storage) {
         triplets[place].next = next;
     }
 }
@@ -121,7 +121,7 @@ fn set_next_in(triplets: &mut [Triplet], storage: u32, next: SlotLink)
 fn set_marks_in(triplets: &mut [Triplet], storage: u32, marks: Marks)
     ensures { triplets.new ≡ change_triplet (with_triplet_marks marks) triplets.old storage }
 {
-    if let Some(place) = place_of(triplets, storage) {
+    if let Some(place) = index_of(triplets, storage) {
         triplets[place].marks = marks;
     }
 }
@@ -130,13 +130,13 @@ fn set_marks_near_in(triplets: &mut [Triplet], storage: u32, marks: Marks, guess
     requires { Distinct (storages_in triplets.old) }
     ensures { triplets.new ≡ change_triplet (with_triplet_marks marks) triplets.old storage }
 {
-    if let Some(place) = place_near(triplets, storage, guess) {
+    if let Some(place) = index_near(triplets, storage, guess) {
         triplets[place].marks = marks;
     }
 }
 
 // The triplet of a storage in the block at a slot.
-pub(crate) fn find(slots: &Slab<Entry>, slot: usize, storage: u32) -> Option<Triplet>
+pub(crate) fn find(slots: &Slab<BlockEntry>, slot: usize, storage: u32) -> Option<Triplet>
     ensures { result ≡ triplet_at slots.now slot storage }
 {
     match slots.get(slot) {
@@ -145,7 +145,7 @@ pub(crate) fn find(slots: &Slab<Entry>, slot: usize, storage: u32) -> Option<Tri
     }
 }
 
-fn set_previous(slots: &mut Slab<Entry>, slot: usize, storage: u32, previous: SlotLink)
+fn set_previous(slots: &mut Slab<BlockEntry>, slot: usize, storage: u32, previous: SlotLink)
     ensures { slots.new ≡ change_at (with_previous previous) slots.old slot storage }
 {
     if let Some(entry) = slots.get_mut(slot) {
@@ -153,7 +153,7 @@ fn set_previous(slots: &mut Slab<Entry>, slot: usize, storage: u32, previous: Sl
     }
 }
 
-fn set_next(slots: &mut Slab<Entry>, slot: usize, storage: u32, next: SlotLink)
+fn set_next(slots: &mut Slab<BlockEntry>, slot: usize, storage: u32, next: SlotLink)
     ensures { slots.new ≡ change_at (with_next next) slots.old slot storage }
 {
     if let Some(entry) = slots.get_mut(slot) {
@@ -163,7 +163,7 @@ fn set_next(slots: &mut Slab<Entry>, slot: usize, storage: u32, next: SlotLink)
 
 // Relinks the triplet of a storage as the head of its list. Returns the triplet before that.
 pub(crate) fn put_first(
-    slots: &mut Slab<Entry>,
+    slots: &mut Slab<BlockEntry>,
     slot: usize,
     storage: u32,
     first: SlotLink,
@@ -181,7 +181,7 @@ fn put_first_in(triplets: &mut [Triplet], storage: u32, first: SlotLink) -> Opti
     ensures found { result ≡ find_triplet triplets.old storage }
     ensures triplets { triplets.new ≡ change_triplet (as_first first) triplets.old storage }
 {
-    match place_of(triplets, storage) {
+    match index_of(triplets, storage) {
         Some(place) => {
             let triplet = triplets[place];
             triplets[place] = as_first(&triplet, first);
@@ -207,7 +207,7 @@ fn as_first(triplet: &Triplet, first: SlotLink) -> Triplet
     }
 }
 
-pub(crate) fn set_marks(slots: &mut Slab<Entry>, slot: usize, storage: u32, marks: Marks)
+pub(crate) fn set_marks(slots: &mut Slab<BlockEntry>, slot: usize, storage: u32, marks: Marks)
     ensures { slots.new ≡ change_at (with_triplet_marks marks) slots.old slot storage }
 {
     if let Some(entry) = slots.get_mut(slot) {
@@ -217,13 +217,13 @@ pub(crate) fn set_marks(slots: &mut Slab<Entry>, slot: usize, storage: u32, mark
 
 // The same, with a guess of the triplet's index.
 pub(crate) fn set_marks_near(
-    slots: &mut Slab<Entry>,
+    slots: &mut Slab<BlockEntry>,
     slot: usize,
     storage: u32,
     marks: Marks,
     guess: usize,
 )
-    requires { (e : Entry) → get slots.old slot ≡ Some e → Distinct (storages_in e.triplets.items) }
+    requires { (e : BlockEntry) → get slots.old slot ≡ Some e → Distinct (storages_in e.triplets.items) }
     ensures { slots.new ≡ change_at (with_triplet_marks marks) slots.old slot storage }
 {
     if let Some(entry) = slots.get_mut(slot) {
@@ -231,7 +231,7 @@ pub(crate) fn set_marks_near(
     }
 }
 
-pub(crate) fn set_info(slots: &mut Slab<Entry>, slot: usize, info: Option<BlockInfo>)
+pub(crate) fn set_info(slots: &mut Slab<BlockEntry>, slot: usize, info: Option<BlockInfo>)
     ensures { slots.new ≡ at_slot (λ e. record e { info = info }) slots.old slot }
 {
     if let Some(entry) = slots.get_mut(slot) {
@@ -242,7 +242,7 @@ pub(crate) fn set_info(slots: &mut Slab<Entry>, slot: usize, info: Option<BlockI
 // Puts a slot at the head of a list. Its triplet has no previous link, and its next link leads to
 // the old head.
 #[inline]
-pub(crate) fn attach(slots: &mut Slab<Entry>, first: &mut SlotLink, slot: usize, storage: u32)
+pub(crate) fn attach(slots: &mut Slab<BlockEntry>, first: &mut SlotLink, slot: usize, storage: u32)
     requires { slot < end_of_links }
     ensures slots { slots.new ≡ previous_set slots.old first.old storage (Some slot) }
     ensures first { first.new ≡ Some slot }
@@ -256,7 +256,7 @@ pub(crate) fn attach(slots: &mut Slab<Entry>, first: &mut SlotLink, slot: usize,
 
 // Links the neighbours of a triplet to each other.
 #[inline(always)]
-pub(crate) fn detach(slots: &mut Slab<Entry>, first: &mut SlotLink, triplet: Triplet, storage: u32)
+pub(crate) fn detach(slots: &mut Slab<BlockEntry>, first: &mut SlotLink, triplet: Triplet, storage: u32)
     ensures slots { slots.new ≡ detached slots.old triplet storage }
     ensures first { first.new ≡ first_after first.old triplet }
 {
@@ -270,7 +270,7 @@ pub(crate) fn detach(slots: &mut Slab<Entry>, first: &mut SlotLink, triplet: Tri
 }
 
 // Adds a triplet to the block at a slot, which has capacity for it.
-pub(crate) fn add_triplet(slots: &mut Slab<Entry>, slot: usize, triplet: Triplet)
+pub(crate) fn add_triplet(slots: &mut Slab<BlockEntry>, slot: usize, triplet: Triplet)
     requires { IsSomeAnd (get slots.old slot) (λ e. HasRoomFor e.triplets 1) }
     ensures { slots.new ≡ added slots.old slot triplet }
 {
@@ -280,31 +280,31 @@ pub(crate) fn add_triplet(slots: &mut Slab<Entry>, slot: usize, triplet: Triplet
 }
 
 // Removes a storage's triplet from a block's: the last one takes its index.
-fn fill_place(triplets: &mut SmallVec<Triplet, TRIPLETS_IN_PLACE>, storage: u32) -> Option<Triplet>
+fn remove_and_fill(triplets: &mut SmallVec<Triplet, INLINE_TRIPLETS>, storage: u32) -> Option<Triplet>
     ensures found { result ≡ find_triplet triplets.old.items storage }
     ensures items { triplets.new.items ≡ fill_first (is_of storage) triplets.old.items }
     ensures capacity { triplets.new.capacity ≡ triplets.old.capacity }
 {
-    match place_of(triplets.as_slice(), storage) {
+    match index_of(triplets.as_slice(), storage) {
         Some(place) => Some(triplets.swap_remove(place)),
         None => None,
     }
 }
 
 // Removes a storage's triplet from the block at a slot: the block's last triplet takes its index.
-pub(crate) fn remove_triplet(slots: &mut Slab<Entry>, slot: usize, storage: u32) -> Option<Triplet>
+pub(crate) fn remove_triplet(slots: &mut Slab<BlockEntry>, slot: usize, storage: u32) -> Option<Triplet>
     ensures found { result ≡ triplet_at slots.old slot storage }
     ensures slots { slots.new ≡ removed slots.old slot storage }
 {
     match slots.get_mut(slot) {
-        Some(entry) => fill_place(&mut entry.triplets, storage),
+        Some(entry) => remove_and_fill(&mut entry.triplets, storage),
         None => None,
     }
 }
 
 // Reserves capacity for more triplets of the block at a slot.
 pub(crate) fn reserve_triplets(
-    slots: &mut Slab<Entry>,
+    slots: &mut Slab<BlockEntry>,
     slot: usize,
     additional: usize,
 ) -> Result<(), AllocError>
@@ -325,9 +325,9 @@ pub(crate) fn reserve_triplets(
 }
 
 // The storage and the marks of the triplet at index `i` of the block at a slot.
-pub(crate) fn replica_at(slots: &Slab<Entry>, slot: usize, i: usize) -> Option<(StorageId, Marks)>
+pub(crate) fn replica_at(slots: &Slab<BlockEntry>, slot: usize, i: usize) -> Option<(StorageId, Marks)>
     ensures { result ≡ option_and_then
-        (λ e. option_map seen_triplet (slice_get e.triplets.items i)) (get slots.now slot) }
+        (λ e. option_map triplet_view (slice_get e.triplets.items i)) (get slots.now slot) }
 {
     match slots.get(slot) {
         Some(entry) => replica_in(entry.triplets.as_slice(), i),
@@ -336,7 +336,7 @@ pub(crate) fn replica_at(slots: &Slab<Entry>, slot: usize, i: usize) -> Option<(
 }
 
 fn replica_in(triplets: &[Triplet], i: usize) -> Option<(StorageId, Marks)>
-    ensures { result ≡ option_map seen_triplet (slice_get triplets.now i) }
+    ensures { result ≡ option_map triplet_view (slice_get triplets.now i) }
 {
     if i < triplets.len() {
         Some(triplets[i].replica())
@@ -346,9 +346,9 @@ fn replica_in(triplets: &[Triplet], i: usize) -> Option<(StorageId, Marks)>
 }
 
 // The number of the entry at a slot.
-pub(crate) fn id_at(slots: &Slab<Entry>, slot: usize) -> u64
+pub(crate) fn id_at(slots: &Slab<BlockEntry>, slot: usize) -> u64
     requires { IsSome (get slots.now slot) }
-    ensures { (e : Entry) → get slots.now slot ≡ Some e → result ≡ e.id }
+    ensures { (e : BlockEntry) → get slots.now slot ≡ Some e → result ≡ e.id }
 {
     match slots.get(slot) {
         Some(entry) => entry.id,
@@ -357,7 +357,7 @@ pub(crate) fn id_at(slots: &Slab<Entry>, slot: usize) -> u64
 }
 
 // Removes the entry at a slot, and gives its number.
-pub(crate) fn remove_entry(slots: &mut Slab<Entry>, slot: usize) -> Option<u64>
+pub(crate) fn remove_entry(slots: &mut Slab<BlockEntry>, slot: usize) -> Option<u64>
     ensures id { result ≡ option_map (λ e. e.id) (get slots.old slot) }
     ensures slots { OnSome result (slots.new.slots ≡ slice_set slots.old.slots slot None) }
 {

@@ -5,13 +5,13 @@ ghost use Rattle.std.specs.Option.{unwrap_or};
 ghost use Rattle.indexmap.specs.IndexMap.{swap_remove_entry};
 ghost use Rattle.bm_base.specs.declared.refusal.Refusal.TheVariants.{Memory};
 ghost use Rattle.bm_maps.specs.SlotLists.{slot_after};
-ghost use Rattle.bm_arena.specs.Contents.{IsReserved, no_marks, list_of, slot_before, HasHead, HasRoom, marks_at, linked_front, unlinked, moved_front, KeepsOthers, IsLawful, slot_of};
+ghost use Rattle.bm_arena.specs.Contents.{IsReserved, no_marks, list_of, slot_before, HasHead, HasCapacity, marks_at, linked_front, unlinked, moved_front, KeepsOthers, IsLawful, slot_of};
 ghost use Rattle.bm_arena.specs.Holding.{replicas_of, blocks_of};
 ghost use Rattle.bm_base.specs.Maps.Map.{insert, remove};
 ghost use Rattle.bm_base.specs.Machine.State.{replica_at};
 ghost use Rattle.bm_maps.specs.SlotLists.{without};
 
-use crate::arena::{Arena, Slot, count_up};
+use crate::arena::{Arena, Slot, saturating_next};
 use crate::types::{NO_MARKS, Triplet};
 use crate::walk::Walk;
 use crate::{links, list_heads};
@@ -35,7 +35,7 @@ impl Arena {
         ensures refused { IfErr result (λ e. e ≡ Memory) }
         ensures lawful { IsLawful self.new }
     {
-        self.lawful();
+        self.show_invariant();
         for storage in storages {
             self.reserve_head(*storage)?;
         }
@@ -80,7 +80,7 @@ impl Arena {
     /// storage's list. Takes no memory.
     pub fn link_front(&mut self, slot: Slot, storage: StorageId, marks: Marks)
         requires head { HasHead self.old storage }
-        requires room { HasRoom self.old slot }
+        requires room { HasCapacity self.old slot }
         requires absent { marks_at self.old slot storage ≡ None }
         ensures after { self.new ≡ linked_front self.old slot storage marks }
         ensures list { list_of self.new storage ≡ slot ∷ list_of self.old storage }
@@ -103,7 +103,7 @@ impl Arena {
             links::attach(&mut self.slots, &mut first, slot, storage.0);
             list_heads::set(&mut self.heads, head.index, first);
             self.last_head = head.index;
-            self.steps = count_up(self.steps);
+            self.steps = saturating_next(self.steps);
         }
     }
 
@@ -126,7 +126,7 @@ impl Arena {
                 links::detach(&mut self.slots, &mut first, triplet, storage.0);
                 list_heads::set(&mut self.heads, head.index, first);
                 self.last_head = head.index;
-                self.steps = count_up(self.steps);
+                self.steps = saturating_next(self.steps);
             }
         }
     }
@@ -150,7 +150,7 @@ impl Arena {
                 links::attach(&mut self.slots, &mut first, slot, storage.0);
                 list_heads::set(&mut self.heads, head.index, first);
                 self.last_head = head.index;
-                self.steps = count_up(self.steps);
+                self.steps = saturating_next(self.steps);
             }
         }
     }

@@ -1,6 +1,6 @@
 // The content of a slot: a block's entry with its triplets.
 ghost use Rattle.std.specs.Prelude.{◌≡◌};
-ghost use Rattle.bm_arena.specs.Triplets.{seen_triplet};
+ghost use Rattle.bm_arena.specs.Triplets.{triplet_view};
 
 use bm_base::{BlockInfo, Marks, StorageId, Tag};
 use bm_maps::{NO_LINK, SlotLink};
@@ -20,7 +20,7 @@ impl Triplet {
     /// Its storage and its marks.
     #[inline]
     pub fn replica(&self) -> (StorageId, Marks)
-        ensures { result ≡ seen_triplet self.now }
+        ensures { result ≡ triplet_view self.now }
     {
         (StorageId(self.storage), self.marks)
     }
@@ -46,13 +46,13 @@ pub(crate) const NO_MARKS: Marks = Marks {
 };
 
 /// The number of replicas that an entry holds inline; more of them are in memory of their own.
-pub(crate) const TRIPLETS_IN_PLACE: usize = 3;
+pub(crate) const INLINE_TRIPLETS: usize = 3;
 
 /// A block, or a number that is only reserved. The triplets are the first field: a write of a
 /// neighbour's link touches only them, and so fewer cache lines.
 #[derive(Drop)]
-pub(crate) struct Entry {
-    pub(crate) triplets: SmallVec<Triplet, TRIPLETS_IN_PLACE>,
+pub(crate) struct BlockEntry {
+    pub(crate) triplets: SmallVec<Triplet, INLINE_TRIPLETS>,
     pub(crate) id: u64,
     pub(crate) info: Option<BlockInfo>,
 }

@@ -2,7 +2,7 @@
 ghost use Rattle.std.specs.Iterator.{YieldsFirst, item_count};
 
 use crate::links;
-use crate::types::Entry;
+use crate::types::BlockEntry;
 use bm_maps::{NO_LINK, SlotLink};
 use slab::Slab;
 use std::marker::Model;
@@ -11,7 +11,7 @@ use std::marker::Model;
 /// memory.
 #[derive(Drop)]
 pub struct Walk<'a> {
-    pub(crate) slots: &'a Slab<Entry>,
+    pub(crate) slots: &'a Slab<BlockEntry>,
     pub(crate) storage: u32,
     pub(crate) next: SlotLink,
     // No more slots than these are left.

@@ -12,14 +12,14 @@ use Rattle.std.proofs.Common.{cond, refl, sym, ap, subst, ◌∙◌, arith, inl,
 use Rattle.std.proofs.lemmas.Bool.{cases_eq, cases_Bool, eq-eqb, ne_eqb, eqb-true}
 use Rattle.bm_base.specs.declared.replica.Marks.{Marks}
 use Rattle.bm_base.specs.declared.replica.ReplicaId.{ReplicaId}
-use Rattle.bm_maps.specs.SlotLists.{Among, Distinct}
+use Rattle.bm_maps.specs.SlotLists.{IsMember, Distinct}
 use Rattle.bm_base.specs.Maps.Map.{revise}
 use Rattle.bm_base.proofs.MapLaws.{same_map, get-revise}
 use Rattle.bm_arena.specs.Triplets.{Block, change_block}
 use Rattle.bm_arena.specs.Contents.{Contents, block_at, slot_of, marks_at, find_marks, change_marks, with_marks, known_of, IsLawful, KeepsAllBut}
 use Rattle.bm_arena.specs.Holding.{replicas_at, replicas_of, blocks_of}
-use Rattle.bm_arena.proofs.Changed.{changed-here}
-use Rattle.bm_arena.proofs.Held.{get-replicas_of, one_number, blocks-kept}
+use Rattle.bm_arena.proofs.ChangedBlock.{changed-here}
+use Rattle.bm_arena.proofs.HeldReplicas.{get-replicas_of, one_number, blocks-kept}
 use Rattle.bm_levels.specs.Changes.{each_changed}
 
 -- the replicas, with the marks of the first n changed
@@ -33,7 +33,7 @@ keys_at rs = map (λ (r : ℕ × Marks). r.0) rs
 
 module _ (f : ℕ → Marks → Marks) where
   -- an unchanged replica at an index is one of the given replicas
-  left_listed : (n : ℕ) (rs : List (ℕ × Marks)) (r : ℕ × Marks) → slice_get (changed_first f n rs) n ≡ Some r → Among r.0 (keys_at rs)
+  left_listed : (n : ℕ) (rs : List (ℕ × Marks)) (r : ℕ × Marks) → slice_get (changed_first f n rs) n ≡ Some r → IsMember r.0 (keys_at rs)
   left_listed zero [] r e = cc
   left_listed zero (x ∷ rs) r e = let same : x ≡ r = (cc) in inl (ap (λ (z : ℕ × Marks). z.0) (sym same))
   left_listed (suc n) [] r e = cc
@@ -48,7 +48,7 @@ module _ (f : ℕ → Marks → Marks) where
       ∙ ap (λ (z : ℕ × Marks). (x.0, f z.0 z.1) ∷ rs) (sym same)
   change_next (suc n) [] r d e = cc
   change_next (suc n) (x ∷ rs) r d e =
-      let apart : x.0 ≢ r.0 = λ same. d.0 (let P : ℕ → Type 0 = λ z. Among z (keys_at rs) in subst P (sym same) (left_listed n rs r e)) in
+      let apart : x.0 ≢ r.0 = λ same. d.0 (let P : ℕ → Type 0 = λ z. IsMember z (keys_at rs) in subst P (sym same) (left_listed n rs r e)) in
       ap (λ b. if b then (x.0, f r.0 r.1) ∷ changed_first f n rs else (x.0, f x.0 x.1) ∷ change_marks (changed_first f n rs) r.0 (f r.0 r.1)) (ne_eqb x.0 r.0 apart)
       ∙ ap (λ xs. (x.0, f x.0 x.1) ∷ xs) (change_next n rs r d.1 e)
 
@@ -101,9 +101,9 @@ pub changed_step : (f : ℕ → Marks → Marks) (a b c : Contents) (slot n s : 
     → replicas_at c slot ≡ changed_first f (n + 1) (replicas_at a slot)
 changed_step f a b c slot n s m new lawful is before there after =
     let at : slice_get (changed_first f n (replicas_at a slot)) n ≡ Some (s, m) = sym (ap (λ rs. slice_get rs n) before) ∙ listed (block_at b slot) ∙ there in
-    let one_more : suc n ≡ n + 1 = omega arith in
+    let count_replica : suc n ≡ n + 1 = omega arith in
     ap (λ x. replicas_at x slot) (after ∙ ap (λ (z : Marks). record b { blocks = change_block (with_marks s z) b.blocks slot }) is) ∙ ap (λ o. option_map_or (λ (k : Block). k.replicas) o []) (changed-here b slot (with_marks s (f s m))) ∙ written (block_at b slot)
-    ∙ ap (λ rs. change_marks rs s (f s m)) before ∙ change_next f n (replicas_at a slot) (s, m) (once_at a slot lawful) at ∙ ap (λ k. changed_first f k (replicas_at a slot)) one_more
+    ∙ ap (λ rs. change_marks rs s (f s m)) before ∙ change_next f n (replicas_at a slot) (s, m) (once_at a slot lawful) at ∙ ap (λ k. changed_first f k (replicas_at a slot)) count_replica
   where
     listed : (o : Option Block) → slice_get (option_map_or (λ (k : Block). k.replicas) o []) n ≡ option_and_then (λ (k : Block). slice_get k.replicas n) o
     listed None = refl
@@ -119,8 +119,8 @@ pub unchanged_step : (f : ℕ → Marks → Marks) (a b : Contents) (slot n s : 
     → replicas_at b slot ≡ changed_first f (n + 1) (replicas_at a slot)
 unchanged_step f a b slot n s m new is same before there =
     let at : slice_get (changed_first f n (replicas_at a slot)) n ≡ Some (s, m) = sym (ap (λ rs. slice_get rs n) before) ∙ listed (block_at b slot) ∙ there in
-    let one_more : suc n ≡ n + 1 = omega arith in
-    before ∙ change_none f n (replicas_at a slot) (s, m) at (sym is ∙ same) ∙ ap (λ k. changed_first f k (replicas_at a slot)) one_more
+    let count_replica : suc n ≡ n + 1 = omega arith in
+    before ∙ change_none f n (replicas_at a slot) (s, m) at (sym is ∙ same) ∙ ap (λ k. changed_first f k (replicas_at a slot)) count_replica
   where
     listed : (o : Option Block) → slice_get (option_map_or (λ (k : Block). k.replicas) o []) n ≡ option_and_then (λ (k : Block). slice_get k.replicas n) o
     listed None = refl
@@ -188,7 +188,7 @@ module _ (f : ℕ → Marks → Marks) (a c : Contents) (slot b : ℕ) (lawful :
   block_known known = blocks-kept a c slot rest.ids rest.blocks known
 
 -- the replica at an index is the one found on its storage, if no two share a storage
-listed_at : (rs : List (ℕ × Marks)) (n : ℕ) (r : ℕ × Marks) → slice_get rs n ≡ Some r → Among r.0 (keys_at rs)
+listed_at : (rs : List (ℕ × Marks)) (n : ℕ) (r : ℕ × Marks) → slice_get rs n ≡ Some r → IsMember r.0 (keys_at rs)
 listed_at [] n r e = cc
 listed_at (x ∷ rs) zero r e = let same : x ≡ r = (cc) in inl (ap (λ (z : ℕ × Marks). z.0) (sym same))
 listed_at (x ∷ rs) (suc n) r e = inr (listed_at rs n r e)
@@ -199,7 +199,7 @@ found_at (x ∷ rs) zero r d e =
     let same : x ≡ r = (cc) in
     ap (λ b. cond b (Some x.1) (find_marks rs r.0)) (eq-eqb x.0 r.0 (ap (λ (z : ℕ × Marks). z.0) same)) ∙ ap (λ (z : ℕ × Marks). Some z.1) same
 found_at (x ∷ rs) (suc n) r d e =
-    let apart : x.0 ≢ r.0 = λ same. d.0 (let P : ℕ → Type 0 = λ z. Among z (keys_at rs) in subst P (sym same) (listed_at rs n r e)) in
+    let apart : x.0 ≢ r.0 = λ same. d.0 (let P : ℕ → Type 0 = λ z. IsMember z (keys_at rs) in subst P (sym same) (listed_at rs n r e)) in
     ap (λ b. cond b (Some x.1) (find_marks rs r.0)) (ne_eqb x.0 r.0 apart) ∙ found_at rs n r d.1 e
 
 pub marks_found : (a : Contents) (slot n s found : ℕ) (m : Marks) → IsLawful a → option_and_then (λ (k : Block). slice_get k.replicas n) (block_at a slot) ≡ Some (found, m) → (found == s) ≡ true

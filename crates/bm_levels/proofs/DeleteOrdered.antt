@@ -14,10 +14,10 @@ use Rattle.bm_base.specs.Machine.Levels.{level_of}
 use Rattle.bm_base.specs.Spread.{spread}
 use Rattle.bm_arena.specs.Triplets.{Block, change_block}
 use Rattle.bm_arena.specs.Contents.{Contents, block_at, marks_at, find_marks, change_marks, with_marks, known_of}
-use Rattle.bm_arena.proofs.Changed.{changed-here}
+use Rattle.bm_arena.proofs.ChangedBlock.{changed-here}
 use Rattle.bm_levels.specs.Changes.{as_ordered}
-use Rattle.bm_levels.specs.Judged.{storages_at, is_live_by, is_drained_by, is_plain, level_by, level_in, is_settled_at}
-use Rattle.bm_levels.specs.Kept.{IsUnsettled, HasRoomFor}
+use Rattle.bm_levels.specs.Status.{storages_at, is_live_by, is_drained_by, is_good_and_unmarked, level_by, level_in, is_settled_at}
+use Rattle.bm_levels.specs.IndexedLevels.{IsUnsettled, HasCapacityFor}
 use Rattle.bm_levels.specs.Leveled.{Leveled, IsLeveled, AreLevels}
 use Rattle.bm_levels.proofs.ManySlots.{known_info}
 use Rattle.bm_levels.proofs.OneSlot.{IsChangedAt}
@@ -67,7 +67,7 @@ module _ (rack : ℕ → Option ℕ) (draining : ℕ → Bool) (multi : Bool) (s
       ∙ ap (level_by rack draining multi) (changed-here a slot (with_marks s (as_ordered m)))
       ∙ level_where (block_at a slot) e
 
-pub not_plain_then : (m : Marks) → is_plain (as_ordered m) ≡ false
+pub not_plain_then : (m : Marks) → is_good_and_unmarked (as_ordered m) ≡ false
 not_plain_then m = by m.tag m.excess
   where
     by : (t : Tag) (x : Bool) → (is_good t && not x && false) ≡ false
@@ -78,7 +78,7 @@ not_plain_then m = by m.tag m.excess
     by Stray x = refl
 
 -- a replica that is not plain
-some_marked : (rs : List (ℕ × Marks)) (s : ℕ) (m : Marks) → find_marks rs s ≡ Some m → is_plain m ≡ false → list_any (λ (r : ℕ × Marks). not (is_plain r.1)) rs ≡ true
+some_marked : (rs : List (ℕ × Marks)) (s : ℕ) (m : Marks) → find_marks rs s ≡ Some m → is_good_and_unmarked m ≡ false → list_any (λ (r : ℕ × Marks). not (is_good_and_unmarked r.1)) rs ≡ true
 some_marked [] s m e f = cc
 some_marked (r ∷ rs) s m e f = by (r.0 == s) (λ g. some_marked rs s m g f) e
   where
@@ -86,19 +86,19 @@ some_marked (r ∷ rs) s m e f = by (r.0 == s) (λ g. some_marked rs s m g f) e
     either true = refl
     either false = refl
 
-    by : (b : Bool) → (find_marks rs s ≡ Some m → list_any (λ (x : ℕ × Marks). not (is_plain x.1)) rs ≡ true) → cond b (Some r.1) (find_marks rs s) ≡ Some m
-        → (not (is_plain r.1) || list_any (λ (r : ℕ × Marks). not (is_plain r.1)) rs) ≡ true
+    by : (b : Bool) → (find_marks rs s ≡ Some m → list_any (λ (x : ℕ × Marks). not (is_good_and_unmarked x.1)) rs ≡ true) → cond b (Some r.1) (find_marks rs s) ≡ Some m
+        → (not (is_good_and_unmarked r.1) || list_any (λ (r : ℕ × Marks). not (is_good_and_unmarked r.1)) rs) ≡ true
     by true rest g =
         let was : r.1 ≡ m = (cc) in
-        ap (λ b. not b || list_any (λ (r : ℕ × Marks). not (is_plain r.1)) rs) (ap is_plain was ∙ f)
-    by false rest g = ap (λ b. not (is_plain r.1) || b) (rest g) ∙ either (not (is_plain r.1))
+        ap (λ b. not b || list_any (λ (r : ℕ × Marks). not (is_good_and_unmarked r.1)) rs) (ap is_good_and_unmarked was ∙ f)
+    by false rest g = ap (λ b. not (is_good_and_unmarked r.1) || b) (rest g) ∙ either (not (is_good_and_unmarked r.1))
 
-unsettled_where : (o : Option Block) (s : ℕ) (m : Marks) → option_and_then (λ (k : Block). find_marks k.replicas s) o ≡ Some m → is_plain m ≡ false → is_settled_at o ≡ false
+unsettled_where : (o : Option Block) (s : ℕ) (m : Marks) → option_and_then (λ (k : Block). find_marks k.replicas s) o ≡ Some m → is_good_and_unmarked m ≡ false → is_settled_at o ≡ false
 unfolding is_settled_at
 unsettled_where None s m e f = cc
 unsettled_where (Some k) s m e f = rw (some_marked k.replicas s m e f) refl
 
-pub unsettled_by : (a : Contents) (slot s : ℕ) (m : Marks) → marks_at a slot s ≡ Some m → is_plain m ≡ false → is_settled_at (block_at a slot) ≡ false
+pub unsettled_by : (a : Contents) (slot s : ℕ) (m : Marks) → marks_at a slot s ≡ Some m → is_good_and_unmarked m ≡ false → is_settled_at (block_at a slot) ≡ false
 unsettled_by a slot s m e f = unsettled_where (block_at a slot) s m e f
 
 -- if the block at one slot changes and its status does not, the stored status stays right
@@ -116,7 +116,7 @@ module _ (old : Leveled) (a : Contents) (slot : ℕ) (changed : IsChangedAt old.
     free = λ s. ap (λ o. option_and_then (λ (b : Block). find_marks b.replicas s) o) marker_kept ∙ h.free s;
     blank = ap (λ o. option_and_then (λ (b : Block). b.info) o) marker_kept ∙ h.blank;
     room = λ z there. elim (cases_eq z slot) [
-      | inl same ↦ let P : ℕ → Type 0 = λ x. HasRoomFor old.kept (x + 1) in subst P (sym same) (h.room slot changed.held)
+      | inl same ↦ let P : ℕ → Type 0 = λ x. HasCapacityFor old.kept (x + 1) in subst P (sym same) (h.room slot changed.held)
       | inr differs ↦ let P : Option Block → Type 0 = λ o. IsSome o in h.room z (subst P (changed.blocks z differs) there)
     ];
     unsettled = λ z.

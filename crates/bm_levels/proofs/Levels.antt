@@ -11,14 +11,14 @@ use Rattle.bm_base.specs.Spread.{spread}
 use Rattle.bm_base.specs.Machine.Replicas.{storages_where, live, drained, is_live_on, is_drained_on, rack_of, racks, is_multi_rack}
 use Rattle.bm_base.specs.Machine.Levels.{level, level_of}
 use Rattle.bm_base.proofs.Distinct.{level_of-spread}
-use Rattle.bm_base.proofs.Stands.{has_where, once_where}
+use Rattle.bm_base.proofs.Membership.{has_where, once_where}
 use Rattle.bm_base.proofs.Sets.{racks_alike, AreAlike}
 use Rattle.bm_arena.specs.Triplets.{Block}
 use Rattle.bm_arena.specs.Contents.{Contents, block_at, slot_of, marks_at, find_marks, IsLawful}
-use Rattle.bm_arena.proofs.Held.{get-replicas_of, get-blocks_of}
-use Rattle.bm_levels.specs.Judged.{storages_at, level_in, level_by}
+use Rattle.bm_arena.proofs.HeldReplicas.{get-replicas_of, get-blocks_of}
+use Rattle.bm_levels.specs.Status.{storages_at, level_in, level_by}
 use Rattle.bm_levels.specs.Held.{holdings_with}
-use Rattle.bm_levels.proofs.Alike.{same_length, has_among, among_has, once_distinct, passing_distinct, passing_found}
+use Rattle.bm_levels.proofs.EqualLists.{same_length, has_among, among_has, once_distinct, passing_distinct, passing_found}
 
 module _ (a : Contents) (pending : Map by_replica ℕ) (lawful : IsLawful a) (b slot : ℕ) (k : Block) (here : slot_of a b ≡ Some slot) (stands : block_at a slot ≡ Some k) where
   abbrev pub H : Holdings

@@ -10,11 +10,11 @@ use Rattle.bm_base.specs.Machine.Replicas.{rack_of, is_draining, is_multi_rack}
 use Rattle.bm_arena.specs.Triplets.{Block}
 use Rattle.bm_arena.specs.Contents.{Contents, block_at, marks_at, find_marks, known_of}
 use Rattle.bm_arena.specs.Holding.{info_at}
-use Rattle.bm_levels.specs.Judged.{level_by, is_settled_at}
-use Rattle.bm_levels.specs.Kept.{Kept, level_of_slot, IsUnsettled, HasRoomFor, IsJudged, IsSameAt}
+use Rattle.bm_levels.specs.Status.{level_by, is_settled_at}
+use Rattle.bm_levels.specs.IndexedLevels.{IndexedLevels, level_of_slot, IsUnsettled, HasCapacityFor, IsClassified, IsSameAt}
 use Rattle.bm_levels.specs.Leveled.{Leveled, IsLeveled, AreLevels}
 use Rattle.bm_levels.specs.LevelsBy.{AreLevelsBy}
-use Rattle.bm_levels.proofs.Judgement.{level_unknown}
+use Rattle.bm_levels.proofs.StatusByCounts.{level_unknown}
 
 pub no_replicas : (rs : List (ℕ × Marks)) → ((t : ℕ) → find_marks rs t ≡ None) → rs ≡ []
 no_replicas [] h = refl
@@ -43,15 +43,15 @@ known_there o p e there = sym (by p) ∙ ap is_some (sym e) ∙ by o ∙ there
     by None = refl
     by (Some b) = refl
 
-module _ (rack : ℕ → Option ℕ) (draining : ℕ → Bool) (multi : Bool) (old : Leveled) (a : Contents) (K : Kept) (delimiter : a.delimiter ≡ old.arena.delimiter)
+module _ (rack : ℕ → Option ℕ) (draining : ℕ → Bool) (multi : Bool) (old : Leveled) (a : Contents) (K : IndexedLevels) (delimiter : a.delimiter ≡ old.arena.delimiter)
     (free : (t : ℕ) → marks_at a a.delimiter t ≡ marks_at old.arena old.arena.delimiter t)
     (known : (slot : ℕ) → known_of (block_at a slot) ≡ known_of (block_at old.arena slot))
-    (each : (slot : ℕ) → slot ≢ old.arena.delimiter → (IsJudged rack draining multi (block_at a slot) K slot) ⊎ ((block_at a slot ≡ block_at old.arena slot) × IsSameAt old.kept K slot))
+    (each : (slot : ℕ) → slot ≢ old.arena.delimiter → (IsClassified rack draining multi (block_at a slot) K slot) ⊎ ((block_at a slot ≡ block_at old.arena slot) × IsSameAt old.kept K slot))
     (mark : IsSameAt old.kept K old.arena.delimiter) where
   same_info : (slot : ℕ) → info_at a slot ≡ info_at old.arena slot
   same_info slot = known_info (block_at a slot) (block_at old.arena slot) (known slot)
 
-  pub leveled_many : IsLeveled old → ((bound : ℕ) → HasRoomFor old.kept bound → HasRoomFor K bound) → IsLeveled (record { arena = a; kept = K })
+  pub leveled_many : IsLeveled old → ((bound : ℕ) → HasCapacityFor old.kept bound → HasCapacityFor K bound) → IsLeveled (record { arena = a; kept = K })
   leveled_many h room =
       let free_now : (t : ℕ) → marks_at a old.arena.delimiter t ≡ None = λ t. sym (ap (λ d. marks_at a d t) delimiter) ∙ free t ∙ h.free t in
       let blank_now : info_at a old.arena.delimiter ≡ None = same_info old.arena.delimiter ∙ h.blank in
@@ -66,7 +66,7 @@ module _ (rack : ℕ → Option ℕ) (draining : ℕ → Bool) (multi : Bool) (o
               let P : ℕ → Type 0 = λ x. IsUnsettled K x ↔ (is_settled_at (block_at a x) ≡ false) in
               subst P (sym same) (λ u. absurd (true≢false (sym was_settled ∙ (h.unsettled old.arena.delimiter).0 (mark.unsettled.0 u))), λ s. absurd (true≢false (sym now_settled ∙ s)))
           | inr differs ↦ elim (each z differs) [
-            | inl judged ↦ judged.unsettled
+            | inl status ↦ status.unsettled
             | inr g ↦
                 let P : Option Block → Type 0 = λ o. IsUnsettled K z ↔ (is_settled_at o ≡ false) in
                 subst P (sym g.0) (λ u. (h.unsettled z).0 (g.1.unsettled.0 u), λ s. g.1.unsettled.1 ((h.unsettled z).1 s))
@@ -75,7 +75,7 @@ module _ (rack : ℕ → Option ℕ) (draining : ℕ → Bool) (multi : Bool) (o
         unknown = λ z e. elim (cases_eq z old.arena.delimiter) [
           | inl same ↦ let P : ℕ → Type 0 = λ x. level_of_slot K x ≡ None in subst P (sym same) (mark.level ∙ h.unknown old.arena.delimiter h.blank)
           | inr differs ↦ elim (each z differs) [
-            | inl judged ↦ judged.level ∙ sym (level_unknown rack draining multi (block_at a z) e)
+            | inl status ↦ status.level ∙ sym (level_unknown rack draining multi (block_at a z) e)
             | inr g ↦ g.1.level ∙ h.unknown z (sym (same_info z) ∙ e)
           ]
         ];
@@ -87,16 +87,16 @@ module _ (rack : ℕ → Option ℕ) (draining : ℕ → Bool) (multi : Bool) (o
         let P : ℕ → Type 0 = λ x. level_of_slot K x ≡ level_by rack draining multi (block_at a x) in
         subst P (sym same)
         (mark.level ∙ i.unknown old.arena.delimiter i.blank ∙ level_unknown rack draining multi (block_at a old.arena.delimiter) (same_info old.arena.delimiter ∙ i.blank))
-    | inr differs ↦ elim (each z differs) [ inl judged ↦ judged.level | inr g ↦ g.1.level ∙ h z ∙ sym (ap (level_by rack draining multi) g.0) ]
+    | inr differs ↦ elim (each z differs) [ inl status ↦ status.level | inr g ↦ g.1.level ∙ h z ∙ sym (ap (level_by rack draining multi) g.0) ]
   ]
 
 -- the same for the levels in a cluster
-module _ (C : Cluster) (old : Leveled) (a : Contents) (K : Kept) (delimiter : a.delimiter ≡ old.arena.delimiter)
+module _ (C : Cluster) (old : Leveled) (a : Contents) (K : IndexedLevels) (delimiter : a.delimiter ≡ old.arena.delimiter)
     (free : (t : ℕ) → marks_at a a.delimiter t ≡ marks_at old.arena old.arena.delimiter t)
     (known : (slot : ℕ) → known_of (block_at a slot) ≡ known_of (block_at old.arena slot))
-    (each : (slot : ℕ) → slot ≢ old.arena.delimiter → (IsJudged (rack_of C) (is_draining C) (is_multi_rack C) (block_at a slot) K slot) ⊎ ((block_at a slot ≡ block_at old.arena slot) × IsSameAt old.kept K slot))
+    (each : (slot : ℕ) → slot ≢ old.arena.delimiter → (IsClassified (rack_of C) (is_draining C) (is_multi_rack C) (block_at a slot) K slot) ⊎ ((block_at a slot ≡ block_at old.arena slot) × IsSameAt old.kept K slot))
     (mark : IsSameAt old.kept K old.arena.delimiter) where
-  pub leveled_reported : IsLeveled old → ((bound : ℕ) → HasRoomFor old.kept bound → HasRoomFor K bound) → IsLeveled (record { arena = a; kept = K })
+  pub leveled_reported : IsLeveled old → ((bound : ℕ) → HasCapacityFor old.kept bound → HasCapacityFor K bound) → IsLeveled (record { arena = a; kept = K })
   leveled_reported = leveled_many (rack_of C) (is_draining C) (is_multi_rack C) old a K delimiter free known each mark
 
   pub levels_reported : IsLeveled old → AreLevels C old → AreLevels C (record { arena = a; kept = K })

@@ -7,11 +7,11 @@ use Rattle.bm_base.specs.Machine.Replicas.{rack_of, is_draining, is_multi_rack}
 use Rattle.bm_arena.specs.Triplets.{Block}
 use Rattle.bm_arena.specs.Contents.{Contents, block_at, find_marks}
 use Rattle.bm_arena.specs.Holding.{info_at}
-use Rattle.bm_levels.specs.Judged.{level_by, is_settled_at}
-use Rattle.bm_levels.specs.Kept.{Kept, level_of_slot, IsUnsettled, HasRoomFor, IsJudged, IsSameAt}
+use Rattle.bm_levels.specs.Status.{level_by, is_settled_at}
+use Rattle.bm_levels.specs.IndexedLevels.{IndexedLevels, level_of_slot, IsUnsettled, HasCapacityFor, IsClassified, IsSameAt}
 use Rattle.bm_levels.specs.Leveled.{Leveled, IsLeveled, AreLevels}
 use Rattle.bm_levels.specs.LevelsBy.{AreLevelsBy}
-use Rattle.bm_levels.proofs.Judgement.{level_unknown}
+use Rattle.bm_levels.proofs.StatusByCounts.{level_unknown}
 
 -- the slot of a number holds a block
 pub held_by : (a : Contents) (slot : ℕ) {id : ℕ} → (slot ≢ a.delimiter) × (b : Block) × (block_at a slot ≡ Some b) × (b.id ≡ id) → IsSome (block_at a slot)
@@ -24,45 +24,45 @@ pub record IsChangedAt (old new : Contents) (slot : ℕ) : Type 0 where
   pub apart : slot ≢ old.delimiter
   pub held : IsSome (block_at old slot)
 
-module _ (rack : ℕ → Option ℕ) (draining : ℕ → Bool) (multi : Bool) (old : Leveled) (a : Contents) (K : Kept) (slot : ℕ) (changed : IsChangedAt old.arena a slot)
-    (judged : IsJudged rack draining multi (block_at a slot) K slot)
+module _ (rack : ℕ → Option ℕ) (draining : ℕ → Bool) (multi : Bool) (old : Leveled) (a : Contents) (K : IndexedLevels) (slot : ℕ) (changed : IsChangedAt old.arena a slot)
+    (status : IsClassified rack draining multi (block_at a slot) K slot)
     (others : (other : ℕ) → other ≢ slot → IsSameAt old.kept K other) where
   marker : block_at a a.delimiter ≡ block_at old.arena old.arena.delimiter
   marker = ap (block_at a) changed.delimiter ∙ changed.blocks old.arena.delimiter (λ e. changed.apart (sym e))
 
-  pub leveled_where : IsLeveled old → ((bound : ℕ) → HasRoomFor old.kept bound → HasRoomFor K bound) → IsLeveled (record { arena = a; kept = K })
+  pub leveled_where : IsLeveled old → ((bound : ℕ) → HasCapacityFor old.kept bound → HasCapacityFor K bound) → IsLeveled (record { arena = a; kept = K })
   leveled_where h room = record {
     free = λ s. ap (λ o. option_and_then (λ (b : Block). find_marks b.replicas s) o) marker ∙ h.free s;
     blank = ap (λ o. option_and_then (λ (b : Block). b.info) o) marker ∙ h.blank;
     room = λ z there. elim (cases_eq z slot) [
-      | inl same ↦ let P : ℕ → Type 0 = λ x. HasRoomFor K (x + 1) in subst P (sym same) (room (slot + 1) (h.room slot changed.held))
+      | inl same ↦ let P : ℕ → Type 0 = λ x. HasCapacityFor K (x + 1) in subst P (sym same) (room (slot + 1) (h.room slot changed.held))
       | inr differs ↦ let P : Option Block → Type 0 = λ o. IsSome o in room (z + 1) (h.room z (subst P (changed.blocks z differs) there))
     ];
     unsettled = λ z. elim (cases_eq z slot) [
-      | inl same ↦ let P : ℕ → Type 0 = λ x. IsUnsettled K x ↔ (is_settled_at (block_at a x) ≡ false) in subst P (sym same) judged.unsettled
+      | inl same ↦ let P : ℕ → Type 0 = λ x. IsUnsettled K x ↔ (is_settled_at (block_at a x) ≡ false) in subst P (sym same) status.unsettled
       | inr differs ↦
           let g = others z differs in
           let P : Option Block → Type 0 = λ o. IsUnsettled K z ↔ (is_settled_at o ≡ false) in
           subst P (sym (changed.blocks z differs)) (λ u. (h.unsettled z).0 (g.unsettled.0 u), λ s. g.unsettled.1 ((h.unsettled z).1 s))
     ];
     unknown = λ z e. elim (cases_eq z slot) [
-      | inl same ↦ let P : ℕ → Type 0 = λ x. info_at a x ≡ None → level_of_slot K x ≡ None in subst P (sym same) (λ f. judged.level ∙ sym (level_unknown rack draining multi (block_at a slot) f)) e
+      | inl same ↦ let P : ℕ → Type 0 = λ x. info_at a x ≡ None → level_of_slot K x ≡ None in subst P (sym same) (λ f. status.level ∙ sym (level_unknown rack draining multi (block_at a slot) f)) e
       | inr differs ↦ (others z differs).level ∙ h.unknown z (sym (ap (λ o. option_and_then (λ (b : Block). b.info) o) (changed.blocks z differs)) ∙ e)
     ];
   }
 
   pub levels_where : AreLevelsBy rack draining multi old → AreLevelsBy rack draining multi (record { arena = a; kept = K })
   levels_where h z = elim (cases_eq z slot) [
-    | inl same ↦ let P : ℕ → Type 0 = λ x. level_of_slot K x ≡ level_by rack draining multi (block_at a x) in subst P (sym same) judged.level
+    | inl same ↦ let P : ℕ → Type 0 = λ x. level_of_slot K x ≡ level_by rack draining multi (block_at a x) in subst P (sym same) status.level
     | inr differs ↦ (others z differs).level ∙ h z ∙ sym (ap (level_by rack draining multi) (changed.blocks z differs))
   ]
 
 -- the same for the levels in a cluster
-module _ (C : Cluster) (old : Leveled) (a : Contents) (K : Kept) (slot : ℕ) (changed : IsChangedAt old.arena a slot)
-    (judged : IsJudged (rack_of C) (is_draining C) (is_multi_rack C) (block_at a slot) K slot)
+module _ (C : Cluster) (old : Leveled) (a : Contents) (K : IndexedLevels) (slot : ℕ) (changed : IsChangedAt old.arena a slot)
+    (status : IsClassified (rack_of C) (is_draining C) (is_multi_rack C) (block_at a slot) K slot)
     (others : (other : ℕ) → other ≢ slot → IsSameAt old.kept K other) where
-  pub leveled_after : IsLeveled old → ((bound : ℕ) → HasRoomFor old.kept bound → HasRoomFor K bound) → IsLeveled (record { arena = a; kept = K })
-  leveled_after = leveled_where (rack_of C) (is_draining C) (is_multi_rack C) old a K slot changed judged others
+  pub leveled_after : IsLeveled old → ((bound : ℕ) → HasCapacityFor old.kept bound → HasCapacityFor K bound) → IsLeveled (record { arena = a; kept = K })
+  leveled_after = leveled_where (rack_of C) (is_draining C) (is_multi_rack C) old a K slot changed status others
 
   pub levels_after : AreLevels C old → AreLevels C (record { arena = a; kept = K })
-  levels_after = levels_where (rack_of C) (is_draining C) (is_multi_rack C) old a K slot changed judged others
+  levels_after = levels_where (rack_of C) (is_draining C) (is_multi_rack C) old a K slot changed status others

@@ -9,7 +9,7 @@ use Rattle.bm_base.specs.declared.storage.StorageInfo.{StorageInfo}
 use Rattle.bm_base.specs.Maps.Map.{Order, by_number, get, keys, entries, len}
 use Rattle.bm_base.specs.Machine.State.{Cluster}
 use Rattle.bm_base.specs.Machine.Replicas.{node_of, has_storage}
-use Rattle.bm_base.proofs.Maps.{same_key}
+use Rattle.bm_base.proofs.MapEntries.{same_key}
 
 -- a key that is found has an index
 found_place : {K X : Type 0} (o : Order K) (q : K) (es : List (K × X)) → is_some (find o.cmp q es) ≡ true → (i : ℕ) × (i < length es) × (slice_get (map (λ (e : K × X). e.0) es) i ≡ Some q)

@@ -9,26 +9,26 @@ use Rattle.std.proofs.Common.{cond, refl, sym, ap, ◌∙◌, inl, inr}
 use Rattle.std.proofs.lemmas.Bool.{cases_Bool, eqb-true, false≢true, and_parts, eq-eqb}
 use Rattle.bm_base.specs.declared.replica.Marks.{Marks}
 use Rattle.bm_base.specs.declared.replica.ReplicaId.{ReplicaId}
-use Rattle.bm_maps.specs.SlotLists.{Among}
+use Rattle.bm_maps.specs.SlotLists.{IsMember}
 use Rattle.bm_maps.proofs.SlotLists.{dec_among}
 use Rattle.bm_base.specs.Maps.Map.{Map, get, revise, entries, empty}
 use Rattle.bm_base.specs.Machine.State.{Cluster, Holdings, by_replica, replica_at}
 use Rattle.bm_base.specs.Maps.Lists.{has}
 use Rattle.bm_base.specs.Machine.Replicas.{storages_where}
-use Rattle.bm_base.specs.Machine.Excess.{excess_in, without_expired, counted_again, without_unordered_excess, marked}
+use Rattle.bm_base.specs.Machine.Excess.{excess_in, without_expired, with_excess_reset, without_unordered_excess, with_surplus_marked}
 use Rattle.bm_base.specs.RoundParts.{surplus}
 use Rattle.bm_base.proofs.MapLaws.{same_map, get-revise}
-use Rattle.bm_base.proofs.Maps.{entry_passes, passes_entry}
+use Rattle.bm_base.proofs.MapEntries.{entry_passes, passes_entry}
 use Rattle.bm_parts.specs.Settled.{IsSettled}
-use Rattle.bm_parts.proofs.Settling.{settled_is_left}
+use Rattle.bm_parts.proofs.SettledBlocks.{settled_is_left}
 use Rattle.bm_arena.specs.Triplets.{Block}
 use Rattle.bm_arena.specs.Contents.{Contents, block_at, slot_of, marks_at, find_marks, IsLawful}
 use Rattle.bm_arena.specs.Holding.{replicas_at, replicas_of, holdings_of}
-use Rattle.bm_arena.proofs.Held.{get-replicas_of}
-use Rattle.bm_levels.specs.Judged.{is_settled_at}
+use Rattle.bm_arena.proofs.HeldReplicas.{get-replicas_of}
+use Rattle.bm_levels.specs.Status.{is_settled_at}
 use Rattle.bm_levels.specs.Held.{holdings_with}
 use Rattle.bm_levels.specs.Changes.{as_excess, all_changed, has_replica, has_block}
-use Rattle.bm_levels.proofs.Settled.{all_plain_at, few_at}
+use Rattle.bm_levels.proofs.SettledBlocks.{all_plain_at, few_at}
 use Rattle.bm_levels.proofs.AllMarks.{found_changed, marks_listed}
 
 -- the number of a settled slot
@@ -48,35 +48,35 @@ module _ (a : Contents) (lawful : IsLawful a) (b slot : ℕ) (here : slot_of a b
   }
 
   -- dropping marks of excess changes nothing there
-  pub begun_same : (s : ℕ) → marks_at a slot s ≡ option_map counted_again (marks_at a slot s)
+  pub begun_same : (s : ℕ) → marks_at a slot s ≡ option_map with_excess_reset (marks_at a slot s)
   unfolding holdings_of
   begun_same s = by (marks_at a slot s) refl
     where
-      by : (o : Option Marks) → marks_at a slot s ≡ o → o ≡ option_map counted_again o
+      by : (o : Option Marks) → marks_at a slot s ≡ o → o ≡ option_map with_excess_reset o
       by None e = refl
       by (Some m) e =
           let held : get (replicas_of a) (replica_at b s) ≡ Some m = get-replicas_of a (replica_at b s) ∙ ap (λ o. option_and_then (λ x. marks_at a x s) o) here ∙ e in
           let plain = settled_block.all_plain (replica_at b s) m refl held in
-          ap Some (plain ∙ sym (ap counted_again plain))
+          ap Some (plain ∙ sym (ap with_excess_reset plain))
 
 module _ (a c : Contents) (unsettled : List ℕ) (lawful : IsLawful a) (ids : c.ids ≡ a.ids)
-    (settled : (slot : ℕ) → (Among slot unsettled → ⊥) → is_settled_at (block_at a slot) ≡ true)
-    (begun : (slot : ℕ) → Among slot unsettled → replicas_at c slot ≡ all_changed counted_again (replicas_at a slot))
-    (others : (slot : ℕ) → (Among slot unsettled → ⊥) → block_at c slot ≡ block_at a slot) where
-  begun_at : (b slot s : ℕ) → slot_of a b ≡ Some slot → marks_at c slot s ≡ option_map counted_again (marks_at a slot s)
+    (settled : (slot : ℕ) → (IsMember slot unsettled → ⊥) → is_settled_at (block_at a slot) ≡ true)
+    (begun : (slot : ℕ) → IsMember slot unsettled → replicas_at c slot ≡ all_changed with_excess_reset (replicas_at a slot))
+    (others : (slot : ℕ) → (IsMember slot unsettled → ⊥) → block_at c slot ≡ block_at a slot) where
+  begun_at : (b slot s : ℕ) → slot_of a b ≡ Some slot → marks_at c slot s ≡ option_map with_excess_reset (marks_at a slot s)
   begun_at b slot s here = elim (dec_among slot unsettled) [
-    | inl there ↦ sym (marks_listed c slot s) ∙ ap (λ rs. find_marks rs s) (begun slot there) ∙ found_changed (λ _ m. counted_again m) (replicas_at a slot) s ∙ ap (option_map counted_again) (marks_listed a slot s)
+    | inl there ↦ sym (marks_listed c slot s) ∙ ap (λ rs. find_marks rs s) (begun slot there) ∙ found_changed (λ _ m. with_excess_reset m) (replicas_at a slot) s ∙ ap (option_map with_excess_reset) (marks_listed a slot s)
     | inr absent ↦ ap (λ o. option_and_then (λ (k : Block). find_marks k.replicas s) o) (others slot absent) ∙ begun_same a lawful b slot here (settled slot absent) s
   ]
 
   pub begun_replicas : replicas_of c ≡ (without_unordered_excess (holdings_of a)).replicas
   unfolding without_unordered_excess holdings_of
-  begun_replicas = same_map (replicas_of c) (revise (replicas_of a) (λ _ m. counted_again m)) (λ q.
+  begun_replicas = same_map (replicas_of c) (revise (replicas_of a) (λ _ m. with_excess_reset m)) (λ q.
       get-replicas_of c q ∙ ap (λ l. option_and_then (λ x. marks_at c x q.storage) (lookup (nat_eq q.block) l)) ids
       ∙ by q (slot_of a q.block) refl
-      ∙ sym (get-revise (replicas_of a) (λ _ m. counted_again m) q ∙ ap (option_map counted_again) (get-replicas_of a q)))
+      ∙ sym (get-revise (replicas_of a) (λ _ m. with_excess_reset m) q ∙ ap (option_map with_excess_reset) (get-replicas_of a q)))
     where
-      by : (q : ReplicaId) (o : Option ℕ) → slot_of a q.block ≡ o → option_and_then (λ x. marks_at c x q.storage) o ≡ option_map counted_again (option_and_then (λ x. marks_at a x q.storage) o)
+      by : (q : ReplicaId) (o : Option ℕ) → slot_of a q.block ≡ o → option_and_then (λ x. marks_at c x q.storage) o ≡ option_map with_excess_reset (option_and_then (λ x. marks_at a x q.storage) o)
       by q None e = refl
       by q (Some x) e = begun_at q.block x q.storage e
 
@@ -134,8 +134,8 @@ module _ (C : Cluster) (G : Holdings) where
       key : ReplicaId × Marks → ReplicaId
       key e = e.0
 
-  pub marked_replicas : (n : Map by_replica Marks) → n ≡ revise G.replicas (λ q m. if has_replica (surplus C G) q then as_excess m else m) → n ≡ (marked C G).replicas
-  unfolding marked
+  pub marked_replicas : (n : Map by_replica Marks) → n ≡ revise G.replicas (λ q m. if has_replica (surplus C G) q then as_excess m else m) → n ≡ (with_surplus_marked C G).replicas
+  unfolding with_surplus_marked
   marked_replicas n is =
       is ∙ same_map (revise G.replicas (λ q m. if has_replica (surplus C G) q then as_excess m else m)) (revise G.replicas (λ q m. if has (excess_in C G q.block) q.storage then record m { excess = true } else m)) (λ q.
       get-revise G.replicas (λ q m. if has_replica (surplus C G) q then as_excess m else m) q

@@ -6,15 +6,15 @@ use Rattle.std.proofs.lemmas.Bool.{cases_Bool, true≢false}
 use Rattle.bm_base.specs.declared.replica.ReplicaId.{ReplicaId}
 use Rattle.bm_base.specs.Maps.Map.{revise}
 use Rattle.bm_base.specs.Machine.State.{Cluster, Holdings}
-use Rattle.bm_base.specs.Machine.Excess.{counted_again, without_unordered_excess, marked}
+use Rattle.bm_base.specs.Machine.Excess.{with_excess_reset, without_unordered_excess, with_surplus_marked}
 use Rattle.bm_base.specs.RoundParts.{surplus}
 use Rattle.bm_arena.specs.Triplets.{Block}
 use Rattle.bm_arena.specs.Contents.{Contents, block_at, slot_of, IsLawful, KeepsAllBut, KeepsEntries}
 use Rattle.bm_arena.specs.Holding.{replicas_at, replicas_of, blocks_of, info_at, holdings_of}
-use Rattle.bm_arena.proofs.Held.{same_blocks, under}
-use Rattle.bm_arena.proofs.Staying.{entries-chain}
-use Rattle.bm_levels.specs.Judged.{is_settled_at}
-use Rattle.bm_levels.specs.Kept.{IsUnsettled, HasRoomFor}
+use Rattle.bm_arena.proofs.HeldReplicas.{same_blocks, under}
+use Rattle.bm_arena.proofs.StableEntries.{entries-chain}
+use Rattle.bm_levels.specs.Status.{is_settled_at}
+use Rattle.bm_levels.specs.IndexedLevels.{IsUnsettled, HasCapacityFor}
 use Rattle.bm_levels.specs.Leveled.{Leveled, IsLeveled}
 use Rattle.bm_levels.specs.Changes.{as_excess, all_changed, has_replica, has_block}
 use Rattle.bm_levels.proofs.ManySlots.{known_info, marker_settled}
@@ -35,7 +35,7 @@ entries_blocks a c keeps =
     ∙ under (λ x. info_at c x) (λ x. info_at a x) (slot_of a b) (λ x. known_info (block_at c x) (block_at a x) (keeps.known x)))
 
 -- there is capacity for each unsettled slot
-pub start_room : (old : Leveled) → IsLeveled old → (slot : ℕ) → IsUnsettled old.kept slot → HasRoomFor old.kept (slot + 1)
+pub start_room : (old : Leveled) → IsLeveled old → (slot : ℕ) → IsUnsettled old.kept slot → HasCapacityFor old.kept (slot + 1)
 start_room old h slot there = h.room slot (unsettled_held (block_at old.arena slot) ((h.unsettled slot).0 there))
 
 -- an unsettled slot holds a block and is not the delimiter's
@@ -52,13 +52,13 @@ changed_there old h a slot there rest =
 
 -- a round's marks set the marks of excess again, and change nothing at settled slots
 pub record IsStarted (C : Cluster) (old : Leveled) (c : Contents) : Type 0 where
-  pub replicas : replicas_of c ≡ (marked C (without_unordered_excess (holdings_of old.arena))).replicas
+  pub replicas : replicas_of c ≡ (with_surplus_marked C (without_unordered_excess (holdings_of old.arena))).replicas
   pub blocks : blocks_of c ≡ blocks_of old.arena
   pub entries : KeepsEntries old.arena c
   pub left : (slot : ℕ) → (IsUnsettled old.kept slot → ⊥) → block_at c slot ≡ block_at old.arena slot
 
 module _ (C : Cluster) (old : Leveled) (lawful : IsLawful old.arena) (h : IsLeveled old) (b c : Contents) (ps : List ReplicaId)
-    (begun : (slot : ℕ) → IsUnsettled old.kept slot → replicas_at b slot ≡ all_changed counted_again (replicas_at old.arena slot))
+    (begun : (slot : ℕ) → IsUnsettled old.kept slot → replicas_at b slot ≡ all_changed with_excess_reset (replicas_at old.arena slot))
     (left_begun : (slot : ℕ) → (IsUnsettled old.kept slot → ⊥) → block_at b slot ≡ block_at old.arena slot) (entries_begun : KeepsEntries old.arena b)
     (excess : replicas_of c ≡ revise (replicas_of b) (λ q m. if has_replica ps q then as_excess m else m))
     (left_marked : (slot : ℕ) → ((x : ℕ) → slot_of b x ≡ Some slot → has_block ps x ≡ false) → block_at c slot ≡ block_at b slot) (entries_marked : KeepsEntries b c)
@@ -72,7 +72,7 @@ module _ (C : Cluster) (old : Leveled) (lawful : IsLawful old.arena) (h : IsLeve
   settled_slot : (slot : ℕ) → (IsUnsettled old.kept slot → ⊥) → is_settled_at (block_at a slot) ≡ true
   settled_slot slot absent = elim (cases_Bool (is_settled_at (block_at a slot))) [ inl e ↦ e | inr e ↦ absurd (absent ((h.unsettled slot).1 e)) ]
 
-  start_replicas : replicas_of c ≡ (marked C G).replicas
+  start_replicas : replicas_of c ≡ (with_surplus_marked C G).replicas
   start_replicas =
       marked_replicas C G (replicas_of c)
       (excess

@@ -6,10 +6,10 @@ use Rattle.std.proofs.lemmas.Option.{slice_get_cases, slice_get-map, slice_get_r
 use Rattle.std.proofs.lemmas.List.{length-map}
 use Rattle.bm_base.specs.declared.replica.Marks.{Marks}
 use Rattle.bm_arena.specs.declared.types.Triplet.{Triplet}
-use Rattle.bm_arena.specs.Triplets.{Block, seen_triplet}
+use Rattle.bm_arena.specs.Triplets.{Block, triplet_view}
 use Rattle.bm_arena.specs.Contents.{Contents}
-use Rattle.bm_levels.specs.Kept.{slots_led}
-use Rattle.bm_report.proofs.Underway.{drop_next}
+use Rattle.bm_levels.specs.IndexedLevels.{indexed_slots}
+use Rattle.bm_report.proofs.PartialReport.{drop_next}
 
 abbrev listed : Option Block → List (ℕ × Marks)
 listed o = option_map_or (λ (b : Block). b.replicas) o []
@@ -37,19 +37,19 @@ end_at None i h = drop_of_length-le {A = ℕ × Marks} [] (omega arith)
 end_at (Some b) i h = drop_of_length-le b.replicas h
 
 -- the triplet at an index is the first of those from it on, as seen
-pub next_triplet : (ts : List Triplet) (i : ℕ) (t : Triplet) → i < length ts → t ≡ get_or ts i t → drop i (map seen_triplet ts) ≡ seen_triplet t ∷ drop (i + 1) (map seen_triplet ts)
+pub next_triplet : (ts : List Triplet) (i : ℕ) (t : Triplet) → i < length ts → t ≡ get_or ts i t → drop i (map triplet_view ts) ≡ triplet_view t ∷ drop (i + 1) (map triplet_view ts)
 next_triplet ts i t below read =
-    drop_next (map seen_triplet ts) i (seen_triplet t) (slice_get-map seen_triplet ts i ∙ ap (option_map seen_triplet) (slice_get_read ts (length ts) i t refl below read))
-    ∙ (let same : suc i ≡ i + 1 = omega arith in ap (λ k. seen_triplet t ∷ drop k (map seen_triplet ts)) same)
+    drop_next (map triplet_view ts) i (triplet_view t) (slice_get-map triplet_view ts i ∙ ap (option_map triplet_view) (slice_get_read ts (length ts) i t refl below read))
+    ∙ (let same : suc i ≡ i + 1 = omega arith in ap (λ k. triplet_view t ∷ drop k (map triplet_view ts)) same)
 
 -- there is no triplet from their number on, as seen
-pub end_triplets : (ts : List Triplet) (i : ℕ) → length ts ≤ i → drop i (map seen_triplet ts) ≡ []
-end_triplets ts i h = drop_of_length-le (map seen_triplet ts) (let same = length-map ts seen_triplet in omega (arith, h, same))
+pub end_triplets : (ts : List Triplet) (i : ℕ) → length ts ≤ i → drop i (map triplet_view ts) ≡ []
+end_triplets ts i h = drop_of_length-le (map triplet_view ts) (let same = length-map ts triplet_view in omega (arith, h, same))
 
 -- the slot at an index is the first of those from it on, among those to which numbers lead
-pub led_next : (a : Contents) (i slot : ℕ) → Some slot ≡ option_map (λ (p : ℕ × ℕ). p.1) (slice_get a.ids i) → drop i (slots_led a) ≡ slot ∷ drop (i + 1) (slots_led a)
+pub led_next : (a : Contents) (i slot : ℕ) → Some slot ≡ option_map (λ (p : ℕ × ℕ). p.1) (slice_get a.ids i) → drop i (indexed_slots a) ≡ slot ∷ drop (i + 1) (indexed_slots a)
 led_next a i slot e =
-    drop_next (slots_led a) i slot (slice_get-map (λ (p : ℕ × ℕ). p.1) a.ids i ∙ sym e) ∙ (let same : suc i ≡ i + 1 = omega arith in ap (λ k. slot ∷ drop k (slots_led a)) same)
+    drop_next (indexed_slots a) i slot (slice_get-map (λ (p : ℕ × ℕ). p.1) a.ids i ∙ sym e) ∙ (let same : suc i ≡ i + 1 = omega arith in ap (λ k. slot ∷ drop k (indexed_slots a)) same)
 
 pub led_none : (a : Contents) (i : ℕ) → option_map (λ (p : ℕ × ℕ). p.1) (slice_get a.ids i) ≡ None → i < length a.ids → ⊥
 led_none a i e lt =
@@ -61,5 +61,5 @@ led_none a i e lt =
     sure : {X : Type 0} {x : X} → Some x ≡ None → ⊥
     sure e = cc
 
-pub led_end : (a : Contents) (i : ℕ) → length a.ids ≤ i → drop i (slots_led a) ≡ []
-led_end a i h = drop_of_length-le (slots_led a) (let same = length-map a.ids (λ (p : ℕ × ℕ). p.1) in omega (arith, h, same))
+pub led_end : (a : Contents) (i : ℕ) → length a.ids ≤ i → drop i (indexed_slots a) ≡ []
+led_end a i h = drop_of_length-le (indexed_slots a) (let same = length-map a.ids (λ (p : ℕ × ℕ). p.1) in omega (arith, h, same))

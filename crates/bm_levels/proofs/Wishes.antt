@@ -4,27 +4,27 @@ use Rattle.std.proofs.Common.{◌⊎◌, inl, inr, sym, ap, ◌∙◌, refl}
 use Rattle.std.proofs.lemmas.Bool.{true≢false}
 use Rattle.bm_base.specs.declared.level.Level.{Level}
 use Rattle.bm_base.specs.declared.level.Level.TheVariants.{Highest, VeryUnderReplicated, UnderReplicated, BadlyDistributed, NoUsableReplica}
-use Rattle.bm_maps.specs.SlotLists.{Among, Distinct}
+use Rattle.bm_maps.specs.SlotLists.{IsMember, Distinct}
 use Rattle.bm_arena.proofs.Replicas.{Among-append, Among-left}
-use Rattle.bm_levels.specs.Kept.{Kept, level_of_slot, slots_at, wishing_slots, wishes_copies, AreSlotsAt, AreWishing}
+use Rattle.bm_levels.specs.IndexedLevels.{IndexedLevels, level_of_slot, slots_at, slots_needing_copies, needs_copies, AreSlotsAt, NeedCopies}
 
-among_right : (x : ℕ) (xs ys : List ℕ) → Among x ys → Among x (xs ++ ys)
+among_right : (x : ℕ) (xs ys : List ℕ) → IsMember x ys → IsMember x (xs ++ ys)
 among_right x [] ys h = h
 among_right x (z ∷ zs) ys h = inr (among_right x zs ys h)
 
-distinct_both : (xs ys : List ℕ) → Distinct xs → Distinct ys → ((z : ℕ) → Among z xs → Among z ys → ⊥) → Distinct (xs ++ ys)
+distinct_both : (xs ys : List ℕ) → Distinct xs → Distinct ys → ((z : ℕ) → IsMember z xs → IsMember z ys → ⊥) → Distinct (xs ++ ys)
 distinct_both [] ys d e apart = e
 distinct_both (x ∷ xs) ys d e apart =
     (λ h. elim (Among-append x xs ys h) [ inl l ↦ d.0 l | inr r ↦ apart x (inl refl) r ], distinct_both xs ys d.1 e (λ z h. apart z (inr h)))
 
-module _ (K : Kept) (listed : (l : Level) → AreSlotsAt K l (slots_at K l)) where
+module _ (K : IndexedLevels) (listed : (l : Level) → AreSlotsAt K l (slots_at K l)) where
   abbrev second : List ℕ
   second = slots_at K UnderReplicated ++ slots_at K BadlyDistributed
 
   abbrev first : List ℕ
   first = slots_at K VeryUnderReplicated ++ second
 
-  in_list : (slot : ℕ) (l : Level) → level_of_slot K slot ≡ Some l → wishes_copies (Some l) ≡ true → Among slot (wishing_slots K)
+  in_list : (slot : ℕ) (l : Level) → level_of_slot K slot ≡ Some l → needs_copies (Some l) ≡ true → IsMember slot (slots_needing_copies K)
   in_list slot Highest at wishes = Among-left slot (slots_at K Highest) first ((listed Highest slot).1 at)
   in_list slot VeryUnderReplicated at wishes = among_right slot (slots_at K Highest) first (Among-left slot (slots_at K VeryUnderReplicated) second ((listed VeryUnderReplicated slot).1 at))
   in_list slot UnderReplicated at wishes =
@@ -33,12 +33,12 @@ module _ (K : Kept) (listed : (l : Level) → AreSlotsAt K l (slots_at K l)) whe
       among_right slot (slots_at K Highest) first (among_right slot (slots_at K VeryUnderReplicated) second (among_right slot (slots_at K UnderReplicated) (slots_at K BadlyDistributed) ((listed BadlyDistributed slot).1 at)))
   in_list slot NoUsableReplica at wishes = absurd (true≢false (sym wishes))
 
-  wishing : (slot : ℕ) (o : Option Level) → level_of_slot K slot ≡ o → wishes_copies o ≡ true → Among slot (wishing_slots K)
+  wishing : (slot : ℕ) (o : Option Level) → level_of_slot K slot ≡ o → needs_copies o ≡ true → IsMember slot (slots_needing_copies K)
   wishing slot None at wishes = absurd (true≢false (sym wishes))
   wishing slot (Some l) at wishes = in_list slot l at wishes
 
   -- such a slot has one of the four levels
-  level_in : (slot : ℕ) → Among slot (wishing_slots K)
+  level_in : (slot : ℕ) → IsMember slot (slots_needing_copies K)
       → (level_of_slot K slot ≡ Some Highest) ⊎ ((level_of_slot K slot ≡ Some VeryUnderReplicated) ⊎ ((level_of_slot K slot ≡ Some UnderReplicated) ⊎ (level_of_slot K slot ≡ Some BadlyDistributed)))
   level_in slot h =
       elim (Among-append slot (slots_at K Highest) first h) [
@@ -52,22 +52,22 @@ module _ (K : Kept) (listed : (l : Level) → AreSlotsAt K l (slots_at K l)) whe
         ]
       ]
 
-  pub are_wishing : AreWishing K (wishing_slots K)
-  are_wishing slot = (
+  pub are_needing_copies : NeedCopies K (slots_needing_copies K)
+  are_needing_copies slot = (
     λ h. elim (level_in slot h) [
-      | inl a ↦ ap wishes_copies a
-      | inr g ↦ elim g [ inl b ↦ ap wishes_copies b | inr f ↦ elim f [ inl d ↦ ap wishes_copies d | inr e ↦ ap wishes_copies e ] ]
+      | inl a ↦ ap needs_copies a
+      | inr g ↦ elim g [ inl b ↦ ap needs_copies b | inr f ↦ elim f [ inl d ↦ ap needs_copies d | inr e ↦ ap needs_copies e ] ]
     ],
     wishing slot (level_of_slot K slot) refl,
   )
 
   -- a slot has one level
-  not_both : (l m : Level) (slot : ℕ) → (Some l ≡ Some m → ⊥) → Among slot (slots_at K l) → level_of_slot K slot ≡ Some m → ⊥
+  not_both : (l m : Level) (slot : ℕ) → (Some l ≡ Some m → ⊥) → IsMember slot (slots_at K l) → level_of_slot K slot ≡ Some m → ⊥
   not_both l m slot differ there at = differ (sym ((listed l slot).0 there) ∙ at)
 
   module _ (once : (l : Level) → Distinct (slots_at K l)) where
-    pub wishing_once : Distinct (wishing_slots K)
-    wishing_once =
+    pub needing_copies_once : Distinct (slots_needing_copies K)
+    needing_copies_once =
         distinct_both (slots_at K Highest) first (once Highest)
         (distinct_both (slots_at K VeryUnderReplicated) second (once VeryUnderReplicated)
         (distinct_both (slots_at K UnderReplicated) (slots_at K BadlyDistributed) (once UnderReplicated) (once BadlyDistributed)

@@ -10,17 +10,17 @@ use Rattle.bm_base.specs.declared.commands.Delete.{Delete}
 use Rattle.bm_base.specs.Machine.Events.{as_stray, as_restamped}
 use Rattle.bm_base.specs.Machine.Rounds.{is_commanded}
 use Rattle.bm_base.specs.Machine.State.{Holdings}
-use Rattle.bm_base.specs.Machine.Excess.{counted_again, without_unordered_excess}
+use Rattle.bm_base.specs.Machine.Excess.{with_excess_reset, without_unordered_excess}
 use Rattle.bm_arena.specs.Contents.{Contents}
 use Rattle.bm_arena.specs.Holding.{holdings_of}
-use Rattle.bm_levels.specs.declared.marking.MarkChange.{MarkChange}
-use Rattle.bm_levels.specs.declared.marking.MarkChange.TheVariants.{Deleted, Restamped, RoundBegun}
+use Rattle.bm_levels.specs.declared.mark_changes.MarkChange.{MarkChange}
+use Rattle.bm_levels.specs.declared.mark_changes.MarkChange.TheVariants.{Deleted, Restamped, RoundBegun}
 
 -- the marks of a replica after a change
 unfoldable pub changed : MarkChange → Marks → Marks
 changed Deleted m = as_stray m
 changed Restamped m = as_restamped m
-changed RoundBegun m = counted_again m
+changed RoundBegun m = with_excess_reset m
 
 -- the holdings as a round begins: a replica in excess counts again if its delete was not ordered
 abbrev pub at_round_start : Contents → Holdings

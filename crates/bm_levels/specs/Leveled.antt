@@ -3,12 +3,12 @@ use Rattle.std.specs.Prelude.{◌≡◌, ◌↔◌, ℕ, ◌+◌, false, None, I
 use Rattle.bm_base.specs.Machine.State.{Cluster}
 use Rattle.bm_arena.specs.Contents.{Contents, block_at, marks_at}
 use Rattle.bm_arena.specs.Holding.{info_at}
-use Rattle.bm_levels.specs.Judged.{level_in, is_settled_at}
-use Rattle.bm_levels.specs.Kept.{Kept, level_of_slot, IsUnsettled, HasRoomFor}
+use Rattle.bm_levels.specs.Status.{level_in, is_settled_at}
+use Rattle.bm_levels.specs.IndexedLevels.{IndexedLevels, level_of_slot, IsUnsettled, HasCapacityFor}
 
 pub record Leveled : Type 0 where
   pub arena : Contents
-  pub kept : Kept
+  pub kept : IndexedLevels
 
 -- what holds between calls
 pub record IsLeveled (v : Leveled) : Type 0 where
@@ -16,7 +16,7 @@ pub record IsLeveled (v : Leveled) : Type 0 where
   pub free : (storage : ℕ) → marks_at v.arena v.arena.delimiter storage ≡ None
   pub blank : info_at v.arena v.arena.delimiter ≡ None
   -- there is capacity for every slot that is held
-  pub room : (slot : ℕ) → IsSome (block_at v.arena slot) → HasRoomFor v.kept (slot + 1)
+  pub room : (slot : ℕ) → IsSome (block_at v.arena slot) → HasCapacityFor v.kept (slot + 1)
   -- the unsettled slots are exactly those of the blocks that are not settled
   pub unsettled : (slot : ℕ) → IsUnsettled v.kept slot ↔ (is_settled_at (block_at v.arena slot) ≡ false)
   -- a slot without a known block has no level

@@ -3,13 +3,13 @@ use Rattle.std.specs.Prelude.{◌≡◌, ℕ, if◌then◌else◌, Bool, true, O
 use Rattle.bm_base.specs.declared.replica.ReplicaId.{ReplicaId}
 use Rattle.bm_base.specs.Maps.Map.{get}
 use Rattle.bm_base.specs.Machine.State.{Cluster}
-use Rattle.bm_maps.specs.SlotLists.{Among}
+use Rattle.bm_maps.specs.SlotLists.{IsMember}
 use Rattle.bm_base.specs.Machine.Replicas.{rack_of, has_storage, is_draining}
 use Rattle.bm_base.specs.Machine.Events.{drain, undrain}
 use Rattle.bm_arena.specs.Contents.{Contents, block_at, list_of}
 use Rattle.bm_arena.specs.Holding.{replicas_of}
-use Rattle.bm_levels.specs.Judged.{level_by}
-use Rattle.bm_levels.specs.Kept.{level_of_slot}
+use Rattle.bm_levels.specs.Status.{level_by}
+use Rattle.bm_levels.specs.IndexedLevels.{level_of_slot}
 use Rattle.bm_levels.specs.Leveled.{Leveled}
 
 -- the level of each slot is that of its block, given the racks of storages, the storages on nodes
@@ -35,7 +35,7 @@ pub record IsSameForHeld (C D : Cluster) (a : Contents) : Type 0 where
 
 -- no storage of a node has the slot in its list
 abbrev pub IsOff : Cluster → ℕ → Contents → ℕ → Type 0
-IsOff C node a slot = (storage : ℕ) → has_storage C node storage ≡ true → Among slot (list_of a storage) → ⊥
+IsOff C node a slot = (storage : ℕ) → has_storage C node storage ≡ true → IsMember slot (list_of a storage) → ⊥
 
 -- the cluster once a node begins or ceases to drain
 abbrev pub with_draining : Cluster → ℕ → Bool → Cluster

@@ -1,10 +1,10 @@
-pub mod Judged
-pub mod Counted
-pub mod Kept
+pub mod Status
+pub mod ReplicaCounts
+pub mod IndexedLevels
 pub mod Held
 pub mod Leveled
 pub mod LevelsBy
-pub mod Around
+pub mod ClusterAfter
 pub mod Leaving
 pub mod Changes
-pub mod Bare
+pub mod Unused

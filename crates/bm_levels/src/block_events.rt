@@ -6,12 +6,12 @@ ghost use Rattle.bm_base.specs.Machine.State.{replica_at};
 ghost use Rattle.bm_base.specs.Machine.Events.{as_stray, as_bad, as_restamped};
 ghost use Rattle.bm_arena.specs.Contents.{slot_of, marks_at, KeepsAllBut};
 ghost use Rattle.bm_arena.specs.Holding.{replicas_of, blocks_of, info_at, with_known};
-ghost use Rattle.bm_levels.specs.Bare.{HasNoEmptyEntry, MakesNoneBare};
+ghost use Rattle.bm_levels.specs.Unused.{HasNoEmptyEntry, MakesNoUnused};
 ghost use Rattle.bm_levels.specs.Changes.{changed, with_stamp, with_repl};
 ghost use Rattle.bm_levels.specs.Leveled.{KeepsLevels};
 
-use crate::leveled::LeveledBlocks;
-use crate::marking::{MarkChange, change_marks};
+use crate::leveled_blocks::LeveledBlocks;
+use crate::mark_changes::{MarkChange, change_marks};
 use bm_arena::Slot;
 use bm_base::{BlockId, BlockInfo, Marks, Stamp, StorageId, Tag};
 use bm_topo::Topology;
@@ -38,12 +38,12 @@ impl LeveledBlocks {
         ensures replicas { replicas_of self.new.arena
             ≡ revise (replicas_of self.old.arena) (λ q m. if q.block == id then as_stray m else m) }
         ensures entry { HasNoEmptyEntry self.new.arena id }
-        ensures bare { MakesNoneBare self.old.arena self.new.arena }
+        ensures bare { MakesNoUnused self.old.arena self.new.arena }
         ensures levels { KeepsLevels topology.now.cluster self.old self.new }
     {
         if let Some(slot) = self.slot_of(id) {
             self.change_block(topology, slot, MarkChange::Deleted, None);
-            self.drop_if_bare(slot);
+            self.drop_if_unused(slot);
         }
     }
 
@@ -111,7 +111,7 @@ impl LeveledBlocks {
             ≡ contains_key (replicas_of self.old.arena) (replica_at id storage) }
         ensures entry { result ≡ true → contains_key (blocks_of self.old.arena) id ≡ false
             → HasNoEmptyEntry self.new.arena id }
-        ensures bare { MakesNoneBare self.old.arena self.new.arena }
+        ensures bare { MakesNoUnused self.old.arena self.new.arena }
         ensures levels { KeepsLevels topology.now.cluster self.old self.new }
     {
         let Some(slot) = self.slot_of(id) else {
@@ -121,7 +121,7 @@ impl LeveledBlocks {
             return false;
         }
         self.remove(topology, slot, storage);
-        self.drop_if_bare(slot);
+        self.drop_if_unused(slot);
         true
     }
 
@@ -158,10 +158,10 @@ impl LeveledBlocks {
         ensures rest { KeepsAllBut slot self.old.arena self.new.arena }
         ensures levels { KeepsLevels topology.now.cluster self.old self.new }
     {
-        self.arena.lawful();
+        self.arena.show_invariant();
         change_marks(&mut self.arena, slot, change);
         self.arena.set_info(slot, info);
-        self.kept.judge_in(topology, &self.arena, slot);
+        self.kept.update_level(topology, &self.arena, slot);
     }
 }
 

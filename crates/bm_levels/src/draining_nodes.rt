@@ -1,15 +1,15 @@
 // Nodes that begin or cease to drain.
 ghost use Rattle.std.specs.Prelude.{◌≡◌, ℕ, ◌+◌};
-ghost use Rattle.bm_maps.specs.SlotLists.{Among};
+ghost use Rattle.bm_maps.specs.SlotLists.{IsMember};
 ghost use Rattle.bm_arena.specs.Contents.{list_of};
-ghost use Rattle.bm_levels.specs.Kept.{HasRoomFor, HasRoomForEach, KeepsRoom};
+ghost use Rattle.bm_levels.specs.IndexedLevels.{HasCapacityFor, HasCapacityForEach, KeepsCapacity};
 ghost use Rattle.bm_levels.specs.Leveled.{AreLevels};
 ghost use Rattle.bm_levels.specs.LevelsBy.{with_draining};
-ghost use Rattle.bm_levels.specs.Around.{AreJudgedOfStorage, AreJudgedOfNode};
+ghost use Rattle.bm_levels.specs.ClusterAfter.{AreClassifiedOnStorage, AreClassifiedOnNode};
 
-use crate::around::{Around, Turning};
-use crate::kept::KeptLevels;
-use crate::leveled::LeveledBlocks;
+use crate::cluster_after::{ClusterAfter, DrainChange};
+use crate::level_index::LevelIndex;
+use crate::leveled_blocks::LeveledBlocks;
 use bm_arena::Arena;
 use bm_base::{NodeId, StorageId};
 use bm_topo::Topology;
@@ -23,41 +23,41 @@ impl LeveledBlocks {
         ensures levels { AreLevels topology.now.cluster self.old
             → AreLevels (with_draining topology.now.cluster node drains) self.new }
     {
-        let around = Around {
+        let cluster_after = ClusterAfter {
             topology,
-            turning: Some(Turning { node, drains }),
+            drain_change: Some(DrainChange { node, drains }),
             multi: topology.multi_rack(),
         };
-        self.arena.lawful();
-        self.kept.judge_node(&self.arena, node, &around);
+        self.arena.show_invariant();
+        self.kept.reclassify_node(&self.arena, node, &cluster_after);
     }
 }
 
-impl KeptLevels {
+impl LevelIndex {
     /// Reclassifies the blocks with a replica on the storages of a node.
-    fn judge_node(&mut self, arena: &Arena, node: NodeId, around: &Around<'_>)
-        requires { (slot storage : ℕ) → Among slot (list_of arena.now storage)
-            → HasRoomFor self.old (slot + 1) }
-        ensures each { AreJudgedOfNode around.now node arena.now self.old self.new }
-        ensures room { KeepsRoom self.old self.new }
+    fn reclassify_node(&mut self, arena: &Arena, node: NodeId, cluster_after: &ClusterAfter<'_>)
+        requires { (slot storage : ℕ) → IsMember slot (list_of arena.now storage)
+            → HasCapacityFor self.old (slot + 1) }
+        ensures each { AreClassifiedOnNode cluster_after.now node arena.now self.old self.new }
+        ensures room { KeepsCapacity self.old self.new }
     {
-        for place in 0..around.topology.storage_count() {
-            if let Some(storage) = around.topology.storage_at(place) {
-                if around.topology.has_storage(node, storage) {
-                    self.judge_list(arena, storage, around);
+        for place in 0..cluster_after.topology.storage_count() {
+            if let Some(storage) = cluster_after.topology.storage_at(place) {
+                if cluster_after.topology.has_storage(node, storage) {
+                    self.reclassify_list(arena, storage, cluster_after);
                 }
             }
         }
     }
 
     /// Reclassifies the blocks with a replica on a storage.
-    fn judge_list(&mut self, arena: &Arena, storage: StorageId, around: &Around<'_>)
-        requires { HasRoomForEach self.old (list_of arena.now storage) }
-        ensures each { AreJudgedOfStorage around.now storage arena.now self.old self.new }
-        ensures room { KeepsRoom self.old self.new }
+    fn reclassify_list(&mut self, arena: &Arena, storage: StorageId, cluster_after: &ClusterAfter<'_>)
+        requires { HasCapacityForEach self.old (list_of arena.now storage) }
+        ensures each { AreClassifiedOnStorage cluster_after.now storage arena.now self.old self.new }
+        ensures room { KeepsCapacity self.old self.new }
     {
         for slot in arena.walk(storage) {
-            self.judge(arena, slot, around);
+            self.classify(arena, slot, cluster_after);
         }
     }
 }

@@ -3,7 +3,7 @@ ghost use Rattle.std.specs.Prelude.{◌≡◌, ◌<◌, ◌≤◌, ◌+◌, ◌+
 ghost use Rattle.bm_arena.specs.Contents.{list_of};
 ghost use Rattle.bm_levels.specs.Leaving.{HasFirstSlots};
 
-use crate::judging_chunks::CHUNK;
+use crate::classified_chunks::CHUNK;
 use bm_arena::{Arena, Slot, Walk};
 use bm_base::StorageId;
 use std::marker::Model;
@@ -43,13 +43,13 @@ impl FirstSlots {
         let mut walk = arena.walk(storage);
         let mut first = FirstSlots::none();
         for _place in 0..CHUNK {
-            first.follow(&mut walk);
+            first.push_next(&mut walk);
         }
         first
     }
 
     /// Steps along a list, and adds the next slot; does nothing at the end.
-    pub(crate) fn follow(&mut self, walk: &mut Walk<'_>)
+    pub(crate) fn push_next(&mut self, walk: &mut Walk<'_>)
         requires { length self.old < 64 }
         ensures whole { self.new ++ walk.new ≡ self.old ++ walk.old }
         ensures few { length self.new ≤ length self.old + 1 }

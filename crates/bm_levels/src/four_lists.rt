@@ -1,31 +1,31 @@
 // The lists of a node's storages taken apart in step, so that their cache misses overlap.
 ghost use Rattle.std.specs.Prelude.{◌≡◌, ◌==◌, ◌||◌, ◌≤◌, ◌+◌, ◌^◌, false};
-ghost use Rattle.bm_levels.specs.Bare.{MakesNoneBare};
+ghost use Rattle.bm_levels.specs.Unused.{MakesNoUnused};
 ghost use Rattle.bm_levels.specs.Leaving.{IsLeaving, IsLeavingStorage, HasFirstSlots, MakesNoHead};
-ghost use Rattle.bm_levels.specs.Around.{is_on_node, KeepsLevelsAround};
+ghost use Rattle.bm_levels.specs.ClusterAfter.{is_on_node, KeepsLevelsAfter};
 
-use crate::around::Around;
+use crate::cluster_after::ClusterAfter;
 use crate::first_slots::FirstSlots;
-use crate::judging_chunks::CHUNK;
-use crate::leveled::LeveledBlocks;
+use crate::classified_chunks::CHUNK;
+use crate::leveled_blocks::LeveledBlocks;
 use bm_arena::Arena;
 use bm_base::{NodeId, StorageId};
 
 /// Four storages, not all of which need to be different.
 #[derive(Clone, Copy)]
-struct Four {
+struct FourStorages {
     first: StorageId,
     second: StorageId,
     third: StorageId,
     fourth: StorageId,
 }
 
-impl Four {
+impl FourStorages {
     /// Only one storage.
-    fn one(storage: StorageId) -> Four
+    fn one(storage: StorageId) -> FourStorages
         ensures { result.fourth ≡ storage }
     {
-        Four {
+        FourStorages {
             first: storage,
             second: storage,
             third: storage,
@@ -34,11 +34,11 @@ impl Four {
     }
 
     /// Drops the first storage, and adds one; only that one, if it begins again.
-    fn follow(&mut self, storage: StorageId, begins: bool)
+    fn push_next(&mut self, storage: StorageId, begins: bool)
         ensures { self.new.fourth ≡ storage }
     {
         if begins {
-            *self = Four::one(storage);
+            *self = FourStorages::one(storage);
             return;
         }
         self.first = self.second;
@@ -58,7 +58,7 @@ struct FirstOfFour {
 }
 
 /// Reads the first slots of four lists in step, so that their cache misses overlap.
-fn first_of_four(arena: &Arena, four: &Four) -> FirstOfFour
+fn first_of_four(arena: &Arena, four: &FourStorages) -> FirstOfFour
     ensures first { HasFirstSlots arena.now four.now.first result.first }
     ensures second { HasFirstSlots arena.now four.now.second result.second }
     ensures third { HasFirstSlots arena.now four.now.third result.third }
@@ -75,10 +75,10 @@ fn first_of_four(arena: &Arena, four: &Four) -> FirstOfFour
     let mut third = arena.walk(four.third);
     let mut fourth = arena.walk(four.fourth);
     for _place in 0..CHUNK {
-        lists.first.follow(&mut first);
-        lists.second.follow(&mut second);
-        lists.third.follow(&mut third);
-        lists.fourth.follow(&mut fourth);
+        lists.first.push_next(&mut first);
+        lists.second.push_next(&mut second);
+        lists.third.push_next(&mut third);
+        lists.fourth.push_next(&mut fourth);
     }
     lists
 }
@@ -92,47 +92,47 @@ fn is_one_of(storage: StorageId, a: StorageId, b: StorageId, c: StorageId) -> bo
 
 impl LeveledBlocks {
     /// Removes replicas on the storages of a node, four storages at a time. Returns how many left.
-    pub(crate) fn clear_abreast(&mut self, around: &Around<'_>, node: NodeId) -> u128
-        ensures left { IsLeaving (is_on_node around.now node) self.old.arena self.new.arena result }
+    pub(crate) fn clear_four_at_a_time(&mut self, cluster_after: &ClusterAfter<'_>, node: NodeId) -> u128
+        ensures left { IsLeaving (is_on_node cluster_after.now node) self.old.arena self.new.arena result }
         ensures few { result ≤ 2 ^ 99 }
-        ensures bare { MakesNoneBare self.old.arena self.new.arena }
+        ensures bare { MakesNoUnused self.old.arena self.new.arena }
         ensures fewer { MakesNoHead self.old.arena self.new.arena }
-        ensures levels { KeepsLevelsAround around.now self.old self.new }
+        ensures levels { KeepsLevelsAfter cluster_after.now self.old self.new }
     {
         let mut removed = 0;
-        let mut four = Four::one(StorageId(0));
+        let mut four = FourStorages::one(StorageId(0));
         let mut count = 0usize;
-        for place in 0..around.topology.storage_count() {
-            if let Some(storage) = around.topology.storage_at(place) {
-                if around.topology.has_storage(node, storage) {
-                    four.follow(storage, count == 0);
+        for place in 0..cluster_after.topology.storage_count() {
+            if let Some(storage) = cluster_after.topology.storage_at(place) {
+                if cluster_after.topology.has_storage(node, storage) {
+                    four.push_next(storage, count == 0);
                     count = (count + 1) % 4;
                     if count == 0 {
-                        removed += self.clear_four(around, node, &four);
+                        removed += self.clear_four(cluster_after, node, &four);
                     }
                 }
             }
         }
         if count > 0 {
-            removed += self.clear_four(around, node, &four);
+            removed += self.clear_four(cluster_after, node, &four);
         }
         removed
     }
 
     /// Removes replicas on those of four storages that are a node's, in turn some on each. Returns
     /// how many left.
-    fn clear_four(&mut self, around: &Around<'_>, node: NodeId, four: &Four) -> u128
-        ensures left { IsLeaving (is_on_node around.now node) self.old.arena self.new.arena result }
+    fn clear_four(&mut self, cluster_after: &ClusterAfter<'_>, node: NodeId, four: &FourStorages) -> u128
+        ensures left { IsLeaving (is_on_node cluster_after.now node) self.old.arena self.new.arena result }
         ensures few { result ≤ 2 ^ 66 + 256 }
-        ensures bare { MakesNoneBare self.old.arena self.new.arena }
+        ensures bare { MakesNoUnused self.old.arena self.new.arena }
         ensures fewer { MakesNoHead self.old.arena self.new.arena }
-        ensures levels { KeepsLevelsAround around.now self.old self.new }
+        ensures levels { KeepsLevelsAfter cluster_after.now self.old self.new }
     {
         let mut removed = 0;
         for pass in 0..self.arena().slot_bound() / CHUNK + 1 {
             prove!(removed <= pass as u128 * 256);
             let lists = first_of_four(self.arena(), four);
-            let count = self.remove_first_of_four(around, node, four, &lists);
+            let count = self.remove_first_of_four(cluster_after, node, four, &lists);
             removed += count;
             if count == 0 {
                 return removed;
@@ -145,35 +145,35 @@ impl LeveledBlocks {
     /// its list. Returns how many left.
     fn remove_first_of_four(
         &mut self,
-        around: &Around<'_>,
+        cluster_after: &ClusterAfter<'_>,
         node: NodeId,
-        four: &Four,
+        four: &FourStorages,
         lists: &FirstOfFour,
     ) -> u128
         requires first { HasFirstSlots self.old.arena four.now.first lists.now.first }
         requires second { HasFirstSlots self.old.arena four.now.second lists.now.second }
         requires third { HasFirstSlots self.old.arena four.now.third lists.now.third }
         requires fourth { HasFirstSlots self.old.arena four.now.fourth lists.now.fourth }
-        ensures left { IsLeaving (is_on_node around.now node) self.old.arena self.new.arena result }
+        ensures left { IsLeaving (is_on_node cluster_after.now node) self.old.arena self.new.arena result }
         ensures few { result ≤ 256 }
-        ensures bare { MakesNoneBare self.old.arena self.new.arena }
+        ensures bare { MakesNoUnused self.old.arena self.new.arena }
         ensures fewer { MakesNoHead self.old.arena self.new.arena }
-        ensures levels { KeepsLevelsAround around.now self.old self.new }
+        ensures levels { KeepsLevelsAfter cluster_after.now self.old self.new }
     {
         let is_second_done = is_one_of(four.second, four.first, four.first, four.first);
         let is_third_done = is_one_of(four.third, four.first, four.second, four.second);
         let is_fourth_done = is_one_of(four.fourth, four.first, four.second, four.third);
-        let first = self.remove_first_once(around, node, four.first, &lists.first, false);
+        let first = self.remove_first_once(cluster_after, node, four.first, &lists.first, false);
         let second = self.remove_first_once(
-            around,
+            cluster_after,
             node,
             four.second,
             &lists.second,
             is_second_done,
         );
-        let third = self.remove_first_once(around, node, four.third, &lists.third, is_third_done);
+        let third = self.remove_first_once(cluster_after, node, four.third, &lists.third, is_third_done);
         let fourth = self.remove_first_once(
-            around,
+            cluster_after,
             node,
             four.fourth,
             &lists.fourth,
@@ -186,7 +186,7 @@ impl LeveledBlocks {
     /// node's and was not done before; answers how many left.
     fn remove_first_once(
         &mut self,
-        around: &Around<'_>,
+        cluster_after: &ClusterAfter<'_>,
         node: NodeId,
         storage: StorageId,
         slots: &FirstSlots,
@@ -194,16 +194,16 @@ impl LeveledBlocks {
     ) -> u128
         requires { is_done ≡ false → HasFirstSlots self.old.arena storage slots.now }
         ensures storage { IsLeavingStorage storage self.old.arena self.new.arena result }
-        ensures left { IsLeaving (is_on_node around.now node) self.old.arena self.new.arena result }
+        ensures left { IsLeaving (is_on_node cluster_after.now node) self.old.arena self.new.arena result }
         ensures few { result ≤ 64 }
-        ensures bare { MakesNoneBare self.old.arena self.new.arena }
+        ensures bare { MakesNoUnused self.old.arena self.new.arena }
         ensures fewer { MakesNoHead self.old.arena self.new.arena }
-        ensures levels { KeepsLevelsAround around.now self.old self.new }
+        ensures levels { KeepsLevelsAfter cluster_after.now self.old self.new }
     {
-        if is_done || !around.topology.has_storage(node, storage) {
+        if is_done || !cluster_after.topology.has_storage(node, storage) {
             return 0;
         }
-        self.remove_first(around, storage, slots.as_slice());
+        self.remove_first(cluster_after, storage, slots.as_slice());
         slots.len() as u128
     }
 }

@@ -7,27 +7,27 @@
 //! `grow_to`, `ready_block` and `ready_report`.
 #![tactic(auto)]
 
-mod around;
-mod bare_entries;
+mod cluster_after;
+mod unused_entries;
 mod block_events;
-mod count;
+mod replica_count;
 mod draining_nodes;
 mod first_slots;
 mod four_lists;
-mod judging;
-mod judging_chunks;
-mod judging_slots;
-mod kept;
-mod leaving_storages;
-mod leveled;
-mod listed;
-mod marking;
-mod one_list;
-mod racks;
+mod classification;
+mod classified_chunks;
+mod reclassification;
+mod level_index;
+mod lost_storages;
+mod leveled_blocks;
+mod listed_replicas;
+mod mark_changes;
+mod storage_list;
+mod rack_changes;
 mod reports;
-mod round_begins;
-mod round_ends;
-mod unsettled;
+mod round_start;
+mod round_end;
+mod unsettled_slots;
 
-pub use kept::KeptLevels;
-pub use leveled::LeveledBlocks;
+pub use level_index::LevelIndex;
+pub use leveled_blocks::LeveledBlocks;

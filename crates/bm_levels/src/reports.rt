@@ -2,21 +2,21 @@
 // the changed blocks.
 ghost use Rattle.std.specs.Prelude.{◌≡◌, ◌==◌, ◌<◌, ◌≤◌, ◌^◌, ◌∷◌, [], ℕ, length, take, IfErr, OnOk, OnErr};
 ghost use Rattle.bm_base.specs.declared.refusal.Refusal.TheVariants.{Memory};
-ghost use Rattle.bm_maps.specs.SlotLists.{Among};
+ghost use Rattle.bm_maps.specs.SlotLists.{IsMember};
 ghost use Rattle.bm_base.specs.Machine.State.{Cluster};
 ghost use Rattle.bm_base.specs.Machine.Events as events;
 ghost use Rattle.bm_base.specs.Machine.Calls as calls;
 ghost use Rattle.bm_arena.specs.Contents.{HasHead, KeepsEntries};
 ghost use Rattle.bm_arena.specs.Holding.{replicas_of, blocks_of, holdings_of};
-ghost use Rattle.bm_report.specs.Expanded.{told_to};
-ghost use Rattle.bm_report.specs.Midway.{IsOncePerNode};
-ghost use Rattle.bm_report.specs.Ready.{told, IsLookedUp, IsReady, IsToldAt, HasGoodExcess, HaveReplicas};
+ghost use Rattle.bm_report.specs.Expanded.{reported_to_part};
+ghost use Rattle.bm_report.specs.DuringReport.{IsOncePerNode};
+ghost use Rattle.bm_report.specs.Ready.{reported_blocks, IsLookedUp, IsReady, IsReportedAt, HasGoodExcess, HaveReplicas};
 ghost use Rattle.bm_report.specs.Received.{HasReceived};
-ghost use Rattle.bm_levels.specs.Bare.{HasNoneBareOf, MakesNoneBare, MakesBareOnly, IsSameBeside};
-ghost use Rattle.bm_levels.specs.Kept.{HasRoomFor};
+ghost use Rattle.bm_levels.specs.Unused.{HasNoUnusedOf, MakesNoUnused, MakesUnusedOnly, IsSameButDelimiter};
+ghost use Rattle.bm_levels.specs.IndexedLevels.{HasCapacityFor};
 ghost use Rattle.bm_levels.specs.Leveled.{KeepsLevels};
 
-use crate::leveled::LeveledBlocks;
+use crate::leveled_blocks::LeveledBlocks;
 use bm_base::{BlockId, Entry, Part, Refusal, Stamp, StorageId};
 use bm_report::{Applied, Report};
 use bm_topo::Topology;
@@ -33,28 +33,28 @@ impl LeveledBlocks {
         part: Part,
     ) -> Result<(), Refusal>
         requires part { part.index < part.shards }
-        ensures told { OnOk result (told report.new ≡ told_to part entries.now) }
+        ensures told { OnOk result (reported_blocks report.new ≡ reported_to_part part entries.now) }
         ensures ready { OnOk result (IsReady report.new self.new.arena storage) }
         ensures fresh { OnOk result (report.new.changed ≡ []) }
         ensures blocks { blocks_of self.new.arena ≡ blocks_of self.old.arena }
         ensures replicas { replicas_of self.new.arena ≡ replicas_of self.old.arena }
-        ensures bare { MakesBareOnly (events.is_named (told_to part entries.now))
+        ensures bare { MakesUnusedOnly (events.is_named (reported_to_part part entries.now))
             self.old.arena self.new.arena }
-        ensures given_up { OnErr result (MakesNoneBare self.old.arena self.new.arena) }
+        ensures given_up { OnErr result (MakesNoUnused self.old.arena self.new.arena) }
         ensures there { HasHead self.old.arena storage
-            → HaveReplicas self.old.arena storage (told_to part entries.now)
+            → HaveReplicas self.old.arena storage (reported_to_part part entries.now)
             → OnOk result ((self.new.arena ≡ self.old.arena)
-            × (HasRoomFor self.old.kept self.old.arena.bound → self.new ≡ self.old)) }
+            × (HasCapacityFor self.old.kept self.old.arena.bound → self.new ≡ self.old)) }
         ensures levels { (C : Cluster) → KeepsLevels C self.old self.new }
         ensures refused { IfErr result (λ e. e ≡ Memory) }
     {
-        self.arena.lawful();
+        self.arena.show_invariant();
         let found = report.ready(&mut self.arena, storage, entries, part);
-        self.arena.lawful();
+        self.arena.show_invariant();
         let grown = self.kept.grow_to(self.arena.slot_bound());
         if found.is_err() || grown.is_err() {
             report.abort(&mut self.arena);
-            self.arena.lawful();
+            self.arena.show_invariant();
             return Err(Refusal::Memory);
         }
         Ok(())
@@ -69,22 +69,22 @@ impl LeveledBlocks {
         id: BlockId,
         stamp: Stamp,
     ) -> Result<(), Refusal>
-        ensures told { OnOk result (told report.new ≡ record { id = id; stamp = stamp } ∷ []) }
+        ensures told { OnOk result (reported_blocks report.new ≡ record { id = id; stamp = stamp } ∷ []) }
         ensures looked_up { OnOk result (IsLookedUp report.new self.new.arena storage) }
         ensures blocks { blocks_of self.new.arena ≡ blocks_of self.old.arena }
         ensures replicas { replicas_of self.new.arena ≡ replicas_of self.old.arena }
-        ensures bare { MakesBareOnly (λ b. id == b) self.old.arena self.new.arena }
-        ensures given_up { OnErr result (MakesNoneBare self.old.arena self.new.arena) }
+        ensures bare { MakesUnusedOnly (λ b. id == b) self.old.arena self.new.arena }
+        ensures given_up { OnErr result (MakesNoUnused self.old.arena self.new.arena) }
         ensures levels { (C : Cluster) → KeepsLevels C self.old self.new }
         ensures refused { IfErr result (λ e. e ≡ Memory) }
     {
-        self.arena.lawful();
+        self.arena.show_invariant();
         let found = report.ready_one(&mut self.arena, storage, id, stamp);
-        self.arena.lawful();
+        self.arena.show_invariant();
         let grown = self.kept.grow_to(self.arena.slot_bound());
         if found.is_err() || grown.is_err() {
             report.abort(&mut self.arena);
-            self.arena.lawful();
+            self.arena.show_invariant();
             return Err(Refusal::Memory);
         }
         Ok(())
@@ -93,16 +93,16 @@ impl LeveledBlocks {
     /// Aborts a prepared report: drops the unused entries of its numbers, and forgets the numbers.
     /// All blocks and replicas stay. Takes no memory.
     pub fn abort_report(&mut self, report: &mut Report)
-        ensures told { told report.new ≡ [] }
+        ensures told { reported_blocks report.new ≡ [] }
         ensures blocks { blocks_of self.new.arena ≡ blocks_of self.old.arena }
         ensures replicas { replicas_of self.new.arena ≡ replicas_of self.old.arena }
-        ensures bare { MakesNoneBare self.old.arena self.new.arena }
-        ensures left { HasNoneBareOf (events.is_named (told report.old)) self.new.arena }
+        ensures bare { MakesNoUnused self.old.arena self.new.arena }
+        ensures left { HasNoUnusedOf (events.is_named (reported_blocks report.old)) self.new.arena }
         ensures levels { (C : Cluster) → KeepsLevels C self.old self.new }
     {
-        self.arena.lawful();
+        self.arena.show_invariant();
         report.abort(&mut self.arena);
-        self.arena.lawful();
+        self.arena.show_invariant();
     }
 
     /// Adds a received replica of a block, after its look-up, and removes those on the other
@@ -115,18 +115,18 @@ impl LeveledBlocks {
         id: BlockId,
         stamp: Stamp,
     ) -> Applied
-        requires told { told report.now ≡ record { id = id; stamp = stamp } ∷ [] }
+        requires told { reported_blocks report.now ≡ record { id = id; stamp = stamp } ∷ [] }
         requires looked_up { IsLookedUp report.now self.old.arena storage }
         requires once { IsOncePerNode topology.now.cluster (replicas_of self.old.arena) }
         ensures received { HasReceived topology.now.cluster storage id stamp
             self.old.arena self.new.arena result }
         ensures levels { KeepsLevels topology.now.cluster self.old self.new }
     {
-        self.arena.lawful();
+        self.arena.show_invariant();
         let slot = report.slot_of_one();
-        let was = self.kept.kept_at(slot);
+        let was = self.kept.status_at(slot);
         let applied = report.apply_received(&mut self.arena, topology, storage, id, stamp);
-        self.kept.judge_from_in(topology, &self.arena, slot, was);
+        self.kept.update_from(topology, &self.arena, slot, was);
         applied
     }
 
@@ -144,16 +144,16 @@ impl LeveledBlocks {
         requires good { HasGoodExcess (replicas_of self.old.arena) }
         ensures replicas { replicas_of self.new.arena
             ≡ (events.report topology.now.cluster (holdings_of self.old.arena) storage
-            (told report.old)).replicas }
+            (reported_blocks report.old)).replicas }
         ensures blocks { blocks_of self.new.arena ≡ blocks_of self.old.arena }
         ensures entries { KeepsEntries self.old.arena self.new.arena }
         ensures once { IsOncePerNode topology.now.cluster (replicas_of self.new.arena) }
         ensures good { HasGoodExcess (replicas_of self.new.arena) }
-        ensures changed { IsSameBeside report.new.changed self.old.arena self.new.arena }
+        ensures changed { IsSameButDelimiter report.new.changed self.old.arena self.new.arena }
         ensures split { report.new.came ≤ length report.new.changed }
-        ensures came { (slot : ℕ) → Among slot (take report.new.came report.new.changed)
-            → IsToldAt self.old.arena (told report.old) slot }
-        ensures told { told report.new ≡ told report.old }
+        ensures came { (slot : ℕ) → IsMember slot (take report.new.came report.new.changed)
+            → IsReportedAt self.old.arena (reported_blocks report.old) slot }
+        ensures told { reported_blocks report.new ≡ reported_blocks report.old }
         ensures added { result.added
             ≡ calls.new_replicas (replicas_of self.old.arena) (replicas_of self.new.arena) }
         ensures removed { result.removed
@@ -161,10 +161,10 @@ impl LeveledBlocks {
         ensures few { (result.added < 2 ^ 100) × (result.removed < 2 ^ 100) }
         ensures levels { KeepsLevels topology.now.cluster self.old self.new }
     {
-        self.arena.lawful();
+        self.arena.show_invariant();
         let applied = report.apply_full(&mut self.arena, topology, storage);
         self.kept
-            .judge_all_in(topology, &self.arena, report.changed_slots());
+            .update_all(topology, &self.arena, report.changed_slots());
         applied
     }
 }

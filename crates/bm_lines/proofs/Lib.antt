@@ -10,4 +10,4 @@ pub mod AskingSound
 pub mod AskingRead
 pub mod AskingBack
 pub mod ReadOps
-pub mod UsualLemmas
+pub mod CanonicalLemmas

@@ -33,9 +33,9 @@ abbrev pub level_item : Option Level → List ℕ
 level_item None = codes "; none"
 level_item (Some urgency) = codes "; " ++ decimal (level_number urgency)
 
-abbrev pub yes_item : Bool → List ℕ
-yes_item true = codes "; yes"
-yes_item false = codes "; no"
+abbrev pub yes_no_item : Bool → List ℕ
+yes_no_item true = codes "; yes"
+yes_no_item false = codes "; no"
 
 abbrev pub transfer_item : ℕ → Transfer → List ℕ
 transfer_item node t =
@@ -82,5 +82,5 @@ answer_text k (answer.ReplicaIds ps) = head_text k ++ flat_map replica_id_item p
 answer_text k (answer.Blocks bs) = head_text k ++ flat_map number_item bs
 answer_text k (answer.Storages ss) = head_text k ++ flat_map number_item ss
 answer_text k (answer.LevelIs urgency) = head_text k ++ level_item urgency
-answer_text k (answer.IsRetired is_so) = head_text k ++ yes_item is_so
+answer_text k (answer.IsRetired is_so) = head_text k ++ yes_no_item is_so
 answer_text k (answer.Number n) = []

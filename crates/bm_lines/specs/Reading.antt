@@ -3,4 +3,4 @@
 pub mod Op
 pub mod Fields
 pub mod CallOf
-pub mod Usual
+pub mod Canonical

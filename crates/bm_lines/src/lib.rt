@@ -17,5 +17,5 @@ mod writing_fields;
 pub use limits::MAX_LINE;
 pub use line::{LINE_END, Line, line_end};
 pub use print::answer_line;
-pub use reading::{call_of, usual_call};
+pub use reading::{call_of, canonical_call};
 pub use writing::{has_op, line_of};

@@ -1,6 +1,6 @@
 // The text of an answer.
 ghost use Rattle.std.specs.Prelude.{◌≡◌, IfOk, string_bytes};
-ghost use Rattle.bm_lines.specs.Print.{answer_text, head_text, done_text, refused_text, round_text, yes_item};
+ghost use Rattle.bm_lines.specs.Print.{answer_text, head_text, done_text, refused_text, round_text, yes_no_item};
 
 use crate::print_items::{
     write_blocks, write_level, write_nodes, write_replica_ids, write_replicas, write_storages,
@@ -9,8 +9,8 @@ use bm_base::{Answer, Call, Commands, Done, Refusal};
 use std::alloc::{AllocError, Global};
 
 /// The item of an answer that is yes or no.
-fn yes_item(is_so: bool) -> &'static str
-    ensures { result.now ≡ yes_item is_so }
+fn yes_no_item(is_so: bool) -> &'static str
+    ensures { result.now ≡ yes_no_item is_so }
 {
     if is_so { "; yes" } else { "; no" }
 }
@@ -51,7 +51,7 @@ pub fn answer_line(alloc: Global, call: &Call, answer: &Answer) -> Result<String
         }
         Answer::IsRetired(is_so) => {
             let mut line = head_of(alloc, call)?;
-            line.push_str(yes_item(*is_so))?;
+            line.push_str(yes_no_item(*is_so))?;
             Ok(line)
         }
     }

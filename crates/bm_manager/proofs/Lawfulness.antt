@@ -9,18 +9,18 @@ use Rattle.bm_base.specs.Machine.Configuration.{config_refusal}
 use Rattle.bm_base.specs.Machine.Calls.{after_event}
 use Rattle.bm_base.specs.Promises.Lawful.{IsLawful}
 use Rattle.bm_base.specs.Promises.Fitting.{FitsEvent, HasFittingStart}
-use Rattle.laws_of_states.proofs.First.{first_lawful}
-use Rattle.laws_of_states.proofs.Accepting.{event_lawful}
-use Rattle.laws_of_states.proofs.Rounding.{round_lawful}
-use Rattle.bm_fleet.specs.Whole.{Whole, StandsIn, HasTaken}
-use Rattle.bm_fleet.specs.Rounds.{left_by_round}
+use Rattle.laws_of_states.proofs.FirstState.{first_lawful}
+use Rattle.laws_of_states.proofs.AcceptedEvents.{event_lawful}
+use Rattle.laws_of_states.proofs.LawfulRounds.{round_lawful}
+use Rattle.bm_shards.specs.Whole.{Whole, IsUpToDate, HasTaken}
+use Rattle.bm_shards.specs.Rounds.{left_by_round}
 use Rattle.bm_manager.specs.Managers.{IsManager, state_of}
-use Rattle.bm_manager.proofs.Rounding.{whole_state}
+use Rattle.bm_manager.proofs.ManagerRounds.{whole_state}
 use Rattle.bm_manager.proofs.Checks.{round_passed}
 
 -- at the beginning
 pub new_manager : (c : Config) (C : Cluster) (F : Whole) → config_refusal c ≡ None → HasFittingStart c → C ≡ empty_cluster → F.holdings ≡ empty_holdings
-    → StandsIn C F → HasTaken c.first_round c.pend F → IsManager c C F c.first_round c.first_call
+    → IsUpToDate C F → HasTaken c.first_round c.pend F → IsManager c C F c.first_round c.first_call
 new_manager c C F allowed fits none nothing stands taken = record {
   allowed = allowed;
   standing = stands;
@@ -31,7 +31,7 @@ new_manager c C F allowed fits none nothing stands taken = record {
 module _ (c : Config) (C : Cluster) (F : Whole) (round calls : ℕ) (is : IsManager c C F round calls) where
   -- after an accepted event, by which the cluster and the shards were changed one after the other
   pub changed_manager : (e : Event) (D E : Cluster) (G : Whole) → FitsEvent e → refusal_of (state_of c C F.holdings round calls) e ≡ None
-      → D ≡ C → E ≡ change_cluster D e → G.holdings ≡ change_holdings D F.holdings e → StandsIn (change_cluster D e) G → HasTaken round c.pend G
+      → D ≡ C → E ≡ change_cluster D e → G.holdings ≡ change_holdings D F.holdings e → IsUpToDate (change_cluster D e) G → HasTaken round c.pend G
       → IsManager c E G round (calls + 1)
   unfolding after_event
   changed_manager e D E G fits none same after left stands taken =
@@ -40,14 +40,14 @@ module _ (c : Config) (C : Cluster) (F : Whole) (round calls : ℕ) (is : IsMana
       let holdings : change_holdings C F.holdings e ≡ G.holdings = sym (left ∙ ap (λ X. change_holdings X F.holdings e) same) in
       record {
         allowed = is.allowed;
-        standing = subst (λ X. StandsIn X G) (sym after) stands;
+        standing = subst (λ X. IsUpToDate X G) (sym after) stands;
         taken = taken;
         lawful = subst IsLawful (λ i. state_of c (cluster i) (holdings i) round (calls + 1)) (event_lawful M e is.lawful fits none);
       }
 
   -- after a round
   pub next_manager : (G : Whole) → round < last_number → calls < last_number
-      → G.holdings ≡ left_by_round (limits_of c) C (round + 1) F.holdings → StandsIn C G → HasTaken (round + 1) c.pend G
+      → G.holdings ≡ left_by_round (limits_of c) C (round + 1) F.holdings → IsUpToDate C G → HasTaken (round + 1) c.pend G
       → IsManager c C G (round + 1) (calls + 1)
   next_manager G rounds_left calls_left left stands taken =
       let M = state_of c C F.holdings round calls in

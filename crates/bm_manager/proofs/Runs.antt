@@ -11,10 +11,10 @@ use Rattle.bm_base.specs.declared.call.Answer.TheVariants as answer
 use Rattle.bm_base.specs.Machine.State.{State}
 use Rattle.bm_base.specs.Machine.Levels.{level}
 use Rattle.bm_base.specs.Machine.Queries.{all_replicas, corrupt_replicas, excess_replicas, missing_blocks, blocks_on, places, is_retired}
-use Rattle.bm_base.specs.Machine.Calls.{step, refused_or, done_by, after_event, counted}
+use Rattle.bm_base.specs.Machine.Calls.{step, refused_or, done_by, after_event, count_call}
 use Rattle.bm_base.specs.Machine.Refusals.{refusal_of, round_refusal, node_refusal, storage_refusal, block_refusal}
 use Rattle.bm_base.specs.Machine.Rounds.{whole_round}
-use Rattle.bm_base.specs.Machine.Answering.{Refuses, MayAnswer, state_left, call_takes_memory, is_refused, wants_memory}
+use Rattle.bm_base.specs.Machine.Answering.{Refuses, MayAnswer, state_after_answer, call_takes_memory, is_refused, is_out_of_memory}
 
 -- a call whose definition refuses by o, and else answers x.0 with next state x.1
 module _ (M : State) (k : Call) (o : Option Refusal) (x : Answer × State) (s : step M k ≡ refused_or M o x) where
@@ -37,12 +37,12 @@ module _ (M : State) (k : Call) (o : Option Refusal) (x : Answer × State) (s : 
   same_either true y e = refl
   same_either false y e = sym e
 
-  err_left_by : (q : Option Refusal) (b : Bool) → o ≡ q → (r : Refusal) → Refuses q b r → M ≡ state_left step M k (answer.Refused r)
-  err_left_by None true e r h = ap (λ t. state_left step M k (answer.Refused t)) (sym h)
+  err_left_by : (q : Option Refusal) (b : Bool) → o ≡ q → (r : Refusal) → Refuses q b r → M ≡ state_after_answer step M k (answer.Refused r)
+  err_left_by None true e r h = ap (λ t. state_after_answer step M k (answer.Refused t)) (sym h)
   err_left_by None false e r h = absurd h
-  err_left_by (Some t) b e r h = same_either (wants_memory (answer.Refused r)) (step M k).1 (ap (λ y. y.1) (s ∙ ap (λ p. refused_or M p x) e))
+  err_left_by (Some t) b e r h = same_either (is_out_of_memory (answer.Refused r)) (step M k).1 (ap (λ y. y.1) (s ∙ ap (λ p. refused_or M p x) e))
 
-  pub err_left : (N : State) (r : Refusal) → Refuses o (call_takes_memory k) r → N ≡ M → N ≡ state_left step M k (answer.Refused r)
+  pub err_left : (N : State) (r : Refusal) → Refuses o (call_takes_memory k) r → N ≡ M → N ≡ state_after_answer step M k (answer.Refused r)
   err_left N r h is = is ∙ err_left_by o (call_takes_memory k) refl r h
 
 -- a call that the definition never refuses: its answer, and out of memory
@@ -57,7 +57,7 @@ pub step_apply : (M : State) (e : Event) → step M (call.Apply e) ≡ refused_o
 unfolding step
 step_apply M e = refl
 
-pub step_round : (M : State) → step M call.Round ≡ refused_or M (round_refusal M) (answer.Commanded (whole_round M).0, counted (whole_round M).1)
+pub step_round : (M : State) → step M call.Round ≡ refused_or M (round_refusal M) (answer.Commanded (whole_round M).0, count_call (whole_round M).1)
 unfolding step
 step_round M = refl
 

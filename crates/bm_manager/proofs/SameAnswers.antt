@@ -4,31 +4,31 @@ use Rattle.std.specs.Prelude.{◌||◌, if◌then◌else◌}
 use Rattle.bm_base.specs.declared.call.Call.{Call}
 use Rattle.bm_base.specs.declared.call.Answer.{Answer}
 use Rattle.bm_base.specs.Machine.State.{State}
-use Rattle.bm_base.specs.Machine.Answering.{MayAnswer, MayAnswerAll, state_left, wants_memory}
-use Rattle.bm_manager.specs.Alike.{AreAlike}
+use Rattle.bm_base.specs.Machine.Answering.{MayAnswer, MayAnswerAll, state_after_answer, is_out_of_memory}
+use Rattle.bm_manager.specs.SameAnswers.{HaveSameAnswers}
 
 module _ (step : State → Call → Answer × State) where
   -- an answer other than out of memory is the step's, and so is the next state
-  the_steps : (M : State) (k : Call) (x : Answer) → MayAnswer step M k x → wants_memory x ≡ false → x ≡ (step M k).0
+  the_steps : (M : State) (k : Call) (x : Answer) → MayAnswer step M k x → is_out_of_memory x ≡ false → x ≡ (step M k).0
   the_steps M k x (inl is) e = is
-  the_steps M k x (inr h) e = let lacks : true ≡ false = ap wants_memory (sym h.1) ∙ e in cc
+  the_steps M k x (inr h) e = let lacks : true ≡ false = ap is_out_of_memory (sym h.1) ∙ e in cc
 
-  left_by_step : (M : State) (k : Call) (x : Answer) → wants_memory x ≡ false → state_left step M k x ≡ (step M k).1
+  left_by_step : (M : State) (k : Call) (x : Answer) → is_out_of_memory x ≡ false → state_after_answer step M k x ≡ (step M k).1
   left_by_step M k x e = ap (λ b. if b then M else (step M k).1) e
 
   -- where memory lacks in neither answer both leave the same state, so the lists go on alike
-  next_alike : (M : State) (k : Call) (ks : List Call) (x y : Answer) (xs ys : List Answer) (b c : Bool) → wants_memory x ≡ b → wants_memory y ≡ c
-      → ((N : State) → MayAnswerAll step N ks xs → MayAnswerAll step N ks ys → AreAlike xs ys)
-      → MayAnswerAll step M (k ∷ ks) (x ∷ xs) → MayAnswerAll step M (k ∷ ks) (y ∷ ys) → AreAlike (x ∷ xs) (y ∷ ys)
-  next_alike M k ks x y xs ys true c e f more h g = inl (ap (λ p. p || wants_memory y) e)
-  next_alike M k ks x y xs ys false true e f more h g = inl (ap (λ p. p || wants_memory y) e ∙ f)
+  next_alike : (M : State) (k : Call) (ks : List Call) (x y : Answer) (xs ys : List Answer) (b c : Bool) → is_out_of_memory x ≡ b → is_out_of_memory y ≡ c
+      → ((N : State) → MayAnswerAll step N ks xs → MayAnswerAll step N ks ys → HaveSameAnswers xs ys)
+      → MayAnswerAll step M (k ∷ ks) (x ∷ xs) → MayAnswerAll step M (k ∷ ks) (y ∷ ys) → HaveSameAnswers (x ∷ xs) (y ∷ ys)
+  next_alike M k ks x y xs ys true c e f more h g = inl (ap (λ p. p || is_out_of_memory y) e)
+  next_alike M k ks x y xs ys false true e f more h g = inl (ap (λ p. p || is_out_of_memory y) e ∙ f)
   next_alike M k ks x y xs ys false false e f more h g =
       let here = the_steps M k x h.0 e ∙ sym (the_steps M k y g.0 f) in
       let after = subst (λ N. MayAnswerAll step N ks xs) (left_by_step M k x e) h.1 in
       let after_too = subst (λ N. MayAnswerAll step N ks ys) (left_by_step M k y f) g.1 in
       inr (here, more (step M k).1 after after_too)
 
-  pub both_alike : (M : State) (ks : List Call) (xs ys : List Answer) → MayAnswerAll step M ks xs → MayAnswerAll step M ks ys → AreAlike xs ys
+  pub both_alike : (M : State) (ks : List Call) (xs ys : List Answer) → MayAnswerAll step M ks xs → MayAnswerAll step M ks ys → HaveSameAnswers xs ys
   both_alike M [] [] [] h g = tt
   both_alike M [] [] (y ∷ ys) h g = g
   both_alike M [] (x ∷ xs) [] h g = h
@@ -36,4 +36,4 @@ module _ (step : State → Call → Answer × State) where
   both_alike M (k ∷ ks) [] [] h g = tt
   both_alike M (k ∷ ks) [] (y ∷ ys) h g = h
   both_alike M (k ∷ ks) (x ∷ xs) [] h g = g
-  both_alike M (k ∷ ks) (x ∷ xs) (y ∷ ys) h g = next_alike M k ks x y xs ys (wants_memory x) (wants_memory y) refl refl (λ N. both_alike N ks xs ys) h g
+  both_alike M (k ∷ ks) (x ∷ xs) (y ∷ ys) h g = next_alike M k ks x y xs ys (is_out_of_memory x) (is_out_of_memory y) refl refl (λ N. both_alike N ks xs ys) h g

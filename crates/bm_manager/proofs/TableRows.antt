@@ -28,10 +28,10 @@ module _ (f : ℕ → List ℕ) where
       less : (x y : ℕ) → T (is_lt (nat_cmp x y)) → x < y
       less x y h = grind (arith, nat_tests, h)
 
-  rows_rise : (es : List (ℕ × BlockInfo)) → T (is_sorted nat_cmp es) → RisesById (rows es)
-  rows_rise [] h = λ i j d lt within. absurd (omega (arith, within))
-  rows_rise (e ∷ es) h = AllPairs-cons (λ (r s : Row). r.0 < s.0) (e.0, f e.0) (rows es) (below_rows e.0 es (first _ _ h)) (rows_rise es (second _ _ h))
+  rows_ascend : (es : List (ℕ × BlockInfo)) → T (is_sorted nat_cmp es) → RisesById (rows es)
+  rows_ascend [] h = λ i j d lt within. absurd (omega (arith, within))
+  rows_ascend (e ∷ es) h = AllPairs-cons (λ (r s : Row). r.0 < s.0) (e.0, f e.0) (rows es) (below_rows e.0 es (first _ _ h)) (rows_ascend es (second _ _ h))
 
-pub table_rises : (H : Holdings) → RisesById (table H)
+pub table_ascends : (H : Holdings) → RisesById (table H)
 unfolding table keys entries
-table_rises H = rows_rise (λ b. take MAX_PLACES (places H b)) H.blocks.list H.blocks.sorted
+table_ascends H = rows_ascend (λ b. take MAX_PLACES (places H b)) H.blocks.list H.blocks.sorted

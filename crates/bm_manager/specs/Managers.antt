@@ -5,7 +5,7 @@ use Rattle.bm_base.specs.declared.config.Config.{Config}
 use Rattle.bm_base.specs.Machine.State.{Cluster, Holdings, State, limits_of}
 use Rattle.bm_base.specs.Machine.Configuration.{config_refusal}
 use Rattle.bm_base.specs.Promises.Lawful.{IsLawful}
-use Rattle.bm_fleet.specs.Whole.{Whole, StandsIn, HasTaken}
+use Rattle.bm_shards.specs.Whole.{Whole, IsUpToDate, HasTaken}
 
 -- the state that they are
 abbrev pub state_of : Config → Cluster → Holdings → ℕ → ℕ → State
@@ -15,6 +15,6 @@ pub record IsManager (c : Config) (C : Cluster) (F : Whole) (round calls : ℕ) 
   -- the configuration is within its ranges, so there is a worker
   pub allowed : config_refusal c ≡ None
   -- each shard is up to date in the cluster, and has taken the rounds
-  pub standing : StandsIn C F
+  pub standing : IsUpToDate C F
   pub taken : HasTaken round c.pend F
   pub lawful : IsLawful (state_of c C F.holdings round calls)

@@ -1,13 +1,13 @@
 // Calls as values: one call, and lists of calls.
 ghost use Rattle.std.specs.Prelude.{◌≡◌, IfOk, OnErr};
-ghost use Rattle.bm_base.specs.Machine.Answering.{MayAnswer, MayAnswerAll, state_left, state_left_by};
+ghost use Rattle.bm_base.specs.Machine.Answering.{MayAnswer, MayAnswerAll, state_after_answer, state_after_answers};
 ghost use Rattle.bm_base.specs.Machine.Calls.{step};
 ghost use Rattle.bm_base.specs.Promises.Lawful.{IsLawful};
 
 use crate::manager::Manager;
 use bm_base::{Answer, Call, Items};
 use bm_crew::Gate;
-use bm_fleet::{CallingThread, Threaded, Workers};
+use bm_shards::{CallingThread, Threaded, Workers};
 use std::alloc::AllocError;
 use std::sync::Wait;
 use std::thread::Threads;
@@ -22,31 +22,31 @@ impl Manager {
         call: &Call,
     ) -> Answer
         ensures answer { MayAnswer step self.old call.now result }
-        ensures state { self.new ≡ state_left step self.old call.now result }
+        ensures state { self.new ≡ state_after_answer step self.old call.now result }
     {
         let workers = Threaded::new(rt, gate, self.config.workers as usize);
-        self.answer_by(&workers, call)
+        self.answer_with(&workers, call)
     }
 
     /// [`Manager::answer`] by the calling thread alone, as [`Manager::apply_alone`].
     pub fn answer_alone(&mut self, call: &Call) -> Answer
         ensures answer { MayAnswer step self.old call.now result }
-        ensures state { self.new ≡ state_left step self.old call.now result }
+        ensures state { self.new ≡ state_after_answer step self.old call.now result }
     {
-        self.answer_by(&CallingThread, call)
+        self.answer_with(&CallingThread, call)
     }
 
     /// Makes one call by these workers.
-    fn answer_by<W: Workers>(&mut self, workers: &W, call: &Call) -> Answer
+    fn answer_with<W: Workers>(&mut self, workers: &W, call: &Call) -> Answer
         ensures answer { MayAnswer step self.old call.now result }
-        ensures state { self.new ≡ state_left step self.old call.now result }
+        ensures state { self.new ≡ state_after_answer step self.old call.now result }
     {
         match call {
-            Call::Apply(event) => match self.apply_by(workers, event) {
+            Call::Apply(event) => match self.apply_with(workers, event) {
                 Ok(done) => Answer::Done(done),
                 Err(refusal) => Answer::Refused(refusal),
             },
-            Call::Round => match self.round_by(workers) {
+            Call::Round => match self.run_round(workers) {
                 Ok(commands) => Answer::Commanded(commands),
                 Err(refusal) => Answer::Refused(refusal),
             },
@@ -99,33 +99,33 @@ impl Manager {
     ) -> Result<Items<Answer>, AllocError>
         ensures answers { IfOk result (λ answers. MayAnswerAll step self.old calls.now answers) }
         ensures state { IfOk result
-            (λ answers. self.new ≡ state_left_by step self.old calls.now answers) }
+            (λ answers. self.new ≡ state_after_answers step self.old calls.now answers) }
         ensures unchanged { OnErr result (self.new ≡ self.old) }
         ensures lawful { IsLawful self.new }
     {
         let workers = Threaded::new(rt, gate, self.config.workers as usize);
-        self.answer_all_by(&workers, calls)
+        self.answer_all_with(&workers, calls)
     }
 
     /// Makes the calls one after another by these workers.
-    pub(crate) fn answer_all_by<W: Workers>(
+    pub(crate) fn answer_all_with<W: Workers>(
         &mut self,
         workers: &W,
         calls: &[Call],
     ) -> Result<Items<Answer>, AllocError>
         ensures answers { IfOk result (λ answers. MayAnswerAll step self.old calls.now answers) }
         ensures state { IfOk result
-            (λ answers. self.new ≡ state_left_by step self.old calls.now answers) }
+            (λ answers. self.new ≡ state_after_answers step self.old calls.now answers) }
         ensures unchanged { OnErr result (self.new ≡ self.old) }
         ensures lawful { IsLawful self.new }
     {
-        self.lawful();
+        self.show_invariant();
         let mut answers = Vec::with_capacity(self.alloc, calls.len())?;
         for call in calls {
-            let answer = self.answer_by(workers, call);
+            let answer = self.answer_with(workers, call);
             let _ = answers.push(answer);
         }
-        self.lawful();
+        self.show_invariant();
         Ok(Items::from_vec(answers))
     }
 }

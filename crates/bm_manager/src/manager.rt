@@ -9,7 +9,7 @@ ghost use Rattle.bm_base.specs.Machine.Answering.{checked, Refuses, takes_memory
 
 use bm_base::{Config, Done, Event, HashSecret, Refusal};
 use bm_crew::Gate;
-use bm_fleet::{CallingThread, Fleet, Threaded, Workers};
+use bm_shards::{CallingThread, AllShards, Threaded, Workers};
 use bm_topo::Topology;
 use std::alloc::Global;
 use std::marker::Model;
@@ -38,7 +38,7 @@ pub struct Manager {
     pub(crate) alloc: Global,
     pub(crate) config: Config,
     pub(crate) topology: Topology,
-    pub(crate) fleet: Fleet,
+    pub(crate) shards: AllShards,
     pub(crate) round: u64,
     pub(crate) calls: u64,
 }
@@ -52,9 +52,9 @@ impl Model for Manager {
 
     ghost coded = { coded_state };
 
-    ghost view = { λ m. state_of m.config m.topology.cluster m.fleet.holdings m.round m.calls };
+    ghost view = { λ m. state_of m.config m.topology.cluster m.shards.holdings m.round m.calls };
 
-    ghost invariant = { λ m. IsManager m.config m.topology.cluster m.fleet m.round m.calls };
+    ghost invariant = { λ m. IsManager m.config m.topology.cluster m.shards m.round m.calls };
 }
 
 impl Manager {
@@ -85,7 +85,7 @@ impl Manager {
             alloc,
             config,
             topology: Topology::new(alloc)?,
-            fleet: Fleet::new(alloc, &config, secret)?,
+            shards: AllShards::new(alloc, &config, secret)?,
             round: config.first_round,
             calls: config.first_call,
         })
@@ -113,7 +113,7 @@ impl Manager {
         ensures unchanged { OnErr result (self.new ≡ self.old) }
     {
         let workers = Threaded::new(rt, gate, self.config.workers as usize);
-        self.apply_by(&workers, event)
+        self.apply_with(&workers, event)
     }
 
     /// [`Manager::apply`] by the calling thread alone, however many workers are configured: needs
@@ -126,12 +126,12 @@ impl Manager {
             (Refuses (refusal_of self.old event.now) (takes_memory event.now)) }
         ensures unchanged { OnErr result (self.new ≡ self.old) }
     {
-        self.apply_by(&CallingThread, event)
+        self.apply_with(&CallingThread, event)
     }
 
     /// Takes one event by these workers.
     #[tactic(auto, unfolding(bm_base::specs::Machine::Calls::after_event, bm_base::specs::Machine::Calls::done_by))]
-    pub(crate) fn apply_by<W: Workers>(
+    pub(crate) fn apply_with<W: Workers>(
         &mut self,
         workers: &W,
         event: &Event,
@@ -147,7 +147,7 @@ impl Manager {
         event.fits();
         let multi = self.topology.multi_after(event);
         self.topology.prepare(event)?;
-        match self.fleet.change(workers, event, &self.topology, multi) {
+        match self.shards.change(workers, event, &self.topology, multi) {
             Ok(done) => {
                 self.topology.commit(event);
                 self.calls += 1;
@@ -167,7 +167,7 @@ impl Manager {
     /// only good ones are in excess; pending transfers are of known blocks. There are at most
     /// `MAX_NODES` nodes and `MAX_STORAGES` storages, and 1 to `MAX_REPLICATION` replicas of each
     /// block are wanted. The numbers fit their types.
-    pub fn lawful(&self)
+    pub fn show_invariant(&self)
         ensures { IsLawful self.now }
     {
         let _ = &self.config;
@@ -183,7 +183,7 @@ impl Manager {
         ensures blocks { OnOk result (first_of (block_checks self.now.holdings event.now) ≡ None) }
     {
         self.topology.check(event)?;
-        self.fleet.check(event)?;
+        self.shards.check(event)?;
         if self.calls == u64::MAX {
             return Err(Refusal::CallsSpent);
         }

@@ -4,13 +4,13 @@ ghost use Rattle.bm_base.specs.declared.refusal.Refusal.TheVariants.{Memory};
 ghost use Rattle.bm_base.specs.Machine.Rounds.{whole_round};
 ghost use Rattle.bm_base.specs.Promises.Sparing.{SparesLastGood, KeepsEnoughLive};
 ghost use Rattle.bm_base.specs.Machine.Refusals.{round_refusal, last_number};
-ghost use Rattle.bm_base.specs.Machine.Calls.{counted};
+ghost use Rattle.bm_base.specs.Machine.Calls.{count_call};
 ghost use Rattle.bm_base.specs.Machine.Answering.{checked, Refuses};
 
 use crate::manager::Manager;
 use bm_base::{Commands, Refusal};
 use bm_crew::Gate;
-use bm_fleet::{CallingThread, Threaded, Workers};
+use bm_shards::{CallingThread, Threaded, Workers};
 use std::sync::Wait;
 use std::thread::Threads;
 
@@ -35,14 +35,14 @@ impl Manager {
     ) -> Result<Commands, Refusal>
         ensures accepted { OnOk result (round_refusal self.old ≡ None) }
         ensures commands { IfOk result (λ k. k ≡ (whole_round self.old).0) }
-        ensures state { OnOk result (self.new ≡ counted (whole_round self.old).1) }
+        ensures state { OnOk result (self.new ≡ count_call (whole_round self.old).1) }
         ensures refused { IfErr result (Refuses (round_refusal self.old) true) }
         ensures unchanged { OnErr result (self.new ≡ self.old) }
         ensures last_good { IfOk result (λ k. SparesLastGood self.old k) }
         ensures enough_live { IfOk result (λ k. KeepsEnoughLive self.old k self.new) }
     {
         let workers = Threaded::new(rt, gate, self.config.workers as usize);
-        self.round_by(&workers)
+        self.run_round(&workers)
     }
 
     /// [`Manager::round`] by the calling thread alone, however many workers are configured: needs
@@ -50,26 +50,26 @@ impl Manager {
     pub fn round_alone(&mut self) -> Result<Commands, Refusal>
         ensures accepted { OnOk result (round_refusal self.old ≡ None) }
         ensures commands { IfOk result (λ k. k ≡ (whole_round self.old).0) }
-        ensures state { OnOk result (self.new ≡ counted (whole_round self.old).1) }
+        ensures state { OnOk result (self.new ≡ count_call (whole_round self.old).1) }
         ensures refused { IfErr result (Refuses (round_refusal self.old) true) }
         ensures unchanged { OnErr result (self.new ≡ self.old) }
         ensures last_good { IfOk result (λ k. SparesLastGood self.old k) }
         ensures enough_live { IfOk result (λ k. KeepsEnoughLive self.old k self.new) }
     {
-        self.round_by(&CallingThread)
+        self.run_round(&CallingThread)
     }
 
     /// Takes one round by these workers.
-    pub(crate) fn round_by<W: Workers>(&mut self, workers: &W) -> Result<Commands, Refusal>
+    pub(crate) fn run_round<W: Workers>(&mut self, workers: &W) -> Result<Commands, Refusal>
         ensures accepted { OnOk result (round_refusal self.old ≡ None) }
         ensures commands { IfOk result (λ k. k ≡ (whole_round self.old).0) }
-        ensures state { OnOk result (self.new ≡ counted (whole_round self.old).1) }
+        ensures state { OnOk result (self.new ≡ count_call (whole_round self.old).1) }
         ensures refused { IfErr result (Refuses (round_refusal self.old) true) }
         ensures unchanged { OnErr result (self.new ≡ self.old) }
         ensures last_good { IfOk result (λ k. SparesLastGood self.old k) }
         ensures enough_live { IfOk result (λ k. KeepsEnoughLive self.old k self.new) }
     {
-        self.lawful();
+        self.show_invariant();
         self.check_round()?;
         self.next_round(workers)
     }
@@ -95,12 +95,12 @@ impl Manager {
         requires round { self.old.round < last_number }
         requires calls { self.old.calls < last_number }
         ensures commands { IfOk result (λ k. k ≡ (whole_round self.old).0) }
-        ensures state { OnOk result (self.new ≡ counted (whole_round self.old).1) }
+        ensures state { OnOk result (self.new ≡ count_call (whole_round self.old).1) }
         ensures refused { IfErr result (λ e. e ≡ Memory) }
         ensures unchanged { OnErr result (self.new ≡ self.old) }
     {
         let commands = self
-            .fleet
+            .shards
             .round(workers, &self.config, self.round, &self.topology)?;
         self.round += 1;
         self.calls += 1;

@@ -1,7 +1,7 @@
 pub mod SortedLaws
-pub mod Replacing
-pub mod Placing
-pub mod Searching
-pub mod Dense
+pub mod ReplaceLaws
+pub mod PutLaws
+pub mod BinarySearch
+pub mod DenseNumbers
 pub mod SlotLists
-pub mod Room
+pub mod Capacity

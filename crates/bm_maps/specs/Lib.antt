@@ -1,5 +1,5 @@
 -- Words of sorted maps and of lists of slots.
-pub mod Place
+pub mod KeyIndex
 pub mod Table
 pub mod SlotLists
 pub mod SlotLinks

@@ -2,7 +2,7 @@
 #![tactic(auto)]
 
 mod number_map;
-mod number_places;
+mod number_search;
 mod replica_map;
 mod slot_link;
 pub mod sorted;

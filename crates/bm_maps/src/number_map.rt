@@ -5,7 +5,7 @@ ghost use Rattle.bm_maps.specs.Table.{capacity};
 ghost use Rattle.std.specs.List.Retain.{IsFiltered};
 ghost use Rattle.std.specs.Fn.{CalledAt};
 
-use crate::number_places::{place_by_guess, place_of_number};
+use crate::number_search::{index_by_guess, index_of_number};
 use crate::sorted::{find_at, put, replace, reserve};
 use std::alloc::{AllocError, Global};
 use std::marker::Model;
@@ -59,7 +59,7 @@ impl<V: Copy> NumberMap<V> {
     pub fn get(&self, key: u64) -> Option<V>
         ensures { result ≡ map.get self.now.map key }
     {
-        find_at(&self.entries, &key, place_of_number(&self.entries, key))
+        find_at(&self.entries, &key, index_of_number(&self.entries, key))
     }
 
     /// As `get`, trying index `guess` first.
@@ -69,7 +69,7 @@ impl<V: Copy> NumberMap<V> {
         find_at(
             &self.entries,
             &key,
-            place_by_guess(&self.entries, key, guess),
+            index_by_guess(&self.entries, key, guess),
         )
     }
 
@@ -86,7 +86,7 @@ impl<V: Copy> NumberMap<V> {
         ensures reserved_no_growth { 1 ≤ self.old.room → capacity self.new ≡ capacity self.old }
         ensures no_less { capacity self.old ≤ capacity self.new }
     {
-        let at = place_of_number(&self.entries, key);
+        let at = index_of_number(&self.entries, key);
         put(&mut self.entries, at, key, value)?;
         Ok(())
     }
@@ -111,7 +111,7 @@ impl<V: Copy> NumberMap<V> {
         ensures room { self.old.room ≤ self.new.room + 1 }
         ensures no_growth { capacity self.new ≡ capacity self.old }
     {
-        let at = place_of_number(&self.entries, key);
+        let at = index_of_number(&self.entries, key);
         match put(&mut self.entries, at, key, value) {
             Ok(()) => {}
             Err(_) => unreachable!(),
@@ -124,7 +124,7 @@ impl<V: Copy> NumberMap<V> {
         ensures room { self.new.room ≡ self.old.room }
         ensures no_growth { capacity self.new ≡ capacity self.old }
     {
-        let at = place_of_number(&self.entries, key);
+        let at = index_of_number(&self.entries, key);
         replace(&mut self.entries, at, &key, value);
     }
 

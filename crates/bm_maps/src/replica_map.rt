@@ -5,7 +5,7 @@ ghost use Rattle.bm_base.specs.Maps.Map as map;
 ghost use Rattle.std.specs.List.Retain.{IsFiltered};
 ghost use Rattle.std.specs.Fn.{CalledAt};
 
-use crate::sorted::{find, place, place_to_put, put, replace};
+use crate::sorted::{find, place, insertion_index, put, replace};
 use bm_base::ReplicaId;
 use std::alloc::{AllocError, Global};
 use std::marker::Model;
@@ -64,7 +64,7 @@ impl<V: Copy> ReplicaMap<V> {
         ensures ok { OnOk result (self.new ≡ map.insert self.old key value) }
         ensures err { OnErr result (self.new ≡ self.old) }
     {
-        let at = place_to_put(&self.entries, &key);
+        let at = insertion_index(&self.entries, &key);
         put(&mut self.entries, at, key, value)?;
         Ok(())
     }

@@ -2,7 +2,7 @@
 // search.
 ghost use Rattle.std.specs.Prelude.{◌≡◌, ◌<◌, ◌≤◌, ◌+◌, if◌then◌else◌, is_some, OnOk, OnErr, IsOk, IsTrue, T, vec_len, vec_capacity, length, insert};
 ghost use Rattle.std.specs.FinMap as list;
-ghost use Rattle.bm_maps.specs.Place.{place};
+ghost use Rattle.bm_maps.specs.KeyIndex.{place};
 
 use std::alloc::AllocError;
 use std::cmp::Ordering;
@@ -12,11 +12,11 @@ pub fn place<K: Ord + Copy, V: Copy>(entries: &[(K, V)], key: &K) -> usize
     requires { T (list.is_sorted K.cmp entries.now) }
     ensures { result ≡ place K.cmp key.now entries.now }
 {
-    place_between(entries, key, 0, entries.len())
+    index_between(entries, key, 0, entries.len())
 }
 
 /// The same, for a key that is mostly greater than all others: the last entry is compared first.
-pub(crate) fn place_to_put<K: Ord + Copy, V: Copy>(entries: &[(K, V)], key: &K) -> usize
+pub(crate) fn insertion_index<K: Ord + Copy, V: Copy>(entries: &[(K, V)], key: &K) -> usize
     requires { T (list.is_sorted K.cmp entries.now) }
     ensures { result ≡ place K.cmp key.now entries.now }
 {
@@ -28,7 +28,7 @@ pub(crate) fn place_to_put<K: Ord + Copy, V: Copy>(entries: &[(K, V)], key: &K) 
 }
 
 /// The number of entries before the key's index, which is at least `least` and at most `most`.
-pub(crate) fn place_between<K: Ord + Copy, V: Copy>(
+pub(crate) fn index_between<K: Ord + Copy, V: Copy>(
     entries: &[(K, V)],
     key: &K,
     least: usize,

@@ -12,10 +12,10 @@ use Rattle.bm_base.specs.Maps.Map.{Order, Map, get, empty, entries, insert, inse
 use Rattle.bm_base.specs.Ordered.{pair_cmp, by_pair, ordered_by}
 use Rattle.bm_base.specs.RoundParts.{wish_key}
 use Rattle.bm_base.specs.Choices.{merged_wishes}
-use Rattle.bm_base.proofs.Each.{Each, each_then}
+use Rattle.bm_base.proofs.ForEach.{Each, each_then}
 use Rattle.bm_base.proofs.MapLaws.{same_map, get-keep, get-insert, get-empty, entries-keep}
-use Rattle.bm_base.proofs.Maps.{same_key, each_entry, holds_insert_all}
-use Rattle.bm_parts.proofs.Keeping.{keep-insert}
+use Rattle.bm_base.proofs.MapEntries.{same_key, each_entry, holds_insert_all}
+use Rattle.bm_parts.proofs.KeepLaws.{keep-insert}
 use Rattle.bm_parts.specs.Before.{is_before, wishes_before, part_before}
 use Rattle.bm_parts.proofs.Filters.{filtered_alike, map_filter}
 
@@ -33,9 +33,9 @@ module _ {K X : Type 0} (o : Order K) (key : X → K) (q : K → Bool) where
       by true rest = both _ _ (first _ _ h) rest
       by false rest = rest
 
-  pub rises_still : (xs : List X) → T (is_sorted o.cmp (map (λ x. (key x, x)) xs)) → T (is_sorted o.cmp (map (λ x. (key x, x)) (filter passing xs)))
-  rises_still [] h = tt
-  rises_still (x ∷ xs) h = by (passing x) (rises_still xs (second _ _ h))
+  pub ascends_still : (xs : List X) → T (is_sorted o.cmp (map (λ x. (key x, x)) xs)) → T (is_sorted o.cmp (map (λ x. (key x, x)) (filter passing xs)))
+  ascends_still [] h = tt
+  ascends_still (x ∷ xs) h = by (passing x) (ascends_still xs (second _ _ h))
     where
       by : (t : Bool) → T (is_sorted o.cmp (map (λ x. (key x, x)) (filter passing xs))) → T (is_sorted o.cmp (map (λ x. (key x, x)) (cond t (x ∷ filter passing xs) (filter passing xs))))
       by true rest = both _ _ (below_still (key x) xs (first _ _ h)) rest

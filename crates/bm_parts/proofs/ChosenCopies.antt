@@ -15,10 +15,10 @@ use Rattle.bm_base.specs.Machine.State.{RoundLimits, Cluster, Holdings, replica_
 use Rattle.bm_base.specs.Maps.Lists.{has, least}
 use Rattle.bm_base.specs.Machine.Replicas.{is_usable, is_live_on, is_draining, live, sources_of, storages_where}
 use Rattle.bm_base.specs.Machine.Excess.{excess_cmp, excess_among, excess_of, excess_in}
-use Rattle.bm_base.specs.Machine.Transfers.{WishedCopy, least_source, least_target_by, least_target, scheduled_to, target_cmp, is_target, holders_of, barred_for, transfer_for, transfers_from, transfers, wishes}
+use Rattle.bm_base.specs.Machine.Transfers.{RequestedCopy, least_source, least_target_by, least_target, scheduled_to, target_cmp, is_target, holders_of, excluded_for, transfer_for, transfers_from, transfers, wishes}
 use Rattle.bm_base.proofs.Options.{is_there, revised, chained}
-use Rattle.bm_base.proofs.Each.{Each, each_mapped, each_then, each_both, each_filtered, each_passing, each_appended, each_optional, least_is_one, has_one}
-use Rattle.bm_base.proofs.Maps.{each_entry, each_key}
+use Rattle.bm_base.proofs.ForEach.{Each, each_mapped, each_then, each_both, each_filtered, each_passing, each_appended, each_optional, least_is_one, has_one}
+use Rattle.bm_base.proofs.MapEntries.{each_entry, each_key}
 
 -- block b has on s a replica whose marks pass
 abbrev pub HasOne : (ℕ → Marks → Bool) → Holdings → ℕ → ℕ → Type 0
@@ -84,16 +84,16 @@ made_of b found source target t e =
     let u = revised (made b i.0 s.0) (target i.0) t s.2 in
     (i.0, i.1, u.1 ∙ ap (λ (x : Transfer). Some x.target) u.2, ap (λ (x : Transfer). x.block) u.2)
 
-pub transfer_placed : (limits : RoundLimits) (C : Cluster) (H : Holdings) (chosen : List Transfer) (w : WishedCopy) (t : Transfer) → transfer_for limits C H chosen w ≡ Some t → IsPlaced C H t
+pub transfer_placed : (limits : RoundLimits) (C : Cluster) (H : Holdings) (chosen : List Transfer) (w : RequestedCopy) (t : Transfer) → transfer_for limits C H chosen w ≡ Some t → IsPlaced C H t
 unfolding transfer_for
 transfer_placed limits C H chosen w t e =
-    let of_it = made_of w.block (get H.blocks w.block) (least_source C chosen w.urgency (sources_of C H w.block)) (λ i. least_target C chosen w.urgency (holders_of C H chosen w.block) (barred_for H chosen w.block) i.stamp.len) t
+    let of_it = made_of w.block (get H.blocks w.block) (least_source C chosen w.urgency (sources_of C H w.block)) (λ i. least_target C chosen w.urgency (holders_of C H chosen w.block) (excluded_for H chosen w.block) i.stamp.len) t
     (unless (nat_le (limits.work * len C.nodes) (length chosen)) _ t e) in (
-      target_known C chosen w.urgency (holders_of C H chosen w.block) (barred_for H chosen w.block) of_it.0.stamp.len t.target of_it.2,
+      target_known C chosen w.urgency (holders_of C H chosen w.block) (excluded_for H chosen w.block) of_it.0.stamp.len t.target of_it.2,
       sym (ap (contains_key H.blocks) of_it.3) ∙ is_there (get H.blocks w.block) of_it.0 of_it.1,
     )
 
-placed_from : (limits : RoundLimits) (C : Cluster) (H : Holdings) (chosen : List Transfer) (ws : List WishedCopy) → Each (IsPlaced C H) chosen → Each (IsPlaced C H) (transfers_from limits C H chosen ws)
+placed_from : (limits : RoundLimits) (C : Cluster) (H : Holdings) (chosen : List Transfer) (ws : List RequestedCopy) → Each (IsPlaced C H) chosen → Each (IsPlaced C H) (transfers_from limits C H chosen ws)
 placed_from limits C H chosen [] h = h
 placed_from limits C H chosen (w ∷ ws) h =
     placed_from limits C H (chosen ++ option_to_list (transfer_for limits C H chosen w)) ws

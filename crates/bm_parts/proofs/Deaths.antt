@@ -8,9 +8,9 @@ use Rattle.bm_base.specs.Machine.State.{Cluster}
 use Rattle.bm_base.specs.Machine.Replicas.{node_of, rack_of, has_storage, drains, is_draining}
 use Rattle.bm_base.specs.Machine.Events.{without_node, without_storage}
 use Rattle.bm_base.proofs.Clusters.{same_node}
-use Rattle.bm_parts.proofs.Keeping.{get-keep_there}
+use Rattle.bm_parts.proofs.KeepLaws.{get-keep_there}
 use Rattle.bm_base.proofs.Options.{not_failed}
-use Rattle.bm_base.proofs.Maps.{get_left}
+use Rattle.bm_base.proofs.MapEntries.{get_left}
 
 drains_elsewhere : (C : Cluster) (n m : ℕ) → m ≢ n → drains (without_node C n) m ≡ drains C m
 unfolding without_node drains

@@ -7,11 +7,11 @@ use Rattle.bm_base.specs.Maps.Map.{Map, keep}
 use Rattle.bm_base.specs.Machine.State.{Cluster, Holdings, by_replica}
 use Rattle.bm_base.specs.Machine.Replicas.{node_of, rack_of, has_storage, drains, is_draining, storages_where, is_multi_rack}
 use Rattle.bm_base.specs.Machine.Levels.{level}
-use Rattle.bm_base.specs.Machine.Events.{drain, undrain, begun_to_drain}
-use Rattle.bm_base.proofs.Maps.{get_left, get_other}
+use Rattle.bm_base.specs.Machine.Events.{drain, undrain, begin_drain}
+use Rattle.bm_base.proofs.MapEntries.{get_left, get_other}
 use Rattle.bm_parts.specs.LevelLaws as law
 use Rattle.bm_parts.proofs.Storages.{usable_fails}
-use Rattle.bm_parts.proofs.Leveling.{StandsAlike, level_alike}
+use Rattle.bm_parts.proofs.ClusterLevels.{StandsAlike, level_alike}
 
 module _ (C D : Cluster) (n s : ℕ) (storages : node_of D s ≡ node_of C s) (elsewhere : (m : ℕ) → m ≢ n → drains D m ≡ drains C m) where
   draining_by : (z : Option ℕ) → option_map_or (λ m. m == n) z false ≡ false → option_map_or (drains D) z false ≡ option_map_or (drains C) z false
@@ -53,8 +53,8 @@ level_unsent : (D : Cluster) (H : Holdings) (pending : Map by_replica ℕ) (b : 
 unfolding level storages_where
 level_unsent D H pending b = refl
 
-level_begun : (C D : Cluster) (H : Holdings) (n b : ℕ) → level D (begun_to_drain C H n) b ≡ level D H b
-unfolding begun_to_drain
+level_begun : (C D : Cluster) (H : Holdings) (n b : ℕ) → level D (begin_drain C H n) b ≡ level D H b
+unfolding begin_drain
 level_begun C D H n b = by_test (drains C n)
   where
     by_test : (t : Bool) → level D (if t then H else record H { pending = keep H.pending (λ q _. not (has_storage C n q.storage)) }) b ≡ level D H b

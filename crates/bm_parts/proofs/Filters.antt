@@ -2,8 +2,8 @@
 use Rattle.std.proofs.Common.{◌≡◌, ◌≤◌, Bool, true, false, cond, ◌&&◌, List, [], ◌∷◌, map, filter, length, arith, refl, sym, ap, ◌∙◌}
 use Rattle.std.specs.List.{All, list_any}
 use Rattle.std.proofs.lemmas.List.Elements.{All-nil, All-cons}
-use Rattle.bm_base.proofs.Listed.{any_map, any_filter, filter_filter}
-use Rattle.bm_base.proofs.Each.{Each}
+use Rattle.bm_base.proofs.ListTests.{any_map, any_filter, filter_filter}
+use Rattle.bm_base.proofs.ForEach.{Each}
 
 within : (a b c : Bool) → (a ≡ true → b ≡ c) → (c ≡ true → a ≡ true) → (a && b) ≡ c
 within true b c h g = h refl

@@ -5,18 +5,18 @@ use Rattle.std.specs.List.{list_any}
 use Rattle.std.proofs.lemmas.List.Folds.{list_any-append}
 use Rattle.bm_base.specs.Maps.Map.{keys}
 use Rattle.bm_base.specs.Machine.State.{Cluster, Holdings}
-use Rattle.bm_base.specs.Machine.Entries.{count_up}
+use Rattle.bm_base.specs.Machine.Entries.{range_from}
 use Rattle.bm_base.specs.Machine.Replicas.{has_storage, drains}
 use Rattle.bm_base.specs.Machine.Queries.{is_held_back_by, is_retired}
 use Rattle.bm_base.specs.Shards.{shard_of, cut}
-use Rattle.bm_base.proofs.Each.{Each, none_passes, each_filtered}
+use Rattle.bm_base.proofs.ForEach.{Each, none_passes, each_filtered}
 use Rattle.bm_parts.specs.QueryLaws as law
 use Rattle.bm_parts.specs.QueryLaws.{holds_back}
 use Rattle.bm_parts.specs.Whole.{parts}
 use Rattle.bm_parts.proofs.Parts.{own}
-use Rattle.bm_base.proofs.Listed.{any_map, any_agree}
-use Rattle.bm_parts.proofs.Joined.{share, in_a_share, any_of_numbers, each_of_numbers}
-use Rattle.bm_parts.proofs.Cutting.{keys_cut, drained_cut, enough_cut}
+use Rattle.bm_base.proofs.ListTests.{any_map, any_agree}
+use Rattle.bm_parts.proofs.JoinedShares.{share, in_a_share, any_of_numbers, each_of_numbers}
+use Rattle.bm_parts.proofs.CutParts.{keys_cut, drained_cut, enough_cut}
 
 none_of : {X : Type 0} (t : X → Bool) (xs : List X) → Each (λ x. t x ≡ false) xs → list_any t xs ≡ false
 none_of t [] h = refl
@@ -27,13 +27,13 @@ any_flat t f [] = refl
 any_flat t f (x ∷ xs) = list_any-append t (f x) (flat_map f xs) ∙ ap (λ b. list_any t (f x) || b) (any_flat t f xs)
 
 -- some element of the shares passes exactly if some element of the list does
-any_share : {X : Type 0} (t : X → Bool) (shard : X → ℕ) (shards : ℕ) → ((x : X) → shard x < shards) → (xs : List X) → list_any t (flat_map (share shard xs) (count_up 0 shards)) ≡ list_any t xs
+any_share : {X : Type 0} (t : X → Bool) (shard : X → ℕ) (shards : ℕ) → ((x : X) → shard x < shards) → (xs : List X) → list_any t (flat_map (share shard xs) (range_from 0 shards)) ≡ list_any t xs
 any_share t shard shards below xs = by_test (list_any t xs) refl
   where
-    by_test : (b : Bool) → list_any t xs ≡ b → list_any t (flat_map (share shard xs) (count_up 0 shards)) ≡ b
+    by_test : (b : Bool) → list_any t xs ≡ b → list_any t (flat_map (share shard xs) (range_from 0 shards)) ≡ b
     by_test true e = let at = in_a_share shard t shards below xs e in any_of_numbers t (share shard xs) 0 shards at.0 (omega arith) (omega (arith, at.1)) at.2
     by_test false e =
-        none_of t (flat_map (share shard xs) (count_up 0 shards))
+        none_of t (flat_map (share shard xs) (range_from 0 shards))
         (each_of_numbers (λ x. t x ≡ false) (share shard xs) 0 shards (λ i. each_filtered (λ x. t x ≡ false) (λ x. shard x == i) xs (none_passes t xs e)))
 
 -- tests that agree on the elements that a filter keeps
@@ -59,9 +59,9 @@ module _ (C : Cluster) (n : ℕ) (H : Holdings) (shards : ℕ) where
   held_back : 1 ≤ shards → list_any (holds_back C n) (parts H shards) ≡ holds_back C n H
   unfolding holds_back
   held_back some =
-      any_map (holds_back C n) (λ i. cut H i shards) (count_up 0 shards)
-      ∙ any_agree (λ i. holds_back C n (cut H i shards)) (λ i. list_any (is_held_back_by C H n) (share (λ b. shard_of b shards) (keys H.blocks) i)) held_back_in (count_up 0 shards)
-      ∙ sym (any_flat (is_held_back_by C H n) (share (λ b. shard_of b shards) (keys H.blocks)) (count_up 0 shards))
+      any_map (holds_back C n) (λ i. cut H i shards) (range_from 0 shards)
+      ∙ any_agree (λ i. holds_back C n (cut H i shards)) (λ i. list_any (is_held_back_by C H n) (share (λ b. shard_of b shards) (keys H.blocks) i)) held_back_in (range_from 0 shards)
+      ∙ sym (any_flat (is_held_back_by C H n) (share (λ b. shard_of b shards) (keys H.blocks)) (range_from 0 shards))
       ∙ any_share (is_held_back_by C H n) (λ b. shard_of b shards) shards (λ b. mod-lt b some) (keys H.blocks)
 
 pub held_back_by_some_part : law.held_back_by_some_part

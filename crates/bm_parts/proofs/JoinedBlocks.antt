@@ -19,9 +19,9 @@ use Rattle.bm_parts.specs.QueryLaws as law
 use Rattle.bm_parts.proofs.Parts.{own}
 use Rattle.bm_parts.proofs.Filters.{filter_swap, map_filter, filter_all}
 use Rattle.std.proofs.lemmas.Simd.{map-map}
-use Rattle.bm_parts.proofs.Cutting.{keys_cut, storages_cut, level_cut}
+use Rattle.bm_parts.proofs.CutParts.{keys_cut, storages_cut, level_cut}
 use Rattle.bm_parts.proofs.WholeChoices.{flat_map_same}
-use Rattle.bm_parts.proofs.JoinedReplicas.{listed_rises, joins}
+use Rattle.bm_parts.proofs.JoinedReplicas.{listed_ascends, joins}
 
 -- Known blocks.
 
@@ -47,12 +47,12 @@ module _ {Y : Type 0} (f : Holdings → ℕ → Y) (p : Holdings → ℕ → Boo
             | false ↦ λ t. same_mapped bs
           ]) refl
 
-  blocks_as_rise : (key : Y → ℕ) → ((H : Holdings) (b : ℕ) → key (f H b) ≡ b) → (H : Holdings) → T (is_sorted nat_cmp (map (λ y. (key y, y)) (blocks_as H)))
+  blocks_as_ascend : (key : Y → ℕ) → ((H : Holdings) (b : ℕ) → key (f H b) ≡ b) → (H : Holdings) → T (is_sorted nat_cmp (map (λ y. (key y, y)) (blocks_as H)))
   unfolding keys entries
-  blocks_as_rise key is H =
+  blocks_as_ascend key is H =
       subst (λ ys. T (is_sorted nat_cmp (map (λ y. (key y, y)) ys)))
       (sym (ap (map (f H)) (map_filter (λ (e : ℕ × BlockInfo). e.0) (p H) H.blocks.list) ∙ map-map (f H) (λ (e : ℕ × BlockInfo). e.0) (filter (λ e. p H e.0) H.blocks.list)))
-      (listed_rises nat_cmp (λ (e : ℕ × BlockInfo). f H e.0) (λ e. p H e.0) key (λ e. is H e.0) H.blocks.list H.blocks.sorted)
+      (listed_ascends nat_cmp (λ (e : ℕ × BlockInfo). f H e.0) (λ e. p H e.0) key (λ e. is H e.0) H.blocks.list H.blocks.sorted)
 
 map_same : (bs : List ℕ) → map (λ b. b) bs ≡ bs
 map_same [] = refl
@@ -63,7 +63,7 @@ unfolding missing_blocks
 missing_join C H shards some =
     let test : Holdings → ℕ → Bool = λ H b. is_at NoUsableReplica (level C H b) in
     ap (ordered_by by_number (λ (b : ℕ). b)) (flat_map_same (λ P. filter (test P) (keys P.blocks)) (blocks_as (λ _ b. b) test) (λ P. sym (map_same (filter (test P) (keys P.blocks)))) (parts H shards))
-    ∙ joins by_number (λ (b : ℕ). b) (blocks_as (λ _ b. b) test) (λ b. b) H shards some (blocks_as_rise (λ _ b. b) test (λ b. b) (λ _ _. refl) H)
+    ∙ joins by_number (λ (b : ℕ). b) (blocks_as (λ _ b. b) test) (λ b. b) H shards some (blocks_as_ascend (λ _ b. b) test (λ b. b) (λ _ _. refl) H)
     (blocks_as_cut (λ _ b. b) test (λ b. b) (λ _ _. refl) (λ _ _ _ _ _. refl) (λ G i n b t. ap (is_at NoUsableReplica) (level_cut i n C G b t)) H shards)
     ∙ map_same (filter (test H) (keys H.blocks))
 
@@ -75,6 +75,6 @@ unfolding table
 tables_join H shards some =
     let row : Holdings → ℕ → ℕ × List ℕ = λ H b. (b, take MAX_PLACES (places H b)) in
     ap (ordered_by by_number (λ (row : ℕ × List ℕ). row.0)) (flat_map_same (λ P. map (row P) (keys P.blocks)) (blocks_as row (λ _ _. true)) (λ P. ap (map (row P)) (sym (filter_all (keys P.blocks)))) (parts H shards))
-    ∙ joins by_number (λ (row : ℕ × List ℕ). row.0) (blocks_as row (λ _ _. true)) (λ r. r.0) H shards some (blocks_as_rise row (λ _ _. true) (λ r. r.0) (λ _ _. refl) H)
+    ∙ joins by_number (λ (row : ℕ × List ℕ). row.0) (blocks_as row (λ _ _. true)) (λ r. r.0) H shards some (blocks_as_ascend row (λ _ _. true) (λ r. r.0) (λ _ _. refl) H)
     (blocks_as_cut row (λ _ _. true) (λ r. r.0) (λ _ _. refl) (λ G i n b t. ap (λ ss. (b, take MAX_PLACES ss)) (places_cut G i n b t)) (λ _ _ _ _ _. refl) H shards)
     ∙ ap (map (row H)) (filter_all (keys H.blocks))

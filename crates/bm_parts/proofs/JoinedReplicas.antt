@@ -11,18 +11,18 @@ use Rattle.bm_base.specs.declared.replica.Replica.{Replica}
 use Rattle.bm_base.specs.Maps.Map.{Order, by_number, entries}
 use Rattle.bm_base.specs.Machine.State.{Holdings, by_replica, replica_cmp}
 use Rattle.bm_base.specs.Machine.Queries.{all_replicas, replicas_where, blocks_on}
-use Rattle.bm_base.specs.Machine.Entries.{count_up}
+use Rattle.bm_base.specs.Machine.Entries.{range_from}
 use Rattle.bm_base.specs.Shards.{shard_of, cut}
 use Rattle.bm_base.specs.Ordered.{ordered_by}
 use Rattle.bm_parts.specs.Whole.{parts}
 use Rattle.bm_parts.specs.QueryLaws as law
 use Rattle.bm_parts.proofs.Parts.{own}
-use Rattle.bm_parts.proofs.Joined.{shares_in_order}
+use Rattle.bm_parts.proofs.JoinedShares.{shares_in_order}
 use Rattle.bm_parts.proofs.Filters.{filter_swap, map_filter, filter_all}
 use Rattle.std.proofs.lemmas.List.Folds.{flat_map-map}
-use Rattle.bm_parts.proofs.Cutting.{replicas_cut}
+use Rattle.bm_parts.proofs.CutParts.{replicas_cut}
 use Rattle.bm_parts.proofs.WholeChoices.{flat_map_same}
-use Rattle.bm_base.proofs.RisingParts.{lesser_block}
+use Rattle.bm_base.proofs.SortedParts.{lesser_block}
 
 -- Results for sorted entries, each with its entry's key, are sorted.
 module _ {K X Y : Type 0} (R : K → K → Ordering) (f : K × X → Y) (p : K × X → Bool) (key : Y → K) (is : (e : K × X) → key (f e) ≡ e.0) where
@@ -34,9 +34,9 @@ module _ {K X Y : Type 0} (R : K → K → Ordering) (f : K × X → Y) (p : K �
       by true rest = both _ _ (subst (λ q. T (is_lt (R k q))) (sym (is e)) (first _ _ h)) rest
       by false rest = rest
 
-  pub listed_rises : (es : List (K × X)) → T (is_sorted R es) → T (is_sorted R (map (λ y. (key y, y)) (map f (filter p es))))
-  listed_rises [] h = tt
-  listed_rises (e ∷ es) h = by (p e) (listed_rises es (second _ _ h))
+  pub listed_ascends : (es : List (K × X)) → T (is_sorted R es) → T (is_sorted R (map (λ y. (key y, y)) (map f (filter p es))))
+  listed_ascends [] h = tt
+  listed_ascends (e ∷ es) h = by (p e) (listed_ascends es (second _ _ h))
     where
       by : (b : Bool) → T (is_sorted R (map (λ y. (key y, y)) (map f (filter p es)))) → T (is_sorted R (map (λ y. (key y, y)) (map f (cond b (e ∷ filter p es) (filter p es)))))
       by true rest = both _ _ (subst (λ q. T (below_all R q (map (λ y. (key y, y)) (map f (filter p es))))) (sym (is e)) (below_listed e.0 es (first _ _ h))) rest
@@ -47,7 +47,7 @@ pub joins : {K Y : Type 0} (o : Order K) (key : Y → K) (list : Holdings → Li
     → T (is_sorted o.cmp (map (λ y. (key y, y)) (list H))) → ((i : ℕ) → list (cut H i shards) ≡ filter (λ y. shard_of (block y) shards == i) (list H))
     → ordered_by o key (flat_map list (parts H shards)) ≡ list H
 joins o key list block H shards some rises shares =
-    ap (ordered_by o key) (flat_map-map list (λ i. cut H i shards) (count_up 0 shards) ∙ flat_map_same _ _ shares (count_up 0 shards))
+    ap (ordered_by o key) (flat_map-map list (λ i. cut H i shards) (range_from 0 shards) ∙ flat_map_same _ _ shares (range_from 0 shards))
     ∙ shares_in_order o key (list H) rises (λ y. shard_of (block y) shards) shards (λ y. mod-lt (block y) some)
 
 -- Replicas.
@@ -63,9 +63,9 @@ module _ {Y : Type 0} (f : ReplicaId × Marks → Y) (p : ReplicaId × Marks →
       ∙ ap (λ (t : ReplicaId × Marks → Bool). map f (filter t (filter p (entries H.replicas)))) (λ j e. own i shards (sym (is e) j))
       ∙ sym (map_filter f (λ y. shard_of (block y) shards == i) (filter p (entries H.replicas)))
 
-  replicas_as_rise : (key : Y → ReplicaId) → ((e : ReplicaId × Marks) → key (f e) ≡ e.0) → (H : Holdings) → T (is_sorted replica_cmp (map (λ y. (key y, y)) (replicas_as H)))
+  replicas_as_ascend : (key : Y → ReplicaId) → ((e : ReplicaId × Marks) → key (f e) ≡ e.0) → (H : Holdings) → T (is_sorted replica_cmp (map (λ y. (key y, y)) (replicas_as H)))
   unfolding entries
-  replicas_as_rise key is H = listed_rises replica_cmp f p key is H.replicas.list H.replicas.sorted
+  replicas_as_ascend key is H = listed_ascends replica_cmp f p key is H.replicas.list H.replicas.sorted
 
 abbrev as_replica : ReplicaId × Marks → Replica
 as_replica e = record { block = e.0.block; storage = e.0.storage; tag = e.1.tag }
@@ -77,14 +77,14 @@ all_are H = ap (map as_replica) (filter_all (entries H.replicas))
 pub replicas_join : law.replicas_join
 replicas_join H shards some =
     ap (ordered_by by_replica law.replica_key) (flat_map_same all_replicas (replicas_as as_replica (λ _. true)) (λ P. sym (all_are P)) (parts H shards))
-    ∙ joins by_replica law.replica_key (replicas_as as_replica (λ _. true)) (λ r. r.block) H shards some (replicas_as_rise as_replica (λ _. true) law.replica_key (λ _. refl) H)
+    ∙ joins by_replica law.replica_key (replicas_as as_replica (λ _. true)) (λ r. r.block) H shards some (replicas_as_ascend as_replica (λ _. true) law.replica_key (λ _. refl) H)
     (replicas_as_cut as_replica (λ _. true) (λ r. r.block) (λ _. refl) H shards)
     ∙ all_are H
 
 pub marked_replicas_join : law.marked_replicas_join
 unfolding replicas_where
 marked_replicas_join p H shards some =
-    joins by_replica (λ (q : ReplicaId). q) (replicas_as (λ e. e.0) (λ e. p e.1)) (λ q. q.block) H shards some (replicas_as_rise (λ e. e.0) (λ e. p e.1) (λ q. q) (λ _. refl) H)
+    joins by_replica (λ (q : ReplicaId). q) (replicas_as (λ e. e.0) (λ e. p e.1)) (λ q. q.block) H shards some (replicas_as_ascend (λ e. e.0) (λ e. p e.1) (λ q. q) (λ _. refl) H)
     (replicas_as_cut (λ e. e.0) (λ e. p e.1) (λ q. q.block) (λ _. refl) H shards)
 
 -- Blocks on a storage.
@@ -99,9 +99,9 @@ module _ (s : ℕ) where
       by true t rest = both _ _ (lesser_block p e.0 (at ∙ sym (eqb-true e.0.storage s t)) (first _ _ h)) rest
       by false t rest = rest
 
-  on_rises : (es : List (ReplicaId × Marks)) → T (is_sorted replica_cmp es) → T (is_sorted nat_cmp (map (λ b. (b, b)) (map (λ e. e.0.block) (filter (λ e. e.0.storage == s) es))))
-  on_rises [] h = tt
-  on_rises (e ∷ es) h = by (e.0.storage == s) refl (on_rises es (second _ _ h))
+  on_ascends : (es : List (ReplicaId × Marks)) → T (is_sorted replica_cmp es) → T (is_sorted nat_cmp (map (λ b. (b, b)) (map (λ e. e.0.block) (filter (λ e. e.0.storage == s) es))))
+  on_ascends [] h = tt
+  on_ascends (e ∷ es) h = by (e.0.storage == s) refl (on_ascends es (second _ _ h))
     where
       by : (b : Bool) → (e.0.storage == s) ≡ b → T (is_sorted nat_cmp (map (λ b. (b, b)) (map (λ e. e.0.block) (filter (λ e. e.0.storage == s) es))))
           → T (is_sorted nat_cmp (map (λ b. (b, b)) (map (λ e. e.0.block) (cond b (e ∷ filter (λ e. e.0.storage == s) es) (filter (λ e. e.0.storage == s) es)))))
@@ -111,5 +111,5 @@ module _ (s : ℕ) where
 pub blocks_on_join : law.blocks_on_join
 unfolding blocks_on entries
 blocks_on_join s H shards some =
-    joins by_number (λ (b : ℕ). b) (replicas_as (λ e. e.0.block) (λ e. e.0.storage == s)) (λ b. b) H shards some (on_rises s H.replicas.list H.replicas.sorted)
+    joins by_number (λ (b : ℕ). b) (replicas_as (λ e. e.0.block) (λ e. e.0.storage == s)) (λ b. b) H shards some (on_ascends s H.replicas.list H.replicas.sorted)
     (replicas_as_cut (λ e. e.0.block) (λ e. e.0.storage == s) (λ b. b) (λ _. refl) H shards)

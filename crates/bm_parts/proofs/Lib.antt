@@ -1,28 +1,28 @@
 -- Events on the holdings of one part.
-pub mod Keeping
-pub mod Among
-pub mod Entering
+pub mod KeepLaws
+pub mod RemainingHoldings
+pub mod ReportedReplicas
 -- What a round chooses of a part.
 pub mod ChosenCopies
 pub mod WholeChoices
 pub mod OnePart
 -- Lists.
 pub mod Filters
-pub mod Joined
-pub mod Sorted
+pub mod JoinedShares
+pub mod SortedLists
 -- Parts of holdings under events.
 pub mod PartMaps
 pub mod Parts
 pub mod PartSums
 -- Parts of holdings in a round.
-pub mod Cutting
-pub mod Parting
-pub mod Merging
-pub mod Gathered
-pub mod Finding
+pub mod CutParts
+pub mod PartLists
+pub mod MergedChoices
+pub mod EqualLists
+pub mod FoundLists
 -- The whole of parts.
-pub mod Wholes
-pub mod Changing
+pub mod WholeParts
+pub mod PartChanges
 pub mod OneShard
 -- Queries.
 pub mod JoinedReplicas
@@ -32,12 +32,12 @@ pub mod OwnShard
 -- Storages of a block's replicas, and settled blocks.
 pub mod Storages
 pub mod OneBlock
-pub mod Settling
+pub mod SettledBlocks
 -- Levels.
 pub mod Deaths
-pub mod Leveling
+pub mod ClusterLevels
 pub mod Drains
-pub mod Racked
+pub mod ReplicaRacks
 -- Where replicas are.
 pub mod WellPlaced
 -- Sorted lists merged.

@@ -11,7 +11,7 @@ use Rattle.bm_base.specs.Machine.State.{Cluster, Holdings, replica_at}
 use Rattle.bm_base.specs.Machine.Replicas.{is_usable, is_live_on, is_drained_on, storages_where, racks, is_multi_rack, usable}
 use Rattle.bm_base.specs.Machine.Levels.{level, level_of}
 use Rattle.bm_base.specs.Machine.Events.{change_holdings}
-use Rattle.bm_base.specs.Machine.Rounds.{is_commanded, finished}
+use Rattle.bm_base.specs.Machine.Rounds.{is_commanded, end_round}
 use Rattle.bm_base.specs.Shards.{shard_of, cut}
 use Rattle.bm_parts.specs.Parts.{IsSameOf, block_of}
 use Rattle.bm_parts.specs.LevelLaws as law
@@ -66,17 +66,17 @@ unseen f same false m = refl
 
 -- tests that ignore whether a delete is ordered
 storages_at_end : (p : ℕ → Marks → Bool) → ((s : ℕ) (m : Marks) → p s (record m { ordered = true }) ≡ p s m) → (r : ℕ) (G : Holdings) (ts : List Transfer) (ds : List Delete) (b : ℕ)
-    → storages_where p (finished r G ts ds) b ≡ storages_where p G b
-unfolding finished storages_where
+    → storages_where p (end_round r G ts ds) b ≡ storages_where p G b
+unfolding end_round storages_where
 storages_at_end p same r G ts ds b =
     storages_revised G (λ q m. if is_commanded ds q then record m { ordered = true } else m) p b (λ q m at there. unseen (p q.storage) (same q.storage) (is_commanded ds q) m)
 
 pub round_end_leaves_levels : law.round_end_leaves_levels
-unfolding level finished
+unfolding level end_round
 round_end_leaves_levels C r G ts ds b =
     let lives = storages_at_end (is_live_on C) (λ s m. refl) r G ts ds b in
     let spent = storages_at_end (is_drained_on C) (λ s m. refl) r G ts ds b in
     (λ j. option_and_then (λ (i : BlockInfo). level_of (length (lives j)) (length (spent j)) i.repl (length (racks C (lives j))) (is_multi_rack C)) (known r G ts ds b j))
   where
-    known : (r : ℕ) (G : Holdings) (ts : List Transfer) (ds : List Delete) (b : ℕ) → get (finished r G ts ds).blocks b ≡ get G.blocks b
+    known : (r : ℕ) (G : Holdings) (ts : List Transfer) (ds : List Delete) (b : ℕ) → get (end_round r G ts ds).blocks b ≡ get G.blocks b
     known r G ts ds b = refl

@@ -6,29 +6,29 @@ use Rattle.bm_base.specs.declared.round.RoundPart.{RoundPart}
 use Rattle.bm_base.specs.Machine.State.{RoundLimits, Cluster, Holdings, State}
 use Rattle.bm_base.specs.Machine.Transfers.{transfers}
 use Rattle.bm_base.specs.Machine.Deletes.{deletes}
-use Rattle.bm_base.specs.Machine.Excess.{begun, started}
-use Rattle.bm_base.specs.Machine.Rounds.{commands_of, finished, whole_round}
+use Rattle.bm_base.specs.Machine.Excess.{state_after_expiry, state_at_choice}
+use Rattle.bm_base.specs.Machine.Rounds.{commands_of, end_round, whole_round}
 use Rattle.bm_base.specs.Ordered.{pair_cmp}
-use Rattle.bm_base.specs.RoundParts.{wish_key, delete_key, round_part, started_holdings}
-use Rattle.bm_base.proofs.RisingParts.{wishes_rise, deletes_rise}
+use Rattle.bm_base.specs.RoundParts.{wish_key, delete_key, round_part, holdings_at_choice}
+use Rattle.bm_base.proofs.SortedParts.{wishes_ascend, deletes_ascend}
 
 -- What a shard finds as round r begins.
 
 module _ (C : Cluster) (pend r : ℕ) (H : Holdings) where
-  pub round_wishes_rise : T (is_sorted pair_cmp (map (λ w. (wish_key w, w)) (round_part C pend r H).wishes))
+  pub round_wishes_ascend : T (is_sorted pair_cmp (map (λ w. (wish_key w, w)) (round_part C pend r H).wishes))
   unfolding round_part
-  round_wishes_rise = wishes_rise C (started_holdings C pend r H)
+  round_wishes_ascend = wishes_ascend C (holdings_at_choice C pend r H)
 
-  pub round_deletes_rise : T (is_sorted pair_cmp (map (λ d. (delete_key d, d)) (round_part C pend r H).deletes))
+  pub round_deletes_ascend : T (is_sorted pair_cmp (map (λ d. (delete_key d, d)) (round_part C pend r H).deletes))
   unfolding round_part
-  round_deletes_rise = deletes_rise C (started_holdings C pend r H)
+  round_deletes_ascend = deletes_ascend C (holdings_at_choice C pend r H)
 
 -- The whole round, by the choices over the holdings.
 pub whole_round_is : (M : State)
     → let r = M.round + 1 in
-    let G = started_holdings M.cluster M.limits.pend r M.holdings in
+    let G = holdings_at_choice M.cluster M.limits.pend r M.holdings in
     let ts = transfers M.limits M.cluster G in
     let ds = deletes M.limits M.cluster G in
-    whole_round M ≡ (commands_of M.cluster r ts ds, record M { round = r; holdings = finished r G ts ds })
-unfolding whole_round started begun started_holdings
+    whole_round M ≡ (commands_of M.cluster r ts ds, record M { round = r; holdings = end_round r G ts ds })
+unfolding whole_round state_at_choice state_after_expiry holdings_at_choice
 whole_round_is M = refl

@@ -15,7 +15,7 @@ use Rattle.bm_base.proofs.Differences.{none_new}
 use Rattle.bm_parts.specs.Parts.{block_of, change_part}
 use Rattle.bm_parts.specs.Whole.{EachPart, done_of_all}
 use Rattle.bm_parts.specs.EventLaws as law
-use Rattle.bm_parts.proofs.Changing.{whole_changes_by_event, done_adds_up}
+use Rattle.bm_parts.proofs.PartChanges.{whole_changes_by_event, done_adds_up}
 
 -- an event on a block keeps the cluster
 pub same_cluster : (C : Cluster) (e : Event) (b : ℕ) → block_of e ≡ Some b → change_cluster C e ≡ C

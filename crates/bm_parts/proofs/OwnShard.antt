@@ -20,7 +20,7 @@ use Rattle.bm_base.specs.Shards.{shard_of, cut}
 use Rattle.bm_parts.specs.QueryLaws as law
 use Rattle.bm_parts.proofs.Parts.{own}
 use Rattle.std.proofs.lemmas.Map.Views.{any-filter_same}
-use Rattle.bm_parts.proofs.Cutting.{known_cut, level_cut, replicas_cut}
+use Rattle.bm_parts.proofs.CutParts.{known_cut, level_cut, replicas_cut}
 use Rattle.bm_parts.proofs.JoinedBlocks.{places_cut}
 
 -- One block.

@@ -4,9 +4,9 @@ use Rattle.std.specs.Prelude.{option_and_then, option_map}
 use Rattle.std.specs.Ordering.{eq_by_cmp}
 use Rattle.bm_base.specs.Maps.Map.{Map, Order, get, insert, insert_all, keep, revise, remove}
 use Rattle.bm_base.proofs.MapLaws.{same_map, get-keep, get-revise, get-remove}
-use Rattle.bm_parts.proofs.Keeping.{keep-insert, get-keep_there}
+use Rattle.bm_parts.proofs.KeepLaws.{keep-insert, get-keep_there}
 use Rattle.bm_base.proofs.Options.{none_stays, all_stays, not_taken}
-use Rattle.bm_base.proofs.Maps.{same_key, get_elsewhere}
+use Rattle.bm_base.proofs.MapEntries.{same_key, get_elsewhere}
 
 mapped_same : {X : Type 0} (f : X → X) → ((x : X) → f x ≡ x) → (z : Option X) → option_map f z ≡ z
 mapped_same f same None = refl

@@ -11,11 +11,11 @@ use Rattle.bm_base.specs.declared.event.Event.{Event}
 use Rattle.bm_base.specs.declared.event.Event.TheVariants.{Register, Dead, StorageFailed, Heartbeat, Drain, Undrain, AddBlock, DeleteBlock, SetReplication, Restamp, Received, Deleted, Corrupt, FullReport}
 use Rattle.bm_base.specs.Maps.Map.{Map, by_number, get, insert, insert_all, keep, revise, revise_at}
 use Rattle.bm_base.specs.Machine.State.{Cluster, Holdings, by_replica, replica_at, replica_cmp}
-use Rattle.bm_base.specs.Machine.Replicas.{has_storage, drains, are_sisters}
-use Rattle.bm_base.specs.Machine.Entries.{Told, expanded}
-use Rattle.bm_base.specs.Machine.Events.{was_bad, was_excess, entered_tag, entered, replaces, enter, is_named, leaves_by_report, report, without_pending, revise_block, add_block, delete_block, set_replication, restamp, make_bad, remove_replica, without_storages, begun_to_drain, change_holdings, as_stray, as_restamped, as_bad}
+use Rattle.bm_base.specs.Machine.Replicas.{has_storage, drains, are_siblings}
+use Rattle.bm_base.specs.Machine.Entries.{ReportedBlock, expanded}
+use Rattle.bm_base.specs.Machine.Events.{was_bad, was_excess, entered_tag, entered_marks, replaces, enter, is_named, leaves_by_report, report, without_pending, change_marks_of_block, add_block, delete_block, set_replication, restamp, make_bad, remove_replica, without_storages, begin_drain, change_holdings, as_stray, as_restamped, as_bad}
 use Rattle.bm_base.specs.Shards.{shard_of, cut}
-use Rattle.bm_parts.proofs.Keeping.{keep-insert, keep-keep, keep-remove}
+use Rattle.bm_parts.proofs.KeepLaws.{keep-insert, keep-keep, keep-remove}
 use Rattle.bm_base.proofs.MapLaws.{same_map}
 use Rattle.bm_base.proofs.Ties.{number_tie, replica_tie}
 use Rattle.bm_parts.proofs.PartMaps.{part, get_in, get_out, part_revised, part_revised_others, part_kept, part_kept_others, part_inserted_other, part_removed_other, part_inserted_all}
@@ -91,13 +91,13 @@ module _ (index shards : ℕ) where
   unsent_other H b h = part_kept_others own_replica H.pending (λ q. not (q.block == b)) (λ q t. ap not (other_block b q.block h t))
 
   deleted_own : (H : Holdings) (b : ℕ) → cut (delete_block H b) index shards ≡ delete_block (cut H index shards) b
-  unfolding cut delete_block without_pending revise_block
+  unfolding cut delete_block without_pending change_marks_of_block
   deleted_own H b =
       cut_to (delete_block H b) (delete_block (cut H index shards) b) (keep-remove H.blocks (λ k _. own k) b)
       (part_revised own_replica H.replicas (λ q m. if q.block == b then as_stray m else m)) (keep-keep H.pending (λ q _. own_replica q) (λ q _. not (q.block == b)))
 
   deleted_other : (H : Holdings) (b : ℕ) → own b ≡ false → cut (delete_block H b) index shards ≡ cut H index shards
-  unfolding delete_block without_pending revise_block
+  unfolding delete_block without_pending change_marks_of_block
   deleted_other H b h = cut_by (delete_block H b) H (part_removed_other own H.blocks b h) (remarked_other H b as_stray h) (unsent_other H b h)
 
   -- the information of a block
@@ -118,13 +118,13 @@ module _ (index shards : ℕ) where
   set_other H b repl h = cut_by (set_replication H b repl) H (info_other H.blocks b (λ i. record i { repl = repl }) h) refl refl
 
   restamped_own : (H : Holdings) (b : ℕ) (stamp : Stamp) → cut (restamp H b stamp) index shards ≡ restamp (cut H index shards) b stamp
-  unfolding cut restamp without_pending revise_block
+  unfolding cut restamp without_pending change_marks_of_block
   restamped_own H b stamp =
       cut_to (restamp H b stamp) (restamp (cut H index shards) b stamp) (info_own H.blocks b (λ i. record i { stamp = stamp }))
       (part_revised own_replica H.replicas (λ q m. if q.block == b then as_restamped m else m)) (keep-keep H.pending (λ q _. own_replica q) (λ q _. not (q.block == b)))
 
   restamped_other : (H : Holdings) (b : ℕ) (stamp : Stamp) → own b ≡ false → cut (restamp H b stamp) index shards ≡ cut H index shards
-  unfolding restamp without_pending revise_block
+  unfolding restamp without_pending change_marks_of_block
   restamped_other H b stamp h = cut_by (restamp H b stamp) H (info_other H.blocks b (λ i. record i { stamp = stamp }) h) (remarked_other H b as_restamped h) (unsent_other H b h)
 
   -- Replicas.
@@ -150,11 +150,11 @@ module _ (index shards : ℕ) where
       cut_by (make_bad H p) H refl (part_revised_others own_replica H.replicas (λ q m. if eq_by_cmp replica_cmp q p then as_bad m else m) (λ q t m. if_same (eq_by_cmp replica_cmp q p) (as_bad m) m (other_tie p q h t))) refl
 
   -- the marks of an entered replica depend only on the block's part
-  entered_own : (H : Holdings) (p : ReplicaId) (stamp : Stamp) → own p.block ≡ true → entered (cut H index shards) p stamp ≡ entered H p stamp
-  unfolding cut entered entered_tag was_bad was_excess
+  entered_own : (H : Holdings) (p : ReplicaId) (stamp : Stamp) → own p.block ≡ true → entered_marks (cut H index shards) p stamp ≡ entered_marks H p stamp
+  unfolding cut entered_marks entered_tag was_bad was_excess
   entered_own H p stamp h = entered_by (get_in own_replica H.replicas p h) (get_in own H.blocks p.block h)
     where
-      entered_by : get (part own_replica H.replicas) p ≡ get H.replicas p → get (part own H.blocks) p.block ≡ get H.blocks p.block → entered (cut H index shards) p stamp ≡ entered H p stamp
+      entered_by : get (part own_replica H.replicas) p ≡ get H.replicas p → get (part own H.blocks) p.block ≡ get H.blocks p.block → entered_marks (cut H index shards) p stamp ≡ entered_marks H p stamp
       entered_by e f = rw (e, f) refl
 
   entered_cut : (C : Cluster) (H : Holdings) (p : ReplicaId) (stamp : Stamp) → own p.block ≡ true → cut (enter C H p stamp) index shards ≡ enter C (cut H index shards) p stamp
@@ -162,28 +162,28 @@ module _ (index shards : ℕ) where
   entered_cut C H p stamp h =
       let stay : Map by_replica Marks = keep H.replicas (λ q _. not (replaces C p q)) in
       cut_to (enter C H p stamp) (enter C (cut H index shards) p stamp) refl
-      (keep-insert stay (λ q _. own_replica q) p (entered H p stamp) h
+      (keep-insert stay (λ q _. own_replica q) p (entered_marks H p stamp) h
       ∙ (λ i. insert (keep-keep H.replicas (λ q _. own_replica q) (λ q _. not (replaces C p q)) i) p (sym (entered_own H p stamp h) i)))
       (keep-remove H.pending (λ q _. own_replica q) p)
 
   not_replaced : (C : Cluster) (p q : ReplicaId) → own p.block ≡ false → own q.block ≡ true → not (replaces C p q) ≡ true
   unfolding replaces
-  not_replaced C p q h t = ap (λ b. not (b && are_sisters C p.storage q.storage)) (other_block p.block q.block h t)
+  not_replaced C p q h t = ap (λ b. not (b && are_siblings C p.storage q.storage)) (other_block p.block q.block h t)
 
   entered_other : (C : Cluster) (H : Holdings) (p : ReplicaId) (stamp : Stamp) → own p.block ≡ false → cut (enter C H p stamp) index shards ≡ cut H index shards
   unfolding enter
   entered_other C H p stamp h =
       let stay : Map by_replica Marks = keep H.replicas (λ q _. not (replaces C p q)) in
       cut_by (enter C H p stamp) H refl
-      (part_inserted_other own_replica stay p (entered H p stamp) h ∙ part_kept_others own_replica H.replicas (λ q. not (replaces C p q)) (λ q t. not_replaced C p q h t))
+      (part_inserted_other own_replica stay p (entered_marks H p stamp) h ∙ part_kept_others own_replica H.replicas (λ q. not (replaces C p q)) (λ q t. not_replaced C p q h t))
       (part_removed_other own_replica H.pending p h)
 
   cut_either : (t : Bool) (H G Q : Holdings) → cut G index shards ≡ Q → cut (if t then H else G) index shards ≡ (if t then cut H index shards else Q)
   cut_either true H G Q e = refl
   cut_either false H G Q e = e
 
-  transfers_leave : (C : Cluster) (H : Holdings) (n : ℕ) → cut (begun_to_drain C H n) index shards ≡ begun_to_drain C (cut H index shards) n
-  unfolding cut begun_to_drain
+  transfers_leave : (C : Cluster) (H : Holdings) (n : ℕ) → cut (begin_drain C H n) index shards ≡ begin_drain C (cut H index shards) n
+  unfolding cut begin_drain
   transfers_leave C H n =
       let G : Holdings = record H { pending = keep H.pending (λ q _. not (has_storage C n q.storage)) } in
       let P : Holdings = cut H index shards in
@@ -192,7 +192,7 @@ module _ (index shards : ℕ) where
 
   -- Full reports.
 
-  named_head : (x : Told) (ts : List Told) (b : ℕ) (t : Bool) → own x.id ≡ t → own b ≡ true → is_named (cond t (x ∷ ts) ts) b ≡ ((x.id == b) || is_named ts b)
+  named_head : (x : ReportedBlock) (ts : List ReportedBlock) (b : ℕ) (t : Bool) → own x.id ≡ t → own b ≡ true → is_named (cond t (x ∷ ts) ts) b ≡ ((x.id == b) || is_named ts b)
   unfolding is_named
   named_head x ts b true e h = refl
   named_head x ts b false e h = ap (λ c. c || is_named ts b) (sym (turned (x.id == b) refl))
@@ -201,31 +201,31 @@ module _ (index shards : ℕ) where
       turned true t = absurd (true≢false (sym h ∙ ap own (sym (eqb-true x.id b t)) ∙ e))
       turned false t = refl
 
-  named_own : (ts : List Told) (b : ℕ) → own b ≡ true → is_named (law.told_of index shards ts) b ≡ is_named ts b
+  named_own : (ts : List ReportedBlock) (b : ℕ) → own b ≡ true → is_named (law.reported_of index shards ts) b ≡ is_named ts b
   unfolding is_named
   named_own [] b h = refl
-  named_own (x ∷ ts) b h = named_head x (law.told_of index shards ts) b (own x.id) refl h ∙ ap (λ c. (x.id == b) || c) (named_own ts b h)
+  named_own (x ∷ ts) b h = named_head x (law.reported_of index shards ts) b (own x.id) refl h ∙ ap (λ c. (x.id == b) || c) (named_own ts b h)
 
   module _ (C : Cluster) (H : Holdings) (s : ℕ) where
-    abbrev put_in : Holdings → Told → ReplicaId × Marks
-    put_in G e = (replica_at e.id s, entered G (replica_at e.id s) e.stamp)
+    abbrev put_in : Holdings → ReportedBlock → ReplicaId × Marks
+    put_in G e = (replica_at e.id s, entered_marks G (replica_at e.id s) e.stamp)
 
-    put_head : (x : Told) (ts : List Told) (t : Bool) → own x.id ≡ t → cond t (put_in H x ∷ map (put_in (cut H index shards)) ts) (map (put_in (cut H index shards)) ts) ≡ map (put_in (cut H index shards)) (cond t (x ∷ ts) ts)
+    put_head : (x : ReportedBlock) (ts : List ReportedBlock) (t : Bool) → own x.id ≡ t → cond t (put_in H x ∷ map (put_in (cut H index shards)) ts) (map (put_in (cut H index shards)) ts) ≡ map (put_in (cut H index shards)) (cond t (x ∷ ts) ts)
     put_head x ts true h = ap (λ m. (replica_at x.id s, m) ∷ map (put_in (cut H index shards)) ts) (sym (entered_own H (replica_at x.id s) x.stamp h))
     put_head x ts false h = refl
 
-    puts_own : (ts : List Told) → filter (λ e. own_replica e.0) (map (put_in H) ts) ≡ map (put_in (cut H index shards)) (law.told_of index shards ts)
+    puts_own : (ts : List ReportedBlock) → filter (λ e. own_replica e.0) (map (put_in H) ts) ≡ map (put_in (cut H index shards)) (law.reported_of index shards ts)
     puts_own [] = refl
-    puts_own (x ∷ ts) = ap (λ rest. cond (own x.id) (put_in H x ∷ rest) rest) (puts_own ts) ∙ put_head x (law.told_of index shards ts) (own x.id) refl
+    puts_own (x ∷ ts) = ap (λ rest. cond (own x.id) (put_in H x ∷ rest) rest) (puts_own ts) ∙ put_head x (law.reported_of index shards ts) (own x.id) refl
 
-    leaves_alike : (ts : List Told) (q : ReplicaId) → own q.block ≡ true → not (leaves_by_report C s ts q) ≡ not (leaves_by_report C s (law.told_of index shards ts) q)
+    leaves_alike : (ts : List ReportedBlock) (q : ReplicaId) → own q.block ≡ true → not (leaves_by_report C s ts q) ≡ not (leaves_by_report C s (law.reported_of index shards ts) q)
     unfolding leaves_by_report
-    leaves_alike ts q h = ap (λ n. not (if q.storage == s then not n else n && are_sisters C s q.storage)) (sym (named_own ts q.block h))
+    leaves_alike ts q h = ap (λ n. not (if q.storage == s then not n else n && are_siblings C s q.storage)) (sym (named_own ts q.block h))
 
-    reported_cut : (ts : List Told) → cut (report C H s ts) index shards ≡ report C (cut H index shards) s (law.told_of index shards ts)
+    reported_cut : (ts : List ReportedBlock) → cut (report C H s ts) index shards ≡ report C (cut H index shards) s (law.reported_of index shards ts)
     unfolding cut report
     reported_cut ts =
-        let own_ts : List Told = law.told_of index shards ts in
+        let own_ts : List ReportedBlock = law.reported_of index shards ts in
         cut_to (report C H s ts) (report C (cut H index shards) s own_ts) refl
         (part_inserted_all own_replica (keep H.replicas (λ q _. not (leaves_by_report C s ts q))) (map (put_in H) ts)
         ∙ (λ i. insert_all (part_kept own_replica H.replicas (λ q. not (leaves_by_report C s ts q)) (λ q. not (leaves_by_report C s own_ts q)) (λ q t. leaves_alike ts q t) i) (puts_own ts i)))

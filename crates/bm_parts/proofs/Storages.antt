@@ -12,10 +12,10 @@ use Rattle.bm_base.specs.Machine.State.{Holdings, by_replica, replica_at}
 use Rattle.bm_base.specs.Machine.Replicas.{is_usable, storages_where, usable}
 use Rattle.bm_base.specs.Machine.Events.{without_storages}
 use Rattle.bm_base.proofs.MapLaws.{same_map, get-keep, entries-keep, entries-revise}
-use Rattle.bm_base.proofs.Listed.{filter_filter}
+use Rattle.bm_base.proofs.ListTests.{filter_filter}
 use Rattle.bm_parts.proofs.ChosenCopies.{HasOne, each_storage}
-use Rattle.bm_base.proofs.Each.{Each, each_then}
-use Rattle.bm_base.proofs.Maps.{each_entry, passes_entry}
+use Rattle.bm_base.proofs.ForEach.{Each, each_then}
+use Rattle.bm_base.proofs.MapEntries.{each_entry, passes_entry}
 use Rattle.bm_parts.proofs.Filters.{filtered_alike, fewer_passing, map_filter, any_shown}
 use Rattle.bm_parts.proofs.PartMaps.{part, part_same}
 

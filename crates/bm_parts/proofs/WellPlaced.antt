@@ -15,28 +15,28 @@ use Rattle.bm_base.specs.Maps.Map.{by_number, get, keep, revise, revise_at, cont
 use Rattle.bm_base.specs.Machine.State.{Cluster, Holdings, replica_at, replica_cmp}
 use Rattle.bm_base.specs.Maps.Lists.{has}
 use Rattle.bm_base.specs.Shards.{shard_of}
-use Rattle.bm_base.specs.Machine.Replicas.{node_of, has_storage, is_good, are_sisters}
-use Rattle.bm_base.specs.Machine.Entries.{Told, expanded}
-use Rattle.bm_base.specs.Machine.Events.{register, heartbeat, without_node, without_storage, drain, undrain, without_storages, begun_to_drain, replaces, enter, is_named, leaves_by_report, report, without_pending, revise_block, add_block, delete_block, set_replication, restamp, make_bad, remove_replica, as_stray, as_restamped, as_bad, change_cluster, change_holdings}
-use Rattle.bm_base.specs.Machine.Excess.{without_expired, without_unordered_excess, excess_in, marked}
-use Rattle.bm_base.specs.Machine.Rounds.{finished, is_commanded}
-use Rattle.bm_base.specs.RoundParts.{started_holdings, own_transfers, own_deletes}
+use Rattle.bm_base.specs.Machine.Replicas.{node_of, has_storage, is_good, are_siblings}
+use Rattle.bm_base.specs.Machine.Entries.{ReportedBlock, expanded}
+use Rattle.bm_base.specs.Machine.Events.{register, heartbeat, without_node, without_storage, drain, undrain, without_storages, begin_drain, replaces, enter, is_named, leaves_by_report, report, without_pending, change_marks_of_block, add_block, delete_block, set_replication, restamp, make_bad, remove_replica, as_stray, as_restamped, as_bad, change_cluster, change_holdings}
+use Rattle.bm_base.specs.Machine.Excess.{without_expired, without_unordered_excess, excess_in, with_surplus_marked}
+use Rattle.bm_base.specs.Machine.Rounds.{end_round, is_commanded}
+use Rattle.bm_base.specs.RoundParts.{holdings_at_choice, own_transfers, own_deletes}
 use Rattle.bm_base.specs.Machine.Refusals.{first_of, cluster_checks, knows_storage, is_too_long}
 use Rattle.bm_base.proofs.MapLaws.{get-remove}
-use Rattle.bm_parts.proofs.Keeping.{get-keep_there}
+use Rattle.bm_parts.proofs.KeepLaws.{get-keep_there}
 use Rattle.bm_base.proofs.Ties.{number_tie}
 use Rattle.bm_base.proofs.Checks.{first_fails}
 use Rattle.bm_base.proofs.Options.{there, is_there, not_passed, not_failed, not_taken, fails_not}
-use Rattle.bm_base.proofs.Each.{each_mapped, each_then, none_passes}
-use Rattle.bm_base.proofs.Maps.{Holds, same_key, get_kept, get_revised, get_removed, known_revised, get_insert_all_elsewhere}
-use Rattle.bm_base.proofs.Clusters.{same_node, as_known, same_sisters, sisters_turned, no_sister_itself}
+use Rattle.bm_base.proofs.ForEach.{each_mapped, each_then, none_passes}
+use Rattle.bm_base.proofs.MapEntries.{Holds, same_key, get_kept, get_revised, get_removed, known_revised, get_insert_all_elsewhere}
+use Rattle.bm_base.proofs.Clusters.{same_node, as_known, same_siblings, siblings_turned, no_sibling_itself}
 use Rattle.bm_base.proofs.ClusterEvents.{IsRegistrable, registrable, fresh, same_nodes}
-use Rattle.bm_parts.proofs.Among.{drained_replicas}
-use Rattle.bm_parts.proofs.Entering.{IsKept, IsPut, enter_origin, report_origin, stays_by, entered_excess}
+use Rattle.bm_parts.proofs.RemainingHoldings.{drained_replicas}
+use Rattle.bm_parts.proofs.ReportedReplicas.{IsKept, IsPut, enter_origin, report_origin, stays_by, entered_excess}
 use Rattle.bm_parts.proofs.ChosenCopies.{in_excess_usable}
 use Rattle.bm_parts.specs.PlacedLaws as law
 use Rattle.bm_parts.specs.PlacedLaws.{IsPlaced}
-use Rattle.bm_parts.specs.Parts.{told_of}
+use Rattle.bm_parts.specs.Parts.{reported_of}
 
 pub lawful_is_placed : law.lawful_is_placed
 lawful_is_placed C H L = record { stored = L.stored; once = L.once; excess_is_good = L.excess_is_good }
@@ -48,7 +48,7 @@ module _ (C D : Cluster) (H G : Holdings) (L : IsPlaced C H) (was : (p : Replica
   placed_among : IsPlaced D G
   placed_among = record {
     stored = λ p e. as_known C D p.storage (nodes p e) (L.stored p (was p e));
-    once = λ p q e f same. same_sisters C D p.storage q.storage (nodes p e) (nodes q f) ∙ L.once p q (was p e) (was q f) same;
+    once = λ p q e f same. same_siblings C D p.storage q.storage (nodes p e) (nodes q f) ∙ L.once p q (was p e) (was q f) same;
     excess_is_good = excess;
   }
 
@@ -100,9 +100,9 @@ after_heartbeat : (C : Cluster) (H : Holdings) (rs : List Remaining) → IsPlace
 unfolding heartbeat node_of
 after_heartbeat C H rs L = same_placed C (heartbeat C rs) H H refl (λ s _. same_nodes C.storages rs s) L
 
-after_drain : (C : Cluster) (H : Holdings) (n : ℕ) → IsPlaced C H → IsPlaced (drain C n) (begun_to_drain C H n)
+after_drain : (C : Cluster) (H : Holdings) (n : ℕ) → IsPlaced C H → IsPlaced (drain C n) (begin_drain C H n)
 unfolding drain node_of
-after_drain C H n L = same_placed C (drain C n) H (begun_to_drain C H n) (drained_replicas C H n) (λ _ _. refl) L
+after_drain C H n L = same_placed C (drain C n) H (begin_drain C H n) (drained_replicas C H n) (λ _ _. refl) L
 
 after_undrain : (C : Cluster) (H : Holdings) (n : ℕ) → IsPlaced C H → IsPlaced (undrain C n) H
 unfolding undrain node_of
@@ -125,16 +125,16 @@ plain_where false f m none good e = good e
 -- Replicas that come.
 
 module _ (C : Cluster) (H G : Holdings) (s : ℕ) (named : ℕ → Bool) (stays : ReplicaId → Bool) (L : IsPlaced C H) (known : contains_key C.storages s ≡ true)
-    (apart : (q : ReplicaId) → stays q ≡ true → named q.block ≡ true → are_sisters C s q.storage ≡ false) (from : Holds (λ q m. IsKept H stays q m ⊎ IsPut H s named q m) G.replicas) where
+    (apart : (q : ReplicaId) → stays q ≡ true → named q.block ≡ true → are_siblings C s q.storage ≡ false) (from : Holds (λ q m. IsKept H stays q m ⊎ IsPut H s named q m) G.replicas) where
   on_known : (q : ReplicaId) (m : Marks) → IsKept H stays q m ⊎ IsPut H s named q m → contains_key C.storages q.storage ≡ true
   on_known q m (inl was) = L.stored q (is_there (get H.replicas q) m was.0)
   on_known q m (inr put) = ap (contains_key C.storages) put.0 ∙ known
 
-  alone : (p q : ReplicaId) (m n : Marks) → IsKept H stays p m ⊎ IsPut H s named p m → IsKept H stays q n ⊎ IsPut H s named q n → p.block ≡ q.block → are_sisters C p.storage q.storage ≡ false
+  alone : (p q : ReplicaId) (m n : Marks) → IsKept H stays p m ⊎ IsPut H s named p m → IsKept H stays q n ⊎ IsPut H s named q n → p.block ≡ q.block → are_siblings C p.storage q.storage ≡ false
   alone p q m n (inl was) (inl is) same = L.once p q (is_there (get H.replicas p) m was.0) (is_there (get H.replicas q) n is.0) same
-  alone p q m n (inl was) (inr put) same = ap (are_sisters C p.storage) put.0 ∙ sisters_turned C p.storage s ∙ apart p was.1 (ap named same ∙ put.1)
-  alone p q m n (inr put) (inl was) same = ap (λ t. are_sisters C t q.storage) put.0 ∙ apart q was.1 (sym (ap named same) ∙ put.1)
-  alone p q m n (inr put) (inr too) same = (λ i. are_sisters C (put.0 i) (too.0 i)) ∙ no_sister_itself C s
+  alone p q m n (inl was) (inr put) same = ap (are_siblings C p.storage) put.0 ∙ siblings_turned C p.storage s ∙ apart p was.1 (ap named same ∙ put.1)
+  alone p q m n (inr put) (inl was) same = ap (λ t. are_siblings C t q.storage) put.0 ∙ apart q was.1 (sym (ap named same) ∙ put.1)
+  alone p q m n (inr put) (inr too) same = (λ i. are_siblings C (put.0 i) (too.0 i)) ∙ no_sibling_itself C s
 
   good_in_excess : (q : ReplicaId) (m : Marks) → IsKept H stays q m ⊎ IsPut H s named q m → IsTrue m.excess → IsTrue (is_good m.tag)
   good_in_excess q m (inl was) e = L.excess_is_good q m was.0 e
@@ -147,13 +147,13 @@ module _ (C : Cluster) (H G : Holdings) (s : ℕ) (named : ℕ → Bool) (stays 
     excess_is_good = λ q m e. good_in_excess q m (from q m e);
   }
 
-sister_fails : (a b : Bool) → not (a && b) ≡ true → a ≡ true → b ≡ false
-sister_fails true b e h = not_passed b e
-sister_fails false b e h = cc
+sibling_fails : (a b : Bool) → not (a && b) ≡ true → a ≡ true → b ≡ false
+sibling_fails true b e h = not_passed b e
+sibling_fails false b e h = cc
 
-enter_apart : (C : Cluster) (p q : ReplicaId) → not (replaces C p q) ≡ true → (q.block == p.block) ≡ true → are_sisters C p.storage q.storage ≡ false
+enter_apart : (C : Cluster) (p q : ReplicaId) → not (replaces C p q) ≡ true → (q.block == p.block) ≡ true → are_siblings C p.storage q.storage ≡ false
 unfolding replaces
-enter_apart C p q e h = sister_fails (q.block == p.block) (are_sisters C p.storage q.storage) e h
+enter_apart C p q e h = sibling_fails (q.block == p.block) (are_siblings C p.storage q.storage) e h
 
 enter_keeps_placed : (C : Cluster) (P : Holdings) (p : ReplicaId) (stamp : Stamp) → contains_key C.storages p.storage ≡ true → IsPlaced C P → IsPlaced C (enter C P p stamp)
 enter_keeps_placed C P p stamp known L =
@@ -167,9 +167,9 @@ named_stays true named sisters own e h = own refl
 named_stays false true sisters own e h = not_passed sisters e
 named_stays false false sisters own e h = cc
 
-report_apart : (C : Cluster) (s : ℕ) (ts : List Told) (q : ReplicaId) → not (leaves_by_report C s ts q) ≡ true → is_named ts q.block ≡ true → are_sisters C s q.storage ≡ false
+report_apart : (C : Cluster) (s : ℕ) (ts : List ReportedBlock) (q : ReplicaId) → not (leaves_by_report C s ts q) ≡ true → is_named ts q.block ≡ true → are_siblings C s q.storage ≡ false
 unfolding leaves_by_report
-report_apart C s ts q e h = named_stays (q.storage == s) (is_named ts q.block) (are_sisters C s q.storage) (λ here. ap (are_sisters C s) (eqb-true q.storage s here) ∙ no_sister_itself C s) e h
+report_apart C s ts q e h = named_stays (q.storage == s) (is_named ts q.block) (are_siblings C s q.storage) (λ here. ap (are_siblings C s) (eqb-true q.storage s here) ∙ no_sibling_itself C s) e h
 
 pub report_keeps_placed : law.report_keeps_placed
 report_keeps_placed C P s ts known L = placed_entered C P (report C P s ts) s (is_named ts) (stays_by C P s ts) L known (report_apart C s ts) (report_origin C P s ts)
@@ -185,7 +185,7 @@ either C P true G L h = h
 either C P false G L h = L
 
 pub event_keeps_placed : law.event_keeps_placed
-unfolding change_cluster change_holdings cluster_checks add_block delete_block set_replication restamp without_pending revise_block make_bad revise_at remove_replica
+unfolding change_cluster change_holdings cluster_checks add_block delete_block set_replication restamp without_pending change_marks_of_block make_bad revise_at remove_replica
 event_keeps_placed C P (Register n rack ss) index shards lawful e L = after_registration C P n rack ss (registrable C n rack ss e) L
 event_keeps_placed C P (Dead n) index shards lawful e L = after_death C P n L
 event_keeps_placed C P (StorageFailed t) index shards lawful e L = after_failure C P t L
@@ -212,7 +212,7 @@ event_keeps_placed C P (Corrupt s b) index shards lawful e L =
     either C P (shard_of b shards == index) (make_bad P (replica_at b s)) L
     (placed_revised C P (make_bad P (replica_at b s)) (λ q m. if eq_by_cmp replica_cmp q (replica_at b s) then as_bad m else m) refl L
     (λ q m here. plain_where (eq_by_cmp replica_cmp q (replica_at b s)) as_bad m refl (L.excess_is_good q m here)))
-event_keeps_placed C P (FullReport s es) index shards lawful e L = report_keeps_placed C P s (told_of index shards (expanded es)) (storage_known C s ((TooMany, is_too_long es) ∷ []) e) L
+event_keeps_placed C P (FullReport s es) index shards lawful e L = report_keeps_placed C P s (reported_of index shards (expanded es)) (storage_known C s ((TooMany, is_too_long es) ∷ []) e) L
 
 -- Rounds.
 
@@ -236,16 +236,16 @@ cleared_placed : (C : Cluster) (H : Holdings) → IsPlaced C H → IsPlaced C (w
 unfolding without_unordered_excess
 cleared_placed C H L = placed_revised C H (without_unordered_excess H) (λ _ m. if m.ordered then m else record m { excess = false }) refl L (λ q m here. cleared_good m.ordered m (L.excess_is_good q m here))
 
-marked_placed : (C : Cluster) (H : Holdings) → IsPlaced C H → IsPlaced C (marked C H)
-unfolding marked
+marked_placed : (C : Cluster) (H : Holdings) → IsPlaced C H → IsPlaced C (with_surplus_marked C H)
+unfolding with_surplus_marked
 marked_placed C H L =
-    placed_revised C H (marked C H) (λ q m. if has (excess_in C H q.block) q.storage then record m { excess = true } else m) refl L
+    placed_revised C H (with_surplus_marked C H) (λ q m. if has (excess_in C H q.block) q.storage then record m { excess = true } else m) refl L
     (λ q m here. marked_good (has (excess_in C H q.block) q.storage) m (λ h. (and_parts (is_good m.tag) (not m.excess) (in_excess_usable C H q m here h)).0) (L.excess_is_good q m here))
 
 pub round_keeps_placed : law.round_keeps_placed
-unfolding finished started_holdings
+unfolding end_round holdings_at_choice
 round_keeps_placed C pend r P index shards ts ds L =
-    let G : Holdings = started_holdings C pend r P in
+    let G : Holdings = holdings_at_choice C pend r P in
     let started : IsPlaced C G = marked_placed C (without_unordered_excess (without_expired pend r P)) (cleared_placed C (without_expired pend r P) (expired_placed C pend r P L)) in
-    placed_revised C G (finished r G (own_transfers index shards ts) (own_deletes index shards ds)) (λ q m. if is_commanded (own_deletes index shards ds) q then record m { ordered = true } else m) refl started
+    placed_revised C G (end_round r G (own_transfers index shards ts) (own_deletes index shards ds)) (λ q m. if is_commanded (own_deletes index shards ds) q then record m { ordered = true } else m) refl started
     (λ q m here. ordered_good (is_commanded (own_deletes index shards ds) q) m (started.excess_is_good q m here))

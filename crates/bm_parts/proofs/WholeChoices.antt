@@ -13,13 +13,13 @@ use Rattle.bm_base.specs.Maps.Map.{get, keys, len}
 use Rattle.bm_base.specs.Machine.State.{RoundLimits, Cluster, Holdings}
 use Rattle.bm_base.specs.Machine.Replicas.{sources_of, has_storage}
 use Rattle.bm_base.specs.Machine.Levels.{level, is_at}
-use Rattle.bm_base.specs.Machine.Transfers.{WishedCopy, wished_count, wishes_for, wishes, holders_of, barred_for, least_source, least_target, transfer_for, transfers_from, transfers}
+use Rattle.bm_base.specs.Machine.Transfers.{RequestedCopy, requested_count, wishes_for, wishes, holders_of, excluded_for, least_source, least_target, transfer_for, transfers_from, transfers}
 use Rattle.bm_base.specs.Machine.Deletes.{deletable_on, deletes_of, deletes}
 use Rattle.bm_base.specs.declared.round.Wish.{Wish}
 use Rattle.bm_base.specs.RoundParts.{wish_of, wish_at, wishes_by_block, deletable}
 use Rattle.bm_base.specs.Choices.{one_by_one, transfer_by, transfers_over, first_of_each_node}
-use Rattle.bm_base.proofs.Each.{Each, each_appended}
-use Rattle.bm_base.proofs.RisingParts.{wish_is, each_on_storage, filter_flat_map}
+use Rattle.bm_base.proofs.ForEach.{Each, each_appended}
+use Rattle.bm_base.proofs.SortedParts.{wish_is, each_on_storage, filter_flat_map}
 
 pub flat_map_same : {X Y : Type 0} (f g : X → List Y) → ((x : X) → f x ≡ g x) → (xs : List X) → flat_map f xs ≡ flat_map g xs
 flat_map_same f g same [] = refl
@@ -35,15 +35,15 @@ module _ (limits : RoundLimits) (C : Cluster) (G : Holdings) where
   abbrev IsOf : Wish → Type 0
   IsOf w = (i : BlockInfo) × (get G.blocks w.block ≡ Some i) × (wish_of C G w.level w.block i ≡ w)
 
-  abbrev copy : Wish → WishedCopy
+  abbrev copy : Wish → RequestedCopy
   copy w = record { urgency = w.level; block = w.block }
 
   one_transfer : (chosen : List Transfer) (l : Level) (b : ℕ) (i : BlockInfo) → get G.blocks b ≡ Some i → transfer_by limits C chosen (wish_of C G l b i) ≡ transfer_for limits C G chosen (record { urgency = l; block = b })
-  unfolding transfer_by transfer_for holders_of barred_for
+  unfolding transfer_by transfer_for holders_of excluded_for
   one_transfer chosen l b i known =
       ap (λ o. if nat_le (limits.work * len C.nodes) (length chosen) then None
       else option_and_then (λ (i : BlockInfo). option_and_then (λ s. option_map (λ t. record { block = b; stamp = i.stamp; source = s; target = t })
-      (least_target C chosen l (holders_of C G chosen b) (barred_for G chosen b) i.stamp.len))
+      (least_target C chosen l (holders_of C G chosen b) (excluded_for G chosen b) i.stamp.len))
       (least_source C chosen l (sources_of C G b)))
       o) (sym known)
 
@@ -88,19 +88,19 @@ module _ (limits : RoundLimits) (C : Cluster) (G : Holdings) where
   map_append (x ∷ xs) ys = ap (λ zs. copy x ∷ zs) (map_append xs ys)
 
   -- the wish, if there is one, as a list of copies
-  abbrev copies : Option Wish → List WishedCopy
+  abbrev copies : Option Wish → List RequestedCopy
   copies o = option_map_or (λ w. replicate w.count (copy w)) o []
 
   copies_by : (t : Bool) (l : Level) (b : ℕ) (o : Option BlockInfo)
-      → copies (if t then option_and_then (λ i. if nat_lt 0 (wished_count C G l i.repl b) then Some (wish_of C G l b i) else None) o else None)
-      ≡ (if t then option_map_or (λ i. replicate (wished_count C G l i.repl b) (record { urgency = l; block = b })) o [] else [])
+      → copies (if t then option_and_then (λ i. if nat_lt 0 (requested_count C G l i.repl b) then Some (wish_of C G l b i) else None) o else None)
+      ≡ (if t then option_map_or (λ i. replicate (requested_count C G l i.repl b) (record { urgency = l; block = b })) o [] else [])
   copies_by false l b o = refl
   copies_by true l b None = refl
-  copies_by true l b (Some i) = by (nat_lt 0 (wished_count C G l i.repl b)) refl
+  copies_by true l b (Some i) = by (nat_lt 0 (requested_count C G l i.repl b)) refl
     where
-      by : (t : Bool) → nat_lt 0 (wished_count C G l i.repl b) ≡ t → copies (if t then Some (wish_of C G l b i) else None) ≡ replicate (wished_count C G l i.repl b) (record { urgency = l; block = b })
+      by : (t : Bool) → nat_lt 0 (requested_count C G l i.repl b) ≡ t → copies (if t then Some (wish_of C G l b i) else None) ≡ replicate (requested_count C G l i.repl b) (record { urgency = l; block = b })
       by true e = refl
-      by false e = ap (λ n. replicate n (record { urgency = l; block = b })) (sym (none_wished (wished_count C G l i.repl b) e))
+      by false e = ap (λ n. replicate n (record { urgency = l; block = b })) (sym (none_wished (requested_count C G l i.repl b) e))
 
   copies_at : (l : Level) (b : ℕ) → copies (wish_at C G l b) ≡ wishes_for C G l b
   unfolding wish_at wishes_for

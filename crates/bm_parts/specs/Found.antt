@@ -15,7 +15,7 @@ use Rattle.bm_base.specs.Maps.Lists.{has}
 use Rattle.bm_base.specs.Machine.Excess.{without_expired, without_unordered_excess, excess_in}
 use Rattle.bm_base.specs.Machine.Deletes.{is_deletable}
 use Rattle.bm_base.specs.Ordered.{by_pair}
-use Rattle.bm_base.specs.RoundParts.{started_holdings, wish_at, wish_key, delete_key, round_part}
+use Rattle.bm_base.specs.RoundParts.{holdings_at_choice, wish_at, wish_key, delete_key, round_part}
 
 -- the keys are ascending, each element passes, and the key of each one that passes is in the list
 pub record IsGathered {K X : Type 0} (o : Order K) (key : X → K) (P : X → Type 0) (xs : List X) : Type 0 where
@@ -28,24 +28,24 @@ abbrev pub IsExpired : ℕ → ℕ → Holdings → ReplicaId → Type 0
 IsExpired pend r H q = (t : ℕ) × (get H.pending q ≡ Some t) × (nat_le pend (r - t) ≡ true)
 
 -- a surplus live replica
-abbrev pub IsTooMany : Cluster → Holdings → ReplicaId → Type 0
-IsTooMany C H q = IsSome (get H.replicas q) × (has (excess_in C H q.block) q.storage ≡ true)
+abbrev pub IsSurplus : Cluster → Holdings → ReplicaId → Type 0
+IsSurplus C H q = IsSome (get H.replicas q) × (has (excess_in C H q.block) q.storage ≡ true)
 
 -- the wish of a block at its level
-abbrev pub IsWished : Cluster → Holdings → Wish → Type 0
-IsWished C H w = wish_at C H w.level w.block ≡ Some w
+abbrev pub IsRequested : Cluster → Holdings → Wish → Type 0
+IsRequested C H w = wish_at C H w.level w.block ≡ Some w
 
 -- a replica on a known storage that is to be deleted
-abbrev pub IsToDelete : Cluster → Holdings → Delete → Type 0
-IsToDelete C H d =
+abbrev pub IsDeletable : Cluster → Holdings → Delete → Type 0
+IsDeletable C H d =
     (contains_key C.storages d.storage ≡ true) × ((m : Marks) × (get H.replicas (replica_at d.block d.storage) ≡ Some m) × (is_deletable C H (replica_at d.block d.storage) m ≡ true))
 
 -- each list of the part has exactly its elements as round r begins
 pub record IsFound (C : Cluster) (pend r : ℕ) (H : Holdings) (p : RoundPart) : Type 0 where
   pub expired : IsGathered by_replica (λ (q : ReplicaId). q) (IsExpired pend r H) p.expired
-  pub excess : IsGathered by_replica (λ (q : ReplicaId). q) (IsTooMany C (without_unordered_excess (without_expired pend r H))) p.excess
-  pub wishes : IsGathered by_pair wish_key (IsWished C (started_holdings C pend r H)) p.wishes
-  pub deletes : IsGathered by_pair delete_key (IsToDelete C (started_holdings C pend r H)) p.deletes
+  pub excess : IsGathered by_replica (λ (q : ReplicaId). q) (IsSurplus C (without_unordered_excess (without_expired pend r H))) p.excess
+  pub wishes : IsGathered by_pair wish_key (IsRequested C (holdings_at_choice C pend r H)) p.wishes
+  pub deletes : IsGathered by_pair delete_key (IsDeletable C (holdings_at_choice C pend r H)) p.deletes
 
 -- what a round finds has this property
 abbrev pub round_part_is_found : Type 0

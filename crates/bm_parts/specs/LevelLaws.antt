@@ -11,9 +11,9 @@ use Rattle.bm_base.specs.Machine.State.{Cluster, Holdings, replica_at}
 use Rattle.bm_base.specs.Maps.Lists.{has}
 use Rattle.bm_base.specs.Machine.Replicas.{rack_of, has_storage, is_draining, is_multi_rack, usable}
 use Rattle.bm_base.specs.Machine.Levels.{level}
-use Rattle.bm_base.specs.Machine.Events.{register, heartbeat, without_node, without_storage, drain, undrain, without_storages, begun_to_drain, change_cluster, change_holdings}
+use Rattle.bm_base.specs.Machine.Events.{register, heartbeat, without_node, without_storage, drain, undrain, without_storages, begin_drain, change_cluster, change_holdings}
 use Rattle.bm_base.specs.Machine.Refusals.{knows_storage, first_of, cluster_checks}
-use Rattle.bm_base.specs.Machine.Rounds.{finished}
+use Rattle.bm_base.specs.Machine.Rounds.{end_round}
 use Rattle.bm_base.specs.RoundParts.{round_on_part}
 use Rattle.bm_base.specs.Promises.Lawful.{IsLawfulCluster}
 use Rattle.bm_parts.specs.Parts.{block_of, change_part}
@@ -36,7 +36,7 @@ event_leaves_other_levels = (C : Cluster) (H : Holdings) (e : Event) (b c : ℕ)
 
 -- the end of a round keeps the levels of its start
 abbrev pub round_end_leaves_levels : Type 0
-round_end_leaves_levels = (C : Cluster) (r : ℕ) (G : Holdings) (ts : List Transfer) (ds : List Delete) (b : ℕ) → level C (finished r G ts ds) b ≡ level C G b
+round_end_leaves_levels = (C : Cluster) (r : ℕ) (G : Holdings) (ts : List Transfer) (ds : List Delete) (b : ℕ) → level C (end_round r G ts ds) b ≡ level C G b
 
 -- Heartbeats.
 
@@ -73,7 +73,7 @@ failure_leaves_levels = (C : Cluster) (H : Holdings) (t b : ℕ) → has (usable
 
 -- a node that begins to drain keeps the levels of blocks without a usable replica on it
 abbrev pub drain_leaves_levels : Type 0
-drain_leaves_levels = (C : Cluster) (H : Holdings) (n b : ℕ) → list_any (has_storage C n) (usable H b) ≡ false → level (drain C n) (begun_to_drain C H n) b ≡ level C H b
+drain_leaves_levels = (C : Cluster) (H : Holdings) (n b : ℕ) → list_any (has_storage C n) (usable H b) ≡ false → level (drain C n) (begin_drain C H n) b ≡ level C H b
 
 -- a node that ceases to drain keeps them too
 abbrev pub undrain_leaves_levels : Type 0

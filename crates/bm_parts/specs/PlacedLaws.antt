@@ -8,8 +8,8 @@ use Rattle.bm_base.specs.declared.replica.ReplicaId.{ReplicaId}
 use Rattle.bm_base.specs.declared.replica.Marks.{Marks}
 use Rattle.bm_base.specs.Maps.Map.{get, contains_key}
 use Rattle.bm_base.specs.Machine.State.{Cluster, Holdings}
-use Rattle.bm_base.specs.Machine.Replicas.{is_good, are_sisters}
-use Rattle.bm_base.specs.Machine.Entries.{Told}
+use Rattle.bm_base.specs.Machine.Replicas.{is_good, are_siblings}
+use Rattle.bm_base.specs.Machine.Entries.{ReportedBlock}
 use Rattle.bm_base.specs.Machine.Events.{report, change_cluster}
 use Rattle.bm_base.specs.Machine.Refusals.{first_of, cluster_checks}
 use Rattle.bm_base.specs.RoundParts.{round_on_part}
@@ -21,7 +21,7 @@ pub record IsPlaced (C : Cluster) (H : Holdings) : Type 0 where
   -- each replica is on a known storage
   pub stored : (p : ReplicaId) → IsSome (get H.replicas p) → IsTrue (contains_key C.storages p.storage)
   -- a node has at most one replica of a block
-  pub once : (p q : ReplicaId) → IsSome (get H.replicas p) → IsSome (get H.replicas q) → p.block ≡ q.block → are_sisters C p.storage q.storage ≡ false
+  pub once : (p q : ReplicaId) → IsSome (get H.replicas p) → IsSome (get H.replicas q) → p.block ≡ q.block → are_siblings C p.storage q.storage ≡ false
   -- only good replicas are in excess
   pub excess_is_good : (p : ReplicaId) (m : Marks) → get H.replicas p ≡ Some m → IsTrue m.excess → IsTrue (is_good m.tag)
 
@@ -37,7 +37,7 @@ event_keeps_placed =
 
 -- a report of a known storage keeps them, whatever blocks it lists
 abbrev pub report_keeps_placed : Type 0
-report_keeps_placed = (C : Cluster) (P : Holdings) (s : ℕ) (ts : List Told) → IsTrue (contains_key C.storages s) → IsPlaced C P → IsPlaced C (report C P s ts)
+report_keeps_placed = (C : Cluster) (P : Holdings) (s : ℕ) (ts : List ReportedBlock) → IsTrue (contains_key C.storages s) → IsPlaced C P → IsPlaced C (report C P s ts)
 
 -- a round keeps them
 abbrev pub round_keeps_placed : Type 0

@@ -13,9 +13,9 @@ use Rattle.bm_base.specs.Machine.Replicas.{is_usable, live, drained, storages_wh
 use Rattle.bm_base.specs.Machine.Levels.{level}
 use Rattle.bm_base.specs.Machine.Excess.{excess_in, without_expired, without_unordered_excess}
 use Rattle.bm_base.specs.Machine.Deletes.{is_deletable}
-use Rattle.bm_base.specs.Machine.Events.{without_storages, begun_to_drain}
-use Rattle.bm_base.specs.Machine.Rounds.{finished}
-use Rattle.bm_base.specs.RoundParts.{started_holdings}
+use Rattle.bm_base.specs.Machine.Events.{without_storages, begin_drain}
+use Rattle.bm_base.specs.Machine.Rounds.{end_round}
+use Rattle.bm_base.specs.RoundParts.{holdings_at_choice}
 
 -- the marks of a replica that is good, not in excess and not ordered
 abbrev pub plain : Marks
@@ -30,14 +30,14 @@ pub record IsSettled (H : Holdings) (b : ℕ) : Type 0 where
 -- a round marks none of its replicas, and keeps which of them are live and drained, and its level
 abbrev pub settled_is_left : Type 0
 settled_is_left =
-    (C : Cluster) (pend r : ℕ) (H : Holdings) (b : ℕ) → IsSettled H b → let G = started_holdings C pend r H in
+    (C : Cluster) (pend r : ℕ) (H : Holdings) (b : ℕ) → IsSettled H b → let G = holdings_at_choice C pend r H in
     (excess_in C (without_unordered_excess (without_expired pend r H)) b ≡ []) × (live C G b ≡ live C H b) × (drained C G b ≡ drained C H b) × (level C G b ≡ level C H b)
 
 -- a round deletes none of its replicas
 abbrev pub settled_is_kept : Type 0
 settled_is_kept =
     (C : Cluster) (pend r : ℕ) (H : Holdings) (q : ReplicaId) (m : Marks) → IsSettled H q.block
-    → get (started_holdings C pend r H).replicas q ≡ Some m → is_deletable C (started_holdings C pend r H) q m ≡ false
+    → get (holdings_at_choice C pend r H).replicas q ≡ Some m → is_deletable C (holdings_at_choice C pend r H) q m ≡ false
 
 -- Which changes leave a block settled.
 
@@ -52,10 +52,10 @@ leaving_keeps_settled = (H : Holdings) (gone : ℕ → Bool) (b : ℕ) → IsSet
 
 -- a block stays settled if nodes begin to drain
 abbrev pub drain_keeps_settled : Type 0
-drain_keeps_settled = (C : Cluster) (H : Holdings) (n b : ℕ) → IsSettled H b → IsSettled (begun_to_drain C H n) b
+drain_keeps_settled = (C : Cluster) (H : Holdings) (n b : ℕ) → IsSettled H b → IsSettled (begin_drain C H n) b
 
 -- a block stays settled in a round that deletes none of its replicas
 abbrev pub round_keeps_settled : Type 0
 round_keeps_settled =
     (C : Cluster) (pend r : ℕ) (H : Holdings) (ts : List Transfer) (ds : List Delete) (b : ℕ) → list_any (λ d. d.block == b) ds ≡ false → IsSettled H b
-    → IsSettled (finished r (started_holdings C pend r H) ts ds) b
+    → IsSettled (end_round r (holdings_at_choice C pend r H) ts ds) b

@@ -4,12 +4,12 @@ use Rattle.bm_base.specs.Maps.Map.{entries, insert_all}
 use Rattle.bm_base.specs.Machine.State.{Holdings, empty_holdings}
 use Rattle.bm_base.specs.declared.event.Done.{Done}
 use Rattle.bm_base.specs.Machine.Calls.{done}
-use Rattle.bm_base.specs.Machine.Entries.{count_up}
+use Rattle.bm_base.specs.Machine.Entries.{range_from}
 use Rattle.bm_base.specs.Shards.{cut}
 
 -- the union of two holdings
-unfoldable pub beside : Holdings → Holdings → Holdings
-beside P Q = record {
+unfoldable pub joined_with : Holdings → Holdings → Holdings
+joined_with P Q = record {
   blocks = insert_all Q.blocks (entries P.blocks);
   replicas = insert_all Q.replicas (entries P.replicas);
   pending = insert_all Q.pending (entries P.pending);
@@ -18,11 +18,11 @@ beside P Q = record {
 -- the union of all these holdings
 abbrev pub whole_of : List Holdings → Holdings
 whole_of [] = empty_holdings
-whole_of (P ∷ Ps) = beside P (whole_of Ps)
+whole_of (P ∷ Ps) = joined_with P (whole_of Ps)
 
 -- the parts of n shards, from this index on
 abbrev pub parts_from : Holdings → ℕ → ℕ → ℕ → List Holdings
-parts_from H shards index n = map (λ i. cut H i shards) (count_up index n)
+parts_from H shards index n = map (λ i. cut H i shards) (range_from index n)
 
 -- the parts of all shards, by their indexes
 abbrev pub parts : Holdings → ℕ → List Holdings

@@ -14,24 +14,24 @@ use Rattle.std.proofs.lemmas.List.{nil_from_length}
 use Rattle.std.proofs.lemmas.List.Sums.{length-filter, count_by-le-length}
 use Rattle.std.proofs.lemmas.Map.Made.{lookup-map_values, is_some-lookup}
 use Rattle.bm_base.proofs.Options.{not_there}
-use Rattle.bm_pending.specs.Inside.{Targets, targets_at, room_in, room_at}
+use Rattle.bm_pending.specs.Inside.{PendingTargets, targets_at, room_in, room_at}
 
-abbrev pub items_or : Option Targets → List (ℕ × ℕ)
-items_or o = option_map_or (λ (v : Targets). v.items) o []
+abbrev pub items_or : Option PendingTargets → List (ℕ × ℕ)
+items_or o = option_map_or (λ (v : PendingTargets). v.items) o []
 
-abbrev pub room_or : Option Targets → ℕ
+abbrev pub room_or : Option PendingTargets → ℕ
 room_or o = option_map_or room_in o 0
 
-module _ (es : List (ℕ × Targets)) (b : ℕ) where
+module _ (es : List (ℕ × PendingTargets)) (b : ℕ) where
   -- a block that was not there comes with no target
-  pub fresh-targets : (v : Targets) → lookup (nat_eq b) es ≡ None → v.items ≡ [] → (q : ℕ) → items_or (cond (nat_eq b q) (Some v) (lookup (nat_eq q) es)) ≡ targets_at es q
+  pub fresh-targets : (v : PendingTargets) → lookup (nat_eq b) es ≡ None → v.items ≡ [] → (q : ℕ) → items_or (cond (nat_eq b q) (Some v) (lookup (nat_eq q) es)) ≡ targets_at es q
   fresh-targets v none no_items q = by (nat_eq b q) refl
     where
       by : (t : Bool) → nat_eq b q ≡ t → items_or (cond t (Some v) (lookup (nat_eq q) es)) ≡ targets_at es q
       by true e = no_items ∙ sym (ap items_or none) ∙ ap (targets_at es) (eqb-true b q e)
       by false e = refl
 
-  pub fresh-rooms : (v : Targets) → lookup (nat_eq b) es ≡ None → (q : ℕ) → room_at es q ≤ room_or (cond (nat_eq b q) (Some v) (lookup (nat_eq q) es))
+  pub fresh-rooms : (v : PendingTargets) → lookup (nat_eq b) es ≡ None → (q : ℕ) → room_at es q ≤ room_or (cond (nat_eq b q) (Some v) (lookup (nat_eq q) es))
   fresh-rooms v none q = by (nat_eq b q) refl
     where
       by : (t : Bool) → nat_eq b q ≡ t → room_at es q ≤ room_or (cond t (Some v) (lookup (nat_eq q) es))
@@ -39,7 +39,7 @@ module _ (es : List (ℕ × Targets)) (b : ℕ) where
       by false e = omega arith
 
   -- a known block has other targets, within its capacity
-  pub freed-rooms : (v w : Targets) → Some v ≡ lookup (nat_eq b) es → room_in v ≤ room_in w → (q : ℕ) → room_at es q ≤ room_or (cond (nat_eq b q) (Some w) (lookup (nat_eq q) es))
+  pub freed-rooms : (v w : PendingTargets) → Some v ≡ lookup (nat_eq b) es → room_in v ≤ room_in w → (q : ℕ) → room_at es q ≤ room_or (cond (nat_eq b q) (Some w) (lookup (nat_eq q) es))
   freed-rooms v w here less q = by (nat_eq b q) refl
     where
       by : (t : Bool) → nat_eq b q ≡ t → room_at es q ≤ room_or (cond t (Some w) (lookup (nat_eq q) es))
@@ -47,7 +47,7 @@ module _ (es : List (ℕ × Targets)) (b : ℕ) where
       by false e = omega arith
 
   -- a block that was there has other targets
-  pub written-rooms : (v w : Targets) (n : ℕ) → Some v ≡ lookup (nat_eq b) es → room_in v ≤ room_in w + n → (q : ℕ) → room_at es q ≤ room_or (cond (nat_eq b q) (Some w) (lookup (nat_eq q) es)) + cond (nat_eq b q) n 0
+  pub written-rooms : (v w : PendingTargets) (n : ℕ) → Some v ≡ lookup (nat_eq b) es → room_in v ≤ room_in w + n → (q : ℕ) → room_at es q ≤ room_or (cond (nat_eq b q) (Some w) (lookup (nat_eq q) es)) + cond (nat_eq b q) n 0
   written-rooms v w n here less q = by (nat_eq b q) refl
     where
       by : (t : Bool) → nat_eq b q ≡ t → room_at es q ≤ room_or (cond t (Some w) (lookup (nat_eq q) es)) + cond t n 0
@@ -66,7 +66,7 @@ fewer : {X : Type 0} (p : X → Bool) (xs : List X) → length (filter p xs) ≤
 fewer p xs = omega (arith, length-filter p xs, count_by-le-length p xs)
 
 -- removing targets keeps at least the spare capacity
-pub filtered-room : (v w : Targets) (p : ℕ × ℕ → Bool) → w.items ≡ filter p v.items → w.capacity ≡ v.capacity → room_in v ≤ room_in w
+pub filtered-room : (v w : PendingTargets) (p : ℕ × ℕ → Bool) → w.items ≡ filter p v.items → w.capacity ≡ v.capacity → room_in v ≤ room_in w
 filtered-room v w p items capacity = omega (arith, subst (λ xs. length xs ≤ length v.items) (sym items) (fewer p v.items), capacity)
 
 length-put : (k v : ℕ) (es : List (ℕ × ℕ)) → length (put nat_cmp k v es) ≤ length es + 1
@@ -78,12 +78,12 @@ length-put k v (e ∷ es) = elim (nat_cmp k e.0) as (λ r. length (by_order r ((
 ]
 
 -- adding a target takes capacity for one at most
-pub put-room : (v w : Targets) (storage round : ℕ) → w.items ≡ put nat_cmp storage round v.items → w.capacity ≡ v.capacity → room_in v ≤ room_in w + 1
+pub put-room : (v w : PendingTargets) (storage round : ℕ) → w.items ≡ put nat_cmp storage round v.items → w.capacity ≡ v.capacity → room_in v ≤ room_in w + 1
 put-room v w storage round items capacity = let more : length w.items ≤ length v.items + 1 = subst (λ xs. length xs ≤ length v.items + 1) (sym items) (length-put storage round v.items) in omega (arith, more, capacity)
 
 -- Each block's targets are filtered.
-module _ (es fs : List (ℕ × Targets)) (p : ℕ × ℕ → Bool) (is : fs ≡ map (λ e. (e.0, record e.1 { items = filter p e.1.items })) es) where
-  abbrev filtered : Targets → Targets
+module _ (es fs : List (ℕ × PendingTargets)) (p : ℕ × ℕ → Bool) (is : fs ≡ map (λ e. (e.0, record e.1 { items = filter p e.1.items })) es) where
+  abbrev filtered : PendingTargets → PendingTargets
   filtered v = record v { items = filter p v.items }
 
   looked : (q : ℕ) → lookup (nat_eq q) fs ≡ option_map filtered (lookup (nat_eq q) es)
@@ -92,29 +92,29 @@ module _ (es fs : List (ℕ × Targets)) (p : ℕ × ℕ → Bool) (is : fs ≡ 
   pub filtered-targets : (q : ℕ) → targets_at fs q ≡ filter p (targets_at es q)
   filtered-targets q = ap items_or (looked q) ∙ by (lookup (nat_eq q) es)
     where
-      by : (o : Option Targets) → items_or (option_map filtered o) ≡ filter p (items_or o)
+      by : (o : Option PendingTargets) → items_or (option_map filtered o) ≡ filter p (items_or o)
       by None = refl
       by (Some v) = refl
 
   pub filtered-rooms : (q : ℕ) → room_at es q ≤ room_at fs q
   filtered-rooms q = subst (λ o. room_at es q ≤ room_or o) (sym (looked q)) (by (lookup (nat_eq q) es))
     where
-      by : (o : Option Targets) → room_or o ≤ room_or (option_map filtered o)
+      by : (o : Option PendingTargets) → room_or o ≤ room_or (option_map filtered o)
       by None = omega arith
       by (Some v) = filtered-room v (filtered v) p refl refl
 
 -- Blocks with no target are of no account.
-module _ (es fs : List (ℕ × Targets)) (unique : IsDistinct nat_eq (keys_of es)) (is : fs ≡ filter (λ e. not (length e.1.items == 0)) es) where
-  abbrev left : Option Targets → Option Targets
-  left o = option_filter (λ (v : Targets). not (length v.items == 0)) o
+module _ (es fs : List (ℕ × PendingTargets)) (unique : IsDistinct nat_eq (keys_of es)) (is : fs ≡ filter (λ e. not (length e.1.items == 0)) es) where
+  abbrev left : Option PendingTargets → Option PendingTargets
+  left o = option_filter (λ (v : PendingTargets). not (length v.items == 0)) o
 
   looked_left : (q : ℕ) → lookup (nat_eq q) fs ≡ left (lookup (nat_eq q) es)
-  looked_left q = ap (lookup (nat_eq q)) is ∙ lookup-filter-values nat_eq_equiv (λ (v : Targets). not (length v.items == 0)) q es unique
+  looked_left q = ap (lookup (nat_eq q)) is ∙ lookup-filter-values nat_eq_equiv (λ (v : PendingTargets). not (length v.items == 0)) q es unique
 
   pub shed-targets : (q : ℕ) → targets_at fs q ≡ targets_at es q
   shed-targets q = ap items_or (looked_left q) ∙ chosen (lookup (nat_eq q) es)
     where
-      chosen : (o : Option Targets) → items_or (left o) ≡ items_or o
+      chosen : (o : Option PendingTargets) → items_or (left o) ≡ items_or o
       chosen None = refl
       chosen (Some v) = by (length v.items == 0) refl
         where
@@ -126,7 +126,7 @@ module _ (es fs : List (ℕ × Targets)) (unique : IsDistinct nat_eq (keys_of es
   pub shed-kept : (q : ℕ) → targets_at es q ≢ [] → room_at fs q ≡ room_at es q
   shed-kept q some = ap room_or (looked_left q) ∙ chosen (lookup (nat_eq q) es) some
     where
-      chosen : (o : Option Targets) → items_or o ≢ [] → room_or (left o) ≡ room_or o
+      chosen : (o : Option PendingTargets) → items_or o ≢ [] → room_or (left o) ≡ room_or o
       chosen None h = refl
       chosen (Some v) h = by (length v.items == 0) refl
         where
@@ -138,13 +138,13 @@ module _ (es fs : List (ℕ × Targets)) (unique : IsDistinct nat_eq (keys_of es
   pub shed-freed : (q : ℕ) → targets_at es q ≡ [] → room_at fs q ≡ 0
   shed-freed q none = ap room_or (looked_left q) ∙ chosen (lookup (nat_eq q) es) none
     where
-      chosen : (o : Option Targets) → items_or o ≡ [] → room_or (left o) ≡ 0
+      chosen : (o : Option PendingTargets) → items_or o ≡ [] → room_or (left o) ≡ 0
       chosen None h = refl
       chosen (Some v) h = ap (λ n. room_or (cond (not (n == 0)) (Some v) None)) (ap length h)
 
 -- A block that passes no look is not among those that pass.
-module _ (es : List (ℕ × Targets)) (unique : IsDistinct nat_eq (keys_of es)) where
-  no_such : (ks : List ℕ) (fs : List (ℕ × Targets)) → ks ≡ keys_of fs → (b : ℕ) → list_any (nat_eq b) ks ≡ false → lookup (nat_eq b) fs ≡ None
+module _ (es : List (ℕ × PendingTargets)) (unique : IsDistinct nat_eq (keys_of es)) where
+  no_such : (ks : List ℕ) (fs : List (ℕ × PendingTargets)) → ks ≡ keys_of fs → (b : ℕ) → list_any (nat_eq b) ks ≡ false → lookup (nat_eq b) fs ≡ None
   no_such ks fs is b none = not_there (lookup (nat_eq b) fs) (is_some-lookup (nat_eq b) fs ∙ ap (list_any (nat_eq b)) (sym is) ∙ none)
 
   pub no-targets : (ks : List ℕ) → ks ≡ keys_of es → (b : ℕ) → list_any (nat_eq b) ks ≡ false → targets_at es b ≡ []
@@ -158,9 +158,9 @@ module _ (es : List (ℕ × Targets)) (unique : IsDistinct nat_eq (keys_of es)) 
 
     pub none-passing : (ks : List ℕ) → ks ≡ keys_of (filter (λ e. list_any p e.1.items) es) → (b : ℕ) → list_any (nat_eq b) ks ≡ false → filter p (targets_at es b) ≡ []
     none-passing ks is b none =
-        passing (lookup (nat_eq b) es) (sym (lookup-filter-values nat_eq_equiv (λ (v : Targets). list_any p v.items) b es unique) ∙ no_such ks (filter (λ e. list_any p e.1.items) es) is b none)
+        passing (lookup (nat_eq b) es) (sym (lookup-filter-values nat_eq_equiv (λ (v : PendingTargets). list_any p v.items) b es unique) ∙ no_such ks (filter (λ e. list_any p e.1.items) es) is b none)
       where
-        passing : (o : Option Targets) → option_filter (λ (v : Targets). list_any p v.items) o ≡ None → filter p (items_or o) ≡ []
+        passing : (o : Option PendingTargets) → option_filter (λ (v : PendingTargets). list_any p v.items) o ≡ None → filter p (items_or o) ≡ []
         passing None e = refl
         passing (Some v) e = by (list_any p v.items) refl e
           where
@@ -169,7 +169,7 @@ module _ (es : List (ℕ × Targets)) (unique : IsDistinct nat_eq (keys_of es)) 
             by false g e = none_pass v.items g
 
 -- the blocks that passed, and one more
-pub keys-passed_more : {A : Type 0} (v : A → ℕ × Targets) (p : ℕ × Targets → Bool) (ys : List A) (y : A) (t : Bool) → p (v y) ≡ t
+pub keys-passed_more : {A : Type 0} (v : A → ℕ × PendingTargets) (p : ℕ × PendingTargets → Bool) (ys : List A) (y : A) (t : Bool) → p (v y) ≡ t
     → keys_of (filter p (map v (ys ++ y ∷ []))) ≡ keys_of (filter p (map v ys)) ++ cond t ((v y).0 ∷ []) []
 keys-passed_more v p [] y true e = ap (λ b. keys_of (cond b (v y ∷ []) [])) e
 keys-passed_more v p [] y false e = ap (λ b. keys_of (cond b (v y ∷ []) [])) e

@@ -11,16 +11,16 @@ use Rattle.bm_base.specs.declared.replica.ReplicaId.{ReplicaId}
 use Rattle.bm_base.specs.Maps.Map.{get}
 use Rattle.bm_base.specs.Maps.Lists.{has}
 use Rattle.bm_base.proofs.Clusters.{eqb_turned}
-use Rattle.bm_pending.specs.Inside.{Targets, map_of, rooms_of}
-use Rattle.bm_pending.specs.OnTheWay.{OnTheWay, blocks_in}
-use Rattle.bm_pending.proofs.Seeing.{get-map_of}
+use Rattle.bm_pending.specs.Inside.{PendingTargets, map_of, capacities_of}
+use Rattle.bm_pending.specs.PendingMap.{PendingMap, blocks_in}
+use Rattle.bm_pending.proofs.TargetViews.{get-map_of}
 
 -- what is seen of the indices
-pub places-seen : (es : List (ℕ × Targets)) → map (λ (e : ℕ × ℕ). e.0) (rooms_of es) ≡ keys_of es
+pub places-seen : (es : List (ℕ × PendingTargets)) → map (λ (e : ℕ × ℕ). e.0) (capacities_of es) ≡ keys_of es
 places-seen [] = refl
 places-seen (e ∷ es) = ap (λ ks. e.0 ∷ ks) (places-seen es)
 
-has-keys : (es : List (ℕ × Targets)) (b : ℕ) → has (keys_of es) b ≡ is_some (lookup (nat_eq b) es)
+has-keys : (es : List (ℕ × PendingTargets)) (b : ℕ) → has (keys_of es) b ≡ is_some (lookup (nat_eq b) es)
 has-keys [] b = refl
 has-keys (e ∷ es) b = ap (λ t. t || has (keys_of es) b) (eqb_turned e.0 b) ∙ by (b == e.0) (has-keys es b)
   where
@@ -29,18 +29,18 @@ has-keys (e ∷ es) b = ap (λ t. t || has (keys_of es) b) (eqb_turned e.0 b) �
     by false rest = rest
 
 -- a block with a transfer has an index
-pub place-had : (es : List (ℕ × Targets)) (q : ReplicaId) → IsSome (get (map_of es) q) → has (keys_of es) q.block ≡ true
+pub place-had : (es : List (ℕ × PendingTargets)) (q : ReplicaId) → IsSome (get (map_of es) q) → has (keys_of es) q.block ≡ true
 place-had es q some = has-keys es q.block ∙ by (lookup (nat_eq q.block) es) (sym (ap is_some (get-map_of es q)) ∙ some)
   where
-    by : (o : Option Targets) → is_some (find nat_cmp q.storage (option_map_or (λ (v : Targets). v.items) o [])) ≡ true → is_some o ≡ true
+    by : (o : Option PendingTargets) → is_some (find nat_cmp q.storage (option_map_or (λ (v : PendingTargets). v.items) o [])) ≡ true → is_some o ≡ true
     by None e = absurd (false≢true e)
     by (Some v) e = refl
 
 -- the blocks in the order of their indices are the keys
-pub keys-seen : (es : List (ℕ × Targets)) (p : OnTheWay) → record { map = map_of es; rooms = rooms_of es } ≡ p → keys_of es ≡ blocks_in p
-keys-seen es p view = sym (places-seen es) ∙ ap (λ (p : OnTheWay). blocks_in p) view
+pub keys-seen : (es : List (ℕ × PendingTargets)) (p : PendingMap) → record { map = map_of es; rooms = capacities_of es } ≡ p → keys_of es ≡ blocks_in p
+keys-seen es p view = sym (places-seen es) ∙ ap (λ (p : PendingMap). blocks_in p) view
 
 -- so is the one at an index
-pub place-seen : (es : List (ℕ × Targets)) (p : OnTheWay) → record { map = map_of es; rooms = rooms_of es } ≡ p → (o : Option (ℕ × Targets)) (i : ℕ) → o ≡ slice_get es i
-    → option_map (λ (e : ℕ × Targets). e.0) o ≡ slice_get (blocks_in p) i
-place-seen es p view o i e = ap (option_map (λ (e : ℕ × Targets). e.0)) e ∙ sym (slice_get-map (λ (e : ℕ × Targets). e.0) es i) ∙ ap (λ ks. slice_get ks i) (keys-seen es p view)
+pub place-seen : (es : List (ℕ × PendingTargets)) (p : PendingMap) → record { map = map_of es; rooms = capacities_of es } ≡ p → (o : Option (ℕ × PendingTargets)) (i : ℕ) → o ≡ slice_get es i
+    → option_map (λ (e : ℕ × PendingTargets). e.0) o ≡ slice_get (blocks_in p) i
+place-seen es p view o i e = ap (option_map (λ (e : ℕ × PendingTargets). e.0)) e ∙ sym (slice_get-map (λ (e : ℕ × PendingTargets). e.0) es i) ∙ ap (λ ks. slice_get ks i) (keys-seen es p view)

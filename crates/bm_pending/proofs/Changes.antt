@@ -12,28 +12,28 @@ use Rattle.bm_base.specs.declared.replica.ReplicaId.{ReplicaId}
 use Rattle.bm_base.specs.Maps.Map.{Map, by_number, empty, entries, get, insert, keep, remove}
 use Rattle.bm_base.specs.Machine.State.{by_replica, replica_at}
 use Rattle.bm_base.proofs.MapLaws.{same_map, get-insert, get-keep, get-remove, entries-keep}
-use Rattle.bm_base.proofs.Maps.{one_out}
+use Rattle.bm_base.proofs.MapEntries.{one_out}
 use Rattle.bm_base.proofs.Ties.{number_tie, replica_tie}
-use Rattle.bm_pending.specs.OnTheWay.{OnTheWay, room}
-use Rattle.bm_pending.specs.Inside.{Targets, map_of, rooms_of, targets_at, room_in, room_at, IsPending}
-use Rattle.bm_pending.proofs.Seeing.{get-map_of}
+use Rattle.bm_pending.specs.PendingMap.{PendingMap, room}
+use Rattle.bm_pending.specs.Inside.{PendingTargets, map_of, capacities_of, targets_at, room_in, room_at, IsPending}
+use Rattle.bm_pending.proofs.TargetViews.{get-map_of}
 
-pub map_of-nil : (es : List (ℕ × Targets)) → es ≡ [] → map_of es ≡ empty
+pub map_of-nil : (es : List (ℕ × PendingTargets)) → es ≡ [] → map_of es ≡ empty
 unfolding map_of
 map_of-nil es e = ap map_of e
 
-pub room-nil : (es : List (ℕ × Targets)) (b : ℕ) → es ≡ [] → room (record { map = map_of es; rooms = rooms_of es }) b ≡ 0
-room-nil es b e = ap (λ xs. unwrap_or (lookup (nat_eq b) (rooms_of xs)) 0) e
+pub room-nil : (es : List (ℕ × PendingTargets)) (b : ℕ) → es ≡ [] → room (record { map = map_of es; rooms = capacities_of es }) b ≡ 0
+room-nil es b e = ap (λ xs. unwrap_or (lookup (nat_eq b) (capacities_of xs)) 0) e
 
 opened : {X : Type 0} (f : X → ℕ) (o : Option X) → unwrap_or (option_map f o) 0 ≡ option_map_or f o 0
 opened f None = refl
 opened f (Some x) = refl
 
 -- what is seen of a block's capacity
-pub room-seen : (m : Map by_replica ℕ) (es : List (ℕ × Targets)) (b : ℕ) → room (record { map = m; rooms = rooms_of es }) b ≡ room_at es b
+pub room-seen : (m : Map by_replica ℕ) (es : List (ℕ × PendingTargets)) (b : ℕ) → room (record { map = m; rooms = capacities_of es }) b ≡ room_at es b
 room-seen m es b = ap (λ o. unwrap_or o 0) (lookup-map_values room_in (nat_eq b) es) ∙ opened room_in (lookup (nat_eq b) es)
 
-pub room-gone : (es : List (ℕ × Targets)) (b : ℕ) → room_at es b ≡ 0 → room (record { map = map_of es; rooms = rooms_of es }) b ≡ 0
+pub room-gone : (es : List (ℕ × PendingTargets)) (b : ℕ) → room_at es b ≡ 0 → room (record { map = map_of es; rooms = capacities_of es }) b ≡ 0
 room-gone es b e = room-seen (map_of es) es b ∙ e
 
 -- Targets that are filtered.
@@ -58,10 +58,10 @@ both_or true s x v = refl
 both_or false s x v = refl
 
 -- blocks with the same targets have the same transfers
-pub map-same : (es fs : List (ℕ × Targets)) → ((q : ℕ) → targets_at fs q ≡ targets_at es q) → map_of fs ≡ map_of es
+pub map-same : (es fs : List (ℕ × PendingTargets)) → ((q : ℕ) → targets_at fs q ≡ targets_at es q) → map_of fs ≡ map_of es
 map-same es fs same = same_map (map_of fs) (map_of es) (λ q. get-map_of fs q ∙ ap (find nat_cmp q.storage) (same q.block) ∙ sym (get-map_of es q))
 
-module _ (es fs : List (ℕ × Targets)) (b : ℕ) (f : List (ℕ × ℕ) → List (ℕ × ℕ)) (changed : (q : ℕ) → targets_at fs q ≡ cond (nat_eq b q) (f (targets_at es q)) (targets_at es q)) where
+module _ (es fs : List (ℕ × PendingTargets)) (b : ℕ) (f : List (ℕ × ℕ) → List (ℕ × ℕ)) (changed : (q : ℕ) → targets_at fs q ≡ cond (nat_eq b q) (f (targets_at es q)) (targets_at es q)) where
   pub get-changed : (q : ReplicaId) → get (map_of fs) q ≡ cond (q.block == b) (find nat_cmp q.storage (f (targets_at es q.block))) (get (map_of es) q)
   get-changed q =
       get-map_of fs q ∙ ap (find nat_cmp q.storage) (changed q.block) ∙ find-either q.storage (nat_eq b q.block) (f (targets_at es q.block)) (targets_at es q.block)
@@ -74,7 +74,7 @@ module _ (es fs : List (ℕ × Targets)) (b : ℕ) (f : List (ℕ × ℕ) → Li
       either true q = keeps (targets_at es q) (rise q)
       either false q = rise q
 
-module _ (es fs : List (ℕ × Targets)) (b : ℕ) where
+module _ (es fs : List (ℕ × PendingTargets)) (b : ℕ) where
   -- one target more
   module _ (s r : ℕ) (changed : (q : ℕ) → targets_at fs q ≡ cond (nat_eq b q) (put nat_cmp s r (targets_at es q)) (targets_at es q)) where
     pub map-inserted : map_of fs ≡ insert (map_of es) (replica_at b s) r
@@ -110,14 +110,14 @@ module _ (es fs : List (ℕ × Targets)) (b : ℕ) where
         get-changed es fs b (λ _. []) changed q ∙ sym (get-keep (map_of es) (λ q _. not (q.block == b)) q ∙ sym (one_out (q.block == b) (get (map_of es) q))))
 
 -- what stays of the map is what stays of each block's targets
-pub get-kept : (es : List (ℕ × Targets)) (p : ℕ → ℕ → Bool) → ((q : ℕ) → T (is_sorted nat_cmp (targets_at es q))) → (q : ReplicaId)
+pub get-kept : (es : List (ℕ × PendingTargets)) (p : ℕ → ℕ → Bool) → ((q : ℕ) → T (is_sorted nat_cmp (targets_at es q))) → (q : ReplicaId)
     → get (keep (map_of es) (λ q t. p q.storage t)) q ≡ find nat_cmp q.storage (filter (λ e. p e.0 e.1) (targets_at es q.block))
 get-kept es p rise q =
     get-keep (map_of es) (λ q t. p q.storage t) q ∙ ap (option_and_then (λ x. cond (p q.storage x) (Some x) None)) (get-map_of es q)
     ∙ sym (find-filter p (targets_at es q.block) (rise q.block) q.storage)
 
 -- each block's targets are filtered by storage and round
-module _ (es fs : List (ℕ × Targets)) (p : ℕ → ℕ → Bool) (changed : (q : ℕ) → targets_at fs q ≡ filter (λ e. p e.0 e.1) (targets_at es q)) (rise : (q : ℕ) → T (is_sorted nat_cmp (targets_at es q))) where
+module _ (es fs : List (ℕ × PendingTargets)) (p : ℕ → ℕ → Bool) (changed : (q : ℕ) → targets_at fs q ≡ filter (λ e. p e.0 e.1) (targets_at es q)) (rise : (q : ℕ) → T (is_sorted nat_cmp (targets_at es q))) where
   pub map-kept : map_of fs ≡ keep (map_of es) (λ q t. p q.storage t)
   map-kept =
       same_map (map_of fs) (keep (map_of es) (λ q t. p q.storage t)) (λ q.
@@ -128,25 +128,25 @@ module _ (es fs : List (ℕ × Targets)) (p : ℕ → ℕ → Bool) (changed : (
 
 -- What is seen of the capacity.
 
-abbrev pub shown : List (ℕ × Targets) → OnTheWay
-shown es = record { map = map_of es; rooms = rooms_of es }
+abbrev pub shown : List (ℕ × PendingTargets) → PendingMap
+shown es = record { map = map_of es; rooms = capacities_of es }
 
-module _ (es : List (ℕ × Targets)) (p : OnTheWay) (is : shown es ≡ p) where
+module _ (es : List (ℕ × PendingTargets)) (p : PendingMap) (is : shown es ≡ p) where
   pub room-shown : (b : ℕ) → room p b ≡ room_at es b
   room-shown b = ap (λ v. room v b) (sym is) ∙ room-seen (map_of es) es b
 
-  pub room-kept : (fs : List (ℕ × Targets)) (b : ℕ) → room_at es b ≤ room_at fs b → room p b ≤ room (shown fs) b
+  pub room-kept : (fs : List (ℕ × PendingTargets)) (b : ℕ) → room_at es b ≤ room_at fs b → room p b ≤ room (shown fs) b
   room-kept fs b less = omega (arith, room-shown b, room-seen (map_of fs) fs b, less)
 
-  pub room-used : (fs : List (ℕ × Targets)) (k b : ℕ) → room_at es b ≤ room_at fs b + cond (nat_eq k b) 1 0 → room p b ≤ room (shown fs) b + cond (b == k) 1 0
+  pub room-used : (fs : List (ℕ × PendingTargets)) (k b : ℕ) → room_at es b ≤ room_at fs b + cond (nat_eq k b) 1 0 → room p b ≤ room (shown fs) b + cond (b == k) 1 0
   room-used fs k b less =
       let turned : room_at es b ≤ room_at fs b + cond (b == k) 1 0 = subst (λ t. room_at es b ≤ room_at fs b + cond t 1 0) (nat_eq_equiv.symm k b) less in
       omega (arith, room-shown b, room-seen (map_of fs) fs b, turned)
 
-  pub room-dropped : (fs : List (ℕ × Targets)) (k b : ℕ) → room_at fs b ≡ cond (nat_eq k b) 0 (room_at es b) → room (shown fs) b ≡ cond (b == k) 0 (room p b)
+  pub room-dropped : (fs : List (ℕ × PendingTargets)) (k b : ℕ) → room_at fs b ≡ cond (nat_eq k b) 0 (room_at es b) → room (shown fs) b ≡ cond (b == k) 0 (room p b)
   room-dropped fs k b same = room-seen (map_of fs) fs b ∙ same ∙ (λ j. cond (nat_eq_equiv.symm k b j) 0 (sym (room-shown b) j))
 
-  pub room-same : (fs : List (ℕ × Targets)) (b : ℕ) → room_at fs b ≡ room_at es b → room (shown fs) b ≡ room p b
+  pub room-same : (fs : List (ℕ × PendingTargets)) (b : ℕ) → room_at fs b ≡ room_at es b → room (shown fs) b ≡ room p b
   room-same fs b same = room-seen (map_of fs) fs b ∙ same ∙ sym (room-shown b)
 
   pub room-had : (b n : ℕ) → n < room p b → n < room_at es b

@@ -8,8 +8,8 @@ use Rattle.bm_base.specs.declared.ids.Part.{Part}
 use Rattle.bm_base.specs.declared.commands.Transfer.{Transfer}
 use Rattle.bm_base.specs.Shards.{shard_of}
 use Rattle.bm_base.specs.RoundParts.{own_transfers}
-use Rattle.bm_pending.specs.OnTheWay.{OnTheWay, room}
-use Rattle.bm_pending.specs.Counted.{count_at}
+use Rattle.bm_pending.specs.PendingMap.{PendingMap, room}
+use Rattle.bm_pending.specs.TargetCounts.{count_at}
 
 abbrev pub count_of : ℕ → List Transfer → ℕ
 count_of b ts = length (filter (λ t. t.block == b) ts)
@@ -18,7 +18,7 @@ abbrev pub own : Part → List Transfer → List Transfer
 own part ts = own_transfers part.index part.shards ts
 
 -- the counts of these transfers, and the capacity for them
-pub record HasCounted (part : Part) (start p : OnTheWay) (es : List (ℕ × ℕ)) (xs : List Transfer) : Type 0 where
+pub record HasCounted (part : Part) (start p : PendingMap) (es : List (ℕ × ℕ)) (xs : List Transfer) : Type 0 where
   pub map : p.map ≡ start.map
   pub rooms : (b : ℕ) → room start b ≤ room p b
   pub counts : (q : ℕ) → count_at es q ≡ count_of q (own part xs)
@@ -35,8 +35,8 @@ module _ (part : Part) (xs : List Transfer) (t : Transfer) where
   appended : own part (xs ++ t ∷ []) ≡ own part xs ++ cond (shard_of t.block part.shards == part.index) (t ∷ []) []
   appended = filter-append (λ (x : Transfer). shard_of x.block part.shards == part.index) xs (t ∷ [])
 
-  module _ (start p : OnTheWay) (es : List (ℕ × ℕ)) (h : HasCounted part start p es xs) where
-    pub counted_own : (q : OnTheWay) (fs : List (ℕ × ℕ)) (n : ℕ) → (shard_of t.block part.shards == part.index) ≡ true → q.map ≡ p.map → ((b : ℕ) → room p b ≤ room q b)
+  module _ (start p : PendingMap) (es : List (ℕ × ℕ)) (h : HasCounted part start p es xs) where
+    pub counted_own : (q : PendingMap) (fs : List (ℕ × ℕ)) (n : ℕ) → (shard_of t.block part.shards == part.index) ≡ true → q.map ≡ p.map → ((b : ℕ) → room p b ≤ room q b)
         → ((b : ℕ) → count_at fs b ≡ cond (nat_eq t.block b) (suc (count_at es b)) (count_at es b)) → n ≡ suc (count_at es t.block) → n ≤ room q t.block
         → HasCounted part start q fs (xs ++ t ∷ [])
     counted_own q fs n is_own same grows counts number enough = record {

@@ -10,8 +10,8 @@ use Rattle.bm_base.specs.Machine.State.{by_replica, replica_at}
 use Rattle.bm_base.specs.Machine.Excess.{is_expired}
 
 -- the targets of one block with the rounds of their commands
-abbrev pub Targets : Type 0
-Targets = SmallVec (ℕ × ℕ)
+abbrev pub PendingTargets : Type 0
+PendingTargets = SmallVec (ℕ × ℕ)
 
 -- the transfers of one block replaced by these
 unfoldable pub with_block : ℕ → List (ℕ × ℕ) → Map by_replica ℕ → Map by_replica ℕ
@@ -19,33 +19,33 @@ with_block b [] m = keep m (λ q _. not (q.block == b))
 with_block b (t ∷ ts) m = insert (with_block b ts m) (replica_at b t.0) t.1
 
 -- the transfers of all blocks
-unfoldable pub map_of : List (ℕ × Targets) → Map by_replica ℕ
+unfoldable pub map_of : List (ℕ × PendingTargets) → Map by_replica ℕ
 map_of [] = empty
 map_of (e ∷ es) = with_block e.0 e.1.items (map_of es)
 
 -- the targets of a block
-abbrev pub targets_at : List (ℕ × Targets) → ℕ → List (ℕ × ℕ)
-targets_at es b = option_map_or (λ (v : Targets). v.items) (lookup (nat_eq b) es) []
+abbrev pub targets_at : List (ℕ × PendingTargets) → ℕ → List (ℕ × ℕ)
+targets_at es b = option_map_or (λ (v : PendingTargets). v.items) (lookup (nat_eq b) es) []
 
 -- of the targets of a block, those whose transfers are given up as round r begins
 abbrev pub expired_among : ℕ → ℕ → List (ℕ × ℕ) → List (ℕ × ℕ)
 expired_among pend r ts = filter (λ t. is_expired pend r t.1) ts
 
 -- the storages of the others
-abbrev pub storages_left : ℕ → ℕ → List (ℕ × ℕ) → List ℕ
-storages_left pend r ts = map (λ t. t.0) (filter (λ t. not (is_expired pend r t.1)) ts)
+abbrev pub remaining_storages : ℕ → ℕ → List (ℕ × ℕ) → List ℕ
+remaining_storages pend r ts = map (λ t. t.0) (filter (λ t. not (is_expired pend r t.1)) ts)
 
-abbrev pub room_in : Targets → ℕ
+abbrev pub room_in : PendingTargets → ℕ
 room_in v = v.capacity - length v.items
 
 -- how many more transfers of a block need no memory
-abbrev pub room_at : List (ℕ × Targets) → ℕ → ℕ
+abbrev pub room_at : List (ℕ × PendingTargets) → ℕ → ℕ
 room_at es b = option_map_or room_in (lookup (nat_eq b) es) 0
 
 -- each block with how many more of its transfers need no memory
-abbrev pub rooms_of : List (ℕ × Targets) → List (ℕ × ℕ)
-rooms_of es = map (λ e. (e.0, room_in e.1)) es
+abbrev pub capacities_of : List (ℕ × PendingTargets) → List (ℕ × ℕ)
+capacities_of es = map (λ e. (e.0, room_in e.1)) es
 
 -- the targets of each block are ascending
-pub record IsPending (es : List (ℕ × Targets)) : Type 0 where
+pub record IsPending (es : List (ℕ × PendingTargets)) : Type 0 where
   pub rising : (b : ℕ) → T (is_sorted nat_cmp (targets_at es b))

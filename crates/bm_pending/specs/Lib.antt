@@ -1,4 +1,4 @@
-pub mod OnTheWay
+pub mod PendingMap
 pub mod Inside
 pub mod Remaining
-pub mod Counted
+pub mod TargetCounts

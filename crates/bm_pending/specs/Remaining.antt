@@ -2,8 +2,8 @@
 use Rattle.std.specs.Prelude.{ℕ, not, ◌==◌, List, map, filter}
 use Rattle.bm_base.specs.Maps.Map.{entries, keep}
 use Rattle.bm_base.specs.Machine.Excess.{is_expired}
-use Rattle.bm_pending.specs.OnTheWay.{OnTheWay}
+use Rattle.bm_pending.specs.PendingMap.{PendingMap}
 
 -- the targets of a block's transfers that have not expired as round r begins, ascending
-abbrev pub targets_left : ℕ → ℕ → OnTheWay → ℕ → List ℕ
-targets_left pend r p b = map (λ e. e.0.storage) (filter (λ e. e.0.block == b) (entries (keep p.map (λ _ t. not (is_expired pend r t)))))
+abbrev pub remaining_targets : ℕ → ℕ → PendingMap → ℕ → List ℕ
+remaining_targets pend r p b = map (λ e. e.0.storage) (filter (λ e. e.0.block == b) (entries (keep p.map (λ _ t. not (is_expired pend r t)))))

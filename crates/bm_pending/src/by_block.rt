@@ -8,7 +8,7 @@ ghost use Rattle.bm_base.specs.Maps.Lists.{has};
 ghost use Rattle.bm_base.specs.Machine.Excess.{is_expired};
 ghost use Rattle.bm_pending.specs.Inside.{targets_at, room_at};
 
-use crate::targets::{Targets, drop_expired, drop_storages, drop_target, put};
+use crate::targets::{PendingTargets, drop_expired, drop_storages, drop_target, put};
 use bm_base::{HashSecret, Refusal, StorageId};
 use bm_maps::sorted::find;
 use indexmap::IndexMap;
@@ -16,7 +16,7 @@ use smallvec::SmallVec;
 use std::alloc::Global;
 
 /// Each block with its targets, strictly ascending, and the rounds of their commands.
-pub(crate) type Blocks = IndexMap<u64, Targets, HashSecret>;
+pub(crate) type Blocks = IndexMap<u64, PendingTargets, HashSecret>;
 
 /// Reserves capacity for `additional` more targets of a block.
 pub(crate) fn reserve_in(
@@ -112,7 +112,7 @@ pub(crate) fn drop_storages_in(blocks: &mut Blocks, storages: &[StorageId])
 }
 
 /// Takes the blocks with no target out.
-pub(crate) fn drop_empty_rooms(blocks: &mut Blocks)
+pub(crate) fn release_unused(blocks: &mut Blocks)
     ensures targets { (q : ℕ) → targets_at blocks.new.entries q ≡ targets_at blocks.old.entries q }
     ensures kept { (q : ℕ) → targets_at blocks.old.entries q ≢ []
         → room_at blocks.new.entries q ≡ room_at blocks.old.entries q }

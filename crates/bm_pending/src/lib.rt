@@ -7,9 +7,9 @@
 #![tactic(auto)]
 
 mod by_block;
-mod left;
-mod listing;
-mod own;
+mod remaining;
+mod transfer_lists;
+mod own_transfers;
 mod pending;
 mod targets;
 

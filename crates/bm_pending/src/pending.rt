@@ -8,14 +8,14 @@ ghost use Rattle.bm_base.specs.Machine.State.{replica_at};
 ghost use Rattle.bm_base.specs.Maps.Lists.{has};
 ghost use Rattle.bm_pending.specs.Remaining as remaining;
 ghost use Rattle.bm_base.specs.Machine.Excess.{is_expired};
-ghost use Rattle.bm_pending.specs.OnTheWay.{room, blocks_in, targets_of, expired_of};
+ghost use Rattle.bm_pending.specs.PendingMap.{room, blocks_in, targets_of, expired_of};
 
 use crate::by_block::{
-    Blocks, drop_block, drop_empty_rooms, drop_expired_in, drop_in, drop_storages_in, find_in,
+    Blocks, drop_block, release_unused, drop_expired_in, drop_in, drop_storages_in, find_in,
     put_in, reserve_in, targets_in,
 };
-use crate::left::{count_left_among, left_among};
-use crate::listing::{entries_in, expired_in, push_storages};
+use crate::remaining::{count_remaining_among, remaining_among};
+use crate::transfer_lists::{entries_in, expired_in, push_storages};
 use bm_base::{BlockId, HashSecret, Refusal, ReplicaId, StorageId, StorageIds};
 use indexmap::IndexMap;
 use std::alloc::Global;
@@ -27,7 +27,7 @@ use std::marker::Model;
 /// block how many more of its transfers need no memory. Only `reserve`, `reserve_own` and the calls
 /// that return a list take memory. A call on one block costs one hash and a scan of its few
 /// targets; `reserve` of a new block may cost more. A block whose last transfer is removed keeps
-/// its capacity until `drop_empty_rooms`, which is to be called at the end of each round.
+/// its capacity until `release_unused`, which is to be called at the end of each round.
 #[derive(Drop)]
 pub struct PendingTransfers {
     pub(crate) by_block: Blocks,
@@ -35,14 +35,14 @@ pub struct PendingTransfers {
 }
 
 impl Model for PendingTransfers {
-    ghost use Rattle.bm_pending.specs.OnTheWay.{OnTheWay};
-    ghost use Rattle.bm_pending.specs.Inside.{map_of, rooms_of, IsPending};
+    ghost use Rattle.bm_pending.specs.PendingMap.{PendingMap};
+    ghost use Rattle.bm_pending.specs.Inside.{map_of, capacities_of, IsPending};
 
-    ghost Value = { OnTheWay };
+    ghost Value = { PendingMap };
 
     ghost view = { λ p. record {
       map = map_of p.by_block.entries;
-      rooms = rooms_of p.by_block.entries;
+      rooms = capacities_of p.by_block.entries;
     } };
 
     ghost invariant = { λ p. IsPending p.by_block.entries };
@@ -121,13 +121,13 @@ impl PendingTransfers {
 
     /// Releases the capacity of the blocks without a transfer, in one pass over the blocks. Takes
     /// no memory.
-    pub fn drop_empty_rooms(&mut self)
+    pub fn release_unused(&mut self)
         ensures map { self.new.map ≡ self.old.map }
         ensures kept { (block : ℕ) → targets_of self.old block ≢ []
             → room self.new block ≡ room self.old block }
         ensures freed { (block : ℕ) → targets_of self.old block ≡ [] → room self.new block ≡ 0 }
     {
-        drop_empty_rooms(&mut self.by_block);
+        release_unused(&mut self.by_block);
     }
 
     /// The round of a transfer, if it is there.
@@ -171,7 +171,7 @@ impl PendingTransfers {
 
     /// For proofs alone: the block of each transfer has an index, and no block has two. Does
     /// nothing.
-    pub fn lawful(&self)
+    pub fn show_invariant(&self)
         ensures listed { (q : ReplicaId) → IsSome (map.get self.now.map q)
             → has (blocks_in self.now) q.block ≡ true }
         ensures once { IsDistinct nat_eq (blocks_in self.now) }
@@ -193,25 +193,25 @@ impl PendingTransfers {
 
     /// The targets of the transfers of a block that `drop_expired` keeps, ascending. May answer
     /// `Memory`, but not for up to four.
-    pub fn targets_left(
+    pub fn remaining_targets(
         &self,
         alloc: Global,
         block: BlockId,
         pend: u32,
         round: u64,
     ) -> Result<StorageIds, Refusal>
-        ensures targets { IfOk result (λ v. v ≡ remaining.targets_left pend round self.now block) }
+        ensures targets { IfOk result (λ v. v ≡ remaining.remaining_targets pend round self.now block) }
         ensures refused { IfErr result (λ e. e ≡ Memory) }
     {
-        let left = left_among(alloc, targets_in(&self.by_block, block.0), pend, round)?;
+        let left = remaining_among(alloc, targets_in(&self.by_block, block.0), pend, round)?;
         Ok(left)
     }
 
     /// The number of transfers of a block that `drop_expired` keeps. Takes no memory.
-    pub fn count_left(&self, block: BlockId, pend: u32, round: u64) -> usize
-        ensures { result ≡ length (remaining.targets_left pend round self.now block) }
+    pub fn count_remaining(&self, block: BlockId, pend: u32, round: u64) -> usize
+        ensures { result ≡ length (remaining.remaining_targets pend round self.now block) }
     {
-        count_left_among(targets_in(&self.by_block, block.0), pend, round)
+        count_remaining_among(targets_in(&self.by_block, block.0), pend, round)
     }
 
     /// The transfers with their rounds, by block and then by target. May answer `Memory`.

@@ -13,10 +13,10 @@ use smallvec::SmallVec;
 use std::cmp::Ordering;
 
 /// Two targets are stored inline, as most blocks have no more; a third takes an allocation.
-pub(crate) type Targets = SmallVec<(u32, u64), 2>;
+pub(crate) type PendingTargets = SmallVec<(u32, u64), 2>;
 
 /// Sets the round of a storage. Takes no memory.
-pub(crate) fn put(targets: &mut Targets, storage: u32, round: u64)
+pub(crate) fn put(targets: &mut PendingTargets, storage: u32, round: u64)
     requires sorted { T (list.is_sorted nat_cmp targets.old.items) }
     requires room { HasRoomFor targets.old 1 }
     ensures items { targets.new.items ≡ list.put nat_cmp storage round targets.old.items }
@@ -39,7 +39,7 @@ pub(crate) fn put(targets: &mut Targets, storage: u32, round: u64)
 }
 
 /// Takes the transfer to a storage out.
-pub(crate) fn drop_target(targets: &mut Targets, storage: u32)
+pub(crate) fn drop_target(targets: &mut PendingTargets, storage: u32)
     ensures items { targets.new.items ≡ filter (λ t. not (t.0 == storage)) targets.old.items }
     ensures capacity { targets.new.capacity ≡ targets.old.capacity }
 {
@@ -54,7 +54,7 @@ pub(crate) fn is_expired(commanded: u64, pend: u32, round: u64) -> bool
 }
 
 /// Takes the transfers out that are given up.
-pub(crate) fn drop_expired(targets: &mut Targets, pend: u32, round: u64)
+pub(crate) fn drop_expired(targets: &mut PendingTargets, pend: u32, round: u64)
     ensures { targets.new
         ≡ record targets.old {
           items = filter
@@ -65,7 +65,7 @@ pub(crate) fn drop_expired(targets: &mut Targets, pend: u32, round: u64)
 }
 
 /// Takes the transfers to these storages out.
-pub(crate) fn drop_storages(targets: &mut Targets, storages: &[StorageId])
+pub(crate) fn drop_storages(targets: &mut PendingTargets, storages: &[StorageId])
     ensures { targets.new
         ≡ record targets.old {
           items = filter

@@ -12,16 +12,16 @@ use Rattle.bm_base.specs.Machine.State.{Cluster}
 use Rattle.bm_base.specs.Maps.Lists.{has, distinct}
 use Rattle.bm_base.specs.Machine.Replicas.{rack_of, racks}
 use Rattle.bm_base.specs.Machine.Transfers.{class_of, is_on_racks}
-use Rattle.bm_place.specs.declared.few.Few.{Few}
-use Rattle.bm_place.specs.declared.few.Few.TheVariants.{Nothing, One, Two, More}
-use Rattle.bm_place.specs.declared.standing.Standing.{Standing}
-use Rattle.bm_place.specs.Few.{two_of, three_of, with_number, is_one, are_two}
-use Rattle.bm_place.specs.Standing.{with_known, with_storage, with_storages, nowhere, standing_of, class_on, class_in}
+use Rattle.bm_place.specs.declared.up_to_two.UpToTwo.{UpToTwo}
+use Rattle.bm_place.specs.declared.up_to_two.UpToTwo.TheVariants.{Nothing, One, Two, More}
+use Rattle.bm_place.specs.declared.replica_spread.ReplicaSpread.{ReplicaSpread}
+use Rattle.bm_place.specs.UpToTwo.{two_of, three_of, with_number, is_one, are_two}
+use Rattle.bm_place.specs.ReplicaSpread.{with_rack, with_storage, with_storages, no_spread, replica_spread_of, class_on, class_by_spread}
 
 abbrev Set : Type 0
 Set = List (ℕ × Unit {0})
 
-abbrev shape : Set → Few
+abbrev shape : Set → UpToTwo
 shape [] = Nothing
 shape (a ∷ []) = One a.0
 shape (a ∷ b ∷ []) = Two a.0 b.0
@@ -62,7 +62,7 @@ abbrev marked : List ℕ → Set
 marked xs = map (λ x. (x, tt)) xs
 
 -- the different numbers so far, and then each of these
-abbrev with_numbers : Few → List ℕ → Few
+abbrev with_numbers : UpToTwo → List ℕ → UpToTwo
 with_numbers seen [] = seen
 with_numbers seen (n ∷ ns) = with_numbers (with_number seen n) ns
 
@@ -73,16 +73,16 @@ shape-all (x ∷ xs) m = shape-all xs (insert m x tt) ∙ ap (λ w. with_numbers
 
 -- A standing depends on the racks and on the storages.
 
-racks_with : (C : Cluster) (w : Standing) (ss : List ℕ) → (with_storages C w ss).racks ≡ with_numbers w.racks (filter_map (rack_of C) ss)
+racks_with : (C : Cluster) (w : ReplicaSpread) (ss : List ℕ) → (with_storages C w ss).racks ≡ with_numbers w.racks (filter_map (rack_of C) ss)
 racks_with C w [] = refl
 racks_with C w (s ∷ ss) =
     racks_with C (with_storage C w s) ss
-    ∙ elim (rack_of C s) as (λ k. with_numbers (with_known w.racks k) (filter_map (rack_of C) ss) ≡ with_numbers w.racks (cons_option k (filter_map (rack_of C) ss))) [
+    ∙ elim (rack_of C s) as (λ k. with_numbers (with_rack w.racks k) (filter_map (rack_of C) ss) ≡ with_numbers w.racks (cons_option k (filter_map (rack_of C) ss))) [
       | None ↦ refl
       | Some r ↦ refl
     ]
 
-storages_with : (C : Cluster) (w : Standing) (ss : List ℕ) → (with_storages C w ss).storages ≡ with_numbers w.storages ss
+storages_with : (C : Cluster) (w : ReplicaSpread) (ss : List ℕ) → (with_storages C w ss).storages ≡ with_numbers w.storages ss
 storages_with C w [] = refl
 storages_with C w (s ∷ ss) = storages_with C (with_storage C w s) ss
 
@@ -137,12 +137,12 @@ unfolding distinct keys entries empty
 class_distinct xs two rack =
     class_shape (insert_all (empty {o = by_number}) (marked xs)).list two rack ∙ ap (λ w. class_on w two rack) (shape-all xs empty)
 
-pub class_standing : (C : Cluster) (holders : List ℕ) (s : ℕ) → class_of C holders s ≡ class_in (standing_of C holders) (rack_of C s)
-unfolding class_of racks is_on_racks standing_of
+pub class_standing : (C : Cluster) (holders : List ℕ) (s : ℕ) → class_of C holders s ≡ class_by_spread (replica_spread_of C holders) (rack_of C s)
+unfolding class_of racks is_on_racks replica_spread_of
 class_standing C holders s =
     class_distinct (filter_map (rack_of C) holders) (length (distinct holders) == 2) (rack_of C s)
-    ∙ (λ i. class_on (sym (racks_with C nowhere holders) i) ((two_distinct holders ∙ ap are_two (sym (storages_with C nowhere holders))) i) (rack_of C s))
+    ∙ (λ i. class_on (sym (racks_with C no_spread holders) i) ((two_distinct holders ∙ ap are_two (sym (storages_with C no_spread holders))) i) (rack_of C s))
 
-pub one_standing : (C : Cluster) (holders : List ℕ) → (length (racks C holders) == 1) ≡ is_one (standing_of C holders).racks
-unfolding racks standing_of
-one_standing C holders = one_distinct (filter_map (rack_of C) holders) ∙ ap is_one (sym (racks_with C nowhere holders))
+pub one_standing : (C : Cluster) (holders : List ℕ) → (length (racks C holders) == 1) ≡ is_one (replica_spread_of C holders).racks
+unfolding racks replica_spread_of
+one_standing C holders = one_distinct (filter_map (rack_of C) holders) ∙ ap is_one (sym (racks_with C no_spread holders))

@@ -9,10 +9,10 @@ use Rattle.std.proofs.lemmas.List.MinMax.{ranks_by}
 use Rattle.bm_base.specs.Machine.State.{Cluster}
 use Rattle.bm_base.specs.Maps.Lists.{has}
 use Rattle.bm_base.specs.Machine.Excess.{remaining}
-use Rattle.bm_base.proofs.Listed.{or_right}
-use Rattle.bm_place.specs.declared.compared.Holder.{Holder}
-use Rattle.bm_place.specs.Compared.{holder_at}
-use Rattle.bm_place.specs.Pass.{cmp_in_class}
+use Rattle.bm_base.proofs.ListTests.{or_right}
+use Rattle.bm_place.specs.declared.comparison.Holder.{Holder}
+use Rattle.bm_place.specs.Comparison.{holder_at}
+use Rattle.bm_place.specs.SortedExcess.{cmp_in_class}
 
 -- the sort's requirement of the order
 pub ranks_in_class : IsStrictWeakOrder (λ (g h : Holder). is_lt (cmp_in_class g h))
@@ -30,33 +30,33 @@ has_more (z ∷ xs) ys x y there = by (z == y) there (has_more xs ys x y)
 
 module _ (C : Cluster) where
   -- whether one storage comes before another, if both are of one class
-  abbrev pub goes_before : ℕ → ℕ → Bool
-  goes_before s t = is_lt (cmp_in_class (holder_at C s) (holder_at C t))
+  abbrev pub is_better_than : ℕ → ℕ → Bool
+  is_better_than s t = is_lt (cmp_in_class (holder_at C s) (holder_at C t))
 
   -- no storage comes before an earlier one
   abbrev pub InOrder : List ℕ → Type 0
   InOrder [] = Unit {0}
-  InOrder (x ∷ xs) = ((y : ℕ) → has xs y ≡ true → goes_before y x ≡ false) × InOrder xs
+  InOrder (x ∷ xs) = ((y : ℕ) → has xs y ≡ true → is_better_than y x ≡ false) × InOrder xs
 
   pub order_without : (xs ys : List ℕ) (x : ℕ) → InOrder (xs ++ x ∷ ys) → InOrder (xs ++ ys)
   order_without [] ys x h = h.1
   order_without (z ∷ xs) ys x h = (λ y there. h.0 y (has_more xs ys x y there), order_without xs ys x h.1)
 
-  pub order_behind : (xs ys : List ℕ) (x : ℕ) → InOrder (xs ++ x ∷ ys) → (y : ℕ) → has ys y ≡ true → goes_before y x ≡ false
+  pub order_behind : (xs ys : List ℕ) (x : ℕ) → InOrder (xs ++ x ∷ ys) → (y : ℕ) → has ys y ≡ true → is_better_than y x ≡ false
   order_behind [] ys x h = h.0
   order_behind (z ∷ xs) ys x h = order_behind xs ys x h.1
 
-  pub not_itself : (x : ℕ) → goes_before x x ≡ false
+  pub not_itself : (x : ℕ) → is_better_than x x ≡ false
   not_itself x = same (remaining C x) x
     where
       same : (n x : ℕ) → is_lt (ordering_then (nat_cmp n n) (nat_cmp x x)) ≡ false
       same n x = grind arith
 
-  behind_first : (x z : ℕ) (xs : List ℕ) → goes_before z x ≡ false → InOrder (z ∷ xs) → (y : ℕ) → has (z ∷ xs) y ≡ true → goes_before y x ≡ false
+  behind_first : (x z : ℕ) (xs : List ℕ) → is_better_than z x ≡ false → InOrder (z ∷ xs) → (y : ℕ) → has (z ∷ xs) y ≡ true → is_better_than y x ≡ false
   behind_first x z xs first rest y there = by (z == y) refl there
     where
-      by : (b : Bool) → (z == y) ≡ b → (b || has xs y) ≡ true → goes_before y x ≡ false
-      by true e there = subst (λ s. goes_before s x ≡ false) (eqb-true z y e) first
+      by : (b : Bool) → (z == y) ≡ b → (b || has xs y) ≡ true → is_better_than y x ≡ false
+      by true e there = subst (λ s. is_better_than s x ≡ false) (eqb-true z y e) first
       by false e there = ranks_in_class.chain (holder_at C y) (holder_at C z) (holder_at C x) (rest.0 y there) first
 
   -- the result of a sort

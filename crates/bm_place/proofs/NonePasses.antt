@@ -4,9 +4,9 @@ use Rattle.std.specs.List.{position_or_len}
 use Rattle.std.proofs.Common.{◌≡◌, ◌<◌, ◌≤◌, Bool, true, false, List, [], ◌∷◌, length, None, inl, inr, sym, subst, ◌∙◌, arith}
 use Rattle.std.proofs.lemmas.Bool.{cases_Bool, cases_lt, lt-ltb, cond-true}
 use Rattle.std.proofs.lemmas.Option.{none-some}
-use Rattle.bm_place.specs.Foremost.{IsAmong}
+use Rattle.bm_place.specs.BestTargets.{IsMember}
 
-none_before : {X : Type 0} (p : X → Bool) (xs : List X) → length xs ≤ position_or_len p xs → (x : X) → IsAmong xs x → p x ≡ false
+none_before : {X : Type 0} (p : X → Bool) (xs : List X) → length xs ≤ position_or_len p xs → (x : X) → IsMember xs x → p x ≡ false
 none_before p [] all x none = absurd none
 none_before p (y ∷ xs) all x there =
     elim (cases_Bool (p y)) [
@@ -14,7 +14,7 @@ none_before p (y ∷ xs) all x there =
       | inr other ↦ by there (none_before p xs (omega (arith, rw other at all)) x) other
     ]
   where
-    by : IsAmong (y ∷ xs) x → (IsAmong xs x → p x ≡ false) → p y ≡ false → p x ≡ false
+    by : IsMember (y ∷ xs) x → (IsMember xs x → p x ≡ false) → p y ≡ false → p x ≡ false
     by (inl e) rest other = subst (λ x. p x ≡ false) e other
     by (inr h) rest other = rest h
 
@@ -27,5 +27,5 @@ all_passed p xs none =
       | inr above ↦ above
     ]
 
-pub none_passes : {X : Type 0} (p : X → Bool) (xs : List X) → position p xs ≡ None → (x : X) → IsAmong xs x → p x ≡ false
+pub none_passes : {X : Type 0} (p : X → Bool) (xs : List X) → position p xs ≡ None → (x : X) → IsMember xs x → p x ≡ false
 none_passes p xs none x there = none_before p xs (all_passed p xs none) x there

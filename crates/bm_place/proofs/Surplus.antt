@@ -14,13 +14,13 @@ use Rattle.bm_base.specs.Machine.State.{Cluster}
 use Rattle.bm_base.specs.Maps.Lists.{least}
 use Rattle.bm_base.specs.Machine.Replicas.{rack_of}
 use Rattle.bm_base.specs.Machine.Excess.{remaining, share_rack, has_rack_mate, excess_cmp, excess_among}
-use Rattle.bm_place.specs.declared.compared.Candidate.{Candidate}
+use Rattle.bm_place.specs.declared.comparison.Candidate.{Candidate}
 use Rattle.bm_place.specs.Tables.{count_at}
 use Rattle.bm_place.specs.Candidates.{is_on, cmp_candidates}
-use Rattle.bm_place.specs.Standing.{is_rack}
+use Rattle.bm_place.specs.ReplicaSpread.{is_rack}
 use Rattle.bm_place.specs.Scan.{scan}
-use Rattle.bm_place.proofs.Choosing.{scan-found}
-use Rattle.bm_place.proofs.Counting.{count_none}
+use Rattle.bm_place.proofs.RowScan.{scan-found}
+use Rattle.bm_place.proofs.TransferCounts.{count_none}
 use Rattle.bm_place.proofs.Tables.{count-insert}
 
 pub excess_cmp_total : (C : Cluster) (left : List ℕ) → IsTotalOrder (excess_cmp C left)

@@ -5,8 +5,8 @@ use Rattle.std.specs.Ordering.{nat_cmp, ordering_then}
 use Rattle.bm_base.specs.Maps.Map.{Map, by_number}
 use Rattle.bm_base.specs.Machine.State.{Cluster}
 use Rattle.bm_base.specs.Machine.Replicas.{rack_of}
-use Rattle.bm_place.specs.declared.compared.Candidate.{Candidate}
-use Rattle.bm_place.specs.Standing.{is_rack}
+use Rattle.bm_place.specs.declared.comparison.Candidate.{Candidate}
+use Rattle.bm_place.specs.ReplicaSpread.{is_rack}
 use Rattle.bm_place.specs.Tables.{count_at}
 
 -- whether a storage is on rack r

@@ -9,7 +9,7 @@ use Rattle.bm_base.specs.Maps.Lists.{has}
 use Rattle.bm_base.specs.Machine.Replicas.{node_of, has_storage, is_draining}
 use Rattle.bm_base.specs.Machine.Excess.{remaining}
 use Rattle.bm_base.specs.Machine.Transfers.{least_source_by, source_cmp, stream_limit, least_target_by, target_cmp, is_target, scheduled_to}
-use Rattle.bm_place.specs.declared.scheduled.Target.{Target}
+use Rattle.bm_place.specs.declared.scheduled_bytes.TargetRow.{TargetRow}
 use Rattle.bm_place.specs.Least.{IsLeastOf}
 use Rattle.bm_place.specs.Tables.{count_at}
 use Rattle.bm_place.specs.Sources.{Senders, sender_table, transfers_by, streams_by, max_transfers, TakesDrained}
@@ -32,7 +32,7 @@ pub record IsLeastTarget (C : Cluster) (sent : ℕ → ℕ) (urgency : Level) (h
   -- it is eligible, and no eligible one comes before it
   pub least : IsLeastOf (target_cmp C sent holders) (is_target C sent urgency holders barred len) (keys C.storages) found
   pub room : IfSome found (λ s. len + sent s ≤ remaining C s)
-  pub unbarred_node : IfSome found (λ s. (b n : ℕ) → has barred b ≡ true → node_of C b ≡ Some n → has_storage C n s ≡ false)
+  pub not_excluded_node : IfSome found (λ s. (b n : ℕ) → has barred b ≡ true → node_of C b ≡ Some n → has_storage C n s ≡ false)
   pub not_draining : IfSome found (λ s. is_draining C s ≡ false)
   pub other_rack : LeavesRack C sent urgency holders barred len found
 
@@ -41,7 +41,7 @@ abbrev pub senders_with : Cluster → List Transfer → Senders
 senders_with C chosen = sender_table C (transfers_by C chosen)
 
 -- the table of targets for these chosen transfers
-abbrev pub targets_with : Cluster → List Transfer → Map by_number Target
+abbrev pub targets_with : Cluster → List Transfer → Map by_number TargetRow
 targets_with C chosen = target_table C (scheduled_to chosen)
 
 -- one more transfer from a storage can be counted, if it is known
@@ -49,8 +49,8 @@ abbrev pub IsCountable : Senders → ℕ → Type 0
 IsCountable S s = IfSome (get S.nodes s) (λ n. count_at S.counts n < max_transfers)
 
 -- n bytes more fit on a known storage
-abbrev pub HasRoomFor : Map by_number Target → ℕ → ℕ → Type 0
-HasRoomFor rows len s = IfSome (get rows s) (λ t. len + t.scheduled ≤ t.remaining)
+abbrev pub HasFreeBytesFor : Map by_number TargetRow → ℕ → ℕ → Type 0
+HasFreeBytesFor rows len s = IfSome (get rows s) (λ t. len + t.scheduled ≤ t.remaining)
 
 -- the source that was found with the help of a table of sources
 pub record IsFoundSource (C : Cluster) (S : Senders) (sends : ℕ → ℕ) (urgency : Level) (usable : List ℕ) (found : Option ℕ) : Type 0 where
@@ -59,12 +59,12 @@ pub record IsFoundSource (C : Cluster) (S : Senders) (sends : ℕ → ℕ) (urge
   pub countable : IfSome found (IsCountable S)
 
 -- the target that was found with the help of a table of targets
-pub record IsFoundTarget (C : Cluster) (rows : Map by_number Target) (sent : ℕ → ℕ) (urgency : Level) (holders barred : List ℕ) (len : ℕ) (found : Option ℕ)
+pub record IsFoundTarget (C : Cluster) (rows : Map by_number TargetRow) (sent : ℕ → ℕ) (urgency : Level) (holders barred : List ℕ) (len : ℕ) (found : Option ℕ)
     : Type 0 where
   pub target : IsLeastTarget C sent urgency holders barred len found
   -- the length fits on it by the table
-  pub fits : IfSome found (HasRoomFor rows len)
+  pub fits : IfSome found (HasFreeBytesFor rows len)
 
 -- n bytes more are scheduled to a storage
-abbrev pub with_sent : Map by_number Target → ℕ → ℕ → Map by_number Target
+abbrev pub with_sent : Map by_number TargetRow → ℕ → ℕ → Map by_number TargetRow
 with_sent rows s len = revise_at rows s (λ t. record t { scheduled = t.scheduled + len })

@@ -6,10 +6,10 @@ pub mod Targets
 pub mod Found
 -- Words of the bodies: the same as in bm_base, for rows and counts.
 pub mod Scan
-pub mod Few
-pub mod Standing
+pub mod UpToTwo
+pub mod ReplicaSpread
 pub mod Candidates
-pub mod Compared
-pub mod Foremost
-pub mod Seats
-pub mod Pass
+pub mod Comparison
+pub mod BestTargets
+pub mod NodeStorages
+pub mod SortedExcess

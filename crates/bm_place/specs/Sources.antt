@@ -12,7 +12,7 @@ use Rattle.bm_base.specs.Machine.State.{Cluster}
 use Rattle.bm_base.specs.Maps.Lists.{has}
 use Rattle.bm_base.specs.Machine.Replicas.{node_of, has_storage, is_draining}
 use Rattle.bm_base.specs.Machine.Transfers.{node_number, source_rank, stream_limit}
-use Rattle.bm_place.specs.declared.source.Source.{Source}
+use Rattle.bm_place.specs.declared.source.SourceRow.{SourceRow}
 use Rattle.bm_place.specs.Tables.{table}
 
 -- the content of a table of sources
@@ -44,18 +44,18 @@ unfoldable pub with_one_from : ℕ → Senders → Senders
 with_one_from s S = option_map_or (λ n. record S { counts = revise_at S.counts n (λ k. k + 1) }) (get S.nodes s) S
 
 -- a storage as a source, where `streams` has the number of transfers that its node sends
-abbrev pub source_at : Cluster → (ℕ → ℕ) → ℕ → Source
+abbrev pub source_at : Cluster → (ℕ → ℕ) → ℕ → SourceRow
 source_at C streams s = record { is_drained = is_draining C s; streams = streams s; node = node_number C s; storage = s }
 
 -- the order of sources: the same on rows as `source_cmp`
-abbrev pub cmp_sources : Source → Source → Ordering
+abbrev pub cmp_sources : SourceRow → SourceRow → Ordering
 cmp_sources s t =
     ordering_then (nat_cmp (source_rank s.is_drained) (source_rank t.is_drained))
     (ordering_then (nat_cmp s.streams t.streams) (ordering_then (nat_cmp s.node t.node) (nat_cmp s.storage t.storage)))
 
 -- whether its node may send one more transfer at a level: the same on rows as the test of
 -- `least_source_by`
-abbrev pub may_send : Level → Source → Bool
+abbrev pub may_send : Level → SourceRow → Bool
 may_send urgency s = nat_lt s.streams (stream_limit urgency s.is_drained)
 
 -- if one of the storages is on a node that drains and sends fewer than four transfers, the result

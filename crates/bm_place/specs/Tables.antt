@@ -11,8 +11,8 @@ unfoldable pub table : {X : Type 0} → (ℕ → X) → List ℕ → Map by_numb
 table f ks = insert_all empty (listed f ks)
 
 -- 0 for each number: nothing is scheduled yet
-abbrev pub nothing_yet : ℕ → ℕ
-nothing_yet = λ _. 0
+abbrev pub none_sent : ℕ → ℕ
+none_sent = λ _. 0
 
 -- the count of a number; 0 if it has none
 unfoldable pub count_at : Map by_number ℕ → ℕ → ℕ

@@ -14,42 +14,42 @@ use Rattle.bm_base.specs.Machine.Replicas.{node_of, rack_of, is_draining, racks}
 use Rattle.bm_base.specs.Machine.Levels.{is_at}
 use Rattle.bm_base.specs.Machine.Excess.{remaining}
 use Rattle.bm_base.specs.Machine.Transfers.{is_target, is_on_racks}
-use Rattle.bm_place.specs.declared.scheduled.Target.{Target}
-use Rattle.bm_place.specs.declared.standing.Standing.{Standing}
-use Rattle.bm_place.specs.Standing.{class_in, is_one}
+use Rattle.bm_place.specs.declared.scheduled_bytes.TargetRow.{TargetRow}
+use Rattle.bm_place.specs.declared.replica_spread.ReplicaSpread.{ReplicaSpread}
+use Rattle.bm_place.specs.ReplicaSpread.{class_by_spread, is_one}
 use Rattle.bm_place.specs.Tables.{table}
 
 -- a storage of the cluster as a target, where `sent` has the bytes scheduled to each storage
-abbrev pub target_at : Cluster → (ℕ → ℕ) → ℕ → Target
+abbrev pub target_at : Cluster → (ℕ → ℕ) → ℕ → TargetRow
 target_at C sent s = record { storage = s; node = node_of C s; rack = rack_of C s; is_draining = is_draining C s; remaining = remaining C s; scheduled = sent s }
 
 -- the table of a cluster: all its storages as targets
-abbrev pub target_table : Cluster → (ℕ → ℕ) → Map by_number Target
+abbrev pub target_table : Cluster → (ℕ → ℕ) → Map by_number TargetRow
 target_table C sent = table (target_at C sent) (keys C.storages)
 
 -- the remaining bytes less those scheduled to it: the same on rows as `room`
-abbrev pub room_on : Target → ℕ
-room_on t = t.remaining - t.scheduled
+abbrev pub free_bytes_on : TargetRow → ℕ
+free_bytes_on t = t.remaining - t.scheduled
 
 -- the order of targets, where w holds the block: the same on rows as `target_cmp`
-abbrev pub cmp_targets : Standing → Target → Target → Ordering
+abbrev pub cmp_targets : ReplicaSpread → TargetRow → TargetRow → Ordering
 cmp_targets w s t =
-    ordering_then (nat_cmp (class_in w s.rack) (class_in w t.rack)) (ordering_then (nat_cmp (room_on t) (room_on s)) (nat_cmp s.storage t.storage))
+    ordering_then (nat_cmp (class_by_spread w s.rack) (class_by_spread w t.rack)) (ordering_then (nat_cmp (free_bytes_on t) (free_bytes_on s)) (nat_cmp s.storage t.storage))
 
 -- whether its node does not drain, the length fits, and a badly distributed block that is held on
 -- one rack would get to another one
-abbrev pub is_open : Standing → Level → ℕ → Target → Bool
-is_open w urgency len t = not t.is_draining && nat_le (len + t.scheduled) t.remaining && not (is_at BadlyDistributed (Some urgency) && is_one w.racks && (class_in w t.rack == 1))
+abbrev pub is_eligible : ReplicaSpread → Level → ℕ → TargetRow → Bool
+is_eligible w urgency len t = not t.is_draining && nat_le (len + t.scheduled) t.remaining && not (is_at BadlyDistributed (Some urgency) && is_one w.racks && (class_by_spread w t.rack == 1))
 
--- whether it is on the node of one of these storages: the same on rows as `is_barred`
-unfoldable pub is_barred_by : Cluster → List ℕ → Target → Bool
-is_barred_by C barred t = list_any (λ b. option_map_or (λ n. option_map_or (λ m. m == n) t.node false) (node_of C b) false) barred
+-- whether it is on the node of one of these storages: the same on rows as `is_excluded`
+unfoldable pub is_excluded_by : Cluster → List ℕ → TargetRow → Bool
+is_excluded_by C barred t = list_any (λ b. option_map_or (λ n. option_map_or (λ m. m == n) t.node false) (node_of C b) false) barred
 
 -- whether it may be taken: the same on rows as `is_target`
-abbrev pub is_free : Cluster → Standing → Level → List ℕ → ℕ → Target → Bool
-is_free C w urgency barred len t = is_open w urgency len t && not (is_barred_by C barred t)
+abbrev pub is_available : Cluster → ReplicaSpread → Level → List ℕ → ℕ → TargetRow → Bool
+is_available C w urgency barred len t = is_eligible w urgency len t && not (is_excluded_by C barred t)
 
-abbrev pub coded_target : Coded Target
+abbrev pub coded_target : Coded TargetRow
 coded_target =
     code_by (ℕ × (Option ℕ × (Option ℕ × (Bool × (ℕ × ℕ)))))
     (coded× coded_ℕ (coded× (coded_option coded_ℕ) (coded× (coded_option coded_ℕ) (coded× coded_bool (coded× coded_ℕ coded_ℕ)))))

@@ -4,8 +4,8 @@ ghost use Rattle.bm_base.specs.declared.refusal.Refusal.TheVariants.{Memory};
 ghost use Rattle.bm_base.specs.Machine.Excess as excess;
 ghost use Rattle.bm_base.specs.Maps.Lists.{has_repeats};
 
-use crate::compared::{Holder, fill_holders, push_of_few};
-use crate::pass::{count_racks, push_in_order, sort_holders};
+use crate::comparison::{Holder, fill_holders, push_by_comparison};
+use crate::sorted_excess::{count_racks, push_in_order, sort_holders};
 use bm_base::{Refusal, StorageId};
 use bm_maps::NumberMap;
 use bm_topo::Topology;
@@ -13,11 +13,11 @@ use std::alloc::{AllocError, Global};
 
 /// Up to this number of live replicas are compared pairwise, which is faster than to sort them and
 /// count their racks.
-const FEW: usize = 8;
+const COMPARE_AT_MOST: usize = 8;
 
 /// Scratch buffers for the choice of excess, used again from block to block.
 #[derive(Drop)]
-pub struct ExcessRoom {
+pub struct ExcessScratch {
     /// For few live replicas: the remaining ones, looked up. For many: all, in order.
     holders: Vec<Holder>,
     /// For many live replicas: those that had their rack for themselves when the pass reached them.
@@ -26,10 +26,10 @@ pub struct ExcessRoom {
     racks: NumberMap<usize>,
 }
 
-impl ExcessRoom {
+impl ExcessScratch {
     /// Empty buffers. Takes no memory.
-    pub fn new(alloc: Global) -> ExcessRoom {
-        ExcessRoom {
+    pub fn new(alloc: Global) -> ExcessScratch {
+        ExcessScratch {
             holders: Vec::new(alloc),
             kept: Vec::new(alloc),
             racks: NumberMap::new(alloc),
@@ -57,7 +57,7 @@ pub fn excess_of(
     ensures refused { IfErr result (λ e. e ≡ Memory) }
 {
     let mut chosen = Vec::new(alloc);
-    let mut room = ExcessRoom::new(alloc);
+    let mut room = ExcessScratch::new(alloc);
     fill_excess(&mut chosen, &mut room, live, repl, topology)?;
     Ok(chosen)
 }
@@ -70,7 +70,7 @@ pub fn excess_of(
 /// unspecified.
 pub fn fill_excess(
     into: &mut Vec<StorageId>,
-    room: &mut ExcessRoom,
+    room: &mut ExcessScratch,
     live: &[StorageId],
     repl: u32,
     topology: &Topology,
@@ -85,17 +85,17 @@ pub fn fill_excess(
     if surplus == 0 {
         return Ok(());
     }
-    if live.len() <= FEW {
-        return Ok(push_of_few(into, &mut room.holders, live, surplus, topology)?);
+    if live.len() <= COMPARE_AT_MOST {
+        return Ok(push_by_comparison(into, &mut room.holders, live, surplus, topology)?);
     }
-    Ok(push_of_many(into, room, live, surplus, topology)?)
+    Ok(push_by_sorting(into, room, live, surplus, topology)?)
 }
 
 /// Appends the `surplus` first of these storages in the order of choice: sorts them and iterates
 /// once.
-fn push_of_many(
+fn push_by_sorting(
     into: &mut Vec<StorageId>,
-    room: &mut ExcessRoom,
+    room: &mut ExcessScratch,
     live: &[StorageId],
     surplus: usize,
     topology: &Topology,

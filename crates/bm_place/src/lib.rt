@@ -7,20 +7,20 @@
 //! storage once.
 #![tactic(auto)]
 
-mod compared;
+mod comparison;
 mod excess;
-mod few;
-mod foremost;
-mod pass;
-mod scheduled;
-mod seats;
+mod up_to_two;
+mod best_targets;
+mod sorted_excess;
+mod scheduled_bytes;
+mod node_storages;
 mod source;
-mod standing;
+mod replica_spread;
 mod streams;
 mod target;
 
-pub use excess::{ExcessRoom, excess_of, fill_excess};
-pub use scheduled::Scheduled;
+pub use excess::{ExcessScratch, excess_of, fill_excess};
+pub use scheduled_bytes::Scheduled;
 pub use source::least_source;
 pub use streams::Streams;
 pub use target::least_target;

@@ -16,7 +16,7 @@ use bm_topo::Topology;
 /// A storage as a source, in the order of choice: whether its node drains, the number of transfers
 /// that the node sends, the node, the storage.
 #[derive(Clone, Copy)]
-pub struct Source {
+pub struct SourceRow {
     pub is_drained: bool,
     pub streams: u32,
     pub node: NodeId,
@@ -53,7 +53,7 @@ pub fn least_source(
     storage_of(&best)
 }
 
-fn storage_of(source: &Option<Source>) -> Option<StorageId>
+fn storage_of(source: &Option<SourceRow>) -> Option<StorageId>
     ensures { result ≡ option_map (λ s. s.storage) source.now }
 {
     match source {
@@ -64,19 +64,19 @@ fn storage_of(source: &Option<Source>) -> Option<StorageId>
 
 /// A storage as a source.
 #[tactic(auto, unfolding(bm_base::specs::Machine::Transfers::node_number))]
-fn source_at(topology: &Topology, streams: &Streams, storage: StorageId) -> Source
+fn source_at(topology: &Topology, streams: &Streams, storage: StorageId) -> SourceRow
     ensures { result ≡ sources.source_at topology.now.cluster
         (sources.streams_by topology.now.cluster (tables.count_at streams.now.counts)) storage }
 {
     let is_drained = topology.is_draining(storage);
     match topology.node_of(storage) {
-        Some(node) => Source {
+        Some(node) => SourceRow {
             is_drained,
             streams: streams.count_of(node),
             node,
             storage,
         },
-        None => Source {
+        None => SourceRow {
             is_drained,
             streams: 0,
             node: NodeId(0),
@@ -86,7 +86,7 @@ fn source_at(topology: &Topology, streams: &Streams, storage: StorageId) -> Sour
 }
 
 /// Whether a source comes before the best so far.
-fn is_better(source: &Source, best: &Option<Source>) -> bool
+fn is_better(source: &SourceRow, best: &Option<SourceRow>) -> bool
     ensures { result ≡ scanned.is_better sources.cmp_sources best.now source.now }
 {
     match best {
@@ -108,7 +108,7 @@ fn rank_of(is_drained: bool) -> u32
 }
 
 /// Whether the node of a source may send one more copy of a block at this level.
-fn may_send(source: &Source, level: Level) -> bool
+fn may_send(source: &SourceRow, level: Level) -> bool
     ensures { result ≡ sources.may_send level source.now }
 {
     source.streams < stream_limit(level, source.is_drained)

@@ -42,7 +42,7 @@ impl Streams {
     /// once.
     pub fn new(alloc: Global, topology: &Topology) -> Result<Streams, Refusal>
         ensures none_yet { IfOk result
-            (λ t. t ≡ sources.sender_table topology.now.cluster tables.nothing_yet) }
+            (λ t. t ≡ sources.sender_table topology.now.cluster tables.none_sent) }
         ensures of_transfers { IfOk result (λ t. t ≡ senders_with topology.now.cluster []) }
         ensures refused { IfErr result (λ e. e ≡ Memory) }
     {

@@ -5,12 +5,12 @@ ghost use Rattle.bm_base.specs.declared.commands.Transfer.{Transfer};
 ghost use Rattle.bm_base.specs.Machine.Transfers as transfers;
 ghost use Rattle.bm_place.specs.Found.{IsFoundTarget, targets_with};
 ghost use Rattle.bm_place.specs.Targets as targets;
-ghost use Rattle.bm_place.specs.Foremost as nodes;
+ghost use Rattle.bm_place.specs.BestTargets as nodes;
 ghost use Rattle.bm_place.specs.Scan as scanned;
 
-use crate::foremost::room_on;
-use crate::scheduled::{Scheduled, Target};
-use crate::standing::Standing;
+use crate::best_targets::free_bytes_on;
+use crate::scheduled_bytes::{Scheduled, TargetRow};
+use crate::replica_spread::ReplicaSpread;
 use bm_base::{Level, StorageId};
 use bm_topo::Topology;
 
@@ -62,14 +62,14 @@ fn least_fitting(
         → result ≡ transfers.least_target_by topology.now.cluster sent level held.now
         barred.now len }
 {
-    let standing = Standing::of(held, topology);
-    let targets = scheduled.foremost();
+    let standing = ReplicaSpread::of(held, topology);
+    let targets = scheduled.best_targets();
     let mut best = None;
     for target in targets {
-        if room_on(target) < len {
+        if free_bytes_on(target) < len {
             return storage_of(&best);
         }
-        if is_taken(target, &best, &standing, topology, barred, len, level) {
+        if beats_best(target, &best, &standing, topology, barred, len, level) {
             if standing.class_of(target.rack) == 0 {
                 return Some(target.storage);
             }
@@ -79,7 +79,7 @@ fn least_fitting(
     storage_of(&best)
 }
 
-fn storage_of(target: &Option<Target>) -> Option<StorageId>
+fn storage_of(target: &Option<TargetRow>) -> Option<StorageId>
     ensures { result ≡ option_map (λ t. t.storage) target.now }
 {
     match target {
@@ -89,28 +89,28 @@ fn storage_of(target: &Option<Target>) -> Option<StorageId>
 }
 
 /// Whether a target may be taken, and comes before the best so far, before which it does not go.
-fn is_taken(
-    target: &Target,
-    best: &Option<Target>,
-    standing: &Standing,
+fn beats_best(
+    target: &TargetRow,
+    best: &Option<TargetRow>,
+    standing: &ReplicaSpread,
     topology: &Topology,
     barred: &[StorageId],
     len: u64,
     level: Level,
 ) -> bool
-    requires { IfSome best.now (λ b. nodes.goes_before target.now b ≡ false) }
-    ensures { result ≡ (targets.is_free topology.now.cluster standing.now level barred.now len
+    requires { IfSome best.now (λ b. nodes.is_better_than target.now b ≡ false) }
+    ensures { result ≡ (targets.is_available topology.now.cluster standing.now level barred.now len
         target.now && scanned.is_better (targets.cmp_targets standing.now) best.now target.now) }
 {
     is_better(target, best, standing)
-        && is_open(target, standing, len, level)
-        && !is_barred(target, topology, barred)
+        && is_eligible(target, standing, len, level)
+        && !is_excluded(target, topology, barred)
 }
 
 /// Whether the node does not drain, the length fits, and a badly distributed block that is held on
 /// one rack would get to another one.
-fn is_open(target: &Target, standing: &Standing, len: u64, level: Level) -> bool
-    ensures { result ≡ targets.is_open standing.now level len target.now }
+fn is_eligible(target: &TargetRow, standing: &ReplicaSpread, len: u64, level: Level) -> bool
+    ensures { result ≡ targets.is_eligible standing.now level len target.now }
 {
     if target.is_draining
         || target.scheduled > target.remaining
@@ -125,8 +125,8 @@ fn is_open(target: &Target, standing: &Standing, len: u64, level: Level) -> bool
 
 /// Whether it beats the best so far. Targets come in order of free bytes, so only a better class
 /// can.
-fn is_better(target: &Target, best: &Option<Target>, standing: &Standing) -> bool
-    requires { IfSome best.now (λ b. nodes.goes_before target.now b ≡ false) }
+fn is_better(target: &TargetRow, best: &Option<TargetRow>, standing: &ReplicaSpread) -> bool
+    requires { IfSome best.now (λ b. nodes.is_better_than target.now b ≡ false) }
     ensures { result ≡ scanned.is_better (targets.cmp_targets standing.now) best.now target.now }
 {
     match best {
@@ -136,9 +136,9 @@ fn is_better(target: &Target, best: &Option<Target>, standing: &Standing) -> boo
 }
 
 /// Whether a target is on the node of one of these storages.
-#[tactic(auto, unfolding(crate::specs::Targets::is_barred_by))]
-fn is_barred(target: &Target, topology: &Topology, barred: &[StorageId]) -> bool
-    ensures { result ≡ targets.is_barred_by topology.now.cluster barred.now target.now }
+#[tactic(auto, unfolding(crate::specs::Targets::is_excluded_by))]
+fn is_excluded(target: &TargetRow, topology: &Topology, barred: &[StorageId]) -> bool
+    ensures { result ≡ targets.is_excluded_by topology.now.cluster barred.now target.now }
 {
     barred.iter().any(|storage| match topology.node_of(*storage) {
         Some(node) => target.node == Some(node),

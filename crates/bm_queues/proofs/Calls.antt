@@ -2,9 +2,9 @@
 use Rattle.std.proofs.Common.{◌≡◌, ℕ, Bool, true, false, ◌<◌, ◌≤◌, ◌+◌, ◌-◌, ◌++◌, take, replicate, List, ◌∷◌, length, set, get_or, zero, suc, refl, arith, [], Option, Some, None, ◌∙◌}
 use Rattle.bm_maps.specs.SlotLinks.{end_of_links}
 use Rattle.std.specs.Prelude.{if◌then◌else◌, ◌==◌}
-use Rattle.bm_maps.specs.SlotLists.{Among, without}
+use Rattle.bm_maps.specs.SlotLists.{IsMember, without}
 use Rattle.bm_queues.specs.Links.{link_at, list_from, HoldLists, AreLinks, back_set}
-use Rattle.bm_queues.proofs.Held.{unlinked, linked, grown, half_grown}
+use Rattle.bm_queues.proofs.HeldLists.{unlinked, linked, grown, half_grown}
 
 get_or-default : (xs : List (Option ℕ)) (i : ℕ) (d e : Option ℕ) → i < length xs → get_or xs i d ≡ get_or xs i e
 get_or-default [] i d e low = absurd (omega arith)
@@ -21,7 +21,7 @@ pub unlink-held : (k : ℕ) (next back : List (Option ℕ)) → AreLinks k next 
 unlink-held k next back held x p own after to is_after is_to mid is_mid =
     rw (is_mid, is_after, is_to) (unlinked k next back (list_from k next back) held x p own)
 
-pub link-held : (k : ℕ) (next back : List (Option ℕ)) → AreLinks k next back → (at x : ℕ) → at < k → x < length back → ((l : ℕ) → l < k → Among x (list_from k next back l) → ⊥)
+pub link-held : (k : ℕ) (next back : List (Option ℕ)) → AreLinks k next back → (at x : ℕ) → at < k → x < length back → ((l : ℕ) → l < k → IsMember x (list_from k next back l) → ⊥)
     → (first cell slot head : Option ℕ) → first ≡ link_at next at → cell ≡ Some (k + x) → slot ≡ Some x → head ≡ Some at → (mid : List (Option ℕ)) → mid ≡ back_set back first cell
     → HoldLists k (set (set next (k + x) first) at slot) (set mid x head) (λ l. if l == at then x ∷ list_from k next back l else list_from k next back l)
 link-held k next back held at x there below absent first cell slot head is_first is_cell is_slot is_head mid is_mid =

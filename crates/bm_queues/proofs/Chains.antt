@@ -2,22 +2,22 @@
 use Rattle.std.proofs.Common.{◌≡◌, ◌≢◌, ◌⊎◌, ℕ, zero, suc, ◌<◌, ◌≤◌, ◌+◌, eqb, List, [], ◌∷◌, length, Option, Some, inl, inr, subst, sym, ap, ◌∙◌, refl, arith}
 use Rattle.std.proofs.lemmas.Bool.{cases_Bool, eq-eqb, ne_eqb, eqb-true, eqb-false}
 use Rattle.std.proofs.lemmas.Option.{none-some, same_Some}
-use Rattle.bm_maps.specs.SlotLists.{Among, Distinct, without, first_of, slot_after}
+use Rattle.bm_maps.specs.SlotLists.{IsMember, Distinct, without, first_of, slot_after}
 use Rattle.bm_queues.specs.Links.{walk, Chain}
 use Rattle.bm_maps.proofs.SlotLists.{apart}
 
 -- the cell is none of the slots' cells
 abbrev pub Off : ℕ → ℕ → List ℕ → Type 0
-Off k cell xs = (z : ℕ) → Among z xs → cell ≢ k + z
+Off k cell xs = (z : ℕ) → IsMember z xs → cell ≢ k + z
 
 -- a slot that is not after another
-off_slot : (k y : ℕ) (ys : List ℕ) → (Among y ys → ⊥) → Off k (k + y) ys
+off_slot : (k y : ℕ) (ys : List ℕ) → (IsMember y ys → ⊥) → Off k (k + y) ys
 off_slot k y ys absent z there e =
     let same : z ≡ y = omega (arith, e) in
-    absent (let P : ℕ → Type 0 = λ w. Among w ys in subst P same there)
+    absent (let P : ℕ → Type 0 = λ w. IsMember w ys in subst P same there)
 
 -- writes elsewhere do not change a chain
-pub Chain-frame : (k : ℕ) (next new back new_back : ℕ → Option ℕ) (cell : ℕ) (xs : List ℕ) → Chain k next back cell xs → new cell ≡ next cell → ((z : ℕ) → Among z xs → (new (k + z) ≡ next (k + z)) × (new_back z ≡ back z)) → Chain k new new_back cell xs
+pub Chain-frame : (k : ℕ) (next new back new_back : ℕ → Option ℕ) (cell : ℕ) (xs : List ℕ) → Chain k next back cell xs → new cell ≡ next cell → ((z : ℕ) → IsMember z xs → (new (k + z) ≡ next (k + z)) × (new_back z ≡ back z)) → Chain k new new_back cell xs
 Chain-frame k next new back new_back cell [] chain here same = here ∙ chain
 Chain-frame k next new back new_back cell (x ∷ xs) chain here same =
     let at = same x (inl refl) in
@@ -37,7 +37,7 @@ first-chain k next back cell [] chain = chain
 first-chain k next back cell (x ∷ xs) chain = chain.0
 
 -- the next link of a slot of a chain leads to the slot that follows
-pub after-chain : (k : ℕ) (next back : ℕ → Option ℕ) (cell : ℕ) (xs : List ℕ) (x : ℕ) → Chain k next back cell xs → Among x xs → next (k + x) ≡ slot_after x xs
+pub after-chain : (k : ℕ) (next back : ℕ → Option ℕ) (cell : ℕ) (xs : List ℕ) (x : ℕ) → Chain k next back cell xs → IsMember x xs → next (k + x) ≡ slot_after x xs
 after-chain k next back cell [] x chain there = absurd there
 after-chain k next back cell (y ∷ ys) x chain there =
     elim (cases_Bool (eqb y x)) [
@@ -50,13 +50,13 @@ after-chain k next back cell (y ∷ ys) x chain there =
     ]
 
 -- a slot of a chain has a back link
-pub back-chain : (k : ℕ) (next back : ℕ → Option ℕ) (cell : ℕ) (xs : List ℕ) (x : ℕ) → Chain k next back cell xs → Among x xs → (c : ℕ) × (back x ≡ Some c)
+pub back-chain : (k : ℕ) (next back : ℕ → Option ℕ) (cell : ℕ) (xs : List ℕ) (x : ℕ) → Chain k next back cell xs → IsMember x xs → (c : ℕ) × (back x ≡ Some c)
 back-chain k next back cell [] x chain there = absurd there
 back-chain k next back cell (y ∷ ys) x chain (inl same) = (cell, ap back same ∙ chain.1)
 back-chain k next back cell (y ∷ ys) x chain (inr there) = back-chain k next back (k + y) ys x chain.2 there
 
 -- a back link leads to the chain's own cell or to the cell of a slot of the chain
-pub before-chain : (k : ℕ) (next back : ℕ → Option ℕ) (cell : ℕ) (xs : List ℕ) (x p : ℕ) → Chain k next back cell xs → Among x xs → back x ≡ Some p → (p ≡ cell) ⊎ ((q : ℕ) × Among q xs × (p ≡ k + q))
+pub before-chain : (k : ℕ) (next back : ℕ → Option ℕ) (cell : ℕ) (xs : List ℕ) (x p : ℕ) → Chain k next back cell xs → IsMember x xs → back x ≡ Some p → (p ≡ cell) ⊎ ((q : ℕ) × IsMember q xs × (p ≡ k + q))
 before-chain k next back cell [] x p chain there is = absurd there
 before-chain k next back cell (y ∷ ys) x p chain (inl same) is = inl (same_Some p cell (sym is ∙ ap back same ∙ chain.1))
 before-chain k next back cell (y ∷ ys) x p chain (inr there) is =
@@ -66,7 +66,7 @@ before-chain k next back cell (y ∷ ys) x p chain (inr there) is =
     ]
 
 -- a slot of a chain that visits each once does not link back to itself
-pub not_itself : (k : ℕ) (next back : ℕ → Option ℕ) (cell : ℕ) (xs : List ℕ) (x : ℕ) → Chain k next back cell xs → Among x xs → Distinct xs → Off k cell xs → back x ≢ Some (k + x)
+pub not_itself : (k : ℕ) (next back : ℕ → Option ℕ) (cell : ℕ) (xs : List ℕ) (x : ℕ) → Chain k next back cell xs → IsMember x xs → Distinct xs → Off k cell xs → back x ≢ Some (k + x)
 not_itself k next back cell [] x chain there distinct off e = there
 not_itself k next back cell (y ∷ ys) x chain (inl same) distinct off e =
     off x (inl same) (same_Some cell (k + x) (sym chain.1 ∙ ap back (sym same) ∙ e))
@@ -74,7 +74,7 @@ not_itself k next back cell (y ∷ ys) x chain (inr there) distinct off e =
     not_itself k next back (k + y) ys x chain.2 there distinct.1 (off_slot k y ys distinct.0) e
 
 -- the next link of a slot of a chain leads to a slot of the chain, or nowhere
-pub next_among : (k : ℕ) (next back : ℕ → Option ℕ) (cell : ℕ) (xs : List ℕ) (x q : ℕ) → Chain k next back cell xs → Among x xs → next (k + x) ≡ Some q → Among q xs
+pub next_among : (k : ℕ) (next back : ℕ → Option ℕ) (cell : ℕ) (xs : List ℕ) (x q : ℕ) → Chain k next back cell xs → IsMember x xs → next (k + x) ≡ Some q → IsMember q xs
 next_among k next back cell [] x q chain there is = absurd there
 next_among k next back cell (y ∷ []) x q chain (inl same) is =
     absurd (none-some q (sym chain.2 ∙ ap (λ w. next (k + w)) (sym same) ∙ is))
@@ -86,7 +86,7 @@ cell_apart : (k x z : ℕ) → x ≢ z → k + x ≢ k + z
 cell_apart k x z differs = omega (arith, differs)
 
 -- the list after a slot that was in no list was put at its front
-pub Chain-front : (k : ℕ) (next new back new_back : ℕ → Option ℕ) (l x : ℕ) (xs : List ℕ) → l < k → Chain k next back l xs → Distinct xs → (Among x xs → ⊥)
+pub Chain-front : (k : ℕ) (next new back new_back : ℕ → Option ℕ) (l x : ℕ) (xs : List ℕ) → l < k → Chain k next back l xs → Distinct xs → (IsMember x xs → ⊥)
     → new l ≡ Some x → new (k + x) ≡ next l → ((c : ℕ) → c ≢ l → c ≢ k + x → new c ≡ next c)
     → new_back x ≡ Some l → ((y : ℕ) → y ≢ x → next l ≡ Some y → new_back y ≡ Some (k + x)) → ((z : ℕ) → z ≢ x → next l ≢ Some z → new_back z ≡ back z)
     → Chain k new new_back l (x ∷ xs)
@@ -109,7 +109,7 @@ module _ (k : ℕ) (next new back new_back : ℕ → Option ℕ) (x p : ℕ) (ow
     (joined : new p ≡ next (k + x)) (rest : (c : ℕ) → c ≢ p → c ≢ k + x → new c ≡ next c)
     (ahead : (y : ℕ) → y ≢ x → next (k + x) ≡ Some y → new_back y ≡ Some p) (others : (z : ℕ) → z ≢ x → next (k + x) ≢ Some z → new_back z ≡ back z) where
   -- the slots after x
-  Chain-past : (zs : List ℕ) → Chain k next back (k + x) zs → Distinct zs → (Among x zs → ⊥) → Off k p zs → Chain k new new_back p zs
+  Chain-past : (zs : List ℕ) → Chain k next back (k + x) zs → Distinct zs → (IsMember x zs → ⊥) → Off k p zs → Chain k new new_back p zs
   Chain-past [] chain distinct fresh off = joined ∙ chain
   Chain-past (z ∷ zs) chain distinct fresh off =
       let z_apart : z ≢ x = apart x z (z ∷ zs) fresh (inl refl) in (
@@ -120,16 +120,16 @@ module _ (k : ℕ) (next new back new_back : ℕ → Option ℕ) (x p : ℕ) (ow
             (rest (k + w) (λ e. off w (inr h) (sym e)) (cell_apart k w x w_apart), others w w_apart (λ e. apart z w zs distinct.0 h (sym (same_Some z w (sym chain.0 ∙ e)))))),
       )
 
-  pub Chain-without : (cell : ℕ) (xs : List ℕ) → Chain k next back cell xs → Among x xs → Distinct xs → Off k cell xs → Chain k new new_back cell (without x xs)
+  pub Chain-without : (cell : ℕ) (xs : List ℕ) → Chain k next back cell xs → IsMember x xs → Distinct xs → Off k cell xs → Chain k new new_back cell (without x xs)
   Chain-without cell [] chain there distinct off = absurd there
   Chain-without cell (y ∷ ys) chain (inl same) distinct off =
       let here : p ≡ cell = same_Some p cell (sym own ∙ ap back same ∙ chain.1) in
       let tail : Chain k next back (k + x) ys = rw same chain.2 in
-      let fresh : Among x ys → ⊥ = rw same distinct.0 in
+      let fresh : IsMember x ys → ⊥ = rw same distinct.0 in
       let gone : Chain k new new_back p ys = Chain-past ys tail distinct.1 fresh (λ z h. rw here (off z (inr h))) in
       rw (eq-eqb y x (sym same), ← here) gone
   Chain-without cell (y ∷ ys) chain (inr there) distinct off =
-      let differs : y ≢ x = λ e. distinct.0 (let P : ℕ → Type 0 = λ w. Among w ys in subst P (sym e) there) in
+      let differs : y ≢ x = λ e. distinct.0 (let P : ℕ → Type 0 = λ w. IsMember w ys in subst P (sym e) there) in
       let not_before : cell ≢ p = λ e. elim (before-chain k next back (k + y) ys x p chain.2 there own) [
         | inl s ↦ off y (inl refl) (e ∙ s)
         | inr s ↦ off s.0 (inr s.1) (e ∙ s.2)

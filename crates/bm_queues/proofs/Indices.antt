@@ -8,12 +8,12 @@ use Rattle.std.proofs.lemmas.Bool.{cases_eq, eq-eqb, ne_eqb}
 use Rattle.std.proofs.lemmas.List.{get_or_default, get_or-reverse, get_or-drop, get_or-take, length-reverse, length-take-le, reverse-append, reverse-reverse, take-append-drop, take-take, take-set-le, take_more}
 use Rattle.std.proofs.lemmas.List.Sorted.{IsPermutation-swap_remove, IsPermutation-reverse, IsPermutation-sym, IsPermutation-trans, IsPermutation-cons}
 use Rattle.std.proofs.lemmas.Grind.{common_steps}
-use Rattle.bm_maps.specs.SlotLists.{Among, Distinct, first_of, slot_after}
+use Rattle.bm_maps.specs.SlotLists.{IsMember, Distinct, first_of, slot_after}
 use Rattle.bm_maps.proofs.SlotLists.{dec_among}
 use Rattle.bm_queues.specs.Walks.{slots_from, IsOn, IsPast}
 use Rattle.bm_queues.proofs.Visits.{below_or_past}
 
-pub place_among : (x : ℕ) (xs : List ℕ) → Among x xs → (i : ℕ) × (i < length xs) × (get_or xs i 0 ≡ x)
+pub place_among : (x : ℕ) (xs : List ℕ) → IsMember x xs → (i : ℕ) × (i < length xs) × (get_or xs i 0 ≡ x)
 place_among x [] there = absurd there
 place_among x (y ∷ ys) there =
     elim there [
@@ -21,13 +21,13 @@ place_among x (y ∷ ys) there =
       | inr later ↦ (let found = place_among x ys later in (suc found.0, (let low = found.1 in omega (arith, low)), found.2))
     ]
 
-pub among_at : (xs : List ℕ) (i : ℕ) → i < length xs → Among (get_or xs i 0) xs
+pub among_at : (xs : List ℕ) (i : ℕ) → i < length xs → IsMember (get_or xs i 0) xs
 among_at [] i low = absurd (omega (arith, low))
 among_at (x ∷ xs) zero low = inl refl
 among_at (x ∷ xs) (suc i) low = inr (among_at xs i (omega (arith, low)))
 
-pub among_here : (x : ℕ) (xs : List ℕ) (i : ℕ) → i < length xs → get_or xs i 0 ≡ x → Among x xs
-among_here x xs i low is = let P : ℕ → Type 0 = λ y. Among y xs in subst P is (among_at xs i low)
+pub among_here : (x : ℕ) (xs : List ℕ) (i : ℕ) → i < length xs → get_or xs i 0 ≡ x → IsMember x xs
+among_here x xs i low is = let P : ℕ → Type 0 = λ y. IsMember y xs in subst P is (among_at xs i low)
 
 -- no slot has two indices
 abbrev pub AreApart : List ℕ → Type 0
@@ -47,7 +47,7 @@ distinct_apart (x ∷ xs) apart = (
 
 -- The list from its end.
 
-among-reversed : (x : ℕ) (xs : List ℕ) → Among x xs → Among x (reverse xs)
+among-reversed : (x : ℕ) (xs : List ℕ) → IsMember x xs → IsMember x (reverse xs)
 among-reversed x xs there =
     let found = place_among x xs there in
     let low = found.1 in
@@ -56,8 +56,8 @@ among-reversed x xs there =
     among_here x (reverse xs) (length xs - 1 - found.0) (omega (arith, low, long))
     (get_or-reverse xs (length xs - 1 - found.0) 0 (omega (arith, low)) ∙ ap (λ i. get_or xs i 0) back ∙ found.2)
 
-pub among-reverse : (x : ℕ) (xs : List ℕ) → Among x (reverse xs) ↔ Among x xs
-among-reverse x xs = (λ there. subst (λ ys. Among x ys) (reverse-reverse xs) (among-reversed x (reverse xs) there), among-reversed x xs)
+pub among-reverse : (x : ℕ) (xs : List ℕ) → IsMember x (reverse xs) ↔ IsMember x xs
+among-reverse x xs = (λ there. subst (λ ys. IsMember x ys) (reverse-reverse xs) (among-reversed x (reverse xs) there), among-reversed x xs)
 
 apart-reverse : (xs : List ℕ) → AreApart xs → AreApart (reverse xs)
 apart-reverse xs apart i j low_i low_j same =
@@ -86,15 +86,15 @@ first-read (x ∷ xs) ys z is at =
     ap Some read
 
 -- a list that is cut at a slot that is not before the cut
-from-cut : (z : ℕ) (xs ys : List ℕ) → (Among z xs → ⊥) → slots_from (xs ++ z ∷ ys) (Some z) ≡ z ∷ ys
+from-cut : (z : ℕ) (xs ys : List ℕ) → (IsMember z xs → ⊥) → slots_from (xs ++ z ∷ ys) (Some z) ≡ z ∷ ys
 from-cut z [] ys absent = rw (eq-eqb z z refl) refl
 from-cut z (x ∷ xs) ys absent = rw (ne_eqb x z (λ e. absent (inl (sym e)))) (from-cut z xs ys (λ h. absent (inr h)))
 
-after-cut : (z : ℕ) (xs ys : List ℕ) → (Among z xs → ⊥) → slot_after z (xs ++ z ∷ ys) ≡ first_of ys
+after-cut : (z : ℕ) (xs ys : List ℕ) → (IsMember z xs → ⊥) → slot_after z (xs ++ z ∷ ys) ≡ first_of ys
 after-cut z [] ys absent = rw (eq-eqb z z refl) refl
 after-cut z (x ∷ xs) ys absent = rw (ne_eqb x z (λ e. absent (inl (sym e)))) (after-cut z xs ys (λ h. absent (inr h)))
 
-from-absent : (z : ℕ) (xs : List ℕ) → (Among z xs → ⊥) → slots_from xs (Some z) ≡ []
+from-absent : (z : ℕ) (xs : List ℕ) → (IsMember z xs → ⊥) → slots_from xs (Some z) ≡ []
 from-absent z [] absent = refl
 from-absent z (x ∷ xs) absent = rw (ne_eqb x z (λ e. absent (inl (sym e)))) (from-absent z xs (λ h. absent (inr h)))
 
@@ -108,7 +108,7 @@ module _ (xs : List ℕ) (apart : AreApart xs) (i : ℕ) (low : i < length xs) w
   cut-reverse : reverse xs ≡ reverse (drop (i + 1) xs) ++ z ∷ reverse (take i xs)
   cut-reverse = ap reverse (sym (take-append-drop (i + 1) xs)) ∙ reverse-append (take (i + 1) xs) (drop (i + 1) xs) ∙ ap (λ ys. reverse (drop (i + 1) xs) ++ ys) taken-reverse
 
-  not-later : Among z (reverse (drop (i + 1) xs)) → ⊥
+  not-later : IsMember z (reverse (drop (i + 1) xs)) → ⊥
   not-later there =
       let found = place_among z (drop (i + 1) xs) ((among-reverse z (drop (i + 1) xs)).0 there) in
       let inside = found.1 in
@@ -141,7 +141,7 @@ module _ (xs : List ℕ) (apart : AreApart xs) (slot place : ℕ) (low : place <
   pub rest-place : place < last → get_or rest place 0 ≡ get_or xs last 0
   rest-place below = grind (arith, common_steps)
 
-  pub member_gone : Among slot rest → ⊥
+  pub member_gone : IsMember slot rest → ⊥
   member_gone there =
       let found = place_among slot rest there in
       let below : found.0 < last = (let f = found.1 in omega (arith, f, rest-length)) in
@@ -155,7 +155,7 @@ module _ (xs : List ℕ) (apart : AreApart xs) (slot place : ℕ) (low : place <
             other e
       ]
 
-  pub others_stay : (other : ℕ) → other ≢ slot → Among other rest ↔ Among other xs
+  pub others_stay : (other : ℕ) → other ≢ slot → IsMember other rest ↔ IsMember other xs
   others_stay other differs = (
     λ there. let found = place_among other rest there in
         let below : found.0 < last = (let f = found.1 in omega (arith, f, rest-length)) in
@@ -229,8 +229,8 @@ module _ (xs : List ℕ) (apart : AreApart xs) (slot place : ℕ) (low : place <
               | inr far ↦
                   let here : get_or (take (i + 1) xs) place 0 ≡ slot = get_or-take (i + 1) xs place 0 (omega (arith, far)) ∙ at in
                   let enough : length (take (i + 1) xs) ≡ i + 1 = length-take-le (i + 1) xs (omega (arith, inside)) in
-                  let in_rest : Among slot (reverse (take (i + 1) xs)) = (among-reverse slot (take (i + 1) xs)).1 (among_here slot (take (i + 1) xs) place (omega (arith, enough, far)) here) in
-                  absurd (past.1 (subst (λ ys. Among slot ys) (sym whole) in_rest))
+                  let in_rest : IsMember slot (reverse (take (i + 1) xs)) = (among-reverse slot (take (i + 1) xs)).1 (among_here slot (take (i + 1) xs) place (omega (arith, enough, far)) here) in
+                  absurd (past.1 (subst (λ ys. IsMember slot ys) (sym whole) in_rest))
             ]
       ]
 

@@ -11,7 +11,7 @@ use Rattle.bm_base.specs.declared.level.Level.{Level}
 use Rattle.bm_base.specs.declared.level.Level.TheVariants.{Highest, VeryUnderReplicated, UnderReplicated, BadlyDistributed, NoUsableReplica}
 use Rattle.bm_base.specs.Machine.Levels.{level_number}
 use Rattle.bm_maps.specs.SlotLinks.{end_of_links}
-use Rattle.bm_maps.specs.SlotLists.{Among, Distinct, first_of, slot_after}
+use Rattle.bm_maps.specs.SlotLists.{IsMember, Distinct, first_of, slot_after}
 use Rattle.bm_maps.proofs.SlotLists.{length-distinct_below}
 use Rattle.bm_queues.specs.LevelBytes.{level_of_byte}
 use Rattle.bm_queues.specs.Levels.{Levels, IsLawful, visited, level_at, slots_of, next_of}
@@ -19,7 +19,7 @@ use Rattle.bm_queues.specs.declared.level_lists.Cell.{Cell}
 use Rattle.bm_queues.specs.DenseLevels.{AreDense, seen, level_in, array_of, levels_in, indices_in}
 use Rattle.bm_queues.specs.Walks.{slots_from, IsOn, IsPast, GoesOn}
 use Rattle.bm_queues.proofs.Visits.{walk-after, below_or_past}
-use Rattle.bm_queues.proofs.Walking.{next-is_on, rest-next, past-is}
+use Rattle.bm_queues.proofs.ListIteration.{next-is_on, rest-next, past-is}
 use Rattle.bm_queues.proofs.Indices.{AreApart, place_among, among_here, distinct_apart, among-reverse, distinct-reverse, first-taken, after-index, rest-length, rest-at, rest-place, rest-from, rest-on, permutation-reverse}
 
 -- Levels and their numbers.
@@ -109,7 +109,7 @@ module _ (levels : List (Option Level)) (indices : List ℕ) (arrays : List (Lis
   pub array-apart : (l : Level) → AreApart (array_of arrays l)
   array-apart l i j low_i low_j same = sym (are.index l i low_i) ∙ ap (λ x. get_or indices x 0) same ∙ are.index l j low_j
 
-  pub array-exact : (l : Level) (slot : ℕ) → Among slot (array_of arrays l) ↔ (level_in levels slot ≡ Some l)
+  pub array-exact : (l : Level) (slot : ℕ) → IsMember slot (array_of arrays l) ↔ (level_in levels slot ≡ Some l)
   array-exact l slot = (
     λ h. let found = place_among slot (array_of arrays l) h in
         ap (λ x. level_in levels x) (sym found.2) ∙ are.level l found.0 found.1,

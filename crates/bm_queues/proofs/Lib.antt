@@ -1,8 +1,8 @@
 pub mod Chains
-pub mod Held
+pub mod HeldLists
 pub mod Calls
 pub mod Visits
-pub mod Walking
+pub mod ListIteration
 pub mod MemberLaws
 pub mod OneArray
 pub mod Indices

@@ -4,7 +4,7 @@ use Rattle.std.specs.Prelude.{◌↔◌, Option, Some, None, IsTrue, is_some}
 use Rattle.std.specs.Option.{IfSome}
 use Rattle.std.proofs.lemmas.Bool.{cases_eq, false≢true}
 use Rattle.std.proofs.lemmas.List.{get_or_push, get_or_append_left, get_or-set_same, get_or-set_other, length-set, length-append}
-use Rattle.bm_maps.specs.SlotLists.{Among, Distinct}
+use Rattle.bm_maps.specs.SlotLists.{IsMember, Distinct}
 use Rattle.bm_maps.proofs.SlotLists.{length-distinct_below}
 use Rattle.bm_queues.proofs.Indices.{place_among, among_here, distinct_apart}
 use Rattle.bm_queues.specs.Members.{IsLawful}
@@ -12,15 +12,15 @@ use Rattle.bm_queues.specs.Sparse.{AreSparse}
 
 -- Slots of a list, and their indices.
 
-pub among_front : (x y : ℕ) (xs : List ℕ) → Among x xs → Among x (xs ++ y ∷ [])
+pub among_front : (x y : ℕ) (xs : List ℕ) → IsMember x xs → IsMember x (xs ++ y ∷ [])
 among_front x y [] there = absurd there
 among_front x y (z ∷ zs) there = elim there [ inl here ↦ inl here | inr later ↦ inr (among_front x y zs later) ]
 
-pub among_end : (x : ℕ) (xs : List ℕ) → Among x (xs ++ x ∷ [])
+pub among_end : (x : ℕ) (xs : List ℕ) → IsMember x (xs ++ x ∷ [])
 among_end x [] = inl refl
 among_end x (z ∷ zs) = inr (among_end x zs)
 
-pub among_either : (x y : ℕ) (xs : List ℕ) → Among x (xs ++ y ∷ []) → Among x xs ⊎ (x ≡ y)
+pub among_either : (x y : ℕ) (xs : List ℕ) → IsMember x (xs ++ y ∷ []) → IsMember x xs ⊎ (x ≡ y)
 among_either x y [] there = elim there [ inl here ↦ inr here | inr later ↦ absurd later ]
 among_either x y (z ∷ zs) there =
     elim there [
@@ -29,7 +29,7 @@ among_either x y (z ∷ zs) there =
     ]
 
 -- whether an index was found for a slot
-pub found_or : (o : Option ℕ) (slot : ℕ) (xs : List ℕ) → IfSome o (λ place. (place < length xs) × (get_or xs place 0 ≡ slot)) → (o ≡ None → Among slot xs → ⊥) → IsTrue (is_some o) ↔ Among slot xs
+pub found_or : (o : Option ℕ) (slot : ℕ) (xs : List ℕ) → IfSome o (λ place. (place < length xs) × (get_or xs place 0 ≡ slot)) → (o ≡ None → IsMember slot xs → ⊥) → IsTrue (is_some o) ↔ IsMember slot xs
 found_or None slot xs found absent = (λ h. absurd (false≢true h), λ there. absurd (absent refl there))
 found_or (Some place) slot xs found absent = (λ h. among_here slot xs place found.0 found.1, λ there. refl)
 
@@ -41,7 +41,7 @@ module _ (order places : List ℕ) (capacity : ℕ) (are : AreSparse order place
   pub distinct_members : Distinct order
   distinct_members = distinct_apart order one_place
 
-  pub below_room : (slot : ℕ) → Among slot order → slot < length places
+  pub below_room : (slot : ℕ) → IsMember slot order → slot < length places
   below_room slot there =
       let found = place_among slot order there in
       let P : ℕ → Type 0 = λ x. x < length places in
@@ -54,7 +54,7 @@ module _ (order places : List ℕ) (capacity : ℕ) (are : AreSparse order place
   pub members_fit : length order ≤ length places
   members_fit = length-distinct_below (length places) order distinct_members below_room
 
-  pub one_more_fits : (slot : ℕ) → slot < length places → (Among slot order → ⊥) → length order < length places
+  pub one_more_fits : (slot : ℕ) → slot < length places → (IsMember slot order → ⊥) → length order < length places
   one_more_fits slot inside absent =
       let all : length (slot ∷ order) ≤ length places =
       length-distinct_below (length places) (slot ∷ order) (absent, distinct_members)
@@ -62,14 +62,14 @@ module _ (order places : List ℕ) (capacity : ℕ) (are : AreSparse order place
       omega (arith, all)
 
   -- a slot that is not at its index is no member
-  pub absent_at : (slot : ℕ) → (get_or places slot 0 < length order → get_or order (get_or places slot 0) 0 ≢ slot) → Among slot order → ⊥
+  pub absent_at : (slot : ℕ) → (get_or places slot 0 < length order → get_or order (get_or places slot 0) 0 ≢ slot) → IsMember slot order → ⊥
   absent_at slot other there =
       let found = place_among slot order there in
       let place : get_or places slot 0 ≡ found.0 = sym (ap (λ x. get_or places x 0) found.2) ∙ are.placed found.0 found.1 in
       other (let low = found.1 in omega (arith, low, place)) (ap (λ i. get_or order i 0) place ∙ found.2)
 
   -- one more member
-  pub sparse_more : (slot : ℕ) → slot < length places → (Among slot order → ⊥) → AreSparse (order ++ slot ∷ []) (set places slot (length order)) capacity
+  pub sparse_more : (slot : ℕ) → slot < length places → (IsMember slot order → ⊥) → AreSparse (order ++ slot ∷ []) (set places slot (length order)) capacity
   sparse_more slot inside absent =
       let n : ℕ = length order in
       let long : length (set places slot n) ≡ length places = length-set places slot n in

@@ -3,7 +3,7 @@
 use Rattle.std.specs.Prelude.{◌≡◌, ◌↔◌, ℕ, ◌+◌, ◌-◌, ◌<◌, ◌≤◌, ◌++◌, List, [], length, replicate, Option, Some, None, slice_index_or, option_and_then}
 use Rattle.bm_base.specs.declared.level.Level.{Level}
 use Rattle.bm_base.specs.Machine.Levels.{level_number}
-use Rattle.bm_maps.specs.SlotLists.{Among, Distinct, first_of, slot_after}
+use Rattle.bm_maps.specs.SlotLists.{IsMember, Distinct, first_of, slot_after}
 use Rattle.bm_maps.specs.SlotLinks.{end_of_links}
 use Rattle.bm_queues.specs.Links.{walk}
 
@@ -38,8 +38,8 @@ pub record IsLawful (v : Levels) : Type 0 where
   -- a list has no slot twice
   pub distinct : (l : Level) → Distinct (slots_of v l)
   -- it has exactly the slots of its level
-  pub exact : (l : Level) (slot : ℕ) → Among slot (slots_of v l) ↔ (level_at v slot ≡ Some l)
+  pub exact : (l : Level) (slot : ℕ) → IsMember slot (slots_of v l) ↔ (level_at v slot ≡ Some l)
   -- they are below the capacity
-  pub below : (l : Level) (slot : ℕ) → Among slot (slots_of v l) → slot < length v.levels
+  pub below : (l : Level) (slot : ℕ) → IsMember slot (slots_of v l) → slot < length v.levels
   -- links can name all slots below the capacity
   pub small : length v.levels + 1 ≤ end_of_links

@@ -3,7 +3,7 @@
 -- the cell before it, if it is in a list.
 use Rattle.std.specs.Prelude.{◌≡◌, ℕ, zero, suc, ◌+◌, ◌<◌, ◌≤◌, List, [], ◌∷◌, length, Option, Some, None, slice_index_or, slice_set}
 use Rattle.bm_maps.specs.SlotLinks.{end_of_links}
-use Rattle.bm_maps.specs.SlotLists.{Among, Distinct}
+use Rattle.bm_maps.specs.SlotLists.{IsMember, Distinct}
 
 abbrev pub link_at : List (Option ℕ) → ℕ → Option ℕ
 link_at links i = slice_index_or links i None
@@ -32,9 +32,9 @@ pub record HoldLists (k : ℕ) (next back : List (Option ℕ)) (lists : ℕ → 
   -- these two follow, and are stated for convenience: a list has no slot twice, and a slot is in
   -- one list at most
   pub distinct : (l : ℕ) → l < k → Distinct (lists l)
-  pub once : (l m x : ℕ) → l < k → m < k → Among x (lists l) → Among x (lists m) → l ≡ m
+  pub once : (l m x : ℕ) → l < k → m < k → IsMember x (lists l) → IsMember x (lists m) → l ≡ m
   -- a slot that links back is in a list
-  pub complete : (x c : ℕ) → link_at back x ≡ Some c → (l : ℕ) × (l < k) × Among x (lists l)
+  pub complete : (x c : ℕ) → link_at back x ≡ Some c → (l : ℕ) × (l < k) × IsMember x (lists l)
   -- a slot in no list links nowhere
   pub clear : (x : ℕ) → link_at back x ≡ None → link_at next (k + x) ≡ None
 

@@ -1,6 +1,6 @@
 -- What a contract sees of a set of slots.
 use Rattle.std.specs.Prelude.{◌≡◌, ℕ, ◌+◌, ◌<◌, ◌≤◌, if◌then◌else◌, nat_lt, List, length, Option}
-use Rattle.bm_maps.specs.SlotLists.{Among, Distinct, first_of, slot_after}
+use Rattle.bm_maps.specs.SlotLists.{IsMember, Distinct, first_of, slot_after}
 use Rattle.bm_maps.specs.SlotLinks.{end_of_links}
 use Rattle.bm_queues.specs.Links.{AreLinks, list_from, walk}
 
@@ -20,7 +20,7 @@ with_room v room = record v { room = if nat_lt v.room room then room else v.room
 -- the invariant of a set
 pub record IsLawful (v : Members) : Type 0 where
   pub distinct : Distinct v.slots
-  pub below : (slot : ℕ) → Among slot v.slots → slot < v.room
+  pub below : (slot : ℕ) → IsMember slot v.slots → slot < v.room
   -- links can name all slots below the capacity
   pub small : v.room + 1 ≤ end_of_links
 

@@ -1,7 +1,7 @@
 -- The position of an iteration over a list of slots by `next`: at a slot, or at the end.
 use Rattle.std.specs.Prelude.{◌≡◌, ◌≢◌, ℕ, ◌==◌, List, [], ◌∷◌, Option, Some, None, if◌then◌else◌}
 use Rattle.std.specs.Option.{IfSome}
-use Rattle.bm_maps.specs.SlotLists.{Among}
+use Rattle.bm_maps.specs.SlotLists.{IsMember}
 
 -- the slots that are still to come: from that slot on, in order
 abbrev pub slots_from : List ℕ → Option ℕ → List ℕ
@@ -11,11 +11,11 @@ slots_from (y ∷ ys) (Some x) = if y == x then y ∷ ys else slots_from ys (Som
 
 -- slot x was left behind: the iteration is not at it, and it is not still to come
 abbrev pub IsPast : ℕ → Option ℕ → List ℕ → Type 0
-IsPast x at xs = (at ≢ Some x) × (Among x (slots_from xs at) → ⊥)
+IsPast x at xs = (at ≢ Some x) × (IsMember x (slots_from xs at) → ⊥)
 
 -- the iteration is at a slot of the list, or at the end
 abbrev pub IsOn : Option ℕ → List ℕ → Type 0
-IsOn at xs = IfSome at (λ x. Among x xs)
+IsOn at xs = IfSome at (λ x. IsMember x xs)
 
 -- the iteration goes from slot x of the list to the next, if there is one: x is left behind, and
 -- the slots after it are still to come

@@ -3,7 +3,7 @@ ghost use Rattle.std.specs.Prelude.{◌≡◌, ◌≢◌, ◌<◌, ◌≤◌, �
 ghost use Rattle.std.specs.List.Sorted.{IsPermutation};
 ghost use Rattle.bm_base.specs.declared.level.Level.{Level};
 ghost use Rattle.bm_base.specs.declared.refusal.Refusal.TheVariants.{Memory};
-ghost use Rattle.bm_maps.specs.SlotLists.{Among, Distinct, first_of};
+ghost use Rattle.bm_maps.specs.SlotLists.{IsMember, Distinct, first_of};
 ghost use Rattle.bm_queues.specs.Levels.{level_at, slots_of, next_of, with_room, visited, IsLawful};
 ghost use Rattle.bm_queues.specs.Walks.{slots_from, IsOn, IsPast, GoesOn};
 
@@ -66,10 +66,10 @@ impl LevelLists {
     /// For proofs alone: the invariant of level lists, the content of `slots`, and that following
     /// `next` from the first slot of a level visits its slots, each once and in order. It does
     /// nothing when it runs.
-    pub fn lawful(&self)
+    pub fn show_invariant(&self)
         ensures lawful { IsLawful self.now }
         ensures exact { (l : Level) (slot : ℕ)
-            → Among slot (reverse (slots_of self.now l)) ↔ (level_at self.now slot ≡ Some l) }
+            → IsMember slot (reverse (slots_of self.now l)) ↔ (level_at self.now slot ≡ Some l) }
         ensures once { (l : Level) → Distinct (reverse (slots_of self.now l)) }
         ensures visited { (l : Level) → visited self.now l ≡ slots_of self.now l }
     {
@@ -197,7 +197,7 @@ impl LevelLists {
     /// The slots of a level, from the back of its list to the front. Takes no memory.
     pub fn slots(&self, level: Level) -> &[u32]
         ensures slots { result.now ≡ reverse (slots_of self.now level) }
-        ensures exact { (slot : ℕ) → Among slot result.now ↔ (level_at self.now slot ≡ Some level) }
+        ensures exact { (slot : ℕ) → IsMember slot result.now ↔ (level_at self.now slot ≡ Some level) }
         ensures once { Distinct result.now }
         ensures few { length result.now ≤ length self.now.levels }
     {

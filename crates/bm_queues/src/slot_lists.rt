@@ -1,7 +1,7 @@
 // Doubly linked lists over slots, one for each head: `SlotSet` is built on one.
 ghost use Rattle.std.specs.Prelude.{◌≡◌, ◌<◌, ◌≤◌, ℕ, ◌∷◌, ◌==◌, ◌+◌, ◌↔◌, if◌then◌else◌, length, nat_lt, IfOk, OnOk, OnErr, IsOk, IsTrue, Some, None};
 ghost use Rattle.bm_maps.specs.SlotLinks.{end_of_links};
-ghost use Rattle.bm_maps.specs.SlotLists.{Among, without, first_of, slot_after};
+ghost use Rattle.bm_maps.specs.SlotLists.{IsMember, without, first_of, slot_after};
 ghost use Rattle.bm_queues.specs.Links.{back_set};
 ghost use Rattle.bm_queues.specs.Linked.{room_of, list_of, AreLinked};
 
@@ -114,7 +114,7 @@ impl SlotLists {
         requires lawful { AreLinked self.old }
         requires list { list < self.old.heads }
         requires slot { slot < room_of self.old }
-        requires absent { (l : ℕ) → l < self.old.heads → Among slot (list_of self.old l) → ⊥ }
+        requires absent { (l : ℕ) → l < self.old.heads → IsMember slot (list_of self.old l) → ⊥ }
         ensures heads { self.new.heads ≡ self.old.heads }
         ensures room { room_of self.new ≡ room_of self.old }
         ensures lists { (l : ℕ) → l < self.old.heads
@@ -143,9 +143,9 @@ impl SlotLists {
     pub(crate) fn next(&self, slot: usize) -> Option<usize>
         requires lawful { AreLinked self.now }
         requires slot { slot < room_of self.now }
-        ensures listed { (l : ℕ) → l < self.now.heads → Among slot (list_of self.now l)
+        ensures listed { (l : ℕ) → l < self.now.heads → IsMember slot (list_of self.now l)
             → result ≡ slot_after slot (list_of self.now l) }
-        ensures absent { ((l : ℕ) → l < self.now.heads → Among slot (list_of self.now l) → ⊥)
+        ensures absent { ((l : ℕ) → l < self.now.heads → IsMember slot (list_of self.now l) → ⊥)
             → result ≡ None }
     {
         self.next[self.heads + slot].slot()
@@ -156,8 +156,8 @@ impl SlotLists {
         requires lawful { AreLinked self.now }
         requires slot { slot < room_of self.now }
         ensures listed { IsTrue result
-            → (l : ℕ) × (l < self.now.heads) × Among slot (list_of self.now l) }
-        ensures found { (l : ℕ) → l < self.now.heads → Among slot (list_of self.now l)
+            → (l : ℕ) × (l < self.now.heads) × IsMember slot (list_of self.now l) }
+        ensures found { (l : ℕ) → l < self.now.heads → IsMember slot (list_of self.now l)
             → IsTrue result }
     {
         self.previous[slot].slot().is_some()

@@ -1,7 +1,7 @@
 // A set of slots in reverse order of insertion.
 ghost use Rattle.std.specs.Prelude.{◌≡◌, ◌≢◌, ℕ, ◌<◌, ◌≤◌, IsTrue, ◌↔◌, [], ◌∷◌, length, Option, Some, IfOk, IfErr, OnOk, OnErr, IsOk};
 ghost use Rattle.bm_base.specs.declared.refusal.Refusal.TheVariants.{Memory};
-ghost use Rattle.bm_maps.specs.SlotLists.{Among, without, first_of, slot_after};
+ghost use Rattle.bm_maps.specs.SlotLists.{IsMember, without, first_of, slot_after};
 ghost use Rattle.bm_queues.specs.Members.{with_room, visited, IsLawful};
 ghost use Rattle.bm_queues.specs.Walks.{slots_from, IsOn, IsPast};
 
@@ -51,7 +51,7 @@ impl SlotSet {
 
     /// For proofs alone: the invariant of a set, and that following `next` from the first slot
     /// visits its slots, each once and in order. It does nothing when it runs.
-    pub fn lawful(&self)
+    pub fn show_invariant(&self)
         ensures lawful { IsLawful self.now }
         ensures visited { visited self.now ≡ self.now.slots }
     {
@@ -82,12 +82,12 @@ impl SlotSet {
     /// Puts a slot at the front; nothing changes if it is in the set already. Takes no memory.
     pub fn insert(&mut self, slot: usize)
         requires { slot < self.old.room }
-        ensures same { Among slot self.old.slots → self.new ≡ self.old }
-        ensures after { (Among slot self.old.slots → ⊥)
+        ensures same { IsMember slot self.old.slots → self.new ≡ self.old }
+        ensures after { (IsMember slot self.old.slots → ⊥)
             → self.new ≡ record self.old { slots = slot ∷ self.old.slots } }
-        ensures held { Among slot self.new.slots }
+        ensures held { IsMember slot self.new.slots }
         ensures others { (other : ℕ) → other ≢ slot
-            → (Among other self.new.slots ↔ Among other self.old.slots) }
+            → (IsMember other self.new.slots ↔ IsMember other self.old.slots) }
         ensures room { self.new.room ≡ self.old.room }
         ensures rest { (at : Option ℕ) → IsPast slot at self.old.slots
             → slots_from self.new.slots at ≡ slots_from self.old.slots at }
@@ -105,10 +105,10 @@ impl SlotSet {
     pub fn remove(&mut self, slot: usize)
         requires { slot < self.old.room }
         ensures after { self.new ≡ record self.old { slots = without slot self.old.slots } }
-        ensures gone { Among slot self.new.slots → ⊥ }
+        ensures gone { IsMember slot self.new.slots → ⊥ }
         ensures room { self.new.room ≡ self.old.room }
         ensures others { (other : ℕ) → other ≢ slot
-            → (Among other self.new.slots ↔ Among other self.old.slots) }
+            → (IsMember other self.new.slots ↔ IsMember other self.old.slots) }
         ensures rest { (at : Option ℕ) → IsPast slot at self.old.slots
             → slots_from self.new.slots at ≡ slots_from self.old.slots at }
         ensures on { (at : Option ℕ) → IsPast slot at self.old.slots → IsOn at self.old.slots
@@ -123,7 +123,7 @@ impl SlotSet {
     /// Whether a slot is in the set.
     pub fn contains(&self, slot: usize) -> bool
         requires { slot < self.now.room }
-        ensures { IsTrue result ↔ Among slot self.now.slots }
+        ensures { IsTrue result ↔ IsMember slot self.now.slots }
     {
         self.lists.is_listed(slot)
     }
@@ -152,7 +152,7 @@ impl SlotSet {
         requires { slot < self.now.room }
         ensures slot { result ≡ slot_after slot self.now.slots }
         ensures on { IsOn result self.now.slots }
-        ensures rest { Among slot self.now.slots
+        ensures rest { IsMember slot self.now.slots
             → slots_from self.now.slots (Some slot) ≡ slot ∷ slots_from self.now.slots result }
         ensures past { IsPast slot result self.now.slots }
     {

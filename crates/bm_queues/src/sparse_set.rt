@@ -4,7 +4,7 @@ ghost use Rattle.std.specs.Prelude.{◌≡◌, ◌≢◌, ℕ, ◌<◌, ◌≤�
 ghost use Rattle.std.specs.List.Sorted.{IsPermutation};
 ghost use Rattle.std.specs.Option.{IfSome};
 ghost use Rattle.bm_base.specs.declared.refusal.Refusal.TheVariants.{Memory};
-ghost use Rattle.bm_maps.specs.SlotLists.{Among};
+ghost use Rattle.bm_maps.specs.SlotLists.{IsMember};
 ghost use Rattle.bm_queues.specs.Members.{with_room, IsLawful};
 
 use bm_base::Refusal;
@@ -50,7 +50,7 @@ impl SparseSet {
     }
 
     /// For proofs alone: the invariant of a set. It does nothing when it runs.
-    pub fn lawful(&self)
+    pub fn show_invariant(&self)
         ensures { IsLawful self.now }
     {
         let _ = &self.order;
@@ -87,12 +87,12 @@ impl SparseSet {
     /// Appends a slot to the members; nothing changes if it is one already. Takes no memory.
     pub fn insert(&mut self, slot: usize)
         requires { slot < self.old.room }
-        ensures same { Among slot self.old.slots → self.new ≡ self.old }
-        ensures after { (Among slot self.old.slots → ⊥)
+        ensures same { IsMember slot self.old.slots → self.new ≡ self.old }
+        ensures after { (IsMember slot self.old.slots → ⊥)
             → self.new ≡ record self.old { slots = self.old.slots ++ slot ∷ [] } }
-        ensures held { Among slot self.new.slots }
+        ensures held { IsMember slot self.new.slots }
         ensures others { (other : ℕ) → other ≢ slot
-            → (Among other self.new.slots ↔ Among other self.old.slots) }
+            → (IsMember other self.new.slots ↔ IsMember other self.old.slots) }
         ensures room { self.new.room ≡ self.old.room }
     {
         if self.contains(slot) {
@@ -105,12 +105,12 @@ impl SparseSet {
     /// Removes a slot, if it is a member; the last member takes its index. Takes no memory.
     pub fn remove(&mut self, slot: usize)
         requires { slot < self.old.room }
-        ensures same { (Among slot self.old.slots → ⊥) → self.new ≡ self.old }
-        ensures after { Among slot self.old.slots
+        ensures same { (IsMember slot self.old.slots → ⊥) → self.new ≡ self.old }
+        ensures after { IsMember slot self.old.slots
             → IsPermutation self.old.slots (slot ∷ self.new.slots) }
-        ensures gone { Among slot self.new.slots → ⊥ }
+        ensures gone { IsMember slot self.new.slots → ⊥ }
         ensures others { (other : ℕ) → other ≢ slot
-            → (Among other self.new.slots ↔ Among other self.old.slots) }
+            → (IsMember other self.new.slots ↔ IsMember other self.old.slots) }
         ensures room { self.new.room ≡ self.old.room }
     {
         if let Some(place) = self.place_of(slot) {
@@ -123,7 +123,7 @@ impl SparseSet {
     /// Whether a slot is a member.
     pub fn contains(&self, slot: usize) -> bool
         requires { slot < self.now.room }
-        ensures { IsTrue result ↔ Among slot self.now.slots }
+        ensures { IsTrue result ↔ IsMember slot self.now.slots }
     {
         self.place_of(slot).is_some()
     }
@@ -141,7 +141,7 @@ impl SparseSet {
         requires { slot < self.now.room }
         ensures found { IfSome result (λ place. (place < length self.now.slots)
             × (slice_index_or self.now.slots place 0 ≡ slot)) }
-        ensures absent { result ≡ None → Among slot self.now.slots → ⊥ }
+        ensures absent { result ≡ None → IsMember slot self.now.slots → ⊥ }
     {
         let place = self.places[slot] as usize;
         if place < self.order.len() && self.order[place] as usize == slot {

@@ -5,11 +5,11 @@ use Rattle.std.specs.Option.{option_and_then}
 use Rattle.std.proofs.lemmas.Bool.{false≢true}
 use Rattle.bm_maps.proofs.SlotLists.{length-distinct_below}
 use Rattle.bm_arena.specs.Triplets.{Block}
-use Rattle.bm_arena.specs.Contents.{Contents, block_at, marks_at, slot_of, find_marks, list_of, HasRoom, IsLawful}
+use Rattle.bm_arena.specs.Contents.{Contents, block_at, marks_at, slot_of, find_marks, list_of, HasCapacity, IsLawful}
 use Rattle.bm_base.specs.Machine.Events.{is_named}
-use Rattle.bm_report.specs.declared.types.Named.{Named}
-use Rattle.bm_report.specs.Midway.{AreHere, HaveRoom, told_of}
-use Rattle.bm_report.specs.Ready.{HasPlace}
+use Rattle.bm_report.specs.declared.types.ReportedSlot.{ReportedSlot}
+use Rattle.bm_report.specs.DuringReport.{AreAtSlots, HaveCapacity, reported_of}
+use Rattle.bm_report.specs.Ready.{HasSlotFor}
 
 held_below : (a : Contents) (s x : ℕ) → IsLawful a → IsSome (marks_at a x s) → x < a.bound
 held_below a s x lawful some = by (block_at a x) refl some
@@ -23,13 +23,13 @@ pub list_within : (a : Contents) (s : ℕ) → IsLawful a → length (list_of a 
 list_within a s lawful = length-distinct_below a.bound (list_of a s) (lawful.distinct s) (λ x among. held_below a s x lawful ((lawful.exact x s).0 among))
 
 -- each number that was looked up has its entry
-pub places_of : (a : Contents) (s : ℕ) (ns : List Named) → AreHere a ns → HaveRoom a s ns → (b : ℕ) → IsTrue (is_named (map told_of ns) b) → HasPlace a s b
+pub places_of : (a : Contents) (s : ℕ) (ns : List ReportedSlot) → AreAtSlots a ns → HaveCapacity a s ns → (b : ℕ) → IsTrue (is_named (map reported_of ns) b) → HasSlotFor a s b
 unfolding is_named
 places_of a s [] here room b told = absurd (false≢true told)
 places_of a s (n ∷ ns) here room b told = by (n.id == b) refl told (places_of a s ns here.1 room.1 b)
   where
-    by : (t : Bool) → (n.id == b) ≡ t → IsTrue (t || is_named (map told_of ns) b) → (IsTrue (is_named (map told_of ns) b) → HasPlace a s b) → HasPlace a s b
+    by : (t : Bool) → (n.id == b) ≡ t → IsTrue (t || is_named (map reported_of ns) b) → (IsTrue (is_named (map reported_of ns) b) → HasSlotFor a s b) → HasSlotFor a s b
     by true same told later =
-        let P : Option ℕ → Type 0 = λ o. IsSomeAnd o (λ slot. marks_at a slot s ≡ None → HasRoom a slot) in
+        let P : Option ℕ → Type 0 = λ o. IsSomeAnd o (λ slot. marks_at a slot s ≡ None → HasCapacity a slot) in
         subst P (sym here.0 ∙ ap (slot_of a) (eqb-true n.id b same)) room.0
     by false differs told later = later told

@@ -15,23 +15,23 @@ use Rattle.bm_base.specs.Machine.State.{Cluster, replica_at}
 use Rattle.bm_base.specs.Machine.Events.{report}
 use Rattle.bm_base.proofs.MapLaws.{same_map, get-remove}
 use Rattle.bm_arena.specs.Triplets.{Block}
-use Rattle.bm_maps.specs.SlotLists.{Among, Distinct, without}
+use Rattle.bm_maps.specs.SlotLists.{IsMember, Distinct, without}
 use Rattle.bm_arena.specs.Contents.{Contents, block_at, slot_of, marks_at, list_of, find_marks, IsLawful, KeepsOthers, KeepsEntries, IsEntry}
 use Rattle.bm_maps.proofs.SlotLists.{Among-without, Among-without_other, without-gone, Distinct-without}
-use Rattle.bm_report.specs.declared.types.Named.{Named}
-use Rattle.bm_report.specs.declared.tally.Tally.{Tally}
+use Rattle.bm_report.specs.declared.types.ReportedSlot.{ReportedSlot}
+use Rattle.bm_report.specs.declared.report_counts.ReportCounts.{ReportCounts}
 use Rattle.bm_arena.specs.Holding.{replicas_of, blocks_of, holdings_of, id_at}
-use Rattle.bm_report.specs.Midway.{after, behind, without_all, slot_in, entered_all, fresh, out_all, lost_excess_out_all, told_of, AreHere, HaveRoom, IsOncePerNode, IsExcessGood, IsEntered, IsCounted, IsSwept, DropsLostExcess, IsListed}
-use Rattle.bm_arena.proofs.Held.{get-replicas_of, blocks-kept, one_number}
-use Rattle.bm_arena.proofs.Staying.{entries-chain, entries-others}
-use Rattle.bm_report.proofs.Behind.{Among-after}
+use Rattle.bm_report.specs.DuringReport.{after, behind, without_all, slot_in, entered_all, fresh, out_all, invalid_excess_out_all, reported_of, AreAtSlots, HaveCapacity, IsOncePerNode, IsExcessGood, IsEntered, IsCounted, IsSwept, DropsInvalidExcess, IsListed}
+use Rattle.bm_arena.proofs.HeldReplicas.{get-replicas_of, blocks-kept, one_number}
+use Rattle.bm_arena.proofs.StableEntries.{entries-chain, entries-others}
+use Rattle.bm_report.proofs.AfterDelimiter.{Among-after}
 use Rattle.bm_report.proofs.Frames.{some_there}
 use Rattle.bm_report.proofs.Maps.{Held, tie, get-here, some_is}
-use Rattle.bm_report.proofs.Swept.{delimiter_before, number-leads}
-use Rattle.bm_report.proofs.Underway.{listed-chain}
-use Rattle.bm_report.proofs.LostExcess.{here-ids}
-use Rattle.bm_report.proofs.Reported.{last_stamp, reported}
-use Rattle.bm_report.proofs.Counting.{came, came_and_went, len-lost_excess_out}
+use Rattle.bm_report.proofs.SweptSlots.{delimiter_before, number-leads}
+use Rattle.bm_report.proofs.PartialReport.{listed-chain}
+use Rattle.bm_report.proofs.InvalidExcess.{here-ids}
+use Rattle.bm_report.proofs.ReportResult.{last_stamp, reported}
+use Rattle.bm_report.proofs.ReplicaCounts.{came, came_and_went, len-lost_excess_out}
 
 same_slot : (x y : ℕ) → Some x ≡ Some y → x ≡ y
 same_slot x y e = cc
@@ -48,7 +48,7 @@ replicas-beside a c lawful ids blocks =
 
 -- The slots that stay after the delimiter.
 
-pub length-without_all : (ns : List Named) (l : List ℕ) → length (without_all ns l) ≤ length l
+pub length-without_all : (ns : List ReportedSlot) (l : List ℕ) → length (without_all ns l) ≤ length l
 length-without_all [] l = omega arith
 length-without_all (n ∷ ns) l = let rest = length-without_all ns (without n.slot l) in let one = shorter n.slot l in omega (arith, rest, one)
   where
@@ -56,18 +56,18 @@ length-without_all (n ∷ ns) l = let rest = length-without_all ns (without n.sl
     shorter x [] = omega arith
     shorter x (y ∷ l) = elim (cases_Bool (eqb y x)) [ inl here ↦ rw here (omega arith) | inr other ↦ rw other (let e = shorter x l in omega (arith, e)) ]
 
-sub-without_all : (ns : List Named) (x : ℕ) (l : List ℕ) → Among x (without_all ns l) → Among x l
+sub-without_all : (ns : List ReportedSlot) (x : ℕ) (l : List ℕ) → IsMember x (without_all ns l) → IsMember x l
 sub-without_all [] x l m = m
 sub-without_all (n ∷ ns) x l m = Among-without n.slot x l (sub-without_all ns x (without n.slot l) m)
 
 -- the slot of a named block does not stay
-gone-named : (a : Contents) (ns : List Named) (b : ℕ) → AreHere a ns → is_some (last_stamp ns b) ≡ true → (x : ℕ) → slot_of a b ≡ Some x → (l : List ℕ) → Distinct l → Among x (without_all ns l) → ⊥
+gone-named : (a : Contents) (ns : List ReportedSlot) (b : ℕ) → AreAtSlots a ns → is_some (last_stamp ns b) ≡ true → (x : ℕ) → slot_of a b ≡ Some x → (l : List ℕ) → Distinct l → IsMember x (without_all ns l) → ⊥
 gone-named a [] b here named x at l d m = absurd (false≢true named)
 gone-named a (n ∷ ns) b here named x at l d m =
     elim (cases_Bool (eqb n.id b)) [
       | inl this ↦
           let same : n.slot ≡ x = same_slot n.slot x (sym here.0 ∙ ap (slot_of a) (eqb-true n.id b this) ∙ at) in
-          let P : ℕ → Type 0 = λ k. Among x (without k l) in
+          let P : ℕ → Type 0 = λ k. IsMember x (without k l) in
           without-gone x l d (subst P same (sub-without_all ns x (without n.slot l) m))
       | inr other ↦ gone-named a ns b here.1 (rest (last_stamp ns b) (sym (ap (λ t. is_some (option_or (last_stamp ns b) (cond t (Some n.stamp) None))) other) ∙ named)) x at (without n.slot l) (Distinct-without n.slot l d) m
     ]
@@ -77,7 +77,7 @@ gone-named a (n ∷ ns) b here named x at l d m =
     rest (Some y) e = e
 
 -- the slot of any other block stays
-kept-other : (a : Contents) → IsLawful a → (ns : List Named) (b : ℕ) → AreHere a ns → is_some (last_stamp ns b) ≡ false → (x : ℕ) → slot_of a b ≡ Some x → (l : List ℕ) → Among x l → Among x (without_all ns l)
+kept-other : (a : Contents) → IsLawful a → (ns : List ReportedSlot) (b : ℕ) → AreAtSlots a ns → is_some (last_stamp ns b) ≡ false → (x : ℕ) → slot_of a b ≡ Some x → (l : List ℕ) → IsMember x l → IsMember x (without_all ns l)
 kept-other a lawful [] b here named x at l m = m
 kept-other a lawful (n ∷ ns) b here named x at l m =
     elim (cases_Bool (eqb n.id b)) [
@@ -97,11 +97,11 @@ kept-other a lawful (n ∷ ns) b here named x at l m =
     rest (Some y) e = e
 
 -- The numbers of slots.
-any-out : (f : ℕ → ℕ) (b : ℕ) (xs : List ℕ) → ((x : ℕ) → Among x xs → f x ≢ b) → list_any (λ k. k == b) (map f xs) ≡ false
+any-out : (f : ℕ → ℕ) (b : ℕ) (xs : List ℕ) → ((x : ℕ) → IsMember x xs → f x ≢ b) → list_any (λ k. k == b) (map f xs) ≡ false
 any-out f b [] h = refl
 any-out f b (x ∷ xs) h = rw (ne_eqb (f x) b (h x (inl refl))) (any-out f b xs (λ y m. h y (inr m)))
 
-any-in : (f : ℕ → ℕ) (b x : ℕ) (xs : List ℕ) → Among x xs → f x ≡ b → list_any (λ k. k == b) (map f xs) ≡ true
+any-in : (f : ℕ → ℕ) (b x : ℕ) (xs : List ℕ) → IsMember x xs → f x ≡ b → list_any (λ k. k == b) (map f xs) ≡ true
 any-in f b x [] m e = absurd m
 any-in f b x (y ∷ xs) (inl same) e = rw (eq-eqb (f y) b (ap f (sym same) ∙ e)) refl
 any-in f b x (y ∷ xs) (inr m) e = elim (cases_Bool (eqb (f y) b)) [ inl here ↦ rw here refl | inr other ↦ rw other (any-in f b x xs m e) ]
@@ -114,7 +114,7 @@ excess-out s (b ∷ bs) K good = excess-out s bs (remove K (replica_at b s)) (λ
     was true z m e = cc
     was false z m e = e
 
-module _ (C : Cluster) (s : ℕ) (ns : List Named) (a0 a1 : Contents) (lawful0 : IsLawful a0) (here : AreHere a0 ns) (room : HaveRoom a0 s ns)
+module _ (C : Cluster) (s : ℕ) (ns : List ReportedSlot) (a0 a1 : Contents) (lawful0 : IsLawful a0) (here : AreAtSlots a0 ns) (room : HaveCapacity a0 s ns)
     (list1 : list_of a1 s ≡ a0.delimiter ∷ list_of a0 s) (others1 : KeepsOthers a0 a1 a0.delimiter s) where
   pub replicas1 : replicas_of a1 ≡ replicas_of a0
   replicas1 = replicas-beside a0 a1 lawful0 others1.ids others1.blocks
@@ -128,10 +128,10 @@ module _ (C : Cluster) (s : ℕ) (ns : List Named) (a0 a1 : Contents) (lawful0 :
       first : after a0.delimiter (a0.delimiter ∷ list_of a0 s) ≡ list_of a0 s
       first = rw (eq-eqb a0.delimiter a0.delimiter refl) refl
 
-  pub here1 : AreHere a1 ns
+  pub here1 : AreAtSlots a1 ns
   here1 = here-ids a0 a1 ns others1.ids here
 
-  room_by : (ms : List Named) → AreHere a0 ms → HaveRoom a0 s ms → HaveRoom a1 s ms
+  room_by : (ms : List ReportedSlot) → AreAtSlots a0 ms → HaveCapacity a0 s ms → HaveCapacity a1 s ms
   room_by [] h r = tt
   room_by (n ∷ ms) h r = (
     λ none.
@@ -141,7 +141,7 @@ module _ (C : Cluster) (s : ℕ) (ns : List Named) (a0 a1 : Contents) (lawful0 :
     room_by ms h.1 r.1,
   )
 
-  pub room1 : HaveRoom a1 s ns
+  pub room1 : HaveCapacity a1 s ns
   room1 = room_by ns here room
 
   pub once1 : IsOncePerNode C (replicas_of a0) → IsOncePerNode C (replicas_of a1)
@@ -154,7 +154,7 @@ module _ (C : Cluster) (s : ℕ) (ns : List Named) (a0 a1 : Contents) (lawful0 :
       let e = ap length is in
       omega (arith, e, length-without_all ns (list_of a0 s))
 
-  module _ (a2 a3 a4 : Contents) (lawful2 : IsLawful a2) (entered : IsEntered C s ns a1 a2) (t1 t2 t3 : Tally) (swept : IsSwept s (behind a2 s) a2 a3 t2 t3)
+  module _ (a2 a3 a4 : Contents) (lawful2 : IsLawful a2) (entered : IsEntered C s ns a1 a2) (t1 t2 t3 : ReportCounts) (swept : IsSwept s (behind a2 s) a2 a3 t2 t3)
       (others4 : KeepsOthers a3 a4 a3.delimiter s) (lawful3 : IsLawful a3) where
     behind2 : behind a2 s ≡ without_all ns (list_of a0 s)
     behind2 = entered.behind ∙ ap (without_all ns) behind1
@@ -169,9 +169,9 @@ module _ (C : Cluster) (s : ℕ) (ns : List Named) (a0 a1 : Contents) (lawful0 :
     slot2 b = ap (λ l. lookup (nat_eq b) l) ids2
 
     -- a slot after the delimiter is that of a number
-    leads2 : (x : ℕ) → Among x (behind a2 s) → slot_of a2 (id_at a2 x) ≡ Some x
+    leads2 : (x : ℕ) → IsMember x (behind a2 s) → slot_of a2 (id_at a2 x) ≡ Some x
     leads2 x m =
-        let P : ℕ → Type 0 = λ k. Among k (behind a2 s) in
+        let P : ℕ → Type 0 = λ k. IsMember k (behind a2 s) in
         number-leads a2 lawful2 x s (λ same. delimiter_before a2.delimiter (list_of a2 s) (lawful2.distinct s) (subst P same m))
         ((lawful2.exact x s).0 (Among-after a2.delimiter x (list_of a2 s) m))
 
@@ -180,7 +180,7 @@ module _ (C : Cluster) (s : ℕ) (ns : List Named) (a0 a1 : Contents) (lawful0 :
     named_stay b named =
         any-out (id_at a2) b (behind a2 s) (λ x m is.
         let at : slot_of a0 b ≡ Some x = sym (slot2 b) ∙ ap (slot_of a2) (sym is) ∙ leads2 x m in
-        let P : List ℕ → Type 0 = λ l. Among x l in
+        let P : List ℕ → Type 0 = λ l. IsMember x l in
         gone-named a0 ns b here named x at (list_of a0 s) (lawful0.distinct s) (subst P behind2 m))
 
     others_leave : (b : ℕ) → is_some (last_stamp ns b) ≡ false → IsSome (get (replicas_of a0) (replica_at b s)) → list_any (λ k. k == b) bs ≡ true
@@ -191,9 +191,9 @@ module _ (C : Cluster) (s : ℕ) (ns : List Named) (a0 a1 : Contents) (lawful0 :
         by None e = absurd (some_there (get (replicas_of a0) (replica_at b s)) some (get-replicas_of a0 (replica_at b s) ∙ ap (λ o. option_and_then (λ k. marks_at a0 k s) o) e))
         by (Some x) e =
             let Q : Option Marks → Type 0 = λ o. IsSome o in
-            let stands : Among x (list_of a0 s) = (lawful0.exact x s).1 (subst Q (get-here a0 b x s e) some) in
-            let P : List ℕ → Type 0 = λ l. Among x l in
-            let left : Among x (behind a2 s) = subst P (sym behind2) (kept-other a0 lawful0 ns b here named x e (list_of a0 s) stands) in
+            let stands : IsMember x (list_of a0 s) = (lawful0.exact x s).1 (subst Q (get-here a0 b x s e) some) in
+            let P : List ℕ → Type 0 = λ l. IsMember x l in
+            let left : IsMember x (behind a2 s) = subst P (sym behind2) (kept-other a0 lawful0 ns b here named x e (list_of a0 s) stands) in
             any-in (id_at a2) b x (behind a2 s) left (one_number a2 lawful2 (id_at a2 x) b x (leads2 x left) (slot2 b ∙ e))
 
     replicas4 : replicas_of a4 ≡ replicas_of a3
@@ -203,7 +203,7 @@ module _ (C : Cluster) (s : ℕ) (ns : List Named) (a0 a1 : Contents) (lawful0 :
     unfolding bs
     replicas3 = swept.replicas
 
-    pub here4 : AreHere a4 ns
+    pub here4 : AreAtSlots a4 ns
     here4 = here-ids a0 a4 ns (others4.ids ∙ swept.ids ∙ ids2) here
 
     pub good4 : IsExcessGood (replicas_of a2) → IsExcessGood (replicas_of a4)
@@ -219,11 +219,11 @@ module _ (C : Cluster) (s : ℕ) (ns : List Named) (a0 a1 : Contents) (lawful0 :
         let d2 : a0.delimiter ≡ a2.delimiter = sym (entered.frame.delimiter ∙ others1.delimiter) in
         ap (block_at a3) d2 ∙ swept.marker ∙ sym (ap (block_at a2) d2) ∙ ap (block_at a2) d1 ∙ entered.frame.marker ∙ sym (ap (block_at a1) d1)
 
-    module _ (a5 : Contents) (drops : DropsLostExcess s ns a4 a5) where
-      pub replicas5 : replicas_of a5 ≡ (report C (holdings_of a0) s (map told_of ns)).replicas
+    module _ (a5 : Contents) (drops : DropsInvalidExcess s ns a4 a5) where
+      pub replicas5 : replicas_of a5 ≡ (report C (holdings_of a0) s (map reported_of ns)).replicas
       unfolding holdings_of
       replicas5 =
-          drops.replicas ∙ ap (lost_excess_out_all s ns) (replicas4 ∙ replicas3 ∙ ap (out_all s bs) (entered.replicas ∙ (λ i. entered_all C (blocks1 i) s ns (replicas1 i))))
+          drops.replicas ∙ ap (invalid_excess_out_all s ns) (replicas4 ∙ replicas3 ∙ ap (out_all s bs) (entered.replicas ∙ (λ i. entered_all C (blocks1 i) s ns (replicas1 i))))
           ∙ reported C (holdings_of a0) s ns bs named_stay others_leave
 
       pub blocks5 : blocks_of a5 ≡ blocks_of a0
@@ -245,7 +245,7 @@ module _ (C : Cluster) (s : ℕ) (ns : List Named) (a0 a1 : Contents) (lawful0 :
                 others4.marks t differs ∙ ap (λ o. option_and_then (λ (b : Block). find_marks b.replicas t) o) (ap (block_at a3) delimiter3 ∙ marker3) ∙ others1.marks t differs
           ]
 
-      pub changed5 : IsExcessGood (replicas_of a0) → (l0 l2 l3 : List ℕ) → IsListed a1 a2 l0 l2 → IsListed a2 a3 l2 l3 → (slot : ℕ) → slot ≢ a0.delimiter → (Among slot l3 → ⊥) → block_at a5 slot ≡ block_at a0 slot
+      pub changed5 : IsExcessGood (replicas_of a0) → (l0 l2 l3 : List ℕ) → IsListed a1 a2 l0 l2 → IsListed a2 a3 l2 l3 → (slot : ℕ) → slot ≢ a0.delimiter → (IsMember slot l3 → ⊥) → block_at a5 slot ≡ block_at a0 slot
       changed5 good l0 l2 l3 f g slot apart out = by (marks_at a0 slot s) refl
         where
           same4 : block_at a4 slot ≡ block_at a0 slot
@@ -262,26 +262,26 @@ module _ (C : Cluster) (s : ℕ) (ns : List Named) (a0 a1 : Contents) (lawful0 :
               drops.others slot m (marks4 ∙ e) (good (replica_at (id_at a0 slot) s) m (get-here a0 (id_at a0 slot) slot s at ∙ e)) ∙ same4
 
       -- a block that is not on s and not named does not change
-      pub others5 : (slot : ℕ) → slot ≢ a0.delimiter → marks_at a0 slot s ≡ None → (Among slot (map slot_in ns) → ⊥) → block_at a5 slot ≡ block_at a0 slot
+      pub others5 : (slot : ℕ) → slot ≢ a0.delimiter → marks_at a0 slot s ≡ None → (IsMember slot (map slot_in ns) → ⊥) → block_at a5 slot ≡ block_at a0 slot
       others5 slot apart absent out =
           let found : Option Block → Option Marks = λ o. option_and_then (λ (b : Block). find_marks b.replicas s) o in
           let still : block_at a2 slot ≡ block_at a0 slot = entered.others slot out ∙ others1.blocks slot apart in
-          let not_behind : Among slot (behind a2 s) → ⊥ = λ m.
+          let not_behind : IsMember slot (behind a2 s) → ⊥ = λ m.
           some_there (marks_at a2 slot s) ((lawful2.exact slot s).0 (Among-after a2.delimiter slot (list_of a2 s) m)) (ap found still ∙ absent) in
           let same4 : block_at a4 slot ≡ block_at a0 slot = others4.blocks slot (λ e. apart (e ∙ delimiter3)) ∙ swept.others slot not_behind ∙ still in
           drops.absent slot (ap found same4 ∙ absent) ∙ same4
 
-      pub listed5 : (l0 l2 l3 : List ℕ) → IsListed a1 a2 l0 l2 → IsListed a2 a3 l2 l3 → (slot : ℕ) → Among slot l3 → Among slot l0 ⊎ IsEntry a0 slot
+      pub listed5 : (l0 l2 l3 : List ℕ) → IsListed a1 a2 l0 l2 → IsListed a2 a3 l2 l3 → (slot : ℕ) → IsMember slot l3 → IsMember slot l0 ⊎ IsEntry a0 slot
       listed5 l0 l2 l3 f g slot m = by ((listed-chain a1 a2 a3 l0 l2 l3 f g).only slot m)
         where
-          by : Among slot l0 ⊎ IsEntry a1 slot → Among slot l0 ⊎ IsEntry a0 slot
+          by : IsMember slot l0 ⊎ IsEntry a1 slot → IsMember slot l0 ⊎ IsEntry a0 slot
           by (inl before) = inl before
           by (inr led) = inr (led.0, ap (λ l. lookup (nat_eq led.0) l) (sym others1.ids) ∙ led.1)
 
       -- the replicas after all phases, by the maps before
-      in_the_end : replicas_of a5 ≡ lost_excess_out_all s ns (out_all s bs (entered_all C (blocks_of a0) s ns (replicas_of a0)))
+      in_the_end : replicas_of a5 ≡ invalid_excess_out_all s ns (out_all s bs (entered_all C (blocks_of a0) s ns (replicas_of a0)))
       in_the_end =
-          drops.replicas ∙ ap (lost_excess_out_all s ns) (replicas4 ∙ replicas3 ∙ ap (out_all s bs) (entered.replicas ∙ (λ i. entered_all C (blocks1 i) s ns (replicas1 i))))
+          drops.replicas ∙ ap (invalid_excess_out_all s ns) (replicas4 ∙ replicas3 ∙ ap (out_all s bs) (entered.replicas ∙ (λ i. entered_all C (blocks1 i) s ns (replicas1 i))))
 
       then_swept : replicas_of a4 ≡ out_all s bs (entered_all C (blocks_of a0) s ns (replicas_of a0))
       then_swept = replicas4 ∙ replicas3 ∙ ap (out_all s bs) (entered.replicas ∙ (λ i. entered_all C (blocks1 i) s ns (replicas1 i)))

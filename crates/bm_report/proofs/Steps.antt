@@ -5,17 +5,17 @@ use Rattle.std.specs.Map.{lookup}
 use Rattle.bm_base.specs.declared.replica.Marks.{Marks}
 use Rattle.bm_base.specs.Maps.Map.{get, insert, remove, len}
 use Rattle.bm_base.specs.Machine.State.{Cluster, replica_at}
-use Rattle.bm_base.specs.Machine.Replicas.{are_sisters}
-use Rattle.bm_maps.specs.SlotLists.{Among, without}
+use Rattle.bm_base.specs.Machine.Replicas.{are_siblings}
+use Rattle.bm_maps.specs.SlotLists.{IsMember, without}
 use Rattle.bm_arena.specs.Contents.{Contents, slot_of, marks_at, list_of, IsLawful, KeepsOthers}
 use Rattle.bm_arena.specs.Holding.{replicas_of}
-use Rattle.bm_report.specs.Midway.{entered_at, behind, IsFramed, IsOncePerNode}
-use Rattle.bm_arena.proofs.Held.{replicas-put, replicas-out}
-use Rattle.bm_report.proofs.Behind.{behind-linked, behind-moved, behind-kept}
+use Rattle.bm_report.specs.DuringReport.{entered_at, behind, KeepsRest, IsOncePerNode}
+use Rattle.bm_arena.proofs.HeldReplicas.{replicas-put, replicas-out}
+use Rattle.bm_report.proofs.AfterDelimiter.{behind-linked, behind-moved, behind-kept}
 use Rattle.bm_report.proofs.Frames.{framed, framed-chain, is_there, some_there}
-use Rattle.bm_arena.proofs.Marked.{set_at, set-elsewhere, set-known, set-marks, set-others}
-use Rattle.bm_arena.proofs.Staying.{entries-others, set-entries}
-use Rattle.bm_report.proofs.Sisters.{sisters_apart}
+use Rattle.bm_arena.proofs.SetMarks.{set_at, set-elsewhere, set-known, set-marks, set-others}
+use Rattle.bm_arena.proofs.StableEntries.{entries-others, set-entries}
+use Rattle.bm_report.proofs.Siblings.{siblings_apart}
 use Rattle.bm_report.proofs.Maps.{get-here, insert-same, some_is, is_replaced, put-alone, put-moved, len-put_new, len-out}
 
 -- it is there: it is moved to the head, and then its marks are set
@@ -27,7 +27,7 @@ module _ (a c : Contents) (s b slot : ℕ) (was : Marks) (lawful : IsLawful a) (
   known-still : marks_at c slot s ≡ Some was
   known-still = ap (λ (x : Contents). marks_at x slot s) (λ i. record c { blocks = same i }) ∙ at
 
-  pub known-frame : IsFramed s a c
+  pub known-frame : KeepsRest s a c
   known-frame = framed a c s slot known-apart others.ids others.delimiter others.blocks others.known others.heads (is_there (marks_at c slot s) was known-still) (entries-others a c slot s others)
 
   pub known-behind : behind c s ≡ without slot (behind a s)
@@ -50,7 +50,7 @@ module _ (a c : Contents) (s b slot : ℕ) (was : Marks) (lawful : IsLawful a) (
         replicas-put c (set_at c slot s m) lawful_c slot s b here_c refl (set-elsewhere c slot s m) (set-others c slot s m) m put
         ∙ ap (λ K. insert K (replica_at b s) m) known-replicas
 
-    pub set-frame : IsFramed s a (set_at c slot s m)
+    pub set-frame : KeepsRest s a (set_at c slot s m)
     set-frame =
         framed-chain s a c (set_at c slot s m) known-frame
         (framed c (set_at c slot s m) s slot (λ e. known-apart (e ∙ others.delimiter)) refl refl (set-elsewhere c slot s m) (set-known c slot s m) (λ t h. h)
@@ -62,10 +62,10 @@ module _ (C : Cluster) (a c : Contents) (s b slot : ℕ) (m : Marks) (lawful : I
   linked-apart : slot ≢ a.delimiter
   linked-apart = (lawful.found b slot here).0
 
-  pub linked-frame : IsFramed s a c
+  pub linked-frame : KeepsRest s a c
   linked-frame = framed a c s slot linked-apart others.ids others.delimiter others.blocks others.known others.heads (is_there (marks_at c slot s) m put) (entries-others a c slot s others)
 
-  not_among : Among slot (list_of a s) → ⊥
+  not_among : IsMember slot (list_of a s) → ⊥
   not_among among = some_there (marks_at a slot s) ((lawful.exact slot s).0 among) absent
 
   pub linked-behind : behind c s ≡ without slot (behind a s)
@@ -77,7 +77,7 @@ module _ (C : Cluster) (a c : Contents) (s b slot : ℕ) (m : Marks) (lawful : I
   linked-length : len (replicas_of c) ≡ len (replicas_of a) + 1
   linked-length = ap len linked-map ∙ len-put_new (replicas_of a) (replica_at b s) m (get-here a b slot s here ∙ absent)
 
-  pub alone-replicas : ((t : ℕ) → are_sisters C s t ≡ true → marks_at a slot t ≡ None) → replicas_of c ≡ entered_at C (replicas_of a) (replica_at b s) m
+  pub alone-replicas : ((t : ℕ) → are_siblings C s t ≡ true → marks_at a slot t ≡ None) → replicas_of c ≡ entered_at C (replicas_of a) (replica_at b s) m
   alone-replicas none =
       linked-map
       ∙ put-alone C (replicas_of a) (replica_at b s) m (λ q r.
@@ -87,10 +87,10 @@ module _ (C : Cluster) (a c : Contents) (s b slot : ℕ) (m : Marks) (lawful : I
   pub alone-length : 0 + len (replicas_of c) ≡ len (replicas_of a) + 1
   alone-length = let e = linked-length in omega arith
 
-  module _ (d : Contents) (t : ℕ) (lawful_c : IsLawful c) (there : IsSome (marks_at a slot t)) (sisters : are_sisters C s t ≡ true)
+  module _ (d : Contents) (t : ℕ) (lawful_c : IsLawful c) (there : IsSome (marks_at a slot t)) (sisters : are_siblings C s t ≡ true)
       (others_d : KeepsOthers c d slot t) (gone : marks_at d slot t ≡ None) where
     apart_t : t ≢ s
-    apart_t = sisters_apart C s t sisters
+    apart_t = siblings_apart C s t sisters
 
     here_linked : slot_of c b ≡ Some slot
     here_linked = ap (λ l. lookup (nat_eq b) l) others.ids ∙ here
@@ -115,7 +115,7 @@ module _ (C : Cluster) (a c : Contents) (s b slot : ℕ) (m : Marks) (lawful : I
     put_d : marks_at d slot s ≡ Some m
     put_d = others_d.marks s (λ e. apart_t (sym e)) ∙ put
 
-    pub moved-frame : IsFramed s a d
+    pub moved-frame : KeepsRest s a d
     moved-frame =
         framed-chain s a c d linked-frame
         (framed c d s slot (λ e. linked-apart (e ∙ others.delimiter)) others_d.ids others_d.delimiter others_d.blocks others_d.known others_d.heads

@@ -2,20 +2,20 @@
 use Rattle.std.specs.Prelude.{◌≡◌, ◌≢◌, ℕ, ◌≤◌, List, IsSome, Some}
 use Rattle.bm_base.specs.declared.ids.Part.{Part}
 use Rattle.bm_base.specs.declared.event.Entry.{Entry}
-use Rattle.bm_base.specs.Machine.Entries.{Told, expanded}
-use Rattle.bm_parts.specs.Parts.{told_of}
+use Rattle.bm_base.specs.Machine.Entries.{ReportedBlock, expanded}
+use Rattle.bm_parts.specs.Parts.{reported_of}
 use Rattle.bm_arena.specs.Triplets.{Block}
-use Rattle.bm_arena.specs.Contents.{Contents, block_at, slot_of, marks_at, list_of, room_at, with_room, HasHead, HasRoom}
+use Rattle.bm_arena.specs.Contents.{Contents, block_at, slot_of, marks_at, list_of, room_at, with_room, HasHead, HasCapacity}
 use Rattle.bm_arena.specs.Holding.{replicas_of, blocks_of}
 
 -- the reported blocks of a shard's numbers
-abbrev pub of_part : Part → List Told → List Told
-of_part part ts = told_of part.index part.shards ts
+abbrev pub of_part : Part → List ReportedBlock → List ReportedBlock
+of_part part ts = reported_of part.index part.shards ts
 
 -- the reported blocks of a shard's numbers by the entries of a report, in their order, repeats
 -- included
-abbrev pub told_to : Part → List Entry → List Told
-told_to part es = of_part part (expanded es)
+abbrev pub reported_to_part : Part → List Entry → List ReportedBlock
+reported_to_part part es = of_part part (expanded es)
 
 -- numbers may have got slots, and slots capacity: all blocks and replicas stay
 pub record IsPrepared (old new : Contents) : Type 0 where
@@ -28,7 +28,7 @@ pub record IsPrepared (old new : Contents) : Type 0 where
   pub slots : (b slot : ℕ) → slot_of old b ≡ Some slot → slot_of new b ≡ Some slot
   pub held : (slot : ℕ) → IsSome (block_at old slot) → IsSome (block_at new slot)
   pub marks : (slot t : ℕ) → IsSome (block_at old slot) → marks_at new slot t ≡ marks_at old slot t
-  pub room : (slot : ℕ) → slot ≢ old.delimiter → HasRoom old slot → HasRoom new slot
+  pub room : (slot : ℕ) → slot ≢ old.delimiter → HasCapacity old slot → HasCapacity new slot
   -- the content of a slot stays, its replicas in their order, but for more capacity
   pub entries : (slot : ℕ) (b : Block) → block_at old slot ≡ Some b → block_at new slot ≡ Some (with_room (room_at new slot) b)
   pub grows : (slot : ℕ) → room_at old slot ≤ room_at new slot

@@ -6,18 +6,18 @@ use Rattle.bm_base.specs.declared.replica.Marks.{Marks}
 use Rattle.bm_base.specs.Maps.Map.{Map, get}
 use Rattle.bm_base.specs.Machine.State.{Cluster, Holdings, by_replica, replica_at}
 use Rattle.bm_base.specs.Machine.Replicas.{is_good}
-use Rattle.bm_base.specs.Machine.Entries.{Told}
-use Rattle.bm_base.specs.Machine.Events.{is_named, entered}
-use Rattle.bm_arena.specs.Contents.{Contents, slot_of, marks_at, list_of, HasHead, HasRoom}
-use Rattle.bm_report.specs.declared.types.Named.{Named}
-use Rattle.bm_report.specs.Midway.{AreHere, HaveRoom, IsOncePerNode, IsSmall, told_of}
-use Rattle.bm_report.specs.declared.tally.Tally.{Tally}
+use Rattle.bm_base.specs.Machine.Entries.{ReportedBlock}
+use Rattle.bm_base.specs.Machine.Events.{is_named, entered_marks}
+use Rattle.bm_arena.specs.Contents.{Contents, slot_of, marks_at, list_of, HasHead, HasCapacity}
+use Rattle.bm_report.specs.declared.types.ReportedSlot.{ReportedSlot}
+use Rattle.bm_report.specs.DuringReport.{AreAtSlots, HaveCapacity, IsOncePerNode, FitsCounters, reported_of}
+use Rattle.bm_report.specs.declared.report_counts.ReportCounts.{ReportCounts}
 use Rattle.bm_arena.specs.Holding.{replicas_of}
 
 -- a report as it was looked up
-pub record Looked : Type 0 where
+pub record LookedUpReport : Type 0 where
   -- the numbers that it names, in their order, with their slots
-  pub named : List Named
+  pub named : List ReportedSlot
   -- the slots whose blocks changed
   pub changed : List ℕ
   -- how many changed slots were listed before the sweep
@@ -26,61 +26,61 @@ pub record Looked : Type 0 where
   pub room : ℕ
 
 -- the reported blocks of its numbers
-abbrev pub told : Looked → List Told
-told r = map told_of r.named
+abbrev pub reported_blocks : LookedUpReport → List ReportedBlock
+reported_blocks r = map reported_of r.named
 
 -- The numbers were looked up in this arena, for storage s: the slots are theirs, each block has
 -- capacity for a replica on s, and s has a head. A notice needs no more.
-pub record IsLookedUp (r : Looked) (a : Contents) (s : ℕ) : Type 0 where
-  pub here : AreHere a r.named
-  pub room : HaveRoom a s r.named
+pub record IsLookedUp (r : LookedUpReport) (a : Contents) (s : ℕ) : Type 0 where
+  pub here : AreAtSlots a r.named
+  pub room : HaveCapacity a s r.named
   pub head : HasHead a s
 
 -- For a full report, there is also capacity to list all slots that may change.
-pub record IsReady (r : Looked) (a : Contents) (s : ℕ) : Type 0 where
+pub record IsReady (r : LookedUpReport) (a : Contents) (s : ℕ) : Type 0 where
   pub looked_up : IsLookedUp r a s
   pub space : length r.changed + length r.named + length (list_of a s) ≤ r.room
 
 -- the slot is that of a reported number
-abbrev pub IsToldAt : Contents → List Told → ℕ → Type 0
-IsToldAt a ts slot = (b : ℕ) × IsTrue (is_named ts b) × (slot_of a b ≡ Some slot)
+abbrev pub IsReportedAt : Contents → List ReportedBlock → ℕ → Type 0
+IsReportedAt a ts slot = (b : ℕ) × IsTrue (is_named ts b) × (slot_of a b ≡ Some slot)
 
 -- a number has an entry, with a replica on s or capacity for one
-abbrev pub HasPlace : Contents → ℕ → ℕ → Type 0
-HasPlace a s b = IsSomeAnd (slot_of a b) (λ slot. marks_at a slot s ≡ None → HasRoom a slot)
+abbrev pub HasSlotFor : Contents → ℕ → ℕ → Type 0
+HasSlotFor a s b = IsSomeAnd (slot_of a b) (λ slot. marks_at a slot s ≡ None → HasCapacity a slot)
 
 -- each reported number has an entry, and s has a head
-pub record HasPlaces (a : Contents) (s : ℕ) (ts : List Told) : Type 0 where
-  pub places : (b : ℕ) → IsTrue (is_named ts b) → HasPlace a s b
+pub record HasSlotsFor (a : Contents) (s : ℕ) (ts : List ReportedBlock) : Type 0 where
+  pub places : (b : ℕ) → IsTrue (is_named ts b) → HasSlotFor a s b
   pub head : HasHead a s
 
 -- a number has a replica on s, and so does each reported number
 abbrev pub HasReplica : Contents → ℕ → ℕ → Type 0
 HasReplica a s b = IsSome (get (replicas_of a) (replica_at b s))
 
-abbrev pub HaveReplicas : Contents → ℕ → List Told → Type 0
+abbrev pub HaveReplicas : Contents → ℕ → List ReportedBlock → Type 0
 HaveReplicas a s ts = (b : ℕ) → IsTrue (is_named ts b) → HasReplica a s b
 
 -- each reported replica is on s already, with exactly the marks with which it is entered
-abbrev pub StandAlready : Holdings → ℕ → List Told → Type 0
-StandAlready H s [] = Unit {0}
-StandAlready H s (t ∷ ts) = (get H.replicas (replica_at t.id s) ≡ Some (entered H (replica_at t.id s) t.stamp)) × StandAlready H s ts
+abbrev pub AreAlreadyThere : Holdings → ℕ → List ReportedBlock → Type 0
+AreAlreadyThere H s [] = Unit {0}
+AreAlreadyThere H s (t ∷ ts) = (get H.replicas (replica_at t.id s) ≡ Some (entered_marks H (replica_at t.id s) t.stamp)) × AreAlreadyThere H s ts
 
 -- only good replicas are in excess
 abbrev pub HasGoodExcess : Map by_replica Marks → Type 0
 HasGoodExcess K = (p : ReplicaId) (m : Marks) → get K p ≡ Some m → IsTrue m.excess → IsTrue (is_good m.tag)
 
 -- a reported number, with the slot that it has in this arena
-abbrev pub named_in : Contents → Told → Named
+abbrev pub named_in : Contents → ReportedBlock → ReportedSlot
 named_in a t = record { id = t.id; slot = unwrap_or (slot_of a t.id) 0; stamp = t.stamp }
 
-abbrev pub named_of : Contents → List Told → List Named
+abbrev pub named_of : Contents → List ReportedBlock → List ReportedSlot
 named_of a ts = map (named_in a) ts
 
 -- numbers can be entered one after another: each has its entry, and the counts do not overflow
-pub record CanBeEntered (C : Cluster) (s : ℕ) (ts : List Told) (a : Contents) (t : Tally) : Type 0 where
-  pub here : AreHere a (named_of a ts)
-  pub room : HaveRoom a s (named_of a ts)
+pub record CanBeAdded (C : Cluster) (s : ℕ) (ts : List ReportedBlock) (a : Contents) (t : ReportCounts) : Type 0 where
+  pub here : AreAtSlots a (named_of a ts)
+  pub room : HaveCapacity a s (named_of a ts)
   pub head : HasHead a s
   pub once : IsOncePerNode C (replicas_of a)
-  pub small : IsSmall t (length ts)
+  pub small : FitsCounters t (length ts)

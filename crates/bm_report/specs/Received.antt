@@ -7,7 +7,7 @@ use Rattle.bm_base.specs.Machine.Calls.{new_replicas}
 use Rattle.bm_arena.specs.Contents.{Contents, block_at, slot_of, marks_at, KeepsEntries}
 use Rattle.bm_arena.specs.Holding.{replicas_of, blocks_of, holdings_of}
 use Rattle.bm_report.specs.declared.types.Applied.{Applied}
-use Rattle.bm_report.specs.Midway.{count_ups}
+use Rattle.bm_report.specs.DuringReport.{saturating_sum}
 
 -- A replica of block b with this stamp was received on storage s: it is added, and those on the
 -- other storages of the node leave. Only that block changes, and the delimiter keeps its slot.
@@ -20,4 +20,4 @@ pub record HasReceived (C : Cluster) (s b : ℕ) (stamp : Stamp) (old new : Cont
   pub added : r.added ≡ new_replicas (replicas_of old) (replicas_of new)
   pub removed : r.removed ≡ new_replicas (replicas_of new) (replicas_of old)
   pub steps : r.steps ≡ r.added + r.removed
-  pub counted : new.steps ≡ count_ups r.steps old.steps
+  pub counted : new.steps ≡ saturating_sum r.steps old.steps

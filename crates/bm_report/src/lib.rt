@@ -10,25 +10,25 @@
 //! Contracts describe the blocks and replicas of an arena by two finite maps.
 #![tactic(auto)]
 
-mod aborting;
-mod applying;
-mod by_number;
-mod entering;
-mod entering_chunks;
+mod aborted_report;
+mod full_report;
+mod uncached_numbers;
+mod reported_block;
+mod reported_chunks;
 mod first_of_part;
 mod look_up;
-mod marking;
+mod reported_marks;
 mod notices;
 mod report;
-mod room_for_replica;
-mod sister_storages;
-mod sweeping;
-mod tally;
+mod replica_capacity;
+mod sibling_storages;
+mod sweep;
+mod report_counts;
 mod types;
-mod without_report;
+mod uncached_report;
 
-pub use aborting::abort;
+pub use aborted_report::abort;
 pub use notices::{apply_deleted, apply_received};
 pub use report::Report;
 pub use types::Applied;
-pub use without_report::{apply_full, ready};
+pub use uncached_report::{apply_full, ready};

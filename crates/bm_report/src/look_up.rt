@@ -2,16 +2,16 @@
 ghost use Rattle.std.specs.Prelude.{◌≡◌, ◌≢◌, ◌<◌, ◌≤◌, ◌+◌, ◌-◌, ◌^◌, ◌==◌, ◌++◌, ◌∷◌, [], map, ℕ, slice_get, IsSome, IsOk, IfOk, IfErr, OnOk, OnErr, None, Some, false, length};
 ghost use Rattle.bm_base.specs.declared.refusal.Refusal.TheVariants.{Memory};
 ghost use Rattle.bm_arena.specs.Contents.{slot_of, HasHead};
-ghost use Rattle.bm_base.specs.Machine.Entries.{told_by};
+ghost use Rattle.bm_base.specs.Machine.Entries.{blocks_of_entry};
 ghost use Rattle.bm_base.specs.Machine.Events.{is_named};
-ghost use Rattle.bm_report.specs.Midway.{AreHere, HaveRoom, told_of};
+ghost use Rattle.bm_report.specs.DuringReport.{AreAtSlots, HaveCapacity, reported_of};
 ghost use Rattle.bm_report.specs.Aborted.{NamesNew};
-ghost use Rattle.bm_report.specs.Expanded.{IsPrepared, of_part, told_to};
+ghost use Rattle.bm_report.specs.Expanded.{IsPrepared, of_part, reported_to_part};
 ghost use Rattle.bm_report.specs.Ready.{HasReplica, HaveReplicas};
 
 use crate::first_of_part::first_of_part;
-use crate::room_for_replica::make_room;
-use crate::types::Named;
+use crate::replica_capacity::reserve_replica;
+use crate::types::ReportedSlot;
 use bm_arena::{Arena, Slot};
 use bm_base::{BlockId, Entry, Part, Refusal, Stamp, StorageId};
 
@@ -27,7 +27,7 @@ fn slot_for(arena: &mut Arena, id: BlockId) -> Result<Slot, Refusal>
     ensures known { IsSome (slot_of arena.old id) → IsOk result × (arena.new ≡ arena.old) }
     ensures refused { IfErr result (λ e. e ≡ Memory) }
 {
-    arena.lawful();
+    arena.show_invariant();
     arena.add_entry(id)
 }
 
@@ -38,26 +38,26 @@ fn look_up_one(
     storage: StorageId,
     id: BlockId,
     stamp: Stamp,
-    named: &mut Vec<Named>,
+    named: &mut Vec<ReportedSlot>,
 ) -> Result<(), Refusal>
-    requires here { AreHere arena.old named.old.items }
-    requires room { HaveRoom arena.old storage named.old.items }
+    requires here { AreAtSlots arena.old named.old.items }
+    requires room { HaveCapacity arena.old storage named.old.items }
     ensures kept { IsPrepared arena.old arena.new }
     ensures others { (b : ℕ) → b ≢ id → slot_of arena.new b ≡ slot_of arena.old b }
-    ensures here { OnOk result (AreHere arena.new named.new.items) }
-    ensures room { OnOk result (HaveRoom arena.new storage named.new.items) }
-    ensures named { OnOk result (map told_of named.new.items ≡ map told_of named.old.items
+    ensures here { OnOk result (AreAtSlots arena.new named.new.items) }
+    ensures room { OnOk result (HaveCapacity arena.new storage named.new.items) }
+    ensures named { OnOk result (map reported_of named.new.items ≡ map reported_of named.old.items
         ++ record { id = id; stamp = stamp } ∷ []) }
     ensures fresh { NamesNew arena.old arena.new named.old.items named.new.items }
     ensures there { HasReplica arena.old storage id → arena.new ≡ arena.old }
     ensures refused { IfErr result (λ e. e ≡ Memory) }
 {
     named.reserve(1)?;
-    arena.lawful();
+    arena.show_invariant();
     let slot = slot_for(arena, id)?;
-    named.push_reserved(Named { id, slot, stamp });
-    arena.lawful();
-    make_room(arena, slot, storage)?;
+    named.push_reserved(ReportedSlot { id, slot, stamp });
+    arena.show_invariant();
+    reserve_replica(arena, slot, storage)?;
     Ok(())
 }
 
@@ -68,28 +68,28 @@ fn look_up_run(
     storage: StorageId,
     entry: &Entry,
     part: Part,
-    named: &mut Vec<Named>,
+    named: &mut Vec<ReportedSlot>,
 ) -> Result<(), Refusal>
     requires shards { 0 < part.shards }
     requires index { part.index < part.shards }
-    requires here { AreHere arena.old named.old.items }
-    requires room { HaveRoom arena.old storage named.old.items }
+    requires here { AreAtSlots arena.old named.old.items }
+    requires room { HaveCapacity arena.old storage named.old.items }
     ensures kept { IsPrepared arena.old arena.new }
-    ensures others { (b : ℕ) → is_named (of_part part (told_by entry.now)) b ≡ false
+    ensures others { (b : ℕ) → is_named (of_part part (blocks_of_entry entry.now)) b ≡ false
         → slot_of arena.new b ≡ slot_of arena.old b }
-    ensures here { OnOk result (AreHere arena.new named.new.items) }
-    ensures room { OnOk result (HaveRoom arena.new storage named.new.items) }
-    ensures named { OnOk result (map told_of named.new.items ≡ map told_of named.old.items
-        ++ of_part part (told_by entry.now)) }
+    ensures here { OnOk result (AreAtSlots arena.new named.new.items) }
+    ensures room { OnOk result (HaveCapacity arena.new storage named.new.items) }
+    ensures named { OnOk result (map reported_of named.new.items ≡ map reported_of named.old.items
+        ++ of_part part (blocks_of_entry entry.now)) }
     ensures fresh { NamesNew arena.old arena.new named.old.items named.new.items }
-    ensures there { HaveReplicas arena.old storage (of_part part (told_by entry.now))
+    ensures there { HaveReplicas arena.old storage (of_part part (blocks_of_entry entry.now))
         → arena.new ≡ arena.old }
     ensures refused { IfErr result (λ e. e ≡ Memory) }
 {
     let last = u128::from(entry.to.0);
     let mut next = first_of_part(entry.from, part);
     while next <= last {
-        arena.lawful();
+        arena.show_invariant();
         look_up_one(arena, storage, BlockId(next as u64), entry.stamp, named)?;
         next += u128::from(part.shards);
     }
@@ -104,18 +104,18 @@ fn look_up_all(
     storage: StorageId,
     entries: &[Entry],
     part: Part,
-    named: &mut Vec<Named>,
+    named: &mut Vec<ReportedSlot>,
 ) -> Result<(), Refusal>
     requires shards { 0 < part.shards }
     requires index { part.index < part.shards }
     ensures kept { IsPrepared arena.old arena.new }
-    ensures others { (b : ℕ) → is_named (told_to part entries.now) b ≡ false
+    ensures others { (b : ℕ) → is_named (reported_to_part part entries.now) b ≡ false
         → slot_of arena.new b ≡ slot_of arena.old b }
-    ensures here { OnOk result (AreHere arena.new named.new.items) }
-    ensures room { OnOk result (HaveRoom arena.new storage named.new.items) }
-    ensures named { OnOk result (map told_of named.new.items ≡ told_to part entries.now) }
+    ensures here { OnOk result (AreAtSlots arena.new named.new.items) }
+    ensures room { OnOk result (HaveCapacity arena.new storage named.new.items) }
+    ensures named { OnOk result (map reported_of named.new.items ≡ reported_to_part part entries.now) }
     ensures fresh { NamesNew arena.old arena.new [] named.new.items }
-    ensures there { HaveReplicas arena.old storage (told_to part entries.now)
+    ensures there { HaveReplicas arena.old storage (reported_to_part part entries.now)
         → arena.new ≡ arena.old }
     ensures refused { IfErr result (λ e. e ≡ Memory) }
 {
@@ -136,7 +136,7 @@ fn read_ahead(
     entries: &[Entry],
     place: usize,
     part: Part,
-    named: &mut Vec<Named>,
+    named: &mut Vec<ReportedSlot>,
 ) -> Result<(), Refusal>
     requires { place < length entries.now }
     ensures named { named.new.items ≡ named.old.items }
@@ -182,20 +182,20 @@ pub(crate) fn look_up(
     storage: StorageId,
     entries: &[Entry],
     part: Part,
-    named: &mut Vec<Named>,
+    named: &mut Vec<ReportedSlot>,
 ) -> Result<(), Refusal>
     requires shards { 0 < part.shards }
     requires index { part.index < part.shards }
     ensures kept { IsPrepared arena.old arena.new }
-    ensures others { (b : ℕ) → is_named (told_to part entries.now) b ≡ false
+    ensures others { (b : ℕ) → is_named (reported_to_part part entries.now) b ≡ false
         → slot_of arena.new b ≡ slot_of arena.old b }
     ensures head { OnOk result (HasHead arena.new storage) }
-    ensures here { OnOk result (AreHere arena.new named.new.items) }
-    ensures room { OnOk result (HaveRoom arena.new storage named.new.items) }
-    ensures named { OnOk result (map told_of named.new.items ≡ told_to part entries.now) }
+    ensures here { OnOk result (AreAtSlots arena.new named.new.items) }
+    ensures room { OnOk result (HaveCapacity arena.new storage named.new.items) }
+    ensures named { OnOk result (map reported_of named.new.items ≡ reported_to_part part entries.now) }
     ensures fresh { NamesNew arena.old arena.new [] named.new.items }
     ensures there { HasHead arena.old storage
-        → HaveReplicas arena.old storage (told_to part entries.now) → arena.new ≡ arena.old }
+        → HaveReplicas arena.old storage (reported_to_part part entries.now) → arena.new ≡ arena.old }
     ensures refused { IfErr result (λ e. e ≡ Memory) }
 {
     reserve_head(arena, storage)?;
@@ -209,23 +209,23 @@ pub(crate) fn look_up_alone(
     storage: StorageId,
     id: BlockId,
     stamp: Stamp,
-    named: &mut Vec<Named>,
+    named: &mut Vec<ReportedSlot>,
 ) -> Result<(), Refusal>
     ensures kept { IsPrepared arena.old arena.new }
     ensures others { (b : ℕ) → b ≢ id → slot_of arena.new b ≡ slot_of arena.old b }
     ensures head { OnOk result (HasHead arena.new storage) }
-    ensures here { OnOk result (AreHere arena.new named.new.items) }
-    ensures room { OnOk result (HaveRoom arena.new storage named.new.items) }
-    ensures named { OnOk result (map told_of named.new.items
+    ensures here { OnOk result (AreAtSlots arena.new named.new.items) }
+    ensures room { OnOk result (HaveCapacity arena.new storage named.new.items) }
+    ensures named { OnOk result (map reported_of named.new.items
         ≡ record { id = id; stamp = stamp } ∷ []) }
     ensures fresh { NamesNew arena.old arena.new [] named.new.items }
     ensures there { HasReplica arena.old storage id → arena.new ≡ arena.old }
     ensures refused { IfErr result (λ e. e ≡ Memory) }
 {
     named.clear();
-    arena.lawful();
+    arena.show_invariant();
     reserve_head(arena, storage)?;
-    arena.lawful();
+    arena.show_invariant();
     look_up_one(arena, storage, id, stamp, named)
 }
 
@@ -236,6 +236,6 @@ fn reserve_head(arena: &mut Arena, storage: StorageId) -> Result<(), Refusal>
     ensures had { HasHead arena.old storage → IsOk result × (arena.new ≡ arena.old) }
     ensures refused { IfErr result (λ e. e ≡ Memory) }
 {
-    arena.lawful();
+    arena.show_invariant();
     arena.reserve_heads(&[storage])
 }

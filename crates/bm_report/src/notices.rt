@@ -3,20 +3,20 @@ ghost use Rattle.std.specs.Prelude.{◌≡◌, ◌≢◌, ◌+◌, ℕ, if◌the
 ghost use Rattle.bm_base.specs.Maps.Map.{remove};
 ghost use Rattle.bm_base.specs.Machine.State.{replica_at};
 ghost use Rattle.bm_base.specs.Machine.Calls as calls;
-ghost use Rattle.bm_arena.specs.Contents.{block_at, slot_of, marks_at, HasHead, HasRoom, KeepsEntries};
+ghost use Rattle.bm_arena.specs.Contents.{block_at, slot_of, marks_at, HasHead, HasCapacity, KeepsEntries};
 ghost use Rattle.bm_arena.specs.Holding.{replicas_of, blocks_of};
-ghost use Rattle.bm_report.specs.Midway.{count_ups, IsOncePerNode};
-ghost use Rattle.bm_report.specs.Ready.{HasPlace};
+ghost use Rattle.bm_report.specs.DuringReport.{saturating_sum, IsOncePerNode};
+ghost use Rattle.bm_report.specs.Ready.{HasSlotFor};
 ghost use Rattle.bm_report.specs.Received.{HasReceived};
 
-use crate::entering::link_new;
-use crate::marking::{midway_marks, without_lost_excess};
-use crate::types::{Applied, Named};
+use crate::reported_block::link_new;
+use crate::reported_marks::{marks_during_report, without_invalid_excess};
+use crate::types::{Applied, ReportedSlot};
 use bm_arena::Arena;
 use bm_base::{BlockId, Stamp, StorageId};
 use bm_topo::Topology;
 
-const NOTHING: Applied = Applied {
+const NO_CHANGE: Applied = Applied {
     added: 0,
     removed: 0,
     steps: 0,
@@ -27,38 +27,38 @@ pub(crate) fn receive(
     arena: &mut Arena,
     topology: &Topology,
     storage: StorageId,
-    named: &Named,
+    named: &ReportedSlot,
 ) -> Applied
     requires here { slot_of arena.old named.now.id ≡ Some named.now.slot }
     requires head { HasHead arena.old storage }
     requires room { marks_at arena.old named.now.slot storage ≡ None
-        → HasRoom arena.old named.now.slot }
+        → HasCapacity arena.old named.now.slot }
     requires once { IsOncePerNode topology.now.cluster (replicas_of arena.old) }
     ensures { HasReceived topology.now.cluster storage named.now.id named.now.stamp arena.old
         arena.new result }
 {
     let was = arena.marks(named.slot, storage);
-    let marks = without_lost_excess(midway_marks(arena.info(named.slot), was, &named.stamp));
+    let marks = without_invalid_excess(marks_during_report(arena.info(named.slot), was, &named.stamp));
     match was {
         Some(_) => {
-            arena.lawful();
+            arena.show_invariant();
             arena.set_marks(named.slot, storage, marks);
-            NOTHING
+            NO_CHANGE
         }
-        None => applied_link(link_new(arena, topology, named, storage, marks)),
+        None => applied_by_link(link_new(arena, topology, named, storage, marks)),
     }
 }
 
 /// What linking a block did, which may have left another storage of the node.
-fn applied_link(has_left: bool) -> Applied
+fn applied_by_link(left_sibling: bool) -> Applied
     ensures added { result.added ≡ 1 }
-    ensures removed { result.removed ≡ (if has_left then 1 else 0) }
-    ensures steps { result.steps ≡ (if has_left then 2 else 1) }
+    ensures removed { result.removed ≡ (if left_sibling then 1 else 0) }
+    ensures steps { result.steps ≡ (if left_sibling then 2 else 1) }
 {
     Applied {
         added: 1,
-        removed: if has_left { 1 } else { 0 },
-        steps: if has_left { 2 } else { 1 },
+        removed: if left_sibling { 1 } else { 0 },
+        steps: if left_sibling { 2 } else { 1 },
     }
 }
 
@@ -73,12 +73,12 @@ pub fn apply_received(
     stamp: Stamp,
 ) -> Applied
     requires head { HasHead arena.old storage }
-    requires place { HasPlace arena.old storage id }
+    requires place { HasSlotFor arena.old storage id }
     requires once { IsOncePerNode topology.now.cluster (replicas_of arena.old) }
     ensures { HasReceived topology.now.cluster storage id stamp arena.old arena.new result }
 {
     match arena.find(id) {
-        Some(slot) => receive(arena, topology, storage, &Named { id, slot, stamp }),
+        Some(slot) => receive(arena, topology, storage, &ReportedSlot { id, slot, stamp }),
         None => unreachable!(),
     }
 }
@@ -99,14 +99,14 @@ pub fn apply_deleted(arena: &mut Arena, storage: StorageId, id: BlockId) -> Appl
     ensures removed { result.removed
         ≡ calls.new_replicas (replicas_of arena.new) (replicas_of arena.old) }
     ensures steps { result.steps ≡ result.added + result.removed }
-    ensures counted { arena.new.steps ≡ count_ups result.steps arena.old.steps }
+    ensures counted { arena.new.steps ≡ saturating_sum result.steps arena.old.steps }
 {
-    arena.lawful();
+    arena.show_invariant();
     let Some(slot) = arena.find(id) else {
-        return NOTHING;
+        return NO_CHANGE;
     };
     if arena.marks(slot, storage).is_none() {
-        return NOTHING;
+        return NO_CHANGE;
     }
     arena.unlink(slot, storage);
     Applied {

@@ -3,20 +3,20 @@ ghost use Rattle.std.specs.Prelude.{◌≡◌, ◌≢◌, ◌<◌, ◌≤◌, �
 ghost use Rattle.bm_base.specs.declared.refusal.Refusal.TheVariants.{Memory};
 ghost use Rattle.bm_base.specs.Machine.Events as events;
 ghost use Rattle.bm_base.specs.Machine.Calls as calls;
-ghost use Rattle.bm_maps.specs.SlotLists.{Among};
+ghost use Rattle.bm_maps.specs.SlotLists.{IsMember};
 ghost use Rattle.bm_arena.specs.Contents.{block_at, slot_of, marks_at, HasHead, IsEntry, KeepsEntries};
 ghost use Rattle.bm_arena.specs.Holding.{replicas_of, blocks_of, holdings_of};
-ghost use Rattle.bm_report.specs.Midway.{IsOncePerNode, count_ups, slot_in};
-ghost use Rattle.bm_report.specs.Expanded.{IsPrepared, told_to};
-ghost use Rattle.bm_report.specs.Aborted.{is_bare_number};
+ghost use Rattle.bm_report.specs.DuringReport.{IsOncePerNode, saturating_sum, slot_in};
+ghost use Rattle.bm_report.specs.Expanded.{IsPrepared, reported_to_part};
+ghost use Rattle.bm_report.specs.Aborted.{is_unused_number};
 ghost use Rattle.bm_report.specs.Received.{HasReceived};
-ghost use Rattle.bm_report.specs.Ready.{told, IsLookedUp, IsReady, IsToldAt, HasGoodExcess, HasReplica, HaveReplicas, StandAlready};
+ghost use Rattle.bm_report.specs.Ready.{reported_blocks, IsLookedUp, IsReady, IsReportedAt, HasGoodExcess, HasReplica, HaveReplicas, AreAlreadyThere};
 
-use crate::aborting::abort_named;
-use crate::applying::apply;
+use crate::aborted_report::abort_named;
+use crate::full_report::apply;
 use crate::look_up::{look_up, look_up_alone};
 use crate::notices::receive;
-use crate::types::{Applied, Named};
+use crate::types::{Applied, ReportedSlot};
 use bm_arena::{Arena, Slot};
 use bm_base::{BlockId, Entry, Part, Refusal, Stamp, StorageId};
 use bm_topo::Topology;
@@ -29,17 +29,17 @@ use std::marker::Model;
 /// reports, so that its capacity is allocated once.
 #[derive(Drop)]
 pub struct Report {
-    named: Vec<Named>,
+    named: Vec<ReportedSlot>,
     changed: Vec<Slot>,
     /// How many of the changed slots were listed before the sweep: their blocks have a replica.
     came: usize,
 }
 
 impl Model for Report {
-    ghost use Rattle.bm_report.specs.Aborted.{is_bare_number};
-    ghost use Rattle.bm_report.specs.Ready.{Looked};
+    ghost use Rattle.bm_report.specs.Aborted.{is_unused_number};
+    ghost use Rattle.bm_report.specs.Ready.{LookedUpReport};
 
-    ghost Value = { Looked };
+    ghost Value = { LookedUpReport };
 
     ghost use Rattle.std.specs.Prelude.{vec_capacity};
 
@@ -54,7 +54,7 @@ impl Model for Report {
 impl Report {
     /// A report that names no number. Takes no memory.
     pub fn new(alloc: Global) -> Report
-        ensures told { told result ≡ [] }
+        ensures told { reported_blocks result ≡ [] }
         ensures changed { result.changed ≡ [] }
     {
         Report {
@@ -76,22 +76,22 @@ impl Report {
         part: Part,
     ) -> Result<(), Refusal>
         requires part { part.index < part.shards }
-        ensures told { OnOk result (told self.new ≡ told_to part entries.now) }
+        ensures told { OnOk result (reported_blocks self.new ≡ reported_to_part part entries.now) }
         ensures ready { OnOk result (IsReady self.new arena.new storage) }
         ensures changed { OnOk result (self.new.changed ≡ []) }
         ensures kept { IsPrepared arena.old arena.new }
-        ensures others { (b : ℕ) → events.is_named (told_to part entries.now) b ≡ false
+        ensures others { (b : ℕ) → events.is_named (reported_to_part part entries.now) b ≡ false
             → slot_of arena.new b ≡ slot_of arena.old b }
         ensures fresh { (b : ℕ) → slot_of arena.old b ≡ None → IsSome (slot_of arena.new b)
-            → IsTrue (events.is_named (told self.new) b) }
+            → IsTrue (events.is_named (reported_blocks self.new) b) }
         ensures there { HasHead arena.old storage
-            → HaveReplicas arena.old storage (told_to part entries.now) → arena.new ≡ arena.old }
+            → HaveReplicas arena.old storage (reported_to_part part entries.now) → arena.new ≡ arena.old }
         ensures refused { IfErr result (λ e. e ≡ Memory) }
     {
         look_up(arena, storage, entries, part, &mut self.named)?;
-        arena.lawful();
+        arena.show_invariant();
         self.changed.clear();
-        let room = room_to_list(self.named.len(), arena.slot_bound())?;
+        let room = list_capacity(self.named.len(), arena.slot_bound())?;
         self.changed.reserve(room)?;
         Ok(())
     }
@@ -106,12 +106,12 @@ impl Report {
         id: BlockId,
         stamp: Stamp,
     ) -> Result<(), Refusal>
-        ensures told { OnOk result (told self.new ≡ record { id = id; stamp = stamp } ∷ []) }
+        ensures told { OnOk result (reported_blocks self.new ≡ record { id = id; stamp = stamp } ∷ []) }
         ensures looked_up { OnOk result (IsLookedUp self.new arena.new storage) }
         ensures kept { IsPrepared arena.old arena.new }
         ensures others { (b : ℕ) → b ≢ id → slot_of arena.new b ≡ slot_of arena.old b }
         ensures fresh { (b : ℕ) → slot_of arena.old b ≡ None → IsSome (slot_of arena.new b)
-            → IsTrue (events.is_named (told self.new) b) }
+            → IsTrue (events.is_named (reported_blocks self.new) b) }
         ensures there { HasReplica arena.old storage id → arena.new ≡ arena.old }
         ensures refused { IfErr result (λ e. e ≡ Memory) }
     {
@@ -143,31 +143,31 @@ impl Report {
         requires free { marks_at arena.old arena.old.delimiter storage ≡ None }
         ensures replicas { replicas_of arena.new
             ≡ (events.report topology.now.cluster (holdings_of arena.old) storage
-            (told self.old)).replicas }
+            (reported_blocks self.old)).replicas }
         ensures blocks { blocks_of arena.new ≡ blocks_of arena.old }
         ensures entries { KeepsEntries arena.old arena.new }
         ensures once { IsOncePerNode topology.now.cluster (replicas_of arena.new) }
         ensures good { HasGoodExcess (replicas_of arena.new) }
         ensures free { (t : ℕ)
             → marks_at arena.new arena.new.delimiter t ≡ marks_at arena.old arena.old.delimiter t }
-        ensures listed { (slot : ℕ) → Among slot self.new.changed
-            → Among slot self.old.changed ⊎ IsEntry arena.old slot }
+        ensures listed { (slot : ℕ) → IsMember slot self.new.changed
+            → IsMember slot self.old.changed ⊎ IsEntry arena.old slot }
         ensures changed { (slot : ℕ) → slot ≢ arena.old.delimiter
-            → (Among slot self.new.changed → ⊥)
+            → (IsMember slot self.new.changed → ⊥)
             → block_at arena.new slot ≡ block_at arena.old slot }
-        ensures unchanged { StandAlready (holdings_of arena.old) storage (told self.old)
+        ensures unchanged { AreAlreadyThere (holdings_of arena.old) storage (reported_blocks self.old)
             → result.removed ≡ 0 → self.new.changed ≡ self.old.changed }
         ensures split { self.new.came ≤ length self.new.changed }
-        ensures came { (slot : ℕ) → Among slot (take self.new.came self.new.changed)
-            → Among slot self.old.changed ⊎ IsToldAt arena.old (told self.old) slot }
-        ensures told { told self.new ≡ told self.old }
+        ensures came { (slot : ℕ) → IsMember slot (take self.new.came self.new.changed)
+            → IsMember slot self.old.changed ⊎ IsReportedAt arena.old (reported_blocks self.old) slot }
+        ensures told { reported_blocks self.new ≡ reported_blocks self.old }
         ensures added { result.added
             ≡ calls.new_replicas (replicas_of arena.old) (replicas_of arena.new) }
         ensures removed { result.removed
             ≡ calls.new_replicas (replicas_of arena.new) (replicas_of arena.old) }
         ensures few { (result.added < 2 ^ 100) × (result.removed < 2 ^ 100) }
-        ensures steps { result.steps ≡ length (told self.old) + result.removed + 2 }
-        ensures counted { arena.new.steps ≡ count_ups result.steps arena.old.steps }
+        ensures steps { result.steps ≡ length (reported_blocks self.old) + result.removed + 2 }
+        ensures counted { arena.new.steps ≡ saturating_sum result.steps arena.old.steps }
     {
         apply(
             arena,
@@ -189,7 +189,7 @@ impl Report {
         id: BlockId,
         stamp: Stamp,
     ) -> Applied
-        requires told { told self.now ≡ record { id = id; stamp = stamp } ∷ [] }
+        requires told { reported_blocks self.now ≡ record { id = id; stamp = stamp } ∷ [] }
         requires looked_up { IsLookedUp self.now arena.old storage }
         requires once { IsOncePerNode topology.now.cluster (replicas_of arena.old) }
         ensures { HasReceived topology.now.cluster storage id stamp arena.old arena.new result }
@@ -200,7 +200,7 @@ impl Report {
     /// Aborts the report: drops the unused entries of its numbers, without a block and replicas,
     /// and forgets the numbers. All blocks and replicas stay. Takes no memory.
     pub fn abort(&mut self, arena: &mut Arena)
-        ensures told { told self.new ≡ [] }
+        ensures told { reported_blocks self.new ≡ [] }
         ensures replicas { replicas_of arena.new ≡ replicas_of arena.old }
         ensures blocks { blocks_of arena.new ≡ blocks_of arena.old }
         ensures lists { arena.new.lists ≡ arena.old.lists }
@@ -210,7 +210,7 @@ impl Report {
         ensures steps { arena.new.steps ≡ arena.old.steps }
         ensures numbers { (b : ℕ)
             → slot_of arena.new b
-            ≡ (if events.is_named (told self.old) b && is_bare_number arena.old b then None
+            ≡ (if events.is_named (reported_blocks self.old) b && is_unused_number arena.old b then None
             else slot_of arena.old b) }
         ensures entries { (b slot : ℕ) → slot_of arena.new b ≡ Some slot
             → block_at arena.new slot ≡ block_at arena.old slot }
@@ -240,7 +240,7 @@ impl Report {
 
 /// Upper bound on the changed slots: those reported plus those swept. `Memory` if it overflows.
 /// Takes no memory.
-fn room_to_list(named: usize, slots: usize) -> Result<usize, Refusal>
+fn list_capacity(named: usize, slots: usize) -> Result<usize, Refusal>
     ensures room { IfOk result (λ room. room ≡ named + slots) }
     ensures fits { IsOk result ↔ (named + slots < 2 ^ 64) }
     ensures refused { IfErr result (λ e. e ≡ Memory) }

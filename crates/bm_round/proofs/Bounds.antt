@@ -15,9 +15,9 @@ use Rattle.bm_base.specs.Machine.State.{RoundLimits, Cluster}
 use Rattle.bm_base.specs.Maps.Lists.{has, has_repeats}
 use Rattle.bm_base.specs.Machine.Replicas.{node_of, has_storage}
 use Rattle.bm_base.specs.Choices.{merged_wishes, merged_deletes, one_by_one, transfer_by, transfers_over, chosen_transfers, first_of_each_node, chosen_deletes}
-use Rattle.bm_base.proofs.Each.{Each, each_passing, each_then}
+use Rattle.bm_base.proofs.ForEach.{Each, each_passing, each_then}
 use Rattle.bm_base.proofs.OneWish.{once_keys}
-use Rattle.bm_round.proofs.Copying.{none_has}
+use Rattle.bm_round.proofs.WishCopies.{none_has}
 
 -- Transfers.
 

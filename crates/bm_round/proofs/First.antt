@@ -14,12 +14,12 @@ use Rattle.bm_base.specs.Machine.State.{RoundLimits, Cluster}
 use Rattle.bm_base.specs.Ordered.{pair_cmp, by_pair}
 use Rattle.bm_base.specs.RoundParts.{wish_key}
 use Rattle.bm_base.specs.Choices.{merged_wishes, one_by_one, transfers_over, chosen_transfers}
-use Rattle.bm_base.proofs.Each.{Each}
+use Rattle.bm_base.proofs.ForEach.{Each}
 use Rattle.bm_parts.specs.Before.{part_before}
 use Rattle.bm_parts.proofs.Before.{merged_before}
 use Rattle.bm_parts.proofs.Filters.{filter_none}
-use Rattle.bm_round.proofs.Keyed.{merged_wishes_rise}
-use Rattle.bm_round.proofs.Copying.{over_append, full_stays}
+use Rattle.bm_round.proofs.KeyedLists.{merged_wishes_ascend}
+use Rattle.bm_round.proofs.WishCopies.{over_append, full_stays}
 
 -- Those before a bound come first.
 
@@ -69,7 +69,7 @@ module _ (limits : RoundLimits) (C : Cluster) (bound : ℕ × ℕ) (ps : List Ro
   unfolding chosen_transfers
   full_by_first full =
       let cut = merged_wishes (map (part_before (Some bound)) ps) in
-      let early = first_ones wish_key bound (merged_wishes ps) (merged_wishes_rise ps) in
+      let early = first_ones wish_key bound (merged_wishes ps) (merged_wishes_ascend ps) in
       let whole : merged_wishes ps ≡ cut ++ early.0 = early.1 ∙ ap (λ ws. ws ++ early.0) (sym (merged_before (Some bound) ps)) in
       sym
       (ap (λ ws. transfers_over limits C [] (one_by_one ws)) whole ∙ ap (transfers_over limits C []) (copies_append cut early.0) ∙ over_append limits C [] (one_by_one cut) (one_by_one early.0)

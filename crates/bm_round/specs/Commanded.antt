@@ -42,8 +42,8 @@ abbrev pub deletes_of_all : List NodeCommands → List Delete
 deletes_of_all ks = flat_map (λ k. k.deletes) ks
 
 -- they are sorted by node number, and each node occurs once
-abbrev pub RiseByNode : List NodeCommands → Type 0
-RiseByNode ks = T (is_sorted nat_cmp (map (λ k. (k.node, k)) ks))
+abbrev pub AscendByNode : List NodeCommands → Type 0
+AscendByNode ks = T (is_sorted nat_cmp (map (λ k. (k.node, k)) ks))
 
 -- the node has a command
 abbrev pub HasCommands : NodeCommands → Type 0

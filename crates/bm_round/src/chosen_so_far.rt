@@ -4,8 +4,8 @@ ghost use Rattle.bm_base.specs.declared.refusal.Refusal.TheVariants.{Memory};
 ghost use Rattle.bm_base.specs.Maps.Map as map;
 ghost use Rattle.bm_base.specs.Machine.State.{Cluster};
 ghost use Rattle.bm_base.specs.Choices as choices;
-ghost use Rattle.bm_place.specs.Found.{IsCountable, HasRoomFor};
-ghost use Rattle.bm_round.specs.Counted.{IsCounted};
+ghost use Rattle.bm_place.specs.Found.{IsCountable, HasFreeBytesFor};
+ghost use Rattle.bm_round.specs.TransferCounts.{IsCounted};
 
 use bm_base::{Config, Refusal, StorageId, Transfer, Wish};
 use bm_place::{Scheduled, Streams};
@@ -24,7 +24,7 @@ pub(crate) struct ChosenSoFar {
     /// capacity.
     pub sources: Vec<StorageId>,
     pub held: Vec<StorageId>,
-    pub barred: Vec<StorageId>,
+    pub excluded: Vec<StorageId>,
 }
 
 impl ChosenSoFar {
@@ -42,7 +42,7 @@ impl ChosenSoFar {
             scheduled,
             sources: Vec::new(alloc),
             held: Vec::new(alloc),
-            barred: Vec::new(alloc),
+            excluded: Vec::new(alloc),
         })
     }
 
@@ -55,10 +55,10 @@ impl ChosenSoFar {
     }
 
     /// Begins a wish, for whose block nothing has been chosen yet.
-    pub fn turn_to(&mut self, wish: &Wish) -> Result<(), Refusal>
+    pub fn begin_wish(&mut self, wish: &Wish) -> Result<(), Refusal>
         ensures sources { OnOk result (self.new.sources.items ≡ choices.sources_by wish.now) }
         ensures held { OnOk result (self.new.held.items ≡ wish.now.live ++ wish.now.pending) }
-        ensures barred { OnOk result (self.new.barred.items ≡ wish.now.pairs ++ wish.now.pending) }
+        ensures excluded { OnOk result (self.new.excluded.items ≡ wish.now.pairs ++ wish.now.pending) }
         ensures transfers { self.new.transfers ≡ self.old.transfers }
         ensures streams { self.new.streams ≡ self.old.streams }
         ensures scheduled { self.new.scheduled ≡ self.old.scheduled }
@@ -70,22 +70,22 @@ impl ChosenSoFar {
         self.held.clear();
         self.held.extend_from_slice(wish.live.as_slice())?;
         self.held.extend_from_slice(wish.pending.as_slice())?;
-        self.barred.clear();
-        self.barred.extend_from_slice(wish.pairs.as_slice())?;
-        self.barred.extend_from_slice(wish.pending.as_slice())?;
+        self.excluded.clear();
+        self.excluded.extend_from_slice(wish.pairs.as_slice())?;
+        self.excluded.extend_from_slice(wish.pending.as_slice())?;
         Ok(())
     }
 
     /// Adds a transfer for the current wish. Its node may send one more, and its length fits.
     pub fn add(&mut self, transfer: Transfer) -> Result<(), Refusal>
         requires countable { IsCountable self.old.streams transfer.source }
-        requires fits { HasRoomFor self.old.scheduled transfer.stamp.len transfer.target }
+        requires fits { HasFreeBytesFor self.old.scheduled transfer.stamp.len transfer.target }
         ensures transfers { OnOk result (self.new.transfers.items ≡ self.old.transfers.items
             ++ transfer ∷ []) }
         ensures sources { self.new.sources ≡ self.old.sources }
         ensures held { OnOk result (self.new.held.items ≡ self.old.held.items
             ++ transfer.target ∷ []) }
-        ensures barred { OnOk result (self.new.barred.items ≡ self.old.barred.items
+        ensures excluded { OnOk result (self.new.excluded.items ≡ self.old.excluded.items
             ++ transfer.target ∷ []) }
         ensures counted { (C : Cluster) → IsCounted C self.old
             → OnOk result (IsCounted C self.new) }
@@ -96,7 +96,7 @@ impl ChosenSoFar {
         let len = transfer.stamp.len;
         self.transfers.push(transfer)?;
         self.held.push(target)?;
-        self.barred.push(target)?;
+        self.excluded.push(target)?;
         self.streams.add(source);
         self.scheduled.add(target, len);
         Ok(())

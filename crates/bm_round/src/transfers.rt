@@ -6,10 +6,10 @@ ghost use Rattle.bm_base.specs.Machine.State.{limits_of};
 ghost use Rattle.bm_base.specs.Maps.Lists.{has_repeats};
 ghost use Rattle.bm_base.specs.Machine.Transfers.{targets_of};
 ghost use Rattle.bm_base.specs.Choices as choices;
-ghost use Rattle.bm_place.specs.Found.{IsCountable, HasRoomFor};
+ghost use Rattle.bm_place.specs.Found.{IsCountable, HasFreeBytesFor};
 ghost use Rattle.bm_round.specs.Commanded.{with_copies};
-ghost use Rattle.bm_round.specs.Counted.{IsCounted};
-ghost use Rattle.bm_round.specs.Merging.{wishes_behind};
+ghost use Rattle.bm_round.specs.TransferCounts.{IsCounted};
+ghost use Rattle.bm_round.specs.Merging.{referenced_wishes};
 
 use crate::chosen_so_far::ChosenSoFar;
 use bm_base::{Config, Refusal, Transfer, Wish};
@@ -25,10 +25,10 @@ pub(crate) fn choose_transfers(
     topology: &Topology,
     config: &Config,
 ) -> Result<Vec<Transfer>, Refusal>
-    requires apart { has_repeats (map (λ w. w.block) (wishes_behind wishes.now)) ≡ false }
+    requires apart { has_repeats (map (λ w. w.block) (referenced_wishes wishes.now)) ≡ false }
     ensures transfers { IfOk result (λ v. v.items
         ≡ choices.transfers_over (limits_of config.now) topology.now.cluster []
-        (choices.one_by_one (wishes_behind wishes.now))) }
+        (choices.one_by_one (referenced_wishes wishes.now))) }
     ensures refused { IfErr result (λ e. e ≡ Memory) }
 {
     if wishes.is_empty() {
@@ -61,7 +61,7 @@ fn choose_copies(
     ensures counted { OnOk result (IsCounted topology.now.cluster choice.new) }
     ensures refused { IfErr result (λ e. e ≡ Memory) }
 {
-    choice.turn_to(wish)?;
+    choice.begin_wish(wish)?;
     for _copy in 0..wish.count {
         let Some(transfer) = next_copy(wish, topology, config, choice) else {
             return Ok(());
@@ -82,14 +82,14 @@ fn next_copy(
     requires counted { IsCounted topology.now.cluster choice.now }
     requires sources { choice.now.sources.items ≡ choices.sources_by wish.now }
     requires held { choice.now.held.items ≡ choices.holders_by choice.now.transfers.items wish.now }
-    requires barred { choice.now.barred.items
-        ≡ choices.barred_by choice.now.transfers.items wish.now }
+    requires excluded { choice.now.excluded.items
+        ≡ choices.excluded_by choice.now.transfers.items wish.now }
     ensures transfer { result
         ≡ choices.transfer_by (limits_of config.now) topology.now.cluster
         choice.now.transfers.items wish.now }
     ensures block { IfSome result (λ t. t.block ≡ wish.now.block) }
     ensures countable { IfSome result (λ t. IsCountable choice.now.streams t.source) }
-    ensures fits { IfSome result (λ t. HasRoomFor choice.now.scheduled t.stamp.len t.target) }
+    ensures fits { IfSome result (λ t. HasFreeBytesFor choice.now.scheduled t.stamp.len t.target) }
 {
     if choice.is_full(config, topology) {
         return None;
@@ -99,9 +99,9 @@ fn next_copy(
         return None;
     };
     let held = choice.held.as_slice();
-    let barred = choice.barred.as_slice();
+    let excluded = choice.excluded.as_slice();
     let len = wish.stamp.len;
-    let Some(target) = least_target(held, barred, len, wish.level, topology, &choice.scheduled)
+    let Some(target) = least_target(held, excluded, len, wish.level, topology, &choice.scheduled)
     else {
         return None;
     };

@@ -1,6 +1,6 @@
 -- The definitions of a run: the output for the lines of an input, and the output when the run ends.
 pub mod Ends
-pub mod Counted
+pub mod FaultCounts
 pub mod Text
 pub mod Starting
 pub mod Progress

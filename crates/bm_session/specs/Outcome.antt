@@ -27,7 +27,7 @@ pub record Finished (config : Config) (input : List ℕ) (left old new : Option 
 -- Memory was refused. The input is what was read before, and the last piece, which is no longer
 -- than the last read. All lines that ended before the piece are answered, of those that end in it
 -- some first ones, and no more is written.
-pub record WantsMemory (config : Config) (input : List ℕ) (last : ℕ) (old new : Option (List ℕ)) : Type 0 where
+pub record IsOutOfMemory (config : Config) (input : List ℕ) (last : ℕ) (old new : Option (List ℕ)) : Type 0 where
   pub done : List ℕ
   pub piece : List ℕ
   pub read : input ≡ done ++ piece
@@ -41,7 +41,7 @@ abbrev pub Faulted : Config → List ℕ → ℕ → Option (List ℕ) → Optio
 Faulted config input last old new fault.Config = (input ≡ []) × (new ≡ old)
 Faulted config input last old new fault.Read = (length input ≤ MAX_BYTES) × (length (lines_of input) ≤ MAX_LINES) × Appends old new (texts (first_state config) (whole_lines input))
 Faulted config input last old new fault.Write = Unit {0}
-Faulted config input last old new fault.Memory = WantsMemory config input last old new
+Faulted config input last old new fault.Memory = IsOutOfMemory config input last old new
 Faulted config input last old new fault.TooMuch = IsTooMuch input × Appends old new (texts (first_state config) (take MAX_LINES (whole_lines (take MAX_BYTES input))))
 
 abbrev pub Leaves : Config → List ℕ → Option (List ℕ) → ℕ → Option (List ℕ) → Option (List ℕ) → Result Summary Fault → Type 0

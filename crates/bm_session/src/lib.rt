@@ -4,16 +4,16 @@
 //!
 //! `run` is the whole of it. `specs/` defines the text that answers an input (`Text`), the output
 //! if a run ends early (`Outcome`), and how readers and writers count their failures (`Ends`,
-//! `Counted`).
+//! `FaultCounting`).
 #![tactic(auto)]
 
-mod ends;
+mod fault_counting;
 mod fault;
 mod limits;
 mod reply;
 mod session;
 mod whole_run;
 
-pub use ends::{Counted, Sink, Source};
+pub use fault_counting::{FaultCounting, Sink, Source};
 pub use fault::{Fault, Summary};
 pub use whole_run::run;

@@ -6,7 +6,7 @@ ghost use Rattle.bm_lines.specs.Held.{Holds, is_begun};
 ghost use Rattle.bm_session.specs.Starting.{StartFault};
 ghost use Rattle.bm_session.specs.declared.limits.TheConstants.{MAX_LINES};
 
-use crate::ends::Sink;
+use crate::fault_counting::Sink;
 use crate::fault::{Fault, Summary};
 use crate::limits::MAX_LINES;
 use crate::reply::reply_to;

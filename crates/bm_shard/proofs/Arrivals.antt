@@ -8,15 +8,15 @@ use Rattle.bm_base.specs.declared.replica.Stamp.{Stamp}
 use Rattle.bm_base.specs.Maps.Lists.{has}
 use Rattle.bm_base.specs.Maps.Map.{Map, get, keep, remove, contains_key}
 use Rattle.bm_base.specs.Machine.State.{Cluster, Holdings, by_replica, replica_at}
-use Rattle.bm_base.specs.Machine.Events.{entered, report, is_named}
+use Rattle.bm_base.specs.Machine.Events.{entered_marks, report, is_named}
 use Rattle.bm_base.proofs.MapLaws.{equal, same_map, get-keep, get-remove}
 use Rattle.bm_base.proofs.Ties.{replica_tie}
 use Rattle.bm_base.proofs.Clusters.{eqb_turned}
 use Rattle.bm_arena.specs.Contents.{Contents}
 use Rattle.bm_arena.specs.Holding.{replicas_of}
-use Rattle.bm_report.specs.declared.types.Named.{Named}
-use Rattle.bm_report.specs.Midway.{told_of}
-use Rattle.bm_report.proofs.Reported.{last_stamp, report_own}
+use Rattle.bm_report.specs.declared.types.ReportedSlot.{ReportedSlot}
+use Rattle.bm_report.specs.DuringReport.{reported_of}
+use Rattle.bm_report.proofs.ReportResult.{last_stamp, report_own}
 use Rattle.bm_shard.specs.Arrived.{has_arrived}
 
 -- a value that stays if a test fails
@@ -128,7 +128,7 @@ drop_here (x ∷ xs) (suc i) less =
 
 -- After a report exactly the named blocks have a replica on the storage.
 
-named_last : (ns : List Named) (b : ℕ) → is_named (map told_of ns) b ≡ is_some (last_stamp ns b)
+named_last : (ns : List ReportedSlot) (b : ℕ) → is_named (map reported_of ns) b ≡ is_some (last_stamp ns b)
 unfolding is_named
 named_last [] b = refl
 named_last (n ∷ ns) b = ap (λ t. (n.id == b) || t) (named_last ns b) ∙ joined (last_stamp ns b) (n.id == b)
@@ -140,18 +140,18 @@ named_last (n ∷ ns) b = ap (λ t. (n.id == b) || t) (named_last ns b) ∙ join
     joined (Some x) false = refl
 
 -- exactly the named blocks have a replica there
-pub named_there : (C : Cluster) (H : Holdings) (s : ℕ) (ns : List Named) (a : Contents) → replicas_of a ≡ (report C H s (map told_of ns)).replicas
-    → (q : ReplicaId) → (q.storage == s) ≡ true → contains_key (replicas_of a) q ≡ is_named (map told_of ns) q.block
+pub named_there : (C : Cluster) (H : Holdings) (s : ℕ) (ns : List ReportedSlot) (a : Contents) → replicas_of a ≡ (report C H s (map reported_of ns)).replicas
+    → (q : ReplicaId) → (q.storage == s) ≡ true → contains_key (replicas_of a) q ≡ is_named (map reported_of ns) q.block
 named_there C H s ns a is q own = ap (λ k. contains_key k q) is ∙ ap is_some (report_own C H s ns q own) ∙ there (last_stamp ns q.block) ∙ sym (named_last ns q.block)
   where
-    there : (l : Option Stamp) → is_some (option_map (entered H q) l) ≡ is_some l
+    there : (l : Option Stamp) → is_some (option_map (entered_marks H q) l) ≡ is_some l
     there None = refl
     there (Some x) = refl
 
-pub arrived_named : (C : Cluster) (H : Holdings) (s : ℕ) (ns : List Named) (a : Contents) → replicas_of a ≡ (report C H s (map told_of ns)).replicas
-    → (m : Map by_replica ℕ) → keep m (λ q _. not (has_arrived a s q)) ≡ keep m (λ q _. not ((q.storage == s) && is_named (map told_of ns) q.block))
+pub arrived_named : (C : Cluster) (H : Holdings) (s : ℕ) (ns : List ReportedSlot) (a : Contents) → replicas_of a ≡ (report C H s (map reported_of ns)).replicas
+    → (m : Map by_replica ℕ) → keep m (λ q _. not (has_arrived a s q)) ≡ keep m (λ q _. not ((q.storage == s) && is_named (map reported_of ns) q.block))
 arrived_named C H s ns a is m = λ i. keep m (λ q _. not (each q (q.storage == s) refl i))
   where
-    each : (q : ReplicaId) (t : Bool) → (q.storage == s) ≡ t → (t && contains_key (replicas_of a) q) ≡ (t && is_named (map told_of ns) q.block)
+    each : (q : ReplicaId) (t : Bool) → (q.storage == s) ≡ t → (t && contains_key (replicas_of a) q) ≡ (t && is_named (map reported_of ns) q.block)
     each q true own = named_there C H s ns a is q own
     each q false other = refl

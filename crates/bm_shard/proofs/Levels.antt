@@ -15,11 +15,11 @@ use Rattle.bm_base.proofs.Ties.{number_tie}
 use Rattle.bm_arena.specs.Triplets.{Block}
 use Rattle.bm_arena.specs.Contents.{block_at, slot_of, IsLawful}
 use Rattle.bm_arena.specs.Holding.{info_at}
-use Rattle.bm_levels.specs.Kept.{Kept, level_of_slot}
+use Rattle.bm_levels.specs.IndexedLevels.{IndexedLevels, level_of_slot}
 use Rattle.bm_levels.specs.Leveled.{Leveled, AreLevels, IsLeveled}
-use Rattle.bm_levels.specs.Judged.{level_in}
+use Rattle.bm_levels.specs.Status.{level_in}
 use Rattle.bm_levels.specs.Held.{holdings_with}
-use Rattle.bm_levels.proofs.Judgement.{level_unknown}
+use Rattle.bm_levels.proofs.StatusByCounts.{level_unknown}
 use Rattle.bm_levels.proofs.Levels.{level_is_at_slot}
 use Rattle.bm_shard.specs.Inside.{levels_among, levels_of}
 
@@ -33,7 +33,7 @@ then_cond : (f : ℕ → Option Level) (t : Bool) (x : ℕ) (z : Option ℕ) →
 then_cond f true x z = refl
 then_cond f false x z = refl
 
-get-levels_among : (K : Kept) (ps : List (ℕ × ℕ)) (b : ℕ) → get (levels_among K ps) b ≡ option_and_then (level_of_slot K) (lookup (nat_eq b) ps)
+get-levels_among : (K : IndexedLevels) (ps : List (ℕ × ℕ)) (b : ℕ) → get (levels_among K ps) b ≡ option_and_then (level_of_slot K) (lookup (nat_eq b) ps)
 get-levels_among K [] b = get-empty by_number b
 get-levels_among K (p ∷ ps) b =
     read (level_of_slot K p.1)

@@ -8,7 +8,7 @@ use Rattle.bm_base.specs.Machine.State.{by_replica}
 use Rattle.bm_base.specs.Machine.Calls.{new_replicas}
 use Rattle.bm_base.proofs.MapLaws.{equal, same_map, get-insert, get-remove}
 use Rattle.bm_base.proofs.Differences.{len-insert}
-use Rattle.bm_base.proofs.Maps.{get_taken}
+use Rattle.bm_base.proofs.MapEntries.{get_taken}
 use Rattle.bm_shard.proofs.Counts.{gone_by_remove}
 
 module _ (m : Map by_replica Marks) (k : ReplicaId) where

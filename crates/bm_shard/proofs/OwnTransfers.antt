@@ -9,7 +9,7 @@ use Rattle.bm_base.specs.Maps.Map.{Map, insert, insert_all}
 use Rattle.bm_base.specs.Machine.State.{by_replica, replica_at}
 use Rattle.bm_base.specs.Shards.{shard_of}
 use Rattle.bm_base.specs.RoundParts.{own_transfers}
-use Rattle.bm_pending.specs.OnTheWay.{OnTheWay, room}
+use Rattle.bm_pending.specs.PendingMap.{PendingMap, room}
 
 abbrev pub to_put : ℕ → List Transfer → List (ReplicaId × ℕ)
 to_put r ts = map (λ t. (replica_at t.block t.target, r)) ts
@@ -21,7 +21,7 @@ abbrev pub own : Part → List Transfer → List Transfer
 own part ts = own_transfers part.index part.shards ts
 
 -- with the own transfers of a list inserted too, all are pending, and there is capacity for them
-pub record AreAhead (part : Part) (round : ℕ) (p : OnTheWay) (ts : List Transfer) (all : Map by_replica ℕ) : Type 0 where
+pub record AreAhead (part : Part) (round : ℕ) (p : PendingMap) (ts : List Transfer) (all : Map by_replica ℕ) : Type 0 where
   pub transfers : insert_all p.map (to_put round (own part ts)) ≡ all
   pub places : (b : ℕ) → count_of b (own part ts) ≤ room p b
 
@@ -42,7 +42,7 @@ left_over x b F R Q false e h less =
     other true e2 a l = absurd (false≢true (sym e ∙ eq-eqb x b (sym (eqb-true b x e2))))
     other false e2 a l = omega (arith, a, l)
 
-module _ (part : Part) (round : ℕ) (p : OnTheWay) (t : Transfer) (ts : List Transfer) (all : Map by_replica ℕ) where
+module _ (part : Part) (round : ℕ) (p : PendingMap) (t : Transfer) (ts : List Transfer) (all : Map by_replica ℕ) where
   counted : (b : ℕ) → count_of b (t ∷ own part ts) ≡ cond (t.block == b) (suc (count_of b (own part ts))) (count_of b (own part ts))
   counted b = by (t.block == b)
     where
@@ -65,7 +65,7 @@ module _ (part : Part) (round : ℕ) (p : OnTheWay) (t : Transfer) (ts : List Tr
         omega (arith, first)
 
     -- it is inserted
-    pub put_one : (q : OnTheWay) → q.map ≡ insert p.map (replica_at t.block t.target) round → ((b : ℕ) → room p b ≤ room q b + (if b == t.block then 1 else 0)) → AreAhead part round q ts all
+    pub put_one : (q : PendingMap) → q.map ≡ insert p.map (replica_at t.block t.target) round → ((b : ℕ) → room p b ≤ room q b + (if b == t.block then 1 else 0)) → AreAhead part round q ts all
     put_one q is less = record {
       transfers = ap (λ m. insert_all m (to_put round (own part ts))) is ∙ sym (ap (λ xs. insert_all p.map (to_put round xs)) own_next) ∙ h.transfers;
       places = λ b. left_over t.block b (count_of b (own part ts)) (room p b) (room q b) (t.block == b) refl (first_counts b) (less b);

@@ -7,7 +7,7 @@ use Rattle.bm_base.specs.declared.replica.ReplicaId.{ReplicaId}
 use Rattle.bm_base.specs.Maps.Map.{Map, get, keep, keys, len, contains_key}
 use Rattle.bm_base.specs.Machine.State.{Cluster, Holdings, by_replica}
 use Rattle.bm_base.specs.Machine.Replicas.{has_storage, drains}
-use Rattle.bm_base.specs.Machine.Events.{begun_to_drain}
+use Rattle.bm_base.specs.Machine.Events.{begin_drain}
 use Rattle.bm_base.specs.Machine.Refusals.{knows_node}
 use Rattle.bm_base.specs.Machine.Calls.{done, new_replicas}
 use Rattle.bm_base.specs.Promises.Lawful.{IsLawfulCluster}
@@ -103,8 +103,8 @@ drains_known C n lawful = by (contains_key C.nodes n) refl (drains C n) refl
 
 -- the holdings after a node begins or ceases to drain
 pub turned : (C : Cluster) (a b : Contents) (P Q : Map by_replica ℕ) (n : ℕ) (d : Bool) → b ≡ a → Q ≡ (if d && not (drains C n) then keep P (λ q _. not (has_storage C n q.storage)) else P)
-    → holdings_with b Q ≡ (if d then begun_to_drain C (holdings_with a P) n else holdings_with a P)
-unfolding holdings_with begun_to_drain
+    → holdings_with b Q ≡ (if d then begin_drain C (holdings_with a P) n else holdings_with a P)
+unfolding holdings_with begin_drain
 turned C a b P Q n d e f = (λ i. holdings_with (e i) (f i)) ∙ by d (drains C n)
   where
     by : (x t : Bool) → holdings_with a (if x && not t then keep P (λ q _. not (has_storage C n q.storage)) else P)
@@ -113,8 +113,8 @@ turned C a b P Q n d e f = (λ i. holdings_with (e i) (f i)) ∙ by d (drains C 
     by true false = refl
     by true true = refl
 
-pub nothing_came : (C : Cluster) (H : Holdings) (n : ℕ) (d : Bool) → record { added = 0; removed = 0 } ≡ done H (if d then begun_to_drain C H n else H)
-unfolding done begun_to_drain
+pub nothing_came : (C : Cluster) (H : Holdings) (n : ℕ) (d : Bool) → record { added = 0; removed = 0 } ≡ done H (if d then begin_drain C H n else H)
+unfolding done begin_drain
 nothing_came C H n d = by d (drains C n)
   where
     nothing : (G : Holdings) → G.replicas ≡ H.replicas → record { added = 0; removed = 0 } ≡ done H G

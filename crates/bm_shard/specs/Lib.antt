@@ -1,8 +1,8 @@
 pub mod Seen
 pub mod Codes
-pub mod Bare
-pub mod Left
+pub mod Unused
+pub mod LeavingStorages
 pub mod Changed
-pub mod Standing
+pub mod UpToDate
 pub mod Inside
 pub mod Arrived

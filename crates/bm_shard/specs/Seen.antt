@@ -9,18 +9,18 @@ use Rattle.bm_base.specs.declared.event.Event.TheVariants.{AddBlock, Received, F
 use Rattle.bm_base.specs.declared.round.Chosen.{Chosen}
 use Rattle.bm_base.specs.Maps.Map.{Map, by_number}
 use Rattle.bm_base.specs.Machine.State.{Holdings}
-use Rattle.bm_base.specs.Machine.Entries.{Told, expanded}
-use Rattle.bm_maps.specs.SlotLists.{Among}
+use Rattle.bm_base.specs.Machine.Entries.{ReportedBlock, expanded}
+use Rattle.bm_maps.specs.SlotLists.{IsMember}
 use Rattle.bm_base.specs.RoundParts.{own_transfers}
-use Rattle.bm_parts.specs.Parts.{told_of}
+use Rattle.bm_parts.specs.Parts.{reported_of}
 
 -- What was looked up for a storage: the reported block of a notice, or those of a full report.
 pub data LookUp : Type 0 where
-  NoticeOf : (storage : ℕ) → (told : List Told) → LookUp
-  ReportOf : (storage : ℕ) → (told : List Told) → LookUp
+  NoticeOf : (storage : ℕ) → (told : List ReportedBlock) → LookUp
+  ReportOf : (storage : ℕ) → (told : List ReportedBlock) → LookUp
 
 -- The reservations. Only the calls that make them and the calls that need them read them.
-pub record Room : Type 0 where
+pub record Reserved : Type 0 where
   -- the numbers that have an entry
   pub entries : List ℕ
   -- the storages that have a list
@@ -39,21 +39,21 @@ pub record Seen : Type 0 where
   pub pend : ℕ
   -- the stored level of each known block that has one
   pub levels : Map by_number Level
-  pub room : Room
+  pub room : Reserved
 
 -- the reservations suffice for an event; other events take no memory
 unfoldable pub IsReadyFor : Event → Seen → Type 0
-IsReadyFor (AddBlock b stamp repl) S = Among b S.room.entries
+IsReadyFor (AddBlock b stamp repl) S = IsMember b S.room.entries
 IsReadyFor (Received s b stamp) S = S.room.report ≡ Some (NoticeOf s (record { id = b; stamp = stamp } ∷ []))
-IsReadyFor (FullReport s es) S = S.room.report ≡ Some (ReportOf s (told_of S.part.index S.part.shards (expanded es)))
+IsReadyFor (FullReport s es) S = S.room.report ≡ Some (ReportOf s (reported_of S.part.index S.part.shards (expanded es)))
 IsReadyFor _ S = Unit {0}
 
 -- whether an event needs a reservation, so that its preparation may be out of memory
-abbrev pub takes_room : Event → Bool
-takes_room (AddBlock b stamp repl) = true
-takes_room (Received s b stamp) = true
-takes_room (FullReport s es) = true
-takes_room _ = false
+abbrev pub needs_reservation : Event → Bool
+needs_reservation (AddBlock b stamp repl) = true
+needs_reservation (Received s b stamp) = true
+needs_reservation (FullReport s es) = true
+needs_reservation _ = false
 
 -- the reservations suffice for the choice of a round: each block has capacity for its transfers
 unfoldable pub IsReadyForRound : Chosen → Seen → Type 0

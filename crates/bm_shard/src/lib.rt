@@ -7,15 +7,15 @@
 //! takes the memory, [`Shard::round_commit`] ends it.
 #![tactic(auto)]
 
-mod arriving;
-mod asking;
-mod checking;
-mod clusters;
-mod committing;
-mod one_block;
+mod arrived_transfers;
+mod queries;
+mod checks;
+mod cluster_events;
+mod commit;
+mod block_events;
 mod own_transfers;
-mod preparing;
-mod receiving;
+mod preparation;
+mod reported_replicas;
 mod rounds;
 mod shard;
 

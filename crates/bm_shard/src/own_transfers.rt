@@ -3,7 +3,7 @@ ghost use Rattle.std.specs.Prelude.{◌≡◌, ◌<◌, ◌≤◌, ℕ, ◌==◌
 ghost use Rattle.bm_base.specs.Maps.Map.{insert_all};
 ghost use Rattle.bm_base.specs.Machine.State.{replica_at};
 ghost use Rattle.bm_base.specs.RoundParts.{own_transfers};
-ghost use Rattle.bm_pending.specs.OnTheWay.{room};
+ghost use Rattle.bm_pending.specs.PendingMap.{room};
 
 use bm_base::{Part, Transfer, shard_of};
 use bm_pending::PendingTransfers;

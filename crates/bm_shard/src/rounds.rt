@@ -4,13 +4,13 @@ ghost use Rattle.bm_base.specs.declared.refusal.Refusal.TheVariants.{Memory};
 ghost use Rattle.bm_base.specs.RoundParts.{round_on_part};
 ghost use Rattle.bm_parts.specs.Before.{part_before};
 ghost use Rattle.bm_shard.specs.Seen.{IsReadyForRound};
-ghost use Rattle.bm_shard.specs.Bare.{HasNoneBare, HasNoSpareRoom};
-ghost use Rattle.bm_shard.specs.Standing.{StandsIn, IsSameButRoom, next_part};
+ghost use Rattle.bm_shard.specs.Unused.{HasNoUnused, HasNoUnusedCapacity};
+ghost use Rattle.bm_shard.specs.UpToDate.{IsUpToDate, IsSameButCapacity, next_part};
 
 use crate::own_transfers::insert_own;
-use crate::shard::{Prepared, Shard};
+use crate::shard::{PreparedEvent, Shard};
 use bm_base::{Chosen, Refusal, RoundPart};
-use bm_finding::{find_round, likely_bound};
+use bm_round_scan::{find_round, likely_bound};
 use bm_parts::merge::Key;
 use bm_topo::Topology;
 
@@ -21,7 +21,7 @@ impl Shard {
     /// are scanned until it is reported. `Memory`.
     pub fn round_part(&self, round: u64, topology: &Topology) -> Result<RoundPart, Refusal>
         requires next { round ≡ self.now.round + 1 }
-        requires standing { StandsIn topology.now.cluster self.now }
+        requires standing { IsUpToDate topology.now.cluster self.now }
         ensures part { IfOk result (λ p. p ≡ next_part topology.now.cluster self.now) }
         ensures refused { IfErr result (λ e. e ≡ Memory) }
     {
@@ -37,13 +37,13 @@ impl Shard {
         bound: Option<Key>,
     ) -> Result<RoundPart, Refusal>
         requires next { round ≡ self.now.round + 1 }
-        requires standing { StandsIn topology.now.cluster self.now }
+        requires standing { IsUpToDate topology.now.cluster self.now }
         ensures part { IfOk result
             (λ p. p ≡ part_before bound (next_part topology.now.cluster self.now)) }
         ensures refused { IfErr result (λ e. e ≡ Memory) }
     {
-        self.blocks.lawful();
-        self.blocks.arena().lawful();
+        self.blocks.show_invariant();
+        self.blocks.arena().show_invariant();
         find_round(
             self.alloc,
             &self.blocks,
@@ -73,7 +73,7 @@ impl Shard {
         topology: &Topology,
     ) -> Result<(), Refusal>
         ensures ready { OnOk result (IsReadyForRound chosen.now self.new) }
-        ensures same { IsSameButRoom self.old self.new }
+        ensures same { IsSameButCapacity self.old self.new }
         ensures entries { self.new.room.entries ≡ self.old.room.entries }
         ensures refused { IfErr result (λ e. e ≡ Memory) }
     {
@@ -88,7 +88,7 @@ impl Shard {
     /// its own chosen transfers become pending. Every shard takes every round, also one in which
     /// nothing was chosen. What was prepared for an event is given up. Takes no memory.
     pub fn round_commit(&mut self, part: &RoundPart, chosen: &Chosen, topology: &Topology)
-        requires standing { StandsIn topology.now.cluster self.old }
+        requires standing { IsUpToDate topology.now.cluster self.old }
         requires part { part.now.excess ≡ (next_part topology.now.cluster self.old).excess }
         requires ready { IsReadyForRound chosen.now self.old }
         requires counted { self.old.round + 1 < 2 ^ 64 }
@@ -96,10 +96,10 @@ impl Shard {
             ≡ round_on_part topology.now.cluster self.old.pend (self.old.round + 1)
             self.old.holdings self.old.part.index self.old.part.shards chosen.now.transfers
             chosen.now.deletes }
-        ensures standing { StandsIn topology.now.cluster self.new }
+        ensures standing { IsUpToDate topology.now.cluster self.new }
         ensures part { self.new.part ≡ self.old.part }
         ensures rounds { (self.new.round ≡ self.old.round + 1) × (self.new.pend ≡ self.old.pend) }
-        ensures bare { HasNoneBare self.new }
+        ensures bare { HasNoUnused self.new }
     {
         self.abort();
         self.take_round(part, chosen, topology);
@@ -107,47 +107,47 @@ impl Shard {
 
     /// Takes the shard's next round, with nothing prepared.
     fn take_round(&mut self, part: &RoundPart, chosen: &Chosen, topology: &Topology)
-        requires standing { StandsIn topology.now.cluster self.old }
+        requires standing { IsUpToDate topology.now.cluster self.old }
         requires part { part.now.excess ≡ (next_part topology.now.cluster self.old).excess }
         requires ready { IsReadyForRound chosen.now self.old }
         requires counted { self.old.round + 1 < 2 ^ 64 }
-        requires none { HasNoneBare self.old }
+        requires none { HasNoUnused self.old }
         ensures holdings { self.new.holdings
             ≡ round_on_part topology.now.cluster self.old.pend (self.old.round + 1)
             self.old.holdings self.old.part.index self.old.part.shards chosen.now.transfers
             chosen.now.deletes }
-        ensures standing { StandsIn topology.now.cluster self.new }
+        ensures standing { IsUpToDate topology.now.cluster self.new }
         ensures part { self.new.part ≡ self.old.part }
         ensures rounds { (self.new.round ≡ self.old.round + 1) × (self.new.pend ≡ self.old.pend) }
-        ensures bare { HasNoneBare self.new }
+        ensures bare { HasNoUnused self.new }
     {
         let round = self.round + 1;
-        self.prepared = Prepared::Nothing;
-        self.blocks.lawful();
-        self.blocks.arena().lawful();
+        self.prepared = PreparedEvent::Nothing;
+        self.blocks.show_invariant();
+        self.blocks.arena().show_invariant();
         self.pending.drop_expired(self.pend, round);
         self.blocks
-            .mark_excess_anew(topology, part.excess.as_slice());
+            .remark_excess(topology, part.excess.as_slice());
         self.blocks
             .mark_ordered(topology, chosen.deletes.as_slice(), self.part);
-        self.blocks.arena().lawful();
+        self.blocks.arena().show_invariant();
         insert_own(
             &mut self.pending,
             chosen.transfers.as_slice(),
             self.part,
             round,
         );
-        self.pending.drop_empty_rooms();
+        self.pending.release_unused();
         self.round = round;
     }
 
     /// Gives up what was reserved for a round. A contract sees no change but of capacity, if the
     /// shard is up to date in some cluster. Takes no memory.
     pub fn round_abort(&mut self)
-        ensures same { IsSameButRoom self.old self.new }
+        ensures same { IsSameButCapacity self.old self.new }
         ensures entries { self.new.room.entries ≡ self.old.room.entries }
-        ensures freed { HasNoSpareRoom self.new }
+        ensures freed { HasNoUnusedCapacity self.new }
     {
-        self.pending.drop_empty_rooms();
+        self.pending.release_unused();
     }
 }

@@ -2,8 +2,8 @@
 ghost use Rattle.std.specs.Prelude.{◌≡◌, ◌<◌, ℕ, IfOk, IfErr};
 ghost use Rattle.bm_base.specs.declared.refusal.Refusal.TheVariants.{Memory};
 ghost use Rattle.bm_base.specs.Machine.State.{Cluster, empty_holdings};
-ghost use Rattle.bm_shard.specs.Bare.{HasNoneBare};
-ghost use Rattle.bm_shard.specs.Standing.{StandsIn};
+ghost use Rattle.bm_shard.specs.Unused.{HasNoUnused};
+ghost use Rattle.bm_shard.specs.UpToDate.{IsUpToDate};
 
 use bm_base::{BlockId, Config, HashSecret, Part, Refusal, StorageId};
 use bm_levels::LeveledBlocks;
@@ -14,7 +14,7 @@ use std::marker::Model;
 
 /// The reservation of the last `prepare`.
 #[derive(Clone, Copy)]
-pub(crate) enum Prepared {
+pub(crate) enum PreparedEvent {
     Nothing,
     /// An entry of a number.
     Entry(BlockId),
@@ -28,7 +28,7 @@ pub(crate) enum Prepared {
 /// and the level of each block.
 ///
 /// A contract sees the holdings of the definitions, cut to the shard, and the stored levels. That
-/// these are the levels of a cluster is a fact about both (`StandsIn`), which each call passes on
+/// these are the levels of a cluster is a fact about both (`IsUpToDate`), which each call passes on
 /// to the next.
 #[derive(Drop)]
 pub struct Shard {
@@ -36,7 +36,7 @@ pub struct Shard {
     pub(crate) blocks: LeveledBlocks,
     pub(crate) pending: PendingTransfers,
     pub(crate) report: Report,
-    pub(crate) prepared: Prepared,
+    pub(crate) prepared: PreparedEvent,
     pub(crate) part: Part,
     pub(crate) round: u64,
     pub(crate) pend: u32,
@@ -79,8 +79,8 @@ impl Shard {
             (λ s. s.part ≡ record { index = index; shards = config.now.shards }) }
         ensures round { IfOk result (λ s. s.round ≡ config.now.first_round) }
         ensures pend { IfOk result (λ s. s.pend ≡ config.now.pend) }
-        ensures standing { IfOk result (λ s. (C : Cluster) → StandsIn C s) }
-        ensures bare { IfOk result (λ s. HasNoneBare s) }
+        ensures standing { IfOk result (λ s. (C : Cluster) → IsUpToDate C s) }
+        ensures bare { IfOk result (λ s. HasNoUnused s) }
         ensures refused { IfErr result (λ e. e ≡ Memory) }
     {
         Shard::with_secret(alloc, index, config, HashSecret::none())
@@ -100,18 +100,18 @@ impl Shard {
             (λ s. s.part ≡ record { index = index; shards = config.now.shards }) }
         ensures round { IfOk result (λ s. s.round ≡ config.now.first_round) }
         ensures pend { IfOk result (λ s. s.pend ≡ config.now.pend) }
-        ensures standing { IfOk result (λ s. (C : Cluster) → StandsIn C s) }
-        ensures bare { IfOk result (λ s. HasNoneBare s) }
+        ensures standing { IfOk result (λ s. (C : Cluster) → IsUpToDate C s) }
+        ensures bare { IfOk result (λ s. HasNoUnused s) }
         ensures refused { IfErr result (λ e. e ≡ Memory) }
     {
         let blocks = LeveledBlocks::new(alloc, secret)?;
-        blocks.arena().lawful();
+        blocks.arena().show_invariant();
         Ok(Shard {
             alloc,
             blocks,
             pending: PendingTransfers::new(alloc, secret),
             report: Report::new(alloc),
-            prepared: Prepared::Nothing,
+            prepared: PreparedEvent::Nothing,
             part: Part {
                 index,
                 shards: config.shards,

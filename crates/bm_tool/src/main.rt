@@ -11,7 +11,7 @@ mod options;
 mod status;
 
 use bm_base::Config;
-use bm_session::{Counted, Fault, Summary, run};
+use bm_session::{FaultCounting, Fault, Summary, run};
 use clap::Error;
 use clap::error::ErrorKind;
 use options::config_of;
@@ -95,11 +95,11 @@ fn run_on_streams<R: Input + Print + AllocGlobal + Threads + Wait + RandomSource
     rt: &R,
     config: &Config,
 ) -> Result<Summary, Fault> {
-    let mut reader = Counted::new(rt.reader());
+    let mut reader = FaultCounting::new(rt.reader());
     let Ok(buffered) = BufWriter::new(rt.alloc(), io::writer(rt)) else {
         return Err(Fault::Memory);
     };
-    let mut writer = Counted::new(buffered);
+    let mut writer = FaultCounting::new(buffered);
     let result = run(rt, rt.alloc(), &mut reader, &mut writer, config);
     // The answers before a fault are written too.
     let flushed = writer.into_inner().flush();

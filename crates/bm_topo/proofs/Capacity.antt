@@ -5,7 +5,7 @@ use Rattle.bm_base.specs.declared.storage.StorageInfo.{StorageInfo}
 use Rattle.bm_base.specs.Maps.Map.{Map, by_number, len, remove, revise_at}
 use Rattle.bm_maps.specs.Table.{Table, capacity}
 use Rattle.bm_topo.specs.Racks.{without_one}
-use Rattle.bm_topo.specs.Seen.{Seen, Room, IsSameCapacity, IsNoLess}
+use Rattle.bm_topo.specs.Seen.{Seen, SpareRoom, IsSameCapacity, HasNoLessRoom}
 use Rattle.bm_topo.specs.Sound.{IsSound}
 use Rattle.bm_topo.proofs.Lengths.{len-remove, len-revise_at}
 use Rattle.bm_topo.proofs.RackCount.{racks_counted}
@@ -43,20 +43,20 @@ module _ (nodes nodes' racks racks' : Table ℕ) (draining draining' : Table (Un
       } in
       subst (λ s. IsSameCapacity s (seen_of nodes' draining' racks' storages')) is same
 
-  pub no_less : IsWithin nodes nodes' racks racks' draining draining' storages storages' → IsNoLonger nodes nodes' racks racks' draining draining' storages storages' → IsNoLess old.room (seen_of nodes' draining' racks' storages').room
+  pub no_less : IsWithin nodes nodes' racks racks' draining draining' storages storages' → IsNoLonger nodes nodes' racks racks' draining draining' storages storages' → HasNoLessRoom old.room (seen_of nodes' draining' racks' storages').room
   no_less within shorter =
-      let same : IsNoLess (seen_of nodes draining racks storages).room (seen_of nodes' draining' racks' storages').room = (
+      let same : HasNoLessRoom (seen_of nodes draining racks storages).room (seen_of nodes' draining' racks' storages').room = (
         omega (arith, within.nodes_same, shorter.nodes_fewer),
         omega (arith, within.draining_same, shorter.draining_fewer),
         omega (arith, within.racks_same, shorter.racks_fewer),
         omega (arith, within.storages_same, shorter.storages_fewer),
       ) in
-      subst (λ s. IsNoLess s.room (seen_of nodes' draining' racks' storages').room) is same
+      subst (λ s. HasNoLessRoom s.room (seen_of nodes' draining' racks' storages').room) is same
 
 -- where the storages alone change
 pub no_less_storages : (nodes racks : Table ℕ) (draining : Table (Unit {0})) (storages storages' : Table StorageInfo) (old : Seen)
     → seen_of nodes draining racks storages ≡ old → capacity storages' ≡ capacity storages → len storages'.map ≤ len storages.map
-    → IsNoLess old.room (seen_of nodes draining racks storages').room
+    → HasNoLessRoom old.room (seen_of nodes draining racks storages').room
 no_less_storages nodes racks draining storages storages' old is same fewer =
     no_less nodes nodes racks racks draining draining storages storages' old is
     (record { nodes_same = refl; draining_same = refl; racks_same = refl; storages_same = same })
@@ -65,13 +65,13 @@ no_less_storages nodes racks draining storages storages' old is same fewer =
 -- where the nodes that drain, and no others, change
 pub no_less_draining : (nodes racks : Table ℕ) (draining draining' : Table (Unit {0})) (storages : Table StorageInfo) (old : Seen)
     → seen_of nodes draining racks storages ≡ old → capacity draining' ≡ capacity draining → len draining'.map ≤ len draining.map
-    → IsNoLess old.room (seen_of nodes draining' racks storages).room
+    → HasNoLessRoom old.room (seen_of nodes draining' racks storages).room
 no_less_draining nodes racks draining draining' storages old is same fewer =
     no_less nodes nodes racks racks draining draining' storages storages old is
     (record { nodes_same = refl; draining_same = same; racks_same = refl; storages_same = refl })
     (record { nodes_fewer = omega arith; draining_fewer = fewer; racks_fewer = omega arith; storages_fewer = omega arith })
 
-pub no_less-then : (a b c : Room) → IsNoLess a b → IsNoLess b c → IsNoLess a c
+pub no_less-then : (a b c : SpareRoom) → HasNoLessRoom a b → HasNoLessRoom b c → HasNoLessRoom a c
 no_less-then a b c p q = (omega (arith, p.0, q.0), omega (arith, p.1, q.1), omega (arith, p.2, q.2), omega (arith, p.3, q.3))
 
 -- the counts, once one of n nodes has left rack r, are no more

@@ -5,7 +5,7 @@ use Rattle.std.specs.Ordering.{nat_cmp}
 use Rattle.std.specs.FinMap.{put}
 use Rattle.std.specs.FinMap.Entries.{by_order}
 use Rattle.bm_base.specs.Maps.Map.{Map, by_number, entries, empty, insert, alter, keep, remove, revise, revise_at}
-use Rattle.bm_base.specs.Maps.Altered.{with_value, alter_list}
+use Rattle.bm_base.specs.Maps.Altered.{with_value, alter_values}
 use Rattle.bm_topo.specs.Keys.{HasSmallKeys}
 
 module _ {X : Type 0} where
@@ -30,9 +30,9 @@ module _ {X : Type 0} where
   all_with_value k None es lt h = h
   all_with_value k (Some v) es lt h = (lt, h)
 
-  all_altered : (f : ℕ → X → Option X) (es : List (ℕ × X)) → AllByRecursion (λ e. e.0 < 2 ^ 32) es → AllByRecursion (λ e. e.0 < 2 ^ 32) (alter_list f es)
+  all_altered : (f : ℕ → X → Option X) (es : List (ℕ × X)) → AllByRecursion (λ e. e.0 < 2 ^ 32) es → AllByRecursion (λ e. e.0 < 2 ^ 32) (alter_values f es)
   all_altered f [] h = h
-  all_altered f (e ∷ es) h = all_with_value e.0 (f e.0 e.1) (alter_list f es) h.0 (all_altered f es h.1)
+  all_altered f (e ∷ es) h = all_with_value e.0 (f e.0 e.1) (alter_values f es) h.0 (all_altered f es h.1)
 
   small_keys-alter : (m : Map by_number X) (f : ℕ → X → Option X) → HasSmallKeys m → HasSmallKeys (alter m f)
   unfolding entries alter

@@ -1,11 +1,11 @@
 pub mod Keys
-pub mod Placed
-pub mod Counting
-pub mod Spreading
-pub mod Others
+pub mod IndexedEntries
+pub mod RackChanges
+pub mod RackSpread
+pub mod OtherNodes
 pub mod Lengths
 pub mod SpotTable
-pub mod Sounding
+pub mod SoundTables
 pub mod RackCount
 pub mod Capacity
 pub mod OwnStorages

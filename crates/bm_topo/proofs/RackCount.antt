@@ -10,8 +10,8 @@ use Rattle.bm_base.specs.Maps.Map.{Map, by_number, empty, entries, get, insert, 
 use Rattle.bm_base.proofs.MapLaws.{same_map, get-insert, get-empty}
 use Rattle.bm_base.proofs.Ties.{number_tie}
 use Rattle.bm_base.proofs.Differences.{len-insert}
-use Rattle.bm_topo.specs.Racks.{on_rack, racks_of, some_positive, CountsRacks}
-use Rattle.bm_topo.proofs.Counting.{eq_turned}
+use Rattle.bm_topo.specs.Racks.{on_rack, racks_of, positive_or_none, CountsRacks}
+use Rattle.bm_topo.proofs.RackChanges.{eq_turned}
 
 abbrev listed : (ℕ → ℕ) → List ℕ → List (ℕ × ℕ)
 listed f xs = map (λ x. (x, f x)) xs
@@ -62,7 +62,7 @@ has-counted (x ∷ xs) r =
           has-counted xs r ∙ ap (nat_lt 0) back
     ] refl
 
-some_counted : (n : ℕ) → cond (nat_lt 0 n) (Some n) None ≡ some_positive n
+some_counted : (n : ℕ) → cond (nat_lt 0 n) (Some n) None ≡ positive_or_none n
 some_counted zero = refl
 some_counted (suc n) = ap (λ b. cond b (Some (suc n)) None) (lt-ltb 0 (suc n) (omega arith))
 

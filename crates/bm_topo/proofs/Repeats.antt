@@ -10,7 +10,7 @@ use Rattle.std.proofs.lemmas.List.Elements.{All-from_get_or}
 use Rattle.std.proofs.lemmas.List.Sorted.{IsPermutation-sym, list_any-IsPermutation, searched}
 use Rattle.std.proofs.lemmas.Map.Keys.{IsDistinct-IsPermutation, IsDistinct-from_apart, apart_from_distinct, sorted_from_strictly_increasing, below_from_sorted}
 use Rattle.bm_base.specs.Maps.Lists.{has, has_repeats}
-use Rattle.bm_topo.proofs.Counting.{eq_turned}
+use Rattle.bm_topo.proofs.RackChanges.{eq_turned}
 
 abbrev same : ℕ → ℕ → Bool
 same x y = x == y

@@ -15,7 +15,7 @@ use Rattle.bm_base.specs.Machine.Events.{set_remaining}
 use Rattle.bm_base.proofs.ClusterEvents.{same_nodes}
 use Rattle.bm_topo.specs.declared.spots.Spot.{Spot}
 use Rattle.bm_topo.specs.Sound.{cluster_of}
-use Rattle.bm_topo.proofs.Placed.{get_at}
+use Rattle.bm_topo.proofs.IndexedEntries.{get_at}
 use Rattle.bm_topo.specs.Spots.{IsSpot, AreSpots, HasSpots}
 
 pub none_set : (C : Cluster) (spots : List Spot) → length spots ≡ MAX_STORAGES → HasSpots C spots 0

@@ -2,5 +2,5 @@ pub mod Seen
 pub mod Racks
 pub mod Keys
 pub mod Sound
-pub mod Named
+pub mod NewStorages
 pub mod Spots

@@ -11,22 +11,22 @@ racks_of nodes = values (entries nodes)
 unfoldable pub on_rack : Map by_number ℕ → ℕ → ℕ
 on_rack nodes r = count_by (λ x. x == r) (racks_of nodes)
 
-abbrev pub some_positive : ℕ → Option ℕ
-some_positive zero = None
-some_positive (suc n) = Some (suc n)
+abbrev pub positive_or_none : ℕ → Option ℕ
+positive_or_none zero = None
+positive_or_none (suc n) = Some (suc n)
 
 -- `racks` has exactly the racks with nodes, each with the number of its nodes
 abbrev pub CountsRacks : Map by_number ℕ → Map by_number ℕ → Type 0
-CountsRacks racks nodes = (r : ℕ) → get racks r ≡ some_positive (on_rack nodes r)
+CountsRacks racks nodes = (r : ℕ) → get racks r ≡ positive_or_none (on_rack nodes r)
 
 -- whether nodes are on two racks or more
 unfoldable pub is_multi : Map by_number ℕ → Bool
 is_multi nodes = nat_lt 1 (length (distinct (racks_of nodes)))
 
 -- the rack of the first node that is not n
-abbrev pub first_other : ℕ → List (ℕ × ℕ) → Option ℕ
-first_other n [] = None
-first_other n (e ∷ es) = if e.0 == n then first_other n es else Some e.1
+abbrev pub first_other_rack : ℕ → List (ℕ × ℕ) → Option ℕ
+first_other_rack n [] = None
+first_other_rack n (e ∷ es) = if e.0 == n then first_other_rack n es else Some e.1
 
 -- the counts, once one of n nodes has left rack r
 unfoldable pub without_one : Map by_number ℕ → ℕ → ℕ → Map by_number ℕ

@@ -11,18 +11,18 @@ use Rattle.bm_base.specs.Codes.{coded_cluster}
 use Rattle.bm_topo.specs.Racks.{racks_of}
 
 -- the numbers of further nodes, nodes that drain, racks and storages that need no memory
-pub record Room : Type 0 where
+pub record SpareRoom : Type 0 where
   pub nodes : ℕ
   pub draining : ℕ
   pub racks : ℕ
   pub storages : ℕ
 
-abbrev pub no_room : Room
+abbrev pub no_room : SpareRoom
 no_room = record { nodes = 0; draining = 0; racks = 0; storages = 0 }
 
 pub record Seen : Type 0 where
   pub cluster : Cluster
-  pub room : Room
+  pub room : SpareRoom
 
 -- whether an event adds something to the cluster; only then its preparation takes memory
 abbrev pub grows_cluster : Event → Bool
@@ -31,14 +31,14 @@ grows_cluster (Drain n) = true
 grows_cluster _ = false
 
 -- whether the spare capacity suffices for an event
-abbrev pub IsReadyFor : Event → Room → Type 0
+abbrev pub IsReadyFor : Event → SpareRoom → Type 0
 IsReadyFor (Register n rack ss) room = (1 ≤ room.nodes) × (1 ≤ room.racks) × (length ss ≤ room.storages)
 IsReadyFor (Drain n) room = 1 ≤ room.draining
 IsReadyFor _ room = Unit {0}
 
 -- whether there is as much spare capacity as before, or more
-abbrev pub IsNoLess : Room → Room → Type 0
-IsNoLess before after = (before.nodes ≤ after.nodes) × (before.draining ≤ after.draining) × (before.racks ≤ after.racks) × (before.storages ≤ after.storages)
+abbrev pub HasNoLessRoom : SpareRoom → SpareRoom → Type 0
+HasNoLessRoom before after = (before.nodes ≤ after.nodes) × (before.draining ≤ after.draining) × (before.racks ≤ after.racks) × (before.storages ≤ after.storages)
 
 -- whether the capacity for nodes, nodes that drain, racks and storages, used and spare, is the
 -- same: no memory was taken or released
@@ -48,11 +48,11 @@ pub record IsSameCapacity (before after : Seen) : Type 0 where
   pub racks : length (distinct (racks_of after.cluster.nodes)) + after.room.racks ≡ length (distinct (racks_of before.cluster.nodes)) + before.room.racks
   pub storages : len after.cluster.storages + after.room.storages ≡ len before.cluster.storages + before.room.storages
 
-abbrev pub coded_room : Coded Room
+abbrev pub coded_room : Coded SpareRoom
 coded_room =
     code_by ((ℕ × ℕ) × (ℕ × ℕ)) (coded× (coded× coded_ℕ coded_ℕ) (coded× coded_ℕ coded_ℕ))
     (λ r. ((r.nodes, r.draining), (r.racks, r.storages)))
     (λ t. record { nodes = t.0.0; draining = t.0.1; racks = t.1.0; storages = t.1.1 }) (λ _. refl)
 
 abbrev pub coded_seen : Coded Seen
-coded_seen = code_by (Cluster × Room) (coded× coded_cluster coded_room) (λ s. (s.cluster, s.room)) (λ t. record { cluster = t.0; room = t.1 }) (λ _. refl)
+coded_seen = code_by (Cluster × SpareRoom) (coded× coded_cluster coded_room) (λ s. (s.cluster, s.room)) (λ t. record { cluster = t.0; room = t.1 }) (λ _. refl)

@@ -7,7 +7,7 @@ ghost use Rattle.bm_base.specs.Machine.Events as events;
 ghost use Rattle.bm_base.specs.Machine.Refusals.{first_of, cluster_checks};
 ghost use Rattle.bm_base.specs.Machine.Answering.{Refuses};
 ghost use Rattle.bm_base.specs.declared.event.Event.TheVariants as event_of;
-ghost use Rattle.bm_topo.specs.Seen.{IsReadyFor, IsNoLess, IsSameCapacity, grows_cluster};
+ghost use Rattle.bm_topo.specs.Seen.{IsReadyFor, HasNoLessRoom, IsSameCapacity, grows_cluster};
 
 use crate::tables::{add_storages, drop_storages, leave_rack, set_remaining};
 use crate::topology::Topology;
@@ -26,7 +26,7 @@ impl Topology {
         ensures enough { IsReadyFor event.now self.old.room → IsOk result }
         ensures nothing_taken { IsReadyFor event.now self.old.room → self.new ≡ self.old }
         ensures nothing_needed { grows_cluster event.now ≡ false → self.new ≡ self.old }
-        ensures kept { IsNoLess self.old.room self.new.room }
+        ensures kept { HasNoLessRoom self.old.room self.new.room }
         ensures same { self.new.cluster ≡ self.old.cluster }
     {
         match event {
@@ -46,7 +46,7 @@ impl Topology {
         ensures nothing_taken { 1 ≤ self.old.room.nodes → 1 ≤ self.old.room.racks
             → storages ≤ self.old.room.storages →
             self.new ≡ self.old }
-        ensures kept { IsNoLess self.old.room self.new.room }
+        ensures kept { HasNoLessRoom self.old.room self.new.room }
         ensures same { self.new.cluster ≡ self.old.cluster }
     {
         self.nodes.reserve(1)?;
@@ -63,7 +63,7 @@ impl Topology {
         requires ready { IsReadyFor event.now self.old.room }
         ensures after { self.new.cluster ≡ events.change_cluster self.old.cluster event.now }
         ensures no_growth { IsSameCapacity self.old self.new }
-        ensures kept { grows_cluster event.now ≡ false → IsNoLess self.old.room self.new.room }
+        ensures kept { grows_cluster event.now ≡ false → HasNoLessRoom self.old.room self.new.room }
     {
         match event {
             Event::Register {
@@ -72,24 +72,24 @@ impl Topology {
                 storages,
             } => {
                 self.add_node(*node, *rack, storages.as_slice());
-                self.note_places();
+                self.record_indices();
             }
             Event::Dead { node } => {
                 self.drop_node(*node);
-                self.note_places();
+                self.record_indices();
             }
             Event::StorageFailed { storage } => {
                 self.drop_storage(*storage);
-                self.note_places();
+                self.record_indices();
             }
             Event::Heartbeat { remaining, .. } => self.set_remaining(remaining.as_slice()),
             Event::Drain { node } => {
                 self.drain(*node);
-                self.note_places();
+                self.record_indices();
             }
             Event::Undrain { node } => {
                 self.undrain(*node);
-                self.note_places();
+                self.record_indices();
             }
             Event::AddBlock { .. }
             | Event::DeleteBlock { .. }
@@ -126,7 +126,7 @@ impl Topology {
     fn drop_node(&mut self, node: NodeId)
         ensures after { self.new.cluster ≡ events.without_node self.old.cluster node }
         ensures no_growth { IsSameCapacity self.old self.new }
-        ensures kept { IsNoLess self.old.room self.new.room }
+        ensures kept { HasNoLessRoom self.old.room self.new.room }
     {
         self.spot_count = 0;
         drop_storages(&mut self.storages, node);
@@ -142,7 +142,7 @@ impl Topology {
         ensures after { self.new.cluster
             ≡ record self.old.cluster { nodes = map.remove self.old.cluster.nodes node } }
         ensures no_growth { IsSameCapacity self.old self.new }
-        ensures kept { IsNoLess self.old.room self.new.room }
+        ensures kept { HasNoLessRoom self.old.room self.new.room }
     {
         let Some(rack) = self.rack_of_node(node) else {
             return;
@@ -166,7 +166,7 @@ impl Topology {
     fn undrain(&mut self, node: NodeId)
         ensures after { self.new.cluster ≡ events.undrain self.old.cluster node }
         ensures no_growth { IsSameCapacity self.old self.new }
-        ensures kept { IsNoLess self.old.room self.new.room }
+        ensures kept { HasNoLessRoom self.old.room self.new.room }
     {
         self.spot_count = 0;
         self.draining.remove(u64::from(node.0));
@@ -175,7 +175,7 @@ impl Topology {
     fn drop_storage(&mut self, storage: StorageId)
         ensures after { self.new.cluster ≡ events.without_storage self.old.cluster storage }
         ensures no_growth { IsSameCapacity self.old self.new }
-        ensures kept { IsNoLess self.old.room self.new.room }
+        ensures kept { HasNoLessRoom self.old.room self.new.room }
     {
         self.spot_count = 0;
         self.storages.remove(u64::from(storage.0));
@@ -185,7 +185,7 @@ impl Topology {
     fn set_remaining(&mut self, remaining: &[Remaining])
         ensures after { self.new.cluster ≡ events.heartbeat self.old.cluster remaining.now }
         ensures no_growth { IsSameCapacity self.old self.new }
-        ensures kept { IsNoLess self.old.room self.new.room }
+        ensures kept { HasNoLessRoom self.old.room self.new.room }
     {
         set_remaining(&mut self.storages, remaining);
     }

@@ -18,14 +18,14 @@ use bm_base::{
 };
 
 /// In a list up to this length each storage is compared with those after it.
-const FEW: usize = 256;
+const COMPARE_AT_MOST: usize = 256;
 
 /// How many storages of a longer list are put in order at a time, on the stack.
-const ORDERED: usize = 32_768;
+const SORT_AT_MOST: usize = 32_768;
 
 impl Topology {
     /// Whether a storage is named twice, or known.
-    fn is_taken(&self, storages: &[StorageId]) -> bool
+    fn names_taken_storage(&self, storages: &[StorageId]) -> bool
         ensures { result ≡ (lists.has_repeats storages.now
             || list_any (knows_storage self.now.cluster) storages.now) }
     {
@@ -52,7 +52,7 @@ impl Topology {
         self.storages.len() as u128 + storages.len() as u128 > MAX_STORAGES as u128
     }
 
-    fn lacks_one(&self, remaining: &[Remaining]) -> bool
+    fn names_unknown_storage(&self, remaining: &[Remaining]) -> bool
         ensures { result ≡ list_any
             (λ r. not (knows_storage self.now.cluster r.storage)) remaining.now }
     {
@@ -60,7 +60,7 @@ impl Topology {
     }
 
     /// Whether a storage is not one of the node's; one that is not known is not.
-    fn has_stranger(&self, node: NodeId, remaining: &[Remaining]) -> bool
+    fn names_foreign_storage(&self, node: NodeId, remaining: &[Remaining]) -> bool
         ensures { result ≡ list_any
             (λ r. not (replicas.has_storage self.now.cluster node r.storage)) remaining.now }
     {
@@ -80,7 +80,7 @@ impl Topology {
         if self.knows_node(node) {
             return Err(Refusal::NodeKnown);
         }
-        if self.is_taken(storages) {
+        if self.names_taken_storage(storages) {
             return Err(Refusal::StorageKnown);
         }
         if self.is_full(storages) {
@@ -97,10 +97,10 @@ impl Topology {
         if !self.knows_node(node) {
             return Err(Refusal::UnknownNode);
         }
-        if !self.has_stranger(node, remaining) {
+        if !self.names_foreign_storage(node, remaining) {
             return Ok(());
         }
-        if self.lacks_one(remaining) {
+        if self.names_unknown_storage(remaining) {
             return Err(Refusal::UnknownStorage);
         }
         Err(Refusal::NotItsStorage)
@@ -183,7 +183,7 @@ impl Topology {
 fn has_repeats(storages: &[StorageId]) -> bool
     ensures { result ≡ lists.has_repeats storages.now }
 {
-    if storages.len() <= FEW {
+    if storages.len() <= COMPARE_AT_MOST {
         has_repeats_among_few(storages)
     } else {
         has_repeats_among_many(storages)
@@ -209,11 +209,11 @@ fn has_repeats_among_few(storages: &[StorageId]) -> bool
 fn has_repeats_among_many(storages: &[StorageId]) -> bool
     ensures { result ≡ lists.has_repeats storages.now }
 {
-    let mut ordered = [StorageId(0); ORDERED];
+    let mut ordered = [StorageId(0); SORT_AT_MOST];
     let mut rest = storages;
     while !rest.is_empty() {
-        let (part, others) = rest.split_at(rest.len().min(ORDERED));
-        if stands_twice(part, others, &mut ordered[..part.len()]) {
+        let (part, others) = rest.split_at(rest.len().min(SORT_AT_MOST));
+        if repeats_any(part, others, &mut ordered[..part.len()]) {
             return true;
         }
         rest = others;
@@ -222,16 +222,16 @@ fn has_repeats_among_many(storages: &[StorageId]) -> bool
 }
 
 /// Whether a storage occurs twice in a part of a list, or in it and in what follows.
-fn stands_twice(part: &[StorageId], others: &[StorageId], ordered: &mut [StorageId]) -> bool
+fn repeats_any(part: &[StorageId], others: &[StorageId], ordered: &mut [StorageId]) -> bool
     requires { length ordered.old ≡ length part.now }
     ensures { result ≡ (lists.has_repeats part.now || list_any (lists.has part.now) others.now) }
 {
     ordered.copy_from_slice(part);
     ordered.sort_unstable();
-    has_neighbours_alike(ordered) || has_one_of(ordered, others)
+    has_equal_neighbours(ordered) || shares_any(ordered, others)
 }
 
-fn has_neighbours_alike(ordered: &[StorageId]) -> bool
+fn has_equal_neighbours(ordered: &[StorageId]) -> bool
     requires { IsNonDecreasing ordered.now }
     ensures { result ≡ lists.has_repeats ordered.now }
 {
@@ -243,14 +243,14 @@ fn has_neighbours_alike(ordered: &[StorageId]) -> bool
     false
 }
 
-fn has_one_of(ordered: &[StorageId], others: &[StorageId]) -> bool
+fn shares_any(ordered: &[StorageId], others: &[StorageId]) -> bool
     requires { IsNonDecreasing ordered.now }
     ensures { result ≡ list_any (lists.has ordered.now) others.now }
 {
-    others.iter().any(|storage| stands_in(ordered, *storage))
+    others.iter().any(|storage| contains_sorted(ordered, *storage))
 }
 
-fn stands_in(ordered: &[StorageId], storage: StorageId) -> bool
+fn contains_sorted(ordered: &[StorageId], storage: StorageId) -> bool
     requires { IsNonDecreasing ordered.now }
     ensures { result ≡ lists.has ordered.now storage }
 {
@@ -259,7 +259,7 @@ fn stands_in(ordered: &[StorageId], storage: StorageId) -> bool
 
 /// How many further numbers a report may name after an entry, of `left` before it; `None` if the
 /// entry names more.
-fn left_after(entry: &Entry, left: u64) -> Option<u64>
+fn numbers_left(entry: &Entry, left: u64) -> Option<u64>
     ensures { result ≡ (if nat_le (run_length entry.now) left then Some (left
         - run_length entry.now) else None) }
 {
@@ -282,7 +282,7 @@ fn is_too_long(entries: &[Entry]) -> bool
     }
     let mut left = MAX_NUMBERS;
     for entry in entries {
-        match left_after(entry, left) {
+        match numbers_left(entry, left) {
             Some(rest) => left = rest,
             None => return true,
         }

@@ -4,7 +4,7 @@
 
 mod changes;
 mod checks;
-mod likely_places;
+mod index_hints;
 mod racks;
 mod spots;
 mod tables;

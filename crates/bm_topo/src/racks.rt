@@ -4,7 +4,7 @@ ghost use Rattle.std.specs.Prelude.{◌≡◌};
 ghost use Rattle.bm_base.specs.Maps.Map as map;
 ghost use Rattle.bm_base.specs.Machine.Replicas as replicas;
 ghost use Rattle.bm_base.specs.Machine.Events.{change_cluster};
-ghost use Rattle.bm_topo.specs.Racks.{on_rack, first_other, is_multi};
+ghost use Rattle.bm_topo.specs.Racks.{on_rack, first_other_rack, is_multi};
 
 use crate::topology::Topology;
 use bm_base::{Event, NodeId, Rack};
@@ -25,8 +25,8 @@ impl Topology {
         ensures { result ≡ replicas.is_multi_rack (change_cluster self.now.cluster event.now) }
     {
         match event {
-            Event::Register { node, rack, .. } => self.is_multi_with(*node, *rack),
-            Event::Dead { node } => self.is_multi_without(*node),
+            Event::Register { node, rack, .. } => self.spans_racks_with(*node, *rack),
+            Event::Dead { node } => self.spans_racks_without(*node),
             Event::StorageFailed { .. }
             | Event::Heartbeat { .. }
             | Event::Drain { .. }
@@ -43,14 +43,14 @@ impl Topology {
     }
 
     /// Whether the other nodes and this one, on this rack, are on two racks or more.
-    fn is_multi_with(&self, node: NodeId, rack: Rack) -> bool
+    fn spans_racks_with(&self, node: NodeId, rack: Rack) -> bool
         ensures { result ≡ is_multi (map.insert self.now.cluster.nodes node rack) }
     {
         self.others_on(node, rack) < self.others(node)
     }
 
     /// Whether the other nodes do.
-    fn is_multi_without(&self, node: NodeId) -> bool
+    fn spans_racks_without(&self, node: NodeId) -> bool
         ensures { result ≡ is_multi (map.remove self.now.cluster.nodes node) }
     {
         match self.other_rack(node) {
@@ -93,7 +93,7 @@ impl Topology {
 
     /// The rack of the first other node: that of the first node, or of the second.
     fn other_rack(&self, node: NodeId) -> Option<Rack>
-        ensures { result ≡ first_other node (map.entries self.now.cluster.nodes) }
+        ensures { result ≡ first_other_rack node (map.entries self.now.cluster.nodes) }
     {
         for (number, rack) in self.nodes.entries() {
             if *number != u64::from(node.0) {

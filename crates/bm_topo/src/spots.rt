@@ -7,7 +7,7 @@ ghost use Rattle.bm_topo.specs.Keys.{HasSmallKeys};
 ghost use Rattle.bm_topo.specs.Sound.{cluster_of};
 ghost use Rattle.bm_topo.specs.Spots.{IsSpot, AreSpots};
 
-use crate::likely_places::LikelyPlaces;
+use crate::index_hints::IndexHints;
 use bm_base::{MAX_STORAGES, NodeId, Rack, StorageId, StorageInfo};
 use bm_maps::NumberMap;
 
@@ -44,7 +44,7 @@ pub(crate) fn spot_on(
     node: NodeId,
     nodes: &NumberMap<Rack>,
     draining: &NumberMap<()>,
-    places: &LikelyPlaces,
+    places: &IndexHints,
 ) -> Spot
     requires { map.contains_key nodes.now.map node ≡ true }
     ensures storage { result.storage ≡ storage }
@@ -73,7 +73,7 @@ pub(crate) fn set_spots(
     storages: &NumberMap<StorageInfo>,
     nodes: &NumberMap<Rack>,
     draining: &NumberMap<()>,
-    places: &LikelyPlaces,
+    places: &IndexHints,
 )
     requires enough { map.len storages.now.map ≤ length spots.old }
     requires small { HasSmallKeys storages.now.map }

@@ -4,7 +4,7 @@ ghost use Rattle.bm_base.specs.Maps.Map as map;
 ghost use Rattle.bm_maps.specs.Table.{capacity};
 ghost use Rattle.bm_base.specs.Machine.Events as events;
 ghost use Rattle.bm_topo.specs.Racks.{without_one};
-ghost use Rattle.bm_topo.specs.Named.{named};
+ghost use Rattle.bm_topo.specs.NewStorages.{new_storages};
 ghost use Rattle.bm_topo.specs.Keys.{HasSmallKeys};
 
 use bm_base::{NodeId, Rack, Remaining, StorageId, StorageInfo};
@@ -17,7 +17,7 @@ pub(crate) fn add_storages(
     its_own: &[StorageId],
 )
     requires { length its_own.now ≤ storages.old.room }
-    ensures after { storages.new.map ≡ map.insert_all storages.old.map (named node its_own.now) }
+    ensures after { storages.new.map ≡ map.insert_all storages.old.map (new_storages node its_own.now) }
     ensures small { HasSmallKeys storages.old.map → HasSmallKeys storages.new.map }
     ensures no_growth { capacity storages.new ≡ capacity storages.old }
 {
@@ -55,12 +55,12 @@ pub(crate) fn set_remaining(storages: &mut NumberMap<StorageInfo>, remaining: &[
     ensures no_growth { capacity storages.new ≡ capacity storages.old }
 {
     for told in remaining {
-        set_one(storages, told.storage, told.remaining);
+        set_remaining_of(storages, told.storage, told.remaining);
     }
 }
 
 /// Sets the remaining bytes of a storage, if it is there.
-fn set_one(storages: &mut NumberMap<StorageInfo>, storage: StorageId, remaining: u64)
+fn set_remaining_of(storages: &mut NumberMap<StorageInfo>, storage: StorageId, remaining: u64)
     ensures after { storages.new.map
         ≡ map.revise_at storages.old.map storage (λ i. record i { remaining = remaining }) }
     ensures no_growth { capacity storages.new ≡ capacity storages.old }

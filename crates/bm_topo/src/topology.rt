@@ -10,7 +10,7 @@ ghost use Rattle.bm_base.specs.Promises.Lawful.{IsLawfulCluster};
 ghost use Rattle.bm_base.specs.declared.limits.TheConstants.{MAX_NODES, MAX_STORAGES};
 ghost use Rattle.bm_topo.specs.Seen.{no_room};
 
-use crate::likely_places::LikelyPlaces;
+use crate::index_hints::IndexHints;
 use crate::spots::{Spot, no_spots, set_spots, spot_on};
 use bm_base::{MAX_STORAGES, NodeId, Rack, Refusal, StorageId, StorageInfo};
 use bm_maps::NumberMap;
@@ -46,7 +46,7 @@ pub struct Topology {
     pub(crate) racks: NumberMap<u32>,
     pub(crate) storages: NumberMap<StorageInfo>,
     // Hints for the indices in these tables.
-    pub(crate) places: LikelyPlaces,
+    pub(crate) places: IndexHints,
     // Where the storages are, each at its index in their table.
     pub(crate) spots: [Spot; MAX_STORAGES],
     // How many spots are set: 0 while the cluster changes.
@@ -93,7 +93,7 @@ impl Topology {
             draining: NumberMap::new(alloc),
             racks: NumberMap::new(alloc),
             storages: NumberMap::new(alloc),
-            places: LikelyPlaces::new(),
+            places: IndexHints::new(),
             spots: no_spots(),
             spot_count: 0,
         })
@@ -101,7 +101,7 @@ impl Topology {
 
     /// For proofs alone: each storage is on an alive node, only alive nodes drain, and the limits
     /// are kept. Does nothing when it runs.
-    pub fn lawful(&self)
+    pub fn show_invariant(&self)
         ensures { IsLawfulCluster self.now.cluster }
     {
         let _ = &self.nodes;
@@ -122,10 +122,10 @@ impl Topology {
     }
 
     /// Fills the hints for storages and nodes, and sets the spots. Takes no memory.
-    pub(crate) fn note_places(&mut self)
+    pub(crate) fn record_indices(&mut self)
         ensures { self.new ≡ self.old }
     {
-        self.places.note(
+        self.places.fill(
             self.storages.entries(),
             self.nodes.entries(),
             self.draining.entries(),
@@ -224,9 +224,9 @@ impl Topology {
     }
 
     /// Whether two storages are different ones of one node; not where one of them is not known.
-    #[tactic(auto, unfolding(bm_base::specs::Machine::Replicas::are_sisters))]
-    pub fn are_sisters(&self, a: StorageId, b: StorageId) -> bool
-        ensures { result ≡ replicas.are_sisters self.now.cluster a b }
+    #[tactic(auto, unfolding(bm_base::specs::Machine::Replicas::are_siblings))]
+    pub fn are_siblings(&self, a: StorageId, b: StorageId) -> bool
+        ensures { result ≡ replicas.are_siblings self.now.cluster a b }
     {
         if b == a {
             return false;

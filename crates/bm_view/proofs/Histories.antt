@@ -5,7 +5,7 @@ use Rattle.std.proofs.lemmas.List.{append-nil, get_or_append_left, get_or_defaul
 use Rattle.std.proofs.lemmas.List.Sorted.{IsNonDecreasingBy-push, IsNonDecreasingBy-short}
 use Rattle.std.proofs.lemmas.Bool.{cases_lt}
 use mathlib.Core.List.{IsPrefix}
-use Rattle.bm_view.specs.declared.journal.Entry.{Entry}
+use Rattle.bm_view.specs.declared.journal.JournalEntry.{JournalEntry}
 use Rattle.bm_base.specs.Promises.Versions.{Version}
 use Rattle.bm_view.specs.Version.{opening}
 use Rattle.bm_view.specs.Journal.{proposed, settled, opening_log}
@@ -46,31 +46,31 @@ put_one : (b : Bool) (v : Version) → IsPrefix (put_if b v []) (v ∷ [])
 put_one true v = ([], refl)
 put_one false v = (v ∷ [], refl)
 
-pub versions-append : (xs ys : List Entry) → versions (xs ++ ys) ≡ versions xs ++ versions ys
+pub versions-append : (xs ys : List JournalEntry) → versions (xs ++ ys) ≡ versions xs ++ versions ys
 versions-append [] ys = refl
 versions-append (e ∷ es) ys = ap (put_if e.done e.table) (versions-append es ys) ∙ put_append e.done e.table (versions es) (versions ys)
 
-pub shown_in-push : (xs : List Entry) (e : Entry) → shown_in (xs ++ e ∷ []) ≡ versions xs ++ e.table ∷ []
+pub shown_in-push : (xs : List JournalEntry) (e : JournalEntry) → shown_in (xs ++ e ∷ []) ≡ versions xs ++ e.table ∷ []
 shown_in-push [] e = refl
 shown_in-push (d ∷ []) e = put_append d.done d.table [] (e.table ∷ [])
 shown_in-push (d ∷ f ∷ es) e = ap (put_if d.done d.table) (shown_in-push (f ∷ es) e) ∙ put_append d.done d.table (versions (f ∷ es)) (e.table ∷ [])
 
-pub versions_shown_in : (xs : List Entry) → IsPrefix (versions xs) (shown_in xs)
+pub versions_shown_in : (xs : List JournalEntry) → IsPrefix (versions xs) (shown_in xs)
 versions_shown_in [] = ([], refl)
 versions_shown_in (e ∷ []) = put_one e.done e.table
 versions_shown_in (e ∷ f ∷ es) = put_prefix e.done e.table (versions (f ∷ es)) (shown_in (f ∷ es)) (versions_shown_in (f ∷ es))
 
-pub versions_prefix : (xs ys : List Entry) → IsPrefix xs ys → IsPrefix (versions xs) (versions ys)
+pub versions_prefix : (xs ys : List JournalEntry) → IsPrefix xs ys → IsPrefix (versions xs) (versions ys)
 versions_prefix xs ys p = (versions p.0, sym (versions-append xs p.0) ∙ ap versions p.1)
 
-pub versions-proposed : (xs : List Entry) (v : Version) → versions (xs ++ proposed v ∷ []) ≡ versions xs
+pub versions-proposed : (xs : List JournalEntry) (v : Version) → versions (xs ++ proposed v ∷ []) ≡ versions xs
 versions-proposed xs v = versions-append xs (proposed v ∷ []) ∙ append-nil (versions xs)
 
-pub versions-settled : (xs : List Entry) (v : Version) → versions (xs ++ settled v ∷ []) ≡ versions xs ++ v ∷ []
+pub versions-settled : (xs : List JournalEntry) (v : Version) → versions (xs ++ settled v ∷ []) ≡ versions xs ++ v ∷ []
 versions-settled xs v = versions-append xs (settled v ∷ [])
 
 -- a journal that ends with a settled proposal may be learnt
-pub settles : (xs : List Entry) (v : Version) → IsSettled ((xs ++ proposed v ∷ []) ++ settled v ∷ [])
+pub settles : (xs : List JournalEntry) (v : Version) → IsSettled ((xs ++ proposed v ∷ []) ++ settled v ∷ [])
 settles xs v shown pre close some =
     let open_log = xs ++ proposed v ∷ [] in
     let all = open_log ++ settled v ∷ [] in
@@ -88,7 +88,7 @@ settles xs v shown pre close some =
     (cases_lt (length shown) (length all))
 
 -- the learnt versions are a prefix of the current value, unless that is older
-pub told_begins : (told shown both : List Entry) → IsPrefix told both → IsPrefix shown both → IsSettled told → length told ≤ length shown + 1 → 0 < length shown → IsPrefix (versions told) (shown_in shown)
+pub told_begins : (told shown both : List JournalEntry) → IsPrefix told both → IsPrefix shown both → IsSettled told → length told ≤ length shown + 1 → 0 < length shown → IsPrefix (versions told) (shown_in shown)
 told_begins told shown both p q whole close some =
     ⊎_elim
     (λ (lt : length shown < length told). whole shown (prefix_shorter shown told both q p (omega arith)) close some)

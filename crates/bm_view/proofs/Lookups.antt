@@ -24,13 +24,13 @@ places_in-absent (r ∷ rs) id absent =
     grind (arith, nat_tests)
 
 module _ (rows : List Row) (rises : RisesById rows) (id : ℕ) where
-  comparisons_rise : IsNonDecreasingBy (λ (r : Row). ordering_index (nat_cmp r.0 id)) rows
-  comparisons_rise i j d le within =
-      let ids_rise : (get_or rows i d).0 ≤ (get_or rows j d).0 = grind (arith, rises i j d, λ (same : i ≡ j). ap (λ (k : ℕ). (get_or rows k d).0) same) in
+  comparisons_ascend : IsNonDecreasingBy (λ (r : Row). ordering_index (nat_cmp r.0 id)) rows
+  comparisons_ascend i j d le within =
+      let ids_ascend : (get_or rows i d).0 ≤ (get_or rows j d).0 = grind (arith, rises i j d, λ (same : i ≡ j). ap (λ (k : ℕ). (get_or rows k d).0) same) in
       grind (arith, nat_tests)
 
   -- a binary search finds the row of the block, if it exists
   pub searched : (r : Result ℕ ℕ) → IsSearchInRange r (length rows) → IsBinarySearchResult (λ (r : Row). nat_cmp r.0 id) rows r
       → MatchResult r (λ at. (d : Row) → places_in rows id ≡ (get_or rows at d).1) (λ _. places_in rows id ≡ [])
   searched (Ok at) within equal = λ d. places_in-at rows at d id rises within (ranked _ id _ (sym (equal d)))
-  searched (Err at) within parted = places_in-absent rows id (λ k d h same. grind (arith, λ (lt : k < at). ranked _ id _ (sym ((parted comparisons_rise).0 k d (omega arith) lt)), λ (le : at ≤ k). ranked _ id _ (sym ((parted comparisons_rise).1 k d le h))))
+  searched (Err at) within parted = places_in-absent rows id (λ k d h same. grind (arith, λ (lt : k < at). ranked _ id _ (sym ((parted comparisons_ascend).0 k d (omega arith) lt)), λ (le : at ≤ k). ranked _ id _ (sym ((parted comparisons_ascend).1 k d le h))))

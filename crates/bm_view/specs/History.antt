@@ -2,7 +2,7 @@
 use Rattle.std.specs.Prelude.{ℕ, ◌+◌, ◌-◌, ◌<◌, ◌≤◌, Bool, true, false, List, [], ◌∷◌, length, slice_index_or}
 use Rattle.std.specs.List.Sorted.{IsNonDecreasingBy}
 use mathlib.Core.List.{IsPrefix}
-use Rattle.bm_view.specs.declared.journal.Entry.{Entry}
+use Rattle.bm_view.specs.declared.journal.JournalEntry.{JournalEntry}
 use Rattle.bm_base.specs.Promises.Versions.{Version}
 use Rattle.bm_view.specs.Version.{opening}
 
@@ -24,13 +24,13 @@ put_if true v vs = v ∷ vs
 put_if false v vs = vs
 
 -- the versions that were settled: the one list, as far as this journal goes
-abbrev pub versions : List Entry → List Version
+abbrev pub versions : List JournalEntry → List Version
 versions [] = []
 versions (e ∷ es) = put_if e.done e.table (versions es)
 
 -- The list of a reader that finds the table of the last entry: the versions that were settled
 -- before, and then that one, settled or not.
-abbrev pub shown_in : List Entry → List Version
+abbrev pub shown_in : List JournalEntry → List Version
 shown_in [] = []
 shown_in (e ∷ []) = e.table ∷ []
 shown_in (e ∷ f ∷ es) = put_if e.done e.table (shown_in (f ∷ es))
@@ -38,5 +38,5 @@ shown_in (e ∷ f ∷ es) = put_if e.done e.table (shown_in (f ∷ es))
 -- A journal that a locator may learn: its versions are a prefix of the list of each reader that
 -- finds the value of this journal, or of the journal just before its last entry. A journal that
 -- ends with a settlement is one.
-abbrev pub IsSettled : List Entry → Type 0
-IsSettled told = (shown : List Entry) → IsPrefix shown told → length told ≤ length shown + 1 → 0 < length shown → IsPrefix (versions told) (shown_in shown)
+abbrev pub IsSettled : List JournalEntry → Type 0
+IsSettled told = (shown : List JournalEntry) → IsPrefix shown told → length told ≤ length shown + 1 → 0 < length shown → IsPrefix (versions told) (shown_in shown)

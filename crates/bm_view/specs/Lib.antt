@@ -2,5 +2,5 @@ pub mod Version
 pub mod Journal
 pub mod History
 pub mod Rule
-pub mod Told
+pub mod LearntLists
 pub mod Holders

@@ -12,7 +12,7 @@
 ghost use Rattle.std.specs.Prelude.{◌≡◌, ◌<◌, ◌++◌, ◌∷◌, [], List, length};
 ghost use mathlib.Core.List.{IsPrefix};
 ghost use Rattle.logbook.specs.Pages.{nib, may_write};
-ghost use Rattle.bm_view.specs.declared.journal.Entry.{Entry};
+ghost use Rattle.bm_view.specs.declared.journal.JournalEntry.{JournalEntry};
 ghost use Rattle.bm_view.specs.Version.{opening};
 ghost use Rattle.bm_view.specs.Journal.{opening_log, word_of};
 
@@ -22,7 +22,7 @@ use logbook::{Gain, Offer, Pen, Plain, Play, Rule, Seen, Start, Word};
 use std::marker::Model;
 
 /// An entry of the journal. No value of it is made.
-pub struct Entry {
+pub struct JournalEntry {
     /// Whether the version was shown, and not only proposed.
     pub done: bool,
     pub table: Table,
@@ -30,20 +30,20 @@ pub struct Entry {
 
 /// An entry, and what it was written with. No value of it is made. A number is the key of a cell of
 /// `logbook`, which a pen of that key writes.
-pub struct Line {
+pub struct JournalLine {
     /// The pen of the first line of this journal.
     pub first: u64,
     /// The pen that wrote this line. It is used up.
     pub by: u64,
     /// The pen that writes the next line of this journal.
     pub next: u64,
-    pub entry: Entry,
+    pub entry: JournalEntry,
 }
 
 /// The rule of `logbook`: a pen that wrote a line is used up.
 pub struct JournalRule;
 
-impl Rule<Line, u64> for JournalRule {
+impl Rule<JournalLine, u64> for JournalRule {
     ghost use base.Fml.{ftrue};
     ghost use Rattle.std.specs.Prelude.{[]};
     ghost use Rattle.bm_view.specs.Journal.{IsKept};
@@ -64,7 +64,7 @@ impl Rule<Line, u64> for JournalRule {
 /// A step passes on nothing.
 pub struct NoGain;
 
-impl Gain<Line, u64> for NoGain {
+impl Gain<JournalLine, u64> for NoGain {
     ghost use base.Fml.{ftrue};
 
     ghost after = { λ names about answer. ftrue };
@@ -73,7 +73,7 @@ impl Gain<Line, u64> for NoGain {
 /// The step that gives a pen.
 pub struct Reserve;
 
-impl Play<Line, u64> for Reserve {
+impl Play<JournalLine, u64> for Reserve {
     ghost use Rattle.bm_view.specs.Journal.{Reserves};
 
     ghost then = { Reserves };
@@ -82,7 +82,7 @@ impl Play<Line, u64> for Reserve {
 /// The step that writes a line, and uses its pen up.
 pub struct Enter;
 
-impl Play<Line, u64> for Enter {
+impl Play<JournalLine, u64> for Enter {
     ghost use Rattle.bm_view.specs.Journal.{Enters};
 
     ghost then = { Enters };
@@ -90,8 +90,8 @@ impl Play<Line, u64> for Enter {
 
 /// The content of a line to be written. It has one byte, for proofs alone.
 #[derive(Drop)]
-pub struct Wanted {
-    first: Snapshot<Word<Line, u64, JournalRule>>,
+pub struct LineContent {
+    first: Snapshot<Word<JournalLine, u64, JournalRule>>,
     by: Snapshot<Pen>,
     next: Snapshot<Pen>,
     done: bool,
@@ -101,7 +101,7 @@ pub struct Wanted {
 /// A step asks for that line.
 pub struct AsWanted;
 
-impl Plain<Wanted, Line, u64> for AsWanted {
+impl Plain<LineContent, JournalLine, u64> for AsWanted {
     ghost use Rattle.std.specs.Prelude.{None};
 
     ghost ask = { λ w. record {
@@ -117,7 +117,7 @@ impl Plain<Wanted, Line, u64> for AsWanted {
 /// For a step that writes nothing, the requested line does not matter.
 pub struct AsNothing;
 
-impl Plain<(), Line, u64> for AsNothing {
+impl Plain<(), JournalLine, u64> for AsNothing {
     ghost use Rattle.std.specs.Prelude.{None};
     ghost use Rattle.bm_view.specs.Version.{opening};
     ghost use Rattle.bm_view.specs.Journal.{proposed};
@@ -131,7 +131,7 @@ impl Plain<(), Line, u64> for AsNothing {
 /// the other.
 #[derive(Drop)]
 pub struct Evidence {
-    seen: Seen<Line, u64, JournalRule>,
+    seen: Seen<JournalLine, u64, JournalRule>,
 }
 
 impl Model for Evidence {
@@ -158,9 +158,9 @@ impl Evidence {
     }
 
     /// For proofs alone: both tokens have the same journal.
-    pub fn meet(&self, other: &Evidence)
+    pub fn show_one_journal(&self, other: &Evidence)
         requires { other.now.home ≡ self.now.home }
-        ensures { (both : List Entry) × IsPrefix self.now.log both × IsPrefix other.now.log both }
+        ensures { (both : List JournalEntry) × IsPrefix self.now.log both × IsPrefix other.now.log both }
     {
         let mut both = self.seen.again();
         both.learn(&other.seen);
@@ -171,10 +171,10 @@ impl Evidence {
 #[derive(Drop)]
 pub struct Journal {
     /// The word that steps of `logbook` act on. Its value means nothing. No thread shares it.
-    head: Word<Line, u64, JournalRule>,
+    head: Word<JournalLine, u64, JournalRule>,
     /// The word of the first pen: it names the journal.
-    first: Word<Line, u64, JournalRule>,
-    seen: Seen<Line, u64, JournalRule>,
+    first: Word<JournalLine, u64, JournalRule>,
+    seen: Seen<JournalLine, u64, JournalRule>,
     /// What writes the next line.
     pen: Pen,
 }
@@ -200,14 +200,14 @@ impl Model for Journal {
 
 // A new pen, and the word that it may write. There is no limit to the number of pens.
 fn new_pen(
-    head: &Word<Line, u64, JournalRule>,
-    seen: &Seen<Line, u64, JournalRule>,
-) -> (Pen, Word<Line, u64, JournalRule>)
+    head: &Word<JournalLine, u64, JournalRule>,
+    seen: &Seen<JournalLine, u64, JournalRule>,
+) -> (Pen, Word<JournalLine, u64, JournalRule>)
     requires { head.now ≡ word_of seen.now.book }
     ensures pen { (result.0.book ≡ seen.now.book) × (result.0.nib ≡ nib may_write result.1.key 0) }
 {
     let mut seen = seen.again();
-    let mut offer: Offer<Line, u64, JournalRule, NoGain> = seen.plain::<NoGain, (), AsNothing>(&());
+    let mut offer: Offer<JournalLine, u64, JournalRule, NoGain> = seen.plain::<NoGain, (), AsNothing>(&());
     let mut pen = seen.no_pen();
     head.compare_exchange::<Reserve, NoGain>(0, 0, &mut seen, &mut offer, &mut pen);
     let word = Word::tracked(0, &mut pen);
@@ -250,16 +250,16 @@ impl Journal {
             ++ record { done = done; table = table.now } ∷ [] }
     {
         let (next, _word) = new_pen(&self.head, &self.seen);
-        let wanted = Wanted {
+        let wanted = LineContent {
             first: Snapshot::of(&self.first),
             by: Snapshot::of(&self.pen),
             next: Snapshot::of(&next),
             done,
             table: Snapshot::of(table),
         };
-        let mut offer: Offer<Line, u64, JournalRule, NoGain> = self
+        let mut offer: Offer<JournalLine, u64, JournalRule, NoGain> = self
             .seen
-            .plain::<NoGain, Wanted, AsWanted>(&wanted);
+            .plain::<NoGain, LineContent, AsWanted>(&wanted);
         self.head
             .compare_exchange::<Enter, NoGain>(0, 0, &mut self.seen, &mut offer, &mut self.pen);
         self.pen = next;

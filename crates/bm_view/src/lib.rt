@@ -28,7 +28,7 @@ mod receipt;
 mod rule;
 mod shown;
 mod table;
-mod told;
+mod learnt_lists;
 
 pub use locator::{Located, Locator};
 pub use open::open_view;

@@ -11,7 +11,7 @@ use crate::count::Count;
 use crate::journal::Evidence;
 use crate::receipt::Receipt;
 use crate::rule::{See, VersionReader, VersionReading};
-use crate::told::Told;
+use crate::learnt_lists::LearntLists;
 use bm_base::{BlockId, Places};
 use core::mem::replace_with;
 use std::alloc::Global;
@@ -33,12 +33,12 @@ pub struct Located {
 /// learnt by receipts, and the call of `open_view`. Each learnt list is a prefix of its list.
 #[derive(Drop)]
 pub struct Locator {
-    seat: Seat,
+    seat: ReaderSlot,
     /// The journal of the version that it answered from last. It has no bytes.
     answered: Evidence,
     /// The longest journal that it learnt. It has no bytes.
     heard: Evidence,
-    told: Told,
+    told: LearntLists,
 }
 
 impl Model for Locator {
@@ -59,7 +59,7 @@ impl Model for Locator {
 
     ghost invariant = { λ l.
         (l.heard.home ≡ l.answered.home)
-        × (length l.heard.log ≡ 2 * l.seat.heard_number)
+        × (length l.heard.log ≡ 2 * l.seat.learnt_number)
         × IsSettled l.heard.log
         × HasSeen (sight l.seat.reader.place) l.answered.home (shown_in l.answered.log)
         × IsHistory (versions l.heard.log)
@@ -68,13 +68,13 @@ impl Model for Locator {
 
 // A reader, and the number of proposals in the longest journal that it learnt.
 #[derive(Drop)]
-struct Seat {
+struct ReaderSlot {
     reader: VersionReader,
-    heard_number: Count,
+    learnt_number: Count,
 }
 
 // The result of a read, and the journal that came with it.
-struct Glimpse {
+struct ReadResult {
     found: Located,
     evidence: Evidence,
     // Whether it is from a proposal before a learnt one.
@@ -91,8 +91,8 @@ fn enter(reader: VersionReader) -> Result<VersionReading, VersionReader>
 }
 
 // Reads the version that is shown. `None` if `left_right` refuses to enter.
-fn read(seat: Seat, id: BlockId) -> (Seat, Option<Glimpse>)
-    ensures number { result.0.heard_number ≡ seat.heard_number }
+fn read(seat: ReaderSlot, id: BlockId) -> (ReaderSlot, Option<ReadResult>)
+    ensures number { result.0.learnt_number ≡ seat.learnt_number }
     ensures seen { MatchOption result.1
         (sight result.0.reader.place ≡ sight seat.reader.place)
         (λ g. Sees (sight seat.reader.place) g.evidence (sight result.0.reader.place)) }
@@ -100,31 +100,31 @@ fn read(seat: Seat, id: BlockId) -> (Seat, Option<Glimpse>)
         let shown = last_of (shown_in g.evidence.log) in
         (g.found.calls ≡ shown.calls) × (g.found.places ≡ places_in shown.rows id)) }
     ensures close { IfSome result.1 (λ g. (0 < length g.evidence.log)
-        × (g.is_older ≡ false → 2 * seat.heard_number ≤ length g.evidence.log + 1)) }
+        × (g.is_older ≡ false → 2 * seat.learnt_number ≤ length g.evidence.log + 1)) }
     ensures history { IfSome result.1 (λ g. IsHistory (shown_in g.evidence.log)) }
 {
-    let Seat {
+    let ReaderSlot {
         reader,
-        heard_number,
+        learnt_number,
     } = seat;
     let (reader, seen) = match enter(reader) {
         Ok(reading) => {
             let shown = reading.get();
-            let seen = Glimpse {
+            let seen = ReadResult {
                 found: Located {
                     calls: shown.table().calls(),
                     places: shown.table().places(id),
                 },
                 evidence: shown.evidence(),
-                is_older: shown.number().is_below(&heard_number),
+                is_older: shown.number().is_below(&learnt_number),
             };
             (reading.leave(), Some(seen))
         }
         Err(reader) => (reader, None),
     };
-    let seat = Seat {
+    let seat = ReaderSlot {
         reader,
-        heard_number,
+        learnt_number,
     };
     (seat, seen)
 }
@@ -136,13 +136,13 @@ impl Locator {
         ensures { result ≡ record { home = first.home; list = opening ∷ []; told = [] } }
     {
         Locator {
-            seat: Seat {
+            seat: ReaderSlot {
                 reader,
-                heard_number: Count::one(alloc),
+                learnt_number: Count::one(alloc),
             },
             answered: first.again(),
             heard: first,
-            told: Told::nothing(),
+            told: LearntLists::nothing(),
         }
     }
 
@@ -154,11 +154,11 @@ impl Locator {
         ensures told { self.new.told ≡ self.old.told ++ receipt.list ∷ [] }
     {
         let (evidence, number) = receipt.into_parts();
-        self.heard.meet(&evidence);
+        self.heard.show_one_journal(&evidence);
         self.told.add(&evidence);
-        if self.seat.heard_number.is_below(&number) {
+        if self.seat.learnt_number.is_below(&number) {
             self.heard = evidence;
-            self.seat.heard_number = number;
+            self.seat.learnt_number = number;
         }
     }
 
@@ -184,7 +184,7 @@ impl Locator {
         let Some(seen) = replace_with(&mut self.seat, id, read) else {
             return None;
         };
-        let Glimpse {
+        let ReadResult {
             found,
             evidence,
             is_older,
@@ -192,7 +192,7 @@ impl Locator {
         if is_older {
             return None;
         }
-        self.heard.meet(&evidence);
+        self.heard.show_one_journal(&evidence);
         self.answered = evidence;
         Some(found)
     }

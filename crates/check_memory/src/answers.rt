@@ -115,9 +115,9 @@ pub fn write_line(answer: &Answer, text: &mut String) -> Result<(), AllocError> 
 fn compare_and_drop(answer: Answer, expected: &str, text: &mut String) -> Outcome {
     text.clear();
     let is_written = write!(text, "{answer:?}").is_ok();
-    let wants_memory = answer.wants_memory();
+    let is_out_of_memory = answer.is_out_of_memory();
     drop(answer);
-    if wants_memory {
+    if is_out_of_memory {
         Outcome::WantsMemory
     } else if is_written && text.as_str() == expected {
         Outcome::AsExpected

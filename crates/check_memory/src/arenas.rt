@@ -218,7 +218,7 @@ fn drop_block(arena: &mut Arena, number: u32, tally: &mut Tally) {
 // Each list operation if its conditions hold. Otherwise it does nothing, which shows in the steps.
 
 fn link(arena: &mut Arena, slot: Slot, storage: StorageId) {
-    if arena.has_head(storage) && arena.has_room(slot) && arena.marks(slot, storage).is_none() {
+    if arena.has_head(storage) && arena.has_capacity(slot) && arena.marks(slot, storage).is_none() {
         arena.link_front(slot, storage, GOOD);
     }
 }
@@ -248,7 +248,7 @@ fn take_delimiter(arena: &mut Arena, storage: StorageId) {
 }
 
 fn drop_entry(arena: &mut Arena, slot: Slot) {
-    if arena.is_bare(slot) && !arena.is_delimiter(slot) {
+    if arena.has_no_replicas(slot) && !arena.is_delimiter(slot) {
         arena.drop_entry(slot);
     }
 }

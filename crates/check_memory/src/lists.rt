@@ -328,7 +328,7 @@ fn write_accepted(answers: &[Answer], text: &mut String) -> Result<u32, AllocErr
     let mut refused = 0u32;
     text.clear();
     for answer in answers {
-        if answer.wants_memory() {
+        if answer.is_out_of_memory() {
             refused = refused.saturating_add(1);
         } else {
             write_line(answer, text)?;
@@ -347,7 +347,7 @@ fn answer_accepted<R: Threads + Wait + Sync>(
 ) -> Result<(), AllocError> {
     text.clear();
     for (call, answer) in list.calls.iter().zip(answers.iter()) {
-        if !answer.wants_memory() {
+        if !answer.is_out_of_memory() {
             ask_full(rt, other, call, text)?;
         }
     }

@@ -32,7 +32,7 @@ mod lists;
 mod long;
 mod managers;
 mod marks;
-mod publishing;
+mod publication;
 mod questions;
 mod refused;
 mod reports;

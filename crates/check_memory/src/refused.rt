@@ -4,7 +4,7 @@
 // and one worker. In a list of calls the refused one is skipped.
 
 use crate::bench::Bench;
-use crate::{calls_in_turn, lists, publishing};
+use crate::{calls_in_turn, lists, publication};
 use std::sync::Wait;
 use std::thread::Threads;
 
@@ -12,5 +12,5 @@ use std::thread::Threads;
 pub fn run<R: Print + Eprint + Threads + Wait + Sync>(rt: &R, bench: &mut Bench, turns: u32) {
     calls_in_turn::run(rt, bench, turns);
     lists::run(rt, bench, turns);
-    publishing::run(rt, bench, turns);
+    publication::run(rt, bench, turns);
 }

@@ -103,7 +103,7 @@ fn take_levels(lists: &mut LevelLists, size: usize, tally: &mut Tally) {
     let mut count = 0usize;
     let mut at = lists.first(Level::Highest);
     while let Some(slot) = at {
-        lists.lawful();
+        lists.show_invariant();
         at = lists.next(slot);
         lists.set(slot, None);
         tally.note(lists.level(slot).is_none());
@@ -128,7 +128,7 @@ fn remove_all(slots: &mut SlotSet, size: usize, tally: &mut Tally) {
     let mut count = 0usize;
     let mut at = slots.first();
     while let Some(slot) = at {
-        slots.lawful();
+        slots.show_invariant();
         at = slots.next(slot);
         slots.remove(slot);
         tally.note(!slots.contains(slot));

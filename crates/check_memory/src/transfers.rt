@@ -1,7 +1,7 @@
 // Pending transfers, three of each block: to storage 0 since round 1, to storage 1 since round 4,
 // to storage 2 since round 5.
 ghost use Rattle.std.specs.Prelude.{◌≡◌, ◌≤◌, ◌<◌, ℕ, OnOk};
-ghost use Rattle.bm_pending.specs.OnTheWay.{room};
+ghost use Rattle.bm_pending.specs.PendingMap.{room};
 
 use crate::events::block;
 use crate::marks::say;
@@ -56,9 +56,9 @@ fn open_windows<R: Eprint>(
     pending.drop_storages([StorageId(1)].as_slice());
     counts_are(pending, size, 1, tally);
     insert_again(pending, size, tally);
-    pending.drop_empty_rooms();
+    pending.release_unused();
     remove_all(pending, size, tally);
-    pending.drop_empty_rooms();
+    pending.release_unused();
     say(rt, "ended", "transfers");
 }
 

@@ -13,10 +13,10 @@
 //! judged so.)
 #![tactic(auto)]
 
-mod alike;
-mod beside;
+mod equality;
+mod concurrent_calls;
 mod counts;
-mod drawing;
+mod draws;
 mod pair;
 mod readers;
 
@@ -44,7 +44,7 @@ fn main(rt: HostRuntime) -> ExitCode {
     };
     let Asked { count, seed, .. } = asked;
     if asked.is_beside {
-        let done = beside::are_all_alike(&rt, &rt, count, seed);
+        let done = concurrent_calls::are_all_alike(&rt, &rt, count, seed);
         exit_code_of(&rt, done, count, "lists alike beside readers")
     } else {
         let done = pair::are_all_alike(&rt, &rt, count, seed);

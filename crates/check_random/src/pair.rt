@@ -1,8 +1,8 @@
 // Two managers that differ in shards and workers, and calls that both have to answer alike.
 
-use crate::alike::are_alike;
+use crate::equality::are_alike;
 use crate::counts::Counts;
-use crate::drawing;
+use crate::draws;
 use bm_base::{Answer, Call, Config, HashSecret, Refusal};
 use bm_crew::NoGate;
 use bm_manager::Manager;
@@ -136,7 +136,7 @@ impl Pair {
         run: &mut Run<'_>,
         number: u32,
     ) -> Result<bool, AllocError> {
-        let call = drawing::call(&mut run.rng, alloc)?;
+        let call = draws::call(&mut run.rng, alloc)?;
         let is_alike = self.is_answered_alike(rt, run, number, &call);
         drop(call);
         Ok(is_alike)
@@ -152,7 +152,7 @@ impl Pair {
     ) -> bool {
         let answer = self.one.answer(rt, &NoGate, call);
         let other = self.other.answer(rt, &NoGate, call);
-        let is_fine = are_alike(&answer, &other) && !answer.wants_memory();
+        let is_fine = are_alike(&answer, &other) && !answer.is_out_of_memory();
         if is_fine {
             run.counts.add(call, &answer);
         } else {

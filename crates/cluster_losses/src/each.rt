@@ -4,7 +4,7 @@ ghost use Rattle.cluster_report.specs.Sessions.{IsInStep};
 
 use crate::fault::Fault;
 use crate::held::Held;
-use crate::losing::{Lost, nodes_on};
+use crate::loss_events::{Lost, nodes_on};
 use crate::set_back::{Return, returns_of};
 use crate::text::fits_word;
 use crate::without::{Outcome, without};

@@ -5,7 +5,7 @@ ghost use Rattle.cluster_report.specs.Levels.{levels_counted};
 ghost use Rattle.cluster_report.specs.Reports.{levels_held};
 
 use crate::held::Held;
-use crate::lacking::bytes_lacking;
+use crate::lacking_bytes::bytes_lacking;
 use bm_base::{BlockId, Items, Refusal};
 use bm_topo::Topology;
 use cluster_report::levels::{LevelCounts, count_levels};

@@ -4,7 +4,7 @@ ghost use Rattle.std.specs.List.{flat_map};
 ghost use Rattle.cluster_report.specs.Text.{count_line};
 ghost use Rattle.cluster_losses.specs.Text.{change_line, levels_text, lost_text, yes_or_no, fits_line, copies_text, answer_text};
 
-use crate::losing::Lost;
+use crate::loss_events::Lost;
 use crate::standing::Standing;
 use crate::without::Outcome;
 use bm_base::{BlockId, NodeId};

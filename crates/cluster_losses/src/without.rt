@@ -47,7 +47,7 @@ pub fn without<H: Threads + Wait + Sync>(
         ≡ after_losses held.old.session.manager losses.now) }
     ensures in_step { OnOk result (IsInStep held.new.session) }
 {
-    held.session.manager.lawful();
+    held.session.manager.show_invariant();
     held.apply_all(rt, losses)?;
     let after = standing_of(alloc, held)?;
     let lost = lost_blocks(alloc, missing, after.missing.as_slice())?;

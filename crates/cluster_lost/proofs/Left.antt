@@ -15,13 +15,13 @@ use Rattle.bm_base.specs.Machine.State.{Cluster, Holdings, State, by_replica}
 use Rattle.bm_base.specs.Machine.Replicas.{is_usable, is_live_on, is_drained_on, is_draining, node_of, has_storage, storages_where, usable, live, drained, racks, is_multi_rack}
 use Rattle.bm_base.specs.declared.level.Level.TheVariants.{NoUsableReplica}
 use Rattle.bm_base.specs.Machine.Levels.{level, level_of, is_at}
-use Rattle.bm_base.specs.Machine.Events.{change_cluster, change_holdings, without_node, without_storage, without_storages, drain, begun_to_drain}
+use Rattle.bm_base.specs.Machine.Events.{change_cluster, change_holdings, without_node, without_storage, without_storages, drain, begin_drain}
 use Rattle.bm_base.specs.Machine.Calls.{after_event}
 use Rattle.bm_base.specs.Promises.Lawful.{IsLawfulHoldings}
 use Rattle.bm_base.proofs.MapLaws.{get-keep, get-remove, entries-keep}
 use Rattle.bm_base.proofs.Options.{there, all_stays}
 use Rattle.bm_base.proofs.Ties.{number_tie}
-use Rattle.bm_base.proofs.Listed.{any_map, any_filter, any_agree}
+use Rattle.bm_base.proofs.ListTests.{any_map, any_filter, any_agree}
 use Rattle.cluster_lost.specs.Losses as losses
 use Rattle.cluster_lost.specs.Losses.{is_loss, are_losses, after_losses, takes, is_taken, is_missing, has_replica_left}
 use Rattle.cluster_lost.proofs.Tests.{none_if_empty, any_either, neither, level_is_missing}
@@ -96,10 +96,10 @@ unfolding storages_where
 usable_by H G b e = ap (λ m. map (λ e. e.0.storage) (filter (λ e. (e.0.block == b) && is_usable e.1) (entries m))) e
 
 pub left_by_loss : (C : Cluster) (H : Holdings) (e : Event) (b : ℕ) (t : ℕ → Bool) → is_loss e ≡ true → list_any t (usable (change_holdings C H e) b) ≡ list_any (λ s. not (takes C e s) && t s) (usable H b)
-unfolding change_holdings begun_to_drain
+unfolding change_holdings begin_drain
 left_by_loss C H (Dead n) b t h = left_by_storages H (has_storage C n) b t
 left_by_loss C H (StorageFailed s) b t h = left_by_storages H (λ t. t == s) b t
-left_by_loss C H (Drain n) b t h = ap (list_any t) (usable_by H (begun_to_drain C H n) b (same_replicas _ H _ refl))
+left_by_loss C H (Drain n) b t h = ap (list_any t) (usable_by H (begin_drain C H n) b (same_replicas _ H _ refl))
 left_by_loss C H (Register n rack ss) b t h = cc
 left_by_loss C H (Heartbeat n rs) b t h = cc
 left_by_loss C H (Undrain n) b t h = cc
@@ -113,7 +113,7 @@ left_by_loss C H (Corrupt s c) b t h = cc
 left_by_loss C H (FullReport s es) b t h = cc
 
 pub blocks_by_loss : (C : Cluster) (H : Holdings) (e : Event) → is_loss e ≡ true → (change_holdings C H e).blocks ≡ H.blocks
-unfolding change_holdings begun_to_drain without_storages
+unfolding change_holdings begin_drain without_storages
 blocks_by_loss C H (Dead n) h = refl
 blocks_by_loss C H (StorageFailed s) h = refl
 blocks_by_loss C H (Drain n) h = same_blocks _ H _ refl

@@ -10,13 +10,13 @@ use Rattle.bm_base.specs.Maps.Map.{Map, by_number, get, insert, entries, keys, c
 use Rattle.bm_base.specs.Machine.State.{Cluster, Holdings, State}
 use Rattle.bm_base.specs.Machine.Replicas.{usable}
 use Rattle.bm_base.specs.Machine.Queries.{missing_blocks}
-use Rattle.bm_base.proofs.Each.{Each, each_mapped, each_then}
-use Rattle.bm_base.proofs.Maps.{each_entry, passes_entry}
+use Rattle.bm_base.proofs.ForEach.{Each, each_mapped, each_then}
+use Rattle.bm_base.proofs.MapEntries.{each_entry, passes_entry}
 use Rattle.bm_base.proofs.MapLaws.{get-insert}
 use Rattle.bm_base.proofs.Options.{there, is_there}
 use Rattle.bm_base.proofs.Ties.{number_tie}
 use Rattle.bm_base.proofs.Clusters.{eqb_turned}
-use Rattle.bm_base.proofs.Listed.{any_map, any_filter, filter_filter, same_again}
+use Rattle.bm_base.proofs.ListTests.{any_map, any_filter, filter_filter, same_again}
 use Rattle.cluster_lost.specs.Losses.{after_losses, is_missing, is_lost, has_replica, has_replica_left, lost_blocks, AreMissing}
 use Rattle.cluster_lost.proofs.Tests.{none_if_empty}
 use Rattle.cluster_lost.proofs.Left.{left_law, blocks_stay, missing_is_unusable}

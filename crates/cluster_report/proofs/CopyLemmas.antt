@@ -13,14 +13,14 @@ use Rattle.bm_base.specs.declared.commands.Delete.{Delete}
 use Rattle.bm_base.specs.Maps.Map.{Map, Order, get, insert, insert_all, keep, keys}
 use Rattle.bm_base.specs.Machine.State.{Cluster, State, by_replica, replica_at}
 use Rattle.bm_base.specs.Machine.Replicas.{has_storage}
-use Rattle.bm_base.specs.Machine.Excess.{begun, started, marked, without_unordered_excess, without_expired}
+use Rattle.bm_base.specs.Machine.Excess.{state_after_expiry, state_at_choice, with_surplus_marked, without_unordered_excess, without_expired}
 use Rattle.bm_base.specs.Machine.Transfers.{transfers}
 use Rattle.bm_base.specs.Machine.Deletes.{deletes}
-use Rattle.bm_base.specs.Machine.Rounds.{node_commands, has_commands, commands_of, finished, whole_round}
+use Rattle.bm_base.specs.Machine.Rounds.{node_commands, has_commands, commands_of, end_round, whole_round}
 use Rattle.bm_base.specs.Promises.Lawful.{IsLawful}
 use Rattle.bm_base.proofs.MapLaws.{same_map, get-insert}
-use Rattle.bm_base.proofs.Each.{Each, each_of, each_mapped, each_flat, each_any}
-use Rattle.bm_base.proofs.Listed.{or_left, or_right, and_second, any_filter, any_map, any_weaker, any_agree}
+use Rattle.bm_base.proofs.ForEach.{Each, each_of, each_mapped, each_flat, each_any}
+use Rattle.bm_base.proofs.ListTests.{or_left, or_right, and_second, any_filter, any_map, any_weaker, any_agree}
 use Rattle.cluster_report.specs.Copies.{commanded_to}
 use Rattle.cluster_report.proofs.SentLemmas.{each_sent}
 
@@ -149,6 +149,6 @@ module _ (C : Cluster) (r : ℕ) (ts : List Transfer) (ds : List Delete) where
 pub round_copies : (M : State) → IsLawful M
     → insert_all (keep M.holdings.pending (λ _ r. not (nat_le M.limits.pend ((whole_round M).0.round - r)))) (flat_map (commanded_to (whole_round M).0.round) (whole_round M).0.nodes)
     ≡ (whole_round M).1.holdings.pending
-unfolding whole_round started begun marked without_unordered_excess without_expired commands_of finished
+unfolding whole_round state_at_choice state_after_expiry with_surplus_marked without_unordered_excess without_expired commands_of end_round
 round_copies M L =
-    all_put M.cluster (M.round + 1) (transfers M.limits M.cluster (started M).holdings) (deletes M.limits M.cluster (started M).holdings) _ (keys M.cluster.nodes) (each_sent M L)
+    all_put M.cluster (M.round + 1) (transfers M.limits M.cluster (state_at_choice M).holdings) (deletes M.limits M.cluster (state_at_choice M).holdings) _ (keys M.cluster.nodes) (each_sent M L)

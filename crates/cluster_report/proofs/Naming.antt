@@ -4,7 +4,7 @@ use Rattle.std.specs.Prelude.{◌==◌, nat_le, flat_map}
 use Rattle.std.specs.List.{list_any}
 use Rattle.std.proofs.lemmas.List.Folds.{list_any-append}
 use Rattle.bm_base.specs.declared.event.Entry.{Entry}
-use Rattle.bm_base.specs.Machine.Entries.{told_by, expanded}
+use Rattle.bm_base.specs.Machine.Entries.{blocks_of_entry, expanded}
 use Rattle.bm_base.specs.Machine.Events.{is_named}
 use Rattle.bm_base.proofs.Entries.{has-told_by}
 
@@ -20,9 +20,9 @@ any_same : {X : Type 0} (p q : X → Bool) (xs : List X) → ((x : X) → p x �
 any_same p q [] h = refl
 any_same p q (x ∷ xs) h = λ i. h x i || any_same p q xs h i
 
-pub named_by : (e : Entry) (b : ℕ) → list_any (λ t. t.id == b) (told_by e) ≡ (nat_le e.from b && nat_le b e.to)
-named_by e b = sym (any_mapped (λ x. x == b) (λ t. t.id) (told_by e)) ∙ has-told_by e b
+pub named_by : (e : Entry) (b : ℕ) → list_any (λ t. t.id == b) (blocks_of_entry e) ≡ (nat_le e.from b && nat_le b e.to)
+named_by e b = sym (any_mapped (λ x. x == b) (λ t. t.id) (blocks_of_entry e)) ∙ has-told_by e b
 
 pub named_in : (es : List Entry) (b : ℕ) → is_named (expanded es) b ≡ list_any (λ e. nat_le e.from b && nat_le b e.to) es
 unfolding is_named expanded
-named_in es b = any_flat (λ t. t.id == b) told_by es ∙ any_same _ _ es (λ e. named_by e b)
+named_in es b = any_flat (λ t. t.id == b) blocks_of_entry es ∙ any_same _ _ es (λ e. named_by e b)

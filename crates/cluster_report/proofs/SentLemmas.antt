@@ -10,14 +10,14 @@ use Rattle.bm_base.specs.declared.commands.Transfer.{Transfer}
 use Rattle.bm_base.specs.Maps.Map.{Map, get, contains_key, keys, revise, len}
 use Rattle.bm_base.specs.Machine.State.{RoundLimits, Cluster, Holdings, State, by_replica, replica_at}
 use Rattle.bm_base.specs.Machine.Replicas.{node_of, has_storage, is_draining, is_live_on, is_drained_on, live, drained, sources_of, storages_where}
-use Rattle.bm_base.specs.Machine.Excess.{begun, started, marked, without_unordered_excess, without_expired}
+use Rattle.bm_base.specs.Machine.Excess.{state_after_expiry, state_at_choice, with_surplus_marked, without_unordered_excess, without_expired}
 use Rattle.bm_base.specs.Promises.Lawful.{IsLawful, IsLawfulCluster, IsLawfulHoldings}
-use Rattle.bm_base.specs.Machine.Transfers.{WishedCopy, streams_from, stream_limit, source_cmp, least_source, least_source_by, least_target, holders_of, barred_for, transfer_for, transfers_from, transfers, wishes}
+use Rattle.bm_base.specs.Machine.Transfers.{RequestedCopy, streams_from, stream_limit, source_cmp, least_source, least_source_by, least_target, holders_of, excluded_for, transfer_for, transfers_from, transfers, wishes}
 use Rattle.bm_base.proofs.Options.{there, is_there, revised, chained}
-use Rattle.bm_base.proofs.Each.{Each, each_then, each_appended, each_filtered, each_optional, least_is_one}
-use Rattle.bm_base.proofs.Listed.{same_again}
+use Rattle.bm_base.proofs.ForEach.{Each, each_then, each_appended, each_filtered, each_optional, least_is_one}
+use Rattle.bm_base.proofs.ListTests.{same_again}
 use Rattle.bm_base.proofs.Sets.{passing_some, has_keys}
-use Rattle.bm_base.proofs.Maps.{known_revised}
+use Rattle.bm_base.proofs.MapEntries.{known_revised}
 use Rattle.bm_parts.proofs.ChosenCopies.{HasOne, each_storage, made, unless}
 
 -- the storage stands on an alive node
@@ -34,18 +34,18 @@ has_node C s L known =
 known_twice : (m : Map by_replica Marks) (f g : ReplicaId → Marks → Marks) (q : ReplicaId) → contains_key (revise (revise m f) g) q ≡ contains_key m q
 known_twice m f g q = known_revised (revise m f) g q ∙ known_revised m f q
 
-source_stored : (M : State) (p : ℕ → Marks → Bool) (b s : ℕ) → IsLawfulHoldings M.cluster M.holdings → HasOne p (started M).holdings b s → contains_key M.cluster.storages s ≡ true
-unfolding started begun marked without_unordered_excess without_expired
+source_stored : (M : State) (p : ℕ → Marks → Bool) (b s : ℕ) → IsLawfulHoldings M.cluster M.holdings → HasOne p (state_at_choice M).holdings b s → contains_key M.cluster.storages s ≡ true
+unfolding state_at_choice state_after_expiry with_surplus_marked without_unordered_excess without_expired
 source_stored M p b s L one =
-    L.stored (replica_at b s) (sym (known_twice M.holdings.replicas _ _ (replica_at b s)) ∙ is_there (get (started M).holdings.replicas (replica_at b s)) one.0 one.1)
+    L.stored (replica_at b s) (sym (known_twice M.holdings.replicas _ _ (replica_at b s)) ∙ is_there (get (state_at_choice M).holdings.replicas (replica_at b s)) one.0 one.1)
 
-each_source : (M : State) → IsLawful M → (b : ℕ) → Each (HasNode M.cluster) (sources_of M.cluster (started M).holdings b)
+each_source : (M : State) → IsLawful M → (b : ℕ) → Each (HasNode M.cluster) (sources_of M.cluster (state_at_choice M).holdings b)
 each_source M L b =
-    each_appended (HasNode M.cluster) (live M.cluster (started M).holdings b) (drained M.cluster (started M).holdings b) (from (is_live_on M.cluster)) (from (is_drained_on M.cluster))
+    each_appended (HasNode M.cluster) (live M.cluster (state_at_choice M).holdings b) (drained M.cluster (state_at_choice M).holdings b) (from (is_live_on M.cluster)) (from (is_drained_on M.cluster))
   where
-    from : (p : ℕ → Marks → Bool) → Each (HasNode M.cluster) (storages_where p (started M).holdings b)
+    from : (p : ℕ → Marks → Bool) → Each (HasNode M.cluster) (storages_where p (state_at_choice M).holdings b)
     from p =
-        each_then (HasOne p (started M).holdings b) (HasNode M.cluster) (storages_where p (started M).holdings b) (each_storage p (started M).holdings b)
+        each_then (HasOne p (state_at_choice M).holdings b) (HasNode M.cluster) (storages_where p (state_at_choice M).holdings b) (each_storage p (state_at_choice M).holdings b)
         (λ s one. has_node M.cluster s L.cluster (source_stored M p b s L.holdings one))
 
 source_made : (b : ℕ) (found : Option BlockInfo) (source : Option ℕ) (target : BlockInfo → Option ℕ) (t : Transfer)
@@ -56,26 +56,26 @@ source_made b found source target t e =
     let u = revised (made b i.0 s.0) (target i.0) t s.2 in
     s.1 ∙ ap (λ (x : Transfer). Some x.source) u.2
 
-source_passes : (P : ℕ → Type 0) (C : Cluster) (chosen : List Transfer) (w : WishedCopy) (usable : List ℕ) (s : ℕ) → Each P usable → least_source C chosen w.urgency usable ≡ Some s → P s
+source_passes : (P : ℕ → Type 0) (C : Cluster) (chosen : List Transfer) (w : RequestedCopy) (usable : List ℕ) (s : ℕ) → Each P usable → least_source C chosen w.urgency usable ≡ Some s → P s
 unfolding least_source least_source_by
 source_passes P C chosen w usable s each e =
     least_is_one P (source_cmp C (streams_from C chosen)) (filter (λ x. nat_lt (streams_from C chosen x) (stream_limit w.urgency (is_draining C x))) usable)
     (each_filtered P (λ x. nat_lt (streams_from C chosen x) (stream_limit w.urgency (is_draining C x))) usable each) s e
 
 module _ (P : ℕ → Type 0) (limits : RoundLimits) (C : Cluster) (H : Holdings) (each : (b : ℕ) → Each P (sources_of C H b)) where
-  transfer_source : (chosen : List Transfer) (w : WishedCopy) (t : Transfer) → transfer_for limits C H chosen w ≡ Some t → P t.source
+  transfer_source : (chosen : List Transfer) (w : RequestedCopy) (t : Transfer) → transfer_for limits C H chosen w ≡ Some t → P t.source
   unfolding transfer_for
   transfer_source chosen w t e =
       source_passes P C chosen w (sources_of C H w.block) t.source (each w.block)
-      (source_made w.block (get H.blocks w.block) (least_source C chosen w.urgency (sources_of C H w.block)) (λ i. least_target C chosen w.urgency (holders_of C H chosen w.block) (barred_for H chosen w.block) i.stamp.len) t
+      (source_made w.block (get H.blocks w.block) (least_source C chosen w.urgency (sources_of C H w.block)) (λ i. least_target C chosen w.urgency (holders_of C H chosen w.block) (excluded_for H chosen w.block) i.stamp.len) t
       (unless (nat_le (limits.work * len C.nodes) (length chosen)) _ t e))
 
-  sources_from : (chosen : List Transfer) (ws : List WishedCopy) → Each (λ t. P t.source) chosen → Each (λ t. P t.source) (transfers_from limits C H chosen ws)
+  sources_from : (chosen : List Transfer) (ws : List RequestedCopy) → Each (λ t. P t.source) chosen → Each (λ t. P t.source) (transfers_from limits C H chosen ws)
   sources_from chosen [] h = h
   sources_from chosen (w ∷ ws) h =
       sources_from (chosen ++ option_to_list (transfer_for limits C H chosen w)) ws
       (each_appended (λ t. P t.source) chosen (option_to_list (transfer_for limits C H chosen w)) h (each_optional (λ t. P t.source) (transfer_for limits C H chosen w) (transfer_source chosen w)))
 
-pub each_sent : (M : State) → IsLawful M → Each (λ t. HasNode M.cluster t.source) (transfers M.limits M.cluster (started M).holdings)
+pub each_sent : (M : State) → IsLawful M → Each (λ t. HasNode M.cluster t.source) (transfers M.limits M.cluster (state_at_choice M).holdings)
 unfolding transfers
-each_sent M L = sources_from (HasNode M.cluster) M.limits M.cluster (started M).holdings (each_source M L) [] (wishes M.cluster (started M).holdings) tt
+each_sent M L = sources_from (HasNode M.cluster) M.limits M.cluster (state_at_choice M).holdings (each_source M L) [] (wishes M.cluster (state_at_choice M).holdings) tt

@@ -12,11 +12,11 @@ use Rattle.bm_base.specs.declared.call.Answer.TheVariants as answer
 use Rattle.bm_base.specs.Maps.Map.{keep, insert_all}
 use Rattle.bm_base.specs.Machine.State.{Cluster, State}
 use Rattle.bm_base.specs.Promises.Lawful.{IsLawful}
-use Rattle.bm_base.specs.Machine.Excess.{begun, started}
+use Rattle.bm_base.specs.Machine.Excess.{state_after_expiry, state_at_choice}
 use Rattle.bm_base.specs.Machine.Rounds.{whole_round}
 use Rattle.bm_base.specs.Machine.Refusals.{◌before◌, first_of, cluster_checks, refusal_of, round_refusal, node_refusal, storage_refusal, block_refusal}
-use Rattle.bm_base.specs.Machine.Calls.{step, refused_or, after_event, counted}
-use Rattle.bm_base.specs.Machine.Answering.{MayAnswer, state_left, wants_memory}
+use Rattle.bm_base.specs.Machine.Calls.{step, refused_or, after_event, count_call}
+use Rattle.bm_base.specs.Machine.Answering.{MayAnswer, state_after_answer, is_out_of_memory}
 use Rattle.cluster_report.specs.declared.book.Book.{Book}
 use Rattle.cluster_report.specs.declared.transfers.Transfers.{Transfers}
 use Rattle.cluster_report.specs.Books.{IsAccepted, cluster_after, AreCopiesAfter}
@@ -63,7 +63,7 @@ other_cluster M next a None h = h
 other_cluster M next a (Some r) h = refl
 
 round_cluster : (M : State) → (whole_round M).1.cluster ≡ M.cluster
-unfolding whole_round started begun
+unfolding whole_round state_at_choice state_after_expiry
 round_cluster M = refl
 
 cluster_step : (M : State) (k : Call) → (step M k).1.cluster ≡ cluster_after M.cluster k (step M k).0
@@ -91,8 +91,8 @@ event_copies M e d None old new same h = h M.holdings same
 event_copies M e d (Some r) old new same h = h ∙ same
 
 round_copies_by : (M : State) (o : Option Refusal) (old new : Transfers) → IsLawful M → old.copies ≡ M.holdings.pending → old.pend ≡ M.limits.pend
-    → AreCopiesAfter M.cluster old call.Round (refused_or M o (answer.Commanded (whole_round M).0, counted (whole_round M).1)).0 new
-    → new.copies ≡ (refused_or M o (answer.Commanded (whole_round M).0, counted (whole_round M).1)).1.holdings.pending
+    → AreCopiesAfter M.cluster old call.Round (refused_or M o (answer.Commanded (whole_round M).0, count_call (whole_round M).1)).0 new
+    → new.copies ≡ (refused_or M o (answer.Commanded (whole_round M).0, count_call (whole_round M).1)).1.holdings.pending
 round_copies_by M None old new L same pend h =
     h
     ∙ (λ i. insert_all (keep (same i) (λ _ r. not (nat_le (pend i) ((whole_round M).0.round - r)))) (flat_map (commanded_to (whole_round M).0.round) (whole_round M).0.nodes))
@@ -130,7 +130,7 @@ unfolding after_event
 event_limits M e = refl
 
 round_limits : (M : State) → (whole_round M).1.limits ≡ M.limits
-unfolding whole_round started begun
+unfolding whole_round state_at_choice state_after_expiry
 round_limits M = refl
 
 limits_step : (M : State) (k : Call) → (step M k).1.limits ≡ M.limits
@@ -150,14 +150,14 @@ limits_step M call.Rounds = refl
 
 -- ---- a call that was answered, where memory did not lack
 
-answered : (M : State) (k : Call) (a : Answer) → MayAnswer step M k a → wants_memory a ≡ false → a ≡ (step M k).0
+answered : (M : State) (k : Call) (a : Answer) → MayAnswer step M k a → is_out_of_memory a ≡ false → a ≡ (step M k).0
 answered M k a (inl e) h = e
-answered M k a (inr e) h = absurd_bool (sym (ap wants_memory e.1) ∙ h)
+answered M k a (inr e) h = absurd_bool (sym (ap is_out_of_memory e.1) ∙ h)
   where
     absurd_bool : {A : Type 0} → true ≡ false → A
     absurd_bool e = cc
 
-pub accepted_by : (M : State) (C : Cluster) (k : Call) (a : Answer) → C ≡ M.cluster → MayAnswer step M k a → wants_memory a ≡ false → IsAccepted C k a
+pub accepted_by : (M : State) (C : Cluster) (k : Call) (a : Answer) → C ≡ M.cluster → MayAnswer step M k a → is_out_of_memory a ≡ false → IsAccepted C k a
 accepted_by M C k a same may none =
     subst (λ D. IsAccepted D k a) (sym same) (subst (IsAccepted M.cluster k) (sym (answered M k a may none)) (accepted_step M k))
 
@@ -165,12 +165,12 @@ left_step : (M N : State) (k : Call) (b : Bool) → b ≡ false → N ≡ (cond 
 left_step M N k b none e = e ∙ ap (λ c. cond c M (step M k).1) none
 
 -- the book follows the manager after a call
-pub follows_by : (M N : State) (old new : Book) (k : Call) (a : Answer) → IsLawful M → Follows old M → MayAnswer step M k a → wants_memory a ≡ false → N ≡ state_left step M k a
+pub follows_by : (M N : State) (old new : Book) (k : Call) (a : Answer) → IsLawful M → Follows old M → MayAnswer step M k a → is_out_of_memory a ≡ false → N ≡ state_after_answer step M k a
     → new.topology.cluster ≡ cluster_after old.topology.cluster k a → AreCopiesAfter old.topology.cluster old.transfers k a new.transfers → new.transfers.pend ≡ old.transfers.pend
     → Follows new N
 follows_by M N old new k a L F may none left cluster copies pend =
     let is : a ≡ (step M k).0 = answered M k a may none in
-    let next : (step M k).1 ≡ N = sym (left_step M N k (wants_memory a) none left) in
+    let next : (step M k).1 ≡ N = sym (left_step M N k (is_out_of_memory a) none left) in
     record {
       cluster = cluster ∙ ap (λ E. cluster_after E k a) F.cluster ∙ ap (cluster_after M.cluster k) is ∙ sym (cluster_step M k) ∙ ap (λ S. S.cluster) next;
       copies =

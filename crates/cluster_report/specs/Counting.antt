@@ -3,7 +3,7 @@ use Rattle.std.specs.Prelude.{ℕ, not, nat_eq, List, map, filter, count_by}
 use Rattle.std.specs.List.{dedup}
 use Rattle.bm_base.specs.declared.replica.Replica.{Replica}
 use Rattle.bm_base.specs.Machine.Replicas.{is_good, is_stale, is_bad, is_stray}
-use Rattle.cluster_report.specs.declared.counting.TagCounts.{TagCounts}
+use Rattle.cluster_report.specs.declared.tag_counts.TagCounts.{TagCounts}
 
 -- how many of these replicas have each tag
 abbrev pub tags_counted : List Replica → TagCounts

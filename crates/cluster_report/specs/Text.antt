@@ -3,7 +3,7 @@ use Rattle.std.specs.Prelude.{ℕ, ◌+◌, List, [], ◌++◌, Option, Some, No
 use Rattle.std.specs.List.{flat_map}
 use Rattle.bm_base.specs.declared.level.Level.{Level}
 use Rattle.bm_base.specs.Machine.Levels.{level_number}
-use Rattle.cluster_report.specs.declared.counting.TagCounts.{TagCounts}
+use Rattle.cluster_report.specs.declared.tag_counts.TagCounts.{TagCounts}
 use Rattle.cluster_report.specs.declared.levels.Leveled.{Leveled}
 use Rattle.cluster_report.specs.declared.levels.LevelCounts.{LevelCounts}
 use Rattle.cluster_report.specs.declared.nodes.NodeState.{NodeState}

@@ -32,7 +32,7 @@
 #![tactic(auto)]
 
 pub mod book;
-pub mod counting;
+pub mod tag_counts;
 pub mod fault;
 pub mod levels;
 pub mod nodes;

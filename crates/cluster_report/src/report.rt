@@ -7,7 +7,7 @@ ghost use Rattle.cluster_report.specs.Reports.{levels_held, report_of};
 ghost use Rattle.cluster_report.specs.Sessions.{Follows};
 
 use crate::book::Book;
-use crate::counting::{TagCounts, count_tags, held_blocks};
+use crate::tag_counts::{TagCounts, count_tags, held_blocks};
 use crate::levels::{LevelCounts, Leveled, MOST_NAMED, count_levels, levels_of, most_urgent};
 use crate::nodes::{NodeRow, all_nodes, all_storages, node_rows};
 use bm_base::{BlockId, Items, Refusal, Replica};

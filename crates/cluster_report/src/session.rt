@@ -77,9 +77,9 @@ impl Session {
         ensures state { OnOk result (self.new.manager ≡ (step self.old.manager call.now).1) }
         ensures in_step { OnOk result (IsInStep self.new) }
     {
-        self.manager.lawful();
+        self.manager.show_invariant();
         let answer = self.manager.answer(rt, &NoGate, call);
-        if answer.wants_memory() {
+        if answer.is_out_of_memory() {
             return Err(AllocError);
         }
         self.book.take(call, &answer)?;

@@ -6,7 +6,7 @@ use Rattle.bm_base.specs.declared.event.Event.{Event}
 use Rattle.bm_base.specs.declared.event.Event.TheVariants.{Received}
 use Rattle.cluster_simulation.specs.declared.shape.Shape.{Shape}
 use Rattle.cluster_simulation.specs.declared.incident.Incident.{Incident}
-use Rattle.cluster_simulation.specs.declared.awaited.Awaited.{Awaited}
+use Rattle.cluster_simulation.specs.declared.awaited_copies.Awaited.{Awaited}
 use Rattle.cluster_simulation.specs.Incidents.{any_bars}
 
 abbrev pub awaited_copy : ℕ → Transfer → Awaited

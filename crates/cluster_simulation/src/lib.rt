@@ -32,9 +32,9 @@
 //! The exit status is 1 when out of memory or when a write fails, and 2 for invalid options.
 #![tactic(auto)]
 
-mod awaited;
+mod awaited_copies;
 mod corrupt;
-mod counting;
+mod block_counts;
 pub mod counts;
 mod csv;
 mod datanodes;
@@ -47,7 +47,7 @@ mod losses;
 mod misuse;
 mod options;
 mod orders;
-mod placing;
+mod placement;
 mod plan;
 mod scale;
 mod shape;

@@ -4,7 +4,7 @@ use Rattle.std.specs.List.{list_any, AllByRecursion}
 use Rattle.std.proofs.lemmas.Bool.Decides.{nat_tests}
 use Rattle.std.specs.Str.{bytes_eq}
 use Rattle.std.proofs.lemmas.List.Folds.{list_any-append}
-use Rattle.bm_base.specs.Machine.Entries.{count_up}
+use Rattle.bm_base.specs.Machine.Entries.{range_from}
 use Rattle.fsck_text.specs.Cuts.{Text}
 use Rattle.fsck_files.specs.Numbers.{has_number, with_number}
 use Rattle.fsck_cluster.specs.Names.{name_of}
@@ -244,37 +244,37 @@ drains_first names draining within = record {
 abbrev pub node_number : NodeRow → ℕ
 node_number row = row.number
 
-count_push : (n k : ℕ) → count_up n (suc k) ≡ count_up n k ++ (n + k) ∷ []
+count_push : (n k : ℕ) → range_from n (suc k) ≡ range_from n k ++ (n + k) ∷ []
 count_push n zero = let e : n ≡ n + 0 = omega arith in ap (λ m. m ∷ []) e
-count_push n (suc k) = let e : suc n + k ≡ n + suc k = omega arith in ap (λ xs. n ∷ xs) (count_push (suc n) k ∙ ap (λ m. count_up (suc n) k ++ m ∷ []) e)
+count_push n (suc k) = let e : suc n + k ≡ n + suc k = omega arith in ap (λ xs. n ∷ xs) (count_push (suc n) k ∙ ap (λ m. range_from (suc n) k ++ m ∷ []) e)
 
 -- the number of one more name
-pub count_push-names : (names : List Text) (name : Text) → count_up 1 (length names) ++ (length names + 1) ∷ [] ≡ count_up 1 (length (names ++ name ∷ []))
+pub count_push-names : (names : List Text) (name : Text) → range_from 1 (length names) ++ (length names + 1) ∷ [] ≡ range_from 1 (length (names ++ name ∷ []))
 count_push-names names name =
     let next : length names + 1 ≡ 1 + length names = omega arith in
     let more : suc (length names) ≡ length (names ++ name ∷ []) = omega (arith, length-append names (name ∷ [])) in
-    ap (λ n. count_up 1 (length names) ++ n ∷ []) next ∙ sym (count_push 1 (length names)) ∙ ap (count_up 1) more
+    ap (λ n. range_from 1 (length names) ++ n ∷ []) next ∙ sym (count_push 1 (length names)) ∙ ap (range_from 1) more
 
 -- nodes numbered from 1 on, one for each name, and one more
-pub numbered-push : (rows : List NodeRow) (names : List Text) (row : NodeRow) (name : Text) → map node_number rows ≡ count_up 1 (length names) → row.number ≡ length names + 1
-    → map node_number (rows ++ row ∷ []) ≡ count_up 1 (length (names ++ name ∷ []))
-numbered-push rows names row name h e = map-push node_number rows row ∙ ap (λ t. t ++ row.number ∷ []) h ∙ ap (λ n. count_up 1 (length names) ++ n ∷ []) e ∙ count_push-names names name
+pub numbered-push : (rows : List NodeRow) (names : List Text) (row : NodeRow) (name : Text) → map node_number rows ≡ range_from 1 (length names) → row.number ≡ length names + 1
+    → map node_number (rows ++ row ∷ []) ≡ range_from 1 (length (names ++ name ∷ []))
+numbered-push rows names row name h e = map-push node_number rows row ∙ ap (λ t. t ++ row.number ∷ []) h ∙ ap (λ n. range_from 1 (length names) ++ n ∷ []) e ∙ count_push-names names name
 
 above_it : (n m : ℕ) → n ≤ m → (n == m) ≡ false → suc n ≤ m
 above_it n m h e = grind (arith, nat_tests)
 
-pub has-count_up : (n k m : ℕ) → n ≤ m → m < n + k → has_number (count_up n k) m ≡ true
+pub has-count_up : (n k m : ℕ) → n ≤ m → m < n + k → has_number (range_from n k) m ≡ true
 has-count_up n zero m above below = absurd (omega (arith, above, below))
 has-count_up n (suc k) m above below = by (n == m) refl (λ h. has-count_up (suc n) k m h (omega (arith, below)))
   where
-    by : (b : Bool) → (n == m) ≡ b → (suc n ≤ m → has_number (count_up (suc n) k) m ≡ true) → (b || has_number (count_up (suc n) k) m) ≡ true
+    by : (b : Bool) → (n == m) ≡ b → (suc n ≤ m → has_number (range_from (suc n) k) m ≡ true) → (b || has_number (range_from (suc n) k) m) ≡ true
     by true e rest = refl
     by false e rest = rest (above_it n m above e)
 
-pub in-count_up : (n k m : ℕ) → has_number (count_up n k) m ≡ true → (n ≤ m) × (m < n + k)
+pub in-count_up : (n k m : ℕ) → has_number (range_from n k) m ≡ true → (n ≤ m) × (m < n + k)
 in-count_up n zero m h = absurd (true≢false (sym h))
 in-count_up n (suc k) m h = by (n == m) refl h (in-count_up (suc n) k m)
   where
-    by : (b : Bool) → (n == m) ≡ b → (b || has_number (count_up (suc n) k) m) ≡ true → (has_number (count_up (suc n) k) m ≡ true → (suc n ≤ m) × (m < suc n + k)) → (n ≤ m) × (m < n + suc k)
+    by : (b : Bool) → (n == m) ≡ b → (b || has_number (range_from (suc n) k) m) ≡ true → (has_number (range_from (suc n) k) m ≡ true → (suc n ≤ m) × (m < suc n + k)) → (n ≤ m) × (m < n + suc k)
     by true e h rest = let same : n ≡ m = same_number n m e in (omega (arith, same), omega (arith, same))
     by false e h rest = let p = rest h in (omega (arith, p.0), omega (arith, p.1))

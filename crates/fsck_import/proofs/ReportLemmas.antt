@@ -6,7 +6,7 @@ use Rattle.std.specs.List.{flat_map, list_any, AllByRecursion}
 use Rattle.std.specs.Str.{bytes_eq}
 use Rattle.std.proofs.lemmas.Grind.{flat_map-append}
 use Rattle.std.proofs.lemmas.List.{append-nil, map-append, take-append-drop}
-use Rattle.bm_base.specs.Machine.Entries.{count_up, run_length, told_by, expanded}
+use Rattle.bm_base.specs.Machine.Entries.{range_from, run_length, blocks_of_entry, expanded}
 use Rattle.bm_base.specs.declared.call.Call.{Call}
 use Rattle.bm_base.specs.declared.call.Call.TheVariants as call
 use Rattle.bm_base.specs.declared.event.Event.TheVariants.{FullReport}
@@ -40,9 +40,9 @@ module _ {X : Type 0} (g : Call → List X) (c : Cluster) (remaining : ℕ) wher
 
 -- Replicas.
 
-one_told : (h : Held) → told_by (entry h) ≡ told_of h ∷ []
-unfolding told_by
-one_told h = let n : run_length (entry h) ≡ 1 = omega arith in ap (λ k. map (λ b. record { id = b; stamp = h.stamp }) (count_up h.id k)) n
+one_told : (h : Held) → blocks_of_entry (entry h) ≡ told_of h ∷ []
+unfolding blocks_of_entry
+one_told h = let n : run_length (entry h) ≡ 1 = omega arith in ap (λ k. map (λ b. record { id = b; stamp = h.stamp }) (range_from h.id k)) n
 
 entries_told : (held : List Held) → expanded (map entry held) ≡ map told_of held
 unfolding expanded

@@ -4,7 +4,7 @@ use Rattle.std.specs.Prelude.{slice_get}
 use Rattle.std.specs.List.{list_any, position_or_len, AllByRecursion}
 use Rattle.std.specs.Option.{option_map_or}
 use Rattle.std.specs.Str.{bytes_eq}
-use Rattle.bm_base.specs.Machine.Entries.{count_up}
+use Rattle.bm_base.specs.Machine.Entries.{range_from}
 use Rattle.bm_base.specs.Maps.Lists.{has_repeats}
 use Rattle.fsck_text.specs.Cuts.{Text}
 use Rattle.fsck_text.specs.declared.place.Place.{Place}
@@ -48,7 +48,7 @@ pub record Sound (c : Cluster) (t : Taken) : Type 0 where
   pub names : has_twice c.storages ≡ false
   pub once : AllByRecursion (Once t.numbers t.last) c.rows
   pub corrupted : Corrupted c.storages c.bad t.bad
-  pub nodes : map node_number c.node_rows ≡ count_up 1 (length c.nodes)
+  pub nodes : map node_number c.node_rows ≡ range_from 1 (length c.nodes)
   pub on_nodes : AllByRecursion (OnNode (length c.nodes)) c.rows
   pub drained : Drains c.nodes c.draining t.addresses
 
@@ -68,7 +68,7 @@ new_node c t p new before =
       names = before.names;
       once = before.once;
       corrupted = before.corrupted;
-      nodes = numbered-push c.node_rows c.nodes row p.address before.nodes number ∙ ap (λ ns. count_up 1 (length ns)) (sym same);
+      nodes = numbered-push c.node_rows c.nodes row p.address before.nodes number ∙ ap (λ ns. range_from 1 (length ns)) (sym same);
       on_nodes = subst (λ ns. AllByRecursion (OnNode (length ns)) c.rows) (sym same) (all-more (OnNode (length c.nodes)) (OnNode (length (c.nodes ++ p.address ∷ []))) wider c.rows before.on_nodes);
       drained = subst (λ ns. Drains ns c.draining t.addresses) (sym same) (drains_name c.nodes p.address c.draining t.addresses before.drained);
     }

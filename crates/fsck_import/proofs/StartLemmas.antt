@@ -5,7 +5,7 @@ use Rattle.std.specs.List.{list_any}
 use Rattle.std.specs.Option.{option_map_or}
 use Rattle.std.specs.Str.{bytes_eq}
 use Rattle.std.proofs.lemmas.List.{append-nil}
-use Rattle.bm_base.specs.Machine.Entries.{count_up}
+use Rattle.bm_base.specs.Machine.Entries.{range_from}
 use Rattle.fsck_text.specs.Cuts.{Text}
 use Rattle.fsck_text.specs.Nodes.{node_line_of}
 use Rattle.fsck_text.specs.declared.node.NodeLine.{NodeLine}
@@ -41,7 +41,7 @@ number_read None = []
 
 -- a cluster of nodes alone, with the node that is being read
 pub record Nodes (c : Cluster) (row : Option NodeRow) : Type 0 where
-  pub nodes : map node_number c.node_rows ++ number_read row ≡ count_up 1 (length c.nodes)
+  pub nodes : map node_number c.node_rows ++ number_read row ≡ range_from 1 (length c.nodes)
   pub storages : c.storages ≡ []
   pub rows : c.rows ≡ []
   pub blocks : c.blocks ≡ []
@@ -53,7 +53,7 @@ row_ended : (s : NodeList) (row : NodeRow) → Nodes s.cluster (Some row) → (t
     → t.cluster.nodes ≡ s.cluster.nodes → t.cluster.storages ≡ s.cluster.storages → t.cluster.rows ≡ s.cluster.rows → t.cluster.blocks ≡ s.cluster.blocks → t.cluster.bad ≡ s.cluster.bad → t.cluster.draining ≡ s.cluster.draining → Nodes t.cluster None
 row_ended s row before t row' number rows nodes storages held blocks bad draining = record {
   nodes = append-nil (map node_number t.cluster.node_rows) ∙ ap (map node_number) rows ∙ map-push node_number s.cluster.node_rows row' ∙ ap (λ n. map node_number s.cluster.node_rows ++ n ∷ []) number ∙ before.nodes
-      ∙ ap (λ ns. count_up 1 (length ns)) (sym nodes);
+      ∙ ap (λ ns. range_from 1 (length ns)) (sym nodes);
   storages = storages ∙ before.storages;
   rows = held ∙ before.rows;
   blocks = blocks ∙ before.blocks;
@@ -109,9 +109,9 @@ named_nodes s address new before =
     let number : name_number s.cluster.nodes address ≡ length s.cluster.nodes + 1 = ap (λ n. n + 1) (new_position (bytes_eq address) s.cluster.nodes none) in
     record {
       nodes = ap (λ t. t ++ name_number s.cluster.nodes address ∷ []) (sym (append-nil (map node_number s.cluster.node_rows)) ∙ before.nodes)
-          ∙ ap (λ n. count_up 1 (length s.cluster.nodes) ++ n ∷ []) number
+          ∙ ap (λ n. range_from 1 (length s.cluster.nodes) ++ n ∷ []) number
           ∙ count_push-names s.cluster.nodes address
-          ∙ ap (λ ns. count_up 1 (length ns)) (sym (with_new s.cluster.nodes address none));
+          ∙ ap (λ ns. range_from 1 (length ns)) (sym (with_new s.cluster.nodes address none));
       storages = before.storages;
       rows = before.rows;
       blocks = before.blocks;
@@ -149,7 +149,7 @@ section_nodes s t live count e before =
 -- the lines about a node
 with_same : (c d : Cluster) (o p : Option NodeRow) → Nodes c o → d.node_rows ≡ c.node_rows → d.nodes ≡ c.nodes → number_read p ≡ number_read o → d.storages ≡ c.storages → d.rows ≡ c.rows → d.blocks ≡ c.blocks → d.bad ≡ c.bad → d.draining ≡ c.draining → Nodes d p
 with_same c d o p before rows nodes number storages held blocks bad draining = record {
-  nodes = ap (λ r. map node_number r ++ number_read p) rows ∙ ap (λ n. map node_number c.node_rows ++ n) number ∙ before.nodes ∙ ap (λ ns. count_up 1 (length ns)) (sym nodes);
+  nodes = ap (λ r. map node_number r ++ number_read p) rows ∙ ap (λ n. map node_number c.node_rows ++ n) number ∙ before.nodes ∙ ap (λ ns. range_from 1 (length ns)) (sym nodes);
   storages = storages ∙ before.storages;
   rows = held ∙ before.rows;
   blocks = blocks ∙ before.blocks;

@@ -6,7 +6,7 @@ use Rattle.std.specs.List.Sorted.{IsPermutation}
 use Rattle.std.specs.Option.{option_map_or}
 use Rattle.std.specs.Str.{bytes_eq}
 use Rattle.std.proofs.lemmas.List.Sorted.{IsPermutation-append_right, IsPermutation-append_left, IsPermutation-append_comm, IsPermutation-trans}
-use Rattle.bm_base.specs.Machine.Entries.{Told}
+use Rattle.bm_base.specs.Machine.Entries.{ReportedBlock}
 use Rattle.fsck_text.specs.Cuts.{Text}
 use Rattle.fsck_cluster.specs.Rows.{new_row, with_held_at}
 use Rattle.fsck_cluster.specs.declared.rows.Held.{Held}
@@ -43,7 +43,7 @@ module _ (P : Row → Type 0) where
 
 -- Storages with their replicas.
 
-abbrev pub told_of : Held → Told
+abbrev pub told_of : Held → ReportedBlock
 told_of h = record { id = h.id; stamp = h.stamp }
 
 abbrev pub on_storage : Text → Held → Replica

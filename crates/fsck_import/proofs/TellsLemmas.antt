@@ -6,7 +6,7 @@ use Rattle.std.specs.Str.{bytes_eq}
 use Rattle.std.proofs.lemmas.Grind.{flat_map-append}
 use Rattle.std.proofs.lemmas.List.{append-nil}
 use Rattle.std.proofs.lemmas.List.Sorted.{IsPermutation-refl}
-use Rattle.bm_base.specs.Machine.Entries.{count_up}
+use Rattle.bm_base.specs.Machine.Entries.{range_from}
 use Rattle.bm_base.specs.Maps.Lists.{has_repeats}
 use Rattle.fsck_text.specs.Cuts.{Text}
 use Rattle.fsck_files.specs.Numbers.{has_number}
@@ -64,7 +64,7 @@ corrupt_are c d spared within =
     ap (map (by_name d.storages)) spared.bad ∙ ap (λ names. map (by_name names) c.bad) spared.storages ∙ bad-more c.storages spared.more_names c.bad within
 
 -- a node that drains in c
-drained_is : (c d : Cluster) (remaining : ℕ) (address : Text) → Spared c d → map node_number c.node_rows ≡ count_up 1 (length c.nodes) → Drained c.nodes c.draining address
+drained_is : (c d : Cluster) (remaining : ℕ) (address : Text) → Spared c d → map node_number c.node_rows ≡ range_from 1 (length c.nodes) → Drained c.nodes c.draining address
     → list_any (bytes_eq address) (drained d.nodes (calls_for d remaining)) ≡ true
 drained_is c d remaining address spared nodes node =
     let known : has_number (map node_number c.node_rows) node.number ≡ true = ap (λ ns. has_number ns node.number) nodes ∙ has-count_up 1 (length c.nodes) node.number node.above (omega (arith, node.within)) in

@@ -3,7 +3,7 @@ use Rattle.std.specs.Prelude.{◌≡◌, ◌≤◌, ◌&&◌, ℕ, Bool, true, f
 use Rattle.std.specs.List.{flat_map, list_any}
 use Rattle.std.specs.List.Sorted.{IsPermutation}
 use Rattle.std.specs.Str.{bytes_eq}
-use Rattle.bm_base.specs.Machine.Entries.{Told, count_up, expanded}
+use Rattle.bm_base.specs.Machine.Entries.{ReportedBlock, range_from, expanded}
 use Rattle.bm_base.specs.Maps.Lists.{has_repeats}
 use Rattle.bm_base.specs.declared.call.Call.{Call}
 use Rattle.bm_base.specs.declared.call.Call.TheVariants as call
@@ -26,7 +26,7 @@ after_blocks c (b ∷ blocks) = after_ok (λ d. after_blocks d blocks) (after_bl
 
 -- a cluster with no block and no storage, and with its nodes numbered from 1 on
 pub record IsFresh (c : Cluster) : Type 0 where
-  pub nodes : map (λ row. row.number) c.node_rows ≡ count_up 1 (length c.nodes)
+  pub nodes : map (λ row. row.number) c.node_rows ≡ range_from 1 (length c.nodes)
   pub storages : c.storages ≡ []
   pub rows : c.rows ≡ []
   pub blocks : c.blocks ≡ []
@@ -39,9 +39,9 @@ ids blocks = map (λ b. b.id) blocks
 -- a replica: its storage by name, and its block with the stamp
 pub record Replica : Type 0 where
   pub storage : Text
-  pub told : Told
+  pub told : ReportedBlock
 
-abbrev pub replica : Text → Told → Replica
+abbrev pub replica : Text → ReportedBlock → Replica
 replica storage told = record { storage = storage; told = told }
 
 abbrev pub replica_at : Block → Listed → Replica

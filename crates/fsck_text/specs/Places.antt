@@ -38,14 +38,14 @@ abbrev pub racked_place : Text → Text → Option Place
 racked_place rack address =
     if is_rack rack && is_address address then Some (record { rack = Some rack; address = address; storage = address }) else None
 
-abbrev pub bare_place : Text → Option Place
-bare_place address =
+abbrev pub place_without_rack : Text → Option Place
+place_without_rack address =
     if is_address address then Some (record { rack = None; address = address; storage = address }) else None
 
 -- a node from its path: its rack, if it has one, a slash, its host and port; it has one storage,
 -- with the node's name
 abbrev pub node_place : Text → Option Place
-node_place path = option_map_or (λ p. racked_place p.0 p.1) (last_cut_at 47 path) (bare_place path)
+node_place path = option_map_or (λ p. racked_place p.0 p.1) (last_cut_at 47 path) (place_without_rack path)
 
 abbrev pub storage_at : Text → Text → Text → Option Place
 storage_at address storage type =

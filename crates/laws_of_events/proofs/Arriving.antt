@@ -22,23 +22,23 @@ use Rattle.bm_base.specs.Maps.Map.{Map, get, keep, revise, revise_at, remove, co
 use Rattle.bm_base.specs.Machine.State.{RoundLimits, Cluster, Holdings, State, by_replica, replica_at, first_state, empty_holdings}
 use Rattle.bm_base.specs.Machine.Replicas.{node_of, has_storage, sources_of, storages_where}
 use Rattle.bm_base.specs.Machine.Entries.{expanded}
-use Rattle.bm_base.specs.Machine.Events.{change_holdings, without_storages, add_block, delete_block, set_replication, restamp, make_bad, remove_replica, without_pending, revise_block, enter, report, replaces, is_named}
-use Rattle.bm_base.specs.Machine.Excess.{without_expired, without_unordered_excess, marked, begun, started}
-use Rattle.bm_base.specs.Machine.Transfers.{WishedCopy, pending_targets, targets_of, holders_of, barred_for, is_barred, is_target, target_cmp, least_target_by, least_target, scheduled_to, least_source, transfer_for, transfers_from, transfers, wishes}
+use Rattle.bm_base.specs.Machine.Events.{change_holdings, without_storages, add_block, delete_block, set_replication, restamp, make_bad, remove_replica, without_pending, change_marks_of_block, enter, report, replaces, is_named}
+use Rattle.bm_base.specs.Machine.Excess.{without_expired, without_unordered_excess, with_surplus_marked, state_after_expiry, state_at_choice}
+use Rattle.bm_base.specs.Machine.Transfers.{RequestedCopy, pending_targets, targets_of, holders_of, excluded_for, is_excluded, is_target, target_cmp, least_target_by, least_target, scheduled_to, least_source, transfer_for, transfers_from, transfers, wishes}
 use Rattle.bm_base.specs.Machine.Deletes.{deletes}
-use Rattle.bm_base.specs.Machine.Rounds.{finished, whole_round}
+use Rattle.bm_base.specs.Machine.Rounds.{end_round, whole_round}
 use Rattle.bm_base.specs.Machine.Refusals.{refusal_of, round_refusal, node_refusal, storage_refusal, block_refusal}
 use Rattle.bm_base.specs.Machine.Calls.{step, refused_or, after_event, state_after}
 use Rattle.bm_base.proofs.MapLaws.{get-empty}
 use Rattle.bm_base.proofs.Options.{there, is_there}
-use Rattle.bm_base.proofs.Each.{Each, each_both, each_filtered, each_passing, each_appended, each_optional, least_is_one}
-use Rattle.bm_base.proofs.Maps.{get_kept, get_removed, known_revised, each_key, passes_entry}
+use Rattle.bm_base.proofs.ForEach.{Each, each_both, each_filtered, each_passing, each_appended, each_optional, least_is_one}
+use Rattle.bm_base.proofs.MapEntries.{get_kept, get_removed, known_revised, each_key, passes_entry}
 use Rattle.bm_base.proofs.Clusters.{some_node}
-use Rattle.bm_parts.proofs.Among.{drained_replicas}
+use Rattle.bm_parts.proofs.RemainingHoldings.{drained_replicas}
 use Rattle.bm_parts.proofs.ChosenCopies.{made_of, unless}
-use Rattle.laws_of_states.proofs.Rounding.{all_pending}
-use Rattle.laws_of_states.proofs.Accepting.{pending_before}
-use Rattle.bm_parts.proofs.Entering.{IsKept, IsPut, enter_origin, enter_pending, report_origin, report_pending, stays_by}
+use Rattle.laws_of_states.proofs.LawfulRounds.{all_pending}
+use Rattle.laws_of_states.proofs.AcceptedEvents.{pending_before}
+use Rattle.bm_parts.proofs.ReportedReplicas.{IsKept, IsPut, enter_origin, enter_pending, report_origin, report_pending, stays_by}
 use Rattle.laws_of_events.proofs.ReportLaws.{held_report, held_received}
 use Rattle.laws_of_events.proofs.BlockChanges.{transfers_reported, transfer_received}
 use Rattle.laws_of_events.proofs.Reporting.{named_numbers}
@@ -78,9 +78,9 @@ on_own_by C s (Some n) e h = ap (λ z. option_map_or (λ m. m == n) z false) e �
 on_own : (C : Cluster) (s : ℕ) → contains_key C.storages s ≡ true → on_node C s s ≡ true
 on_own C s known = on_own_by C s (node_of C s) refl (some_node C s ∙ known)
 
-held_is_barred : (C : Cluster) (H : Holdings) (chosen : List Transfer) (b s : ℕ) → contains_key C.storages s ≡ true → (m : Marks) → get H.replicas (replica_at b s) ≡ Some m → is_barred C (barred_for H chosen b) s ≡ true
-unfolding is_barred barred_for storages_where
-held_is_barred C H chosen b s known m e =
+held_is_excluded : (C : Cluster) (H : Holdings) (chosen : List Transfer) (b s : ℕ) → contains_key C.storages s ≡ true → (m : Marks) → get H.replicas (replica_at b s) ≡ Some m → is_excluded C (excluded_for H chosen b) s ≡ true
+unfolding is_excluded excluded_for storages_where
+held_is_excluded C H chosen b s known m e =
     any_appended (on_node C s) (map (λ e. e.0.storage) (filter (λ e. (e.0.block == b) && true) (entries H.replicas)) ++ pending_targets H b) (targets_of chosen b)
     (any_appended (on_node C s) (map (λ e. e.0.storage) (filter (λ e. (e.0.block == b) && true) (entries H.replicas))) (pending_targets H b)
     (any_chosen (on_node C s) (λ e. e.0.storage) (λ e. (e.0.block == b) && true) (entries H.replicas)
@@ -90,35 +90,35 @@ held_is_barred C H chosen b s known m e =
 abbrev IsAbsent : Holdings → Transfer → Type 0
 IsAbsent H t = get H.replicas (replica_at t.block t.target) ≡ None
 
-not_barred : (C : Cluster) (sent : ℕ → ℕ) (urgency : Level) (holders barred : List ℕ) (l s : ℕ) → is_target C sent urgency holders barred l s ≡ true → is_barred C barred s ≡ false
+not_excluded : (C : Cluster) (sent : ℕ → ℕ) (urgency : Level) (holders barred : List ℕ) (l s : ℕ) → is_target C sent urgency holders barred l s ≡ true → is_excluded C barred s ≡ false
 unfolding is_target
-not_barred C sent urgency holders barred l s h = undone (is_barred C barred s) (and_parts _ _ (and_parts _ _ h).0).1
+not_excluded C sent urgency holders barred l s h = undone (is_excluded C barred s) (and_parts _ _ (and_parts _ _ h).0).1
   where
     undone : (b : Bool) → not b ≡ true → b ≡ false
     undone true e = cc
     undone false e = refl
 
-target_free : (C : Cluster) (H : Holdings) (chosen : List Transfer) (urgency : Level) (holders : List ℕ) (b l t : ℕ) → least_target C chosen urgency holders (barred_for H chosen b) l ≡ Some t → get H.replicas (replica_at b t) ≡ None
+target_free : (C : Cluster) (H : Holdings) (chosen : List Transfer) (urgency : Level) (holders : List ℕ) (b l t : ℕ) → least_target C chosen urgency holders (excluded_for H chosen b) l ≡ Some t → get H.replicas (replica_at b t) ≡ None
 unfolding least_target least_target_by
 target_free C H chosen urgency holders b l t e =
-    let test : ℕ → Bool = is_target C (scheduled_to chosen) urgency holders (barred_for H chosen b) l in
+    let test : ℕ → Bool = is_target C (scheduled_to chosen) urgency holders (excluded_for H chosen b) l in
     let found : (test t ≡ true) × (contains_key C.storages t ≡ true) =
     least_is_one (λ s. (test s ≡ true) × (contains_key C.storages s ≡ true)) (target_cmp C (scheduled_to chosen) holders) (filter test (keys C.storages))
     (each_both (λ s. test s ≡ true) (λ s. contains_key C.storages s ≡ true) (filter test (keys C.storages)) (each_passing test (keys C.storages)) (each_filtered (λ s. contains_key C.storages s ≡ true) test (keys C.storages) (each_key C.storages))) t e in
-    absent_by (get H.replicas (replica_at b t)) refl (not_barred C (scheduled_to chosen) urgency holders (barred_for H chosen b) l t found.0) (λ m is. held_is_barred C H chosen b t found.1 m is)
+    absent_by (get H.replicas (replica_at b t)) refl (not_excluded C (scheduled_to chosen) urgency holders (excluded_for H chosen b) l t found.0) (λ m is. held_is_excluded C H chosen b t found.1 m is)
   where
-    absent_by : (z : Option Marks) → get H.replicas (replica_at b t) ≡ z → is_barred C (barred_for H chosen b) t ≡ false → ((m : Marks) → get H.replicas (replica_at b t) ≡ Some m → is_barred C (barred_for H chosen b) t ≡ true) → z ≡ None
+    absent_by : (z : Option Marks) → get H.replicas (replica_at b t) ≡ z → is_excluded C (excluded_for H chosen b) t ≡ false → ((m : Marks) → get H.replicas (replica_at b t) ≡ Some m → is_excluded C (excluded_for H chosen b) t ≡ true) → z ≡ None
     absent_by None is free held = refl
     absent_by (Some m) is free held = absurd (true≢false (sym (held m is) ∙ free))
 
-transfer_absent : (limits : RoundLimits) (C : Cluster) (H : Holdings) (chosen : List Transfer) (w : WishedCopy) (t : Transfer) → transfer_for limits C H chosen w ≡ Some t → IsAbsent H t
+transfer_absent : (limits : RoundLimits) (C : Cluster) (H : Holdings) (chosen : List Transfer) (w : RequestedCopy) (t : Transfer) → transfer_for limits C H chosen w ≡ Some t → IsAbsent H t
 unfolding transfer_for
 transfer_absent limits C H chosen w t e =
-    let of_it = made_of w.block (get H.blocks w.block) (least_source C chosen w.urgency (sources_of C H w.block)) (λ i. least_target C chosen w.urgency (holders_of C H chosen w.block) (barred_for H chosen w.block) i.stamp.len) t
+    let of_it = made_of w.block (get H.blocks w.block) (least_source C chosen w.urgency (sources_of C H w.block)) (λ i. least_target C chosen w.urgency (holders_of C H chosen w.block) (excluded_for H chosen w.block) i.stamp.len) t
     (unless (nat_le (limits.work * len C.nodes) (length chosen)) _ t e) in
     subst (λ b. get H.replicas (replica_at b t.target) ≡ None) of_it.3 (target_free C H chosen w.urgency (holders_of C H chosen w.block) w.block of_it.0.stamp.len t.target of_it.2)
 
-absent_from : (limits : RoundLimits) (C : Cluster) (H : Holdings) (chosen : List Transfer) (ws : List WishedCopy) → Each (IsAbsent H) chosen → Each (IsAbsent H) (transfers_from limits C H chosen ws)
+absent_from : (limits : RoundLimits) (C : Cluster) (H : Holdings) (chosen : List Transfer) (ws : List RequestedCopy) → Each (IsAbsent H) chosen → Each (IsAbsent H) (transfers_from limits C H chosen ws)
 absent_from limits C H chosen [] h = h
 absent_from limits C H chosen (w ∷ ws) h =
     absent_from limits C H (chosen ++ option_to_list (transfer_for limits C H chosen w)) ws
@@ -191,7 +191,7 @@ reported_coming M s es C p is =
         ∙ (transfers_reported M s es).0 p.block (sym (named_numbers (expanded es) p.block) ∙ put.1)) sent.1
 
 event_coming : (M : State) (e : Event) → Coming M.holdings → Coming (change_holdings M.cluster M.holdings e)
-unfolding change_holdings without_storages add_block delete_block set_replication restamp make_bad remove_replica without_pending revise_block revise_at
+unfolding change_holdings without_storages add_block delete_block set_replication restamp make_bad remove_replica without_pending change_marks_of_block revise_at
 event_coming M (Received s b stamp) C = received_coming M s b stamp C
 event_coming M (FullReport s es) C = reported_coming M s es C
 event_coming M (Dead n) C = fewer M.holdings (change_holdings M.cluster M.holdings (Dead n)) C (kept_before M.holdings.replicas _) (sent_before M.cluster M.holdings (Dead n))
@@ -210,25 +210,25 @@ event_coming M (SetReplication b repl) C = C
 
 -- A round.
 
-started_coming : (M : State) → Coming M.holdings → Coming (started M).holdings
-unfolding started begun without_expired without_unordered_excess marked
+started_coming : (M : State) → Coming M.holdings → Coming (state_at_choice M).holdings
+unfolding state_at_choice state_after_expiry without_expired without_unordered_excess with_surplus_marked
 started_coming M C =
-    fewer M.holdings (started M).holdings C (λ p is. revised_before M.holdings.replicas _ p (revised_before (without_unordered_excess (begun M).holdings).replicas _ p is)) (kept_before M.holdings.pending _)
+    fewer M.holdings (state_at_choice M).holdings C (λ p is. revised_before M.holdings.replicas _ p (revised_before (without_unordered_excess (state_after_expiry M).holdings).replicas _ p is)) (kept_before M.holdings.pending _)
 
-finished_before : (r : ℕ) (H : Holdings) (ts : List Transfer) (ds : List Delete) (p : ReplicaId) → is_some (get (finished r H ts ds).replicas p) ≡ true → is_some (get H.replicas p) ≡ true
-unfolding finished
+finished_before : (r : ℕ) (H : Holdings) (ts : List Transfer) (ds : List Delete) (p : ReplicaId) → is_some (get (end_round r H ts ds).replicas p) ≡ true → is_some (get H.replicas p) ≡ true
+unfolding end_round
 finished_before r H ts ds p is = revised_before H.replicas _ p is
 
-finished_coming : (C : Cluster) (r : ℕ) (H : Holdings) (ts : List Transfer) (ds : List Delete) → Coming H → Each (IsAbsent H) ts → Coming (finished r H ts ds)
+finished_coming : (C : Cluster) (r : ℕ) (H : Holdings) (ts : List Transfer) (ds : List Delete) → Coming H → Each (IsAbsent H) ts → Coming (end_round r H ts ds)
 finished_coming C r H ts ds coming each p is =
-    let sent = there (get (finished r H ts ds).pending p) is in
+    let sent = there (get (end_round r H ts ds).pending p) is in
     let absent_before = all_pending C r H ts ds (λ q _. get H.replicas q ≡ None) (λ q t e. coming q (is_there (get H.pending q) t e)) each p sent.0 sent.1 in
-    absent (get (finished r H ts ds).replicas p) (get H.replicas p) (finished_before r H ts ds p) absent_before
+    absent (get (end_round r H ts ds).replicas p) (get H.replicas p) (finished_before r H ts ds p) absent_before
 
 round_coming : (M : State) → Coming M.holdings → Coming (whole_round M).1.holdings
 unfolding whole_round
 round_coming M C =
-    let N = started M in
+    let N = state_at_choice M in
     let ts = transfers N.limits N.cluster N.holdings in
     finished_coming N.cluster N.round N.holdings ts (deletes N.limits N.cluster N.holdings) (started_coming M C) (each_absent N.limits N.cluster N.holdings)
 

@@ -10,12 +10,12 @@ use Rattle.bm_base.specs.declared.event.Event.TheVariants.{Register, Dead, Stora
 use Rattle.bm_base.specs.Maps.Map.{Map, get, revise, revise_at, remove, contains_key}
 use Rattle.bm_base.specs.Machine.State.{Holdings, State, by_replica, replica_at, replica_cmp}
 use Rattle.bm_base.specs.Machine.Replicas.{is_good, has_storage}
-use Rattle.bm_base.specs.Machine.Events.{add_block, delete_block, set_replication, restamp, make_bad, remove_replica, without_storages, without_pending, revise_block, change_holdings, as_stray, as_bad, as_restamped}
+use Rattle.bm_base.specs.Machine.Events.{add_block, delete_block, set_replication, restamp, make_bad, remove_replica, without_storages, without_pending, change_marks_of_block, change_holdings, as_stray, as_bad, as_restamped}
 use Rattle.bm_base.specs.Machine.Calls.{after_event}
 use Rattle.bm_base.specs.Promises.Lawful.{IsOrderly}
 use Rattle.bm_base.proofs.Options.{there}
-use Rattle.bm_base.proofs.Maps.{get_kept, get_removed, get_revised, get_taken}
-use Rattle.bm_parts.proofs.Among.{drained_replicas}
+use Rattle.bm_base.proofs.MapEntries.{get_kept, get_removed, get_revised, get_taken}
+use Rattle.bm_parts.proofs.RemainingHoldings.{drained_replicas}
 use Rattle.laws_of_events.proofs.ReportLaws.{report_leaves_bad, received_leaves_bad}
 use Rattle.laws_of_events.specs.Changes as law
 use Rattle.laws_of_events.specs.Reports.{IsBadIn}
@@ -56,7 +56,7 @@ not_gone H b c known true e = let gone : false ≡ true = sym (ap is_some (get_t
 not_gone H b c known false e = refl
 
 pub bad_stays : (M : State) → IsOrderly M → law.no_event_clears_bad M
-unfolding after_event change_holdings without_storages add_block delete_block set_replication restamp make_bad remove_replica without_pending revise_block revise_at
+unfolding after_event change_holdings without_storages add_block delete_block set_replication restamp make_bad remove_replica without_pending change_marks_of_block revise_at
 bad_stays M L (Received s b stamp) p bad is known = received_leaves_bad M L s b stamp p bad is
 bad_stays M L (FullReport s es) p bad is known = report_leaves_bad M L s es p bad is
 bad_stays M L (Dead n) p bad is known = same_bad M.holdings _ p (λ k e. (get_kept M.holdings.replicas (λ q _. not (has_storage M.cluster n q.storage)) p k e).0) bad is

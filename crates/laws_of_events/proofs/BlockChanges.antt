@@ -15,13 +15,13 @@ use Rattle.bm_base.specs.Maps.Map.{Map, by_number, get, keep, revise, revise_at}
 use Rattle.bm_base.specs.Maps.Lists.{has}
 use Rattle.bm_base.specs.Machine.State.{Cluster, Holdings, State, by_replica, replica_at, replica_cmp}
 use Rattle.bm_base.specs.Machine.Replicas.{is_good}
-use Rattle.bm_base.specs.Machine.Entries.{Told, expanded}
-use Rattle.bm_base.specs.Machine.Events.{add_block, delete_block, set_replication, restamp, make_bad, remove_replica, without_pending, revise_block, enter, is_named, leaves_by_report, report, change_holdings, as_stray, as_bad, as_restamped}
+use Rattle.bm_base.specs.Machine.Entries.{ReportedBlock, expanded}
+use Rattle.bm_base.specs.Machine.Events.{add_block, delete_block, set_replication, restamp, make_bad, remove_replica, without_pending, change_marks_of_block, enter, is_named, leaves_by_report, report, change_holdings, as_stray, as_bad, as_restamped}
 use Rattle.bm_base.specs.Machine.Calls.{after_event}
 use Rattle.bm_base.proofs.MapLaws.{get-keep, get-revise}
 use Rattle.bm_base.proofs.Options.{none_stays, all_stays}
-use Rattle.bm_base.proofs.Maps.{key_itself, not_tied, get_here, get_taken, get_left}
-use Rattle.bm_parts.proofs.Entering.{stays_by}
+use Rattle.bm_base.proofs.MapEntries.{key_itself, not_tied, get_here, get_taken, get_left}
+use Rattle.bm_parts.proofs.ReportedReplicas.{stays_by}
 use Rattle.laws_of_events.proofs.Reporting.{named_numbers, reported_elsewhere}
 use Rattle.bm_parts.specs.Parts.{IsSameOf}
 use Rattle.bm_parts.proofs.OneBlock.{others_stay}
@@ -59,7 +59,7 @@ none_sent : (H : Holdings) (b s : ℕ) → get (keep H.pending (λ q _. not (q.b
 none_sent H b s = get-keep H.pending (λ q _. not (q.block == b)) (replica_at b s) ∙ none_stays (not (b == b)) (get H.pending (replica_at b s)) (ap not (eq-eqb b b refl))
 
 pub block_deleted : law.deleted_block_is_stray
-unfolding after_event change_holdings delete_block without_pending revise_block
+unfolding after_event change_holdings delete_block without_pending change_marks_of_block
 block_deleted M b = record {
   unknown = get_taken M.holdings.blocks b;
   stray = all_marked M.holdings (held_after M (DeleteBlock b)) b as_stray (λ m k. (k.tag ≡ Stray) × (k.excess ≡ false) × (k.ordered ≡ m.ordered)) (λ m. (refl, refl, refl)) refl;
@@ -80,7 +80,7 @@ restamped_tag Bad = ((λ e. cc), λ _. refl)
 restamped_tag Stray = ((λ e. cc), λ _. refl)
 
 pub block_restamped : law.restamped_block_has_no_good_replica
-unfolding after_event change_holdings restamp without_pending revise_block
+unfolding after_event change_holdings restamp without_pending change_marks_of_block
 block_restamped M b stamp = record {
   known = λ i e. info_here M.holdings.blocks b (λ i. record i { stamp = stamp }) i e;
   none_good = all_marked M.holdings (held_after M (Restamp b stamp)) b as_restamped
@@ -138,7 +138,7 @@ transfer_received M s b stamp = (get_taken M.holdings.pending (replica_at b s), 
 
 -- Blocks that a report does not name.
 
-unnamed_stays : (C : Cluster) (H : Holdings) (s : ℕ) (ts : List Told) (p : ReplicaId) → p.storage ≢ s → is_named ts p.block ≡ false → stays_by C H s ts p ≡ true
+unnamed_stays : (C : Cluster) (H : Holdings) (s : ℕ) (ts : List ReportedBlock) (p : ReplicaId) → p.storage ≢ s → is_named ts p.block ≡ false → stays_by C H s ts p ≡ true
 unfolding leaves_by_report
 unnamed_stays C H s ts p other h = rw (ne_eqb p.storage s other, h) refl
 

@@ -12,14 +12,14 @@ use Rattle.bm_base.specs.declared.call.Answer.{Answer}
 use Rattle.bm_base.specs.Maps.Map.{Map, get, revise}
 use Rattle.bm_base.specs.Machine.State.{Cluster, Holdings, State, by_replica}
 use Rattle.bm_base.specs.Maps.Lists.{has}
-use Rattle.bm_base.specs.Machine.Excess.{without_expired, without_unordered_excess, excess_in, marked, begun, started}
+use Rattle.bm_base.specs.Machine.Excess.{without_expired, without_unordered_excess, excess_in, with_surplus_marked, state_after_expiry, state_at_choice}
 use Rattle.bm_base.specs.Machine.Transfers.{transfers}
 use Rattle.bm_base.specs.Machine.Deletes.{deletes}
-use Rattle.bm_base.specs.Machine.Rounds.{is_commanded, finished, whole_round}
+use Rattle.bm_base.specs.Machine.Rounds.{is_commanded, end_round, whole_round}
 use Rattle.bm_base.specs.Machine.Refusals.{refusal_of, round_refusal, node_refusal, storage_refusal, block_refusal}
-use Rattle.bm_base.specs.Machine.Calls.{step, refused_or, after_event, counted}
+use Rattle.bm_base.specs.Machine.Calls.{step, refused_or, after_event, count_call}
 use Rattle.bm_base.proofs.MapLaws.{get-revise}
-use Rattle.laws_of_states.proofs.Rounding.{cleared_tag, marked_tag, ordered_tag}
+use Rattle.laws_of_states.proofs.LawfulRounds.{cleared_tag, marked_tag, ordered_tag}
 use Rattle.laws_of_events.specs.Calls as law
 
 either : (M : State) (o : Option Refusal) (a : Answer) → (refused_or M o (a, M)).1 ≡ M
@@ -68,23 +68,23 @@ cleared_tags : (H : Holdings) (p : ReplicaId) → option_map (λ k. k.tag) (get 
 unfolding without_unordered_excess
 cleared_tags H p = tagged H.replicas (λ _ m. if m.ordered then m else record m { excess = false }) (λ _ m. cleared_tag m.ordered m) p
 
-marked_tags : (C : Cluster) (H : Holdings) (p : ReplicaId) → option_map (λ k. k.tag) (get (marked C H).replicas p) ≡ option_map (λ k. k.tag) (get H.replicas p)
-unfolding marked
+marked_tags : (C : Cluster) (H : Holdings) (p : ReplicaId) → option_map (λ k. k.tag) (get (with_surplus_marked C H).replicas p) ≡ option_map (λ k. k.tag) (get H.replicas p)
+unfolding with_surplus_marked
 marked_tags C H p = tagged H.replicas (λ q m. if has (excess_in C H q.block) q.storage then record m { excess = true } else m) (λ q m. marked_tag (has (excess_in C H q.block) q.storage) m) p
 
-finished_tags : (r : ℕ) (H : Holdings) (ts : List Transfer) (ds : List Delete) (p : ReplicaId) → option_map (λ k. k.tag) (get (finished r H ts ds).replicas p) ≡ option_map (λ k. k.tag) (get H.replicas p)
-unfolding finished
+finished_tags : (r : ℕ) (H : Holdings) (ts : List Transfer) (ds : List Delete) (p : ReplicaId) → option_map (λ k. k.tag) (get (end_round r H ts ds).replicas p) ≡ option_map (λ k. k.tag) (get H.replicas p)
+unfolding end_round
 finished_tags r H ts ds p = tagged H.replicas (λ q m. if is_commanded ds q then record m { ordered = true } else m) (λ q m. ordered_tag (is_commanded ds q) m) p
 
-round_step : (M : State) → round_refusal M ≡ None → (step M call.Round).1 ≡ counted (whole_round M).1
+round_step : (M : State) → round_refusal M ≡ None → (step M call.Round).1 ≡ count_call (whole_round M).1
 unfolding step
 round_step M none = not_refused M (round_refusal M) _ none
 
-pub next_round : (M : State) → law.IsNextRound M (counted (whole_round M).1)
-unfolding whole_round started begun without_expired without_unordered_excess marked finished
+pub next_round : (M : State) → law.IsNextRound M (count_call (whole_round M).1)
+unfolding whole_round state_at_choice state_after_expiry without_expired without_unordered_excess with_surplus_marked end_round
 next_round M =
-    let B = begun M in
-    let N = started M in
+    let B = state_after_expiry M in
+    let N = state_at_choice M in
     record {
       counted = record { calls = refl; limits = refl };
       round = refl;

@@ -6,12 +6,12 @@ use Rattle.bm_base.specs.declared.event.Event.TheVariants.{Register, Dead, Stora
 use Rattle.bm_base.specs.Maps.Map.{Set, by_number, get, insert, remove, contains_key}
 use Rattle.bm_base.specs.Machine.State.{Holdings}
 use Rattle.bm_base.specs.Machine.Replicas.{has_storage, drains}
-use Rattle.bm_base.specs.Machine.Events.{register, heartbeat, without_node, without_storage, drain, undrain, begun_to_drain, change_cluster, change_holdings}
-use Rattle.bm_base.specs.Machine.Calls.{new_replicas, done, done_by, after_event, counted}
+use Rattle.bm_base.specs.Machine.Events.{register, heartbeat, without_node, without_storage, drain, undrain, begin_drain, change_cluster, change_holdings}
+use Rattle.bm_base.specs.Machine.Calls.{new_replicas, done, done_by, after_event, count_call}
 use Rattle.bm_base.proofs.MapLaws.{same_map, get-insert, get-remove}
 use Rattle.bm_base.proofs.Options.{not_there}
-use Rattle.bm_base.proofs.Maps.{same_key, get_here, get_other, get_taken, get_left}
-use Rattle.bm_parts.proofs.Among.{fewer_sent, same_either, drained_blocks, drained_replicas}
+use Rattle.bm_base.proofs.MapEntries.{same_key, get_here, get_other, get_taken, get_left}
+use Rattle.bm_parts.proofs.RemainingHoldings.{fewer_sent, same_either, drained_blocks, drained_replicas}
 use Rattle.laws_of_events.proofs.NodeChanges.{gone_there, still_there, on_it, not_on_it}
 use Rattle.laws_of_events.proofs.ReportLaws.{none_done}
 use Rattle.laws_of_events.specs.Draining as law
@@ -65,14 +65,14 @@ unfolding done
 none_came H G e = (λ i. record { added = new_replicas H.replicas (e i); removed = new_replicas (e i) H.replicas }) ∙ none_done H
 
 pub drain_takes : law.drain_takes_transfers
-unfolding after_event done_by change_cluster change_holdings drain begun_to_drain
+unfolding after_event done_by change_cluster change_holdings drain begin_drain
 drain_takes M n =
     let C = M.cluster in
     let H = M.holdings in (
       record { nodes = refl; storages = refl; blocks = drained_blocks C H n; replicas = drained_replicas C H n; round = refl },
       (λ p idle on. ap (λ b. get (if b then H else fewer_sent C H n).pending p) idle ∙ gone_there (has_storage C n) H.pending p (on_it C n p.storage on)),
       (λ p off. same_either (λ G. get G.pending p) H (fewer_sent C H n) (drains C n) (still_there (has_storage C n) H.pending p (not_on_it C n p.storage off))),
-      none_came H (begun_to_drain C H n) (drained_replicas C H n),
+      none_came H (begin_drain C H n) (drained_replicas C H n),
     )
 
 pub undrain_takes : law.undrain_takes_nothing
@@ -101,14 +101,14 @@ not_taken_out d n none = same_map (remove d n) d (λ q. get-remove d n q ∙ by_
     by_tie q false e = refl
 
 pub drained_again : law.second_drain_changes_nothing
-unfolding after_event change_cluster change_holdings drain begun_to_drain drains
+unfolding after_event change_cluster change_holdings drain begin_drain drains
 drained_again M n there =
     let d : insert M.cluster.draining n tt ≡ M.cluster.draining = put_again M.cluster.draining n there in
     let H : (if drains M.cluster n then M.holdings else fewer_sent M.cluster M.holdings n) ≡ M.holdings = ap (λ b. if b then M.holdings else fewer_sent M.cluster M.holdings n) there in
-    λ i. counted (record M { cluster = record { nodes = M.cluster.nodes; draining = d i; storages = M.cluster.storages }; holdings = H i })
+    λ i. count_call (record M { cluster = record { nodes = M.cluster.nodes; draining = d i; storages = M.cluster.storages }; holdings = H i })
 
 pub undrained_idly : law.idle_undrain_changes_nothing
 unfolding after_event change_cluster change_holdings undrain drains
 undrained_idly M n none =
     let d : remove M.cluster.draining n ≡ M.cluster.draining = not_taken_out M.cluster.draining n none in
-    λ i. counted (record M { cluster = record { nodes = M.cluster.nodes; draining = d i; storages = M.cluster.storages } })
+    λ i. count_call (record M { cluster = record { nodes = M.cluster.nodes; draining = d i; storages = M.cluster.storages } })

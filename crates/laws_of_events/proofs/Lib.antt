@@ -35,7 +35,7 @@ pub mod Plainly
 -- for blocks_on_are_held, corrupt_are_stale_or_bad, excess_are_marked,
 -- missing_have_no_usable_replica, places_are_good, replicas_are_held
 pub mod Listing
--- for lists_rise
+-- for lists_ascend
 pub mod Rising
 -- for other_answer_is_the_steps, refused_answer_leaves_state
 pub mod Wanting

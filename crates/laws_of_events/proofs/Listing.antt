@@ -18,8 +18,8 @@ use Rattle.bm_base.specs.Machine.Levels.{level_of, level, is_at}
 use Rattle.bm_base.specs.Machine.Queries.{all_replicas, replicas_where, missing_blocks, blocks_on}
 use Rattle.bm_base.specs.Promises.Lawful.{IsLawfulHoldings}
 use Rattle.bm_base.proofs.Options.{there, is_there}
-use Rattle.bm_base.proofs.Maps.{entry_passes, passes_entry}
-use Rattle.bm_base.proofs.Listed.{any_map, any_filter}
+use Rattle.bm_base.proofs.MapEntries.{entry_passes, passes_entry}
+use Rattle.bm_base.proofs.ListTests.{any_map, any_filter}
 use Rattle.bm_parts.proofs.Filters.{any_shown}
 use Rattle.laws_of_events.proofs.Telling.{found_good}
 use Rattle.laws_of_events.specs.Queries as law

@@ -16,7 +16,7 @@ use Rattle.bm_base.specs.Machine.Calls.{after_event}
 use Rattle.bm_base.proofs.MapLaws.{get-insert, get-keep, get-revise}
 use Rattle.bm_base.proofs.Ties.{number_tie}
 use Rattle.bm_base.proofs.Options.{revised, none_stays, all_stays}
-use Rattle.bm_base.proofs.Maps.{get_here, get_other, get_taken, get_left}
+use Rattle.bm_base.proofs.MapEntries.{get_here, get_other, get_taken, get_left}
 use Rattle.bm_base.proofs.Clusters.{is_on, eqb_turned}
 use Rattle.laws_of_events.specs.Changes as law
 

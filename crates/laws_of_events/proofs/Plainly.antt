@@ -9,11 +9,11 @@ use Rattle.bm_base.specs.declared.storage.StorageInfo.{StorageInfo}
 use Rattle.bm_base.specs.Maps.Map.{get, contains_key}
 use Rattle.bm_base.specs.Machine.State.{Cluster, State, first_state}
 use Rattle.bm_base.specs.Machine.Calls.{state_after}
-use Rattle.bm_base.specs.Machine.Replicas.{is_good, is_stray, drains, is_draining, node_of, has_storage, are_sisters}
+use Rattle.bm_base.specs.Machine.Replicas.{is_good, is_stray, drains, is_draining, node_of, has_storage, are_siblings}
 use Rattle.bm_base.specs.Promises.Lawful.{IsOrderly, IsLawfulCluster}
 use Rattle.bm_base.proofs.Options.{there, not_there}
 use Rattle.bm_base.proofs.Clusters.{node_is, is_on}
-use Rattle.laws_of_states.proofs.Orderly.{calls_orderly}
+use Rattle.laws_of_states.proofs.OrderlyStates.{calls_orderly}
 use Rattle.laws_of_events.proofs.Arriving.{still_to_come}
 use Rattle.laws_of_events.proofs.Spared.{node_off, none_sent_there}
 use Rattle.laws_of_events.specs.PlainWords as law
@@ -29,9 +29,9 @@ same_by : (t : Bool) → (not t && true) ≡ false → t ≡ true
 same_by true e = refl
 same_by false e = cc
 
-no_sister_same : (C : Cluster) (s t : ℕ) (i j : StorageInfo) → get C.storages s ≡ Some i → get C.storages t ≡ Some j → i.node ≡ j.node → are_sisters C s t ≡ false → t ≡ s
-unfolding are_sisters
-no_sister_same C s t i j e f same h =
+no_sibling_same : (C : Cluster) (s t : ℕ) (i j : StorageInfo) → get C.storages s ≡ Some i → get C.storages t ≡ Some j → i.node ≡ j.node → are_siblings C s t ≡ false → t ≡ s
+unfolding are_siblings
+no_sibling_same C s t i j e f same h =
     let one : option_map_or (λ n. has_storage C n t) (node_of C s) false ≡ true =
     ap (λ z. option_map_or (λ n. has_storage C n t) z false) (node_is C s i e) ∙ is_on C i.node t j f ∙ eq-eqb j.node i.node (sym same) in
     eqb-true t s (same_by (t == s) (ap (λ b. not (t == s) && b) (sym one) ∙ h))
@@ -67,7 +67,7 @@ plainly M L coming spares =
       draining_spared = λ p i is e. not_there (get M.cluster.draining i.node) (node_off M.cluster p.storage i.node (spares p is) (node_is M.cluster p.storage i e));
       transfers_alive = λ p is. alive_node M.cluster L.cluster p.storage (H.pending_stored p is);
       one_on_a_node = λ p q i j e f block at_p at_q node.
-          let storage : q.storage ≡ p.storage = no_sister_same M.cluster p.storage q.storage i j at_p at_q node (H.once p q e f block) in
+          let storage : q.storage ≡ p.storage = no_sibling_same M.cluster p.storage q.storage i j at_p at_q node (H.once p q e f block) in
           λ k. record { block = block k; storage = sym storage k };
       stray_unknown = λ p m e stray. not_there (get M.holdings.blocks p.block) (undone (is_stray m.tag) (contains_key M.holdings.blocks p.block) (H.strays p m e) (ap is_stray stray));
       others_known = λ p m e never. redone (is_stray m.tag) (contains_key M.holdings.blocks p.block) (H.strays p m e) (stray_is m.tag never);

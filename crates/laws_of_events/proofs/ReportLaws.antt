@@ -19,19 +19,19 @@ use Rattle.bm_base.specs.declared.event.Event.TheVariants.{Received, FullReport}
 use Rattle.bm_base.specs.Maps.Map.{Map, get, keep, contains_key, entries}
 use Rattle.bm_base.specs.Maps.Lists.{has}
 use Rattle.bm_base.specs.Machine.State.{Cluster, Holdings, State, by_replica, replica_at, replica_cmp}
-use Rattle.bm_base.specs.Machine.Replicas.{is_good, is_bad, is_stray, are_sisters}
-use Rattle.bm_base.specs.Machine.Entries.{Told, count_up, expanded}
-use Rattle.bm_base.specs.Machine.Events.{was_bad, was_excess, same_stamp, entered_tag, entered, replaces, enter, is_named, leaves_by_report, report, change_cluster, change_holdings}
+use Rattle.bm_base.specs.Machine.Replicas.{is_good, is_bad, is_stray, are_siblings}
+use Rattle.bm_base.specs.Machine.Entries.{ReportedBlock, range_from, expanded}
+use Rattle.bm_base.specs.Machine.Events.{was_bad, was_excess, same_stamp, entered_tag, entered_marks, replaces, enter, is_named, leaves_by_report, report, change_cluster, change_holdings}
 use Rattle.bm_base.specs.Machine.Calls.{new_replicas, done, done_by, after_event}
 use Rattle.bm_base.specs.Promises.Lawful.{IsLawfulHoldings, IsOrderly}
 use Rattle.bm_base.proofs.MapLaws.{same_map, get-keep, get-insert}
 use Rattle.bm_base.proofs.Ties.{replica_tie}
-use Rattle.bm_base.proofs.Entries.{expanded-++, told_by-around, ids_told, has-count_up}
+use Rattle.bm_base.proofs.Entries.{expanded-++, told_by-around, ids_reported, has-count_up}
 use Rattle.bm_base.proofs.Options.{there, staying, none_stays, all_stays, stays_twice}
-use Rattle.bm_base.proofs.Each.{Each, each_then}
-use Rattle.bm_base.proofs.Maps.{each_entry, get_here}
-use Rattle.bm_base.proofs.Clusters.{no_sisters}
-use Rattle.bm_parts.proofs.Entering.{IsKept, IsPut, enter_origin, report_origin, stays_by}
+use Rattle.bm_base.proofs.ForEach.{Each, each_then}
+use Rattle.bm_base.proofs.MapEntries.{each_entry, get_here}
+use Rattle.bm_base.proofs.Clusters.{no_siblings}
+use Rattle.bm_parts.proofs.ReportedReplicas.{IsKept, IsPut, enter_origin, report_origin, stays_by}
 use Rattle.laws_of_events.proofs.Telling.{tag_where, told_marks}
 use Rattle.laws_of_events.proofs.Reporting.{named_since, named_numbers, last_is, put_or, reported_here, reported_elsewhere}
 use Rattle.laws_of_events.specs.Reports as law
@@ -47,7 +47,7 @@ held_received M s b stamp = refl
 
 -- Which replicas exist.
 
-module _ (C : Cluster) (H : Holdings) (s : ℕ) (ts : List Told) where
+module _ (C : Cluster) (H : Holdings) (s : ℕ) (ts : List ReportedBlock) where
   -- no replica of a block that is not named stays on the storage
   leaves_here : (b : ℕ) → is_named ts b ≡ false → stays_by C H s ts (replica_at b s) ≡ false
   unfolding leaves_by_report
@@ -75,25 +75,25 @@ not_past b n = grind (arith, nat_tests)
 around : (front : List Entry) (e : Entry) (behind : List Entry) (b : ℕ) → e.from ≤ b → b ≤ e.to → has (law.numbers_of behind) b ≡ false → last_stamp (expanded (front ++ (e ∷ behind))) b ≡ Some e.stamp
 unfolding expanded
 around front e behind b low high h =
-    let tell : ℕ → Told = λ c. record { id = c; stamp = e.stamp } in
-    let before : List Told = map tell (count_up e.from (b - e.from)) in
-    let after : List Told = map tell (count_up (b + 1) (e.to - b)) in
+    let tell : ℕ → ReportedBlock = λ c. record { id = c; stamp = e.stamp } in
+    let before : List ReportedBlock = map tell (range_from e.from (b - e.from)) in
+    let after : List ReportedBlock = map tell (range_from (b + 1) (e.to - b)) in
     let list : expanded (front ++ (e ∷ behind)) ≡ (expanded front ++ before) ++ (tell b ∷ (after ++ expanded behind)) =
     expanded-++ front (e ∷ behind) ∙ ap (λ xs. expanded front ++ (xs ++ expanded behind)) (told_by-around e b low high)
     ∙ ap (λ xs. expanded front ++ xs) (append_assoc before (tell b ∷ after) (expanded behind)) ∙ sym (append_assoc (expanded front) before (tell b ∷ (after ++ expanded behind))) in
-    let none : has (map (λ (t : Told). t.id) (after ++ expanded behind)) b ≡ false =
-    ap (λ xs. has xs b) (map-append (λ (t : Told). t.id) after (expanded behind)) ∙ list_any-append (λ c. c == b) (map (λ (t : Told). t.id) after) (law.numbers_of behind)
+    let none : has (map (λ (t : ReportedBlock). t.id) (after ++ expanded behind)) b ≡ false =
+    ap (λ xs. has xs b) (map-append (λ (t : ReportedBlock). t.id) after (expanded behind)) ∙ list_any-append (λ c. c == b) (map (λ (t : ReportedBlock). t.id) after) (law.numbers_of behind)
     ∙ (λ i. past i || h i) in
     ap (λ ts. last_stamp ts b) list ∙ last_is (expanded front ++ before) (tell b) (after ++ expanded behind) none
   where
-    past : has (map (λ (t : Told). t.id) (map {B = Told} (λ c. record { id = c; stamp = e.stamp }) (count_up (b + 1) (e.to - b)))) b ≡ false
-    past = ap (λ xs. has xs b) (ids_told e.stamp (count_up (b + 1) (e.to - b))) ∙ has-count_up (b + 1) (e.to - b) b ∙ not_past b (b + 1 + (e.to - b))
+    past : has (map (λ (t : ReportedBlock). t.id) (map {B = ReportedBlock} (λ c. record { id = c; stamp = e.stamp }) (range_from (b + 1) (e.to - b)))) b ≡ false
+    past = ap (λ xs. has xs b) (ids_reported e.stamp (range_from (b + 1) (e.to - b))) ∙ has-count_up (b + 1) (e.to - b) b ∙ not_past b (b + 1 + (e.to - b))
 
 pub last_decides : law.last_entry_decides
 last_decides M s front e behind b low high h =
     let ts = expanded (front ++ (e ∷ behind)) in
     let z = get (keep M.holdings.replicas (λ q _. stays_by M.cluster M.holdings s ts q)) (replica_at b s) in (
-      entered M.holdings (replica_at b s) e.stamp,
+      entered_marks M.holdings (replica_at b s) e.stamp,
       ap (λ G. get G.replicas (replica_at b s)) (held_report M s (front ++ (e ∷ behind))) ∙ reported_here M.cluster M.holdings s ts b ∙ ap (λ o. put_or M.cluster M.holdings s b o z) (around front e behind b low high h),
       told_marks M.holdings (replica_at b s) e.stamp,
     )
@@ -118,21 +118,21 @@ excess_again : (good good' x : Bool) → good' ≡ good → (good' && (good && x
 excess_again true good' x e = ap (λ g. g && x) e
 excess_again false good' x e = ap (λ g. g && false) e
 
-module _ (H G : Holdings) (p : ReplicaId) (stamp : Stamp) (blocks : G.blocks ≡ H.blocks) (there_now : get G.replicas p ≡ Some (entered H p stamp)) where
-  bad_now : was_bad G p ≡ is_bad (entered H p stamp).tag
+module _ (H G : Holdings) (p : ReplicaId) (stamp : Stamp) (blocks : G.blocks ≡ H.blocks) (there_now : get G.replicas p ≡ Some (entered_marks H p stamp)) where
+  bad_now : was_bad G p ≡ is_bad (entered_marks H p stamp).tag
   unfolding was_bad
   bad_now = ap (λ o. option_map_or (λ m. is_bad m.tag) o false) there_now
 
-  excess_now : was_excess G p ≡ (entered H p stamp).excess
+  excess_now : was_excess G p ≡ (entered_marks H p stamp).excess
   unfolding was_excess
   excess_now = ap (λ o. option_map_or (λ m. m.excess) o false) there_now
 
   same_tag : entered_tag G p stamp ≡ entered_tag H p stamp
-  unfolding entered entered_tag
+  unfolding entered_marks entered_tag
   same_tag = (λ i. tag_where (bad_now i) stamp (get (blocks i) p.block)) ∙ tag_again (was_bad H p) stamp (get H.blocks p.block)
 
-  entered_again : entered G p stamp ≡ entered H p stamp
-  unfolding entered
+  entered_again : entered_marks G p stamp ≡ entered_marks H p stamp
+  unfolding entered_marks
   entered_again =
       let excess : (is_good (entered_tag G p stamp) && was_excess G p) ≡ (is_good (entered_tag H p stamp) && was_excess H p) =
       ap (λ x. is_good (entered_tag G p stamp) && x) excess_now ∙ excess_again (is_good (entered_tag H p stamp)) (is_good (entered_tag G p stamp)) (was_excess H p) (ap is_good same_tag) in
@@ -143,7 +143,7 @@ keep_twice m p =
     same_map _ _ (λ q.
     get-keep (keep m (λ q _. p q)) (λ q _. p q) q ∙ ap (staying (p q)) (get-keep m (λ q _. p q) q) ∙ stays_twice (p q) (get m q) ∙ sym (get-keep m (λ q _. p q) q))
 
-module _ (C : Cluster) (H : Holdings) (s : ℕ) (ts : List Told) where
+module _ (C : Cluster) (H : Holdings) (s : ℕ) (ts : List ReportedBlock) where
   abbrev told : Holdings
   told = report C H s ts
 
@@ -156,7 +156,7 @@ module _ (C : Cluster) (H : Holdings) (s : ℕ) (ts : List Told) where
       let gone : get told.replicas (replica_at b s) ≡ None = reported_here C H s ts b ∙ ap (λ o. put_or C H s b o (get (keep H.replicas (λ q _. stays_by C H s ts q)) (replica_at b s))) e ∙ unnamed_leaves C H s ts b e in
       reported_here C told s ts b ∙ ap (λ o. put_or C told s b o (get (keep told.replicas (λ q _. stays_by C told s ts q)) (replica_at b s))) e ∙ unnamed_leaves C told s ts b e ∙ sym gone
   again_here b (Some t) e =
-      let now : get told.replicas (replica_at b s) ≡ Some (entered H (replica_at b s) t) = reported_here C H s ts b ∙ ap (λ o. put_or C H s b o (get (keep H.replicas (λ q _. stays_by C H s ts q)) (replica_at b s))) e in
+      let now : get told.replicas (replica_at b s) ≡ Some (entered_marks H (replica_at b s) t) = reported_here C H s ts b ∙ ap (λ o. put_or C H s b o (get (keep H.replicas (λ q _. stays_by C H s ts q)) (replica_at b s))) e in
       reported_here C told s ts b ∙ ap (λ o. put_or C told s b o (get (keep told.replicas (λ q _. stays_by C told s ts q)) (replica_at b s))) e
       ∙ ap Some (entered_again H told (replica_at b s) t told_blocks now) ∙ sym now
 
@@ -216,7 +216,7 @@ second_changes_nothing M s es =
 
 -- Other nodes.
 
-stays_where : (C : Cluster) (H : Holdings) (s : ℕ) (ts : List Told) (p : ReplicaId) → p.storage ≢ s → are_sisters C s p.storage ≡ false → stays_by C H s ts p ≡ true
+stays_where : (C : Cluster) (H : Holdings) (s : ℕ) (ts : List ReportedBlock) (p : ReplicaId) → p.storage ≢ s → are_siblings C s p.storage ≡ false → stays_by C H s ts p ≡ true
 unfolding leaves_by_report
 stays_where C H s ts p other h = rw (ne_eqb p.storage s other, h) (ap not (and_right (is_named ts p.block) false refl))
 
@@ -225,33 +225,33 @@ report_leaves_others M s es p apart =
     let C = M.cluster in
     let H = M.holdings in
     ap (λ G. get G.replicas p) (held_report M s es) ∙ reported_elsewhere C H s (expanded es) p apart.0 ∙ get-keep H.replicas (λ q _. stays_by C H s (expanded es) q) p
-    ∙ all_stays (stays_by C H s (expanded es) p) (get H.replicas p) (stays_where C H s (expanded es) p apart.0 (no_sisters C s p.storage apart.1))
+    ∙ all_stays (stays_by C H s (expanded es) p) (get H.replicas p) (stays_where C H s (expanded es) p apart.0 (no_siblings C s p.storage apart.1))
 
-not_replaced : (C : Cluster) (p q : ReplicaId) → are_sisters C p.storage q.storage ≡ false → not (replaces C p q) ≡ true
+not_replaced : (C : Cluster) (p q : ReplicaId) → are_siblings C p.storage q.storage ≡ false → not (replaces C p q) ≡ true
 unfolding replaces
 not_replaced C p q h = rw h (ap not (and_right (q.block == p.block) false refl))
 
 other_replica : (p q : ReplicaId) → q.storage ≢ p.storage → eq_by_cmp replica_cmp q p ≡ false
 other_replica p q other = replica_tie q p ∙ rw (ne_eqb q.storage p.storage other) (and_right (q.block == p.block) false refl)
 
-entered_elsewhere : (C : Cluster) (H : Holdings) (p : ReplicaId) (stamp : Stamp) (q : ReplicaId) → q.storage ≢ p.storage → are_sisters C p.storage q.storage ≡ false → get (enter C H p stamp).replicas q ≡ get H.replicas q
+entered_elsewhere : (C : Cluster) (H : Holdings) (p : ReplicaId) (stamp : Stamp) (q : ReplicaId) → q.storage ≢ p.storage → are_siblings C p.storage q.storage ≡ false → get (enter C H p stamp).replicas q ≡ get H.replicas q
 unfolding enter
 entered_elsewhere C H p stamp q other h =
     let stay = keep H.replicas (λ q _. not (replaces C p q)) in
-    get-insert stay p (entered H p stamp) q ∙ ap (λ c. cond c (Some (entered H p stamp)) (get stay q)) (other_replica p q other)
+    get-insert stay p (entered_marks H p stamp) q ∙ ap (λ c. cond c (Some (entered_marks H p stamp)) (get stay q)) (other_replica p q other)
     ∙ get-keep H.replicas (λ q _. not (replaces C p q)) q ∙ all_stays (not (replaces C p q)) (get H.replicas q) (not_replaced C p q h)
 
 pub received_leaves_others : law.received_leaves_other_nodes
 received_leaves_others M s b stamp p apart =
-    ap (λ G. get G.replicas p) (held_received M s b stamp) ∙ entered_elsewhere M.cluster M.holdings (replica_at b s) stamp p apart.0 (no_sisters M.cluster s p.storage apart.1)
+    ap (λ G. get G.replicas p) (held_received M s b stamp) ∙ entered_elsewhere M.cluster M.holdings (replica_at b s) stamp p apart.0 (no_siblings M.cluster s p.storage apart.1)
 
-entered_there : (C : Cluster) (H : Holdings) (p : ReplicaId) (stamp : Stamp) → get (enter C H p stamp).replicas p ≡ Some (entered H p stamp)
+entered_there : (C : Cluster) (H : Holdings) (p : ReplicaId) (stamp : Stamp) → get (enter C H p stamp).replicas p ≡ Some (entered_marks H p stamp)
 unfolding enter
-entered_there C H p stamp = get_here (keep H.replicas (λ q _. not (replaces C p q))) p (entered H p stamp)
+entered_there C H p stamp = get_here (keep H.replicas (λ q _. not (replaces C p q))) p (entered_marks H p stamp)
 
 pub received_there : law.received_is_there
 received_there M s b stamp =
-    (entered M.holdings (replica_at b s) stamp, ap (λ G. get G.replicas (replica_at b s)) (held_received M s b stamp) ∙ entered_there M.cluster M.holdings (replica_at b s) stamp, told_marks M.holdings (replica_at b s) stamp)
+    (entered_marks M.holdings (replica_at b s) stamp, ap (λ G. get G.replicas (replica_at b s)) (held_received M s b stamp) ∙ entered_there M.cluster M.holdings (replica_at b s) stamp, told_marks M.holdings (replica_at b s) stamp)
 
 -- Bad replicas.
 

@@ -16,17 +16,17 @@ use Rattle.bm_base.specs.declared.event.Event.TheVariants.{Received, FullReport}
 use Rattle.bm_base.specs.Maps.Map.{get, keep}
 use Rattle.bm_base.specs.Maps.Lists.{has}
 use Rattle.bm_base.specs.Machine.State.{Cluster, Holdings, State, replica_at, replica_cmp}
-use Rattle.bm_base.specs.Machine.Replicas.{is_good, is_bad, are_sisters}
-use Rattle.bm_base.specs.Machine.Entries.{Told, expanded}
-use Rattle.bm_base.specs.Machine.Events.{was_bad, was_excess, same_stamp, entered_tag, entered, replaces, enter, is_named, leaves_by_report, report, change_cluster, change_holdings}
+use Rattle.bm_base.specs.Machine.Replicas.{is_good, is_bad, are_siblings}
+use Rattle.bm_base.specs.Machine.Entries.{ReportedBlock, expanded}
+use Rattle.bm_base.specs.Machine.Events.{was_bad, was_excess, same_stamp, entered_tag, entered_marks, replaces, enter, is_named, leaves_by_report, report, change_cluster, change_holdings}
 use Rattle.bm_base.specs.Machine.Calls.{after_event}
 use Rattle.bm_base.proofs.MapLaws.{same_map, get-insert, get-keep, get-remove}
 use Rattle.bm_base.proofs.Ties.{replica_tie}
 use Rattle.bm_base.proofs.Clusters.{eqb_turned}
 use Rattle.bm_base.proofs.Entries.{expanded-++}
 use Rattle.bm_base.proofs.Options.{staying, all_stays}
-use Rattle.bm_base.proofs.Each.{Each}
-use Rattle.bm_parts.proofs.Entering.{stays_by}
+use Rattle.bm_base.proofs.ForEach.{Each}
+use Rattle.bm_parts.proofs.ReportedReplicas.{stays_by}
 use Rattle.laws_of_events.proofs.Telling.{tag_where}
 use Rattle.laws_of_events.proofs.Reporting.{last_is, put_or, reported_here, reported_elsewhere}
 use Rattle.laws_of_events.specs.Reports as law
@@ -34,11 +34,11 @@ use Rattle.laws_of_events.specs.Runs.{last_stamp}
 
 -- Lists with one more replica.
 
-last_other : (ts : List Told) (t : Told) (b : ℕ) → (t.id == b) ≡ false → last_stamp (ts ++ (t ∷ [])) b ≡ last_stamp ts b
+last_other : (ts : List ReportedBlock) (t : ReportedBlock) (b : ℕ) → (t.id == b) ≡ false → last_stamp (ts ++ (t ∷ [])) b ≡ last_stamp ts b
 last_other [] t b e = ap (λ c. if c then Some t.stamp else None) e
 last_other (x ∷ ts) t b e = ap (λ o. option_or o (if x.id == b then Some x.stamp else None)) (last_other ts t b e)
 
-named_more : (ts : List Told) (t : Told) (b : ℕ) → is_named (ts ++ (t ∷ [])) b ≡ (is_named ts b || (t.id == b))
+named_more : (ts : List ReportedBlock) (t : ReportedBlock) (b : ℕ) → is_named (ts ++ (t ∷ [])) b ≡ (is_named ts b || (t.id == b))
 unfolding is_named
 named_more ts t b = list_any-append (λ u. u.id == b) ts (t ∷ []) ∙ ap (λ x. is_named ts b || x) (or-false (t.id == b))
 
@@ -61,16 +61,16 @@ module _ (H : Holdings) (p : ReplicaId) (none : get H.replicas p ≡ None) where
   unfolding was_excess
   first_not_excess = ap (λ o. option_map_or (λ m. m.excess) o false) none
 
-  enters_not_bad : (stamp : Stamp) → is_bad (entered H p stamp).tag ≡ false
-  unfolding entered entered_tag
+  enters_not_bad : (stamp : Stamp) → is_bad (entered_marks H p stamp).tag ≡ false
+  unfolding entered_marks entered_tag
   enters_not_bad stamp = ap (λ b. is_bad (tag_where b stamp (get H.blocks p.block))) first_not_bad ∙ where_not_bad stamp (get H.blocks p.block)
 
-  enters_not_excess : (stamp : Stamp) → (entered H p stamp).excess ≡ false
-  unfolding entered
+  enters_not_excess : (stamp : Stamp) → (entered_marks H p stamp).excess ≡ false
+  unfolding entered_marks
   enters_not_excess stamp = ap (λ x. is_good (entered_tag H p stamp) && x) first_not_excess ∙ and_right (is_good (entered_tag H p stamp)) false refl
 
-entered_alike : (G H : Holdings) (p : ReplicaId) (stamp : Stamp) → G.blocks ≡ H.blocks → was_bad G p ≡ was_bad H p → was_excess G p ≡ was_excess H p → entered G p stamp ≡ entered H p stamp
-unfolding entered entered_tag
+entered_alike : (G H : Holdings) (p : ReplicaId) (stamp : Stamp) → G.blocks ≡ H.blocks → was_bad G p ≡ was_bad H p → was_excess G p ≡ was_excess H p → entered_marks G p stamp ≡ entered_marks H p stamp
+unfolding entered_marks entered_tag
 entered_alike G H p stamp blocks bad excess =
     let tag : entered_tag G p stamp ≡ entered_tag H p stamp = λ i. tag_where (bad i) stamp (get (blocks i) p.block) in
     λ i. record { tag = tag i; excess = is_good (tag i) && excess i; ordered = false }
@@ -103,19 +103,19 @@ arrive_apart false false true (Some x) = refl
 arrive_apart false false false (Some x) = refl
 
 found_entered : (C : Cluster) (G : Holdings) (p : ReplicaId) (stamp : Stamp) (q : ReplicaId) (tied : Bool)
-    → eq_by_cmp replica_cmp q p ≡ tied → get (enter C G p stamp).replicas q ≡ cond tied (Some (entered G p stamp)) (staying (not (replaces C p q)) (get G.replicas q))
+    → eq_by_cmp replica_cmp q p ≡ tied → get (enter C G p stamp).replicas q ≡ cond tied (Some (entered_marks G p stamp)) (staying (not (replaces C p q)) (get G.replicas q))
 unfolding enter
 found_entered C G p stamp q tied e =
     let stay = keep G.replicas (λ q _. not (replaces C p q)) in
-    get-insert stay p (entered G p stamp) q ∙ (λ i. cond (e i) (Some (entered G p stamp)) (get-keep G.replicas (λ q _. not (replaces C p q)) q i))
+    get-insert stay p (entered_marks G p stamp) q ∙ (λ i. cond (e i) (Some (entered_marks G p stamp)) (get-keep G.replicas (λ q _. not (replaces C p q)) q i))
 
 -- A report with one more replica leaves what the report and a notice of that replica leave.
 
-module _ (C : Cluster) (H : Holdings) (s : ℕ) (ts : List Told) (t : Told) (none : get H.replicas (replica_at t.id s) ≡ None) where
+module _ (C : Cluster) (H : Holdings) (s : ℕ) (ts : List ReportedBlock) (t : ReportedBlock) (none : get H.replicas (replica_at t.id s) ≡ None) where
   abbrev told : Holdings
   told = report C H s ts
 
-  abbrev more : List Told
+  abbrev more : List ReportedBlock
   more = ts ++ (t ∷ [])
 
   abbrev this : ReplicaId
@@ -147,7 +147,7 @@ module _ (C : Cluster) (H : Holdings) (s : ℕ) (ts : List Told) (t : Told) (non
   unfolding was_excess
   still_not_excess = ap (λ o. option_map_or (λ m. m.excess) o false) told_this ∙ put_not_excess (last_stamp ts t.id) ∙ sym (first_not_excess H this none)
 
-  same_entered : entered told this t.stamp ≡ entered H this t.stamp
+  same_entered : entered_marks told this t.stamp ≡ entered_marks H this t.stamp
   same_entered = entered_alike told H this t.stamp told_blocks still_not_bad still_not_excess
 
   -- the replica itself
@@ -161,11 +161,11 @@ module _ (C : Cluster) (H : Holdings) (s : ℕ) (ts : List Told) (t : Told) (non
   -- others on the storage
   same_stays : (b : ℕ) → (t.id == b) ≡ false → stays_by C H s more (replica_at b s) ≡ stays_by C H s ts (replica_at b s)
   unfolding leaves_by_report
-  same_stays b e = ap (λ n. not (if s == s then not n else n && are_sisters C s s)) (named_more ts t b ∙ ap (λ x. is_named ts b || x) e ∙ or-false (is_named ts b))
+  same_stays b e = ap (λ n. not (if s == s then not n else n && are_siblings C s s)) (named_more ts t b ∙ ap (λ x. is_named ts b || x) e ∙ or-false (is_named ts b))
 
   other_stays : (q : ReplicaId) → (q.block == t.id) ≡ false → not (replaces C this q) ≡ true
   unfolding replaces
-  other_stays q e = ap (λ x. not (x && are_sisters C s q.storage)) e
+  other_stays q e = ap (λ x. not (x && are_siblings C s q.storage)) e
 
   more_here : (b : ℕ) → (t.id == b) ≡ false → get (report C H s more).replicas (replica_at b s) ≡ get (enter C told this t.stamp).replicas (replica_at b s)
   more_here b e =
@@ -177,23 +177,23 @@ module _ (C : Cluster) (H : Holdings) (s : ℕ) (ts : List Told) (t : Told) (non
       ∙ sym (found_entered C told this t.stamp (replica_at b s) false (replica_tie (replica_at b s) this ∙ ap (λ x. x && (s == s)) f))
 
   -- replicas on other storages
-  elsewhere_stays : (us : List Told) (q : ReplicaId) → q.storage ≢ s → stays_by C H s us q ≡ not (is_named us q.block && are_sisters C s q.storage)
+  elsewhere_stays : (us : List ReportedBlock) (q : ReplicaId) → q.storage ≢ s → stays_by C H s us q ≡ not (is_named us q.block && are_siblings C s q.storage)
   unfolding leaves_by_report
-  elsewhere_stays us q other = ap (λ c. not (if c then not (is_named us q.block) else is_named us q.block && are_sisters C s q.storage)) (ne_eqb q.storage s other)
+  elsewhere_stays us q other = ap (λ c. not (if c then not (is_named us q.block) else is_named us q.block && are_siblings C s q.storage)) (ne_eqb q.storage s other)
 
-  replaces_is : (q : ReplicaId) → replaces C this q ≡ ((t.id == q.block) && are_sisters C s q.storage)
+  replaces_is : (q : ReplicaId) → replaces C this q ≡ ((t.id == q.block) && are_siblings C s q.storage)
   unfolding replaces
-  replaces_is q = ap (λ x. x && are_sisters C s q.storage) (eqb_turned q.block t.id)
+  replaces_is q = ap (λ x. x && are_siblings C s q.storage) (eqb_turned q.block t.id)
 
-  found_elsewhere : (us : List Told) (q : ReplicaId) → q.storage ≢ s → get (report C H s us).replicas q ≡ staying (not (is_named us q.block && are_sisters C s q.storage)) (get H.replicas q)
+  found_elsewhere : (us : List ReportedBlock) (q : ReplicaId) → q.storage ≢ s → get (report C H s us).replicas q ≡ staying (not (is_named us q.block && are_siblings C s q.storage)) (get H.replicas q)
   found_elsewhere us q other =
       reported_elsewhere C H s us q other ∙ get-keep H.replicas (λ q _. stays_by C H s us q) q ∙ ap (λ x. staying x (get H.replicas q)) (elsewhere_stays us q other)
 
   more_elsewhere : (q : ReplicaId) → q.storage ≢ s → get (report C H s more).replicas q ≡ get (enter C told this t.stamp).replicas q
   more_elsewhere q other =
       found_elsewhere more q other
-      ∙ ap (λ n. staying (not (n && are_sisters C s q.storage)) (get H.replicas q)) (named_more ts t q.block)
-      ∙ stay_apart (is_named ts q.block) (t.id == q.block) (are_sisters C s q.storage) (get H.replicas q)
+      ∙ ap (λ n. staying (not (n && are_siblings C s q.storage)) (get H.replicas q)) (named_more ts t q.block)
+      ∙ stay_apart (is_named ts q.block) (t.id == q.block) (are_siblings C s q.storage) (get H.replicas q)
       ∙ (λ i. staying (not (sym (replaces_is q) i)) (sym (found_elsewhere ts q other) i))
       ∙ sym (found_entered C told this t.stamp q false (replica_tie q this ∙ ap (λ x. (q.block == t.id) && x) (ne_eqb q.storage s other) ∙ and_right (q.block == t.id) false refl))
 
@@ -212,7 +212,7 @@ module _ (C : Cluster) (H : Holdings) (s : ℕ) (ts : List Told) (t : Told) (non
       ] refl
 
   -- pending transfers
-  on_way : (us : List Told) (q : ReplicaId) → get (report C H s us).pending q ≡ staying (not ((q.storage == s) && is_named us q.block)) (get H.pending q)
+  on_way : (us : List ReportedBlock) (q : ReplicaId) → get (report C H s us).pending q ≡ staying (not ((q.storage == s) && is_named us q.block)) (get H.pending q)
   unfolding report
   on_way us q = get-keep H.pending (λ q _. not ((q.storage == s) && is_named us q.block)) q
 
@@ -240,19 +240,19 @@ module _ (C : Cluster) (H : Holdings) (s : ℕ) (ts : List Told) (t : Told) (non
 
 -- The states.
 
-abbrev reported : State → ℕ → List Told → ℕ → State
+abbrev reported : State → ℕ → List ReportedBlock → ℕ → State
 reported M s ts k = record M { holdings = report M.cluster M.holdings s ts; calls = k }
 
 report_leaves : (M : State) (s : ℕ) (es : List Entry) → after_event M (FullReport s es) ≡ reported M s (expanded es) (M.calls + 1)
 unfolding after_event change_cluster change_holdings
 report_leaves M s es = refl
 
-notice_leaves : (M : State) (s : ℕ) (ts : List Told) (k : ℕ) (t : Told)
+notice_leaves : (M : State) (s : ℕ) (ts : List ReportedBlock) (k : ℕ) (t : ReportedBlock)
     → after_event (reported M s ts k) (Received s t.id t.stamp) ≡ record M { holdings = enter M.cluster (report M.cluster M.holdings s ts) (replica_at t.id s) t.stamp; calls = k + 1 }
 unfolding after_event change_cluster change_holdings
 notice_leaves M s ts k t = refl
 
-notices_leave : (M : State) (s : ℕ) (ts us : List Told) (k : ℕ) → Each (λ (u : Told). get M.holdings.replicas (replica_at u.id s) ≡ None) us
+notices_leave : (M : State) (s : ℕ) (ts us : List ReportedBlock) (k : ℕ) → Each (λ (u : ReportedBlock). get M.holdings.replicas (replica_at u.id s) ≡ None) us
     → law.after_each_received (reported M s ts k) s us ≡ reported M s (ts ++ us) (k + length us)
 notices_leave M s ts [] k h = let sum : k ≡ k + 0 = omega arith in λ i. reported M s (sym (append-nil ts) i) (sum i)
 notices_leave M s ts (t ∷ us) k h =
@@ -261,10 +261,10 @@ notices_leave M s ts (t ∷ us) k h =
     ∙ notices_leave M s (ts ++ (t ∷ [])) us (k + 1) h.1
     ∙ (λ i. reported M s (append_assoc ts (t ∷ []) us i) (sum i))
 
-not_held : (H : Holdings) (s : ℕ) (us : List Told) → ((b : ℕ) → has (map (λ (u : Told). u.id) us) b ≡ true → get H.replicas (replica_at b s) ≡ None) → Each (λ (u : Told). get H.replicas (replica_at u.id s) ≡ None) us
+not_held : (H : Holdings) (s : ℕ) (us : List ReportedBlock) → ((b : ℕ) → has (map (λ (u : ReportedBlock). u.id) us) b ≡ true → get H.replicas (replica_at b s) ≡ None) → Each (λ (u : ReportedBlock). get H.replicas (replica_at u.id s) ≡ None) us
 not_held H s [] h = tt
 not_held H s (u ∷ us) h =
-    (h u.id (or_left (u.id == u.id) (has (map (λ (u : Told). u.id) us) u.id) (eq-eqb u.id u.id refl)), not_held H s us (λ b e. h b (or_right (u.id == b) (has (map (λ (u : Told). u.id) us) b) e)))
+    (h u.id (or_left (u.id == u.id) (has (map (λ (u : ReportedBlock). u.id) us) u.id) (eq-eqb u.id u.id refl)), not_held H s us (λ b e. h b (or_right (u.id == b) (has (map (λ (u : ReportedBlock). u.id) us) b) e)))
 
 pub in_parts : law.report_in_parts
 in_parts M s front behind none =

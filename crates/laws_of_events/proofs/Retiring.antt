@@ -21,9 +21,9 @@ use Rattle.bm_base.specs.Machine.Refusals.{node_refusal}
 use Rattle.bm_base.specs.Machine.Calls.{step, refused_or, after_event}
 use Rattle.bm_base.specs.Promises.Lawful.{IsLawfulHoldings, IsOrderly}
 use Rattle.bm_base.proofs.Options.{not_failed, not_passed}
-use Rattle.bm_base.proofs.Maps.{entry_passes, passes_entry}
+use Rattle.bm_base.proofs.MapEntries.{entry_passes, passes_entry}
 use Rattle.laws_of_events.proofs.NodeChanges.{on_it, is_on_it, node_at, still_there}
-use Rattle.bm_base.proofs.Listed.{any_map}
+use Rattle.bm_base.proofs.ListTests.{any_map}
 use Rattle.bm_parts.proofs.Filters.{any_shown}
 use Rattle.bm_parts.proofs.Storages.{storages_left}
 use Rattle.bm_parts.proofs.Deaths.{draining_elsewhere}

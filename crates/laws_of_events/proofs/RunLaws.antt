@@ -11,13 +11,13 @@ use Rattle.bm_base.specs.declared.event.Event.TheVariants.{FullReport}
 use Rattle.bm_base.specs.Maps.Map.{get, keep}
 use Rattle.bm_base.specs.Maps.Lists.{has}
 use Rattle.bm_base.specs.Machine.State.{Cluster, Holdings, State, replica_at}
-use Rattle.bm_base.specs.Machine.Replicas.{are_sisters}
-use Rattle.bm_base.specs.Machine.Entries.{Told, told_by, expanded}
+use Rattle.bm_base.specs.Machine.Replicas.{are_siblings}
+use Rattle.bm_base.specs.Machine.Entries.{ReportedBlock, blocks_of_entry, expanded}
 use Rattle.bm_base.specs.Machine.Events.{is_named, leaves_by_report, report, change_cluster, change_holdings}
-use Rattle.bm_base.specs.Machine.Calls.{done, done_by, after_event, counted}
+use Rattle.bm_base.specs.Machine.Calls.{done, done_by, after_event, count_call}
 use Rattle.bm_base.proofs.MapLaws.{same_map}
 use Rattle.bm_base.proofs.Entries.{length-expanded, has-told_by, expanded-++, expanded-one_by_one, told_by-backwards, told_by-cut}
-use Rattle.bm_parts.proofs.Entering.{stays_by}
+use Rattle.bm_parts.proofs.ReportedReplicas.{stays_by}
 use Rattle.laws_of_events.proofs.Reporting.{named_since, put_or, reported_here, reported_elsewhere}
 use Rattle.laws_of_events.specs.Reports.{numbers_of}
 use Rattle.laws_of_events.specs.Runs as law
@@ -31,8 +31,8 @@ named_by_runs : (es : List Entry) (b : ℕ) → has (numbers_of es) b ≡ list_a
 unfolding expanded
 named_by_runs [] b = refl
 named_by_runs (e ∷ es) b =
-    ap (λ xs. has xs b) (map-append (λ (t : Told). t.id) (told_by e) (expanded es))
-    ∙ list_any-append (λ c. c == b) (map (λ (t : Told). t.id) (told_by e)) (numbers_of es)
+    ap (λ xs. has xs b) (map-append (λ (t : ReportedBlock). t.id) (blocks_of_entry e) (expanded es))
+    ∙ list_any-append (λ c. c == b) (map (λ (t : ReportedBlock). t.id) (blocks_of_entry e)) (numbers_of es)
     ∙ (λ i. has-told_by e b i || named_by_runs es b i)
 
 pub named : law.runs_name_their_numbers
@@ -45,17 +45,17 @@ named es b = (
 )
 
 pub numbers_counted : law.numbers_are_counted
-numbers_counted es = length-map (expanded es) (λ (t : Told). t.id) ∙ length-expanded es
+numbers_counted es = length-map (expanded es) (λ (t : ReportedBlock). t.id) ∙ length-expanded es
 
 -- Reports with the same last stamp of each number.
 
-module _ (C : Cluster) (H : Holdings) (s : ℕ) (ts us : List Told) (same : (b : ℕ) → law.last_stamp ts b ≡ law.last_stamp us b) where
+module _ (C : Cluster) (H : Holdings) (s : ℕ) (ts us : List ReportedBlock) (same : (b : ℕ) → law.last_stamp ts b ≡ law.last_stamp us b) where
   same_named : (b : ℕ) → is_named ts b ≡ is_named us b
   same_named b = sym (named_since ts b) ∙ ap is_some (same b) ∙ named_since us b
 
   same_stay : (q : ReplicaId) → stays_by C H s ts q ≡ stays_by C H s us q
   unfolding leaves_by_report
-  same_stay q = ap (λ n. not (if q.storage == s then not n else n && are_sisters C s q.storage)) (same_named q.block)
+  same_stay q = ap (λ n. not (if q.storage == s then not n else n && are_siblings C s q.storage)) (same_named q.block)
 
   same_kept : keep H.replicas (λ q _. stays_by C H s ts q) ≡ keep H.replicas (λ q _. stays_by C H s us q)
   same_kept = λ i. keep H.replicas (λ q _. same_stay q i)
@@ -86,7 +86,7 @@ module _ (C : Cluster) (H : Holdings) (s : ℕ) (ts us : List Told) (same : (b :
       let replicas : (report C H s ts).replicas ≡ (report C H s us).replicas = same_map _ _ same_at in
       λ i. record { blocks = same_blocks i; replicas = replicas i; pending = same_pending i }
 
-state_is : (M : State) (s : ℕ) (es : List Entry) → after_event M (FullReport s es) ≡ counted (record M { holdings = report M.cluster M.holdings s (expanded es) })
+state_is : (M : State) (s : ℕ) (es : List Entry) → after_event M (FullReport s es) ≡ count_call (record M { holdings = report M.cluster M.holdings s (expanded es) })
 unfolding after_event change_cluster change_holdings
 state_is M s es = refl
 
@@ -96,7 +96,7 @@ answer_is M s es = refl
 
 alike : (M : State) (s : ℕ) (ds es : List Entry) → report M.cluster M.holdings s (expanded ds) ≡ report M.cluster M.holdings s (expanded es) → law.AreAlike M s ds es
 alike M s ds es e = (
-  state_is M s ds ∙ ap (λ G. counted (record M { holdings = G })) e ∙ sym (state_is M s es),
+  state_is M s ds ∙ ap (λ G. count_call (record M { holdings = G })) e ∙ sym (state_is M s es),
   answer_is M s ds ∙ ap (done M.holdings) e ∙ sym (answer_is M s es),
 )
 
@@ -116,7 +116,7 @@ unfolding expanded
 cut_in_two M s front e behind m low high =
     same_told M s (front ++ (e ∷ behind)) (front ++ (record e { to = m } ∷ record e { from = m + 1 } ∷ behind))
     (expanded-++ front (e ∷ behind)
-    ∙ ap (λ xs. expanded front ++ xs) (ap (λ xs. xs ++ expanded behind) (told_by-cut e m low high) ∙ append_assoc (told_by (record e { to = m })) (told_by (record e { from = m + 1 })) (expanded behind))
+    ∙ ap (λ xs. expanded front ++ xs) (ap (λ xs. xs ++ expanded behind) (told_by-cut e m low high) ∙ append_assoc (blocks_of_entry (record e { to = m })) (blocks_of_entry (record e { from = m + 1 })) (expanded behind))
     ∙ sym (expanded-++ front (record e { to = m } ∷ record e { from = m + 1 } ∷ behind)))
 
 pub backward : law.backward_run_names_none

@@ -21,23 +21,23 @@ use Rattle.bm_base.specs.Maps.Map.{Set, by_number, get, keep, remove, contains_k
 use Rattle.bm_base.specs.Machine.State.{RoundLimits, Cluster, Holdings, State, by_replica, first_state, empty_holdings}
 use Rattle.bm_base.specs.Maps.Lists.{has}
 use Rattle.bm_base.specs.Machine.Replicas.{node_of, has_storage, drains, is_draining, sources_of}
-use Rattle.bm_base.specs.Machine.Events.{register, heartbeat, without_node, without_storage, drain, undrain, begun_to_drain, change_cluster, change_holdings}
-use Rattle.bm_base.specs.Machine.Excess.{without_expired, without_unordered_excess, marked, begun, started}
-use Rattle.bm_base.specs.Machine.Transfers.{WishedCopy, holders_of, barred_for, is_target, target_cmp, least_target_by, least_target, scheduled_to, least_source, transfer_for, transfers_from, transfers, wishes}
+use Rattle.bm_base.specs.Machine.Events.{register, heartbeat, without_node, without_storage, drain, undrain, begin_drain, change_cluster, change_holdings}
+use Rattle.bm_base.specs.Machine.Excess.{without_expired, without_unordered_excess, with_surplus_marked, state_after_expiry, state_at_choice}
+use Rattle.bm_base.specs.Machine.Transfers.{RequestedCopy, holders_of, excluded_for, is_target, target_cmp, least_target_by, least_target, scheduled_to, least_source, transfer_for, transfers_from, transfers, wishes}
 use Rattle.bm_base.specs.Machine.Deletes.{deletes}
-use Rattle.bm_base.specs.Machine.Rounds.{finished, whole_round}
+use Rattle.bm_base.specs.Machine.Rounds.{end_round, whole_round}
 use Rattle.bm_base.specs.Machine.Refusals.{refusal_of, round_refusal, node_refusal, storage_refusal, block_refusal}
 use Rattle.bm_base.specs.Machine.Calls.{step, refused_or, after_event, state_after}
 use Rattle.bm_base.proofs.MapLaws.{get-empty}
 use Rattle.bm_base.proofs.Options.{there, is_there, not_passed, revised}
-use Rattle.bm_base.proofs.Each.{Each, each_passing, each_appended, each_optional, least_is_one}
-use Rattle.bm_base.proofs.Maps.{get_kept, get_removed, get_taken, get_other, known_before}
+use Rattle.bm_base.proofs.ForEach.{Each, each_passing, each_appended, each_optional, least_is_one}
+use Rattle.bm_base.proofs.MapEntries.{get_kept, get_removed, get_taken, get_other, known_before}
 use Rattle.bm_base.proofs.Clusters.{node_is}
 use Rattle.bm_base.proofs.ClusterEvents.{same_nodes}
-use Rattle.bm_parts.proofs.Among.{fewer_sent}
+use Rattle.bm_parts.proofs.RemainingHoldings.{fewer_sent}
 use Rattle.bm_parts.proofs.ChosenCopies.{made_of, unless}
-use Rattle.laws_of_states.proofs.Rounding.{all_pending}
-use Rattle.laws_of_states.proofs.Accepting.{pending_before}
+use Rattle.laws_of_states.proofs.LawfulRounds.{all_pending}
+use Rattle.laws_of_states.proofs.AcceptedEvents.{pending_before}
 use Rattle.laws_of_events.proofs.NodeChanges.{new_or, new_storages}
 use Rattle.laws_of_events.specs.Draining as law
 
@@ -113,8 +113,8 @@ at_node : (C : Cluster) (s m : ℕ) → node_of C s ≡ Some m → has_storage C
 unfolding has_storage
 at_node C s m e = ap (λ z. option_map_or (λ k. k == m) z false) e ∙ eq-eqb m m refl
 
-drain_spares : (C : Cluster) (H : Holdings) (n : ℕ) → Spares C H → Spares (drain C n) (begun_to_drain C H n)
-unfolding begun_to_drain
+drain_spares : (C : Cluster) (H : Holdings) (n : ℕ) → Spares C H → Spares (drain C n) (begin_drain C H n)
+unfolding begin_drain
 drain_spares C H n S p is = by_state (drains C n) refl is
   where
     by_state : (b : Bool) → drains C n ≡ b → is_some (get (if b then H else fewer_sent C H n).pending p) ≡ true → is_draining (drain C n) p.storage ≡ false
@@ -149,14 +149,14 @@ target_off C chosen urgency holders barred l t e =
 abbrev IsSpared : Cluster → Transfer → Type 0
 IsSpared C t = is_draining C t.target ≡ false
 
-transfer_spared : (limits : RoundLimits) (C : Cluster) (H : Holdings) (chosen : List Transfer) (w : WishedCopy) (t : Transfer) → transfer_for limits C H chosen w ≡ Some t → IsSpared C t
+transfer_spared : (limits : RoundLimits) (C : Cluster) (H : Holdings) (chosen : List Transfer) (w : RequestedCopy) (t : Transfer) → transfer_for limits C H chosen w ≡ Some t → IsSpared C t
 unfolding transfer_for
 transfer_spared limits C H chosen w t e =
-    let of_it = made_of w.block (get H.blocks w.block) (least_source C chosen w.urgency (sources_of C H w.block)) (λ i. least_target C chosen w.urgency (holders_of C H chosen w.block) (barred_for H chosen w.block) i.stamp.len) t
+    let of_it = made_of w.block (get H.blocks w.block) (least_source C chosen w.urgency (sources_of C H w.block)) (λ i. least_target C chosen w.urgency (holders_of C H chosen w.block) (excluded_for H chosen w.block) i.stamp.len) t
     (unless (nat_le (limits.work * len C.nodes) (length chosen)) _ t e) in
-    target_off C chosen w.urgency (holders_of C H chosen w.block) (barred_for H chosen w.block) of_it.0.stamp.len t.target of_it.2
+    target_off C chosen w.urgency (holders_of C H chosen w.block) (excluded_for H chosen w.block) of_it.0.stamp.len t.target of_it.2
 
-spared_from : (limits : RoundLimits) (C : Cluster) (H : Holdings) (chosen : List Transfer) (ws : List WishedCopy) → Each (IsSpared C) chosen → Each (IsSpared C) (transfers_from limits C H chosen ws)
+spared_from : (limits : RoundLimits) (C : Cluster) (H : Holdings) (chosen : List Transfer) (ws : List RequestedCopy) → Each (IsSpared C) chosen → Each (IsSpared C) (transfers_from limits C H chosen ws)
 spared_from limits C H chosen [] h = h
 spared_from limits C H chosen (w ∷ ws) h =
     spared_from limits C H (chosen ++ option_to_list (transfer_for limits C H chosen w)) ws
@@ -166,19 +166,19 @@ each_spared : (limits : RoundLimits) (C : Cluster) (H : Holdings) → Each (IsSp
 unfolding transfers
 each_spared limits C H = spared_from limits C H [] (wishes C H) tt
 
-started_spares : (M : State) → Spares M.cluster M.holdings → Spares (started M).cluster (started M).holdings
-unfolding started begun without_expired without_unordered_excess marked
-started_spares M S p is = let r = there (get (started M).holdings.pending p) is in S p (is_there (get M.holdings.pending p) r.0 (get_kept M.holdings.pending _ p r.0 r.1).0)
+started_spares : (M : State) → Spares M.cluster M.holdings → Spares (state_at_choice M).cluster (state_at_choice M).holdings
+unfolding state_at_choice state_after_expiry without_expired without_unordered_excess with_surplus_marked
+started_spares M S p is = let r = there (get (state_at_choice M).holdings.pending p) is in S p (is_there (get M.holdings.pending p) r.0 (get_kept M.holdings.pending _ p r.0 r.1).0)
 
-finished_spares : (C : Cluster) (r : ℕ) (H : Holdings) (ts : List Transfer) (ds : List Delete) → Spares C H → Each (IsSpared C) ts → Spares C (finished r H ts ds)
+finished_spares : (C : Cluster) (r : ℕ) (H : Holdings) (ts : List Transfer) (ds : List Delete) → Spares C H → Each (IsSpared C) ts → Spares C (end_round r H ts ds)
 finished_spares C r H ts ds S each p is =
-    let sent = there (get (finished r H ts ds).pending p) is in
+    let sent = there (get (end_round r H ts ds).pending p) is in
     all_pending C r H ts ds (λ q _. is_draining C q.storage ≡ false) (λ q t e. S q (is_there (get H.pending q) t e)) each p sent.0 sent.1
 
 round_spares : (M : State) → Spares M.cluster M.holdings → Spares (whole_round M).1.cluster (whole_round M).1.holdings
 unfolding whole_round
 round_spares M S =
-    let N = started M in
+    let N = state_at_choice M in
     let ts = transfers N.limits N.cluster N.holdings in
     finished_spares N.cluster N.round N.holdings ts (deletes N.limits N.cluster N.holdings) (started_spares M S) (each_spared N.limits N.cluster N.holdings)
 

@@ -12,7 +12,7 @@ use Rattle.bm_base.specs.declared.replica.BlockInfo.{BlockInfo}
 use Rattle.bm_base.specs.Maps.Map.{get}
 use Rattle.bm_base.specs.Machine.State.{Holdings}
 use Rattle.bm_base.specs.Machine.Replicas.{is_good, is_bad}
-use Rattle.bm_base.specs.Machine.Events.{was_bad, was_excess, same_stamp, entered_tag, entered}
+use Rattle.bm_base.specs.Machine.Events.{was_bad, was_excess, same_stamp, entered_tag, entered_marks}
 use Rattle.laws_of_events.specs.Reports.{IsBadIn, IsExcessIn, HasToldMarks}
 
 found_bad : (t : Tag) → is_bad t ≡ true → t ≡ Bad
@@ -62,12 +62,12 @@ stamps_same a b e = and_from (a.generation == b.generation) (a.len == b.len) (eq
 abbrev pub tag_where : Bool → Stamp → Option BlockInfo → Tag
 tag_where bad stamp z = option_map_or (λ i. if bad then Bad else if same_stamp stamp i.stamp then Good else Stale) z Stray
 
-tag_is : (H : Holdings) (p : ReplicaId) (stamp : Stamp) → (entered H p stamp).tag ≡ tag_where (was_bad H p) stamp (get H.blocks p.block)
-unfolding entered entered_tag
+tag_is : (H : Holdings) (p : ReplicaId) (stamp : Stamp) → (entered_marks H p stamp).tag ≡ tag_where (was_bad H p) stamp (get H.blocks p.block)
+unfolding entered_marks entered_tag
 tag_is H p stamp = refl
 
 -- the tag of a replica is `tag_where` of what is known
-tag_with : (H : Holdings) (p : ReplicaId) (stamp : Stamp) (bad : Bool) (z : Option BlockInfo) → was_bad H p ≡ bad → get H.blocks p.block ≡ z → (entered H p stamp).tag ≡ tag_where bad stamp z
+tag_with : (H : Holdings) (p : ReplicaId) (stamp : Stamp) (bad : Bool) (z : Option BlockInfo) → was_bad H p ≡ bad → get H.blocks p.block ≡ z → (entered_marks H p stamp).tag ≡ tag_where bad stamp z
 tag_with H p stamp bad z e f = tag_is H p stamp ∙ (λ i. tag_where (e i) stamp (f i))
 
 chosen_tag : (b : Bool) → b ≡ true → (if b then Good else Stale) ≡ Good
@@ -78,21 +78,21 @@ other_tag : (b : Bool) → b ≡ false → (if b then Good else Stale) ≡ Stale
 other_tag true e = cc
 other_tag false e = refl
 
-excess_is : (H : Holdings) (p : ReplicaId) (stamp : Stamp) → (entered H p stamp).excess ≡ (is_good (entered H p stamp).tag && was_excess H p)
-unfolding entered
+excess_is : (H : Holdings) (p : ReplicaId) (stamp : Stamp) → (entered_marks H p stamp).excess ≡ (is_good (entered_marks H p stamp).tag && was_excess H p)
+unfolding entered_marks
 excess_is H p stamp = refl
 
-not_ordered : (H : Holdings) (p : ReplicaId) (stamp : Stamp) → (entered H p stamp).ordered ≡ false
-unfolding entered
+not_ordered : (H : Holdings) (p : ReplicaId) (stamp : Stamp) → (entered_marks H p stamp).ordered ≡ false
+unfolding entered_marks
 not_ordered H p stamp = refl
 
-pub told_marks : (H : Holdings) (p : ReplicaId) (stamp : Stamp) → HasToldMarks H p stamp (entered H p stamp)
+pub told_marks : (H : Holdings) (p : ReplicaId) (stamp : Stamp) → HasToldMarks H p stamp (entered_marks H p stamp)
 told_marks H p stamp = record {
   stray = λ none. tag_with H p stamp (was_bad H p) None refl none;
   bad = λ i e h. tag_with H p stamp true (Some i) (bad_so H p h) e;
   good = λ i e never is. tag_with H p stamp false (Some i) (not_bad H p never) e ∙ chosen_tag (same_stamp stamp i.stamp) (stamps_same stamp i.stamp is);
   stale = λ i e never other. tag_with H p stamp false (Some i) (not_bad H p never) e ∙ other_tag (same_stamp stamp i.stamp) (false_from_ne_true (same_stamp stamp i.stamp) (λ h. other (same_stamps stamp i.stamp h)));
-  excess = λ good was. excess_is H p stamp ∙ and_from (is_good (entered H p stamp).tag) (was_excess H p) (ap is_good good) (excess_so H p was);
-  no_new_excess = λ e. let h = and_parts (is_good (entered H p stamp).tag) (was_excess H p) (sym (excess_is H p stamp) ∙ e) in (found_good (entered H p stamp).tag h.0, excess_since H p h.1);
+  excess = λ good was. excess_is H p stamp ∙ and_from (is_good (entered_marks H p stamp).tag) (was_excess H p) (ap is_good good) (excess_so H p was);
+  no_new_excess = λ e. let h = and_parts (is_good (entered_marks H p stamp).tag) (was_excess H p) (sym (excess_is H p stamp) ∙ e) in (found_good (entered_marks H p stamp).tag h.0, excess_since H p h.1);
   not_ordered = not_ordered H p stamp;
 }

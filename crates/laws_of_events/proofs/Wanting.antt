@@ -4,7 +4,7 @@ use Rattle.bm_base.specs.declared.call.Answer.{Answer}
 use Rattle.bm_base.specs.declared.call.Answer.TheVariants as answer
 use Rattle.bm_base.specs.Machine.State.{State}
 use Rattle.bm_base.specs.Machine.Calls.{step}
-use Rattle.bm_base.specs.Machine.Answering.{is_refused, wants_memory, state_left}
+use Rattle.bm_base.specs.Machine.Answering.{is_refused, is_out_of_memory, state_after_answer}
 use Rattle.laws_of_events.proofs.Leading.{refusal_leaves}
 use Rattle.laws_of_events.specs.Calls as law
 
@@ -13,10 +13,10 @@ same_either true M N e = refl
 same_either false M N e = e
 
 pub refused_leaves : law.refused_answer_leaves_state
-refused_leaves M k a (inl is) refused = same_either (wants_memory a) M (step M k).1 (refusal_leaves M k (ap is_refused (sym is) ∙ refused))
-refused_leaves M k a (inr lacks) refused = ap (state_left step M k) lacks.1
+refused_leaves M k a (inl is) refused = same_either (is_out_of_memory a) M (step M k).1 (refusal_leaves M k (ap is_refused (sym is) ∙ refused))
+refused_leaves M k a (inr lacks) refused = ap (state_after_answer step M k) lacks.1
 
-wants_none : (a : Answer) → is_refused a ≡ false → wants_memory a ≡ false
+wants_none : (a : Answer) → is_refused a ≡ false → is_out_of_memory a ≡ false
 wants_none (answer.Refused r) e = cc
 wants_none (answer.Done d) e = refl
 wants_none (answer.Commanded c) e = refl

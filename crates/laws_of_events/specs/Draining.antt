@@ -14,7 +14,7 @@ use Rattle.bm_base.specs.Maps.Lists.{has}
 use Rattle.bm_base.specs.Machine.State.{Cluster, Holdings, State, replica_at, first_state}
 use Rattle.bm_base.specs.Machine.Replicas.{live, drains, is_draining, usable}
 use Rattle.bm_base.specs.Machine.Queries.{missing_blocks, is_retired}
-use Rattle.bm_base.specs.Machine.Calls.{done_by, after_event, counted, step, state_after}
+use Rattle.bm_base.specs.Machine.Calls.{done_by, after_event, count_call, step, state_after}
 use Rattle.laws_of_events.specs.Reports.{held_after}
 use Rattle.laws_of_events.specs.Changes.{cluster_after, IsOn}
 use Rattle.laws_of_events.specs.Queries.{IsHeld}
@@ -77,10 +77,10 @@ undrain_takes_nothing =
 -- Only the number of calls changes.
 
 abbrev pub second_drain_changes_nothing : Type 0
-second_drain_changes_nothing = (M : State) (n : ℕ) → IsTrue (drains M.cluster n) → after_event M (Drain n) ≡ counted M
+second_drain_changes_nothing = (M : State) (n : ℕ) → IsTrue (drains M.cluster n) → after_event M (Drain n) ≡ count_call M
 
 abbrev pub idle_undrain_changes_nothing : Type 0
-idle_undrain_changes_nothing = (M : State) (n : ℕ) → drains M.cluster n ≡ false → after_event M (Undrain n) ≡ counted M
+idle_undrain_changes_nothing = (M : State) (n : ℕ) → drains M.cluster n ≡ false → after_event M (Undrain n) ≡ count_call M
 
 -- after every list of calls, no pending transfer goes to a node that drains
 abbrev pub no_transfer_to_draining : Type 0

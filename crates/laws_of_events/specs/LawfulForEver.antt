@@ -9,8 +9,8 @@ use Rattle.bm_base.specs.declared.call.Answer.{Answer}
 use Rattle.bm_base.specs.Machine.State.{State, first_state}
 use Rattle.bm_base.specs.Machine.Refusals.{refusal_of, round_refusal}
 use Rattle.bm_base.specs.Machine.Rounds.{whole_round}
-use Rattle.bm_base.specs.Machine.Calls.{step, after_event, counted, state_after}
-use Rattle.bm_base.specs.Machine.Answering.{is_refused, MayAnswerAll, state_left_by}
+use Rattle.bm_base.specs.Machine.Calls.{step, after_event, count_call, state_after}
+use Rattle.bm_base.specs.Machine.Answering.{is_refused, MayAnswerAll, state_after_answers}
 use Rattle.bm_base.specs.Promises.Lawful.{IsLawful, IsOrderly}
 use Rattle.bm_base.specs.Promises.Fitting.{HasFittingStart, FitsEvent, FitsCall, FitCalls}
 
@@ -25,7 +25,7 @@ event_keeps_lawful = (M : State) (e : Event) → IsLawful M → FitsEvent e → 
 
 -- an accepted round keeps a lawful state lawful
 abbrev pub round_keeps_lawful : Type 0
-round_keeps_lawful = (M : State) → IsLawful M → round_refusal M ≡ None → IsLawful (counted (whole_round M).1)
+round_keeps_lawful = (M : State) → IsLawful M → round_refusal M ≡ None → IsLawful (count_call (whole_round M).1)
 
 -- a refused call keeps the state
 abbrev pub refusal_leaves_state : Type 0
@@ -42,7 +42,7 @@ calls_lead_to_lawful = (c : Config) (ks : List Call) → HasFittingStart c → F
 -- such calls lead to a lawful state with any answers that they may give, out of memory included
 abbrev pub answered_calls_lead_to_lawful : Type 0
 answered_calls_lead_to_lawful =
-    (c : Config) (ks : List Call) (answers : List Answer) → HasFittingStart c → FitCalls ks → MayAnswerAll step (first_state c) ks answers → IsLawful (state_left_by step (first_state c) ks answers)
+    (c : Config) (ks : List Call) (answers : List Answer) → HasFittingStart c → FitCalls ks → MayAnswerAll step (first_state c) ks answers → IsLawful (state_after_answers step (first_state c) ks answers)
 
 -- Whatever numbers calls bring, they lead to a state that is lawful but for the sizes of its
 -- numbers.
@@ -52,7 +52,7 @@ calls_lead_to_orderly = (c : Config) (ks : List Call) → IsOrderly (state_after
 
 abbrev pub answered_calls_lead_to_orderly : Type 0
 answered_calls_lead_to_orderly =
-    (c : Config) (ks : List Call) (answers : List Answer) → MayAnswerAll step (first_state c) ks answers → IsOrderly (state_left_by step (first_state c) ks answers)
+    (c : Config) (ks : List Call) (answers : List Answer) → MayAnswerAll step (first_state c) ks answers → IsOrderly (state_after_answers step (first_state c) ks answers)
 
 -- the target of a pending transfer has no replica of the block, of any tag
 abbrev pub IsStillToCome : State → Type 0

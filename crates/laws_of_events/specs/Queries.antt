@@ -61,5 +61,5 @@ pub record ListsRise (C : Cluster) (H : Holdings) : Type 0 where
   pub blocks : (s : ℕ) → AllPairs (λ b c. b < c) (blocks_on H s)
   pub places_of : (b : ℕ) → AllPairs (λ s t. s < t) (places H b)
 
-abbrev pub lists_rise : Type 0
-lists_rise = (C : Cluster) (H : Holdings) → ListsRise C H
+abbrev pub lists_ascend : Type 0
+lists_ascend = (C : Cluster) (H : Holdings) → ListsRise C H

@@ -12,7 +12,7 @@ use Rattle.bm_base.specs.declared.event.Event.TheVariants.{Received, FullReport}
 use Rattle.bm_base.specs.Maps.Map.{get, contains_key}
 use Rattle.bm_base.specs.Maps.Lists.{has, distinct}
 use Rattle.bm_base.specs.Machine.Queries.{blocks_on}
-use Rattle.bm_base.specs.Machine.Entries.{Told, expanded}
+use Rattle.bm_base.specs.Machine.Entries.{ReportedBlock, expanded}
 use Rattle.bm_base.specs.Machine.State.{Cluster, Holdings, State, replica_at}
 use Rattle.bm_base.specs.Machine.Calls.{done_by, after_event}
 
@@ -22,7 +22,7 @@ held_after M e = (after_event M e).holdings
 
 -- the block numbers that a report's entries name
 abbrev pub numbers_of : List Entry → List ℕ
-numbers_of es = map (λ (t : Told). t.id) (expanded es)
+numbers_of es = map (λ (t : ReportedBlock). t.id) (expanded es)
 
 abbrev pub IsBadIn : Holdings → ReplicaId → Type 0
 IsBadIn H p = (m : Marks) × (get H.replicas p ≡ Some m) × (m.tag ≡ Bad)
@@ -64,7 +64,7 @@ second_report_changes_nothing =
 
 -- the state after a received notice for each of these replicas on storage s, one after another, if
 -- none is refused
-abbrev pub after_each_received : State → ℕ → List Told → State
+abbrev pub after_each_received : State → ℕ → List ReportedBlock → State
 after_each_received M s [] = M
 after_each_received M s (t ∷ ts) = after_each_received (after_event M (Received s t.id t.stamp)) s ts
 

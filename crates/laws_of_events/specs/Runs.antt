@@ -6,7 +6,7 @@ use Rattle.bm_base.specs.declared.event.Entry.{Entry}
 use Rattle.bm_base.specs.declared.event.Event.TheVariants.{FullReport}
 use Rattle.bm_base.specs.Maps.Lists.{has}
 use Rattle.bm_base.specs.Machine.State.{State}
-use Rattle.bm_base.specs.Machine.Entries.{Told, expanded, numbers_in}
+use Rattle.bm_base.specs.Machine.Entries.{ReportedBlock, expanded, numbers_in}
 use Rattle.bm_base.specs.Machine.Calls.{done_by, after_event}
 use Rattle.laws_of_events.specs.Reports.{numbers_of}
 
@@ -23,7 +23,7 @@ abbrev pub AreAlike : State → ℕ → List Entry → List Entry → Type 0
 AreAlike M s ds es = (after_event M (FullReport s ds) ≡ after_event M (FullReport s es)) × (done_by M (FullReport s ds) ≡ done_by M (FullReport s es))
 
 -- the last stamp that is reported for a number
-abbrev pub last_stamp : List Told → ℕ → Option Stamp
+abbrev pub last_stamp : List ReportedBlock → ℕ → Option Stamp
 last_stamp [] b = None
 last_stamp (t ∷ ts) b = option_or (last_stamp ts b) (if t.id == b then Some t.stamp else None)
 
@@ -36,7 +36,7 @@ abbrev pub same_told_is_alike : Type 0
 same_told_is_alike = (M : State) (s : ℕ) (ds es : List Entry) → expanded ds ≡ expanded es → AreAlike M s ds es
 
 -- the entry of one number
-abbrev pub one_of : Told → Entry
+abbrev pub one_of : ReportedBlock → Entry
 one_of t = record { from = t.id; to = t.id; stamp = t.stamp }
 
 -- a report in runs is like the report with an entry for each number

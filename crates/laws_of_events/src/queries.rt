@@ -37,6 +37,6 @@ pub fn missing_have_no_usable_replica()
 
 /// Each list is strictly ascending, so it has no duplicates: replicas by block and then by storage,
 /// blocks and storages by number.
-pub fn lists_rise()
-    ensures { law.lists_rise }
+pub fn lists_ascend()
+    ensures { law.lists_ascend }
 {}

@@ -8,13 +8,13 @@ use Rattle.bm_base.specs.declared.commands.Delete.{Delete}
 use Rattle.bm_base.specs.Maps.Map.{keys}
 use Rattle.bm_base.specs.Machine.State.{RoundLimits, Cluster, Holdings, State}
 use Rattle.bm_base.specs.Machine.Replicas.{has_storage}
-use Rattle.bm_base.specs.Machine.Excess.{begun, started}
+use Rattle.bm_base.specs.Machine.Excess.{state_after_expiry, state_at_choice}
 use Rattle.bm_base.specs.Machine.Deletes.{deletes_of, deletes}
 use Rattle.bm_base.specs.Machine.Refusals.{first_of, ◌when◌, ◌before◌, knows_storage, cluster_checks, block_checks, calls_spent, refusal_of}
 use Rattle.bm_base.specs.Promises.NextRound.{IsAmong, IsTransferCommanded, deletes_commanded}
-use Rattle.bm_base.proofs.Each.{Each, each_all, each_of, each_then, each_flat_map}
+use Rattle.bm_base.proofs.ForEach.{Each, each_all, each_of, each_then, each_flat_map}
 use Rattle.bm_base.proofs.Clusters.{some_node}
-use Rattle.laws_of_states.proofs.Commanded.{each_delete}
+use Rattle.laws_of_states.proofs.RoundCommands.{each_delete}
 use Rattle.laws_of_rounds.specs.Obedience.{copied, erased, Obeys, OnlyObeys, after_obeying}
 use Rattle.laws_of_rounds.proofs.Grouped.{each_on_node}
 use Rattle.laws_of_rounds.proofs.Sending.{fresh_node, node_is}
@@ -42,10 +42,10 @@ deletes_known limits C H =
     (keys C.nodes) (each_of (λ _. Unit {0}) (keys C.nodes) (λ _. tt))
 
 delete_known : (M : State) (d : Delete) → IsAmong (deletes_commanded M) d → IsKnown M.cluster d.storage
-unfolding started begun
+unfolding state_at_choice state_after_expiry
 delete_known M d at =
     each_is (λ (c : Delete). IsKnown M.cluster c.storage) (deletes_commanded M) d
-    (each_delete M (λ (c : Delete). IsKnown M.cluster c.storage) (deletes_known M.limits M.cluster (started M).holdings)) at
+    (each_delete M (λ (c : Delete). IsKnown M.cluster c.storage) (deletes_known M.limits M.cluster (state_at_choice M).holdings)) at
 
 copy_accepted : (N : State) (t : Transfer) → IsKnown N.cluster t.target → refusal_of N (copied t) ≡ calls_spent N
 unfolding refusal_of cluster_checks block_checks

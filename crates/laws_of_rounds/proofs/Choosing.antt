@@ -13,11 +13,11 @@ use Rattle.bm_base.specs.Machine.State.{RoundLimits, Cluster, Holdings}
 use Rattle.bm_base.specs.Maps.Lists.{has, least}
 use Rattle.bm_base.specs.Machine.Replicas.{sources_of, is_draining}
 use Rattle.bm_base.specs.Machine.Levels.{level, is_at}
-use Rattle.bm_base.specs.Machine.Transfers.{WishedCopy, wished_count, wishes_for, wishes, streams_from, stream_limit, source_cmp, least_source_by, least_source, holders_of, barred_for, target_cmp, is_target, least_target_by, least_target, scheduled_to, transfer_for, transfers_from, transfers}
+use Rattle.bm_base.specs.Machine.Transfers.{RequestedCopy, requested_count, wishes_for, wishes, streams_from, stream_limit, source_cmp, least_source_by, least_source, holders_of, excluded_for, target_cmp, is_target, least_target_by, least_target, scheduled_to, transfer_for, transfers_from, transfers}
 use Rattle.std.proofs.lemmas.Option.{same_Some}
 use Rattle.bm_base.proofs.AtLevel.{at_level}
-use Rattle.bm_base.proofs.Each.{Each, each_of, each_flat_map}
-use Rattle.bm_base.proofs.Listed.{has_filter, and_first, and_second}
+use Rattle.bm_base.proofs.ForEach.{Each, each_of, each_flat_map}
+use Rattle.bm_base.proofs.ListTests.{has_filter, and_first, and_second}
 use Rattle.laws_of_states.proofs.Surpluses.{least_among}
 
 -- P holds of each element, given those before it
@@ -46,7 +46,7 @@ module _ {X : Type 0} where
 
 -- A requested copy is of a block at its level.
 
-abbrev pub IsOfLevel : Cluster → Holdings → WishedCopy → Type 0
+abbrev pub IsOfLevel : Cluster → Holdings → RequestedCopy → Type 0
 IsOfLevel C H w = level C H w.block ≡ Some w.urgency
 
 pub each_replicate : {X : Type 0} (P : X → Type 0) (n : ℕ) (x : X) → P x → Each P (replicate n x)
@@ -55,9 +55,9 @@ each_replicate P (suc n) x p = (p, each_replicate P n x p)
 
 module _ (C : Cluster) (H : Holdings) where
   wished_if : (b : ℕ) (urgency : Level) (t : Bool) (o : Option BlockInfo) → is_at urgency (level C H b) ≡ t
-      → Each (IsOfLevel C H) (if t then option_map_or (λ i. replicate (wished_count C H urgency i.repl b) (record { urgency = urgency; block = b })) o [] else [])
+      → Each (IsOfLevel C H) (if t then option_map_or (λ i. replicate (requested_count C H urgency i.repl b) (record { urgency = urgency; block = b })) o [] else [])
   wished_if b urgency true None e = tt
-  wished_if b urgency true (Some i) e = each_replicate (IsOfLevel C H) (wished_count C H urgency i.repl b) (record { urgency = urgency; block = b }) (at_level urgency (level C H b) e)
+  wished_if b urgency true (Some i) e = each_replicate (IsOfLevel C H) (requested_count C H urgency i.repl b) (record { urgency = urgency; block = b }) (at_level urgency (level C H b) e)
   wished_if b urgency false o e = tt
 
   wished_for : (urgency : Level) (b : ℕ) → Each (IsOfLevel C H) (wishes_for C H urgency b)
@@ -80,48 +80,48 @@ pub record IsChosenAfter (limits : RoundLimits) (C : Cluster) (H : Holdings) (fr
   pub known : get H.blocks t.block ≡ Some info
   pub stamp : t.stamp ≡ info.stamp
   pub source : least_source C front urgency (sources_of C H t.block) ≡ Some t.source
-  pub target : least_target C front urgency (holders_of C H front t.block) (barred_for H front t.block) info.stamp.len ≡ Some t.target
+  pub target : least_target C front urgency (holders_of C H front t.block) (excluded_for H front t.block) info.stamp.len ≡ Some t.target
 
 module _ (limits : RoundLimits) (C : Cluster) (H : Holdings) where
-  of_some : (front : List Transfer) (w : WishedCopy) (t : Transfer) → transfer_for limits C H front w ≡ Some t → IsOfLevel C H w → IsChosenAfter limits C H front t
+  of_some : (front : List Transfer) (w : RequestedCopy) (t : Transfer) → transfer_for limits C H front w ≡ Some t → IsOfLevel C H w → IsChosenAfter limits C H front t
   unfolding transfer_for
   of_some front w t is at =
       by_limit (nat_le (limits.work * len C.nodes) (length front)) refl (get H.blocks w.block) refl is
     where
       chosen : (i : BlockInfo) → length front < limits.work * len C.nodes → get H.blocks w.block ≡ Some i
-          → (s u : ℕ) → least_source C front w.urgency (sources_of C H w.block) ≡ Some s → least_target C front w.urgency (holders_of C H front w.block) (barred_for H front w.block) i.stamp.len ≡ Some u
+          → (s u : ℕ) → least_source C front w.urgency (sources_of C H w.block) ≡ Some s → least_target C front w.urgency (holders_of C H front w.block) (excluded_for H front w.block) i.stamp.len ≡ Some u
           → record { block = w.block; stamp = i.stamp; source = s; target = u } ≡ t → IsChosenAfter limits C H front t
       chosen i few known s u from to same =
           subst (IsChosenAfter limits C H front) same (record { few = few; urgency = w.urgency; at_level = at; info = i; known = known; stamp = refl; source = from; target = to })
 
       by_target : (i : BlockInfo) → length front < limits.work * len C.nodes → get H.blocks w.block ≡ Some i → (s : ℕ) → least_source C front w.urgency (sources_of C H w.block) ≡ Some s
-          → (o : Option ℕ) → least_target C front w.urgency (holders_of C H front w.block) (barred_for H front w.block) i.stamp.len ≡ o
+          → (o : Option ℕ) → least_target C front w.urgency (holders_of C H front w.block) (excluded_for H front w.block) i.stamp.len ≡ o
           → option_map (λ u. record { block = w.block; stamp = i.stamp; source = s; target = u }) o ≡ Some t → IsChosenAfter limits C H front t
       by_target i few known s from None to e = absurd (false≢true (ap is_some e))
       by_target i few known s from (Some u) to e = chosen i few known s u from to (same_Some (record { block = w.block; stamp = i.stamp; source = s; target = u }) t e)
 
       by_source : (i : BlockInfo) → length front < limits.work * len C.nodes → get H.blocks w.block ≡ Some i
           → (o : Option ℕ) → least_source C front w.urgency (sources_of C H w.block) ≡ o
-          → option_and_then (λ s. option_map (λ u. record { block = w.block; stamp = i.stamp; source = s; target = u }) (least_target C front w.urgency (holders_of C H front w.block) (barred_for H front w.block) i.stamp.len)) o ≡ Some t
+          → option_and_then (λ s. option_map (λ u. record { block = w.block; stamp = i.stamp; source = s; target = u }) (least_target C front w.urgency (holders_of C H front w.block) (excluded_for H front w.block) i.stamp.len)) o ≡ Some t
           → IsChosenAfter limits C H front t
       by_source i few known None from e = absurd (false≢true (ap is_some e))
-      by_source i few known (Some s) from e = by_target i few known s from (least_target C front w.urgency (holders_of C H front w.block) (barred_for H front w.block) i.stamp.len) refl e
+      by_source i few known (Some s) from e = by_target i few known s from (least_target C front w.urgency (holders_of C H front w.block) (excluded_for H front w.block) i.stamp.len) refl e
 
       by_limit : (full : Bool) → nat_le (limits.work * len C.nodes) (length front) ≡ full → (o : Option BlockInfo) → get H.blocks w.block ≡ o
           → (if full then None else option_and_then (λ i. option_and_then (λ s. option_map (λ u. record { block = w.block; stamp = i.stamp; source = s; target = u })
-          (least_target C front w.urgency (holders_of C H front w.block) (barred_for H front w.block) i.stamp.len)) (least_source C front w.urgency (sources_of C H w.block))) o) ≡ Some t
+          (least_target C front w.urgency (holders_of C H front w.block) (excluded_for H front w.block) i.stamp.len)) (least_source C front w.urgency (sources_of C H w.block))) o) ≡ Some t
           → IsChosenAfter limits C H front t
       by_limit true full o is e = absurd (false≢true (ap is_some e))
       by_limit false full None is e = absurd (false≢true (ap is_some e))
       by_limit false full (Some i) is e =
           by_source i (leb-false (limits.work * len C.nodes) (length front) full) is (least_source C front w.urgency (sources_of C H w.block)) refl e
 
-  pushed : (front : List Transfer) (w : WishedCopy) (o : Option Transfer) → transfer_for limits C H front w ≡ o → IsOfLevel C H w
+  pushed : (front : List Transfer) (w : RequestedCopy) (o : Option Transfer) → transfer_for limits C H front w ≡ o → IsOfLevel C H w
       → EachAfter (IsChosenAfter limits C H) [] front → EachAfter (IsChosenAfter limits C H) [] (front ++ option_to_list o)
   pushed front w None e at h = subst (EachAfter (IsChosenAfter limits C H) []) (sym (append-nil front)) h
   pushed front w (Some t) e at h = after_push (IsChosenAfter limits C H) [] front t h (of_some front w t e at)
 
-  chosen_from : (front : List Transfer) (ws : List WishedCopy) → Each (IsOfLevel C H) ws → EachAfter (IsChosenAfter limits C H) [] front
+  chosen_from : (front : List Transfer) (ws : List RequestedCopy) → Each (IsOfLevel C H) ws → EachAfter (IsChosenAfter limits C H) [] front
       → EachAfter (IsChosenAfter limits C H) [] (transfers_from limits C H front ws)
   chosen_from front [] at h = h
   chosen_from front (w ∷ ws) at h =

@@ -16,19 +16,19 @@ use Rattle.bm_base.specs.Maps.Map.{Map, Order, get, entries, keys}
 use Rattle.bm_base.specs.Machine.State.{RoundLimits, Cluster, Holdings, State, by_replica}
 use Rattle.bm_base.specs.Maps.Lists.{has}
 use Rattle.bm_base.specs.Machine.Replicas.{is_stray, is_corrupt, node_of, has_storage, has_enough_live}
-use Rattle.bm_base.specs.Machine.Excess.{begun, started, marked, without_expired, without_unordered_excess}
+use Rattle.bm_base.specs.Machine.Excess.{state_after_expiry, state_at_choice, with_surplus_marked, without_expired, without_unordered_excess}
 use Rattle.bm_base.specs.Machine.Deletes.{is_deletable, deletable_on, deletes_of, deletes}
 use Rattle.bm_base.specs.Promises.Lawful.{IsOrderly}
 use Rattle.bm_base.specs.Machine.Rounds.{whole_round, commands_of, node_commands, has_commands}
 use Rattle.bm_base.specs.Promises.NextRound.{IsAmong, IsDeleteCommanded, live_marked, transfers_chosen}
 use Rattle.laws_of_rounds.specs.Deletes.{IsToBeDeleted}
 use Rattle.std.proofs.lemmas.Option.{same_Some}
-use Rattle.bm_base.proofs.Listed.{same_again}
-use Rattle.bm_base.proofs.Maps.{same_key}
+use Rattle.bm_base.proofs.ListTests.{same_again}
+use Rattle.bm_base.proofs.MapEntries.{same_key}
 use Rattle.laws_of_rounds.proofs.Grouped.{deletes_on_node}
 use Rattle.bm_base.proofs.Sets.{has_keys}
-use Rattle.laws_of_states.proofs.Commanded.{chosen_deletes_of}
-use Rattle.laws_of_states.proofs.Kept.{marks_before}
+use Rattle.laws_of_states.proofs.RoundCommands.{chosen_deletes_of}
+use Rattle.laws_of_states.proofs.LiveAfterRound.{marks_before}
 use Rattle.laws_of_rounds.proofs.Sending.{storage_is}
 use Rattle.laws_of_rounds.proofs.Told.{no_cons, cons_head, cons_tail, among_cons, among_flat, among_map, among_filter, among_numbers, told_delete}
 use Rattle.bm_base.proofs.Options.{there}
@@ -81,16 +81,16 @@ deletable_if false false false false enough e (inl h) = h
 deletable_if false false false false enough e (inr (inl h)) = h
 deletable_if false false false false enough e (inr (inr h)) = h.0
 
-enough_is : (M : State) (b : ℕ) (i : BlockInfo) → get M.holdings.blocks b ≡ Some i → i.repl ≤ length (live_marked M b) → has_enough_live M.cluster (started M).holdings b ≡ true
-unfolding has_enough_live started begun marked without_expired without_unordered_excess
+enough_is : (M : State) (b : ℕ) (i : BlockInfo) → get M.holdings.blocks b ≡ Some i → i.repl ≤ length (live_marked M b) → has_enough_live M.cluster (state_at_choice M).holdings b ≡ true
+unfolding has_enough_live state_at_choice state_after_expiry with_surplus_marked without_expired without_unordered_excess
 enough_is M b i known h = ap (λ o. option_map_or (λ x. nat_le x.repl (length (live_marked M b))) o false) known ∙ le-leb i.repl (length (live_marked M b)) h
 
-deletable_is : (M : State) (q : ReplicaId) (m : Marks) → m.ordered ≡ false → IsToBeDeleted M q m → is_deletable M.cluster (started M).holdings q m ≡ true
+deletable_is : (M : State) (q : ReplicaId) (m : Marks) → m.ordered ≡ false → IsToBeDeleted M q m → is_deletable M.cluster (state_at_choice M).holdings q m ≡ true
 unfolding is_deletable
 deletable_is M q m unordered why =
-    deletable_if m.ordered (is_stray m.tag) m.excess (is_corrupt m.tag) (has_enough_live M.cluster (started M).holdings q.block) unordered (of_why why)
+    deletable_if m.ordered (is_stray m.tag) m.excess (is_corrupt m.tag) (has_enough_live M.cluster (state_at_choice M).holdings q.block) unordered (of_why why)
   where
-    of_why : IsToBeDeleted M q m → (is_stray m.tag ≡ true) ⊎ ((m.excess ≡ true) ⊎ ((is_corrupt m.tag ≡ true) × (has_enough_live M.cluster (started M).holdings q.block ≡ true)))
+    of_why : IsToBeDeleted M q m → (is_stray m.tag ≡ true) ⊎ ((m.excess ≡ true) ⊎ ((is_corrupt m.tag ≡ true) × (has_enough_live M.cluster (state_at_choice M).holdings q.block ≡ true)))
     of_why (inl h) = inl h
     of_why (inr (inl h)) = inr (inl h)
     of_why (inr (inr h)) = inr (inr (h.0, enough_is M q.block h.1.0 h.1.1 h.1.2))
@@ -138,9 +138,9 @@ full_node limits C H r ts n some alive long =
     )
 
 pub only_limit : (M : State) (q : ReplicaId) (m : Marks) (n : ℕ) → IsOrderly M → 1 ≤ M.limits.invalidate
-    → get (started M).holdings.replicas q ≡ Some m → m.ordered ≡ false → IsToBeDeleted M q m → node_of M.cluster q.storage ≡ Some n
+    → get (state_at_choice M).holdings.replicas q ≡ Some m → m.ordered ≡ false → IsToBeDeleted M q m → node_of M.cluster q.storage ≡ Some n
     → IsDeleteCommanded M q ⊎ ((k : NodeCommands) × IsAmong (whole_round M).0.nodes k × (k.node ≡ n) × (M.limits.invalidate ≤ length k.deletes))
-unfolding whole_round started begun node_of
+unfolding whole_round state_at_choice state_after_expiry node_of
 only_limit M q m n lawful some found unordered why on =
     let before = marks_before M q m found in
     let storage = there (get M.cluster.storages q.storage) (lawful.holdings.stored q (ap is_some before.1)) in
@@ -148,11 +148,11 @@ only_limit M q m n lawful some found unordered why on =
     let alive : has (keys M.cluster.nodes) n ≡ true =
     has_keys M.cluster.nodes n ∙ ap (λ z. is_some (get M.cluster.nodes z)) (sym node) ∙ lawful.cluster.alive q.storage storage.0 storage.1 in
     let here : has_storage M.cluster n q.storage ≡ true = storage_is M.cluster n q.storage on in
-    of_case alive here (of_node M.cluster (started M).holdings q m found (deletable_is M q m unordered why) M.limits n (has_keys M.cluster.storages q.storage ∙ ap is_some storage.1) here)
+    of_case alive here (of_node M.cluster (state_at_choice M).holdings q m found (deletable_is M q m unordered why) M.limits n (has_keys M.cluster.storages q.storage ∙ ap is_some storage.1) here)
   where
     of_case : has (keys M.cluster.nodes) n ≡ true → has_storage M.cluster n q.storage ≡ true
-        → IsAmong (deletes_of M.limits M.cluster (started M).holdings n) (delete_of q) ⊎ (M.limits.invalidate ≤ length (deletes_of M.limits M.cluster (started M).holdings n))
+        → IsAmong (deletes_of M.limits M.cluster (state_at_choice M).holdings n) (delete_of q) ⊎ (M.limits.invalidate ≤ length (deletes_of M.limits M.cluster (state_at_choice M).holdings n))
         → IsDeleteCommanded M q ⊎ ((k : NodeCommands) × IsAmong (whole_round M).0.nodes k × (k.node ≡ n) × (M.limits.invalidate ≤ length k.deletes))
     of_case alive here (inl at) =
-        inl (told_delete M.cluster (started M).round (transfers_chosen M) (chosen_deletes_of M) n (delete_of q) alive here (among_deletes M.limits M.cluster (started M).holdings n (delete_of q) alive at))
-    of_case alive here (inr long) = inr (full_node M.limits M.cluster (started M).holdings (started M).round (transfers_chosen M) n some alive long)
+        inl (told_delete M.cluster (state_at_choice M).round (transfers_chosen M) (chosen_deletes_of M) n (delete_of q) alive here (among_deletes M.limits M.cluster (state_at_choice M).holdings n (delete_of q) alive at))
+    of_case alive here (inr long) = inr (full_node M.limits M.cluster (state_at_choice M).holdings (state_at_choice M).round (transfers_chosen M) n some alive long)

@@ -17,18 +17,18 @@ use Rattle.bm_base.specs.Maps.Map.{get, entries}
 use Rattle.bm_base.specs.Machine.State.{Cluster, Holdings, State, replica_at}
 use Rattle.bm_base.specs.Maps.Lists.{has}
 use Rattle.bm_base.specs.Machine.Replicas.{live, drained, sources_of, is_usable, is_drained_on, is_draining, drains, has_storage, node_of, storages_where}
-use Rattle.bm_base.specs.Machine.Excess.{begun, started, marked, excess_in}
-use Rattle.bm_base.specs.Machine.Rounds.{finished, is_commanded, whole_round}
+use Rattle.bm_base.specs.Machine.Excess.{state_after_expiry, state_at_choice, with_surplus_marked, excess_in}
+use Rattle.bm_base.specs.Machine.Rounds.{end_round, is_commanded, whole_round}
 use Rattle.bm_base.specs.Machine.Transfers.{stream_limit, streams_from, node_number, source_rank, source_cmp, least_source_by, least_source}
 use Rattle.bm_base.specs.Promises.NextRound.{IsTransferCommanded, transfers_chosen, unmarked, drained_unmarked, drained_marked, drained_after}
-use Rattle.bm_base.proofs.Listed.{has_filter, or_right, and_first, filter_append}
-use Rattle.bm_base.proofs.Stands.{revised_where, has_where}
+use Rattle.bm_base.proofs.ListTests.{has_filter, or_right, and_first, filter_append}
+use Rattle.bm_base.proofs.Membership.{revised_where, has_where}
 use Rattle.laws_of_rounds.proofs.Usable.{sources_are}
-use Rattle.laws_of_states.proofs.Lively.{drained_is}
+use Rattle.laws_of_states.proofs.LiveReplicas.{drained_is}
 use Rattle.laws_of_rounds.proofs.Racked.{least_below}
-use Rattle.laws_of_states.proofs.Commanded.{IsTested, deleted_is}
-use Rattle.laws_of_states.proofs.Marked.{marked_in, ordered_by, ordered_usable, unordered_dropped}
-use Rattle.laws_of_states.proofs.Kept.{surplus_of, marks_before, deleted_marks, live_is_kept, weaker_kind}
+use Rattle.laws_of_states.proofs.RoundCommands.{IsTested, deleted_is}
+use Rattle.laws_of_states.proofs.MarkedReplicas.{marked_in, ordered_by, ordered_usable, unordered_dropped}
+use Rattle.laws_of_states.proofs.LiveAfterRound.{surplus_of, marks_before, deleted_marks, live_is_kept, weaker_kind}
 use Rattle.laws_of_rounds.proofs.Reasons.{surplus_live, live_before_is}
 use Rattle.laws_of_rounds.proofs.Sending.{chosen_at, four_at_most, storage_is, streams_of_node, fresh_node}
 use Rattle.laws_of_rounds.proofs.Later.{commanded_chosen}
@@ -43,7 +43,7 @@ dropped_both : (o : Bool) (m : Marks) → m.ordered ≡ o → (if o then m else 
 dropped_both true m is e = (e, is)
 dropped_both false m is e = absurd (false≢true e)
 
-pub none_marked : (M : State) (q : ReplicaId) (n : Marks) → is_draining M.cluster q.storage ≡ true → get (started M).holdings.replicas q ≡ Some n → n.excess ≡ true
+pub none_marked : (M : State) (q : ReplicaId) (n : Marks) → is_draining M.cluster q.storage ≡ true → get (state_at_choice M).holdings.replicas q ≡ Some n → n.excess ≡ true
     → (m : Marks) × (get M.holdings.replicas q ≡ Some m) × (m.excess ≡ true) × (m.ordered ≡ true)
 none_marked M q n drains found excess =
     let was = marks_before M q n found in
@@ -67,22 +67,22 @@ unmoved true d m off = both_false (is_usable (record m { excess = true })) (is_u
     both_false false true e is = sym is
     both_false false false e is = refl
 
-drained_marking : (C : Cluster) (H : Holdings) (b : ℕ) → ((k s : ℕ) → has (excess_in C H k) s ≡ true → is_draining C s ≡ false) → drained C (marked C H) b ≡ drained C H b
-unfolding storages_where marked
+drained_marking : (C : Cluster) (H : Holdings) (b : ℕ) → ((k s : ℕ) → has (excess_in C H k) s ≡ true → is_draining C s ≡ false) → drained C (with_surplus_marked C H) b ≡ drained C H b
+unfolding storages_where with_surplus_marked
 drained_marking C H b off =
     revised_where (is_drained_on C) H b (λ q m. marked_in (excess_in C H q.block) q.storage m)
     ∙ ap (λ (p : ReplicaId × Marks → Bool). map (λ (e : ReplicaId × Marks). e.0.storage) (filter p (entries H.replicas)))
     (λ i e. (e.0.block == b) && unmoved (has (excess_in C H e.0.block) e.0.storage) (is_draining C e.0.storage) e.1 (off e.0.block e.0.storage) i)
 
-drained_finished : (C : Cluster) (r : ℕ) (H : Holdings) (ts : List Transfer) (ds : List Delete) (b : ℕ) → drained C (finished r H ts ds) b ≡ drained C H b
-unfolding storages_where finished
+drained_finished : (C : Cluster) (r : ℕ) (H : Holdings) (ts : List Transfer) (ds : List Delete) (b : ℕ) → drained C (end_round r H ts ds) b ≡ drained C H b
+unfolding storages_where end_round
 drained_finished C r H ts ds b =
     revised_where (is_drained_on C) H b (λ q m. ordered_by ds q m)
     ∙ ap (λ (p : ReplicaId × Marks → Bool). map (λ (e : ReplicaId × Marks). e.0.storage) (filter p (entries H.replicas)))
     (λ i e. (e.0.block == b) && (ordered_usable (is_commanded ds e.0) e.1 i && is_draining C e.0.storage))
 
 drained_as_marked : (M : State) (b : ℕ) → drained_marked M b ≡ drained_unmarked M b
-unfolding started begun
+unfolding state_at_choice state_after_expiry
 drained_as_marked M b = drained_marking M.cluster (unmarked M).holdings b (surplus_stays_off M)
 
 drained_as_ended : (M : State) (b : ℕ) → drained_after M b ≡ drained_marked M b
@@ -98,7 +98,7 @@ drained_kept M b t there h =
     let is = deleted_is M (replica_at b t) h in
     let marks = deleted_marks M (replica_at b t) is.0 is.2 in
     let mark : is_drained_on M.cluster t is.0 ≡ true =
-    sym (ap (λ o. option_map_or (is_drained_on M.cluster t) o false) is.1) ∙ sym (has_where (is_drained_on M.cluster) (started M).holdings b t) ∙ sym (ap (λ xs. has xs t) (drained_as_ended M b)) ∙ there in
+    sym (ap (λ o. option_map_or (is_drained_on M.cluster t) o false) is.1) ∙ sym (has_where (is_drained_on M.cluster) (state_at_choice M).holdings b t) ∙ sym (ap (λ xs. has xs t) (drained_as_ended M b)) ∙ there in
     live_is_kept is.0.tag is.0.excess (and_first (is_usable is.0) (is_draining M.cluster t) mark) (weaker_kind is.0 _ marks.1)
 
 -- Sources.
@@ -142,7 +142,7 @@ drained_first M front back t is s n there at =
   where
     by_limit : (few : Bool) → nat_lt (streams_from M.cluster front s) 4 ≡ few → (is_draining M.cluster t.source ≡ true) ⊎ (count_by (λ (u : Transfer). has_storage M.cluster n u.source) front ≡ 4)
     by_limit true e =
-        let H : Holdings = (started M).holdings in
+        let H : Holdings = (state_at_choice M).holdings in
         let why = chosen_at M front back t is in
         inl
         (drained_least M.cluster front why.urgency (sources_of M.cluster H t.block) s t.source why.source

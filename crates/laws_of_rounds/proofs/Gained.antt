@@ -17,13 +17,13 @@ use Rattle.bm_base.specs.Maps.Map.{get}
 use Rattle.bm_base.specs.Machine.State.{Cluster, State, by_replica, replica_cmp, replica_at}
 use Rattle.bm_base.specs.Maps.Lists.{has, has_repeats}
 use Rattle.bm_base.specs.Machine.Replicas.{is_usable, is_draining, node_of}
-use Rattle.bm_base.specs.Machine.Events.{replaces, entered}
+use Rattle.bm_base.specs.Machine.Events.{replaces, entered_marks}
 use Rattle.bm_base.specs.Machine.Calls.{after_event}
 use Rattle.bm_base.specs.Promises.NextRound.{IsAmong, IsTransferCommanded, transfers_commanded, deletes_commanded, transfers_commanded, after_round, live_after}
 use Rattle.bm_base.proofs.Options.{staying}
-use Rattle.bm_base.proofs.Each.{Each, each_all, each_then, each_any, each_appended, each_mapped}
-use Rattle.bm_base.proofs.Maps.{same_key}
-use Rattle.bm_base.proofs.Listed.{or_left, or_right, same_again, has_filter, once_filter, any_map, any_filter, and_first, and_second}
+use Rattle.bm_base.proofs.ForEach.{Each, each_all, each_then, each_any, each_appended, each_mapped}
+use Rattle.bm_base.proofs.MapEntries.{same_key}
+use Rattle.bm_base.proofs.ListTests.{or_left, or_right, same_again, has_filter, once_filter, any_map, any_filter, and_first, and_second}
 use Rattle.laws_of_states.proofs.Surpluses.{others, others_fewer}
 use Rattle.laws_of_rounds.specs.Obedience.{copies_commanded}
 use Rattle.laws_of_rounds.specs.Obedience.{copied, erased, Obeys, ObeysAll, after_obeying, live_obeying, as_listed}
@@ -117,7 +117,7 @@ step_copies M N e h (inl c) =
     (beside_copy M N h.0 c.0, λ q there. by_tie q (eq_by_cmp replica_cmp q (replica_at c.0.block c.0.target)) refl (sym (ap (λ o. option_map_or is_usable o false) (get_copied M N h.0 c.0 c.1 q)) ∙ there))
   where
     by_tie : (q : ReplicaId) (b : Bool) → eq_by_cmp replica_cmp q (replica_at c.0.block c.0.target) ≡ b
-        → option_map_or is_usable (cond b (Some (entered N.holdings (replica_at c.0.block c.0.target) c.0.stamp)) (staying (not (replaces N.cluster (replica_at c.0.block c.0.target) q)) (get N.holdings.replicas q))) false ≡ true
+        → option_map_or is_usable (cond b (Some (entered_marks N.holdings (replica_at c.0.block c.0.target) c.0.stamp)) (staying (not (replaces N.cluster (replica_at c.0.block c.0.target) q)) (get N.holdings.replicas q))) false ≡ true
         → IsUsable (after_round M).holdings q ⊎ IsCopy M q
     by_tie q true tie there = inr (c.0, c.1, same_key by_replica q (replica_at c.0.block c.0.target) tie)
     by_tie q false tie there = h.1 q (stayed (not (replaces N.cluster (replica_at c.0.block c.0.target) q)) (get N.holdings.replicas q) there)

@@ -12,11 +12,11 @@ use Rattle.bm_base.specs.Maps.Map.{entries, keys}
 use Rattle.bm_base.specs.Machine.State.{RoundLimits, Cluster, Holdings, State}
 use Rattle.bm_base.specs.Maps.Lists.{has, has_repeats}
 use Rattle.bm_base.specs.Machine.Replicas.{has_storage, node_of}
-use Rattle.bm_base.specs.Machine.Excess.{begun, started}
+use Rattle.bm_base.specs.Machine.Excess.{state_after_expiry, state_at_choice}
 use Rattle.bm_base.specs.Machine.Deletes.{is_deletable, deletable_on, deletes_of, deletes}
 use Rattle.bm_base.specs.Machine.Rounds.{whole_round, commands_of, node_commands, has_commands}
-use Rattle.bm_base.proofs.Each.{Each, each_of, each_take, each_mapped, each_filter_by, each_then, each_flat_map}
-use Rattle.bm_base.proofs.Listed.{filter_append, length_take-le, same_again}
+use Rattle.bm_base.proofs.ForEach.{Each, each_of, each_take, each_mapped, each_filter_by, each_then, each_flat_map}
+use Rattle.bm_base.proofs.ListTests.{filter_append, length_take-le, same_again}
 use Rattle.bm_base.proofs.OneWish.{once_keys}
 
 -- Groups.
@@ -119,7 +119,7 @@ unfolding node_commands
 few_commanded limits C H ts n = few_on_node limits C H n
 
 pub few_a_node : (M : State) → All (λ (k : NodeCommands). length k.deletes ≤ M.limits.invalidate) (whole_round M).0.nodes
-unfolding whole_round started begun
+unfolding whole_round state_at_choice state_after_expiry
 few_a_node M =
     all_of_each (λ (k : NodeCommands). length k.deletes ≤ M.limits.invalidate) (whole_round M).0.nodes
     (each_node M.cluster _ _ _ (λ k. length k.deletes ≤ M.limits.invalidate) (few_commanded M.limits M.cluster _ _))

@@ -11,19 +11,19 @@ use Rattle.bm_base.specs.declared.commands.Delete.{Delete}
 use Rattle.bm_base.specs.Maps.Map.{Map, get, insert, insert_all}
 use Rattle.bm_base.specs.Machine.State.{Holdings, State, by_replica, replica_cmp, replica_at}
 use Rattle.bm_base.specs.Machine.Replicas.{node_of}
-use Rattle.bm_base.specs.Machine.Excess.{begun, started, marked, without_expired, without_unordered_excess}
-use Rattle.bm_base.specs.Machine.Rounds.{finished, is_commanded, whole_round}
+use Rattle.bm_base.specs.Machine.Excess.{state_after_expiry, state_at_choice, with_surplus_marked, without_expired, without_unordered_excess}
+use Rattle.bm_base.specs.Machine.Rounds.{end_round, is_commanded, whole_round}
 use Rattle.bm_base.proofs.MapLaws.{get-keep, get-insert}
 use Rattle.bm_base.proofs.Ties.{replica_tie}
 use Rattle.bm_base.specs.Promises.NextRound.{IsTransferCommanded, IsAmong, deletes_commanded, transfers_commanded, transfers_chosen, after_round}
 use Rattle.laws_of_rounds.specs.Rounds.{after_rounds}
-use Rattle.bm_base.proofs.Each.{Each, each_any, each_then}
-use Rattle.bm_base.proofs.Listed.{or_left, or_right, same_again}
-use Rattle.bm_base.proofs.Maps.{same_key}
-use Rattle.laws_of_states.proofs.Commanded.{IsTested, chosen_deletes_of, each_delete, each_transfer, at_same}
-use Rattle.laws_of_states.proofs.Kept.{marks_started, remarked, remarked_ordered, surplus_of}
+use Rattle.bm_base.proofs.ForEach.{Each, each_any, each_then}
+use Rattle.bm_base.proofs.ListTests.{or_left, or_right, same_again}
+use Rattle.bm_base.proofs.MapEntries.{same_key}
+use Rattle.laws_of_states.proofs.RoundCommands.{IsTested, chosen_deletes_of, each_delete, each_transfer, at_same}
+use Rattle.laws_of_states.proofs.LiveAfterRound.{marks_started, remarked, remarked_ordered, surplus_of}
 use Rattle.bm_base.proofs.Options.{revised}
-use Rattle.laws_of_states.proofs.Marked.{ordered_by}
+use Rattle.laws_of_states.proofs.MarkedReplicas.{ordered_by}
 use Rattle.laws_of_states.proofs.AfterRound.{marks_after}
 use Rattle.laws_of_rounds.proofs.Reasons.{not_ordered}
 use Rattle.laws_of_rounds.proofs.Sending.{fresh_node}
@@ -87,12 +87,12 @@ ordered_still false m e = e
 
 pub ordered_by_round : (M : State) (q : ReplicaId) → IsTested M q → IsOrdered (after_round M) q
 ordered_by_round M q h m e =
-    let was = revised (ordered_by (chosen_deletes_of M) q) (get (started M).holdings.replicas q) m (sym (marks_after M q) ∙ e) in
+    let was = revised (ordered_by (chosen_deletes_of M) q) (get (state_at_choice M).holdings.replicas q) m (sym (marks_after M q) ∙ e) in
     ap (λ x. x.ordered) (sym was.2) ∙ ordered_now (is_commanded (chosen_deletes_of M) q) was.0 (delete_chosen M q h)
 
 pub ordered_stays : (M : State) (q : ReplicaId) → IsOrdered M q → IsOrdered (after_round M) q
 ordered_stays M q h m e =
-    let was = revised (ordered_by (chosen_deletes_of M) q) (get (started M).holdings.replicas q) m (sym (marks_after M q) ∙ e) in
+    let was = revised (ordered_by (chosen_deletes_of M) q) (get (state_at_choice M).holdings.replicas q) m (sym (marks_after M q) ∙ e) in
     let first = revised (remarked (surplus_of M q.block) q.storage) (get M.holdings.replicas q) was.0 (sym (marks_started M q) ∙ was.1) in
     ap (λ x. x.ordered) (sym was.2)
     ∙ ordered_still (is_commanded (chosen_deletes_of M) q) was.0 (ap (λ x. x.ordered) (sym first.2) ∙ remarked_ordered (surplus_of M q.block) q.storage first.0 ∙ h first.0 first.1)
@@ -127,17 +127,17 @@ get_commanded (t ∷ ts) r m q =
     ∙ one_of (eq_by_cmp replica_cmp q (key_of t)) (list_any (λ u. eq_by_cmp replica_cmp q (key_of u)) ts) r (get m q)
 
 pending_finished : (r : ℕ) (H : Holdings) (ts : List Transfer) (ds : List Delete) (q : ReplicaId)
-    → get (finished r H ts ds).pending q ≡ cond (list_any (λ t. eq_by_cmp replica_cmp q (key_of t)) ts) (Some r) (get H.pending q)
-unfolding finished
+    → get (end_round r H ts ds).pending q ≡ cond (list_any (λ t. eq_by_cmp replica_cmp q (key_of t)) ts) (Some r) (get H.pending q)
+unfolding end_round
 pending_finished r H ts ds q = get_commanded ts r H.pending q
 
 pending_after : (M : State) (q : ReplicaId)
-    → get (after_round M).holdings.pending q ≡ cond (list_any (λ t. eq_by_cmp replica_cmp q (key_of t)) (transfers_chosen M)) (Some (M.round + 1)) (get (started M).holdings.pending q)
-unfolding whole_round started begun
-pending_after M q = pending_finished (M.round + 1) (started M).holdings (transfers_chosen M) (chosen_deletes_of M) q
+    → get (after_round M).holdings.pending q ≡ cond (list_any (λ t. eq_by_cmp replica_cmp q (key_of t)) (transfers_chosen M)) (Some (M.round + 1)) (get (state_at_choice M).holdings.pending q)
+unfolding whole_round state_at_choice state_after_expiry
+pending_after M q = pending_finished (M.round + 1) (state_at_choice M).holdings (transfers_chosen M) (chosen_deletes_of M) q
 
-pending_started : (M : State) (q : ReplicaId) (r : ℕ) → get M.holdings.pending q ≡ Some r → (M.round + 1) - r < M.limits.pend → get (started M).holdings.pending q ≡ Some r
-unfolding started begun marked without_expired without_unordered_excess
+pending_started : (M : State) (q : ReplicaId) (r : ℕ) → get M.holdings.pending q ≡ Some r → (M.round + 1) - r < M.limits.pend → get (state_at_choice M).holdings.pending q ≡ Some r
+unfolding state_at_choice state_after_expiry with_surplus_marked without_expired without_unordered_excess
 pending_started M q r e young =
     get-keep M.holdings.pending (λ _ t. not (nat_le M.limits.pend ((M.round + 1) - t))) q
     ∙ ap (option_and_then (λ t. cond (not (nat_le M.limits.pend ((M.round + 1) - t))) (Some t) None)) e
@@ -153,7 +153,7 @@ replica_again k = replica_tie k k ∙ ap (λ b. b && (k.storage == k.storage)) (
 pub pending_now : (M : State) (t : Transfer) → IsAmong (transfers_chosen M) t → get (after_round M).holdings.pending (key_of t) ≡ Some (M.round + 1)
 pending_now M t at =
     pending_after M (key_of t)
-    ∙ ap (λ b. cond b (Some (M.round + 1)) (get (started M).holdings.pending (key_of t)))
+    ∙ ap (λ b. cond b (Some (M.round + 1)) (get (state_at_choice M).holdings.pending (key_of t)))
     (ap (list_any (λ u. eq_by_cmp replica_cmp (key_of t) (key_of u))) at.2 ∙ any_among (λ u. eq_by_cmp replica_cmp (key_of t) (key_of u)) at.0 at.1 t (replica_again (key_of t)))
 
 -- while a transfer is pending, no transfer of its block is chosen to its target's node
@@ -161,7 +161,7 @@ pub none_chosen : (M : State) (q : ReplicaId) (r : ℕ) (u : Transfer) → get M
     → u.block ≡ q.block → node_of M.cluster q.storage ≡ node_of M.cluster u.target → ⊥
 none_chosen M q r u e young at same node =
     let fresh = fresh_node M at.0 at.1 u at.2 in
-    fresh.none_pending q.storage (ap is_some (ap (λ b. get (started M).holdings.pending (replica_at b q.storage)) same ∙ pending_started M q r e young)) node
+    fresh.none_pending q.storage (ap is_some (ap (λ b. get (state_at_choice M).holdings.pending (replica_at b q.storage)) same ∙ pending_started M q r e young)) node
 
 pub any_chosen : {X : Type 0} (p : X → Bool) (xs : List X) → list_any p xs ≡ true → (x : X) × IsAmong xs x × (p x ≡ true)
 any_chosen p xs e = each_any (IsAmong xs) p xs (each_among xs) e
@@ -169,7 +169,7 @@ any_chosen p xs e = each_any (IsAmong xs) p xs (each_among xs) e
 pub pending_stays : (M : State) (q : ReplicaId) (r : ℕ) → get M.holdings.pending q ≡ Some r → (M.round + 1) - r < M.limits.pend → get (after_round M).holdings.pending q ≡ Some r
 pending_stays M q r e young = pending_after M q ∙ by_any (list_any (λ t. eq_by_cmp replica_cmp q (key_of t)) (transfers_chosen M)) refl
   where
-    by_any : (b : Bool) → list_any (λ t. eq_by_cmp replica_cmp q (key_of t)) (transfers_chosen M) ≡ b → cond b (Some (M.round + 1)) (get (started M).holdings.pending q) ≡ Some r
+    by_any : (b : Bool) → list_any (λ t. eq_by_cmp replica_cmp q (key_of t)) (transfers_chosen M) ≡ b → cond b (Some (M.round + 1)) (get (state_at_choice M).holdings.pending q) ≡ Some r
     by_any true f =
         let one = any_chosen (λ t. eq_by_cmp replica_cmp q (key_of t)) (transfers_chosen M) f in
         let is : q ≡ key_of one.0 = same_key by_replica q (key_of one.0) one.2 in
@@ -179,15 +179,15 @@ pending_stays M q r e young = pending_after M q ∙ by_any (list_any (λ t. eq_b
 -- Rounds keep the cluster and the limits, and are counted.
 
 cluster_kept : (M : State) → (after_round M).cluster ≡ M.cluster
-unfolding whole_round started begun
+unfolding whole_round state_at_choice state_after_expiry
 cluster_kept M = refl
 
 limits_kept : (M : State) → (after_round M).limits ≡ M.limits
-unfolding whole_round started begun
+unfolding whole_round state_at_choice state_after_expiry
 limits_kept M = refl
 
 round_counted : (M : State) → (after_round M).round ≡ M.round + 1
-unfolding whole_round started begun
+unfolding whole_round state_at_choice state_after_expiry
 round_counted M = refl
 
 same_cluster : (n : ℕ) (M : State) → (after_rounds n M).cluster ≡ M.cluster

@@ -15,7 +15,7 @@ use Rattle.bm_base.specs.Maps.Lists.{has}
 use Rattle.bm_base.proofs.MapLaws.{get-revise}
 use Rattle.bm_base.proofs.Ties.{number_tie}
 use Rattle.laws_of_rounds.specs.Levels.{need}
-use Rattle.bm_base.proofs.Listed.{same_again, has_filter}
+use Rattle.bm_base.proofs.ListTests.{same_again, has_filter}
 
 pub more_wanted : (n d repl more rs : ℕ) (multi : Bool) → repl ≤ more → need (level_of n d repl rs multi) ≤ need (level_of n d more rs multi)
 unfolding level_of

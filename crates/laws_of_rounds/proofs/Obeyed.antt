@@ -16,9 +16,9 @@ use Rattle.bm_base.specs.Machine.Events.{replaces}
 use Rattle.bm_base.specs.Machine.Calls.{after_event}
 use Rattle.bm_base.specs.Promises.NextRound.{IsAmong, IsTransferCommanded, after_round}
 use Rattle.bm_base.proofs.Options.{is_there}
-use Rattle.bm_base.proofs.Each.{Each}
-use Rattle.bm_base.proofs.Listed.{same_again}
-use Rattle.laws_of_states.proofs.Tested.{tested}
+use Rattle.bm_base.proofs.ForEach.{Each}
+use Rattle.bm_base.proofs.ListTests.{same_again}
+use Rattle.laws_of_states.proofs.CommandedDeletes.{tested}
 use Rattle.laws_of_rounds.specs.Obedience.{copied, Obeys, after_events, after_obeying, live_obeying}
 use Rattle.laws_of_rounds.proofs.Reasons.{not_ordered}
 use Rattle.laws_of_rounds.proofs.Sending.{fresh_node}

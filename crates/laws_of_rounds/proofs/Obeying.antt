@@ -17,20 +17,20 @@ use Rattle.bm_base.specs.declared.commands.Delete.{Delete}
 use Rattle.bm_base.specs.Maps.Map.{get}
 use Rattle.bm_base.specs.Machine.State.{Cluster, Holdings, State, by_replica, replica_cmp, replica_at}
 use Rattle.bm_base.specs.Maps.Lists.{has}
-use Rattle.bm_base.specs.Machine.Replicas.{live, is_good, is_bad, is_usable, is_live_on, node_of, has_storage, is_draining, are_sisters}
-use Rattle.bm_base.specs.Machine.Events.{same_stamp, was_bad, was_excess, entered_tag, entered, replaces, enter, remove_replica, change_cluster, change_holdings}
+use Rattle.bm_base.specs.Machine.Replicas.{live, is_good, is_bad, is_usable, is_live_on, node_of, has_storage, is_draining, are_siblings}
+use Rattle.bm_base.specs.Machine.Events.{same_stamp, was_bad, was_excess, entered_tag, entered_marks, replaces, enter, remove_replica, change_cluster, change_holdings}
 use Rattle.bm_base.specs.Machine.Calls.{after_event}
 use Rattle.bm_base.specs.Promises.NextRound.{IsAmong, IsDeleteCommanded, IsTransferCommanded, deletes_commanded, after_round, live_after}
 use Rattle.bm_base.proofs.Options.{is_there, revised, not_passed, not_failed, staying, all_stays}
-use Rattle.bm_base.proofs.Each.{Each}
+use Rattle.bm_base.proofs.ForEach.{Each}
 use Rattle.bm_base.proofs.MapLaws.{get-insert, get-keep, get-remove}
-use Rattle.bm_base.proofs.Maps.{same_key, key_itself, not_tied}
-use Rattle.bm_base.proofs.Listed.{same_again}
-use Rattle.bm_base.proofs.Stands.{has_where}
-use Rattle.laws_of_states.proofs.Lively.{live_is}
-use Rattle.laws_of_states.proofs.Kept.{live_stays}
+use Rattle.bm_base.proofs.MapEntries.{same_key, key_itself, not_tied}
+use Rattle.bm_base.proofs.ListTests.{same_again}
+use Rattle.bm_base.proofs.Membership.{has_where}
+use Rattle.laws_of_states.proofs.LiveReplicas.{live_is}
+use Rattle.laws_of_states.proofs.LiveAfterRound.{live_stays}
 use Rattle.laws_of_states.proofs.AfterRound.{same_tag}
-use Rattle.laws_of_states.proofs.Tested.{tested}
+use Rattle.laws_of_states.proofs.CommandedDeletes.{tested}
 use Rattle.laws_of_rounds.specs.Obedience.{copied, erased, Obeys, after_events, after_obeying, live_obeying}
 use Rattle.laws_of_rounds.proofs.Sending.{fresh_node, source_usable, node_is}
 use Rattle.laws_of_rounds.proofs.Later.{commanded_chosen}
@@ -80,8 +80,8 @@ module _ (H : Holdings) (p : ReplicaId) (stamp : Stamp) (i : BlockInfo) (known :
       ∙ ap (λ b. if b then Bad else if same_stamp stamp i.stamp then Good else Stale) not_bad
       ∙ ap (λ b. if b then Good else Stale) (ap (same_stamp stamp) (sym same) ∙ same_as_itself stamp)
 
-  entered_usable : is_usable (entered H p stamp) ≡ true
-  unfolding entered
+  entered_usable : is_usable (entered_marks H p stamp) ≡ true
+  unfolding entered_marks
   entered_usable = ap (λ t. is_good t && not (is_good t && was_excess H p)) tag_is_good ∙ ap not not_excess
 
 -- Replicas that a copy replaces.
@@ -91,18 +91,18 @@ on_one_node C s t None at e = absurd (false≢true e)
 on_one_node C s t (Some n) at e = node_is C n t e ∙ sym at
 
 pub replaced_is : (C : Cluster) (p q : ReplicaId) → replaces C p q ≡ true → ((q.block == p.block) ≡ true) × (node_of C q.storage ≡ node_of C p.storage) × ((q.storage == p.storage) ≡ false)
-unfolding replaces are_sisters
+unfolding replaces are_siblings
 replaced_is C p q e =
-    let is = and_parts (q.block == p.block) (are_sisters C p.storage q.storage) e in
+    let is = and_parts (q.block == p.block) (are_siblings C p.storage q.storage) e in
     let sisters = and_parts (not (q.storage == p.storage)) (option_map_or (λ n. has_storage C n q.storage) (node_of C p.storage) false) is.1 in
     (is.0, on_one_node C p.storage q.storage (node_of C p.storage) refl sisters.1, not_passed (q.storage == p.storage) sisters.0)
 
 -- Steps.
 
 get_entered : (C : Cluster) (H : Holdings) (p : ReplicaId) (stamp : Stamp) (q : ReplicaId)
-    → get (enter C H p stamp).replicas q ≡ cond (eq_by_cmp replica_cmp q p) (Some (entered H p stamp)) (staying (not (replaces C p q)) (get H.replicas q))
+    → get (enter C H p stamp).replicas q ≡ cond (eq_by_cmp replica_cmp q p) (Some (entered_marks H p stamp)) (staying (not (replaces C p q)) (get H.replicas q))
 unfolding enter
-get_entered C H p stamp q = get-insert _ p (entered H p stamp) q ∙ ap (cond (eq_by_cmp replica_cmp q p) (Some (entered H p stamp))) (get-keep H.replicas (λ r _. not (replaces C p r)) q)
+get_entered C H p stamp q = get-insert _ p (entered_marks H p stamp) q ∙ ap (cond (eq_by_cmp replica_cmp q p) (Some (entered_marks H p stamp))) (get-keep H.replicas (λ r _. not (replaces C p r)) q)
 
 get_erased : (H : Holdings) (p q : ReplicaId) → get (remove_replica H p).replicas q ≡ cond (eq_by_cmp replica_cmp q p) None (get H.replicas q)
 unfolding remove_replica
@@ -152,20 +152,20 @@ module _ (M N : State) (beside : IsBeside M N) where
     abbrev key : ReplicaId
     key = replica_at t.block t.target
 
-    copy_usable : IsUnspoilt N.holdings key → is_usable (entered N.holdings key t.stamp) ≡ true
+    copy_usable : IsUnspoilt N.holdings key → is_usable (entered_marks N.holdings key t.stamp) ≡ true
     copy_usable clean =
         let is = stamp_known M t h in
         entered_usable N.holdings key t.stamp is.0 (ap (λ m. get m t.block) beside.blocks ∙ is.1) is.2 clean
 
     pub get_copied : (q : ReplicaId) → get (after_event N (copied t)).holdings.replicas q
-        ≡ cond (eq_by_cmp replica_cmp q key) (Some (entered N.holdings key t.stamp)) (staying (not (replaces N.cluster key q)) (get N.holdings.replicas q))
+        ≡ cond (eq_by_cmp replica_cmp q key) (Some (entered_marks N.holdings key t.stamp)) (staying (not (replaces N.cluster key q)) (get N.holdings.replicas q))
     get_copied q = ap (λ (G : Holdings). get G.replicas q) (after_copy N t) ∙ get_entered N.cluster N.holdings key t.stamp q
 
     copy_unspoilt : (q : ReplicaId) → IsUnspoilt N.holdings q → IsUnspoilt (after_event N (copied t)).holdings q
     copy_unspoilt q clean = ap (λ o. option_map_or is_usable o true) (get_copied q) ∙ by_tie (eq_by_cmp replica_cmp q key) refl
       where
         by_tie : (b : Bool) → eq_by_cmp replica_cmp q key ≡ b
-            → option_map_or is_usable (cond b (Some (entered N.holdings key t.stamp)) (staying (not (replaces N.cluster key q)) (get N.holdings.replicas q))) true ≡ true
+            → option_map_or is_usable (cond b (Some (entered_marks N.holdings key t.stamp)) (staying (not (replaces N.cluster key q)) (get N.holdings.replicas q))) true ≡ true
         by_tie true tie = copy_usable (subst (IsUnspoilt N.holdings) (same_key by_replica q key tie) clean)
         by_tie false tie = thinned (not (replaces N.cluster key q)) (get N.holdings.replicas q) clean
 
@@ -173,7 +173,7 @@ module _ (M N : State) (beside : IsBeside M N) where
     copy_keeps q safe there = ap (λ o. option_map_or is_usable o false) (get_copied q) ∙ by_tie (eq_by_cmp replica_cmp q key) refl
       where
         by_tie : (b : Bool) → eq_by_cmp replica_cmp q key ≡ b
-            → option_map_or is_usable (cond b (Some (entered N.holdings key t.stamp)) (staying (not (replaces N.cluster key q)) (get N.holdings.replicas q))) false ≡ true
+            → option_map_or is_usable (cond b (Some (entered_marks N.holdings key t.stamp)) (staying (not (replaces N.cluster key q)) (get N.holdings.replicas q))) false ≡ true
         by_tie true tie = copy_usable (subst (IsUnspoilt N.holdings) (same_key by_replica q key tie) (unspoilt (get N.holdings.replicas q) there))
         by_tie false tie =
             ap (λ o. option_map_or is_usable o false) (all_stays (not (replaces N.cluster key q)) (get N.holdings.replicas q)
@@ -182,7 +182,7 @@ module _ (M N : State) (beside : IsBeside M N) where
     pub copy_arrives : IsUnspoilt N.holdings key → IsUsable (after_event N (copied t)).holdings key
     copy_arrives clean =
         ap (λ o. option_map_or is_usable o false)
-        (get_copied key ∙ ap (λ b. cond b (Some (entered N.holdings key t.stamp)) (staying (not (replaces N.cluster key key)) (get N.holdings.replicas key))) (key_itself by_replica key))
+        (get_copied key ∙ ap (λ b. cond b (Some (entered_marks N.holdings key t.stamp)) (staying (not (replaces N.cluster key key)) (get N.holdings.replicas key))) (key_itself by_replica key))
         ∙ copy_usable clean
 
   module _ (d : Delete) (at : IsAmong (deletes_commanded M) d) where

@@ -15,10 +15,10 @@ use Rattle.bm_base.specs.Promises.Lawful.{IsOrderly}
 use Rattle.laws_of_rounds.specs.Levels.{AreOnOneRack, HasTwoRacks}
 use Rattle.laws_of_rounds.proofs.Needs.{level_known}
 use Rattle.std.proofs.lemmas.Option.{same_Some}
-use Rattle.bm_base.proofs.Each.{each_any}
-use Rattle.bm_base.proofs.Listed.{any_map, or_left, same_again}
-use Rattle.bm_base.proofs.Stands.{has_where}
-use Rattle.bm_base.proofs.Maps.{each_entry}
+use Rattle.bm_base.proofs.ForEach.{each_any}
+use Rattle.bm_base.proofs.ListTests.{any_map, or_left, same_again}
+use Rattle.bm_base.proofs.Membership.{has_where}
+use Rattle.bm_base.proofs.MapEntries.{each_entry}
 use Rattle.bm_base.proofs.OneWish.{once_keys}
 use Rattle.bm_base.proofs.Sets.{some_passing}
 use Rattle.bm_base.proofs.Sets.{has_distinct, has_filter_map, rack_among}

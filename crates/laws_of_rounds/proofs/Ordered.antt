@@ -9,7 +9,7 @@ use Rattle.bm_base.specs.declared.call.Call.{Call}
 use Rattle.bm_base.specs.declared.call.Call.TheVariants as call
 use Rattle.bm_base.specs.declared.event.Event.{Event}
 use Rattle.bm_base.specs.declared.event.Event.TheVariants.{Register, Dead, StorageFailed, Heartbeat, Drain, Undrain, AddBlock, DeleteBlock, SetReplication, Restamp, Received, Deleted, Corrupt, FullReport}
-use Rattle.bm_base.specs.Machine.Entries.{Told, expanded}
+use Rattle.bm_base.specs.Machine.Entries.{ReportedBlock, expanded}
 use Rattle.bm_base.specs.declared.refusal.Refusal.{Refusal}
 use Rattle.bm_base.specs.declared.call.Answer.{Answer}
 use Rattle.bm_base.specs.declared.replica.ReplicaId.{ReplicaId}
@@ -20,8 +20,8 @@ use Rattle.bm_base.specs.declared.replica.Stamp.{Stamp}
 use Rattle.bm_base.specs.Maps.Map.{Map, get, insert, insert_all, keep, revise, revise_at, remove}
 use Rattle.bm_base.specs.Machine.State.{Cluster, Holdings, State, by_replica, replica_cmp, replica_at, first_state, empty_holdings}
 use Rattle.bm_base.specs.Machine.Replicas.{is_good, is_stray, is_corrupt, is_usable, is_draining, drains, has_storage, has_enough_live}
-use Rattle.bm_base.specs.Machine.Events.{entered, enter, report, without_pending, revise_block, as_stray, as_bad, as_restamped, add_block, delete_block, set_replication, restamp, make_bad, remove_replica, without_storages, begun_to_drain, change_holdings}
-use Rattle.bm_base.specs.Machine.Excess.{begun, started}
+use Rattle.bm_base.specs.Machine.Events.{entered_marks, enter, report, without_pending, change_marks_of_block, as_stray, as_bad, as_restamped, add_block, delete_block, set_replication, restamp, make_bad, remove_replica, without_storages, begin_drain, change_holdings}
+use Rattle.bm_base.specs.Machine.Excess.{state_after_expiry, state_at_choice}
 use Rattle.bm_base.specs.Maps.Lists.{has}
 use Rattle.bm_base.specs.Machine.Deletes.{is_deletable}
 use Rattle.bm_base.specs.Promises.Lawful.{IsOrderly}
@@ -32,14 +32,14 @@ use Rattle.bm_base.specs.Machine.Calls.{after_event, refused_or, step, state_aft
 use Rattle.bm_base.proofs.MapLaws.{get-empty, get-insert, get-keep, get-revise, get-remove}
 use Rattle.bm_base.specs.Promises.NextRound.{after_round}
 use Rattle.std.proofs.lemmas.Option.{same_Some}
-use Rattle.bm_base.proofs.Each.{each_any}
-use Rattle.bm_base.proofs.Listed.{and_never}
-use Rattle.laws_of_states.proofs.Marked.{unordered_dropped, ordered_by}
-use Rattle.laws_of_states.proofs.Commanded.{IsTested, IsChosen, chosen_deletes, chosen_deletes_of, at_same}
-use Rattle.laws_of_states.proofs.Kept.{one_stays, remarked, surplus_of, marks_started, deleted_marks, live_is_kept, weaker_kind}
+use Rattle.bm_base.proofs.ForEach.{each_any}
+use Rattle.bm_base.proofs.ListTests.{and_never}
+use Rattle.laws_of_states.proofs.MarkedReplicas.{unordered_dropped, ordered_by}
+use Rattle.laws_of_states.proofs.RoundCommands.{IsTested, IsChosen, chosen_deletes, chosen_deletes_of, at_same}
+use Rattle.laws_of_states.proofs.LiveAfterRound.{one_stays, remarked, surplus_of, marks_started, deleted_marks, live_is_kept, weaker_kind}
 use Rattle.bm_base.proofs.Options.{revised}
 use Rattle.laws_of_states.proofs.AfterRound.{marks_after}
-use Rattle.laws_of_states.proofs.Lively.{live_is}
+use Rattle.laws_of_states.proofs.LiveReplicas.{live_is}
 
 -- a replica whose delete was commanded is not usable
 abbrev pub IsDone : Marks → Type 0
@@ -99,22 +99,22 @@ done_if : (b : Bool) (f : Marks → Marks) (m : Marks) → IsDone (f m) → IsDo
 done_if true f m new old = new
 done_if false f m new old = old
 
-done_block : (H : Holdings) (b : ℕ) (f : Marks → Marks) → ((m : Marks) → IsDone (f m)) → AreDone H.replicas → AreDone (revise_block H b f).replicas
-unfolding revise_block
+done_block : (H : Holdings) (b : ℕ) (f : Marks → Marks) → ((m : Marks) → IsDone (f m)) → AreDone H.replicas → AreDone (change_marks_of_block H b f).replicas
+unfolding change_marks_of_block
 done_block H b f new h = done_revised H.replicas (λ q m. if q.block == b then f m else m) (λ q m old. done_if (q.block == b) f m (new m) old) h
 
-done_entered : (H : Holdings) (p : ReplicaId) (stamp : Stamp) → IsDone (entered H p stamp)
-unfolding entered
+done_entered : (H : Holdings) (p : ReplicaId) (stamp : Stamp) → IsDone (entered_marks H p stamp)
+unfolding entered_marks
 done_entered H p stamp e = absurd (false≢true e)
 
-done_told : (H : Holdings) (s : ℕ) (ts : List Told) (r : Map by_replica Marks) → AreDone r → AreDone (insert_all r (map (λ t. (replica_at t.id s, entered H (replica_at t.id s) t.stamp)) ts))
+done_told : (H : Holdings) (s : ℕ) (ts : List ReportedBlock) (r : Map by_replica Marks) → AreDone r → AreDone (insert_all r (map (λ t. (replica_at t.id s, entered_marks H (replica_at t.id s) t.stamp)) ts))
 done_told H s [] r h = h
 done_told H s (t ∷ ts) r h =
-    done_told H s ts (insert r (replica_at t.id s) (entered H (replica_at t.id s) t.stamp)) (done_inserted r (replica_at t.id s) (entered H (replica_at t.id s) t.stamp) (done_entered H (replica_at t.id s) t.stamp) h)
+    done_told H s ts (insert r (replica_at t.id s) (entered_marks H (replica_at t.id s) t.stamp)) (done_inserted r (replica_at t.id s) (entered_marks H (replica_at t.id s) t.stamp) (done_entered H (replica_at t.id s) t.stamp) h)
 
 -- a change of the pending transfers keeps the marks
-done_drained : (C : Cluster) (H : Holdings) (n : ℕ) → AreDone H.replicas → AreDone (begun_to_drain C H n).replicas
-unfolding begun_to_drain
+done_drained : (C : Cluster) (H : Holdings) (n : ℕ) → AreDone H.replicas → AreDone (begin_drain C H n).replicas
+unfolding begin_drain
 done_drained C H n h =
     elim (drains C n) as (λ t. AreDone (if t then H else record H { pending = keep H.pending (λ q _. not (has_storage C n q.storage)) }).replicas) [
       | true ↦ h
@@ -133,7 +133,7 @@ done_event C H (AddBlock b stamp repl) h = h
 done_event C H (DeleteBlock b) h = done_block H b as_stray (λ m. not_good (as_stray m) refl) h
 done_event C H (SetReplication b repl) h = h
 done_event C H (Restamp b stamp) h = done_block H b as_restamped (λ m. not_good (as_restamped m) (restamped_tag m.tag)) h
-done_event C H (Received s b stamp) h = done_inserted _ (replica_at b s) (entered H (replica_at b s) stamp) (done_entered H (replica_at b s) stamp) (done_kept H.replicas _ h)
+done_event C H (Received s b stamp) h = done_inserted _ (replica_at b s) (entered_marks H (replica_at b s) stamp) (done_entered H (replica_at b s) stamp) (done_kept H.replicas _ h)
 done_event C H (Deleted s b) h = done_removed H.replicas (replica_at b s) h
 done_event C H (Corrupt s b) h =
     done_revised H.replicas (λ q m. if eq_by_cmp replica_cmp q (replica_at b s) then as_bad m else m)
@@ -154,20 +154,20 @@ dropped_done false n is old = λ e. absurd (true≢false (sym e ∙ is))
 done_remarked : (chosen : List ℕ) (s : ℕ) (m : Marks) → IsDone m → IsDone (remarked chosen s m)
 done_remarked chosen s m h = with_mark (has chosen s) (unordered_dropped m) (dropped_done m.ordered m refl h)
 
-done_started : (M : State) → AreDone M.holdings.replicas → AreDone (started M).holdings.replicas
+done_started : (M : State) → AreDone M.holdings.replicas → AreDone (state_at_choice M).holdings.replicas
 done_started M h q m e =
     let was = revised (remarked (surplus_of M q.block) q.storage) (get M.holdings.replicas q) m (sym (marks_started M q) ∙ e) in
     subst IsDone was.2 (done_remarked (surplus_of M q.block) q.storage was.0 (h q was.0 was.1))
 
 -- a replica whose delete a round chooses is not usable
-chosen_not_usable : (M : State) (q : ReplicaId) (m : Marks) → get (started M).holdings.replicas q ≡ Some m → is_commanded (chosen_deletes_of M) q ≡ true → is_usable m ≡ false
-unfolding is_commanded started begun
+chosen_not_usable : (M : State) (q : ReplicaId) (m : Marks) → get (state_at_choice M).holdings.replicas q ≡ Some m → is_commanded (chosen_deletes_of M) q ≡ true → is_usable m ≡ false
+unfolding is_commanded state_at_choice state_after_expiry
 chosen_not_usable M q m e h =
-    let found = each_any (IsChosen M.cluster (started M).holdings) (λ d. (d.storage == q.storage) && (d.block == q.block)) (chosen_deletes_of M) (chosen_deletes M.cluster (started M).holdings M.limits) h in
+    let found = each_any (IsChosen M.cluster (state_at_choice M).holdings) (λ d. (d.storage == q.storage) && (d.block == q.block)) (chosen_deletes_of M) (chosen_deletes M.cluster (state_at_choice M).holdings M.limits) h in
     let is = at_same found.0 q found.2 in
-    let same : found.1.marks ≡ m = same_Some found.1.marks m (sym (subst (λ p. get (started M).holdings.replicas p ≡ Some found.1.marks) is found.1.is_there) ∙ e) in
-    let marks = deleted_marks M q found.1.marks (subst (λ p. is_deletable M.cluster (started M).holdings p found.1.marks ≡ true) is found.1.deletable) in
-    by_live (is_usable m) refl (subst (λ n. (is_stray n.tag ≡ true) ⊎ ((n.excess ≡ true) ⊎ (is_corrupt n.tag ≡ true))) same (weaker_kind found.1.marks (has_enough_live M.cluster (started M).holdings q.block) marks.1))
+    let same : found.1.marks ≡ m = same_Some found.1.marks m (sym (subst (λ p. get (state_at_choice M).holdings.replicas p ≡ Some found.1.marks) is found.1.is_there) ∙ e) in
+    let marks = deleted_marks M q found.1.marks (subst (λ p. is_deletable M.cluster (state_at_choice M).holdings p found.1.marks ≡ true) is found.1.deletable) in
+    by_live (is_usable m) refl (subst (λ n. (is_stray n.tag ≡ true) ⊎ ((n.excess ≡ true) ⊎ (is_corrupt n.tag ≡ true))) same (weaker_kind found.1.marks (has_enough_live M.cluster (state_at_choice M).holdings q.block) marks.1))
   where
     by_live : (b : Bool) → is_usable m ≡ b → (is_stray m.tag ≡ true) ⊎ ((m.excess ≡ true) ⊎ (is_corrupt m.tag ≡ true)) → b ≡ false
     by_live true f kind = absurd (live_is_kept m.tag m.excess f kind)
@@ -179,7 +179,7 @@ done_commanded false m chosen old e = old e
 
 pub done_round : (M : State) → AreDone M.holdings.replicas → AreDone (after_round M).holdings.replicas
 done_round M h q m e =
-    let was = revised (ordered_by (chosen_deletes_of M) q) (get (started M).holdings.replicas q) m (sym (marks_after M q) ∙ e) in
+    let was = revised (ordered_by (chosen_deletes_of M) q) (get (state_at_choice M).holdings.replicas q) m (sym (marks_after M q) ∙ e) in
     subst IsDone was.2 (done_commanded (is_commanded (chosen_deletes_of M) q) was.0 (chosen_not_usable M q was.0 was.1) (done_started M h q was.0 was.1))
 
 -- Calls.

@@ -10,11 +10,11 @@ use Rattle.bm_base.specs.Maps.Map.{keys}
 use Rattle.bm_base.specs.Machine.State.{Cluster, State}
 use Rattle.bm_base.specs.Maps.Lists.{has, has_repeats}
 use Rattle.bm_base.specs.Machine.Replicas.{node_of, has_storage}
-use Rattle.bm_base.specs.Machine.Excess.{begun, started}
+use Rattle.bm_base.specs.Machine.Excess.{state_after_expiry, state_at_choice}
 use Rattle.bm_base.specs.Machine.Rounds.{node_commands, has_commands, commands_of, whole_round}
 use Rattle.bm_base.specs.Promises.NextRound.{IsAmong, IsTransferCommanded, transfers_chosen, transfers_commanded}
-use Rattle.bm_base.proofs.Each.{Each, each_then, each_appended, each_filtered, each_mapped, each_filter_by, each_flat_map}
-use Rattle.laws_of_states.proofs.Commanded.{chosen_deletes_of}
+use Rattle.bm_base.proofs.ForEach.{Each, each_then, each_appended, each_filtered, each_mapped, each_filter_by, each_flat_map}
+use Rattle.laws_of_states.proofs.RoundCommands.{chosen_deletes_of}
 use Rattle.laws_of_rounds.proofs.Grouped.{on_one_node}
 use Rattle.bm_base.proofs.OneWish.{once_keys}
 use Rattle.laws_of_rounds.proofs.Sending.{fresh_node}
@@ -128,5 +128,5 @@ module _ (C : Cluster) (ts : List Transfer) (ds : List Delete) (apart : OfTwo (G
       ]
 
 pub commanded_apart : (M : State) → OfTwo (GoApart M.cluster) (transfers_commanded M)
-unfolding whole_round commands_of started begun
+unfolding whole_round commands_of state_at_choice state_after_expiry
 commanded_apart M = told_apart M.cluster (transfers_chosen M) (chosen_deletes_of M) (targets_apart M) (keys M.cluster.nodes) (once_keys M.cluster.nodes)

@@ -14,15 +14,15 @@ use Rattle.bm_base.specs.Maps.Map.{get}
 use Rattle.bm_base.specs.Machine.State.{Cluster, State, replica_at}
 use Rattle.bm_base.specs.Maps.Lists.{has, has_repeats, least}
 use Rattle.bm_base.specs.Machine.Replicas.{is_live_on, rack_of, node_of}
-use Rattle.bm_base.specs.Machine.Excess.{excess_cmp, excess_among, remaining, share_rack, has_rack_mate, started}
+use Rattle.bm_base.specs.Machine.Excess.{excess_cmp, excess_among, remaining, share_rack, has_rack_mate, state_at_choice}
 use Rattle.bm_base.specs.Promises.Lawful.{IsOrderly}
 use Rattle.bm_base.specs.Promises.NextRound.{unmarked, live_unmarked, live_marked}
 use Rattle.std.proofs.lemmas.Option.{same_Some}
-use Rattle.bm_base.proofs.Listed.{any_weaker, count_without, has_filter, once_filter, same_again, and_second}
+use Rattle.bm_base.proofs.ListTests.{any_weaker, count_without, has_filter, once_filter, same_again, and_second}
 use Rattle.bm_base.proofs.Sets.{some_passing, passing_some}
-use Rattle.bm_base.proofs.Stands.{has_where, once_where}
+use Rattle.bm_base.proofs.Membership.{has_where, once_where}
 use Rattle.laws_of_states.proofs.Surpluses.{kept_of, others, kept_step, chosen_first, least_among, least_there}
-use Rattle.laws_of_states.proofs.Marked.{marked_is, marked_unmarked, unordered_dropped}
+use Rattle.laws_of_states.proofs.MarkedReplicas.{marked_is, marked_unmarked, unordered_dropped}
 use Rattle.laws_of_rounds.proofs.Reasons.{marks_unmarked, none_unknown, none_made_live}
 
 -- The least of a list has the least class, if the class is compared first.
@@ -295,7 +295,7 @@ last_stays M b s t u lawful there at_t at_u apart same =
     let C : Cluster = M.cluster in
     let rack = share_is C t t (live_on_rack M b t lawful (none_made_live M b t at_t)) in
     let mate : has_rack_mate C (live_marked M b) t ≡ true =
-    of_mate C (live_marked M b) t (mates_are C (live_marked M b) t (two_pass (share_rack C t) (live_marked M b) t u (once_where (is_live_on M.cluster) (started M).holdings b) at_t at_u (share_of C t t rack.0 rack.1 rack.1) (share_of C t u rack.0 rack.1 (sym same ∙ rack.1)) apart)) in
+    of_mate C (live_marked M b) t (mates_are C (live_marked M b) t (two_pass (share_rack C t) (live_marked M b) t u (once_where (is_live_on M.cluster) (state_at_choice M).holdings b) at_t at_u (share_of C t t rack.0 rack.1 rack.1) (share_of C t u rack.0 rack.1 (sym same ∙ rack.1)) apart)) in
     let left = some_passing (share_rack C s) (live_marked M b) (shared_stays M b s t lawful there at_t mate) in
     let racks = share_is C s left.0 left.2 in
     (left.0, left.1, racks.2 ∙ sym racks.1)

@@ -12,24 +12,24 @@ use Rattle.bm_base.specs.Maps.Map.{get}
 use Rattle.bm_base.specs.Machine.State.{State, replica_at}
 use Rattle.bm_base.specs.Maps.Lists.{has}
 use Rattle.bm_base.specs.Machine.Replicas.{is_usable, is_live_on, is_good, is_stray, is_corrupt, is_draining, has_enough_live, storages_where}
-use Rattle.bm_base.specs.Machine.Excess.{begun, started, without_expired, without_unordered_excess, marked, excess_in, excess_of, excess_among}
+use Rattle.bm_base.specs.Machine.Excess.{state_after_expiry, state_at_choice, without_expired, without_unordered_excess, with_surplus_marked, excess_in, excess_of, excess_among}
 use Rattle.bm_base.specs.Promises.Lawful.{IsOrderly}
 use Rattle.bm_base.proofs.MapLaws.{get-revise}
 use Rattle.bm_base.specs.Promises.NextRound.{unmarked, live_unmarked, live_marked, live_after, drained_unmarked}
 use Rattle.laws_of_rounds.specs.Deletes.{MayBeDeleted}
 use Rattle.std.proofs.lemmas.Option.{same_Some}
-use Rattle.bm_base.proofs.Listed.{has_filter, or_left, or_right, same_again, and_first, and_second}
-use Rattle.bm_base.proofs.Stands.{has_where}
+use Rattle.bm_base.proofs.ListTests.{has_filter, or_left, or_right, same_again, and_first, and_second}
+use Rattle.bm_base.proofs.Membership.{has_where}
 use Rattle.laws_of_states.proofs.Surpluses.{kept_of, chosen_among}
-use Rattle.laws_of_states.proofs.Marked.{marked_unmarked, marked_count, marked_is, after_marked, excess_known, unordered_dropped}
-use Rattle.laws_of_states.proofs.Commanded.{IsTested, deleted_is}
-use Rattle.laws_of_states.proofs.Kept.{deleted_marks, marks_before, marks_started, remarked_excess, remarked, remarked_ordered, remarked_tag, surplus_of, weaker_kind}
+use Rattle.laws_of_states.proofs.MarkedReplicas.{marked_unmarked, marked_count, marked_is, after_marked, excess_known, unordered_dropped}
+use Rattle.laws_of_states.proofs.RoundCommands.{IsTested, deleted_is}
+use Rattle.laws_of_states.proofs.LiveAfterRound.{deleted_marks, marks_before, marks_started, remarked_excess, remarked, remarked_ordered, remarked_tag, surplus_of, weaker_kind}
 
 pub may_be_deleted : (M : State) (q : ReplicaId) → IsTested M q → MayBeDeleted M q
 may_be_deleted M q h =
     let is = deleted_is M q h in
     let marks = deleted_marks M q is.0 is.2 in
-    record { marks = is.0; is_there = is.1; not_ordered = marks.0; kind = weaker_kind is.0 (has_enough_live M.cluster (started M).holdings q.block) marks.1 }
+    record { marks = is.0; is_there = is.1; not_ordered = marks.0; kind = weaker_kind is.0 (has_enough_live M.cluster (state_at_choice M).holdings q.block) marks.1 }
 
 pub not_ordered : (M : State) (q : ReplicaId) → IsTested M q → (m : Marks) × (get M.holdings.replicas q ≡ Some m) × (m.ordered ≡ false)
 not_ordered M q h =
@@ -38,9 +38,9 @@ not_ordered M q h =
     (was.0, was.1, sym (remarked_ordered (surplus_of M q.block) q.storage was.0) ∙ ap (λ m. m.ordered) was.2 ∙ (deleted_marks M q is.0 is.2).0)
 
 -- a block with enough live replicas is known, and at least its wanted number is live
-enough_known : (M : State) (b : ℕ) → has_enough_live M.cluster (started M).holdings b ≡ true
+enough_known : (M : State) (b : ℕ) → has_enough_live M.cluster (state_at_choice M).holdings b ≡ true
     → (i : BlockInfo) × (get M.holdings.blocks b ≡ Some i) × (i.repl ≤ length (live_marked M b))
-unfolding has_enough_live started begun marked without_expired without_unordered_excess
+unfolding has_enough_live state_at_choice state_after_expiry with_surplus_marked without_expired without_unordered_excess
 enough_known M b e = by_info (get M.holdings.blocks b) refl e
   where
     by_info : (o : Option BlockInfo) → get M.holdings.blocks b ≡ o → option_map_or (λ x. nat_le x.repl (length (live_marked M b))) o false ≡ true
@@ -51,7 +51,7 @@ enough_known M b e = by_info (get M.holdings.blocks b) refl e
 -- Replicas that are chosen as surplus are live.
 
 pub none_unknown : (M : State) (b : ℕ) → get M.holdings.blocks b ≡ None → surplus_of M b ≡ []
-unfolding excess_in begun without_expired without_unordered_excess
+unfolding excess_in state_after_expiry without_expired without_unordered_excess
 none_unknown M b e = ap (λ j. option_map_or (λ x. excess_of M.cluster (live_unmarked M b) x.repl) j []) e
 
 pub surplus_live : (M : State) (b s : ℕ) → has (surplus_of M b) s ≡ true → has (live_unmarked M b) s ≡ true
@@ -63,7 +63,7 @@ surplus_live M b s h = by_info (get M.holdings.blocks b) refl
         chosen_among M.cluster (length (live_unmarked M b) - i.repl) (live_unmarked M b) s (sym (ap (λ xs. has xs s) (excess_known M b i e)) ∙ h)
 
 pub marks_unmarked : (M : State) (q : ReplicaId) → get (unmarked M).holdings.replicas q ≡ option_map unordered_dropped (get M.holdings.replicas q)
-unfolding begun without_expired without_unordered_excess
+unfolding state_after_expiry without_expired without_unordered_excess
 marks_unmarked M q = get-revise M.holdings.replicas (λ _ m. unordered_dropped m) q
 
 dropped_good : (o : Bool) (m : Marks) → is_usable (if o then m else record m { excess = false }) ≡ true → is_good m.tag ≡ true
@@ -100,7 +100,7 @@ corrupt_only Bad excess enough c g (inl h) = absurd (false≢true h)
 corrupt_only Bad excess enough c g (inr (inl h)) = absurd (false≢true (g h))
 corrupt_only Bad excess enough c g (inr (inr h)) = h.1
 
-pub corrupt_waits : (M : State) (q : ReplicaId) (m : Marks) → IsOrderly M → IsTested M q → get (started M).holdings.replicas q ≡ Some m → is_corrupt m.tag ≡ true
+pub corrupt_waits : (M : State) (q : ReplicaId) (m : Marks) → IsOrderly M → IsTested M q → get (state_at_choice M).holdings.replicas q ≡ Some m → is_corrupt m.tag ≡ true
     → (i : BlockInfo) × (get M.holdings.blocks q.block ≡ Some i) × (i.repl ≤ length (live_marked M q.block))
 corrupt_waits M q m lawful h found corrupt =
     let is = deleted_is M q h in
@@ -110,7 +110,7 @@ corrupt_waits M q m lawful h found corrupt =
     let good : is.0.excess ≡ true → is_good is.0.tag ≡ true =
     λ e. sym (ap is_good (sym (remarked_tag (surplus_of M q.block) q.storage was.0) ∙ ap (λ n. n.tag) was.2)) ∙ excess_good M q was.0 lawful was.1 (ap (λ n. n.excess) was.2 ∙ e) in
     enough_known M q.block
-    (corrupt_only is.0.tag is.0.excess (has_enough_live M.cluster (started M).holdings q.block) (ap (λ n. is_corrupt n.tag) same ∙ corrupt) good marks.1)
+    (corrupt_only is.0.tag is.0.excess (has_enough_live M.cluster (state_at_choice M).holdings q.block) (ap (λ n. is_corrupt n.tag) same ∙ corrupt) good marks.1)
 
 -- Counts of the surplus.
 
@@ -177,14 +177,14 @@ excess_stays false true m e f = f
 excess_stays false false m e f = absurd (false≢true e)
 
 pub ordered_stays_excess : (M : State) (q : ReplicaId) (m : Marks) → get M.holdings.replicas q ≡ Some m → m.ordered ≡ true → m.excess ≡ true
-    → (n : Marks) × (get (started M).holdings.replicas q ≡ Some n) × (n.excess ≡ true)
+    → (n : Marks) × (get (state_at_choice M).holdings.replicas q ≡ Some n) × (n.excess ≡ true)
 ordered_stays_excess M q m found ordered excess = (
   remarked (surplus_of M q.block) q.storage m,
   marks_started M q ∙ ap (option_map (remarked (surplus_of M q.block) q.storage)) found,
   excess_stays (has (surplus_of M q.block) q.storage) m.ordered m ordered excess,
 )
 
-pub other_is_new : (M : State) (q : ReplicaId) (n : Marks) → get (started M).holdings.replicas q ≡ Some n → n.ordered ≡ false → n.excess ≡ true
+pub other_is_new : (M : State) (q : ReplicaId) (n : Marks) → get (state_at_choice M).holdings.replicas q ≡ Some n → n.ordered ≡ false → n.excess ≡ true
     → (has (live_unmarked M q.block) q.storage ≡ true) × (has (live_marked M q.block) q.storage ≡ false)
 other_is_new M q n found unordered excess =
     let was = marks_before M q n found in

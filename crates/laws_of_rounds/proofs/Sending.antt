@@ -21,45 +21,45 @@ use Rattle.bm_base.specs.Machine.State.{RoundLimits, Cluster, Holdings, State, r
 use Rattle.bm_base.specs.Maps.Lists.{has, has_repeats}
 use Rattle.bm_base.specs.Machine.Replicas.{sources_of, node_of, has_storage, is_draining, storages_where}
 use Rattle.bm_base.specs.Machine.Levels.{level, is_at}
-use Rattle.bm_base.specs.Machine.Excess.{begun, started, marked, without_expired, without_unordered_excess, remaining}
-use Rattle.bm_base.specs.Machine.Transfers.{pending_targets, streams_from, scheduled_to, stream_limit, targets_of, holders_of, barred_for, is_barred, is_target, class_of}
+use Rattle.bm_base.specs.Machine.Excess.{state_after_expiry, state_at_choice, with_surplus_marked, without_expired, without_unordered_excess, remaining}
+use Rattle.bm_base.specs.Machine.Transfers.{pending_targets, streams_from, scheduled_to, stream_limit, targets_of, holders_of, excluded_for, is_excluded, is_target, class_of}
 use Rattle.bm_base.specs.Machine.Replicas.{racks}
 use Rattle.bm_base.specs.Machine.Rounds.{whole_round, commands_of, node_commands, has_commands}
 use Rattle.bm_base.specs.Promises.NextRound.{IsAmong, transfers_chosen, transfers_commanded, live_marked, drained_marked}
 use Rattle.laws_of_rounds.specs.Transfers.{IsFreshNode}
-use Rattle.bm_base.proofs.Listed.{and_first, and_second, or_left, or_right, same_again, filter_append, filter_filter, any_map, any_filter}
-use Rattle.bm_base.proofs.Stands.{has_where, has_listed, listed}
+use Rattle.bm_base.proofs.ListTests.{and_first, and_second, or_left, or_right, same_again, filter_append, filter_filter, any_map, any_filter}
+use Rattle.bm_base.proofs.Membership.{has_where, has_listed, listed}
 use Rattle.laws_of_rounds.proofs.Grouped.{on_one_node, each_node, all_of_each}
 use Rattle.bm_base.proofs.Sets.{has_keys}
 use Rattle.bm_base.proofs.OneWish.{once_keys}
-use Rattle.laws_of_states.proofs.Commanded.{chosen_deletes_of}
-use Rattle.laws_of_states.proofs.Kept.{marks_started}
+use Rattle.laws_of_states.proofs.RoundCommands.{chosen_deletes_of}
+use Rattle.laws_of_states.proofs.LiveAfterRound.{marks_started}
 use Rattle.bm_base.proofs.Sets.{passing_some}
 use Rattle.laws_of_rounds.proofs.Usable.{sources_are}
 use Rattle.laws_of_rounds.proofs.Choosing.{EachAfter, after_split, after_whole, IsChosenAfter, each_chosen, source_is, target_is}
 
 -- each transfer of the next round was chosen
-pub each_of : (M : State) → EachAfter (IsChosenAfter M.limits M.cluster (started M).holdings) [] (transfers_chosen M)
-unfolding started begun
-each_of M = each_chosen M.limits M.cluster (started M).holdings
+pub each_of : (M : State) → EachAfter (IsChosenAfter M.limits M.cluster (state_at_choice M).holdings) [] (transfers_chosen M)
+unfolding state_at_choice state_after_expiry
+each_of M = each_chosen M.limits M.cluster (state_at_choice M).holdings
 
-pub chosen_at : (M : State) (front back : List Transfer) (t : Transfer) → transfers_chosen M ≡ front ++ t ∷ back → IsChosenAfter M.limits M.cluster (started M).holdings front t
-chosen_at M front back t is = after_split (IsChosenAfter M.limits M.cluster (started M).holdings) (transfers_chosen M) front back t (each_of M) is
+pub chosen_at : (M : State) (front back : List Transfer) (t : Transfer) → transfers_chosen M ≡ front ++ t ∷ back → IsChosenAfter M.limits M.cluster (state_at_choice M).holdings front t
+chosen_at M front back t is = after_split (IsChosenAfter M.limits M.cluster (state_at_choice M).holdings) (transfers_chosen M) front back t (each_of M) is
 
 -- Sources.
 
 pub source_usable : (M : State) (front back : List Transfer) (t : Transfer) → transfers_chosen M ≡ front ++ t ∷ back
-    → (has (sources_of M.cluster (started M).holdings t.block) t.source ≡ true) × ((i : BlockInfo) × (get M.holdings.blocks t.block ≡ Some i) × (t.stamp ≡ i.stamp))
-unfolding started begun marked without_expired without_unordered_excess
+    → (has (sources_of M.cluster (state_at_choice M).holdings t.block) t.source ≡ true) × ((i : BlockInfo) × (get M.holdings.blocks t.block ≡ Some i) × (t.stamp ≡ i.stamp))
+unfolding state_at_choice state_after_expiry with_surplus_marked without_expired without_unordered_excess
 source_usable M front back t is =
     let why = chosen_at M front back t is in
-    ((source_is M.cluster front why.urgency (sources_of M.cluster (started M).holdings t.block) t.source why.source).1, (why.info, why.known, why.stamp))
+    ((source_is M.cluster front why.urgency (sources_of M.cluster (state_at_choice M).holdings t.block) t.source why.source).1, (why.info, why.known, why.stamp))
 
 pub source_live_or_drained : (M : State) (front back : List Transfer) (t : Transfer) → transfers_chosen M ≡ front ++ t ∷ back
     → ((has (live_marked M t.block) t.source ≡ true) ⊎ (has (drained_marked M t.block) t.source ≡ true)) × ((i : BlockInfo) × (get M.holdings.blocks t.block ≡ Some i) × (t.stamp ≡ i.stamp))
 source_live_or_drained M front back t is =
     let there = source_usable M front back t is in (
-      either (has (live_marked M t.block) t.source) (has (drained_marked M t.block) t.source) (sym (sources_are M.cluster (started M).holdings t.block t.source) ∙ there.0),
+      either (has (live_marked M t.block) t.source) (has (drained_marked M t.block) t.source) (sym (sources_are M.cluster (state_at_choice M).holdings t.block t.source) ∙ there.0),
       there.1,
     )
   where
@@ -90,11 +90,11 @@ limit_four BadlyDistributed d n h = limit_two d n h
 limit_four NoUsableReplica d n h = limit_two d n h
 
 pub two_below : (M : State) (front back : List Transfer) (t : Transfer) → transfers_chosen M ≡ front ++ t ∷ back → is_draining M.cluster t.source ≡ false
-    → (level M.cluster (started M).holdings t.block ≡ Some Highest) ⊎ (streams_from M.cluster front t.source < 2)
+    → (level M.cluster (state_at_choice M).holdings t.block ≡ Some Highest) ⊎ (streams_from M.cluster front t.source < 2)
 two_below M front back t is staying =
     let why = chosen_at M front back t is in
-    limit_cases why.urgency (level M.cluster (started M).holdings t.block) (is_draining M.cluster t.source) (streams_from M.cluster front t.source) why.at_level staying
-    (source_is M.cluster front why.urgency (sources_of M.cluster (started M).holdings t.block) t.source why.source).0
+    limit_cases why.urgency (level M.cluster (state_at_choice M).holdings t.block) (is_draining M.cluster t.source) (streams_from M.cluster front t.source) why.at_level staying
+    (source_is M.cluster front why.urgency (sources_of M.cluster (state_at_choice M).holdings t.block) t.source why.source).0
 
 pub node_is : (C : Cluster) (n s : ℕ) → has_storage C n s ≡ true → node_of C s ≡ Some n
 unfolding has_storage
@@ -142,15 +142,15 @@ module _ (limits : RoundLimits) (C : Cluster) (H : Holdings) where
 
 pub four_at_most : (M : State) (n : ℕ) → length (filter (λ (u : Transfer). has_storage M.cluster n u.source) (transfers_chosen M)) ≤ 4
 four_at_most M n =
-    after_whole (IsChosenAfter M.limits M.cluster (started M).holdings) (λ ts. length (filter (λ (u : Transfer). has_storage M.cluster n u.source) ts) ≤ 4)
-    (four_more M.limits M.cluster (started M).holdings n) [] (transfers_chosen M) (omega arith) (each_of M)
+    after_whole (IsChosenAfter M.limits M.cluster (state_at_choice M).holdings) (λ ts. length (filter (λ (u : Transfer). has_storage M.cluster n u.source) ts) ≤ 4)
+    (four_more M.limits M.cluster (state_at_choice M).holdings n) [] (transfers_chosen M) (omega arith) (each_of M)
 
 four_commanded : (M : State) (ds : List Delete) (n : ℕ) → length (node_commands M.cluster (transfers_chosen M) ds n).transfers ≤ 4
 unfolding node_commands
 four_commanded M ds n = four_at_most M n
 
 pub four_a_node : (M : State) → All (λ (k : NodeCommands). length k.transfers ≤ 4) (whole_round M).0.nodes
-unfolding whole_round started begun
+unfolding whole_round state_at_choice state_after_expiry
 four_a_node M =
     all_of_each (λ (k : NodeCommands). length k.transfers ≤ 4) (whole_round M).0.nodes
     (each_node M.cluster _ (transfers_chosen M) (chosen_deletes_of M) (λ k. length k.transfers ≤ 4) (four_commanded M (chosen_deletes_of M)))
@@ -159,7 +159,7 @@ four_a_node M =
 
 pub few_chosen : (M : State) → length (transfers_chosen M) ≤ M.limits.work * len M.cluster.nodes
 few_chosen M =
-    after_whole (IsChosenAfter M.limits M.cluster (started M).holdings) (λ ts. length ts ≤ M.limits.work * len M.cluster.nodes)
+    after_whole (IsChosenAfter M.limits M.cluster (state_at_choice M).holdings) (λ ts. length ts ≤ M.limits.work * len M.cluster.nodes)
     (λ front t _ why. let few = why.few in let long = length-append front (t ∷ []) in omega (arith, few, long)) [] (transfers_chosen M) (omega arith) (each_of M)
 
 module _ {X : Type 0} (on : ℕ → X → Bool) (apart : (n k : ℕ) (x : X) → on n x ≡ true → on k x ≡ true → n ≡ k) where
@@ -230,7 +230,7 @@ few_of C r ts ds =
 pub few_commanded : (M : State) → length (transfers_commanded M) ≤ M.limits.work * len M.cluster.nodes
 unfolding whole_round
 few_commanded M =
-    let a = few_of (started M).cluster (started M).round (transfers_chosen M) (chosen_deletes_of M) in
+    let a = few_of (state_at_choice M).cluster (state_at_choice M).round (transfers_chosen M) (chosen_deletes_of M) in
     let b = few_chosen M in
     omega (arith, a, b)
 
@@ -240,7 +240,7 @@ few_commanded M =
 pub record IsFit (C : Cluster) (front : List Transfer) (urgency : Level) (holders barred : List ℕ) (n u : ℕ) : Type 0 where
   pub fits : n + scheduled_to front u ≤ remaining C u
   pub staying : is_draining C u ≡ false
-  pub free : is_barred C barred u ≡ false
+  pub free : is_excluded C barred u ≡ false
   pub apart : (is_at BadlyDistributed (Some urgency) && (length (racks C holders) == 1) && (class_of C holders u == 1)) ≡ false
 
 not_true : (b : Bool) → not b ≡ true → b ≡ false
@@ -254,13 +254,13 @@ target_parts C front urgency holders barred n u e =
     let badly = is_at BadlyDistributed (Some urgency) && (length (racks C holders) == 1) && (class_of C holders u == 1) in
     let fits = nat_le (n + scheduled_to front u) (remaining C u) in
     let staying = not (is_draining C u) in
-    let free = not (is_barred C barred u) in
+    let free = not (is_excluded C barred u) in
     let three = and_first (fits && staying && free) (not badly) e in
     let two = and_first (fits && staying) free three in
     record {
       fits = leb-true (n + scheduled_to front u) (remaining C u) (and_first fits staying two);
       staying = not_true (is_draining C u) (and_second fits staying two);
-      free = not_true (is_barred C barred u) (and_second (fits && staying) free three);
+      free = not_true (is_excluded C barred u) (and_second (fits && staying) free three);
       apart = not_true badly (and_second (fits && staying && free) (not badly) e);
     }
 
@@ -275,15 +275,15 @@ storage_known C u h =
     (found.0.node, ap (option_map (λ i. i.node)) found.1)
 
 -- no excluded storage is on the node of a storage that is not excluded
-pub not_barred : (C : Cluster) (barred : List ℕ) (u s n : ℕ) → is_barred C barred u ≡ false → node_of C u ≡ Some n → has barred s ≡ true → node_of C s ≡ node_of C u → ⊥
-unfolding is_barred
-not_barred C barred u s n free at there same =
+pub not_excluded : (C : Cluster) (barred : List ℕ) (u s n : ℕ) → is_excluded C barred u ≡ false → node_of C u ≡ Some n → has barred s ≡ true → node_of C s ≡ node_of C u → ⊥
+unfolding is_excluded
+not_excluded C barred u s n free at there same =
     true≢false (sym (passing_some (λ t. option_map_or (λ m. has_storage C m u) (node_of C t) false) barred s there
     (ap (λ o. option_map_or (λ m. has_storage C m u) o false) (same ∙ at) ∙ storage_is C n u at)) ∙ free)
 
-barred_replica : (H : Holdings) (front : List Transfer) (b s : ℕ) → is_some (get H.replicas (replica_at b s)) ≡ true → has (barred_for H front b) s ≡ true
-unfolding barred_for
-barred_replica H front b s e =
+excluded_replica : (H : Holdings) (front : List Transfer) (b s : ℕ) → is_some (get H.replicas (replica_at b s)) ≡ true → has (excluded_for H front b) s ≡ true
+unfolding excluded_for
+excluded_replica H front b s e =
     list_any-append (λ y. y == s) (storages_where (λ _ _. true) H b ++ pending_targets H b) (targets_of front b)
     ∙ or_left (has (storages_where (λ _ _. true) H b ++ pending_targets H b) s) (has (targets_of front b) s)
     (list_any-append (λ y. y == s) (storages_where (λ _ _. true) H b) (pending_targets H b)
@@ -308,16 +308,16 @@ has_pending H b s = ap (λ xs. has xs s) (pending_listed H b) ∙ has_listed H.p
     is_there None = refl
     is_there (Some r) = refl
 
-barred_pending : (H : Holdings) (front : List Transfer) (b s : ℕ) → has (pending_targets H b) s ≡ true → has (barred_for H front b) s ≡ true
-unfolding barred_for
-barred_pending H front b s e =
+excluded_pending : (H : Holdings) (front : List Transfer) (b s : ℕ) → has (pending_targets H b) s ≡ true → has (excluded_for H front b) s ≡ true
+unfolding excluded_for
+excluded_pending H front b s e =
     list_any-append (λ y. y == s) (storages_where (λ _ _. true) H b ++ pending_targets H b) (targets_of front b)
     ∙ or_left (has (storages_where (λ _ _. true) H b ++ pending_targets H b) s) (has (targets_of front b) s)
     (list_any-append (λ y. y == s) (storages_where (λ _ _. true) H b) (pending_targets H b) ∙ or_right (has (storages_where (λ _ _. true) H b) s) (has (pending_targets H b) s) e)
 
-barred_target : (H : Holdings) (front : List Transfer) (b s : ℕ) → has (targets_of front b) s ≡ true → has (barred_for H front b) s ≡ true
-unfolding barred_for
-barred_target H front b s e =
+excluded_target : (H : Holdings) (front : List Transfer) (b s : ℕ) → has (targets_of front b) s ≡ true → has (excluded_for H front b) s ≡ true
+unfolding excluded_for
+excluded_target H front b s e =
     list_any-append (λ y. y == s) (storages_where (λ _ _. true) H b ++ pending_targets H b) (targets_of front b)
     ∙ or_right (has (storages_where (λ _ _. true) H b ++ pending_targets H b) s) (has (targets_of front b) s) e
 
@@ -341,25 +341,25 @@ mapped_there f (Some x) e = refl
 pub fresh_node : (M : State) (front back : List Transfer) (t : Transfer) → transfers_chosen M ≡ front ++ t ∷ back → IsFreshNode M front t
 fresh_node M front back t is =
     let why = chosen_at M front back t is in
-    let H : Holdings = (started M).holdings in
-    let at = target_is M.cluster front why.urgency (holders_of M.cluster H front t.block) (barred_for H front t.block) why.info.stamp.len t.target why.target in
-    let parts = target_parts M.cluster front why.urgency (holders_of M.cluster H front t.block) (barred_for H front t.block) why.info.stamp.len t.target at.0 in
+    let H : Holdings = (state_at_choice M).holdings in
+    let at = target_is M.cluster front why.urgency (holders_of M.cluster H front t.block) (excluded_for H front t.block) why.info.stamp.len t.target why.target in
+    let parts = target_parts M.cluster front why.urgency (holders_of M.cluster H front t.block) (excluded_for H front t.block) why.info.stamp.len t.target at.0 in
     let known = storage_known M.cluster t.target at.1 in
     record {
       known = known;
       not_draining = parts.staying;
-      no_replica = λ s there. not_barred M.cluster (barred_for H front t.block) t.target s known.0 parts.free known.1
-          (barred_replica H front t.block s (ap is_some (marks_started M (replica_at t.block s)) ∙ mapped_there _ (get M.holdings.replicas (replica_at t.block s)) there));
-      none_pending = λ s there. not_barred M.cluster (barred_for H front t.block) t.target s known.0 parts.free known.1 (barred_pending H front t.block s (has_pending H t.block s ∙ there));
-      no_other = λ u there same. not_barred M.cluster (barred_for H front t.block) t.target u.target known.0 parts.free known.1 (barred_target H front t.block u.target (among_targets front u t.block there same));
+      no_replica = λ s there. not_excluded M.cluster (excluded_for H front t.block) t.target s known.0 parts.free known.1
+          (excluded_replica H front t.block s (ap is_some (marks_started M (replica_at t.block s)) ∙ mapped_there _ (get M.holdings.replicas (replica_at t.block s)) there));
+      none_pending = λ s there. not_excluded M.cluster (excluded_for H front t.block) t.target s known.0 parts.free known.1 (excluded_pending H front t.block s (has_pending H t.block s ∙ there));
+      no_other = λ u there same. not_excluded M.cluster (excluded_for H front t.block) t.target u.target known.0 parts.free known.1 (excluded_target H front t.block u.target (among_targets front u t.block there same));
     }
 
 sent_more : (C : Cluster) (limits : RoundLimits) (H : Holdings) (s : ℕ) (front : List Transfer) (t : Transfer) → scheduled_to front s ≤ remaining C s → IsChosenAfter limits C H front t
     → scheduled_to (front ++ t ∷ []) s ≤ remaining C s
 unfolding scheduled_to
 sent_more C limits H s front t fits why =
-    let at = target_is C front why.urgency (holders_of C H front t.block) (barred_for H front t.block) why.info.stamp.len t.target why.target in
-    let parts = target_parts C front why.urgency (holders_of C H front t.block) (barred_for H front t.block) why.info.stamp.len t.target at.0 in
+    let at = target_is C front why.urgency (holders_of C H front t.block) (excluded_for H front t.block) why.info.stamp.len t.target why.target in
+    let parts = target_parts C front why.urgency (holders_of C H front t.block) (excluded_for H front t.block) why.info.stamp.len t.target at.0 in
     let long = sum_by_push (λ (u : Transfer). if u.target == s then u.stamp.len else 0) front t in
     let len_is = ap (λ x. x.len) why.stamp in
     by_target (t.target == s) refl (t.stamp.len) parts.fits len_is long
@@ -380,8 +380,8 @@ nothing_sent s n = omega arith
 
 sent_remaining : (M : State) (s : ℕ) → scheduled_to (transfers_chosen M) s ≤ remaining M.cluster s
 sent_remaining M s =
-    after_whole (IsChosenAfter M.limits M.cluster (started M).holdings) (λ ts. scheduled_to ts s ≤ remaining M.cluster s)
-    (sent_more M.cluster M.limits (started M).holdings s) [] (transfers_chosen M) (nothing_sent s (remaining M.cluster s)) (each_of M)
+    after_whole (IsChosenAfter M.limits M.cluster (state_at_choice M).holdings) (λ ts. scheduled_to ts s ≤ remaining M.cluster s)
+    (sent_more M.cluster M.limits (state_at_choice M).holdings s) [] (transfers_chosen M) (nothing_sent s (remaining M.cluster s)) (each_of M)
 
 pub sent_fits : (M : State) (s : ℕ) (i : StorageInfo) → get M.cluster.storages s ≡ Some i → sum_by (λ (t : Transfer). if t.target == s then t.stamp.len else 0) (transfers_chosen M) ≤ i.remaining
 unfolding scheduled_to remaining

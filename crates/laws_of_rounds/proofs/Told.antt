@@ -15,24 +15,24 @@ use Rattle.bm_base.specs.Machine.State.{RoundLimits, Cluster, Holdings, State, r
 use Rattle.bm_base.specs.Maps.Lists.{has}
 use Rattle.bm_base.specs.Machine.Replicas.{node_of, has_storage, sources_of, is_usable, drains, is_draining}
 use Rattle.bm_base.specs.Machine.Levels.{level}
-use Rattle.bm_base.specs.Machine.Excess.{begun, started, marked, without_expired, without_unordered_excess}
+use Rattle.bm_base.specs.Machine.Excess.{state_after_expiry, state_at_choice, with_surplus_marked, without_expired, without_unordered_excess}
 use Rattle.bm_base.specs.Machine.Deletes.{deletes_of, deletes}
 use Rattle.bm_base.specs.Promises.Lawful.{IsOrderly}
-use Rattle.bm_base.specs.Machine.Rounds.{whole_round, commands_of, node_commands, has_commands, is_commanded, finished}
+use Rattle.bm_base.specs.Machine.Rounds.{whole_round, commands_of, node_commands, has_commands, is_commanded, end_round}
 use Rattle.bm_base.specs.Promises.NextRound.{IsAmong, IsTransferCommanded, deletes_commanded, transfers_chosen, after_round}
 use Rattle.std.proofs.lemmas.Option.{same_Some}
 use Rattle.bm_base.proofs.Options.{there}
-use Rattle.bm_base.proofs.Each.{Each, each_of, each_then, each_filter_by, each_flat_map, each_any}
-use Rattle.bm_base.proofs.Listed.{or_left, or_right, same_again}
-use Rattle.bm_base.proofs.Stands.{has_where}
+use Rattle.bm_base.proofs.ForEach.{Each, each_of, each_then, each_filter_by, each_flat_map, each_any}
+use Rattle.bm_base.proofs.ListTests.{or_left, or_right, same_again}
+use Rattle.bm_base.proofs.Membership.{has_where}
 use Rattle.laws_of_rounds.proofs.Usable.{sources_usable}
 use Rattle.laws_of_rounds.proofs.Grouped.{each_node, each_on_node, all_of_each}
 use Rattle.bm_base.proofs.Sets.{has_keys}
-use Rattle.laws_of_states.proofs.Commanded.{IsTested, chosen_deletes_of, deleted_is}
-use Rattle.laws_of_states.proofs.Kept.{marks_started, marks_before, remarked, remarked_ordered, surplus_of}
+use Rattle.laws_of_states.proofs.RoundCommands.{IsTested, chosen_deletes_of, deleted_is}
+use Rattle.laws_of_states.proofs.LiveAfterRound.{marks_started, marks_before, remarked, remarked_ordered, surplus_of}
 use Rattle.bm_base.proofs.Options.{revised}
-use Rattle.laws_of_states.proofs.Marked.{ordered_by}
-use Rattle.laws_of_states.proofs.Tested.{commanded_among}
+use Rattle.laws_of_states.proofs.MarkedReplicas.{ordered_by}
+use Rattle.laws_of_states.proofs.CommandedDeletes.{commanded_among}
 use Rattle.laws_of_rounds.proofs.Sending.{node_is, storage_is, streams_of_node, two_below, source_usable}
 use Rattle.laws_of_rounds.proofs.Later.{each_among, each_is, commanded_chosen, ordered_by_round, pending_now}
 use Rattle.laws_of_states.proofs.AfterRound.{marks_after}
@@ -57,7 +57,7 @@ unfolding node_commands
 own_node C ts ds n = own_of C ts ds n
 
 pub each_own : (M : State) → All (IsOwn M.cluster) (whole_round M).0.nodes
-unfolding whole_round started begun
+unfolding whole_round state_at_choice state_after_expiry
 each_own M = all_of_each (IsOwn M.cluster) (whole_round M).0.nodes (each_node M.cluster _ _ _ (IsOwn M.cluster) (own_node M.cluster _ _))
 
 -- The order of a node's transfers is that of the choice.
@@ -98,7 +98,7 @@ unfiltered {X = X} p (y ∷ xs) front back x e = by_test (p y) refl front e (λ 
         (y ∷ r.0, r.1, ap (λ ws. y ∷ ws) r.2, ap (λ b. cond b (y ∷ filter p r.0) (filter p r.0)) t ∙ r.3, r.4)
 
 abbrev AreFirstTwo : State → NodeCommands → Type 0
-AreFirstTwo M k = drains M.cluster k.node ≡ false → (front back : List Transfer) (t : Transfer) → k.transfers ≡ front ++ t ∷ back → (level M.cluster (started M).holdings t.block ≡ Some Highest) ⊎ (length front < 2)
+AreFirstTwo M k = drains M.cluster k.node ≡ false → (front back : List Transfer) (t : Transfer) → k.transfers ≡ front ++ t ∷ back → (level M.cluster (state_at_choice M).holdings t.block ≡ Some Highest) ⊎ (length front < 2)
 
 not_draining : (C : Cluster) (n s : ℕ) → has_storage C n s ≡ true → drains C n ≡ false → is_draining C s ≡ false
 unfolding is_draining
@@ -111,12 +111,12 @@ first_two_of M ds n staying front back t e =
     of_case (two_below M place.0 place.1 t place.2 (not_draining M.cluster n t.source place.4 staying))
     (streams_of_node M.cluster place.0 n t.source place.4 ∙ ap length place.3)
   where
-    of_case : {k : ℕ} → (level M.cluster (started M).holdings t.block ≡ Some Highest) ⊎ (k < 2) → k ≡ length front → (level M.cluster (started M).holdings t.block ≡ Some Highest) ⊎ (length front < 2)
+    of_case : {k : ℕ} → (level M.cluster (state_at_choice M).holdings t.block ≡ Some Highest) ⊎ (k < 2) → k ≡ length front → (level M.cluster (state_at_choice M).holdings t.block ≡ Some Highest) ⊎ (length front < 2)
     of_case (inl h) is = inl h
     of_case (inr h) is = inr (subst (λ z. z < 2) is h)
 
 pub first_two : (M : State) → All (AreFirstTwo M) (whole_round M).0.nodes
-unfolding whole_round started begun
+unfolding whole_round state_at_choice state_after_expiry
 first_two M =
     all_of_each (AreFirstTwo M) (whole_round M).0.nodes (each_node M.cluster _ (transfers_chosen M) (chosen_deletes_of M) (AreFirstTwo M) (first_two_of M (chosen_deletes_of M)))
 
@@ -202,18 +202,18 @@ mapped_was f None e = e
 mapped_was f (Some x) e = refl
 
 -- the node of a source is alive
-source_alive : (M : State) (b s : ℕ) → IsOrderly M → has (sources_of M.cluster (started M).holdings b) s ≡ true → (n : ℕ) × (has (keys M.cluster.nodes) n ≡ true) × (has_storage M.cluster n s ≡ true)
+source_alive : (M : State) (b s : ℕ) → IsOrderly M → has (sources_of M.cluster (state_at_choice M).holdings b) s ≡ true → (n : ℕ) × (has (keys M.cluster.nodes) n ≡ true) × (has_storage M.cluster n s ≡ true)
 unfolding node_of
 source_alive M b s lawful h =
-    let known = mapped_was (remarked (surplus_of M b) s) (get M.holdings.replicas (replica_at b s)) (sym (ap is_some (marks_started M (replica_at b s))) ∙ passing_there is_usable (get (started M).holdings.replicas (replica_at b s)) (sym (has_where (λ _ m. is_usable m) (started M).holdings b s) ∙ sym (sources_usable M.cluster (started M).holdings b s) ∙ h)) in
+    let known = mapped_was (remarked (surplus_of M b) s) (get M.holdings.replicas (replica_at b s)) (sym (ap is_some (marks_started M (replica_at b s))) ∙ passing_there is_usable (get (state_at_choice M).holdings.replicas (replica_at b s)) (sym (has_where (λ _ m. is_usable m) (state_at_choice M).holdings b s) ∙ sym (sources_usable M.cluster (state_at_choice M).holdings b s) ∙ h)) in
     let storage = there (get M.cluster.storages s) (lawful.holdings.stored (replica_at b s) known) in
     (storage.0.node, has_keys M.cluster.nodes storage.0.node ∙ lawful.cluster.alive s storage.0 storage.1, storage_is M.cluster storage.0.node s (ap (option_map (λ i. i.node)) storage.1))
 
 pub chosen_told : (M : State) (t : Transfer) → IsOrderly M → IsAmong (transfers_chosen M) t → IsTransferCommanded M t
-unfolding whole_round started begun
+unfolding whole_round state_at_choice state_after_expiry
 chosen_told M t lawful at =
     let alive = source_alive M t.block t.source lawful (source_usable M at.0 at.1 t at.2).0 in
-    told_transfer M.cluster (started M).round (transfers_chosen M) (chosen_deletes_of M) alive.0 t alive.1 alive.2 at
+    told_transfer M.cluster (state_at_choice M).round (transfers_chosen M) (chosen_deletes_of M) alive.0 t alive.1 alive.2 at
 
 -- Deletes, and the state.
 
@@ -235,11 +235,11 @@ deletes_alive limits C H =
     (keys C.nodes) (each_among (keys C.nodes))
 
 delete_told : (M : State) (q : ReplicaId) → is_commanded (chosen_deletes_of M) q ≡ true → IsTested M q
-unfolding is_commanded whole_round started begun
+unfolding is_commanded whole_round state_at_choice state_after_expiry
 delete_told M q h =
     let one = each_any (IsAmong (chosen_deletes_of M)) (λ (d : Delete). (d.storage == q.storage) && (d.block == q.block)) (chosen_deletes_of M) (each_among (chosen_deletes_of M)) h in
-    let alive = each_is (IsOnAlive M.cluster) (chosen_deletes_of M) one.0 (deletes_alive M.limits M.cluster (started M).holdings) one.1 in
-    commanded_among q one.0 (deletes_commanded M) (told_delete M.cluster (started M).round (transfers_chosen M) (chosen_deletes_of M) alive.0 one.0 alive.1 alive.2 one.1) one.2
+    let alive = each_is (IsOnAlive M.cluster) (chosen_deletes_of M) one.0 (deletes_alive M.limits M.cluster (state_at_choice M).holdings) one.1 in
+    commanded_among q one.0 (deletes_commanded M) (told_delete M.cluster (state_at_choice M).round (transfers_chosen M) (chosen_deletes_of M) alive.0 one.0 alive.1 alive.2 one.1) one.2
 
 pub ordered_after : (M : State) (q : ReplicaId) → IsTested M q → (m : Marks) × (get (after_round M).holdings.replicas q ≡ Some m) × (m.ordered ≡ true)
 ordered_after M q h =
@@ -253,7 +253,7 @@ newly false m e f = absurd (false≢true (sym e ∙ f))
 
 pub ordered_told : (M : State) (q : ReplicaId) (m n : Marks) → get M.holdings.replicas q ≡ Some m → m.ordered ≡ false → get (after_round M).holdings.replicas q ≡ Some n → n.ordered ≡ true → IsTested M q
 ordered_told M q m n before unordered after ordered =
-    let was = revised (ordered_by (chosen_deletes_of M) q) (get (started M).holdings.replicas q) n (sym (marks_after M q) ∙ after) in
+    let was = revised (ordered_by (chosen_deletes_of M) q) (get (state_at_choice M).holdings.replicas q) n (sym (marks_after M q) ∙ after) in
     let first = marks_before M q was.0 was.1 in
     let same : first.0 ≡ m = same_Some first.0 m (sym first.1 ∙ before) in
     delete_told M q (newly (is_commanded (chosen_deletes_of M) q) was.0
@@ -267,5 +267,5 @@ pending_told M t h = pending_now M t (commanded_chosen M t h)
 
 pub same_rest : (M : State) → ((after_round M).cluster ≡ M.cluster) × ((after_round M).holdings.blocks ≡ M.holdings.blocks) × ((after_round M).limits ≡ M.limits)
     × ((after_round M).round ≡ M.round + 1) × ((after_round M).calls ≡ M.calls)
-unfolding whole_round started begun finished marked without_expired without_unordered_excess
+unfolding whole_round state_at_choice state_after_expiry end_round with_surplus_marked without_expired without_unordered_excess
 same_rest M = (refl, refl, refl, refl, refl)

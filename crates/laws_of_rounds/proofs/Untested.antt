@@ -6,8 +6,8 @@ use Rattle.bm_base.specs.declared.commands.Delete.{Delete}
 use Rattle.bm_base.specs.Machine.State.{State}
 use Rattle.bm_base.specs.Machine.Rounds.{is_commanded}
 use Rattle.bm_base.specs.Promises.NextRound.{IsAmong, IsDeleteCommanded, deletes_commanded}
-use Rattle.laws_of_states.proofs.Commanded.{IsTested, at_same}
-use Rattle.laws_of_states.proofs.Tested.{delete_of}
+use Rattle.laws_of_states.proofs.RoundCommands.{IsTested, at_same}
+use Rattle.laws_of_states.proofs.CommandedDeletes.{delete_of}
 use Rattle.laws_of_rounds.proofs.Later.{any_chosen}
 
 pub untested : (M : State) (q : ReplicaId) → IsTested M q → IsDeleteCommanded M q

@@ -8,7 +8,7 @@ use Rattle.bm_base.specs.Maps.Map.{get}
 use Rattle.bm_base.specs.Machine.State.{Cluster, Holdings, replica_at}
 use Rattle.bm_base.specs.Maps.Lists.{has, has_repeats}
 use Rattle.bm_base.specs.Machine.Replicas.{live, drained, sources_of, is_usable, is_live_on, is_drained_on, is_draining, usable}
-use Rattle.bm_base.proofs.Stands.{has_where, once_where}
+use Rattle.bm_base.proofs.Membership.{has_where, once_where}
 
 pub live_once : (C : Cluster) (H : Holdings) (b : ℕ) → has_repeats (live C H b) ≡ false
 live_once C H b = once_where (is_live_on C) H b

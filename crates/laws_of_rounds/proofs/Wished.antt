@@ -14,16 +14,16 @@ use Rattle.bm_base.specs.Machine.State.{RoundLimits, Cluster, Holdings, State}
 use Rattle.bm_base.specs.Maps.Lists.{has, distinct}
 use Rattle.bm_base.specs.Machine.Replicas.{live, drained, sources_of, racks, rack_of, is_multi_rack}
 use Rattle.bm_base.specs.Machine.Levels.{level, level_of, is_at}
-use Rattle.bm_base.specs.Machine.Excess.{begun, started, marked, without_expired, without_unordered_excess, share_rack}
-use Rattle.bm_base.specs.Machine.Transfers.{WishedCopy, wished_count, wishes_for, wishes, pending_targets, targets_of, holders_of, barred_for, is_on_racks, class_of, least_source, least_target, transfer_for, transfers_from, transfers}
+use Rattle.bm_base.specs.Machine.Excess.{state_after_expiry, state_at_choice, with_surplus_marked, without_expired, without_unordered_excess, share_rack}
+use Rattle.bm_base.specs.Machine.Transfers.{RequestedCopy, requested_count, wishes_for, wishes, pending_targets, targets_of, holders_of, excluded_for, is_on_racks, class_of, least_source, least_target, transfer_for, transfers_from, transfers}
 use Rattle.bm_base.specs.Promises.NextRound.{transfers_chosen, live_marked}
 use Rattle.laws_of_rounds.specs.Transfers.{copies_chosen, copies_on_their_way}
 use Rattle.std.proofs.lemmas.List.Sums.{length-filter}
 use Rattle.bm_base.specs.declared.replica.ReplicaId.{ReplicaId}
 use Rattle.laws_of_rounds.proofs.Needs.{level_known}
 use Rattle.std.proofs.lemmas.Option.{same_Some}
-use Rattle.bm_base.proofs.Each.{Each}
-use Rattle.bm_base.proofs.Listed.{filter_append, same_again}
+use Rattle.bm_base.proofs.ForEach.{Each}
+use Rattle.bm_base.proofs.ListTests.{filter_append, same_again}
 use Rattle.laws_of_rounds.proofs.Grouped.{grouped}
 use Rattle.bm_base.proofs.Sets.{has_keys}
 use Rattle.bm_base.proofs.OneWish.{once_keys}
@@ -34,10 +34,10 @@ use Rattle.bm_base.proofs.Sets.{rack_among}
 
 -- Requested copies of one block.
 
-abbrev about : ℕ → WishedCopy → Bool
+abbrev about : ℕ → RequestedCopy → Bool
 about b w = w.block == b
 
-each_about : (b : ℕ) (n : ℕ) (w : WishedCopy) → (w.block == b) ≡ true → Each (λ v. about b v ≡ true) (replicate n w)
+each_about : (b : ℕ) (n : ℕ) (w : RequestedCopy) → (w.block == b) ≡ true → Each (λ v. about b v ≡ true) (replicate n w)
 each_about b zero w e = tt
 each_about b (suc n) w e = (e, each_about b n w e)
 
@@ -47,16 +47,16 @@ length_replicate (suc n) x = let rest = length_replicate n x in omega (arith, re
 
 module _ (C : Cluster) (H : Holdings) where
   about_if : (urgency : Level) (b : ℕ) (t : Bool) (o : Option BlockInfo)
-      → Each (λ w. about b w ≡ true) (if t then option_map_or (λ i. replicate (wished_count C H urgency i.repl b) (record { urgency = urgency; block = b })) o [] else [])
+      → Each (λ w. about b w ≡ true) (if t then option_map_or (λ i. replicate (requested_count C H urgency i.repl b) (record { urgency = urgency; block = b })) o [] else [])
   about_if urgency b true None = tt
-  about_if urgency b true (Some i) = each_about b (wished_count C H urgency i.repl b) (record { urgency = urgency; block = b }) (same_again b)
+  about_if urgency b true (Some i) = each_about b (requested_count C H urgency i.repl b) (record { urgency = urgency; block = b }) (same_again b)
   about_if urgency b false o = tt
 
   about_for : (urgency : Level) (b : ℕ) → Each (λ w. about b w ≡ true) (wishes_for C H urgency b)
   unfolding wishes_for
   about_for urgency b = about_if urgency b (is_at urgency (level C H b)) (get H.blocks b)
 
-  apart : (n k : ℕ) (w : WishedCopy) → about n w ≡ true → about k w ≡ true → n ≡ k
+  apart : (n k : ℕ) (w : RequestedCopy) → about n w ≡ true → about k w ≡ true → n ≡ k
   apart n k w e f = sym (eqb-true w.block n e) ∙ eqb-true w.block k f
 
   module _ (b : ℕ) (i : BlockInfo) (known : get H.blocks b ≡ Some i) where
@@ -66,46 +66,46 @@ module _ (C : Cluster) (H : Holdings) where
         grouped (wishes_for C H urgency) (λ n w. about n w) apart (about_for urgency) b (keys H.blocks) (once_keys H.blocks)
         ∙ ap (λ t. cond t (wishes_for C H urgency b) []) (has_keys H.blocks b ∙ ap is_some known)
 
-    length_for : (urgency : Level) → length (wishes_for C H urgency b) ≡ cond (is_at urgency (level C H b)) (wished_count C H urgency i.repl b) 0
+    length_for : (urgency : Level) → length (wishes_for C H urgency b) ≡ cond (is_at urgency (level C H b)) (requested_count C H urgency i.repl b) 0
     unfolding wishes_for
     length_for urgency =
-        let wish : WishedCopy = record { urgency = urgency; block = b } in
-        ap (λ o. length (if is_at urgency (level C H b) then option_map_or (λ j. replicate (wished_count C H urgency j.repl b) wish) o [] else [])) known
-        ∙ (elim (is_at urgency (level C H b)) as (λ t. length (if t then replicate (wished_count C H urgency i.repl b) wish else []) ≡ cond t (wished_count C H urgency i.repl b) 0) [
-          | true ↦ length_replicate (wished_count C H urgency i.repl b) wish
+        let wish : RequestedCopy = record { urgency = urgency; block = b } in
+        ap (λ o. length (if is_at urgency (level C H b) then option_map_or (λ j. replicate (requested_count C H urgency j.repl b) wish) o [] else [])) known
+        ∙ (elim (is_at urgency (level C H b)) as (λ t. length (if t then replicate (requested_count C H urgency i.repl b) wish else []) ≡ cond t (requested_count C H urgency i.repl b) 0) [
+          | true ↦ length_replicate (requested_count C H urgency i.repl b) wish
           | false ↦ refl
         ])
 
-    length_at : (urgency : Level) → length (filter (about b) (flat_map (wishes_for C H urgency) (keys H.blocks))) ≡ cond (is_at urgency (level C H b)) (wished_count C H urgency i.repl b) 0
+    length_at : (urgency : Level) → length (filter (about b) (flat_map (wishes_for C H urgency) (keys H.blocks))) ≡ cond (is_at urgency (level C H b)) (requested_count C H urgency i.repl b) 0
     length_at urgency = ap length (of_level urgency) ∙ length_for urgency
 
     sums : length (filter (about b) (wishes C H))
-        ≡ cond (is_at Highest (level C H b)) (wished_count C H Highest i.repl b) 0
-        + (cond (is_at VeryUnderReplicated (level C H b)) (wished_count C H VeryUnderReplicated i.repl b) 0
-        + (cond (is_at UnderReplicated (level C H b)) (wished_count C H UnderReplicated i.repl b) 0
-        + (cond (is_at BadlyDistributed (level C H b)) (wished_count C H BadlyDistributed i.repl b) 0 + 0)))
+        ≡ cond (is_at Highest (level C H b)) (requested_count C H Highest i.repl b) 0
+        + (cond (is_at VeryUnderReplicated (level C H b)) (requested_count C H VeryUnderReplicated i.repl b) 0
+        + (cond (is_at UnderReplicated (level C H b)) (requested_count C H UnderReplicated i.repl b) 0
+        + (cond (is_at BadlyDistributed (level C H b)) (requested_count C H BadlyDistributed i.repl b) 0 + 0)))
     unfolding wishes
     sums =
         step Highest (at VeryUnderReplicated ++ (at UnderReplicated ++ (at BadlyDistributed ++ []))) _
         (step VeryUnderReplicated (at UnderReplicated ++ (at BadlyDistributed ++ [])) _ (step UnderReplicated (at BadlyDistributed ++ []) _ (step BadlyDistributed [] 0 refl)))
       where
-        at : Level → List WishedCopy
+        at : Level → List RequestedCopy
         at urgency = flat_map (wishes_for C H urgency) (keys H.blocks)
 
-        step : (urgency : Level) (rest : List WishedCopy) (n : ℕ) → length (filter (about b) rest) ≡ n
-            → length (filter (about b) (at urgency ++ rest)) ≡ cond (is_at urgency (level C H b)) (wished_count C H urgency i.repl b) 0 + n
+        step : (urgency : Level) (rest : List RequestedCopy) (n : ℕ) → length (filter (about b) rest) ≡ n
+            → length (filter (about b) (at urgency ++ rest)) ≡ cond (is_at urgency (level C H b)) (requested_count C H urgency i.repl b) 0 + n
         step urgency rest n e =
             ap length (filter_append (about b) (at urgency) rest) ∙ length-append (filter (about b) (at urgency)) (filter (about b) rest)
             ∙ (λ j. length_at urgency j + e j)
 
     -- the number of requested copies of the block is that for its level
-    pub wishes_about : length (filter (about b) (wishes C H)) ≡ option_map_or (λ l. wished_count C H l i.repl b) (level C H b) 0
+    pub wishes_about : length (filter (about b) (wishes C H)) ≡ option_map_or (λ l. requested_count C H l i.repl b) (level C H b) 0
     wishes_about = sums ∙ by_level (level C H b)
       where
-        by_level : (found : Option Level) → cond (is_at Highest found) (wished_count C H Highest i.repl b) 0
-            + (cond (is_at VeryUnderReplicated found) (wished_count C H VeryUnderReplicated i.repl b) 0
-            + (cond (is_at UnderReplicated found) (wished_count C H UnderReplicated i.repl b) 0
-            + (cond (is_at BadlyDistributed found) (wished_count C H BadlyDistributed i.repl b) 0 + 0))) ≡ option_map_or (λ l. wished_count C H l i.repl b) found 0
+        by_level : (found : Option Level) → cond (is_at Highest found) (requested_count C H Highest i.repl b) 0
+            + (cond (is_at VeryUnderReplicated found) (requested_count C H VeryUnderReplicated i.repl b) 0
+            + (cond (is_at UnderReplicated found) (requested_count C H UnderReplicated i.repl b) 0
+            + (cond (is_at BadlyDistributed found) (requested_count C H BadlyDistributed i.repl b) 0 + 0))) ≡ option_map_or (λ l. requested_count C H l i.repl b) found 0
         by_level None = omega arith
         by_level (Some Highest) = omega arith
         by_level (Some VeryUnderReplicated) = omega arith
@@ -142,13 +142,13 @@ block_kept false (Some i) None to b t e = absurd (false≢true (ap is_some e))
 block_kept false (Some i) (Some s) to b t e = block_mapped b s i (to i) t e
 
 module _ (limits : RoundLimits) (C : Cluster) (H : Holdings) (b : ℕ) where
-  pub of_wish : (front : List Transfer) (w : WishedCopy) (t : Transfer) → transfer_for limits C H front w ≡ Some t → t.block ≡ w.block
+  pub of_wish : (front : List Transfer) (w : RequestedCopy) (t : Transfer) → transfer_for limits C H front w ≡ Some t → t.block ≡ w.block
   unfolding transfer_for
   of_wish front w t e =
       block_kept _ (get H.blocks w.block) (least_source C front w.urgency (sources_of C H w.block))
-      (λ i. least_target C front w.urgency (holders_of C H front w.block) (barred_for H front w.block) i.stamp.len) w.block t e
+      (λ i. least_target C front w.urgency (holders_of C H front w.block) (excluded_for H front w.block) i.stamp.len) w.block t e
 
-  one_more : (front : List Transfer) (w : WishedCopy) (o : Option Transfer) → ((t : Transfer) → o ≡ Some t → t.block ≡ w.block)
+  one_more : (front : List Transfer) (w : RequestedCopy) (o : Option Transfer) → ((t : Transfer) → o ≡ Some t → t.block ≡ w.block)
       → length (targets_of (front ++ option_to_list o) b) ≤ length (targets_of front b) + cond (w.block == b) 1 0
   one_more front w None same = let long = count_append front [] b in let none = count_none b in omega (arith, long, none)
   one_more front w (Some t) same =
@@ -156,7 +156,7 @@ module _ (limits : RoundLimits) (C : Cluster) (H : Holdings) (b : ℕ) where
       let one : length (targets_of (t ∷ []) b) ≡ cond (w.block == b) 1 0 = count_one t b ∙ ap (λ z. cond (z == b) 1 0) (same t refl) in
       omega (arith, long, one)
 
-  pub no_more_than_wishes : (front : List Transfer) (ws : List WishedCopy) → length (targets_of (transfers_from limits C H front ws) b) ≤ length (targets_of front b) + length (filter (about b) ws)
+  pub no_more_than_wishes : (front : List Transfer) (ws : List RequestedCopy) → length (targets_of (transfers_from limits C H front ws) b) ≤ length (targets_of front b) + length (filter (about b) ws)
   no_more_than_wishes front [] = omega arith
   no_more_than_wishes front (w ∷ ws) =
       let rest = no_more_than_wishes (front ++ option_to_list (transfer_for limits C H front w)) ws in
@@ -168,7 +168,7 @@ module _ (limits : RoundLimits) (C : Cluster) (H : Holdings) (b : ℕ) where
       by_test true n k e f = omega (arith, e, f)
       by_test false n k e f = omega (arith, e, f)
 
-lacks : (C : Cluster) (H : Holdings) (b repl n : ℕ) (found : Option Level) → 1 ≤ n → n ≤ option_map_or (λ l. wished_count C H l repl b) found 0
+lacks : (C : Cluster) (H : Holdings) (b repl n : ℕ) (found : Option Level) → 1 ≤ n → n ≤ option_map_or (λ l. requested_count C H l repl b) found 0
     → (length (live C H b) + length (pending_targets H b) + n ≤ repl) ⊎ ((found ≡ Some BadlyDistributed) × (length (pending_targets H b) ≡ 0) × (n ≡ 1))
 lacks C H b repl n None some h = absurd (omega arith)
 lacks C H b repl n (Some Highest) some h = inl (omega arith)
@@ -185,11 +185,11 @@ lacks C H b repl n (Some BadlyDistributed) some h = inr (of_pending (length (pen
         ]) refl few
 
 no_more_targets : (M : State) (b : ℕ) (i : BlockInfo) → get M.holdings.blocks b ≡ Some i → 1 ≤ length (targets_of (transfers_chosen M) b)
-    → (length (live_marked M b) + length (pending_targets (started M).holdings b) + length (targets_of (transfers_chosen M) b) ≤ i.repl)
-    ⊎ ((level M.cluster (started M).holdings b ≡ Some BadlyDistributed) × (length (pending_targets (started M).holdings b) ≡ 0) × (length (targets_of (transfers_chosen M) b) ≡ 1))
-unfolding transfers started begun marked without_expired without_unordered_excess
+    → (length (live_marked M b) + length (pending_targets (state_at_choice M).holdings b) + length (targets_of (transfers_chosen M) b) ≤ i.repl)
+    ⊎ ((level M.cluster (state_at_choice M).holdings b ≡ Some BadlyDistributed) × (length (pending_targets (state_at_choice M).holdings b) ≡ 0) × (length (targets_of (transfers_chosen M) b) ≡ 1))
+unfolding transfers state_at_choice state_after_expiry with_surplus_marked without_expired without_unordered_excess
 no_more_targets M b i known some =
-    let H : Holdings = (started M).holdings in
+    let H : Holdings = (state_at_choice M).holdings in
     let few = no_more_than_wishes M.limits M.cluster H b [] (wishes M.cluster H) in
     let none = count_none b in
     let wanted = wishes_about M.cluster H b i known in
@@ -209,11 +209,11 @@ in_counts P n p q k l repl e f (inr h) = inr (h.0, sym e ∙ h.1, sym f ∙ h.2)
 
 pub no_more_than_lacks : (M : State) (b : ℕ) (i : BlockInfo) → get M.holdings.blocks b ≡ Some i → 1 ≤ copies_chosen M b
     → (length (live_marked M b) + copies_on_their_way M b + copies_chosen M b ≤ i.repl)
-    ⊎ ((level M.cluster (started M).holdings b ≡ Some BadlyDistributed) × (copies_on_their_way M b ≡ 0) × (copies_chosen M b ≡ 1))
+    ⊎ ((level M.cluster (state_at_choice M).holdings b ≡ Some BadlyDistributed) × (copies_on_their_way M b ≡ 0) × (copies_chosen M b ≡ 1))
 no_more_than_lacks M b i known some =
     let chosen = copies_targets (transfers_chosen M) b in
-    in_counts (level M.cluster (started M).holdings b ≡ Some BadlyDistributed) (length (live_marked M b)) (length (pending_targets (started M).holdings b)) (copies_on_their_way M b)
-    (length (targets_of (transfers_chosen M) b)) (copies_chosen M b) i.repl (copies_pending (started M).holdings b) chosen (no_more_targets M b i known (omega (arith, chosen, some)))
+    in_counts (level M.cluster (state_at_choice M).holdings b ≡ Some BadlyDistributed) (length (live_marked M b)) (length (pending_targets (state_at_choice M).holdings b)) (copies_on_their_way M b)
+    (length (targets_of (transfers_chosen M) b)) (copies_chosen M b) i.repl (copies_pending (state_at_choice M).holdings b) chosen (no_more_targets M b i known (omega (arith, chosen, some)))
 
 -- Another rack.
 
@@ -259,8 +259,8 @@ on_rack : (C : Cluster) (rs : List ℕ) (u r : ℕ) → rack_of C u ≡ Some r �
 unfolding is_on_racks
 on_rack C rs u r e there = ap (λ o. option_map_or (has rs) o false) e ∙ there
 
-known_before : (M : State) (b : ℕ) (i : BlockInfo) → get (started M).holdings.blocks b ≡ Some i → get M.holdings.blocks b ≡ Some i
-unfolding started begun marked without_expired without_unordered_excess
+known_before : (M : State) (b : ℕ) (i : BlockInfo) → get (state_at_choice M).holdings.blocks b ≡ Some i → get M.holdings.blocks b ≡ Some i
+unfolding state_at_choice state_after_expiry with_surplus_marked without_expired without_unordered_excess
 known_before M b i e = e
 
 head_count : (t : Transfer) (back : List Transfer) → length (targets_of (t ∷ back) t.block) ≡ 1 + length (targets_of back t.block)
@@ -301,25 +301,25 @@ first_off true true c e f = f
 first_off true false c e f = refl
 first_off false b c e f = absurd (false≢true e)
 
-second_rack_shared : (M : State) (front back : List Transfer) (t : Transfer) → transfers_chosen M ≡ front ++ t ∷ back → level M.cluster (started M).holdings t.block ≡ Some BadlyDistributed
+second_rack_shared : (M : State) (front back : List Transfer) (t : Transfer) → transfers_chosen M ≡ front ++ t ∷ back → level M.cluster (state_at_choice M).holdings t.block ≡ Some BadlyDistributed
     → (s : ℕ) → has (live_marked M t.block) s ≡ true → share_rack M.cluster s t.target ≡ false
 second_rack_shared M front back t is badly s there =
     let C : Cluster = M.cluster in
-    let H : Holdings = (started M).holdings in
+    let H : Holdings = (state_at_choice M).holdings in
     let why = chosen_at M front back t is in
     let counted = badly_counted (length (live C H t.block)) (length (drained C H t.block)) why.info.repl (length (racks C (live C H t.block))) (is_multi_rack C) (sym (level_known C H t.block why.info why.known) ∙ badly) in
     let long : length (targets_of (transfers_chosen M) t.block) ≡ length (targets_of front t.block) + length (targets_of (t ∷ back) t.block) =
     ap (λ ts. length (targets_of ts t.block)) is ∙ count_append front (t ∷ back) t.block in
     let head = head_count t back in
-    let at = target_is C front why.urgency (holders_of C H front t.block) (barred_for H front t.block) why.info.stamp.len t.target why.target in
-    let parts = target_parts C front why.urgency (holders_of C H front t.block) (barred_for H front t.block) why.info.stamp.len t.target at.0 in
+    let at = target_is C front why.urgency (holders_of C H front t.block) (excluded_for H front t.block) why.info.stamp.len t.target why.target in
+    let parts = target_parts C front why.urgency (holders_of C H front t.block) (excluded_for H front t.block) why.info.stamp.len t.target at.0 in
     let urgent : why.urgency ≡ BadlyDistributed = same_Some why.urgency BadlyDistributed (sym why.at_level ∙ badly) in
     let off = first_off (is_at BadlyDistributed (Some why.urgency)) (length (racks C (holders_of C H front t.block)) == 1) (class_of C (holders_of C H front t.block) t.target == 1) (ap (λ l. is_at BadlyDistributed (Some l)) urgent) parts.apart in
     let none = none_other C H front t.block why.info.repl (length (targets_of (transfers_chosen M) t.block)) (length (targets_of back t.block)) (omega (arith, long, head)) counted.0
     (no_more_targets M t.block why.info (known_before M t.block why.info why.known) (omega (arith, long, head))) in
     elsewhere C H front t.block t.target s none.0 none.1 counted.1 off there
 
-pub second_rack : (M : State) (front back : List Transfer) (t : Transfer) → transfers_chosen M ≡ front ++ t ∷ back → level M.cluster (started M).holdings t.block ≡ Some BadlyDistributed
+pub second_rack : (M : State) (front back : List Transfer) (t : Transfer) → transfers_chosen M ≡ front ++ t ∷ back → level M.cluster (state_at_choice M).holdings t.block ≡ Some BadlyDistributed
     → (s r : ℕ) → has (live_marked M t.block) s ≡ true → rack_of M.cluster s ≡ Some r → rack_of M.cluster t.target ≡ Some r → ⊥
 second_rack M front back t is badly s r there at_s at_target =
     true≢false (sym (share_of M.cluster s t.target r at_s at_target) ∙ second_rack_shared M front back t is badly s there)

@@ -9,7 +9,7 @@ use Rattle.bm_base.specs.Maps.Map.{get}
 use Rattle.bm_base.specs.Machine.State.{State, replica_at}
 use Rattle.bm_base.specs.Machine.Replicas.{node_of, drains}
 use Rattle.bm_base.specs.Machine.Levels.{level}
-use Rattle.bm_base.specs.Machine.Excess.{started}
+use Rattle.bm_base.specs.Machine.Excess.{state_at_choice}
 use Rattle.bm_base.specs.Machine.Rounds.{whole_round}
 use Rattle.bm_base.specs.Promises.NextRound.{IsAmong, IsDeleteCommanded, IsTransferCommanded, transfers_chosen, after_round}
 
@@ -23,7 +23,7 @@ EachNodeItsOwn =
 abbrev pub FirstTwoOfANode : Type 0
 FirstTwoOfANode =
     (M : State) → All (λ k. drains M.cluster k.node ≡ false → (front back : List Transfer) (t : Transfer) → k.transfers ≡ front ++ t ∷ back
-    → (level M.cluster (started M).holdings t.block ≡ Some Highest) ⊎ (length front < 2)) (whole_round M).0.nodes
+    → (level M.cluster (state_at_choice M).holdings t.block ≡ Some Highest) ⊎ (length front < 2)) (whole_round M).0.nodes
 
 -- a round commands each transfer that it chooses
 abbrev pub ChosenTransferIsCommanded : State → Type 0

@@ -12,7 +12,7 @@ use Rattle.bm_base.specs.Maps.Map.{get}
 use Rattle.bm_base.specs.Machine.State.{State, replica_at, first_state}
 use Rattle.bm_base.specs.Maps.Lists.{has}
 use Rattle.bm_base.specs.Machine.Replicas.{is_usable, is_stray, is_corrupt, node_of, is_draining}
-use Rattle.bm_base.specs.Machine.Excess.{started}
+use Rattle.bm_base.specs.Machine.Excess.{state_at_choice}
 use Rattle.bm_base.specs.Machine.Rounds.{whole_round}
 use Rattle.bm_base.specs.Machine.Calls.{state_after}
 use Rattle.bm_base.specs.Promises.NextRound.{IsAmong, IsDeleteCommanded, after_round, live_marked, live_after, drained_after}
@@ -53,7 +53,7 @@ DrainedReplicaIsNotDeleted = (M : State) (b t : ℕ) → has (drained_after M b)
 -- a replica whose delete a round may command, by its marks once the round has marked
 pub record MayBeDeleted (M : State) (q : ReplicaId) : Type 0 where
   pub marks : Marks
-  pub is_there : get (started M).holdings.replicas q ≡ Some marks
+  pub is_there : get (state_at_choice M).holdings.replicas q ≡ Some marks
   pub not_ordered : marks.ordered ≡ false
   pub kind : (is_stray marks.tag ≡ true) ⊎ ((marks.excess ≡ true) ⊎ (is_corrupt marks.tag ≡ true))
 
@@ -63,7 +63,7 @@ OnlyWhatMayBeDeleted = (M : State) (q : ReplicaId) → IsDeleteCommanded M q →
 -- a corrupt replica is deleted only if at least the wanted number of its block's replicas are live
 abbrev pub CorruptWaitsForLive : State → Type 0
 CorruptWaitsForLive M =
-    (q : ReplicaId) (m : Marks) → IsDeleteCommanded M q → get (started M).holdings.replicas q ≡ Some m → is_corrupt m.tag ≡ true
+    (q : ReplicaId) (m : Marks) → IsDeleteCommanded M q → get (state_at_choice M).holdings.replicas q ≡ Some m → is_corrupt m.tag ≡ true
     → (i : BlockInfo) × (get M.holdings.blocks q.block ≡ Some i) × (i.repl ≤ length (live_marked M q.block))
 
 -- a delete that was ordered before the round is not commanded again
@@ -85,7 +85,7 @@ IsToBeDeleted M q m =
 abbrev pub OnlyTheLimitDefers : State → Type 0
 OnlyTheLimitDefers M =
     (q : ReplicaId) (m : Marks) (n : ℕ) → 1 ≤ M.limits.invalidate
-    → get (started M).holdings.replicas q ≡ Some m → m.ordered ≡ false → IsToBeDeleted M q m → node_of M.cluster q.storage ≡ Some n
+    → get (state_at_choice M).holdings.replicas q ≡ Some m → m.ordered ≡ false → IsToBeDeleted M q m → node_of M.cluster q.storage ≡ Some n
     → IsDeleteCommanded M q ⊎ ((k : NodeCommands) × IsAmong (whole_round M).0.nodes k × (k.node ≡ n) × (M.limits.invalidate ≤ length k.deletes))
 
 -- After every list of calls.

@@ -8,7 +8,7 @@ use Rattle.bm_base.specs.Maps.Map.{get}
 use Rattle.bm_base.specs.Machine.State.{State, replica_at}
 use Rattle.bm_base.specs.Maps.Lists.{has}
 use Rattle.bm_base.specs.Machine.Replicas.{rack_of, is_draining}
-use Rattle.bm_base.specs.Machine.Excess.{started}
+use Rattle.bm_base.specs.Machine.Excess.{state_at_choice}
 use Rattle.bm_base.specs.Promises.NextRound.{live_unmarked, live_marked, live_after, drained_unmarked, drained_marked, drained_after}
 
 -- Before a round marks, the live replicas are the good ones on nodes that do not drain, except
@@ -59,7 +59,7 @@ LastOfRackStays M =
 -- was so before, with its delete commanded.
 abbrev pub NoneOnADrainingNodeIsMarked : Type 0
 NoneOnADrainingNodeIsMarked =
-    (M : State) (q : ReplicaId) (n : Marks) → is_draining M.cluster q.storage ≡ true → get (started M).holdings.replicas q ≡ Some n → n.excess ≡ true
+    (M : State) (q : ReplicaId) (n : Marks) → is_draining M.cluster q.storage ≡ true → get (state_at_choice M).holdings.replicas q ≡ Some n → n.excess ≡ true
     → (m : Marks) × (get M.holdings.replicas q ≡ Some m) × (m.excess ≡ true) × (m.ordered ≡ true)
 
 -- So a replica that is drained before a round marks stays drained through the round, and no other
@@ -71,11 +71,11 @@ DrainedStayDrained = (M : State) (b : ℕ) → (drained_marked M b ≡ drained_u
 abbrev pub OrderedExcessStays : Type 0
 OrderedExcessStays =
     (M : State) (q : ReplicaId) (m : Marks) → get M.holdings.replicas q ≡ Some m → m.ordered ≡ true → m.excess ≡ true
-    → (n : Marks) × (get (started M).holdings.replicas q ≡ Some n) × (n.excess ≡ true)
+    → (n : Marks) × (get (state_at_choice M).holdings.replicas q ≡ Some n) × (n.excess ≡ true)
 
 -- Any other replica that is in excess once a round has marked was live before, whatever an earlier
 -- round marked.
 abbrev pub OtherExcessIsNew : Type 0
 OtherExcessIsNew =
-    (M : State) (q : ReplicaId) (n : Marks) → get (started M).holdings.replicas q ≡ Some n → n.ordered ≡ false → n.excess ≡ true
+    (M : State) (q : ReplicaId) (n : Marks) → get (state_at_choice M).holdings.replicas q ≡ Some n → n.ordered ≡ false → n.excess ≡ true
     → (has (live_unmarked M q.block) q.storage ≡ true) × (has (live_marked M q.block) q.storage ≡ false)

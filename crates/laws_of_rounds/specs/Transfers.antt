@@ -12,7 +12,7 @@ use Rattle.bm_base.specs.Machine.State.{State, replica_at}
 use Rattle.bm_base.specs.Maps.Lists.{has}
 use Rattle.bm_base.specs.Machine.Replicas.{node_of, rack_of, has_storage, drains, is_draining}
 use Rattle.bm_base.specs.Machine.Levels.{level, level_number}
-use Rattle.bm_base.specs.Machine.Excess.{started}
+use Rattle.bm_base.specs.Machine.Excess.{state_at_choice}
 use Rattle.bm_base.specs.Machine.Rounds.{whole_round}
 use Rattle.bm_base.specs.Promises.NextRound.{IsAmong, IsTransferCommanded, transfers_chosen, transfers_commanded, live_marked, drained_marked}
 
@@ -55,7 +55,7 @@ pub record IsFreshNode (M : State) (front : List Transfer) (t : Transfer) : Type
   pub known : (n : ℕ) × (node_of M.cluster t.target ≡ Some n)
   pub not_draining : is_draining M.cluster t.target ≡ false
   pub no_replica : (s : ℕ) → IsSome (get M.holdings.replicas (replica_at t.block s)) → node_of M.cluster s ≡ node_of M.cluster t.target → ⊥
-  pub none_pending : (s : ℕ) → IsSome (get (started M).holdings.pending (replica_at t.block s)) → node_of M.cluster s ≡ node_of M.cluster t.target → ⊥
+  pub none_pending : (s : ℕ) → IsSome (get (state_at_choice M).holdings.pending (replica_at t.block s)) → node_of M.cluster s ≡ node_of M.cluster t.target → ⊥
   pub no_other : (u : Transfer) → IsAmong front u → u.block ≡ t.block → node_of M.cluster u.target ≡ node_of M.cluster t.target → ⊥
 
 abbrev pub TargetIsOnFreshNode : Type 0
@@ -79,7 +79,7 @@ abbrev pub copies_chosen : State → ℕ → ℕ
 copies_chosen M b = count_by (λ t. t.block == b) (transfers_chosen M)
 
 abbrev pub copies_on_their_way : State → ℕ → ℕ
-copies_on_their_way M b = count_by (λ e. e.0.block == b) (entries (started M).holdings.pending)
+copies_on_their_way M b = count_by (λ e. e.0.block == b) (entries (state_at_choice M).holdings.pending)
 
 -- If a block gets transfers in a round, they are, with its live replicas and its pending transfers,
 -- no more than are wanted. Or it has enough replicas, on one rack, none is pending, and it gets
@@ -88,12 +88,12 @@ abbrev pub NoMoreThanLacks : Type 0
 NoMoreThanLacks =
     (M : State) (b : ℕ) (i : BlockInfo) → get M.holdings.blocks b ≡ Some i → 1 ≤ copies_chosen M b
     → (length (live_marked M b) + copies_on_their_way M b + copies_chosen M b ≤ i.repl)
-    ⊎ ((level M.cluster (started M).holdings b ≡ Some BadlyDistributed) × (copies_on_their_way M b ≡ 0) × (copies_chosen M b ≡ 1))
+    ⊎ ((level M.cluster (state_at_choice M).holdings b ≡ Some BadlyDistributed) × (copies_on_their_way M b ≡ 0) × (copies_chosen M b ≡ 1))
 
 -- a badly distributed block, which is on one rack, gets its copy on another rack
 abbrev pub SecondRack : Type 0
 SecondRack =
-    ForEachTransfer (λ M _ t. level M.cluster (started M).holdings t.block ≡ Some BadlyDistributed
+    ForEachTransfer (λ M _ t. level M.cluster (state_at_choice M).holdings t.block ≡ Some BadlyDistributed
     → (s r : ℕ) → has (live_marked M t.block) s ≡ true → rack_of M.cluster s ≡ Some r → rack_of M.cluster t.target ≡ Some r → ⊥)
 
 -- Of two transfers that a round chooses, the first is of the more urgent level, or of the same
@@ -101,5 +101,5 @@ SecondRack =
 abbrev pub MostUrgentFirst : Type 0
 MostUrgentFirst =
     (M : State) (front middle back : List Transfer) (t u : Transfer) (l k : Level) → transfers_chosen M ≡ front ++ t ∷ (middle ++ u ∷ back)
-    → level M.cluster (started M).holdings t.block ≡ Some l → level M.cluster (started M).holdings u.block ≡ Some k
+    → level M.cluster (state_at_choice M).holdings t.block ≡ Some l → level M.cluster (state_at_choice M).holdings u.block ≡ Some k
     → (level_number l < level_number k) ⊎ ((l ≡ k) × (t.block ≤ u.block))

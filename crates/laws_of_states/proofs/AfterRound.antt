@@ -7,22 +7,22 @@ use Rattle.bm_base.specs.declared.commands.Transfer.{Transfer}
 use Rattle.bm_base.specs.declared.commands.Delete.{Delete}
 use Rattle.bm_base.specs.Maps.Map.{get}
 use Rattle.bm_base.specs.Machine.State.{Holdings, State}
-use Rattle.bm_base.specs.Machine.Excess.{started}
-use Rattle.bm_base.specs.Machine.Rounds.{finished, is_commanded, whole_round}
+use Rattle.bm_base.specs.Machine.Excess.{state_at_choice}
+use Rattle.bm_base.specs.Machine.Rounds.{end_round, is_commanded, whole_round}
 use Rattle.bm_base.specs.Promises.NextRound.{transfers_chosen, after_round}
 use Rattle.bm_base.proofs.MapLaws.{get-revise}
-use Rattle.laws_of_states.proofs.Rounding.{ordered_tag}
-use Rattle.laws_of_states.proofs.Marked.{ordered_by}
-use Rattle.laws_of_states.proofs.Commanded.{chosen_deletes_of}
-use Rattle.laws_of_states.proofs.Kept.{marks_started, remarked, remarked_tag, surplus_of}
+use Rattle.laws_of_states.proofs.LawfulRounds.{ordered_tag}
+use Rattle.laws_of_states.proofs.MarkedReplicas.{ordered_by}
+use Rattle.laws_of_states.proofs.RoundCommands.{chosen_deletes_of}
+use Rattle.laws_of_states.proofs.LiveAfterRound.{marks_started, remarked, remarked_tag, surplus_of}
 
-marks_finished : (r : ℕ) (H : Holdings) (ts : List Transfer) (ds : List Delete) (q : ReplicaId) → get (finished r H ts ds).replicas q ≡ option_map (ordered_by ds q) (get H.replicas q)
-unfolding finished
+marks_finished : (r : ℕ) (H : Holdings) (ts : List Transfer) (ds : List Delete) (q : ReplicaId) → get (end_round r H ts ds).replicas q ≡ option_map (ordered_by ds q) (get H.replicas q)
+unfolding end_round
 marks_finished r H ts ds q = get-revise H.replicas (λ p m. ordered_by ds p m) q
 
-pub marks_after : (M : State) (q : ReplicaId) → get (after_round M).holdings.replicas q ≡ option_map (ordered_by (chosen_deletes_of M) q) (get (started M).holdings.replicas q)
+pub marks_after : (M : State) (q : ReplicaId) → get (after_round M).holdings.replicas q ≡ option_map (ordered_by (chosen_deletes_of M) q) (get (state_at_choice M).holdings.replicas q)
 unfolding whole_round
-marks_after M q = marks_finished (started M).round (started M).holdings (transfers_chosen M) (chosen_deletes_of M) q
+marks_after M q = marks_finished (state_at_choice M).round (state_at_choice M).holdings (transfers_chosen M) (chosen_deletes_of M) q
 
 tag_twice : (f g : Marks → Marks) → ((m : Marks) → (f m).tag ≡ m.tag) → ((m : Marks) → (g m).tag ≡ m.tag) → (o : Option Marks)
     → option_map (λ m. m.tag) (option_map f (option_map g o)) ≡ option_map (λ m. m.tag) o

@@ -12,15 +12,15 @@ use Rattle.bm_base.specs.declared.replica.BlockInfo.{BlockInfo}
 use Rattle.bm_base.specs.Maps.Map.{Map, by_number, get, insert, keep, revise, revise_at, remove, contains_key}
 use Rattle.bm_base.specs.Machine.State.{Cluster, Holdings, by_replica, replica_cmp}
 use Rattle.bm_base.specs.Machine.Replicas.{is_good, is_stray}
-use Rattle.bm_base.specs.Machine.Events.{add_block, delete_block, set_replication, restamp, make_bad, without_pending, revise_block, as_stray, as_bad, as_restamped}
+use Rattle.bm_base.specs.Machine.Events.{add_block, delete_block, set_replication, restamp, make_bad, without_pending, change_marks_of_block, as_stray, as_bad, as_restamped}
 use Rattle.bm_base.specs.Machine.Refusals.{knows_block, is_still_stored, is_bad_replication}
 use Rattle.bm_base.specs.declared.limits.TheConstants.{MAX_REPLICATION}
 use Rattle.bm_base.specs.Promises.Lawful.{IsLawfulHoldings}
 use Rattle.bm_base.proofs.MapLaws.{get-remove}
 use Rattle.bm_base.proofs.Ties.{number_tie}
 use Rattle.bm_base.proofs.Options.{there, is_there, not_passed}
-use Rattle.bm_base.proofs.Maps.{Holds, same_key, get_kept, get_removed, get_revised, get_elsewhere, known_inserted, known_revised, holds_inserted, passes_entry}
-use Rattle.bm_parts.proofs.Among.{lawful_among, among_here}
+use Rattle.bm_base.proofs.MapEntries.{Holds, same_key, get_kept, get_removed, get_revised, get_elsewhere, known_inserted, known_revised, holds_inserted, passes_entry}
+use Rattle.bm_parts.proofs.RemainingHoldings.{lawful_among, among_here}
 
 fits_replication : (repl : ℕ) → is_bad_replication repl ≡ false → (1 ≤ repl) × (repl ≤ MAX_REPLICATION)
 fits_replication repl e =
@@ -83,7 +83,7 @@ out_of m b q true t = ap is_some (get-remove m b q ∙ ap (λ c. cond c None (ge
 out_of m b q false t = ap is_some (get-remove m b q ∙ ap (λ c. cond c None (get m q)) (number_tie q b ∙ t))
 
 pub deleted_lawful : (C : Cluster) (H : Holdings) (b : ℕ) → IsLawfulHoldings C H → IsLawfulHoldings C (delete_block H b)
-unfolding delete_block without_pending revise_block
+unfolding delete_block without_pending change_marks_of_block
 deleted_lawful C H b L =
     lawful_among C C H (delete_block H b) L (among_here C H (delete_block H b) (was_before H b as_stray) (λ q e. (pending_left H b as_stray q e).0))
     (record {
@@ -125,7 +125,7 @@ still_no_stray Bad = refl
 still_no_stray Stray = refl
 
 pub restamped_lawful : (C : Cluster) (H : Holdings) (b : ℕ) (stamp : Stamp) → IsLawfulHoldings C H → IsLawfulHoldings C (restamp H b stamp)
-unfolding restamp without_pending revise_block
+unfolding restamp without_pending change_marks_of_block
 restamped_lawful C H b stamp L =
     lawful_among C C H (restamp H b stamp) L (among_here C H (restamp H b stamp) (was_before H b as_restamped) (λ q e. (pending_left H b as_restamped q e).0))
     (record {

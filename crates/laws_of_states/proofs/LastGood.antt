@@ -7,18 +7,18 @@ use Rattle.bm_base.specs.declared.replica.BlockInfo.{BlockInfo}
 use Rattle.bm_base.specs.Maps.Map.{get}
 use Rattle.bm_base.specs.Machine.State.{State, replica_at}
 use Rattle.bm_base.specs.Maps.Lists.{has}
-use Rattle.bm_base.specs.Machine.Excess.{begun, started}
+use Rattle.bm_base.specs.Machine.Excess.{state_after_expiry, state_at_choice}
 use Rattle.bm_base.specs.Machine.Rounds.{whole_round}
-use Rattle.bm_base.specs.Machine.Calls.{counted}
+use Rattle.bm_base.specs.Machine.Calls.{count_call}
 use Rattle.bm_base.specs.Promises.Lawful.{IsOrderly}
 use Rattle.bm_base.specs.Promises.Sparing.{SparesLastGood, KeepsEnoughLive}
 use Rattle.bm_base.specs.Promises.NextRound.{after_round, live_after}
-use Rattle.laws_of_states.proofs.Commanded.{IsTested}
-use Rattle.laws_of_states.proofs.Kept.{one_stays, enough_stay, live_stays}
+use Rattle.laws_of_states.proofs.RoundCommands.{IsTested}
+use Rattle.laws_of_states.proofs.LiveAfterRound.{one_stays, enough_stay, live_stays}
 use Rattle.bm_base.proofs.Options.{revised}
 use Rattle.laws_of_states.proofs.AfterRound.{same_tag}
-use Rattle.laws_of_states.proofs.Lively.{live_is}
-use Rattle.laws_of_states.proofs.Tested.{tested}
+use Rattle.laws_of_states.proofs.LiveReplicas.{live_is}
+use Rattle.laws_of_states.proofs.CommandedDeletes.{tested}
 
 -- a replica that is live after a round was good before it
 was_good : (M : State) (b t : ℕ) → has (live_after M b) t ≡ true → (m : Marks) × (get M.holdings.replicas (replica_at b t) ≡ Some m) × (m.tag ≡ Good)
@@ -39,8 +39,8 @@ only_good_stays M b s i lawful known only h =
 pub round_spares : (M : State) → IsOrderly M → SparesLastGood M (whole_round M).0
 round_spares M lawful b s i known only h = only_good_stays M b s i lawful known only (tested M (replica_at b s) h)
 
-pub round_keeps : (M : State) → IsOrderly M → KeepsEnoughLive M (whole_round M).0 (counted (whole_round M).1)
-unfolding whole_round started begun
+pub round_keeps : (M : State) → IsOrderly M → KeepsEnoughLive M (whole_round M).0 (count_call (whole_round M).1)
+unfolding whole_round state_at_choice state_after_expiry
 round_keeps M lawful b s i known h =
     let enough = enough_stay M b s i lawful known (tested M (replica_at b s) h) in
     (enough.0, enough.1, λ t there again. live_stays M b t there (tested M (replica_at b t) again))

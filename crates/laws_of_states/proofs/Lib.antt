@@ -1,15 +1,15 @@
 -- Each event and each round leaves a lawful state lawful.
 pub mod BlockEvents
-pub mod First
-pub mod Rounding
-pub mod Accepting
-pub mod Orderly
+pub mod FirstState
+pub mod LawfulRounds
+pub mod AcceptedEvents
+pub mod OrderlyStates
 -- What a round's deletes leave of a block.
 pub mod Surpluses
-pub mod Lively
-pub mod Marked
-pub mod Commanded
-pub mod Kept
+pub mod LiveReplicas
+pub mod MarkedReplicas
+pub mod RoundCommands
+pub mod LiveAfterRound
 pub mod AfterRound
-pub mod Tested
+pub mod CommandedDeletes
 pub mod LastGood

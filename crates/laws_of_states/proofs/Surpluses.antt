@@ -10,7 +10,7 @@ use Rattle.bm_base.specs.Maps.Lists.{has, has_repeats, least}
 use Rattle.bm_base.specs.Machine.Excess.{excess_cmp, excess_among}
 use Rattle.bm_base.proofs.Clusters.{eqb_turned}
 use Rattle.std.proofs.lemmas.Option.{same_Some}
-use Rattle.bm_base.proofs.Listed.{count_without, has_filter, once_filter, filter_filter, or_left, or_right, same_again, and_second}
+use Rattle.bm_base.proofs.ListTests.{count_without, has_filter, once_filter, filter_filter, or_left, or_right, same_again, and_second}
 
 all_pass : {X : Type 0} (xs : List X) → filter (λ _. true) xs ≡ xs
 all_pass [] = refl

@@ -5,9 +5,9 @@ use Rattle.bm_base.specs.declared.event.Event.TheVariants.{Heartbeat}
 use Rattle.bm_base.specs.declared.event.Remaining.{Remaining}
 use Rattle.bm_base.specs.Machine.State.{State}
 use Rattle.bm_answers.specs.declared.asked.Asked.TheVariants.{Asks}
-use Rattle.puljemrod.specs.declared.kept.Kept.{Kept}
+use Rattle.puljemrod.specs.declared.handle_state.HandleState.{HandleState}
 use Rattle.puljemrod.specs.Calls.{IsAsked, IsCall, IsBeat}
 
-pub beat : (k before : Kept) (node : ℕ) (rs : List Remaining) (now : Kept) (code : ℕ) → before.manager ≡ k.manager → IsCall before (Apply (Heartbeat node rs)) now code → IsBeat k node rs now code
+pub beat : (k before : HandleState) (node : ℕ) (rs : List Remaining) (now : HandleState) (code : ℕ) → before.manager ≡ k.manager → IsCall before (Apply (Heartbeat node rs)) now code → IsBeat k node rs now code
 beat k before node rs now code same (inl (memory, is, lacks)) = absurd (search rules)
 beat k before node rs now code same (inr made) = inr (subst (λ M. IsAsked M (Asks (Apply (Heartbeat node rs))) now × (code ≡ now.number)) same made)

@@ -5,10 +5,10 @@ use Rattle.bm_base.specs.Machine.State.{State}
 use Rattle.bm_answers.specs.declared.asked.Asked.{Asked}
 use Rattle.bm_answers.specs.declared.asked.Asked.TheVariants.{Long}
 use Rattle.bm_answers.specs.OneLine.{asked, answer_to, asked_next, asked_may_lack, text_of, number_of, line_text, line_next, line_number}
-use Rattle.puljemrod.specs.declared.kept.Kept.{Kept}
+use Rattle.puljemrod.specs.declared.handle_state.HandleState.{HandleState}
 use Rattle.puljemrod.specs.Calls.{text_with, IsAsked, IsAnswered}
 
-pub answered : (M : State) (line : List ℕ) (a : Asked) (k : Kept) → a ≡ asked line → IsAsked M a k → IsAnswered M line k
+pub answered : (M : State) (line : List ℕ) (a : Asked) (k : HandleState) → a ≡ asked line → IsAsked M a k → IsAnswered M line k
 unfolding line_text line_next line_number
 answered M line a k e p = record {
   state = p.state ∙ ap (asked_next M) e;

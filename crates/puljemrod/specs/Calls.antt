@@ -10,7 +10,7 @@ use Rattle.bm_base.specs.declared.refusal.Refusal.{Refusal}
 use Rattle.bm_base.specs.Machine.State.{State, first_state}
 use Rattle.bm_base.specs.Machine.Configuration.{config_refusal}
 use Rattle.bm_base.specs.Machine.Calls.{step}
-use Rattle.bm_base.specs.Machine.Answering.{Refuses, may_lack_memory}
+use Rattle.bm_base.specs.Machine.Answering.{Refuses, may_run_out_of_memory}
 use Rattle.bm_base.specs.Machine.Refusals.{refusal_number}
 use Rattle.bm_answers.specs.declared.asked.Asked.{Asked}
 use Rattle.bm_answers.specs.declared.asked.Asked.TheVariants.{Asks, Long}
@@ -18,14 +18,14 @@ use Rattle.bm_answers.specs.declared.line_answer.LineAnswer.{LineAnswer}
 use Rattle.bm_answers.specs.OneLine.{asked, answer_to, asked_next, number_of, text_of, line_text, line_next, line_number}
 use Rattle.puljemrod.specs.declared.codes.TheConstants.{MEMORY, CLOSED, NO_TEXT}
 use Rattle.puljemrod.specs.declared.options.Options.{Options}
-use Rattle.puljemrod.specs.declared.kept.Kept.{Kept}
+use Rattle.puljemrod.specs.declared.handle_state.HandleState.{HandleState}
 
 -- one worker, and the options
 abbrev pub config_of : Options → Config
 config_of o = record { shards = o.shards; workers = 1; work = o.work; invalidate = o.invalidate; pend = o.pend; first_round = o.first_round; first_call = o.first_call }
 
 -- the text that can be copied out
-abbrev pub text_in : Option Kept → List ℕ
+abbrev pub text_in : Option HandleState → List ℕ
 text_in None = []
 text_in (Some k) = k.text.items
 
@@ -34,23 +34,23 @@ abbrev pub text_with : Option LineAnswer → List ℕ → List ℕ
 text_with None text = text
 text_with (Some a) text = text_of a
 
-abbrev pub last_text : Kept → List ℕ
+abbrev pub last_text : HandleState → List ℕ
 last_text k = text_with k.answer k.text.items
 
 -- a new manager, and an empty answer
-pub record IsFirst (config : Config) (k : Kept) : Type 0 where
+pub record IsFirst (config : Config) (k : HandleState) : Type 0 where
   pub state : k.manager ≡ first_state config
   pub number : k.number ≡ 0
   pub answer : k.answer ≡ None
   pub text : k.text.items ≡ []
 
 -- Opening: the code is 0, or it is the number of a refusal, by which the handle stays closed.
-abbrev pub IsOpened : Options → ℕ → Option Kept → Type 0
-IsOpened o code now = ((code ≡ 0) × (config_refusal (config_of o) ≡ None) × (k : Kept) × (now ≡ Some k) × IsFirst (config_of o) k)
+abbrev pub IsOpened : Options → ℕ → Option HandleState → Type 0
+IsOpened o code now = ((code ≡ 0) × (config_refusal (config_of o) ≡ None) × (k : HandleState) × (now ≡ Some k) × IsFirst (config_of o) k)
     ⊎ ((now ≡ None) × (r : Refusal) × (code ≡ refusal_number r) × Refuses (config_refusal (config_of o)) true r)
 
 -- The call is done: its answer is stored, and its text is not made.
-pub record IsAsked (M : State) (asks : Asked) (k : Kept) : Type 0 where
+pub record IsAsked (M : State) (asks : Asked) (k : HandleState) : Type 0 where
   pub state : k.manager ≡ asked_next M asks
   pub number : k.number ≡ number_of (answer_to M asks)
   pub answer : k.answer ≡ Some (answer_to M asks)
@@ -58,7 +58,7 @@ pub record IsAsked (M : State) (asks : Asked) (k : Kept) : Type 0 where
   pub no_memory : k.number ≡ MEMORY → ⊥
 
 -- a line is answered by the definition, and the state is the next one
-pub record IsAnswered (M : State) (line : List ℕ) (k : Kept) : Type 0 where
+pub record IsAnswered (M : State) (line : List ℕ) (k : HandleState) : Type 0 where
   pub state : k.manager ≡ line_next M line
   pub number : k.number ≡ line_number M line
   pub text : last_text k ≡ line_text M line
@@ -66,36 +66,36 @@ pub record IsAnswered (M : State) (line : List ℕ) (k : Kept) : Type 0 where
 
 -- The text can be copied out, and the code is the number of the answer; or memory was refused for
 -- the text, and the text that can be copied out is as before.
-abbrev pub IsTold : List ℕ → Kept → ℕ → ℕ → Type 0
+abbrev pub IsTold : List ℕ → HandleState → ℕ → ℕ → Type 0
 IsTold before k code len = ((code ≡ k.number) × (k.answer ≡ None) × (len ≡ length k.text.items)) ⊎ ((code ≡ NO_TEXT) × (len ≡ 0) × (k.text.items ≡ before))
 
 -- A call on a line: memory was refused for a line that is not too long, and nothing changed; or the
 -- line is answered.
-abbrev pub IsLine : Kept → List ℕ → Kept → ℕ → ℕ → Type 0
+abbrev pub IsLine : HandleState → List ℕ → HandleState → ℕ → ℕ → Type 0
 IsLine k line now code len = ((code ≡ MEMORY) × (now ≡ k) × (len ≡ 0) × (asked line ≡ Long → ⊥)) ⊎ (IsAnswered k.manager line now × IsTold [] now code len)
 
 -- the call is made by the definition
-abbrev pub IsMade : Kept → Call → Kept → ℕ → Type 0
+abbrev pub IsMade : HandleState → Call → HandleState → ℕ → Type 0
 IsMade k c now code = IsAsked k.manager (Asks c) now × (code ≡ now.number)
 
 -- A call by its own function: memory was refused, which is possible only if the call takes memory
 -- and nothing else refuses it, and nothing changed; or the call is made.
-abbrev pub IsCall : Kept → Call → Kept → ℕ → Type 0
-IsCall k c now code = ((code ≡ MEMORY) × (now ≡ k) × IsTrue (may_lack_memory step k.manager c)) ⊎ IsMade k c now code
+abbrev pub IsCall : HandleState → Call → HandleState → ℕ → Type 0
+IsCall k c now code = ((code ≡ MEMORY) × (now ≡ k) × IsTrue (may_run_out_of_memory step k.manager c)) ⊎ IsMade k c now code
 
 -- The same for an event with a list, which is copied first: memory may be refused for the copy,
 -- whatever the event.
-abbrev pub IsListed : Kept → Call → Kept → ℕ → Type 0
+abbrev pub IsListed : HandleState → Call → HandleState → ℕ → Type 0
 IsListed k c now code = ((code ≡ MEMORY) × (now ≡ k)) ⊎ IsMade k c now code
 
 -- The same for a heartbeat, whose list is copied into memory that the handle keeps: memory may be
 -- refused only if that is too small for the list.
-abbrev pub IsBeat : Kept → ℕ → List Remaining → Kept → ℕ → Type 0
+abbrev pub IsBeat : HandleState → ℕ → List Remaining → HandleState → ℕ → Type 0
 IsBeat k node rs now code = ((code ≡ MEMORY) × (now ≡ k) × (k.spare < length rs)) ⊎ IsMade k (Apply (Heartbeat node rs)) now code
 
 -- The text of the last answer is requested: state and answer stay as they are. A text that is made
 -- already is not refused, and if memory is refused nothing changes.
-pub record IsText (k now : Kept) (code len : ℕ) : Type 0 where
+pub record IsText (k now : HandleState) (code len : ℕ) : Type 0 where
   pub state : now.manager ≡ k.manager
   pub number : now.number ≡ k.number
   pub text : last_text now ≡ last_text k
@@ -103,25 +103,25 @@ pub record IsText (k now : Kept) (code len : ℕ) : Type 0 where
 
 -- the effect of a call on a closed handle, which keeps the length of an answer, and on an open one
 
-abbrev pub AfterLine : Option Kept → List ℕ → Option Kept → ℕ → ℕ → ℕ → Type 0
+abbrev pub AfterLine : Option HandleState → List ℕ → Option HandleState → ℕ → ℕ → ℕ → Type 0
 AfterLine None line now code before len = (code ≡ CLOSED) × (now ≡ None) × (len ≡ before)
-AfterLine (Some k) line now code before len = (n : Kept) × (now ≡ Some n) × IsLine k line n code len
+AfterLine (Some k) line now code before len = (n : HandleState) × (now ≡ Some n) × IsLine k line n code len
 
-abbrev pub AfterText : Option Kept → Option Kept → ℕ → ℕ → ℕ → Type 0
+abbrev pub AfterText : Option HandleState → Option HandleState → ℕ → ℕ → ℕ → Type 0
 AfterText None now code before len = (code ≡ CLOSED) × (now ≡ None) × (len ≡ before)
-AfterText (Some k) now code before len = (n : Kept) × (now ≡ Some n) × IsText k n code len
+AfterText (Some k) now code before len = (n : HandleState) × (now ≡ Some n) × IsText k n code len
 
-abbrev pub AfterCall : Option Kept → Call → Option Kept → ℕ → Type 0
+abbrev pub AfterCall : Option HandleState → Call → Option HandleState → ℕ → Type 0
 AfterCall None c now code = (code ≡ CLOSED) × (now ≡ None)
-AfterCall (Some k) c now code = (n : Kept) × (now ≡ Some n) × IsCall k c n code
+AfterCall (Some k) c now code = (n : HandleState) × (now ≡ Some n) × IsCall k c n code
 
-abbrev pub AfterEvent : Option Kept → Event → Option Kept → ℕ → Type 0
+abbrev pub AfterEvent : Option HandleState → Event → Option HandleState → ℕ → Type 0
 AfterEvent old e now code = AfterCall old (Apply e) now code
 
-abbrev pub AfterListed : Option Kept → Event → Option Kept → ℕ → Type 0
+abbrev pub AfterListed : Option HandleState → Event → Option HandleState → ℕ → Type 0
 AfterListed None e now code = (code ≡ CLOSED) × (now ≡ None)
-AfterListed (Some k) e now code = (n : Kept) × (now ≡ Some n) × IsListed k (Apply e) n code
+AfterListed (Some k) e now code = (n : HandleState) × (now ≡ Some n) × IsListed k (Apply e) n code
 
-abbrev pub AfterBeat : Option Kept → ℕ → List Remaining → Option Kept → ℕ → Type 0
+abbrev pub AfterBeat : Option HandleState → ℕ → List Remaining → Option HandleState → ℕ → Type 0
 AfterBeat None node rs now code = (code ≡ CLOSED) × (now ≡ None)
-AfterBeat (Some k) node rs now code = (n : Kept) × (now ≡ Some n) × IsBeat k node rs n code
+AfterBeat (Some k) node rs now code = (n : HandleState) × (now ≡ Some n) × IsBeat k node rs n code

@@ -8,7 +8,7 @@ use Rattle.bm_answers.specs.declared.line_answer.LineAnswer.{LineAnswer}
 use Rattle.bm_answers.specs.declared.line_answer.LineAnswer.TheVariants.{Answered}
 use Rattle.puljemrod.specs.declared.commands.CopyRow.{CopyRow}
 use Rattle.puljemrod.specs.declared.commands.DeleteRow.{DeleteRow}
-use Rattle.puljemrod.specs.declared.kept.Kept.{Kept}
+use Rattle.puljemrod.specs.declared.handle_state.HandleState.{HandleState}
 
 abbrev pub copy_row : ℕ → Transfer → CopyRow
 copy_row node t = record { node = node; source = t.source; target = t.target; block = t.block; generation = t.stamp.generation; len = t.stamp.len }
@@ -31,16 +31,16 @@ abbrev pub round_by_answer : Option LineAnswer → ℕ
 round_by_answer (Some (Answered c (Commanded cs))) = cs.round
 round_by_answer _ = 0
 
-abbrev pub round_in : Option Kept → ℕ
+abbrev pub round_in : Option HandleState → ℕ
 round_in None = 0
 round_in (Some k) = round_by_answer k.answer
 
-abbrev pub nodes_in : Option Kept → List NodeCommands
+abbrev pub nodes_in : Option HandleState → List NodeCommands
 nodes_in None = []
 nodes_in (Some k) = nodes_by_answer k.answer
 
-abbrev pub copies_in : Option Kept → List CopyRow
+abbrev pub copies_in : Option HandleState → List CopyRow
 copies_in k = flat_map copies_for (nodes_in k)
 
-abbrev pub deletes_in : Option Kept → List DeleteRow
+abbrev pub deletes_in : Option HandleState → List DeleteRow
 deletes_in k = flat_map deletes_for (nodes_in k)

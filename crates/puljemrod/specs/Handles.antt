@@ -7,7 +7,7 @@ use Rattle.std.specs.Box.Ownership.{box_owns}
 use Rattle.std.specs.Coded.{coded_option}
 use Rattle.std.specs.Global.{Global}
 use Rattle.std_heap.specs.contracts.GlobalAllocator.TheImpl.{ghosts}
-use Rattle.puljemrod.specs.contracts.kept.Kept.{the_row}
+use Rattle.puljemrod.specs.contracts.handle_state.HandleState.{the_row}
 
 -- a box of the handle's state, or nothing
 abbrev pub handle_owns : Global → Ptr → Option the_row.Denot → Fml

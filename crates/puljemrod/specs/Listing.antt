@@ -9,7 +9,7 @@ use Rattle.bm_answers.specs.declared.line_answer.LineAnswer.{LineAnswer}
 use Rattle.bm_answers.specs.declared.line_answer.LineAnswer.TheVariants.{Answered}
 use Rattle.puljemrod.specs.declared.lists.ReplicaRow.{ReplicaRow}
 use Rattle.puljemrod.specs.declared.lists.PairRow.{PairRow}
-use Rattle.puljemrod.specs.declared.kept.Kept.{Kept}
+use Rattle.puljemrod.specs.declared.handle_state.HandleState.{HandleState}
 
 abbrev pub tag_number : Tag → ℕ
 tag_number Good = 0
@@ -43,14 +43,14 @@ numbers_by_answer (Some (Answered c (answer.Blocks bs))) = map (number_row tt) b
 numbers_by_answer (Some (Answered c (answer.Storages ss))) = map (number_row tt) ss
 numbers_by_answer _ = []
 
-abbrev pub replicas_in : Option Kept → List ReplicaRow
+abbrev pub replicas_in : Option HandleState → List ReplicaRow
 replicas_in None = []
 replicas_in (Some k) = replicas_by_answer k.answer
 
-abbrev pub pairs_in : Option Kept → List PairRow
+abbrev pub pairs_in : Option HandleState → List PairRow
 pairs_in None = []
 pairs_in (Some k) = pairs_by_answer k.answer
 
-abbrev pub numbers_in : Option Kept → List ℕ
+abbrev pub numbers_in : Option HandleState → List ℕ
 numbers_in None = []
 numbers_in (Some k) = numbers_by_answer k.answer

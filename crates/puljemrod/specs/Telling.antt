@@ -8,7 +8,7 @@ use Rattle.bm_base.specs.Machine.Levels.{level_number}
 use Rattle.bm_answers.specs.declared.line_answer.LineAnswer.{LineAnswer}
 use Rattle.bm_answers.specs.declared.line_answer.LineAnswer.TheVariants.{Answered}
 use Rattle.puljemrod.specs.declared.codes.TheConstants.{NO_LEVEL}
-use Rattle.puljemrod.specs.declared.kept.Kept.{Kept}
+use Rattle.puljemrod.specs.declared.handle_state.HandleState.{HandleState}
 use Rattle.puljemrod.specs.Calls.{AfterCall}
 
 abbrev pub level_or_none : Option Level → ℕ
@@ -30,11 +30,11 @@ abbrev pub told_by_answer : Option LineAnswer → ℕ
 told_by_answer (Some (Answered c a)) = told_by a
 told_by_answer _ = 0
 
-abbrev pub told_in : Option Kept → ℕ
+abbrev pub told_in : Option HandleState → ℕ
 told_in None = 0
 told_in (Some k) = told_by_answer k.answer
 
 -- A question: if its call is accepted, its result is the stored answer's; else that is as it was.
-pub record AfterQuestion (old : Option Kept) (c : Call) (now : Option Kept) (code before after : ℕ) : Type 0 where
+pub record AfterQuestion (old : Option HandleState) (c : Call) (now : Option HandleState) (code before after : ℕ) : Type 0 where
   pub called : AfterCall old c now code
   pub told : after ≡ (if code == 0 then told_in now else before)

@@ -5,7 +5,7 @@ ghost use Rattle.puljemrod.specs.Calls.{AfterCall, AfterEvent, AfterListed};
 
 use crate::codes::{CLOSED, MEMORY};
 use crate::handle::Slot;
-use crate::kept::take_call;
+use crate::handle_state::take_call;
 use bm_base::{Call, Event};
 use std::alloc::{AllocError, Global};
 

@@ -5,7 +5,7 @@ ghost use Rattle.puljemrod.specs.Calls.{AfterCall};
 ghost use Rattle.puljemrod.specs.Commanding.{copy_row, delete_row, copies_for, deletes_for, copies_in, deletes_in, round_in, nodes_by_answer, round_by_answer};
 
 use crate::calls::make_call;
-use crate::copying::{Row, copy_rows};
+use crate::copies::{Row, copy_rows};
 use crate::handle::Slot;
 use bm_answers::LineAnswer;
 use bm_base::{Answer, Call, Delete, NodeCommands, NodeId, Transfer};

@@ -1,7 +1,7 @@
 // The stored answer to an event.
 ghost use Rattle.std.specs.Prelude.{◌≡◌, ◌^◌, ◌/◌, ◌%◌, None, Some};
 ghost use Rattle.puljemrod.specs.declared.codes.TheConstants.{CLOSED};
-ghost use Rattle.puljemrod.specs.declared.kept.Kept.{Kept};
+ghost use Rattle.puljemrod.specs.declared.handle_state.HandleState.{HandleState};
 ghost use Rattle.puljemrod.specs.Doing.{done_by_answer};
 
 use crate::codes::CLOSED;
@@ -23,7 +23,7 @@ pub struct DoneRow {
 /// The effect of the last event.
 #[unsafe(no_mangle)]
 pub extern "C" fn puljemrod_done(alloc: Global, slot: &mut Slot, done: &mut DoneRow) -> u32
-    ensures open { (k : Kept) → slot.old.handle.kept ≡ Some k
+    ensures open { (k : HandleState) → slot.old.handle.kept ≡ Some k
         → (result ≡ 0) × (done.new ≡ done_by_answer k.answer) }
     ensures closed { slot.old.handle.kept ≡ None → (result ≡ CLOSED) × (done.new ≡ done.old) }
     ensures unchanged { slot.new.handle.kept ≡ slot.old.handle.kept }

@@ -7,7 +7,7 @@ ghost use Rattle.puljemrod.specs.Rows.{entry_of, remaining_of, stamp};
 use crate::calls::{apply, apply_made};
 use crate::codes::CLOSED;
 use crate::handle::Slot;
-use crate::kept::take_heartbeat;
+use crate::handle_state::take_heartbeat;
 use crate::rows::{EntryRow, RemainingRow, full_report, register, stamp};
 use bm_base::{BlockId, Event, NodeId, StorageId};
 use std::alloc::Global;

@@ -1,9 +1,9 @@
 // The state that C keeps between two calls.
 ghost use Rattle.std.specs.Prelude.{◌≡◌, Option, None, Some, IfSome, IfNone, is_some};
-ghost use Rattle.puljemrod.specs.declared.kept.Kept.{Kept};
+ghost use Rattle.puljemrod.specs.declared.handle_state.HandleState.{HandleState};
 ghost use Rattle.puljemrod.specs.Handles.{kept_coded, handle_owns};
 
-use crate::kept::Kept;
+use crate::handle_state::HandleState;
 use crate::parts::Parts;
 use std::alloc::Global;
 use std::marker::Model;
@@ -15,7 +15,7 @@ use std::{mem, ptr};
 pub struct Handle {
     at: *mut u8,
     alloc: Global,
-    pub ghost kept: { Option Kept } by { kept_coded },
+    pub ghost kept: { Option HandleState } by { kept_coded },
 }
 
 impl Model for Handle {
@@ -34,7 +34,7 @@ impl Handle {
         }
     }
 
-    fn full(parts: Parts<Kept, Global>) -> Handle
+    fn full(parts: Parts<HandleState, Global>) -> Handle
         ensures { result.kept ≡ Some parts.value }
     {
         let Parts { ptr, alloc } = parts;
@@ -44,13 +44,13 @@ impl Handle {
         }
     }
 
-    fn into_parts(self) -> Parts<Kept, Global>
-        requires { (x : Kept) × (self.kept ≡ Some x) }
+    fn into_parts(self) -> Parts<HandleState, Global>
+        requires { (x : HandleState) × (self.kept ≡ Some x) }
         ensures { self.kept ≡ Some result.value }
     {
         let Handle { at, alloc } = self;
         Parts {
-            ptr: at as *mut Kept,
+            ptr: at as *mut HandleState,
             alloc,
         }
     }
@@ -76,7 +76,7 @@ impl Slot {
     }
 
     /// Takes the state out, which closes the slot; `None` if it was closed.
-    pub fn take(&mut self, alloc: Global) -> Option<Box<Kept>>
+    pub fn take(&mut self, alloc: Global) -> Option<Box<HandleState>>
         ensures some { IfSome result (λ b. self.old.handle.kept ≡ Some b.value) }
         ensures none { IfNone result (self.old.handle.kept ≡ None) }
         ensures closed { self.new.handle.kept ≡ None }
@@ -90,7 +90,7 @@ impl Slot {
     }
 
     /// Stores the state, which opens the slot.
-    pub fn put(&mut self, kept: Box<Kept>)
+    pub fn put(&mut self, kept: Box<HandleState>)
         requires { self.old.handle.kept ≡ None }
         ensures { self.new.handle.kept ≡ Some kept.value }
     {

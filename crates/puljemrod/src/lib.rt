@@ -8,18 +8,18 @@
 #![tactic(auto)]
 
 ghost use Rattle.std.specs.Prelude.{◌≡◌, ◌++◌, None, Some, length, take, drop, min};
-ghost use Rattle.puljemrod.specs.declared.kept.Kept.{Kept};
+ghost use Rattle.puljemrod.specs.declared.handle_state.HandleState.{HandleState};
 ghost use Rattle.puljemrod.specs.declared.codes.TheConstants.{CLOSED, OPEN};
 ghost use Rattle.puljemrod.specs.Calls.{IsOpened, AfterLine, AfterText, text_in};
 
 mod calls;
 mod codes;
 mod commands;
-mod copying;
+mod copies;
 mod done;
 mod events;
 mod handle;
-mod kept;
+mod handle_state;
 mod lists;
 mod options;
 mod parts;
@@ -30,7 +30,7 @@ mod told;
 
 use codes::{CLOSED, OPEN};
 use handle::Slot;
-use kept::{make_text, open, take_line};
+use handle_state::{make_text, open, take_line};
 use options::Options;
 use std::alloc::Global;
 
@@ -39,7 +39,7 @@ use std::alloc::Global;
 pub extern "C" fn puljemrod_open(alloc: Global, slot: &mut Slot, options: &Options) -> u32
     ensures opened { slot.old.handle.kept ≡ None
         → IsOpened options.now result slot.new.handle.kept }
-    ensures open { (k : Kept) → slot.old.handle.kept ≡ Some k
+    ensures open { (k : HandleState) → slot.old.handle.kept ≡ Some k
         → (result ≡ OPEN) × (slot.new.handle.kept ≡ slot.old.handle.kept) }
 {
     if let Some(kept) = slot.take(alloc) {
@@ -127,7 +127,7 @@ fn copy_from(text: &[u8], from: usize, out: &mut [u8]) -> usize
 #[unsafe(no_mangle)]
 pub extern "C" fn puljemrod_close(alloc: Global, slot: &mut Slot) -> u32
     ensures closed { slot.new.handle.kept ≡ None }
-    ensures was_open { (k : Kept) → slot.old.handle.kept ≡ Some k → result ≡ 0 }
+    ensures was_open { (k : HandleState) → slot.old.handle.kept ≡ Some k → result ≡ 0 }
     ensures was_closed { slot.old.handle.kept ≡ None → result ≡ CLOSED }
 {
     match slot.take(alloc) {

@@ -2,7 +2,7 @@
 ghost use Rattle.std.specs.Prelude.{◌≡◌, ◌++◌, length, take, drop, min};
 ghost use Rattle.puljemrod.specs.Listing.{replica_row, pair_row, number_row, tag_number, replicas_by_answer, pairs_by_answer, numbers_by_answer, replicas_in, pairs_in, numbers_in};
 
-use crate::copying::{Row, copy_list};
+use crate::copies::{Row, copy_list};
 use crate::handle::Slot;
 use bm_answers::LineAnswer;
 use bm_base::{Answer, BlockId, Replica, ReplicaId, StorageId, Tag};

@@ -14,7 +14,7 @@ use Rattle.bm_base.specs.Maps.Map.{empty, insert_all}
 use Rattle.bm_base.specs.Machine.State.{Cluster, Holdings, replica_at}
 use Rattle.bm_base.specs.Machine.Levels.{level_number, level_of}
 use Rattle.bm_base.specs.Machine.Excess.{excess_of, excess_in, without_expired}
-use Rattle.bm_base.specs.Machine.Transfers.{wishes, least_source, least_target, holders_of, barred_for, transfers}
+use Rattle.bm_base.specs.Machine.Transfers.{wishes, least_source, least_target, holders_of, excluded_for, transfers}
 use Rattle.bm_base.specs.Machine.Deletes.{deletes}
 
 -- The cluster.
@@ -172,7 +172,7 @@ WishesInOrder =
 abbrev pub HeldAndBarred : Type 0
 HeldAndBarred =
     (holders_of three_racks wanting (sent 6 11 51 10 ∷ sent 2 11 41 10 ∷ []) 6 ≡ 11 ∷ 31 ∷ 51 ∷ [])
-    × (barred_for (holdings [] (held 6 11 live_mark ∷ held 6 21 (marks Stale false false) ∷ held 6 41 (marks Good true true) ∷ []) (since 6 31 1 ∷ [])) (sent 6 11 51 10 ∷ []) 6 ≡ 11 ∷ 21 ∷ 41 ∷ 31 ∷ 51 ∷ [])
+    × (excluded_for (holdings [] (held 6 11 live_mark ∷ held 6 21 (marks Stale false false) ∷ held 6 41 (marks Good true true) ∷ []) (since 6 31 1 ∷ [])) (sent 6 11 51 10 ∷ []) 6 ≡ 11 ∷ 21 ∷ 41 ∷ 31 ∷ 51 ∷ [])
 
 -- six blocks, each with one of two wanted replicas
 abbrev pub six_urgent : Holdings

@@ -27,9 +27,9 @@ abbrev pub IfFound : {A E : Type 0} → Result (Option A) E → (A → Type 0) �
 IfFound result P = IfOk result (λ found. IfSome found P)
 
 -- whether an answer is "out of memory"
-abbrev pub wants_memory : Answer → Bool
-wants_memory (answer.Refused Memory) = true
-wants_memory _ = false
+abbrev pub is_out_of_memory : Answer → Bool
+is_out_of_memory (answer.Refused Memory) = true
+is_out_of_memory _ = false
 
 -- whether an event takes memory: if nothing else refuses it, it may run out of memory
 abbrev pub takes_memory : Event → Bool
@@ -58,25 +58,25 @@ is_refused _ = false
 -- `Calls.step` is such a function.
 
 -- whether a call may run out of memory: it takes some, and nothing else refuses it
-abbrev pub may_lack_memory : (State → Call → Answer × State) → State → Call → Bool
-may_lack_memory answering M k = call_takes_memory k && not (is_refused (answering M k).0)
+abbrev pub may_run_out_of_memory : (State → Call → Answer × State) → State → Call → Bool
+may_run_out_of_memory answering M k = call_takes_memory k && not (is_refused (answering M k).0)
 
 -- An answer that a call may give in a state: that of `answering`, or out of memory if the call may
 -- run out of it.
 abbrev pub MayAnswer : (State → Call → Answer × State) → State → Call → Answer → Type 0
-MayAnswer answering M k a = (a ≡ (answering M k).0) ⊎ (IsTrue (may_lack_memory answering M k) × (a ≡ answer.Refused Memory))
+MayAnswer answering M k a = (a ≡ (answering M k).0) ⊎ (IsTrue (may_run_out_of_memory answering M k) × (a ≡ answer.Refused Memory))
 
 -- the state after a call that gave this answer: after out of memory the same state
-abbrev pub state_left : (State → Call → Answer × State) → State → Call → Answer → State
-state_left answering M k a = if wants_memory a then M else (answering M k).1
+abbrev pub state_after_answer : (State → Call → Answer × State) → State → Call → Answer → State
+state_after_answer answering M k a = if is_out_of_memory a then M else (answering M k).1
 
 -- the answers that a list of calls may give, and the state that they leave
 abbrev pub MayAnswerAll : (State → Call → Answer × State) → State → List Call → List Answer → Type 0
 MayAnswerAll answering M [] [] = Unit {0}
-MayAnswerAll answering M (k ∷ ks) (a ∷ rest) = MayAnswer answering M k a × MayAnswerAll answering (state_left answering M k a) ks rest
+MayAnswerAll answering M (k ∷ ks) (a ∷ rest) = MayAnswer answering M k a × MayAnswerAll answering (state_after_answer answering M k a) ks rest
 MayAnswerAll answering M [] (a ∷ rest) = ⊥
 MayAnswerAll answering M (k ∷ ks) [] = ⊥
 
-abbrev pub state_left_by : (State → Call → Answer × State) → State → List Call → List Answer → State
-state_left_by answering M (k ∷ ks) (a ∷ rest) = state_left_by answering (state_left answering M k a) ks rest
-state_left_by answering M _ _ = M
+abbrev pub state_after_answers : (State → Call → Answer × State) → State → List Call → List Answer → State
+state_after_answers answering M (k ∷ ks) (a ∷ rest) = state_after_answers answering (state_after_answer answering M k a) ks rest
+state_after_answers answering M _ _ = M

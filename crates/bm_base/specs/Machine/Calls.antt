@@ -29,12 +29,12 @@ unfoldable pub done_by : State → Event → Done
 done_by M e = done M.holdings (change_holdings M.cluster M.holdings e)
 
 -- the state with one more accepted call
-abbrev pub counted : State → State
-counted M = record M { calls = M.calls + 1 }
+abbrev pub count_call : State → State
+count_call M = record M { calls = M.calls + 1 }
 
 -- the state after an event that nothing refuses
 unfoldable pub after_event : State → Event → State
-after_event M e = counted (change M e)
+after_event M e = count_call (change M e)
 
 -- if a call is refused, the refusal and the same state; else the given answer and state
 abbrev pub refused_or : State → Option Refusal → Answer × State → Answer × State
@@ -44,7 +44,7 @@ refused_or M None next = next
 -- the answer of a call, and the next state
 unfoldable pub step : State → Call → Answer × State
 step M (call.Apply e) = refused_or M (refusal_of M e) (answer.Done (done_by M e), after_event M e)
-step M call.Round = refused_or M (round_refusal M) (answer.Commanded (whole_round M).0, counted (whole_round M).1)
+step M call.Round = refused_or M (round_refusal M) (answer.Commanded (whole_round M).0, count_call (whole_round M).1)
 step M call.Replicas = (answer.Replicas (all_replicas M.holdings), M)
 step M call.Corrupt = (answer.ReplicaIds (corrupt_replicas M.holdings), M)
 step M call.Excess = (answer.ReplicaIds (excess_replicas M.holdings), M)

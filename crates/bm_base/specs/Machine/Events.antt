@@ -17,8 +17,8 @@ use Rattle.bm_base.specs.declared.event.Event.{Event}
 use Rattle.bm_base.specs.declared.event.Event.TheVariants.{Register, Dead, StorageFailed, Heartbeat, Drain, Undrain, AddBlock, DeleteBlock, SetReplication, Restamp, Received, Deleted, Corrupt, FullReport}
 use Rattle.bm_base.specs.Maps.Map.{Map, by_number, get, insert, insert_all, without, revise, revise_at, remove}
 use Rattle.bm_base.specs.Machine.State.{Cluster, Holdings, State, replica_at}
-use Rattle.bm_base.specs.Machine.Replicas.{is_good, is_bad, has_storage, are_sisters, drains}
-use Rattle.bm_base.specs.Machine.Entries.{Told, expanded}
+use Rattle.bm_base.specs.Machine.Replicas.{is_good, is_bad, has_storage, are_siblings, drains}
+use Rattle.bm_base.specs.Machine.Entries.{ReportedBlock, expanded}
 
 abbrev pub same_stamp : Stamp → Stamp → Bool
 same_stamp a b = (a.generation == b.generation) && (a.len == b.len)
@@ -76,8 +76,8 @@ unfoldable pub entered_tag : Holdings → ReplicaId → Stamp → Tag
 entered_tag H p stamp = option_map_or (tag_of_known (was_bad H p) stamp) (get H.blocks p.block) Stray
 
 -- the marks of an entered replica: in excess if it was so and is good now; not ordered
-unfoldable pub entered : Holdings → ReplicaId → Stamp → Marks
-entered H p stamp = record {
+unfoldable pub entered_marks : Holdings → ReplicaId → Stamp → Marks
+entered_marks H p stamp = record {
   tag = entered_tag H p stamp;
   excess = is_good (entered_tag H p stamp) && was_excess H p;
   ordered = false;
@@ -85,33 +85,33 @@ entered H p stamp = record {
 
 -- whether entering p replaces q: a replica of the same block on another storage of the node
 unfoldable pub replaces : Cluster → ReplicaId → ReplicaId → Bool
-replaces C p q = (q.block == p.block) && are_sisters C p.storage q.storage
+replaces C p q = (q.block == p.block) && are_siblings C p.storage q.storage
 
 -- enters a replica, drops those that it replaces, and ends the transfer to it
 unfoldable pub enter : Cluster → Holdings → ReplicaId → Stamp → Holdings
 enter C H p stamp = record H {
-  replicas = insert (without H.replicas (replaces C p)) p (entered H p stamp);
+  replicas = insert (without H.replicas (replaces C p)) p (entered_marks H p stamp);
   pending = remove H.pending p;
 }
 
 -- A full report of storage s, by the blocks that its entries report.
 
-unfoldable pub is_named : List Told → ℕ → Bool
+unfoldable pub is_named : List ReportedBlock → ℕ → Bool
 is_named ts b = list_any (λ t. t.id == b) ts
 
 -- whether a replica leaves by the report: one on s that it does not name, or one of a named block
 -- on another storage of the node
-unfoldable pub leaves_by_report : Cluster → ℕ → List Told → ReplicaId → Bool
-leaves_by_report C s ts q = if q.storage == s then not (is_named ts q.block) else is_named ts q.block && are_sisters C s q.storage
+unfoldable pub leaves_by_report : Cluster → ℕ → List ReportedBlock → ReplicaId → Bool
+leaves_by_report C s ts q = if q.storage == s then not (is_named ts q.block) else is_named ts q.block && are_siblings C s q.storage
 
 -- Enters each named replica; the last entry of a block counts, since it is inserted last. Drops
 -- those that leave by the report, and ends the transfers to the named replicas. "Was" is about the
 -- holdings before the report.
-unfoldable pub report : Cluster → Holdings → ℕ → List Told → Holdings
+unfoldable pub report : Cluster → Holdings → ℕ → List ReportedBlock → Holdings
 report C H s ts = record H {
   replicas =
       insert_all (without H.replicas (leaves_by_report C s ts))
-      (map (λ t. (replica_at t.id s, entered H (replica_at t.id s) t.stamp)) ts);
+      (map (λ t. (replica_at t.id s, entered_marks H (replica_at t.id s) t.stamp)) ts);
   pending = without H.pending (λ q. (q.storage == s) && is_named ts q.block);
 }
 
@@ -121,8 +121,8 @@ unfoldable pub without_pending : Holdings → ℕ → Holdings
 without_pending H b = record H { pending = without H.pending (λ q. q.block == b) }
 
 -- changes the marks of the block's replicas
-unfoldable pub revise_block : Holdings → ℕ → (Marks → Marks) → Holdings
-revise_block H b f = record H { replicas = revise H.replicas (λ q m. if q.block == b then f m else m) }
+unfoldable pub change_marks_of_block : Holdings → ℕ → (Marks → Marks) → Holdings
+change_marks_of_block H b f = record H { replicas = revise H.replicas (λ q m. if q.block == b then f m else m) }
 
 -- The marks of a replica whose block is deleted. Here and below, whether its delete was ordered
 -- stays.
@@ -143,7 +143,7 @@ add_block H b stamp repl = record H { blocks = insert H.blocks b (record { stamp
 
 -- makes a block unknown and its replicas stray, and drops its transfers
 unfoldable pub delete_block : Holdings → ℕ → Holdings
-delete_block H b = let G = without_pending (revise_block H b as_stray) b in record G { blocks = remove G.blocks b }
+delete_block H b = let G = without_pending (change_marks_of_block H b as_stray) b in record G { blocks = remove G.blocks b }
 
 unfoldable pub set_replication : Holdings → ℕ → ℕ → Holdings
 set_replication H b repl = record H { blocks = revise_at H.blocks b (λ i. record i { repl = repl }) }
@@ -152,7 +152,7 @@ set_replication H b repl = record H { blocks = revise_at H.blocks b (λ i. recor
 -- transfers
 unfoldable pub restamp : Holdings → ℕ → Stamp → Holdings
 restamp H b stamp =
-    let G = without_pending (revise_block H b as_restamped) b in
+    let G = without_pending (change_marks_of_block H b as_restamped) b in
     record G { blocks = revise_at G.blocks b (λ i. record i { stamp = stamp }) }
 
 -- makes a replica bad, if it exists
@@ -171,8 +171,8 @@ without_storages H gone = record H {
 
 -- A node begins to drain: the transfers to its storages are dropped. Nothing changes if it drains
 -- already.
-unfoldable pub begun_to_drain : Cluster → Holdings → ℕ → Holdings
-begun_to_drain C H n = if drains C n then H else record H { pending = without H.pending (λ q. has_storage C n q.storage) }
+unfoldable pub begin_drain : Cluster → Holdings → ℕ → Holdings
+begin_drain C H n = if drains C n then H else record H { pending = without H.pending (λ q. has_storage C n q.storage) }
 
 -- the cluster after an event
 unfoldable pub change_cluster : Cluster → Event → Cluster
@@ -188,7 +188,7 @@ change_cluster C _ = C
 unfoldable pub change_holdings : Cluster → Holdings → Event → Holdings
 change_holdings C H (Dead n) = without_storages H (has_storage C n)
 change_holdings C H (StorageFailed s) = without_storages H (λ t. t == s)
-change_holdings C H (Drain n) = begun_to_drain C H n
+change_holdings C H (Drain n) = begin_drain C H n
 change_holdings C H (AddBlock b stamp repl) = add_block H b stamp repl
 change_holdings C H (DeleteBlock b) = delete_block H b
 change_holdings C H (SetReplication b repl) = set_replication H b repl

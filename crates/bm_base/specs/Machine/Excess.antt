@@ -21,11 +21,11 @@ unfoldable pub without_expired : ℕ → ℕ → Holdings → Holdings
 without_expired pend r H = record H { pending = keep H.pending (λ _ t. not (is_expired pend r t)) }
 
 -- a replica in excess counts again if its delete was not ordered
-abbrev pub counted_again : Marks → Marks
-counted_again m = if m.ordered then m else record m { excess = false }
+abbrev pub with_excess_reset : Marks → Marks
+with_excess_reset m = if m.ordered then m else record m { excess = false }
 
 unfoldable pub without_unordered_excess : Holdings → Holdings
-without_unordered_excess H = record H { replicas = revise H.replicas (λ _ m. counted_again m) }
+without_unordered_excess H = record H { replicas = revise H.replicas (λ _ m. with_excess_reset m) }
 
 -- the remaining bytes of a storage; 0 of an unknown storage
 unfoldable pub remaining : Cluster → ℕ → ℕ
@@ -40,14 +40,14 @@ unfoldable pub has_rack_mate : Cluster → List ℕ → ℕ → Bool
 has_rack_mate C candidates s = nat_lt 1 (count_by (share_rack C s) candidates)
 
 -- 0 if a test passes, else 1, so that what passes comes first
-abbrev pub first_where : Bool → ℕ
-first_where b = if b then 0 else 1
+abbrev pub rank_if : Bool → ℕ
+rank_if b = if b then 0 else 1
 
 -- The order of excess: first a candidate whose rack holds another one, then one with fewer
 -- remaining bytes, then the greater number.
 unfoldable pub excess_cmp : Cluster → List ℕ → ℕ → ℕ → Ordering
 excess_cmp C candidates s t =
-    ordering_then (nat_cmp (first_where (has_rack_mate C candidates s)) (first_where (has_rack_mate C candidates t)))
+    ordering_then (nat_cmp (rank_if (has_rack_mate C candidates s)) (rank_if (has_rack_mate C candidates t)))
     (ordering_then (nat_cmp (remaining C s) (remaining C t)) (nat_cmp t s))
 
 -- n of the candidates, one after another, each the least of the remaining ones
@@ -65,18 +65,18 @@ unfoldable pub excess_in : Cluster → Holdings → ℕ → List ℕ
 excess_in C H b = option_map_or (λ i. excess_of C (live C H b) i.repl) (get H.blocks b) []
 
 -- the marks of a replica, in excess if it is in its block's surplus
-abbrev pub marked_at : Cluster → Holdings → ReplicaId → Marks → Marks
-marked_at C H q m = if has (excess_in C H q.block) q.storage then record m { excess = true } else m
+abbrev pub mark_if_surplus : Cluster → Holdings → ReplicaId → Marks → Marks
+mark_if_surplus C H q m = if has (excess_in C H q.block) q.storage then record m { excess = true } else m
 
 -- marks the surplus live replicas as excess
-unfoldable pub marked : Cluster → Holdings → Holdings
-marked C H = record H { replicas = revise H.replicas (marked_at C H) }
+unfoldable pub with_surplus_marked : Cluster → Holdings → Holdings
+with_surplus_marked C H = record H { replicas = revise H.replicas (mark_if_surplus C H) }
 
 -- the state as its next round begins: the round number is one greater, and expired transfers have
 -- left
-unfoldable pub begun : State → State
-begun M = let r = M.round + 1 in record M { round = r; holdings = without_expired M.limits.pend r M.holdings }
+unfoldable pub state_after_expiry : State → State
+state_after_expiry M = let r = M.round + 1 in record M { round = r; holdings = without_expired M.limits.pend r M.holdings }
 
 -- the same with the replicas in excess marked again from scratch
-unfoldable pub started : State → State
-started M = let N = begun M in record N { holdings = marked N.cluster (without_unordered_excess N.holdings) }
+unfoldable pub state_at_choice : State → State
+state_at_choice M = let N = state_after_expiry M in record N { holdings = with_surplus_marked N.cluster (without_unordered_excess N.holdings) }

@@ -58,8 +58,8 @@ abbrev pub share_node : Cluster → ℕ → ℕ → Bool
 share_node C s t = option_map_or (λ n. has_storage C n t) (node_of C s) false
 
 -- whether two storages are different ones of one node
-unfoldable pub are_sisters : Cluster → ℕ → ℕ → Bool
-are_sisters C s t = not (t == s) && share_node C s t
+unfoldable pub are_siblings : Cluster → ℕ → ℕ → Bool
+are_siblings C s t = not (t == s) && share_node C s t
 
 -- the storages of the block's replicas that pass a test of storage and marks, ascending
 unfoldable pub storages_where : (ℕ → Marks → Bool) → Holdings → ℕ → List ℕ

@@ -17,7 +17,7 @@ use Rattle.bm_base.specs.declared.commands.Commands.{Commands}
 use Rattle.bm_base.specs.Maps.Map.{insert_all, revise, keys}
 use Rattle.bm_base.specs.Machine.State.{Cluster, Holdings, State, replica_at}
 use Rattle.bm_base.specs.Machine.Replicas.{has_storage}
-use Rattle.bm_base.specs.Machine.Excess.{started}
+use Rattle.bm_base.specs.Machine.Excess.{state_at_choice}
 use Rattle.bm_base.specs.Machine.Transfers.{transfers}
 use Rattle.bm_base.specs.Machine.Deletes.{deletes}
 
@@ -35,8 +35,8 @@ unfoldable pub is_commanded : List Delete → ReplicaId → Bool
 is_commanded ds q = list_any (λ d. (d.storage == q.storage) && (d.block == q.block)) ds
 
 -- the holdings with these deletes ordered, and these transfers pending since round r
-unfoldable pub finished : ℕ → Holdings → List Transfer → List Delete → Holdings
-finished r H ts ds = record H {
+unfoldable pub end_round : ℕ → Holdings → List Transfer → List Delete → Holdings
+end_round r H ts ds = record H {
   replicas = revise H.replicas (λ q m. if is_commanded ds q then record m { ordered = true } else m);
   pending = insert_all H.pending (map (λ t. (replica_at t.block t.target, r)) ts);
 }
@@ -45,8 +45,8 @@ finished r H ts ds = record H {
 abbrev pub round_with : State → List Transfer → Commands × State
 round_with N ts =
     let ds = deletes N.limits N.cluster N.holdings in
-    (commands_of N.cluster N.round ts ds, record N { holdings = finished N.round N.holdings ts ds })
+    (commands_of N.cluster N.round ts ds, record N { holdings = end_round N.round N.holdings ts ds })
 
 -- the next round of a state: what it commands, and the state after it
 unfoldable pub whole_round : State → Commands × State
-whole_round M = let N = started M in round_with N (transfers N.limits N.cluster N.holdings)
+whole_round M = let N = state_at_choice M in round_with N (transfers N.limits N.cluster N.holdings)

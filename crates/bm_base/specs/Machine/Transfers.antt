@@ -15,12 +15,12 @@ use Rattle.bm_base.specs.Machine.State.{RoundLimits, Cluster, Holdings}
 use Rattle.bm_base.specs.Maps.Lists.{has, distinct, least}
 use Rattle.bm_base.specs.Machine.Replicas.{live, sources_of, storages_where, node_of, rack_of, share_node, is_draining, racks}
 use Rattle.bm_base.specs.Machine.Levels.{level, is_at, urgent_levels}
-use Rattle.bm_base.specs.Machine.Excess.{first_where, remaining}
+use Rattle.bm_base.specs.Machine.Excess.{rank_if, remaining}
 
 -- Wishes.
 
 -- one more copy of a block is wanted, at this level
-pub record WishedCopy : Type 0 where
+pub record RequestedCopy : Type 0 where
   pub urgency : Level
   pub block : ℕ
 
@@ -32,20 +32,20 @@ pending_targets H b = map (λ e. e.0.storage) (filter (λ e. e.0.block == b) (en
 -- badly distributed block needs one if none is pending. One without a usable replica needs none,
 -- since there is nothing to copy. Any other needs as many as are missing, with the pending ones
 -- counted as there.
-abbrev pub wished_count : Cluster → Holdings → Level → ℕ → ℕ → ℕ
-wished_count C H BadlyDistributed repl b = if length (pending_targets H b) == 0 then 1 else 0
-wished_count C H NoUsableReplica repl b = 0
-wished_count C H _ repl b = repl - (length (live C H b) + length (pending_targets H b))
+abbrev pub requested_count : Cluster → Holdings → Level → ℕ → ℕ → ℕ
+requested_count C H BadlyDistributed repl b = if length (pending_targets H b) == 0 then 1 else 0
+requested_count C H NoUsableReplica repl b = 0
+requested_count C H _ repl b = repl - (length (live C H b) + length (pending_targets H b))
 
 -- the wishes for one block, if it is at this level
-unfoldable pub wishes_for : Cluster → Holdings → Level → ℕ → List WishedCopy
+unfoldable pub wishes_for : Cluster → Holdings → Level → ℕ → List RequestedCopy
 wishes_for C H urgency b =
     if is_at urgency (level C H b)
-    then option_map_or (λ i. replicate (wished_count C H urgency i.repl b) (record { urgency = urgency; block = b })) (get H.blocks b) []
+    then option_map_or (λ i. replicate (requested_count C H urgency i.repl b) (record { urgency = urgency; block = b })) (get H.blocks b) []
     else []
 
 -- all wishes, by level and then by block
-unfoldable pub wishes : Cluster → Holdings → List WishedCopy
+unfoldable pub wishes : Cluster → Holdings → List RequestedCopy
 wishes C H = flat_map (λ urgency. flat_map (wishes_for C H urgency) (keys H.blocks)) urgent_levels
 
 -- A source and a target for each wish. `chosen` is the list of the transfers that were chosen for
@@ -61,8 +61,8 @@ scheduled_to chosen s = sum_by (λ t. if t.target == s then t.stamp.len else 0) 
 
 -- the free bytes of a storage: its remaining bytes less those scheduled to it; 0 if more is
 -- scheduled than remains
-unfoldable pub room : Cluster → (ℕ → ℕ) → ℕ → ℕ
-room C sent s = remaining C s - sent s
+unfoldable pub free_bytes : Cluster → (ℕ → ℕ) → ℕ → ℕ
+free_bytes C sent s = remaining C s - sent s
 
 -- the most transfers of which a node may be the source in one round: Hadoop's hard limit for the
 -- most urgent blocks and for a node that drains, else the soft one
@@ -76,7 +76,7 @@ node_number C s = unwrap_or (node_of C s) 0
 
 -- the rank of a source: drained ones come before live ones
 abbrev pub source_rank : Bool → ℕ
-source_rank is_drained = first_where is_drained
+source_rank is_drained = rank_if is_drained
 
 -- the order of sources: first one on a node that drains, then one whose node sends fewer, then the
 -- lesser node, then the lesser storage
@@ -105,8 +105,8 @@ holders_of C H chosen b = live C H b ++ pending_targets H b ++ targets_of chosen
 
 -- the storages whose nodes are excluded as targets of the block: those of its replicas of any tag,
 -- its pending transfers and its chosen targets
-unfoldable pub barred_for : Holdings → List Transfer → ℕ → List ℕ
-barred_for H chosen b = storages_where (λ _ _. true) H b ++ pending_targets H b ++ targets_of chosen b
+unfoldable pub excluded_for : Holdings → List Transfer → ℕ → List ℕ
+excluded_for H chosen b = storages_where (λ _ _. true) H b ++ pending_targets H b ++ targets_of chosen b
 
 unfoldable pub is_on_racks : Cluster → List ℕ → ℕ → Bool
 is_on_racks C rs s = option_map_or (has rs) (rack_of C s) false
@@ -123,21 +123,21 @@ are_two_on_two_racks C ss = (length (distinct ss) == 2) && (length (racks C ss) 
 unfoldable pub class_of : Cluster → List ℕ → ℕ → ℕ
 class_of C holders s =
     if are_on_one_rack C holders then (if is_on_racks C (racks C holders) s then 1 else 0)
-    else if are_two_on_two_racks C holders then first_where (is_on_racks C (racks C holders) s)
+    else if are_two_on_two_racks C holders then rank_if (is_on_racks C (racks C holders) s)
     else 0
 
 -- the order of targets: the better class, then more free bytes, then the lesser storage
 unfoldable pub target_cmp : Cluster → (ℕ → ℕ) → List ℕ → ℕ → ℕ → Ordering
 target_cmp C sent holders s t =
-    ordering_then (nat_cmp (class_of C holders s) (class_of C holders t)) (ordering_then (nat_cmp (room C sent t) (room C sent s)) (nat_cmp s t))
+    ordering_then (nat_cmp (class_of C holders s) (class_of C holders t)) (ordering_then (nat_cmp (free_bytes C sent t) (free_bytes C sent s)) (nat_cmp s t))
 
 -- whether a storage is on the node of one of these
-unfoldable pub is_barred : Cluster → List ℕ → ℕ → Bool
-is_barred C barred s = list_any (λ t. share_node C t s) barred
+unfoldable pub is_excluded : Cluster → List ℕ → ℕ → Bool
+is_excluded C barred s = list_any (λ t. share_node C t s) barred
 
 -- whether a badly distributed block that these hold on one rack would stay on one
-abbrev pub would_not_spread : Cluster → Level → List ℕ → ℕ → Bool
-would_not_spread C urgency holders s = is_at BadlyDistributed (Some urgency) && are_on_one_rack C holders && (class_of C holders s == 1)
+abbrev pub would_stay_on_one_rack : Cluster → Level → List ℕ → ℕ → Bool
+would_stay_on_one_rack C urgency holders s = is_at BadlyDistributed (Some urgency) && are_on_one_rack C holders && (class_of C holders s == 1)
 
 -- A storage may be the target if the length fits with what is scheduled to it, its node does not
 -- drain and is not excluded, and a badly distributed block that is held on one rack would get to
@@ -146,8 +146,8 @@ unfoldable pub is_target : Cluster → (ℕ → ℕ) → Level → List ℕ → 
 is_target C sent urgency holders barred len s =
     nat_le (len + sent s) (remaining C s)
     && not (is_draining C s)
-    && not (is_barred C barred s)
-    && not (would_not_spread C urgency holders s)
+    && not (is_excluded C barred s)
+    && not (would_stay_on_one_rack C urgency holders s)
 
 -- The target at this level of a block of this length. `sent` has for each storage the bytes that
 -- are scheduled to it.
@@ -163,23 +163,23 @@ abbrev pub has_all_transfers : RoundLimits → Cluster → List Transfer → Boo
 has_all_transfers limits C chosen = nat_le (limits.work * len C.nodes) (length chosen)
 
 -- the transfer for a wish from this source: none without a target
-abbrev pub transfer_from : Cluster → Holdings → List Transfer → WishedCopy → BlockInfo → ℕ → Option Transfer
+abbrev pub transfer_from : Cluster → Holdings → List Transfer → RequestedCopy → BlockInfo → ℕ → Option Transfer
 transfer_from C H chosen w i s =
     option_map (λ t. record { block = w.block; stamp = i.stamp; source = s; target = t })
-    (least_target C chosen w.urgency (holders_of C H chosen w.block) (barred_for H chosen w.block) i.stamp.len)
+    (least_target C chosen w.urgency (holders_of C H chosen w.block) (excluded_for H chosen w.block) i.stamp.len)
 
 -- the transfer for a wish whose block is known: none without a source or a target
-abbrev pub transfer_of : Cluster → Holdings → List Transfer → WishedCopy → BlockInfo → Option Transfer
+abbrev pub transfer_of : Cluster → Holdings → List Transfer → RequestedCopy → BlockInfo → Option Transfer
 transfer_of C H chosen w i = option_and_then (transfer_from C H chosen w i) (least_source C chosen w.urgency (sources_of C H w.block))
 
 -- the transfer for a wish: none either if the round is full
-unfoldable pub transfer_for : RoundLimits → Cluster → Holdings → List Transfer → WishedCopy → Option Transfer
+unfoldable pub transfer_for : RoundLimits → Cluster → Holdings → List Transfer → RequestedCopy → Option Transfer
 transfer_for limits C H chosen w =
     if has_all_transfers limits C chosen then None
     else option_and_then (transfer_of C H chosen w) (get H.blocks w.block)
 
 -- the transfers chosen wish by wish, appended to those of chosen
-abbrev pub transfers_from : RoundLimits → Cluster → Holdings → List Transfer → List WishedCopy → List Transfer
+abbrev pub transfers_from : RoundLimits → Cluster → Holdings → List Transfer → List RequestedCopy → List Transfer
 transfers_from limits C H chosen [] = chosen
 transfers_from limits C H chosen (w ∷ ws) = transfers_from limits C H (chosen ++ option_to_list (transfer_for limits C H chosen w)) ws
 

@@ -19,7 +19,7 @@ use Rattle.std.specs.Ordering.{eq_by_cmp, nat_cmp}
 use Rattle.std.specs.Cmp.{IsTotalOrder, nat_cmp_total}
 use Rattle.std.specs.FinMap.{find, put, is_sorted, nat_cmp-IsAntisymmetric}
 use Rattle.std.specs.FinMap.Entries.{is_sorted-put}
-use Rattle.bm_base.specs.Maps.Altered.{alter_list}
+use Rattle.bm_base.specs.Maps.Altered.{alter_values}
 use Rattle.bm_base.specs.Maps.MapSorted.{is_sorted-alter}
 
 -- how keys compare
@@ -58,7 +58,7 @@ module _ {K X : Type 0} {o : Order K} where
   insert m k v = record { list = put o.cmp k v m.list; sorted = is_sorted-put o.cmp o.total k v m.list m.sorted }
 
   unfoldable pub alter : Map o X → (K → X → Option X) → Map o X
-  alter m f = record { list = alter_list f m.list; sorted = is_sorted-alter o.cmp f m.list m.sorted }
+  alter m f = record { list = alter_values f m.list; sorted = is_sorted-alter o.cmp f m.list m.sorted }
 
   abbrev pub contains_key : Map o X → K → Bool
   contains_key m q = is_some (get m q)

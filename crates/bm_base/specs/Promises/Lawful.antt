@@ -6,7 +6,7 @@ use Rattle.bm_base.specs.declared.replica.BlockInfo.{BlockInfo}
 use Rattle.bm_base.specs.declared.storage.StorageInfo.{StorageInfo}
 use Rattle.bm_base.specs.Maps.Map.{get, contains_key, len}
 use Rattle.bm_base.specs.Machine.State.{Cluster, Holdings, State}
-use Rattle.bm_base.specs.Machine.Replicas.{is_good, is_stray, drains, are_sisters}
+use Rattle.bm_base.specs.Machine.Replicas.{is_good, is_stray, drains, are_siblings}
 use Rattle.bm_base.specs.declared.limits.TheConstants.{MAX_NODES, MAX_STORAGES, MAX_REPLICATION}
 
 -- the cluster: each storage is on an alive node, only alive nodes drain, and the limits are kept
@@ -22,7 +22,7 @@ pub record IsLawfulHoldings (C : Cluster) (H : Holdings) : Type 0 where
   pub stored : (p : ReplicaId) → IsSome (get H.replicas p) → IsTrue (contains_key C.storages p.storage)
   pub pending_stored : (p : ReplicaId) → IsSome (get H.pending p) → IsTrue (contains_key C.storages p.storage)
   -- a node has at most one replica of a block
-  pub once : (p q : ReplicaId) → IsSome (get H.replicas p) → IsSome (get H.replicas q) → p.block ≡ q.block → are_sisters C p.storage q.storage ≡ false
+  pub once : (p q : ReplicaId) → IsSome (get H.replicas p) → IsSome (get H.replicas q) → p.block ≡ q.block → are_siblings C p.storage q.storage ≡ false
   -- a replica is stray exactly if its block is not known
   pub strays : (p : ReplicaId) (m : Marks) → get H.replicas p ≡ Some m → is_stray m.tag ≡ not (contains_key H.blocks p.block)
   -- only good replicas are in excess

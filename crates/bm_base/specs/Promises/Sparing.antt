@@ -13,20 +13,20 @@ use Rattle.bm_base.specs.Machine.Replicas.{live}
 use Rattle.bm_base.specs.Promises.NextRound.{IsAmong}
 
 -- a node is commanded to delete this replica
-abbrev pub TellsDelete : Commands → ReplicaId → Type 0
-TellsDelete k q = IsAmong (flat_map (λ n. n.deletes) k.nodes) (record { storage = q.storage; block = q.block })
+abbrev pub CommandsDelete : Commands → ReplicaId → Type 0
+CommandsDelete k q = IsAmong (flat_map (λ n. n.deletes) k.nodes) (record { storage = q.storage; block = q.block })
 
 -- The only good replica of a block that is known in M is not commanded to be deleted.
 abbrev pub SparesLastGood : State → Commands → Type 0
 SparesLastGood M k =
     (b s : ℕ) (i : BlockInfo) → get M.holdings.blocks b ≡ Some i
     → ((t : ℕ) (m : Marks) → get M.holdings.replicas (replica_at b t) ≡ Some m → m.tag ≡ Good → t ≡ s)
-    → TellsDelete k (replica_at b s) → ⊥
+    → CommandsDelete k (replica_at b s) → ⊥
 
 -- If a replica of a block that is known in M is commanded to be deleted, then the block has as many
 -- live replicas in N as are wanted, at least one, and none of these is commanded to be deleted.
 abbrev pub KeepsEnoughLive : State → Commands → State → Type 0
 KeepsEnoughLive M k N =
-    (b s : ℕ) (i : BlockInfo) → get M.holdings.blocks b ≡ Some i → TellsDelete k (replica_at b s)
+    (b s : ℕ) (i : BlockInfo) → get M.holdings.blocks b ≡ Some i → CommandsDelete k (replica_at b s)
     → (1 ≤ i.repl) × (i.repl ≤ length (live N.cluster N.holdings b))
-    × ((t : ℕ) → has (live N.cluster N.holdings b) t ≡ true → TellsDelete k (replica_at b t) → ⊥)
+    × ((t : ℕ) → has (live N.cluster N.holdings b) t ≡ true → CommandsDelete k (replica_at b t) → ⊥)

@@ -9,7 +9,7 @@ ghost use Rattle.bm_lines.specs.Reading.Op.{has_list};
 use super::fields::{block_field, node_field, rack_field, repl_field, stamp_field, storage_field};
 use super::lists::list_field;
 use super::op::{Op, op_of};
-use super::usual::usual_call;
+use super::canonical::canonical_call;
 use bm_base::{Call, Entry, Event, Items, Remaining, StorageId};
 use serde_json::Value;
 use std::alloc::{AllocError, Global};
@@ -20,7 +20,7 @@ pub fn call_of(alloc: Global, line: &[u8]) -> Result<Option<Call>, AllocError>
     // It can be written again: `line_of` asks for no more.
     ensures has_op { IfFound result (λ k. has_op k ≡ true) }
 {
-    match usual_call(alloc, line)? {
+    match canonical_call(alloc, line)? {
         Some(call) => Ok(Some(call)),
         None => read_call(alloc, line),
     }

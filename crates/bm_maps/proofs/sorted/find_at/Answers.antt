@@ -1,5 +1,5 @@
 use Rattle.std.proofs.Common.{sym, ◌∙◌}
-use Rattle.bm_maps.proofs.Searching.{find_read, find_none, find_past}
+use Rattle.bm_maps.proofs.BinarySearch.{find_read, find_none, find_past}
 use Rattle.bm_maps.proofs.sorted.find_at.Goals as goal
 use Rattle.bm_maps.proofs.sorted.find_at.Goals.{then-at-entries+in_default, else-at-entries}
 

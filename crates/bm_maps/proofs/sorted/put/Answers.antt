@@ -1,8 +1,8 @@
 use Rattle.std.proofs.Common.{◌≡◌, None, ap, sym, ◌∙◌, arith}
 use Rattle.std.specs.Prelude.{insert, length}
 use Rattle.std.specs.FinMap.{find}
-use Rattle.bm_maps.proofs.Placing.{put-set_read, put-insert_read, place-le}
-use Rattle.bm_maps.proofs.Searching.{find_none, find_past, not_there}
+use Rattle.bm_maps.proofs.PutLaws.{put-set_read, put-insert_read, place-le}
+use Rattle.bm_maps.proofs.BinarySearch.{find_none, find_past, not_there}
 use Rattle.bm_maps.proofs.sorted.put.Goals as goal
 use Rattle.bm_maps.proofs.sorted.put.Goals.{then-at-len+in_default, else-at-len}
 

@@ -1,6 +1,6 @@
 use Rattle.std.proofs.Common.{◌<◌, length, arith, refl, ap, sym, ◌∙◌}
-use Rattle.bm_maps.proofs.Placing.{put-set_read}
-use Rattle.bm_maps.proofs.Searching.{find_read, find_none, find_past, if_found, if_not_found}
+use Rattle.bm_maps.proofs.PutLaws.{put-set_read}
+use Rattle.bm_maps.proofs.BinarySearch.{find_read, find_none, find_past, if_found, if_not_found}
 use Rattle.bm_maps.proofs.sorted.replace.Goals as goal
 
 pub returns-in-Equal-clause-after : goal.returns-in-Equal-clause-after

@@ -1,4 +1,4 @@
-use Rattle.bm_parts.proofs.Changing.{done_adds_up}
+use Rattle.bm_parts.proofs.PartChanges.{done_adds_up}
 use Rattle.bm_parts.proofs.events.done_adds_up.Goals as goal
 
 pub returns : goal.returns

@@ -1,4 +1,4 @@
-use Rattle.bm_parts.proofs.Changing.{whole_changes_by_event}
+use Rattle.bm_parts.proofs.PartChanges.{whole_changes_by_event}
 use Rattle.bm_parts.proofs.events.whole_changes_by_event.Goals as goal
 
 pub returns : goal.returns

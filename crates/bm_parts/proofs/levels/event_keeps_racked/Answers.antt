@@ -1,4 +1,4 @@
-use Rattle.bm_parts.proofs.Racked.{event_keeps_racked}
+use Rattle.bm_parts.proofs.ReplicaRacks.{event_keeps_racked}
 use Rattle.bm_parts.proofs.levels.event_keeps_racked.Goals as goal
 
 pub returns : goal.returns

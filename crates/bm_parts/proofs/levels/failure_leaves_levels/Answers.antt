@@ -1,4 +1,4 @@
-use Rattle.bm_parts.proofs.Leveling.{failure_leaves_levels}
+use Rattle.bm_parts.proofs.ClusterLevels.{failure_leaves_levels}
 use Rattle.bm_parts.proofs.levels.failure_leaves_levels.Goals as goal
 
 pub returns : goal.returns

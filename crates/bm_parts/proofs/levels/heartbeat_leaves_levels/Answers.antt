@@ -1,4 +1,4 @@
-use Rattle.bm_parts.proofs.Leveling.{heartbeat_leaves_levels}
+use Rattle.bm_parts.proofs.ClusterLevels.{heartbeat_leaves_levels}
 use Rattle.bm_parts.proofs.levels.heartbeat_leaves_levels.Goals as goal
 
 pub returns : goal.returns

@@ -1,4 +1,4 @@
-use Rattle.bm_parts.proofs.Leveling.{heartbeat_leaves_racks}
+use Rattle.bm_parts.proofs.ClusterLevels.{heartbeat_leaves_racks}
 use Rattle.bm_parts.proofs.levels.heartbeat_leaves_racks.Goals as goal
 
 pub returns : goal.returns

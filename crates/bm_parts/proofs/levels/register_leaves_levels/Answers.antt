@@ -1,4 +1,4 @@
-use Rattle.bm_parts.proofs.Leveling.{register_leaves_levels}
+use Rattle.bm_parts.proofs.ClusterLevels.{register_leaves_levels}
 use Rattle.bm_parts.proofs.levels.register_leaves_levels.Goals as goal
 
 pub returns : goal.returns

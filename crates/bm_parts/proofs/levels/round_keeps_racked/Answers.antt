@@ -1,4 +1,4 @@
-use Rattle.bm_parts.proofs.Racked.{round_keeps_racked}
+use Rattle.bm_parts.proofs.ReplicaRacks.{round_keeps_racked}
 use Rattle.bm_parts.proofs.levels.round_keeps_racked.Goals as goal
 
 pub returns : goal.returns

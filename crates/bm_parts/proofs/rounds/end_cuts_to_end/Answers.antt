@@ -1,4 +1,4 @@
-use Rattle.bm_parts.proofs.Cutting.{end_cuts_to_end}
+use Rattle.bm_parts.proofs.CutParts.{end_cuts_to_end}
 use Rattle.bm_parts.proofs.rounds.end_cuts_to_end.Goals as goal
 
 pub returns : goal.returns

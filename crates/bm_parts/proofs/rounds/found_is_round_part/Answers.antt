@@ -1,4 +1,4 @@
-use Rattle.bm_parts.proofs.Finding.{found_is_round_part}
+use Rattle.bm_parts.proofs.FoundLists.{found_is_round_part}
 use Rattle.bm_parts.proofs.rounds.found_is_round_part.Goals as goal
 
 pub returns : goal.returns

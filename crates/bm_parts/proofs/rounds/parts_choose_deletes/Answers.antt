@@ -1,4 +1,4 @@
-use Rattle.bm_parts.proofs.Merging.{parts_choose_deletes}
+use Rattle.bm_parts.proofs.MergedChoices.{parts_choose_deletes}
 use Rattle.bm_parts.proofs.rounds.parts_choose_deletes.Goals as goal
 
 pub returns : goal.returns

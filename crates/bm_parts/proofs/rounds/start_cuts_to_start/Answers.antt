@@ -1,4 +1,4 @@
-use Rattle.bm_parts.proofs.Cutting.{start_cuts_to_start}
+use Rattle.bm_parts.proofs.CutParts.{start_cuts_to_start}
 use Rattle.bm_parts.proofs.rounds.start_cuts_to_start.Goals as goal
 
 pub returns : goal.returns

@@ -1,4 +1,4 @@
-use Rattle.bm_parts.proofs.Merging.{whole_round_is}
+use Rattle.bm_parts.proofs.MergedChoices.{whole_round_is}
 use Rattle.bm_parts.proofs.rounds.whole_round_is.Goals as goal
 
 pub returns : goal.returns

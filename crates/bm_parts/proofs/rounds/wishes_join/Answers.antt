@@ -1,4 +1,4 @@
-use Rattle.bm_parts.proofs.Merging.{wishes_join}
+use Rattle.bm_parts.proofs.MergedChoices.{wishes_join}
 use Rattle.bm_parts.proofs.rounds.wishes_join.Goals as goal
 
 pub returns : goal.returns

@@ -1,4 +1,4 @@
-use Rattle.bm_parts.proofs.Settling.{leaving_keeps_settled}
+use Rattle.bm_parts.proofs.SettledBlocks.{leaving_keeps_settled}
 use Rattle.bm_parts.proofs.settled.leaving_keeps_settled.Goals as goal
 
 pub returns : goal.returns

@@ -1,4 +1,4 @@
-use Rattle.bm_parts.proofs.Settling.{round_keeps_settled}
+use Rattle.bm_parts.proofs.SettledBlocks.{round_keeps_settled}
 use Rattle.bm_parts.proofs.settled.round_keeps_settled.Goals as goal
 
 pub returns : goal.returns

@@ -1,4 +1,4 @@
-use Rattle.bm_parts.proofs.Settling.{settled_is_left}
+use Rattle.bm_parts.proofs.SettledBlocks.{settled_is_left}
 use Rattle.bm_parts.proofs.settled.settled_is_left.Goals as goal
 
 pub returns : goal.returns

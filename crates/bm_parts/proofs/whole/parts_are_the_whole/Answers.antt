@@ -1,4 +1,4 @@
-use Rattle.bm_parts.proofs.Wholes.{parts_are_the_whole}
+use Rattle.bm_parts.proofs.WholeParts.{parts_are_the_whole}
 use Rattle.bm_parts.proofs.whole.parts_are_the_whole.Goals as goal
 
 pub returns : goal.returns

@@ -1,4 +1,4 @@
-use Rattle.bm_parts.proofs.Wholes.{whole_has_its_parts}
+use Rattle.bm_parts.proofs.WholeParts.{whole_has_its_parts}
 use Rattle.bm_parts.proofs.whole.whole_has_its_parts.Goals as goal
 
 pub returns : goal.returns

@@ -1,8 +1,8 @@
 use Rattle.std.proofs.Common.{ℕ, length, arith, refl, ap, sym, ◌∙◌, get_or, set}
 use Rattle.std.specs.Ordering.{nat_cmp}
 use Rattle.std.proofs.lemmas.List.{length-set}
-use Rattle.bm_maps.specs.Place.{place}
-use Rattle.bm_maps.proofs.Placing.{put-set, put-insert_read, place-le}
+use Rattle.bm_maps.specs.KeyIndex.{place}
+use Rattle.bm_maps.proofs.PutLaws.{put-set, put-insert_read, place-le}
 use Rattle.bm_pending.proofs.Lists.{refill-same}
 use Rattle.bm_pending.proofs.targets.put.Goals as goal
 use Rattle.bm_pending.proofs.targets.put.Goals.{then-at-len+in_default, else-at-len}

@@ -8,8 +8,8 @@ use Rattle.bm_place.specs.Sources.{streams_by, transfers_by}
 use Rattle.bm_place.specs.Least.{IsLeastOf}
 use Rattle.bm_place.specs.Found.{IsCountable}
 use Rattle.bm_place.proofs.Best.{least-bears}
-use Rattle.bm_place.proofs.Sending.{source_found, source_cmp_total, drained_taken}
-use Rattle.bm_place.proofs.Counting.{count_as, streams_as, countable}
+use Rattle.bm_place.proofs.SourceScan.{source_found, source_cmp_total, drained_taken}
+use Rattle.bm_place.proofs.TransferCounts.{count_as, streams_as, countable}
 use Rattle.bm_place.proofs.source.least_source.Goals as goal
 
 pub returns-clause-found : goal.returns-clause-found

@@ -1,7 +1,7 @@
 use Rattle.std.proofs.Common.{refl, ap, sym, subst, ◌+◌, ◌<◌, ◌∙◌, arith}
 use Rattle.std.specs.Prelude.{unwrap_or}
 use Rattle.bm_base.specs.Maps.Map.{get}
-use Rattle.bm_maps.proofs.Replacing.{no_change, set_there}
+use Rattle.bm_maps.proofs.ReplaceLaws.{no_change, set_there}
 use Rattle.bm_place.specs.Tables.{count_at}
 use Rattle.bm_place.proofs.streams.add_one.Goals as goal
 

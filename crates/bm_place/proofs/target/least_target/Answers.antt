@@ -3,10 +3,10 @@ use Rattle.std.specs.Option.{IfSome}
 use Rattle.bm_base.specs.Maps.Map.{keys}
 use Rattle.bm_base.specs.Machine.Transfers.{scheduled_to, least_target, least_target_by, target_cmp, is_target}
 use Rattle.bm_place.specs.Least.{IsLeastOf}
-use Rattle.bm_place.specs.Found.{HasRoomFor}
+use Rattle.bm_place.specs.Found.{HasFreeBytesFor}
 use Rattle.bm_place.proofs.Best.{least-bears}
-use Rattle.bm_place.proofs.Taking.{target_cmp_total}
-use Rattle.bm_place.proofs.Telling.{has_room, fits_row, on_kept_node, on_unbarred_node, on_other_rack}
+use Rattle.bm_place.proofs.RowOrder.{target_cmp_total}
+use Rattle.bm_place.proofs.LeastTarget.{has_room, fits_row, on_kept_node, on_unbarred_node, on_other_rack}
 use Rattle.bm_place.proofs.target.least_target.Goals as goal
 
 pub returns-clause-of_transfers : goal.returns-clause-of_transfers
@@ -29,9 +29,9 @@ returns-clause-found c sent made =
         choice = chosen;
         least = least;
         room = room;
-        unbarred_node = on_unbarred_node C sent c.args.level held barred c.args.len c.least_fitting.result least;
+        not_excluded_node = on_unbarred_node C sent c.args.level held barred c.args.len c.least_fitting.result least;
         not_draining = on_kept_node C sent c.args.level held barred c.args.len c.least_fitting.result least;
         other_rack = on_other_rack C sent c.args.level held barred c.args.len c.least_fitting.result least;
       };
-      fits = subst (λ T. IfSome c.least_fitting.result (HasRoomFor T c.args.len)) (sym made) (fits_row C sent c.args.len c.least_fitting.result room);
+      fits = subst (λ T. IfSome c.least_fitting.result (HasFreeBytesFor T c.args.len)) (sym made) (fits_row C sent c.args.len c.least_fitting.result room);
     }

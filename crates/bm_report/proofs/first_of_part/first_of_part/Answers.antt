@@ -1,6 +1,6 @@
 use Rattle.std.proofs.Common.{◌≡◌, ◌<◌, ◌%◌, arith, sym, ap, ◌∙◌}
 use Rattle.std.proofs.Math.Nat.{mod-lt}
-use Rattle.bm_report.proofs.Running.{ahead, around}
+use Rattle.bm_report.proofs.NumberRuns.{ahead, around}
 use Rattle.bm_report.proofs.first_of_part.first_of_part.Goals.{then-here-index, else-here-index}
 use Rattle.bm_report.proofs.first_of_part.first_of_part.Goals as goal
 

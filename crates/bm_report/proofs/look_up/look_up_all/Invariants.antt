@@ -1,10 +1,10 @@
 use Rattle.std.proofs.Common.{[], ◌≡◌, ℕ, true, false, ◌++◌, map, drop}
 use Rattle.bm_arena.specs.Contents.{slot_of}
 use Rattle.bm_base.specs.Machine.Events.{is_named}
-use Rattle.bm_report.specs.Midway.{AreHere, HaveRoom, told_of}
+use Rattle.bm_report.specs.DuringReport.{AreAtSlots, HaveCapacity, reported_of}
 use Rattle.bm_report.specs.Aborted.{NamesNew}
 use Rattle.bm_report.specs.Ready.{HaveReplicas}
-use Rattle.bm_report.specs.Expanded.{IsPrepared, of_part, told_to}
+use Rattle.bm_report.specs.Expanded.{IsPrepared, of_part, reported_to_part}
 use Rattle.bm_base.specs.Machine.Entries.{expanded}
 use Rattle.bm_report.proofs.look_up.look_up_all.Given as goal
 
@@ -13,10 +13,10 @@ invariant-loop-place l =
     record {
       fresh : NamesNew l.initial.arena l.arena [] l.named.items;
       kept : IsPrepared l.initial.arena l.arena;
-      here : AreHere l.arena l.named.items;
-      room : HaveRoom l.arena l.storage l.named.items;
-      others : (b : ℕ) → is_named (told_to l.part l.entries) b ≡ false → slot_of l.arena b ≡ slot_of l.initial.arena b;
-      rest : (b : ℕ) → is_named (of_part l.part (expanded (drop l.place l.entries))) b ≡ true → is_named (told_to l.part l.entries) b ≡ true;
-      there : HaveReplicas l.initial.arena l.storage (told_to l.part l.entries) → l.arena ≡ l.initial.arena;
-      named : map told_of l.named.items ++ of_part l.part (expanded (drop l.place l.entries)) ≡ told_to l.part l.entries;
+      here : AreAtSlots l.arena l.named.items;
+      room : HaveCapacity l.arena l.storage l.named.items;
+      others : (b : ℕ) → is_named (reported_to_part l.part l.entries) b ≡ false → slot_of l.arena b ≡ slot_of l.initial.arena b;
+      rest : (b : ℕ) → is_named (of_part l.part (expanded (drop l.place l.entries))) b ≡ true → is_named (reported_to_part l.part l.entries) b ≡ true;
+      there : HaveReplicas l.initial.arena l.storage (reported_to_part l.part l.entries) → l.arena ≡ l.initial.arena;
+      named : map reported_of l.named.items ++ of_part l.part (expanded (drop l.place l.entries)) ≡ reported_to_part l.part l.entries;
     }

@@ -4,19 +4,19 @@ use Rattle.bm_base.specs.declared.event.Entry.{Entry}
 use Rattle.bm_report.specs.Expanded.{of_part}
 use Rattle.bm_base.specs.Machine.Events.{is_named}
 use Rattle.bm_arena.specs.Contents.{Contents}
-use Rattle.bm_report.specs.Midway.{told_of}
+use Rattle.bm_report.specs.DuringReport.{reported_of}
 use Rattle.bm_report.specs.Ready.{HasReplica}
 use Rattle.std.proofs.Common.{refl}
 use Rattle.bm_report.proofs.Aborts.{naming-none, naming-chain}
-use Rattle.bm_report.proofs.Prepared.{prepared-none, prepared-chain}
-use Rattle.bm_report.proofs.Running.{told_from, told_first, run_step}
-use Rattle.bm_report.proofs.Naming.{named_apart, next_named, later_named}
+use Rattle.bm_report.proofs.Preparation.{prepared-none, prepared-chain}
+use Rattle.bm_report.proofs.NumberRuns.{reported_from, reported_first, run_step}
+use Rattle.bm_report.proofs.NamedNumbers.{named_apart, next_named, later_named}
 use Rattle.bm_report.proofs.look_up.look_up_run.Goals as goal
 
 pub loop-next-init : goal.loop-next-init
 loop-next-init c =
     let from : c.entry.inside.0.0 ≡ c.args.entry.now.from = ap (λ (e : Entry). e.from) c.entry.view_is in
-    let first_is = told_first c.args.part c.args.entry.now c.first_of_part-next.result c.requires.index c.first_of_part-next.ensures.of_part (omega (arith, from, c.first_of_part-next.ensures.from)) (omega (arith, from, c.first_of_part-next.ensures.near)) in record {
+    let first_is = reported_first c.args.part c.args.entry.now c.first_of_part-next.result c.requires.index c.first_of_part-next.ensures.of_part (omega (arith, from, c.first_of_part-next.ensures.from)) (omega (arith, from, c.first_of_part-next.ensures.near)) in record {
       fresh = naming-none c.args.arena.now c.args.arena.now c.args.named.now.items c.args.named.now.items (λ b. refl) refl;
       kept = prepared-none c.args.arena.now;
       here = c.requires.here;
@@ -25,7 +25,7 @@ loop-next-init c =
       rest = λ b in_it. ap (λ l. is_named l b) first_is ∙ in_it;
       there = λ h. refl;
       own = c.first_of_part-next.ensures.of_part;
-      named = sym (ap (λ l. map told_of c.args.named.now.items ++ l) first_is);
+      named = sym (ap (λ l. map reported_of c.args.named.now.items ++ l) first_is);
     }
 
 pub loop-next-preserved : goal.loop-next-preserved
@@ -38,15 +38,15 @@ loop-next-preserved c =
       room = c.in_ok-look_up_one.ensures.room;
       others = λ b out. c.look_up_one.ensures.others b (λ same. named_apart _ b out (c.loop-next.invariant.rest b (next_named c.args.part c.args.entry.now c.loop-next.next b c.requires.index c.loop-next.invariant.own within same))) ∙ c.loop-next.invariant.others b out;
       rest = λ b in_it.
-          let at : is_named (of_part c.args.part (told_from c.args.entry.now (c.loop-next.next + c.args.part.shards))) b ≡ true = ap (λ k. is_named (of_part c.args.part (told_from c.args.entry.now (c.loop-next.next + k))) b) (sym c.from-next.ensures) ∙ in_it in
+          let at : is_named (of_part c.args.part (reported_from c.args.entry.now (c.loop-next.next + c.args.part.shards))) b ≡ true = ap (λ k. is_named (of_part c.args.part (reported_from c.args.entry.now (c.loop-next.next + k))) b) (sym c.from-next.ensures) ∙ in_it in
           c.loop-next.invariant.rest b (later_named c.args.part c.args.entry.now c.loop-next.next b c.requires.index c.loop-next.invariant.own within at);
       there = λ h.
           let same = c.loop-next.invariant.there h in
           let named = c.loop-next.invariant.rest c.loop-next.next (next_named c.args.part c.args.entry.now c.loop-next.next c.loop-next.next c.requires.index c.loop-next.invariant.own within refl) in
           c.look_up_one.ensures.there (subst (λ (a : Contents). HasReplica a c.args.storage c.loop-next.next) (sym same) (h c.loop-next.next named)) ∙ same;
       own = ap (λ k. (c.loop-next.next + k) % c.args.part.shards) c.from-next.ensures ∙ add-mod_right c.loop-next.next c.args.part.shards ∙ c.loop-next.invariant.own;
-      named = ap (λ k. map told_of c.look_up_one.new.named.items ++ of_part c.args.part (told_from c.args.entry.now (c.loop-next.next + k))) c.from-next.ensures ∙ run_step c.args.part c.args.entry.now c.loop-next.next (map told_of c.loop-next.named.items) (map told_of c.look_up_one.new.named.items) _ c.requires.index c.loop-next.invariant.own within c.loop-next.invariant.named
-          (c.in_ok-look_up_one.ensures.named ∙ ap (λ (e : Entry). map told_of c.loop-next.named.items ++ record { id = c.loop-next.next; stamp = e.stamp } ∷ []) c.entry.view_is);
+      named = ap (λ k. map reported_of c.look_up_one.new.named.items ++ of_part c.args.part (reported_from c.args.entry.now (c.loop-next.next + k))) c.from-next.ensures ∙ run_step c.args.part c.args.entry.now c.loop-next.next (map reported_of c.loop-next.named.items) (map reported_of c.look_up_one.new.named.items) _ c.requires.index c.loop-next.invariant.own within c.loop-next.invariant.named
+          (c.in_ok-look_up_one.ensures.named ∙ ap (λ (e : Entry). map reported_of c.loop-next.named.items ++ record { id = c.loop-next.next; stamp = e.stamp } ∷ []) c.entry.view_is);
     }
 
 pub returns-in_err-look_up_one-clause-kept : goal.returns-in_err-look_up_one-clause-kept

@@ -4,7 +4,7 @@ use Rattle.bm_base.specs.declared.refusal.Refusal.{Refusal}
 use Rattle.bm_arena.specs.Contents.{Contents, slot_of, IsAdded, IsLawful}
 use Rattle.bm_report.specs.Expanded.{IsPrepared}
 use Rattle.bm_report.proofs.Maps.{some_is}
-use Rattle.bm_report.proofs.Prepared.{prepared-none, prepared-added}
+use Rattle.bm_report.proofs.Preparation.{prepared-none, prepared-added}
 use Rattle.bm_report.proofs.look_up.slot_for.Goals as goal
 
 same_as : (a c : Contents) → c ≡ a → IsPrepared a c
@@ -21,4 +21,4 @@ prepared_by a c id lawful (Ok slot) known added unchanged = by (slot_of a id) re
 
 pub returns-clause-kept : goal.returns-clause-kept
 returns-clause-kept c =
-    prepared_by c.args.arena.now c.add_entry.new.self c.args.id c.lawful.ensures c.add_entry.result c.add_entry.ensures.known c.add_entry.ensures.added c.add_entry.ensures.unchanged
+    prepared_by c.args.arena.now c.add_entry.new.self c.args.id c.show_invariant.ensures c.add_entry.result c.add_entry.ensures.known c.add_entry.ensures.added c.add_entry.ensures.unchanged

@@ -5,7 +5,7 @@ use Rattle.std.specs.FinMap.{is_sorted}
 use Rattle.bm_base.specs.Maps.Map.{keys}
 use Rattle.bm_base.specs.Machine.Replicas.{has_storage}
 use Rattle.bm_base.specs.Machine.Rounds.{node_commands, has_commands, commands_of}
-use Rattle.bm_round.proofs.Told.{nodes_rise, each_has_commands, own_transfers, own_deletes}
+use Rattle.bm_round.proofs.NodeCommands.{nodes_ascend, each_has_commands, own_transfers, own_deletes}
 use Rattle.bm_round.proofs.node_commands.commands.Goals as goal
 
 pub returns-clause-commands : goal.returns-clause-commands
@@ -19,7 +19,7 @@ returns-clause-commands c =
 
 pub returns-clause-rising : goal.returns-clause-rising
 returns-clause-rising c =
-    subst (λ ks. T (is_sorted nat_cmp (map (λ k. (k.node, k)) ks.nodes))) (sym (returns-clause-commands c)) (nodes_rise c.args.topology.now.cluster c.args.round c.args.chosen.now.transfers c.args.chosen.now.deletes)
+    subst (λ ks. T (is_sorted nat_cmp (map (λ k. (k.node, k)) ks.nodes))) (sym (returns-clause-commands c)) (nodes_ascend c.args.topology.now.cluster c.args.round c.args.chosen.now.transfers c.args.chosen.now.deletes)
 
 pub returns-clause-some_command : goal.returns-clause-some_command
 returns-clause-some_command c =

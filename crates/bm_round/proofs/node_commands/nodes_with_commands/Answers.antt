@@ -1,7 +1,7 @@
 use Rattle.std.proofs.Common.{filter, ap, sym, ◌∙◌, rules}
 use Rattle.std.proofs.lemmas.Fn.{filter_same}
 use Rattle.bm_base.specs.Machine.Rounds.{has_commands}
-use Rattle.bm_round.proofs.Nothing.{none_there, none_told}
+use Rattle.bm_round.proofs.EmptyChoice.{none_there, none_told}
 use Rattle.bm_round.proofs.node_commands.nodes_with_commands.Goals as goal
 
 pub returns-then-is_empty-2 : goal.returns-then-is_empty-2

@@ -1,7 +1,7 @@
 use Rattle.std.proofs.Common.{◌-◌, replicate, ◌+◌, ◌++◌, ap, sym, ◌∙◌}
 use Rattle.bm_base.specs.Machine.State.{limits_of}
-use Rattle.bm_base.specs.Choices.{transfers_over, holders_by, barred_by}
-use Rattle.bm_round.proofs.Copying.{none_left, one_less, joined_more}
+use Rattle.bm_base.specs.Choices.{transfers_over, holders_by, excluded_by}
+use Rattle.bm_round.proofs.WishCopies.{none_left, one_less, joined_more}
 use Rattle.bm_round.proofs.transfers.choose_copies.Goals as goal
 
 pub returns-in_default-clause-transfers : goal.returns-in_default-clause-transfers
@@ -30,7 +30,7 @@ loop-copy-preserved c =
       held =
           c.in_ok-add.ensures.held ∙ joined_more (w.live ++ w.pending) c.loop-copy.choice.held.items chosen t w.block block c.loop-copy.invariant.held
           ∙ ap (λ ts. holders_by ts w) (sym c.in_ok-add.ensures.transfers);
-      barred =
-          c.in_ok-add.ensures.barred ∙ joined_more (w.pairs ++ w.pending) c.loop-copy.choice.barred.items chosen t w.block block c.loop-copy.invariant.barred
-          ∙ ap (λ ts. barred_by ts w) (sym c.in_ok-add.ensures.transfers);
+      excluded =
+          c.in_ok-add.ensures.excluded ∙ joined_more (w.pairs ++ w.pending) c.loop-copy.choice.excluded.items chosen t w.block block c.loop-copy.invariant.excluded
+          ∙ ap (λ ts. excluded_by ts w) (sym c.in_ok-add.ensures.transfers);
     }

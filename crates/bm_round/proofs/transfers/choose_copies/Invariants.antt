@@ -1,7 +1,7 @@
 use Rattle.std.proofs.Common.{◌≡◌, ◌-◌, replicate}
 use Rattle.bm_base.specs.Machine.State.{limits_of}
-use Rattle.bm_base.specs.Choices.{transfers_over, sources_by, holders_by, barred_by}
-use Rattle.bm_round.specs.Counted.{IsCounted}
+use Rattle.bm_base.specs.Choices.{transfers_over, sources_by, holders_by, excluded_by}
+use Rattle.bm_round.specs.TransferCounts.{IsCounted}
 use Rattle.bm_round.proofs.transfers.choose_copies.Given as goal
 
 -- the remaining copies lead from the present choice to the choice that all copies make
@@ -14,5 +14,5 @@ invariant-loop-copy l =
       counted : IsCounted C l.choice;
       sources : l.choice.sources.items ≡ sources_by l.wish;
       held : l.choice.held.items ≡ holders_by chosen l.wish;
-      barred : l.choice.barred.items ≡ barred_by chosen l.wish;
+      excluded : l.choice.excluded.items ≡ excluded_by chosen l.wish;
     }

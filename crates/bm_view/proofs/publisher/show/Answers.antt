@@ -2,7 +2,7 @@ use Rattle.std.proofs.Common.{Some, [], ◌∷◌, fold, drop, sym, ap, ◌∙�
 use Rattle.std.proofs.lemmas.List.Sums.{fold-append}
 use Rattle.bm_view.specs.Rule.{Evidence, Extends}
 use Rattle.bm_view.proofs.Moves.{shows}
-use Rattle.bm_view.proofs.Publishing.{was_ok, match_both}
+use Rattle.bm_view.proofs.PublishSteps.{was_ok, match_both}
 use Rattle.bm_view.proofs.publisher.show.Goals as goal
 
 pub publish_as-requires : goal.publish_as-requires

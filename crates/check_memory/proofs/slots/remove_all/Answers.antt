@@ -7,14 +7,14 @@ within : (v : Members) (at : Option ℕ) (slot : ℕ) → IsLawful v → IsOn at
 within v at slot lawful on is = lawful.below slot (rw is at on)
 
 pub next-at-requires : goal.next-at-requires
-next-at-requires c = within c.loop-at.slots c.loop-at.at c.in-Some.slot c.lawful.ensures.lawful c.loop-at.invariant c.in-Some.is
+next-at-requires c = within c.loop-at.slots c.loop-at.at c.in-Some.slot c.show_invariant.ensures.lawful c.loop-at.invariant c.in-Some.is
 
 pub remove-requires : goal.remove-requires
-remove-requires c = within c.loop-at.slots c.loop-at.at c.in-Some.slot c.lawful.ensures.lawful c.loop-at.invariant c.in-Some.is
+remove-requires c = within c.loop-at.slots c.loop-at.at c.in-Some.slot c.show_invariant.ensures.lawful c.loop-at.invariant c.in-Some.is
 
 pub contains-requires : goal.contains-requires
 contains-requires c =
-    let inside = within c.loop-at.slots c.loop-at.at c.in-Some.slot c.lawful.ensures.lawful c.loop-at.invariant c.in-Some.is in
+    let inside = within c.loop-at.slots c.loop-at.at c.in-Some.slot c.show_invariant.ensures.lawful c.loop-at.invariant c.in-Some.is in
     let room = c.remove.ensures.room in
     omega (arith, inside, room)
 

@@ -1,11 +1,11 @@
 use Rattle.std.proofs.Common.{length}
 use Rattle.std.specs.Option.{IfSome}
-use Rattle.bm_maps.specs.SlotLists.{Among}
+use Rattle.bm_maps.specs.SlotLists.{IsMember}
 use Rattle.bm_queues.specs.Walks.{slots_from}
 use Rattle.check_memory.proofs.slots.remove_all.Given as goal
 
 abbrev pub invariant-loop-at : goal.invariant-loop-at
-invariant-loop-at l = IfSome l.at (λ x. Among x l.slots.slots)
+invariant-loop-at l = IfSome l.at (λ x. IsMember x l.slots.slots)
 
 abbrev pub decreases-loop-at : goal.decreases-loop-at
 decreases-loop-at l = length (slots_from l.slots.slots l.at)

@@ -12,25 +12,25 @@ module _ (v : Levels) (at : Option ℕ) (slot : ℕ) (lawful : IsLawful v) (on :
   highest = (lawful.exact Highest slot).0 (rw is at on)
 
 pub next-at-requires : goal.next-at-requires
-next-at-requires c = within c.loop-at.lists c.loop-at.at c.in-Some.slot c.lawful.ensures.lawful c.loop-at.invariant c.in-Some.is
+next-at-requires c = within c.loop-at.lists c.loop-at.at c.in-Some.slot c.show_invariant.ensures.lawful c.loop-at.invariant c.in-Some.is
 
 pub set-requires : goal.set-requires
-set-requires c = within c.loop-at.lists c.loop-at.at c.in-Some.slot c.lawful.ensures.lawful c.loop-at.invariant c.in-Some.is
+set-requires c = within c.loop-at.lists c.loop-at.at c.in-Some.slot c.show_invariant.ensures.lawful c.loop-at.invariant c.in-Some.is
 
 pub level-requires : goal.level-requires
 level-requires c =
-    let inside = within c.loop-at.lists c.loop-at.at c.in-Some.slot c.lawful.ensures.lawful c.loop-at.invariant c.in-Some.is in
+    let inside = within c.loop-at.lists c.loop-at.at c.in-Some.slot c.show_invariant.ensures.lawful c.loop-at.invariant c.in-Some.is in
     let room = c.set.ensures.room in
     omega (arith, inside, room)
 
 pub loop-at-smaller : goal.loop-at-smaller
 loop-at-smaller c =
-    let at_highest = highest c.loop-at.lists c.loop-at.at c.in-Some.slot c.lawful.ensures.lawful c.loop-at.invariant c.in-Some.is in
+    let at_highest = highest c.loop-at.lists c.loop-at.at c.in-Some.slot c.show_invariant.ensures.lawful c.loop-at.invariant c.in-Some.is in
     let here = ap length (rw (← c.in-Some.is) at (c.next-at.ensures.goes_on Highest at_highest).rest) in
     let rest = ap length (c.set.ensures.rest Highest c.next-at.result (c.next-at.ensures.goes_on Highest at_highest).past) in
     omega (arith, here, rest)
 
 pub loop-at-preserved : goal.loop-at-preserved
 loop-at-preserved c =
-    let at_highest = highest c.loop-at.lists c.loop-at.at c.in-Some.slot c.lawful.ensures.lawful c.loop-at.invariant c.in-Some.is in
+    let at_highest = highest c.loop-at.lists c.loop-at.at c.in-Some.slot c.show_invariant.ensures.lawful c.loop-at.invariant c.in-Some.is in
     c.set.ensures.on Highest c.next-at.result (c.next-at.ensures.goes_on Highest at_highest).past (c.next-at.ensures.goes_on Highest at_highest).on

@@ -1,5 +1,5 @@
 use Rattle.std.proofs.Common.{ℕ, ◌<◌, ◌≤◌}
-use Rattle.bm_pending.specs.OnTheWay.{room}
+use Rattle.bm_pending.specs.PendingMap.{room}
 use Rattle.check_memory.proofs.transfers.insert_all.Given as goal
 
 abbrev pub invariant-loop-number : goal.invariant-loop-number

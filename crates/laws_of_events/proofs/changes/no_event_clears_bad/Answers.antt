@@ -1,7 +1,7 @@
 use Rattle.bm_base.specs.Machine.State.{State}
 use Rattle.bm_base.specs.Promises.Lawful.{IsOrderly}
-use Rattle.laws_of_states.proofs.Rounding.{orderly}
-use Rattle.laws_of_states.proofs.Orderly.{calls_orderly}
+use Rattle.laws_of_states.proofs.LawfulRounds.{orderly}
+use Rattle.laws_of_states.proofs.OrderlyStates.{calls_orderly}
 use Rattle.laws_of_events.specs.Changes.{no_event_clears_bad}
 use Rattle.laws_of_events.proofs.BadStays.{bad_stays}
 use Rattle.laws_of_events.proofs.changes.no_event_clears_bad.Goals as goal

@@ -1,4 +1,4 @@
-use Rattle.laws_of_states.proofs.Orderly.{calls_orderly}
+use Rattle.laws_of_states.proofs.OrderlyStates.{calls_orderly}
 use Rattle.laws_of_events.proofs.lawful.calls_lead_to_orderly.Goals as goal
 
 pub returns : goal.returns

@@ -1,4 +1,4 @@
-use Rattle.laws_of_states.proofs.Accepting.{event_lawful}
+use Rattle.laws_of_states.proofs.AcceptedEvents.{event_lawful}
 use Rattle.laws_of_events.proofs.lawful.event_keeps_lawful.Goals as goal
 
 pub returns : goal.returns

@@ -1,7 +1,7 @@
 use Rattle.bm_base.specs.Machine.State.{State}
 use Rattle.bm_base.specs.Promises.Lawful.{IsOrderly}
-use Rattle.laws_of_states.proofs.Rounding.{orderly}
-use Rattle.laws_of_states.proofs.Orderly.{calls_orderly}
+use Rattle.laws_of_states.proofs.LawfulRounds.{orderly}
+use Rattle.laws_of_states.proofs.OrderlyStates.{calls_orderly}
 use Rattle.laws_of_events.specs.Reports.{report_leaves_bad_bad}
 use Rattle.laws_of_events.proofs.ReportLaws.{report_leaves_bad}
 use Rattle.laws_of_events.proofs.reports.report_leaves_bad_bad.Goals as goal

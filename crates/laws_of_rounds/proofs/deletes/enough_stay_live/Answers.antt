@@ -1,9 +1,9 @@
 use Rattle.bm_base.specs.Promises.Lawful.{IsOrderly}
 use Rattle.bm_base.specs.Machine.State.{State, replica_at}
-use Rattle.laws_of_states.proofs.Kept.{enough_stay}
-use Rattle.laws_of_states.proofs.Orderly.{calls_orderly}
-use Rattle.laws_of_states.proofs.Rounding.{orderly}
-use Rattle.laws_of_states.proofs.Tested.{tested}
+use Rattle.laws_of_states.proofs.LiveAfterRound.{enough_stay}
+use Rattle.laws_of_states.proofs.OrderlyStates.{calls_orderly}
+use Rattle.laws_of_states.proofs.LawfulRounds.{orderly}
+use Rattle.laws_of_states.proofs.CommandedDeletes.{tested}
 use Rattle.laws_of_rounds.specs.Deletes.{EnoughStayLive}
 use Rattle.laws_of_rounds.proofs.deletes.enough_stay_live.Goals as goal
 

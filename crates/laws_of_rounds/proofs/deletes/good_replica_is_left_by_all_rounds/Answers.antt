@@ -1,8 +1,8 @@
 use Rattle.bm_base.specs.Machine.State.{first_state, replica_at}
 use Rattle.bm_base.specs.Machine.Calls.{state_after}
-use Rattle.laws_of_states.proofs.Orderly.{calls_orderly}
+use Rattle.laws_of_states.proofs.OrderlyStates.{calls_orderly}
 use Rattle.laws_of_rounds.proofs.Ordered.{done_reached, good_stays}
-use Rattle.laws_of_states.proofs.Tested.{tested}
+use Rattle.laws_of_states.proofs.CommandedDeletes.{tested}
 use Rattle.laws_of_rounds.proofs.deletes.good_replica_is_left_by_all_rounds.Goals as goal
 
 pub returns : goal.returns

@@ -1,9 +1,9 @@
 use Rattle.bm_base.specs.Promises.Lawful.{IsOrderly}
 use Rattle.bm_base.specs.Machine.State.{State, replica_at}
 use Rattle.laws_of_states.proofs.LastGood.{only_good_stays}
-use Rattle.laws_of_states.proofs.Orderly.{calls_orderly}
-use Rattle.laws_of_states.proofs.Rounding.{orderly}
-use Rattle.laws_of_states.proofs.Tested.{tested}
+use Rattle.laws_of_states.proofs.OrderlyStates.{calls_orderly}
+use Rattle.laws_of_states.proofs.LawfulRounds.{orderly}
+use Rattle.laws_of_states.proofs.CommandedDeletes.{tested}
 use Rattle.laws_of_rounds.specs.Deletes.{OnlyGoodReplicaIsNotDeleted}
 use Rattle.laws_of_rounds.proofs.deletes.only_good_replica_is_not_deleted.Goals as goal
 

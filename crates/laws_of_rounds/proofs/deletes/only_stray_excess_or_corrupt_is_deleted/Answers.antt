@@ -1,5 +1,5 @@
 use Rattle.laws_of_rounds.proofs.Reasons.{may_be_deleted}
-use Rattle.laws_of_states.proofs.Tested.{tested}
+use Rattle.laws_of_states.proofs.CommandedDeletes.{tested}
 use Rattle.laws_of_rounds.proofs.deletes.only_stray_excess_or_corrupt_is_deleted.Goals as goal
 
 pub returns : goal.returns

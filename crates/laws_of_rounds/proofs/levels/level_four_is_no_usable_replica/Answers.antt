@@ -1,7 +1,7 @@
 use Rattle.bm_base.specs.Promises.Lawful.{IsOrderly}
 use Rattle.bm_base.specs.Machine.State.{State}
-use Rattle.laws_of_states.proofs.Orderly.{calls_orderly}
-use Rattle.laws_of_states.proofs.Rounding.{orderly}
+use Rattle.laws_of_states.proofs.OrderlyStates.{calls_orderly}
+use Rattle.laws_of_states.proofs.LawfulRounds.{orderly}
 use Rattle.laws_of_rounds.proofs.Needs.{four}
 use Rattle.laws_of_rounds.specs.Levels.{LevelFourIsNoUsableReplica}
 use Rattle.laws_of_rounds.proofs.levels.level_four_is_no_usable_replica.Goals as goal

@@ -1,4 +1,4 @@
-use Rattle.laws_of_states.proofs.Lively.{drained_is}
+use Rattle.laws_of_states.proofs.LiveReplicas.{drained_is}
 use Rattle.laws_of_rounds.proofs.live.drained_is_good_not_in_excess_and_draining.Goals as goal
 
 pub returns : goal.returns

@@ -1,4 +1,4 @@
-use Rattle.bm_base.proofs.Each.{each_all}
+use Rattle.bm_base.proofs.ForEach.{each_all}
 use Rattle.laws_of_rounds.specs.Obedience.{Obeys}
 use Rattle.laws_of_rounds.proofs.Obeyed.{target_live}
 use Rattle.laws_of_rounds.proofs.obedience.target_becomes_live.Goals as goal

@@ -3,7 +3,7 @@ use Rattle.bm_arena.proofs.Lawfulness.{IsLawful-arena}
 use Rattle.bm_arena.proofs.Entries.{IsArena-capacity, add_entry-arena, add_entry-added}
 use Rattle.bm_arena.proofs.Bounds.{below-inserted, below-capacity}
 use Rattle.bm_arena.specs.Contents.{slot_of, IsLawful}
-use Rattle.bm_arena.proofs.Informed.{added-replicas, added-blocks}
+use Rattle.bm_arena.proofs.SetInfo.{added-replicas, added-blocks}
 use Rattle.bm_arena.proofs.arena.Arena.add_entry.Goals as goal
 
 pub invariant_of-self : goal.invariant_of-self

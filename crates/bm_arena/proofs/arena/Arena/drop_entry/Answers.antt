@@ -1,5 +1,5 @@
 use Rattle.bm_arena.proofs.Lawfulness.{IsLawful-arena}
-use Rattle.bm_arena.proofs.Dropped.{drop_entry-arena, drop_entry-view, drop_entry-none, drop_entry-entries, drop_entry-numbers, drop_entry-lists}
+use Rattle.bm_arena.proofs.DroppedEntry.{drop_entry-arena, drop_entry-view, drop_entry-none, drop_entry-entries, drop_entry-numbers, drop_entry-lists}
 use Rattle.bm_arena.proofs.Bounds.{below-dropped}
 use Rattle.bm_arena.proofs.arena.Arena.drop_entry.Goals as goal
 

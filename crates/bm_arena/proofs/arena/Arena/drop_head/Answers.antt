@@ -1,6 +1,6 @@
 use Rattle.bm_arena.proofs.Lawfulness.{IsLawful-arena}
 use Rattle.std.proofs.Common.{arith, refl}
-use Rattle.bm_arena.proofs.Headless.{drop_head-arena, drop_head-lists, drop_head-list, drop_head-head, drop_head-gone, drop_head-fewer}
+use Rattle.bm_arena.proofs.DroppedHead.{drop_head-arena, drop_head-lists, drop_head-list, drop_head-head, drop_head-gone, drop_head-fewer}
 use Rattle.bm_arena.proofs.arena.Arena.drop_head.Goals as goal
 
 pub invariant_of-self : goal.invariant_of-self

@@ -1,5 +1,5 @@
 use Rattle.std.proofs.Common.{refl}
-use Rattle.bm_arena.proofs.Reading.{empty-headed, empty-headless}
+use Rattle.bm_arena.proofs.ListReads.{empty-headed, empty-headless}
 use Rattle.bm_arena.proofs.arena.Arena.is_list_empty.Goals as goal
 
 pub returns-in-Some : goal.returns-in-Some

@@ -5,7 +5,7 @@ use Rattle.bm_arena.proofs.ListCalls.{link_front-sound, link_front-view, no_head
 use Rattle.bm_arena.proofs.Lawfulness.{IsLawful-arena}
 use Rattle.bm_arena.proofs.Bounds.{below-linked}
 use Rattle.bm_arena.specs.Contents.{IsLawful}
-use Rattle.bm_arena.proofs.Held.{replicas-put, blocks-kept}
+use Rattle.bm_arena.proofs.HeldReplicas.{replicas-put, blocks-kept}
 use Rattle.bm_arena.proofs.arena.Arena.link_front.Goals as goal
 
 pub invariant_of-self : goal.invariant_of-self
@@ -25,8 +25,8 @@ returns-in-Some-clause-after c =
     let absent = rw (← c.self.view_is, ← c.storage.view_is) at c.requires.absent in
     rw (← c.self.view_is, ← c.storage.view_is)
     (link_front-view c.self.inside.slots c.self.inside.heads.entries c.in-Some.head.first c.storage.inside.0 c.args.slot c.args.marks c.self.inside.ids c.self.inside.delimiter c.self.invariant.arena c.in-Some.ensures.first room absent
-    c.add_triplet.new.slots c.attach.new.slots _ c.attach.new.first c.self.inside.steps c.count_up-self-inside.result c.self.inside.bound c.add_triplet.ensures c.attach.ensures.slots (c.set.ensures.entries c.storage.inside.0 c.in-Some.head.first c.in-Some.ensures.index) c.attach.ensures.first
-    c.count_up-self-inside.ensures)
+    c.add_triplet.new.slots c.attach.new.slots _ c.attach.new.first c.self.inside.steps c.saturating_next-self-inside.result c.self.inside.bound c.add_triplet.ensures c.attach.ensures.slots (c.set.ensures.entries c.storage.inside.0 c.in-Some.head.first c.in-Some.ensures.index) c.attach.ensures.first
+    c.saturating_next-self-inside.ensures)
 
 pub returns-in_default : goal.returns-in_default
 returns-in_default c =

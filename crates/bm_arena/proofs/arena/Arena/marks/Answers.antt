@@ -1,6 +1,6 @@
 use Rattle.std.proofs.Common.{sym, ap, ◌∙◌}
 use Rattle.std.specs.Option.{option_map}
-use Rattle.bm_arena.proofs.Seeing.{marks-seen, marks_of}
+use Rattle.bm_arena.proofs.EntryViews.{marks-seen, marks_of}
 use Rattle.bm_arena.proofs.arena.Arena.marks.Goals as goal
 
 pub returns-in-Some : goal.returns-in-Some

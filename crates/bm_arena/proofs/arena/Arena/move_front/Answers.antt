@@ -4,7 +4,7 @@ use Rattle.bm_arena.proofs.Laws.{head-lawful, list_of-moved_front, others-moved_
 use Rattle.bm_arena.proofs.ListCalls.{move_front-sound, move_front-view, no_list, no_replica}
 use Rattle.bm_arena.proofs.Lawfulness.{IsLawful-arena}
 use Rattle.bm_arena.proofs.Bounds.{below-moved}
-use Rattle.bm_arena.proofs.Held.{replicas-moved, blocks-kept}
+use Rattle.bm_arena.proofs.HeldReplicas.{replicas-moved, blocks-kept}
 use Rattle.bm_arena.proofs.arena.Arena.move_front.Goals as goal
 
 pub invariant_of-self : goal.invariant_of-self
@@ -20,8 +20,8 @@ pub returns-in-Some-put_first-clause-after : goal.returns-in-Some-put_first-clau
 returns-in-Some-put_first-clause-after c =
     rw (← c.self.view_is, ← c.storage.view_is)
     (move_front-view c.self.inside.slots c.self.inside.heads.entries c.in-Some.head.first c.storage.inside.0 c.args.slot c.in-Some-put_first.triplet c.self.inside.ids c.self.inside.delimiter c.self.invariant.arena c.in-Some.ensures.first c.in-Some-put_first.ensures.found
-    c.put_first.new.slots c.detach.new.slots c.attach.new.slots c.detach.new.first c.attach.new.first _ c.self.inside.steps c.count_up-self-inside.result c.self.inside.bound c.put_first.ensures.slots c.detach.ensures.slots c.detach.ensures.first c.attach.ensures.slots (c.set.ensures.entries c.storage.inside.0 c.in-Some.head.first c.in-Some.ensures.index) c.attach.ensures.first
-    c.count_up-self-inside.ensures)
+    c.put_first.new.slots c.detach.new.slots c.attach.new.slots c.detach.new.first c.attach.new.first _ c.self.inside.steps c.saturating_next-self-inside.result c.self.inside.bound c.put_first.ensures.slots c.detach.ensures.slots c.detach.ensures.first c.attach.ensures.slots (c.set.ensures.entries c.storage.inside.0 c.in-Some.head.first c.in-Some.ensures.index) c.attach.ensures.first
+    c.saturating_next-self-inside.ensures)
 
 pub returns-in_default : goal.returns-in_default
 returns-in_default c =

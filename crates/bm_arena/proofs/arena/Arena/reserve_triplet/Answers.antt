@@ -1,11 +1,11 @@
 use Rattle.std.proofs.Common.{◌≡◌, ◌≢◌, ℕ, refl, sym, subst, ap}
 use Rattle.bm_arena.specs.Contents.{Contents, block_at, marks_at, known_of}
-use Rattle.bm_arena.proofs.Roomy.{room-marks, room-elsewhere, room-known}
+use Rattle.bm_arena.proofs.MoreCapacity.{room-marks, room-elsewhere, room-known}
 use Rattle.std.proofs.lemmas.Bool.{false≢true}
 use Rattle.bm_arena.proofs.Lawfulness.{IsLawful-arena}
-use Rattle.bm_arena.proofs.Reading.{reserve-arena, reserve-view, room-entry}
+use Rattle.bm_arena.proofs.ListReads.{reserve-arena, reserve-view, room-entry}
 use Rattle.bm_arena.proofs.Bounds.{below-changed}
-use Rattle.bm_arena.proofs.Held.{replicas-kept, blocks-kept}
+use Rattle.bm_arena.proofs.HeldReplicas.{replicas-kept, blocks-kept}
 use Rattle.bm_arena.proofs.arena.Arena.reserve_triplet.Goals as goal
 
 pub invariant_of-self : goal.invariant_of-self

@@ -1,9 +1,9 @@
 use Rattle.bm_arena.proofs.Lawfulness.{IsLawful-arena}
 use Rattle.std.proofs.Common.{refl}
 use Rattle.bm_arena.specs.Contents.{IsLawful}
-use Rattle.bm_arena.proofs.Relinked.{set_marks-arena, set_marks-lists, set_marks-blocks}
+use Rattle.bm_arena.proofs.KeptLinks.{set_marks-arena, set_marks-lists, set_marks-blocks}
 use Rattle.bm_arena.proofs.Bounds.{below-changed}
-use Rattle.bm_arena.proofs.MarksSet.{marks_set}
+use Rattle.bm_arena.proofs.MarksAfterSet.{marks_set}
 use Rattle.bm_arena.proofs.arena.Arena.set_marks.Goals as goal
 
 pub invariant_of-self : goal.invariant_of-self

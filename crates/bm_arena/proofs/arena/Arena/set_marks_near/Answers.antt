@@ -1,15 +1,15 @@
 use Rattle.bm_arena.proofs.Lawfulness.{IsLawful-arena}
 use Rattle.std.proofs.Common.{refl}
 use Rattle.bm_arena.specs.Contents.{IsLawful}
-use Rattle.bm_arena.proofs.Relinked.{set_marks-arena, set_marks-lists, set_marks-blocks}
-use Rattle.bm_arena.specs.Triplets.{seen_entry}
-use Rattle.bm_arena.proofs.Seeing.{seen_at}
+use Rattle.bm_arena.proofs.KeptLinks.{set_marks-arena, set_marks-lists, set_marks-blocks}
+use Rattle.bm_arena.specs.Triplets.{entry_view}
+use Rattle.bm_arena.proofs.EntryViews.{seen_at}
 use Rattle.bm_arena.proofs.Bounds.{below-changed}
-use Rattle.bm_arena.proofs.MarksSet.{marks_set}
+use Rattle.bm_arena.proofs.MarksAfterSet.{marks_set}
 use Rattle.bm_arena.proofs.arena.Arena.set_marks_near.Goals as goal
 
 pub set_marks_near-requires : goal.set_marks_near-requires
-set_marks_near-requires c e here = c.self.invariant.arena.sound.once c.args.slot (seen_entry e) (seen_at c.self.inside.slots c.args.slot e here)
+set_marks_near-requires c e here = c.self.invariant.arena.sound.once c.args.slot (entry_view e) (seen_at c.self.inside.slots c.args.slot e here)
 
 pub invariant_of-self : goal.invariant_of-self
 invariant_of-self c =

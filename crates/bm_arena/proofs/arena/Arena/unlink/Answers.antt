@@ -4,7 +4,7 @@ use Rattle.bm_arena.proofs.Laws.{head-lawful, list_of-unlinked, marks_at-unlinke
 use Rattle.bm_arena.proofs.ListCalls.{unlink-sound, unlink-view, no_list, no_replica}
 use Rattle.bm_arena.proofs.Lawfulness.{IsLawful-arena}
 use Rattle.bm_arena.proofs.Bounds.{below-unlinked}
-use Rattle.bm_arena.proofs.Held.{replicas-out, blocks-kept}
+use Rattle.bm_arena.proofs.HeldReplicas.{replicas-out, blocks-kept}
 use Rattle.bm_arena.proofs.arena.Arena.unlink.Goals as goal
 
 pub invariant_of-self : goal.invariant_of-self
@@ -20,8 +20,8 @@ pub returns-in-Some-remove_triplet-clause-after : goal.returns-in-Some-remove_tr
 returns-in-Some-remove_triplet-clause-after c =
     rw (← c.self.view_is, ← c.storage.view_is)
     (unlink-view c.self.inside.slots c.self.inside.heads.entries c.in-Some.head.first c.storage.inside.0 c.args.slot c.in-Some-remove_triplet.triplet c.self.inside.ids c.self.inside.delimiter c.self.invariant.arena c.in-Some.ensures.first c.in-Some-remove_triplet.ensures.found
-    c.remove_triplet.new.slots c.detach.new.slots _ c.detach.new.first c.self.inside.steps c.count_up-self-inside.result c.self.inside.bound c.remove_triplet.ensures.slots c.detach.ensures.slots (c.set.ensures.entries c.storage.inside.0 c.in-Some.head.first c.in-Some.ensures.index) c.detach.ensures.first
-    c.count_up-self-inside.ensures)
+    c.remove_triplet.new.slots c.detach.new.slots _ c.detach.new.first c.self.inside.steps c.saturating_next-self-inside.result c.self.inside.bound c.remove_triplet.ensures.slots c.detach.ensures.slots (c.set.ensures.entries c.storage.inside.0 c.in-Some.head.first c.in-Some.ensures.index) c.detach.ensures.first
+    c.saturating_next-self-inside.ensures)
 
 pub returns-in_default : goal.returns-in_default
 returns-in_default c =

@@ -1,5 +1,5 @@
 use Rattle.std.proofs.Common.{Some, ap, ◌∙◌}
-use Rattle.bm_arena.proofs.Reading.{walk-listed, walk-headless}
+use Rattle.bm_arena.proofs.ListReads.{walk-listed, walk-headless}
 use Rattle.bm_arena.proofs.arena.Arena.walk.Goals as goal
 use Rattle.bm_arena.proofs.arena.Arena.walk.Goals.{in-Some, in-None}
 

@@ -2,7 +2,7 @@ use Rattle.bm_arena.proofs.Lawfulness.{IsLawful-arena}
 use Rattle.std.proofs.Common.{ap, ◌∙◌, arith}
 use Rattle.bm_arena.proofs.Entries.{IsArena-first, first_blocks}
 use Rattle.bm_arena.proofs.Bounds.{below-inserted, below-empty}
-use Rattle.bm_arena.proofs.Held.{nothing-held}
+use Rattle.bm_arena.proofs.HeldReplicas.{nothing-held}
 use Rattle.bm_arena.proofs.arena.Arena.with_secret.Goals as goal
 
 pub invariant_of-result : goal.invariant_of-result

@@ -1,6 +1,6 @@
 use Rattle.std.proofs.Common.{ap, arith}
 use Rattle.bm_base.specs.Maps.Map.{by_number}
-use Rattle.bm_maps.proofs.Room.{same_capacity, no_less_capacity, found_there}
+use Rattle.bm_maps.proofs.Capacity.{same_capacity, no_less_capacity, found_there}
 use Rattle.bm_maps.proofs.SortedLaws.{sorted_by-put, insert_by-put}
 use Rattle.bm_maps.proofs.number_map.NumberMap.insert.Goals as goal
 

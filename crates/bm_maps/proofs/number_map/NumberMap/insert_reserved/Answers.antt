@@ -1,7 +1,7 @@
 use Rattle.std.proofs.Common.{ap, arith}
 use Rattle.bm_base.specs.Maps.Map.{by_number}
 use Rattle.bm_maps.proofs.SortedLaws.{sorted_by-put, insert_by-put}
-use Rattle.bm_maps.proofs.Room.{same_capacity}
+use Rattle.bm_maps.proofs.Capacity.{same_capacity}
 use Rattle.bm_maps.proofs.number_map.NumberMap.insert_reserved.Goals as goal
 
 pub invariant_of-self : goal.invariant_of-self

@@ -1,7 +1,7 @@
 use Rattle.std.proofs.Common.{ap}
 use Rattle.bm_base.specs.Maps.Map.{by_number}
-use Rattle.bm_maps.proofs.Replacing.{replaced, sorted_by-replaced}
-use Rattle.bm_maps.proofs.Room.{same_capacity}
+use Rattle.bm_maps.proofs.ReplaceLaws.{replaced, sorted_by-replaced}
+use Rattle.bm_maps.proofs.Capacity.{same_capacity}
 use Rattle.bm_maps.proofs.number_map.NumberMap.replace.Goals as goal
 
 pub invariant_of-self : goal.invariant_of-self

@@ -1,7 +1,7 @@
 use Rattle.std.proofs.Common.{ap}
 use Rattle.bm_base.specs.Maps.Map.{by_number}
 use Rattle.bm_maps.proofs.SortedLaws.{sorted_by-filtered, filtered_shown}
-use Rattle.bm_maps.proofs.Room.{same_capacity}
+use Rattle.bm_maps.proofs.Capacity.{same_capacity}
 use Rattle.std.specs.Fn.{CalledAt}
 use Rattle.bm_maps.proofs.number_map.NumberMap.retain.Goals as goal
 

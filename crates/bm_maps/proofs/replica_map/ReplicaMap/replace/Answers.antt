@@ -1,5 +1,5 @@
 use Rattle.bm_base.specs.Machine.State.{by_replica}
-use Rattle.bm_maps.proofs.Replacing.{replaced, sorted_by-replaced}
+use Rattle.bm_maps.proofs.ReplaceLaws.{replaced, sorted_by-replaced}
 use Rattle.bm_maps.proofs.replica_map.ReplicaMap.replace.Goals as goal
 
 pub invariant_of-self : goal.invariant_of-self

@@ -1,5 +1,5 @@
 use Rattle.std.proofs.Common.{ap, sym, length, ◌∙◌}
-use Rattle.bm_pending.proofs.Ordered.{count-seen}
+use Rattle.bm_pending.proofs.GroupedTransfers.{count-seen}
 use Rattle.bm_pending.proofs.pending.PendingTransfers.count_of.Goals as goal
 
 pub returns : goal.returns

@@ -1,6 +1,6 @@
 use Rattle.std.proofs.Common.{sym, ◌∙◌}
 use Rattle.bm_base.specs.Machine.State.{replica_at}
-use Rattle.bm_pending.proofs.Seeing.{get-map_of}
+use Rattle.bm_pending.proofs.TargetViews.{get-map_of}
 use Rattle.bm_pending.proofs.pending.PendingTransfers.get.Goals as goal
 
 pub returns : goal.returns

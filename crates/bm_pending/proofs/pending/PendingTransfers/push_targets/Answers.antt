@@ -1,6 +1,6 @@
 use Rattle.std.proofs.Common.{◌≡◌, ℕ, List, ap, sym, subst, map, ◌++◌, ◌∙◌, length, arith}
 use Rattle.std.specs.Prelude.{OnOk}
-use Rattle.bm_pending.proofs.Ordered.{targets-seen, count-seen}
+use Rattle.bm_pending.proofs.GroupedTransfers.{targets-seen, count-seen}
 use Rattle.bm_pending.proofs.pending.PendingTransfers.push_targets.Goals as goal
 
 pub returns-clause-items : goal.returns-clause-items

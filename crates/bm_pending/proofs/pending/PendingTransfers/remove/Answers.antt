@@ -1,5 +1,5 @@
 use Rattle.std.proofs.Common.{ap, sym, ◌∙◌}
-use Rattle.bm_pending.specs.OnTheWay.{OnTheWay, blocks_in}
+use Rattle.bm_pending.specs.PendingMap.{PendingMap, blocks_in}
 use Rattle.bm_pending.proofs.Changes.{map-removed, rising-removed, room-kept}
 use Rattle.bm_pending.proofs.ByPlaces.{places-seen}
 use Rattle.bm_pending.proofs.pending.PendingTransfers.remove.Goals as goal
@@ -15,4 +15,4 @@ returns-clause-rooms c other = room-kept c.self.inside.by_block.entries c.args.s
 
 pub returns-clause-places : goal.returns-clause-places
 returns-clause-places c =
-    places-seen c.drop_in.new.blocks.entries ∙ c.drop_in.ensures.keys ∙ sym (places-seen c.self.inside.by_block.entries) ∙ ap (λ (p : OnTheWay). blocks_in p) c.self.view_is
+    places-seen c.drop_in.new.blocks.entries ∙ c.drop_in.ensures.keys ∙ sym (places-seen c.self.inside.by_block.entries) ∙ ap (λ (p : PendingMap). blocks_in p) c.self.view_is

@@ -1,6 +1,6 @@
 use Rattle.std.proofs.Common.{sym, ap, subst, ◌∙◌, ◌≤◌}
 use Rattle.std.specs.Prelude.{OnOk}
-use Rattle.bm_pending.specs.OnTheWay.{room}
+use Rattle.bm_pending.specs.PendingMap.{room}
 use Rattle.bm_pending.specs.Inside.{map_of}
 use Rattle.bm_pending.proofs.Changes.{map-same, room-seen, room-kept, room-enough, shown}
 use Rattle.bm_pending.proofs.pending.PendingTransfers.reserve.Goals as goal

@@ -1,8 +1,8 @@
 use Rattle.std.proofs.Common.{◌≡◌, ℕ, List, ◌≤◌, ◌+◌, ◌%◌, [], ◌∷◌, ◌++◌, length, take, arith, refl, sym, ap, subst, ◌∙◌}
 use Rattle.std.proofs.lemmas.Grind.{common_steps}
 use Rattle.std.proofs.lemmas.Bool.{eq-eqb, ne_eqb}
-use Rattle.bm_pending.specs.OnTheWay.{OnTheWay, room}
-use Rattle.bm_pending.specs.Counted.{count_at}
+use Rattle.bm_pending.specs.PendingMap.{PendingMap, room}
+use Rattle.bm_pending.specs.TargetCounts.{count_at}
 use Rattle.bm_pending.proofs.OwnCounts.{HasCounted, own, count_of, counted_own, counted_other, few_counted, length-take}
 use Rattle.bm_pending.proofs.pending.PendingTransfers.reserve_own.Goals.{then-shard_of-part+in_ok-count+in_ok-reserve, else-shard_of-part}
 use Rattle.bm_pending.proofs.pending.PendingTransfers.reserve_own.Goals as goal
@@ -40,7 +40,7 @@ loop-transfer-preserved c =
     let start = c.args.self.now in
     let next : take (i + 1) ts ≡ take i ts ++ t ∷ [] = grind (arith, common_steps, c.transfer-item.is, c.loop-transfer-test.true) in
     let h = c.loop-transfer.invariant in
-    let P : OnTheWay → List (ℕ × ℕ) → Type 0 = λ p es. HasCounted part start p es (take (i + 1) ts) in
+    let P : PendingMap → List (ℕ × ℕ) → Type 0 = λ p es. HasCounted part start p es (take (i + 1) ts) in
     elim c.if-shard_of-part.branch [
       | then-shard_of-part+in_ok-count+in_ok-reserve w ↦
           let is_own = eq-eqb (t.block % part.shards) part.index (sym c.shard_of.ensures ∙ w.if-shard_of-part.true) in

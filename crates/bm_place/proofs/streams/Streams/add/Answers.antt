@@ -2,7 +2,7 @@ use Rattle.std.proofs.Common.{ap, sym, ◌∙◌}
 use Rattle.bm_base.specs.Maps.Map.{get}
 use Rattle.bm_place.specs.Sources.{with_one_from}
 use Rattle.bm_place.specs.contracts.streams.Streams.{the_view}
-use Rattle.bm_place.proofs.Counting.{one_counted, none_counted, senders-more, senders-chosen}
+use Rattle.bm_place.proofs.TransferCounts.{one_counted, none_counted, senders-more, senders-chosen}
 use Rattle.bm_place.proofs.streams.Streams.add.Goals as goal
 
 pub returns-in-Some-clause-after : goal.returns-in-Some-clause-after

@@ -1,6 +1,6 @@
 use Rattle.std.proofs.Common.{refl, ap, sym, map, ◌∙◌, arith}
 use Rattle.bm_base.specs.Maps.Map.{get, keys, insert_all}
-use Rattle.bm_base.proofs.Maps.{get_here}
+use Rattle.bm_base.proofs.MapEntries.{get_here}
 use Rattle.bm_base.specs.Machine.Transfers.{node_number}
 use Rattle.bm_place.specs.Tables.{table, listed}
 use Rattle.bm_place.specs.Sources.{sender_table, transfers_by}

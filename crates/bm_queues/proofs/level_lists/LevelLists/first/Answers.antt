@@ -2,7 +2,7 @@ use Rattle.std.proofs.Common.{sym, ap, ◌∙◌}
 use Rattle.std.specs.Option.{option_copied}
 use Rattle.bm_queues.specs.Levels.{slots_of}
 use Rattle.bm_queues.proofs.Indices.{first-read}
-use Rattle.bm_queues.proofs.Walking.{all-from, first-is_on}
+use Rattle.bm_queues.proofs.ListIteration.{all-from, first-is_on}
 use Rattle.bm_queues.proofs.level_lists.LevelLists.first.Goals as goal
 
 pub returns-clause-slot : goal.returns-clause-slot

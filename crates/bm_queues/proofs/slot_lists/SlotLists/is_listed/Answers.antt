@@ -1,6 +1,6 @@
 use Rattle.std.proofs.Common.{◌≡◌, Some, ap, ◌∙◌}
 use Rattle.std.specs.Prelude.{is_some}
-use Rattle.bm_queues.proofs.Held.{listed_back}
+use Rattle.bm_queues.proofs.HeldLists.{listed_back}
 use Rattle.bm_queues.proofs.Calls.{read}
 use Rattle.bm_queues.proofs.slot_lists.SlotLists.is_listed.Goals as goal
 

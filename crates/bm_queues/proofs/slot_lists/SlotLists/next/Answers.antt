@@ -1,5 +1,5 @@
 use Rattle.std.proofs.Common.{◌+◌, ◌∙◌, arith}
-use Rattle.bm_queues.proofs.Held.{next-held}
+use Rattle.bm_queues.proofs.HeldLists.{next-held}
 use Rattle.bm_queues.proofs.Calls.{read}
 use Rattle.bm_queues.proofs.slot_lists.SlotLists.next.Goals as goal
 

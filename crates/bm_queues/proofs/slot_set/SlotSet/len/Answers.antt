@@ -1,5 +1,5 @@
 use Rattle.std.proofs.Common.{◌<◌, arith}
-use Rattle.bm_queues.proofs.Held.{length-listed}
+use Rattle.bm_queues.proofs.HeldLists.{length-listed}
 use Rattle.bm_queues.proofs.slot_set.SlotSet.len.Goals as goal
 
 pub returns-clause-few : goal.returns-clause-few

@@ -1,10 +1,10 @@
 use Rattle.std.proofs.Common.{◌<◌, length, subst, sym, ap, ◌∙◌, arith}
 use Rattle.std.proofs.lemmas.Bool.{false≢true}
-use Rattle.bm_maps.specs.SlotLists.{Among}
+use Rattle.bm_maps.specs.SlotLists.{IsMember}
 use Rattle.bm_queues.specs.Links.{list_from}
 use Rattle.bm_maps.proofs.SlotLists.{length-without, without-absent}
 use Rattle.bm_queues.specs.Walks.{slots_from, IsOn}
-use Rattle.bm_queues.proofs.Walking.{from-without, on-without}
+use Rattle.bm_queues.proofs.ListIteration.{from-without, on-without}
 use Rattle.bm_queues.proofs.MemberLaws.{only_list, gone-without, others-without}
 use Rattle.bm_queues.proofs.slot_set.SlotSet.remove.Goals as goal
 
@@ -26,7 +26,7 @@ pub returns-else-is_listed-clause-after : goal.returns-else-is_listed-clause-aft
 returns-else-is_listed-clause-after c =
     let heads = c.self.invariant.heads in
     let low : 0 < c.self.inside.lists.heads = omega (arith, heads) in
-    let absent : Among c.args.slot (list_from c.self.inside.lists.heads c.self.inside.lists.next.items c.self.inside.lists.previous.items 0) → ⊥ = λ h. false≢true (sym c.if-is_listed.false ∙ c.is_listed.ensures.found 0 low h) in
+    let absent : IsMember c.args.slot (list_from c.self.inside.lists.heads c.self.inside.lists.next.items c.self.inside.lists.previous.items 0) → ⊥ = λ h. false≢true (sym c.if-is_listed.false ∙ c.is_listed.ensures.found 0 low h) in
     rw (← c.self.view_is) (ap (λ xs. record { slots = xs; room = length c.self.inside.lists.previous.items }) (sym (without-absent c.args.slot (list_from c.self.inside.lists.heads c.self.inside.lists.next.items c.self.inside.lists.previous.items 0) absent)))
 
 pub returns-then-is_listed-clause-gone : goal.returns-then-is_listed-clause-gone

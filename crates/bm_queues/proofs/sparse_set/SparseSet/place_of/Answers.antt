@@ -1,6 +1,6 @@
 use Rattle.std.proofs.Common.{◌≡◌, get_or, subst, sym, ap, ◌∙◌, vec_capacity, arith}
 use Rattle.std.proofs.lemmas.List.{get_or_default}
-use Rattle.bm_maps.specs.SlotLists.{Among}
+use Rattle.bm_maps.specs.SlotLists.{IsMember}
 use Rattle.bm_queues.specs.Members.{Members}
 use Rattle.bm_queues.proofs.Sparse.{absent_at}
 use Rattle.bm_queues.proofs.sparse_set.SparseSet.place_of.Goals.{else-place-len-via-then-place-len+else-index-slot, else-place-len-via-else-place-len}
@@ -12,7 +12,7 @@ returns-else-place-len-clause-absent c none there =
     let places = c.self.inside.places.items in
     let inside = rw (← c.self.view_is) at c.requires in
     let read : get_or places c.args.slot 0 ≡ c.index.result.now = sym (c.index.ensures ∙ get_or_default places c.args.slot c.index.result.now 0 inside) in
-    let P : Members → Type 0 = λ v. Among c.args.slot v.slots in
+    let P : Members → Type 0 = λ v. IsMember c.args.slot v.slots in
     absent_at order places (vec_capacity c.self.inside.order) c.self.invariant c.args.slot
     (λ low same. elim c.else-place-len.branch [
       | else-place-len-via-then-place-len+else-index-slot w ↦

@@ -3,9 +3,9 @@ use Rattle.std.proofs.lemmas.Result.{IfOk-weaker}
 use Rattle.bm_base.specs.Maps.Map.{keys}
 use Rattle.bm_base.specs.Machine.Replicas.{has_storage}
 use Rattle.bm_round.specs.Commanded.{first_commands, first_by_node}
-use Rattle.bm_round.specs.Places.{place_where}
-use Rattle.bm_round.proofs.Placed.{unchanged, command_changed, place_below}
-use Rattle.bm_round.proofs.Firsts.{with_first, other_first, own_first, with_room, without_room}
+use Rattle.bm_round.specs.NodeIndex.{index_where}
+use Rattle.bm_round.proofs.AddedCommands.{unchanged, command_changed, place_below}
+use Rattle.bm_round.proofs.FirstDeletes.{with_first, other_first, own_first, with_room, without_room}
 use Rattle.bm_round.proofs.groups.Groups.add_first_delete.Goals as goal
 
 pub returns-in_default-clause-nodes : goal.returns-in_default-clause-nodes
@@ -13,7 +13,7 @@ returns-in_default-clause-nodes c ds is =
     let C = c.args.topology.now.cluster in
     let d = c.args.delete in
     let most = c.args.most in
-    let none = ap (λ ns. place_where (λ n. has_storage C n d.storage) ns) (sym c.requires.ids) ∙ sym c.look_up.ensures.place ∙ c.in_default.is in
+    let none = ap (λ ns. index_where (λ n. has_storage C n d.storage) ns) (sym c.requires.ids) ∙ sym c.look_up.ensures.place ∙ c.in_default.is in
     ap (λ ks. ks.items) c.look_up.ensures.nodes ∙ is
     ∙ unchanged (first_commands most C ds) (first_commands most C (ds ++ d ∷ [])) (with_first most C ds d) (λ n. has_storage C n d.storage) (other_first most C ds d) (own_first most C ds d) (keys C.nodes) none
 
@@ -33,7 +33,7 @@ returns-then-as_slice-most-clause-nodes c ds is =
     let x = c.index_mut-commands.result.now in
     let still = ap (λ ks. ks.items) c.look_up.ensures.nodes ∙ is in
     let i = c.in-Some.place in
-    let at = ap (λ ns. place_where (λ n. has_storage C n d.storage) ns) (sym c.requires.ids) ∙ sym c.look_up.ensures.place ∙ c.in-Some.is in
+    let at = ap (λ ns. index_where (λ n. has_storage C n d.storage) ns) (sym c.requires.ids) ∙ sym c.look_up.ensures.place ∙ c.in-Some.is in
     let read = c.index_mut-commands.ensures.value ∙ ap (λ ks. get_or ks i x) still in
     let full : most ≤ length x.deletes = omega (arith, c.if-as_slice-most.true, ap length c.as_slice.ensures) in
     ap (λ ks. set ks i x) still
@@ -48,7 +48,7 @@ returns-clause-nodes c ds is =
     let x = c.index_mut-commands.result.now in
     let still = ap (λ ks. ks.items) c.look_up.ensures.nodes ∙ is in
     let i = c.in-Some.place in
-    let at = ap (λ ns. place_where (λ n. has_storage C n d.storage) ns) (sym c.requires.ids) ∙ sym c.look_up.ensures.place ∙ c.in-Some.is in
+    let at = ap (λ ns. index_where (λ n. has_storage C n d.storage) ns) (sym c.requires.ids) ∙ sym c.look_up.ensures.place ∙ c.in-Some.is in
     let read = c.index_mut-commands.ensures.value ∙ ap (λ ks. get_or ks i x) still in
     let less : length x.deletes < most = omega (arith, c.if-as_slice-most.false, ap length c.as_slice.ensures) in
     let whole = ap (λ ks. set ks i (record x { deletes = x.deletes ++ d ∷ [] })) still

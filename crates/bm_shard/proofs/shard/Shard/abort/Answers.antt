@@ -1,21 +1,21 @@
 use Rattle.std.proofs.Common.{subst}
 use Rattle.bm_arena.specs.Contents.{IsLawful}
-use Rattle.bm_levels.specs.Bare.{HasNoneBare}
-use Rattle.bm_shard.proofs.Bare.{none_outside}
-use Rattle.bm_shard.proofs.Same.{same_seen}
+use Rattle.bm_levels.specs.Unused.{HasNoUnused}
+use Rattle.bm_shard.proofs.Unused.{none_outside}
+use Rattle.bm_shard.proofs.SameHoldings.{same_seen}
 use Rattle.bm_shard.proofs.shard.Shard.abort.Goals as goal
 
 pub invariant_of-self : goal.invariant_of-self
 invariant_of-self c =
     let dropped = c.drop_prepared.ensures in
-    let none : HasNoneBare c.drop_prepared.new.blocks.arena = λ b bare. dropped.left b (c.self.invariant.bare b (dropped.bare b bare)) bare in
+    let none : HasNoUnused c.drop_prepared.new.blocks.arena = λ b bare. dropped.left b (c.self.invariant.bare b (dropped.bare b bare)) bare in
     record { index = c.self.invariant.index; ready = tt; bare = λ b h. absurd (none b h) }
 
 pub returns-clause-same : goal.returns-clause-same
 returns-clause-same c =
     let old = c.self.inside in
     let dropped = c.drop_prepared.ensures in
-    same_seen old.blocks c.drop_prepared.new.blocks old.pending.map (subst (λ a. IsLawful a) c.arena.ensures c.lawful-2.ensures) c.lawful.ensures (subst (λ a. IsLawful a) c.arena-2.ensures c.lawful-3.ensures)
+    same_seen old.blocks c.drop_prepared.new.blocks old.pending.map (subst (λ a. IsLawful a) c.arena.ensures c.show_invariant-2.ensures) c.show_invariant.ensures (subst (λ a. IsLawful a) c.arena-2.ensures c.show_invariant-3.ensures)
     (record { blocks = dropped.blocks; replicas = dropped.replicas; levels = dropped.levels }) old.part old.round old.pend _ _ c.args.self.now c.self.view_is
 
 pub returns-clause-bare : goal.returns-clause-bare

@@ -1,21 +1,21 @@
 use Rattle.std.proofs.Common.{◌∙◌, subst, sym}
 use Rattle.bm_base.specs.Machine.Events.{add_block}
 use Rattle.bm_base.specs.Machine.Calls.{done}
-use Rattle.bm_maps.specs.SlotLists.{Among}
+use Rattle.bm_maps.specs.SlotLists.{IsMember}
 use Rattle.bm_arena.specs.Contents.{IsLawful}
 use Rattle.bm_levels.specs.Held.{holdings_with}
 use Rattle.bm_shard.specs.Seen.{Seen}
-use Rattle.bm_shard.proofs.Changing.{changed_seen}
+use Rattle.bm_shard.proofs.ChangedBlocks.{changed_seen}
 use Rattle.bm_shard.proofs.Counts.{same_replicas}
 use Rattle.bm_shard.proofs.Numbers.{has_entry}
-use Rattle.bm_levels.specs.Bare.{HasNoneBare}
-use Rattle.bm_shard.proofs.Bare.{none_outside, bare_by, none_put, same_none}
+use Rattle.bm_levels.specs.Unused.{HasNoUnused}
+use Rattle.bm_shard.proofs.Unused.{none_outside, unused_by, none_put, same_none}
 use Rattle.bm_shard.proofs.shard.Shard.add_block.Goals as goal
 
 pub add_block-requires : goal.add_block-requires
 add_block-requires c = record {
   entry =
-      let P : Seen → Type 0 = λ s. Among c.args.id s.room.entries in
+      let P : Seen → Type 0 = λ s. IsMember c.args.id s.room.entries in
       has_entry c.self.inside.blocks.arena c.args.id (subst P (sym c.self.view_is) c.requires.entry);
 }
 
@@ -27,13 +27,13 @@ returns-clause-changed c =
     let none = same_replicas (holdings_with old.blocks.arena old.pending.map).replicas in
     let added = c.add_block.ensures in
     let dropped = c.drop_prepared.ensures in
-    changed_seen C C old.blocks c.drop_prepared.new.blocks old.pending.map old.pending.map (subst (λ a. IsLawful a) c.arena.ensures c.lawful-2.ensures) c.lawful.ensures (subst (λ a. IsLawful a) c.arena-2.ensures c.lawful-3.ensures)
+    changed_seen C C old.blocks c.drop_prepared.new.blocks old.pending.map old.pending.map (subst (λ a. IsLawful a) c.arena.ensures c.show_invariant-2.ensures) c.show_invariant.ensures (subst (λ a. IsLawful a) c.arena-2.ensures c.show_invariant-3.ensures)
     (λ h. dropped.levels C (added.levels h)) old.part old.round old.pend _ _ (λ H. add_block H c.args.id c.args.stamp c.args.repl) _ c.args.self.now c.self.view_is
     (λ i. record { blocks = (dropped.blocks ∙ added.blocks) i; replicas = (dropped.replicas ∙ added.replicas) i; pending = old.pending.map })
     (λ i. record { added = sym none i; removed = sym none i })
 
-none : (c : goal.After-lawful-3) → HasNoneBare c.drop_prepared.new.blocks.arena
-none c = λ b bare. c.drop_prepared.ensures.left b (c.self.invariant.bare b (bare_by c.self.inside.blocks.arena c.add_block.new.self.arena c.add_block.ensures.numbers (none_put _ _ c.args.id _ c.add_block.ensures.blocks) (same_none _ _ c.add_block.ensures.replicas) b (c.drop_prepared.ensures.bare b bare))) bare
+none : (c : goal.After-show_invariant-3) → HasNoUnused c.drop_prepared.new.blocks.arena
+none c = λ b bare. c.drop_prepared.ensures.left b (c.self.invariant.bare b (unused_by c.self.inside.blocks.arena c.add_block.new.self.arena c.add_block.ensures.numbers (none_put _ _ c.args.id _ c.add_block.ensures.blocks) (same_none _ _ c.add_block.ensures.replicas) b (c.drop_prepared.ensures.bare b bare))) bare
 
 pub invariant_of-self : goal.invariant_of-self
 invariant_of-self c = record { index = c.self.invariant.index; ready = tt; bare = λ b h. absurd (none c b h) }

@@ -7,7 +7,7 @@ use Rattle.bm_base.specs.Machine.Events.{register, heartbeat, change_cluster, ch
 use Rattle.bm_parts.specs.Parts.{block_of, change_part}
 use Rattle.bm_shard.specs.Seen.{Seen, IsReadyFor}
 use Rattle.bm_shard.specs.Changed.{HasChanged}
-use Rattle.bm_shard.proofs.Own.{by_own, none_few}
+use Rattle.bm_shard.proofs.OwnEvents.{by_own, none_few}
 use Rattle.bm_shard.proofs.shard.Shard.change.Goals as goal
 
 -- the goal of an event
@@ -52,7 +52,7 @@ returns-in-StorageFailed-clause-changed c = subst (λ e. Changes c.args.topology
 
 pub returns-in-Heartbeat-clause-changed : goal.returns-in-Heartbeat-clause-changed
 unfolding change_cluster change_holdings
-returns-in-Heartbeat-clause-changed c = subst (λ e. Changes c.args.topology.now.cluster c.args.self.now c.hear.new.self c.hear.result e) (sym c.in-Heartbeat.is) (let P : _ → Type 0 = λ rs. HasChanged c.args.topology.now.cluster (heartbeat c.args.topology.now.cluster rs) c.args.self.now c.hear.new.self c.args.self.now.holdings c.hear.result in subst P c.as_slice-in-Heartbeat.ensures c.hear.ensures.changed)
+returns-in-Heartbeat-clause-changed c = subst (λ e. Changes c.args.topology.now.cluster c.args.self.now c.note_heartbeat.new.self c.note_heartbeat.result e) (sym c.in-Heartbeat.is) (let P : _ → Type 0 = λ rs. HasChanged c.args.topology.now.cluster (heartbeat c.args.topology.now.cluster rs) c.args.self.now c.note_heartbeat.new.self c.args.self.now.holdings c.note_heartbeat.result in subst P c.as_slice-in-Heartbeat.ensures c.note_heartbeat.ensures.changed)
 
 pub returns-in-Drain-clause-changed : goal.returns-in-Drain-clause-changed
 unfolding change_cluster change_holdings
@@ -119,4 +119,4 @@ pub returns-in-Register-clause-few : goal.returns-in-Register-clause-few
 returns-in-Register-clause-few c none = none_few c.args.self.now.holdings c.register.result c.register.ensures.changed.done
 
 pub returns-in-Heartbeat-clause-few : goal.returns-in-Heartbeat-clause-few
-returns-in-Heartbeat-clause-few c none = none_few c.args.self.now.holdings c.hear.result c.hear.ensures.changed.done
+returns-in-Heartbeat-clause-few c none = none_few c.args.self.now.holdings c.note_heartbeat.result c.note_heartbeat.ensures.changed.done

@@ -8,10 +8,10 @@ use Rattle.bm_parts.specs.PlacedLaws.{IsPlaced}
 use Rattle.bm_parts.proofs.WellPlaced.{event_keeps_placed}
 use Rattle.bm_shard.specs.Seen.{Seen}
 use Rattle.bm_shard.specs.Changed.{HasChanged, owns}
-use Rattle.bm_shard.proofs.Changing.{changed_after, stands_still}
-use Rattle.bm_shard.proofs.Own.{left_alone, not_owned}
-use Rattle.bm_shard.proofs.Ready.{ready_without}
-use Rattle.bm_shard.proofs.Left.{none_leaves}
+use Rattle.bm_shard.proofs.ChangedBlocks.{changed_after, stands_still}
+use Rattle.bm_shard.proofs.OwnEvents.{left_alone, not_owned}
+use Rattle.bm_shard.proofs.Reservations.{ready_without}
+use Rattle.bm_shard.proofs.LeavingStorages.{none_leaves}
 use Rattle.bm_shard.proofs.shard.Shard.commit.Goals as goal
 
 pub returns-then-not-owns-clause-holdings : goal.returns-then-not-owns-clause-holdings
@@ -25,14 +25,14 @@ returns-then-not-owns-clause-standing c = (left_alone c.args.topology.now.cluste
 
 -- an event with a reservation
 
-pub returns-then-takes_room-clause-standing : goal.returns-then-takes_room-clause-standing
-returns-then-takes_room-clause-standing c =
+pub returns-then-needs_reservation-clause-standing : goal.returns-then-needs_reservation-clause-standing
+returns-then-needs_reservation-clause-standing c =
     let C = c.args.topology.now.cluster in
     let old = c.args.self.now in
     let D = change_cluster C c.args.event.now in
     record {
       levels = c.change.ensures.changed.levels c.requires.standing.levels;
-      placed = subst (λ H. IsPlaced D H) (sym c.change.ensures.changed.holdings) (event_keeps_placed C old.holdings c.args.event.now old.part.index old.part.shards c.lawful.ensures c.requires.cluster c.requires.standing.placed);
+      placed = subst (λ H. IsPlaced D H) (sym c.change.ensures.changed.holdings) (event_keeps_placed C old.holdings c.args.event.now old.part.index old.part.shards c.show_invariant.ensures c.requires.cluster c.requires.standing.placed);
     }
 
 -- an event without one, after what was reserved is given up
@@ -46,7 +46,7 @@ change-requires-2 c =
       multi = c.requires.multi;
       own = ap (λ (S : Seen). owns S.part c.args.event.now) same.rest ∙ sym c.owns.ensures ∙ c.if-not-owns.false;
       placed = still.placed;
-      ready = ready_without c.args.event.now c.abort-2.new.self (sym c.takes_room.ensures ∙ c.if-takes_room.false);
+      ready = ready_without c.args.event.now c.abort-2.new.self (sym c.needs_reservation.ensures ∙ c.if-needs_reservation.false);
       none = λ _. c.abort-2.ensures.bare;
     }
 
@@ -71,7 +71,7 @@ returns-clause-standing c =
     let D = change_cluster C c.args.event.now in
     record {
       levels = (changed c).levels c.requires.standing.levels;
-      placed = subst (λ H. IsPlaced D H) (sym (changed c).holdings) (event_keeps_placed C old.holdings c.args.event.now old.part.index old.part.shards c.lawful.ensures c.requires.cluster c.requires.standing.placed);
+      placed = subst (λ H. IsPlaced D H) (sym (changed c).holdings) (event_keeps_placed C old.holdings c.args.event.now old.part.index old.part.shards c.show_invariant.ensures c.requires.cluster c.requires.standing.placed);
     }
 
 pub returns-clause-part : goal.returns-clause-part

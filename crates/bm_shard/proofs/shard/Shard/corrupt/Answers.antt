@@ -1,9 +1,9 @@
 use Rattle.std.proofs.Common.{◌∙◌, map, ap}
 use Rattle.bm_base.specs.Machine.Queries.{replicas_where}
 use Rattle.bm_parts.specs.QueryLaws.{replica_key}
-use Rattle.bm_listing.specs.declared.replicas.Wanted.TheVariants.{Corrupt}
-use Rattle.bm_listing.specs.Listed.{wants}
-use Rattle.bm_listing.proofs.Found.{ids_passing}
+use Rattle.bm_queries.specs.declared.replicas.ReplicaFilter.TheVariants.{Corrupt}
+use Rattle.bm_queries.specs.Listed.{wants}
+use Rattle.bm_queries.proofs.FoundReplicas.{ids_passing}
 use Rattle.bm_shard.proofs.shard.Shard.corrupt.Goals as goal
 
 pub returns-clause-corrupt : goal.returns-clause-corrupt

@@ -4,11 +4,11 @@ use Rattle.bm_base.specs.Machine.Events as events
 use Rattle.bm_base.specs.Machine.Calls.{done}
 use Rattle.bm_arena.specs.Contents.{IsLawful}
 use Rattle.bm_levels.specs.Held.{holdings_with}
-use Rattle.bm_shard.proofs.Changing.{changed_seen}
+use Rattle.bm_shard.proofs.ChangedBlocks.{changed_seen}
 use Rattle.bm_shard.proofs.Counts.{gone_by_remove}
 use Rattle.bm_shard.proofs.OneGone.{one_gone}
-use Rattle.bm_levels.specs.Bare.{HasNoneBare}
-use Rattle.bm_shard.proofs.Bare.{none_kept, none_outside}
+use Rattle.bm_levels.specs.Unused.{HasNoUnused}
+use Rattle.bm_shard.proofs.Unused.{none_kept, none_outside}
 use Rattle.bm_shard.proofs.shard.Shard.delete_replica.Goals as goal
 
 pub returns-clause-changed : goal.returns-clause-changed
@@ -19,13 +19,13 @@ returns-clause-changed c =
     let held = holdings_with old.blocks.arena old.pending.map in
     let none = gone_by_remove held.replicas (replica_at c.args.id c.args.storage) in
     let changed = c.remove_replica-is_removed.ensures in
-    let removed = c.one_if.ensures ∙ ap (λ b. cond b 1 0) changed.removed ∙ sym (one_gone held.replicas (replica_at c.args.id c.args.storage)) in
-    changed_seen C C old.blocks c.remove_replica-is_removed.new.self old.pending.map old.pending.map (subst (λ a. IsLawful a) c.arena.ensures c.lawful-2.ensures) c.lawful.ensures (subst (λ a. IsLawful a) c.arena-2.ensures c.lawful-3.ensures)
+    let removed = c.count_if.ensures ∙ ap (λ b. cond b 1 0) changed.removed ∙ sym (one_gone held.replicas (replica_at c.args.id c.args.storage)) in
+    changed_seen C C old.blocks c.remove_replica-is_removed.new.self old.pending.map old.pending.map (subst (λ a. IsLawful a) c.arena.ensures c.show_invariant-2.ensures) c.show_invariant.ensures (subst (λ a. IsLawful a) c.arena-2.ensures c.show_invariant-3.ensures)
     changed.levels old.part old.round old.pend _ _ (λ H. events.remove_replica H (replica_at c.args.id c.args.storage)) _ c.args.self.now c.self.view_is
     (λ i. record { blocks = changed.blocks i; replicas = changed.replicas i; pending = old.pending.map })
     (λ i. record { added = sym none.0 i; removed = removed i })
 
-none : (c : goal.After-one_if) → HasNoneBare c.remove_replica-is_removed.new.self.arena
+none : (c : goal.After-count_if) → HasNoUnused c.remove_replica-is_removed.new.self.arena
 none c = none_kept c.self.inside.blocks c.self.inside.pending.map c.self.inside.part c.self.inside.round c.self.inside.pend _ _ c.remove_replica-is_removed.new.self c.args.self.now c.self.view_is c.requires.none (c.remove_replica-is_removed.ensures.bare)
 
 pub invariant_of-self : goal.invariant_of-self

@@ -5,11 +5,11 @@ use Rattle.bm_base.specs.Machine.Calls.{done, new_replicas}
 use Rattle.bm_arena.specs.Contents.{HasHead, IsLawful}
 use Rattle.bm_arena.specs.Holding.{replicas_of}
 use Rattle.bm_levels.specs.Held.{holdings_with}
-use Rattle.bm_shard.proofs.Changing.{changed_seen}
+use Rattle.bm_shard.proofs.ChangedBlocks.{changed_seen}
 use Rattle.bm_shard.proofs.Counts.{gone_by_keep}
-use Rattle.bm_levels.specs.Bare.{HasNoneBare}
-use Rattle.bm_shard.proofs.Bare.{none_kept, none_outside}
-use Rattle.bm_shard.proofs.Left.{none_listed}
+use Rattle.bm_levels.specs.Unused.{HasNoUnused}
+use Rattle.bm_shard.proofs.Unused.{none_kept, none_outside}
+use Rattle.bm_shard.proofs.LeavingStorages.{none_listed}
 use Rattle.std.proofs.lemmas.Bool.{eqb-true}
 use Rattle.bm_shard.proofs.shard.Shard.forget_storage.Goals as goal
 
@@ -23,12 +23,12 @@ returns-clause-changed c =
     let none = (gone_by_keep R (λ q. not (q.storage == c.args.storage))).0 in
     let went = left.removed ∙ ap (λ m. new_replicas m R) left.replicas in
     changed_seen C (without_storage C c.args.storage) old.blocks c.forget_storage-removed.new.self old.pending.map c.drop_transfers_on.new.pending.map
-    (subst (λ a. IsLawful a) c.arena.ensures c.lawful-2.ensures) c.lawful.ensures (subst (λ a. IsLawful a) c.arena-2.ensures c.lawful-3.ensures)
+    (subst (λ a. IsLawful a) c.arena.ensures c.show_invariant-2.ensures) c.show_invariant.ensures (subst (λ a. IsLawful a) c.arena-2.ensures c.show_invariant-3.ensures)
     left.levels old.part old.round old.pend _ _ (λ H. without_storages H (λ t. t == c.args.storage)) _ c.args.self.now c.self.view_is
     (λ i. record { blocks = left.blocks i; replicas = left.replicas i; pending = c.drop_transfers_on.ensures i })
     (λ i. record { added = sym none i; removed = went i })
 
-none : (c : goal.After-drop_transfers_on) → HasNoneBare c.forget_storage-removed.new.self.arena
+none : (c : goal.After-drop_transfers_on) → HasNoUnused c.forget_storage-removed.new.self.arena
 none c = none_kept c.self.inside.blocks c.self.inside.pending.map c.self.inside.part c.self.inside.round c.self.inside.pend _ _ c.forget_storage-removed.new.self c.args.self.now c.self.view_is c.requires.none (c.forget_storage-removed.ensures.bare)
 
 pub invariant_of-self : goal.invariant_of-self

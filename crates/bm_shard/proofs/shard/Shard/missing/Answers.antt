@@ -3,15 +3,15 @@ use Rattle.std.specs.Prelude.{IfOk}
 use Rattle.bm_base.specs.Machine.Queries.{missing_blocks}
 use Rattle.bm_arena.specs.Contents.{IsLawful}
 use Rattle.bm_shard.specs.Seen.{Seen}
-use Rattle.bm_shard.specs.Standing.{StandsIn}
+use Rattle.bm_shard.specs.UpToDate.{IsUpToDate}
 use Rattle.bm_shard.proofs.Levels.{right_by_slot}
 use Rattle.bm_shard.proofs.shard.Shard.missing.Goals as goal
 
 pub returns-clause-missing : goal.returns-clause-missing
 returns-clause-missing c C stands =
-    let P : Seen → Type 0 = λ s. StandsIn C s in
+    let P : Seen → Type 0 = λ s. IsUpToDate C s in
     let Q : Seen → Type 0 = λ s. IfOk c.missing_blocks.result (λ v. v ≡ missing_blocks C s.holdings) in
     let blocks = c.self.inside.blocks in
     let pending = c.self.inside.pending.map in
-    let right = right_by_slot C blocks pending (subst (λ a. IsLawful a) c.arena.ensures c.lawful-2.ensures) c.lawful.ensures (subst P (sym c.self.view_is) stands).levels in
+    let right = right_by_slot C blocks pending (subst (λ a. IsLawful a) c.arena.ensures c.show_invariant-2.ensures) c.show_invariant.ensures (subst P (sym c.self.view_is) stands).levels in
     subst Q c.self.view_is (c.missing_blocks.ensures.missing C right pending)

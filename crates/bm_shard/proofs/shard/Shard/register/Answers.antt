@@ -5,11 +5,11 @@ use Rattle.bm_parts.specs.PlacedLaws.{IsPlaced}
 use Rattle.bm_arena.specs.Contents.{IsLawful}
 use Rattle.bm_levels.specs.Held.{holdings_with}
 use Rattle.bm_shard.specs.Seen.{Seen}
-use Rattle.bm_shard.proofs.Changing.{changed_seen}
+use Rattle.bm_shard.proofs.ChangedBlocks.{changed_seen}
 use Rattle.bm_shard.proofs.Counts.{same_replicas}
-use Rattle.bm_shard.proofs.Registering.{same_beside}
-use Rattle.bm_levels.specs.Bare.{HasNoneBare}
-use Rattle.bm_shard.proofs.Bare.{none_kept, none_outside, same_bare}
+use Rattle.bm_shard.proofs.NewNodes.{same_next_to}
+use Rattle.bm_levels.specs.Unused.{HasNoUnused}
+use Rattle.bm_shard.proofs.Unused.{none_kept, none_outside, same_unused}
 use Rattle.bm_shard.proofs.shard.Shard.register.Goals as goal
 
 pub returns-clause-changed : goal.returns-clause-changed
@@ -21,16 +21,16 @@ returns-clause-changed c =
     let none = same_replicas (holdings_with old.blocks.arena old.pending.map).replicas in
     let P : Seen → Type 0 = λ s. IsPlaced C s.holdings in
     let placed = subst P (sym c.self.view_is) c.requires.placed in
-    let same = same_beside C old.blocks.arena old.pending.map c.args.node c.args.rack c.args.storages.now c.lawful.ensures placed c.requires.cluster in
-    changed_seen C D old.blocks c.judge_for_racks.new.self old.pending.map old.pending.map (subst (λ a. IsLawful a) c.arena.ensures c.lawful-3.ensures) c.lawful-2.ensures (subst (λ a. IsLawful a) c.arena-2.ensures c.lawful-4.ensures)
-    (c.judge_for_racks.ensures.levels D c.requires.multi same) old.part old.round old.pend _ _ (λ H. H) _ c.args.self.now c.self.view_is
-    (ap (λ a. holdings_with a old.pending.map) c.judge_for_racks.ensures.arena) (λ i. record { added = sym none i; removed = sym none i })
+    let same = same_next_to C old.blocks.arena old.pending.map c.args.node c.args.rack c.args.storages.now c.show_invariant.ensures placed c.requires.cluster in
+    changed_seen C D old.blocks c.reclassify_for_racks.new.self old.pending.map old.pending.map (subst (λ a. IsLawful a) c.arena.ensures c.show_invariant-3.ensures) c.show_invariant-2.ensures (subst (λ a. IsLawful a) c.arena-2.ensures c.show_invariant-4.ensures)
+    (c.reclassify_for_racks.ensures.levels D c.requires.multi same) old.part old.round old.pend _ _ (λ H. H) _ c.args.self.now c.self.view_is
+    (ap (λ a. holdings_with a old.pending.map) c.reclassify_for_racks.ensures.arena) (λ i. record { added = sym none i; removed = sym none i })
 
-none : (c : goal.After-lawful-4) → HasNoneBare c.judge_for_racks.new.self.arena
-none c = none_kept c.self.inside.blocks c.self.inside.pending.map c.self.inside.part c.self.inside.round c.self.inside.pend _ _ c.judge_for_racks.new.self c.args.self.now c.self.view_is c.requires.none (same_bare c.self.inside.blocks.arena c.judge_for_racks.new.self.arena c.judge_for_racks.ensures.arena)
+none : (c : goal.After-show_invariant-4) → HasNoUnused c.reclassify_for_racks.new.self.arena
+none c = none_kept c.self.inside.blocks c.self.inside.pending.map c.self.inside.part c.self.inside.round c.self.inside.pend _ _ c.reclassify_for_racks.new.self c.args.self.now c.self.view_is c.requires.none (same_unused c.self.inside.blocks.arena c.reclassify_for_racks.new.self.arena c.reclassify_for_racks.ensures.arena)
 
 pub invariant_of-self : goal.invariant_of-self
 invariant_of-self c = record { index = c.self.invariant.index; ready = tt; bare = λ b h. absurd (none c b h) }
 
 pub returns-clause-bare : goal.returns-clause-bare
-returns-clause-bare c = none_outside c.judge_for_racks.new.self c.self.inside.pending.map c.self.inside.part c.self.inside.round c.self.inside.pend _ _ (none c)
+returns-clause-bare c = none_outside c.reclassify_for_racks.new.self c.self.inside.pending.map c.self.inside.part c.self.inside.round c.self.inside.pend _ _ (none c)

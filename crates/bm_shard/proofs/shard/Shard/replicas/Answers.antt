@@ -1,6 +1,6 @@
 use Rattle.std.proofs.Common.{◌∙◌}
 use Rattle.bm_base.specs.Machine.Queries.{all_replicas}
-use Rattle.bm_listing.proofs.Found.{all_passing}
+use Rattle.bm_queries.proofs.FoundReplicas.{all_passing}
 use Rattle.bm_shard.proofs.shard.Shard.replicas.Goals as goal
 
 pub returns-clause-replicas : goal.returns-clause-replicas

@@ -3,27 +3,27 @@ use Rattle.bm_base.specs.Machine.Events as events
 use Rattle.bm_base.specs.Machine.Calls.{done}
 use Rattle.bm_arena.specs.Contents.{IsLawful}
 use Rattle.bm_levels.specs.Held.{holdings_with}
-use Rattle.bm_shard.proofs.Changing.{changed_seen}
+use Rattle.bm_shard.proofs.ChangedBlocks.{changed_seen}
 use Rattle.bm_shard.proofs.Counts.{none_by_revise}
-use Rattle.bm_levels.specs.Bare.{HasNoneBare}
-use Rattle.bm_shard.proofs.Bare.{none_kept, none_outside, bare_by, none_revised, none_revised_at}
+use Rattle.bm_levels.specs.Unused.{HasNoUnused}
+use Rattle.bm_shard.proofs.Unused.{none_kept, none_outside, unused_by, none_revised, none_revised_at}
 use Rattle.bm_shard.proofs.shard.Shard.restamp.Goals as goal
 
 pub returns-clause-changed : goal.returns-clause-changed
-unfolding holdings_with events.restamp events.without_pending events.revise_block done
+unfolding holdings_with events.restamp events.without_pending events.change_marks_of_block done
 returns-clause-changed c =
     let C = c.args.topology.now.cluster in
     let old = c.self.inside in
     let held = holdings_with old.blocks.arena old.pending.map in
     let none = none_by_revise held.replicas _ in
     let changed = c.restamp.ensures in
-    changed_seen C C old.blocks c.restamp.new.self old.pending.map c.remove_block.new.self.map (subst (λ a. IsLawful a) c.arena.ensures c.lawful-2.ensures) c.lawful.ensures (subst (λ a. IsLawful a) c.arena-2.ensures c.lawful-3.ensures)
+    changed_seen C C old.blocks c.restamp.new.self old.pending.map c.remove_block.new.self.map (subst (λ a. IsLawful a) c.arena.ensures c.show_invariant-2.ensures) c.show_invariant.ensures (subst (λ a. IsLawful a) c.arena-2.ensures c.show_invariant-3.ensures)
     changed.levels old.part old.round old.pend _ _ (λ H. events.restamp H c.args.id c.args.stamp) _ c.args.self.now c.self.view_is
     (λ i. record { blocks = changed.blocks i; replicas = changed.replicas i; pending = c.remove_block.ensures.map i })
     (λ i. record { added = sym none.0 i; removed = sym none.1 i })
 
-none : (c : goal.After-lawful-3) → HasNoneBare c.restamp.new.self.arena
-none c = none_kept c.self.inside.blocks c.self.inside.pending.map c.self.inside.part c.self.inside.round c.self.inside.pend _ _ c.restamp.new.self c.args.self.now c.self.view_is c.requires.none (bare_by c.self.inside.blocks.arena c.restamp.new.self.arena c.restamp.ensures.numbers (none_revised_at _ _ c.args.id _ c.restamp.ensures.blocks) (none_revised _ _ _ c.restamp.ensures.replicas))
+none : (c : goal.After-show_invariant-3) → HasNoUnused c.restamp.new.self.arena
+none c = none_kept c.self.inside.blocks c.self.inside.pending.map c.self.inside.part c.self.inside.round c.self.inside.pend _ _ c.restamp.new.self c.args.self.now c.self.view_is c.requires.none (unused_by c.self.inside.blocks.arena c.restamp.new.self.arena c.restamp.ensures.numbers (none_revised_at _ _ c.args.id _ c.restamp.ensures.blocks) (none_revised _ _ _ c.restamp.ensures.replicas))
 
 pub invariant_of-self : goal.invariant_of-self
 invariant_of-self c = record { index = c.self.invariant.index; ready = tt; bare = λ b h. absurd (none c b h) }

@@ -9,10 +9,10 @@ use Rattle.bm_shard.proofs.shard.Shard.round_abort.Goals as goal
 pub returns-clause-same : goal.returns-clause-same
 returns-clause-same c =
     let v = c.self.inside in
-    same_without_room v.blocks v.pending.map c.drop_empty_rooms.new.self.map c.drop_empty_rooms.ensures.map v.part v.round v.pend _ _ c.args.self.now c.self.view_is
+    same_without_room v.blocks v.pending.map c.release_unused.new.self.map c.release_unused.ensures.map v.part v.round v.pend _ _ c.args.self.now c.self.view_is
 
 pub returns-clause-freed : goal.returns-clause-freed
 unfolding pending_targets holdings_with
 returns-clause-freed c b none =
-    c.drop_empty_rooms.ensures.freed b
-    (ap (λ (m : Map by_replica ℕ). map (λ e. e.0.storage) (filter (λ e. e.0.block == b) (entries m))) (sym c.drop_empty_rooms.ensures.map) ∙ none)
+    c.release_unused.ensures.freed b
+    (ap (λ (m : Map by_replica ℕ). map (λ e. e.0.storage) (filter (λ e. e.0.block == b) (entries m))) (sym c.release_unused.ensures.map) ∙ none)

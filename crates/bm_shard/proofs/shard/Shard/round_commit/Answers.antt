@@ -2,9 +2,9 @@ use Rattle.std.proofs.Common.{◌≡◌, ◌<◌, ◌+◌, ◌^◌, ap, subst, s
 use Rattle.bm_base.specs.Machine.State.{Holdings}
 use Rattle.bm_base.specs.RoundParts.{round_on_part}
 use Rattle.bm_shard.specs.Seen.{Seen}
-use Rattle.bm_shard.specs.Standing.{next_part}
-use Rattle.bm_shard.proofs.Changing.{stands_still}
-use Rattle.bm_shard.proofs.Ready.{ready_still}
+use Rattle.bm_shard.specs.UpToDate.{next_part}
+use Rattle.bm_shard.proofs.ChangedBlocks.{stands_still}
+use Rattle.bm_shard.proofs.Reservations.{ready_still}
 use Rattle.bm_shard.proofs.shard.Shard.round_commit.Goals as goal
 
 pub take_round-requires : goal.take_round-requires

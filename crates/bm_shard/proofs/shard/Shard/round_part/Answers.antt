@@ -1,7 +1,7 @@
 use Rattle.std.proofs.Common.{◌∙◌}
 use Rattle.std.proofs.lemmas.Result.{IfOk-weaker}
 use Rattle.bm_parts.proofs.Filters.{filter_all}
-use Rattle.bm_shard.specs.Standing.{next_part}
+use Rattle.bm_shard.specs.UpToDate.{next_part}
 use Rattle.bm_shard.proofs.shard.Shard.round_part.Goals as goal
 
 pub returns-clause-part : goal.returns-clause-part

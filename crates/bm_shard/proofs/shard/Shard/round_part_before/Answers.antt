@@ -2,7 +2,7 @@ use Rattle.std.proofs.Common.{subst, sym}
 use Rattle.bm_arena.specs.Contents.{IsLawful}
 use Rattle.bm_levels.specs.Held.{holdings_with}
 use Rattle.bm_shard.specs.Seen.{Seen}
-use Rattle.bm_shard.specs.Standing.{StandsIn}
+use Rattle.bm_shard.specs.UpToDate.{IsUpToDate}
 use Rattle.bm_shard.proofs.Levels.{right_by_slot}
 use Rattle.bm_shard.proofs.shard.Shard.round_part_before.Goals as goal
 
@@ -10,11 +10,11 @@ pub find_round-requires-clause-levels : goal.find_round-requires-clause-levels
 find_round-requires-clause-levels c =
     let v = c.self.inside in
     let C = c.args.topology.now.cluster in
-    let P : Seen → Type 0 = λ s. StandsIn C s in
-    right_by_slot C v.blocks v.pending.map (subst (λ a. IsLawful a) c.arena.ensures c.lawful-2.ensures) c.lawful.ensures (subst P (sym c.self.view_is) c.requires.standing).levels
+    let P : Seen → Type 0 = λ s. IsUpToDate C s in
+    right_by_slot C v.blocks v.pending.map (subst (λ a. IsLawful a) c.arena.ensures c.show_invariant-2.ensures) c.show_invariant.ensures (subst P (sym c.self.view_is) c.requires.standing).levels
 
 pub find_round-requires-clause-stored : goal.find_round-requires-clause-stored
 unfolding holdings_with
 find_round-requires-clause-stored c =
-    let P : Seen → Type 0 = λ s. StandsIn c.args.topology.now.cluster s in
+    let P : Seen → Type 0 = λ s. IsUpToDate c.args.topology.now.cluster s in
     (subst P (sym c.self.view_is) c.requires.standing).placed.stored

@@ -2,7 +2,7 @@ use Rattle.std.proofs.Common.{ℕ, ◌≤◌, ◌==◌, length, filter, List, su
 use Rattle.std.specs.Prelude.{OnOk}
 use Rattle.bm_base.specs.declared.commands.Transfer.{Transfer}
 use Rattle.bm_base.specs.RoundParts.{own_transfers}
-use Rattle.bm_pending.specs.OnTheWay.{room}
+use Rattle.bm_pending.specs.PendingMap.{room}
 use Rattle.bm_shard.specs.Seen.{IsReadyForRound}
 use Rattle.bm_shard.proofs.AfterRound.{same_without_room}
 use Rattle.bm_shard.proofs.shard.Shard.round_ready.Goals as goal

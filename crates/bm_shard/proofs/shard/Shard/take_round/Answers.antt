@@ -6,19 +6,19 @@ use Rattle.bm_arena.specs.Contents.{IsLawful}
 use Rattle.bm_levels.specs.Held.{holdings_with}
 use Rattle.bm_parts.specs.PlacedLaws.{IsPlaced}
 use Rattle.bm_parts.proofs.WellPlaced.{round_keeps_placed}
-use Rattle.bm_pending.specs.OnTheWay.{room}
+use Rattle.bm_pending.specs.PendingMap.{room}
 use Rattle.bm_shard.specs.Seen.{Seen, IsReadyForRound}
-use Rattle.bm_shard.specs.Standing.{StandsIn, next_part}
+use Rattle.bm_shard.specs.UpToDate.{IsUpToDate, next_part}
 use Rattle.bm_shard.proofs.Levels.{right_by_number, right_by_slot}
 use Rattle.bm_shard.proofs.AfterRound.{same_surplus, on_part}
-use Rattle.bm_levels.specs.Bare.{HasNoneBare}
+use Rattle.bm_levels.specs.Unused.{HasNoUnused}
 use Rattle.bm_arena.specs.Holding.{holdings_of}
-use Rattle.bm_shard.proofs.Bare.{bare_by, same_none, none_revised, none_marked, none_kept, none_outside}
+use Rattle.bm_shard.proofs.Unused.{unused_by, same_none, none_revised, none_marked, none_kept, none_outside}
 use Rattle.bm_shard.proofs.shard.Shard.take_round.Goals as goal
 
-pub mark_excess_anew-requires : goal.mark_excess_anew-requires
+pub remark_excess-requires : goal.remark_excess-requires
 unfolding round_part
-mark_excess_anew-requires c = record {
+remark_excess-requires c = record {
   surplus =
       let v = c.self.inside in
       let C = c.args.topology.now.cluster in
@@ -37,14 +37,14 @@ insert_own-requires-clause-room c b =
 abbrev left_of : (c : goal.After-self-2-1) → Seen → Holdings
 left_of c S = round_on_part c.args.topology.now.cluster S.pend (S.round + 1) S.holdings S.part.index S.part.shards c.args.chosen.now.transfers c.args.chosen.now.deletes
 
-holdings_left : (c : goal.After-self-2-1) → holdings_with c.mark_ordered.new.self.arena c.drop_empty_rooms.new.self.map ≡ left_of c c.args.self.now
+holdings_left : (c : goal.After-self-2-1) → holdings_with c.mark_ordered.new.self.arena c.release_unused.new.self.map ≡ left_of c c.args.self.now
 holdings_left c =
     let v = c.self.inside in
     let C = c.args.topology.now.cluster in
     let H = holdings_with v.blocks.arena v.pending.map in
-    on_part C v.pend (v.round + 1) v.part.index v.part.shards c.as_slice-3.result.now c.as_slice-2.result.now v.blocks.arena c.mark_excess_anew.new.self.arena c.mark_ordered.new.self.arena v.pending.map
-    c.drop_expired.new.self.map c.drop_empty_rooms.new.self.map c.mark_excess_anew.ensures.blocks c.mark_excess_anew.ensures.replicas c.mark_ordered.ensures.blocks c.mark_ordered.ensures.replicas c.drop_expired.ensures.map
-    (c.drop_empty_rooms.ensures.map ∙ c.insert_own.ensures)
+    on_part C v.pend (v.round + 1) v.part.index v.part.shards c.as_slice-3.result.now c.as_slice-2.result.now v.blocks.arena c.remark_excess.new.self.arena c.mark_ordered.new.self.arena v.pending.map
+    c.drop_expired.new.self.map c.release_unused.new.self.map c.remark_excess.ensures.blocks c.remark_excess.ensures.replicas c.mark_ordered.ensures.blocks c.mark_ordered.ensures.replicas c.drop_expired.ensures.map
+    (c.release_unused.ensures.map ∙ c.insert_own.ensures)
     ∙ ap (λ ts. round_on_part C v.pend (v.round + 1) H v.part.index v.part.shards ts c.as_slice-2.result.now) c.as_slice-3.ensures
     ∙ ap (λ ds. round_on_part C v.pend (v.round + 1) H v.part.index v.part.shards c.args.chosen.now.transfers ds) c.as_slice-2.ensures
     ∙ ap (left_of c) c.self.view_is
@@ -56,21 +56,21 @@ pub returns-clause-standing : goal.returns-clause-standing
 returns-clause-standing c =
     let v = c.self.inside in
     let C = c.args.topology.now.cluster in
-    let P : Seen → Type 0 = λ s. StandsIn C s in
+    let P : Seen → Type 0 = λ s. IsUpToDate C s in
     let S = c.args.self.now in
-    let before = right_by_slot C v.blocks v.pending.map (subst (λ a. IsLawful a) c.arena.ensures c.lawful-2.ensures) c.lawful.ensures (subst P (sym c.self.view_is) c.requires.standing).levels in
+    let before = right_by_slot C v.blocks v.pending.map (subst (λ a. IsLawful a) c.arena.ensures c.show_invariant-2.ensures) c.show_invariant.ensures (subst P (sym c.self.view_is) c.requires.standing).levels in
     record {
-      levels = right_by_number C c.mark_ordered.new.self c.drop_empty_rooms.new.self.map (subst (λ a. IsLawful a) c.arena-2.ensures c.lawful-3.ensures) (c.mark_ordered.ensures.levels (c.mark_excess_anew.ensures.levels before));
+      levels = right_by_number C c.mark_ordered.new.self c.release_unused.new.self.map (subst (λ a. IsLawful a) c.arena-2.ensures c.show_invariant-3.ensures) (c.mark_ordered.ensures.levels (c.remark_excess.ensures.levels before));
       placed = subst (λ H. IsPlaced C H) (sym (holdings_left c))
           (round_keeps_placed C S.pend (S.round + 1) S.holdings S.part.index S.part.shards c.args.chosen.now.transfers c.args.chosen.now.deletes c.requires.standing.placed);
     }
 
-none : (c : goal.After-self-2-1) → HasNoneBare c.mark_ordered.new.self.arena
+none : (c : goal.After-self-2-1) → HasNoUnused c.mark_ordered.new.self.arena
 unfolding holdings_of
-none c = none_kept c.self.inside.blocks c.self.inside.pending.map c.self.inside.part c.self.inside.round c.self.inside.pend _ _ c.mark_ordered.new.self c.args.self.now c.self.view_is c.requires.none (λ b bare. bare_by c.self.inside.blocks.arena c.mark_excess_anew.new.self.arena c.mark_excess_anew.ensures.numbers (same_none _ _ c.mark_excess_anew.ensures.blocks) (none_marked c.args.topology.now.cluster (holdings_of c.self.inside.blocks.arena) _ c.mark_excess_anew.ensures.replicas) b (bare_by c.mark_excess_anew.new.self.arena c.mark_ordered.new.self.arena c.mark_ordered.ensures.numbers (same_none _ _ c.mark_ordered.ensures.blocks) (none_revised _ _ _ c.mark_ordered.ensures.replicas) b bare))
+none c = none_kept c.self.inside.blocks c.self.inside.pending.map c.self.inside.part c.self.inside.round c.self.inside.pend _ _ c.mark_ordered.new.self c.args.self.now c.self.view_is c.requires.none (λ b bare. unused_by c.self.inside.blocks.arena c.remark_excess.new.self.arena c.remark_excess.ensures.numbers (same_none _ _ c.remark_excess.ensures.blocks) (none_marked c.args.topology.now.cluster (holdings_of c.self.inside.blocks.arena) _ c.remark_excess.ensures.replicas) b (unused_by c.remark_excess.new.self.arena c.mark_ordered.new.self.arena c.mark_ordered.ensures.numbers (same_none _ _ c.mark_ordered.ensures.blocks) (none_revised _ _ _ c.mark_ordered.ensures.replicas) b bare))
 
 pub invariant_of-self : goal.invariant_of-self
 invariant_of-self c = record { index = c.self.invariant.index; ready = tt; bare = λ b h. absurd (none c b h) }
 
 pub returns-clause-bare : goal.returns-clause-bare
-returns-clause-bare c = none_outside c.mark_ordered.new.self c.drop_empty_rooms.new.self.map c.self.inside.part _ c.self.inside.pend _ _ (none c)
+returns-clause-bare c = none_outside c.mark_ordered.new.self c.release_unused.new.self.map c.self.inside.part _ c.self.inside.pend _ _ (none c)

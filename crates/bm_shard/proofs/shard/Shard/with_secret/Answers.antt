@@ -3,8 +3,8 @@ use Rattle.bm_base.specs.Machine.State.{empty_holdings}
 use Rattle.bm_arena.specs.Contents.{IsLawful}
 use Rattle.bm_levels.specs.Held.{holdings_with}
 use Rattle.bm_shard.proofs.Levels.{right_by_number}
-use Rattle.bm_shard.proofs.Empty.{none_placed}
-use Rattle.bm_shard.proofs.Bare.{none_outside}
+use Rattle.bm_shard.proofs.EmptyHoldings.{none_placed}
+use Rattle.bm_shard.proofs.Unused.{none_outside}
 use Rattle.bm_shard.proofs.shard.Shard.with_secret.Goals as goal
 
 pub returns-clause-empty : goal.returns-clause-empty
@@ -14,7 +14,7 @@ returns-clause-empty c = λ i. record { blocks = c.in_ok-blocks.ensures.blocks i
 pub returns-clause-standing : goal.returns-clause-standing
 unfolding holdings_with
 returns-clause-standing c C = record {
-  levels = right_by_number C c.in_ok-blocks.blocks c.new-2.result.map (subst (λ a. IsLawful a) c.arena.ensures c.lawful.ensures) (c.in_ok-blocks.ensures.levels C);
+  levels = right_by_number C c.in_ok-blocks.blocks c.new-2.result.map (subst (λ a. IsLawful a) c.arena.ensures c.show_invariant.ensures) (c.in_ok-blocks.ensures.levels C);
   placed = none_placed C (holdings_with c.in_ok-blocks.blocks.arena c.new-2.result.map) c.in_ok-blocks.ensures.replicas;
 }
 

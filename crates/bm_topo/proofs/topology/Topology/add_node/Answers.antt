@@ -3,12 +3,12 @@ use Rattle.bm_base.specs.declared.event.Event.TheVariants.{Register}
 use Rattle.bm_base.specs.Maps.Map.{insert, insert_all, remove, len}
 use Rattle.bm_base.specs.Machine.Events.{register}
 use Rattle.bm_base.specs.Machine.Refusals.{first_of, cluster_checks}
-use Rattle.bm_topo.specs.Named.{named}
+use Rattle.bm_topo.specs.NewStorages.{new_storages}
 use Rattle.bm_topo.specs.Racks.{on_rack}
-use Rattle.bm_topo.proofs.Counting.{on_rack-le}
+use Rattle.bm_topo.proofs.RackChanges.{on_rack-le}
 use Rattle.bm_topo.proofs.Capacity.{same_capacity}
 use Rattle.bm_topo.proofs.SpotTable.{none_set}
-use Rattle.bm_topo.proofs.Sounding.{sound-joined}
+use Rattle.bm_topo.proofs.SoundTables.{sound-joined}
 use Rattle.bm_topo.proofs.topology.Topology.add_node.Goals as goal
 
 pub overflow_add-count : goal.overflow_add-count
@@ -35,7 +35,7 @@ returns-clause-after c =
     let nodes =
     c.insert_reserved-2.ensures.after ∙ ap (λ k. insert c.self.inside.nodes.map k c.args.rack) (c.from-2.ensures ∙ c.node.view_is)
     ∙ ap (λ t. insert t.cluster.nodes c.args.node c.args.rack) c.self.view_is in
-    let storages = c.add_storages.ensures.after ∙ ap (λ t. insert_all t.cluster.storages (named c.args.node c.args.storages.now)) c.self.view_is in
+    let storages = c.add_storages.ensures.after ∙ ap (λ t. insert_all t.cluster.storages (new_storages c.args.node c.args.storages.now)) c.self.view_is in
     let draining = c.remove.ensures.after ∙ ap (remove c.self.inside.draining.map) (c.from-3.ensures ∙ c.node.view_is) ∙ ap (λ t. remove t.cluster.draining c.args.node) c.self.view_is in
     λ i. record { nodes = nodes i; draining = draining i; storages = storages i }
 

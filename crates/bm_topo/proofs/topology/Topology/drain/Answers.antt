@@ -3,7 +3,7 @@ use Rattle.bm_base.specs.Maps.Map.{contains_key, insert}
 use Rattle.bm_base.specs.Machine.Events.{drain}
 use Rattle.bm_topo.proofs.Capacity.{same_capacity}
 use Rattle.bm_topo.proofs.SpotTable.{none_set}
-use Rattle.bm_topo.proofs.Sounding.{sound-drained}
+use Rattle.bm_topo.proofs.SoundTables.{sound-drained}
 use Rattle.bm_topo.proofs.topology.Topology.drain.Goals as goal
 
 pub invariant_of-self : goal.invariant_of-self

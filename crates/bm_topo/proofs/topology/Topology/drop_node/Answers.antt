@@ -6,7 +6,7 @@ use Rattle.bm_base.specs.Machine.Events.{without_node}
 use Rattle.bm_topo.proofs.Capacity.{seen_of, no_less, no_less-then}
 use Rattle.bm_topo.proofs.Lengths.{len-remove}
 use Rattle.bm_topo.proofs.SpotTable.{none_set}
-use Rattle.bm_topo.proofs.Sounding.{sound-kept, others_kept, none_left, not_left}
+use Rattle.bm_topo.proofs.SoundTables.{sound-kept, others_kept, none_left, not_left}
 use Rattle.bm_topo.proofs.topology.Topology.drop_node.Goals as goal
 
 pub invariant_of-self : goal.invariant_of-self

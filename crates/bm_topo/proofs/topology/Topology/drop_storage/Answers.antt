@@ -4,7 +4,7 @@ use Rattle.bm_base.specs.Machine.Events.{without_storage}
 use Rattle.bm_topo.proofs.Capacity.{no_less_storages}
 use Rattle.bm_topo.proofs.Lengths.{len-remove}
 use Rattle.bm_topo.proofs.SpotTable.{none_set}
-use Rattle.bm_topo.proofs.Sounding.{sound-removed}
+use Rattle.bm_topo.proofs.SoundTables.{sound-removed}
 use Rattle.bm_topo.proofs.topology.Topology.drop_storage.Goals as goal
 
 pub invariant_of-self : goal.invariant_of-self

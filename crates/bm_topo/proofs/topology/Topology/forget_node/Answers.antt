@@ -1,11 +1,11 @@
 use Rattle.std.proofs.Common.{◌≡◌, Some, arith, refl, ap, sym, ◌∙◌}
 use Rattle.bm_base.specs.Maps.Map.{get, contains_key, len, remove}
 use Rattle.bm_topo.specs.Racks.{on_rack, without_one}
-use Rattle.bm_topo.proofs.Counting.{remove_absent, stands_there}
+use Rattle.bm_topo.proofs.RackChanges.{remove_absent, stands_there}
 use Rattle.bm_topo.proofs.Capacity.{same_capacity, no_less, len-without_one}
 use Rattle.bm_topo.proofs.Lengths.{len-remove}
 use Rattle.bm_topo.proofs.SpotTable.{none_set}
-use Rattle.bm_topo.proofs.Sounding.{sound-left}
+use Rattle.bm_topo.proofs.SoundTables.{sound-left}
 use Rattle.bm_topo.proofs.topology.Topology.forget_node.Goals as goal
 
 pub returns-in_default-clause-after : goal.returns-in_default-clause-after

@@ -2,7 +2,7 @@ use Rattle.std.proofs.Common.{◌≡◌, Some, length, slice_get, refl, ap, sym,
 use Rattle.std.proofs.lemmas.Bool.{ltb-true}
 use Rattle.std.proofs.lemmas.Option.{slice_get_read}
 use Rattle.bm_base.specs.Maps.Map.{get, entries}
-use Rattle.bm_topo.proofs.Placed.{get_at}
+use Rattle.bm_topo.proofs.IndexedEntries.{get_at}
 use Rattle.bm_topo.proofs.topology.Topology.info_of.Goals as goal
 
 pub returns-then-found-number : goal.returns-then-found-number

@@ -1,5 +1,5 @@
 use Rattle.bm_topo.proofs.SpotTable.{none_set}
-use Rattle.bm_topo.proofs.Sounding.{sound-empty}
+use Rattle.bm_topo.proofs.SoundTables.{sound-empty}
 use Rattle.bm_topo.proofs.topology.Topology.new.Goals as goal
 
 pub invariant_of-result : goal.invariant_of-result

@@ -1,6 +1,6 @@
 use Rattle.std.proofs.Common.{arith, ap, sym, ◌∙◌}
 use Rattle.bm_base.specs.Maps.Map.{len}
-use Rattle.bm_topo.proofs.Counting.{len-remove_there, remove_absent}
+use Rattle.bm_topo.proofs.RackChanges.{len-remove_there, remove_absent}
 use Rattle.bm_topo.proofs.topology.Topology.others.Goals as goal
 
 pub overflow_sub-result : goal.overflow_sub-result

@@ -1,7 +1,7 @@
 use Rattle.std.proofs.Common.{◌≡◌, ℕ, cond, arith, ap, sym, ◌∙◌}
 use Rattle.std.specs.Prelude.{◌==◌}
 use Rattle.bm_topo.specs.Racks.{on_rack}
-use Rattle.bm_topo.proofs.Counting.{on_rack-remove_there, remove_absent}
+use Rattle.bm_topo.proofs.RackChanges.{on_rack-remove_there, remove_absent}
 use Rattle.bm_topo.proofs.topology.Topology.others_on.Goals as goal
 
 pub overflow_sub-result : goal.overflow_sub-result

@@ -3,7 +3,7 @@ use Rattle.bm_base.specs.Maps.Map.{len}
 use Rattle.bm_base.specs.Machine.Events.{heartbeat, set_remaining}
 use Rattle.bm_topo.proofs.Capacity.{no_less_storages}
 use Rattle.bm_topo.proofs.SpotTable.{spots_told}
-use Rattle.bm_topo.proofs.Sounding.{sound-told, len-set_remaining}
+use Rattle.bm_topo.proofs.SoundTables.{sound-told, len-set_remaining}
 use Rattle.bm_topo.proofs.topology.Topology.set_remaining.Goals as goal
 
 pub invariant_of-self : goal.invariant_of-self

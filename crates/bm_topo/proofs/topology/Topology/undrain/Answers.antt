@@ -3,7 +3,7 @@ use Rattle.bm_base.specs.Maps.Map.{len, remove}
 use Rattle.bm_base.specs.Machine.Events.{undrain}
 use Rattle.bm_topo.proofs.Capacity.{same_capacity, no_less_draining}
 use Rattle.bm_topo.proofs.SpotTable.{none_set}
-use Rattle.bm_topo.proofs.Sounding.{sound-undrained}
+use Rattle.bm_topo.proofs.SoundTables.{sound-undrained}
 use Rattle.bm_topo.proofs.Lengths.{len-remove}
 use Rattle.bm_topo.proofs.topology.Topology.undrain.Goals as goal
 

@@ -5,7 +5,7 @@ use Rattle.bm_view.specs.History.{versions}
 use Rattle.bm_view.specs.Holders.{Learnt}
 use Rattle.bm_view.proofs.Prefixes.{prefix_self, prefix_shorter}
 use Rattle.bm_view.proofs.Histories.{versions_prefix}
-use Rattle.bm_view.proofs.Seeing.{all_told}
+use Rattle.bm_view.proofs.ReaderKnowledge.{all_told}
 use Rattle.bm_view.proofs.locator.Locator.learn.Goals as goal
 
 pub invariant_of-self : goal.invariant_of-self
@@ -13,8 +13,8 @@ invariant_of-self c =
     let mine = c.self.inside.heard.log in
     let theirs = c.into_parts-evidence.result.0.log in
     let seen = c.into_parts-evidence.ensures in
-    let both = c.meet.ensures in
-    let below : c.self.inside.seat.heard_number < c.into_parts-evidence.result.1 = c.is_below.ensures.0 c.if-is_below.true in
+    let both = c.show_one_journal.ensures in
+    let below : c.self.inside.seat.learnt_number < c.into_parts-evidence.result.1 = c.is_below.ensures.0 c.if-is_below.true in
     let less : length mine ≤ length theirs = omega (arith, c.self.invariant.1, seen.number, below) in
     let begins = versions_prefix mine theirs (prefix_shorter mine theirs both.0 both.1 both.2 less) in (
       seen.seen.0 ∙ (c.requires ∙ ap (λ (l : Learnt). l.home) (sym c.self.view_is)),
@@ -30,7 +30,7 @@ invariant_of-self-else-is_below c =
     let mine = c.self.inside.heard.log in
     let theirs = c.into_parts-evidence.result.0.log in
     let seen = c.into_parts-evidence.ensures in
-    let both = c.meet.ensures in
+    let both = c.show_one_journal.ensures in
     let less : length theirs ≤ length mine = grind (arith, nat_tests, c.self.invariant.1, seen.number, c.is_below.ensures, c.if-is_below.false) in
     let begins = versions_prefix theirs mine (prefix_shorter theirs mine both.0 both.2 both.1 less) in (
       c.self.invariant.0,

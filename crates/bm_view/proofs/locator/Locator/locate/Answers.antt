@@ -4,7 +4,7 @@ use Rattle.left_right.specs.Sides.{view as sight}
 use Rattle.bm_view.specs.History.{versions, shown_in, last_of}
 use Rattle.bm_view.specs.Holders.{Learnt}
 use Rattle.bm_view.proofs.Histories.{told_begins}
-use Rattle.bm_view.proofs.Seeing.{later, all_begin, none_older}
+use Rattle.bm_view.proofs.ReaderKnowledge.{later, all_begin, none_older}
 use Rattle.bm_view.proofs.locator.Locator.locate.Goals as goal
 
 pub invariant_of-self-then-is_older : goal.invariant_of-self-then-is_older
@@ -29,7 +29,7 @@ pub returns-clause-told : goal.returns-clause-told
 returns-clause-told c =
     let told = c.self.inside.heard.log in
     let shown = c.in-Some.seen.evidence.log in
-    let both = c.meet.ensures in
+    let both = c.show_one_journal.ensures in
     let some = c.in-Some.ensures.1.1.1.0 in
     let close : length told ≤ length shown + 1 = omega (arith, c.self.invariant.1, some.1 c.if-is_older.false) in
     subst (λ (l : Learnt). All (λ known. IsPrefix known (shown_in shown)) l.told) c.self.view_is (all_begin c.self.inside.told (versions told) (shown_in shown) c.self.invariant.5 (told_begins told shown both.0 both.1 both.2 c.self.invariant.2 close some.0))
@@ -38,7 +38,7 @@ pub returns-clause-no_older : goal.returns-clause-no_older
 returns-clause-no_older c =
     let told = c.self.inside.heard.log in
     let shown = c.in-Some.seen.evidence.log in
-    let both = c.meet.ensures in
+    let both = c.show_one_journal.ensures in
     let some = c.in-Some.ensures.1.1.1.0 in
     let close : length told ≤ length shown + 1 = omega (arith, c.self.invariant.1, some.1 c.if-is_older.false) in
     let begins = told_begins told shown both.0 both.1 both.2 c.self.invariant.2 close some.0 in

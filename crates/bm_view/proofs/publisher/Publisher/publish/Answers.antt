@@ -5,7 +5,7 @@ use Rattle.bm_view.specs.History.{last_of, versions, shown_in, IsSettled, IsHist
 use Rattle.bm_view.specs.Rule.{Evidence}
 use Rattle.bm_view.specs.Journal.{proposed}
 use Rattle.bm_view.specs.Holders.{Listed}
-use Rattle.bm_view.proofs.Publishing.{was_ok, was_err, listed, last_next, history_next, goes_next, longer, refused, published}
+use Rattle.bm_view.proofs.PublishSteps.{was_ok, was_err, listed, last_next, history_next, goes_next, longer, refused, published}
 use Rattle.bm_view.proofs.publisher.Publisher.publish.Goals as goal
 
 pub new-next-requires-clause-table : goal.new-next-requires-clause-table

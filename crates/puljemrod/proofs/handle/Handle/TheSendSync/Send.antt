@@ -12,13 +12,13 @@ use Rattle.std.proofs.Crossing as heap
 use Rattle.std_alloc.proofs.SendSync.{quiet, lies}
 use Rattle.std_heap.proofs.Global.TheSendSync as handle
 use Rattle.puljemrod.specs.Handles.{handle_owns}
-use Rattle.puljemrod.specs.contracts.kept.Kept as Kept
-use Rattle.puljemrod.proofs.kept.Kept.TheSendSync.{the_send as kept}
+use Rattle.puljemrod.specs.contracts.handle_state.HandleState as HandleState
+use Rattle.puljemrod.proofs.handle_state.HandleState.TheSendSync.{the_send as kept}
 use Rattle.puljemrod.specs.contracts.handle.Handle.{the_row, the_type}
 
-crosses : (a : Global) (p : Ptr) (k : Option Kept.the_row.Denot) → Keyless (handle_owns a p k)
+crosses : (a : Global) (p : Ptr) (k : Option HandleState.the_row.Denot) → Keyless (handle_owns a p k)
 crosses a p None = tt
-crosses a p (Some x) = (lies Kept.the_row kept p x, heap.frees.frees a (raw (lone Kept.the_row.mir)) p)
+crosses a p (Some x) = (lies HandleState.the_row kept p x, heap.frees.frees a (raw (lone HandleState.the_row.mir)) p)
 
 pub send : IsSend the_row
 send =

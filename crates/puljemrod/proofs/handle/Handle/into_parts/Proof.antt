@@ -2,7 +2,7 @@
 use mathlib.Core.Path.{refl, sym, subst}
 use mathlib.Core.List.{List, [], ◌∷◌, ◌++◌}
 use Rattle.std.proofs.Common.{◌≡◌, Option, Some}
-use Rattle.puljemrod.specs.contracts.kept.Kept as Kept
+use Rattle.puljemrod.specs.contracts.handle_state.HandleState as HandleState
 use Rattle.puljemrod.specs.contracts.handle.Handle as Handle
 use seplogic.Ra.Ura.{Ura}
 use mir.Val.{Val}
@@ -45,12 +45,12 @@ module _ {M : Type 1} {𝓤 : Ura M} (𝓛 : Logic 𝓤) (at_mem : Memory → SP
       let Post = (walk_of 𝓛 F.ended stayed (F.clauses 𝓛 at_mem run)).post z in
       let h = z.0.3.0 in
       let To = type_at (F.signature).result tt in
-      let Full : Type 0 = (x : Kept.the_row.Denot) × (h.kept ≡ Some x) in
+      let Full : Type 0 = (x : HandleState.the_row.Denot) × (h.kept ≡ Some x) in
       qed 𝓛 ((‵ ftrue ⊛ ‵ (fsep (Handle.the_row.own_val h z.0.4.0) ftrue)) ∷ raw (fact 𝓤 Full) ∷ []) ∵ move ! (1 ∷ []) $ heard ! Full (λ full.
       let v : D E = record { ptr = h.at; alloc = h.alloc; value = full.0 } in
       let made : To.Denot = record { ptr = v.ptr; alloc = v.alloc; value = v.value } in
       split ! $ drop ! $ fsplit ! $
-      rewrite ! 0 (λ (k : Option Kept.the_row.Denot). ‵ (Handle.the_row.own_val (record { at = h.at; alloc = h.alloc; kept = k }) z.0.4.0)) full.1 refl $
+      rewrite ! 0 (λ (k : Option HandleState.the_row.Denot). ‵ (Handle.the_row.own_val (record { at = h.at; alloc = h.alloc; kept = k }) z.0.4.0)) full.1 refl $
       use1 𝓛 (‵ ((B E).own_val v z.0.4.0)) (id⊢ 𝓤 _) $
       box_out E ! v z.0.4.0 (λ b o hv e ws fa. box_in E ! v b o v.value e refl $ use1 𝓛 (‵ (To.own_val made (word E hv b o ∷ []))) (id⊢ 𝓤 _) $ move ! (1 ∷ []) $ drop ! $
       let w = word E hv b o in

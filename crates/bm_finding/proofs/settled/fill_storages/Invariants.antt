@@ -1,8 +1,0 @@
-use Rattle.std.proofs.Common.{◌≡◌, ◌++◌, true, map, drop}
-use Rattle.bm_arena.specs.Triplets.{seen_triplet}
-use Rattle.bm_levels.specs.Judged.{storages_at}
-use Rattle.bm_finding.proofs.settled.fill_storages.Given as goal
-
--- those so far and the rest are all
-abbrev pub invariant-loop-triplet : goal.invariant-loop-triplet
-invariant-loop-triplet l = l.into.items ++ storages_at (λ _ _. true) (drop l.triplet-index (map seen_triplet l.triplets)) ≡ storages_at (λ _ _. true) (map seen_triplet l.triplets)

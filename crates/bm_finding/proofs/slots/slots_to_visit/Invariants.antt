@@ -1,7 +1,0 @@
-use Rattle.std.proofs.Common.{◌≡◌, ◌++◌, map}
-use Rattle.bm_finding.specs.Visits.{keyed_at}
-use Rattle.bm_finding.proofs.slots.slots_to_visit.Given as goal
-
--- those so far and the rest are all
-abbrev pub invariant-loop-slot : goal.invariant-loop-slot
-invariant-loop-slot l = l.keyed.items ++ map (keyed_at l.start.kept.now l.start.arena.now) l.slot-iterator ≡ map (keyed_at l.start.kept.now l.start.arena.now) l.start.kept.now.unsettled.slots

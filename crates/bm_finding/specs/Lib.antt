@@ -1,7 +1,0 @@
--- The marks of a block's replicas as a round begins, and the findings of a block.
-pub mod Marking
-pub mod Looked
-pub mod Wanting
-pub mod Visits
--- The findings of several blocks, in any order.
-pub mod Gathering

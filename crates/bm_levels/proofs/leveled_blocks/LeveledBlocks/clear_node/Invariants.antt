@@ -1,0 +1,20 @@
+use Rattle.std.proofs.Common.{◌≡◌, ◌≤◌, ◌+◌, ◌*◌, ◌^◌, []}
+use Rattle.bm_arena.specs.Contents.{list_of, HasHead}
+use Rattle.bm_levels.specs.Unused.{MakesNoUnused}
+use Rattle.bm_levels.specs.Leaving.{IsLeaving, MakesNoHead}
+use Rattle.bm_levels.specs.ClusterAfter.{is_on_node, KeepsLevelsAfter}
+use Rattle.bm_levels.proofs.Places.{HaveGone}
+use Rattle.bm_levels.proofs.leveled_blocks.LeveledBlocks.clear_node.Given as goal
+
+-- the replicas on the node's storages so far have left
+pub record AreLeaving (l : goal.Live-loop-place) : Type 0 where
+  pub left : IsLeaving (is_on_node l.cluster_after l.node) l.fn.self.arena l.self.arena l.removed
+  pub none : HaveGone l.cluster_after.topology.now.cluster l.node (λ s. list_of l.self.arena s ≡ []) l.place
+  pub heads : HaveGone l.cluster_after.topology.now.cluster l.node (λ s. HasHead l.self.arena s → ⊥) l.place
+  pub bare : MakesNoUnused l.fn.self.arena l.self.arena
+  pub fewer : MakesNoHead l.fn.self.arena l.self.arena
+  pub few : l.removed ≤ 2 ^ 99 + l.place * 2 ^ 64
+  pub levels : KeepsLevelsAfter l.cluster_after l.fn.self l.self
+
+abbrev pub invariant-loop-place : goal.invariant-loop-place
+invariant-loop-place l = AreLeaving l

@@ -1,0 +1,24 @@
+use Rattle.std.proofs.Common.{◌≡◌, Some, subst, sym}
+use Rattle.bm_arena.specs.Contents.{slot_of}
+use Rattle.bm_levels.specs.Leveled.{Leveled, AreLevels}
+use Rattle.bm_levels.proofs.OneSlot.{held_by, leveled_after, levels_after}
+use Rattle.bm_levels.proofs.leveled_blocks.LeveledBlocks.remove.Goals as goal
+
+pub invariant_of-self : goal.invariant_of-self
+invariant_of-self c =
+    let r = c.unlink.ensures.others in
+    let P : Leveled → Type 0 = λ v. slot_of v.arena c.requires.slot.0 ≡ Some c.args.slot in
+    let here = subst P (sym c.self.view_is) c.requires.slot.1 in
+    leveled_after c.args.topology.now.cluster (record { arena = c.self.inside.arena; kept = c.self.inside.kept }) c.unlink.new.self c.update_from.new.self c.args.slot
+    (record { blocks = r.blocks; delimiter = r.delimiter; apart = (c.show_invariant.ensures.found c.requires.slot.0 c.args.slot here).0; held = held_by c.self.inside.arena c.args.slot (c.show_invariant.ensures.found c.requires.slot.0 c.args.slot here) })
+    c.update_from.ensures.status c.update_from.ensures.others c.self.invariant c.update_from.ensures.room
+
+pub returns-clause-levels : goal.returns-clause-levels
+returns-clause-levels c =
+    let r = c.unlink.ensures.others in
+    let P : Leveled → Type 0 = λ v. slot_of v.arena c.requires.slot.0 ≡ Some c.args.slot in
+    let here = subst P (sym c.self.view_is) c.requires.slot.1 in
+    let Q : Leveled → Type 0 = λ v. AreLevels c.args.topology.now.cluster v → AreLevels c.args.topology.now.cluster (record { arena = c.unlink.new.self; kept = c.update_from.new.self }) in
+    subst Q c.self.view_is (levels_after c.args.topology.now.cluster (record { arena = c.self.inside.arena; kept = c.self.inside.kept }) c.unlink.new.self c.update_from.new.self c.args.slot
+    (record { blocks = r.blocks; delimiter = r.delimiter; apart = (c.show_invariant.ensures.found c.requires.slot.0 c.args.slot here).0; held = held_by c.self.inside.arena c.args.slot (c.show_invariant.ensures.found c.requires.slot.0 c.args.slot here) })
+    c.update_from.ensures.status c.update_from.ensures.others)

@@ -1,0 +1,97 @@
+// Many blocks reclassified, a chunk at a time, so that cache misses overlap.
+ghost use Rattle.std.specs.Prelude.{◌≡◌, ◌<◌, ◌≤◌, ℕ, length, slice_get, slice_index_or, Some, true};
+ghost use Rattle.std.specs.Option.{option_map_or};
+ghost use Rattle.bm_arena.specs.Contents.{block_at};
+ghost use Rattle.bm_levels.specs.IndexedLevels.{HasCapacityForEach, KeepsCapacity, HaveStatuses, IsSameOutside};
+ghost use Rattle.bm_levels.specs.ClusterAfter.{AreStatusesAfter, AreClassifiedAfter};
+
+use crate::cluster_after::ClusterAfter;
+use crate::classification::{BlockStatus, are_equal, classify};
+use crate::level_index::LevelIndex;
+use bm_arena::{Arena, Slot};
+
+/// The number of blocks in a chunk.
+pub(crate) const CHUNK: usize = 64;
+
+/// Fills unused elements.
+const NOT_CLASSIFIED: BlockStatus = BlockStatus {
+    level: None,
+    is_settled: true,
+};
+
+/// The numbers of replicas of the blocks of a chunk. A read is so short that many cache misses
+/// overlap; a classification is too long for that, and then finds the blocks' entries in the cache.
+fn read_counts_ahead(arena: &Arena, chunk: &[Slot]) -> [usize; CHUNK]
+    requires { length chunk.now ≤ 64 }
+    ensures { (i slot : ℕ) → slice_get chunk.now i ≡ Some slot
+        → slice_index_or result i 0
+        ≡ option_map_or (λ b. length b.replicas) (block_at arena.now slot) 0 }
+{
+    let mut counts = [0; CHUNK];
+    for (place, slot) in chunk.iter().enumerate() {
+        counts[place] = arena.triplet_count(*slot);
+    }
+    counts
+}
+
+/// Classifies the blocks at the slots of a chunk.
+fn classify_chunk(arena: &Arena, chunk: &[Slot], cluster_after: &ClusterAfter<'_>) -> [BlockStatus; CHUNK]
+    requires { length chunk.now ≤ 64 }
+    ensures { AreStatusesAfter cluster_after.now arena.now chunk.now result }
+{
+    let counts = read_counts_ahead(arena, chunk);
+    let mut status = [NOT_CLASSIFIED; CHUNK];
+    for (place, slot) in chunk.iter().enumerate() {
+        status[place] = classify(arena, *slot, counts[place], cluster_after);
+    }
+    status
+}
+
+impl LevelIndex {
+    /// Reclassifies the blocks at these slots.
+    pub(crate) fn classify_all(&mut self, arena: &Arena, slots: &[Slot], cluster_after: &ClusterAfter<'_>)
+        requires room { HasCapacityForEach self.old slots.now }
+        ensures status { AreClassifiedAfter cluster_after.now arena.now slots.now self.new }
+        ensures others { IsSameOutside slots.now self.old self.new }
+        ensures room { KeepsCapacity self.old self.new }
+    {
+        let mut rest = slots;
+        while !rest.is_empty() {
+            let (chunk, behind) = rest.split_at(rest.len().min(CHUNK));
+            self.reclassify_chunk(arena, chunk, cluster_after);
+            rest = behind;
+        }
+    }
+
+    /// Reclassifies the blocks of a chunk. All are classified, and their old statuses read, before
+    /// anything changes.
+    fn reclassify_chunk(&mut self, arena: &Arena, chunk: &[Slot], cluster_after: &ClusterAfter<'_>)
+        requires few { length chunk.now ≤ 64 }
+        requires room { HasCapacityForEach self.old chunk.now }
+        ensures status { AreClassifiedAfter cluster_after.now arena.now chunk.now self.new }
+        ensures others { IsSameOutside chunk.now self.old self.new }
+        ensures room { KeepsCapacity self.old self.new }
+    {
+        let status = classify_chunk(arena, chunk, cluster_after);
+        if self.keeps_all(chunk, status.as_slice()) {
+            return;
+        }
+        for (place, slot) in chunk.iter().enumerate() {
+            self.set_status(*slot, status[place]);
+        }
+    }
+
+    /// Whether all blocks of a chunk have the stored status. All are compared, whatever the first
+    /// gives.
+    fn keeps_all(&self, chunk: &[Slot], status: &[BlockStatus]) -> bool
+        requires few { length chunk.now ≤ length status.now }
+        requires room { HasCapacityForEach self.now chunk.now }
+        ensures { result ≡ true → HaveStatuses self.now chunk.now status.now }
+    {
+        let mut are_kept = true;
+        for (place, slot) in chunk.iter().enumerate() {
+            are_kept &= are_equal(self.status_at(*slot), status[place]);
+        }
+        are_kept
+    }
+}

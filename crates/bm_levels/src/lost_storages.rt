@@ -1,0 +1,93 @@
+// Storages and nodes that leave with all their replicas.
+ghost use Rattle.std.specs.Prelude.{◌≡◌, ◌<◌, ◌^◌, ◌==◌, not, ℕ, [], true};
+ghost use Rattle.bm_base.specs.Maps.Map.{keep};
+ghost use Rattle.bm_base.specs.Machine.Replicas as replicas;
+ghost use Rattle.bm_base.specs.Machine.Events as events;
+ghost use Rattle.bm_base.specs.Machine.Calls as calls;
+ghost use Rattle.bm_arena.specs.Contents.{list_of, HasHead};
+ghost use Rattle.bm_arena.specs.Holding.{replicas_of, blocks_of};
+ghost use Rattle.bm_levels.specs.Unused.{MakesNoUnused};
+ghost use Rattle.bm_levels.specs.Leveled.{AreLevels};
+ghost use Rattle.bm_levels.specs.Leaving.{IsLeaving, HasNoHeads, MakesNoHead};
+ghost use Rattle.bm_levels.specs.ClusterAfter.{is_on_node, KeepsLevelsAfter};
+
+use crate::cluster_after::ClusterAfter;
+use crate::leveled_blocks::LeveledBlocks;
+use bm_base::{NodeId, StorageId};
+use bm_topo::Topology;
+
+impl LeveledBlocks {
+    /// Removes the replicas on a storage, and its list. Returns how many. Unused entries are
+    /// dropped, and the blocks that lose a replica are reclassified. Takes no memory. One step for
+    /// each of the replicas.
+    pub fn forget_storage(&mut self, topology: &Topology, storage: StorageId) -> u128
+        ensures blocks { blocks_of self.new.arena ≡ blocks_of self.old.arena }
+        ensures replicas { replicas_of self.new.arena
+            ≡ keep (replicas_of self.old.arena) (λ q _. not (q.storage == storage)) }
+        ensures removed { result
+            ≡ calls.new_replicas (replicas_of self.new.arena) (replicas_of self.old.arena) }
+        ensures few { result < 2 ^ 100 }
+        ensures bare { MakesNoUnused self.old.arena self.new.arena }
+        ensures head { HasHead self.new.arena storage → ⊥ }
+        ensures fewer { MakesNoHead self.old.arena self.new.arena }
+        ensures levels { AreLevels topology.now.cluster self.old
+            → AreLevels (events.without_storage topology.now.cluster storage) self.new }
+    {
+        let removed = self.clear(&ClusterAfter::unchanged(topology), storage);
+        self.arena().show_invariant();
+        removed as u128
+    }
+
+    /// Removes the replicas on all storages of a node, and their lists. Returns how many. `multi`
+    /// is whether the alive nodes are on two racks or more without it. If that changes, all
+    /// blocks are reclassified, else those that lose a replica. Unused entries are dropped. Takes
+    /// no memory. Reads each storage of the cluster, and takes one step for each of the replicas.
+    pub fn forget_node(&mut self, topology: &Topology, node: NodeId, multi: bool) -> u128
+        requires multi { multi
+            ≡ replicas.is_multi_rack (events.without_node topology.now.cluster node) }
+        ensures blocks { blocks_of self.new.arena ≡ blocks_of self.old.arena }
+        ensures replicas { replicas_of self.new.arena
+            ≡ keep (replicas_of self.old.arena)
+            (λ q _. not (replicas.has_storage topology.now.cluster node q.storage)) }
+        ensures removed { result
+            ≡ calls.new_replicas (replicas_of self.new.arena) (replicas_of self.old.arena) }
+        ensures few { result < 2 ^ 100 }
+        ensures bare { MakesNoUnused self.old.arena self.new.arena }
+        ensures heads { HasNoHeads (replicas.has_storage topology.now.cluster node) self.new.arena }
+        ensures fewer { MakesNoHead self.old.arena self.new.arena }
+        ensures levels { AreLevels topology.now.cluster self.old
+            → AreLevels (events.without_node topology.now.cluster node) self.new }
+    {
+        self.reclassify_if_racks_change(topology, multi);
+        let cluster_after = ClusterAfter {
+            topology,
+            drain_change: None,
+            multi,
+        };
+        let removed = self.clear_node(&cluster_after, node);
+        self.arena().show_invariant();
+        removed
+    }
+
+    /// The replicas on all storages of a node leave, and their lists; answers how many.
+    fn clear_node(&mut self, cluster_after: &ClusterAfter<'_>, node: NodeId) -> u128
+        ensures left { IsLeaving (is_on_node cluster_after.now node) self.old.arena self.new.arena result }
+        ensures few { result < 2 ^ 100 }
+        ensures none { (s : ℕ) → is_on_node cluster_after.now node s ≡ true
+            → list_of self.new.arena s ≡ [] }
+        ensures bare { MakesNoUnused self.old.arena self.new.arena }
+        ensures heads { HasNoHeads (is_on_node cluster_after.now node) self.new.arena }
+        ensures fewer { MakesNoHead self.old.arena self.new.arena }
+        ensures levels { KeepsLevelsAfter cluster_after.now self.old self.new }
+    {
+        let mut removed = self.clear_four_at_a_time(cluster_after, node);
+        for place in 0..cluster_after.topology.storage_count() {
+            if let Some(storage) = cluster_after.topology.storage_at(place) {
+                if cluster_after.topology.has_storage(node, storage) {
+                    removed += self.clear(cluster_after, storage) as u128;
+                }
+            }
+        }
+        removed
+    }
+}

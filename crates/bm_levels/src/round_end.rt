@@ -1,0 +1,137 @@
+// What a round changes in marks as it ends: the deletes that it commands are ordered.
+ghost use Rattle.std.specs.Prelude.{◌≡◌, ◌<◌, ℕ, Some};
+ghost use Rattle.bm_base.specs.Maps.Map.{insert, revise, revise_at};
+ghost use Rattle.bm_base.specs.Machine.State.{replica_at};
+ghost use Rattle.bm_base.specs.RoundParts as parts;
+ghost use Rattle.bm_arena.specs.Contents.{slot_of, marks_at};
+ghost use Rattle.bm_arena.specs.Holding.{replicas_of, blocks_of};
+ghost use Rattle.bm_levels.specs.Changes.{as_ordered, with_deletes_ordered};
+ghost use Rattle.bm_levels.specs.Leveled.{KeepsLevels};
+
+use crate::replica_count::is_good_and_unmarked;
+use crate::leveled_blocks::LeveledBlocks;
+use bm_arena::{Arena, Slot};
+use bm_base::{BlockId, Delete, Marks, Part, StorageId, shard_of};
+use bm_topo::Topology;
+
+impl LeveledBlocks {
+    /// As a round ends: orders the commanded deletes of the part's own numbers. Each delete takes a
+    /// look-up of its block, and a read at the index of the replica before it, or else a scan of
+    /// all the block's replicas. The block is reclassified only if the replica was unmarked. Takes
+    /// no memory.
+    pub fn mark_ordered(&mut self, topology: &Topology, deletes: &[Delete], part: Part)
+        requires part { part.index < part.shards }
+        ensures replicas { replicas_of self.new.arena
+            ≡ revise (replicas_of self.old.arena)
+            (with_deletes_ordered (parts.own_deletes part.index part.shards deletes.now)) }
+        ensures blocks { blocks_of self.new.arena ≡ blocks_of self.old.arena }
+        ensures numbers { self.new.arena.ids ≡ self.old.arena.ids }
+        ensures levels { KeepsLevels topology.now.cluster self.old self.new }
+    {
+        let mut guess = 0;
+        for delete in deletes {
+            if shard_of(delete.block, part.shards) == part.index {
+                self.mark_one_ordered(topology, delete.storage, delete.block, &mut guess);
+            }
+        }
+    }
+
+    /// Orders the delete of a replica, if it exists. `guess` is a guess of its index in its block,
+    /// and is then that index: the next delete is mostly of the same storage, and blocks of a
+    /// storage mostly have their replicas in one order.
+    fn mark_one_ordered(
+        &mut self,
+        topology: &Topology,
+        storage: StorageId,
+        id: BlockId,
+        guess: &mut usize,
+    )
+        ensures replicas { replicas_of self.new.arena
+            ≡ revise_at (replicas_of self.old.arena) (replica_at id storage) as_ordered }
+        ensures blocks { blocks_of self.new.arena ≡ blocks_of self.old.arena }
+        ensures numbers { self.new.arena.ids ≡ self.old.arena.ids }
+        ensures levels { KeepsLevels topology.now.cluster self.old self.new }
+    {
+        let Some(slot) = self.slot_of(id) else {
+            return;
+        };
+        *guess = index_of(&self.arena, slot, storage, *guess);
+        if let Some(marks) = marks_near(&self.arena, slot, storage, *guess) {
+            self.order_delete(topology, slot, storage, marks, *guess);
+        }
+    }
+
+    /// Marks the replica's delete as ordered. The level does not depend on that, and a replica that
+    /// was already marked was unsettled before, so the block is reclassified only if the replica
+    /// was unmarked.
+    fn order_delete(
+        &mut self,
+        topology: &Topology,
+        slot: Slot,
+        storage: StorageId,
+        marks: Marks,
+        guess: usize,
+    )
+        requires slot { (id : ℕ) × (slot_of self.old.arena id ≡ Some slot) }
+        requires replica { marks_at self.old.arena slot storage ≡ Some marks }
+        ensures blocks { blocks_of self.new.arena ≡ blocks_of self.old.arena }
+        ensures replicas { (id : ℕ) → slot_of self.old.arena id ≡ Some slot
+            → replicas_of self.new.arena
+            ≡ insert (replicas_of self.old.arena) (replica_at id storage) (as_ordered marks) }
+        ensures numbers { self.new.arena.ids ≡ self.old.arena.ids }
+        ensures levels { KeepsLevels topology.now.cluster self.old self.new }
+    {
+        self.arena.show_invariant();
+        self.arena
+            .set_marks_near(slot, storage, with_order(marks), guess);
+        if is_good_and_unmarked(marks) {
+            self.kept.update_level(topology, &self.arena, slot);
+        }
+    }
+}
+
+/// The marks of a replica whose delete is ordered.
+fn with_order(marks: Marks) -> Marks
+    ensures { result ≡ as_ordered marks }
+{
+    Marks {
+        tag: marks.tag,
+        excess: marks.excess,
+        ordered: true,
+    }
+}
+
+/// The index of the replica on a storage in the block at a slot: the guess, if it is right; 0 if
+/// there is none.
+fn index_of(arena: &Arena, slot: Slot, storage: StorageId, guess: usize) -> usize {
+    if is_at(arena, slot, storage, guess) {
+        return guess;
+    }
+    for place in 0..arena.triplet_count(slot) {
+        if is_at(arena, slot, storage, place) {
+            return place;
+        }
+    }
+    0
+}
+
+/// Whether the replica at an index of the block at a slot is on a storage.
+fn is_at(arena: &Arena, slot: Slot, storage: StorageId, place: usize) -> bool {
+    match arena.triplet_at(slot, place) {
+        Some((found, _)) => found == storage,
+        None => false,
+    }
+}
+
+/// The marks of the replica on a storage of the block at a slot, most likely at this index.
+fn marks_near(arena: &Arena, slot: Slot, storage: StorageId, place: usize) -> Option<Marks>
+    ensures { result ≡ marks_at arena.now slot storage }
+{
+    arena.show_invariant();
+    if let Some((found, marks)) = arena.triplet_at(slot, place) {
+        if found == storage {
+            return Some(marks);
+        }
+    }
+    arena.marks(slot, storage)
+}

@@ -1,0 +1,16 @@
+use Rattle.std.proofs.Common.{◌≡◌, ◌≤◌, List, ◌++◌, drop, length, vec_len, vec_capacity}
+use Rattle.bm_base.specs.declared.call.Answer.{Answer}
+use Rattle.bm_base.specs.Machine.Answering.{MayAnswerAll, state_after_answers}
+use Rattle.bm_base.specs.Machine.Calls.{step}
+use Rattle.bm_manager.proofs.manager.Manager.answer_all_with.Given as goal
+
+-- the answers so far, with any that the remaining calls may give, are answers that all the calls
+-- may give, with the same last state
+abbrev pub invariant-loop-call : goal.invariant-loop-call
+invariant-loop-call g l =
+    record {
+      may : (rest : List Answer) → MayAnswerAll step l.self (drop l.call-index l.calls) rest → MayAnswerAll step l.fn.self l.calls (l.answers.items ++ rest);
+      state : (rest : List Answer) → MayAnswerAll step l.self (drop l.call-index l.calls) rest → state_after_answers step l.self (drop l.call-index l.calls) rest ≡ state_after_answers step l.fn.self l.calls (l.answers.items ++ rest);
+      room : length l.calls ≤ vec_capacity l.answers;
+      count : vec_len l.answers ≡ l.call-index;
+    }

@@ -1,0 +1,104 @@
+// The same calls on two managers of different shards and workers, or one of them without threads.
+ghost use Rattle.std.specs.Prelude.{◌≡◌, ◌⊎◌, true, None, IfOk, IfErr, OnOk};
+ghost use Rattle.bm_base.specs.Machine.State.{first_state};
+ghost use Rattle.bm_base.specs.Machine.Configuration.{config_refusal};
+ghost use Rattle.bm_base.specs.Machine.Calls.{step};
+ghost use Rattle.bm_base.specs.Machine.Answering.{Refuses, MayAnswerAll};
+ghost use Rattle.bm_manager.specs.SameAnswers.{HaveSameAnswers};
+
+use crate::manager::Manager;
+use bm_base::{Answer, Call, Config, Items, Refusal};
+use bm_crew::Gate;
+use bm_shards::CallingThread;
+use std::alloc::Global;
+use std::sync::Wait;
+use std::thread::Threads;
+
+/// Makes the calls on a manager of this configuration, and on a second one with other shards and
+/// workers. Returns the answers of both, which are equal up to the first call that ran out of
+/// memory.
+///
+/// Both are a run of the definition from the same state. The refusals are those of [`Manager::new`]
+/// for either configuration, and `Memory`.
+pub fn answers_alike<R: Threads + Wait + Sync>(
+    alloc: Global,
+    rt: &R,
+    gate: &(dyn Gate + Sync),
+    config: Config,
+    shards: u32,
+    workers: u32,
+    calls: &[Call],
+) -> Result<(Items<Answer>, Items<Answer>), Refusal>
+    ensures alike { IfOk result (λ r. HaveSameAnswers r.0 r.1) }
+    ensures these { IfOk result (λ r. MayAnswerAll step (first_state config) calls.now r.0) }
+    ensures others { IfOk result (λ r. MayAnswerAll step (first_state config) calls.now r.1) }
+    ensures allowed { OnOk result (config_refusal config ≡ None) }
+    ensures allowed_too { OnOk result
+        (config_refusal (record config { shards = shards; workers = workers }) ≡ None) }
+    ensures refused { IfErr result (λ e. Refuses (config_refusal config) true e
+        ⊎ Refuses (config_refusal (record config { shards = shards; workers = workers })) true e) }
+{
+    let other = Config {
+        shards,
+        workers,
+        ..config
+    };
+    let answers = answers_of(alloc, rt, gate, config, calls)?;
+    let other_answers = answers_of(alloc, rt, gate, other, calls)?;
+    Ok((answers, other_answers))
+}
+
+/// [`answers_alike`], where the second manager has `shards` shards, and the calling thread alone
+/// works its calls.
+pub fn answers_alike_alone<R: Threads + Wait + Sync>(
+    alloc: Global,
+    rt: &R,
+    gate: &(dyn Gate + Sync),
+    config: Config,
+    shards: u32,
+    calls: &[Call],
+) -> Result<(Items<Answer>, Items<Answer>), Refusal>
+    ensures alike { IfOk result (λ r. HaveSameAnswers r.0 r.1) }
+    ensures these { IfOk result (λ r. MayAnswerAll step (first_state config) calls.now r.0) }
+    ensures others { IfOk result (λ r. MayAnswerAll step (first_state config) calls.now r.1) }
+    ensures allowed { OnOk result (config_refusal config ≡ None) }
+    ensures allowed_too { OnOk result (config_refusal (record config { shards = shards }) ≡ None) }
+    ensures refused { IfErr result (λ e. Refuses (config_refusal config) true e
+        ⊎ Refuses (config_refusal (record config { shards = shards })) true e) }
+{
+    let answers = answers_of(alloc, rt, gate, config, calls)?;
+    let other_answers = answers_alone(alloc, Config { shards, ..config }, calls)?;
+    Ok((answers, other_answers))
+}
+
+/// Makes the calls on a new manager of this configuration, and returns their answers.
+fn answers_of<R: Threads + Wait + Sync>(
+    alloc: Global,
+    rt: &R,
+    gate: &(dyn Gate + Sync),
+    config: Config,
+    calls: &[Call],
+) -> Result<Items<Answer>, Refusal>
+    ensures answers { IfOk result (λ r. MayAnswerAll step (first_state config) calls.now r) }
+    ensures allowed { OnOk result (config_refusal config ≡ None) }
+    ensures refused { IfErr result (Refuses (config_refusal config) true) }
+{
+    let mut manager = Manager::new(alloc, config)?;
+    match manager.answer_all(rt, gate, calls) {
+        Ok(answers) => Ok(answers),
+        Err(_) => Err(Refusal::Memory),
+    }
+}
+
+/// The same by the calling thread alone.
+fn answers_alone(alloc: Global, config: Config, calls: &[Call]) -> Result<Items<Answer>, Refusal>
+    ensures answers { IfOk result (λ r. MayAnswerAll step (first_state config) calls.now r) }
+    ensures allowed { OnOk result (config_refusal config ≡ None) }
+    ensures refused { IfErr result (Refuses (config_refusal config) true) }
+{
+    let mut manager = Manager::new(alloc, config)?;
+    match manager.answer_all_with(&CallingThread, calls) {
+        Ok(answers) => Ok(answers),
+        Err(_) => Err(Refusal::Memory),
+    }
+}

@@ -1,0 +1,152 @@
+// Transfers as lists: those of a block, and all of them, or all that are given up, in order.
+ghost use Rattle.std.specs.Prelude.{◌≡◌, ◌≤◌, ◌+◌, ℕ, [], false, nat_eq, map, length, ◌++◌, OnOk, OnErr, IfOk, IfErr, IsOk, T, vec_len, vec_capacity};
+ghost use Rattle.std.specs.Ordering.{nat_cmp};
+ghost use Rattle.std.specs.FinMap as list;
+ghost use Rattle.std.specs.List.{list_any, IsDistinct};
+ghost use Rattle.std.specs.List.Sorted.{IsNonDecreasing};
+ghost use Rattle.bm_base.specs.declared.refusal.Refusal.TheVariants.{Memory};
+ghost use Rattle.bm_base.specs.Maps.Map.{entries};
+ghost use Rattle.bm_base.specs.Machine.State.{replica_at};
+ghost use Rattle.bm_base.specs.Machine.Excess.{is_expired};
+ghost use Rattle.bm_pending.specs.PendingMap.{expired_of};
+ghost use Rattle.bm_pending.specs.Inside.{targets_at, expired_among, map_of};
+
+use crate::by_block::{Blocks, targets_in};
+use crate::targets::is_expired;
+use bm_base::{BlockId, Refusal, ReplicaId, StorageId};
+use std::alloc::Global;
+
+/// Appends the storages. An `Err` changes nothing.
+pub(crate) fn push_storages(
+    targets: &[(u32, u64)],
+    into: &mut Vec<StorageId>,
+) -> Result<(), Refusal>
+    ensures items { OnOk result (into.new.items ≡ into.old.items ++ map (λ t. t.0) targets.now) }
+    ensures succeeds { vec_len into.old + length targets.now ≤ vec_capacity into.old → IsOk result }
+    ensures unchanged { OnErr result (into.new.items ≡ into.old.items) }
+    ensures refused { IfErr result (λ e. e ≡ Memory) }
+{
+    into.reserve(targets.len())?;
+    for target in targets {
+        into.push_reserved(StorageId(target.0));
+    }
+    Ok(())
+}
+
+fn replica_id(block: u64, storage: u32) -> ReplicaId
+    ensures { result ≡ replica_at block storage }
+{
+    ReplicaId {
+        block: BlockId(block),
+        storage: StorageId(storage),
+    }
+}
+
+/// The numbers of the blocks, ascending.
+fn numbers_in(blocks: &Blocks, alloc: Global) -> Result<Vec<u64>, Refusal>
+    ensures rising { IfOk result (λ v. IsNonDecreasing v.items) }
+    ensures distinct { IfOk result (λ v. IsDistinct nat_eq v.items) }
+    ensures absent { IfOk result (λ v. (b : ℕ) → list_any (nat_eq b) v.items ≡ false
+        → targets_at blocks.now.entries b ≡ []) }
+    ensures refused { IfErr result (λ e. e ≡ Memory) }
+{
+    let mut numbers: Vec<u64> = blocks.keys().copied().collect(alloc)?;
+    numbers.sort()?;
+    Ok(numbers)
+}
+
+/// Appends the transfers of a block.
+fn push_transfers(
+    targets: &[(u32, u64)],
+    block: u64,
+    into: &mut Vec<(ReplicaId, u64)>,
+) -> Result<(), Refusal>
+    ensures items { OnOk result (into.new.items ≡ into.old.items
+        ++ map (λ t. (replica_at block t.0, t.1)) targets.now) }
+    ensures refused { IfErr result (λ e. e ≡ Memory) }
+{
+    for target in targets {
+        into.push((replica_id(block, target.0), target.1))?;
+    }
+    Ok(())
+}
+
+/// All transfers with their rounds, by block and then by storage.
+pub(crate) fn entries_in(blocks: &Blocks, alloc: Global) -> Result<Vec<(ReplicaId, u64)>, Refusal>
+    requires { (q : ℕ) → T (list.is_sorted nat_cmp (targets_at blocks.now.entries q)) }
+    ensures items { IfOk result (λ v. v.items ≡ entries (map_of blocks.now.entries)) }
+    ensures refused { IfErr result (λ e. e ≡ Memory) }
+{
+    let numbers = numbers_in(blocks, alloc)?;
+    let mut all = Vec::new(alloc);
+    for block in &numbers {
+        push_transfers(targets_in(blocks, *block), *block, &mut all)?;
+    }
+    Ok(all)
+}
+
+/// Whether a target's transfer is given up.
+fn has_expired(targets: &[(u32, u64)], pend: u32, round: u64) -> bool
+    ensures { result ≡ list_any (λ t. is_expired pend round t.1) targets.now }
+{
+    targets
+        .iter()
+        .any(|target| is_expired(target.1, pend, round))
+}
+
+/// The numbers of the blocks with an expired transfer, ascending.
+fn expiring_in(blocks: &Blocks, alloc: Global, pend: u32, round: u64) -> Result<Vec<u64>, Refusal>
+    ensures rising { IfOk result (λ v. IsNonDecreasing v.items) }
+    ensures distinct { IfOk result (λ v. IsDistinct nat_eq v.items) }
+    ensures absent { IfOk result (λ v. (b : ℕ) → list_any (nat_eq b) v.items ≡ false
+        → expired_among pend round (targets_at blocks.now.entries b) ≡ []) }
+    ensures refused { IfErr result (λ e. e ≡ Memory) }
+{
+    let mut numbers = Vec::new(alloc);
+    for (block, targets) in blocks.iter() {
+        if has_expired(targets.as_slice(), pend, round) {
+            numbers.push(*block)?;
+        }
+    }
+    numbers.sort()?;
+    Ok(numbers)
+}
+
+/// Appends the expired transfers of a block.
+fn push_expired(
+    targets: &[(u32, u64)],
+    block: u64,
+    pend: u32,
+    round: u64,
+    into: &mut Vec<ReplicaId>,
+) -> Result<(), Refusal>
+    ensures items { OnOk result (into.new.items ≡ into.old.items
+        ++ map (λ t. replica_at block t.0) (expired_among pend round targets.now)) }
+    ensures refused { IfErr result (λ e. e ≡ Memory) }
+{
+    for target in targets {
+        if is_expired(target.1, pend, round) {
+            into.push(replica_id(block, target.0))?;
+        }
+    }
+    Ok(())
+}
+
+/// All transfers that are given up, by block and then by storage.
+pub(crate) fn expired_in(
+    blocks: &Blocks,
+    alloc: Global,
+    pend: u32,
+    round: u64,
+) -> Result<Vec<ReplicaId>, Refusal>
+    requires { (q : ℕ) → T (list.is_sorted nat_cmp (targets_at blocks.now.entries q)) }
+    ensures items { IfOk result (λ v. v.items ≡ expired_of pend round (map_of blocks.now.entries)) }
+    ensures refused { IfErr result (λ e. e ≡ Memory) }
+{
+    let numbers = expiring_in(blocks, alloc, pend, round)?;
+    let mut all = Vec::new(alloc);
+    for block in &numbers {
+        push_expired(targets_in(blocks, *block), *block, pend, round, &mut all)?;
+    }
+    Ok(all)
+}

@@ -1,6 +1,0 @@
-use Rattle.std.proofs.Common.{◌≡◌, map, take}
-use Rattle.bm_place.specs.Compared.{holder_at}
-use Rattle.bm_place.proofs.compared.fill_holders.Given as goal
-
-abbrev pub invariant-loop-storage : goal.invariant-loop-storage
-invariant-loop-storage l = l.holders.items ≡ map (holder_at l.topology.cluster) (take l.storage-index l.live)

@@ -1,8 +1,0 @@
-use Rattle.std.proofs.Common.{is_lt, rules}
-use Rattle.std.proofs.lemmas.List.Sorted.{answers_always}
-use Rattle.bm_place.specs.Foremost.{cmp_alike}
-use Rattle.bm_place.proofs.Alike.{ranks}
-use Rattle.bm_place.proofs.foremost.sort_targets.Goals as goal
-
-pub returns-clause-in_order : goal.returns-clause-in_order
-returns-clause-in_order c = c.sort_unstable_by.ensures.sorted (λ s t. is_lt (cmp_alike s t)) ranks (answers_always _ _ _ (λ f a r f' k. search rules))

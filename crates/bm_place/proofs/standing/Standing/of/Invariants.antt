@@ -1,7 +1,0 @@
-use Rattle.std.proofs.Common.{◌≡◌, drop}
-use Rattle.bm_place.specs.Standing.{with_storages, nowhere}
-use Rattle.bm_place.proofs.standing.Standing.of.Given as goal
-
--- the rest, added to the standing so far, gives the standing of all
-abbrev pub invariant-loop-storage : goal.invariant-loop-storage
-invariant-loop-storage l = with_storages l.topology.cluster l.standing (drop l.storage-index l.held) ≡ with_storages l.topology.cluster nowhere l.held

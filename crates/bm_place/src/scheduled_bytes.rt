@@ -1,0 +1,177 @@
+// The bytes scheduled to each storage in a round.
+ghost use Rattle.std.specs.Prelude.{◌≡◌, ◌≤◌, ◌+◌, ◌==◌, false, if◌then◌else◌, ℕ, List, [], ◌∷◌, ◌++◌, IfOk, IfErr};
+ghost use Rattle.std.specs.Option.{IfSome};
+ghost use Rattle.bm_base.specs.declared.refusal.Refusal.TheVariants.{Memory};
+ghost use Rattle.bm_base.specs.declared.commands.Transfer.{Transfer};
+ghost use Rattle.bm_base.specs.Machine.State.{Cluster};
+ghost use Rattle.bm_base.specs.Maps.Map as map;
+ghost use Rattle.bm_base.specs.Machine.Transfers as transfers;
+ghost use Rattle.bm_place.specs.Tables.{none_sent};
+ghost use Rattle.bm_place.specs.Targets as targets;
+ghost use Rattle.bm_place.specs.Found.{HasFreeBytesFor, with_sent, targets_with};
+ghost use Rattle.bm_place.specs.BestTargets.{AreBestTargets, IsKept};
+ghost use Rattle.bm_place.specs.NodeStorages.{HaveNodeStorages, AreByNode};
+ghost use Rattle.bm_place.specs.declared.scheduled_bytes.TargetRow.{TargetRow};
+
+use crate::best_targets::{best_on_node, best_of_each_node, index_of_storage, reposition};
+use crate::node_storages::{NodeStorage, storages_near_node, node_storages_of};
+use bm_base::{NodeId, Rack, Refusal, StorageId};
+use bm_maps::NumberMap;
+use bm_topo::Topology;
+use std::alloc::{AllocError, Global};
+use std::marker::Model;
+
+/// A storage as a target: its node and rack, whether its node drains, its remaining bytes, and the
+/// bytes scheduled to it.
+#[derive(Clone, Copy)]
+pub struct TargetRow {
+    pub storage: StorageId,
+    pub node: Option<NodeId>,
+    pub rack: Option<Rack>,
+    pub is_draining: bool,
+    pub remaining: u64,
+    pub scheduled: u64,
+}
+
+/// The bytes scheduled to each storage in a round, with the storage's node and rack.
+///
+/// Made once for a round: it has the cluster as it was then, and no transfers of earlier rounds. A
+/// contract sees a table with a row for each storage: the storage, its node and rack, whether the
+/// node drains, its remaining bytes and the bytes scheduled to it. It also keeps the best target of
+/// each node, so that a choice need not scan all rows.
+#[derive(Drop)]
+pub struct Scheduled {
+    pub(crate) rows: NumberMap<TargetRow>,
+    /// The best storage of each node: the one with most free bytes, and of these the least. No
+    /// other is the target of a copy. They are sorted by the same order, so the first eligible one
+    /// is the target.
+    best_targets: Vec<TargetRow>,
+    /// All storages, sorted by their nodes.
+    seats: Vec<NodeStorage>,
+}
+
+impl Model for Scheduled {
+    ghost use Rattle.std.specs.Coded.{coded_ℕ};
+    ghost use Rattle.bm_base.specs.Maps.Map.{Map, by_number};
+    ghost use Rattle.bm_base.specs.Maps.MapCode.{code};
+    ghost use Rattle.bm_place.specs.declared.scheduled_bytes.TargetRow.{TargetRow};
+    ghost use Rattle.bm_place.specs.Targets.{coded_target};
+
+    ghost Value = { Map by_number TargetRow };
+
+    ghost coded = { code coded_ℕ coded_target };
+
+    ghost view = { λ s. s.rows.map };
+
+    ghost use Rattle.bm_place.specs.NodeStorages.{IsIndexed};
+
+    ghost invariant = { λ s. IsIndexed s.rows.map s.best_targets.items s.seats.items };
+}
+
+impl Scheduled {
+    /// Nothing is scheduled yet to any storage of the cluster. `Memory` if a table cannot grow.
+    /// Iterates over the storages of the cluster once, with a few look-ups each, and sorts them by
+    /// their nodes, and one of each node by free bytes.
+    pub fn new(alloc: Global, topology: &Topology) -> Result<Scheduled, Refusal>
+        ensures none_yet { IfOk result
+            (λ t. t ≡ targets.target_table topology.now.cluster none_sent) }
+        ensures of_transfers { IfOk result (λ t. t ≡ targets_with topology.now.cluster []) }
+        ensures refused { IfErr result (λ e. e ≡ Memory) }
+    {
+        let rows = rows_of(alloc, topology)?;
+        let listed = rows.entries();
+        let best_targets = best_of_each_node(alloc, listed)?;
+        let seats = node_storages_of(alloc, listed)?;
+        Ok(Scheduled {
+            rows,
+            best_targets,
+            seats,
+        })
+    }
+
+    /// Counts `len` bytes more as scheduled to `target`, on which they fit, as on the target that
+    /// [`least_target`](crate::least_target) just found for this length; ignores an unknown
+    /// storage. A few look-ups, one for each storage of the node, and a scan of the best targets
+    /// before it and of those that it moves past. Takes no memory.
+    pub fn add(&mut self, target: StorageId, len: u64)
+        requires fits { HasFreeBytesFor self.old len target }
+        ensures after { self.new ≡ with_sent self.old target len }
+        ensures sent { (C : Cluster) (sent : ℕ → ℕ) → self.old ≡ targets.target_table C sent
+            → self.new ≡ targets.target_table C (λ s. sent s + (if target == s then len else 0)) }
+        ensures of_transfers { (C : Cluster) (chosen : List Transfer) (t : Transfer)
+            → t.target ≡ target → t.stamp.len ≡ len
+            → self.old ≡ targets_with C chosen → self.new ≡ targets_with C (chosen ++ t ∷ []) }
+    {
+        add_to(&mut self.rows, target, len);
+        update_best(&mut self.best_targets, &self.rows, &self.seats, target);
+    }
+
+    /// The best storage of each node: the one with most free bytes, and of these the least. Sorted
+    /// by the same order.
+    pub(crate) fn best_targets(&self) -> &[TargetRow]
+        ensures { AreBestTargets self.now result.now }
+    {
+        &self.best_targets
+    }
+}
+
+/// The storages of a cluster, ascending, with nothing scheduled yet.
+fn rows_of(alloc: Global, topology: &Topology) -> Result<NumberMap<TargetRow>, AllocError>
+    ensures { IfOk result
+        (λ rows. rows.map ≡ targets.target_table topology.now.cluster none_sent) }
+{
+    let mut rows = NumberMap::new(alloc);
+    rows.reserve(topology.storage_count() as usize)?;
+    for place in 0..topology.storage_count() {
+        let Some(storage) = topology.storage_at(place) else {
+            return Ok(rows);
+        };
+        rows.insert(u64::from(storage.0), target_at(topology, storage))?;
+    }
+    Ok(rows)
+}
+
+/// Counts `len` bytes more as scheduled to a known storage.
+fn add_to(rows: &mut NumberMap<TargetRow>, target: StorageId, len: u64)
+    requires { HasFreeBytesFor rows.old.map len target }
+    ensures { rows.new.map ≡ with_sent rows.old.map target len }
+{
+    if let Some(row) = rows.get(u64::from(target.0)) {
+        let scheduled = row.scheduled + len;
+        rows.replace(u64::from(target.0), TargetRow { scheduled, ..row });
+    }
+}
+
+/// Updates the node's best target after bytes were scheduled to it: takes the node's new best and
+/// restores the order. If another storage of the node was scheduled to, its best is unchanged.
+fn update_best(best_targets: &mut Vec<TargetRow>, rows: &NumberMap<TargetRow>, seats: &[NodeStorage], target: StorageId)
+    ensures { (old : map.Map map.by_number TargetRow) (len : ℕ)
+        → IsKept old best_targets.old.items → HasFreeBytesFor old len target
+        → rows.now.map ≡ with_sent old target len
+        → HaveNodeStorages rows.now.map seats.now → AreByNode seats.now
+        → IsKept rows.now.map best_targets.new.items }
+{
+    let Some(place) = index_of_storage(best_targets, target) else {
+        return;
+    };
+    if let Some(row) = rows.get(u64::from(target.0)) {
+        let near = storages_near_node(seats, row.node);
+        let best = best_on_node(row, rows, near);
+        reposition(best_targets, place, &best);
+    }
+}
+
+/// A storage with nothing scheduled to it yet.
+fn target_at(topology: &Topology, storage: StorageId) -> TargetRow
+    ensures { result ≡ targets.target_at topology.now.cluster (λ _. 0) storage }
+{
+    let location = topology.location_of(storage);
+    TargetRow {
+        storage,
+        node: location.node,
+        rack: location.rack,
+        is_draining: location.drains,
+        remaining: location.remaining,
+        scheduled: 0,
+    }
+}

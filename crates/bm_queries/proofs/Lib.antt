@@ -1,0 +1,11 @@
+pub mod DistinctKeys
+pub mod IndexedSlots
+pub mod GatheredReplicas
+pub mod FoundReplicas
+pub mod Numbers
+pub mod OwnBlocks
+pub mod OnStorage
+pub mod AtSlot
+pub mod WaitingBlocks
+pub mod ByPlace
+pub mod KnownBlocks

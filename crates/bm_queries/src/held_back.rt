@@ -1,0 +1,106 @@
+// Whether a block holds a node back.
+ghost use Rattle.std.specs.Prelude.{◌≡◌, ℕ, length};
+ghost use Rattle.bm_base.specs.Maps.Map.{Map};
+ghost use Rattle.bm_base.specs.Machine.State.{by_replica};
+ghost use Rattle.bm_base.specs.Machine.Replicas as replicas;
+ghost use Rattle.bm_arena.specs.Contents.{block_at};
+ghost use Rattle.bm_arena.specs.Holding.{replicas_at};
+ghost use Rattle.bm_parts.specs.QueryLaws.{holds_back};
+ghost use Rattle.bm_levels.specs.Held.{holdings_with};
+ghost use Rattle.bm_levels.specs.Status.{storages_at};
+ghost use Rattle.bm_queries.specs.Listed.{lacks_live, holds_back_at, holds_back_on, holds_back_node};
+
+use bm_arena::{Arena, Slot};
+use bm_base::{Marks, NodeId, StorageId};
+use bm_levels::LeveledBlocks;
+use bm_topo::Topology;
+
+fn is_live_on(topology: &Topology, storage: StorageId, marks: Marks) -> bool
+    ensures { result ≡ replicas.is_live_on topology.now.cluster storage marks }
+{
+    let is_usable = marks.is_usable();
+    is_usable && !topology.is_draining(storage)
+}
+
+/// The number of live replicas at a slot.
+fn live_count(topology: &Topology, arena: &Arena, slot: Slot) -> usize
+    ensures { result ≡ length
+        (storages_at (replicas.is_live_on topology.now.cluster) (replicas_at arena.now slot)) }
+{
+    let mut count = 0;
+    for place in 0..arena.triplet_count(slot) {
+        if let Some((storage, marks)) = arena.triplet_at(slot, place) {
+            if is_live_on(topology, storage, marks) {
+                count += 1;
+            }
+        }
+    }
+    count
+}
+
+/// Whether fewer replicas of the block at a slot are live than are wanted; not if the block is
+/// unknown.
+fn lacks_live(topology: &Topology, arena: &Arena, slot: Slot) -> bool
+    ensures { result ≡ lacks_live topology.now.cluster (block_at arena.now slot) }
+{
+    match arena.info(slot) {
+        Some(info) => live_count(topology, arena, slot) < info.repl as usize,
+        None => false,
+    }
+}
+
+/// Whether the block at a slot has a usable replica on a storage, and lacks live ones.
+fn holds_back_at(topology: &Topology, arena: &Arena, storage: StorageId, slot: Slot) -> bool
+    ensures { result ≡ holds_back_at topology.now.cluster arena.now storage slot }
+{
+    match arena.marks(slot, storage) {
+        Some(marks) => {
+            let is_usable = marks.is_usable();
+            is_usable && lacks_live(topology, arena, slot)
+        }
+        None => false,
+    }
+}
+
+/// Whether such a block is in the list of a storage.
+fn holds_back_on(topology: &Topology, arena: &Arena, storage: StorageId) -> bool
+    ensures { result ≡ holds_back_on topology.now.cluster arena.now storage }
+{
+    for slot in arena.walk(storage) {
+        if holds_back_at(topology, arena, storage, slot) {
+            return true;
+        }
+    }
+    false
+}
+
+/// Whether the storage is one of the node, which drains, and such a block is in its list.
+fn holds_back_node(topology: &Topology, arena: &Arena, node: NodeId, storage: StorageId) -> bool
+    ensures { result ≡ holds_back_node topology.now.cluster arena.now node storage }
+{
+    if topology.has_storage(node, storage) && topology.is_draining(storage) {
+        holds_back_on(topology, arena, storage)
+    } else {
+        false
+    }
+}
+
+/// Whether a block holds a node back: it has a drained replica there, and fewer live ones than are
+/// wanted. Walks the lists of the node's storages alone, and those only if it drains. Takes no
+/// memory.
+pub fn is_held_back(blocks: &LeveledBlocks, topology: &Topology, node: NodeId) -> bool
+    ensures { (pending : Map by_replica ℕ)
+        → result ≡ holds_back topology.now.cluster node (holdings_with blocks.now.arena pending) }
+{
+    blocks.show_invariant();
+    let arena = blocks.arena();
+    arena.show_invariant();
+    for place in 0..topology.storage_count() {
+        if let Some(storage) = topology.storage_at(place) {
+            if holds_back_node(topology, arena, node, storage) {
+                return true;
+            }
+        }
+    }
+    false
+}

@@ -1,7 +1,0 @@
-use Rattle.bm_arena.specs.Contents.{room_at}
-use Rattle.bm_report.proofs.Prepared.{prepared-room}
-use Rattle.bm_report.proofs.room_for_replica.make_room.Goals as goal
-
-pub returns-clause-kept : goal.returns-clause-kept
-returns-clause-kept c =
-    prepared-room c.args.arena.now c.reserve_triplet.new.self c.args.slot (room_at c.reserve_triplet.new.self c.args.slot) c.reserve_triplet.ensures.rest c.reserve_triplet.ensures.grows

@@ -1,0 +1,56 @@
+// The marks of reported replicas.
+ghost use Rattle.std.specs.Prelude.{◌≡◌};
+ghost use Rattle.bm_report.specs.DuringReport as midway;
+
+use bm_base::{BlockInfo, Marks, Stamp, Tag};
+
+/// The marks of a reported replica while the report runs: `excess` means that it was in excess
+/// before.
+pub(crate) fn marks_during_report(info: Option<BlockInfo>, was: Option<Marks>, stamp: &Stamp) -> Marks
+    ensures { result ≡ midway.marks_during_report info was stamp.now }
+{
+    let (was_bad, was_excess) = match was {
+        Some(marks) => (marks.tag.is_bad(), marks.excess),
+        None => (false, false),
+    };
+    Marks {
+        tag: reported_tag(info, was_bad, stamp),
+        excess: was_excess,
+        ordered: false,
+    }
+}
+
+fn reported_tag(info: Option<BlockInfo>, was_bad: bool, stamp: &Stamp) -> Tag
+    ensures { result ≡ midway.reported_tag info was_bad stamp.now }
+{
+    match info {
+        None => Tag::Stray,
+        Some(info) => {
+            if was_bad {
+                Tag::Bad
+            } else if *stamp == info.stamp {
+                Tag::Good
+            } else {
+                Tag::Stale
+            }
+        }
+    }
+}
+
+/// Whether only a good replica has the mark "in excess".
+pub(crate) fn is_excess_good(marks: Marks) -> bool
+    ensures { result ≡ midway.is_excess_good marks }
+{
+    !(marks.excess && !marks.tag.is_good())
+}
+
+/// The marks after the report: only a good replica stays in excess.
+pub(crate) fn without_invalid_excess(marks: Marks) -> Marks
+    ensures { result ≡ midway.without_invalid_excess marks }
+{
+    Marks {
+        tag: marks.tag,
+        excess: marks.tag.is_good() && marks.excess,
+        ordered: marks.ordered,
+    }
+}

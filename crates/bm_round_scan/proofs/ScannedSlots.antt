@@ -1,0 +1,193 @@
+-- The slots that a round scans: each occurs once, and no other block has findings.
+use Rattle.std.specs.Prelude.{◌≡◌, ◌≢◌, ℕ, Bool, true, false, not, ◌&&◌, List, [], ◌∷◌, ◌++◌, map, filter, Option, Some, None, option_and_then}
+use Rattle.std.specs.Option.{option_map_or}
+use Rattle.std.proofs.Common.{◌⊎◌, cond, inl, inr, refl, sym, ap, subst, ◌∙◌}
+use Rattle.std.proofs.lemmas.Bool.{cases_Bool, true≢false, and_from}
+use Rattle.std.proofs.lemmas.List.{append_assoc, map-append}
+use Rattle.std.proofs.lemmas.List.Elements.{filter-append}
+use Rattle.bm_base.specs.declared.level.Level.{Level}
+use Rattle.bm_base.specs.declared.level.Level.TheVariants.{Highest, VeryUnderReplicated, UnderReplicated, BadlyDistributed, NoUsableReplica}
+use Rattle.bm_maps.specs.SlotLists.{IsMember, Distinct}
+use Rattle.bm_base.specs.Maps.Lists.{has}
+use Rattle.bm_arena.specs.Triplets.{Block}
+use Rattle.bm_arena.specs.Contents.{Contents, block_at, slot_of, IsLawful}
+use Rattle.bm_arena.specs.Holding.{info_at, id_at}
+use Rattle.bm_arena.proofs.Replicas.{Among-append, Among-left}
+use Rattle.bm_levels.specs.Status.{is_settled_at}
+use Rattle.bm_levels.specs.IndexedLevels.{IndexedLevels, level_of_slot, IsUnsettled, NeedCopies, slots_needing_copies, needs_copies}
+use Rattle.bm_levels.specs.Leveled.{Leveled, IsLeveled}
+use Rattle.bm_levels.proofs.EqualLists.{has_among, among_has}
+use Rattle.bm_levels.proofs.ManySlots.{marker_settled}
+use Rattle.bm_parts.specs.Before.{is_before}
+use Rattle.bm_round_scan.specs.ScannedSlots.{scanned_slots, key_at, is_settled_to_scan}
+
+-- Lists with no slot in common.
+
+abbrev AreApart : List ℕ → List ℕ → Type 0
+AreApart xs ys = (z : ℕ) → IsMember z xs → IsMember z ys → ⊥
+
+distinct_appended : (xs ys : List ℕ) → Distinct xs → Distinct ys → AreApart xs ys → Distinct (xs ++ ys)
+distinct_appended [] ys d e apart = e
+distinct_appended (x ∷ xs) ys d e apart =
+    (λ h. elim (Among-append x xs ys h) [ inl l ↦ d.0 l | inr r ↦ apart x (inl refl) r ], distinct_appended xs ys d.1 e (λ z h. apart z (inr h)))
+
+among_right : (x : ℕ) (xs ys : List ℕ) → IsMember x ys → IsMember x (xs ++ ys)
+among_right x [] ys h = h
+among_right x (z ∷ zs) ys h = inr (among_right x zs ys h)
+
+module _ (p : ℕ → Bool) where
+  pub among_filtered : (x : ℕ) (xs : List ℕ) → IsMember x (filter p xs) → IsMember x xs × (p x ≡ true)
+  among_filtered x [] h = absurd h
+  among_filtered x (y ∷ ys) h = by (p y) refl h (among_filtered x ys)
+    where
+      by : (t : Bool) → p y ≡ t → IsMember x (cond t (y ∷ filter p ys) (filter p ys)) → (IsMember x (filter p ys) → IsMember x ys × (p x ≡ true)) → ((x ≡ y) ⊎ IsMember x ys) × (p x ≡ true)
+      by true e g rest = elim g [ inl same ↦ (inl same, ap p same ∙ e) | inr later ↦ (inr (rest later).0, (rest later).1) ]
+      by false e g rest = (inr (rest g).0, (rest g).1)
+
+  pub among_passing : (x : ℕ) (xs : List ℕ) → IsMember x xs → p x ≡ true → IsMember x (filter p xs)
+  among_passing x [] h e = absurd h
+  among_passing x (y ∷ ys) h e = by (p y) refl h (λ later. among_passing x ys later e)
+    where
+      by : (t : Bool) → p y ≡ t → (x ≡ y) ⊎ IsMember x ys → (IsMember x ys → IsMember x (filter p ys)) → IsMember x (cond t (y ∷ filter p ys) (filter p ys))
+      by true is g rest = elim g [ inl same ↦ inl same | inr later ↦ inr (rest later) ]
+      by false is g rest = elim g [ inl same ↦ absurd (true≢false (sym e ∙ ap p same ∙ is)) | inr later ↦ rest later ]
+
+  pub distinct_filtered : (xs : List ℕ) → Distinct xs → Distinct (filter p xs)
+  distinct_filtered [] d = d
+  distinct_filtered (y ∷ ys) d = by (p y) (distinct_filtered ys d.1)
+    where
+      by : (t : Bool) → Distinct (filter p ys) → Distinct (cond t (y ∷ filter p ys) (filter p ys))
+      by true rest = (λ h. d.0 (among_filtered y ys h).0, rest)
+      by false rest = rest
+
+module _ (f : ℕ → ℕ) where
+  among_mapped : (z : ℕ) (xs : List ℕ) → IsMember z (map f xs) → (y : ℕ) × IsMember y xs × (z ≡ f y)
+  among_mapped z [] h = absurd h
+  among_mapped z (x ∷ xs) h = elim h [ inl same ↦ (x, inl refl, same) | inr later ↦ (let rest = among_mapped z xs later in (rest.0, inr rest.1, rest.2)) ]
+
+  pub mapped_among : (x : ℕ) (xs : List ℕ) → IsMember x xs → IsMember (f x) (map f xs)
+  mapped_among x [] h = absurd h
+  mapped_among x (y ∷ ys) h = elim h [ inl same ↦ inl (ap f same) | inr later ↦ inr (mapped_among x ys later) ]
+
+  pub distinct_mapped : (g : ℕ → Option ℕ) (xs : List ℕ) → Distinct xs → ((x : ℕ) → IsMember x xs → g (f x) ≡ Some x) → Distinct (map f xs)
+  distinct_mapped g [] d back = tt
+  distinct_mapped g (x ∷ xs) d back = (
+    λ h. let one = among_mapped (f x) xs h in
+        d.0 (let P : ℕ → Type 0 = λ w. IsMember w xs in subst P (sym (same x one.0 (sym (back x (inl refl)) ∙ ap g one.2 ∙ back one.0 (inr one.1)))) one.1),
+    distinct_mapped g xs d.1 (λ y h. back y (inr h)),
+  )
+    where
+      same : (x y : ℕ) → Some x ≡ Some y → x ≡ y
+      same x y e = cc
+
+-- The slots that a round scans.
+
+-- a block of which copies are wished for has a level
+level_wishing : (o : Option Level) → needs_copies o ≡ true → (l : Level) × (o ≡ Some l)
+level_wishing None e = absurd (true≢false (sym e))
+level_wishing (Some l) e = (l, refl)
+
+wishing_at : (l : Level) → l ≢ NoUsableReplica → needs_copies (Some l) ≡ true
+wishing_at Highest wanted = refl
+wishing_at VeryUnderReplicated wanted = refl
+wishing_at UnderReplicated wanted = refl
+wishing_at BadlyDistributed wanted = refl
+wishing_at NoUsableReplica wanted = absurd (wanted refl)
+
+latter : (s t : Bool) → (s && t) ≡ true → t ≡ true
+latter true t e = e
+latter false t e = absurd (true≢false (sym e))
+
+former : (s t : Bool) → (s && t) ≡ true → s ≡ true
+former true t e = refl
+former false t e = absurd (true≢false (sym e))
+
+-- the properties of the sets of slots
+pub record AreListed (K : IndexedLevels) : Type 0 where
+  pub unsettled : Distinct K.unsettled.slots
+  pub wishing : NeedCopies K (slots_needing_copies K)
+  pub once : Distinct (slots_needing_copies K)
+
+module _ (K : IndexedLevels) (is : AreListed K) where
+  abbrev u : List ℕ
+  u = K.unsettled.slots
+
+  module _ (a : Contents) (bound : Option (ℕ × ℕ)) (has_enough : ℕ → Bool) where
+    abbrev told : ℕ → Bool
+    told = is_settled_to_scan K a bound has_enough
+
+    abbrev slots : List ℕ
+    slots = scanned_slots K a bound has_enough
+
+    abbrev settled : List ℕ
+    settled = filter told (slots_needing_copies K)
+
+    settled_apart : AreApart u settled
+    settled_apart z here there = true≢false (sym (among_has u z here) ∙ by (has u z) (former (not (has u z)) (not (has_enough z)) (latter (is_before bound (key_at K a z)) (not (has u z) && not (has_enough z)) (among_filtered told z (slots_needing_copies K) there).1)))
+      where
+        by : (t : Bool) → not t ≡ true → t ≡ false
+        by true e = absurd (true≢false (sym e))
+        by false e = refl
+
+    pub visits_once : Distinct slots
+    visits_once = distinct_appended u settled is.unsettled (distinct_filtered told (slots_needing_copies K) is.once) settled_apart
+
+    pub unsettled_visited : (slot : ℕ) → IsUnsettled K slot → IsMember slot slots
+    unsettled_visited slot h = Among-left slot u settled h
+
+    pub level_visited : (l : Level) (slot : ℕ) → l ≢ NoUsableReplica → level_of_slot K slot ≡ Some l → is_before bound (key_at K a slot) ≡ true → has_enough slot ≡ false → IsMember slot slots
+    level_visited l slot wanted at early lacks =
+        elim (cases_Bool (has u slot)) [
+          | inl there ↦ unsettled_visited slot (has_among u slot there)
+          | inr none ↦
+              among_right slot u settled (among_passing told slot (slots_needing_copies K) ((is.wishing slot).1 (ap needs_copies at ∙ wishing_at l wanted))
+              (and_from (is_before bound (key_at K a slot)) (not (has u slot) && not (has_enough slot)) early (and_from (not (has u slot)) (not (has_enough slot)) (ap not none) (ap not lacks))))
+        ]
+
+    -- each scanned slot is unsettled, or has a level
+    visit_is : (slot : ℕ) → IsMember slot slots → IsUnsettled K slot ⊎ ((l : Level) × (level_of_slot K slot ≡ Some l))
+    visit_is slot h =
+        elim (Among-append slot u settled h) [
+          | inl loose ↦ inl loose
+          | inr wishing ↦ inr (level_wishing (level_of_slot K slot) ((is.wishing slot).0 (among_filtered told slot (slots_needing_copies K) wishing).0))
+        ]
+
+module _ (v : Leveled) (lawful : IsLawful v.arena) (leveled : IsLeveled v) (is : AreListed v.kept) (bound : Option (ℕ × ℕ)) (has_enough : ℕ → Bool) where
+  abbrev a : Contents
+  a = v.arena
+
+  -- an occupied slot other than the delimiter's is the slot of its block's number
+  known_at : (slot : ℕ) → slot ≢ a.delimiter → (o : Option Block) → block_at a slot ≡ o → o ≢ None → slot_of a (id_at a slot) ≡ Some slot
+  known_at slot other None stands some = absurd (some refl)
+  known_at slot other (Some k) stands some = ap (slot_of a) (ap (λ o. option_map_or (λ (b : Block). b.id) o 0) stands) ∙ lawful.known slot k stands other
+
+  unsettled_held : (slot : ℕ) → is_settled_at (block_at a slot) ≡ false → block_at a slot ≢ None
+  unfolding is_settled_at
+  unsettled_held slot loose none = true≢false (sym (ap is_settled_at none) ∙ loose)
+
+  unsettled_known : (slot : ℕ) → is_settled_at (block_at a slot) ≡ false → slot ≢ a.delimiter
+  unsettled_known slot loose same = true≢false (sym (marker_settled (block_at a a.delimiter) leveled.free leveled.blank) ∙ ap (λ s. is_settled_at (block_at a s)) (sym same) ∙ loose)
+
+  level_info : (slot : ℕ) (l : Level) → level_of_slot v.kept slot ≡ Some l → info_at a slot ≢ None
+  level_info slot l at none = never (sym (leveled.unknown slot none) ∙ at)
+    where
+      never : None ≡ Some l → ⊥
+      never e = cc
+
+  -- a scanned slot is the slot of its block's number
+  pub visit_known : (slot : ℕ) → IsMember slot (scanned_slots v.kept a bound has_enough) → slot_of a (id_at a slot) ≡ Some slot
+  visit_known slot h =
+      elim (visit_is v.kept is a bound has_enough slot h) [
+        | inl loose ↦ let e = (leveled.unsettled slot).0 loose in known_at slot (unsettled_known slot e) (block_at a slot) refl (unsettled_held slot e)
+        | inr at ↦
+            known_at slot (λ same. level_info slot at.0 at.1 (ap (info_at a) same ∙ leveled.blank)) (block_at a slot) refl
+            (λ none. level_info slot at.0 at.1 (ap (λ (o : Option Block). option_and_then (λ (b : Block). b.info) o) none))
+      ]
+
+  pub ids_once : Distinct (map (id_at a) (scanned_slots v.kept a bound has_enough))
+  ids_once = distinct_mapped (id_at a) (slot_of a) (scanned_slots v.kept a bound has_enough) (visits_once v.kept is a bound has_enough) visit_known
+
+-- the slots of the four levels, appended level by level, are the list of all
+pub told_by_level : {Y : Type 0} (f : ℕ → Y) (p : ℕ → Bool) (u w x y z : List ℕ)
+    → (((map f u ++ map f (filter p w)) ++ map f (filter p x)) ++ map f (filter p y)) ++ map f (filter p z) ≡ map f (u ++ filter p (w ++ (x ++ (y ++ z))))
+told_by_level f p u w x y z = simp (filter-append, map-append, append_assoc)

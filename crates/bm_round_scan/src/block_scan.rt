@@ -1,0 +1,198 @@
+// One block as a round begins.
+ghost use Rattle.std.specs.Prelude.{◌≡◌, ℕ, false, Some, IfOk, IfErr, OnOk, ◌++◌, length};
+ghost use Rattle.std.specs.Option.{option_map_or};
+ghost use Rattle.std.specs.List.Sorted.{IsNonDecreasing, IsPermutation};
+ghost use Rattle.bm_base.specs.declared.refusal.Refusal.TheVariants.{Memory};
+ghost use Rattle.bm_base.specs.Maps.Lists.{has, has_repeats};
+ghost use Rattle.bm_base.specs.Maps.Map.{Map, empty, entries, revise};
+ghost use Rattle.bm_base.specs.Machine.State.{by_replica};
+ghost use Rattle.bm_base.specs.Machine.Excess as excess;
+ghost use Rattle.bm_arena.specs.Contents.{slot_of};
+ghost use Rattle.bm_levels.specs.Held.{holdings_with};
+ghost use Rattle.bm_round_scan.specs.Marking.{marked_if};
+ghost use Rattle.bm_round_scan.specs.BlockScans.{IsBlockScan, AreUsable, replicas_on, needs_delete, deletes_of};
+ghost use Rattle.std.specs.Prelude.{[]};
+
+use crate::replicas::{UsableReplicas, contains_near, fill_at_round_start, mark_on, usable_among};
+use bm_arena::{Arena, Slot};
+use bm_base::{BlockId, BlockInfo, Delete, Marks, Refusal, ReplicaId, StorageId};
+use bm_maps::ReplicaMap;
+use bm_place::{ExcessScratch, fill_excess};
+use bm_topo::Topology;
+use std::alloc::{AllocError, Global};
+
+/// One block as a round begins. Blocks are scanned one after another in the same memory.
+#[derive(Drop)]
+pub(crate) struct BlockScan {
+    pub id: BlockId,
+    /// The block's entry; `None` for an unknown block.
+    pub info: Option<BlockInfo>,
+    /// The storages of its surplus live replicas, ascending.
+    pub excess: Vec<StorageId>,
+    /// All its replicas with the marks of the round: those that are surplus are marked.
+    pub replicas: ReplicaMap<Marks>,
+    /// A scratch buffer for the storages of a settled block.
+    pub storages: Vec<StorageId>,
+    /// A scratch buffer to sort its replicas, if it has more than a few.
+    triplets: Vec<(StorageId, Marks)>,
+    /// Scratch buffers for the choice of excess.
+    room: ExcessScratch,
+}
+
+impl BlockScan {
+    /// Scans no block yet. Takes no memory.
+    pub(crate) fn new(alloc: Global) -> BlockScan
+        ensures { result.replicas ≡ empty }
+    {
+        BlockScan {
+            id: BlockId(0),
+            info: None,
+            excess: Vec::new(alloc),
+            replicas: ReplicaMap::new(alloc),
+            storages: Vec::new(alloc),
+            triplets: Vec::new(alloc),
+            room: ExcessScratch::new(alloc),
+        }
+    }
+
+    /// Scans the block of a number with this slot, and returns the storages of its usable replicas:
+    /// a few reads of each of its replicas, and O(n log n) steps for n replicas, more than eight.
+    /// It takes memory only in three cases: more than four are live or drained; the block has more
+    /// replicas than each block before; a list of surplus grows past its capacity.
+    pub(crate) fn scan_block(
+        &mut self,
+        alloc: Global,
+        arena: &Arena,
+        topology: &Topology,
+        slot: Slot,
+        id: BlockId,
+    ) -> Result<UsableReplicas, Refusal>
+        requires { slot_of arena.now id ≡ Some slot }
+        ensures id { OnOk result (self.new.id ≡ id) }
+        ensures look { OnOk result ((pend r : ℕ) (pending : Map by_replica ℕ)
+            → IsBlockScan topology.now.cluster pend r (holdings_with arena.now pending) self.new) }
+        ensures in_order { OnOk result (IsNonDecreasing self.new.excess.items) }
+        ensures usable { IfOk result
+            (λ u. AreUsable topology.now.cluster (entries self.new.replicas) u) }
+        ensures refused { IfErr result (λ e. e ≡ Memory) }
+    {
+        arena.show_invariant();
+        fill_at_round_start(&mut self.replicas, &mut self.triplets, arena, slot, id)?;
+        let usable = usable_among(alloc, topology, self.replicas.entries())?;
+        self.id = id;
+        self.info = arena.info(slot);
+        fill_surplus(
+            &mut self.excess,
+            &mut self.room,
+            topology,
+            self.info,
+            usable.live.as_slice(),
+        )?;
+        sort_storages(&mut self.excess);
+        Ok(self.mark(alloc, topology, usable)?)
+    }
+
+    /// Marks the surplus replicas, and returns the storages of the usable ones after that.
+    fn mark(
+        &mut self,
+        alloc: Global,
+        topology: &Topology,
+        usable: UsableReplicas,
+    ) -> Result<UsableReplicas, AllocError>
+        requires usable { AreUsable topology.now.cluster (entries self.old.replicas) usable }
+        requires in_order { IsNonDecreasing self.old.excess.items }
+        ensures marked { OnOk result (self.new
+            ≡ record self.old {
+              replicas = revise self.old.replicas
+                  (λ q m. marked_if (has self.old.excess.items q.storage) m);
+            }) }
+        ensures usable { IfOk result
+            (λ u. AreUsable topology.now.cluster (entries self.new.replicas) u) }
+    {
+        if self.excess.as_slice().is_empty() {
+            return Ok(usable);
+        }
+        mark_on(&mut self.replicas, self.excess.as_slice());
+        usable_among(alloc, topology, self.replicas.entries())
+    }
+
+    /// Appends the surplus replicas.
+    pub(crate) fn push_excess(&self, into: &mut Vec<ReplicaId>) -> Result<(), AllocError>
+        requires { IsNonDecreasing self.now.excess.items }
+        ensures { OnOk result (into.new.items ≡ into.old.items
+            ++ replicas_on self.now.excess.items (entries self.now.replicas)) }
+    {
+        let mut near = 0;
+        for (replica, _) in self.replicas.entries() {
+            if contains_near(self.excess.as_slice(), replica.storage, &mut near) {
+                into.push(*replica)?;
+            }
+        }
+        Ok(())
+    }
+
+    /// Appends the replicas that are to be deleted, whether enough of the block are live or not.
+    pub(crate) fn push_deletes(
+        &self,
+        enough: bool,
+        into: &mut Vec<Delete>,
+    ) -> Result<(), AllocError>
+        ensures { OnOk result (into.new.items ≡ into.old.items
+            ++ deletes_of enough (entries self.now.replicas)) }
+    {
+        for (replica, marks) in self.replicas.entries() {
+            if needs_delete(enough, marks) {
+                into.push(Delete {
+                    storage: replica.storage,
+                    block: replica.block,
+                })?;
+            }
+        }
+        Ok(())
+    }
+}
+
+/// Replaces the contents of `into` by the surplus among these storages of one block's live
+/// replicas. It takes memory only if there is a surplus, and then only if `into` or a list of
+/// `room` grows past its capacity.
+fn fill_surplus(
+    into: &mut Vec<StorageId>,
+    room: &mut ExcessScratch,
+    topology: &Topology,
+    info: Option<BlockInfo>,
+    live: &[StorageId],
+) -> Result<(), Refusal>
+    ensures surplus { OnOk result (has_repeats live.now ≡ false
+        → into.new.items ≡ option_map_or
+        (λ i. excess.excess_of topology.now.cluster live.now i.repl) info []) }
+    ensures refused { IfErr result (λ e. e ≡ Memory) }
+{
+    match info {
+        Some(info) => fill_excess(into, room, live, info.repl, topology),
+        None => {
+            into.clear();
+            Ok(())
+        }
+    }
+}
+
+/// Sorts storages. Mostly there is one at most, and nothing is done.
+fn sort_storages(storages: &mut Vec<StorageId>)
+    ensures moved { IsPermutation storages.old.items storages.new.items }
+    ensures in_order { IsNonDecreasing storages.new.items }
+{
+    if storages.len() > 1 {
+        storages.sort_unstable();
+    }
+}
+
+/// Whether a replica is to be deleted and was not ordered to be.
+fn needs_delete(enough: bool, marks: &Marks) -> bool
+    ensures { result ≡ needs_delete enough marks.now }
+{
+    if marks.ordered {
+        return false;
+    }
+    let is_corrupt = marks.tag.is_corrupt();
+    marks.tag.is_stray() || marks.excess || is_corrupt && enough
+}

@@ -1,0 +1,54 @@
+// The keys of slots: the level of the block, and its number.
+ghost use Rattle.std.specs.Prelude.{◌≡◌, Some};
+ghost use Rattle.bm_parts.specs.Before as before;
+ghost use Rattle.bm_arena.specs.Holding as holding;
+ghost use Rattle.bm_levels.specs.IndexedLevels as level_index;
+ghost use Rattle.bm_round_scan.specs.ScannedSlots as visits;
+
+use bm_arena::{Arena, Slot};
+use bm_base::Level;
+use bm_levels::LevelIndex;
+use bm_parts::merge::Key;
+
+/// Represents the level of a block that has none: one more than the greatest.
+const NO_LEVEL: u32 = 5;
+
+/// The level and the number of the block at a slot: the key of its wish, if the slot is settled.
+pub(crate) fn key_of(kept: &LevelIndex, arena: &Arena, slot: Slot) -> Key
+    ensures { result ≡ visits.key_at kept.now arena.now slot }
+{
+    let level = match kept.level(slot) {
+        Some(level) => level.number(),
+        None => NO_LEVEL,
+    };
+    (level as u64, number_of(arena, slot))
+}
+
+/// The same for a known level, so that only the number is read.
+pub(crate) fn key_at_level(_kept: &LevelIndex, arena: &Arena, slot: Slot, level: Level) -> Key
+    requires { level_index.level_of_slot _kept.now slot ≡ Some level }
+    ensures { result ≡ visits.key_at _kept.now arena.now slot }
+{
+    (level.number() as u64, number_of(arena, slot))
+}
+
+/// The number of the block at a slot; 0 for a slot without a block.
+fn number_of(arena: &Arena, slot: Slot) -> u64
+    ensures { result ≡ holding.id_at arena.now slot }
+{
+    if arena.has_entry(slot) {
+        arena.id_of(slot).0
+    } else {
+        0
+    }
+}
+
+/// Whether a key comes before a bound, if there is one.
+pub(crate) fn is_before(bound: Option<Key>, key: Key) -> bool
+    ensures { result ≡ before.is_before bound key }
+{
+    match bound {
+        Some(bound) => key.0.cmp(&bound.0).then(key.1.cmp(&bound.1)).is_lt(),
+        None => true,
+    }
+}

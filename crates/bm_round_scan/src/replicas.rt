@@ -1,0 +1,254 @@
+// The replicas of one block, with their marks as a round begins.
+ghost use Rattle.std.specs.Prelude.{◌≡◌, true, false, filter_map, IfOk, OnOk};
+ghost use Rattle.std.specs.List.Sorted.{IsNonDecreasing};
+ghost use Rattle.bm_base.specs.Maps.Map as map_of;
+ghost use Rattle.bm_base.specs.Maps.Lists.{has};
+ghost use Rattle.bm_base.specs.Machine.Replicas as replicas;
+ghost use Rattle.bm_base.specs.Spread.{spread};
+ghost use Rattle.bm_arena.specs.Holding.{replicas_at};
+ghost use Rattle.bm_round_scan.specs.Marking.{marked_if, insert_on, all_storages};
+ghost use Rattle.bm_round_scan.specs.BlockScans.{AreUsable};
+
+use bm_arena::{Arena, Slot};
+use bm_base::{BlockId, Marks, Rack, ReplicaId, StorageId, StorageIds};
+use bm_maps::ReplicaMap;
+use bm_topo::Topology;
+use std::alloc::{AllocError, Global};
+
+/// The maximum number of replicas that are inserted in the order in which they were linked. More
+/// are sorted first.
+const INSERT_AT_MOST: usize = 8;
+
+/// The storages of a block's usable replicas.
+#[derive(Drop)]
+pub(crate) struct UsableReplicas {
+    pub live: StorageIds,
+    pub drained: StorageIds,
+}
+
+/// Replaces the contents by the replicas at a slot, by ascending storage. One in excess counts
+/// again if its delete was not ordered. It takes O(n log n) steps for n of them: more than a few
+/// are sorted first, so that none has to move for another. `triplets` is a scratch buffer.
+pub(crate) fn fill_at_round_start(
+    into: &mut ReplicaMap<Marks>,
+    triplets: &mut Vec<(StorageId, Marks)>,
+    arena: &Arena,
+    slot: Slot,
+    block: BlockId,
+) -> Result<(), AllocError>
+    ensures { OnOk result (into.new ≡ insert_on block map_of.empty (replicas_at arena.now slot)) }
+{
+    clear(into);
+    if arena.triplet_count(slot) <= INSERT_AT_MOST {
+        return insert_as_linked(into, arena, slot, block);
+    }
+    insert_in_order(into, triplets, arena, slot, block)
+}
+
+/// Inserts the replicas at a slot in the order in which they were linked.
+fn insert_as_linked(
+    into: &mut ReplicaMap<Marks>,
+    arena: &Arena,
+    slot: Slot,
+    block: BlockId,
+) -> Result<(), AllocError>
+    ensures { OnOk result (into.new ≡ insert_on block into.old (replicas_at arena.now slot)) }
+{
+    for place in 0..arena.triplet_count(slot) {
+        if let Some((storage, marks)) = arena.triplet_at(slot, place) {
+            into.insert(ReplicaId { block, storage }, marks.with_excess_reset())?;
+        }
+    }
+    Ok(())
+}
+
+/// Inserts the replicas at a slot by ascending storage.
+fn insert_in_order(
+    into: &mut ReplicaMap<Marks>,
+    triplets: &mut Vec<(StorageId, Marks)>,
+    arena: &Arena,
+    slot: Slot,
+    block: BlockId,
+) -> Result<(), AllocError>
+    ensures { OnOk result (into.new ≡ insert_on block into.old (replicas_at arena.now slot)) }
+{
+    arena.show_invariant();
+    fill_triplets(triplets, arena, slot)?;
+    triplets.sort_unstable_by_key(|triplet| triplet.0);
+    insert_each(into, block, triplets.as_slice())
+}
+
+/// Replaces the contents by the replicas at a slot, with their marks as they are.
+fn fill_triplets(
+    into: &mut Vec<(StorageId, Marks)>,
+    arena: &Arena,
+    slot: Slot,
+) -> Result<(), AllocError>
+    ensures { OnOk result (into.new.items ≡ replicas_at arena.now slot) }
+{
+    into.clear();
+    for place in 0..arena.triplet_count(slot) {
+        if let Some(triplet) = arena.triplet_at(slot, place) {
+            into.push(triplet)?;
+        }
+    }
+    Ok(())
+}
+
+/// Inserts these replicas of a block one after another.
+fn insert_each(
+    into: &mut ReplicaMap<Marks>,
+    block: BlockId,
+    triplets: &[(StorageId, Marks)],
+) -> Result<(), AllocError>
+    ensures { OnOk result (into.new ≡ insert_on block into.old triplets.now) }
+{
+    for (storage, marks) in triplets {
+        let replica = ReplicaId {
+            block,
+            storage: *storage,
+        };
+        into.insert(replica, marks.with_excess_reset())?;
+    }
+    Ok(())
+}
+
+/// Takes all out, and keeps the memory.
+fn clear(replicas: &mut ReplicaMap<Marks>)
+    ensures { replicas.new ≡ map_of.empty }
+{
+    replicas.retain(|_| false);
+}
+
+/// Marks the replicas on these storages, which are sorted, as in excess: both lists are merged in
+/// one pass. Takes no memory.
+pub(crate) fn mark_on(replicas: &mut ReplicaMap<Marks>, excess: &[StorageId])
+    requires { IsNonDecreasing excess.now }
+    ensures { replicas.new
+        ≡ map_of.revise replicas.old (λ q m. marked_if (has excess.now q.storage) m) }
+{
+    let mut near = 0;
+    for at in 0..replicas.len() {
+        if let Some((replica, marks)) = replicas.entry_at(at) {
+            let is_excess = contains_near(excess, replica.storage, &mut near);
+            replicas.set_at(at, marked_if(is_excess, marks));
+        }
+    }
+}
+
+/// The storages of live replicas, and of drained ones, by one read of each.
+pub(crate) fn usable_among(
+    alloc: Global,
+    topology: &Topology,
+    run: &[(ReplicaId, Marks)],
+) -> Result<UsableReplicas, AllocError>
+    ensures { IfOk result (λ u. AreUsable topology.now.cluster run.now u) }
+{
+    let mut live = StorageIds::new(alloc);
+    let mut drained = StorageIds::new(alloc);
+    for (replica, marks) in run {
+        if marks.is_usable() {
+            if topology.is_draining(replica.storage) {
+                drained.push(replica.storage)?;
+            } else {
+                live.push(replica.storage)?;
+            }
+        }
+    }
+    Ok(UsableReplicas { live, drained })
+}
+
+/// The storages of these replicas.
+pub(crate) fn storages_of(
+    alloc: Global,
+    run: &[(ReplicaId, Marks)],
+) -> Result<StorageIds, AllocError>
+    ensures { IfOk result (λ v. v ≡ all_storages run.now) }
+{
+    let mut storages = StorageIds::new(alloc);
+    for (replica, _) in run {
+        storages.push(replica.storage)?;
+    }
+    Ok(storages)
+}
+
+/// The number of racks of these storages, 2 for more.
+pub(crate) fn spread_of(topology: &Topology, storages: &[StorageId]) -> usize
+    ensures { result ≡ spread (filter_map (replicas.rack_of topology.now.cluster) storages.now) }
+{
+    let mut first: Option<Rack> = None;
+    for storage in storages {
+        let Some(rack) = topology.rack_of(*storage) else {
+            continue;
+        };
+        match first {
+            None => first = Some(rack),
+            Some(seen) => {
+                if rack != seen {
+                    return 2;
+                }
+            }
+        }
+    }
+    usize::from(first.is_some())
+}
+
+fn marked_if(is_excess: bool, marks: Marks) -> Marks
+    ensures { result ≡ marked_if is_excess marks }
+{
+    Marks {
+        tag: marks.tag,
+        excess: is_excess || marks.excess,
+        ordered: marks.ordered,
+    }
+}
+
+/// Whether a storage is among these, which are sorted. The index `near` is compared first, and
+/// becomes the index of the storage, found or not: so each of several storages in ascending order
+/// mostly takes two comparisons. Any index will do; elsewhere it takes O(log n) steps for n of
+/// them.
+pub(crate) fn contains_near(storages: &[StorageId], storage: StorageId, near: &mut usize) -> bool
+    requires { IsNonDecreasing storages.now }
+    ensures { result ≡ has storages.now storage }
+{
+    if is_storage_at(storages, storage, *near) {
+        return true;
+    }
+    let behind = near.wrapping_add(1);
+    if is_storage_at(storages, storage, behind) {
+        *near = behind;
+        return true;
+    }
+    if is_missing_at(storages, storage, behind) {
+        return false;
+    }
+    let found = storages.binary_search(&storage);
+    *near = index_found(&found);
+    found.is_ok()
+}
+
+/// Whether a storage is at an index.
+fn is_storage_at(storages: &[StorageId], storage: StorageId, at: usize) -> bool
+    ensures { result ≡ true → has storages.now storage ≡ true }
+{
+    at < storages.len() && storages[at] == storage
+}
+
+/// Whether a storage would be at an index, between a lesser and a greater one.
+fn is_missing_at(storages: &[StorageId], storage: StorageId, at: usize) -> bool
+    requires { IsNonDecreasing storages.now }
+    ensures { result ≡ true → has storages.now storage ≡ false }
+{
+    if at > storages.len() {
+        return false;
+    }
+    (at == 0 || storages[at - 1] < storage) && (at == storages.len() || storage < storages[at])
+}
+
+/// The index that a binary search returns, found or not.
+fn index_found(found: &Result<usize, usize>) -> usize {
+    match found {
+        Ok(place) => *place,
+        Err(place) => place.wrapping_sub(1),
+    }
+}

@@ -1,0 +1,100 @@
+// The checks of an event on the blocks.
+ghost use Rattle.std.specs.Prelude.{◌≡◌, if◌then◌else◌};
+ghost use Rattle.bm_base.specs.Maps.Map.{get};
+ghost use Rattle.bm_base.specs.Machine.Refusals.{first_of, block_checks, knows_block, is_bad_replication, is_old};
+ghost use Rattle.bm_base.specs.Machine.Answering.{checked};
+
+use crate::shard::Shard;
+use bm_base::{BlockId, BlockInfo, Event, MAX_REPLICATION, Refusal, Stamp};
+use bm_queries::{is_still_stored, knows_block};
+
+impl Shard {
+    /// The first check on the blocks that refuses the event: `UnknownBlock`, `BlockKnown`,
+    /// `StillStored`, `BadReplication`, `OldGeneration`. An event on one block is checked by the
+    /// shard of its number; other events have no such check. Takes no memory.
+    #[tactic(auto, unfolding(bm_base::specs::Machine::Refusals::block_checks))]
+    pub fn check(&self, event: &Event) -> Result<(), Refusal>
+        ensures { result ≡ checked (first_of (block_checks self.now.holdings event.now)) }
+    {
+        match event {
+            Event::AddBlock { id, repl, .. } => {
+                if knows_block(&self.blocks, *id) {
+                    return Err(Refusal::BlockKnown);
+                }
+                if is_still_stored(&self.blocks, *id) {
+                    return Err(Refusal::StillStored);
+                }
+                check_replication(*repl)
+            }
+            Event::DeleteBlock { id } => self.check_block(*id),
+            Event::SetReplication { id, repl } => {
+                if !knows_block(&self.blocks, *id) {
+                    return Err(Refusal::UnknownBlock);
+                }
+                check_replication(*repl)
+            }
+            Event::Restamp { id, stamp } => {
+                if !knows_block(&self.blocks, *id) {
+                    return Err(Refusal::UnknownBlock);
+                }
+                if self.is_old(*id, stamp) {
+                    return Err(Refusal::OldGeneration);
+                }
+                Ok(())
+            }
+            Event::Corrupt { id, .. } => self.check_block(*id),
+            Event::Register { .. }
+            | Event::Dead { .. }
+            | Event::StorageFailed { .. }
+            | Event::Heartbeat { .. }
+            | Event::Drain { .. }
+            | Event::Undrain { .. }
+            | Event::Received { .. }
+            | Event::Deleted { .. }
+            | Event::FullReport { .. } => Ok(()),
+        }
+    }
+
+    fn check_block(&self, id: BlockId) -> Result<(), Refusal>
+        ensures { result ≡ (if knows_block self.now.holdings id then Ok tt
+            else Err Refusal.UnknownBlock) }
+    {
+        if knows_block(&self.blocks, id) {
+            Ok(())
+        } else {
+            Err(Refusal::UnknownBlock)
+        }
+    }
+
+    /// What is known of a block.
+    fn info_of(&self, id: BlockId) -> Option<BlockInfo>
+        ensures { result ≡ get self.now.holdings.blocks id }
+    {
+        let arena = self.blocks.arena();
+        match arena.find(id) {
+            Some(slot) => arena.info(slot),
+            None => None,
+        }
+    }
+
+    /// Whether the generation of a stamp is not greater than the block's.
+    #[tactic(auto, unfolding(bm_base::specs::Machine::Refusals::is_old))]
+    fn is_old(&self, id: BlockId, stamp: &Stamp) -> bool
+        ensures { result ≡ is_old self.now.holdings id stamp.now }
+    {
+        match self.info_of(id) {
+            Some(info) => stamp.generation <= info.stamp.generation,
+            None => false,
+        }
+    }
+}
+
+fn check_replication(repl: u32) -> Result<(), Refusal>
+    ensures { result ≡ (if is_bad_replication repl then Err Refusal.BadReplication else Ok tt) }
+{
+    if repl == 0 || repl > MAX_REPLICATION {
+        Err(Refusal::BadReplication)
+    } else {
+        Ok(())
+    }
+}

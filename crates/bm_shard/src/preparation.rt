@@ -1,0 +1,167 @@
+// The memory of an event, and giving it up.
+ghost use Rattle.std.specs.Prelude.{◌≡◌, ◌==◌, ◌<◌, ◌∷◌, [], ℕ, None, Some, IfErr, OnOk, OnErr};
+ghost use Rattle.bm_base.specs.declared.refusal.Refusal.TheVariants.{Memory};
+ghost use Rattle.bm_base.specs.Machine.Answering.{Refuses};
+ghost use Rattle.bm_base.specs.Machine.State.{Cluster};
+ghost use Rattle.bm_base.specs.Machine.Events.{is_named};
+ghost use Rattle.bm_maps.specs.SlotLists.{IsMember};
+ghost use Rattle.bm_arena.specs.Holding.{replicas_of, blocks_of};
+ghost use Rattle.bm_report.specs.Expanded.{reported_to_part};
+ghost use Rattle.bm_levels.specs.Unused.{HasNoUnusedOf, MakesNoUnused};
+ghost use Rattle.bm_levels.specs.Leveled.{AreLevels};
+ghost use Rattle.bm_shard.specs.Seen.{NoticeOf, ReportOf, IsReadyFor, needs_reservation};
+ghost use Rattle.bm_shard.specs.Unused.{HasNoUnused, HasUnusedOnly, may_add_entry};
+ghost use Rattle.bm_shard.specs.Inside.{is_prepared};
+ghost use Rattle.bm_shard.specs.UpToDate.{IsSameButCapacity};
+
+use crate::shard::{PreparedEvent, Shard};
+use bm_base::{BlockId, Entry, Event, Part, Refusal, Stamp, StorageId};
+use bm_levels::LeveledBlocks;
+use bm_report::Report;
+use bm_topo::Topology;
+
+impl Shard {
+    /// Takes the memory that [`Shard::commit`] of the event needs. A contract sees no other change,
+    /// whether it is refused or not, if the shard is up to date in some cluster. It may be called
+    /// again: what was prepared before is given up. `Memory`, if a block is added, a replica
+    /// received or a storage reports; other events take none.
+    #[tactic(auto, unfolding(crate::specs::Seen::IsReadyFor))]
+    pub fn prepare(&mut self, event: &Event, topology: &Topology) -> Result<(), Refusal>
+        ensures ready { OnOk result (IsReadyFor event.now self.new) }
+        ensures same { IsSameButCapacity self.old self.new }
+        ensures bare { HasUnusedOnly (may_add_entry self.old.part event.now) self.new }
+        ensures given_up { OnErr result (HasNoUnused self.new) }
+        ensures refused { IfErr result (Refuses None (needs_reservation event.now)) }
+    {
+        let _ = topology;
+        self.abort();
+        match event {
+            Event::AddBlock { id, .. } => self.ready_entry(*id),
+            Event::Received { storage, id, stamp } => self.ready_notice(*storage, *id, *stamp),
+            Event::FullReport { storage, entries } => {
+                let part = self.part;
+                self.ready_report(*storage, entries.as_slice(), part)
+            }
+            Event::Register { .. }
+            | Event::Dead { .. }
+            | Event::StorageFailed { .. }
+            | Event::Heartbeat { .. }
+            | Event::Drain { .. }
+            | Event::Undrain { .. }
+            | Event::DeleteBlock { .. }
+            | Event::SetReplication { .. }
+            | Event::Restamp { .. }
+            | Event::Deleted { .. }
+            | Event::Corrupt { .. } => Ok(()),
+        }
+    }
+
+    /// Gives a number an entry.
+    fn ready_entry(&mut self, id: BlockId) -> Result<(), Refusal>
+        requires none { HasNoUnused self.old }
+        ensures ready { OnOk result (IsMember id self.new.room.entries) }
+        ensures same { IsSameButCapacity self.old self.new }
+        ensures bare { HasUnusedOnly (λ b. id == b) self.new }
+        ensures given_up { OnErr result (HasNoUnused self.new) }
+        ensures refused { IfErr result (λ e. e ≡ Memory) }
+    {
+        self.prepared = PreparedEvent::Nothing;
+        self.blocks.show_invariant();
+        self.blocks.arena().show_invariant();
+        let made = self.blocks.ready_block(id);
+        self.blocks.show_invariant();
+        self.blocks.arena().show_invariant();
+        made?;
+        self.prepared = PreparedEvent::Entry(id);
+        Ok(())
+    }
+
+    /// Looks up the number of a notice.
+    fn ready_notice(&mut self, storage: StorageId, id: BlockId, stamp: Stamp) -> Result<(), Refusal>
+        requires none { HasNoUnused self.old }
+        ensures ready { OnOk result (self.new.room.report
+            ≡ Some (NoticeOf storage (record { id = id; stamp = stamp } ∷ []))) }
+        ensures same { IsSameButCapacity self.old self.new }
+        ensures bare { HasUnusedOnly (λ b. id == b) self.new }
+        ensures given_up { OnErr result (HasNoUnused self.new) }
+        ensures refused { IfErr result (λ e. e ≡ Memory) }
+    {
+        self.prepared = PreparedEvent::Nothing;
+        self.blocks.show_invariant();
+        self.blocks.arena().show_invariant();
+        let made = self
+            .blocks
+            .ready_notice(&mut self.report, storage, id, stamp);
+        self.blocks.show_invariant();
+        self.blocks.arena().show_invariant();
+        made?;
+        self.prepared = PreparedEvent::Notice(storage);
+        Ok(())
+    }
+
+    /// Looks up the numbers of a report that are of this part.
+    fn ready_report(
+        &mut self,
+        storage: StorageId,
+        entries: &[Entry],
+        part: Part,
+    ) -> Result<(), Refusal>
+        requires part { part.index < part.shards }
+        requires none { HasNoUnused self.old }
+        ensures ready { OnOk result (self.new.room.report
+            ≡ Some (ReportOf storage (reported_to_part part entries.now))) }
+        ensures same { IsSameButCapacity self.old self.new }
+        ensures bare { HasUnusedOnly (is_named (reported_to_part part entries.now)) self.new }
+        ensures given_up { OnErr result (HasNoUnused self.new) }
+        ensures refused { IfErr result (λ e. e ≡ Memory) }
+    {
+        self.prepared = PreparedEvent::Nothing;
+        self.blocks.show_invariant();
+        self.blocks.arena().show_invariant();
+        let made = self
+            .blocks
+            .ready_report(&mut self.report, storage, entries, part);
+        self.blocks.show_invariant();
+        self.blocks.arena().show_invariant();
+        made?;
+        self.prepared = PreparedEvent::Report(storage);
+        Ok(())
+    }
+
+    /// Gives up what was prepared: entries that were made for it and have neither a block nor a
+    /// replica are dropped. A contract sees no change but of capacity, if the shard is up to date
+    /// in some cluster. Takes no memory.
+    pub fn abort(&mut self)
+        ensures same { IsSameButCapacity self.old self.new }
+        ensures bare { HasNoUnused self.new }
+        ensures transfers { self.new.room.transfers ≡ self.old.room.transfers }
+    {
+        let prepared = self.prepared;
+        self.prepared = PreparedEvent::Nothing;
+        self.blocks.show_invariant();
+        self.blocks.arena().show_invariant();
+        drop_prepared(&mut self.blocks, &mut self.report, prepared);
+        self.blocks.arena().show_invariant();
+    }
+}
+
+/// Drops the entries that were made for what was prepared and have neither a block nor a replica.
+/// All blocks and replicas stay. Takes no memory.
+pub(crate) fn drop_prepared(blocks: &mut LeveledBlocks, report: &mut Report, prepared: PreparedEvent)
+    ensures blocks { blocks_of blocks.new.arena ≡ blocks_of blocks.old.arena }
+    ensures replicas { replicas_of blocks.new.arena ≡ replicas_of blocks.old.arena }
+    ensures bare { MakesNoUnused blocks.old.arena blocks.new.arena }
+    ensures left { HasNoUnusedOf (is_prepared prepared report.old) blocks.new.arena }
+    ensures levels { (C : Cluster) → AreLevels C blocks.old → AreLevels C blocks.new }
+{
+    blocks.arena().show_invariant();
+    match prepared {
+        PreparedEvent::Nothing => {}
+        PreparedEvent::Entry(id) => {
+            if let Some(slot) = blocks.slot_of(id) {
+                blocks.drop_if_unused(slot);
+            }
+        }
+        PreparedEvent::Notice(_) | PreparedEvent::Report(_) => blocks.abort_report(report),
+    }
+}

@@ -1,0 +1,13 @@
+pub mod NewShards
+pub mod SameShards
+pub mod Gathered
+pub mod ShardLists
+pub mod OneOf
+pub mod Findings
+pub mod Choices
+pub mod RoundsTaken
+pub mod Joins
+pub mod PartLists
+pub mod RoundEnd
+pub mod Questions
+pub mod Heartbeats

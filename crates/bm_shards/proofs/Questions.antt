@@ -1,0 +1,101 @@
+-- Questions to all shards, to one of them or to each.
+use Rattle.std.specs.Prelude.{◌≡◌, ℕ, ◌||◌, Bool, List, [], ◌∷◌, map, flat_map, length, Some, None}
+use Rattle.std.specs.List.{list_any}
+use Rattle.std.specs.List.Sorted.{IsPermutation, IsSortedByKey}
+use Rattle.std.specs.Ordering.{nat_cmp}
+use Rattle.std.proofs.Common.{refl, sym, ap, subst, ◌∙◌}
+use Rattle.std.proofs.lemmas.List.Folds.{flat_map-map}
+use Rattle.bm_base.specs.declared.event.Event.{Event}
+use Rattle.bm_base.specs.declared.event.Event.TheVariants.{AddBlock, DeleteBlock, SetReplication, Restamp, Received, Deleted, Corrupt}
+use Rattle.bm_base.specs.declared.replica.Marks.{Marks}
+use Rattle.bm_base.specs.declared.replica.Replica.{Replica}
+use Rattle.bm_base.specs.declared.replica.ReplicaId.{ReplicaId}
+use Rattle.bm_base.specs.Maps.Map.{by_number}
+use Rattle.bm_base.specs.Machine.State.{Cluster, Holdings, by_replica, replica_cmp, empty_cluster}
+use Rattle.bm_base.specs.Shards.{shard_of, cut}
+use Rattle.bm_base.specs.Machine.Levels.{level}
+use Rattle.bm_base.specs.Machine.Queries.{missing_blocks, blocks_on, places}
+use Rattle.bm_base.specs.Machine.Refusals.{first_of, block_checks, block_refusal}
+use Rattle.bm_base.specs.Machine.Answering.{checked}
+use Rattle.bm_base.specs.Promises.Versions.{Row, table}
+use Rattle.bm_parts.specs.Parts.{block_of}
+use Rattle.bm_parts.specs.QueryLaws.{holds_back, replica_key}
+use Rattle.bm_parts.proofs.HeldBack.{held_back_by_some_part}
+use Rattle.bm_parts.proofs.JoinedReplicas.{blocks_on_join}
+use Rattle.bm_parts.proofs.JoinedBlocks.{missing_join, tables_join}
+use Rattle.bm_parts.proofs.OwnShard.{own_shard_answers, own_shard_checks}
+use Rattle.bm_parts.proofs.WholeParts.{whole_has_its_parts}
+use Rattle.bm_shard.specs.Seen.{Seen}
+use Rattle.bm_shards.specs.Rows.{rows_of}
+use Rattle.bm_shards.specs.Whole.{Whole, parts_of, held_by, AreShards, AreUpToDate, IsUpToDate}
+use Rattle.bm_shards.proofs.Joins.{sorted_lists}
+use Rattle.bm_shards.proofs.PartLists.{passing, passing_join, own_passing, own_missing, own_blocks_on, own_rows}
+use Rattle.bm_shards.proofs.SameShards.{count_of}
+
+-- The shard of a block answers for all shards: `ss` is seen as F, and P is what the block's own
+-- shard holds.
+
+module _ (b : ℕ) (ss items : List (ℕ × Seen)) (P : Holdings) (F : Whole) (own : P ≡ cut (held_by ss) (shard_of b (length ss)) (length ss)) (is : ss ≡ items)
+    (seen : record { holdings = held_by items; shards = items } ≡ F) where
+  seen_as : held_by ss ≡ F.holdings
+  seen_as = ap held_by is ∙ ap (λ (G : Whole). G.holdings) seen
+
+  pub own_refusal : block_refusal P b ≡ block_refusal F.holdings b
+  own_refusal = ap (λ H. block_refusal H b) own ∙ (own_shard_answers empty_cluster (held_by ss) b (length ss)).0 ∙ ap (λ H. block_refusal H b) seen_as
+
+  pub own_places : places P b ≡ places F.holdings b
+  own_places = ap (λ H. places H b) own ∙ (own_shard_answers empty_cluster (held_by ss) b (length ss)).1 ∙ ap (λ H. places H b) seen_as
+
+  pub own_level : (C : Cluster) → level C P b ≡ level C F.holdings b
+  own_level C = ap (λ H. level C H b) own ∙ (own_shard_answers C (held_by ss) b (length ss)).2 ∙ ap (λ H. level C H b) seen_as
+
+  pub own_check : (e : Event) → block_of e ≡ Some b → checked (first_of (block_checks P e)) ≡ checked (first_of (block_checks F.holdings e))
+  own_check e on =
+      ap (λ H. checked (first_of (block_checks H e))) own ∙ ap (λ cs. checked (first_of cs)) (own_shard_checks (held_by ss) e b (length ss) on)
+      ∙ ap (λ H. checked (first_of (block_checks H e))) seen_as
+
+-- an event on no block has no check on the blocks
+no_block_checks : (H : Holdings) (e : Event) → block_of e ≡ None → first_of (block_checks H e) ≡ None
+unfolding block_checks
+no_block_checks H (AddBlock b stamp repl) is = cc
+no_block_checks H (DeleteBlock b) is = cc
+no_block_checks H (SetReplication b repl) is = cc
+no_block_checks H (Restamp b stamp) is = cc
+no_block_checks H (Received s b stamp) is = cc
+no_block_checks H (Deleted s b) is = cc
+no_block_checks H (Corrupt s b) is = cc
+no_block_checks H e is = refl
+
+pub no_check : (H : Holdings) (e : Event) → block_of e ≡ None → checked None ≡ checked (first_of (block_checks H e))
+no_check H e none = ap checked (sym (no_block_checks H e none))
+
+-- if the whole is up to date in a cluster, so is each shard
+pub stands_inside : (C : Cluster) (items : List (ℕ × Seen)) (F : Whole) → record { holdings = held_by items; shards = items } ≡ F → IsUpToDate C F → AreUpToDate C items
+unfolding IsUpToDate
+stands_inside C items F seen h = subst (λ (G : Whole). AreUpToDate C G.shards) (sym seen) h
+
+-- Some shard holds a node back.
+
+any_part : (C : Cluster) (n : ℕ) (ss : List (ℕ × Seen)) → list_any (λ (s : ℕ × Seen). holds_back C n s.1.holdings) ss ≡ list_any (holds_back C n) (parts_of ss)
+any_part C n [] = refl
+any_part C n (s ∷ ss) = ap (λ t. holds_back C n s.1.holdings || t) (any_part C n ss)
+
+pub some_shard : (C : Cluster) (n : ℕ) (ss : List (ℕ × Seen)) → AreShards (length ss) ss → list_any (λ (s : ℕ × Seen). holds_back C n s.1.holdings) ss ≡ holds_back C n (held_by ss)
+some_shard C n ss h =
+    any_part C n ss ∙ ap (list_any (holds_back C n)) (sym (whole_has_its_parts (parts_of ss) (length ss) h.own (sym (count_of ss)))) ∙ held_back_by_some_part C n (held_by ss) (length ss) h.some
+
+-- The lists of the shards, gathered and then sorted.
+
+module _ (ss : List (ℕ × Seen)) (are : AreShards (length ss) ss) where
+  pub sorted_replicas : (p : Marks → Bool) (ys : List Replica) → IsPermutation (flat_map (λ (s : ℕ × Seen). passing p s.1.holdings) ss) ys → IsSortedByKey replica_key replica_cmp ys → ys ≡ passing p (held_by ss)
+  sorted_replicas p ys moved sorted = sorted_lists by_replica replica_key (λ (q : ReplicaId). q.block) (passing p) (passing_join p) (own_passing p) ss ys are moved sorted
+
+  pub sorted_missing : (C : Cluster) (ys : List ℕ) → IsPermutation (flat_map (λ (s : ℕ × Seen). missing_blocks C s.1.holdings) ss) ys → IsSortedByKey (λ (b : ℕ). b) nat_cmp ys → ys ≡ missing_blocks C (held_by ss)
+  sorted_missing C ys moved sorted = sorted_lists by_number (λ (b : ℕ). b) (λ b. b) (missing_blocks C) (missing_join C) (own_missing C) ss ys are moved sorted
+
+  pub sorted_blocks_on : (storage : ℕ) (ys : List ℕ) → IsPermutation (flat_map (λ (s : ℕ × Seen). blocks_on s.1.holdings storage) ss) ys → IsSortedByKey (λ (b : ℕ). b) nat_cmp ys → ys ≡ blocks_on (held_by ss) storage
+  sorted_blocks_on storage ys moved sorted = sorted_lists by_number (λ (b : ℕ). b) (λ b. b) (λ H. blocks_on H storage) (blocks_on_join storage) (own_blocks_on storage) ss ys are moved sorted
+
+  pub sorted_rows : (ts : List (List Row)) (ys : List Row) → ts ≡ map (λ (s : ℕ × Seen). rows_of s.1) ss → IsPermutation (flat_map (λ t. t) ts) ys → IsSortedByKey (λ (r : Row). r.0) nat_cmp ys → ys ≡ table (held_by ss)
+  sorted_rows ts ys is moved sorted =
+      sorted_lists by_number (λ (r : Row). r.0) (λ b. b) table tables_join own_rows ss ys are (subst (λ xs. IsPermutation xs ys) (ap (flat_map (λ t. t)) is ∙ flat_map-map (λ (t : List Row). t) (λ (s : ℕ × Seen). rows_of s.1) ss) moved) sorted

@@ -1,0 +1,23 @@
+use Rattle.std.specs.Prelude.{ℕ}
+use Rattle.std.specs.Result.{result_and, result_ok}
+use Rattle.std.specs.List.{cons_option}
+use Rattle.std.proofs.Common.{arith, ◌∙◌, ◌∷◌, [], ◌++◌, ap, sym, length-append}
+use Rattle.bm_shards.specs.Answers.{Asked, shard_answered}
+use Rattle.bm_crew.proofs.Zips.{take_one}
+use Rattle.bm_shards.proofs.Gathered.{map_push, fault_push, answers_push}
+use Rattle.bm_shards.proofs.answers.split_answers.Goals as goal
+
+pub loop-index-preserved : goal.loop-index-preserved
+loop-index-preserved g c =
+    let inv = c.loop-index.invariant in
+    let one : ℕ × Asked _ = (c.in-Some.index, c.in-Some.one) in
+    record {
+      rest = take_one _ _ _ _ _ inv.rest c.in-Some.ensures.steps.0;
+      shards = c.push_reserved.ensures.items ∙ rw inv.shards (sym (map_push shard_answered c.loop-index.yielded one));
+      answers = c.put_answer.ensures.answers ∙ ap (λ xs. xs ++ cons_option (result_ok one.1.answer) []) inv.answers ∙ sym (answers_push c.loop-index.yielded one);
+      outcome = c.first_refusal-outcome.ensures ∙ (λ j. result_and (inv.outcome j) (c.put_answer.ensures.outcome j)) ∙ sym (fault_push c.loop-index.yielded one);
+      count = omega (arith, inv.count, length-append c.loop-index.yielded (one ∷ []), c.push_reserved.ensures.len);
+      few = omega (arith, inv.few, length-append c.loop-index.yielded (one ∷ []), c.put_answer.ensures.len);
+      room = omega (arith, inv.room, c.push_reserved.ensures.capacity);
+      room_of_answers = omega (arith, inv.room_of_answers, c.put_answer.ensures.capacity);
+    }

@@ -1,0 +1,35 @@
+use Rattle.std.proofs.Common.{arith, ◌∙◌, ap}
+use Rattle.bm_base.specs.Shards.{shard_of}
+use Rattle.bm_shards.proofs.OneOf.{at_end, stands_at}
+use Rattle.bm_shards.proofs.event_on_one.change_own.Goals as goal
+
+pub change_at-requires-clause-standing : goal.change_at-requires-clause-standing
+change_at-requires-clause-standing c = λ s there. stands_at _ _ _ s c.requires.standing there
+
+pub returns-clause-done : goal.returns-clause-done
+returns-clause-done c =
+    (at_end c.args.topology.now.cluster c.args.event.now c.args.id _ _ _ c.change_at.result c.requires.shards c.requires.one (c.index_of_shard-place.ensures ∙ ap (shard_of c.args.id) (omega (arith, c.len.ensures, c.args.shards.now.ok.0))) c.change_at.ensures.changed c.change_at.ensures.same).0
+
+pub returns-clause-changed : goal.returns-clause-changed
+returns-clause-changed c =
+    (at_end c.args.topology.now.cluster c.args.event.now c.args.id _ _ _ c.change_at.result c.requires.shards c.requires.one (c.index_of_shard-place.ensures ∙ ap (shard_of c.args.id) (omega (arith, c.len.ensures, c.args.shards.now.ok.0))) c.change_at.ensures.changed c.change_at.ensures.same).1
+
+pub returns-clause-standing : goal.returns-clause-standing
+returns-clause-standing c =
+    (at_end c.args.topology.now.cluster c.args.event.now c.args.id _ _ _ c.change_at.result c.requires.shards c.requires.one (c.index_of_shard-place.ensures ∙ ap (shard_of c.args.id) (omega (arith, c.len.ensures, c.args.shards.now.ok.0))) c.change_at.ensures.changed c.change_at.ensures.same).2 c.requires.standing
+
+pub returns-clause-shards : goal.returns-clause-shards
+returns-clause-shards c =
+    (at_end c.args.topology.now.cluster c.args.event.now c.args.id _ _ _ c.change_at.result c.requires.shards c.requires.one (c.index_of_shard-place.ensures ∙ ap (shard_of c.args.id) (omega (arith, c.len.ensures, c.args.shards.now.ok.0))) c.change_at.ensures.changed c.change_at.ensures.same).3
+
+pub returns-clause-rounds : goal.returns-clause-rounds
+returns-clause-rounds c =
+    (at_end c.args.topology.now.cluster c.args.event.now c.args.id _ _ _ c.change_at.result c.requires.shards c.requires.one (c.index_of_shard-place.ensures ∙ ap (shard_of c.args.id) (omega (arith, c.len.ensures, c.args.shards.now.ok.0))) c.change_at.ensures.changed c.change_at.ensures.same).4
+
+pub returns-clause-unchanged : goal.returns-clause-unchanged
+returns-clause-unchanged c =
+    (at_end c.args.topology.now.cluster c.args.event.now c.args.id _ _ _ c.change_at.result c.requires.shards c.requires.one (c.index_of_shard-place.ensures ∙ ap (shard_of c.args.id) (omega (arith, c.len.ensures, c.args.shards.now.ok.0))) c.change_at.ensures.changed c.change_at.ensures.same).5
+
+pub returns-clause-still : goal.returns-clause-still
+returns-clause-still c =
+    (at_end c.args.topology.now.cluster c.args.event.now c.args.id _ _ _ c.change_at.result c.requires.shards c.requires.one (c.index_of_shard-place.ensures ∙ ap (shard_of c.args.id) (omega (arith, c.len.ensures, c.args.shards.now.ok.0))) c.change_at.ensures.changed c.change_at.ensures.same).6 c.requires.standing

@@ -1,0 +1,36 @@
+use Rattle.std.proofs.Common.{◌∙◌, ap, subst, sym}
+use Rattle.std.specs.List.{All, AllZip}
+use Rattle.bm_shard.specs.Seen.{IsReadyForRound}
+use Rattle.bm_shards.specs.Worked.{IsSame, IsPrepared}
+use Rattle.bm_shards.specs.RoundWorked.{CanCommitRound}
+use Rattle.bm_shards.proofs.Gathered.{on_ok, prepared_same, prepared_refused}
+use Rattle.bm_shards.proofs.RoundsTaken.{all_ready_for_round}
+use Rattle.bm_shards.proofs.SameShards.{all_same, still_taken}
+use Rattle.bm_shards.proofs.round.prepare_for_round.Goals as goal
+
+pub returns-in_err-preparing-clause-same : goal.returns-in_err-preparing-clause-same
+returns-in_err-preparing-clause-same g c = all_same _
+
+pub returns-in-Ok-clause-same : goal.returns-in-Ok-clause-same
+returns-in-Ok-clause-same g c =
+    let P = IsPrepared (IsReadyForRound c.args.chosen.now) in
+    let each = still_taken P _ _ _ (ap (λ v. v.items) c.replace-items.ensures.value) c.prepare_round_all-made.ensures.each in
+    subst (AllZip IsSame c.args.shards.now.items) (sym c.gather_prepared.ensures.shards) (prepared_same (IsReadyForRound c.args.chosen.now) _ _ each)
+
+pub returns-in-Ok-clause-ready : goal.returns-in-Ok-clause-ready
+returns-in-Ok-clause-ready g c =
+    let P = IsPrepared (IsReadyForRound c.args.chosen.now) in
+    let each = still_taken P _ _ _ (ap (λ v. v.items) c.replace-items.ensures.value) c.prepare_round_all-made.ensures.each in
+    on_ok _ _
+    (subst (All (CanCommitRound c.args.topology.now.cluster c.args.parts.now c.args.chosen.now)) (sym c.gather_prepared.ensures.shards)
+    (all_ready_for_round c.args.topology.now.cluster c.args.chosen.now c.args.parts.now _ _ each c.requires.parts c.requires.standing c.requires.counted (sym c.gather_prepared.ensures.outcome ∙ c.in-Ok.is)))
+
+pub returns-in-Err-clause-same : goal.returns-in-Err-clause-same
+returns-in-Err-clause-same g c =
+    let P = IsPrepared (IsReadyForRound c.args.chosen.now) in
+    let each = still_taken P _ _ _ (ap (λ v. v.items) c.replace-items.ensures.value) c.prepare_round_all-made.ensures.each in
+    subst (AllZip IsSame c.args.shards.now.items) (sym c.gather_prepared.ensures.shards) (prepared_same (IsReadyForRound c.args.chosen.now) _ _ each)
+
+pub returns-in-Err-clause-refused : goal.returns-in-Err-clause-refused
+returns-in-Err-clause-refused g c =
+    prepared_refused (IsReadyForRound c.args.chosen.now) _ _ _ c.prepare_round_all-made.ensures.each (sym c.gather_prepared.ensures.outcome ∙ c.in-Err.is)

@@ -1,0 +1,31 @@
+-- An event on one block, made on the block's shard alone.
+use Rattle.std.specs.Prelude.{◌≡◌, ℕ, List, Some, slice_get, slice_set}
+use Rattle.bm_base.specs.declared.event.Event.{Event}
+use Rattle.bm_base.specs.declared.event.Done.{Done}
+use Rattle.bm_base.specs.Machine.State.{Cluster}
+use Rattle.bm_base.specs.Machine.Events.{change_cluster}
+use Rattle.bm_base.specs.Machine.Calls.{done}
+use Rattle.bm_parts.specs.Parts.{change_part}
+use Rattle.bm_shard.specs.Seen.{Seen}
+use Rattle.bm_shard.specs.UpToDate.{IsUpToDate}
+
+-- a shard changed as the event changes it, and this was answered
+pub record IsChanged (C : Cluster) (e : Event) (S T : Seen) (d : Done) : Type 0 where
+  pub holdings : T.holdings ≡ change_part C S.holdings S.part.index S.part.shards e
+  pub done : d ≡ done S.holdings T.holdings
+  pub stands : IsUpToDate (change_cluster C e) T
+  pub part : T.part ≡ S.part
+  pub round : T.round ≡ S.round
+  pub pend : T.pend ≡ S.pend
+
+-- the shard at this index became another one, in this relation to it; all others stay
+pub record IsMadeAt (R : Seen → Seen → Type 0) (place : ℕ) (old new : List (ℕ × Seen)) : Type 0 where
+  pub shard : ℕ × Seen
+  pub made : Seen
+  pub there : slice_get old place ≡ Some shard
+  pub now : new ≡ slice_set old place (shard.0, made)
+  pub holds : R shard.1 made
+
+-- the shard at this index changed as the event changes it, with this answer
+abbrev pub IsChangedAt : Cluster → Event → ℕ → List (ℕ × Seen) → List (ℕ × Seen) → Done → Type 0
+IsChangedAt C e place old new d = IsMadeAt (λ S T. IsChanged C e S T d) place old new

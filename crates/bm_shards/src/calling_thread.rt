@@ -1,0 +1,123 @@
+// The calling thread alone.
+ghost use Rattle.std.specs.Prelude.{◌≡◌, None};
+ghost use Rattle.bm_base.specs.Machine.Replicas.{is_multi_rack};
+ghost use Rattle.bm_base.specs.Machine.Events.{change_cluster};
+ghost use Rattle.bm_base.specs.Machine.Refusals.{first_of, cluster_checks};
+ghost use Rattle.bm_parts.specs.Before.{part_before};
+ghost use Rattle.bm_parts.specs.Parts.{block_of};
+ghost use Rattle.bm_shard.specs.Seen.{IsReadyFor, IsReadyForRound};
+ghost use Rattle.bm_shard.specs.UpToDate.{next_part};
+ghost use Rattle.bm_shards.specs.Answers.{HasAnswered};
+ghost use Rattle.bm_shards.specs.Rows.{rows_of};
+ghost use Rattle.bm_shards.specs.Worked.{IsPrepared, CanCommit, IsCommitted};
+ghost use Rattle.bm_shards.specs.RoundWorked.{CanFind, HasPart, CanCommitRound, HasTakenRound};
+
+use crate::answers::{Answered, Asked};
+use crate::shard_work::{
+    commit_one, commit_round_one, find_one, prepare_one, prepare_round_one, rows_of_one,
+};
+use crate::table::Rows;
+use crate::workers::Workers;
+use bm_base::{Chosen, Done, Event, RoundPart};
+use bm_crew::Ready;
+use bm_parts::merge::Key;
+use bm_shard::Shard;
+use bm_topo::Topology;
+
+/// The calling thread alone. It needs no runtime, and its work returns.
+#[derive(Clone, Copy, Debug)]
+pub struct CallingThread;
+
+impl Workers for CallingThread {
+    fn count(&self) -> usize {
+        1
+    }
+
+    fn prepare_all(
+        &self,
+        ready: Ready<Shard, Asked<()>>,
+        shards: Vec<(u32, Shard)>,
+        event: &Event,
+        topology: &Topology,
+    ) -> Vec<(u32, Asked<()>)> {
+        let work = |_: u32, shard: Shard| -> Asked<()>
+            ensures { IsPrepared (IsReadyFor event.entry.now) shard result }
+        { prepare_one(shard, event, topology) };
+        ready.run_alone(shards, &work)
+    }
+
+    fn commit_all(
+        &self,
+        ready: Ready<Shard, Answered<Done>>,
+        shards: Vec<(u32, Shard)>,
+        event: &Event,
+        topology: &Topology,
+        multi: bool,
+    ) -> Vec<(u32, Answered<Done>)> {
+        let work = |_: u32, shard: Shard| -> Answered<Done>
+            requires cluster { first_of (cluster_checks topology.now.cluster event.now) ≡ None }
+            requires every { block_of event.now ≡ None }
+            requires multi { multi ≡ is_multi_rack (change_cluster topology.now.cluster event.now) }
+            requires shard { CanCommit topology.now.cluster event.now shard }
+            ensures { IsCommitted topology.entry.now.cluster event.entry.now shard result }
+        { commit_one(shard, event, topology, multi) };
+        ready.run_alone(shards, &work)
+    }
+
+    fn find_all(
+        &self,
+        ready: Ready<Shard, Asked<RoundPart>>,
+        shards: Vec<(u32, Shard)>,
+        round: u64,
+        topology: &Topology,
+        bound: Option<Key>,
+    ) -> Vec<(u32, Asked<RoundPart>)> {
+        let work = |_: u32, shard: Shard| -> Asked<RoundPart>
+            requires { CanFind topology.now.cluster round shard }
+            ensures { HasAnswered
+                (λ S. part_before bound (next_part topology.entry.now.cluster S)) shard result }
+        { find_one(shard, round, topology, bound) };
+        ready.run_alone(shards, &work)
+    }
+
+    fn prepare_round_all(
+        &self,
+        ready: Ready<Shard, Asked<()>>,
+        shards: Vec<(u32, Shard)>,
+        parts: &[RoundPart],
+        chosen: &Chosen,
+        topology: &Topology,
+    ) -> Vec<(u32, Asked<()>)> {
+        let work = |index: u32, shard: Shard| -> Asked<()>
+            requires { HasPart topology.now.cluster parts.now (index, shard) }
+            ensures { IsPrepared (IsReadyForRound chosen.entry.now) shard result }
+        { prepare_round_one(index, shard, parts, chosen, topology) };
+        ready.run_alone(shards, &work)
+    }
+
+    fn commit_round_all(
+        &self,
+        ready: Ready<Shard, Shard>,
+        shards: Vec<(u32, Shard)>,
+        parts: &[RoundPart],
+        chosen: &Chosen,
+        topology: &Topology,
+    ) -> Vec<(u32, Shard)> {
+        let work = |index: u32, shard: Shard| -> Shard
+            requires { CanCommitRound topology.now.cluster parts.now chosen.now (index, shard) }
+            ensures { HasTakenRound topology.entry.now.cluster chosen.entry.now shard result }
+        { commit_round_one(index, shard, parts, chosen, topology) };
+        ready.run_alone(shards, &work)
+    }
+
+    fn rows_of_all(
+        &self,
+        ready: Ready<Shard, Asked<Rows>>,
+        shards: Vec<(u32, Shard)>,
+    ) -> Vec<(u32, Asked<Rows>)> {
+        let work = |_: u32, shard: Shard| -> Asked<Rows>
+            ensures { HasAnswered rows_of shard result }
+        { rows_of_one(shard) };
+        ready.run_alone(shards, &work)
+    }
+}

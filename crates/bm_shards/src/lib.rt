@@ -1,0 +1,30 @@
+//! All shards of a block manager, worked by a crew of threads or by the calling thread alone
+//! ([`Workers`]). What they hold together changes as the definitions change the whole.
+//!
+//! An event on a block is made on the block's shard alone, any other on every shard or on none
+//! ([`AllShards::change`]); so is a round ([`AllShards::round`]). The lists of all shards are gathered and
+//! sorted once.
+#![tactic(auto)]
+
+mod abort;
+mod answers;
+mod calling_thread;
+mod event_on_all;
+mod event_on_one;
+mod events;
+mod all_shards;
+mod lists;
+mod pass_buffers;
+mod queries;
+mod round;
+mod round_choice;
+mod round_parts;
+mod shard_work;
+mod table;
+mod threaded;
+mod workers;
+
+pub use calling_thread::CallingThread;
+pub use all_shards::AllShards;
+pub use threaded::Threaded;
+pub use workers::Workers;

@@ -1,0 +1,45 @@
+-- The event at which changes stop.
+use Rattle.std.proofs.Common.{◌≡◌, ◌⊎◌, ◌<◌, ◌+◌, ◌∙◌, ℕ, Bool, true, false, List, Option, Some, None, fold, take, get_or, length, sym, ap, subst, refl, inl, inr}
+use Rattle.std.proofs.lemmas.List.{drop_more}
+use Rattle.std.proofs.lemmas.List.Sums.{fold_more}
+use Rattle.bm_base.specs.declared.event.Event.{Event}
+use Rattle.bm_base.specs.declared.refusal.Refusal.{Refusal}
+use Rattle.bm_base.specs.declared.refusal.Refusal.TheVariants.{Memory}
+use Rattle.bm_base.specs.Machine.State.{State}
+use Rattle.bm_base.specs.Machine.Calls.{after_event}
+use Rattle.bm_base.specs.Machine.Refusals.{refusal_of}
+use Rattle.bm_base.specs.Machine.Answering.{Refuses}
+use Rattle.callers.specs.Turns.{StopsAmong, event_refusal}
+
+-- a refusal is `Memory`, or the one that the definition gives
+refused_so : (o : Option Refusal) (takes : Bool) (e : Refusal) → Refuses o takes e → (e ≡ Memory) ⊎ (o ≡ Some e)
+refused_so None true e h = inl h
+refused_so None false e h = absurd h
+refused_so (Some r) takes e h = inr (ap Some (sym h))
+
+-- one more event is accepted
+pub one_more : (M L N : State) (told : List Event) (i : ℕ) (x d : Event) → i < length told → x ≡ get_or told i d → L ≡ fold after_event M (take i told) → N ≡ after_event L x → N ≡ fold after_event M (take (i + 1) told)
+one_more M L N told i x d inside is before now =
+    now ∙ ap (λ P. after_event P x) before ∙ ap (after_event (fold after_event M (take i told))) is ∙ sym (fold_more after_event M told i d inside)
+
+-- changes stop at an event that is refused
+pub stops_at : (M N : State) (told : List Event) (i : ℕ) (x d : Event) (e : Refusal) (takes : Bool) → i < length told → x ≡ get_or told i d → N ≡ fold after_event M (take i told) → Refuses (refusal_of N x) takes e → StopsAmong M told e N
+stops_at M N told i x d e takes inside is state cause = record {
+  taken = i;
+  state = state;
+  cause = subst (λ es. (e ≡ Memory) ⊎ (event_refusal N es ≡ Some e)) (sym (drop_more told i d inside))
+      (subst (λ y. (e ≡ Memory) ⊎ (refusal_of N y ≡ Some e)) is (refused_so (refusal_of N x) takes e cause));
+}
+
+-- changes stop after an event that is accepted
+pub stops_behind : (M N : State) (told : List Event) (i : ℕ) (e : Refusal) → N ≡ fold after_event M (take (i + 1) told) → e ≡ Memory → StopsAmong M told e N
+stops_behind M N told i e state cause = record {
+  taken = i + 1;
+  state = state;
+  cause = inl cause;
+}
+
+-- an accepted event is counted
+pub calls_of-after_event : (M : State) (e : Event) → (after_event M e).calls ≡ M.calls + 1
+unfolding after_event
+calls_of-after_event M e = refl

@@ -1,0 +1,18 @@
+use Rattle.std.proofs.Common.{◌≤◌, ◌∙◌, All, ap, subst}
+use Rattle.bm_base.specs.Promises.Versions.{Version}
+use Rattle.bm_view.specs.History.{last_of}
+use Rattle.bm_view.specs.Holders.{Listed}
+use Rattle.bm_view.specs.declared.locator.Located.{Located}
+use Rattle.callers.proofs.Told.{last_told, if_some, calls_of-version}
+use Rattle.callers.proofs.informed_reader.publish_and_look.Goals as goal
+
+pub returns-clause-no_older : goal.returns-clause-no_older
+returns-clause-no_older g c =
+    let is = ap (λ (l : Listed). (last_of l.list).calls) c.in_ok-receipt.ensures.receipt
+    ∙ ap (λ (v : Version). v.calls) c.in_ok-receipt.ensures.last
+    ∙ calls_of-version c.args.manager.now in
+    if_some c.locate.result _ _ c.locate.ensures.no_older
+    (λ (seen : Located) h.
+    subst (λ n. n ≤ seen.calls) is
+    (last_told c.args.locator.now.told c.in_ok-receipt.receipt.list seen.calls
+    (subst (λ told. All (λ known. (last_of known).calls ≤ seen.calls) told) c.learn.ensures.told h)))

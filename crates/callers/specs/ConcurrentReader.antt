@@ -1,0 +1,11 @@
+-- What a reader that learns of versions may see.
+use Rattle.std.specs.Prelude.{ℕ, ◌<◌, ◌≤◌, IfSome}
+use Rattle.callers.specs.declared.concurrent_reader.Seen.{Seen}
+
+-- it sees no version older than the one that it learned of
+abbrev pub IsNoOlder : Seen → Type 0
+IsNoOlder s = IfSome s.found (λ found. s.told ≤ found.calls)
+
+-- it learned of a version after more than this number of calls
+abbrev pub IsToldAfter : ℕ → Seen → Type 0
+IsToldAfter calls s = calls < s.told

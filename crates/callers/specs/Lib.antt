@@ -1,0 +1,4 @@
+pub mod ConcurrentReader
+pub mod FirstCopy
+pub mod PrintedAnswers
+pub mod Turns

@@ -1,0 +1,295 @@
+// Lists of calls, many times: four threads work each in five shards, after each call the state is published, and two threads read in
+// parallel. Each answer is that of a manager of one shard and one thread, and so is each read; and no reader goes back. That the
+// reads come between the calls, and not all after them, is counted over all lists: a reader finds a later version than at its read
+// before.
+ghost use Rattle.std.specs.Prelude.{◌≡◌, All};
+ghost use Rattle.bm_view.specs.Holders.{IsNewAt};
+
+use crate::draws;
+use crate::pair::{Pair, Run};
+use crate::readers::{Home, List, Notice, Reads, make_notice, read_both};
+use bm_base::{BlockId, Config, Places, Refusal};
+use bm_crew::NoGate;
+use bm_manager::Manager;
+use bm_view::{Located, Locator, Publisher, open_view};
+use crossbeam_channel::{Receiver, Sender, unbounded};
+use rand_pcg::Pcg32;
+use std::alloc::{AllocError, Global};
+use std::marker::Brand;
+use std::sync::Wait;
+use std::thread::{Threads, join};
+
+/// How many calls are made on one manager.
+const LIST: u32 = 100;
+
+const SHARDS: u32 = 5;
+
+const WORKERS: u32 = 4;
+
+/// How often readers have to find a later version than at the read before, over all lists. Where all reads come after the last call,
+/// that is never.
+const LEAST_LATER: u32 = 1;
+
+/// Whether `times` lists are answered and read as they should be, and readers went from one version to a later one.
+pub fn are_all_alike<R: Threads + Wait + Sync>(
+    rt: &R,
+    host: &HostRuntime,
+    times: u32,
+    seed: u64,
+) -> Result<bool, Refusal> {
+    let mut run = Run::new(host, seed);
+    let mut later = 0u32;
+    for time in 0..times {
+        let reads = read_list(rt, host.alloc(), &mut run)?;
+        let wrong = reads.wrong;
+        if wrong > 0 {
+            tell_wrong(host, time, wrong);
+            return Ok(false);
+        }
+        later = later.saturating_add(reads.later);
+    }
+    run.counts.tell(host);
+    tell_later(host, later);
+    Ok(run.counts.are_enough() && later >= LEAST_LATER)
+}
+
+fn tell_wrong(rt: &HostRuntime, time: u32, wrong: u32) {
+    let _ = eprintln!(rt; "list {time}: {wrong} answers or reads are wrong");
+}
+
+fn tell_later(rt: &HostRuntime, later: u32) {
+    let _ = eprintln!(rt; "{later} times a reader found a later version than at its read before");
+}
+
+/// A list that is drawn, with two readers. An answer that is wrong counts as a read that is.
+fn read_list<R: Threads + Wait + Sync>(
+    rt: &R,
+    alloc: Global,
+    run: &mut Run<'_>,
+) -> Result<Reads, Refusal> {
+    let block = draws::block(&mut run.rng);
+    let located = locate_after_each(rt, alloc, run.rng.clone()?, block)?;
+    let list = List { block, located };
+    let mut pair = Pair::new(alloc, config(SHARDS, WORKERS))?;
+    let reads = read_pair(rt, alloc, &mut pair, run, &list);
+    drop(pair);
+    reads
+}
+
+/// Rounds with few commands, and copies that are soon given up.
+fn config(shards: u32, workers: u32) -> Config {
+    Config {
+        shards,
+        workers,
+        work: 2,
+        invalidate: 3,
+        pend: 3,
+        ..Config::standard()
+    }
+}
+
+/// Where the block is at first, and after each of the calls that are drawn next, in a manager of one shard and one worker.
+fn locate_after_each<R: Threads + Wait + Sync>(
+    rt: &R,
+    alloc: Global,
+    rng: Pcg32,
+    block: BlockId,
+) -> Result<Vec<Located>, Refusal> {
+    let mut manager = Manager::new(alloc, config(1, 1))?;
+    let mut located = Vec::new(alloc);
+    let kept = locate_each(rt, alloc, &mut manager, rng, block, &mut located);
+    drop(manager);
+    kept?;
+    Ok(located)
+}
+
+fn locate_each<R: Threads + Wait + Sync>(
+    rt: &R,
+    alloc: Global,
+    manager: &mut Manager,
+    rng: Pcg32,
+    block: BlockId,
+    located: &mut Vec<Located>,
+) -> Result<(), AllocError> {
+    let mut rng = rng;
+    located.push(locate_in(manager, block))?;
+    for _ in 0..LIST {
+        make_next(rt, alloc, manager, &mut rng)?;
+        located.push(locate_in(manager, block))?;
+    }
+    Ok(())
+}
+
+/// Makes a call that is drawn. Its answer is looked at when the two managers make it.
+fn make_next<R: Threads + Wait + Sync>(
+    rt: &R,
+    alloc: Global,
+    manager: &mut Manager,
+    rng: &mut Pcg32,
+) -> Result<(), AllocError> {
+    let call = draws::call(rng, alloc)?;
+    drop(manager.answer(rt, &NoGate, &call));
+    drop(call);
+    Ok(())
+}
+
+/// Where a manager has a block, as a locator is to answer it: a block that was not added is nowhere.
+fn locate_in(manager: &Manager, block: BlockId) -> Located {
+    let calls = manager.calls();
+    let places = match manager.places(block) {
+        Ok(storages) => Places::first_of(storages.as_slice()),
+        Err(_) => Places::first_of(&[]),
+    };
+    Located { calls, places }
+}
+
+/// The list on two new managers, with two readers.
+fn read_pair<R: Threads + Wait + Sync>(
+    rt: &R,
+    alloc: Global,
+    pair: &mut Pair,
+    run: &mut Run<'_>,
+    list: &List,
+) -> Result<Reads, Refusal> {
+    let (mut publisher, mut locators) = open_view(rt, alloc, 2)?;
+    let reads = read_with(rt, alloc, pair, run, list, &mut publisher, &mut locators);
+    drop(locators);
+    publisher.end(rt);
+    reads
+}
+
+/// With locators of the publisher, which the brand names from here on.
+fn read_with<R: Threads + Wait + Sync>(
+    rt: &R,
+    alloc: Global,
+    pair: &mut Pair,
+    run: &mut Run<'_>,
+    list: &List,
+    publisher: &mut Publisher,
+    locators: &mut Vec<Locator>,
+) -> Result<Reads, Refusal>
+    requires { All (IsNewAt publisher.old.home) locators.old.items }
+{
+    let Some(one) = locators.pop() else {
+        return Err(Refusal::BadConfig);
+    };
+    match locators.pop() {
+        Some(other) => open_channels::<Brand, R>(rt, alloc, pair, run, list, publisher, one, other),
+        None => {
+            drop(one);
+            Err(Refusal::BadConfig)
+        }
+    }
+}
+
+fn open_channels<J: Home + Send + Sync, R: Threads + Wait + Sync>(
+    rt: &R,
+    alloc: Global,
+    pair: &mut Pair,
+    run: &mut Run<'_>,
+    list: &List,
+    publisher: &mut Publisher,
+    one: Locator,
+    other: Locator,
+) -> Result<Reads, Refusal>
+    requires { (publisher.old.home ≡ J.home) × ((one.home ≡ J.home) × (other.home ≡ J.home)) }
+{
+    match new_channels::<J>(alloc) {
+        Ok((to, from)) => {
+            Ok(join_all::<J, R>(rt, alloc, pair, run, list, publisher, to, from, one, other))
+        }
+        Err(error) => {
+            drop(one);
+            drop(other);
+            Err(Refusal::from(error))
+        }
+    }
+}
+
+/// The senders and the receivers of both readers.
+fn new_channels<J: Home>(
+    alloc: Global,
+) -> Result<
+    (
+        (Sender<Notice<J>>, Sender<Notice<J>>),
+        (Receiver<Notice<J>>, Receiver<Notice<J>>),
+    ),
+    AllocError,
+> {
+    let (to_one, from_one) = unbounded(alloc)?;
+    let (to_other, from_other) = unbounded(alloc)?;
+    Ok(((to_one, to_other), (from_one, from_other)))
+}
+
+/// Makes the calls, and two threads read in parallel. The readers come first: where no thread can be started, the first closure
+/// is called last, and so finds all receipts.
+fn join_all<J: Home + Send + Sync, R: Threads + Wait + Sync>(
+    rt: &R,
+    alloc: Global,
+    pair: &mut Pair,
+    run: &mut Run<'_>,
+    list: &List,
+    publisher: &mut Publisher,
+    to: (Sender<Notice<J>>, Sender<Notice<J>>),
+    from: (Receiver<Notice<J>>, Receiver<Notice<J>>),
+    one: Locator,
+    other: Locator,
+) -> Reads
+    requires { (publisher.old.home ≡ J.home) × ((one.home ≡ J.home) × (other.home ≡ J.home)) }
+{
+    let (to_one, to_other) = to;
+    let (from_one, from_other) = from;
+    let (mut reads, wrong) = join(
+        rt,
+        move || -> Reads
+            requires { (one.home ≡ J.home) × (other.home ≡ J.home) }
+        { read_both::<J, R>(rt, list, one, from_one, other, from_other) },
+        || -> u32
+            requires { publisher.now.home ≡ J.home }
+        { make_all::<J, R>(rt, alloc, pair, run, publisher, to_one, to_other) },
+    );
+    reads.add_wrong(wrong);
+    reads
+}
+
+/// Makes the calls, publishes after each, and sends each reader the receipt. How many answers differ, or can't be sent.
+fn make_all<J: Home, R: Threads + Wait + Sync>(
+    rt: &R,
+    alloc: Global,
+    pair: &mut Pair,
+    run: &mut Run<'_>,
+    publisher: &mut Publisher,
+    to_one: Sender<Notice<J>>,
+    to_other: Sender<Notice<J>>,
+) -> u32
+    requires { publisher.old.home ≡ J.home }
+{
+    let mut wrong = 0u32;
+    for number in 0..LIST {
+        let is_alike = matches!(pair.is_next_alike(rt, alloc, run, number), Ok(true));
+        let is_settled_to_scan = is_alike
+            && publish_to::<J, R>(rt, &mut pair.other, publisher, &to_one)
+            && publish_to::<J, R>(rt, &mut pair.other, publisher, &to_other);
+        wrong = wrong.saturating_add(u32::from(!is_settled_to_scan));
+    }
+    wrong
+}
+
+/// Publishes the state, and sends a reader the receipt. Whether that could be done.
+fn publish_to<J: Home, R: Threads + Wait + Sync>(
+    rt: &R,
+    manager: &mut Manager,
+    publisher: &mut Publisher,
+    to: &Sender<Notice<J>>,
+) -> bool
+    requires { publisher.old.home ≡ J.home }
+    ensures { publisher.new.home ≡ publisher.old.home }
+{
+    if publisher.calls() > manager.calls() {
+        return false;
+    }
+    match manager.publish(rt, publisher) {
+        Ok(receipt) => to.send(rt, make_notice::<J>(receipt)).is_ok(),
+        Err(_) => false,
+    }
+}

@@ -1,4 +1,0 @@
-use Rattle.manager_tests.proofs.manager.readers.told_beside.Given as goal
-
-abbrev pub ghosts-beside : goal.ghosts-beside
-ghosts-beside g a = record { home = a.publisher.now.home }

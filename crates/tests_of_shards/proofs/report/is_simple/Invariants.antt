@@ -1,0 +1,6 @@
+use Rattle.std.proofs.Common.{ℕ, ◌<◌}
+use Rattle.bm_report.specs.Tested.{IsSingle}
+use Rattle.tests_of_shards.proofs.report.is_simple.Given as goal
+
+abbrev pub invariant-loop-slot : goal.invariant-loop-slot
+invariant-loop-slot l = (x : ℕ) → x < l.slot → IsSingle l.arena x

@@ -1,8 +1,0 @@
-use Rattle.std.proofs.Common.{◌≡◌, ◌&&◌, not, filter, take}
-use Rattle.bm_base.specs.Machine.Refusals.{knows_storage}
-use Rattle.bm_base.specs.Machine.Replicas.{is_draining}
-use Rattle.uses.proofs.storages.find_serving.Given as goal
-
--- the list has those of the storages so far that serve
-abbrev pub invariant-loop-storage : goal.invariant-loop-storage
-invariant-loop-storage l = l.found.items ≡ filter (λ s. knows_storage l.topology.cluster s && not (is_draining l.topology.cluster s)) (take l.storage-index l.storages)

@@ -1,4 +1,0 @@
-pub mod Beside
-pub mod Copying
-pub mod Printing
-pub mod Turns
