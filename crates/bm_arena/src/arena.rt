@@ -5,9 +5,9 @@ ghost use Rattle.bm_base.specs.Maps.Map.{empty};
 ghost use Rattle.bm_arena.specs.Contents.{block_at, empty_block, saturating_next, IsLawful};
 ghost use Rattle.bm_arena.specs.Holding.{replicas_of, blocks_of};
 
+use crate::predicted_slots::PredictedSlots;
 use crate::slot_index::SlotIndex;
 use crate::types::BlockEntry;
-use crate::predicted_slots::PredictedSlots;
 use bm_base::{HashSecret, Refusal};
 use bm_maps::SlotLink;
 use indexmap::IndexMap;

@@ -12,10 +12,10 @@ mod block_entries;
 mod links;
 mod list_heads;
 mod lookups;
+mod predicted_slots;
 mod slot_index;
 mod storage_lists;
 mod types;
-mod predicted_slots;
 mod walk;
 
 pub use arena::{Arena, Slot};

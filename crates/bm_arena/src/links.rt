@@ -256,7 +256,12 @@ pub(crate) fn attach(slots: &mut Slab<BlockEntry>, first: &mut SlotLink, slot: u
 
 // Links the neighbours of a triplet to each other.
 #[inline(always)]
-pub(crate) fn detach(slots: &mut Slab<BlockEntry>, first: &mut SlotLink, triplet: Triplet, storage: u32)
+pub(crate) fn detach(
+    slots: &mut Slab<BlockEntry>,
+    first: &mut SlotLink,
+    triplet: Triplet,
+    storage: u32,
+)
     ensures slots { slots.new ≡ detached slots.old triplet storage }
     ensures first { first.new ≡ first_after first.old triplet }
 {
@@ -280,7 +285,10 @@ pub(crate) fn add_triplet(slots: &mut Slab<BlockEntry>, slot: usize, triplet: Tr
 }
 
 // Removes a storage's triplet from a block's: the last one takes its index.
-fn remove_and_fill(triplets: &mut SmallVec<Triplet, INLINE_TRIPLETS>, storage: u32) -> Option<Triplet>
+fn remove_and_fill(
+    triplets: &mut SmallVec<Triplet, INLINE_TRIPLETS>,
+    storage: u32,
+) -> Option<Triplet>
     ensures found { result ≡ find_triplet triplets.old.items storage }
     ensures items { triplets.new.items ≡ fill_first (is_of storage) triplets.old.items }
     ensures capacity { triplets.new.capacity ≡ triplets.old.capacity }
@@ -292,7 +300,11 @@ fn remove_and_fill(triplets: &mut SmallVec<Triplet, INLINE_TRIPLETS>, storage: u
 }
 
 // Removes a storage's triplet from the block at a slot: the block's last triplet takes its index.
-pub(crate) fn remove_triplet(slots: &mut Slab<BlockEntry>, slot: usize, storage: u32) -> Option<Triplet>
+pub(crate) fn remove_triplet(
+    slots: &mut Slab<BlockEntry>,
+    slot: usize,
+    storage: u32,
+) -> Option<Triplet>
     ensures found { result ≡ triplet_at slots.old slot storage }
     ensures slots { slots.new ≡ removed slots.old slot storage }
 {
@@ -325,7 +337,11 @@ pub(crate) fn reserve_triplets(
 }
 
 // The storage and the marks of the triplet at index `i` of the block at a slot.
-pub(crate) fn replica_at(slots: &Slab<BlockEntry>, slot: usize, i: usize) -> Option<(StorageId, Marks)>
+pub(crate) fn replica_at(
+    slots: &Slab<BlockEntry>,
+    slot: usize,
+    i: usize,
+) -> Option<(StorageId, Marks)>
     ensures { result ≡ option_and_then
         (λ e. option_map triplet_view (slice_get e.triplets.items i)) (get slots.now slot) }
 {

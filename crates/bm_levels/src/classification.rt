@@ -30,7 +30,12 @@ pub(crate) fn are_equal(a: BlockStatus, b: BlockStatus) -> bool
 
 /// Classifies the block at a slot, given the number of its replicas. Scans each replica once, or
 /// only the first ones if they decide.
-pub(crate) fn classify(arena: &Arena, slot: Slot, replicas: usize, cluster_after: &ClusterAfter<'_>) -> BlockStatus
+pub(crate) fn classify(
+    arena: &Arena,
+    slot: Slot,
+    replicas: usize,
+    cluster_after: &ClusterAfter<'_>,
+) -> BlockStatus
     requires { replicas ≡ option_map_or (λ b. length b.replicas) (block_at arena.now slot) 0 }
     ensures level { result.level ≡ level_after cluster_after.now (block_at arena.now slot) }
     ensures settled { result.is_settled ≡ status.is_settled_at (block_at arena.now slot) }

@@ -5,8 +5,8 @@ ghost use Rattle.bm_arena.specs.Contents.{block_at};
 ghost use Rattle.bm_levels.specs.IndexedLevels.{HasCapacityForEach, KeepsCapacity, HaveStatuses, IsSameOutside};
 ghost use Rattle.bm_levels.specs.ClusterAfter.{AreStatusesAfter, AreClassifiedAfter};
 
-use crate::cluster_after::ClusterAfter;
 use crate::classification::{BlockStatus, are_equal, classify};
+use crate::cluster_after::ClusterAfter;
 use crate::level_index::LevelIndex;
 use bm_arena::{Arena, Slot};
 
@@ -35,7 +35,11 @@ fn read_counts_ahead(arena: &Arena, chunk: &[Slot]) -> [usize; CHUNK]
 }
 
 /// Classifies the blocks at the slots of a chunk.
-fn classify_chunk(arena: &Arena, chunk: &[Slot], cluster_after: &ClusterAfter<'_>) -> [BlockStatus; CHUNK]
+fn classify_chunk(
+    arena: &Arena,
+    chunk: &[Slot],
+    cluster_after: &ClusterAfter<'_>,
+) -> [BlockStatus; CHUNK]
     requires { length chunk.now ≤ 64 }
     ensures { AreStatusesAfter cluster_after.now arena.now chunk.now result }
 {
@@ -49,7 +53,12 @@ fn classify_chunk(arena: &Arena, chunk: &[Slot], cluster_after: &ClusterAfter<'_
 
 impl LevelIndex {
     /// Reclassifies the blocks at these slots.
-    pub(crate) fn classify_all(&mut self, arena: &Arena, slots: &[Slot], cluster_after: &ClusterAfter<'_>)
+    pub(crate) fn classify_all(
+        &mut self,
+        arena: &Arena,
+        slots: &[Slot],
+        cluster_after: &ClusterAfter<'_>,
+    )
         requires room { HasCapacityForEach self.old slots.now }
         ensures status { AreClassifiedAfter cluster_after.now arena.now slots.now self.new }
         ensures others { IsSameOutside slots.now self.old self.new }

@@ -51,7 +51,12 @@ impl LevelIndex {
     }
 
     /// Reclassifies the blocks with a replica on a storage.
-    fn reclassify_list(&mut self, arena: &Arena, storage: StorageId, cluster_after: &ClusterAfter<'_>)
+    fn reclassify_list(
+        &mut self,
+        arena: &Arena,
+        storage: StorageId,
+        cluster_after: &ClusterAfter<'_>,
+    )
         requires { HasCapacityForEach self.old (list_of arena.now storage) }
         ensures each { AreClassifiedOnStorage cluster_after.now storage arena.now self.old self.new }
         ensures room { KeepsCapacity self.old self.new }

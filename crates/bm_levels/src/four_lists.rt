@@ -4,9 +4,9 @@ ghost use Rattle.bm_levels.specs.Unused.{MakesNoUnused};
 ghost use Rattle.bm_levels.specs.Leaving.{IsLeaving, IsLeavingStorage, HasFirstSlots, MakesNoHead};
 ghost use Rattle.bm_levels.specs.ClusterAfter.{is_on_node, KeepsLevelsAfter};
 
+use crate::classified_chunks::CHUNK;
 use crate::cluster_after::ClusterAfter;
 use crate::first_slots::FirstSlots;
-use crate::classified_chunks::CHUNK;
 use crate::leveled_blocks::LeveledBlocks;
 use bm_arena::Arena;
 use bm_base::{NodeId, StorageId};
@@ -92,7 +92,11 @@ fn is_one_of(storage: StorageId, a: StorageId, b: StorageId, c: StorageId) -> bo
 
 impl LeveledBlocks {
     /// Removes replicas on the storages of a node, four storages at a time. Returns how many left.
-    pub(crate) fn clear_four_at_a_time(&mut self, cluster_after: &ClusterAfter<'_>, node: NodeId) -> u128
+    pub(crate) fn clear_four_at_a_time(
+        &mut self,
+        cluster_after: &ClusterAfter<'_>,
+        node: NodeId,
+    ) -> u128
         ensures left { IsLeaving (is_on_node cluster_after.now node) self.old.arena self.new.arena result }
         ensures few { result ≤ 2 ^ 99 }
         ensures bare { MakesNoUnused self.old.arena self.new.arena }
@@ -121,7 +125,12 @@ impl LeveledBlocks {
 
     /// Removes replicas on those of four storages that are a node's, in turn some on each. Returns
     /// how many left.
-    fn clear_four(&mut self, cluster_after: &ClusterAfter<'_>, node: NodeId, four: &FourStorages) -> u128
+    fn clear_four(
+        &mut self,
+        cluster_after: &ClusterAfter<'_>,
+        node: NodeId,
+        four: &FourStorages,
+    ) -> u128
         ensures left { IsLeaving (is_on_node cluster_after.now node) self.old.arena self.new.arena result }
         ensures few { result ≤ 2 ^ 66 + 256 }
         ensures bare { MakesNoUnused self.old.arena self.new.arena }
@@ -171,7 +180,13 @@ impl LeveledBlocks {
             &lists.second,
             is_second_done,
         );
-        let third = self.remove_first_once(cluster_after, node, four.third, &lists.third, is_third_done);
+        let third = self.remove_first_once(
+            cluster_after,
+            node,
+            four.third,
+            &lists.third,
+            is_third_done,
+        );
         let fourth = self.remove_first_once(
             cluster_after,
             node,

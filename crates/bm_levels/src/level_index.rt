@@ -23,7 +23,11 @@ fn rounded_up(bound: usize) -> usize
     ensures enough { bound ≤ result }
     ensures few { result ≤ bound + 255 }
 {
-    if bound < EXACT_FROM { bound + EXTRA_SLOTS } else { bound }
+    if bound < EXACT_FROM {
+        bound + EXTRA_SLOTS
+    } else {
+        bound
+    }
 }
 
 /// The level of each block, the blocks of each level, and the set of unsettled blocks, all by slots

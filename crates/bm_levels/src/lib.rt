@@ -7,27 +7,27 @@
 //! `grow_to`, `ready_block` and `ready_report`.
 #![tactic(auto)]
 
-mod cluster_after;
-mod unused_entries;
 mod block_events;
-mod replica_count;
+mod classification;
+mod classified_chunks;
+mod cluster_after;
 mod draining_nodes;
 mod first_slots;
 mod four_lists;
-mod classification;
-mod classified_chunks;
-mod reclassification;
 mod level_index;
-mod lost_storages;
 mod leveled_blocks;
 mod listed_replicas;
+mod lost_storages;
 mod mark_changes;
-mod storage_list;
 mod rack_changes;
+mod reclassification;
+mod replica_count;
 mod reports;
-mod round_start;
 mod round_end;
+mod round_start;
+mod storage_list;
 mod unsettled_slots;
+mod unused_entries;
 
 pub use level_index::LevelIndex;
 pub use leveled_blocks::LeveledBlocks;

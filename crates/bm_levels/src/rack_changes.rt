@@ -38,6 +38,7 @@ impl LeveledBlocks {
             multi,
         };
         self.arena.show_invariant();
-        self.kept.reclassify_every_block(&self.arena, &cluster_after);
+        self.kept
+            .reclassify_every_block(&self.arena, &cluster_after);
     }
 }

@@ -4,8 +4,8 @@ ghost use Rattle.bm_arena.specs.Contents.{block_at};
 ghost use Rattle.bm_levels.specs.IndexedLevels.{HasCapacityAt, HasCapacityForEach, KeepsCapacity, IsClassifiedIn, AreClassifiedIn, HasStatus, IsSameAt, IsSameOutside, indexed_slots, KeepsAhead};
 ghost use Rattle.bm_levels.specs.ClusterAfter.{IsClassifiedAfter, AreClassifiedAfter};
 
-use crate::cluster_after::ClusterAfter;
 use crate::classification::{BlockStatus, are_equal, classify};
+use crate::cluster_after::ClusterAfter;
 use crate::level_index::LevelIndex;
 use bm_arena::{Arena, Slot};
 use bm_topo::Topology;
@@ -19,12 +19,21 @@ impl LevelIndex {
         ensures ahead { KeepsAhead slot self.old.unsettled.slots self.new.unsettled.slots }
         ensures room { KeepsCapacity self.old self.new }
     {
-        self.set_status(slot, classify(arena, slot, arena.triplet_count(slot), cluster_after));
+        self.set_status(
+            slot,
+            classify(arena, slot, arena.triplet_count(slot), cluster_after),
+        );
     }
 
     /// The same, with the old status read by the caller before the change, so that the two cache
     /// misses overlap.
-    pub(crate) fn classify_from(&mut self, arena: &Arena, slot: Slot, cluster_after: &ClusterAfter<'_>, was: BlockStatus)
+    pub(crate) fn classify_from(
+        &mut self,
+        arena: &Arena,
+        slot: Slot,
+        cluster_after: &ClusterAfter<'_>,
+        was: BlockStatus,
+    )
         requires room { HasCapacityAt self.old slot }
         requires was { HasStatus self.old slot was }
         ensures status { IsClassifiedAfter cluster_after.now (block_at arena.now slot) self.new slot }

@@ -8,8 +8,8 @@ ghost use Rattle.bm_arena.specs.Holding.{replicas_of, blocks_of};
 ghost use Rattle.bm_levels.specs.Changes.{as_ordered, with_deletes_ordered};
 ghost use Rattle.bm_levels.specs.Leveled.{KeepsLevels};
 
-use crate::replica_count::is_good_and_unmarked;
 use crate::leveled_blocks::LeveledBlocks;
+use crate::replica_count::is_good_and_unmarked;
 use bm_arena::{Arena, Slot};
 use bm_base::{BlockId, Delete, Marks, Part, StorageId, shard_of};
 use bm_topo::Topology;

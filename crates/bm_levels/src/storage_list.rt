@@ -72,7 +72,12 @@ impl LeveledBlocks {
 
     /// Removes the replicas on a storage of the first blocks in its list, and drops their unused
     /// entries.
-    pub(crate) fn remove_first(&mut self, cluster_after: &ClusterAfter<'_>, storage: StorageId, slots: &[Slot])
+    pub(crate) fn remove_first(
+        &mut self,
+        cluster_after: &ClusterAfter<'_>,
+        storage: StorageId,
+        slots: &[Slot],
+    )
         requires { HasFirstSlots self.old.arena storage slots.now }
         ensures left { IsLeavingStorage storage self.old.arena self.new.arena (length slots.now) }
         ensures list { DropsFirstSlots storage slots.now self.old.arena self.new.arena }
@@ -86,7 +91,12 @@ impl LeveledBlocks {
 
     /// Removes the replicas on a storage of the first blocks in its list, and reclassifies these
     /// blocks.
-    fn remove_listed(&mut self, cluster_after: &ClusterAfter<'_>, storage: StorageId, slots: &[Slot])
+    fn remove_listed(
+        &mut self,
+        cluster_after: &ClusterAfter<'_>,
+        storage: StorageId,
+        slots: &[Slot],
+    )
         requires { HasFirstSlots self.old.arena storage slots.now }
         ensures left { IsLeavingStorage storage self.old.arena self.new.arena (length slots.now) }
         ensures list { DropsFirstSlots storage slots.now self.old.arena self.new.arena }

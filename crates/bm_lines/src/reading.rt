@@ -2,16 +2,16 @@
 // `serde_json` reads of it.
 
 mod call;
-mod fields;
-mod items;
-mod lists;
-mod op;
 mod canonical;
 mod canonical_calls;
 mod canonical_entries;
 mod canonical_lists;
 mod canonical_numbers;
 mod canonical_remaining;
+mod fields;
+mod items;
+mod lists;
+mod op;
 
 pub use call::call_of;
 pub use canonical::canonical_call;

@@ -9,7 +9,7 @@ ghost use Rattle.bm_base.specs.Machine.Answering.{checked, Refuses, takes_memory
 
 use bm_base::{Config, Done, Event, HashSecret, Refusal};
 use bm_crew::Gate;
-use bm_shards::{CallingThread, AllShards, Threaded, Workers};
+use bm_shards::{AllShards, CallingThread, Threaded, Workers};
 use bm_topo::Topology;
 use std::alloc::Global;
 use std::marker::Model;

@@ -5,7 +5,7 @@ ghost use Rattle.bm_base.specs.Maps.Map as map;
 ghost use Rattle.std.specs.List.Retain.{IsFiltered};
 ghost use Rattle.std.specs.Fn.{CalledAt};
 
-use crate::sorted::{find, place, insertion_index, put, replace};
+use crate::sorted::{find, insertion_index, place, put, replace};
 use bm_base::ReplicaId;
 use std::alloc::{AllocError, Global};
 use std::marker::Model;

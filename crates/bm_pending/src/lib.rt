@@ -7,10 +7,10 @@
 #![tactic(auto)]
 
 mod by_block;
-mod remaining;
-mod transfer_lists;
 mod own_transfers;
 mod pending;
+mod remaining;
 mod targets;
+mod transfer_lists;
 
 pub use pending::PendingTransfers;

@@ -11,8 +11,8 @@ ghost use Rattle.bm_base.specs.Machine.Excess.{is_expired};
 ghost use Rattle.bm_pending.specs.PendingMap.{room, blocks_in, targets_of, expired_of};
 
 use crate::by_block::{
-    Blocks, drop_block, release_unused, drop_expired_in, drop_in, drop_storages_in, find_in,
-    put_in, reserve_in, targets_in,
+    Blocks, drop_block, drop_expired_in, drop_in, drop_storages_in, find_in, put_in,
+    release_unused, reserve_in, targets_in,
 };
 use crate::remaining::{count_remaining_among, remaining_among};
 use crate::transfer_lists::{entries_in, expired_in, push_storages};

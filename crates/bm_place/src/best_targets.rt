@@ -6,15 +6,18 @@ ghost use Rattle.bm_place.specs.BestTargets as nodes;
 ghost use Rattle.bm_place.specs.Scan as scanned;
 ghost use Rattle.bm_place.specs.Targets as targets;
 
-use crate::scheduled_bytes::TargetRow;
 use crate::node_storages::NodeStorage;
+use crate::scheduled_bytes::TargetRow;
 use bm_base::StorageId;
 use bm_maps::NumberMap;
 use std::alloc::{AllocError, Global};
 
 /// The best target of each node, sorted. Iterates over the targets once, with a look-up or two
 /// each, and sorts those of the nodes.
-pub fn best_of_each_node(alloc: Global, rows: &[(u64, TargetRow)]) -> Result<Vec<TargetRow>, AllocError>
+pub fn best_of_each_node(
+    alloc: Global,
+    rows: &[(u64, TargetRow)],
+) -> Result<Vec<TargetRow>, AllocError>
     ensures { IfOk result (λ v. nodes.AreBestInOrder (table.values rows.now) v.items) }
 {
     let firsts = best_by_node(alloc, rows)?;
@@ -24,7 +27,10 @@ pub fn best_of_each_node(alloc: Global, rows: &[(u64, TargetRow)]) -> Result<Vec
 }
 
 /// The best target of each node, by node.
-fn best_by_node(alloc: Global, rows: &[(u64, TargetRow)]) -> Result<NumberMap<TargetRow>, AllocError>
+fn best_by_node(
+    alloc: Global,
+    rows: &[(u64, TargetRow)],
+) -> Result<NumberMap<TargetRow>, AllocError>
     ensures { IfOk result (λ m. m.map ≡ nodes.with_firsts table.empty (table.values rows.now)) }
 {
     let mut firsts = NumberMap::new(alloc);
@@ -74,7 +80,11 @@ fn sort_targets(targets: &mut Vec<TargetRow>)
 }
 
 /// The best of a target and the rows of some storages of its node. Looks up each storage once.
-pub fn best_on_node(target: TargetRow, rows: &NumberMap<TargetRow>, near: &[NodeStorage]) -> TargetRow
+pub fn best_on_node(
+    target: TargetRow,
+    rows: &NumberMap<TargetRow>,
+    near: &[NodeStorage],
+) -> TargetRow
     ensures { scanned.scan nodes.cmp_of_one_node (λ c. nodes.are_of_one_node c target) (Some target)
         (filter_map (λ e. table.get rows.now.map e.storage) near.now) ≡ Some result }
 {
@@ -99,7 +109,9 @@ fn better_of(best: &TargetRow, target: &TargetRow, other: Option<TargetRow>) -> 
 pub fn index_of_storage(best_targets: &[TargetRow], storage: StorageId) -> Option<usize>
     ensures { result ≡ position (λ c. c.storage == storage) best_targets.now }
 {
-    best_targets.iter().position(|other| other.storage == storage)
+    best_targets
+        .iter()
+        .position(|other| other.storage == storage)
 }
 
 /// Replaces the target at `place` and moves it back to its sorted position.

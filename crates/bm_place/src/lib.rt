@@ -7,17 +7,17 @@
 //! storage once.
 #![tactic(auto)]
 
+mod best_targets;
 mod comparison;
 mod excess;
-mod up_to_two;
-mod best_targets;
-mod sorted_excess;
-mod scheduled_bytes;
 mod node_storages;
-mod source;
 mod replica_spread;
+mod scheduled_bytes;
+mod sorted_excess;
+mod source;
 mod streams;
 mod target;
+mod up_to_two;
 
 pub use excess::{ExcessScratch, excess_of, fill_excess};
 pub use scheduled_bytes::Scheduled;

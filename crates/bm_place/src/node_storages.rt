@@ -17,7 +17,10 @@ pub struct NodeStorage {
 }
 
 /// The storages of some rows, sorted by their nodes. Iterates over the rows once, and sorts.
-pub fn node_storages_of(alloc: Global, rows: &[(u64, TargetRow)]) -> Result<Vec<NodeStorage>, AllocError>
+pub fn node_storages_of(
+    alloc: Global,
+    rows: &[(u64, TargetRow)],
+) -> Result<Vec<NodeStorage>, AllocError>
     ensures moved { IfOk result (λ v. IsPermutation (seating.node_storages_of rows.now) v.items) }
     ensures in_order { IfOk result (λ v. seating.AreByNode v.items) }
 {
@@ -27,7 +30,10 @@ pub fn node_storages_of(alloc: Global, rows: &[(u64, TargetRow)]) -> Result<Vec<
 }
 
 /// The same, in the order of the rows.
-fn node_storages_in_row_order(alloc: Global, rows: &[(u64, TargetRow)]) -> Result<Vec<NodeStorage>, AllocError>
+fn node_storages_in_row_order(
+    alloc: Global,
+    rows: &[(u64, TargetRow)],
+) -> Result<Vec<NodeStorage>, AllocError>
     ensures { IfOk result (λ v. v.items ≡ seating.node_storages_of rows.now) }
 {
     let mut seats = Vec::with_capacity(alloc, rows.len())?;

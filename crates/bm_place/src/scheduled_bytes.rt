@@ -13,8 +13,8 @@ ghost use Rattle.bm_place.specs.BestTargets.{AreBestTargets, IsKept};
 ghost use Rattle.bm_place.specs.NodeStorages.{HaveNodeStorages, AreByNode};
 ghost use Rattle.bm_place.specs.declared.scheduled_bytes.TargetRow.{TargetRow};
 
-use crate::best_targets::{best_on_node, best_of_each_node, index_of_storage, reposition};
-use crate::node_storages::{NodeStorage, storages_near_node, node_storages_of};
+use crate::best_targets::{best_of_each_node, best_on_node, index_of_storage, reposition};
+use crate::node_storages::{NodeStorage, node_storages_of, storages_near_node};
 use bm_base::{NodeId, Rack, Refusal, StorageId};
 use bm_maps::NumberMap;
 use bm_topo::Topology;
@@ -144,7 +144,12 @@ fn add_to(rows: &mut NumberMap<TargetRow>, target: StorageId, len: u64)
 
 /// Updates the node's best target after bytes were scheduled to it: takes the node's new best and
 /// restores the order. If another storage of the node was scheduled to, its best is unchanged.
-fn update_best(best_targets: &mut Vec<TargetRow>, rows: &NumberMap<TargetRow>, seats: &[NodeStorage], target: StorageId)
+fn update_best(
+    best_targets: &mut Vec<TargetRow>,
+    rows: &NumberMap<TargetRow>,
+    seats: &[NodeStorage],
+    target: StorageId,
+)
     ensures { (old : map.Map map.by_number TargetRow) (len : ℕ)
         → IsKept old best_targets.old.items → HasFreeBytesFor old len target
         → rows.now.map ≡ with_sent old target len

@@ -9,8 +9,8 @@ ghost use Rattle.bm_place.specs.BestTargets as nodes;
 ghost use Rattle.bm_place.specs.Scan as scanned;
 
 use crate::best_targets::free_bytes_on;
-use crate::scheduled_bytes::{Scheduled, TargetRow};
 use crate::replica_spread::ReplicaSpread;
+use crate::scheduled_bytes::{Scheduled, TargetRow};
 use bm_base::{Level, StorageId};
 use bm_topo::Topology;
 

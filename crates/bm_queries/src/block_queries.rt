@@ -17,7 +17,11 @@ use bm_levels::LeveledBlocks;
 use std::alloc::Global;
 
 /// Appends the storages of the good replicas at a slot.
-pub(crate) fn push_places(arena: &Arena, slot: Slot, into: &mut Vec<StorageId>) -> Result<(), Refusal>
+pub(crate) fn push_places(
+    arena: &Arena,
+    slot: Slot,
+    into: &mut Vec<StorageId>,
+) -> Result<(), Refusal>
     ensures items { OnOk result (into.new.items ≡ into.old.items
         ++ storages_at (λ _ m. replicas.is_good m.tag) (replicas_at arena.now slot)) }
     ensures refused { IfErr result (λ e. e ≡ Memory) }

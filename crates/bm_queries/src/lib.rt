@@ -5,14 +5,14 @@
 //! replicas there alone; one about a node scans the blocks on its storages.
 #![tactic(auto)]
 
+mod block_queries;
 mod blocks;
 mod held_back;
-mod block_queries;
 mod replicas;
 mod rows;
 
+pub use block_queries::{is_still_stored, knows_block, places};
 pub use blocks::{blocks_on, missing_blocks};
 pub use held_back::is_held_back;
-pub use block_queries::{is_still_stored, knows_block, places};
 pub use replicas::{ReplicaFilter, list_replicas, replica_key, replica_keys};
 pub use rows::table_rows;

@@ -7,9 +7,9 @@ ghost use Rattle.bm_arena.specs.Contents.{block_at, marks_at, list_of, HasHead, 
 ghost use Rattle.bm_arena.specs.Holding.{replicas_of, blocks_of, holdings_of};
 ghost use Rattle.bm_report.specs.DuringReport.{AreAtSlots, HaveCapacity, IsOncePerNode, IsExcessGood, reported_of, slot_in, saturating_sum, AllAlreadyThere};
 
+use crate::report_counts::ReportCounts;
 use crate::reported_chunks::add_all_reported;
 use crate::sweep::{drop_invalid_excess, sweep};
-use crate::report_counts::ReportCounts;
 use crate::types::{Applied, ReportedSlot};
 use bm_arena::{Arena, Slot};
 use bm_base::StorageId;

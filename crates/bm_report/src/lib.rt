@@ -11,20 +11,20 @@
 #![tactic(auto)]
 
 mod aborted_report;
+mod first_of_part;
 mod full_report;
-mod uncached_numbers;
+mod look_up;
+mod notices;
+mod replica_capacity;
+mod report;
+mod report_counts;
 mod reported_block;
 mod reported_chunks;
-mod first_of_part;
-mod look_up;
 mod reported_marks;
-mod notices;
-mod report;
-mod replica_capacity;
 mod sibling_storages;
 mod sweep;
-mod report_counts;
 mod types;
+mod uncached_numbers;
 mod uncached_report;
 
 pub use aborted_report::abort;

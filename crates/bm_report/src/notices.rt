@@ -38,7 +38,11 @@ pub(crate) fn receive(
         arena.new result }
 {
     let was = arena.marks(named.slot, storage);
-    let marks = without_invalid_excess(marks_during_report(arena.info(named.slot), was, &named.stamp));
+    let marks = without_invalid_excess(marks_during_report(
+        arena.info(named.slot),
+        was,
+        &named.stamp,
+    ));
     match was {
         Some(_) => {
             arena.show_invariant();

@@ -8,7 +8,11 @@ use bm_arena::{Arena, Slot};
 use bm_base::{Refusal, StorageId};
 
 /// Reserves capacity for a replica on the storage, unless the block has one there.
-pub(crate) fn reserve_replica(arena: &mut Arena, slot: Slot, storage: StorageId) -> Result<(), Refusal>
+pub(crate) fn reserve_replica(
+    arena: &mut Arena,
+    slot: Slot,
+    storage: StorageId,
+) -> Result<(), Refusal>
     requires held { IsSome (block_at arena.old slot) }
     ensures kept { IsPrepared arena.old arena.new }
     ensures room { OnOk result (marks_at arena.new slot storage ≡ None → HasCapacity arena.new slot) }

@@ -7,9 +7,9 @@ ghost use Rattle.bm_arena.specs.Contents.{block_at, slot_of, marks_at, saturatin
 ghost use Rattle.bm_arena.specs.Holding.{replicas_of};
 ghost use Rattle.bm_report.specs.DuringReport.{behind, entered_at, KeepsRest, IsOncePerNode, saturating_sum, IsEntered, IsCounted, FitsCounters, IsAlreadyThere};
 
+use crate::report_counts::ReportCounts;
 use crate::reported_marks::{is_excess_good, marks_during_report};
 use crate::sibling_storages::sibling_of;
-use crate::report_counts::ReportCounts;
 use crate::types::ReportedSlot;
 use bm_arena::Arena;
 use bm_base::{Marks, StorageId};

@@ -11,8 +11,8 @@ ghost use Rattle.bm_arena.specs.Holding.{replicas_of};
 ghost use Rattle.bm_report.specs.DuringReport.{AreAtSlots, HaveCapacity, IsOncePerNode, IsEntered, IsCounted, IsListed, FitsCounters, IsAlreadyThere, AllAlreadyThere, slot_in};
 ghost use Rattle.bm_report.specs.declared.reported_chunks.TheConstants.{CHUNK};
 
-use crate::reported_block::add_reported;
 use crate::report_counts::ReportCounts;
+use crate::reported_block::add_reported;
 use crate::types::ReportedSlot;
 use bm_arena::{Arena, Slot};
 use bm_base::{Marks, StorageId};
@@ -22,7 +22,11 @@ use bm_topo::Topology;
 pub(crate) const CHUNK: usize = 64;
 
 /// The marks on the storage of each block of a chunk.
-fn read_marks_ahead(arena: &Arena, storage: StorageId, chunk: &[ReportedSlot]) -> [Option<Marks>; CHUNK]
+fn read_marks_ahead(
+    arena: &Arena,
+    storage: StorageId,
+    chunk: &[ReportedSlot],
+) -> [Option<Marks>; CHUNK]
     requires { length chunk.now ≤ CHUNK }
     ensures { (i : ℕ) (n : ReportedSlot) → slice_get chunk.now i ≡ Some n
         → slice_index_or result i None ≡ marks_at arena.now n.slot storage }

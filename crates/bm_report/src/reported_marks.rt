@@ -6,7 +6,11 @@ use bm_base::{BlockInfo, Marks, Stamp, Tag};
 
 /// The marks of a reported replica while the report runs: `excess` means that it was in excess
 /// before.
-pub(crate) fn marks_during_report(info: Option<BlockInfo>, was: Option<Marks>, stamp: &Stamp) -> Marks
+pub(crate) fn marks_during_report(
+    info: Option<BlockInfo>,
+    was: Option<Marks>,
+    stamp: &Stamp,
+) -> Marks
     ensures { result ≡ midway.marks_during_report info was stamp.now }
 {
     let (was_bad, was_excess) = match was {

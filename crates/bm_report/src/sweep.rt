@@ -5,8 +5,8 @@ ghost use Rattle.bm_arena.specs.Contents.{marks_at, slot_of};
 ghost use Rattle.bm_arena.specs.Holding.{replicas_of};
 ghost use Rattle.bm_report.specs.DuringReport.{behind, IsSwept, IsListed, AreAtSlots, IsExcessGood, DropsInvalidExcess};
 
-use crate::reported_marks::{is_excess_good, without_invalid_excess};
 use crate::report_counts::ReportCounts;
+use crate::reported_marks::{is_excess_good, without_invalid_excess};
 use crate::types::ReportedSlot;
 use bm_arena::{Arena, Slot};
 use bm_base::StorageId;
@@ -63,7 +63,11 @@ fn drop_invalid_excess_of_all(arena: &mut Arena, storage: StorageId, named: &[Re
     }
 }
 
-pub(crate) fn drop_invalid_excess_of_one(arena: &mut Arena, storage: StorageId, named: &ReportedSlot)
+pub(crate) fn drop_invalid_excess_of_one(
+    arena: &mut Arena,
+    storage: StorageId,
+    named: &ReportedSlot,
+)
     requires { slot_of arena.old named.now.id ≡ Some named.now.slot }
     ensures { DropsInvalidExcess storage (named.now ∷ []) arena.old arena.new }
 {

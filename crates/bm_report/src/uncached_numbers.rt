@@ -7,10 +7,10 @@ ghost use Rattle.bm_report.specs.DuringReport.{behind, AreAtSlots, IsCounted, Is
 ghost use Rattle.bm_report.specs.Expanded.{of_part, reported_to_part};
 ghost use Rattle.bm_report.specs.Ready.{named_of, CanBeAdded};
 
-use crate::reported_block::add_reported;
 use crate::first_of_part::first_of_part;
-use crate::sweep::drop_invalid_excess_of_one;
 use crate::report_counts::ReportCounts;
+use crate::reported_block::add_reported;
+use crate::sweep::drop_invalid_excess_of_one;
 use crate::types::ReportedSlot;
 use bm_arena::Arena;
 use bm_base::{BlockId, Entry, Part, Stamp, StorageId};
@@ -130,7 +130,12 @@ fn drop_invalid_excess_of_run(arena: &mut Arena, storage: StorageId, entry: &Ent
     }
 }
 
-fn drop_invalid_excess_of_entries(arena: &mut Arena, storage: StorageId, entries: &[Entry], part: Part)
+fn drop_invalid_excess_of_entries(
+    arena: &mut Arena,
+    storage: StorageId,
+    entries: &[Entry],
+    part: Part,
+)
     requires part { part.index < part.shards }
     requires here { AreAtSlots arena.old (named_of arena.old (reported_to_part part entries.now)) }
     ensures { DropsInvalidExcess storage (named_of arena.old (reported_to_part part entries.now))

@@ -1,6 +1,6 @@
 // A full report without a `Report`: nothing is kept between the look-up of its numbers and its end.
-// Only tests make these calls; they stay, and `uncached_numbers.rt` for them, as part of this crate's
-// public surface.
+// Only tests make these calls; they stay, and `uncached_numbers.rt` for them, as part of this
+// crate's public surface.
 ghost use Rattle.std.specs.Prelude.{◌≡◌, ◌<◌, ◌≤◌, ◌+◌, ℕ, length, None, Some, OnOk, IfErr, IsTrue, false, ◌≢◌};
 ghost use Rattle.bm_base.specs.declared.refusal.Refusal.TheVariants.{Memory};
 ghost use Rattle.bm_base.specs.declared.limits.TheConstants.{MAX_NUMBERS};
@@ -13,10 +13,12 @@ ghost use Rattle.bm_report.specs.DuringReport.{IsOncePerNode, saturating_sum};
 ghost use Rattle.bm_report.specs.Expanded.{IsPrepared, reported_to_part};
 ghost use Rattle.bm_report.specs.Ready.{HasSlotsFor, HasGoodExcess};
 
-use crate::uncached_numbers::{drop_invalid_excess_by_number, add_reported_entries, sweep_unreported};
 use crate::look_up::look_up;
 use crate::report_counts::ReportCounts;
 use crate::types::{Applied, ReportedSlot};
+use crate::uncached_numbers::{
+    add_reported_entries, drop_invalid_excess_by_number, sweep_unreported,
+};
 use bm_arena::Arena;
 use bm_base::{Entry, Part, Refusal, StorageId};
 use bm_topo::Topology;

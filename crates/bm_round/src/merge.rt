@@ -82,7 +82,10 @@ fn keyed_wishes<'a>(alloc: Global, wishes: &'a [Wish]) -> Result<Vec<(Key, &'a W
     Ok(keyed)
 }
 
-fn wishes_without_keys<'a>(alloc: Global, keyed: &[(Key, &'a Wish)]) -> Result<Vec<&'a Wish>, AllocError>
+fn wishes_without_keys<'a>(
+    alloc: Global,
+    keyed: &[(Key, &'a Wish)],
+) -> Result<Vec<&'a Wish>, AllocError>
     ensures { IfOk result (λ v. v.items ≡ values keyed.now) }
 {
     let mut wishes = Vec::new(alloc);

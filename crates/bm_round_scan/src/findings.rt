@@ -9,9 +9,9 @@ ghost use Rattle.bm_arena.specs.Holding.{replicas_of};
 ghost use Rattle.bm_levels.specs.Leveled.{AreLevels};
 ghost use Rattle.bm_levels.specs.Held.{holdings_with};
 
-use crate::scanned_slots::{slots_to_scan, sort_slots};
 use crate::order::{sort_deletes, sort_excess, sort_wishes};
 use crate::scan::RoundScan;
+use crate::scanned_slots::{slots_to_scan, sort_slots};
 use bm_base::{Items, Refusal, RoundPart};
 use bm_levels::LeveledBlocks;
 use bm_parts::merge::Key;

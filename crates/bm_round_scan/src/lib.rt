@@ -7,16 +7,16 @@
 //! each list is sorted.
 #![tactic(auto)]
 
-mod pending_copies;
+mod block_scan;
 mod findings;
 mod guess;
 mod keys;
-mod block_scan;
-mod replicas;
-mod settled;
-mod scanned_slots;
 mod order;
+mod pending_copies;
+mod replicas;
 mod scan;
+mod scanned_slots;
+mod settled;
 mod wishes;
 
 pub use findings::find_round;

@@ -13,7 +13,10 @@ use std::alloc::{AllocError, Global};
 
 /// The unsettled slots, and the settled ones before the bound at a level at which copies are wanted
 /// that lack pending transfers; each of them once, with its key.
-pub(crate) fn slots_to_scan(alloc: Global, start: &RoundScan) -> Result<Vec<(Key, Slot)>, AllocError>
+pub(crate) fn slots_to_scan(
+    alloc: Global,
+    start: &RoundScan,
+) -> Result<Vec<(Key, Slot)>, AllocError>
     ensures { IfOk result (λ v. v.items
         ≡ map (visits.keyed_at start.now.kept.now start.now.arena.now)
         (visits.scanned_slots start.now.kept.now start.now.arena.now start.now.bound
@@ -33,7 +36,11 @@ pub(crate) fn slots_to_scan(alloc: Global, start: &RoundScan) -> Result<Vec<(Key
 
 /// Appends the settled slots of a level that come before the bound and lack pending transfers. The
 /// bound is compared first: mostly few slots come before it.
-fn push_settled(start: &RoundScan, level: Level, into: &mut Vec<(Key, Slot)>) -> Result<(), AllocError>
+fn push_settled(
+    start: &RoundScan,
+    level: Level,
+    into: &mut Vec<(Key, Slot)>,
+) -> Result<(), AllocError>
     ensures { OnOk result (into.new.items ≡ into.old.items
         ++ map (visits.keyed_at start.now.kept.now start.now.arena.now)
         (filter

@@ -79,7 +79,8 @@ impl<'a> RoundScan<'a> {
         if self.pending.count() == 0 {
             return Ok(StorageIds::new(alloc));
         }
-        self.pending.remaining_targets(alloc, id, self.pend, self.round)
+        self.pending
+            .remaining_targets(alloc, id, self.pend, self.round)
     }
 }
 

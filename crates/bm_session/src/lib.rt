@@ -7,13 +7,13 @@
 //! `FaultCounting`).
 #![tactic(auto)]
 
-mod fault_counting;
 mod fault;
+mod fault_counting;
 mod limits;
 mod reply;
 mod session;
 mod whole_run;
 
-pub use fault_counting::{FaultCounting, Sink, Source};
 pub use fault::{Fault, Summary};
+pub use fault_counting::{FaultCounting, Sink, Source};
 pub use whole_run::run;

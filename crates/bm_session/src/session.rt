@@ -6,8 +6,8 @@ ghost use Rattle.bm_lines.specs.Held.{Holds, is_begun};
 ghost use Rattle.bm_session.specs.Starting.{StartFault};
 ghost use Rattle.bm_session.specs.declared.limits.TheConstants.{MAX_LINES};
 
-use crate::fault_counting::Sink;
 use crate::fault::{Fault, Summary};
+use crate::fault_counting::Sink;
 use crate::limits::MAX_LINES;
 use crate::reply::reply_to;
 use bm_answers::asked_by;

@@ -4,8 +4,8 @@ ghost use Rattle.std.specs.Io.KnownBytes.{Appends, Consumes};
 ghost use Rattle.bm_session.specs.Text.{text};
 ghost use Rattle.bm_session.specs.Outcome.{Leaves, HasCause, ChecksConfig, IsFlushedAtRead};
 
-use crate::fault_counting::{Sink, Source};
 use crate::fault::{Fault, Summary};
+use crate::fault_counting::{Sink, Source};
 use crate::limits::{MAX_BYTES, PIECE};
 use crate::session::Session;
 use bm_base::{Config, HashSecret};

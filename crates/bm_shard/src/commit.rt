@@ -89,7 +89,10 @@ impl Shard {
             } => self.register(topology, *node, *rack, storages.as_slice(), multi),
             Event::Dead { node } => self.forget_node(topology, *node, multi),
             Event::StorageFailed { storage } => self.forget_storage(topology, *storage),
-            Event::Heartbeat { remaining, .. } => self.note_heartbeat(topology, remaining.as_slice()),
+            Event::Heartbeat { remaining, .. } => self.note_heartbeat(
+                topology,
+                remaining.as_slice(),
+            ),
             Event::Drain { node } => self.set_draining(topology, *node, true),
             Event::Undrain { node } => self.set_draining(topology, *node, false),
             Event::AddBlock { id, stamp, repl } => self.add_block(topology, *id, *stamp, *repl),

@@ -8,13 +8,13 @@
 #![tactic(auto)]
 
 mod arrived_transfers;
-mod queries;
+mod block_events;
 mod checks;
 mod cluster_events;
 mod commit;
-mod block_events;
 mod own_transfers;
 mod preparation;
+mod queries;
 mod reported_replicas;
 mod rounds;
 mod shard;

@@ -147,7 +147,11 @@ impl Shard {
 
 /// Drops the entries that were made for what was prepared and have neither a block nor a replica.
 /// All blocks and replicas stay. Takes no memory.
-pub(crate) fn drop_prepared(blocks: &mut LeveledBlocks, report: &mut Report, prepared: PreparedEvent)
+pub(crate) fn drop_prepared(
+    blocks: &mut LeveledBlocks,
+    report: &mut Report,
+    prepared: PreparedEvent,
+)
     ensures blocks { blocks_of blocks.new.arena ≡ blocks_of blocks.old.arena }
     ensures replicas { replicas_of blocks.new.arena ≡ replicas_of blocks.old.arena }
     ensures bare { MakesNoUnused blocks.old.arena blocks.new.arena }

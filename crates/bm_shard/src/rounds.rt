@@ -10,8 +10,8 @@ ghost use Rattle.bm_shard.specs.UpToDate.{IsUpToDate, IsSameButCapacity, next_pa
 use crate::own_transfers::insert_own;
 use crate::shard::{PreparedEvent, Shard};
 use bm_base::{Chosen, Refusal, RoundPart};
-use bm_round_scan::{find_round, likely_bound};
 use bm_parts::merge::Key;
+use bm_round_scan::{find_round, likely_bound};
 use bm_topo::Topology;
 
 impl Shard {
@@ -126,8 +126,7 @@ impl Shard {
         self.blocks.show_invariant();
         self.blocks.arena().show_invariant();
         self.pending.drop_expired(self.pend, round);
-        self.blocks
-            .remark_excess(topology, part.excess.as_slice());
+        self.blocks.remark_excess(topology, part.excess.as_slice());
         self.blocks
             .mark_ordered(topology, chosen.deletes.as_slice(), self.part);
         self.blocks.arena().show_invariant();

@@ -13,8 +13,9 @@ use std::marker::Model;
 
 /// All shards of a manager, each with its index.
 ///
-/// A contract sees what they hold together. That each is up to date in a cluster (`IsUpToDate`), and
-/// has taken all rounds (`HasTaken`), are facts about that, which each call passes on to the next.
+/// A contract sees what they hold together. That each is up to date in a cluster (`IsUpToDate`),
+/// and has taken all rounds (`HasTaken`), are facts about that, which each call passes on to the
+/// next.
 #[derive(Drop)]
 pub struct AllShards {
     pub(crate) alloc: Global,

@@ -7,9 +7,9 @@ ghost use Rattle.bm_base.specs.Machine.Refusals.{first_of, cluster_checks};
 ghost use Rattle.bm_base.specs.Machine.Answering.{Refuses, takes_memory};
 ghost use Rattle.bm_shards.specs.Whole.{IsUpToDate, HasTaken};
 
+use crate::all_shards::AllShards;
 use crate::event_on_all::change_all;
 use crate::event_on_one::change_own;
-use crate::all_shards::AllShards;
 use crate::workers::Workers;
 use bm_base::{Done, Event, Refusal};
 use bm_parts::events::block_of;

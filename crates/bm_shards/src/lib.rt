@@ -2,17 +2,17 @@
 //! ([`Workers`]). What they hold together changes as the definitions change the whole.
 //!
 //! An event on a block is made on the block's shard alone, any other on every shard or on none
-//! ([`AllShards::change`]); so is a round ([`AllShards::round`]). The lists of all shards are gathered and
-//! sorted once.
+//! ([`AllShards::change`]); so is a round ([`AllShards::round`]). The lists of all shards are
+//! gathered and sorted once.
 #![tactic(auto)]
 
 mod abort;
+mod all_shards;
 mod answers;
 mod calling_thread;
 mod event_on_all;
 mod event_on_one;
 mod events;
-mod all_shards;
 mod lists;
 mod pass_buffers;
 mod queries;
@@ -24,7 +24,7 @@ mod table;
 mod threaded;
 mod workers;
 
-pub use calling_thread::CallingThread;
 pub use all_shards::AllShards;
+pub use calling_thread::CallingThread;
 pub use threaded::Threaded;
 pub use workers::Workers;

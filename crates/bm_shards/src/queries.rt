@@ -12,12 +12,12 @@ ghost use Rattle.bm_parts.specs.QueryLaws as asked;
 ghost use Rattle.bm_shard.specs.UpToDate as shard;
 ghost use Rattle.bm_shards.specs.Whole.{IsUpToDate, AreShards, AreUpToDate, held_by};
 
-use crate::event_on_one::index_of_shard;
 use crate::all_shards::AllShards;
+use crate::event_on_one::index_of_shard;
 use crate::lists::{blocks_on, missing_blocks, replicas};
 use bm_base::{BlockId, Event, Items, Level, NodeId, Refusal, Replica, ReplicaId, StorageId};
-use bm_queries::{ReplicaFilter, replica_keys};
 use bm_parts::events::block_of;
+use bm_queries::{ReplicaFilter, replica_keys};
 use bm_shard::Shard;
 use bm_topo::Topology;
 

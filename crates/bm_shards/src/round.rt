@@ -11,8 +11,8 @@ ghost use Rattle.bm_shards.specs.Rounds.{commands_in, left_by_round};
 ghost use Rattle.bm_shards.specs.RoundWorked.{HasPart, CanCommitRound, HasTakenRound};
 
 use crate::abort::abort_all;
-use crate::answers::{Asked, gather_prepared};
 use crate::all_shards::AllShards;
+use crate::answers::{Asked, gather_prepared};
 use crate::pass_buffers::reserve_pass;
 use crate::round_parts::find_round;
 use crate::workers::Workers;

@@ -7,8 +7,8 @@ ghost use Rattle.bm_shards.specs.Answers.{each_answer};
 ghost use Rattle.bm_shards.specs.Rows.{rows_of};
 ghost use Rattle.bm_shards.specs.Whole.{AreShards, held_by};
 
-use crate::answers::{Asked, gather_answers};
 use crate::all_shards::AllShards;
+use crate::answers::{Asked, gather_answers};
 use crate::pass_buffers::reserve_pass;
 use crate::workers::Workers;
 use bm_base::{BlockId, Items, Places, Refusal};

@@ -11,7 +11,7 @@ mod options;
 mod status;
 
 use bm_base::Config;
-use bm_session::{FaultCounting, Fault, Summary, run};
+use bm_session::{Fault, FaultCounting, Summary, run};
 use clap::Error;
 use clap::error::ErrorKind;
 use options::config_of;

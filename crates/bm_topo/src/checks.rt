@@ -247,7 +247,9 @@ fn shares_any(ordered: &[StorageId], others: &[StorageId]) -> bool
     requires { IsNonDecreasing ordered.now }
     ensures { result ≡ list_any (lists.has ordered.now) others.now }
 {
-    others.iter().any(|storage| contains_sorted(ordered, *storage))
+    others
+        .iter()
+        .any(|storage| contains_sorted(ordered, *storage))
 }
 
 fn contains_sorted(ordered: &[StorageId], storage: StorageId) -> bool

@@ -207,7 +207,11 @@ fn new_pen(
     ensures pen { (result.0.book ≡ seen.now.book) × (result.0.nib ≡ nib may_write result.1.key 0) }
 {
     let mut seen = seen.again();
-    let mut offer: Offer<JournalLine, u64, JournalRule, NoGain> = seen.plain::<NoGain, (), AsNothing>(&());
+    let mut offer: Offer<JournalLine, u64, JournalRule, NoGain> = seen.plain::<
+        NoGain,
+        (),
+        AsNothing,
+    >(&());
     let mut pen = seen.no_pen();
     head.compare_exchange::<Reserve, NoGain>(0, 0, &mut seen, &mut offer, &mut pen);
     let word = Word::tracked(0, &mut pen);

@@ -8,7 +8,8 @@ use core::snapshot::Snapshot;
 use std::marker::Model;
 
 /// Some lists of versions, in the order in which they were learnt. A contract sees these lists. A
-/// `Snapshot` keeps an earlier value for proofs alone: so each `LearntLists` holds the one before it.
+/// `Snapshot` keeps an earlier value for proofs alone: so each `LearntLists` holds the one before
+/// it.
 #[derive(Drop)]
 pub struct LearntLists {
     last: Option<(Snapshot<LearntLists>, Evidence)>,

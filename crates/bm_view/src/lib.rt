@@ -12,15 +12,16 @@
 //!
 //! **How a proof knows that it is one list.** Two rules, and a token that has no bytes:
 //! - `journal.rt`: before a version is published it is entered into a journal as proposed, and
-//!   afterwards as settled, or as withdrawn. At run time the journal is two words that no one reads;
-//!   its entries exist in proofs. An `Evidence` is a token for a prefix of the journal. Of any two
-//!   tokens of one journal one is a prefix of the other (`logbook`).
+//!   afterwards as settled, or as withdrawn. At run time the journal is two words that no one
+//!   reads; its entries exist in proofs. An `Evidence` is a token for a prefix of the journal. Of
+//!   any two tokens of one journal one is a prefix of the other (`logbook`).
 //! - `rule.rt`: the current table carries its `Evidence`, and what a seat has seen once stays a
 //!   prefix of it (`left_right`).
 #![tactic(auto)]
 
 mod count;
 mod journal;
+mod learnt_lists;
 mod locator;
 mod open;
 mod publisher;
@@ -28,7 +29,6 @@ mod receipt;
 mod rule;
 mod shown;
 mod table;
-mod learnt_lists;
 
 pub use locator::{Located, Locator};
 pub use open::open_view;

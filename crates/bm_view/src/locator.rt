@@ -9,9 +9,9 @@ ghost use Rattle.bm_view.specs.Rule.{Sees, HasSeen};
 
 use crate::count::Count;
 use crate::journal::Evidence;
+use crate::learnt_lists::LearntLists;
 use crate::receipt::Receipt;
 use crate::rule::{See, VersionReader, VersionReading};
-use crate::learnt_lists::LearntLists;
 use bm_base::{BlockId, Places};
 use core::mem::replace_with;
 use std::alloc::Global;

@@ -21,36 +21,36 @@
 //! | an event on the cluster and on one shard: on both, or on neither | `take_event` (`one_shard.rt`) | `bm_shard/CALLING.md` |
 #![tactic(auto)]
 
-mod concurrent_reader;
 mod commands;
+mod concurrent_reader;
 mod copy_choice;
 mod counting_gate;
 mod events;
-mod lines;
+mod full_report;
 mod informed_reader;
+mod lines;
 mod memory;
 mod name_node;
 mod one_shard;
 mod printed_answers;
 mod replicas;
-mod full_report;
 mod slots;
 mod storages;
 mod what_if;
 
-pub use concurrent_reader::{Seen, SideBySide, apply_beside_reader};
 pub use commands::commands_of_parts;
+pub use concurrent_reader::{Seen, SideBySide, apply_beside_reader};
 pub use copy_choice::first_copy;
 pub use counting_gate::{Pieces, apply_counted};
 pub use events::arrival;
-pub use lines::tidy_line;
+pub use full_report::take_report;
 pub use informed_reader::publish_and_look;
+pub use lines::tidy_line;
 pub use memory::apply_or_free;
 pub use name_node::{for_node, turn};
 pub use one_shard::take_event;
 pub use printed_answers::replica_lines;
 pub use replicas::put_replica;
-pub use full_report::take_report;
 pub use slots::{in_order, note_slots};
 pub use storages::find_serving;
 pub use what_if::{WhatIf, missing_if_dead, replay};

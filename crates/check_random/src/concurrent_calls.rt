@@ -1,7 +1,8 @@
-// Lists of calls, many times: four threads work each in five shards, after each call the state is published, and two threads read in
-// parallel. Each answer is that of a manager of one shard and one thread, and so is each read; and no reader goes back. That the
-// reads come between the calls, and not all after them, is counted over all lists: a reader finds a later version than at its read
-// before.
+// Lists of calls, many times: four threads work each in five shards, after each call the state is
+// published, and two threads read in parallel. Each answer is that of a manager of one shard and
+// one thread, and so is each read; and no reader goes back. That the reads come between the calls,
+// and not all after them, is counted over all lists: a reader finds a later version than at its
+// read before.
 ghost use Rattle.std.specs.Prelude.{◌≡◌, All};
 ghost use Rattle.bm_view.specs.Holders.{IsNewAt};
 
@@ -26,11 +27,12 @@ const SHARDS: u32 = 5;
 
 const WORKERS: u32 = 4;
 
-/// How often readers have to find a later version than at the read before, over all lists. Where all reads come after the last call,
-/// that is never.
+/// How often readers have to find a later version than at the read before, over all lists. Where
+/// all reads come after the last call, that is never.
 const LEAST_LATER: u32 = 1;
 
-/// Whether `times` lists are answered and read as they should be, and readers went from one version to a later one.
+/// Whether `times` lists are answered and read as they should be, and readers went from one version
+/// to a later one.
 pub fn are_all_alike<R: Threads + Wait + Sync>(
     rt: &R,
     host: &HostRuntime,
@@ -88,7 +90,8 @@ fn config(shards: u32, workers: u32) -> Config {
     }
 }
 
-/// Where the block is at first, and after each of the calls that are drawn next, in a manager of one shard and one worker.
+/// Where the block is at first, and after each of the calls that are drawn next, in a manager of
+/// one shard and one worker.
 fn locate_after_each<R: Threads + Wait + Sync>(
     rt: &R,
     alloc: Global,
@@ -133,7 +136,8 @@ fn make_next<R: Threads + Wait + Sync>(
     Ok(())
 }
 
-/// Where a manager has a block, as a locator is to answer it: a block that was not added is nowhere.
+/// Where a manager has a block, as a locator is to answer it: a block that was not added is
+/// nowhere.
 fn locate_in(manager: &Manager, block: BlockId) -> Located {
     let calls = manager.calls();
     let places = match manager.places(block) {
@@ -221,8 +225,8 @@ fn new_channels<J: Home>(
     Ok(((to_one, to_other), (from_one, from_other)))
 }
 
-/// Makes the calls, and two threads read in parallel. The readers come first: where no thread can be started, the first closure
-/// is called last, and so finds all receipts.
+/// Makes the calls, and two threads read in parallel. The readers come first: where no thread can
+/// be started, the first closure is called last, and so finds all receipts.
 fn join_all<J: Home + Send + Sync, R: Threads + Wait + Sync>(
     rt: &R,
     alloc: Global,
@@ -252,7 +256,8 @@ fn join_all<J: Home + Send + Sync, R: Threads + Wait + Sync>(
     reads
 }
 
-/// Makes the calls, publishes after each, and sends each reader the receipt. How many answers differ, or can't be sent.
+/// Makes the calls, publishes after each, and sends each reader the receipt. How many answers
+/// differ, or can't be sent.
 fn make_all<J: Home, R: Threads + Wait + Sync>(
     rt: &R,
     alloc: Global,

@@ -1,4 +1,5 @@
-// Calls that are drawn: of all kinds, on so few nodes, storages and blocks that most of them hit something.
+// Calls that are drawn: of all kinds, on so few nodes, storages and blocks that most of them hit
+// something.
 ghost use Rattle.std.specs.Prelude.{◌<◌};
 
 use bm_base::{BlockId, Call, Entry, Event, Gen, Items, NodeId, Rack, Remaining, Stamp, StorageId};

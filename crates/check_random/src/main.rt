@@ -1,22 +1,24 @@
-//! Makes the same calls, drawn by a seed, on a manager with one shard and one worker and on another one, whose numbers of shards
-//! and workers are drawn too, and compares each answer: `check_random [CALLS [SEED]]`. The calls come in lists of 2,000, each on
-//! two new managers. Standard output has how many calls were answered alike.
+//! Makes the same calls, drawn by a seed, on a manager with one shard and one worker and on another
+//! one, whose numbers of shards and workers are drawn too, and compares each answer: `check_random
+//! [CALLS [SEED]]`. The calls come in lists of 2,000, each on two new managers. Standard output has
+//! how many calls were answered alike.
 //!
-//! `check_random beside [TIMES [SEED]]` makes TIMES lists of 100 calls, the other manager with five shards and four workers. It
-//! publishes after each call, and two threads read in parallel with the calls: each read must be of a state that a manager of one
-//! shard and one worker had.
+//! `check_random beside [TIMES [SEED]]` makes TIMES lists of 100 calls, the other manager with five
+//! shards and four workers. It publishes after each call, and two threads read in parallel with the
+//! calls: each read must be of a state that a manager of one shard and one worker had.
 //!
-//! Ends with status 1 where two answers differ, where a read is of no version that was published or goes back, where memory is
-//! refused, where an argument is no number, and where the run was too poor to show much: fewer than the least number of accepted
-//! events of each kind, rounds with a command, lists that are not empty, and refusals; or, with readers, none of these that went from
-//! one version to a later one, as it is where no thread can be started. (Fewer calls than a list has show little, and are not
-//! judged so.)
+//! Ends with status 1 where two answers differ, where a read is of no version that was published or
+//! goes back, where memory is refused, where an argument is no number, and where the run was too
+//! poor to show much: fewer than the least number of accepted events of each kind, rounds with a
+//! command, lists that are not empty, and refusals; or, with readers, none of these that went from
+//! one version to a later one, as it is where no thread can be started. (Fewer calls than a list
+//! has show little, and are not judged so.)
 #![tactic(auto)]
 
-mod equality;
 mod concurrent_calls;
 mod counts;
 mod draws;
+mod equality;
 mod pair;
 mod readers;
 

@@ -1,8 +1,8 @@
 // Two managers that differ in shards and workers, and calls that both have to answer alike.
 
-use crate::equality::are_alike;
 use crate::counts::Counts;
 use crate::draws;
+use crate::equality::are_alike;
 use bm_base::{Answer, Call, Config, HashSecret, Refusal};
 use bm_crew::NoGate;
 use bm_manager::Manager;
@@ -65,8 +65,8 @@ fn is_list_alike<R: Threads + Wait + Sync>(
     Ok(is_alike?)
 }
 
-/// Any numbers of shards and workers; rounds with few commands, and copies that are soon given up, so that the limits of both
-/// are met.
+/// Any numbers of shards and workers; rounds with few commands, and copies that are soon given up,
+/// so that the limits of both are met.
 fn draw_config(rng: &mut Pcg32) -> Config {
     let shards = 1 + rng.random_range(0..64);
     let workers = 1 + rng.random_range(0..16);
@@ -83,8 +83,9 @@ fn draw_config(rng: &mut Pcg32) -> Config {
     }
 }
 
-/// Two managers that differ in shards and workers. These, calls and answers are let go by `drop`: its proof is one for all
-/// functions, and that of a value which goes at the end of its scope is one for each.
+/// Two managers that differ in shards and workers. These, calls and answers are let go by `drop`:
+/// its proof is one for all functions, and that of a value which goes at the end of its scope is
+/// one for each.
 #[derive(Drop)]
 pub struct Pair {
     one: Manager,

@@ -42,7 +42,8 @@ impl Reads {
         }
     }
 
-    /// A read. It is wrong where it is of no version, or of an older one than was read or learnt before.
+    /// A read. It is wrong where it is of no version, or of an older one than was read or learnt
+    /// before.
     fn note(&mut self, list: &List, seen: Located) {
         let is_known = list.located.as_slice().iter().any(|one| *one == seen);
         let is_later = matches!(self.last, Some(before) if before < seen.calls);

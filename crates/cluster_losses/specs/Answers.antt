@@ -14,8 +14,8 @@ pub record StandsAs (M : State) (s : Standing) : Type 0 where
   pub levels : s.levels ≡ levels_counted (levels_held M) (length (missing_blocks M.cluster M.holdings))
   pub missing : s.missing ≡ missing_blocks M.cluster M.holdings
 
--- The text has how the cluster stands before losses and after them, with no round between, and the blocks whose usable replicas were all
--- on what is lost.
+-- The text has how the cluster stands before losses and after them, with no round between, and the
+-- blocks whose usable replicas were all on what is lost.
 pub record IsAnswer (M : State) (es : List Event) (text : List ℕ) : Type 0 where
   pub before : Standing
   pub after : Standing

@@ -13,8 +13,9 @@ use std::alloc::Global;
 use std::sync::Wait;
 use std::thread::Threads;
 
-/// Makes these losses, one after another, and writes how the cluster stands before and after. The manager is asked twice for all replicas,
-/// those in excess, the missing blocks, and the level of each block that has a replica.
+/// Makes these losses, one after another, and writes how the cluster stands before and after. The
+/// manager is asked twice for all replicas, those in excess, the missing blocks, and the level of
+/// each block that has a replica.
 pub fn answer_to_losses<H: Threads + Wait + Sync>(
     rt: &H,
     alloc: Global,

@@ -1,4 +1,5 @@
-// The stamp and the wanted replicas of each known block, about which the manager answers no question.
+// The stamp and the wanted replicas of each known block, about which the manager answers no
+// question.
 use bm_base::{BlockId, BlockInfo, Event};
 use std::alloc::{AllocError, Global};
 use std::collections::HashMap;

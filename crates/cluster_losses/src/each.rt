@@ -63,8 +63,8 @@ struct Row {
     without: Outcome,
 }
 
-/// The table of what is lost with each of these alone, the worst first: by lost blocks, then by the blocks at levels 0, 1 and 2, then by
-/// number.
+/// The table of what is lost with each of these alone, the worst first: by lost blocks, then by the
+/// blocks at levels 0, 1 and 2, then by number.
 pub fn table_of<H: Threads + Wait + Sync>(
     rt: &H,
     alloc: Global,

@@ -35,8 +35,8 @@ impl Tally {
     }
 }
 
-/// The bytes of all copies that blocks lack, of which some replica can be copied: for each block its length times the wanted replicas
-/// that are not live. All replicas come by block.
+/// The bytes of all copies that blocks lack, of which some replica can be copied: for each block
+/// its length times the wanted replicas that are not live. All replicas come by block.
 pub fn bytes_lacking(held: &Held, replicas: &[Replica], excess: &[ReplicaId]) -> u128 {
     let mut bytes = 0u128;
     let mut tally = Tally::new(BlockId(0));

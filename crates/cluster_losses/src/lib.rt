@@ -1,15 +1,16 @@
-//! What is lost with racks, nodes and storages: reads the lines of the line tool from standard input, makes their calls on one manager,
-//! and tells how the cluster stands without what is lost, where no round came between.
+//! What is lost with racks, nodes and storages: reads the lines of the line tool from standard
+//! input, makes their calls on one manager, and tells how the cluster stands without what is lost,
+//! where no round came between.
 //!
 //! ```text
 //! puljemrod_cluster what-if --lose rack:1 < cluster.jsonl
 //! ```
 //!
-//! The answer has a line for each fact (docs/CLUSTERS.md). For `each-rack` and `each-node` it is a table: each is lost alone, and comes
-//! back before the next.
+//! The answer has a line for each fact (docs/CLUSTERS.md). For `each-rack` and `each-node` it is a
+//! table: each is lost alone, and comes back before the next.
 //!
-//! Ends with status 0; with status 1 where a line was refused, a name is not of the cluster, or a read, a write or memory failed; and
-//! with status 2 where the words ask for nothing that there is.
+//! Ends with status 0; with status 1 where a line was refused, a name is not of the cluster, or a
+//! read, a write or memory failed; and with status 2 where the words ask for nothing that there is.
 #![tactic(auto)]
 
 mod answers;
@@ -19,8 +20,8 @@ pub mod fault;
 pub mod held;
 mod help;
 mod lacking_bytes;
-pub mod loss_events;
 pub mod loss;
+pub mod loss_events;
 mod options;
 mod reading;
 mod set_back;
@@ -36,8 +37,8 @@ use clap::error::ErrorKind;
 use each::{nodes_of, racks_of, table_of};
 use fault::Fault;
 use held::Held;
-use loss_events::Lost;
 use loss::{Loss, Question};
+use loss_events::Lost;
 use options::{Asked, asked_by};
 use reading::read_lines;
 use std::alloc::Global;
@@ -53,8 +54,8 @@ const FAULTED: u8 = 1;
 
 const MISUSED: u8 = 2;
 
-/// Answers what the words of a command line ask, the program's name first, from standard input to standard output, with refused lines
-/// on `notes`. The result is the exit status.
+/// Answers what the words of a command line ask, the program's name first, from standard input to
+/// standard output, with refused lines on `notes`. The result is the exit status.
 pub fn losses_by_words<R: Input + Print + Eprint + AllocGlobal + Threads + Wait + Sync, N: Print>(
     rt: &R,
     notes: &N,

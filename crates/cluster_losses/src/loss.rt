@@ -40,8 +40,8 @@ pub enum Question<'a> {
     EachNode,
 }
 
-/// The question of these words: the values of `--lose` and those of `--drain`. `None` if nothing is lost, a word is none that is known,
-/// or `each-rack` or `each-node` has another word next to it.
+/// The question of these words: the values of `--lose` and those of `--drain`. `None` if nothing is
+/// lost, a word is none that is known, or `each-rack` or `each-node` has another word next to it.
 pub fn question_of<'a>(
     alloc: Global,
     lose: &[&'a str],

@@ -83,7 +83,8 @@ impl Lost {
         Ok(())
     }
 
-    /// First the nodes that drain, then the storages that fail, then the nodes that die, so that each is known when its event comes.
+    /// First the nodes that drain, then the storages that fail, then the nodes that die, so that
+    /// each is known when its event comes.
     pub fn events(&self, alloc: Global) -> Result<Vec<Event>, AllocError>
         ensures { IfOk result (λ v. are_losses v.items ≡ true) }
     {

@@ -13,8 +13,8 @@ pub struct Asked<'a> {
     pub question: Question<'a>,
 }
 
-/// What the words of a command line ask for, the program's name first. An `Err` is a request for help, a command line that is refused,
-/// or out of memory.
+/// What the words of a command line ask for, the program's name first. An `Err` is a request for
+/// help, a command line that is refused, or out of memory.
 pub fn asked_by<'a>(alloc: Global, words: &'a [String]) -> Result<Asked<'a>, Error> {
     let command = command(alloc)?;
     let matches = command.try_get_matches_from(words)?;

@@ -10,7 +10,8 @@ use std::io::{BufRead, Write};
 use std::sync::Wait;
 use std::thread::Threads;
 
-/// Makes the calls of all lines, and says whether all were accepted. What is not is noted by the number of its line.
+/// Makes the calls of all lines, and says whether all were accepted. What is not is noted by the
+/// number of its line.
 pub fn read_lines<R: BufRead, N: Write, H: Threads + Wait + Sync>(
     rt: &H,
     alloc: Global,

@@ -81,7 +81,8 @@ fn push_at(lists: &mut Vec<Vec<Replica>>, at: usize, replica: Replica) -> Result
     Ok(())
 }
 
-/// The events by which a node comes: it registers, reports what is free and what is stored, and drains if it did.
+/// The events by which a node comes: it registers, reports what is free and what is stored, and
+/// drains if it did.
 fn events_of(
     alloc: Global,
     held: &Held,
@@ -150,7 +151,8 @@ fn heartbeat(
     })
 }
 
-/// Adds the full report of a storage, a notice for each replica that the report has no room for, and one for each bad replica.
+/// Adds the full report of a storage, a notice for each replica that the report has no room for,
+/// and one for each bad replica.
 fn add_reports(
     alloc: Global,
     events: &mut Vec<Event>,

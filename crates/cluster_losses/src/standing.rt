@@ -25,8 +25,8 @@ pub struct Standing {
     pub free: u128,
 }
 
-/// How a cluster stands. The manager is asked for all replicas at once, for those in excess, for the missing blocks, and for the level of
-/// each block that has a replica.
+/// How a cluster stands. The manager is asked for all replicas at once, for those in excess, for
+/// the missing blocks, and for the level of each block that has a replica.
 pub fn standing_of(alloc: Global, held: &Held) -> Result<Standing, Refusal>
     ensures levels { IfOk result (λ s. let M = held.now.session.manager in
         s.levels ≡ levels_counted (levels_held M)

@@ -49,7 +49,8 @@ reads_line o left rest old line e taken dropped empty some =
 
 -- ---- how far the lines are taken
 
--- Of an input the lines before number n are taken, from the state M on: what is left of it, and what the lines that are left add.
+-- Of an input the lines before number n are taken, from the state M on: what is left of it, and
+-- what the lines that are left add.
 pub record Taken (M : State) (start : Option (List ℕ)) (input : List ℕ) (n : ℕ) (N : State) (accepted : Bool) (now left : Option (List ℕ)) : Type 0 where
   pub rest : List ℕ
   pub left_is : left ≡ Some rest

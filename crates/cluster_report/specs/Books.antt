@@ -22,8 +22,9 @@ abbrev pub cluster_after : Cluster → Call → Answer → Cluster
 cluster_after C (call.Apply e) (answer.Done d) = change_cluster C e
 cluster_after C _ _ = C
 
--- What an accepted event and a round make of the copies on their way, where the cluster is C: some are taken away or have come; some
--- are given up, and those that are commanded are added. No other call changes them.
+-- What an accepted event and a round make of the copies on their way, where the cluster is C: some
+-- are taken away or have come; some are given up, and those that are commanded are added. No other
+-- call changes them.
 abbrev pub AreCopiesAfter : Cluster → Transfers → Call → Answer → Transfers → Type 0
 AreCopiesAfter C old (call.Apply e) (answer.Done d) new = (H : Holdings) → old.copies ≡ H.pending → new.copies ≡ (change_holdings C H e).pending
 AreCopiesAfter C old call.Round (answer.Commanded told) new =

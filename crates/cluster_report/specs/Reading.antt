@@ -1,4 +1,5 @@
--- The lines of an input: the calls that they ask for are made one after another, and what is refused is told.
+-- The lines of an input: the calls that they ask for are made one after another, and what is
+-- refused is told.
 use Rattle.std.specs.Prelude.{◌≡◌, ℕ, ◌+◌, ◌==◌, Bool, true, ◌&&◌, List, [], ◌∷◌, ◌++◌, length, nat_lt, if◌then◌else◌, Option, Some, None, IfSome, is_none, codes, decimal}
 use Rattle.bm_base.specs.declared.call.Call.{Call}
 use Rattle.bm_base.specs.declared.call.Answer.{Answer}

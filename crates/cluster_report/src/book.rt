@@ -1,4 +1,5 @@
-// What the manager cannot be asked: its nodes and storages, and the copies on their way, as the accepted calls tell of them.
+// What the manager cannot be asked: its nodes and storages, and the copies on their way, as the
+// accepted calls tell of them.
 ghost use Rattle.std.specs.Prelude.{◌≡◌, IfOk, OnOk, OnErr, unwrap_or};
 ghost use Rattle.bm_base.specs.Maps.Map as map;
 ghost use Rattle.bm_base.specs.Machine.State.{Cluster, Holdings, empty_cluster};
@@ -52,8 +53,8 @@ impl Book {
         }
     }
 
-    /// The manager accepted an event. Its transfers cost a look at each copy that is on its way, where the event takes any away; the
-    /// rest at most a look at each node and each storage.
+    /// The manager accepted an event. Its transfers cost a look at each copy that is on its way,
+    /// where the event takes any away; the rest at most a look at each node and each storage.
     pub fn take_event(&mut self, event: &Event) -> Result<(), AllocError>
         requires { first_of (cluster_checks self.old.topology.cluster event.now) ≡ None }
         ensures cluster { OnOk result (self.new.topology.cluster

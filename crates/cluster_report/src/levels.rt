@@ -58,7 +58,8 @@ fn level_in(manager: &Manager, block: BlockId) -> Option<Level>
     }
 }
 
-/// How many of these blocks are at each level, and beside them so many missing ones, in five looks at each. Takes no memory.
+/// How many of these blocks are at each level, and beside them so many missing ones, in five looks
+/// at each. Takes no memory.
 pub fn count_levels(levels: &[Leveled], missing: usize) -> LevelCounts
     ensures { result ≡ levels_counted levels.now missing }
 {
@@ -111,7 +112,8 @@ fn is_at(found: Option<Level>, urgency: Level) -> bool
     }
 }
 
-/// The first of these blocks that want a copy and have one to copy from, by level and then in their order.
+/// The first of these blocks that want a copy and have one to copy from, by level and then in their
+/// order.
 pub fn most_urgent(alloc: Global, levels: &[Leveled]) -> Result<Vec<Leveled>, AllocError>
     ensures { IfOk result (λ v. v.items ≡ most_urgent levels.now) }
 {

@@ -37,8 +37,8 @@ pub struct NodeRow {
     pub storages: Items<StorageRow>,
 }
 
-/// These nodes: a look at each storage for each node, a question about each storage, which lists the blocks on it, and for a
-/// node that drains one about all blocks.
+/// These nodes: a look at each storage for each node, a question about each storage, which lists
+/// the blocks on it, and for a node that drains one about all blocks.
 pub fn node_rows(
     alloc: Global,
     manager: &Manager,

@@ -7,9 +7,9 @@ ghost use Rattle.cluster_report.specs.Reports.{levels_held, report_of};
 ghost use Rattle.cluster_report.specs.Sessions.{Follows};
 
 use crate::book::Book;
-use crate::tag_counts::{TagCounts, count_tags, held_blocks};
 use crate::levels::{LevelCounts, Leveled, MOST_NAMED, count_levels, levels_of, most_urgent};
 use crate::nodes::{NodeRow, all_nodes, all_storages, node_rows};
+use crate::tag_counts::{TagCounts, count_tags, held_blocks};
 use bm_base::{BlockId, Items, Refusal, Replica};
 use bm_manager::Manager;
 use std::alloc::{AllocError, Global};
@@ -32,9 +32,9 @@ pub struct Report {
     pub urgent: Items<Leveled>,
 }
 
-/// How the cluster of a manager stands, by the book beside it. The manager is asked for all replicas at once, which takes the memory
-/// of the list; for those in excess, and for the missing blocks; for the level of each block that has a replica; and, for each node,
-/// as `node_rows` says.
+/// How the cluster of a manager stands, by the book beside it. The manager is asked for all
+/// replicas at once, which takes the memory of the list; for those in excess, and for the missing
+/// blocks; for the level of each block that has a replica; and, for each node, as `node_rows` says.
 pub fn report_of(alloc: Global, manager: &Manager, book: &Book) -> Result<Report, Refusal>
     requires { Follows book.now manager.now }
     ensures { IfOk result (λ r. r ≡ report_of manager.now) }
@@ -68,7 +68,8 @@ fn report_on(
     )
 }
 
-/// The same, where these are the levels of the blocks that have a replica, so many replicas are in excess, and these are the missing blocks.
+/// The same, where these are the levels of the blocks that have a replica, so many replicas are in
+/// excess, and these are the missing blocks.
 fn with_levels(
     alloc: Global,
     manager: &Manager,

@@ -20,8 +20,8 @@ use std::io::{BufRead, Write};
 use std::sync::Wait;
 use std::thread::Threads;
 
-/// Makes the calls of all lines, and then writes how the cluster stands. Answers whether every line was accepted. Nothing is written of
-/// the report before all lines were read.
+/// Makes the calls of all lines, and then writes how the cluster stands. Answers whether every line
+/// was accepted. Nothing is written of the report before all lines were read.
 pub fn run<R: BufRead, W: Write, N: Write, H: Threads + Wait + Sync>(
     rt: &H,
     alloc: Global,
@@ -30,7 +30,8 @@ pub fn run<R: BufRead, W: Write, N: Write, H: Threads + Wait + Sync>(
     notes: &mut N,
     config: &Config,
 ) -> Result<bool, Fault>
-    // Where the reader tells its bytes, the report is that of the state after all calls that their lines ask for.
+    // Where the reader tells its bytes, the report is that of the state after all calls that their
+    // lines ask for.
     ensures text { OnOk result (IfSome (R.remaining reader.old) (λ input.
         Appends (W.contents writer.old) (W.contents writer.new) (report_on config.now input))) }
     ensures accepted { IfOk result (λ all.

@@ -51,8 +51,9 @@ fn count_stray(replicas: &[Replica]) -> usize
     replicas.iter().filter(|replica| is_stray(replica)).count()
 }
 
-/// The numbers of the blocks of these replicas but the stray ones, of neighbours that are equal one. So of all replicas, which come by
-/// block, each known block that has a replica is there once, and they rise.
+/// The numbers of the blocks of these replicas but the stray ones, of neighbours that are equal
+/// one. So of all replicas, which come by block, each known block that has a replica is there once,
+/// and they rise.
 pub fn held_blocks(alloc: Global, replicas: &[Replica]) -> Result<Vec<u64>, AllocError>
     ensures { IfOk result (λ v. v.items ≡ blocks_held replicas.now) }
 {

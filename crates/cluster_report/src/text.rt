@@ -2,9 +2,9 @@
 ghost use Rattle.std.specs.Prelude.{◌≡◌, ◌++◌, IfOk, OnOk, string_bytes};
 ghost use Rattle.cluster_report.specs.Text.{report_text, cluster_text, levels_text, tags_text, work_text, all_blocks, all_replicas};
 
-use crate::tag_counts::TagCounts;
 use crate::levels::LevelCounts;
 use crate::report::Report;
+use crate::tag_counts::TagCounts;
 use crate::text_parts::{write_count, write_missing, write_nodes, write_urgent};
 use std::alloc::{AllocError, Global};
 

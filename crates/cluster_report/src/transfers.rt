@@ -1,5 +1,5 @@
-// The copies on their way: commanded, not come, and not given up. The manager answers no question about them, so they are kept here by
-// its rules.
+// The copies on their way: commanded, not come, and not given up. The manager answers no question
+// about them, so they are kept here by its rules.
 ghost use Rattle.std.specs.Prelude.{◌≡◌, ◌==◌, ◌&&◌, ◌-◌, OnOk, None, true, not, nat_le, map, if◌then◌else◌};
 ghost use Rattle.std.specs.List.{flat_map, list_any};
 ghost use Rattle.bm_base.specs.Maps.Map as map_of;
@@ -41,8 +41,8 @@ impl Transfers {
         self.copies.len()
     }
 
-    /// Forgets the copies that an accepted event takes away, where the cluster is as it was before it. An event that takes some away costs
-    /// a look at each.
+    /// Forgets the copies that an accepted event takes away, where the cluster is as it was before
+    /// it. An event that takes some away costs a look at each.
     #[tactic(auto, unfolding(bm_base::specs::Machine::Events::change_holdings, bm_base::specs::Machine::Events::without_storages, bm_base::specs::Machine::Events::begin_drain, bm_base::specs::Machine::Events::add_block, bm_base::specs::Machine::Events::delete_block, bm_base::specs::Machine::Events::without_pending, bm_base::specs::Machine::Events::change_marks_of_block, bm_base::specs::Machine::Events::set_replication, bm_base::specs::Machine::Events::restamp, bm_base::specs::Machine::Events::enter, bm_base::specs::Machine::Events::remove_replica, bm_base::specs::Machine::Events::make_bad, bm_base::specs::Machine::Events::report, bm_base::specs::Machine::Refusals::cluster_checks))]
     pub fn take_event(&mut self, topology: &Topology, event: &Event)
         requires { first_of (cluster_checks topology.now.cluster event.now) ≡ None }
@@ -123,7 +123,8 @@ impl Transfers {
         self.copies.retain(|copy| !(copy.0.storage == storage && is_named(entries, copy.0.block)));
     }
 
-    /// The manager took a round: copies that are too old are given up, and those that it commands are on their way.
+    /// The manager took a round: copies that are too old are given up, and those that it commands
+    /// are on their way.
     pub fn take_round(&mut self, commands: &Commands) -> Result<(), AllocError>
         ensures copies { OnOk result (self.new.copies ≡ map_of.insert_all
             (map_of.keep self.old.copies

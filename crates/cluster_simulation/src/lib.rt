@@ -33,8 +33,8 @@
 #![tactic(auto)]
 
 mod awaited_copies;
-mod corrupt;
 mod block_counts;
+mod corrupt;
 pub mod counts;
 mod csv;
 mod datanodes;

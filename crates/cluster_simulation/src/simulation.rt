@@ -5,8 +5,8 @@ ghost use Rattle.bm_base.specs.declared.refusal.Refusal.TheVariants.{Memory};
 ghost use Rattle.cluster_simulation.specs.Counting.{IsCounted};
 
 use crate::awaited_copies::AwaitedCopies;
-use crate::corrupt::corrupt_events;
 use crate::block_counts::count_blocks;
+use crate::corrupt::corrupt_events;
 use crate::counts::Counts;
 use crate::datanodes::{carry_out, heartbeat, registration};
 use crate::dice::Dice;

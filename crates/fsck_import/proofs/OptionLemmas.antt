@@ -20,7 +20,8 @@ pub found : (words : List Text) (cmd : Command) (m : ArgMatches) → app_of cmd 
 found words cmd m is h name =
     first_value-rows (found_of m) name ∙ ap (first_of name) ((h (ap is_simple is)).0 ∙ ap (λ (a : App). matches_of a words) is)
 
--- where the parse takes the words, nothing of them is refused but a value that is none of its option
+-- where the parse takes the words, nothing of them is refused but a value that is none of its
+-- option
 pub taken : (words : List Text) (cmd : Command) → app_of cmd ≡ program → (is_simple_and_free (app_of cmd) ≡ true → fault_of (app_of cmd) words ≡ [])
     → (next : Kinds) → or_else (fault_of program words) next ≡ next
 taken words cmd is none next =

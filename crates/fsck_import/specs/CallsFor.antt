@@ -23,7 +23,8 @@ storages_of rows node = map (λ row. row.number) (filter (λ row. row.node == no
 abbrev pub register : List Row → NodeRow → Call
 register rows node = call.Apply (Register node.number node.rack (storages_of rows node.number))
 
--- the free bytes of each of a node's storages: those of the node parted evenly, or those of the option
+-- the free bytes of each of a node's storages: those of the node parted evenly, or those of the
+-- option
 abbrev pub free_on : ℕ → Option ℕ → ℕ → ℕ
 free_on remaining (Some bytes) storages = bytes / max 1 storages
 free_on remaining None storages = remaining

@@ -1,4 +1,5 @@
--- The table of files: the path, the index in the file and the number of each block. Tabs are between them, and a line ends with the byte 10.
+-- The table of files: the path, the index in the file and the number of each block. Tabs are
+-- between them, and a line ends with the byte 10.
 use Rattle.std.specs.Prelude.{ℕ, List, [], ◌++◌, codes, decimal, slice_get}
 use Rattle.std.specs.List.{flat_map}
 use Rattle.std.specs.Option.{option_map_or}

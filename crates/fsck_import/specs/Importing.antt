@@ -49,7 +49,8 @@ pub record TellsFiles (text : Text) (start : Reading) (old new : Option Text) : 
   pub told : reading_of start text ≡ Ok read
   pub written : Appends old new (files_text read.listing.files)
 
--- a refusal is that of the first line that is refused, and a fault of writing comes of a text that is taken
+-- a refusal is that of the first line that is refused, and a fault of writing comes of a text that
+-- is taken
 abbrev pub IsRunFault : Fault → Result Reading Unread → Type 0
 IsRunFault (fault.Refused unread) told = told ≡ Err unread
 IsRunFault fault.Write told = IsOk told

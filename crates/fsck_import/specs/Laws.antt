@@ -1,4 +1,7 @@
--- What holds of the calls for the blocks of a text: each block is added once, before any replica; each replica of it is reported once, and nothing else is; the corrupt ones are called corrupt, and no other; and the nodes of the drained ones drain, with those that drained before, and no other.
+-- What holds of the calls for the blocks of a text: each block is added once, before any replica;
+-- each replica of it is reported once, and nothing else is; the corrupt ones are called corrupt,
+-- and no other; and the nodes of the drained ones drain, with those that drained before, and no
+-- other.
 use Rattle.std.specs.Prelude.{◌≡◌, ◌≤◌, ◌&&◌, ℕ, Bool, true, false, nat_eq, List, [], ◌∷◌, ◌++◌, map, filter, length, count_by, Ok}
 use Rattle.std.specs.List.{flat_map, list_any}
 use Rattle.std.specs.List.Sorted.{IsPermutation}

@@ -1,4 +1,5 @@
--- The lines of a text, one after another. T is what takes them, and `after` says what one more line makes of it, or why the line is refused.
+-- The lines of a text, one after another. T is what takes them, and `after` says what one more line
+-- makes of it, or why the line is refused.
 use Rattle.std.specs.Prelude.{◌≡◌, ⊤, ℕ, ◌+◌, ◌==◌, List, [], ◌∷◌, Option, IfSome, Result, Ok, Err, if◌then◌else◌}
 use Rattle.std.specs.Str.{is_utf8}
 use Rattle.bm_lines.specs.Lines.{lines_of}
@@ -22,11 +23,13 @@ at_line n (Ok x) = Ok x
 at_line n (Err why) = Err (record { line = n; why = why })
 
 module _ {T : Type 0} (after : T → Text → Result T Cause) where
-  -- after a line of these bytes, which are UTF-8; a carriage return, 13, at its end is no part of it
+  -- after a line of these bytes, which are UTF-8; a carriage return, 13, at its end is no part of
+  -- it
   abbrev pub after_bytes : T → Text → Result T Cause
   after_bytes s line = if is_utf8 line then after s (without_end 13 line) else Err cause.NotText
 
-  -- after these lines, of which the first is numbered n, with the number of the line after the last; or the first that is refused
+  -- after these lines, of which the first is numbered n, with the number of the line after the
+  -- last; or the first that is refused
   abbrev pub after_lines : ℕ → T → List Text → Result (T × ℕ) Unread
   after_lines n s [] = Ok (s, n)
   after_lines n s (line ∷ lines) = after_ok (λ t. after_lines (n + 1) t lines) (at_line n (after_bytes s line))

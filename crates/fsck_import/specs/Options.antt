@@ -1,5 +1,6 @@
--- What the words of the command line ask for. How the words are read (an option's name and its value, by two words or by one with `=`)
--- and when they are refused is said by the definitions of the crate that reads them, clap: `matches_of` and `fault_of`.
+-- What the words of the command line ask for. How the words are read (an option's name and its
+-- value, by two words or by one with `=`) and when they are refused is said by the definitions of
+-- the crate that reads them, clap: `matches_of` and `fault_of`.
 use Rattle.std.specs.Prelude.{ℕ, ◌==◌, ◌&&◌, ◌||◌, Bool, not, List, [], ◌∷◌, Option, Some, None, unwrap_or, option_and_then, option_map, codes, if◌then◌else◌}
 use Rattle.std.specs.List.{list_any, list_all, slice_split}
 use Rattle.std.specs.Str.{bytes_eq}

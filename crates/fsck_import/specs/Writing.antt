@@ -15,7 +15,8 @@ use Rattle.fsck_import.specs.declared.fault.Fault.TheVariants as fault
 abbrev pub lines_for : List Call → Text
 lines_for calls = flat_map (λ call. ended (line_text call)) calls
 
--- a line that the line tool reads as this call: it asks for the call, has no line end in it, and is not too long
+-- a line that the line tool reads as this call: it asks for the call, has no line end in it, and is
+-- not too long
 pub record IsLineOf (call : Call) (line : Text) : Type 0 where
   pub asks : call_of line ≡ Some call
   pub whole : IsPart line
@@ -26,7 +27,8 @@ pub record Written (calls : List Call) (old new : Option Text) : Type 0 where
   pub written : Appends old new (lines_for calls)
   pub each : AllByRecursion (λ call. IsLineOf call (line_text call)) calls
 
--- what was written tells these calls: the line tool cuts it into lines of which each asks for its call, and none is too long to be read
+-- what was written tells these calls: the line tool cuts it into lines of which each asks for its
+-- call, and none is too long to be read
 pub record Tells (calls : List Call) (old new : Option Text) : Type 0 where
   pub written : Appends old new (lines_for calls)
   pub read : map call_of (lines_of (lines_for calls)) ≡ map Some calls

@@ -36,7 +36,8 @@ impl<W: Write> Destination for Stream<W> {
     }
 }
 
-/// A file of which the table is all: made where there is none, and opened only when the table comes.
+/// A file of which the table is all: made where there is none, and opened only when the table
+/// comes.
 #[derive(Drop)]
 pub struct TableFile<'f, 'p, F> {
     files: &'f F,

@@ -36,9 +36,9 @@ pub struct Notes {
     pub lines: u64,
 }
 
-/// Reads a whole text of fsck, and then writes the tables of names and of files, and the lines for its
-/// cluster. `remaining` is the number of free bytes on each storage whose node's are not known. Nothing
-/// is written before all of the text was read, and no line before the whole tables.
+/// Reads a whole text of fsck, and then writes the tables of names and of files, and the lines for
+/// its cluster. `remaining` is the number of free bytes on each storage whose node's are not known.
+/// Nothing is written before all of the text was read, and no line before the whole tables.
 #[tactic(auto, using(crate::proofs::ImportLemmas::reading_refuses, crate::proofs::ImportLemmas::output_refuses, crate::proofs::ImportLemmas::output_writes, crate::proofs::ImportLemmas::unwritten, crate::proofs::ImportLemmas::whole_text, crate::proofs::ImportLemmas::whole_names, crate::proofs::ImportLemmas::whole_files))]
 pub fn import<R: BufRead, W: Write, N: Destination, F: Destination>(
     alloc: Global,
@@ -56,8 +56,8 @@ pub fn import<R: BufRead, W: Write, N: Destination, F: Destination>(
     ensures filed { OnOk result (IfSome (R.remaining reader.old) (λ text.
         TellsFiles text start (F.contents files.old) (F.contents files.new))) }
     ensures refused { IfErr result (λ f. IsFaultOfRun start f (R.remaining reader.old)) }
-    // If a line is refused or a read fails, the writer is as it was, and so is what takes the tables. The
-    // writer is so too if a table cannot be written.
+    // If a line is refused or a read fails, the writer is as it was, and so is what takes the
+    // tables. The writer is so too if a table cannot be written.
     ensures nothing_written { IfErr result (λ f. WritesNoLine f writer.old writer.new) }
     ensures nothing_named { IfErr result (λ f. WritesNothing f names.old names.new) }
     ensures nothing_filed { IfErr result (λ f. WritesNothing f files.old files.new) }

@@ -38,9 +38,10 @@ const MISUSED: u8 = 2;
 /// How many lines the line tool reads in a run.
 const MOST_LINES: u64 = 1_048_576;
 
-/// Makes the import that the words of a command line ask for, the program's name first, from standard
-/// input to standard output; what goes to standard error is written to `notes`, or said by `rt`. The
-/// result is the exit status: 0, 1 after a fault, or 2 if the words ask for nothing that there is.
+/// Makes the import that the words of a command line ask for, the program's name first, from
+/// standard input to standard output; what goes to standard error is written to `notes`, or said by
+/// `rt`. The result is the exit status: 0, 1 after a fault, or 2 if the words ask for nothing that
+/// there is.
 pub fn import_by_words<R: Input + Print + Eprint + Files + AllocGlobal, N: Print>(
     rt: &R,
     notes: &N,

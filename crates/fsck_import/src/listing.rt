@@ -8,7 +8,8 @@ use fsck_text::path_of;
 use std::alloc::{AllocError, Global};
 use std::marker::Model;
 
-/// The path of the file that is being read, and the files of the blocks so far. Nothing is listed where that is not asked for.
+/// The path of the file that is being read, and the files of the blocks so far. Nothing is listed
+/// where that is not asked for.
 #[derive(Drop)]
 pub struct Listing {
     is_kept: bool,

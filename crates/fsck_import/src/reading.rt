@@ -53,7 +53,8 @@ fn line_fault(alloc: Global, line: &str, fault: fsck_files::LineFault) -> LineFa
 }
 
 impl Reading {
-    /// Nothing was read; the cluster has the nodes that are known. The files of blocks are kept or not.
+    /// Nothing was read; the cluster has the nodes that are known. The files of blocks are kept or
+    /// not.
     pub fn new(
         alloc: Global,
         nodes: Cluster,

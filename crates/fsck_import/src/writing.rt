@@ -16,8 +16,8 @@ use fsck_cluster::{Cluster, Held, NodeRow, Row};
 use std::alloc::{AllocError, Global};
 use std::io::Write;
 
-/// Writes the line of each call for a cluster, and flushes. `remaining` is the number of free bytes on
-/// each storage whose node's are not known.
+/// Writes the line of each call for a cluster, and flushes. `remaining` is the number of free bytes
+/// on each storage whose node's are not known.
 pub fn write_flushed<W: Write>(
     alloc: Global,
     writer: &mut W,

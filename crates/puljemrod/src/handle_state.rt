@@ -83,7 +83,12 @@ pub fn take_call(alloc: Global, kept: &mut HandleState, call: Call) -> u32
 }
 
 /// Makes a heartbeat. Its list is copied into memory of an earlier one, if that suffices.
-pub fn take_heartbeat(alloc: Global, kept: &mut HandleState, node: u32, rows: &[RemainingRow]) -> u32
+pub fn take_heartbeat(
+    alloc: Global,
+    kept: &mut HandleState,
+    node: u32,
+    rows: &[RemainingRow],
+) -> u32
     ensures { IsBeat kept.old node (map remaining_of rows.now) kept.new result }
 {
     match kept.spare.copy(alloc, rows) {

@@ -9,14 +9,14 @@ use bm_base::{
 use bm_crew::NoGate;
 use bm_manager::Manager;
 use bm_view::{Located, Locator, Publisher, open_view};
-use std::alloc::Global;
-use std::process::Abort;
-use std::sync::Wait;
-use std::thread::Threads;
 use callers::{
     Pieces, Seen, SideBySide, apply_beside_reader, apply_counted, apply_or_free, arrival, for_node,
     missing_if_dead, publish_and_look, replica_lines, tidy_line, turn,
 };
+use std::alloc::Global;
+use std::process::Abort;
+use std::sync::Wait;
+use std::thread::Threads;
 
 fn stamp() -> Stamp {
     Stamp {

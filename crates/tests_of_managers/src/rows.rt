@@ -1,6 +1,6 @@
 // Scripts with their answers: one function runs all rows of a table.
 use bm_base::Config;
-use bm_session::{FaultCounting, Fault, Summary, run};
+use bm_session::{Fault, FaultCounting, Summary, run};
 use std::alloc::{AllocError, Global};
 use std::process::Abort;
 use std::random::RandomSource;

@@ -3,7 +3,7 @@
 use crate::noting_streams::{Notes, Noting, NotingReader, Pieces};
 use crate::rows::{FIRST_PATH, FIRST_PATH_ANSWERS, USUAL};
 use bm_base::Config;
-use bm_session::{FaultCounting, Fault, Summary, run};
+use bm_session::{Fault, FaultCounting, Summary, run};
 use std::alloc::Global;
 use std::random::RandomSource;
 use std::sync::Wait;

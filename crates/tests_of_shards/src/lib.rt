@@ -6,21 +6,21 @@
 #[cfg(test)]
 mod arena;
 #[cfg(test)]
-mod round_scan;
-#[cfg(test)]
 mod levels;
-#[cfg(test)]
-mod queries;
 #[cfg(test)]
 mod pending;
 #[cfg(test)]
 mod placement;
+#[cfg(test)]
+mod queries;
 #[cfg(test)]
 mod queues;
 #[cfg(test)]
 mod report;
 #[cfg(test)]
 mod round;
+#[cfg(test)]
+mod round_scan;
 #[cfg(test)]
 mod shard;
 #[cfg(test)]

@@ -8,10 +8,10 @@ ghost use Rattle.bm_levels.specs.Leveled.{AreLevels};
 
 use crate::support::{STAMP, four_nodes};
 use bm_base::{BlockId, BlockInfo, HashSecret, Level, RoundPart, Stamp, StorageId, Wish};
-use bm_round_scan::{find_round, likely_bound};
 use bm_levels::LeveledBlocks;
 use bm_pending::PendingTransfers;
 use bm_report::Report;
+use bm_round_scan::{find_round, likely_bound};
 use bm_topo::Topology;
 use std::alloc::Global;
 use std::process::Abort;

@@ -6,10 +6,10 @@ ghost use Rattle.bm_base.specs.Machine.Answering.{IfFound};
 ghost use Rattle.bm_lines.specs.Reading.CallOf.{call_for, call_in, call_of, view_of};
 ghost use Rattle.bm_lines.specs.Reading.Op.{has_list};
 
+use super::canonical::canonical_call;
 use super::fields::{block_field, node_field, rack_field, repl_field, stamp_field, storage_field};
 use super::lists::list_field;
 use super::op::{Op, op_of};
-use super::canonical::canonical_call;
 use bm_base::{Call, Entry, Event, Items, Remaining, StorageId};
 use serde_json::Value;
 use std::alloc::{AllocError, Global};

@@ -6,12 +6,12 @@ ghost use Rattle.bm_lines.specs.Fitting.{FitsWhole};
 ghost use Rattle.bm_base.specs.Machine.Answering.{IfFound};
 ghost use Rattle.bm_lines.specs.Reading.Canonical.{Asks, op_text};
 
-use super::op::Op;
 use super::canonical_calls::{
     add, corrupt, delete, heartbeat, level, places, read_deleted, read_received, report, restamp,
     set_replication,
 };
 use super::canonical_numbers::after;
+use super::op::Op;
 use bm_base::Call;
 use std::alloc::{AllocError, Global};
 
