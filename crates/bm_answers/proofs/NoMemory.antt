@@ -9,10 +9,7 @@ use Rattle.bm_base.specs.declared.call.Answer.{Answer}
 use Rattle.bm_base.specs.declared.call.Answer.TheVariants as answer
 use Rattle.bm_base.specs.declared.refusal.Refusal.{Refusal}
 use Rattle.bm_base.specs.declared.refusal.Refusal.TheVariants as refusal
-use Rattle.bm_base.specs.Machine.State.{Cluster, Holdings, State}
-use Rattle.bm_base.specs.Machine.Refusals.{first_of, ◌when◌, ◌before◌, knows_node, knows_storage, knows_block, last_number, cluster_checks, block_checks, calls_spent, refusal_of, round_refusal, node_refusal, storage_refusal, block_refusal}
-use Rattle.bm_base.specs.Machine.Calls.{step, refused_or}
-use Rattle.bm_base.specs.Machine.Answering.{is_out_of_memory, MayAnswer, may_run_out_of_memory}
+use Rattle.bm_base.specs.Words.{Cluster, Holdings, State, first_of, ◌when◌, ◌before◌, knows_node, knows_storage, knows_block, last_number, cluster_checks, block_checks, calls_spent, refusal_of, round_refusal, node_refusal, storage_refusal, block_refusal, step, refused_or, is_out_of_memory, MayAnswer, may_run_out_of_memory}
 
 abbrev IsOther : Option Refusal → Type 0
 IsOther None = Unit {0}

@@ -3,10 +3,7 @@ use Rattle.std.specs.Prelude.{ℕ, Bool, true, false, List, length, if◌then◌
 use Rattle.bm_base.specs.declared.call.Call.{Call}
 use Rattle.bm_base.specs.declared.call.Answer.{Answer}
 use Rattle.bm_base.specs.declared.call.Answer.TheVariants as answer
-use Rattle.bm_base.specs.Machine.State.{State}
-use Rattle.bm_base.specs.Machine.Calls.{step}
-use Rattle.bm_base.specs.Machine.Answering.{is_refused, may_run_out_of_memory}
-use Rattle.bm_base.specs.Machine.Refusals.{refusal_number}
+use Rattle.bm_base.specs.Words.{State, step, is_refused, may_run_out_of_memory, refusal_number}
 use Rattle.bm_lines.specs.declared.limits.TheConstants.{MAX_LINE}
 use Rattle.bm_lines.specs.Print.{answer_text}
 use Rattle.bm_lines.specs.Reading.CallOf.{call_of}

@@ -1,8 +1,7 @@
 -- The arena once the marks of a replica are set, however its triplet was found.
 use Rattle.std.proofs.Common.{◌≡◌, ◌≢◌, ℕ, Some, IsSome, refl, sym, subst}
 use Rattle.bm_base.specs.declared.replica.Marks.{Marks}
-use Rattle.bm_base.specs.Maps.Map.{insert}
-use Rattle.bm_base.specs.Machine.State.{replica_at}
+use Rattle.bm_base.specs.Words.{insert, replica_at}
 use Rattle.bm_arena.specs.Contents.{Contents, block_at, slot_of, marks_at, known_of, IsLawful, KeepsAllBut, with_marks}
 use Rattle.bm_arena.specs.Holding.{replicas_of, blocks_of}
 use Rattle.bm_arena.proofs.SetMarks.{set_at, set-marks, set-others, set-elsewhere, set-known}

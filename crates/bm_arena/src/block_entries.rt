@@ -4,8 +4,7 @@ ghost use Rattle.bm_base.specs.declared.refusal.Refusal.TheVariants.{Memory};
 ghost use Rattle.bm_arena.specs.Triplets.{Block, change_block};
 ghost use Rattle.bm_arena.specs.Contents.{dropped, room_at, with_room, with_marks, with_info, block_at, marks_at, known_of, slot_of, IsAdded, HasCapacity, IsLawful, KeepsAllBut};
 ghost use Rattle.bm_arena.specs.Holding.{replicas_of, blocks_of, with_known};
-ghost use Rattle.bm_base.specs.Maps.Map.{insert};
-ghost use Rattle.bm_base.specs.Machine.State.{replica_at};
+ghost use Rattle.bm_base.specs.Words.{insert, replica_at};
 
 use crate::arena::{Arena, Slot};
 use crate::links;

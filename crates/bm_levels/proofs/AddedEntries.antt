@@ -3,8 +3,7 @@
 use Rattle.std.specs.Prelude.{◌≡◌, ◌↔◌, ℕ, ◌+◌, ◌<◌, true, false, ◌==◌, if◌then◌else◌, Option, Some, None, IsSome, option_and_then}
 use Rattle.std.proofs.Common.{refl, sym, ap, subst, ◌∙◌, arith, inl, inr}
 use Rattle.std.proofs.lemmas.Bool.{cases_eq, ne_eqb, eq-eqb, true≢false}
-use Rattle.bm_base.specs.Machine.State.{Cluster}
-use Rattle.bm_base.specs.Machine.Replicas.{rack_of, is_draining, is_multi_rack}
+use Rattle.bm_base.specs.Words.{Cluster, rack_of, is_draining, is_multi_rack}
 use Rattle.bm_arena.specs.Triplets.{Block}
 use Rattle.bm_arena.specs.Contents.{Contents, block_at, slot_of, marks_at, find_marks, IsAdded, IsLawful}
 use Rattle.bm_arena.proofs.HeldReplicas.{same_replicas, same_blocks}

@@ -4,8 +4,7 @@ use Rattle.std.specs.List.{cons_option}
 use Rattle.std.proofs.Common.{cond, refl, ap, ◌∙◌}
 use Rattle.bm_base.specs.declared.replica.Marks.{Marks}
 use Rattle.bm_base.specs.declared.replica.BlockInfo.{BlockInfo}
-use Rattle.bm_base.specs.Machine.Replicas.{is_usable}
-use Rattle.bm_base.specs.Machine.Levels.{level_of}
+use Rattle.bm_base.specs.Words.{is_usable, level_of}
 use Rattle.bm_base.specs.Spread.{spread}
 use Rattle.bm_base.proofs.ForEach.{Each}
 use Rattle.bm_arena.specs.Triplets.{Block}

@@ -8,9 +8,7 @@ use Rattle.bm_base.specs.declared.replica.Marks.{Marks}
 use Rattle.bm_base.specs.declared.replica.Tag.{Tag}
 use Rattle.bm_base.specs.declared.replica.Tag.TheVariants.{Good, Stale, Bad, Stray}
 use Rattle.bm_base.specs.declared.replica.BlockInfo.{BlockInfo}
-use Rattle.bm_base.specs.Machine.State.{Cluster}
-use Rattle.bm_base.specs.Machine.Replicas.{is_good}
-use Rattle.bm_base.specs.Machine.Levels.{level_of}
+use Rattle.bm_base.specs.Words.{Cluster, is_good, level_of}
 use Rattle.bm_base.specs.Spread.{spread}
 use Rattle.bm_arena.specs.Triplets.{Block, change_block}
 use Rattle.bm_arena.specs.Contents.{Contents, block_at, marks_at, find_marks, change_marks, with_marks, known_of}

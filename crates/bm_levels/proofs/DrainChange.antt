@@ -2,10 +2,7 @@
 use Rattle.std.specs.Prelude.{◌≡◌, ℕ, Bool, true, false, ◌==◌, if◌then◌else◌, Option, Some, None, IsSome, is_some}
 use Rattle.std.specs.Option.{option_map_or}
 use Rattle.std.proofs.Common.{cond, refl, sym, ap, subst, ◌∙◌, inl, inr, ◌⊎◌}
-use Rattle.bm_base.specs.Maps.Map.{get, insert, remove}
-use Rattle.bm_base.specs.Machine.State.{Cluster}
-use Rattle.bm_base.specs.Machine.Replicas.{node_of, rack_of, has_storage, drains, is_draining, is_multi_rack}
-use Rattle.bm_base.specs.Machine.Events.{drain, undrain}
+use Rattle.bm_base.specs.Words.{get, insert, remove, Cluster, node_of, rack_of, has_storage, drains, is_draining, is_multi_rack, drain, undrain}
 use Rattle.bm_base.proofs.MapLaws.{get-insert, get-remove}
 use Rattle.bm_base.proofs.Ties.{number_tie}
 use Rattle.bm_arena.specs.Contents.{Contents, block_at, marks_at, IsLawful}

@@ -24,10 +24,7 @@ use Rattle.std.proofs.lemmas.List.Folds.{list_any-append, list_any_at, list_any_
 use Rattle.bm_base.specs.declared.replica.ReplicaId.{ReplicaId}
 use Rattle.bm_base.specs.declared.replica.Marks.{Marks}
 use Rattle.bm_base.specs.Maps.Conjunction.{first, second}
-use Rattle.bm_base.specs.Maps.Lists.{has}
-use Rattle.bm_base.specs.Maps.Map.{Map, revise, revise_at, entries, keep}
-use Rattle.bm_base.specs.Machine.State.{Cluster, Holdings, by_replica, replica_cmp}
-use Rattle.bm_base.specs.Machine.Excess.{excess_in}
+use Rattle.bm_base.specs.Words.{has, Map, revise, revise_at, entries, keep, Cluster, Holdings, by_replica, replica_cmp, excess_in}
 use Rattle.bm_base.specs.RoundParts.{surplus}
 use Rattle.bm_base.proofs.Clusters.{eqb_turned}
 use Rattle.bm_base.proofs.MapLaws.{entries-keep}

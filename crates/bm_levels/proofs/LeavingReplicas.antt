@@ -4,11 +4,9 @@ use Rattle.std.proofs.Common.{cond, refl, sym, ap, subst, ◌∙◌, arith}
 use Rattle.std.proofs.lemmas.Bool.{eqb-false, false≢true}
 use Rattle.bm_base.specs.declared.replica.ReplicaId.{ReplicaId}
 use Rattle.bm_base.specs.declared.replica.Marks.{Marks}
-use Rattle.bm_base.specs.Maps.Map.{get, keep, remove, len}
-use Rattle.bm_base.specs.Machine.State.{replica_at}
+use Rattle.bm_base.specs.Words.{get, keep, remove, len, replica_at, new_replicas}
 use Rattle.bm_maps.specs.SlotLists.{IsMember}
 use Rattle.bm_maps.proofs.SlotLists.{length-distinct_below}
-use Rattle.bm_base.specs.Machine.Calls.{new_replicas}
 use Rattle.bm_base.proofs.MapLaws.{same_map, get-keep}
 use Rattle.bm_base.proofs.Differences.{some_left}
 use Rattle.bm_base.proofs.MapEntries.{get_left}

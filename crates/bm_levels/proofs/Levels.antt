@@ -4,12 +4,8 @@ use Rattle.std.specs.Option.{option_map_or}
 use Rattle.std.proofs.Common.{refl, sym, ap, ◌∙◌}
 use Rattle.bm_base.specs.declared.replica.Marks.{Marks}
 use Rattle.bm_base.specs.declared.replica.BlockInfo.{BlockInfo}
-use Rattle.bm_base.specs.Maps.Map.{Map, get}
-use Rattle.bm_base.specs.Machine.State.{Cluster, Holdings, by_replica, replica_at}
-use Rattle.bm_base.specs.Maps.Lists.{distinct}
+use Rattle.bm_base.specs.Words.{Map, get, Cluster, Holdings, by_replica, replica_at, distinct, storages_where, live, drained, is_live_on, is_drained_on, rack_of, racks, is_multi_rack, level, level_of}
 use Rattle.bm_base.specs.Spread.{spread}
-use Rattle.bm_base.specs.Machine.Replicas.{storages_where, live, drained, is_live_on, is_drained_on, rack_of, racks, is_multi_rack}
-use Rattle.bm_base.specs.Machine.Levels.{level, level_of}
 use Rattle.bm_base.proofs.Distinct.{level_of-spread}
 use Rattle.bm_base.proofs.Membership.{has_where, once_where}
 use Rattle.bm_base.proofs.Sets.{racks_alike, AreAlike}

@@ -8,9 +8,7 @@ use Rattle.std.proofs.Common.{cond, refl, sym, ap, ◌∙◌}
 use Rattle.bm_base.specs.declared.replica.ReplicaId.{ReplicaId}
 use Rattle.bm_base.specs.declared.replica.Marks.{Marks}
 use Rattle.bm_base.specs.declared.commands.Delete.{Delete}
-use Rattle.bm_base.specs.Maps.Map.{Map, get, revise, revise_at}
-use Rattle.bm_base.specs.Machine.State.{by_replica, replica_cmp, replica_at}
-use Rattle.bm_base.specs.Machine.Rounds.{is_commanded}
+use Rattle.bm_base.specs.Words.{Map, get, revise, revise_at, by_replica, replica_cmp, replica_at, is_commanded}
 use Rattle.bm_base.specs.RoundParts.{own_deletes}
 use Rattle.bm_base.specs.Shards.{shard_of}
 use Rattle.bm_base.proofs.MapLaws.{same_map, get-revise}

@@ -6,9 +6,7 @@ use Rattle.std.specs.FinMap.{find}
 use Rattle.std.proofs.Common.{cond, refl, sym, ap, ◌∙◌, arith, inl, inr}
 use Rattle.std.proofs.lemmas.Bool.{cases_eq, false≢true}
 use Rattle.bm_base.specs.declared.storage.StorageInfo.{StorageInfo}
-use Rattle.bm_base.specs.Maps.Map.{Order, by_number, get, keys, entries, len}
-use Rattle.bm_base.specs.Machine.State.{Cluster}
-use Rattle.bm_base.specs.Machine.Replicas.{node_of, has_storage}
+use Rattle.bm_base.specs.Words.{Order, by_number, get, keys, entries, len, Cluster, node_of, has_storage}
 use Rattle.bm_base.proofs.MapEntries.{same_key}
 
 -- a key that is found has an index

@@ -6,8 +6,7 @@ use Rattle.std.proofs.Common.{cond, refl, sym, ap, ◌∙◌, inl, inr, ◌⊎�
 use Rattle.std.proofs.lemmas.Bool.{cases_eq}
 use Rattle.std.proofs.lemmas.Option.{same_Some}
 use Rattle.std.proofs.lemmas.Map.Entries.{lookup_from_place}
-use Rattle.bm_base.specs.Machine.State.{Cluster}
-use Rattle.bm_base.specs.Machine.Replicas.{rack_of, is_draining, is_multi_rack}
+use Rattle.bm_base.specs.Words.{Cluster, rack_of, is_draining, is_multi_rack}
 use Rattle.bm_maps.specs.SlotLists.{IsMember}
 use Rattle.bm_maps.proofs.SlotLists.{dec_among}
 use Rattle.bm_arena.specs.Triplets.{Block}

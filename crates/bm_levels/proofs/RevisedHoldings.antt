@@ -10,8 +10,7 @@ use Rattle.std.proofs.lemmas.Bool.{cases_Bool, eqb-true, eq-eqb}
 use Rattle.std.proofs.lemmas.Option.{none-some}
 use Rattle.bm_base.specs.declared.replica.Marks.{Marks}
 use Rattle.bm_base.specs.declared.replica.BlockInfo.{BlockInfo}
-use Rattle.bm_base.specs.Maps.Map.{Map, Order, by_number, get, insert, remove, revise, revise_at}
-use Rattle.bm_base.specs.Machine.State.{replica_at}
+use Rattle.bm_base.specs.Words.{Map, Order, by_number, get, insert, remove, revise, revise_at, replica_at}
 use Rattle.bm_base.proofs.MapLaws.{same_map, get-remove, get-revise}
 use Rattle.bm_base.proofs.MapEntries.{same_key}
 use Rattle.bm_maps.proofs.ReplaceLaws.{same_change, no_change, insert_there}

@@ -11,11 +11,7 @@ use Rattle.bm_base.specs.declared.replica.Marks.{Marks}
 use Rattle.bm_base.specs.declared.replica.ReplicaId.{ReplicaId}
 use Rattle.bm_maps.specs.SlotLists.{IsMember}
 use Rattle.bm_maps.proofs.SlotLists.{dec_among}
-use Rattle.bm_base.specs.Maps.Map.{Map, get, revise, entries, empty}
-use Rattle.bm_base.specs.Machine.State.{Cluster, Holdings, by_replica, replica_at}
-use Rattle.bm_base.specs.Maps.Lists.{has}
-use Rattle.bm_base.specs.Machine.Replicas.{storages_where}
-use Rattle.bm_base.specs.Machine.Excess.{excess_in, without_expired, with_excess_reset, without_unordered_excess, with_surplus_marked}
+use Rattle.bm_base.specs.Words.{Map, get, revise, entries, empty, Cluster, Holdings, by_replica, replica_at, has, storages_where, excess_in, without_expired, with_excess_reset, without_unordered_excess, with_surplus_marked}
 use Rattle.bm_base.specs.RoundParts.{surplus}
 use Rattle.bm_base.proofs.MapLaws.{same_map, get-revise}
 use Rattle.bm_base.proofs.MapEntries.{entry_passes, passes_entry}

@@ -9,9 +9,7 @@ use Rattle.bm_base.specs.declared.replica.Marks.{Marks}
 use Rattle.bm_base.specs.declared.replica.Tag.{Tag}
 use Rattle.bm_base.specs.declared.replica.Tag.TheVariants.{Good, Stale, Bad, Stray}
 use Rattle.bm_base.specs.declared.replica.BlockInfo.{BlockInfo}
-use Rattle.bm_base.specs.Maps.Map.{Map, get}
-use Rattle.bm_base.specs.Machine.State.{by_replica, replica_at}
-use Rattle.bm_base.specs.Machine.Replicas.{is_good, is_usable, storages_where}
+use Rattle.bm_base.specs.Words.{Map, get, by_replica, replica_at, is_good, is_usable, storages_where}
 use Rattle.bm_arena.specs.Triplets.{Block}
 use Rattle.bm_arena.specs.Contents.{Contents, block_at, slot_of, find_marks, IsLawful}
 use Rattle.bm_base.proofs.Options.{fails_not}

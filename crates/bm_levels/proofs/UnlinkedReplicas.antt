@@ -2,8 +2,7 @@
 use Rattle.std.specs.Prelude.{◌≡◌, ◌≢◌, ℕ, ◌+◌, ◌==◌, Bool, List, ◌∷◌, ◌++◌, Option, Some, None, IsSome, option_and_then}
 use Rattle.std.proofs.Common.{cond, refl, sym, ap, subst, ◌∙◌, inl, inr, ◌⊎◌}
 use Rattle.std.proofs.lemmas.Bool.{cases_eq, eq-eqb}
-use Rattle.bm_base.specs.Maps.Map.{remove}
-use Rattle.bm_base.specs.Machine.State.{replica_at}
+use Rattle.bm_base.specs.Words.{remove, replica_at}
 use Rattle.bm_maps.specs.SlotLists.{IsMember, without}
 use Rattle.bm_maps.proofs.SlotLists.{dec_among}
 use Rattle.bm_base.proofs.Options.{there}

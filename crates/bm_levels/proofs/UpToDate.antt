@@ -5,12 +5,8 @@ use Rattle.std.proofs.lemmas.Bool.{eq-eqb}
 use Rattle.std.specs.List.{list_any}
 use Rattle.bm_base.specs.declared.event.Remaining.{Remaining}
 use Rattle.bm_base.specs.declared.replica.Marks.{Marks}
-use Rattle.bm_base.specs.Maps.Map.{get, contains_key}
-use Rattle.bm_base.specs.Machine.State.{Cluster, replica_at}
+use Rattle.bm_base.specs.Words.{get, contains_key, Cluster, replica_at, rack_of, has_storage, is_draining, is_multi_rack, register, heartbeat, without_node, without_storage, knows_storage}
 use Rattle.bm_maps.specs.SlotLists.{IsMember}
-use Rattle.bm_base.specs.Machine.Replicas.{rack_of, has_storage, is_draining, is_multi_rack}
-use Rattle.bm_base.specs.Machine.Events.{register, heartbeat, without_node, without_storage}
-use Rattle.bm_base.specs.Machine.Refusals.{knows_storage}
 use Rattle.bm_base.proofs.ForEach.{Each, each_then}
 use Rattle.bm_parts.specs.LevelLaws.{IsRacked}
 use Rattle.bm_parts.proofs.Deaths.{rack_elsewhere, draining_elsewhere, rack_left, draining_left}

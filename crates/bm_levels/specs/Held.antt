@@ -1,7 +1,6 @@
 -- The holdings of the blocks and replicas at the slots of an arena.
 use Rattle.std.specs.Prelude.{ℕ}
-use Rattle.bm_base.specs.Maps.Map.{Map}
-use Rattle.bm_base.specs.Machine.State.{Holdings, by_replica}
+use Rattle.bm_base.specs.Words.{Map, Holdings, by_replica}
 use Rattle.bm_arena.specs.Contents.{Contents}
 use Rattle.bm_arena.specs.Holding.{replicas_of, blocks_of}
 

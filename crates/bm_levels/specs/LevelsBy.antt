@@ -1,11 +1,8 @@
 -- Levels by given racks and draining nodes, which need not be those of one cluster.
 use Rattle.std.specs.Prelude.{◌≡◌, ℕ, if◌then◌else◌, Bool, true, Option, IsSome}
 use Rattle.bm_base.specs.declared.replica.ReplicaId.{ReplicaId}
-use Rattle.bm_base.specs.Maps.Map.{get}
-use Rattle.bm_base.specs.Machine.State.{Cluster}
+use Rattle.bm_base.specs.Words.{get, Cluster, rack_of, has_storage, is_draining, drain, undrain}
 use Rattle.bm_maps.specs.SlotLists.{IsMember}
-use Rattle.bm_base.specs.Machine.Replicas.{rack_of, has_storage, is_draining}
-use Rattle.bm_base.specs.Machine.Events.{drain, undrain}
 use Rattle.bm_arena.specs.Contents.{Contents, block_at, list_of}
 use Rattle.bm_arena.specs.Holding.{replicas_of}
 use Rattle.bm_levels.specs.Status.{level_by}

@@ -6,9 +6,7 @@ use Rattle.std.specs.List.{list_any}
 use Rattle.bm_base.specs.declared.replica.Marks.{Marks}
 use Rattle.bm_base.specs.declared.replica.BlockInfo.{BlockInfo}
 use Rattle.bm_base.specs.declared.level.Level.{Level}
-use Rattle.bm_base.specs.Machine.State.{Cluster}
-use Rattle.bm_base.specs.Machine.Replicas.{is_good, is_usable, node_of, rack_of, drains, is_draining, is_multi_rack}
-use Rattle.bm_base.specs.Machine.Levels.{level_of}
+use Rattle.bm_base.specs.Words.{Cluster, is_good, is_usable, node_of, rack_of, drains, is_draining, is_multi_rack, level_of}
 use Rattle.bm_base.specs.Spread.{spread}
 use Rattle.bm_arena.specs.Triplets.{Block}
 use Rattle.bm_levels.specs.declared.cluster_after.DrainChange.{DrainChange}

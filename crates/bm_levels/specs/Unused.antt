@@ -1,8 +1,7 @@
 -- Unused entries have neither a block nor a replica. A number has one only while a prepared event
 -- may need it.
 use Rattle.std.specs.Prelude.{◌≡◌, ◌≢◌, ℕ, Bool, false, List, [], None, Some, IsSome, IsTrue}
-use Rattle.bm_base.specs.Maps.Map.{get}
-use Rattle.bm_base.specs.Machine.State.{replica_at}
+use Rattle.bm_base.specs.Words.{get, replica_at}
 use Rattle.bm_maps.specs.SlotLists.{IsMember}
 use Rattle.bm_arena.specs.Contents.{Contents, block_at, slot_of}
 use Rattle.bm_arena.specs.Holding.{replicas_at, replicas_of, blocks_of}

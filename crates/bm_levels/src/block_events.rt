@@ -1,9 +1,7 @@
 // Events on one block, by its number.
 ghost use Rattle.std.specs.Prelude.{◌≡◌, ◌==◌, ℕ, true, false, IsSome, Some, if◌then◌else◌};
 ghost use Rattle.std.specs.Option.{option_map};
-ghost use Rattle.bm_base.specs.Maps.Map.{insert, remove, revise, revise_at, contains_key};
-ghost use Rattle.bm_base.specs.Machine.State.{replica_at};
-ghost use Rattle.bm_base.specs.Machine.Events.{as_stray, as_bad, as_restamped};
+ghost use Rattle.bm_base.specs.Words.{insert, remove, revise, revise_at, contains_key, replica_at, as_stray, as_bad, as_restamped};
 ghost use Rattle.bm_arena.specs.Contents.{slot_of, marks_at, KeepsAllBut};
 ghost use Rattle.bm_arena.specs.Holding.{replicas_of, blocks_of, info_at, with_known};
 ghost use Rattle.bm_levels.specs.Unused.{HasNoEmptyEntry, MakesNoUnused};

@@ -1,9 +1,7 @@
 // The blocks and replicas of a shard, each block with its level.
 ghost use Rattle.std.specs.Prelude.{◌≡◌, ◌≢◌, ℕ, IsSome, Some, IfOk, IfErr, OnOk, OnErr};
 ghost use Rattle.bm_base.specs.declared.refusal.Refusal.TheVariants.{Memory};
-ghost use Rattle.bm_base.specs.Maps.Map.{Map, empty, insert, remove};
-ghost use Rattle.bm_base.specs.Machine.Levels.{level};
-ghost use Rattle.bm_base.specs.Machine.State.{Cluster, by_replica, replica_at};
+ghost use Rattle.bm_base.specs.Words.{Map, empty, insert, remove, level, Cluster, by_replica, replica_at};
 ghost use Rattle.bm_arena.specs.Contents.{slot_of, marks_at, KeepsAllBut, KeepsEntries, KeepsOthers};
 ghost use Rattle.bm_arena.specs.Holding.{replicas_of, blocks_of, with_known};
 ghost use Rattle.bm_levels.specs.Unused.{HasNoUnused, MakesNoUnused};

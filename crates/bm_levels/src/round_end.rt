@@ -1,7 +1,6 @@
 // What a round changes in marks as it ends: the deletes that it commands are ordered.
 ghost use Rattle.std.specs.Prelude.{◌≡◌, ◌<◌, ℕ, Some};
-ghost use Rattle.bm_base.specs.Maps.Map.{insert, revise, revise_at};
-ghost use Rattle.bm_base.specs.Machine.State.{replica_at};
+ghost use Rattle.bm_base.specs.Words.{insert, revise, revise_at, replica_at};
 ghost use Rattle.bm_base.specs.RoundParts as parts;
 ghost use Rattle.bm_arena.specs.Contents.{slot_of, marks_at};
 ghost use Rattle.bm_arena.specs.Holding.{replicas_of, blocks_of};

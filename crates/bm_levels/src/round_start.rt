@@ -1,8 +1,7 @@
 // What a round changes in marks as it begins: those of replicas in excess.
 ghost use Rattle.std.specs.Prelude.{◌≡◌, ◌≢◌, ℕ, ◌<◌, length, false, Some, if◌then◌else◌};
-ghost use Rattle.bm_base.specs.Maps.Map.{revise, revise_at};
+ghost use Rattle.bm_base.specs.Words.{revise, revise_at, with_excess_reset};
 ghost use Rattle.bm_base.specs.Machine.Excess as excess;
-ghost use Rattle.bm_base.specs.Machine.Excess.{with_excess_reset};
 ghost use Rattle.bm_base.specs.RoundParts as parts;
 ghost use Rattle.bm_arena.specs.Contents.{block_at, slot_of, KeepsEntries};
 ghost use Rattle.bm_arena.specs.Holding.{replicas_at, replicas_of, blocks_of};

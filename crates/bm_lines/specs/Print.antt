@@ -10,12 +10,11 @@ use Rattle.bm_base.specs.declared.commands.Transfer.{Transfer}
 use Rattle.bm_base.specs.declared.commands.Delete.{Delete}
 use Rattle.bm_base.specs.declared.commands.NodeCommands.{NodeCommands}
 use Rattle.bm_base.specs.declared.commands.Commands.{Commands}
-use Rattle.bm_base.specs.Machine.Levels.{level_number}
+use Rattle.bm_base.specs.Words.{level_number, refusal_number}
 use Rattle.bm_base.specs.declared.call.Call.{Call}
 use Rattle.bm_base.specs.declared.call.Call.TheVariants as call
 use Rattle.bm_base.specs.declared.call.Answer.{Answer}
 use Rattle.bm_base.specs.declared.call.Answer.TheVariants as answer
-use Rattle.bm_base.specs.Machine.Refusals.{refusal_number}
 use Rattle.bm_base.specs.Names.{refusal_name, tag_name}
 
 -- Items, each after a semicolon and a space.

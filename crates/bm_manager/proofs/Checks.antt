@@ -5,9 +5,7 @@ use Rattle.std.proofs.lemmas.Bool.Decides.{nat_tests}
 use Rattle.bm_base.specs.declared.event.Event.{Event}
 use Rattle.bm_base.specs.declared.refusal.Refusal.{Refusal}
 use Rattle.bm_base.specs.declared.refusal.Refusal.TheVariants.{CallsSpent}
-use Rattle.bm_base.specs.Machine.State.{State}
-use Rattle.bm_base.specs.Machine.Refusals.{◌before◌, refusal_of, first_of, cluster_checks, block_checks, calls_spent, round_refusal, last_number}
-use Rattle.bm_base.specs.Machine.Answering.{checked}
+use Rattle.bm_base.specs.Words.{State, ◌before◌, refusal_of, first_of, cluster_checks, block_checks, calls_spent, round_refusal, last_number, checked}
 
 checked-before_err : (x y : Option Refusal) (r : Refusal) → checked x ≡ Err r → checked (x before y) ≡ Err r
 checked-before_err None y r e = cc

@@ -2,11 +2,7 @@
 use Rattle.std.proofs.Common.{◌≡◌, ℕ, ◌+◌, ◌<◌, None, sym, ap, subst, ◌∙◌}
 use Rattle.bm_base.specs.declared.config.Config.{Config}
 use Rattle.bm_base.specs.declared.event.Event.{Event}
-use Rattle.bm_base.specs.Machine.State.{Cluster, limits_of, empty_cluster, empty_holdings}
-use Rattle.bm_base.specs.Machine.Events.{change_cluster, change_holdings}
-use Rattle.bm_base.specs.Machine.Refusals.{refusal_of, last_number}
-use Rattle.bm_base.specs.Machine.Configuration.{config_refusal}
-use Rattle.bm_base.specs.Machine.Calls.{after_event}
+use Rattle.bm_base.specs.Words.{Cluster, limits_of, empty_cluster, empty_holdings, change_cluster, change_holdings, refusal_of, last_number, config_refusal, after_event}
 use Rattle.bm_base.specs.Promises.Lawful.{IsLawful}
 use Rattle.bm_base.specs.Promises.Fitting.{FitsEvent, HasFittingStart}
 use Rattle.laws_of_states.proofs.FirstState.{first_lawful}

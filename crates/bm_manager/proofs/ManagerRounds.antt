@@ -3,11 +3,8 @@ use Rattle.std.proofs.Common.{◌≡◌, ◌+◌, Result, Ok, Err, refl, sym, ap
 use Rattle.std.specs.Prelude.{IfOk, OnOk}
 use Rattle.bm_base.specs.declared.refusal.Refusal.{Refusal}
 use Rattle.bm_base.specs.declared.commands.Commands.{Commands}
-use Rattle.bm_base.specs.Machine.State.{Holdings, State}
-use Rattle.bm_base.specs.Machine.Excess.{state_after_expiry, state_at_choice}
-use Rattle.bm_base.specs.Machine.Rounds.{whole_round}
+use Rattle.bm_base.specs.Words.{Holdings, State, state_after_expiry, state_at_choice, whole_round, count_call}
 use Rattle.bm_base.specs.RoundParts.{holdings_at_choice}
-use Rattle.bm_base.specs.Machine.Calls.{count_call}
 use Rattle.bm_base.specs.Promises.Lawful.{IsLawful}
 use Rattle.bm_base.specs.Promises.Sparing.{SparesLastGood, KeepsEnoughLive}
 use Rattle.laws_of_states.proofs.LawfulRounds.{orderly}

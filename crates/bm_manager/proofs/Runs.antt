@@ -8,13 +8,7 @@ use Rattle.bm_base.specs.declared.call.Call.{Call}
 use Rattle.bm_base.specs.declared.call.Call.TheVariants as call
 use Rattle.bm_base.specs.declared.call.Answer.{Answer}
 use Rattle.bm_base.specs.declared.call.Answer.TheVariants as answer
-use Rattle.bm_base.specs.Machine.State.{State}
-use Rattle.bm_base.specs.Machine.Levels.{level}
-use Rattle.bm_base.specs.Machine.Queries.{all_replicas, corrupt_replicas, excess_replicas, missing_blocks, blocks_on, places, is_retired}
-use Rattle.bm_base.specs.Machine.Calls.{step, refused_or, done_by, after_event, count_call}
-use Rattle.bm_base.specs.Machine.Refusals.{refusal_of, round_refusal, node_refusal, storage_refusal, block_refusal}
-use Rattle.bm_base.specs.Machine.Rounds.{whole_round}
-use Rattle.bm_base.specs.Machine.Answering.{Refuses, MayAnswer, state_after_answer, call_takes_memory, is_refused, is_out_of_memory}
+use Rattle.bm_base.specs.Words.{State, level, all_replicas, corrupt_replicas, excess_replicas, missing_blocks, blocks_on, places, is_retired, step, refused_or, done_by, after_event, count_call, refusal_of, round_refusal, node_refusal, storage_refusal, block_refusal, whole_round, Refuses, MayAnswer, state_after_answer, call_takes_memory, is_refused, is_out_of_memory}
 
 -- a call whose definition refuses by o, and else answers x.0 with next state x.1
 module _ (M : State) (k : Call) (o : Option Refusal) (x : Answer × State) (s : step M k ≡ refused_or M o x) where

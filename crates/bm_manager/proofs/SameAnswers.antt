@@ -3,8 +3,7 @@ use Rattle.std.proofs.Common.{◌≡◌, Bool, true, false, List, [], ◌∷◌,
 use Rattle.std.specs.Prelude.{◌||◌, if◌then◌else◌}
 use Rattle.bm_base.specs.declared.call.Call.{Call}
 use Rattle.bm_base.specs.declared.call.Answer.{Answer}
-use Rattle.bm_base.specs.Machine.State.{State}
-use Rattle.bm_base.specs.Machine.Answering.{MayAnswer, MayAnswerAll, state_after_answer, is_out_of_memory}
+use Rattle.bm_base.specs.Words.{State, MayAnswer, MayAnswerAll, state_after_answer, is_out_of_memory}
 use Rattle.bm_manager.specs.SameAnswers.{HaveSameAnswers}
 
 module _ (step : State → Call → Answer × State) where

@@ -11,9 +11,7 @@ use Rattle.std.proofs.lemmas.List.Kept.{AllPairs-cons}
 use Rattle.bm_base.specs.Maps.Conjunction.{first, second}
 use Rattle.bm_base.specs.declared.limits.TheConstants.{MAX_PLACES}
 use Rattle.bm_base.specs.declared.replica.BlockInfo.{BlockInfo}
-use Rattle.bm_base.specs.Maps.Map.{keys, entries}
-use Rattle.bm_base.specs.Machine.State.{Holdings}
-use Rattle.bm_base.specs.Machine.Queries.{places}
+use Rattle.bm_base.specs.Words.{keys, entries, Holdings, places}
 use Rattle.bm_base.specs.Promises.Versions.{Row, table}
 use Rattle.bm_view.specs.Version.{RisesById}
 

@@ -2,8 +2,7 @@
 -- numbers.
 use Rattle.std.specs.Prelude.{◌≡◌, ℕ, None}
 use Rattle.bm_base.specs.declared.config.Config.{Config}
-use Rattle.bm_base.specs.Machine.State.{Cluster, Holdings, State, limits_of}
-use Rattle.bm_base.specs.Machine.Configuration.{config_refusal}
+use Rattle.bm_base.specs.Words.{Cluster, Holdings, State, limits_of, config_refusal}
 use Rattle.bm_base.specs.Promises.Lawful.{IsLawful}
 use Rattle.bm_shards.specs.Whole.{Whole, IsUpToDate, HasTaken}
 

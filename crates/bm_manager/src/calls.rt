@@ -1,7 +1,6 @@
 // Calls as values: one call, and lists of calls.
 ghost use Rattle.std.specs.Prelude.{◌≡◌, IfOk, OnErr};
-ghost use Rattle.bm_base.specs.Machine.Answering.{MayAnswer, MayAnswerAll, state_after_answer, state_after_answers};
-ghost use Rattle.bm_base.specs.Machine.Calls.{step};
+ghost use Rattle.bm_base.specs.Words.{MayAnswer, MayAnswerAll, state_after_answer, state_after_answers, step};
 ghost use Rattle.bm_base.specs.Promises.Lawful.{IsLawful};
 
 use crate::manager::Manager;

@@ -2,8 +2,7 @@
 ghost use Rattle.std.specs.Prelude.{◌≡◌, true, false, None, IfOk, IfErr, OnOk};
 ghost use Rattle.bm_base.specs.Machine.Queries as queries;
 ghost use Rattle.bm_base.specs.Machine.Levels as levels;
-ghost use Rattle.bm_base.specs.Machine.Refusals.{node_refusal, storage_refusal, block_refusal};
-ghost use Rattle.bm_base.specs.Machine.Answering.{Refuses};
+ghost use Rattle.bm_base.specs.Words.{node_refusal, storage_refusal, block_refusal, Refuses};
 ghost use Rattle.bm_base.specs.declared.refusal.Refusal.TheVariants.{Memory};
 
 use crate::manager::Manager;

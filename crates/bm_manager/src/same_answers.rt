@@ -1,9 +1,6 @@
 // The same calls on two managers of different shards and workers, or one of them without threads.
 ghost use Rattle.std.specs.Prelude.{◌≡◌, ◌⊎◌, true, None, IfOk, IfErr, OnOk};
-ghost use Rattle.bm_base.specs.Machine.State.{first_state};
-ghost use Rattle.bm_base.specs.Machine.Configuration.{config_refusal};
-ghost use Rattle.bm_base.specs.Machine.Calls.{step};
-ghost use Rattle.bm_base.specs.Machine.Answering.{Refuses, MayAnswerAll};
+ghost use Rattle.bm_base.specs.Words.{first_state, config_refusal, step, Refuses, MayAnswerAll};
 ghost use Rattle.bm_manager.specs.SameAnswers.{HaveSameAnswers};
 
 use crate::manager::Manager;

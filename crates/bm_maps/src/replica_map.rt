@@ -19,10 +19,9 @@ pub struct ReplicaMap<V> {
 
 impl<V> Model for ReplicaMap<V> {
     ghost use Rattle.std.specs.Prelude.{T};
-    ghost use Rattle.bm_base.specs.Machine.State.{replica_cmp, by_replica};
+    ghost use Rattle.bm_base.specs.Words.{replica_cmp, by_replica, Map};
     ghost use Rattle.bm_base.specs.Codes.{coded_replica_id};
     ghost use Rattle.std.specs.FinMap.{is_sorted};
-    ghost use Rattle.bm_base.specs.Maps.Map.{Map};
     ghost use Rattle.bm_base.specs.Maps.MapCode.{code};
     ghost use Rattle.bm_base.specs.Maps.OfSorted.{of_sorted};
 

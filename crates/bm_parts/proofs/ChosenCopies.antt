@@ -10,12 +10,7 @@ use Rattle.bm_base.specs.declared.replica.Marks.{Marks}
 use Rattle.bm_base.specs.declared.replica.BlockInfo.{BlockInfo}
 use Rattle.bm_base.specs.declared.level.Level.{Level}
 use Rattle.bm_base.specs.declared.commands.Transfer.{Transfer}
-use Rattle.bm_base.specs.Maps.Map.{get, contains_key, entries, keys, len}
-use Rattle.bm_base.specs.Machine.State.{RoundLimits, Cluster, Holdings, replica_at}
-use Rattle.bm_base.specs.Maps.Lists.{has, least}
-use Rattle.bm_base.specs.Machine.Replicas.{is_usable, is_live_on, is_draining, live, sources_of, storages_where}
-use Rattle.bm_base.specs.Machine.Excess.{excess_cmp, excess_among, excess_of, excess_in}
-use Rattle.bm_base.specs.Machine.Transfers.{RequestedCopy, least_source, least_target_by, least_target, scheduled_to, target_cmp, is_target, holders_of, excluded_for, transfer_for, transfers_from, transfers, wishes}
+use Rattle.bm_base.specs.Words.{get, contains_key, entries, keys, len, RoundLimits, Cluster, Holdings, replica_at, has, least, is_usable, is_live_on, is_draining, live, sources_of, storages_where, excess_cmp, excess_among, excess_of, excess_in, RequestedCopy, least_source, least_target_by, least_target, scheduled_to, target_cmp, is_target, holders_of, excluded_for, transfer_for, transfers_from, transfers, wishes}
 use Rattle.bm_base.proofs.Options.{is_there, revised, chained}
 use Rattle.bm_base.proofs.ForEach.{Each, each_mapped, each_then, each_both, each_filtered, each_passing, each_appended, each_optional, least_is_one, has_one}
 use Rattle.bm_base.proofs.MapEntries.{each_entry, each_key}

@@ -9,13 +9,7 @@ use Rattle.bm_base.specs.declared.event.Remaining.{Remaining}
 use Rattle.bm_base.specs.declared.replica.Marks.{Marks}
 use Rattle.bm_base.specs.declared.replica.BlockInfo.{BlockInfo}
 use Rattle.bm_base.specs.declared.storage.StorageInfo.{StorageInfo}
-use Rattle.bm_base.specs.Maps.Map.{get, contains_key}
-use Rattle.bm_base.specs.Machine.State.{Cluster, Holdings, replica_at}
-use Rattle.bm_base.specs.Maps.Lists.{distinct}
-use Rattle.bm_base.specs.Machine.Replicas.{is_usable, is_live_on, is_drained_on, node_of, rack_of, has_storage, drains, is_draining, racks, live, drained, is_multi_rack}
-use Rattle.bm_base.specs.Machine.Levels.{level, level_of}
-use Rattle.bm_base.specs.Machine.Events.{register, heartbeat, without_node, without_storage, without_storages}
-use Rattle.bm_base.specs.Machine.Refusals.{knows_storage}
+use Rattle.bm_base.specs.Words.{get, contains_key, Cluster, Holdings, replica_at, distinct, is_usable, is_live_on, is_drained_on, node_of, rack_of, has_storage, drains, is_draining, racks, live, drained, is_multi_rack, level, level_of, register, heartbeat, without_node, without_storage, without_storages, knows_storage}
 use Rattle.bm_base.proofs.Ties.{number_tie}
 use Rattle.bm_base.proofs.ForEach.{Each, none_passes}
 use Rattle.bm_base.proofs.MapEntries.{get_insert_all_elsewhere, get_left, get_other}

@@ -9,15 +9,7 @@ use Rattle.bm_base.specs.declared.replica.Marks.{Marks}
 use Rattle.bm_base.specs.declared.replica.BlockInfo.{BlockInfo}
 use Rattle.bm_base.specs.declared.commands.Transfer.{Transfer}
 use Rattle.bm_base.specs.declared.commands.Delete.{Delete}
-use Rattle.bm_base.specs.Maps.Map.{Map, Order, by_number, get, entries, keys, revise, insert_all}
-use Rattle.bm_base.specs.Machine.State.{Cluster, Holdings, by_replica, replica_at}
-use Rattle.bm_base.specs.Maps.Lists.{has}
-use Rattle.bm_base.specs.Machine.Replicas.{live, drained, is_live_on, is_drained_on, storages_where, has_enough_live, racks, is_multi_rack, is_stray, is_corrupt}
-use Rattle.bm_base.specs.Machine.Levels.{level, level_of}
-use Rattle.bm_base.specs.Machine.Excess.{without_expired, without_unordered_excess, excess_of, excess_in, with_surplus_marked}
-use Rattle.bm_base.specs.Machine.Transfers.{pending_targets}
-use Rattle.bm_base.specs.Machine.Deletes.{is_deletable}
-use Rattle.bm_base.specs.Machine.Rounds.{is_commanded, end_round}
+use Rattle.bm_base.specs.Words.{Map, Order, by_number, get, entries, keys, revise, insert_all, Cluster, Holdings, by_replica, replica_at, has, live, drained, is_live_on, is_drained_on, storages_where, has_enough_live, racks, is_multi_rack, is_stray, is_corrupt, level, level_of, without_expired, without_unordered_excess, excess_of, excess_in, with_surplus_marked, pending_targets, is_deletable, is_commanded, end_round}
 use Rattle.bm_base.specs.Shards.{cut}
 use Rattle.bm_parts.proofs.KeepLaws.{keep-keep}
 use Rattle.bm_base.proofs.MapLaws.{entries-keep, get-revise}

@@ -3,10 +3,7 @@ use Rattle.std.proofs.Common.{◌≡◌, ◌≢◌, ℕ, false, not, Option, Som
 use Rattle.std.specs.Prelude.{◌==◌, option_and_then}
 use Rattle.std.specs.Option.{option_map_or}
 use Rattle.std.proofs.lemmas.Bool.{eqb-false}
-use Rattle.bm_base.specs.Maps.Map.{get}
-use Rattle.bm_base.specs.Machine.State.{Cluster}
-use Rattle.bm_base.specs.Machine.Replicas.{node_of, rack_of, has_storage, drains, is_draining}
-use Rattle.bm_base.specs.Machine.Events.{without_node, without_storage}
+use Rattle.bm_base.specs.Words.{get, Cluster, node_of, rack_of, has_storage, drains, is_draining, without_node, without_storage}
 use Rattle.bm_base.proofs.Clusters.{same_node}
 use Rattle.bm_parts.proofs.KeepLaws.{get-keep_there}
 use Rattle.bm_base.proofs.Options.{not_failed}

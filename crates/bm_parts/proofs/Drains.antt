@@ -3,11 +3,7 @@ use Rattle.std.proofs.Common.{◌≡◌, ◌≢◌, ℕ, Bool, true, false, not,
 use Rattle.std.specs.Prelude.{◌==◌, if◌then◌else◌}
 use Rattle.std.specs.Option.{option_map_or}
 use Rattle.std.proofs.lemmas.Bool.{eqb-false}
-use Rattle.bm_base.specs.Maps.Map.{Map, keep}
-use Rattle.bm_base.specs.Machine.State.{Cluster, Holdings, by_replica}
-use Rattle.bm_base.specs.Machine.Replicas.{node_of, rack_of, has_storage, drains, is_draining, storages_where, is_multi_rack}
-use Rattle.bm_base.specs.Machine.Levels.{level}
-use Rattle.bm_base.specs.Machine.Events.{drain, undrain, begin_drain}
+use Rattle.bm_base.specs.Words.{Map, keep, Cluster, Holdings, by_replica, node_of, rack_of, has_storage, drains, is_draining, storages_where, is_multi_rack, level, drain, undrain, begin_drain}
 use Rattle.bm_base.proofs.MapEntries.{get_left, get_other}
 use Rattle.bm_parts.specs.LevelLaws as law
 use Rattle.bm_parts.proofs.Storages.{usable_fails}

@@ -14,13 +14,8 @@ use Rattle.bm_base.specs.declared.level.Level.TheVariants.{Highest, VeryUnderRep
 use Rattle.bm_base.specs.declared.commands.Delete.{Delete}
 use Rattle.bm_base.specs.declared.round.Wish.{Wish}
 use Rattle.bm_base.specs.declared.round.RoundPart.{RoundPart}
-use Rattle.bm_base.specs.Maps.Map.{Map, by_number, get, entries, keys, contains_key}
-use Rattle.bm_base.specs.Machine.State.{Cluster, Holdings, by_replica, replica_at, replica_cmp}
-use Rattle.bm_base.specs.Maps.Lists.{has}
-use Rattle.bm_base.specs.Machine.Levels.{level, is_at}
+use Rattle.bm_base.specs.Words.{Map, by_number, get, entries, keys, contains_key, Cluster, Holdings, by_replica, replica_at, replica_cmp, has, level, is_at, excess_in, without_expired, without_unordered_excess, is_deletable, deletable_on}
 use Rattle.bm_base.specs.LevelNumbers.{level_of_number, level_again}
-use Rattle.bm_base.specs.Machine.Excess.{excess_in, without_expired, without_unordered_excess}
-use Rattle.bm_base.specs.Machine.Deletes.{is_deletable, deletable_on}
 use Rattle.bm_base.specs.Ordered.{by_pair, pair_cmp}
 use Rattle.bm_base.specs.RoundParts.{holdings_at_choice, expired, surplus, wish_of, wish_at, wishes_by_block, deletable, round_part, wish_key, delete_key}
 use Rattle.bm_base.proofs.ForEach.{Each, each_mapped, each_then, each_both, each_filtered, each_passing, each_appended, each_flat}

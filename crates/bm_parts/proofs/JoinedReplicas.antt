@@ -8,10 +8,7 @@ use Rattle.bm_base.specs.Maps.Conjunction.{both, first, second}
 use Rattle.bm_base.specs.declared.replica.ReplicaId.{ReplicaId}
 use Rattle.bm_base.specs.declared.replica.Marks.{Marks}
 use Rattle.bm_base.specs.declared.replica.Replica.{Replica}
-use Rattle.bm_base.specs.Maps.Map.{Order, by_number, entries}
-use Rattle.bm_base.specs.Machine.State.{Holdings, by_replica, replica_cmp}
-use Rattle.bm_base.specs.Machine.Queries.{all_replicas, replicas_where, blocks_on}
-use Rattle.bm_base.specs.Machine.Entries.{range_from}
+use Rattle.bm_base.specs.Words.{Order, by_number, entries, Holdings, by_replica, replica_cmp, all_replicas, replicas_where, blocks_on, range_from}
 use Rattle.bm_base.specs.Shards.{shard_of, cut}
 use Rattle.bm_base.specs.Ordered.{ordered_by}
 use Rattle.bm_parts.specs.Whole.{parts}

@@ -6,12 +6,11 @@ use Rattle.std.specs.List.{list_any}
 use Rattle.std.specs.FinMap.{is_sorted}
 use Rattle.std.proofs.lemmas.Bool.{or_left, or_right, eqb-false}
 use Rattle.std.proofs.lemmas.List.Folds.{list_any-append}
-use Rattle.bm_base.specs.Maps.Map.{Map, Order, entries, empty, get, insert, insert_all}
+use Rattle.bm_base.specs.Words.{Map, Order, entries, empty, get, insert, insert_all, range_from}
 use Rattle.bm_base.specs.Maps.OfSorted.{of_sorted}
 use Rattle.bm_base.proofs.OfSorted.{entries-of_sorted}
 use Rattle.bm_base.proofs.MapLaws.{same_map, get-insert, get-empty}
 use Rattle.bm_base.specs.Ordered.{ordered_by}
-use Rattle.bm_base.specs.Machine.Entries.{range_from}
 use Rattle.bm_base.proofs.ForEach.{Each, each_filtered, each_appended}
 use Rattle.bm_base.proofs.MapEntries.{same_key, key_itself, each_entry, passes_entry}
 

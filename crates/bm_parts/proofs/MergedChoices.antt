@@ -4,9 +4,7 @@ use Rattle.std.proofs.lemmas.List.Folds.{flat_map-map}
 use Rattle.bm_base.specs.declared.commands.Delete.{Delete}
 use Rattle.bm_base.specs.declared.round.Wish.{Wish}
 use Rattle.bm_base.specs.declared.round.RoundPart.{RoundPart}
-use Rattle.bm_base.specs.Machine.State.{Cluster, Holdings}
-use Rattle.bm_base.specs.Machine.Entries.{range_from}
-use Rattle.bm_base.specs.Machine.Rounds.{commands_of, end_round}
+use Rattle.bm_base.specs.Words.{Cluster, Holdings, range_from, commands_of, end_round}
 use Rattle.bm_base.specs.Shards.{shard_of, cut}
 use Rattle.bm_base.specs.Ordered.{by_pair, ordered_by}
 use Rattle.bm_base.specs.RoundParts.{holdings_at_choice, wishes_by_block, deletable, round_part, wish_key, delete_key}

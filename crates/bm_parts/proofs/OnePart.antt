@@ -3,11 +3,7 @@
 use Rattle.std.proofs.Common.{◌≡◌, ℕ, ◌+◌, [], map, refl, T}
 use Rattle.std.specs.FinMap.{is_sorted}
 use Rattle.bm_base.specs.declared.round.RoundPart.{RoundPart}
-use Rattle.bm_base.specs.Machine.State.{RoundLimits, Cluster, Holdings, State}
-use Rattle.bm_base.specs.Machine.Transfers.{transfers}
-use Rattle.bm_base.specs.Machine.Deletes.{deletes}
-use Rattle.bm_base.specs.Machine.Excess.{state_after_expiry, state_at_choice}
-use Rattle.bm_base.specs.Machine.Rounds.{commands_of, end_round, whole_round}
+use Rattle.bm_base.specs.Words.{RoundLimits, Cluster, Holdings, State, transfers, deletes, state_after_expiry, state_at_choice, commands_of, end_round, whole_round}
 use Rattle.bm_base.specs.Ordered.{pair_cmp}
 use Rattle.bm_base.specs.RoundParts.{wish_key, delete_key, round_part, holdings_at_choice}
 use Rattle.bm_base.proofs.SortedParts.{wishes_ascend, deletes_ascend}

@@ -6,10 +6,7 @@ use Rattle.bm_base.specs.declared.event.Event.{Event}
 use Rattle.bm_base.specs.declared.event.Event.TheVariants.{Register, Dead, StorageFailed, Heartbeat, Drain, Undrain, AddBlock, DeleteBlock, SetReplication, Restamp, Received, Deleted, Corrupt, FullReport}
 use Rattle.bm_base.specs.declared.event.Done.{Done}
 use Rattle.bm_base.specs.declared.replica.Marks.{Marks}
-use Rattle.bm_base.specs.Maps.Map.{Map}
-use Rattle.bm_base.specs.Machine.State.{Cluster, Holdings, by_replica}
-use Rattle.bm_base.specs.Machine.Events.{change_cluster, change_holdings}
-use Rattle.bm_base.specs.Machine.Calls.{new_replicas, done}
+use Rattle.bm_base.specs.Words.{Map, Cluster, Holdings, by_replica, change_cluster, change_holdings, new_replicas, done}
 use Rattle.bm_base.specs.Shards.{shard_of}
 use Rattle.bm_base.proofs.Differences.{none_new}
 use Rattle.bm_parts.specs.Parts.{block_of, change_part}

@@ -12,10 +12,7 @@ use Rattle.bm_base.specs.declared.replica.Marks.{Marks}
 use Rattle.bm_base.specs.declared.replica.BlockInfo.{BlockInfo}
 use Rattle.bm_base.specs.declared.event.Event.{Event}
 use Rattle.bm_base.specs.declared.event.Event.TheVariants.{Register, Dead, StorageFailed, Heartbeat, Drain, Undrain, AddBlock, DeleteBlock, SetReplication, Restamp, Received, Deleted, Corrupt, FullReport}
-use Rattle.bm_base.specs.Maps.Map.{entries}
-use Rattle.bm_base.specs.Machine.State.{Holdings}
-use Rattle.bm_base.specs.Machine.Replicas.{is_stray}
-use Rattle.bm_base.specs.Machine.Refusals.{first_of, block_checks, block_refusal, knows_block, is_still_stored, is_old, is_bad_replication}
+use Rattle.bm_base.specs.Words.{entries, Holdings, is_stray, first_of, block_checks, block_refusal, knows_block, is_still_stored, is_old, is_bad_replication}
 use Rattle.bm_base.specs.Shards.{shard_of, cut}
 use Rattle.bm_parts.specs.QueryLaws as law
 use Rattle.bm_parts.proofs.Parts.{own}

@@ -1,9 +1,6 @@
 -- Changing each part changes the whole.
 use Rattle.std.proofs.Common.{◌≡◌, ℕ, zero, suc, ◌+◌, ◌≤◌, List, [], ◌∷◌, length, refl, sym, ap, subst, ◌∙◌, arith}
-use Rattle.bm_base.specs.Machine.State.{Cluster, Holdings}
-use Rattle.bm_base.specs.Machine.Events.{change_holdings}
-use Rattle.bm_base.specs.Machine.Rounds.{end_round}
-use Rattle.bm_base.specs.Machine.Calls.{done}
+use Rattle.bm_base.specs.Words.{Cluster, Holdings, change_holdings, end_round, done}
 use Rattle.bm_base.specs.declared.event.Event.{Event}
 use Rattle.bm_base.specs.Shards.{cut}
 use Rattle.bm_parts.specs.Parts.{change_part, sum_over, done_in}

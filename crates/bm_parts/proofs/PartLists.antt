@@ -8,11 +8,7 @@ use Rattle.bm_base.specs.declared.level.Level.{Level}
 use Rattle.bm_base.specs.declared.level.Level.TheVariants.{Highest, VeryUnderReplicated, UnderReplicated, BadlyDistributed, NoUsableReplica}
 use Rattle.bm_base.specs.declared.commands.Delete.{Delete}
 use Rattle.bm_base.specs.declared.round.Wish.{Wish}
-use Rattle.bm_base.specs.Maps.Map.{entries, keys}
-use Rattle.bm_base.specs.Machine.State.{Cluster, Holdings}
-use Rattle.bm_base.specs.Machine.Levels.{is_at}
-use Rattle.bm_base.specs.Machine.Transfers.{requested_count}
-use Rattle.bm_base.specs.Machine.Deletes.{is_deletable, deletable_on}
+use Rattle.bm_base.specs.Words.{entries, keys, Cluster, Holdings, is_at, requested_count, is_deletable, deletable_on}
 use Rattle.bm_base.specs.Shards.{cut}
 use Rattle.bm_base.specs.RoundParts.{wish_of, wish_at, wishes_by_block, deletable}
 use Rattle.bm_base.proofs.SortedParts.{wish_block, filter_flat_map}

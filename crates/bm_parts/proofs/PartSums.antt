@@ -5,10 +5,7 @@ use Rattle.std.proofs.lemmas.Bool.{eqb-false}
 use Rattle.std.proofs.lemmas.List.Recursion.{is_count_by}
 use Rattle.bm_base.specs.declared.replica.ReplicaId.{ReplicaId}
 use Rattle.bm_base.specs.declared.replica.Marks.{Marks}
-use Rattle.bm_base.specs.Maps.Map.{Map, entries, contains_key}
-use Rattle.bm_base.specs.Machine.State.{by_replica}
-use Rattle.bm_base.specs.Machine.Events.{change_holdings}
-use Rattle.bm_base.specs.Machine.Calls.{new_replicas, done}
+use Rattle.bm_base.specs.Words.{Map, entries, contains_key, by_replica, change_holdings, new_replicas, done}
 use Rattle.bm_base.specs.Shards.{shard_of, cut}
 use Rattle.bm_base.proofs.MapLaws.{entries-keep}
 use Rattle.bm_parts.proofs.PartMaps.{part, get_in}

@@ -9,11 +9,7 @@ use Rattle.bm_base.specs.declared.replica.Stamp.{Stamp}
 use Rattle.bm_base.specs.declared.replica.BlockInfo.{BlockInfo}
 use Rattle.bm_base.specs.declared.event.Event.{Event}
 use Rattle.bm_base.specs.declared.event.Event.TheVariants.{Register, Dead, StorageFailed, Heartbeat, Drain, Undrain, AddBlock, DeleteBlock, SetReplication, Restamp, Received, Deleted, Corrupt, FullReport}
-use Rattle.bm_base.specs.Maps.Map.{Map, by_number, get, insert, insert_all, keep, revise, revise_at}
-use Rattle.bm_base.specs.Machine.State.{Cluster, Holdings, by_replica, replica_at, replica_cmp}
-use Rattle.bm_base.specs.Machine.Replicas.{has_storage, drains, are_siblings}
-use Rattle.bm_base.specs.Machine.Entries.{ReportedBlock, expanded}
-use Rattle.bm_base.specs.Machine.Events.{was_bad, was_excess, entered_tag, entered_marks, replaces, enter, is_named, leaves_by_report, report, without_pending, change_marks_of_block, add_block, delete_block, set_replication, restamp, make_bad, remove_replica, without_storages, begin_drain, change_holdings, as_stray, as_restamped, as_bad}
+use Rattle.bm_base.specs.Words.{Map, by_number, get, insert, insert_all, keep, revise, revise_at, Cluster, Holdings, by_replica, replica_at, replica_cmp, has_storage, drains, are_siblings, ReportedBlock, expanded, was_bad, was_excess, entered_tag, entered_marks, replaces, enter, is_named, leaves_by_report, report, without_pending, change_marks_of_block, add_block, delete_block, set_replication, restamp, make_bad, remove_replica, without_storages, begin_drain, change_holdings, as_stray, as_restamped, as_bad}
 use Rattle.bm_base.specs.Shards.{shard_of, cut}
 use Rattle.bm_parts.proofs.KeepLaws.{keep-insert, keep-keep, keep-remove}
 use Rattle.bm_base.proofs.MapLaws.{same_map}

@@ -7,11 +7,7 @@ use Rattle.bm_base.specs.declared.replica.ReplicaId.{ReplicaId}
 use Rattle.bm_base.specs.declared.replica.Marks.{Marks}
 use Rattle.bm_base.specs.declared.replica.BlockInfo.{BlockInfo}
 use Rattle.bm_base.specs.declared.event.Remaining.{Remaining}
-use Rattle.bm_base.specs.Maps.Map.{Map, by_number, get, keep, remove, contains_key}
-use Rattle.bm_base.specs.Machine.State.{Cluster, Holdings, by_replica}
-use Rattle.bm_base.specs.Machine.Replicas.{node_of, has_storage, drains, is_good, is_stray}
-use Rattle.bm_base.specs.Machine.Events.{register, heartbeat, without_node, without_storage, without_storages, remove_replica, drain, undrain, begin_drain}
-use Rattle.bm_base.specs.Machine.Refusals.{knows_storage}
+use Rattle.bm_base.specs.Words.{Map, by_number, get, keep, remove, contains_key, Cluster, Holdings, by_replica, node_of, has_storage, drains, is_good, is_stray, register, heartbeat, without_node, without_storage, without_storages, remove_replica, drain, undrain, begin_drain, knows_storage}
 use Rattle.bm_base.specs.declared.limits.TheConstants.{MAX_REPLICATION}
 use Rattle.bm_base.specs.Promises.Lawful.{IsLawfulHoldings}
 use Rattle.bm_base.proofs.MapLaws.{get-remove}

@@ -12,17 +12,9 @@ use Rattle.bm_base.specs.declared.replica.ReplicaId.{ReplicaId}
 use Rattle.bm_base.specs.declared.replica.Marks.{Marks}
 use Rattle.bm_base.specs.declared.replica.Stamp.{Stamp}
 use Rattle.bm_base.specs.declared.storage.StorageInfo.{StorageInfo}
-use Rattle.bm_base.specs.Maps.Map.{Map, get, keep, revise, revise_at, contains_key}
-use Rattle.bm_base.specs.Machine.State.{Cluster, Holdings, by_replica, replica_at, replica_cmp}
-use Rattle.bm_base.specs.Maps.Lists.{has_repeats}
+use Rattle.bm_base.specs.Words.{Map, get, keep, revise, revise_at, contains_key, Cluster, Holdings, by_replica, replica_at, replica_cmp, has_repeats, node_of, rack_of, has_storage, drains, ReportedBlock, expanded, register, heartbeat, without_node, without_storage, drain, undrain, without_storages, begin_drain, entered_marks, replaces, enter, leaves_by_report, report, without_pending, change_marks_of_block, add_block, delete_block, set_replication, restamp, make_bad, remove_replica, as_stray, as_restamped, as_bad, change_cluster, change_holdings, without_expired, without_unordered_excess, with_surplus_marked, end_round, first_of, cluster_checks, knows_node, knows_storage, is_too_long}
 use Rattle.bm_base.specs.Shards.{shard_of}
-use Rattle.bm_base.specs.Machine.Replicas.{node_of, rack_of, has_storage, drains}
-use Rattle.bm_base.specs.Machine.Entries.{ReportedBlock, expanded}
-use Rattle.bm_base.specs.Machine.Events.{register, heartbeat, without_node, without_storage, drain, undrain, without_storages, begin_drain, entered_marks, replaces, enter, leaves_by_report, report, without_pending, change_marks_of_block, add_block, delete_block, set_replication, restamp, make_bad, remove_replica, as_stray, as_restamped, as_bad, change_cluster, change_holdings}
-use Rattle.bm_base.specs.Machine.Excess.{without_expired, without_unordered_excess, with_surplus_marked}
-use Rattle.bm_base.specs.Machine.Rounds.{end_round}
 use Rattle.bm_base.specs.RoundParts.{holdings_at_choice}
-use Rattle.bm_base.specs.Machine.Refusals.{first_of, cluster_checks, knows_node, knows_storage, is_too_long}
 use Rattle.bm_base.specs.Promises.Lawful.{IsLawfulCluster}
 use Rattle.bm_base.proofs.Checks.{first_fails, all_fail}
 use Rattle.bm_base.proofs.Options.{there, is_there, not_passed, fails_not}

@@ -10,11 +10,7 @@ use Rattle.bm_base.specs.declared.replica.Marks.{Marks}
 use Rattle.bm_base.specs.declared.replica.Stamp.{Stamp}
 use Rattle.bm_base.specs.declared.replica.BlockInfo.{BlockInfo}
 use Rattle.bm_base.specs.declared.event.Entry.{Entry}
-use Rattle.bm_base.specs.Maps.Map.{get, insert_all, keep, contains_key}
-use Rattle.bm_base.specs.Machine.State.{Cluster, Holdings, replica_at}
-use Rattle.bm_base.specs.Machine.Replicas.{is_good, is_stray, are_siblings}
-use Rattle.bm_base.specs.Machine.Entries.{ReportedBlock, range_from, run_length, blocks_of_entry, expanded}
-use Rattle.bm_base.specs.Machine.Events.{was_bad, was_excess, same_stamp, entered_tag, entered_marks, replaces, enter, is_named, leaves_by_report, report}
+use Rattle.bm_base.specs.Words.{get, insert_all, keep, contains_key, Cluster, Holdings, replica_at, is_good, is_stray, are_siblings, ReportedBlock, range_from, run_length, blocks_of_entry, expanded, was_bad, was_excess, same_stamp, entered_tag, entered_marks, replaces, enter, is_named, leaves_by_report, report}
 use Rattle.bm_base.specs.Promises.Lawful.{IsLawfulHoldings}
 use Rattle.bm_base.proofs.Options.{there, is_there, not_passed}
 use Rattle.bm_base.proofs.ForEach.{Each, each_mapped, each_then, each_flat}

@@ -5,13 +5,7 @@ use Rattle.std.specs.Option.{option_map_or}
 use Rattle.bm_base.specs.declared.replica.ReplicaId.{ReplicaId}
 use Rattle.bm_base.specs.declared.replica.Marks.{Marks}
 use Rattle.bm_base.specs.declared.replica.BlockInfo.{BlockInfo}
-use Rattle.bm_base.specs.Maps.Map.{get, keep, revise}
-use Rattle.bm_base.specs.Machine.State.{Cluster, Holdings, replica_at}
-use Rattle.bm_base.specs.Maps.Lists.{has}
-use Rattle.bm_base.specs.Machine.Replicas.{is_usable, is_live_on, is_drained_on, is_draining, has_storage, drains, live, drained, storages_where, racks, is_multi_rack, usable}
-use Rattle.bm_base.specs.Machine.Levels.{level, level_of}
-use Rattle.bm_base.specs.Machine.Excess.{without_expired, without_unordered_excess, excess_among, excess_of, excess_in, with_surplus_marked}
-use Rattle.bm_base.specs.Machine.Deletes.{is_deletable}
+use Rattle.bm_base.specs.Words.{get, keep, revise, Cluster, Holdings, replica_at, has, is_usable, is_live_on, is_drained_on, is_draining, has_storage, drains, live, drained, storages_where, racks, is_multi_rack, usable, level, level_of, without_expired, without_unordered_excess, excess_among, excess_of, excess_in, with_surplus_marked, is_deletable, without_storages, begin_drain, is_commanded, end_round}
 use Rattle.bm_base.proofs.MapLaws.{get-revise}
 use Rattle.bm_base.specs.RoundParts.{holdings_at_choice}
 use Rattle.bm_parts.specs.Settled as law
@@ -21,8 +15,6 @@ use Rattle.bm_parts.proofs.OneBlock.{settled_is_of_its_block}
 use Rattle.bm_parts.proofs.Storages.{storages_left, storages_revised, fewer_where}
 use Rattle.bm_base.specs.declared.commands.Transfer.{Transfer}
 use Rattle.bm_base.specs.declared.commands.Delete.{Delete}
-use Rattle.bm_base.specs.Machine.Events.{without_storages, begin_drain}
-use Rattle.bm_base.specs.Machine.Rounds.{is_commanded, end_round}
 use Rattle.std.specs.List.{list_any}
 use Rattle.bm_base.proofs.MapEntries.{get_kept, get_revised}
 

@@ -7,10 +7,7 @@ use Rattle.std.proofs.lemmas.List.{length-map}
 use Rattle.std.proofs.lemmas.Bool.{and_from, and_right}
 use Rattle.bm_base.specs.declared.replica.ReplicaId.{ReplicaId}
 use Rattle.bm_base.specs.declared.replica.Marks.{Marks}
-use Rattle.bm_base.specs.Maps.Map.{Map, Order, get, keep, revise, entries}
-use Rattle.bm_base.specs.Machine.State.{Holdings, by_replica, replica_at}
-use Rattle.bm_base.specs.Machine.Replicas.{is_usable, storages_where, usable}
-use Rattle.bm_base.specs.Machine.Events.{without_storages}
+use Rattle.bm_base.specs.Words.{Map, Order, get, keep, revise, entries, Holdings, by_replica, replica_at, is_usable, storages_where, usable, without_storages}
 use Rattle.bm_base.proofs.MapLaws.{same_map, get-keep, entries-keep, entries-revise}
 use Rattle.bm_base.proofs.ListTests.{filter_filter}
 use Rattle.bm_parts.proofs.ChosenCopies.{HasOne, each_storage}

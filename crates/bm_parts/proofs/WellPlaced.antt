@@ -11,17 +11,9 @@ use Rattle.bm_base.specs.declared.refusal.Refusal.TheVariants.{TooMany, UnknownS
 use Rattle.bm_base.specs.declared.replica.ReplicaId.{ReplicaId}
 use Rattle.bm_base.specs.declared.replica.Marks.{Marks}
 use Rattle.bm_base.specs.declared.replica.Stamp.{Stamp}
-use Rattle.bm_base.specs.Maps.Map.{by_number, get, keep, revise, revise_at, contains_key}
-use Rattle.bm_base.specs.Machine.State.{Cluster, Holdings, replica_at, replica_cmp}
-use Rattle.bm_base.specs.Maps.Lists.{has}
+use Rattle.bm_base.specs.Words.{by_number, get, keep, revise, revise_at, contains_key, Cluster, Holdings, replica_at, replica_cmp, has, node_of, has_storage, is_good, are_siblings, ReportedBlock, expanded, register, heartbeat, without_node, without_storage, drain, undrain, without_storages, begin_drain, replaces, enter, is_named, leaves_by_report, report, without_pending, change_marks_of_block, add_block, delete_block, set_replication, restamp, make_bad, remove_replica, as_stray, as_restamped, as_bad, change_cluster, change_holdings, without_expired, without_unordered_excess, excess_in, with_surplus_marked, end_round, is_commanded, first_of, cluster_checks, knows_storage, is_too_long}
 use Rattle.bm_base.specs.Shards.{shard_of}
-use Rattle.bm_base.specs.Machine.Replicas.{node_of, has_storage, is_good, are_siblings}
-use Rattle.bm_base.specs.Machine.Entries.{ReportedBlock, expanded}
-use Rattle.bm_base.specs.Machine.Events.{register, heartbeat, without_node, without_storage, drain, undrain, without_storages, begin_drain, replaces, enter, is_named, leaves_by_report, report, without_pending, change_marks_of_block, add_block, delete_block, set_replication, restamp, make_bad, remove_replica, as_stray, as_restamped, as_bad, change_cluster, change_holdings}
-use Rattle.bm_base.specs.Machine.Excess.{without_expired, without_unordered_excess, excess_in, with_surplus_marked}
-use Rattle.bm_base.specs.Machine.Rounds.{end_round, is_commanded}
 use Rattle.bm_base.specs.RoundParts.{holdings_at_choice, own_transfers, own_deletes}
-use Rattle.bm_base.specs.Machine.Refusals.{first_of, cluster_checks, knows_storage, is_too_long}
 use Rattle.bm_base.proofs.MapLaws.{get-remove}
 use Rattle.bm_parts.proofs.KeepLaws.{get-keep_there}
 use Rattle.bm_base.proofs.Ties.{number_tie}

@@ -9,12 +9,7 @@ use Rattle.bm_base.specs.declared.level.Level.{Level}
 use Rattle.bm_base.specs.declared.level.Level.TheVariants.{Highest, VeryUnderReplicated, UnderReplicated, BadlyDistributed}
 use Rattle.bm_base.specs.declared.commands.Transfer.{Transfer}
 use Rattle.bm_base.specs.declared.commands.Delete.{Delete}
-use Rattle.bm_base.specs.Maps.Map.{get, keys, len}
-use Rattle.bm_base.specs.Machine.State.{RoundLimits, Cluster, Holdings}
-use Rattle.bm_base.specs.Machine.Replicas.{sources_of, has_storage}
-use Rattle.bm_base.specs.Machine.Levels.{level, is_at}
-use Rattle.bm_base.specs.Machine.Transfers.{RequestedCopy, requested_count, wishes_for, wishes, holders_of, excluded_for, least_source, least_target, transfer_for, transfers_from, transfers}
-use Rattle.bm_base.specs.Machine.Deletes.{deletable_on, deletes_of, deletes}
+use Rattle.bm_base.specs.Words.{get, keys, len, RoundLimits, Cluster, Holdings, sources_of, has_storage, level, is_at, RequestedCopy, requested_count, wishes_for, wishes, holders_of, excluded_for, least_source, least_target, transfer_for, transfers_from, transfers, deletable_on, deletes_of, deletes}
 use Rattle.bm_base.specs.declared.round.Wish.{Wish}
 use Rattle.bm_base.specs.RoundParts.{wish_of, wish_at, wishes_by_block, deletable}
 use Rattle.bm_base.specs.Choices.{one_by_one, transfer_by, transfers_over, first_of_each_node}

@@ -2,9 +2,7 @@
 use Rattle.std.proofs.Common.{◌≡◌, ℕ, zero, suc, ◌+◌, ◌<◌, ◌≤◌, Bool, true, false, ◌&&◌, List, [], ◌∷◌, map, filter, length, refl, sym, ap, subst, ◌∙◌, arith, eqb-true, ne_eqb}
 use Rattle.std.specs.Prelude.{◌==◌}
 use Rattle.std.proofs.lemmas.Bool.{eqb-false}
-use Rattle.bm_base.specs.Maps.Map.{Map, Order, entries, empty, insert_all}
-use Rattle.bm_base.specs.Machine.State.{Holdings, empty_holdings}
-use Rattle.bm_base.specs.Machine.Entries.{range_from}
+use Rattle.bm_base.specs.Words.{Map, Order, entries, empty, insert_all, Holdings, empty_holdings, range_from}
 use Rattle.bm_base.specs.Shards.{shard_of, cut}
 use Rattle.bm_base.proofs.MapLaws.{entries-keep, get-empty}
 use Rattle.bm_parts.specs.Whole.{joined_with, whole_of, parts_from, parts, AreOwn}

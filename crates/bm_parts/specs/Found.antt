@@ -9,11 +9,7 @@ use Rattle.bm_base.specs.declared.replica.Marks.{Marks}
 use Rattle.bm_base.specs.declared.commands.Delete.{Delete}
 use Rattle.bm_base.specs.declared.round.Wish.{Wish}
 use Rattle.bm_base.specs.declared.round.RoundPart.{RoundPart}
-use Rattle.bm_base.specs.Maps.Map.{Order, get, contains_key}
-use Rattle.bm_base.specs.Machine.State.{Cluster, Holdings, by_replica, replica_at}
-use Rattle.bm_base.specs.Maps.Lists.{has}
-use Rattle.bm_base.specs.Machine.Excess.{without_expired, without_unordered_excess, excess_in}
-use Rattle.bm_base.specs.Machine.Deletes.{is_deletable}
+use Rattle.bm_base.specs.Words.{Order, get, contains_key, Cluster, Holdings, by_replica, replica_at, has, without_expired, without_unordered_excess, excess_in, is_deletable}
 use Rattle.bm_base.specs.Ordered.{by_pair}
 use Rattle.bm_base.specs.RoundParts.{holdings_at_choice, wish_at, wish_key, delete_key, round_part}
 

@@ -6,14 +6,7 @@ use Rattle.bm_base.specs.declared.commands.Delete.{Delete}
 use Rattle.bm_base.specs.declared.event.Event.{Event}
 use Rattle.bm_base.specs.declared.event.Remaining.{Remaining}
 use Rattle.bm_base.specs.declared.replica.ReplicaId.{ReplicaId}
-use Rattle.bm_base.specs.Maps.Map.{get, contains_key}
-use Rattle.bm_base.specs.Machine.State.{Cluster, Holdings, replica_at}
-use Rattle.bm_base.specs.Maps.Lists.{has}
-use Rattle.bm_base.specs.Machine.Replicas.{rack_of, has_storage, is_draining, is_multi_rack, usable}
-use Rattle.bm_base.specs.Machine.Levels.{level}
-use Rattle.bm_base.specs.Machine.Events.{register, heartbeat, without_node, without_storage, drain, undrain, without_storages, begin_drain, change_cluster, change_holdings}
-use Rattle.bm_base.specs.Machine.Refusals.{knows_storage, first_of, cluster_checks}
-use Rattle.bm_base.specs.Machine.Rounds.{end_round}
+use Rattle.bm_base.specs.Words.{get, contains_key, Cluster, Holdings, replica_at, has, rack_of, has_storage, is_draining, is_multi_rack, usable, level, register, heartbeat, without_node, without_storage, drain, undrain, without_storages, begin_drain, change_cluster, change_holdings, knows_storage, first_of, cluster_checks, end_round}
 use Rattle.bm_base.specs.RoundParts.{round_on_part}
 use Rattle.bm_base.specs.Promises.Lawful.{IsLawfulCluster}
 use Rattle.bm_parts.specs.Parts.{block_of, change_part}

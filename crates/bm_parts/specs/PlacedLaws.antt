@@ -6,12 +6,7 @@ use Rattle.bm_base.specs.declared.commands.Delete.{Delete}
 use Rattle.bm_base.specs.declared.event.Event.{Event}
 use Rattle.bm_base.specs.declared.replica.ReplicaId.{ReplicaId}
 use Rattle.bm_base.specs.declared.replica.Marks.{Marks}
-use Rattle.bm_base.specs.Maps.Map.{get, contains_key}
-use Rattle.bm_base.specs.Machine.State.{Cluster, Holdings}
-use Rattle.bm_base.specs.Machine.Replicas.{is_good, are_siblings}
-use Rattle.bm_base.specs.Machine.Entries.{ReportedBlock}
-use Rattle.bm_base.specs.Machine.Events.{report, change_cluster}
-use Rattle.bm_base.specs.Machine.Refusals.{first_of, cluster_checks}
+use Rattle.bm_base.specs.Words.{get, contains_key, Cluster, Holdings, is_good, are_siblings, ReportedBlock, report, change_cluster, first_of, cluster_checks}
 use Rattle.bm_base.specs.RoundParts.{round_on_part}
 use Rattle.bm_base.specs.Promises.Lawful.{IsLawfulCluster, IsLawfulHoldings}
 use Rattle.bm_parts.specs.Parts.{change_part}

@@ -5,13 +5,8 @@ use Rattle.bm_base.specs.declared.replica.ReplicaId.{ReplicaId}
 use Rattle.bm_base.specs.declared.replica.Marks.{Marks}
 use Rattle.bm_base.specs.declared.replica.Replica.{Replica}
 use Rattle.bm_base.specs.declared.event.Event.{Event}
-use Rattle.bm_base.specs.Maps.Map.{by_number, keys}
-use Rattle.bm_base.specs.Machine.State.{Cluster, Holdings, by_replica, replica_at}
-use Rattle.bm_base.specs.Machine.Replicas.{drains}
-use Rattle.bm_base.specs.Machine.Levels.{level}
-use Rattle.bm_base.specs.Machine.Queries.{all_replicas, replicas_where, missing_blocks, blocks_on, places, is_held_back_by, is_retired}
+use Rattle.bm_base.specs.Words.{by_number, keys, Cluster, Holdings, by_replica, replica_at, drains, level, all_replicas, replicas_where, missing_blocks, blocks_on, places, is_held_back_by, is_retired, block_checks, block_refusal}
 use Rattle.bm_base.specs.Promises.Versions.{table}
-use Rattle.bm_base.specs.Machine.Refusals.{block_checks, block_refusal}
 use Rattle.bm_base.specs.Shards.{shard_of, cut}
 use Rattle.bm_base.specs.Ordered.{ordered_by}
 use Rattle.bm_parts.specs.Parts.{block_of}

@@ -4,10 +4,7 @@ use Rattle.std.specs.Prelude.{◌≡◌, ℕ, ◌+◌, ◌≤◌, List, length, 
 use Rattle.bm_base.specs.declared.commands.Transfer.{Transfer}
 use Rattle.bm_base.specs.declared.commands.Delete.{Delete}
 use Rattle.bm_base.specs.declared.round.RoundPart.{RoundPart}
-use Rattle.bm_base.specs.Machine.State.{RoundLimits, Cluster, Holdings, State}
-use Rattle.bm_base.specs.Machine.Transfers.{transfers}
-use Rattle.bm_base.specs.Machine.Deletes.{deletes}
-use Rattle.bm_base.specs.Machine.Rounds.{end_round, commands_of, whole_round}
+use Rattle.bm_base.specs.Words.{RoundLimits, Cluster, Holdings, State, transfers, deletes, end_round, commands_of, whole_round}
 use Rattle.bm_base.specs.Shards.{cut}
 use Rattle.bm_base.specs.RoundParts.{holdings_at_choice, wishes_by_block, deletable, round_part, round_on_part}
 use Rattle.bm_base.specs.Choices.{merged_wishes, merged_deletes, chosen_transfers, chosen_deletes}

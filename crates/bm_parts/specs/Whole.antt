@@ -1,10 +1,7 @@
 -- The whole of the parts of several shards.
 use Rattle.std.specs.Prelude.{◌≡◌, ℕ, suc, ◌+◌, ◌≤◌, List, [], ◌∷◌, length, map}
-use Rattle.bm_base.specs.Maps.Map.{entries, insert_all}
-use Rattle.bm_base.specs.Machine.State.{Holdings, empty_holdings}
+use Rattle.bm_base.specs.Words.{entries, insert_all, Holdings, empty_holdings, done, range_from}
 use Rattle.bm_base.specs.declared.event.Done.{Done}
-use Rattle.bm_base.specs.Machine.Calls.{done}
-use Rattle.bm_base.specs.Machine.Entries.{range_from}
 use Rattle.bm_base.specs.Shards.{cut}
 
 -- the union of two holdings

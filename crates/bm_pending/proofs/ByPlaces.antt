@@ -8,8 +8,7 @@ use Rattle.std.specs.Map.{lookup, keys_of}
 use Rattle.std.proofs.lemmas.Bool.{false≢true}
 use Rattle.std.proofs.lemmas.Option.{slice_get-map}
 use Rattle.bm_base.specs.declared.replica.ReplicaId.{ReplicaId}
-use Rattle.bm_base.specs.Maps.Map.{get}
-use Rattle.bm_base.specs.Maps.Lists.{has}
+use Rattle.bm_base.specs.Words.{get, has}
 use Rattle.bm_base.proofs.Clusters.{eqb_turned}
 use Rattle.bm_pending.specs.Inside.{PendingTargets, map_of, capacities_of}
 use Rattle.bm_pending.specs.PendingMap.{PendingMap, blocks_in}

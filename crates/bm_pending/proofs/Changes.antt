@@ -9,8 +9,7 @@ use Rattle.std.specs.Map.{lookup}
 use Rattle.std.proofs.Common.{refl, sym, ap, subst, ◌∙◌, arith}
 use Rattle.std.proofs.lemmas.Map.Made.{lookup-map_values}
 use Rattle.bm_base.specs.declared.replica.ReplicaId.{ReplicaId}
-use Rattle.bm_base.specs.Maps.Map.{Map, by_number, empty, entries, get, insert, keep, remove}
-use Rattle.bm_base.specs.Machine.State.{by_replica, replica_at}
+use Rattle.bm_base.specs.Words.{Map, by_number, empty, entries, get, insert, keep, remove, by_replica, replica_at}
 use Rattle.bm_base.proofs.MapLaws.{same_map, get-insert, get-keep, get-remove, entries-keep}
 use Rattle.bm_base.proofs.MapEntries.{one_out}
 use Rattle.bm_base.proofs.Ties.{number_tie, replica_tie}

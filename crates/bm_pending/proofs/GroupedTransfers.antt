@@ -8,8 +8,7 @@ use Rattle.std.proofs.Common.{refl, sym, ap, subst, ◌∙◌, eqb-true}
 use Rattle.std.proofs.lemmas.List.{length-map, nil_from_length}
 use Rattle.bm_base.specs.Maps.Conjunction.{both, first, second}
 use Rattle.bm_base.specs.declared.replica.ReplicaId.{ReplicaId}
-use Rattle.bm_base.specs.Maps.Map.{Map, entries, get, keep}
-use Rattle.bm_base.specs.Machine.State.{by_replica, replica_at, replica_cmp}
+use Rattle.bm_base.specs.Words.{Map, entries, get, keep, by_replica, replica_at, replica_cmp}
 use Rattle.bm_base.proofs.MapLaws.{same_map, get-keep, entries-keep}
 use Rattle.bm_base.proofs.Ties.{number_tie, replica_tie}
 use Rattle.bm_pending.specs.PendingMap.{targets_of}

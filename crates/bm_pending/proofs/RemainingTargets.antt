@@ -4,8 +4,7 @@ use Rattle.std.specs.Ordering.{nat_cmp}
 use Rattle.std.specs.FinMap.{is_sorted}
 use Rattle.std.proofs.Common.{refl, sym, ap, ◌∙◌}
 use Rattle.bm_base.specs.declared.replica.ReplicaId.{ReplicaId}
-use Rattle.bm_base.specs.Maps.Map.{entries}
-use Rattle.bm_base.specs.Machine.Excess.{is_expired}
+use Rattle.bm_base.specs.Words.{entries, is_expired}
 use Rattle.bm_pending.specs.Inside.{PendingTargets, map_of, capacities_of, targets_at}
 use Rattle.bm_pending.specs.Remaining.{remaining_targets}
 use Rattle.bm_pending.proofs.Blocks.{filtered-targets}

@@ -12,10 +12,8 @@ use Rattle.std.proofs.lemmas.Bool.Decides.{nat_tests}
 use Rattle.std.proofs.lemmas.List.{map-append}
 use Rattle.bm_base.specs.Maps.Conjunction.{both, first, second}
 use Rattle.bm_base.specs.declared.replica.ReplicaId.{ReplicaId}
-use Rattle.bm_base.specs.Maps.Map.{Map, entries, get, keep}
-use Rattle.bm_base.specs.Machine.State.{by_replica, replica_at, replica_cmp}
+use Rattle.bm_base.specs.Words.{Map, entries, get, keep, by_replica, replica_at, replica_cmp, is_expired}
 use Rattle.bm_base.proofs.MapLaws.{same_map, entries-keep}
-use Rattle.bm_base.specs.Machine.Excess.{is_expired}
 use Rattle.bm_pending.specs.PendingMap.{expired_of}
 use Rattle.bm_pending.specs.Inside.{PendingTargets, map_of, targets_at}
 use Rattle.bm_pending.proofs.TargetViews.{get-map_of}

@@ -6,8 +6,7 @@ use Rattle.std.specs.FinMap.{find}
 use Rattle.std.specs.Map.{lookup}
 use Rattle.std.proofs.Common.{refl, sym, ap, ◌∙◌}
 use Rattle.bm_base.specs.declared.replica.ReplicaId.{ReplicaId}
-use Rattle.bm_base.specs.Maps.Map.{Map, get}
-use Rattle.bm_base.specs.Machine.State.{by_replica, replica_at}
+use Rattle.bm_base.specs.Words.{Map, get, by_replica, replica_at}
 use Rattle.bm_base.proofs.MapLaws.{get-insert, get-keep, get-empty}
 use Rattle.bm_base.proofs.MapEntries.{one_out}
 use Rattle.bm_base.proofs.Ties.{number_tie, replica_tie}

@@ -5,9 +5,7 @@ use Rattle.std.specs.Ordering.{nat_cmp}
 use Rattle.std.specs.FinMap.{is_sorted}
 use Rattle.std.specs.Map.{lookup}
 use Rattle.smallvec.specs.SmallVec.{SmallVec}
-use Rattle.bm_base.specs.Maps.Map.{Map, empty, insert, keep}
-use Rattle.bm_base.specs.Machine.State.{by_replica, replica_at}
-use Rattle.bm_base.specs.Machine.Excess.{is_expired}
+use Rattle.bm_base.specs.Words.{Map, empty, insert, keep, by_replica, replica_at, is_expired}
 
 -- the targets of one block with the rounds of their commands
 abbrev pub PendingTargets : Type 0

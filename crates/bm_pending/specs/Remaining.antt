@@ -1,7 +1,6 @@
 -- The transfers that remain pending after a round.
 use Rattle.std.specs.Prelude.{ℕ, not, ◌==◌, List, map, filter}
-use Rattle.bm_base.specs.Maps.Map.{entries, keep}
-use Rattle.bm_base.specs.Machine.Excess.{is_expired}
+use Rattle.bm_base.specs.Words.{entries, keep, is_expired}
 use Rattle.bm_pending.specs.PendingMap.{PendingMap}
 
 -- the targets of a block's transfers that have not expired as round r begins, ascending

@@ -4,8 +4,7 @@ ghost use Rattle.std.specs.Ordering.{nat_cmp};
 ghost use Rattle.std.specs.FinMap as list;
 ghost use Rattle.std.specs.Map.{keys_of};
 ghost use Rattle.bm_base.specs.declared.refusal.Refusal.TheVariants.{Memory};
-ghost use Rattle.bm_base.specs.Maps.Lists.{has};
-ghost use Rattle.bm_base.specs.Machine.Excess.{is_expired};
+ghost use Rattle.bm_base.specs.Words.{has, is_expired};
 ghost use Rattle.bm_pending.specs.Inside.{targets_at, room_at};
 
 use crate::targets::{PendingTargets, drop_expired, drop_storages, drop_target, put};

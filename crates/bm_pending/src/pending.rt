@@ -4,10 +4,8 @@ ghost use Rattle.std.specs.List.{IsDistinct};
 ghost use Rattle.bm_base.specs.declared.refusal.Refusal.TheVariants.{Memory};
 ghost use Rattle.bm_base.specs.declared.replica.ReplicaId.{ReplicaId};
 ghost use Rattle.bm_base.specs.Maps.Map as map;
-ghost use Rattle.bm_base.specs.Machine.State.{replica_at};
-ghost use Rattle.bm_base.specs.Maps.Lists.{has};
+ghost use Rattle.bm_base.specs.Words.{replica_at, has, is_expired};
 ghost use Rattle.bm_pending.specs.Remaining as remaining;
-ghost use Rattle.bm_base.specs.Machine.Excess.{is_expired};
 ghost use Rattle.bm_pending.specs.PendingMap.{room, blocks_in, targets_of, expired_of};
 
 use crate::by_block::{

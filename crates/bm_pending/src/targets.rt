@@ -4,8 +4,7 @@ ghost use Rattle.std.specs.Prelude.{◌≡◌, ◌==◌, not, filter, map, lengt
 ghost use Rattle.std.specs.Ordering.{nat_cmp};
 ghost use Rattle.std.specs.FinMap as list;
 ghost use Rattle.smallvec.specs.SmallVec.{HasRoomFor};
-ghost use Rattle.bm_base.specs.Maps.Lists.{has};
-ghost use Rattle.bm_base.specs.Machine.Excess.{is_expired};
+ghost use Rattle.bm_base.specs.Words.{has, is_expired};
 
 use bm_base::StorageId;
 use bm_maps::sorted::place;

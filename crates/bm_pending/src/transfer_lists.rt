@@ -5,9 +5,7 @@ ghost use Rattle.std.specs.FinMap as list;
 ghost use Rattle.std.specs.List.{list_any, IsDistinct};
 ghost use Rattle.std.specs.List.Sorted.{IsNonDecreasing};
 ghost use Rattle.bm_base.specs.declared.refusal.Refusal.TheVariants.{Memory};
-ghost use Rattle.bm_base.specs.Maps.Map.{entries};
-ghost use Rattle.bm_base.specs.Machine.State.{replica_at};
-ghost use Rattle.bm_base.specs.Machine.Excess.{is_expired};
+ghost use Rattle.bm_base.specs.Words.{entries, replica_at, is_expired};
 ghost use Rattle.bm_pending.specs.PendingMap.{expired_of};
 ghost use Rattle.bm_pending.specs.Inside.{targets_at, expired_among, map_of};
 

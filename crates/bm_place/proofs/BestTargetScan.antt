@@ -13,11 +13,7 @@ use Rattle.std.proofs.lemmas.List.MinMax.{ranks_by}
 use Rattle.std.proofs.lemmas.Option.{cond_some}
 use Rattle.bm_base.specs.declared.level.Level.{Level}
 use Rattle.bm_base.specs.declared.level.Level.TheVariants.{BadlyDistributed}
-use Rattle.bm_base.specs.Machine.Levels.{is_at}
-use Rattle.bm_base.specs.Maps.Lists.{has, least}
-use Rattle.bm_base.specs.Maps.Map.{get, keys}
-use Rattle.bm_base.specs.Machine.State.{Cluster}
-use Rattle.bm_base.specs.Machine.Transfers.{free_bytes, class_of, target_cmp, is_target, least_target_by}
+use Rattle.bm_base.specs.Words.{is_at, has, least, get, keys, Cluster, free_bytes, class_of, target_cmp, is_target, least_target_by}
 use Rattle.bm_place.specs.declared.scheduled_bytes.TargetRow.{TargetRow}
 use Rattle.bm_place.specs.declared.replica_spread.ReplicaSpread.{ReplicaSpread}
 use Rattle.bm_place.specs.Least.{IsLeastOf}

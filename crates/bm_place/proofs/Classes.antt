@@ -7,11 +7,7 @@ use Rattle.std.specs.Option.{option_map_or}
 use Rattle.std.specs.List.{cons_option}
 use Rattle.std.specs.FinMap.{put}
 use Rattle.std.specs.FinMap.Entries.{by_order}
-use Rattle.bm_base.specs.Maps.Map.{Map, by_number, insert, insert_all, keys, entries, empty}
-use Rattle.bm_base.specs.Machine.State.{Cluster}
-use Rattle.bm_base.specs.Maps.Lists.{has, distinct}
-use Rattle.bm_base.specs.Machine.Replicas.{rack_of, racks}
-use Rattle.bm_base.specs.Machine.Transfers.{class_of, is_on_racks}
+use Rattle.bm_base.specs.Words.{Map, by_number, insert, insert_all, keys, entries, empty, Cluster, has, distinct, rack_of, racks, class_of, is_on_racks}
 use Rattle.bm_place.specs.declared.up_to_two.UpToTwo.{UpToTwo}
 use Rattle.bm_place.specs.declared.up_to_two.UpToTwo.TheVariants.{Nothing, One, Two, More}
 use Rattle.bm_place.specs.declared.replica_spread.ReplicaSpread.{ReplicaSpread}

@@ -2,9 +2,7 @@
 use Rattle.std.specs.Prelude.{option_map}
 use Rattle.std.proofs.Common.{◌≡◌, ◌≤◌, ◌==◌, ℕ, Bool, true, false, cond, not, List, [], ◌∷◌, map, drop, filter, length, count_by, Option, None, refl, sym, ap, ◌∙◌, arith}
 use Rattle.std.proofs.lemmas.List.{at_drop_all}
-use Rattle.bm_base.specs.Machine.State.{Cluster}
-use Rattle.bm_base.specs.Maps.Lists.{least}
-use Rattle.bm_base.specs.Machine.Excess.{excess_cmp}
+use Rattle.bm_base.specs.Words.{Cluster, least, excess_cmp}
 use Rattle.bm_place.specs.declared.comparison.Candidate.{Candidate}
 use Rattle.bm_place.specs.declared.comparison.Holder.{Holder}
 use Rattle.bm_place.specs.Candidates.{cmp_candidates}

@@ -6,9 +6,7 @@ use Rattle.std.specs.Cmp.{IsStrictWeakOrder, nat_cmp_total}
 use Rattle.std.proofs.lemmas.Bool.{eqb-true, false≢true}
 use Rattle.std.proofs.lemmas.Cmp.{on_total, then_total, back_total}
 use Rattle.std.proofs.lemmas.List.MinMax.{ranks_by}
-use Rattle.bm_base.specs.Machine.State.{Cluster}
-use Rattle.bm_base.specs.Maps.Lists.{has}
-use Rattle.bm_base.specs.Machine.Excess.{remaining}
+use Rattle.bm_base.specs.Words.{Cluster, has, remaining}
 use Rattle.bm_base.proofs.ListTests.{or_right}
 use Rattle.bm_place.specs.declared.comparison.Holder.{Holder}
 use Rattle.bm_place.specs.Comparison.{holder_at}

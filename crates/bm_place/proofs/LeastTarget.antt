@@ -7,13 +7,7 @@ use Rattle.std.specs.Ordering.{is_lt, nat_cmp, ordering_then}
 use Rattle.std.proofs.lemmas.Bool.{eqb-true, eq-eqb, leb-true}
 use Rattle.bm_base.specs.declared.level.Level.{Level}
 use Rattle.bm_base.specs.declared.level.Level.TheVariants.{BadlyDistributed}
-use Rattle.bm_base.specs.Maps.Lists.{has, distinct}
-use Rattle.bm_base.specs.Maps.Map.{get, keys}
-use Rattle.bm_base.specs.Machine.State.{Cluster}
-use Rattle.bm_base.specs.Machine.Replicas.{node_of, has_storage, is_draining, racks}
-use Rattle.bm_base.specs.Machine.Levels.{is_at}
-use Rattle.bm_base.specs.Machine.Excess.{remaining}
-use Rattle.bm_base.specs.Machine.Transfers.{free_bytes, class_of, target_cmp, is_excluded, is_target, is_on_racks}
+use Rattle.bm_base.specs.Words.{has, distinct, get, keys, Cluster, node_of, has_storage, is_draining, racks, is_at, remaining, free_bytes, class_of, target_cmp, is_excluded, is_target, is_on_racks}
 use Rattle.bm_place.specs.declared.scheduled_bytes.TargetRow.{TargetRow}
 use Rattle.bm_place.specs.Least.{IsLeastOf}
 use Rattle.bm_place.specs.Targets.{target_at, target_table, LeavesRack}

@@ -7,9 +7,7 @@ use Rattle.std.specs.Ordering.{is_lt, nat_cmp, ordering_then, ordering_reverse}
 use Rattle.std.specs.Cmp.{IsTotalOrder, nat_cmp_total}
 use Rattle.std.proofs.lemmas.Bool.{eqb-true, eq-eqb}
 use Rattle.std.proofs.lemmas.List.Sums.{length-filter}
-use Rattle.bm_base.specs.Machine.State.{Cluster}
-use Rattle.bm_base.specs.Maps.Lists.{has, has_repeats, least}
-use Rattle.bm_base.specs.Machine.Excess.{remaining, share_rack, has_rack_mate, excess_cmp, excess_among}
+use Rattle.bm_base.specs.Words.{Cluster, has, has_repeats, least, remaining, share_rack, has_rack_mate, excess_cmp, excess_among}
 use Rattle.bm_base.proofs.ListTests.{filter_filter}
 use Rattle.bm_place.specs.Least.{IsLeastOf}
 use Rattle.bm_place.proofs.Best.{least-bears}

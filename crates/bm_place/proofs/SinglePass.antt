@@ -11,11 +11,7 @@ use Rattle.std.proofs.lemmas.Bool.{eqb-true, false≢true, or_parts}
 use Rattle.std.proofs.lemmas.List.Sums.{sum_by-append}
 use Rattle.std.proofs.lemmas.List.Folds.{list_any-append}
 use Rattle.std.proofs.lemmas.Option.{same_Some, slice_get-map}
-use Rattle.bm_base.specs.Maps.Map.{Map, by_number}
-use Rattle.bm_base.specs.Machine.State.{Cluster}
-use Rattle.bm_base.specs.Maps.Lists.{has, has_repeats, least}
-use Rattle.bm_base.specs.Machine.Replicas.{rack_of}
-use Rattle.bm_base.specs.Machine.Excess.{share_rack, has_rack_mate, excess_cmp, excess_among}
+use Rattle.bm_base.specs.Words.{Map, by_number, Cluster, has, has_repeats, least, rack_of, share_rack, has_rack_mate, excess_cmp, excess_among}
 use Rattle.bm_base.proofs.ListTests.{once_filter, or_left, or_right, same_again}
 use Rattle.bm_place.specs.declared.comparison.Holder.{Holder}
 use Rattle.bm_place.specs.Candidates.{is_on, CountsRacks}

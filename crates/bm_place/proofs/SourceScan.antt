@@ -8,10 +8,7 @@ use Rattle.std.proofs.lemmas.List.{at_drop_all}
 use Rattle.std.proofs.lemmas.Bool.{lt-ltb}
 use Rattle.bm_base.specs.declared.level.Level.{Level}
 use Rattle.bm_base.specs.declared.level.Level.TheVariants.{Highest, VeryUnderReplicated, UnderReplicated, BadlyDistributed, NoUsableReplica}
-use Rattle.bm_base.specs.Machine.State.{Cluster}
-use Rattle.bm_base.specs.Maps.Lists.{least}
-use Rattle.bm_base.specs.Machine.Replicas.{is_draining}
-use Rattle.bm_base.specs.Machine.Transfers.{node_number, source_rank, source_cmp, stream_limit, least_source_by}
+use Rattle.bm_base.specs.Words.{Cluster, least, is_draining, node_number, source_rank, source_cmp, stream_limit, least_source_by}
 use Rattle.bm_place.specs.declared.source.SourceRow.{SourceRow}
 use Rattle.bm_place.specs.Least.{IsLeastOf}
 use Rattle.bm_place.specs.Sources.{source_at, cmp_sources, may_send, TakesDrained}

@@ -9,11 +9,7 @@ use Rattle.std.specs.Cmp.{IsTotalOrder, nat_cmp_total}
 use Rattle.std.proofs.lemmas.Cmp.{on_total, then_total, back_total}
 use Rattle.std.proofs.lemmas.Bool.{eqb-true, eq-eqb}
 use Rattle.std.proofs.lemmas.List.Sums.{sum_by-cons, count_by-le-length}
-use Rattle.bm_base.specs.Maps.Map.{Map, by_number, insert}
-use Rattle.bm_base.specs.Machine.State.{Cluster}
-use Rattle.bm_base.specs.Maps.Lists.{least}
-use Rattle.bm_base.specs.Machine.Replicas.{rack_of}
-use Rattle.bm_base.specs.Machine.Excess.{remaining, share_rack, has_rack_mate, excess_cmp, excess_among}
+use Rattle.bm_base.specs.Words.{Map, by_number, insert, Cluster, least, rack_of, remaining, share_rack, has_rack_mate, excess_cmp, excess_among}
 use Rattle.bm_place.specs.declared.comparison.Candidate.{Candidate}
 use Rattle.bm_place.specs.Tables.{count_at}
 use Rattle.bm_place.specs.Candidates.{is_on, cmp_candidates}

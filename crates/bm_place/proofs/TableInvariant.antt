@@ -9,11 +9,8 @@ use Rattle.std.proofs.Common.{◌≡◌, ◌≤◌, ℕ, Bool, true, false, cond
 use Rattle.std.proofs.lemmas.List.Sorted.{IsPermutation-sym}
 use Rattle.std.proofs.lemmas.Option.{same_Some, cond_some, none-some}
 use Rattle.bm_base.specs.Maps.Conjunction.{first, second}
-use Rattle.bm_base.specs.Maps.Lists.{has}
-use Rattle.bm_base.specs.Maps.Map.{Map, by_number, empty, get, entries, keys}
+use Rattle.bm_base.specs.Words.{has, Map, by_number, empty, get, entries, keys, Cluster, node_of, rack_of, is_draining, drains}
 use Rattle.bm_base.specs.declared.storage.StorageInfo.{StorageInfo}
-use Rattle.bm_base.specs.Machine.State.{Cluster}
-use Rattle.bm_base.specs.Machine.Replicas.{node_of, rack_of, is_draining, drains}
 use Rattle.bm_base.proofs.ForEach.{Each, each_then}
 use Rattle.bm_base.proofs.MapEntries.{each_entry, each_found, key_itself}
 use Rattle.bm_base.proofs.MapLaws.{find_below}

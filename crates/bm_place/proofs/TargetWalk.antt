@@ -10,8 +10,7 @@ use Rattle.std.proofs.lemmas.Bool.Decides.{nat_tests}
 use Rattle.std.proofs.lemmas.List.{at_drop_all}
 use Rattle.bm_base.specs.declared.level.Level.{Level}
 use Rattle.bm_base.specs.declared.level.Level.TheVariants.{BadlyDistributed}
-use Rattle.bm_base.specs.Machine.Levels.{is_at}
-use Rattle.bm_base.specs.Machine.State.{Cluster}
+use Rattle.bm_base.specs.Words.{is_at, Cluster}
 use Rattle.bm_place.specs.declared.scheduled_bytes.TargetRow.{TargetRow}
 use Rattle.bm_place.specs.declared.replica_spread.ReplicaSpread.{ReplicaSpread}
 use Rattle.bm_place.specs.Scan.{scan, is_better}

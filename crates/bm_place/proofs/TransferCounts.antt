@@ -11,11 +11,7 @@ use Rattle.bm_base.specs.declared.commands.Transfer.{Transfer}
 use Rattle.bm_base.specs.declared.level.Level.{Level}
 use Rattle.bm_base.specs.declared.level.Level.TheVariants.{Highest, VeryUnderReplicated, UnderReplicated, BadlyDistributed, NoUsableReplica}
 use Rattle.bm_base.specs.declared.storage.StorageInfo.{StorageInfo}
-use Rattle.bm_base.specs.Maps.Lists.{has}
-use Rattle.bm_base.specs.Maps.Map.{Map, by_number, get, keys, revise_at}
-use Rattle.bm_base.specs.Machine.State.{Cluster}
-use Rattle.bm_base.specs.Machine.Replicas.{node_of, has_storage, is_draining}
-use Rattle.bm_base.specs.Machine.Transfers.{node_number, streams_from, scheduled_to, stream_limit}
+use Rattle.bm_base.specs.Words.{has, Map, by_number, get, keys, revise_at, Cluster, node_of, has_storage, is_draining, node_number, streams_from, scheduled_to, stream_limit}
 use Rattle.bm_base.proofs.MapLaws.{same_map, get-revise}
 use Rattle.bm_base.proofs.Ties.{number_tie}
 use Rattle.bm_place.specs.Tables.{table, count_at}

@@ -2,9 +2,7 @@
 use Rattle.std.specs.Prelude.{◌≡◌, ℕ, Bool, List, count_by}
 use Rattle.std.specs.declared.cmp.Ordering.{Ordering}
 use Rattle.std.specs.Ordering.{nat_cmp, ordering_then}
-use Rattle.bm_base.specs.Maps.Map.{Map, by_number}
-use Rattle.bm_base.specs.Machine.State.{Cluster}
-use Rattle.bm_base.specs.Machine.Replicas.{rack_of}
+use Rattle.bm_base.specs.Words.{Map, by_number, Cluster, rack_of}
 use Rattle.bm_place.specs.declared.comparison.Candidate.{Candidate}
 use Rattle.bm_place.specs.ReplicaSpread.{is_rack}
 use Rattle.bm_place.specs.Tables.{count_at}

@@ -1,9 +1,7 @@
 -- Storages with a live replica, looked up, and compared with one another.
 use Rattle.std.specs.Prelude.{ℕ, false, nat_lt, if◌then◌else◌, List, count_by}
 use Rattle.std.specs.Option.{option_map_or}
-use Rattle.bm_base.specs.Machine.State.{Cluster}
-use Rattle.bm_base.specs.Machine.Replicas.{rack_of}
-use Rattle.bm_base.specs.Machine.Excess.{remaining}
+use Rattle.bm_base.specs.Words.{Cluster, rack_of, remaining}
 use Rattle.bm_place.specs.declared.comparison.Candidate.{Candidate}
 use Rattle.bm_place.specs.declared.comparison.Holder.{Holder}
 use Rattle.bm_place.specs.ReplicaSpread.{is_rack}

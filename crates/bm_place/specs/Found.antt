@@ -3,12 +3,7 @@ use Rattle.std.specs.Prelude.{◌≡◌, ◌<◌, ◌≤◌, ◌+◌, ℕ, true,
 use Rattle.std.specs.Option.{IfSome}
 use Rattle.bm_base.specs.declared.level.Level.{Level}
 use Rattle.bm_base.specs.declared.commands.Transfer.{Transfer}
-use Rattle.bm_base.specs.Maps.Map.{Map, by_number, get, keys, revise_at}
-use Rattle.bm_base.specs.Machine.State.{Cluster}
-use Rattle.bm_base.specs.Maps.Lists.{has}
-use Rattle.bm_base.specs.Machine.Replicas.{node_of, has_storage, is_draining}
-use Rattle.bm_base.specs.Machine.Excess.{remaining}
-use Rattle.bm_base.specs.Machine.Transfers.{least_source_by, source_cmp, stream_limit, least_target_by, target_cmp, is_target, scheduled_to}
+use Rattle.bm_base.specs.Words.{Map, by_number, get, keys, revise_at, Cluster, has, node_of, has_storage, is_draining, remaining, least_source_by, source_cmp, stream_limit, least_target_by, target_cmp, is_target, scheduled_to}
 use Rattle.bm_place.specs.declared.scheduled_bytes.TargetRow.{TargetRow}
 use Rattle.bm_place.specs.Least.{IsLeastOf}
 use Rattle.bm_place.specs.Tables.{count_at}

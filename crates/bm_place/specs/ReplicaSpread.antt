@@ -1,8 +1,7 @@
 -- Where a block is held, as far as the class of a target depends on it.
 use Rattle.std.specs.Prelude.{ℕ, Bool, true, false, if◌then◌else◌, ◌==◌, ◌||◌, List, [], ◌∷◌, Option, Some, None}
 use Rattle.std.specs.Option.{option_map_or}
-use Rattle.bm_base.specs.Machine.State.{Cluster}
-use Rattle.bm_base.specs.Machine.Replicas.{rack_of}
+use Rattle.bm_base.specs.Words.{Cluster, rack_of}
 use Rattle.bm_place.specs.declared.up_to_two.UpToTwo.{UpToTwo}
 use Rattle.bm_place.specs.declared.up_to_two.UpToTwo.TheVariants.{Nothing, One, Two}
 use Rattle.bm_place.specs.declared.replica_spread.ReplicaSpread.{ReplicaSpread}

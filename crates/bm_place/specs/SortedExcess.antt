@@ -3,9 +3,7 @@ use Rattle.std.specs.Prelude.{◌≡◌, ℕ, false, List, map}
 use Rattle.std.specs.declared.cmp.Ordering.{Ordering}
 use Rattle.std.specs.Ordering.{nat_cmp, ordering_then}
 use Rattle.std.specs.List.Sorted.{IsSorted}
-use Rattle.bm_base.specs.Maps.Map.{Map, by_number}
-use Rattle.bm_base.specs.Maps.Lists.{has_repeats}
-use Rattle.bm_base.specs.Machine.State.{Cluster}
+use Rattle.bm_base.specs.Words.{Map, by_number, has_repeats, Cluster}
 use Rattle.bm_place.specs.declared.comparison.Holder.{Holder}
 use Rattle.bm_place.specs.Candidates.{CountsRacks}
 use Rattle.bm_place.specs.Comparison.{holder_at}

@@ -6,12 +6,8 @@ use Rattle.std.specs.Option.{option_map_or}
 use Rattle.std.specs.Coded.{Coded, code_by, coded×, coded_ℕ}
 use Rattle.bm_base.specs.declared.level.Level.{Level}
 use Rattle.bm_base.specs.declared.commands.Transfer.{Transfer}
-use Rattle.bm_base.specs.Maps.Map.{Map, by_number, get, keys, revise_at}
+use Rattle.bm_base.specs.Words.{Map, by_number, get, keys, revise_at, Cluster, has, node_of, has_storage, is_draining, node_number, source_rank, stream_limit}
 use Rattle.bm_base.specs.Maps.MapCode.{code}
-use Rattle.bm_base.specs.Machine.State.{Cluster}
-use Rattle.bm_base.specs.Maps.Lists.{has}
-use Rattle.bm_base.specs.Machine.Replicas.{node_of, has_storage, is_draining}
-use Rattle.bm_base.specs.Machine.Transfers.{node_number, source_rank, stream_limit}
 use Rattle.bm_place.specs.declared.source.SourceRow.{SourceRow}
 use Rattle.bm_place.specs.Tables.{table}
 

@@ -7,13 +7,7 @@ use Rattle.std.specs.List.{list_any}
 use Rattle.std.specs.Coded.{Coded, code_by, coded×, coded_ℕ, coded_bool, coded_option}
 use Rattle.bm_base.specs.declared.level.Level.{Level}
 use Rattle.bm_base.specs.declared.level.Level.TheVariants.{BadlyDistributed}
-use Rattle.bm_base.specs.Maps.Map.{Map, by_number, keys}
-use Rattle.bm_base.specs.Machine.State.{Cluster}
-use Rattle.bm_base.specs.Maps.Lists.{has}
-use Rattle.bm_base.specs.Machine.Replicas.{node_of, rack_of, is_draining, racks}
-use Rattle.bm_base.specs.Machine.Levels.{is_at}
-use Rattle.bm_base.specs.Machine.Excess.{remaining}
-use Rattle.bm_base.specs.Machine.Transfers.{is_target, is_on_racks}
+use Rattle.bm_base.specs.Words.{Map, by_number, keys, Cluster, has, node_of, rack_of, is_draining, racks, is_at, remaining, is_target, is_on_racks}
 use Rattle.bm_place.specs.declared.scheduled_bytes.TargetRow.{TargetRow}
 use Rattle.bm_place.specs.declared.replica_spread.ReplicaSpread.{ReplicaSpread}
 use Rattle.bm_place.specs.ReplicaSpread.{class_by_spread, is_one}

@@ -2,8 +2,7 @@
 ghost use Rattle.std.specs.Prelude.{◌≡◌, ◌++◌, false, nat_lt, ℕ, List, map, option_map, OnOk};
 ghost use Rattle.std.specs.Option.{option_map_or};
 ghost use Rattle.bm_base.specs.Machine.Excess as excess;
-ghost use Rattle.bm_base.specs.Maps.Lists.{least};
-ghost use Rattle.bm_base.specs.Machine.State.{Cluster};
+ghost use Rattle.bm_base.specs.Words.{least, Cluster};
 ghost use Rattle.bm_place.specs.Candidates as candidates;
 ghost use Rattle.bm_place.specs.Comparison as compared;
 ghost use Rattle.bm_place.specs.Scan as scanned;

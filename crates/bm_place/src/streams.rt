@@ -3,9 +3,8 @@ ghost use Rattle.std.specs.Prelude.{◌≡◌, ◌<◌, ◌+◌, if◌then◌els
 ghost use Rattle.std.specs.Option.{IfSome};
 ghost use Rattle.bm_base.specs.declared.refusal.Refusal.TheVariants.{Memory};
 ghost use Rattle.bm_base.specs.declared.commands.Transfer.{Transfer};
-ghost use Rattle.bm_base.specs.Machine.State.{Cluster};
+ghost use Rattle.bm_base.specs.Words.{Cluster, has_storage};
 ghost use Rattle.bm_base.specs.Maps.Map as map;
-ghost use Rattle.bm_base.specs.Machine.Replicas.{has_storage};
 ghost use Rattle.bm_base.specs.Machine.Transfers as transfers;
 ghost use Rattle.bm_place.specs.Found.{IsCountable, senders_with};
 ghost use Rattle.bm_place.specs.Sources as sources;

@@ -9,13 +9,8 @@ use Rattle.std.specs.List.Sorted.{IsSortedByKey, IsPermutation}
 use Rattle.std.proofs.lemmas.Bool.{and_parts, and_from, false≢true}
 use Rattle.bm_base.specs.declared.replica.ReplicaId.{ReplicaId}
 use Rattle.bm_base.specs.declared.replica.Marks.{Marks}
-use Rattle.bm_base.specs.Maps.Map.{Map, get, entries}
-use Rattle.bm_base.specs.Machine.State.{Holdings, by_replica, replica_at, replica_cmp}
-use Rattle.bm_base.specs.Maps.Lists.{has}
+use Rattle.bm_base.specs.Words.{Map, get, entries, Holdings, by_replica, replica_at, replica_cmp, has, is_good, is_stray, storages_where, knows_block, is_still_stored, places}
 use Rattle.bm_maps.specs.SlotLists.{Distinct}
-use Rattle.bm_base.specs.Machine.Replicas.{is_good, is_stray, storages_where}
-use Rattle.bm_base.specs.Machine.Refusals.{knows_block, is_still_stored}
-use Rattle.bm_base.specs.Machine.Queries.{places}
 use Rattle.bm_base.proofs.ForEach.{each_any}
 use Rattle.bm_base.proofs.MapEntries.{each_entry, passes_entry}
 use Rattle.bm_base.proofs.Membership.{has_where}

@@ -9,9 +9,7 @@ use Rattle.std.proofs.lemmas.List.Folds.{list_any-append}
 use Rattle.bm_base.specs.declared.replica.ReplicaId.{ReplicaId}
 use Rattle.bm_base.specs.declared.replica.Replica.{Replica}
 use Rattle.bm_base.specs.declared.replica.Marks.{Marks}
-use Rattle.bm_base.specs.Maps.Map.{Map, get, entries}
-use Rattle.bm_base.specs.Machine.State.{by_replica, replica_at, replica_cmp}
-use Rattle.bm_base.specs.Maps.Lists.{has}
+use Rattle.bm_base.specs.Words.{Map, get, entries, by_replica, replica_at, replica_cmp, has}
 use Rattle.bm_maps.specs.SlotLists.{IsMember, Distinct}
 use Rattle.bm_base.proofs.ForEach.{Each, each_of, each_then, each_both, each_mapped, each_filtered, each_passing, each_flat}
 use Rattle.bm_base.proofs.MapEntries.{key_itself, not_tied, each_entry, passes_entry}

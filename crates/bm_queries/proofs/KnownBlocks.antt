@@ -12,12 +12,9 @@ use Rattle.std.proofs.lemmas.Simd.{map-map}
 use Rattle.std.proofs.lemmas.List.{map-append}
 use Rattle.std.proofs.Math.Seq.{take-suc}
 use Rattle.bm_base.specs.declared.replica.BlockInfo.{BlockInfo}
-use Rattle.bm_base.specs.Maps.Map.{Map, by_number, get, entries, keys}
+use Rattle.bm_base.specs.Words.{Map, by_number, get, entries, keys, by_replica, places, has}
 use Rattle.bm_base.specs.declared.limits.TheConstants.{MAX_PLACES}
-use Rattle.bm_base.specs.Machine.State.{by_replica}
-use Rattle.bm_base.specs.Machine.Queries.{places}
 use Rattle.bm_base.specs.Promises.Versions.{Row, table}
-use Rattle.bm_base.specs.Maps.Lists.{has}
 use Rattle.bm_maps.specs.SlotLists.{IsMember, Distinct}
 use Rattle.bm_base.proofs.ForEach.{Each, each_all, each_then, each_both, each_mapped, each_filtered, each_passing}
 use Rattle.bm_base.proofs.ListTests.{any_map}

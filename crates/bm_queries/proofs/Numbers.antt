@@ -10,9 +10,7 @@ use Rattle.std.specs.List.Sorted.{IsSortedByKey, IsPermutation}
 use Rattle.std.proofs.lemmas.Bool.{or_left, or_right}
 use Rattle.bm_base.specs.Maps.Conjunction.{both, first, second}
 use Rattle.bm_base.specs.declared.replica.ReplicaId.{ReplicaId}
-use Rattle.bm_base.specs.Maps.Map.{by_number}
-use Rattle.bm_base.specs.Machine.State.{replica_cmp}
-use Rattle.bm_base.specs.Maps.Lists.{has}
+use Rattle.bm_base.specs.Words.{by_number, replica_cmp, has}
 use Rattle.bm_maps.specs.SlotLists.{IsMember, Distinct}
 use Rattle.bm_base.proofs.Clusters.{eqb_turned}
 use Rattle.bm_base.proofs.ForEach.{Each}

@@ -10,11 +10,7 @@ use Rattle.bm_base.specs.declared.replica.Marks.{Marks}
 use Rattle.bm_base.specs.declared.replica.BlockInfo.{BlockInfo}
 use Rattle.bm_base.specs.declared.level.Level.{Level}
 use Rattle.bm_base.specs.declared.level.Level.TheVariants.{Highest, VeryUnderReplicated, UnderReplicated, BadlyDistributed, NoUsableReplica}
-use Rattle.bm_base.specs.Maps.Map.{Map, get, entries, keys, contains_key}
-use Rattle.bm_base.specs.Machine.State.{Cluster, Holdings, by_replica, replica_at, replica_cmp}
-use Rattle.bm_base.specs.Maps.Lists.{has}
-use Rattle.bm_base.specs.Machine.Levels.{level, level_of, is_at}
-use Rattle.bm_base.specs.Machine.Queries.{blocks_on, missing_blocks}
+use Rattle.bm_base.specs.Words.{Map, get, entries, keys, contains_key, Cluster, Holdings, by_replica, replica_at, replica_cmp, has, level, level_of, is_at, blocks_on, missing_blocks}
 use Rattle.bm_maps.specs.SlotLists.{IsMember, Distinct}
 use Rattle.bm_base.proofs.Clusters.{eqb_turned}
 use Rattle.bm_base.proofs.ListTests.{any_map, any_filter, any_agree, has_filter}

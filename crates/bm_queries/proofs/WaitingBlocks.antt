@@ -7,12 +7,8 @@ use Rattle.std.specs.List.{list_any}
 use Rattle.std.proofs.lemmas.Bool.{and_parts, and_from, or_left, or_right, false≢true}
 use Rattle.std.proofs.lemmas.Bool.Decides.{nat_tests}
 use Rattle.bm_base.specs.declared.replica.BlockInfo.{BlockInfo}
-use Rattle.bm_base.specs.Maps.Map.{Map, get, keys, contains_key}
-use Rattle.bm_base.specs.Machine.State.{Cluster, Holdings, by_replica, replica_at}
-use Rattle.bm_base.specs.Maps.Lists.{has}
+use Rattle.bm_base.specs.Words.{Map, get, keys, contains_key, Cluster, Holdings, by_replica, replica_at, has, node_of, has_storage, is_draining, is_usable, is_live_on, is_drained_on, live, drained, has_enough_live, is_held_back_by}
 use Rattle.bm_maps.specs.SlotLists.{IsMember}
-use Rattle.bm_base.specs.Machine.Replicas.{node_of, has_storage, is_draining, is_usable, is_live_on, is_drained_on, live, drained, has_enough_live}
-use Rattle.bm_base.specs.Machine.Queries.{is_held_back_by}
 use Rattle.bm_base.proofs.Clusters.{some_node}
 use Rattle.bm_base.proofs.Options.{there, is_there, chained}
 use Rattle.bm_base.proofs.Sets.{some_passing, passing_some, has_keys}

@@ -1,8 +1,7 @@
 // Lists of blocks.
 ghost use Rattle.std.specs.Prelude.{◌≡◌, ℕ, IfOk, IfErr};
 ghost use Rattle.bm_base.specs.declared.refusal.Refusal.TheVariants.{Memory};
-ghost use Rattle.bm_base.specs.Maps.Map.{Map};
-ghost use Rattle.bm_base.specs.Machine.State.{Cluster, by_replica};
+ghost use Rattle.bm_base.specs.Words.{Map, Cluster, by_replica};
 ghost use Rattle.bm_base.specs.Machine.Queries as queries;
 ghost use Rattle.bm_levels.specs.Held.{holdings_with};
 ghost use Rattle.bm_levels.specs.Leveled.{AreLevels};

@@ -1,7 +1,6 @@
 // Whether a block holds a node back.
 ghost use Rattle.std.specs.Prelude.{◌≡◌, ℕ, length};
-ghost use Rattle.bm_base.specs.Maps.Map.{Map};
-ghost use Rattle.bm_base.specs.Machine.State.{by_replica};
+ghost use Rattle.bm_base.specs.Words.{Map, by_replica};
 ghost use Rattle.bm_base.specs.Machine.Replicas as replicas;
 ghost use Rattle.bm_arena.specs.Contents.{block_at};
 ghost use Rattle.bm_arena.specs.Holding.{replicas_at};

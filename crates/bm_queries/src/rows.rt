@@ -3,8 +3,7 @@ ghost use Rattle.std.specs.Prelude.{◌≡◌, ◌++◌, ◌∷◌, [], ℕ, Som
 ghost use Rattle.std.specs.List.{All};
 ghost use Rattle.bm_base.specs.declared.refusal.Refusal.TheVariants.{Memory};
 ghost use Rattle.bm_base.specs.declared.limits.TheConstants.{MAX_PLACES};
-ghost use Rattle.bm_base.specs.Maps.Map.{Map, keys};
-ghost use Rattle.bm_base.specs.Machine.State.{by_replica};
+ghost use Rattle.bm_base.specs.Words.{Map, keys, by_replica};
 ghost use Rattle.bm_base.specs.Machine.Queries as queries;
 ghost use Rattle.bm_base.specs.Promises.Versions as versions;
 ghost use Rattle.bm_arena.specs.Contents.{block_at, slot_of};

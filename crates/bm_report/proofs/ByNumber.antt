@@ -8,11 +8,9 @@ use Rattle.std.specs.Map.{lookup}
 use Rattle.std.proofs.lemmas.List.{map-append, length-map}
 use Rattle.bm_base.specs.declared.event.Entry.{Entry}
 use Rattle.bm_base.specs.declared.ids.Part.{Part}
-use Rattle.bm_base.specs.Machine.Entries.{ReportedBlock, expanded, numbers_in}
+use Rattle.bm_base.specs.Words.{ReportedBlock, expanded, numbers_in, is_named, Cluster}
 use Rattle.bm_base.specs.Shards.{shard_of}
-use Rattle.bm_base.specs.Machine.Events.{is_named}
 use Rattle.bm_maps.specs.SlotLists.{IsMember}
-use Rattle.bm_base.specs.Machine.State.{Cluster}
 use Rattle.bm_arena.specs.Contents.{Contents, slot_of, marks_at, HasCapacity}
 use Rattle.bm_base.proofs.Entries.{length-expanded}
 use Rattle.bm_report.specs.declared.types.ReportedSlot.{ReportedSlot}

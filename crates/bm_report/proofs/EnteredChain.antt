@@ -6,8 +6,7 @@ use Rattle.std.specs.Prelude.{nat_eq}
 use Rattle.std.proofs.lemmas.Bool.{false≢true}
 use Rattle.bm_base.specs.declared.replica.Marks.{Marks}
 use Rattle.bm_base.specs.declared.replica.BlockInfo.{BlockInfo}
-use Rattle.bm_base.specs.Maps.Map.{Map, by_number, get, insert, len, contains_key}
-use Rattle.bm_base.specs.Machine.State.{Cluster, replica_at}
+use Rattle.bm_base.specs.Words.{Map, by_number, get, insert, len, contains_key, Cluster, replica_at}
 use Rattle.bm_maps.specs.SlotLists.{IsMember, without}
 use Rattle.bm_arena.specs.Contents.{Contents, block_at, slot_of, marks_at, saturating_next}
 use Rattle.bm_report.specs.declared.types.ReportedSlot.{ReportedSlot}

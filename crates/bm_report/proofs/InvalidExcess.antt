@@ -6,9 +6,7 @@ use Rattle.std.specs.Prelude.{nat_eq}
 use Rattle.std.proofs.lemmas.Bool.{cases_eq, false≢true}
 use Rattle.std.proofs.lemmas.Option.{none-some}
 use Rattle.bm_base.specs.declared.replica.Marks.{Marks}
-use Rattle.bm_base.specs.Maps.Map.{get, insert}
-use Rattle.bm_base.specs.Machine.State.{replica_at}
-use Rattle.bm_base.specs.Machine.Replicas.{is_good}
+use Rattle.bm_base.specs.Words.{get, insert, replica_at, is_good}
 use Rattle.bm_arena.specs.Triplets.{Block}
 use Rattle.bm_arena.specs.Contents.{Contents, block_at, slot_of, marks_at, find_marks, IsLawful}
 use Rattle.bm_report.specs.declared.types.ReportedSlot.{ReportedSlot}

@@ -7,11 +7,7 @@ use Rattle.std.proofs.lemmas.Bool.{cases_Bool, false≢true, and_parts}
 use Rattle.bm_base.specs.declared.replica.ReplicaId.{ReplicaId}
 use Rattle.bm_base.specs.declared.replica.Marks.{Marks}
 use Rattle.bm_base.specs.declared.replica.Stamp.{Stamp}
-use Rattle.bm_base.specs.Machine.Entries.{ReportedBlock}
-use Rattle.bm_base.specs.Maps.Map.{get}
-use Rattle.bm_base.specs.Machine.State.{Cluster, Holdings}
-use Rattle.bm_base.specs.Machine.Replicas.{is_good, are_siblings}
-use Rattle.bm_base.specs.Machine.Events.{entered_marks, report}
+use Rattle.bm_base.specs.Words.{ReportedBlock, get, Cluster, Holdings, is_good, are_siblings, entered_marks, report}
 use Rattle.bm_report.specs.declared.types.ReportedSlot.{ReportedSlot}
 use Rattle.bm_report.specs.DuringReport.{marks_during_report, without_invalid_excess, reported_of, IsOncePerNode}
 use Rattle.bm_report.specs.Ready.{HasGoodExcess}

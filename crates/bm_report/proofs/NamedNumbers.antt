@@ -5,8 +5,7 @@ use Rattle.std.proofs.lemmas.Bool.{false≢true}
 use Rattle.std.proofs.lemmas.List.Folds.{list_any-append}
 use Rattle.bm_base.specs.declared.event.Entry.{Entry}
 use Rattle.bm_base.specs.declared.ids.Part.{Part}
-use Rattle.bm_base.specs.Machine.Entries.{ReportedBlock, blocks_of_entry, expanded}
-use Rattle.bm_base.specs.Machine.Events.{is_named}
+use Rattle.bm_base.specs.Words.{ReportedBlock, blocks_of_entry, expanded, is_named}
 use Rattle.bm_base.specs.Shards.{shard_of}
 use Rattle.bm_report.specs.Expanded.{of_part}
 use Rattle.bm_report.proofs.NumberRuns.{reported_from, reported_next, reported_rest}

@@ -5,10 +5,7 @@ use Rattle.std.proofs.lemmas.Bool.{cases_Bool, false≢true}
 use Rattle.bm_base.specs.declared.replica.ReplicaId.{ReplicaId}
 use Rattle.bm_base.specs.declared.replica.Marks.{Marks}
 use Rattle.bm_base.specs.declared.replica.BlockInfo.{BlockInfo}
-use Rattle.bm_base.specs.Maps.Map.{Map, by_number, get, keep}
-use Rattle.bm_base.specs.Machine.State.{Cluster, replica_at}
-use Rattle.bm_base.specs.Machine.Replicas.{are_siblings}
-use Rattle.bm_base.specs.Machine.Events.{replaces}
+use Rattle.bm_base.specs.Words.{Map, by_number, get, keep, Cluster, replica_at, are_siblings, replaces}
 use Rattle.bm_base.proofs.MapLaws.{get-insert, get-keep}
 use Rattle.bm_report.specs.declared.types.ReportedSlot.{ReportedSlot}
 use Rattle.bm_report.specs.DuringReport.{entered_at, entered_one, entered_all, is_excess_good, IsOncePerNode, IsExcessGood}

@@ -3,10 +3,7 @@ use Rattle.std.proofs.Common.{◌≡◌, ◌≢◌, ℕ, ◌+◌, Bool, true, fa
 use Rattle.std.specs.Option.{option_and_then}
 use Rattle.bm_base.specs.declared.replica.ReplicaId.{ReplicaId}
 use Rattle.bm_base.specs.declared.replica.Marks.{Marks}
-use Rattle.bm_base.specs.Maps.Map.{get, insert, remove, len}
-use Rattle.bm_base.specs.Machine.State.{Cluster, replica_at}
-use Rattle.bm_base.specs.Machine.Events.{replaces, enter, entered_marks}
-use Rattle.bm_base.specs.Machine.Calls.{new_replicas}
+use Rattle.bm_base.specs.Words.{get, insert, remove, len, Cluster, replica_at, replaces, enter, entered_marks, new_replicas}
 use Rattle.bm_base.proofs.MapLaws.{same_map, get-insert, get-remove}
 use Rattle.bm_base.proofs.Differences.{none_new}
 use Rattle.bm_arena.specs.Triplets.{Block}

@@ -11,10 +11,7 @@ use Rattle.bm_base.specs.declared.replica.Tag.TheVariants.{Good}
 use Rattle.bm_base.specs.declared.replica.Marks.{Marks}
 use Rattle.bm_base.specs.declared.replica.Stamp.{Stamp}
 use Rattle.bm_base.specs.declared.replica.BlockInfo.{BlockInfo}
-use Rattle.bm_base.specs.Maps.Map.{Map, by_number, get, insert, keep, revise, len, entries, contains_key}
-use Rattle.bm_base.specs.Machine.State.{Cluster, by_replica, replica_at}
-use Rattle.bm_base.specs.Machine.Events.{replaces}
-use Rattle.bm_base.specs.Machine.Calls.{new_replicas}
+use Rattle.bm_base.specs.Words.{Map, by_number, get, insert, keep, revise, len, entries, contains_key, Cluster, by_replica, replica_at, replaces, new_replicas}
 use Rattle.bm_base.proofs.MapLaws.{same_map, get-insert, get-keep, get-revise, entries-keep, entries-revise}
 use Rattle.bm_base.proofs.Differences.{both_parts, none_new}
 use Rattle.bm_report.specs.declared.types.ReportedSlot.{ReportedSlot}

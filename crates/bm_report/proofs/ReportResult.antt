@@ -9,11 +9,7 @@ use Rattle.bm_base.specs.declared.replica.Tag.TheVariants.{Good, Stale, Bad}
 use Rattle.bm_base.specs.declared.replica.Marks.{Marks}
 use Rattle.bm_base.specs.declared.replica.Stamp.{Stamp}
 use Rattle.bm_base.specs.declared.replica.BlockInfo.{BlockInfo}
-use Rattle.bm_base.specs.Machine.Entries.{ReportedBlock}
-use Rattle.bm_base.specs.Maps.Map.{Map, by_number, get, insert, insert_all, keep, remove}
-use Rattle.bm_base.specs.Machine.State.{Cluster, Holdings, replica_at}
-use Rattle.bm_base.specs.Machine.Replicas.{is_good, is_bad, are_siblings}
-use Rattle.bm_base.specs.Machine.Events.{same_stamp, was_bad, was_excess, entered_tag, entered_marks, replaces, is_named, leaves_by_report, report}
+use Rattle.bm_base.specs.Words.{ReportedBlock, Map, by_number, get, insert, insert_all, keep, remove, Cluster, Holdings, replica_at, is_good, is_bad, are_siblings, same_stamp, was_bad, was_excess, entered_tag, entered_marks, replaces, is_named, leaves_by_report, report}
 use Rattle.bm_base.proofs.MapLaws.{same_map, get-insert, get-keep, get-remove}
 use Rattle.bm_base.proofs.Ties.{replica_tie}
 use Rattle.bm_report.specs.declared.types.ReportedSlot.{ReportedSlot}

@@ -3,8 +3,7 @@ use Rattle.std.proofs.Common.{◌≡◌, ◌≢◌, ℕ, Bool, true, false, not,
 use Rattle.std.specs.Prelude.{◌==◌}
 use Rattle.std.specs.Option.{option_map_or, IfSome, IfNone}
 use Rattle.std.proofs.lemmas.Bool.{false≢true, and_parts}
-use Rattle.bm_base.specs.Machine.State.{Cluster}
-use Rattle.bm_base.specs.Machine.Replicas.{node_of, are_siblings}
+use Rattle.bm_base.specs.Words.{Cluster, node_of, are_siblings}
 use Rattle.bm_arena.specs.Contents.{Contents, marks_at}
 use Rattle.bm_base.proofs.Clusters.{siblings_by, no_sibling_itself}
 use Rattle.bm_base.proofs.Options.{not_failed}

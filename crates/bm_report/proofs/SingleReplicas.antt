@@ -6,16 +6,13 @@ use Rattle.std.specs.Result.{is_ok}
 use Rattle.bm_base.specs.declared.refusal.Refusal.{Refusal}
 use Rattle.std.specs.List.{fold}
 use Rattle.bm_base.specs.declared.event.Entry.{Entry}
-use Rattle.bm_base.specs.Machine.Entries.{run_length, numbers_in}
+use Rattle.bm_base.specs.Words.{run_length, numbers_in, Map, Cluster, by_replica, are_siblings, is_good}
 use Rattle.bm_report.proofs.PartialReport.{drop_next, drop_all}
 use Rattle.std.specs.Prelude.{◌==◌, ◌&&◌, not, slice_get, IsTrue}
 use Rattle.std.specs.Option.{option_and_then, option_map_or}
 use Rattle.std.proofs.lemmas.Option.{none-some}
 use Rattle.std.proofs.lemmas.Bool.{false≢true}
 use Rattle.bm_base.specs.declared.replica.Marks.{Marks}
-use Rattle.bm_base.specs.Maps.Map.{Map}
-use Rattle.bm_base.specs.Machine.State.{Cluster, by_replica}
-use Rattle.bm_base.specs.Machine.Replicas.{are_siblings, is_good}
 use Rattle.bm_arena.specs.Triplets.{Block}
 use Rattle.bm_arena.specs.Contents.{Contents, block_at, slot_of, marks_at, find_marks, IsLawful}
 use Rattle.bm_arena.specs.Holding.{replicas_of}

@@ -9,10 +9,7 @@ use Rattle.std.proofs.lemmas.Bool.{cases_Bool, cases_eq, eqb-false, false≢true
 use Rattle.bm_base.specs.declared.replica.ReplicaId.{ReplicaId}
 use Rattle.bm_base.specs.declared.replica.Marks.{Marks}
 use Rattle.bm_base.specs.declared.replica.Stamp.{Stamp}
-use Rattle.bm_base.specs.Maps.Map.{get, remove, len}
-use Rattle.bm_base.specs.Machine.Calls.{new_replicas}
-use Rattle.bm_base.specs.Machine.State.{Cluster, replica_at}
-use Rattle.bm_base.specs.Machine.Events.{report}
+use Rattle.bm_base.specs.Words.{get, remove, len, new_replicas, Cluster, replica_at, report}
 use Rattle.bm_base.proofs.MapLaws.{same_map, get-remove}
 use Rattle.bm_arena.specs.Triplets.{Block}
 use Rattle.bm_maps.specs.SlotLists.{IsMember, Distinct, without}

@@ -3,9 +3,7 @@ use Rattle.std.proofs.Common.{◌≡◌, ◌≢◌, ℕ, ◌+◌, ◌∷◌, tru
 use Rattle.std.specs.Prelude.{nat_eq}
 use Rattle.std.specs.Map.{lookup}
 use Rattle.bm_base.specs.declared.replica.Marks.{Marks}
-use Rattle.bm_base.specs.Maps.Map.{get, insert, remove, len}
-use Rattle.bm_base.specs.Machine.State.{Cluster, replica_at}
-use Rattle.bm_base.specs.Machine.Replicas.{are_siblings}
+use Rattle.bm_base.specs.Words.{get, insert, remove, len, Cluster, replica_at, are_siblings}
 use Rattle.bm_maps.specs.SlotLists.{IsMember, without}
 use Rattle.bm_arena.specs.Contents.{Contents, slot_of, marks_at, list_of, IsLawful, KeepsOthers}
 use Rattle.bm_arena.specs.Holding.{replicas_of}

@@ -7,11 +7,7 @@ use Rattle.bm_base.specs.declared.replica.Tag.TheVariants.{Good, Stale, Bad, Str
 use Rattle.bm_base.specs.declared.replica.Marks.{Marks}
 use Rattle.bm_base.specs.declared.replica.Stamp.{Stamp}
 use Rattle.bm_base.specs.declared.replica.BlockInfo.{BlockInfo}
-use Rattle.bm_base.specs.Machine.Entries.{ReportedBlock}
-use Rattle.bm_base.specs.Maps.Map.{Map, by_number, get, insert, keep, remove, contains_key, len}
-use Rattle.bm_base.specs.Machine.State.{Cluster, by_replica, replica_at}
-use Rattle.bm_base.specs.Machine.Replicas.{is_good, is_bad, are_siblings}
-use Rattle.bm_base.specs.Machine.Events.{same_stamp, replaces}
+use Rattle.bm_base.specs.Words.{ReportedBlock, Map, by_number, get, insert, keep, remove, contains_key, len, Cluster, by_replica, replica_at, is_good, is_bad, are_siblings, same_stamp, replaces}
 use Rattle.bm_maps.specs.SlotLists.{IsMember, without}
 use Rattle.bm_arena.specs.Contents.{Contents, block_at, slot_of, marks_at, list_of, HasHead, HasCapacity, saturating_next, known_of, IsEntry, KeepsEntries}
 use Rattle.bm_report.specs.declared.types.ReportedSlot.{ReportedSlot}

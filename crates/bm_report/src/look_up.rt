@@ -2,8 +2,7 @@
 ghost use Rattle.std.specs.Prelude.{◌≡◌, ◌≢◌, ◌<◌, ◌≤◌, ◌+◌, ◌-◌, ◌^◌, ◌==◌, ◌++◌, ◌∷◌, [], map, ℕ, slice_get, IsSome, IsOk, IfOk, IfErr, OnOk, OnErr, None, Some, false, length};
 ghost use Rattle.bm_base.specs.declared.refusal.Refusal.TheVariants.{Memory};
 ghost use Rattle.bm_arena.specs.Contents.{slot_of, HasHead};
-ghost use Rattle.bm_base.specs.Machine.Entries.{blocks_of_entry};
-ghost use Rattle.bm_base.specs.Machine.Events.{is_named};
+ghost use Rattle.bm_base.specs.Words.{blocks_of_entry, is_named};
 ghost use Rattle.bm_report.specs.DuringReport.{AreAtSlots, HaveCapacity, reported_of};
 ghost use Rattle.bm_report.specs.Aborted.{NamesNew};
 ghost use Rattle.bm_report.specs.Expanded.{IsPrepared, of_part, reported_to_part};

@@ -1,7 +1,6 @@
 // Notices of single replicas: one was received, one was deleted.
 ghost use Rattle.std.specs.Prelude.{◌≡◌, ◌≢◌, ◌+◌, ℕ, if◌then◌else◌, None, Some};
-ghost use Rattle.bm_base.specs.Maps.Map.{remove};
-ghost use Rattle.bm_base.specs.Machine.State.{replica_at};
+ghost use Rattle.bm_base.specs.Words.{remove, replica_at};
 ghost use Rattle.bm_base.specs.Machine.Calls as calls;
 ghost use Rattle.bm_arena.specs.Contents.{block_at, slot_of, marks_at, HasHead, HasCapacity, KeepsEntries};
 ghost use Rattle.bm_arena.specs.Holding.{replicas_of, blocks_of};

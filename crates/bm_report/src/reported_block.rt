@@ -1,7 +1,6 @@
 // Entering one block that a report names.
 ghost use Rattle.std.specs.Prelude.{◌≡◌, ◌≢◌, ◌+◌, ◌∷◌, [], ℕ, if◌then◌else◌, true, false, None, Some};
-ghost use Rattle.bm_base.specs.Maps.Map.{insert, len};
-ghost use Rattle.bm_base.specs.Machine.State.{replica_at};
+ghost use Rattle.bm_base.specs.Words.{insert, len, replica_at};
 ghost use Rattle.bm_maps.specs.SlotLists.{without};
 ghost use Rattle.bm_arena.specs.Contents.{block_at, slot_of, marks_at, saturating_next, HasHead, HasCapacity};
 ghost use Rattle.bm_arena.specs.Holding.{replicas_of};

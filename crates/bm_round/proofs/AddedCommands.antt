@@ -12,10 +12,7 @@ use Rattle.bm_base.specs.Maps.Conjunction.{first, second}
 use Rattle.bm_base.specs.declared.commands.Transfer.{Transfer}
 use Rattle.bm_base.specs.declared.commands.Delete.{Delete}
 use Rattle.bm_base.specs.declared.commands.NodeCommands.{NodeCommands}
-use Rattle.bm_base.specs.Maps.Map.{keys, entries}
-use Rattle.bm_base.specs.Machine.State.{Cluster}
-use Rattle.bm_base.specs.Machine.Replicas.{node_of, has_storage}
-use Rattle.bm_base.specs.Machine.Rounds.{node_commands}
+use Rattle.bm_base.specs.Words.{keys, entries, Cluster, node_of, has_storage, node_commands}
 use Rattle.bm_round.specs.NodeIndex.{index_where}
 
 less_is : (a b : ℕ) (lt eq : Bool) → nat_lt a b ≡ lt → T (is_lt (cond lt Less (cond eq Equal Greater))) → a < b

@@ -10,10 +10,7 @@ use Rattle.bm_base.specs.declared.commands.Transfer.{Transfer}
 use Rattle.bm_base.specs.declared.commands.Delete.{Delete}
 use Rattle.bm_base.specs.declared.round.Wish.{Wish}
 use Rattle.bm_base.specs.declared.round.RoundPart.{RoundPart}
-use Rattle.bm_base.specs.Maps.Map.{keys, len}
-use Rattle.bm_base.specs.Machine.State.{RoundLimits, Cluster}
-use Rattle.bm_base.specs.Maps.Lists.{has, has_repeats}
-use Rattle.bm_base.specs.Machine.Replicas.{node_of, has_storage}
+use Rattle.bm_base.specs.Words.{keys, len, RoundLimits, Cluster, has, has_repeats, node_of, has_storage}
 use Rattle.bm_base.specs.Choices.{merged_wishes, merged_deletes, one_by_one, transfer_by, transfers_over, chosen_transfers, first_of_each_node, chosen_deletes}
 use Rattle.bm_base.proofs.ForEach.{Each, each_passing, each_then}
 use Rattle.bm_base.proofs.OneWish.{once_keys}

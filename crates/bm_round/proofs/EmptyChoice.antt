@@ -5,9 +5,7 @@ use Rattle.std.proofs.lemmas.Bool.{eqb-true}
 use Rattle.std.proofs.lemmas.List.{nil_from_length}
 use Rattle.bm_base.specs.declared.commands.Transfer.{Transfer}
 use Rattle.bm_base.specs.declared.commands.Delete.{Delete}
-use Rattle.bm_base.specs.Maps.Map.{keys}
-use Rattle.bm_base.specs.Machine.State.{RoundLimits, Cluster}
-use Rattle.bm_base.specs.Machine.Rounds.{node_commands, has_commands}
+use Rattle.bm_base.specs.Words.{keys, RoundLimits, Cluster, node_commands, has_commands}
 use Rattle.bm_base.specs.Choices.{first_of_each_node}
 
 pub none_there : {X : Type 0} (xs : List X) → (length xs == 0) ≡ true → xs ≡ []

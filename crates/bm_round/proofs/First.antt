@@ -9,8 +9,7 @@ use Rattle.std.specs.FinMap.Entries.{below_all}
 use Rattle.bm_base.specs.Maps.Conjunction.{first, second}
 use Rattle.bm_base.specs.declared.round.Wish.{Wish}
 use Rattle.bm_base.specs.declared.round.RoundPart.{RoundPart}
-use Rattle.bm_base.specs.Maps.Map.{len}
-use Rattle.bm_base.specs.Machine.State.{RoundLimits, Cluster}
+use Rattle.bm_base.specs.Words.{len, RoundLimits, Cluster}
 use Rattle.bm_base.specs.Ordered.{pair_cmp, by_pair}
 use Rattle.bm_base.specs.RoundParts.{wish_key}
 use Rattle.bm_base.specs.Choices.{merged_wishes, one_by_one, transfers_over, chosen_transfers}

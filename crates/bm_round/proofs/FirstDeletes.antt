@@ -5,10 +5,7 @@ use Rattle.std.proofs.lemmas.Bool.Decides.{nat_tests}
 use Rattle.std.proofs.lemmas.List.{length-append, length-take-le, take-append-le}
 use Rattle.bm_base.specs.declared.commands.Delete.{Delete}
 use Rattle.bm_base.specs.declared.commands.NodeCommands.{NodeCommands}
-use Rattle.bm_base.specs.Maps.Map.{keys}
-use Rattle.bm_base.specs.Machine.State.{RoundLimits, Cluster}
-use Rattle.bm_base.specs.Machine.Replicas.{has_storage}
-use Rattle.bm_base.specs.Machine.Rounds.{node_commands}
+use Rattle.bm_base.specs.Words.{keys, RoundLimits, Cluster, has_storage, node_commands}
 use Rattle.bm_base.specs.Choices.{first_of_each_node}
 use Rattle.bm_round.specs.Commanded.{first_commands, first_by_node}
 use Rattle.bm_round.proofs.AddedCommands.{other_delete, own_delete}

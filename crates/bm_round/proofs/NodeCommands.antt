@@ -9,10 +9,7 @@ use Rattle.bm_base.specs.Maps.Conjunction.{both, first, second}
 use Rattle.bm_base.specs.declared.commands.Transfer.{Transfer}
 use Rattle.bm_base.specs.declared.commands.Delete.{Delete}
 use Rattle.bm_base.specs.declared.commands.NodeCommands.{NodeCommands}
-use Rattle.bm_base.specs.Maps.Map.{keys}
-use Rattle.bm_base.specs.Machine.State.{Cluster}
-use Rattle.bm_base.specs.Machine.Replicas.{has_storage}
-use Rattle.bm_base.specs.Machine.Rounds.{node_commands, has_commands, commands_of}
+use Rattle.bm_base.specs.Words.{keys, Cluster, has_storage, node_commands, has_commands, commands_of}
 use Rattle.bm_base.proofs.SortedParts.{keys_ascend}
 
 module _ {X : Type 0} (number : X → ℕ) where

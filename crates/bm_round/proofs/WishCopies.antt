@@ -7,10 +7,7 @@ use Rattle.std.proofs.lemmas.Bool.Decides.{nat_tests}
 use Rattle.std.proofs.lemmas.Bool.{eq-eqb, false≢true}
 use Rattle.bm_base.specs.declared.commands.Transfer.{Transfer}
 use Rattle.bm_base.specs.declared.round.Wish.{Wish}
-use Rattle.bm_base.specs.Maps.Map.{len}
-use Rattle.bm_base.specs.Machine.State.{RoundLimits, Cluster}
-use Rattle.bm_base.specs.Maps.Lists.{has}
-use Rattle.bm_base.specs.Machine.Transfers.{targets_of, least_source, least_target}
+use Rattle.bm_base.specs.Words.{len, RoundLimits, Cluster, has, targets_of, least_source, least_target}
 use Rattle.bm_base.specs.Choices.{transfer_by, transfers_over, one_by_one, sources_by, holders_by, excluded_by}
 
 module _ (limits : RoundLimits) (C : Cluster) where

@@ -9,11 +9,7 @@ use Rattle.bm_base.specs.declared.level.Level.{Level}
 use Rattle.bm_base.specs.declared.commands.Transfer.{Transfer}
 use Rattle.bm_base.specs.declared.round.Wish.{Wish}
 use Rattle.bm_base.specs.declared.round.RoundPart.{RoundPart}
-use Rattle.bm_base.specs.Maps.Map.{len}
-use Rattle.bm_base.specs.Machine.State.{RoundLimits, Cluster}
-use Rattle.bm_base.specs.Maps.Lists.{has}
-use Rattle.bm_base.specs.Machine.Replicas.{is_draining}
-use Rattle.bm_base.specs.Machine.Transfers.{streams_from, stream_limit, source_cmp, least_source_by, least_source, least_target}
+use Rattle.bm_base.specs.Words.{len, RoundLimits, Cluster, has, is_draining, streams_from, stream_limit, source_cmp, least_source_by, least_source, least_target}
 use Rattle.bm_base.specs.Choices.{merged_wishes, one_by_one, sources_by, holders_by, excluded_by, transfer_by, transfers_over, chosen_transfers}
 use Rattle.bm_base.proofs.ForEach.{Each, each_all, each_then, each_filtered, each_flat, least_is_one}
 use Rattle.bm_round.specs.Copies.{IsCopyOf}

@@ -8,10 +8,7 @@ use Rattle.bm_base.specs.declared.commands.Delete.{Delete}
 use Rattle.bm_base.specs.declared.commands.NodeCommands.{NodeCommands}
 use Rattle.bm_base.specs.declared.round.RoundPart.{RoundPart}
 use Rattle.bm_base.specs.declared.round.Wish.{Wish}
-use Rattle.bm_base.specs.Maps.Map.{keys}
-use Rattle.bm_base.specs.Machine.State.{Cluster, RoundLimits}
-use Rattle.bm_base.specs.Machine.Replicas.{has_storage}
-use Rattle.bm_base.specs.Machine.Rounds.{node_commands, has_commands}
+use Rattle.bm_base.specs.Words.{keys, Cluster, RoundLimits, has_storage, node_commands, has_commands}
 use Rattle.bm_base.specs.Choices.{chosen_transfers, transfers_over}
 
 -- these are the transfers that are chosen of these parts

@@ -1,8 +1,7 @@
 -- Indices in a list.
 use Rattle.std.specs.Prelude.{◌≡◌, ℕ, suc, Bool, if◌then◌else◌, List, [], ◌∷◌, Option, Some, None, option_map}
 use Rattle.std.specs.Option.{IfSome}
-use Rattle.bm_base.specs.Machine.State.{Cluster}
-use Rattle.bm_base.specs.Machine.Replicas.{has_storage}
+use Rattle.bm_base.specs.Words.{Cluster, has_storage}
 use Rattle.bm_round.specs.declared.groups.LookedUp.{LookedUp}
 
 -- the index of the first number that passes

@@ -2,9 +2,7 @@
 ghost use Rattle.std.specs.Prelude.{◌≡◌, [], map, false, IfOk, IfErr, OnOk};
 ghost use Rattle.std.specs.Option.{IfSome};
 ghost use Rattle.bm_base.specs.declared.refusal.Refusal.TheVariants.{Memory};
-ghost use Rattle.bm_base.specs.Machine.State.{limits_of};
-ghost use Rattle.bm_base.specs.Maps.Lists.{has_repeats};
-ghost use Rattle.bm_base.specs.Machine.Transfers.{targets_of};
+ghost use Rattle.bm_base.specs.Words.{limits_of, has_repeats, targets_of};
 ghost use Rattle.bm_base.specs.Choices as choices;
 ghost use Rattle.bm_place.specs.Found.{IsCountable, HasFreeBytesFor};
 ghost use Rattle.bm_round.specs.Commanded.{with_copies};

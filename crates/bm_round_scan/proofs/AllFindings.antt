@@ -13,13 +13,9 @@ use Rattle.bm_base.specs.declared.replica.BlockInfo.{BlockInfo}
 use Rattle.bm_base.specs.declared.commands.Delete.{Delete}
 use Rattle.bm_base.specs.declared.round.Wish.{Wish}
 use Rattle.bm_base.specs.declared.round.RoundPart.{RoundPart}
-use Rattle.bm_base.specs.Maps.Map.{Map, get, contains_key}
-use Rattle.bm_base.specs.Machine.State.{Cluster, Holdings, by_replica, replica_at}
+use Rattle.bm_base.specs.Words.{Map, get, contains_key, Cluster, Holdings, by_replica, replica_at, has, level, level_number, is_at, without_expired, without_unordered_excess, with_surplus_marked, excess_in}
 use Rattle.bm_maps.specs.SlotLists.{IsMember, Distinct}
 use Rattle.bm_base.specs.Ordered.{by_pair}
-use Rattle.bm_base.specs.Maps.Lists.{has}
-use Rattle.bm_base.specs.Machine.Levels.{level, level_number, is_at}
-use Rattle.bm_base.specs.Machine.Excess.{without_expired, without_unordered_excess, with_surplus_marked, excess_in}
 use Rattle.bm_base.specs.RoundParts.{holdings_at_choice, expired, round_part, wish_of, wish_at, wish_key, delete_key}
 use Rattle.bm_base.proofs.MapEntries.{get_revised}
 use Rattle.bm_base.proofs.Options.{there, is_there, chained}

@@ -5,10 +5,8 @@ use Rattle.std.specs.List.Sorted.{IsPermutation}
 use Rattle.std.proofs.Common.{cond, refl, sym, ap, subst, ◌∙◌, eqb-true, eq-eqb}
 use Rattle.std.proofs.lemmas.List.Sorted.{All-permutation, IsPermutation-map, IsPermutation-sym}
 use Rattle.bm_base.specs.declared.replica.Marks.{Marks}
-use Rattle.bm_base.specs.Maps.Map.{Map, get}
-use Rattle.bm_base.specs.Machine.State.{by_replica}
+use Rattle.bm_base.specs.Words.{Map, get, by_replica, with_excess_reset}
 use Rattle.bm_maps.specs.SlotLists.{IsMember, Distinct}
-use Rattle.bm_base.specs.Machine.Excess.{with_excess_reset}
 use Rattle.bm_base.proofs.MapLaws.{same_map}
 use Rattle.bm_base.proofs.ForEach.{Each, each_all, each_then}
 use Rattle.bm_parts.proofs.Filters.{all_each}

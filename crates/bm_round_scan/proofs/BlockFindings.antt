@@ -14,14 +14,8 @@ use Rattle.bm_base.specs.declared.replica.Marks.{Marks}
 use Rattle.bm_base.specs.declared.commands.Delete.{Delete}
 use Rattle.bm_base.specs.declared.round.Wish.{Wish}
 use Rattle.bm_base.specs.declared.level.Level.{Level}
-use Rattle.bm_base.specs.Maps.Map.{Map, get, entries, contains_key}
-use Rattle.bm_base.specs.Machine.State.{Cluster, Holdings, by_replica, replica_cmp, replica_at}
+use Rattle.bm_base.specs.Words.{Map, get, entries, contains_key, Cluster, Holdings, by_replica, replica_cmp, replica_at, has, has_enough_live, level, level_number, is_at, without_expired, without_unordered_excess, excess_in, with_surplus_marked, is_deletable}
 use Rattle.bm_base.specs.Ordered.{by_pair, pair_cmp}
-use Rattle.bm_base.specs.Maps.Lists.{has}
-use Rattle.bm_base.specs.Machine.Replicas.{has_enough_live}
-use Rattle.bm_base.specs.Machine.Levels.{level, level_number, is_at}
-use Rattle.bm_base.specs.Machine.Excess.{without_expired, without_unordered_excess, excess_in, with_surplus_marked}
-use Rattle.bm_base.specs.Machine.Deletes.{is_deletable}
 use Rattle.bm_base.specs.RoundParts.{holdings_at_choice, wish_at, wish_key, delete_key}
 use Rattle.bm_base.proofs.MapLaws.{get-revise}
 use Rattle.bm_base.proofs.AtLevel.{at_level}

@@ -8,12 +8,7 @@ use Rattle.bm_base.specs.declared.level.Level.{Level}
 use Rattle.bm_base.specs.declared.level.Level.TheVariants.{Highest, VeryUnderReplicated, UnderReplicated, BadlyDistributed, NoUsableReplica}
 use Rattle.bm_base.specs.declared.replica.BlockInfo.{BlockInfo}
 use Rattle.bm_base.specs.declared.round.Wish.{Wish}
-use Rattle.bm_base.specs.Maps.Map.{get}
-use Rattle.bm_base.specs.Machine.State.{Cluster, Holdings}
-use Rattle.bm_base.specs.Machine.Replicas.{live, is_live_on}
-use Rattle.bm_base.specs.Machine.Levels.{level, is_at}
-use Rattle.bm_base.specs.Machine.Transfers.{pending_targets, requested_count}
-use Rattle.bm_base.specs.Machine.Excess.{without_expired, without_unordered_excess, with_surplus_marked}
+use Rattle.bm_base.specs.Words.{get, Cluster, Holdings, live, is_live_on, level, is_at, pending_targets, requested_count, without_expired, without_unordered_excess, with_surplus_marked}
 use Rattle.bm_base.specs.RoundParts.{holdings_at_choice, wish_of, wish_at}
 use Rattle.bm_arena.specs.Triplets.{Block}
 use Rattle.bm_arena.specs.Contents.{Contents, slot_of, IsLawful}

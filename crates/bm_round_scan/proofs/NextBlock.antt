@@ -8,11 +8,7 @@ use Rattle.bm_base.specs.declared.replica.BlockInfo.{BlockInfo}
 use Rattle.bm_base.specs.declared.replica.Marks.{Marks}
 use Rattle.bm_base.specs.declared.replica.ReplicaId.{ReplicaId}
 use Rattle.bm_base.specs.declared.round.Wish.{Wish}
-use Rattle.bm_base.specs.Maps.Map.{get, entries}
-use Rattle.bm_base.specs.Machine.State.{Cluster, Holdings}
-use Rattle.bm_base.specs.Machine.Replicas.{is_live_on, is_drained_on, live, drained, storages_where, has_enough_live}
-use Rattle.bm_base.specs.Machine.Excess.{without_expired, without_unordered_excess, with_surplus_marked}
-use Rattle.bm_base.specs.Machine.Transfers.{pending_targets}
+use Rattle.bm_base.specs.Words.{get, entries, Cluster, Holdings, is_live_on, is_drained_on, live, drained, storages_where, has_enough_live, without_expired, without_unordered_excess, with_surplus_marked, pending_targets}
 use Rattle.bm_base.specs.RoundParts.{holdings_at_choice}
 use Rattle.bm_parts.specs.Before.{wishes_before}
 use Rattle.bm_arena.specs.Contents.{Contents}

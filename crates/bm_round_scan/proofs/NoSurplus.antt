@@ -2,10 +2,8 @@
 use Rattle.std.specs.Prelude.{◌≡◌, ℕ, List, [], Option, Some, None, option_map}
 use Rattle.std.proofs.Common.{refl, sym, ap, ◌∙◌}
 use Rattle.bm_base.specs.declared.replica.Marks.{Marks}
-use Rattle.bm_base.specs.Maps.Map.{Map, get, revise, empty, entries}
+use Rattle.bm_base.specs.Words.{Map, get, revise, empty, entries, by_replica, has}
 use Rattle.bm_base.specs.Maps.MapCode.{same_entries_map}
-use Rattle.bm_base.specs.Machine.State.{by_replica}
-use Rattle.bm_base.specs.Maps.Lists.{has}
 use Rattle.bm_base.proofs.MapLaws.{same_map, get-revise}
 use Rattle.bm_round_scan.specs.Marking.{marked_if}
 

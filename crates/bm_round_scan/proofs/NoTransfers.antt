@@ -4,11 +4,8 @@ use Rattle.std.proofs.Common.{refl, sym, ap, ◌∙◌}
 use Rattle.std.proofs.lemmas.Bool.{false≢true}
 use Rattle.std.proofs.lemmas.List.{nil_from_length}
 use Rattle.bm_base.specs.declared.replica.ReplicaId.{ReplicaId}
-use Rattle.bm_base.specs.Maps.Map.{Map, get, empty, entries}
-use Rattle.bm_base.specs.Machine.State.{by_replica}
-use Rattle.bm_base.specs.Maps.Lists.{has}
+use Rattle.bm_base.specs.Words.{Map, get, empty, entries, by_replica, has, is_expired}
 use Rattle.bm_base.proofs.MapLaws.{same_map, get-empty, entries-keep}
-use Rattle.bm_base.specs.Machine.Excess.{is_expired}
 use Rattle.bm_pending.specs.PendingMap.{PendingMap, blocks_in}
 use Rattle.bm_pending.specs.Remaining.{remaining_targets}
 

@@ -4,12 +4,8 @@ use Rattle.std.specs.Option.{option_map_or, option_or}
 use Rattle.std.proofs.Common.{cond, inl, inr, refl, sym, ap, subst, ◌∙◌, eqb-true}
 use Rattle.bm_base.specs.declared.replica.ReplicaId.{ReplicaId}
 use Rattle.bm_base.specs.declared.replica.Marks.{Marks}
-use Rattle.bm_base.specs.Maps.Map.{Map, get, empty, insert, keep, revise, entries}
-use Rattle.bm_base.specs.Machine.State.{Cluster, Holdings, by_replica, replica_at}
+use Rattle.bm_base.specs.Words.{Map, get, empty, insert, keep, revise, entries, Cluster, Holdings, by_replica, replica_at, has, has_repeats, storages_where, is_live_on, without_expired, with_excess_reset, without_unordered_excess, excess_of, excess_in, with_surplus_marked}
 use Rattle.bm_maps.specs.SlotLists.{IsMember, Distinct}
-use Rattle.bm_base.specs.Maps.Lists.{has, has_repeats}
-use Rattle.bm_base.specs.Machine.Replicas.{storages_where, is_live_on}
-use Rattle.bm_base.specs.Machine.Excess.{without_expired, with_excess_reset, without_unordered_excess, excess_of, excess_in, with_surplus_marked}
 use Rattle.bm_base.specs.RoundParts.{holdings_at_choice}
 use Rattle.bm_base.proofs.MapLaws.{same_map, get-empty, get-insert, get-keep, get-revise, entries-keep}
 use Rattle.bm_base.proofs.Ties.{replica_tie}

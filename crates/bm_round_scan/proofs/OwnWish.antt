@@ -5,11 +5,7 @@ use Rattle.bm_base.specs.declared.level.Level.{Level}
 use Rattle.bm_base.specs.declared.level.Level.TheVariants.{Highest, VeryUnderReplicated, UnderReplicated, BadlyDistributed, NoUsableReplica}
 use Rattle.bm_base.specs.declared.replica.BlockInfo.{BlockInfo}
 use Rattle.bm_base.specs.declared.round.Wish.{Wish}
-use Rattle.bm_base.specs.Maps.Map.{get}
-use Rattle.bm_base.specs.Machine.State.{Cluster, Holdings}
-use Rattle.bm_base.specs.Machine.Replicas.{live, drained, storages_where, racks, is_multi_rack}
-use Rattle.bm_base.specs.Machine.Levels.{level, level_of, is_at}
-use Rattle.bm_base.specs.Machine.Transfers.{pending_targets, requested_count}
+use Rattle.bm_base.specs.Words.{get, Cluster, Holdings, live, drained, storages_where, racks, is_multi_rack, level, level_of, is_at, pending_targets, requested_count}
 use Rattle.bm_base.specs.RoundParts.{wish_of, wish_at}
 use Rattle.bm_round_scan.specs.Requests.{wish_in, count_at, wish_if, wish_by}
 

@@ -9,12 +9,7 @@ use Rattle.std.proofs.lemmas.List.{flat_map_more}
 use Rattle.bm_base.specs.declared.replica.BlockInfo.{BlockInfo}
 use Rattle.bm_base.specs.declared.replica.ReplicaId.{ReplicaId}
 use Rattle.bm_base.specs.declared.replica.Marks.{Marks}
-use Rattle.bm_base.specs.Maps.Map.{Map, get, entries}
-use Rattle.bm_base.specs.Machine.State.{Cluster, Holdings, by_replica, replica_at}
-use Rattle.bm_base.specs.Machine.Replicas.{is_draining, is_live_on, is_drained_on, live, drained, storages_where, has_enough_live}
-use Rattle.bm_base.specs.Machine.Excess.{without_expired, without_unordered_excess, with_surplus_marked, mark_if_surplus, with_excess_reset}
-use Rattle.bm_base.specs.Machine.Deletes.{is_deletable}
-use Rattle.bm_base.specs.Machine.Transfers.{pending_targets}
+use Rattle.bm_base.specs.Words.{Map, get, entries, Cluster, Holdings, by_replica, replica_at, is_draining, is_live_on, is_drained_on, live, drained, storages_where, has_enough_live, without_expired, without_unordered_excess, with_surplus_marked, mark_if_surplus, with_excess_reset, is_deletable, pending_targets}
 use Rattle.bm_base.specs.RoundParts.{holdings_at_choice}
 use Rattle.bm_base.proofs.ForEach.{each_then}
 use Rattle.bm_base.proofs.ListTests.{filter_filter}

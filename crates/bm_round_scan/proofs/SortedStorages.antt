@@ -13,10 +13,7 @@ use Rattle.std.proofs.lemmas.Bool.{and_parts}
 use Rattle.bm_base.specs.Maps.Conjunction.{both, first, second}
 use Rattle.bm_base.specs.declared.replica.ReplicaId.{ReplicaId}
 use Rattle.bm_base.specs.declared.replica.Marks.{Marks}
-use Rattle.bm_base.specs.Maps.Map.{Map, by_number, entries}
-use Rattle.bm_base.specs.Machine.State.{Holdings, by_replica, replica_cmp}
-use Rattle.bm_base.specs.Maps.Lists.{has}
-use Rattle.bm_base.specs.Machine.Replicas.{storages_where}
+use Rattle.bm_base.specs.Words.{Map, by_number, entries, Holdings, by_replica, replica_cmp, has, storages_where}
 use Rattle.bm_maps.specs.SlotLists.{Distinct}
 use Rattle.bm_base.proofs.Clusters.{eqb_turned}
 use Rattle.bm_base.proofs.ForEach.{Each}

@@ -3,11 +3,7 @@ use Rattle.std.specs.Prelude.{◌≡◌, ℕ, Bool, ◌&&◌, ◌||◌, ◌==◌
 use Rattle.bm_base.specs.declared.replica.ReplicaId.{ReplicaId}
 use Rattle.bm_base.specs.declared.replica.Marks.{Marks}
 use Rattle.bm_base.specs.declared.commands.Delete.{Delete}
-use Rattle.bm_base.specs.Maps.Map.{Map, get, keep}
-use Rattle.bm_base.specs.Machine.State.{Cluster, Holdings, by_replica}
-use Rattle.bm_base.specs.Maps.Lists.{has}
-use Rattle.bm_base.specs.Machine.Replicas.{is_stray, is_corrupt, is_live_on, is_drained_on}
-use Rattle.bm_base.specs.Machine.Excess.{without_expired, without_unordered_excess, excess_in}
+use Rattle.bm_base.specs.Words.{Map, get, keep, Cluster, Holdings, by_replica, has, is_stray, is_corrupt, is_live_on, is_drained_on, without_expired, without_unordered_excess, excess_in}
 use Rattle.bm_base.specs.RoundParts.{holdings_at_choice}
 use Rattle.bm_round_scan.specs.declared.block_scan.BlockScan.{BlockScan}
 use Rattle.bm_round_scan.specs.declared.replicas.UsableReplicas.{UsableReplicas}

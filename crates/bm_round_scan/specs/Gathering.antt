@@ -5,9 +5,7 @@ use Rattle.std.specs.List.Sorted.{IsPermutation, IsSortedByKey}
 use Rattle.bm_base.specs.declared.replica.ReplicaId.{ReplicaId}
 use Rattle.bm_base.specs.declared.commands.Delete.{Delete}
 use Rattle.bm_base.specs.declared.round.Wish.{Wish}
-use Rattle.bm_base.specs.Maps.Map.{Order, entries}
-use Rattle.bm_base.specs.Machine.State.{Cluster, Holdings}
-use Rattle.bm_base.specs.Machine.Replicas.{has_enough_live}
+use Rattle.bm_base.specs.Words.{Order, entries, Cluster, Holdings, has_enough_live}
 use Rattle.bm_base.specs.RoundParts.{holdings_at_choice}
 use Rattle.bm_parts.specs.Before.{wishes_before}
 use Rattle.bm_round_scan.specs.BlockScans.{own_replicas, surplus_of, replicas_on, deletes_of}

@@ -2,9 +2,7 @@
 use Rattle.std.specs.Prelude.{ℕ, Bool, true, if◌then◌else◌, List, [], ◌∷◌, map, filter}
 use Rattle.bm_base.specs.declared.replica.ReplicaId.{ReplicaId}
 use Rattle.bm_base.specs.declared.replica.Marks.{Marks}
-use Rattle.bm_base.specs.Maps.Map.{Map, insert}
-use Rattle.bm_base.specs.Machine.State.{by_replica, replica_at}
-use Rattle.bm_base.specs.Machine.Excess.{with_excess_reset}
+use Rattle.bm_base.specs.Words.{Map, insert, by_replica, replica_at, with_excess_reset}
 
 -- a surplus replica is marked as in excess
 abbrev pub marked_if : Bool → Marks → Marks

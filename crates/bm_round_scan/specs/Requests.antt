@@ -4,9 +4,7 @@ use Rattle.bm_base.specs.declared.level.Level.{Level}
 use Rattle.bm_base.specs.declared.level.Level.TheVariants.{BadlyDistributed, NoUsableReplica}
 use Rattle.bm_base.specs.declared.replica.BlockInfo.{BlockInfo}
 use Rattle.bm_base.specs.declared.round.Wish.{Wish}
-use Rattle.bm_base.specs.Machine.State.{Cluster, Holdings}
-use Rattle.bm_base.specs.Machine.Replicas.{racks, is_multi_rack}
-use Rattle.bm_base.specs.Machine.Levels.{level, level_of}
+use Rattle.bm_base.specs.Words.{Cluster, Holdings, racks, is_multi_rack, level, level_of}
 use Rattle.bm_base.specs.RoundParts.{wish_at}
 
 -- the wish of a block at its own level

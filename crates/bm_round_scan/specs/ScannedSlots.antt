@@ -1,10 +1,7 @@
 -- The slots that a round scans.
 use Rattle.std.specs.Prelude.{◌≡◌, ◌↔◌, ℕ, ◌-◌, Bool, false, not, ◌&&◌, nat_lt, nat_le, List, ◌++◌, filter, length, Option}
 use Rattle.std.specs.Option.{option_map_or}
-use Rattle.bm_base.specs.Machine.State.{Cluster}
-use Rattle.bm_base.specs.Maps.Lists.{has}
-use Rattle.bm_base.specs.Machine.Replicas.{is_live_on}
-use Rattle.bm_base.specs.Machine.Levels.{level_number}
+use Rattle.bm_base.specs.Words.{Cluster, has, is_live_on, level_number}
 use Rattle.bm_parts.specs.Before.{is_before}
 use Rattle.bm_arena.specs.Contents.{Contents, block_at}
 use Rattle.bm_arena.specs.Holding.{id_at, info_at, replicas_at}

@@ -3,9 +3,7 @@ ghost use Rattle.std.specs.Prelude.{◌≡◌, ℕ, false, Some, IfOk, IfErr, On
 ghost use Rattle.std.specs.Option.{option_map_or};
 ghost use Rattle.std.specs.List.Sorted.{IsNonDecreasing, IsPermutation};
 ghost use Rattle.bm_base.specs.declared.refusal.Refusal.TheVariants.{Memory};
-ghost use Rattle.bm_base.specs.Maps.Lists.{has, has_repeats};
-ghost use Rattle.bm_base.specs.Maps.Map.{Map, empty, entries, revise};
-ghost use Rattle.bm_base.specs.Machine.State.{by_replica};
+ghost use Rattle.bm_base.specs.Words.{has, has_repeats, Map, empty, entries, revise, by_replica};
 ghost use Rattle.bm_base.specs.Machine.Excess as excess;
 ghost use Rattle.bm_arena.specs.Contents.{slot_of};
 ghost use Rattle.bm_levels.specs.Held.{holdings_with};

@@ -2,8 +2,7 @@
 ghost use Rattle.std.specs.Prelude.{◌≡◌, ◌++◌, ◌∷◌, [], ℕ, List, map, not, Some, nat_le, false, IfOk, IfErr, OnOk};
 ghost use Rattle.std.specs.Option.{option_map_or};
 ghost use Rattle.bm_base.specs.declared.refusal.Refusal.TheVariants.{Memory};
-ghost use Rattle.bm_base.specs.Maps.Map.{values};
-ghost use Rattle.bm_base.specs.Maps.Lists.{has};
+ghost use Rattle.bm_base.specs.Words.{values, has};
 ghost use Rattle.bm_maps.specs.SlotLists.{IsMember};
 ghost use Rattle.bm_arena.specs.Contents.{slot_of};
 ghost use Rattle.bm_arena.specs.Holding.{id_at};

@@ -6,7 +6,7 @@ use Rattle.std.proofs.lemmas.List.{take-append-drop}
 use Rattle.std.proofs.lemmas.Result.{IfOk-weaker, IfErr-weaker, MatchResult-from_both}
 use Rattle.std.proofs.Math.Seq.{take-append-add}
 use Rattle.bm_base.specs.declared.config.Config.{Config}
-use Rattle.bm_base.specs.Machine.State.{State, first_state}
+use Rattle.bm_base.specs.Words.{State, first_state, config_refusal}
 use Rattle.bm_session.specs.declared.limits.TheConstants.{MAX_LINES, MAX_BYTES, PIECE}
 use Rattle.bm_session.specs.declared.session.Session.{Session}
 use Rattle.bm_session.specs.declared.fault.Summary.{Summary}
@@ -17,7 +17,6 @@ use Rattle.bm_session.specs.Text.{texts, text}
 use Rattle.bm_session.specs.Starting.{StartFault}
 use Rattle.bm_session.specs.Progress.{Progress, PieceFault, IsSummary}
 use Rattle.bm_session.specs.Outcome.{Faulted, Leaves, FaultCounts, HasCause, ConfigOfFault, ChecksConfig}
-use Rattle.bm_base.specs.Machine.Configuration.{config_refusal}
 use Rattle.bm_session.proofs.LineLemmas.{whole_lines-split}
 use Rattle.bm_session.proofs.ProgressLemmas.{Appends-nil, answered_more}
 

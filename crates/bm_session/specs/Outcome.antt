@@ -3,8 +3,7 @@ use Rattle.std.specs.Prelude.{◌≡◌, ℕ, ◌+◌, ◌<◌, ◌≤◌, ◌�
 use Rattle.std.specs.Io.KnownBytes.{Appends, IsAtEnd}
 use Rattle.bm_base.specs.declared.config.Config.{Config}
 use Rattle.bm_base.specs.declared.refusal.Refusal.TheVariants.{BadConfig}
-use Rattle.bm_base.specs.Machine.Configuration.{config_refusal}
-use Rattle.bm_base.specs.Machine.State.{first_state}
+use Rattle.bm_base.specs.Words.{config_refusal, first_state}
 use Rattle.bm_session.specs.declared.fault.Summary.{Summary}
 use Rattle.bm_session.specs.declared.limits.TheConstants.{MAX_LINES, MAX_BYTES, PIECE}
 use Rattle.bm_session.specs.declared.fault.Fault.{Fault}

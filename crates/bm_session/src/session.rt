@@ -1,7 +1,6 @@
 // The state of a run between two reads.
 ghost use Rattle.std.specs.Prelude.{◌≡◌, true, ◌≤◌, ◌<◌, ◌+◌, ◌^◌, ◌∷◌, [], ◌++◌, ℕ, List, Option, length, None, IfOk, OnOk, OnErr, IfErr};
-ghost use Rattle.bm_base.specs.Machine.State.{State, first_state};
-ghost use Rattle.bm_base.specs.Machine.Configuration.{config_refusal};
+ghost use Rattle.bm_base.specs.Words.{State, first_state, config_refusal};
 ghost use Rattle.bm_lines.specs.Held.{Holds, is_begun};
 ghost use Rattle.bm_session.specs.Starting.{StartFault};
 ghost use Rattle.bm_session.specs.declared.limits.TheConstants.{MAX_LINES};

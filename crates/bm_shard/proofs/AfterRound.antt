@@ -5,11 +5,7 @@ use Rattle.bm_base.specs.declared.commands.Transfer.{Transfer}
 use Rattle.bm_base.specs.declared.commands.Delete.{Delete}
 use Rattle.bm_base.specs.declared.replica.ReplicaId.{ReplicaId}
 use Rattle.bm_base.specs.declared.replica.Marks.{Marks}
-use Rattle.bm_base.specs.Maps.Map.{Map, revise, keep, insert_all}
-use Rattle.bm_base.specs.Machine.State.{Cluster, by_replica, replica_at}
-use Rattle.bm_base.specs.Machine.Replicas.{storages_where}
-use Rattle.bm_base.specs.Machine.Excess.{is_expired, without_expired, without_unordered_excess, with_surplus_marked, excess_in}
-use Rattle.bm_base.specs.Machine.Rounds.{is_commanded, end_round}
+use Rattle.bm_base.specs.Words.{Map, revise, keep, insert_all, Cluster, by_replica, replica_at, storages_where, is_expired, without_expired, without_unordered_excess, with_surplus_marked, excess_in, is_commanded, end_round}
 use Rattle.bm_base.specs.RoundParts.{surplus, holdings_at_choice, round_on_part, own_transfers, own_deletes}
 use Rattle.bm_arena.specs.Contents.{Contents}
 use Rattle.bm_arena.specs.Holding.{replicas_of, blocks_of, holdings_of}

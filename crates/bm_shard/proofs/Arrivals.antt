@@ -5,10 +5,7 @@ use Rattle.std.specs.Option.{option_or}
 use Rattle.std.specs.Ordering.{eq_by_cmp}
 use Rattle.bm_base.specs.declared.replica.ReplicaId.{ReplicaId}
 use Rattle.bm_base.specs.declared.replica.Stamp.{Stamp}
-use Rattle.bm_base.specs.Maps.Lists.{has}
-use Rattle.bm_base.specs.Maps.Map.{Map, get, keep, remove, contains_key}
-use Rattle.bm_base.specs.Machine.State.{Cluster, Holdings, by_replica, replica_at}
-use Rattle.bm_base.specs.Machine.Events.{entered_marks, report, is_named}
+use Rattle.bm_base.specs.Words.{has, Map, get, keep, remove, contains_key, Cluster, Holdings, by_replica, replica_at, entered_marks, report, is_named}
 use Rattle.bm_base.proofs.MapLaws.{equal, same_map, get-keep, get-remove}
 use Rattle.bm_base.proofs.Ties.{replica_tie}
 use Rattle.bm_base.proofs.Clusters.{eqb_turned}

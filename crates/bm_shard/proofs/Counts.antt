@@ -6,11 +6,9 @@ use Rattle.std.specs.Ordering.{eq_by_cmp}
 use Rattle.std.proofs.lemmas.Cmp.{tied_itself}
 use Rattle.bm_base.specs.declared.replica.Marks.{Marks}
 use Rattle.bm_base.specs.declared.replica.ReplicaId.{ReplicaId}
-use Rattle.bm_base.specs.Maps.Map.{Map, Order, get, entries, keep, revise, remove, len}
+use Rattle.bm_base.specs.Words.{Map, Order, get, entries, keep, revise, remove, len, by_replica, new_replicas}
 use Rattle.bm_base.proofs.MapLaws.{same_map, get-revise, get-remove, get-keep}
 use Rattle.bm_base.proofs.Differences.{none_new, none_came, some_left, len-keep-le}
-use Rattle.bm_base.specs.Machine.State.{by_replica}
-use Rattle.bm_base.specs.Machine.Calls.{new_replicas}
 
 -- a key that is found among some entries is found among more
 found_more : {X : Type 0} (b : Bool) (x : X) (o : Option X) → is_some o ≡ true → is_some (cond b (Some x) o) ≡ true

@@ -4,8 +4,7 @@ use Rattle.std.specs.Prelude.{IsSome}
 use Rattle.std.proofs.lemmas.Bool.{false≢true}
 use Rattle.bm_base.specs.declared.replica.ReplicaId.{ReplicaId}
 use Rattle.bm_base.specs.declared.replica.Marks.{Marks}
-use Rattle.bm_base.specs.Maps.Map.{empty, get}
-use Rattle.bm_base.specs.Machine.State.{Cluster, Holdings, by_replica}
+use Rattle.bm_base.specs.Words.{empty, get, Cluster, Holdings, by_replica}
 use Rattle.bm_base.proofs.MapLaws.{get-empty}
 use Rattle.bm_parts.specs.PlacedLaws.{IsPlaced}
 

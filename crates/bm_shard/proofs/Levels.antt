@@ -6,10 +6,7 @@ use Rattle.std.specs.Map.{lookup}
 use Rattle.std.specs.Ordering.{eq_by_cmp}
 use Rattle.std.proofs.lemmas.Bool.{cases_eq}
 use Rattle.bm_base.specs.declared.level.Level.{Level}
-use Rattle.bm_base.specs.Maps.Map.{Map, by_number, get, insert, remove}
-use Rattle.bm_base.specs.Machine.State.{Cluster, by_replica}
-use Rattle.bm_base.specs.Machine.Replicas.{rack_of, is_draining, is_multi_rack}
-use Rattle.bm_base.specs.Machine.Levels.{level}
+use Rattle.bm_base.specs.Words.{Map, by_number, get, insert, remove, Cluster, by_replica, rack_of, is_draining, is_multi_rack, level}
 use Rattle.bm_base.proofs.MapLaws.{get-empty, get-insert, get-remove}
 use Rattle.bm_base.proofs.Ties.{number_tie}
 use Rattle.bm_arena.specs.Triplets.{Block}

@@ -6,12 +6,7 @@ use Rattle.std.proofs.lemmas.Bool.{or_parts}
 use Rattle.bm_base.specs.declared.event.Event.TheVariants.{Register}
 use Rattle.bm_base.specs.declared.refusal.Refusal.TheVariants.{NodeKnown, StorageKnown, TooMany}
 use Rattle.bm_base.specs.declared.storage.StorageInfo.{StorageInfo}
-use Rattle.bm_base.specs.Maps.Map.{Map, get, contains_key}
-use Rattle.bm_base.specs.Machine.State.{Cluster, by_replica}
-use Rattle.bm_base.specs.Maps.Lists.{has_repeats}
-use Rattle.bm_base.specs.Machine.Replicas.{rack_of, node_of}
-use Rattle.bm_base.specs.Machine.Events.{register}
-use Rattle.bm_base.specs.Machine.Refusals.{first_of, cluster_checks, knows_node, knows_storage}
+use Rattle.bm_base.specs.Words.{Map, get, contains_key, Cluster, by_replica, has_repeats, rack_of, node_of, register, first_of, cluster_checks, knows_node, knows_storage}
 use Rattle.bm_base.specs.Promises.Lawful.{IsLawfulCluster}
 use Rattle.bm_base.proofs.Checks.{all_fail}
 use Rattle.bm_base.proofs.Options.{there}

@@ -3,9 +3,7 @@ use Rattle.std.proofs.Common.{◌≡◌, ◌+◌, ◌-◌, Bool, true, false, co
 use Rattle.std.specs.Ordering.{eq_by_cmp}
 use Rattle.bm_base.specs.declared.replica.Marks.{Marks}
 use Rattle.bm_base.specs.declared.replica.ReplicaId.{ReplicaId}
-use Rattle.bm_base.specs.Maps.Map.{Map, get, insert, remove, len, contains_key}
-use Rattle.bm_base.specs.Machine.State.{by_replica}
-use Rattle.bm_base.specs.Machine.Calls.{new_replicas}
+use Rattle.bm_base.specs.Words.{Map, get, insert, remove, len, contains_key, by_replica, new_replicas}
 use Rattle.bm_base.proofs.MapLaws.{equal, same_map, get-insert, get-remove}
 use Rattle.bm_base.proofs.Differences.{len-insert}
 use Rattle.bm_base.proofs.MapEntries.{get_taken}

@@ -6,11 +6,7 @@ use Rattle.bm_base.specs.declared.ids.Part.{Part}
 use Rattle.bm_base.specs.declared.event.Done.{Done}
 use Rattle.bm_base.specs.declared.event.Event.{Event}
 use Rattle.bm_base.specs.Shards.{shard_of}
-use Rattle.bm_base.specs.Machine.State.{Cluster, Holdings}
-use Rattle.bm_base.specs.Maps.Map.{get}
-use Rattle.bm_base.specs.Machine.Levels.{level}
-use Rattle.bm_base.specs.Machine.Calls.{done}
-use Rattle.bm_base.specs.Machine.Events.{change_cluster, change_holdings}
+use Rattle.bm_base.specs.Words.{Cluster, Holdings, get, level, done, change_cluster, change_holdings}
 use Rattle.bm_parts.specs.Parts.{block_of, change_part}
 use Rattle.bm_parts.specs.PlacedLaws.{IsPlaced}
 use Rattle.bm_parts.proofs.OneShard.{same_cluster, one_block_changes_one_part, nothing_done}

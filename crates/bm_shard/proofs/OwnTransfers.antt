@@ -5,8 +5,7 @@ use Rattle.std.proofs.lemmas.Bool.{false≢true, eqb-true, eq-eqb}
 use Rattle.bm_base.specs.declared.ids.Part.{Part}
 use Rattle.bm_base.specs.declared.commands.Transfer.{Transfer}
 use Rattle.bm_base.specs.declared.replica.ReplicaId.{ReplicaId}
-use Rattle.bm_base.specs.Maps.Map.{Map, insert, insert_all}
-use Rattle.bm_base.specs.Machine.State.{by_replica, replica_at}
+use Rattle.bm_base.specs.Words.{Map, insert, insert_all, by_replica, replica_at}
 use Rattle.bm_base.specs.Shards.{shard_of}
 use Rattle.bm_base.specs.RoundParts.{own_transfers}
 use Rattle.bm_pending.specs.PendingMap.{PendingMap, room}

@@ -1,9 +1,7 @@
 -- If the blocks and replicas stay, so does all that is seen but capacity.
 use Rattle.std.proofs.Common.{◌≡◌, ℕ, refl, sym, ap, subst, ◌∙◌}
 use Rattle.bm_base.specs.declared.ids.Part.{Part}
-use Rattle.bm_base.specs.Maps.Map.{Map, get}
-use Rattle.bm_base.specs.Machine.State.{Cluster, by_replica}
-use Rattle.bm_base.specs.Machine.Levels.{level}
+use Rattle.bm_base.specs.Words.{Map, get, Cluster, by_replica, level}
 use Rattle.bm_base.proofs.MapLaws.{same_map}
 use Rattle.bm_arena.specs.Contents.{IsLawful}
 use Rattle.bm_arena.specs.Holding.{replicas_of, blocks_of}

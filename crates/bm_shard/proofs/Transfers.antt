@@ -4,12 +4,7 @@ use Rattle.std.specs.Prelude.{◌==◌, ◌&&◌, if◌then◌else◌, slice_get
 use Rattle.std.specs.Option.{option_and_then, unwrap_or}
 use Rattle.std.proofs.lemmas.Bool.{eqb-true, eq-eqb, false≢true}
 use Rattle.bm_base.specs.declared.replica.ReplicaId.{ReplicaId}
-use Rattle.bm_base.specs.Maps.Map.{Map, get, keep, keys, len, contains_key}
-use Rattle.bm_base.specs.Machine.State.{Cluster, Holdings, by_replica}
-use Rattle.bm_base.specs.Machine.Replicas.{has_storage, drains}
-use Rattle.bm_base.specs.Machine.Events.{begin_drain}
-use Rattle.bm_base.specs.Machine.Refusals.{knows_node}
-use Rattle.bm_base.specs.Machine.Calls.{done, new_replicas}
+use Rattle.bm_base.specs.Words.{Map, get, keep, keys, len, contains_key, Cluster, Holdings, by_replica, has_storage, drains, begin_drain, knows_node, done, new_replicas}
 use Rattle.bm_base.specs.Promises.Lawful.{IsLawfulCluster}
 use Rattle.bm_base.proofs.MapLaws.{same_map, get-keep}
 use Rattle.bm_arena.specs.Contents.{Contents}

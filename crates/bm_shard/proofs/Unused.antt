@@ -9,10 +9,7 @@ use Rattle.bm_base.specs.declared.replica.Stamp.{Stamp}
 use Rattle.bm_base.specs.declared.replica.BlockInfo.{BlockInfo}
 use Rattle.bm_base.specs.declared.event.Event.{Event}
 use Rattle.bm_base.specs.declared.event.Event.TheVariants.{AddBlock, Received}
-use Rattle.bm_base.specs.Maps.Map.{Map, Order, by_number, contains_key, get, insert, revise, revise_at}
-use Rattle.bm_base.specs.Machine.State.{Cluster, Holdings, by_replica, replica_at}
-use Rattle.bm_base.specs.Machine.Entries.{ReportedBlock}
-use Rattle.bm_base.specs.Machine.Events.{enter, is_named, report}
+use Rattle.bm_base.specs.Words.{Map, Order, by_number, contains_key, get, insert, revise, revise_at, Cluster, Holdings, by_replica, replica_at, ReportedBlock, enter, is_named, report, with_surplus_marked, without_unordered_excess}
 use Rattle.bm_maps.proofs.SlotLists.{dec_among}
 use Rattle.bm_base.proofs.Options.{there}
 use Rattle.bm_base.proofs.MapLaws.{get-insert, get-revise}
@@ -38,7 +35,6 @@ use Rattle.bm_shard.specs.Unused.{IsUnused, HasNoUnused, HasUnusedOnly, may_add_
 use Rattle.bm_shard.specs.Inside.{numbers_of, heads_of, is_prepared}
 use Rattle.bm_shard.proofs.Arrivals.{named_there}
 use Rattle.bm_shard.proofs.Numbers.{entered, has_entry}
-use Rattle.bm_base.specs.Machine.Excess.{with_surplus_marked, without_unordered_excess}
 use Rattle.bm_shard.proofs.SameHoldings.{seen_of}
 
 -- The same for the fields of a shard.

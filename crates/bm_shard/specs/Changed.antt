@@ -6,10 +6,7 @@ use Rattle.bm_base.specs.declared.event.Event.{Event}
 use Rattle.bm_base.specs.Shards.{shard_of}
 use Rattle.bm_parts.specs.Parts.{block_of}
 use Rattle.bm_base.specs.declared.event.Done.{Done}
-use Rattle.bm_base.specs.Maps.Map.{get}
-use Rattle.bm_base.specs.Machine.State.{Cluster, Holdings}
-use Rattle.bm_base.specs.Machine.Levels.{level}
-use Rattle.bm_base.specs.Machine.Calls.{done}
+use Rattle.bm_base.specs.Words.{get, Cluster, Holdings, level, done}
 use Rattle.bm_shard.specs.Seen.{Seen}
 
 -- the stored levels are those of this cluster

@@ -5,12 +5,9 @@ use Rattle.std.specs.Coded.{Coded, code_by, coded×, coded⊎, coded_ℕ, coded_
 use Rattle.bm_base.specs.declared.level.Level.{Level}
 use Rattle.bm_base.specs.declared.ids.Part.{Part}
 use Rattle.bm_base.specs.declared.replica.Stamp.{Stamp}
-use Rattle.bm_base.specs.Maps.Map.{Map, by_number}
+use Rattle.bm_base.specs.Words.{Map, by_number, Holdings, ReportedBlock, level_number}
 use Rattle.bm_base.specs.Maps.MapCode.{code}
-use Rattle.bm_base.specs.Machine.State.{Holdings}
 use Rattle.bm_base.specs.Codes.{coded_holdings, coded_stamp}
-use Rattle.bm_base.specs.Machine.Entries.{ReportedBlock}
-use Rattle.bm_base.specs.Machine.Levels.{level_number}
 use Rattle.bm_base.specs.LevelNumbers.{level_of_number, level_again}
 use Rattle.bm_shard.specs.Seen.{Seen, Reserved, LookUp, NoticeOf, ReportOf}
 

@@ -3,8 +3,7 @@ use Rattle.std.specs.Prelude.{◌≡◌, ◌==◌, ℕ, ◌<◌, Bool, false, Is
 use Rattle.std.specs.Option.{option_map_or}
 use Rattle.bm_base.specs.declared.level.Level.{Level}
 use Rattle.bm_base.specs.declared.ids.Part.{Part}
-use Rattle.bm_base.specs.Maps.Map.{Map, by_number, empty, insert, remove}
-use Rattle.bm_base.specs.Machine.Events.{is_named}
+use Rattle.bm_base.specs.Words.{Map, by_number, empty, insert, remove, is_named}
 use Rattle.bm_arena.specs.Contents.{Contents}
 use Rattle.bm_report.specs.Ready.{LookedUpReport, IsLookedUp, IsReady, reported_blocks}
 use Rattle.bm_levels.specs.Unused.{IsUnused}

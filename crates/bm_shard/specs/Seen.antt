@@ -7,9 +7,7 @@ use Rattle.bm_base.specs.declared.ids.Part.{Part}
 use Rattle.bm_base.specs.declared.event.Event.{Event}
 use Rattle.bm_base.specs.declared.event.Event.TheVariants.{AddBlock, Received, FullReport}
 use Rattle.bm_base.specs.declared.round.Chosen.{Chosen}
-use Rattle.bm_base.specs.Maps.Map.{Map, by_number}
-use Rattle.bm_base.specs.Machine.State.{Holdings}
-use Rattle.bm_base.specs.Machine.Entries.{ReportedBlock, expanded}
+use Rattle.bm_base.specs.Words.{Map, by_number, Holdings, ReportedBlock, expanded}
 use Rattle.bm_maps.specs.SlotLists.{IsMember}
 use Rattle.bm_base.specs.RoundParts.{own_transfers}
 use Rattle.bm_parts.specs.Parts.{reported_of}

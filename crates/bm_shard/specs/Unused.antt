@@ -7,11 +7,7 @@ use Rattle.std.specs.Map.{lookup}
 use Rattle.bm_base.specs.declared.ids.Part.{Part}
 use Rattle.bm_base.specs.declared.event.Event.{Event}
 use Rattle.bm_base.specs.declared.event.Event.TheVariants.{AddBlock, Received, FullReport}
-use Rattle.bm_base.specs.Maps.Map.{get}
-use Rattle.bm_base.specs.Machine.State.{replica_at}
-use Rattle.bm_base.specs.Machine.Entries.{expanded}
-use Rattle.bm_base.specs.Machine.Events.{is_named}
-use Rattle.bm_base.specs.Machine.Transfers.{pending_targets}
+use Rattle.bm_base.specs.Words.{get, replica_at, expanded, is_named, pending_targets}
 use Rattle.bm_maps.specs.SlotLists.{IsMember}
 use Rattle.bm_parts.specs.Parts.{reported_of}
 use Rattle.bm_shard.specs.Seen.{Seen}

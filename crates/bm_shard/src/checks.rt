@@ -1,8 +1,6 @@
 // The checks of an event on the blocks.
 ghost use Rattle.std.specs.Prelude.{◌≡◌, if◌then◌else◌};
-ghost use Rattle.bm_base.specs.Maps.Map.{get};
-ghost use Rattle.bm_base.specs.Machine.Refusals.{first_of, block_checks, knows_block, is_bad_replication, is_old};
-ghost use Rattle.bm_base.specs.Machine.Answering.{checked};
+ghost use Rattle.bm_base.specs.Words.{get, first_of, block_checks, knows_block, is_bad_replication, is_old, checked};
 
 use crate::shard::Shard;
 use bm_base::{BlockId, BlockInfo, Event, MAX_REPLICATION, Refusal, Stamp};

@@ -1,9 +1,8 @@
 // Events on the cluster, as they change a shard. None takes memory.
 ghost use Rattle.std.specs.Prelude.{◌≡◌, ◌<◌, ◌^◌, ◌==◌, ◌&&◌, not, None, if◌then◌else◌};
-ghost use Rattle.bm_base.specs.Maps.Map.{keep};
+ghost use Rattle.bm_base.specs.Words.{keep, first_of, cluster_checks};
 ghost use Rattle.bm_base.specs.Machine.Replicas as replicas;
 ghost use Rattle.bm_base.specs.Machine.Events as events;
-ghost use Rattle.bm_base.specs.Machine.Refusals.{first_of, cluster_checks};
 ghost use Rattle.bm_base.specs.declared.event.Event.TheVariants as event_of;
 ghost use Rattle.bm_parts.specs.PlacedLaws.{IsPlaced};
 ghost use Rattle.bm_shard.specs.Unused.{HasNoUnused};

@@ -1,9 +1,6 @@
 // Events as they change a shard.
 ghost use Rattle.std.specs.Prelude.{◌≡◌, ◌<◌, ◌^◌, None, true, false};
-ghost use Rattle.bm_base.specs.Machine.Replicas.{is_multi_rack};
-ghost use Rattle.bm_base.specs.Machine.Events.{change_cluster};
-ghost use Rattle.bm_base.specs.Machine.Refusals.{first_of, cluster_checks};
-ghost use Rattle.bm_base.specs.Machine.Calls.{done};
+ghost use Rattle.bm_base.specs.Words.{is_multi_rack, change_cluster, first_of, cluster_checks, done};
 ghost use Rattle.bm_parts.specs.Parts.{block_of, change_part};
 ghost use Rattle.bm_parts.specs.PlacedLaws.{IsPlaced};
 ghost use Rattle.bm_shard.specs.Seen.{IsReadyFor, needs_reservation};

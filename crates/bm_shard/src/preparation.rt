@@ -1,9 +1,7 @@
 // The memory of an event, and giving it up.
 ghost use Rattle.std.specs.Prelude.{◌≡◌, ◌==◌, ◌<◌, ◌∷◌, [], ℕ, None, Some, IfErr, OnOk, OnErr};
 ghost use Rattle.bm_base.specs.declared.refusal.Refusal.TheVariants.{Memory};
-ghost use Rattle.bm_base.specs.Machine.Answering.{Refuses};
-ghost use Rattle.bm_base.specs.Machine.State.{Cluster};
-ghost use Rattle.bm_base.specs.Machine.Events.{is_named};
+ghost use Rattle.bm_base.specs.Words.{Refuses, Cluster, is_named};
 ghost use Rattle.bm_maps.specs.SlotLists.{IsMember};
 ghost use Rattle.bm_arena.specs.Holding.{replicas_of, blocks_of};
 ghost use Rattle.bm_report.specs.Expanded.{reported_to_part};

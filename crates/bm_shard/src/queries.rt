@@ -1,12 +1,10 @@
 // The queries of a shard. No query changes anything.
 ghost use Rattle.std.specs.Prelude.{◌≡◌, true, false, None, IfOk, IfErr, OnOk};
 ghost use Rattle.bm_base.specs.declared.refusal.Refusal.TheVariants.{Memory};
-ghost use Rattle.bm_base.specs.Machine.State.{Cluster};
+ghost use Rattle.bm_base.specs.Words.{Cluster, block_refusal, Refuses};
 ghost use Rattle.bm_base.specs.Machine.Queries as queries;
 ghost use Rattle.bm_base.specs.Machine.Levels as levels;
 ghost use Rattle.bm_base.specs.Promises.Versions as versions;
-ghost use Rattle.bm_base.specs.Machine.Refusals.{block_refusal};
-ghost use Rattle.bm_base.specs.Machine.Answering.{Refuses};
 ghost use Rattle.bm_parts.specs.QueryLaws.{holds_back};
 ghost use Rattle.bm_queries.specs.Listed.{wants, replicas_passing};
 ghost use Rattle.bm_shard.specs.UpToDate.{IsUpToDate};

@@ -1,8 +1,7 @@
 // Reported replicas, as they change a shard. None takes memory.
 ghost use Rattle.std.specs.Prelude.{◌≡◌, ◌<◌, ◌^◌, ◌∷◌, [], List, Some};
-ghost use Rattle.bm_base.specs.Machine.Entries.{ReportedBlock};
+ghost use Rattle.bm_base.specs.Words.{ReportedBlock, replica_at};
 ghost use Rattle.bm_base.specs.Machine.Events as events;
-ghost use Rattle.bm_base.specs.Machine.State.{replica_at};
 ghost use Rattle.bm_parts.specs.PlacedLaws.{IsPlaced};
 ghost use Rattle.bm_shard.specs.Unused.{HasNoUnused};
 ghost use Rattle.bm_shard.specs.Changed.{HasChanged};

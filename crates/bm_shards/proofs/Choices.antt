@@ -5,11 +5,8 @@ use Rattle.std.proofs.Common.{cond, refl, sym, ap, subst, ◌∙◌}
 use Rattle.bm_base.specs.declared.commands.Delete.{Delete}
 use Rattle.bm_base.specs.declared.round.RoundPart.{RoundPart}
 use Rattle.bm_base.specs.declared.round.Wish.{Wish}
-use Rattle.bm_base.specs.Maps.Lists.{has, has_repeats}
+use Rattle.bm_base.specs.Words.{has, has_repeats, RoundLimits, Cluster, Holdings, transfers, deletes}
 use Rattle.bm_base.specs.Ordered.{by_pair, ordered_by}
-use Rattle.bm_base.specs.Machine.State.{RoundLimits, Cluster, Holdings}
-use Rattle.bm_base.specs.Machine.Transfers.{transfers}
-use Rattle.bm_base.specs.Machine.Deletes.{deletes}
 use Rattle.bm_base.specs.RoundParts.{holdings_at_choice, round_part, wish_key, delete_key}
 use Rattle.bm_base.specs.Choices.{merged_wishes, merged_deletes, first_of_each_node, chosen_transfers, chosen_deletes}
 use Rattle.bm_base.proofs.OneWish.{one_wish}

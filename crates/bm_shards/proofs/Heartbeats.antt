@@ -4,9 +4,7 @@ use Rattle.std.proofs.Common.{sym, ap, subst, ◌∙◌}
 use Rattle.bm_base.specs.declared.event.Event.{Event}
 use Rattle.bm_base.specs.declared.event.Event.TheVariants.{Heartbeat}
 use Rattle.bm_base.specs.declared.event.Remaining.{Remaining}
-use Rattle.bm_base.specs.Machine.State.{Cluster, Holdings}
-use Rattle.bm_base.specs.Machine.Events.{change_cluster, change_holdings}
-use Rattle.bm_base.specs.Machine.Refusals.{first_of, cluster_checks}
+use Rattle.bm_base.specs.Words.{Cluster, Holdings, change_cluster, change_holdings, first_of, cluster_checks}
 use Rattle.bm_base.specs.Promises.Lawful.{IsLawfulCluster}
 use Rattle.bm_parts.proofs.ClusterLevels.{heartbeat_leaves_levels}
 use Rattle.bm_parts.proofs.WellPlaced.{event_keeps_placed}

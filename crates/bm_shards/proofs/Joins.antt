@@ -6,9 +6,8 @@ use Rattle.std.specs.FinMap.{put, is_sorted}
 use Rattle.std.specs.FinMap.Entries.{below_all, by_order}
 use Rattle.std.specs.List.Sorted.{IsPermutation, IsSortedByKey}
 use Rattle.bm_base.specs.Maps.Conjunction.{first, second}
-use Rattle.bm_base.specs.Maps.Map.{Map, Order, entries, empty, insert, insert_all}
+use Rattle.bm_base.specs.Words.{Map, Order, entries, empty, insert, insert_all, Holdings}
 use Rattle.bm_base.specs.Ordered.{ordered_by}
-use Rattle.bm_base.specs.Machine.State.{Holdings}
 use Rattle.bm_base.specs.Shards.{shard_of, cut}
 use Rattle.bm_base.proofs.ForEach.{Each, each_then, each_appended}
 use Rattle.bm_base.proofs.MapEntries.{not_tied}

@@ -5,11 +5,8 @@ use Rattle.std.proofs.lemmas.Option.{same_Some, slice_get_within}
 use Rattle.bm_base.specs.declared.event.Event.{Event}
 use Rattle.bm_base.specs.declared.event.Done.{Done}
 use Rattle.bm_base.specs.declared.refusal.Refusal.{Refusal}
-use Rattle.bm_base.specs.Machine.State.{Cluster, Holdings}
-use Rattle.bm_base.specs.Machine.Entries.{range_from}
+use Rattle.bm_base.specs.Words.{Cluster, Holdings, range_from, change_cluster, change_holdings, done}
 use Rattle.bm_base.specs.Shards.{shard_of, cut}
-use Rattle.bm_base.specs.Machine.Events.{change_cluster, change_holdings}
-use Rattle.bm_base.specs.Machine.Calls.{done}
 use Rattle.bm_parts.specs.Parts.{block_of, change_part}
 use Rattle.bm_parts.specs.Whole.{whole_of, AreOwn}
 use Rattle.bm_parts.proofs.WholeParts.{parts_again}

@@ -7,11 +7,8 @@ use Rattle.bm_base.specs.declared.replica.Marks.{Marks}
 use Rattle.bm_base.specs.declared.replica.Replica.{Replica}
 use Rattle.bm_base.specs.declared.limits.TheConstants.{MAX_PLACES}
 use Rattle.bm_base.specs.declared.level.Level.TheVariants.{NoUsableReplica}
-use Rattle.bm_base.specs.Maps.Map.{entries, keys}
-use Rattle.bm_base.specs.Machine.State.{Cluster, Holdings, by_replica, replica_cmp}
+use Rattle.bm_base.specs.Words.{entries, keys, Cluster, Holdings, by_replica, replica_cmp, level, is_at, missing_blocks, blocks_on, places}
 use Rattle.bm_base.specs.Shards.{shard_of, cut}
-use Rattle.bm_base.specs.Machine.Levels.{level, is_at}
-use Rattle.bm_base.specs.Machine.Queries.{missing_blocks, blocks_on, places}
 use Rattle.bm_base.specs.Promises.Versions.{table}
 use Rattle.bm_base.specs.Ordered.{ordered_by}
 use Rattle.bm_base.proofs.ForEach.{Each, each_then, each_filtered, each_mapped, each_passing}

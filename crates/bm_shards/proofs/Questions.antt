@@ -10,13 +10,8 @@ use Rattle.bm_base.specs.declared.event.Event.TheVariants.{AddBlock, DeleteBlock
 use Rattle.bm_base.specs.declared.replica.Marks.{Marks}
 use Rattle.bm_base.specs.declared.replica.Replica.{Replica}
 use Rattle.bm_base.specs.declared.replica.ReplicaId.{ReplicaId}
-use Rattle.bm_base.specs.Maps.Map.{by_number}
-use Rattle.bm_base.specs.Machine.State.{Cluster, Holdings, by_replica, replica_cmp, empty_cluster}
+use Rattle.bm_base.specs.Words.{by_number, Cluster, Holdings, by_replica, replica_cmp, empty_cluster, level, missing_blocks, blocks_on, places, first_of, block_checks, block_refusal, checked}
 use Rattle.bm_base.specs.Shards.{shard_of, cut}
-use Rattle.bm_base.specs.Machine.Levels.{level}
-use Rattle.bm_base.specs.Machine.Queries.{missing_blocks, blocks_on, places}
-use Rattle.bm_base.specs.Machine.Refusals.{first_of, block_checks, block_refusal}
-use Rattle.bm_base.specs.Machine.Answering.{checked}
 use Rattle.bm_base.specs.Promises.Versions.{Row, table}
 use Rattle.bm_parts.specs.Parts.{block_of}
 use Rattle.bm_parts.specs.QueryLaws.{holds_back, replica_key}

@@ -5,11 +5,8 @@ use Rattle.std.proofs.Common.{subst, ◌∙◌}
 use Rattle.bm_base.specs.declared.commands.Commands.{Commands}
 use Rattle.bm_base.specs.declared.refusal.Refusal.{Refusal}
 use Rattle.bm_base.specs.declared.round.Chosen.{Chosen}
-use Rattle.bm_base.specs.Machine.State.{RoundLimits, Cluster}
-use Rattle.bm_base.specs.Machine.Transfers.{transfers}
-use Rattle.bm_base.specs.Machine.Deletes.{deletes}
+use Rattle.bm_base.specs.Words.{RoundLimits, Cluster, transfers, deletes, commands_of, end_round}
 use Rattle.bm_base.specs.RoundParts.{holdings_at_choice}
-use Rattle.bm_base.specs.Machine.Rounds.{commands_of, end_round}
 use Rattle.bm_shard.specs.Seen.{Seen}
 use Rattle.bm_shards.specs.Whole.{held_by, AreShards, AreUpToDate, HaveTaken}
 use Rattle.bm_shards.specs.Answers.{EachBecame}

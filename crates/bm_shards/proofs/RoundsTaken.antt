@@ -5,8 +5,7 @@ use Rattle.std.proofs.Common.{sym, ap, subst, ◌∙◌}
 use Rattle.std.proofs.lemmas.List.Elements.{All-nil, All-cons, All-head, All-tail}
 use Rattle.bm_base.specs.declared.round.RoundPart.{RoundPart}
 use Rattle.bm_base.specs.declared.round.Chosen.{Chosen}
-use Rattle.bm_base.specs.Machine.State.{Cluster}
-use Rattle.bm_base.specs.Machine.Rounds.{end_round}
+use Rattle.bm_base.specs.Words.{Cluster, end_round}
 use Rattle.bm_base.specs.RoundParts.{holdings_at_choice, round_on_part}
 use Rattle.bm_parts.specs.Whole.{EachPart}
 use Rattle.bm_parts.proofs.PartChanges.{whole_changes_by_round}

@@ -4,10 +4,8 @@ use Rattle.std.specs.List.{All, AllZip}
 use Rattle.std.proofs.Common.{refl, sym, ap, subst, ◌∙◌, get_or}
 use Rattle.std.proofs.Math.ListN.{set}
 use Rattle.std.proofs.lemmas.List.Elements.{All-nil, All-cons, All-head, All-tail}
-use Rattle.bm_base.specs.Maps.Map.{get}
-use Rattle.bm_base.specs.Machine.State.{Cluster, Holdings, replica_at}
+use Rattle.bm_base.specs.Words.{get, Cluster, Holdings, replica_at, level}
 use Rattle.bm_maps.specs.SlotLists.{IsMember}
-use Rattle.bm_base.specs.Machine.Levels.{level}
 use Rattle.bm_parts.specs.Whole.{whole_of, AreOwn}
 use Rattle.bm_parts.specs.PlacedLaws.{IsPlaced}
 use Rattle.bm_shard.specs.Seen.{Seen}

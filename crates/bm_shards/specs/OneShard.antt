@@ -2,9 +2,7 @@
 use Rattle.std.specs.Prelude.{◌≡◌, ℕ, List, Some, slice_get, slice_set}
 use Rattle.bm_base.specs.declared.event.Event.{Event}
 use Rattle.bm_base.specs.declared.event.Done.{Done}
-use Rattle.bm_base.specs.Machine.State.{Cluster}
-use Rattle.bm_base.specs.Machine.Events.{change_cluster}
-use Rattle.bm_base.specs.Machine.Calls.{done}
+use Rattle.bm_base.specs.Words.{Cluster, change_cluster, done}
 use Rattle.bm_parts.specs.Parts.{change_part}
 use Rattle.bm_shard.specs.Seen.{Seen}
 use Rattle.bm_shard.specs.UpToDate.{IsUpToDate}

@@ -2,8 +2,7 @@
 use Rattle.std.specs.Prelude.{◌≡◌, ℕ, List, map, Option}
 use Rattle.bm_base.specs.declared.replica.ReplicaId.{ReplicaId}
 use Rattle.bm_base.specs.declared.round.RoundPart.{RoundPart}
-use Rattle.bm_base.specs.Machine.State.{RoundLimits, Cluster}
-use Rattle.bm_base.specs.Machine.Rounds.{commands_of}
+use Rattle.bm_base.specs.Words.{RoundLimits, Cluster, commands_of}
 use Rattle.bm_base.specs.Choices.{chosen_transfers, chosen_deletes}
 use Rattle.bm_parts.specs.Before.{part_before}
 use Rattle.bm_shard.specs.Seen.{Seen}

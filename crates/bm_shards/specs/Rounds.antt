@@ -1,11 +1,8 @@
 -- A round of all shards: its commands, and the holdings after it.
 use Rattle.std.specs.Prelude.{ℕ}
 use Rattle.bm_base.specs.declared.commands.Commands.{Commands}
-use Rattle.bm_base.specs.Machine.State.{RoundLimits, Cluster, Holdings}
+use Rattle.bm_base.specs.Words.{RoundLimits, Cluster, Holdings, transfers, deletes, commands_of, end_round}
 use Rattle.bm_base.specs.RoundParts.{holdings_at_choice}
-use Rattle.bm_base.specs.Machine.Transfers.{transfers}
-use Rattle.bm_base.specs.Machine.Deletes.{deletes}
-use Rattle.bm_base.specs.Machine.Rounds.{commands_of, end_round}
 
 -- what round r commands
 abbrev pub commands_in : RoundLimits → Cluster → ℕ → Holdings → Commands

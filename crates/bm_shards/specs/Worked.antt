@@ -4,9 +4,7 @@ use Rattle.bm_base.specs.declared.config.Config.{Config}
 use Rattle.bm_base.specs.declared.event.Done.{Done}
 use Rattle.bm_base.specs.declared.event.Event.{Event}
 use Rattle.bm_base.specs.declared.refusal.Refusal.TheVariants.{Memory}
-use Rattle.bm_base.specs.Machine.State.{Cluster, empty_holdings}
-use Rattle.bm_base.specs.Machine.Events.{change_cluster}
-use Rattle.bm_base.specs.Machine.Calls.{done}
+use Rattle.bm_base.specs.Words.{Cluster, empty_holdings, change_cluster, done}
 use Rattle.bm_parts.specs.Parts.{change_part}
 use Rattle.bm_shard.specs.Seen.{Seen, IsReadyFor}
 use Rattle.bm_shard.specs.Unused.{HasNoUnused, HasNoUnusedCapacity}

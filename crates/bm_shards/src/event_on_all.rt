@@ -2,10 +2,7 @@
 ghost use Rattle.std.specs.Prelude.{◌≡◌, ◌≤◌, ℕ, [], None, IfOk, IfErr, OnOk, OnErr, length, vec_len, vec_capacity};
 ghost use Rattle.std.specs.List.{All, AllZip};
 ghost use Rattle.bm_base.specs.declared.refusal.Refusal.TheVariants.{Memory};
-ghost use Rattle.bm_base.specs.Machine.Replicas.{is_multi_rack};
-ghost use Rattle.bm_base.specs.Machine.Events.{change_cluster, change_holdings};
-ghost use Rattle.bm_base.specs.Machine.Refusals.{first_of, cluster_checks};
-ghost use Rattle.bm_base.specs.Machine.Calls.{done};
+ghost use Rattle.bm_base.specs.Words.{is_multi_rack, change_cluster, change_holdings, first_of, cluster_checks, done};
 ghost use Rattle.bm_parts.specs.Parts.{block_of};
 ghost use Rattle.bm_shards.specs.Worked.{CanCommit, IsSame, HasGivenUp};
 ghost use Rattle.bm_shards.specs.Whole.{AreShards, AreUpToDate, HaveTaken, held_by};

@@ -1,11 +1,7 @@
 // An event on one block, made on the block's shard alone.
 ghost use Rattle.std.specs.Prelude.{◌≡◌, ◌<◌, ◌≤◌, ℕ, None, Some, IfOk, IfErr, OnOk, OnErr, length, slice_get};
-ghost use Rattle.bm_base.specs.Machine.Replicas.{is_multi_rack};
+ghost use Rattle.bm_base.specs.Words.{is_multi_rack, change_cluster, change_holdings, done, first_of, cluster_checks, Refuses, takes_memory};
 ghost use Rattle.bm_base.specs.Shards.{shard_of};
-ghost use Rattle.bm_base.specs.Machine.Events.{change_cluster, change_holdings};
-ghost use Rattle.bm_base.specs.Machine.Calls.{done};
-ghost use Rattle.bm_base.specs.Machine.Refusals.{first_of, cluster_checks};
-ghost use Rattle.bm_base.specs.Machine.Answering.{Refuses, takes_memory};
 ghost use Rattle.bm_parts.specs.Parts.{block_of};
 ghost use Rattle.bm_shard.specs.Seen.{Seen};
 ghost use Rattle.bm_shard.specs.Unused.{HasNoUnused};

@@ -1,10 +1,6 @@
 // An event, made on all shards, on one of them, or on none.
 ghost use Rattle.std.specs.Prelude.{◌≡◌, ℕ, None, IfOk, IfErr, OnOk, OnErr};
-ghost use Rattle.bm_base.specs.Machine.Replicas.{is_multi_rack};
-ghost use Rattle.bm_base.specs.Machine.Events.{change_cluster, change_holdings};
-ghost use Rattle.bm_base.specs.Machine.Calls.{done};
-ghost use Rattle.bm_base.specs.Machine.Refusals.{first_of, cluster_checks};
-ghost use Rattle.bm_base.specs.Machine.Answering.{Refuses, takes_memory};
+ghost use Rattle.bm_base.specs.Words.{is_multi_rack, change_cluster, change_holdings, done, first_of, cluster_checks, Refuses, takes_memory};
 ghost use Rattle.bm_shards.specs.Whole.{IsUpToDate, HasTaken};
 
 use crate::all_shards::AllShards;

@@ -2,12 +2,10 @@
 ghost use Rattle.std.specs.Prelude.{◌≡◌, true, false, None, length, IfOk, IfErr, OnOk};
 ghost use Rattle.std.specs.List.{list_any};
 ghost use Rattle.bm_base.specs.declared.refusal.Refusal.TheVariants.{Memory};
-ghost use Rattle.bm_base.specs.Machine.State.{Cluster};
+ghost use Rattle.bm_base.specs.Words.{Cluster, first_of, block_checks, block_refusal, checked, Refuses};
 ghost use Rattle.bm_base.specs.Shards.{shard_of, cut};
 ghost use Rattle.bm_base.specs.Machine.Queries as queries;
 ghost use Rattle.bm_base.specs.Machine.Levels as levels;
-ghost use Rattle.bm_base.specs.Machine.Refusals.{first_of, block_checks, block_refusal};
-ghost use Rattle.bm_base.specs.Machine.Answering.{checked, Refuses};
 ghost use Rattle.bm_parts.specs.QueryLaws as asked;
 ghost use Rattle.bm_shard.specs.UpToDate as shard;
 ghost use Rattle.bm_shards.specs.Whole.{IsUpToDate, AreShards, AreUpToDate, held_by};

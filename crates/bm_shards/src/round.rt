@@ -2,8 +2,7 @@
 ghost use Rattle.std.specs.Prelude.{◌≡◌, ◌<◌, ◌≤◌, ◌+◌, ◌^◌, None, length, IfOk, IfErr, OnOk, OnErr, vec_len};
 ghost use Rattle.std.specs.List.{All, AllZip};
 ghost use Rattle.bm_base.specs.declared.refusal.Refusal.TheVariants.{Memory};
-ghost use Rattle.bm_base.specs.Machine.State.{limits_of};
-ghost use Rattle.bm_base.specs.Machine.Configuration.{config_refusal};
+ghost use Rattle.bm_base.specs.Words.{limits_of, config_refusal};
 ghost use Rattle.bm_shards.specs.Whole.{IsUpToDate, HasTaken, AreShards, AreUpToDate, HaveTaken, held_by};
 ghost use Rattle.bm_shards.specs.Answers.{EachBecame};
 ghost use Rattle.bm_shards.specs.Worked.{IsSame, HasGivenUp};

@@ -2,9 +2,7 @@
 ghost use Rattle.std.specs.Prelude.{◌≡◌, None, List, map, true, false, IfOk, IfErr};
 ghost use Rattle.std.specs.List.{All};
 ghost use Rattle.bm_base.specs.declared.refusal.Refusal.TheVariants.{Memory};
-ghost use Rattle.bm_base.specs.Machine.State.{limits_of};
-ghost use Rattle.bm_base.specs.Maps.Lists.{has_repeats};
-ghost use Rattle.bm_base.specs.Machine.Configuration.{config_refusal};
+ghost use Rattle.bm_base.specs.Words.{limits_of, has_repeats, config_refusal};
 ghost use Rattle.bm_base.specs.Choices as choices;
 ghost use Rattle.bm_base.specs.declared.round.RoundPart.{RoundPart};
 ghost use Rattle.bm_parts.specs.Before.{part_before};

@@ -1,8 +1,6 @@
 // A crew of threads.
 ghost use Rattle.std.specs.Prelude.{◌≡◌, None};
-ghost use Rattle.bm_base.specs.Machine.Replicas.{is_multi_rack};
-ghost use Rattle.bm_base.specs.Machine.Events.{change_cluster};
-ghost use Rattle.bm_base.specs.Machine.Refusals.{first_of, cluster_checks};
+ghost use Rattle.bm_base.specs.Words.{is_multi_rack, change_cluster, first_of, cluster_checks};
 ghost use Rattle.bm_parts.specs.Before.{part_before};
 ghost use Rattle.bm_parts.specs.Parts.{block_of};
 ghost use Rattle.bm_shard.specs.Seen.{IsReadyFor, IsReadyForRound};

@@ -6,8 +6,7 @@ use Rattle.std.specs.Ordering.{nat_cmp, eq_by_cmp}
 use Rattle.std.specs.FinMap.{put}
 use Rattle.std.specs.FinMap.Entries.{by_order}
 use Rattle.std.proofs.lemmas.Bool.{eq-eqb}
-use Rattle.bm_base.specs.Maps.Lists.{has}
-use Rattle.bm_base.specs.Maps.Map.{Map, by_number, entries, insert, remove, alter}
+use Rattle.bm_base.specs.Words.{has, Map, by_number, entries, insert, remove, alter}
 use Rattle.bm_base.specs.Maps.Altered.{with_value, alter_values}
 use Rattle.bm_base.proofs.Ties.{number_tie}
 use Rattle.bm_topo.specs.Racks.{racks_of, first_other_rack}

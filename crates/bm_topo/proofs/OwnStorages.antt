@@ -6,10 +6,7 @@ use Rattle.std.proofs.Common.{refl}
 use Rattle.bm_base.specs.declared.event.Remaining.{Remaining}
 use Rattle.bm_base.specs.declared.event.Event.TheVariants.{Heartbeat}
 use Rattle.bm_base.specs.declared.storage.StorageInfo.{StorageInfo}
-use Rattle.bm_base.specs.Maps.Map.{get}
-use Rattle.bm_base.specs.Machine.State.{Cluster}
-use Rattle.bm_base.specs.Machine.Replicas.{node_of, has_storage}
-use Rattle.bm_base.specs.Machine.Refusals.{first_of, cluster_checks, knows_node, knows_storage}
+use Rattle.bm_base.specs.Words.{get, Cluster, node_of, has_storage, first_of, cluster_checks, knows_node, knows_storage}
 
 -- a storage of a node is known
 own_known : (C : Cluster) (n s : ℕ) → not (has_storage C n s) ≡ false → not (knows_storage C s) ≡ false

@@ -5,8 +5,7 @@ use Rattle.std.specs.Ordering.{nat_cmp, eq_by_cmp}
 use Rattle.std.proofs.lemmas.Bool.{eqb-true, lt-ltb}
 use Rattle.std.proofs.lemmas.List.{length-map}
 use Rattle.std.proofs.lemmas.List.Sums.{sum_by-cons}
-use Rattle.bm_base.specs.Maps.Lists.{has, distinct}
-use Rattle.bm_base.specs.Maps.Map.{Map, by_number, empty, entries, get, insert, insert_all, keys, len, contains_key}
+use Rattle.bm_base.specs.Words.{has, distinct, Map, by_number, empty, entries, get, insert, insert_all, keys, len, contains_key}
 use Rattle.bm_base.proofs.MapLaws.{same_map, get-insert, get-empty}
 use Rattle.bm_base.proofs.Ties.{number_tie}
 use Rattle.bm_base.proofs.Differences.{len-insert}

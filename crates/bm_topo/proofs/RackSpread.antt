@@ -6,9 +6,8 @@ use Rattle.std.specs.Cmp.{both_ways}
 use Rattle.std.proofs.lemmas.List.{length-map}
 use Rattle.std.proofs.lemmas.List.Sums.{sum_by-cons, count_by-le-length}
 use Rattle.std.proofs.lemmas.Bool.{eqb-true, eqb-false, ne_eqb, lt-ltb, ltb-true}
-use Rattle.bm_base.specs.Maps.Lists.{has}
+use Rattle.bm_base.specs.Words.{has, Map, by_number, entries, len}
 use Rattle.bm_base.specs.Spread.{spread, spread_after}
-use Rattle.bm_base.specs.Maps.Map.{Map, by_number, entries, len}
 use Rattle.bm_base.proofs.Distinct.{capped_spread, is_two}
 use Rattle.bm_topo.specs.Racks.{on_rack, racks_of, is_multi}
 

@@ -6,11 +6,7 @@ use Rattle.std.proofs.lemmas.Bool.{leb-false, ltb-false, eq-eqb}
 use Rattle.bm_base.specs.declared.storage.StorageInfo.{StorageInfo}
 use Rattle.bm_base.specs.declared.event.Event.TheVariants.{Register}
 use Rattle.bm_base.specs.declared.event.Remaining.{Remaining}
-use Rattle.bm_base.specs.Maps.Map.{Map, Set, by_number, empty, entries, get, contains_key, len, insert, insert_all, keep, remove, revise_at}
-use Rattle.bm_base.specs.Machine.State.{Cluster}
-use Rattle.bm_base.specs.Machine.Replicas.{has_storage, node_of, drains}
-use Rattle.bm_base.specs.Machine.Events.{register, heartbeat, without_storage, drain, undrain, set_remaining}
-use Rattle.bm_base.specs.Machine.Refusals.{first_of, cluster_checks, knows_node}
+use Rattle.bm_base.specs.Words.{Map, Set, by_number, empty, entries, get, contains_key, len, insert, insert_all, keep, remove, revise_at, Cluster, has_storage, node_of, drains, register, heartbeat, without_storage, drain, undrain, set_remaining, first_of, cluster_checks, knows_node}
 use Rattle.bm_base.specs.declared.limits.TheConstants.{MAX_NODES, MAX_STORAGES}
 use Rattle.bm_base.specs.Promises.Lawful.{IsLawfulCluster}
 use Rattle.bm_base.proofs.MapEntries.{not_tied, key_itself, get_kept, known_before, known_removed}

@@ -8,10 +8,7 @@ use Rattle.std.proofs.lemmas.Option.{get_or_from_slice_get, slice_get-get_or, sl
 use Rattle.bm_base.specs.declared.storage.StorageInfo.{StorageInfo}
 use Rattle.bm_base.specs.declared.event.Remaining.{Remaining}
 use Rattle.bm_base.specs.declared.limits.TheConstants.{MAX_STORAGES}
-use Rattle.bm_base.specs.Maps.Map.{Map, Set, by_number, entries, len, get, contains_key}
-use Rattle.bm_base.specs.Machine.State.{Cluster}
-use Rattle.bm_base.specs.Machine.Replicas.{node_of, rack_of, is_draining, drains}
-use Rattle.bm_base.specs.Machine.Events.{set_remaining}
+use Rattle.bm_base.specs.Words.{Map, Set, by_number, entries, len, get, contains_key, Cluster, node_of, rack_of, is_draining, drains, set_remaining}
 use Rattle.bm_base.proofs.ClusterEvents.{same_nodes}
 use Rattle.bm_topo.specs.declared.spots.Spot.{Spot}
 use Rattle.bm_topo.specs.Sound.{cluster_of}

@@ -1,7 +1,6 @@
 -- The number of nodes on each rack: what a topology counts.
 use Rattle.std.specs.Prelude.{◌≡◌, ℕ, zero, suc, Bool, ◌==◌, nat_lt, if◌then◌else◌, ◌-◌, List, [], ◌∷◌, length, count_by, Option, Some, None}
-use Rattle.bm_base.specs.Maps.Map.{Map, by_number, entries, get, remove, revise_at, values}
-use Rattle.bm_base.specs.Maps.Lists.{distinct}
+use Rattle.bm_base.specs.Words.{Map, by_number, entries, get, remove, revise_at, values, distinct}
 
 -- the racks of the nodes
 abbrev pub racks_of : Map by_number ℕ → List ℕ

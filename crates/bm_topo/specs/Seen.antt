@@ -4,9 +4,7 @@ use Rattle.std.specs.Prelude.{◌≡◌, ℕ, ◌+◌, ◌≤◌, Bool, true, fa
 use Rattle.std.specs.Coded.{Coded, code_by, coded×, coded_ℕ}
 use Rattle.bm_base.specs.declared.event.Event.{Event}
 use Rattle.bm_base.specs.declared.event.Event.TheVariants.{Register, Drain}
-use Rattle.bm_base.specs.Maps.Lists.{distinct}
-use Rattle.bm_base.specs.Maps.Map.{len}
-use Rattle.bm_base.specs.Machine.State.{Cluster}
+use Rattle.bm_base.specs.Words.{distinct, len, Cluster}
 use Rattle.bm_base.specs.Codes.{coded_cluster}
 use Rattle.bm_topo.specs.Racks.{racks_of}
 

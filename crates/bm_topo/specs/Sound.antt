@@ -1,8 +1,7 @@
 -- What holds of the tables of a topology.
 use Rattle.std.specs.Prelude.{ℕ}
 use Rattle.bm_base.specs.declared.storage.StorageInfo.{StorageInfo}
-use Rattle.bm_base.specs.Maps.Map.{Map, Set, by_number}
-use Rattle.bm_base.specs.Machine.State.{Cluster}
+use Rattle.bm_base.specs.Words.{Map, Set, by_number, Cluster}
 use Rattle.bm_base.specs.Promises.Lawful.{IsLawfulCluster}
 use Rattle.bm_topo.specs.Keys.{HasSmallKeys}
 use Rattle.bm_topo.specs.Racks.{CountsRacks}

@@ -1,8 +1,7 @@
 -- Where storages are, as a table of spots has it.
 use Rattle.std.specs.Prelude.{◌≡◌, ℕ, ◌<◌, ◌≤◌, List, length, Some, slice_get}
-use Rattle.bm_base.specs.Machine.State.{Cluster}
+use Rattle.bm_base.specs.Words.{Cluster, node_of, rack_of, is_draining}
 use Rattle.bm_base.specs.declared.limits.TheConstants.{MAX_STORAGES}
-use Rattle.bm_base.specs.Machine.Replicas.{node_of, rack_of, is_draining}
 use Rattle.bm_topo.specs.declared.spots.Spot.{Spot}
 
 -- a spot is where its storage is in a cluster

@@ -4,8 +4,7 @@ ghost use Rattle.std.specs.Prelude.{◌≡◌, ◌≢◌, ℕ, ◌≤◌, ◌+�
 ghost use Rattle.bm_base.specs.declared.storage.StorageInfo.{StorageInfo};
 ghost use Rattle.bm_base.specs.Maps.Map as map;
 ghost use Rattle.bm_base.specs.Machine.Events as events;
-ghost use Rattle.bm_base.specs.Machine.Refusals.{first_of, cluster_checks};
-ghost use Rattle.bm_base.specs.Machine.Answering.{Refuses};
+ghost use Rattle.bm_base.specs.Words.{first_of, cluster_checks, Refuses};
 ghost use Rattle.bm_base.specs.declared.event.Event.TheVariants as event_of;
 ghost use Rattle.bm_topo.specs.Seen.{IsReadyFor, HasNoLessRoom, IsSameCapacity, grows_cluster};
 

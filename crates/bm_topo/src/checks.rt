@@ -5,10 +5,8 @@ ghost use Rattle.std.specs.List.Sorted.{IsNonDecreasing};
 ghost use Rattle.bm_base.specs.Maps.Map as map;
 ghost use Rattle.bm_base.specs.Maps.Lists as lists;
 ghost use Rattle.bm_base.specs.Machine.Replicas as replicas;
-ghost use Rattle.bm_base.specs.Machine.Refusals.{first_of, cluster_checks, knows_node, knows_storage, is_too_long};
-ghost use Rattle.bm_base.specs.Machine.Entries.{run_length};
+ghost use Rattle.bm_base.specs.Words.{first_of, cluster_checks, knows_node, knows_storage, is_too_long, run_length, checked};
 ghost use Rattle.bm_base.specs.declared.limits.TheConstants.{MAX_NODES, MAX_STORAGES};
-ghost use Rattle.bm_base.specs.Machine.Answering.{checked};
 ghost use Rattle.bm_base.specs.declared.event.Event.TheVariants as event;
 
 use crate::topology::Topology;

@@ -5,10 +5,7 @@ use Rattle.std.proofs.lemmas.List.Sums.{fold_more}
 use Rattle.bm_base.specs.declared.event.Event.{Event}
 use Rattle.bm_base.specs.declared.refusal.Refusal.{Refusal}
 use Rattle.bm_base.specs.declared.refusal.Refusal.TheVariants.{Memory}
-use Rattle.bm_base.specs.Machine.State.{State}
-use Rattle.bm_base.specs.Machine.Calls.{after_event}
-use Rattle.bm_base.specs.Machine.Refusals.{refusal_of}
-use Rattle.bm_base.specs.Machine.Answering.{Refuses}
+use Rattle.bm_base.specs.Words.{State, after_event, refusal_of, Refuses}
 use Rattle.callers.specs.Turns.{StopsAmong, event_refusal}
 
 -- a refusal is `Memory`, or the one that the definition gives

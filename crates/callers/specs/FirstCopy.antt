@@ -3,11 +3,7 @@ use Rattle.std.specs.Prelude.{◌≡◌, ◌≤◌, ℕ, true, false, List, [], 
 use Rattle.bm_base.specs.declared.commands.Transfer.{Transfer}
 use Rattle.bm_base.specs.declared.level.Level.{Level}
 use Rattle.bm_base.specs.declared.replica.Stamp.{Stamp}
-use Rattle.bm_base.specs.Machine.State.{Cluster}
-use Rattle.bm_base.specs.Machine.Excess.{remaining}
-use Rattle.bm_base.specs.Maps.Lists.{has}
-use Rattle.bm_base.specs.Machine.Replicas.{node_of, has_storage}
-use Rattle.bm_base.specs.Machine.Transfers.{least_source, least_target}
+use Rattle.bm_base.specs.Words.{Cluster, remaining, has, node_of, has_storage, least_source, least_target}
 
 -- the first copy for a block with these live replicas, at this level: least source, least target
 abbrev pub first_copy : Cluster → List ℕ → Level → ℕ → Stamp → Option Transfer

@@ -3,10 +3,7 @@ use Rattle.std.specs.Prelude.{◌≡◌, ◌⊎◌, ℕ, true, List, [], ◌∷�
 use Rattle.bm_base.specs.declared.event.Event.{Event}
 use Rattle.bm_base.specs.declared.refusal.Refusal.{Refusal}
 use Rattle.bm_base.specs.declared.refusal.Refusal.TheVariants.{Memory}
-use Rattle.bm_base.specs.Machine.State.{State}
-use Rattle.bm_base.specs.Machine.Calls.{after_event}
-use Rattle.bm_base.specs.Machine.Refusals.{refusal_of, round_refusal}
-use Rattle.bm_base.specs.Machine.Answering.{Refuses}
+use Rattle.bm_base.specs.Words.{State, after_event, refusal_of, round_refusal, Refuses}
 
 -- why the next of these events is refused; if there is none, why a round is
 abbrev pub next_refusal : State → List Event → Option Refusal

@@ -1,8 +1,6 @@
 // A gate that counts the pieces of work of a call.
 ghost use Rattle.std.specs.Prelude.{◌≡◌, None, IfOk, IfErr, OnOk, OnErr};
-ghost use Rattle.bm_base.specs.Machine.Answering.{Refuses, takes_memory};
-ghost use Rattle.bm_base.specs.Machine.Calls.{after_event, done_by};
-ghost use Rattle.bm_base.specs.Machine.Refusals.{refusal_of};
+ghost use Rattle.bm_base.specs.Words.{Refuses, takes_memory, after_event, done_by, refusal_of};
 
 use bm_base::{Done, Event, Refusal};
 use bm_crew::Gate;

@@ -1,9 +1,7 @@
 // Out of memory: the refused call has changed nothing, so the caller frees what it can spare and
 // makes the call again.
 ghost use Rattle.std.specs.Prelude.{◌≡◌, ◌⊎◌, None, IfOk, IfErr, OnOk, OnErr};
-ghost use Rattle.bm_base.specs.Machine.Answering.{Refuses, takes_memory};
-ghost use Rattle.bm_base.specs.Machine.Calls.{after_event, done_by};
-ghost use Rattle.bm_base.specs.Machine.Refusals.{refusal_of};
+ghost use Rattle.bm_base.specs.Words.{Refuses, takes_memory, after_event, done_by, refusal_of};
 ghost use Rattle.bm_base.specs.declared.refusal.Refusal.TheVariants.{Memory};
 
 use bm_base::{Done, Event, Refusal};

@@ -1,9 +1,6 @@
 // An event on the cluster and on one shard: on both, or on neither.
 ghost use Rattle.std.specs.Prelude.{◌≡◌, ◌||◌, None, IfOk, IfErr, OnOk, OnErr};
-ghost use Rattle.bm_base.specs.Machine.Answering.{Refuses};
-ghost use Rattle.bm_base.specs.Machine.Calls.{done};
-ghost use Rattle.bm_base.specs.Machine.Events.{change_cluster};
-ghost use Rattle.bm_base.specs.Machine.Refusals.{◌before◌, first_of, block_checks, cluster_checks};
+ghost use Rattle.bm_base.specs.Words.{Refuses, done, change_cluster, ◌before◌, first_of, block_checks, cluster_checks};
 ghost use Rattle.bm_parts.specs.Parts.{change_part};
 ghost use Rattle.bm_shard.specs.Seen.{needs_reservation};
 ghost use Rattle.bm_shard.specs.UpToDate.{IsUpToDate, IsSameButCapacity};

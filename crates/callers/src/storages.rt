@@ -1,7 +1,6 @@
 // Storages that still serve: known ones of nodes that do not drain.
 ghost use Rattle.std.specs.Prelude.{◌≡◌, ◌&&◌, not, filter, IfOk};
-ghost use Rattle.bm_base.specs.Machine.Refusals.{knows_storage};
-ghost use Rattle.bm_base.specs.Machine.Replicas.{is_draining};
+ghost use Rattle.bm_base.specs.Words.{knows_storage, is_draining};
 
 use bm_base::StorageId;
 use bm_topo::Topology;

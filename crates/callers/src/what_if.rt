@@ -1,10 +1,6 @@
 // What happens if a node dies: a second manager makes the same calls, and then applies the death.
 ghost use Rattle.std.specs.Prelude.{◌≡◌, ◌⊎◌, None, Some, IfOk, IfErr, OnOk};
-ghost use Rattle.bm_base.specs.Machine.State.{first_state};
-ghost use Rattle.bm_base.specs.Machine.Calls.{step, state_after, after_event};
-ghost use Rattle.bm_base.specs.Machine.Configuration.{config_refusal};
-ghost use Rattle.bm_base.specs.Machine.Queries.{missing_blocks};
-ghost use Rattle.bm_base.specs.Machine.Refusals.{refusal_of};
+ghost use Rattle.bm_base.specs.Words.{first_state, step, state_after, after_event, config_refusal, missing_blocks, refusal_of};
 ghost use Rattle.bm_base.specs.declared.refusal.Refusal.TheVariants.{Memory};
 
 use bm_base::{Answer, BlockId, Call, Config, Event, Items, NodeId, Refusal};

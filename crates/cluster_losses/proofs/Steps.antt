@@ -4,11 +4,7 @@ use Rattle.std.specs.List.{fold, list_any}
 use Rattle.std.proofs.lemmas.List.Folds.{list_any-append}
 use Rattle.bm_base.specs.declared.event.Event.{Event}
 use Rattle.bm_base.specs.declared.refusal.Refusal.{Refusal}
-use Rattle.bm_base.specs.Machine.State.{Cluster, Holdings, State}
-use Rattle.bm_base.specs.Machine.Events.{change_cluster, change_holdings}
-use Rattle.bm_base.specs.Machine.Refusals.{◌before◌, first_of, cluster_checks, refusal_of}
-use Rattle.bm_base.specs.Machine.Calls.{after_event}
-use Rattle.bm_base.specs.Machine.Queries.{missing_blocks}
+use Rattle.bm_base.specs.Words.{Cluster, Holdings, State, change_cluster, change_holdings, ◌before◌, first_of, cluster_checks, refusal_of, after_event, missing_blocks}
 use Rattle.bm_base.specs.Promises.Lawful.{IsLawful}
 use Rattle.cluster_lost.specs.Losses.{is_loss, are_losses, AreMissing}
 use Rattle.cluster_report.specs.declared.book.Book.{Book}

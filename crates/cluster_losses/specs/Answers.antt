@@ -1,8 +1,7 @@
 -- What is answered about losses.
 use Rattle.std.specs.Prelude.{◌≡◌, ℕ, List, length}
 use Rattle.bm_base.specs.declared.event.Event.{Event}
-use Rattle.bm_base.specs.Machine.State.{State}
-use Rattle.bm_base.specs.Machine.Queries.{missing_blocks}
+use Rattle.bm_base.specs.Words.{State, missing_blocks}
 use Rattle.cluster_lost.specs.Losses.{after_losses, lost_blocks}
 use Rattle.cluster_report.specs.Levels.{levels_counted}
 use Rattle.cluster_report.specs.Reports.{levels_held}

@@ -1,9 +1,7 @@
 // A cluster that was read, and what happens to it.
 ghost use Rattle.std.specs.Prelude.{◌≡◌, None, IfOk, OnOk, option_map, string_bytes};
 ghost use Rattle.std.specs.List.{fold};
-ghost use Rattle.bm_base.specs.Machine.State.{first_state};
-ghost use Rattle.bm_base.specs.Machine.Calls.{step, after_event};
-ghost use Rattle.bm_base.specs.Machine.Refusals.{refusal_of};
+ghost use Rattle.bm_base.specs.Words.{first_state, step, after_event, refusal_of};
 ghost use Rattle.cluster_report.specs.Reading.{told, told_of, after_line};
 ghost use Rattle.cluster_report.specs.Sessions.{IsInStep};
 

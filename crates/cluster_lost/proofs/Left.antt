@@ -10,13 +10,8 @@ use Rattle.bm_base.specs.declared.replica.BlockInfo.{BlockInfo}
 use Rattle.bm_base.specs.declared.storage.StorageInfo.{StorageInfo}
 use Rattle.bm_base.specs.declared.event.Event.{Event}
 use Rattle.bm_base.specs.declared.event.Event.TheVariants.{Register, Dead, StorageFailed, Heartbeat, Drain, Undrain, AddBlock, DeleteBlock, SetReplication, Restamp, Received, Deleted, Corrupt, FullReport}
-use Rattle.bm_base.specs.Maps.Map.{Map, entries, get, keep, remove, contains_key}
-use Rattle.bm_base.specs.Machine.State.{Cluster, Holdings, State, by_replica}
-use Rattle.bm_base.specs.Machine.Replicas.{is_usable, is_live_on, is_drained_on, is_draining, node_of, has_storage, storages_where, usable, live, drained, racks, is_multi_rack}
+use Rattle.bm_base.specs.Words.{Map, entries, get, keep, remove, contains_key, Cluster, Holdings, State, by_replica, is_usable, is_live_on, is_drained_on, is_draining, node_of, has_storage, storages_where, usable, live, drained, racks, is_multi_rack, level, level_of, is_at, change_cluster, change_holdings, without_node, without_storage, without_storages, drain, begin_drain, after_event}
 use Rattle.bm_base.specs.declared.level.Level.TheVariants.{NoUsableReplica}
-use Rattle.bm_base.specs.Machine.Levels.{level, level_of, is_at}
-use Rattle.bm_base.specs.Machine.Events.{change_cluster, change_holdings, without_node, without_storage, without_storages, drain, begin_drain}
-use Rattle.bm_base.specs.Machine.Calls.{after_event}
 use Rattle.bm_base.specs.Promises.Lawful.{IsLawfulHoldings}
 use Rattle.bm_base.proofs.MapLaws.{get-keep, get-remove, entries-keep}
 use Rattle.bm_base.proofs.Options.{there, all_stays}

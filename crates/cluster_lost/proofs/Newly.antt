@@ -5,11 +5,7 @@ use Rattle.std.specs.List.{list_any}
 use Rattle.std.proofs.lemmas.List.Folds.{list_any_more}
 use Rattle.bm_base.specs.declared.replica.BlockInfo.{BlockInfo}
 use Rattle.bm_base.specs.declared.event.Event.{Event}
-use Rattle.bm_base.specs.Maps.Lists.{has}
-use Rattle.bm_base.specs.Maps.Map.{Map, by_number, get, insert, entries, keys, contains_key}
-use Rattle.bm_base.specs.Machine.State.{Cluster, Holdings, State}
-use Rattle.bm_base.specs.Machine.Replicas.{usable}
-use Rattle.bm_base.specs.Machine.Queries.{missing_blocks}
+use Rattle.bm_base.specs.Words.{has, Map, by_number, get, insert, entries, keys, contains_key, Cluster, Holdings, State, usable, missing_blocks}
 use Rattle.bm_base.proofs.ForEach.{Each, each_mapped, each_then}
 use Rattle.bm_base.proofs.MapEntries.{each_entry, passes_entry}
 use Rattle.bm_base.proofs.MapLaws.{get-insert}

@@ -4,12 +4,7 @@ use Rattle.std.specs.List.{fold, list_any}
 use Rattle.bm_base.specs.declared.event.Event.{Event}
 use Rattle.bm_base.specs.declared.event.Event.TheVariants.{Dead, StorageFailed, Drain}
 use Rattle.bm_base.specs.declared.level.Level.TheVariants.{NoUsableReplica}
-use Rattle.bm_base.specs.Maps.Map.{keys, contains_key}
-use Rattle.bm_base.specs.Machine.State.{Cluster, State}
-use Rattle.bm_base.specs.Machine.Replicas.{has_storage, usable}
-use Rattle.bm_base.specs.Machine.Levels.{level, is_at}
-use Rattle.bm_base.specs.Machine.Queries.{missing_blocks}
-use Rattle.bm_base.specs.Machine.Calls.{after_event}
+use Rattle.bm_base.specs.Words.{keys, contains_key, Cluster, State, has_storage, usable, level, is_at, missing_blocks, after_event}
 use Rattle.bm_base.specs.Promises.Lawful.{IsLawfulHoldings}
 
 -- whether an event is a loss: a node dies, a storage fails, or a node begins to drain

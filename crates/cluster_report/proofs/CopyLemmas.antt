@@ -10,13 +10,7 @@ use Rattle.std.proofs.lemmas.Grind.{flat_map-append}
 use Rattle.bm_base.specs.declared.replica.ReplicaId.{ReplicaId}
 use Rattle.bm_base.specs.declared.commands.Transfer.{Transfer}
 use Rattle.bm_base.specs.declared.commands.Delete.{Delete}
-use Rattle.bm_base.specs.Maps.Map.{Map, Order, get, insert, insert_all, keep, keys}
-use Rattle.bm_base.specs.Machine.State.{Cluster, State, by_replica, replica_at}
-use Rattle.bm_base.specs.Machine.Replicas.{has_storage}
-use Rattle.bm_base.specs.Machine.Excess.{state_after_expiry, state_at_choice, with_surplus_marked, without_unordered_excess, without_expired}
-use Rattle.bm_base.specs.Machine.Transfers.{transfers}
-use Rattle.bm_base.specs.Machine.Deletes.{deletes}
-use Rattle.bm_base.specs.Machine.Rounds.{node_commands, has_commands, commands_of, end_round, whole_round}
+use Rattle.bm_base.specs.Words.{Map, Order, get, insert, insert_all, keep, keys, Cluster, State, by_replica, replica_at, has_storage, state_after_expiry, state_at_choice, with_surplus_marked, without_unordered_excess, without_expired, transfers, deletes, node_commands, has_commands, commands_of, end_round, whole_round}
 use Rattle.bm_base.specs.Promises.Lawful.{IsLawful}
 use Rattle.bm_base.proofs.MapLaws.{same_map, get-insert}
 use Rattle.bm_base.proofs.ForEach.{Each, each_of, each_mapped, each_flat, each_any}

@@ -4,8 +4,7 @@ use Rattle.std.specs.Prelude.{◌==◌, nat_le, flat_map}
 use Rattle.std.specs.List.{list_any}
 use Rattle.std.proofs.lemmas.List.Folds.{list_any-append}
 use Rattle.bm_base.specs.declared.event.Entry.{Entry}
-use Rattle.bm_base.specs.Machine.Entries.{blocks_of_entry, expanded}
-use Rattle.bm_base.specs.Machine.Events.{is_named}
+use Rattle.bm_base.specs.Words.{blocks_of_entry, expanded, is_named}
 use Rattle.bm_base.proofs.Entries.{has-told_by}
 
 any_mapped : {X Y : Type 0} (p : Y → Bool) (f : X → Y) (xs : List X) → list_any p (map f xs) ≡ list_any (λ x. p (f x)) xs

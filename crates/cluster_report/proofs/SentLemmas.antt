@@ -7,12 +7,8 @@ use Rattle.bm_base.specs.declared.replica.Marks.{Marks}
 use Rattle.bm_base.specs.declared.replica.ReplicaId.{ReplicaId}
 use Rattle.bm_base.specs.declared.replica.BlockInfo.{BlockInfo}
 use Rattle.bm_base.specs.declared.commands.Transfer.{Transfer}
-use Rattle.bm_base.specs.Maps.Map.{Map, get, contains_key, keys, revise, len}
-use Rattle.bm_base.specs.Machine.State.{RoundLimits, Cluster, Holdings, State, by_replica, replica_at}
-use Rattle.bm_base.specs.Machine.Replicas.{node_of, has_storage, is_draining, is_live_on, is_drained_on, live, drained, sources_of, storages_where}
-use Rattle.bm_base.specs.Machine.Excess.{state_after_expiry, state_at_choice, with_surplus_marked, without_unordered_excess, without_expired}
+use Rattle.bm_base.specs.Words.{Map, get, contains_key, keys, revise, len, RoundLimits, Cluster, Holdings, State, by_replica, replica_at, node_of, has_storage, is_draining, is_live_on, is_drained_on, live, drained, sources_of, storages_where, state_after_expiry, state_at_choice, with_surplus_marked, without_unordered_excess, without_expired, RequestedCopy, streams_from, stream_limit, source_cmp, least_source, least_source_by, least_target, holders_of, excluded_for, transfer_for, transfers_from, transfers, wishes}
 use Rattle.bm_base.specs.Promises.Lawful.{IsLawful, IsLawfulCluster, IsLawfulHoldings}
-use Rattle.bm_base.specs.Machine.Transfers.{RequestedCopy, streams_from, stream_limit, source_cmp, least_source, least_source_by, least_target, holders_of, excluded_for, transfer_for, transfers_from, transfers, wishes}
 use Rattle.bm_base.proofs.Options.{there, is_there, revised, chained}
 use Rattle.bm_base.proofs.ForEach.{Each, each_then, each_appended, each_filtered, each_optional, least_is_one}
 use Rattle.bm_base.proofs.ListTests.{same_again}

@@ -9,14 +9,8 @@ use Rattle.bm_base.specs.declared.call.Call.{Call}
 use Rattle.bm_base.specs.declared.call.Call.TheVariants as call
 use Rattle.bm_base.specs.declared.call.Answer.{Answer}
 use Rattle.bm_base.specs.declared.call.Answer.TheVariants as answer
-use Rattle.bm_base.specs.Maps.Map.{keep, insert_all}
-use Rattle.bm_base.specs.Machine.State.{Cluster, State}
+use Rattle.bm_base.specs.Words.{keep, insert_all, Cluster, State, state_after_expiry, state_at_choice, whole_round, ◌before◌, first_of, cluster_checks, refusal_of, round_refusal, node_refusal, storage_refusal, block_refusal, step, refused_or, after_event, count_call, MayAnswer, state_after_answer, is_out_of_memory}
 use Rattle.bm_base.specs.Promises.Lawful.{IsLawful}
-use Rattle.bm_base.specs.Machine.Excess.{state_after_expiry, state_at_choice}
-use Rattle.bm_base.specs.Machine.Rounds.{whole_round}
-use Rattle.bm_base.specs.Machine.Refusals.{◌before◌, first_of, cluster_checks, refusal_of, round_refusal, node_refusal, storage_refusal, block_refusal}
-use Rattle.bm_base.specs.Machine.Calls.{step, refused_or, after_event, count_call}
-use Rattle.bm_base.specs.Machine.Answering.{MayAnswer, state_after_answer, is_out_of_memory}
 use Rattle.cluster_report.specs.declared.book.Book.{Book}
 use Rattle.cluster_report.specs.declared.transfers.Transfers.{Transfers}
 use Rattle.cluster_report.specs.Books.{IsAccepted, cluster_after, AreCopiesAfter}

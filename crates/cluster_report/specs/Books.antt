@@ -5,10 +5,7 @@ use Rattle.bm_base.specs.declared.call.Call.{Call}
 use Rattle.bm_base.specs.declared.call.Call.TheVariants as call
 use Rattle.bm_base.specs.declared.call.Answer.{Answer}
 use Rattle.bm_base.specs.declared.call.Answer.TheVariants as answer
-use Rattle.bm_base.specs.Maps.Map.{keep, insert_all}
-use Rattle.bm_base.specs.Machine.State.{Cluster, Holdings}
-use Rattle.bm_base.specs.Machine.Events.{change_cluster, change_holdings}
-use Rattle.bm_base.specs.Machine.Refusals.{first_of, cluster_checks}
+use Rattle.bm_base.specs.Words.{keep, insert_all, Cluster, Holdings, change_cluster, change_holdings, first_of, cluster_checks}
 use Rattle.cluster_report.specs.Copies.{commanded_to}
 use Rattle.cluster_report.specs.declared.transfers.Transfers.{Transfers}
 

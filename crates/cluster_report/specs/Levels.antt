@@ -2,8 +2,7 @@
 use Rattle.std.specs.Prelude.{ℕ, List, ◌++◌, filter, count_by, take, is_none}
 use Rattle.bm_base.specs.declared.level.Level.TheVariants.{Highest, VeryUnderReplicated, UnderReplicated, BadlyDistributed}
 use Rattle.bm_base.specs.declared.level.Level.{Level}
-use Rattle.bm_base.specs.Machine.State.{Cluster, Holdings}
-use Rattle.bm_base.specs.Machine.Levels.{is_at, level}
+use Rattle.bm_base.specs.Words.{Cluster, Holdings, is_at, level}
 use Rattle.cluster_report.specs.declared.levels.Leveled.{Leveled}
 use Rattle.cluster_report.specs.declared.levels.LevelCounts.{LevelCounts}
 

@@ -1,10 +1,6 @@
 -- The nodes of a state with their storages, as a report tells of them.
 use Rattle.std.specs.Prelude.{ℕ, List, map, filter, length, unwrap_or, if◌then◌else◌}
-use Rattle.bm_base.specs.Maps.Map.{get}
-use Rattle.bm_base.specs.Machine.State.{State}
-use Rattle.bm_base.specs.Machine.Replicas.{has_storage, drains}
-use Rattle.bm_base.specs.Machine.Excess.{remaining}
-use Rattle.bm_base.specs.Machine.Queries.{blocks_on, is_retired}
+use Rattle.bm_base.specs.Words.{get, State, has_storage, drains, remaining, blocks_on, is_retired}
 use Rattle.cluster_report.specs.declared.nodes.NodeState.{NodeState}
 use Rattle.cluster_report.specs.declared.nodes.NodeState.TheVariants.{Live, Draining, Retired}
 use Rattle.cluster_report.specs.declared.nodes.StorageRow.{StorageRow}

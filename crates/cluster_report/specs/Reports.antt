@@ -1,8 +1,6 @@
 -- What a report says of a state.
 use Rattle.std.specs.Prelude.{List, map, length, take}
-use Rattle.bm_base.specs.Maps.Map.{keys, len}
-use Rattle.bm_base.specs.Machine.State.{State}
-use Rattle.bm_base.specs.Machine.Queries.{all_replicas, excess_replicas, missing_blocks}
+use Rattle.bm_base.specs.Words.{keys, len, State, all_replicas, excess_replicas, missing_blocks}
 use Rattle.cluster_report.specs.Counting.{tags_counted, blocks_held}
 use Rattle.cluster_report.specs.Levels.{leveled, levels_counted, most_urgent}
 use Rattle.cluster_report.specs.Nodes.{node_row}

@@ -2,9 +2,7 @@
 // accepted calls tell of them.
 ghost use Rattle.std.specs.Prelude.{◌≡◌, IfOk, OnOk, OnErr, unwrap_or};
 ghost use Rattle.bm_base.specs.Maps.Map as map;
-ghost use Rattle.bm_base.specs.Machine.State.{Cluster, Holdings, empty_cluster};
-ghost use Rattle.bm_base.specs.Machine.Events.{change_cluster, change_holdings};
-ghost use Rattle.bm_base.specs.Machine.Refusals.{first_of, cluster_checks};
+ghost use Rattle.bm_base.specs.Words.{Cluster, Holdings, empty_cluster, change_cluster, change_holdings, first_of, cluster_checks};
 ghost use Rattle.cluster_report.specs.Books.{IsAccepted, cluster_after, AreCopiesAfter};
 
 use crate::transfers::Transfers;

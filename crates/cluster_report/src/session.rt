@@ -1,7 +1,6 @@
 // The manager and the book beside it, one line after another.
 ghost use Rattle.std.specs.Prelude.{◌≡◌, Some, IfOk, OnOk, option_map, string_bytes};
-ghost use Rattle.bm_base.specs.Machine.State.{first_state};
-ghost use Rattle.bm_base.specs.Machine.Calls.{step};
+ghost use Rattle.bm_base.specs.Words.{first_state, step};
 ghost use Rattle.cluster_report.specs.Sessions.{IsInStep};
 ghost use Rattle.cluster_report.specs.Reading.{told, told_of, after_line};
 

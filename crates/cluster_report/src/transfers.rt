@@ -3,11 +3,7 @@
 ghost use Rattle.std.specs.Prelude.{◌≡◌, ◌==◌, ◌&&◌, ◌-◌, OnOk, None, true, not, nat_le, map, if◌then◌else◌};
 ghost use Rattle.std.specs.List.{flat_map, list_any};
 ghost use Rattle.bm_base.specs.Maps.Map as map_of;
-ghost use Rattle.bm_base.specs.Machine.State.{Holdings, replica_at};
-ghost use Rattle.bm_base.specs.Machine.Entries.{expanded};
-ghost use Rattle.bm_base.specs.Machine.Events.{change_holdings, is_named};
-ghost use Rattle.bm_base.specs.Machine.Refusals.{first_of, cluster_checks, knows_node};
-ghost use Rattle.bm_base.specs.Machine.Replicas.{drains, has_storage};
+ghost use Rattle.bm_base.specs.Words.{Holdings, replica_at, expanded, change_holdings, is_named, first_of, cluster_checks, knows_node, drains, has_storage};
 ghost use Rattle.cluster_report.specs.Copies.{commanded_to};
 
 use bm_base::{BlockId, Commands, Entry, Event, NodeCommands, NodeId, ReplicaId, StorageId};

@@ -3,9 +3,7 @@ use Rattle.std.specs.Prelude.{◌≡◌, ℕ, Option, List, map, length, count_b
 use Rattle.std.specs.List.{range_with_len}
 use Rattle.bm_base.specs.declared.level.Level.{Level}
 use Rattle.bm_base.specs.declared.level.Level.TheVariants.{Highest, VeryUnderReplicated, UnderReplicated, BadlyDistributed, NoUsableReplica}
-use Rattle.bm_base.specs.Machine.State.{State}
-use Rattle.bm_base.specs.Machine.Levels.{is_at, level}
-use Rattle.bm_base.specs.Machine.Queries.{excess_replicas, corrupt_replicas}
+use Rattle.bm_base.specs.Words.{State, is_at, level, excess_replicas, corrupt_replicas}
 use Rattle.cluster_simulation.specs.declared.counts.Counts.{Counts}
 
 -- the levels of the blocks below n

@@ -1,8 +1,7 @@
 // Counts of blocks and replicas, from the manager's answers.
 ghost use Rattle.std.specs.Prelude.{◌≡◌, IfOk, OnOk, map, length, count_by};
 ghost use Rattle.std.specs.List.{range_with_len};
-ghost use Rattle.bm_base.specs.Machine.Levels.{is_at, level};
-ghost use Rattle.bm_base.specs.Machine.Queries.{excess_replicas, corrupt_replicas};
+ghost use Rattle.bm_base.specs.Words.{is_at, level, excess_replicas, corrupt_replicas};
 ghost use Rattle.cluster_simulation.specs.Counting.{IsCounted, levels_below};
 
 use crate::counts::Counts;

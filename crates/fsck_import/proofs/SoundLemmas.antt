@@ -4,8 +4,7 @@ use Rattle.std.specs.Prelude.{slice_get}
 use Rattle.std.specs.List.{list_any, position_or_len, AllByRecursion}
 use Rattle.std.specs.Option.{option_map_or}
 use Rattle.std.specs.Str.{bytes_eq}
-use Rattle.bm_base.specs.Machine.Entries.{range_from}
-use Rattle.bm_base.specs.Maps.Lists.{has_repeats}
+use Rattle.bm_base.specs.Words.{range_from, has_repeats}
 use Rattle.fsck_text.specs.Cuts.{Text}
 use Rattle.fsck_text.specs.declared.place.Place.{Place}
 use Rattle.fsck_cluster.specs.Blocks.{Named}

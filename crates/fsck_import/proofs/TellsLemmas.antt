@@ -6,8 +6,7 @@ use Rattle.std.specs.Str.{bytes_eq}
 use Rattle.std.proofs.lemmas.Grind.{flat_map-append}
 use Rattle.std.proofs.lemmas.List.{append-nil}
 use Rattle.std.proofs.lemmas.List.Sorted.{IsPermutation-refl}
-use Rattle.bm_base.specs.Machine.Entries.{range_from}
-use Rattle.bm_base.specs.Maps.Lists.{has_repeats}
+use Rattle.bm_base.specs.Words.{range_from, has_repeats}
 use Rattle.fsck_text.specs.Cuts.{Text}
 use Rattle.fsck_files.specs.Numbers.{has_number}
 use Rattle.fsck_files.specs.declared.replicas.Block.{Block}

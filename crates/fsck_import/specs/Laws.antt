@@ -6,8 +6,7 @@ use Rattle.std.specs.Prelude.{◌≡◌, ◌≤◌, ◌&&◌, ℕ, Bool, true, f
 use Rattle.std.specs.List.{flat_map, list_any}
 use Rattle.std.specs.List.Sorted.{IsPermutation}
 use Rattle.std.specs.Str.{bytes_eq}
-use Rattle.bm_base.specs.Machine.Entries.{ReportedBlock, range_from, expanded}
-use Rattle.bm_base.specs.Maps.Lists.{has_repeats}
+use Rattle.bm_base.specs.Words.{ReportedBlock, range_from, expanded, has_repeats}
 use Rattle.bm_base.specs.declared.call.Call.{Call}
 use Rattle.bm_base.specs.declared.call.Call.TheVariants as call
 use Rattle.bm_base.specs.declared.event.Event.TheVariants.{AddBlock, FullReport, Received, Corrupt, Drain}

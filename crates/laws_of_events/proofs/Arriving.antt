@@ -18,17 +18,7 @@ use Rattle.bm_base.specs.declared.refusal.Refusal.{Refusal}
 use Rattle.bm_base.specs.declared.call.Call.{Call}
 use Rattle.bm_base.specs.declared.call.Call.TheVariants as call
 use Rattle.bm_base.specs.declared.call.Answer.{Answer}
-use Rattle.bm_base.specs.Maps.Map.{Map, get, keep, revise, revise_at, remove, contains_key, entries, keys, len}
-use Rattle.bm_base.specs.Machine.State.{RoundLimits, Cluster, Holdings, State, by_replica, replica_at, first_state, empty_holdings}
-use Rattle.bm_base.specs.Machine.Replicas.{node_of, has_storage, sources_of, storages_where}
-use Rattle.bm_base.specs.Machine.Entries.{expanded}
-use Rattle.bm_base.specs.Machine.Events.{change_holdings, without_storages, add_block, delete_block, set_replication, restamp, make_bad, remove_replica, without_pending, change_marks_of_block, enter, report, replaces, is_named}
-use Rattle.bm_base.specs.Machine.Excess.{without_expired, without_unordered_excess, with_surplus_marked, state_after_expiry, state_at_choice}
-use Rattle.bm_base.specs.Machine.Transfers.{RequestedCopy, pending_targets, targets_of, holders_of, excluded_for, is_excluded, is_target, target_cmp, least_target_by, least_target, scheduled_to, least_source, transfer_for, transfers_from, transfers, wishes}
-use Rattle.bm_base.specs.Machine.Deletes.{deletes}
-use Rattle.bm_base.specs.Machine.Rounds.{end_round, whole_round}
-use Rattle.bm_base.specs.Machine.Refusals.{refusal_of, round_refusal, node_refusal, storage_refusal, block_refusal}
-use Rattle.bm_base.specs.Machine.Calls.{step, refused_or, after_event, state_after}
+use Rattle.bm_base.specs.Words.{Map, get, keep, revise, revise_at, remove, contains_key, entries, keys, len, RoundLimits, Cluster, Holdings, State, by_replica, replica_at, first_state, empty_holdings, node_of, has_storage, sources_of, storages_where, expanded, change_holdings, without_storages, add_block, delete_block, set_replication, restamp, make_bad, remove_replica, without_pending, change_marks_of_block, enter, report, replaces, is_named, without_expired, without_unordered_excess, with_surplus_marked, state_after_expiry, state_at_choice, RequestedCopy, pending_targets, targets_of, holders_of, excluded_for, is_excluded, is_target, target_cmp, least_target_by, least_target, scheduled_to, least_source, transfer_for, transfers_from, transfers, wishes, deletes, end_round, whole_round, refusal_of, round_refusal, node_refusal, storage_refusal, block_refusal, step, refused_or, after_event, state_after}
 use Rattle.bm_base.proofs.MapLaws.{get-empty}
 use Rattle.bm_base.proofs.Options.{there, is_there}
 use Rattle.bm_base.proofs.ForEach.{Each, each_both, each_filtered, each_passing, each_appended, each_optional, least_is_one}

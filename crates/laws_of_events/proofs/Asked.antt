@@ -9,10 +9,7 @@ use Rattle.bm_base.specs.declared.replica.ReplicaId.{ReplicaId}
 use Rattle.bm_base.specs.declared.replica.Marks.{Marks}
 use Rattle.bm_base.specs.declared.event.Event.TheVariants.{FullReport}
 use Rattle.bm_base.specs.Maps.Conjunction.{both, first, second}
-use Rattle.bm_base.specs.Maps.Map.{Map, by_number, get, insert, insert_all, empty, keys, entries, contains_key}
-use Rattle.bm_base.specs.Maps.Lists.{has, distinct}
-use Rattle.bm_base.specs.Machine.State.{Holdings, replica_at, replica_cmp}
-use Rattle.bm_base.specs.Machine.Queries.{blocks_on}
+use Rattle.bm_base.specs.Words.{Map, by_number, get, insert, insert_all, empty, keys, entries, contains_key, has, distinct, Holdings, replica_at, replica_cmp, blocks_on}
 use Rattle.bm_base.proofs.MapLaws.{get-insert, get-empty}
 use Rattle.bm_base.proofs.Ties.{number_tie, replica_tie}
 use Rattle.bm_base.proofs.Clusters.{eqb_turned}

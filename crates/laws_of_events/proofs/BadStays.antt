@@ -7,11 +7,7 @@ use Rattle.bm_base.specs.declared.replica.Tag.{Tag}
 use Rattle.bm_base.specs.declared.replica.Tag.TheVariants.{Stale, Bad}
 use Rattle.bm_base.specs.declared.replica.Marks.{Marks}
 use Rattle.bm_base.specs.declared.event.Event.TheVariants.{Register, Dead, StorageFailed, Heartbeat, Drain, Undrain, AddBlock, DeleteBlock, SetReplication, Restamp, Received, Deleted, Corrupt, FullReport}
-use Rattle.bm_base.specs.Maps.Map.{Map, get, revise, revise_at, remove, contains_key}
-use Rattle.bm_base.specs.Machine.State.{Holdings, State, by_replica, replica_at, replica_cmp}
-use Rattle.bm_base.specs.Machine.Replicas.{is_good, has_storage}
-use Rattle.bm_base.specs.Machine.Events.{add_block, delete_block, set_replication, restamp, make_bad, remove_replica, without_storages, without_pending, change_marks_of_block, change_holdings, as_stray, as_bad, as_restamped}
-use Rattle.bm_base.specs.Machine.Calls.{after_event}
+use Rattle.bm_base.specs.Words.{Map, get, revise, revise_at, remove, contains_key, Holdings, State, by_replica, replica_at, replica_cmp, is_good, has_storage, add_block, delete_block, set_replication, restamp, make_bad, remove_replica, without_storages, without_pending, change_marks_of_block, change_holdings, as_stray, as_bad, as_restamped, after_event}
 use Rattle.bm_base.specs.Promises.Lawful.{IsOrderly}
 use Rattle.bm_base.proofs.Options.{there}
 use Rattle.bm_base.proofs.MapEntries.{get_kept, get_removed, get_revised, get_taken}

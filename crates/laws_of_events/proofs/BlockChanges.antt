@@ -11,13 +11,7 @@ use Rattle.bm_base.specs.declared.replica.BlockInfo.{BlockInfo}
 use Rattle.bm_base.specs.declared.event.Entry.{Entry}
 use Rattle.bm_base.specs.declared.event.Event.{Event}
 use Rattle.bm_base.specs.declared.event.Event.TheVariants.{DeleteBlock, Restamp, FullReport}
-use Rattle.bm_base.specs.Maps.Map.{Map, by_number, get, keep, revise, revise_at}
-use Rattle.bm_base.specs.Maps.Lists.{has}
-use Rattle.bm_base.specs.Machine.State.{Cluster, Holdings, State, by_replica, replica_at, replica_cmp}
-use Rattle.bm_base.specs.Machine.Replicas.{is_good}
-use Rattle.bm_base.specs.Machine.Entries.{ReportedBlock, expanded}
-use Rattle.bm_base.specs.Machine.Events.{add_block, delete_block, set_replication, restamp, make_bad, remove_replica, without_pending, change_marks_of_block, enter, is_named, leaves_by_report, report, change_holdings, as_stray, as_bad, as_restamped}
-use Rattle.bm_base.specs.Machine.Calls.{after_event}
+use Rattle.bm_base.specs.Words.{Map, by_number, get, keep, revise, revise_at, has, Cluster, Holdings, State, by_replica, replica_at, replica_cmp, is_good, ReportedBlock, expanded, add_block, delete_block, set_replication, restamp, make_bad, remove_replica, without_pending, change_marks_of_block, enter, is_named, leaves_by_report, report, change_holdings, as_stray, as_bad, as_restamped, after_event}
 use Rattle.bm_base.proofs.MapLaws.{get-keep, get-revise}
 use Rattle.bm_base.proofs.Options.{none_stays, all_stays}
 use Rattle.bm_base.proofs.MapEntries.{key_itself, not_tied, get_here, get_taken, get_left}

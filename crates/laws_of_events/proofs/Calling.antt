@@ -9,15 +9,7 @@ use Rattle.bm_base.specs.declared.event.Event.{Event}
 use Rattle.bm_base.specs.declared.refusal.Refusal.{Refusal}
 use Rattle.bm_base.specs.declared.call.Call.TheVariants as call
 use Rattle.bm_base.specs.declared.call.Answer.{Answer}
-use Rattle.bm_base.specs.Maps.Map.{Map, get, revise}
-use Rattle.bm_base.specs.Machine.State.{Cluster, Holdings, State, by_replica}
-use Rattle.bm_base.specs.Maps.Lists.{has}
-use Rattle.bm_base.specs.Machine.Excess.{without_expired, without_unordered_excess, excess_in, with_surplus_marked, state_after_expiry, state_at_choice}
-use Rattle.bm_base.specs.Machine.Transfers.{transfers}
-use Rattle.bm_base.specs.Machine.Deletes.{deletes}
-use Rattle.bm_base.specs.Machine.Rounds.{is_commanded, end_round, whole_round}
-use Rattle.bm_base.specs.Machine.Refusals.{refusal_of, round_refusal, node_refusal, storage_refusal, block_refusal}
-use Rattle.bm_base.specs.Machine.Calls.{step, refused_or, after_event, count_call}
+use Rattle.bm_base.specs.Words.{Map, get, revise, Cluster, Holdings, State, by_replica, has, without_expired, without_unordered_excess, excess_in, with_surplus_marked, state_after_expiry, state_at_choice, transfers, deletes, is_commanded, end_round, whole_round, refusal_of, round_refusal, node_refusal, storage_refusal, block_refusal, step, refused_or, after_event, count_call}
 use Rattle.bm_base.proofs.MapLaws.{get-revise}
 use Rattle.laws_of_states.proofs.LawfulRounds.{cleared_tag, marked_tag, ordered_tag}
 use Rattle.laws_of_events.specs.Calls as law

@@ -7,9 +7,7 @@ use Rattle.std.specs.FinMap.Entries.{same_entries, below_all}
 use Rattle.std.proofs.lemmas.List.{length-map}
 use Rattle.std.proofs.lemmas.List.Sums.{length-filter}
 use Rattle.bm_base.specs.declared.replica.Marks.{Marks}
-use Rattle.bm_base.specs.Maps.Map.{Map, Order, get, keep, len, entries, contains_key}
-use Rattle.bm_base.specs.Machine.State.{Holdings, by_replica}
-use Rattle.bm_base.specs.Machine.Calls.{new_replicas, done, done_by, after_event}
+use Rattle.bm_base.specs.Words.{Map, Order, get, keep, len, entries, contains_key, Holdings, by_replica, new_replicas, done, done_by, after_event}
 use Rattle.bm_base.proofs.Differences.{both_parts}
 use Rattle.bm_base.proofs.MapLaws.{get-keep, entries-keep}
 use Rattle.laws_of_events.specs.Changes as law

@@ -3,11 +3,7 @@ use Rattle.std.proofs.Common.{◌≡◌, ◌≢◌, ℕ, Bool, true, false, cond
 use Rattle.std.specs.Prelude.{if◌then◌else◌}
 use Rattle.std.specs.Ordering.{eq_by_cmp, nat_cmp}
 use Rattle.bm_base.specs.declared.event.Event.TheVariants.{Register, Dead, StorageFailed, Heartbeat, Drain, Undrain, AddBlock, DeleteBlock, SetReplication, Restamp, Received, Deleted, Corrupt, FullReport}
-use Rattle.bm_base.specs.Maps.Map.{Set, by_number, get, insert, remove, contains_key}
-use Rattle.bm_base.specs.Machine.State.{Holdings}
-use Rattle.bm_base.specs.Machine.Replicas.{has_storage, drains}
-use Rattle.bm_base.specs.Machine.Events.{register, heartbeat, without_node, without_storage, drain, undrain, begin_drain, change_cluster, change_holdings}
-use Rattle.bm_base.specs.Machine.Calls.{new_replicas, done, done_by, after_event, count_call}
+use Rattle.bm_base.specs.Words.{Set, by_number, get, insert, remove, contains_key, Holdings, has_storage, drains, register, heartbeat, without_node, without_storage, drain, undrain, begin_drain, change_cluster, change_holdings, new_replicas, done, done_by, after_event, count_call}
 use Rattle.bm_base.proofs.MapLaws.{same_map, get-insert, get-remove}
 use Rattle.bm_base.proofs.Options.{not_there}
 use Rattle.bm_base.proofs.MapEntries.{same_key, get_here, get_other, get_taken, get_left}

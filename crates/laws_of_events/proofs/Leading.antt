@@ -5,10 +5,7 @@ use Rattle.bm_base.specs.declared.refusal.Refusal.{Refusal}
 use Rattle.bm_base.specs.declared.call.Call.{Call}
 use Rattle.bm_base.specs.declared.call.Call.TheVariants as call
 use Rattle.bm_base.specs.declared.call.Answer.{Answer}
-use Rattle.bm_base.specs.Machine.State.{State, first_state}
-use Rattle.bm_base.specs.Machine.Refusals.{refusal_of, round_refusal, node_refusal, storage_refusal, block_refusal}
-use Rattle.bm_base.specs.Machine.Calls.{step, refused_or, state_after}
-use Rattle.bm_base.specs.Machine.Answering.{is_refused, is_out_of_memory, state_after_answer, MayAnswerAll, state_after_answers}
+use Rattle.bm_base.specs.Words.{State, first_state, refusal_of, round_refusal, node_refusal, storage_refusal, block_refusal, step, refused_or, state_after, is_refused, is_out_of_memory, state_after_answer, MayAnswerAll, state_after_answers}
 use Rattle.bm_base.specs.Promises.Lawful.{IsLawful, IsOrderly}
 use Rattle.bm_base.specs.Promises.Fitting.{HasFittingStart, FitsCall, FitCalls}
 use Rattle.bm_base.proofs.ForEach.{Each, each_all}

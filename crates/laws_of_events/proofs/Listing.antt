@@ -10,12 +10,7 @@ use Rattle.bm_base.specs.declared.replica.Tag.TheVariants.{Good, Stale, Bad, Str
 use Rattle.bm_base.specs.declared.replica.Marks.{Marks}
 use Rattle.bm_base.specs.declared.replica.BlockInfo.{BlockInfo}
 use Rattle.bm_base.specs.declared.level.Level.TheVariants.{Highest, VeryUnderReplicated, UnderReplicated, BadlyDistributed, NoUsableReplica}
-use Rattle.bm_base.specs.Maps.Map.{get, entries, keys}
-use Rattle.bm_base.specs.Maps.Lists.{has}
-use Rattle.bm_base.specs.Machine.State.{Cluster, Holdings, replica_at}
-use Rattle.bm_base.specs.Machine.Replicas.{is_good, is_corrupt, is_usable, is_live_on, is_drained_on, is_draining, live, drained, storages_where, racks, is_multi_rack}
-use Rattle.bm_base.specs.Machine.Levels.{level_of, level, is_at}
-use Rattle.bm_base.specs.Machine.Queries.{all_replicas, replicas_where, missing_blocks, blocks_on}
+use Rattle.bm_base.specs.Words.{get, entries, keys, has, Cluster, Holdings, replica_at, is_good, is_corrupt, is_usable, is_live_on, is_drained_on, is_draining, live, drained, storages_where, racks, is_multi_rack, level_of, level, is_at, all_replicas, replicas_where, missing_blocks, blocks_on}
 use Rattle.bm_base.specs.Promises.Lawful.{IsLawfulHoldings}
 use Rattle.bm_base.proofs.Options.{there, is_there}
 use Rattle.bm_base.proofs.MapEntries.{entry_passes, passes_entry}

@@ -7,12 +7,7 @@ use Rattle.std.proofs.lemmas.Bool.{or_parts, false_from_ne_true}
 use Rattle.bm_base.specs.declared.replica.ReplicaId.{ReplicaId}
 use Rattle.bm_base.specs.declared.storage.StorageInfo.{StorageInfo}
 use Rattle.bm_base.specs.declared.event.Remaining.{Remaining}
-use Rattle.bm_base.specs.Maps.Map.{Map, by_number, get, insert, insert_all, keep, revise_at, remove}
-use Rattle.bm_base.specs.Maps.Lists.{has}
-use Rattle.bm_base.specs.Machine.State.{Cluster, by_replica}
-use Rattle.bm_base.specs.Machine.Replicas.{node_of, has_storage}
-use Rattle.bm_base.specs.Machine.Events.{register, heartbeat, set_remaining, without_node, without_storage, without_storages, change_cluster, change_holdings}
-use Rattle.bm_base.specs.Machine.Calls.{after_event}
+use Rattle.bm_base.specs.Words.{Map, by_number, get, insert, insert_all, keep, revise_at, remove, has, Cluster, by_replica, node_of, has_storage, register, heartbeat, set_remaining, without_node, without_storage, without_storages, change_cluster, change_holdings, after_event}
 use Rattle.bm_base.proofs.MapLaws.{get-insert, get-keep, get-revise}
 use Rattle.bm_base.proofs.Ties.{number_tie}
 use Rattle.bm_base.proofs.Options.{revised, none_stays, all_stays}

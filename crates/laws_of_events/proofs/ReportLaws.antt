@@ -16,13 +16,7 @@ use Rattle.bm_base.specs.declared.replica.Stamp.{Stamp}
 use Rattle.bm_base.specs.declared.replica.BlockInfo.{BlockInfo}
 use Rattle.bm_base.specs.declared.event.Entry.{Entry}
 use Rattle.bm_base.specs.declared.event.Event.TheVariants.{Received, FullReport}
-use Rattle.bm_base.specs.Maps.Map.{Map, get, keep, contains_key, entries}
-use Rattle.bm_base.specs.Maps.Lists.{has}
-use Rattle.bm_base.specs.Machine.State.{Cluster, Holdings, State, by_replica, replica_at, replica_cmp}
-use Rattle.bm_base.specs.Machine.Replicas.{is_good, is_bad, is_stray, are_siblings}
-use Rattle.bm_base.specs.Machine.Entries.{ReportedBlock, range_from, expanded}
-use Rattle.bm_base.specs.Machine.Events.{was_bad, was_excess, same_stamp, entered_tag, entered_marks, replaces, enter, is_named, leaves_by_report, report, change_cluster, change_holdings}
-use Rattle.bm_base.specs.Machine.Calls.{new_replicas, done, done_by, after_event}
+use Rattle.bm_base.specs.Words.{Map, get, keep, contains_key, entries, has, Cluster, Holdings, State, by_replica, replica_at, replica_cmp, is_good, is_bad, is_stray, are_siblings, ReportedBlock, range_from, expanded, was_bad, was_excess, same_stamp, entered_tag, entered_marks, replaces, enter, is_named, leaves_by_report, report, change_cluster, change_holdings, new_replicas, done, done_by, after_event}
 use Rattle.bm_base.specs.Promises.Lawful.{IsLawfulHoldings, IsOrderly}
 use Rattle.bm_base.proofs.MapLaws.{same_map, get-keep, get-insert}
 use Rattle.bm_base.proofs.Ties.{replica_tie}

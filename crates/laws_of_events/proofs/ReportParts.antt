@@ -13,13 +13,7 @@ use Rattle.bm_base.specs.declared.replica.Stamp.{Stamp}
 use Rattle.bm_base.specs.declared.replica.BlockInfo.{BlockInfo}
 use Rattle.bm_base.specs.declared.event.Entry.{Entry}
 use Rattle.bm_base.specs.declared.event.Event.TheVariants.{Received, FullReport}
-use Rattle.bm_base.specs.Maps.Map.{get, keep}
-use Rattle.bm_base.specs.Maps.Lists.{has}
-use Rattle.bm_base.specs.Machine.State.{Cluster, Holdings, State, replica_at, replica_cmp}
-use Rattle.bm_base.specs.Machine.Replicas.{is_good, is_bad, are_siblings}
-use Rattle.bm_base.specs.Machine.Entries.{ReportedBlock, expanded}
-use Rattle.bm_base.specs.Machine.Events.{was_bad, was_excess, same_stamp, entered_tag, entered_marks, replaces, enter, is_named, leaves_by_report, report, change_cluster, change_holdings}
-use Rattle.bm_base.specs.Machine.Calls.{after_event}
+use Rattle.bm_base.specs.Words.{get, keep, has, Cluster, Holdings, State, replica_at, replica_cmp, is_good, is_bad, are_siblings, ReportedBlock, expanded, was_bad, was_excess, same_stamp, entered_tag, entered_marks, replaces, enter, is_named, leaves_by_report, report, change_cluster, change_holdings, after_event}
 use Rattle.bm_base.proofs.MapLaws.{same_map, get-insert, get-keep, get-remove}
 use Rattle.bm_base.proofs.Ties.{replica_tie}
 use Rattle.bm_base.proofs.Clusters.{eqb_turned}

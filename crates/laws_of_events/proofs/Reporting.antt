@@ -7,11 +7,7 @@ use Rattle.std.proofs.lemmas.Bool.{and_right}
 use Rattle.bm_base.specs.declared.replica.ReplicaId.{ReplicaId}
 use Rattle.bm_base.specs.declared.replica.Marks.{Marks}
 use Rattle.bm_base.specs.declared.replica.Stamp.{Stamp}
-use Rattle.bm_base.specs.Maps.Map.{Map, get, insert, insert_all, keep}
-use Rattle.bm_base.specs.Maps.Lists.{has}
-use Rattle.bm_base.specs.Machine.State.{Cluster, Holdings, by_replica, replica_at, replica_cmp}
-use Rattle.bm_base.specs.Machine.Entries.{ReportedBlock}
-use Rattle.bm_base.specs.Machine.Events.{entered_marks, is_named, report}
+use Rattle.bm_base.specs.Words.{Map, get, insert, insert_all, keep, has, Cluster, Holdings, by_replica, replica_at, replica_cmp, ReportedBlock, entered_marks, is_named, report}
 use Rattle.bm_base.proofs.MapLaws.{get-insert}
 use Rattle.bm_base.proofs.Ties.{replica_tie}
 use Rattle.bm_base.proofs.Clusters.{eqb_turned}

@@ -11,14 +11,7 @@ use Rattle.bm_base.specs.declared.refusal.Refusal.{Refusal}
 use Rattle.bm_base.specs.declared.call.Call.TheVariants as call
 use Rattle.bm_base.specs.declared.call.Answer.{Answer}
 use Rattle.bm_base.specs.declared.call.Answer.TheVariants as answer
-use Rattle.bm_base.specs.Maps.Map.{get, entries, keys}
-use Rattle.bm_base.specs.Machine.State.{Cluster, Holdings, State, replica_at}
-use Rattle.bm_base.specs.Maps.Lists.{has}
-use Rattle.bm_base.specs.Machine.Replicas.{is_usable, is_live_on, is_drained_on, node_of, has_storage, drains, is_draining, storages_where, live, drained, has_enough_live, usable}
-use Rattle.bm_base.specs.Machine.Queries.{missing_blocks, is_held_back_by, is_retired}
-use Rattle.bm_base.specs.Machine.Events.{without_node, without_storages, change_cluster, change_holdings}
-use Rattle.bm_base.specs.Machine.Refusals.{node_refusal}
-use Rattle.bm_base.specs.Machine.Calls.{step, refused_or, after_event}
+use Rattle.bm_base.specs.Words.{get, entries, keys, Cluster, Holdings, State, replica_at, has, is_usable, is_live_on, is_drained_on, node_of, has_storage, drains, is_draining, storages_where, live, drained, has_enough_live, usable, missing_blocks, is_held_back_by, is_retired, without_node, without_storages, change_cluster, change_holdings, node_refusal, step, refused_or, after_event}
 use Rattle.bm_base.specs.Promises.Lawful.{IsLawfulHoldings, IsOrderly}
 use Rattle.bm_base.proofs.Options.{not_failed, not_passed}
 use Rattle.bm_base.proofs.MapEntries.{entry_passes, passes_entry}

@@ -11,11 +11,7 @@ use Rattle.bm_base.specs.declared.replica.ReplicaId.{ReplicaId}
 use Rattle.bm_base.specs.declared.replica.Marks.{Marks}
 use Rattle.bm_base.specs.Maps.Conjunction.{first, second}
 use Rattle.bm_base.specs.declared.level.Level.TheVariants.{NoUsableReplica}
-use Rattle.bm_base.specs.Maps.Map.{Map, Order, by_number, entries, keys}
-use Rattle.bm_base.specs.Machine.State.{Cluster, Holdings, by_replica, replica_cmp}
-use Rattle.bm_base.specs.Machine.Replicas.{is_good, is_corrupt, storages_where}
-use Rattle.bm_base.specs.Machine.Levels.{level, is_at}
-use Rattle.bm_base.specs.Machine.Queries.{all_replicas, replicas_where, missing_blocks, blocks_on}
+use Rattle.bm_base.specs.Words.{Map, Order, by_number, entries, keys, Cluster, Holdings, by_replica, replica_cmp, is_good, is_corrupt, storages_where, level, is_at, all_replicas, replicas_where, missing_blocks, blocks_on}
 use Rattle.bm_base.proofs.ForEach.{Each, each_mapped, each_then, each_filtered, each_passing, each_both}
 use Rattle.laws_of_events.specs.Queries as law
 

@@ -8,13 +8,7 @@ use Rattle.std.proofs.lemmas.List.Folds.{list_any-append, Any-from_list_any, lis
 use Rattle.bm_base.specs.declared.replica.ReplicaId.{ReplicaId}
 use Rattle.bm_base.specs.declared.event.Entry.{Entry}
 use Rattle.bm_base.specs.declared.event.Event.TheVariants.{FullReport}
-use Rattle.bm_base.specs.Maps.Map.{get, keep}
-use Rattle.bm_base.specs.Maps.Lists.{has}
-use Rattle.bm_base.specs.Machine.State.{Cluster, Holdings, State, replica_at}
-use Rattle.bm_base.specs.Machine.Replicas.{are_siblings}
-use Rattle.bm_base.specs.Machine.Entries.{ReportedBlock, blocks_of_entry, expanded}
-use Rattle.bm_base.specs.Machine.Events.{is_named, leaves_by_report, report, change_cluster, change_holdings}
-use Rattle.bm_base.specs.Machine.Calls.{done, done_by, after_event, count_call}
+use Rattle.bm_base.specs.Words.{get, keep, has, Cluster, Holdings, State, replica_at, are_siblings, ReportedBlock, blocks_of_entry, expanded, is_named, leaves_by_report, report, change_cluster, change_holdings, done, done_by, after_event, count_call}
 use Rattle.bm_base.proofs.MapLaws.{same_map}
 use Rattle.bm_base.proofs.Entries.{length-expanded, has-told_by, expanded-++, expanded-one_by_one, told_by-backwards, told_by-cut}
 use Rattle.bm_parts.proofs.ReportedReplicas.{stays_by}

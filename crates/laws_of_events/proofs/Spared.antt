@@ -17,17 +17,7 @@ use Rattle.bm_base.specs.declared.refusal.Refusal.{Refusal}
 use Rattle.bm_base.specs.declared.call.Call.{Call}
 use Rattle.bm_base.specs.declared.call.Call.TheVariants as call
 use Rattle.bm_base.specs.declared.call.Answer.{Answer}
-use Rattle.bm_base.specs.Maps.Map.{Set, by_number, get, keep, remove, contains_key, keys, len}
-use Rattle.bm_base.specs.Machine.State.{RoundLimits, Cluster, Holdings, State, by_replica, first_state, empty_holdings}
-use Rattle.bm_base.specs.Maps.Lists.{has}
-use Rattle.bm_base.specs.Machine.Replicas.{node_of, has_storage, drains, is_draining, sources_of}
-use Rattle.bm_base.specs.Machine.Events.{register, heartbeat, without_node, without_storage, drain, undrain, begin_drain, change_cluster, change_holdings}
-use Rattle.bm_base.specs.Machine.Excess.{without_expired, without_unordered_excess, with_surplus_marked, state_after_expiry, state_at_choice}
-use Rattle.bm_base.specs.Machine.Transfers.{RequestedCopy, holders_of, excluded_for, is_target, target_cmp, least_target_by, least_target, scheduled_to, least_source, transfer_for, transfers_from, transfers, wishes}
-use Rattle.bm_base.specs.Machine.Deletes.{deletes}
-use Rattle.bm_base.specs.Machine.Rounds.{end_round, whole_round}
-use Rattle.bm_base.specs.Machine.Refusals.{refusal_of, round_refusal, node_refusal, storage_refusal, block_refusal}
-use Rattle.bm_base.specs.Machine.Calls.{step, refused_or, after_event, state_after}
+use Rattle.bm_base.specs.Words.{Set, by_number, get, keep, remove, contains_key, keys, len, RoundLimits, Cluster, Holdings, State, by_replica, first_state, empty_holdings, has, node_of, has_storage, drains, is_draining, sources_of, register, heartbeat, without_node, without_storage, drain, undrain, begin_drain, change_cluster, change_holdings, without_expired, without_unordered_excess, with_surplus_marked, state_after_expiry, state_at_choice, RequestedCopy, holders_of, excluded_for, is_target, target_cmp, least_target_by, least_target, scheduled_to, least_source, transfer_for, transfers_from, transfers, wishes, deletes, end_round, whole_round, refusal_of, round_refusal, node_refusal, storage_refusal, block_refusal, step, refused_or, after_event, state_after}
 use Rattle.bm_base.proofs.MapLaws.{get-empty}
 use Rattle.bm_base.proofs.Options.{there, is_there, not_passed, revised}
 use Rattle.bm_base.proofs.ForEach.{Each, each_passing, each_appended, each_optional, least_is_one}

@@ -9,10 +9,7 @@ use Rattle.bm_base.specs.declared.replica.Tag.TheVariants.{Good, Stale, Bad, Str
 use Rattle.bm_base.specs.declared.replica.Marks.{Marks}
 use Rattle.bm_base.specs.declared.replica.Stamp.{Stamp}
 use Rattle.bm_base.specs.declared.replica.BlockInfo.{BlockInfo}
-use Rattle.bm_base.specs.Maps.Map.{get}
-use Rattle.bm_base.specs.Machine.State.{Holdings}
-use Rattle.bm_base.specs.Machine.Replicas.{is_good, is_bad}
-use Rattle.bm_base.specs.Machine.Events.{was_bad, was_excess, same_stamp, entered_tag, entered_marks}
+use Rattle.bm_base.specs.Words.{get, Holdings, is_good, is_bad, was_bad, was_excess, same_stamp, entered_tag, entered_marks}
 use Rattle.laws_of_events.specs.Reports.{IsBadIn, IsExcessIn, HasToldMarks}
 
 found_bad : (t : Tag) → is_bad t ≡ true → t ≡ Bad

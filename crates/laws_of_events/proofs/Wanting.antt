@@ -2,9 +2,7 @@
 use Rattle.std.proofs.Common.{◌≡◌, Bool, true, false, if◌then◌else◌, refl, sym, ap, ◌∙◌, inl, inr}
 use Rattle.bm_base.specs.declared.call.Answer.{Answer}
 use Rattle.bm_base.specs.declared.call.Answer.TheVariants as answer
-use Rattle.bm_base.specs.Machine.State.{State}
-use Rattle.bm_base.specs.Machine.Calls.{step}
-use Rattle.bm_base.specs.Machine.Answering.{is_refused, is_out_of_memory, state_after_answer}
+use Rattle.bm_base.specs.Words.{State, step, is_refused, is_out_of_memory, state_after_answer}
 use Rattle.laws_of_events.proofs.Leading.{refusal_leaves}
 use Rattle.laws_of_events.specs.Calls as law
 

@@ -5,11 +5,7 @@ use Rattle.bm_base.specs.declared.event.Event.{Event}
 use Rattle.bm_base.specs.declared.call.Call.{Call}
 use Rattle.bm_base.specs.declared.call.Call.TheVariants as call
 use Rattle.bm_base.specs.declared.call.Answer.{Answer}
-use Rattle.bm_base.specs.Maps.Map.{get}
-use Rattle.bm_base.specs.Machine.State.{State}
-use Rattle.bm_base.specs.Machine.Refusals.{refusal_of, round_refusal}
-use Rattle.bm_base.specs.Machine.Calls.{step}
-use Rattle.bm_base.specs.Machine.Answering.{MayAnswer, is_refused, state_after_answer}
+use Rattle.bm_base.specs.Words.{get, State, refusal_of, round_refusal, step, MayAnswer, is_refused, state_after_answer}
 
 abbrev pub is_query : Call → Bool
 is_query (call.Apply e) = false

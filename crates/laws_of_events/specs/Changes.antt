@@ -10,10 +10,7 @@ use Rattle.bm_base.specs.declared.event.Entry.{Entry}
 use Rattle.bm_base.specs.declared.event.Remaining.{Remaining}
 use Rattle.bm_base.specs.declared.event.Event.{Event}
 use Rattle.bm_base.specs.declared.event.Event.TheVariants.{Register, Dead, StorageFailed, Heartbeat, AddBlock, DeleteBlock, SetReplication, Restamp, Received, Deleted, Corrupt, FullReport}
-use Rattle.bm_base.specs.Maps.Map.{get, contains_key, len}
-use Rattle.bm_base.specs.Maps.Lists.{has}
-use Rattle.bm_base.specs.Machine.State.{Cluster, Holdings, State, replica_at}
-use Rattle.bm_base.specs.Machine.Calls.{done_by, after_event}
+use Rattle.bm_base.specs.Words.{get, contains_key, len, has, Cluster, Holdings, State, replica_at, done_by, after_event}
 use Rattle.laws_of_events.specs.Reports.{held_after, numbers_of, IsBadIn}
 use Rattle.bm_parts.specs.Parts.{IsSameOf, block_of}
 

@@ -9,12 +9,7 @@ use Rattle.bm_base.specs.declared.event.Event.TheVariants.{Register, Dead, Drain
 use Rattle.bm_base.specs.declared.call.Call.{Call}
 use Rattle.bm_base.specs.declared.call.Call.TheVariants as call
 use Rattle.bm_base.specs.declared.call.Answer.TheVariants as answer
-use Rattle.bm_base.specs.Maps.Map.{get}
-use Rattle.bm_base.specs.Maps.Lists.{has}
-use Rattle.bm_base.specs.Machine.State.{Cluster, Holdings, State, replica_at, first_state}
-use Rattle.bm_base.specs.Machine.Replicas.{live, drains, is_draining, usable}
-use Rattle.bm_base.specs.Machine.Queries.{missing_blocks, is_retired}
-use Rattle.bm_base.specs.Machine.Calls.{done_by, after_event, count_call, step, state_after}
+use Rattle.bm_base.specs.Words.{get, has, Cluster, Holdings, State, replica_at, first_state, live, drains, is_draining, usable, missing_blocks, is_retired, done_by, after_event, count_call, step, state_after}
 use Rattle.laws_of_events.specs.Reports.{held_after}
 use Rattle.laws_of_events.specs.Changes.{cluster_after, IsOn}
 use Rattle.laws_of_events.specs.Queries.{IsHeld}

@@ -1,16 +1,11 @@
 -- Every state that calls lead to is lawful.
 use Rattle.std.specs.Prelude.{◌≡◌, IsTrue, IsSome, List, None}
 use Rattle.bm_base.specs.declared.replica.ReplicaId.{ReplicaId}
-use Rattle.bm_base.specs.Maps.Map.{get}
+use Rattle.bm_base.specs.Words.{get, State, first_state, refusal_of, round_refusal, whole_round, step, after_event, count_call, state_after, is_refused, MayAnswerAll, state_after_answers}
 use Rattle.bm_base.specs.declared.config.Config.{Config}
 use Rattle.bm_base.specs.declared.event.Event.{Event}
 use Rattle.bm_base.specs.declared.call.Call.{Call}
 use Rattle.bm_base.specs.declared.call.Answer.{Answer}
-use Rattle.bm_base.specs.Machine.State.{State, first_state}
-use Rattle.bm_base.specs.Machine.Refusals.{refusal_of, round_refusal}
-use Rattle.bm_base.specs.Machine.Rounds.{whole_round}
-use Rattle.bm_base.specs.Machine.Calls.{step, after_event, count_call, state_after}
-use Rattle.bm_base.specs.Machine.Answering.{is_refused, MayAnswerAll, state_after_answers}
 use Rattle.bm_base.specs.Promises.Lawful.{IsLawful, IsOrderly}
 use Rattle.bm_base.specs.Promises.Fitting.{HasFittingStart, FitsEvent, FitsCall, FitCalls}
 

@@ -8,9 +8,7 @@ use Rattle.bm_base.specs.declared.replica.Marks.{Marks}
 use Rattle.bm_base.specs.declared.replica.BlockInfo.{BlockInfo}
 use Rattle.bm_base.specs.declared.storage.StorageInfo.{StorageInfo}
 use Rattle.bm_base.specs.declared.limits.TheConstants.{MAX_NODES, MAX_STORAGES, MAX_REPLICATION}
-use Rattle.bm_base.specs.Maps.Map.{get, len}
-use Rattle.bm_base.specs.Machine.State.{Cluster, Holdings, State, first_state}
-use Rattle.bm_base.specs.Machine.Calls.{state_after}
+use Rattle.bm_base.specs.Words.{get, len, Cluster, Holdings, State, first_state, state_after}
 
 -- the storage exists, on an alive node
 abbrev pub IsOnAliveNode : Cluster → ℕ → Type 0

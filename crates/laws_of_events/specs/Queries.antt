@@ -7,10 +7,7 @@ use Rattle.bm_base.specs.declared.replica.Replica.{Replica}
 use Rattle.bm_base.specs.declared.replica.Tag.TheVariants.{Good, Stale, Bad}
 use Rattle.bm_base.specs.declared.replica.Marks.{Marks}
 use Rattle.bm_base.specs.declared.replica.BlockInfo.{BlockInfo}
-use Rattle.bm_base.specs.Maps.Map.{get}
-use Rattle.bm_base.specs.Maps.Lists.{has}
-use Rattle.bm_base.specs.Machine.State.{Cluster, Holdings, replica_at}
-use Rattle.bm_base.specs.Machine.Queries.{all_replicas, corrupt_replicas, excess_replicas, missing_blocks, blocks_on, places}
+use Rattle.bm_base.specs.Words.{get, has, Cluster, Holdings, replica_at, all_replicas, corrupt_replicas, excess_replicas, missing_blocks, blocks_on, places}
 use Rattle.bm_base.specs.Promises.Lawful.{IsLawfulHoldings}
 
 -- a replica is held, with marks that satisfy P

@@ -9,12 +9,7 @@ use Rattle.bm_base.specs.declared.storage.StorageInfo.{StorageInfo}
 use Rattle.bm_base.specs.declared.event.Entry.{Entry}
 use Rattle.bm_base.specs.declared.event.Event.{Event}
 use Rattle.bm_base.specs.declared.event.Event.TheVariants.{Received, FullReport}
-use Rattle.bm_base.specs.Maps.Map.{get, contains_key}
-use Rattle.bm_base.specs.Maps.Lists.{has, distinct}
-use Rattle.bm_base.specs.Machine.Queries.{blocks_on}
-use Rattle.bm_base.specs.Machine.Entries.{ReportedBlock, expanded}
-use Rattle.bm_base.specs.Machine.State.{Cluster, Holdings, State, replica_at}
-use Rattle.bm_base.specs.Machine.Calls.{done_by, after_event}
+use Rattle.bm_base.specs.Words.{get, contains_key, has, distinct, blocks_on, ReportedBlock, expanded, Cluster, Holdings, State, replica_at, done_by, after_event}
 
 -- the holdings after an event
 abbrev pub held_after : State → Event → Holdings

@@ -4,10 +4,7 @@ use Rattle.std.specs.Option.{option_or}
 use Rattle.bm_base.specs.declared.replica.Stamp.{Stamp}
 use Rattle.bm_base.specs.declared.event.Entry.{Entry}
 use Rattle.bm_base.specs.declared.event.Event.TheVariants.{FullReport}
-use Rattle.bm_base.specs.Maps.Lists.{has}
-use Rattle.bm_base.specs.Machine.State.{State}
-use Rattle.bm_base.specs.Machine.Entries.{ReportedBlock, expanded, numbers_in}
-use Rattle.bm_base.specs.Machine.Calls.{done_by, after_event}
+use Rattle.bm_base.specs.Words.{has, State, ReportedBlock, expanded, numbers_in, done_by, after_event}
 use Rattle.laws_of_events.specs.Reports.{numbers_of}
 
 -- a report names exactly the numbers of its runs, each run from its first to its last

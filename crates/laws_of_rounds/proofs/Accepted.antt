@@ -5,12 +5,7 @@ use Rattle.bm_base.specs.declared.event.Event.{Event}
 use Rattle.bm_base.specs.declared.refusal.Refusal.TheVariants.{UnknownStorage}
 use Rattle.bm_base.specs.declared.commands.Transfer.{Transfer}
 use Rattle.bm_base.specs.declared.commands.Delete.{Delete}
-use Rattle.bm_base.specs.Maps.Map.{keys}
-use Rattle.bm_base.specs.Machine.State.{RoundLimits, Cluster, Holdings, State}
-use Rattle.bm_base.specs.Machine.Replicas.{has_storage}
-use Rattle.bm_base.specs.Machine.Excess.{state_after_expiry, state_at_choice}
-use Rattle.bm_base.specs.Machine.Deletes.{deletes_of, deletes}
-use Rattle.bm_base.specs.Machine.Refusals.{first_of, ◌when◌, ◌before◌, knows_storage, cluster_checks, block_checks, calls_spent, refusal_of}
+use Rattle.bm_base.specs.Words.{keys, RoundLimits, Cluster, Holdings, State, has_storage, state_after_expiry, state_at_choice, deletes_of, deletes, first_of, ◌when◌, ◌before◌, knows_storage, cluster_checks, block_checks, calls_spent, refusal_of}
 use Rattle.bm_base.specs.Promises.NextRound.{IsAmong, IsTransferCommanded, deletes_commanded}
 use Rattle.bm_base.proofs.ForEach.{Each, each_all, each_of, each_then, each_flat_map}
 use Rattle.bm_base.proofs.Clusters.{some_node}

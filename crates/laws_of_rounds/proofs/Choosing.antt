@@ -8,12 +8,7 @@ use Rattle.bm_base.specs.declared.level.Level.{Level}
 use Rattle.bm_base.specs.declared.level.Level.TheVariants.{Highest, VeryUnderReplicated, UnderReplicated, BadlyDistributed}
 use Rattle.bm_base.specs.declared.replica.BlockInfo.{BlockInfo}
 use Rattle.bm_base.specs.declared.commands.Transfer.{Transfer}
-use Rattle.bm_base.specs.Maps.Map.{get, keys, len}
-use Rattle.bm_base.specs.Machine.State.{RoundLimits, Cluster, Holdings}
-use Rattle.bm_base.specs.Maps.Lists.{has, least}
-use Rattle.bm_base.specs.Machine.Replicas.{sources_of, is_draining}
-use Rattle.bm_base.specs.Machine.Levels.{level, is_at}
-use Rattle.bm_base.specs.Machine.Transfers.{RequestedCopy, requested_count, wishes_for, wishes, streams_from, stream_limit, source_cmp, least_source_by, least_source, holders_of, excluded_for, target_cmp, is_target, least_target_by, least_target, scheduled_to, transfer_for, transfers_from, transfers}
+use Rattle.bm_base.specs.Words.{get, keys, len, RoundLimits, Cluster, Holdings, has, least, sources_of, is_draining, level, is_at, RequestedCopy, requested_count, wishes_for, wishes, streams_from, stream_limit, source_cmp, least_source_by, least_source, holders_of, excluded_for, target_cmp, is_target, least_target_by, least_target, scheduled_to, transfer_for, transfers_from, transfers}
 use Rattle.std.proofs.lemmas.Option.{same_Some}
 use Rattle.bm_base.proofs.AtLevel.{at_level}
 use Rattle.bm_base.proofs.ForEach.{Each, each_of, each_flat_map}

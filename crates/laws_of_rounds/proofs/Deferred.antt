@@ -12,14 +12,8 @@ use Rattle.bm_base.specs.declared.replica.BlockInfo.{BlockInfo}
 use Rattle.bm_base.specs.declared.commands.Transfer.{Transfer}
 use Rattle.bm_base.specs.declared.commands.Delete.{Delete}
 use Rattle.bm_base.specs.declared.commands.NodeCommands.{NodeCommands}
-use Rattle.bm_base.specs.Maps.Map.{Map, Order, get, entries, keys}
-use Rattle.bm_base.specs.Machine.State.{RoundLimits, Cluster, Holdings, State, by_replica}
-use Rattle.bm_base.specs.Maps.Lists.{has}
-use Rattle.bm_base.specs.Machine.Replicas.{is_stray, is_corrupt, node_of, has_storage, has_enough_live}
-use Rattle.bm_base.specs.Machine.Excess.{state_after_expiry, state_at_choice, with_surplus_marked, without_expired, without_unordered_excess}
-use Rattle.bm_base.specs.Machine.Deletes.{is_deletable, deletable_on, deletes_of, deletes}
+use Rattle.bm_base.specs.Words.{Map, Order, get, entries, keys, RoundLimits, Cluster, Holdings, State, by_replica, has, is_stray, is_corrupt, node_of, has_storage, has_enough_live, state_after_expiry, state_at_choice, with_surplus_marked, without_expired, without_unordered_excess, is_deletable, deletable_on, deletes_of, deletes, whole_round, commands_of, node_commands, has_commands}
 use Rattle.bm_base.specs.Promises.Lawful.{IsOrderly}
-use Rattle.bm_base.specs.Machine.Rounds.{whole_round, commands_of, node_commands, has_commands}
 use Rattle.bm_base.specs.Promises.NextRound.{IsAmong, IsDeleteCommanded, live_marked, transfers_chosen}
 use Rattle.laws_of_rounds.specs.Deletes.{IsToBeDeleted}
 use Rattle.std.proofs.lemmas.Option.{same_Some}

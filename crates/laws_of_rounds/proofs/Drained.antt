@@ -13,13 +13,7 @@ use Rattle.bm_base.specs.declared.replica.ReplicaId.{ReplicaId}
 use Rattle.bm_base.specs.declared.replica.Marks.{Marks}
 use Rattle.bm_base.specs.declared.commands.Transfer.{Transfer}
 use Rattle.bm_base.specs.declared.commands.Delete.{Delete}
-use Rattle.bm_base.specs.Maps.Map.{get, entries}
-use Rattle.bm_base.specs.Machine.State.{Cluster, Holdings, State, replica_at}
-use Rattle.bm_base.specs.Maps.Lists.{has}
-use Rattle.bm_base.specs.Machine.Replicas.{live, drained, sources_of, is_usable, is_drained_on, is_draining, drains, has_storage, node_of, storages_where}
-use Rattle.bm_base.specs.Machine.Excess.{state_after_expiry, state_at_choice, with_surplus_marked, excess_in}
-use Rattle.bm_base.specs.Machine.Rounds.{end_round, is_commanded, whole_round}
-use Rattle.bm_base.specs.Machine.Transfers.{stream_limit, streams_from, node_number, source_rank, source_cmp, least_source_by, least_source}
+use Rattle.bm_base.specs.Words.{get, entries, Cluster, Holdings, State, replica_at, has, live, drained, sources_of, is_usable, is_drained_on, is_draining, drains, has_storage, node_of, storages_where, state_after_expiry, state_at_choice, with_surplus_marked, excess_in, end_round, is_commanded, whole_round, stream_limit, streams_from, node_number, source_rank, source_cmp, least_source_by, least_source}
 use Rattle.bm_base.specs.Promises.NextRound.{IsTransferCommanded, transfers_chosen, unmarked, drained_unmarked, drained_marked, drained_after}
 use Rattle.bm_base.proofs.ListTests.{has_filter, or_right, and_first, filter_append}
 use Rattle.bm_base.proofs.Membership.{revised_where, has_where}

@@ -13,12 +13,7 @@ use Rattle.bm_base.specs.declared.replica.ReplicaId.{ReplicaId}
 use Rattle.bm_base.specs.declared.replica.Marks.{Marks}
 use Rattle.bm_base.specs.declared.event.Event.{Event}
 use Rattle.bm_base.specs.declared.commands.Transfer.{Transfer}
-use Rattle.bm_base.specs.Maps.Map.{get}
-use Rattle.bm_base.specs.Machine.State.{Cluster, State, by_replica, replica_cmp, replica_at}
-use Rattle.bm_base.specs.Maps.Lists.{has, has_repeats}
-use Rattle.bm_base.specs.Machine.Replicas.{is_usable, is_draining, node_of}
-use Rattle.bm_base.specs.Machine.Events.{replaces, entered_marks}
-use Rattle.bm_base.specs.Machine.Calls.{after_event}
+use Rattle.bm_base.specs.Words.{get, Cluster, State, by_replica, replica_cmp, replica_at, has, has_repeats, is_usable, is_draining, node_of, replaces, entered_marks, after_event}
 use Rattle.bm_base.specs.Promises.NextRound.{IsAmong, IsTransferCommanded, transfers_commanded, deletes_commanded, transfers_commanded, after_round, live_after}
 use Rattle.bm_base.proofs.Options.{staying}
 use Rattle.bm_base.proofs.ForEach.{Each, each_all, each_then, each_any, each_appended, each_mapped}

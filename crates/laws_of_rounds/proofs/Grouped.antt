@@ -8,13 +8,7 @@ use Rattle.std.proofs.lemmas.List.Elements.{All-nil, All-cons}
 use Rattle.bm_base.specs.declared.commands.Transfer.{Transfer}
 use Rattle.bm_base.specs.declared.commands.Delete.{Delete}
 use Rattle.bm_base.specs.declared.commands.NodeCommands.{NodeCommands}
-use Rattle.bm_base.specs.Maps.Map.{entries, keys}
-use Rattle.bm_base.specs.Machine.State.{RoundLimits, Cluster, Holdings, State}
-use Rattle.bm_base.specs.Maps.Lists.{has, has_repeats}
-use Rattle.bm_base.specs.Machine.Replicas.{has_storage, node_of}
-use Rattle.bm_base.specs.Machine.Excess.{state_after_expiry, state_at_choice}
-use Rattle.bm_base.specs.Machine.Deletes.{is_deletable, deletable_on, deletes_of, deletes}
-use Rattle.bm_base.specs.Machine.Rounds.{whole_round, commands_of, node_commands, has_commands}
+use Rattle.bm_base.specs.Words.{entries, keys, RoundLimits, Cluster, Holdings, State, has, has_repeats, has_storage, node_of, state_after_expiry, state_at_choice, is_deletable, deletable_on, deletes_of, deletes, whole_round, commands_of, node_commands, has_commands}
 use Rattle.bm_base.proofs.ForEach.{Each, each_of, each_take, each_mapped, each_filter_by, each_then, each_flat_map}
 use Rattle.bm_base.proofs.ListTests.{filter_append, length_take-le, same_again}
 use Rattle.bm_base.proofs.OneWish.{once_keys}

@@ -8,11 +8,7 @@ use Rattle.bm_base.specs.declared.replica.ReplicaId.{ReplicaId}
 use Rattle.bm_base.specs.declared.replica.Marks.{Marks}
 use Rattle.bm_base.specs.declared.commands.Transfer.{Transfer}
 use Rattle.bm_base.specs.declared.commands.Delete.{Delete}
-use Rattle.bm_base.specs.Maps.Map.{Map, get, insert, insert_all}
-use Rattle.bm_base.specs.Machine.State.{Holdings, State, by_replica, replica_cmp, replica_at}
-use Rattle.bm_base.specs.Machine.Replicas.{node_of}
-use Rattle.bm_base.specs.Machine.Excess.{state_after_expiry, state_at_choice, with_surplus_marked, without_expired, without_unordered_excess}
-use Rattle.bm_base.specs.Machine.Rounds.{end_round, is_commanded, whole_round}
+use Rattle.bm_base.specs.Words.{Map, get, insert, insert_all, Holdings, State, by_replica, replica_cmp, replica_at, node_of, state_after_expiry, state_at_choice, with_surplus_marked, without_expired, without_unordered_excess, end_round, is_commanded, whole_round}
 use Rattle.bm_base.proofs.MapLaws.{get-keep, get-insert}
 use Rattle.bm_base.proofs.Ties.{replica_tie}
 use Rattle.bm_base.specs.Promises.NextRound.{IsTransferCommanded, IsAmong, deletes_commanded, transfers_commanded, transfers_chosen, after_round}

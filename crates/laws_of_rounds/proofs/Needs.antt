@@ -5,13 +5,7 @@ use Rattle.std.proofs.lemmas.Bool.Decides.{nat_tests}
 use Rattle.std.specs.Ordering.{nat_cmp, eq_by_cmp}
 use Rattle.bm_base.specs.declared.level.Level.TheVariants.{Highest, NoUsableReplica}
 use Rattle.bm_base.specs.declared.replica.BlockInfo.{BlockInfo}
-use Rattle.bm_base.specs.Maps.Map.{get, keys, revise_at}
-use Rattle.bm_base.specs.Machine.State.{Cluster, Holdings}
-use Rattle.bm_base.specs.Machine.Replicas.{live, drained, racks, is_multi_rack, storages_where}
-use Rattle.bm_base.specs.Machine.Levels.{level, level_of, is_at}
-use Rattle.bm_base.specs.Machine.Events.{set_replication}
-use Rattle.bm_base.specs.Machine.Queries.{missing_blocks}
-use Rattle.bm_base.specs.Maps.Lists.{has}
+use Rattle.bm_base.specs.Words.{get, keys, revise_at, Cluster, Holdings, live, drained, racks, is_multi_rack, storages_where, level, level_of, is_at, set_replication, missing_blocks, has}
 use Rattle.bm_base.proofs.MapLaws.{get-revise}
 use Rattle.bm_base.proofs.Ties.{number_tie}
 use Rattle.laws_of_rounds.specs.Levels.{need}

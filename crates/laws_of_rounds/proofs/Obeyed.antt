@@ -8,12 +8,7 @@ use Rattle.bm_base.specs.declared.replica.ReplicaId.{ReplicaId}
 use Rattle.bm_base.specs.declared.replica.Marks.{Marks}
 use Rattle.bm_base.specs.declared.event.Event.{Event}
 use Rattle.bm_base.specs.declared.commands.Transfer.{Transfer}
-use Rattle.bm_base.specs.Maps.Map.{get}
-use Rattle.bm_base.specs.Machine.State.{State, replica_at}
-use Rattle.bm_base.specs.Maps.Lists.{has}
-use Rattle.bm_base.specs.Machine.Replicas.{is_usable, is_draining}
-use Rattle.bm_base.specs.Machine.Events.{replaces}
-use Rattle.bm_base.specs.Machine.Calls.{after_event}
+use Rattle.bm_base.specs.Words.{get, State, replica_at, has, is_usable, is_draining, replaces, after_event}
 use Rattle.bm_base.specs.Promises.NextRound.{IsAmong, IsTransferCommanded, after_round}
 use Rattle.bm_base.proofs.Options.{is_there}
 use Rattle.bm_base.proofs.ForEach.{Each}

@@ -14,12 +14,7 @@ use Rattle.bm_base.specs.declared.replica.BlockInfo.{BlockInfo}
 use Rattle.bm_base.specs.declared.event.Event.{Event}
 use Rattle.bm_base.specs.declared.commands.Transfer.{Transfer}
 use Rattle.bm_base.specs.declared.commands.Delete.{Delete}
-use Rattle.bm_base.specs.Maps.Map.{get}
-use Rattle.bm_base.specs.Machine.State.{Cluster, Holdings, State, by_replica, replica_cmp, replica_at}
-use Rattle.bm_base.specs.Maps.Lists.{has}
-use Rattle.bm_base.specs.Machine.Replicas.{live, is_good, is_bad, is_usable, is_live_on, node_of, has_storage, is_draining, are_siblings}
-use Rattle.bm_base.specs.Machine.Events.{same_stamp, was_bad, was_excess, entered_tag, entered_marks, replaces, enter, remove_replica, change_cluster, change_holdings}
-use Rattle.bm_base.specs.Machine.Calls.{after_event}
+use Rattle.bm_base.specs.Words.{get, Cluster, Holdings, State, by_replica, replica_cmp, replica_at, has, live, is_good, is_bad, is_usable, is_live_on, node_of, has_storage, is_draining, are_siblings, same_stamp, was_bad, was_excess, entered_tag, entered_marks, replaces, enter, remove_replica, change_cluster, change_holdings, after_event}
 use Rattle.bm_base.specs.Promises.NextRound.{IsAmong, IsDeleteCommanded, IsTransferCommanded, deletes_commanded, after_round, live_after}
 use Rattle.bm_base.proofs.Options.{is_there, revised, not_passed, not_failed, staying, all_stays}
 use Rattle.bm_base.proofs.ForEach.{Each}

@@ -6,11 +6,7 @@ use Rattle.std.proofs.lemmas.Bool.{eqb-true, lt-ltb, ltb-true, false≢true, tru
 use Rattle.std.proofs.lemmas.Bool.Decides.{nat_tests}
 use Rattle.bm_base.specs.declared.level.Level.TheVariants.{Highest, VeryUnderReplicated, UnderReplicated, BadlyDistributed, NoUsableReplica}
 use Rattle.bm_base.specs.declared.replica.BlockInfo.{BlockInfo}
-use Rattle.bm_base.specs.Maps.Map.{Map, by_number, get, entries}
-use Rattle.bm_base.specs.Machine.State.{Cluster, State, replica_at}
-use Rattle.bm_base.specs.Maps.Lists.{has, has_repeats, distinct}
-use Rattle.bm_base.specs.Machine.Replicas.{live, drained, is_live_on, racks, rack_of, node_of, is_multi_rack}
-use Rattle.bm_base.specs.Machine.Levels.{level, level_of}
+use Rattle.bm_base.specs.Words.{Map, by_number, get, entries, Cluster, State, replica_at, has, has_repeats, distinct, live, drained, is_live_on, racks, rack_of, node_of, is_multi_rack, level, level_of}
 use Rattle.bm_base.specs.Promises.Lawful.{IsOrderly}
 use Rattle.laws_of_rounds.specs.Levels.{AreOnOneRack, HasTwoRacks}
 use Rattle.laws_of_rounds.proofs.Needs.{level_known}

@@ -9,7 +9,7 @@ use Rattle.bm_base.specs.declared.call.Call.{Call}
 use Rattle.bm_base.specs.declared.call.Call.TheVariants as call
 use Rattle.bm_base.specs.declared.event.Event.{Event}
 use Rattle.bm_base.specs.declared.event.Event.TheVariants.{Register, Dead, StorageFailed, Heartbeat, Drain, Undrain, AddBlock, DeleteBlock, SetReplication, Restamp, Received, Deleted, Corrupt, FullReport}
-use Rattle.bm_base.specs.Machine.Entries.{ReportedBlock, expanded}
+use Rattle.bm_base.specs.Words.{ReportedBlock, expanded, Map, get, insert, insert_all, keep, revise, revise_at, remove, Cluster, Holdings, State, by_replica, replica_cmp, replica_at, first_state, empty_holdings, is_good, is_stray, is_corrupt, is_usable, is_draining, drains, has_storage, has_enough_live, entered_marks, enter, report, without_pending, change_marks_of_block, as_stray, as_bad, as_restamped, add_block, delete_block, set_replication, restamp, make_bad, remove_replica, without_storages, begin_drain, change_holdings, state_after_expiry, state_at_choice, has, is_deletable, is_commanded, refusal_of, round_refusal, node_refusal, storage_refusal, block_refusal, after_event, refused_or, step, state_after}
 use Rattle.bm_base.specs.declared.refusal.Refusal.{Refusal}
 use Rattle.bm_base.specs.declared.call.Answer.{Answer}
 use Rattle.bm_base.specs.declared.replica.ReplicaId.{ReplicaId}
@@ -17,18 +17,8 @@ use Rattle.bm_base.specs.declared.replica.Tag.{Tag}
 use Rattle.bm_base.specs.declared.replica.Tag.TheVariants.{Good, Stale, Bad, Stray}
 use Rattle.bm_base.specs.declared.replica.Marks.{Marks}
 use Rattle.bm_base.specs.declared.replica.Stamp.{Stamp}
-use Rattle.bm_base.specs.Maps.Map.{Map, get, insert, insert_all, keep, revise, revise_at, remove}
-use Rattle.bm_base.specs.Machine.State.{Cluster, Holdings, State, by_replica, replica_cmp, replica_at, first_state, empty_holdings}
-use Rattle.bm_base.specs.Machine.Replicas.{is_good, is_stray, is_corrupt, is_usable, is_draining, drains, has_storage, has_enough_live}
-use Rattle.bm_base.specs.Machine.Events.{entered_marks, enter, report, without_pending, change_marks_of_block, as_stray, as_bad, as_restamped, add_block, delete_block, set_replication, restamp, make_bad, remove_replica, without_storages, begin_drain, change_holdings}
-use Rattle.bm_base.specs.Machine.Excess.{state_after_expiry, state_at_choice}
-use Rattle.bm_base.specs.Maps.Lists.{has}
-use Rattle.bm_base.specs.Machine.Deletes.{is_deletable}
 use Rattle.bm_base.specs.Promises.Lawful.{IsOrderly}
 use Rattle.bm_base.specs.declared.replica.BlockInfo.{BlockInfo}
-use Rattle.bm_base.specs.Machine.Rounds.{is_commanded}
-use Rattle.bm_base.specs.Machine.Refusals.{refusal_of, round_refusal, node_refusal, storage_refusal, block_refusal}
-use Rattle.bm_base.specs.Machine.Calls.{after_event, refused_or, step, state_after}
 use Rattle.bm_base.proofs.MapLaws.{get-empty, get-insert, get-keep, get-revise, get-remove}
 use Rattle.bm_base.specs.Promises.NextRound.{after_round}
 use Rattle.std.proofs.lemmas.Option.{same_Some}

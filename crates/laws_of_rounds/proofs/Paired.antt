@@ -6,12 +6,7 @@ use Rattle.std.proofs.lemmas.Bool.{true≢false, or_parts}
 use Rattle.bm_base.specs.declared.commands.Transfer.{Transfer}
 use Rattle.bm_base.specs.declared.commands.Delete.{Delete}
 use Rattle.bm_base.specs.declared.commands.NodeCommands.{NodeCommands}
-use Rattle.bm_base.specs.Maps.Map.{keys}
-use Rattle.bm_base.specs.Machine.State.{Cluster, State}
-use Rattle.bm_base.specs.Maps.Lists.{has, has_repeats}
-use Rattle.bm_base.specs.Machine.Replicas.{node_of, has_storage}
-use Rattle.bm_base.specs.Machine.Excess.{state_after_expiry, state_at_choice}
-use Rattle.bm_base.specs.Machine.Rounds.{node_commands, has_commands, commands_of, whole_round}
+use Rattle.bm_base.specs.Words.{keys, Cluster, State, has, has_repeats, node_of, has_storage, state_after_expiry, state_at_choice, node_commands, has_commands, commands_of, whole_round}
 use Rattle.bm_base.specs.Promises.NextRound.{IsAmong, IsTransferCommanded, transfers_chosen, transfers_commanded}
 use Rattle.bm_base.proofs.ForEach.{Each, each_then, each_appended, each_filtered, each_mapped, each_filter_by, each_flat_map}
 use Rattle.laws_of_states.proofs.RoundCommands.{chosen_deletes_of}

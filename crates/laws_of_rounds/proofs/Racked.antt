@@ -10,11 +10,7 @@ use Rattle.std.proofs.lemmas.Bool.Decides.{nat_tests}
 use Rattle.std.proofs.lemmas.List.Sums.{length-filter}
 use Rattle.bm_base.specs.declared.replica.BlockInfo.{BlockInfo}
 use Rattle.bm_base.specs.declared.storage.StorageInfo.{StorageInfo}
-use Rattle.bm_base.specs.Maps.Map.{get}
-use Rattle.bm_base.specs.Machine.State.{Cluster, State, replica_at}
-use Rattle.bm_base.specs.Maps.Lists.{has, has_repeats, least}
-use Rattle.bm_base.specs.Machine.Replicas.{is_live_on, rack_of, node_of}
-use Rattle.bm_base.specs.Machine.Excess.{excess_cmp, excess_among, remaining, share_rack, has_rack_mate, state_at_choice}
+use Rattle.bm_base.specs.Words.{get, Cluster, State, replica_at, has, has_repeats, least, is_live_on, rack_of, node_of, excess_cmp, excess_among, remaining, share_rack, has_rack_mate, state_at_choice}
 use Rattle.bm_base.specs.Promises.Lawful.{IsOrderly}
 use Rattle.bm_base.specs.Promises.NextRound.{unmarked, live_unmarked, live_marked}
 use Rattle.std.proofs.lemmas.Option.{same_Some}

@@ -16,15 +16,7 @@ use Rattle.bm_base.specs.declared.replica.BlockInfo.{BlockInfo}
 use Rattle.bm_base.specs.declared.commands.Transfer.{Transfer}
 use Rattle.bm_base.specs.declared.commands.Delete.{Delete}
 use Rattle.bm_base.specs.declared.commands.NodeCommands.{NodeCommands}
-use Rattle.bm_base.specs.Maps.Map.{get, keys, entries, len}
-use Rattle.bm_base.specs.Machine.State.{RoundLimits, Cluster, Holdings, State, replica_at}
-use Rattle.bm_base.specs.Maps.Lists.{has, has_repeats}
-use Rattle.bm_base.specs.Machine.Replicas.{sources_of, node_of, has_storage, is_draining, storages_where}
-use Rattle.bm_base.specs.Machine.Levels.{level, is_at}
-use Rattle.bm_base.specs.Machine.Excess.{state_after_expiry, state_at_choice, with_surplus_marked, without_expired, without_unordered_excess, remaining}
-use Rattle.bm_base.specs.Machine.Transfers.{pending_targets, streams_from, scheduled_to, stream_limit, targets_of, holders_of, excluded_for, is_excluded, is_target, class_of}
-use Rattle.bm_base.specs.Machine.Replicas.{racks}
-use Rattle.bm_base.specs.Machine.Rounds.{whole_round, commands_of, node_commands, has_commands}
+use Rattle.bm_base.specs.Words.{get, keys, entries, len, RoundLimits, Cluster, Holdings, State, replica_at, has, has_repeats, sources_of, node_of, has_storage, is_draining, storages_where, level, is_at, state_after_expiry, state_at_choice, with_surplus_marked, without_expired, without_unordered_excess, remaining, pending_targets, streams_from, scheduled_to, stream_limit, targets_of, holders_of, excluded_for, is_excluded, is_target, class_of, racks, whole_round, commands_of, node_commands, has_commands}
 use Rattle.bm_base.specs.Promises.NextRound.{IsAmong, transfers_chosen, transfers_commanded, live_marked, drained_marked}
 use Rattle.laws_of_rounds.specs.Transfers.{IsFreshNode}
 use Rattle.bm_base.proofs.ListTests.{and_first, and_second, or_left, or_right, same_again, filter_append, filter_filter, any_map, any_filter}

@@ -10,15 +10,8 @@ use Rattle.bm_base.specs.declared.level.Level.TheVariants.{Highest}
 use Rattle.bm_base.specs.declared.commands.Transfer.{Transfer}
 use Rattle.bm_base.specs.declared.commands.Delete.{Delete}
 use Rattle.bm_base.specs.declared.commands.NodeCommands.{NodeCommands}
-use Rattle.bm_base.specs.Maps.Map.{get, keys}
-use Rattle.bm_base.specs.Machine.State.{RoundLimits, Cluster, Holdings, State, replica_at}
-use Rattle.bm_base.specs.Maps.Lists.{has}
-use Rattle.bm_base.specs.Machine.Replicas.{node_of, has_storage, sources_of, is_usable, drains, is_draining}
-use Rattle.bm_base.specs.Machine.Levels.{level}
-use Rattle.bm_base.specs.Machine.Excess.{state_after_expiry, state_at_choice, with_surplus_marked, without_expired, without_unordered_excess}
-use Rattle.bm_base.specs.Machine.Deletes.{deletes_of, deletes}
+use Rattle.bm_base.specs.Words.{get, keys, RoundLimits, Cluster, Holdings, State, replica_at, has, node_of, has_storage, sources_of, is_usable, drains, is_draining, level, state_after_expiry, state_at_choice, with_surplus_marked, without_expired, without_unordered_excess, deletes_of, deletes, whole_round, commands_of, node_commands, has_commands, is_commanded, end_round}
 use Rattle.bm_base.specs.Promises.Lawful.{IsOrderly}
-use Rattle.bm_base.specs.Machine.Rounds.{whole_round, commands_of, node_commands, has_commands, is_commanded, end_round}
 use Rattle.bm_base.specs.Promises.NextRound.{IsAmong, IsTransferCommanded, deletes_commanded, transfers_chosen, after_round}
 use Rattle.std.proofs.lemmas.Option.{same_Some}
 use Rattle.bm_base.proofs.Options.{there}

@@ -3,8 +3,7 @@ use Rattle.std.specs.Prelude.{◌&&◌, ◌==◌}
 use Rattle.std.proofs.Common.{subst}
 use Rattle.bm_base.specs.declared.replica.ReplicaId.{ReplicaId}
 use Rattle.bm_base.specs.declared.commands.Delete.{Delete}
-use Rattle.bm_base.specs.Machine.State.{State}
-use Rattle.bm_base.specs.Machine.Rounds.{is_commanded}
+use Rattle.bm_base.specs.Words.{State, is_commanded}
 use Rattle.bm_base.specs.Promises.NextRound.{IsAmong, IsDeleteCommanded, deletes_commanded}
 use Rattle.laws_of_states.proofs.RoundCommands.{IsTested, at_same}
 use Rattle.laws_of_states.proofs.CommandedDeletes.{delete_of}

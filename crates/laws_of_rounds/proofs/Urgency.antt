@@ -12,11 +12,7 @@ use Rattle.bm_base.specs.declared.level.Level.{Level}
 use Rattle.bm_base.specs.declared.level.Level.TheVariants.{Highest, VeryUnderReplicated, UnderReplicated, BadlyDistributed}
 use Rattle.bm_base.specs.declared.replica.BlockInfo.{BlockInfo}
 use Rattle.bm_base.specs.declared.commands.Transfer.{Transfer}
-use Rattle.bm_base.specs.Maps.Map.{Map, by_number, get, keys, entries}
-use Rattle.bm_base.specs.Machine.State.{RoundLimits, Cluster, Holdings, State}
-use Rattle.bm_base.specs.Machine.Levels.{level, level_number, is_at}
-use Rattle.bm_base.specs.Machine.Excess.{state_after_expiry, state_at_choice}
-use Rattle.bm_base.specs.Machine.Transfers.{RequestedCopy, requested_count, wishes_for, wishes, transfer_for, transfers_from, transfers}
+use Rattle.bm_base.specs.Words.{Map, by_number, get, keys, entries, RoundLimits, Cluster, Holdings, State, level, level_number, is_at, state_after_expiry, state_at_choice, RequestedCopy, requested_count, wishes_for, wishes, transfer_for, transfers_from, transfers}
 use Rattle.bm_base.specs.Promises.NextRound.{transfers_chosen}
 use Rattle.std.proofs.lemmas.Option.{same_Some}
 use Rattle.bm_base.proofs.ForEach.{Each, each_of, each_appended, each_then, each_flat_map}

@@ -4,10 +4,7 @@ use Rattle.std.specs.Option.{option_map_or}
 use Rattle.std.proofs.Common.{refl, sym, ◌∙◌}
 use Rattle.std.proofs.lemmas.List.Folds.{list_any-append}
 use Rattle.bm_base.specs.declared.replica.Marks.{Marks}
-use Rattle.bm_base.specs.Maps.Map.{get}
-use Rattle.bm_base.specs.Machine.State.{Cluster, Holdings, replica_at}
-use Rattle.bm_base.specs.Maps.Lists.{has, has_repeats}
-use Rattle.bm_base.specs.Machine.Replicas.{live, drained, sources_of, is_usable, is_live_on, is_drained_on, is_draining, usable}
+use Rattle.bm_base.specs.Words.{get, Cluster, Holdings, replica_at, has, has_repeats, live, drained, sources_of, is_usable, is_live_on, is_drained_on, is_draining, usable}
 use Rattle.bm_base.proofs.Membership.{has_where, once_where}
 
 pub live_once : (C : Cluster) (H : Holdings) (b : ℕ) → has_repeats (live C H b) ≡ false

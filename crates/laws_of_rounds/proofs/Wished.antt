@@ -9,13 +9,7 @@ use Rattle.bm_base.specs.declared.level.Level.{Level}
 use Rattle.bm_base.specs.declared.level.Level.TheVariants.{Highest, VeryUnderReplicated, UnderReplicated, BadlyDistributed, NoUsableReplica}
 use Rattle.bm_base.specs.declared.replica.BlockInfo.{BlockInfo}
 use Rattle.bm_base.specs.declared.commands.Transfer.{Transfer}
-use Rattle.bm_base.specs.Maps.Map.{get, keys, entries}
-use Rattle.bm_base.specs.Machine.State.{RoundLimits, Cluster, Holdings, State}
-use Rattle.bm_base.specs.Maps.Lists.{has, distinct}
-use Rattle.bm_base.specs.Machine.Replicas.{live, drained, sources_of, racks, rack_of, is_multi_rack}
-use Rattle.bm_base.specs.Machine.Levels.{level, level_of, is_at}
-use Rattle.bm_base.specs.Machine.Excess.{state_after_expiry, state_at_choice, with_surplus_marked, without_expired, without_unordered_excess, share_rack}
-use Rattle.bm_base.specs.Machine.Transfers.{RequestedCopy, requested_count, wishes_for, wishes, pending_targets, targets_of, holders_of, excluded_for, is_on_racks, class_of, least_source, least_target, transfer_for, transfers_from, transfers}
+use Rattle.bm_base.specs.Words.{get, keys, entries, RoundLimits, Cluster, Holdings, State, has, distinct, live, drained, sources_of, racks, rack_of, is_multi_rack, level, level_of, is_at, state_after_expiry, state_at_choice, with_surplus_marked, without_expired, without_unordered_excess, share_rack, RequestedCopy, requested_count, wishes_for, wishes, pending_targets, targets_of, holders_of, excluded_for, is_on_racks, class_of, least_source, least_target, transfer_for, transfers_from, transfers}
 use Rattle.bm_base.specs.Promises.NextRound.{transfers_chosen, live_marked}
 use Rattle.laws_of_rounds.specs.Transfers.{copies_chosen, copies_on_their_way}
 use Rattle.std.proofs.lemmas.List.Sums.{length-filter}

@@ -5,12 +5,7 @@ use Rattle.bm_base.specs.declared.replica.ReplicaId.{ReplicaId}
 use Rattle.bm_base.specs.declared.replica.Marks.{Marks}
 use Rattle.bm_base.specs.declared.level.Level.TheVariants.{Highest}
 use Rattle.bm_base.specs.declared.commands.Transfer.{Transfer}
-use Rattle.bm_base.specs.Maps.Map.{get}
-use Rattle.bm_base.specs.Machine.State.{State, replica_at}
-use Rattle.bm_base.specs.Machine.Replicas.{node_of, drains}
-use Rattle.bm_base.specs.Machine.Levels.{level}
-use Rattle.bm_base.specs.Machine.Excess.{state_at_choice}
-use Rattle.bm_base.specs.Machine.Rounds.{whole_round}
+use Rattle.bm_base.specs.Words.{get, State, replica_at, node_of, drains, level, state_at_choice, whole_round}
 use Rattle.bm_base.specs.Promises.NextRound.{IsAmong, IsDeleteCommanded, IsTransferCommanded, transfers_chosen, after_round}
 
 -- each node is commanded transfers from its own storages and deletes on its own storages

@@ -8,13 +8,7 @@ use Rattle.bm_base.specs.declared.replica.Tag.TheVariants.{Good}
 use Rattle.bm_base.specs.declared.replica.Marks.{Marks}
 use Rattle.bm_base.specs.declared.replica.BlockInfo.{BlockInfo}
 use Rattle.bm_base.specs.declared.commands.NodeCommands.{NodeCommands}
-use Rattle.bm_base.specs.Maps.Map.{get}
-use Rattle.bm_base.specs.Machine.State.{State, replica_at, first_state}
-use Rattle.bm_base.specs.Maps.Lists.{has}
-use Rattle.bm_base.specs.Machine.Replicas.{is_usable, is_stray, is_corrupt, node_of, is_draining}
-use Rattle.bm_base.specs.Machine.Excess.{state_at_choice}
-use Rattle.bm_base.specs.Machine.Rounds.{whole_round}
-use Rattle.bm_base.specs.Machine.Calls.{state_after}
+use Rattle.bm_base.specs.Words.{get, State, replica_at, first_state, has, is_usable, is_stray, is_corrupt, node_of, is_draining, state_at_choice, whole_round, state_after}
 use Rattle.bm_base.specs.Promises.NextRound.{IsAmong, IsDeleteCommanded, after_round, live_marked, live_after, drained_after}
 
 -- The last good replica.

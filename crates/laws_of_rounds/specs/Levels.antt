@@ -3,13 +3,7 @@ use Rattle.std.specs.Prelude.{◌≡◌, ℕ, ◌+◌, ◌≤◌, ◌<◌, ◌�
 use Rattle.bm_base.specs.declared.level.Level.{Level}
 use Rattle.bm_base.specs.declared.level.Level.TheVariants.{Highest, VeryUnderReplicated, UnderReplicated, BadlyDistributed, NoUsableReplica}
 use Rattle.bm_base.specs.declared.replica.BlockInfo.{BlockInfo}
-use Rattle.bm_base.specs.Maps.Map.{get}
-use Rattle.bm_base.specs.Machine.State.{Cluster, Holdings, State}
-use Rattle.bm_base.specs.Maps.Lists.{has}
-use Rattle.bm_base.specs.Machine.Replicas.{live, drained, rack_of}
-use Rattle.bm_base.specs.Machine.Levels.{level, level_of}
-use Rattle.bm_base.specs.Machine.Queries.{missing_blocks}
-use Rattle.bm_base.specs.Machine.Events.{set_replication}
+use Rattle.bm_base.specs.Words.{get, Cluster, Holdings, State, has, live, drained, rack_of, level, level_of, missing_blocks, set_replication}
 
 -- How much a block needs replicas, by its level: not at all without a level, and most if no usable
 -- replica is left.

@@ -2,10 +2,7 @@
 use Rattle.std.specs.Prelude.{◌≡◌, ℕ, List, ◌↔◌, true, false, ◌||◌, Some}
 use Rattle.bm_base.specs.declared.replica.Tag.TheVariants.{Good}
 use Rattle.bm_base.specs.declared.replica.Marks.{Marks}
-use Rattle.bm_base.specs.Maps.Map.{get}
-use Rattle.bm_base.specs.Machine.State.{Cluster, Holdings, replica_at}
-use Rattle.bm_base.specs.Maps.Lists.{has, has_repeats}
-use Rattle.bm_base.specs.Machine.Replicas.{live, drained, sources_of, is_usable, is_draining, storages_where, usable}
+use Rattle.bm_base.specs.Words.{get, Cluster, Holdings, replica_at, has, has_repeats, live, drained, sources_of, is_usable, is_draining, storages_where, usable}
 
 -- a storage is among a block's live ones exactly if its replica of the block is good and not in
 -- excess, and its node does not drain

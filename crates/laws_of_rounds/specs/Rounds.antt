@@ -2,8 +2,7 @@
 use Rattle.std.specs.Prelude.{◌≡◌, ℕ, zero, suc, ◌+◌, ◌<◌}
 use Rattle.bm_base.specs.declared.replica.ReplicaId.{ReplicaId}
 use Rattle.bm_base.specs.declared.commands.Transfer.{Transfer}
-use Rattle.bm_base.specs.Machine.State.{State}
-use Rattle.bm_base.specs.Machine.Replicas.{node_of}
+use Rattle.bm_base.specs.Words.{State, node_of}
 use Rattle.bm_base.specs.Promises.NextRound.{IsDeleteCommanded, IsTransferCommanded, after_round}
 
 -- the state n rounds later

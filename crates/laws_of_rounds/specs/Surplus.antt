@@ -4,11 +4,7 @@ use Rattle.bm_base.specs.declared.replica.ReplicaId.{ReplicaId}
 use Rattle.bm_base.specs.declared.replica.Tag.TheVariants.{Good}
 use Rattle.bm_base.specs.declared.replica.Marks.{Marks}
 use Rattle.bm_base.specs.declared.replica.BlockInfo.{BlockInfo}
-use Rattle.bm_base.specs.Maps.Map.{get}
-use Rattle.bm_base.specs.Machine.State.{State, replica_at}
-use Rattle.bm_base.specs.Maps.Lists.{has}
-use Rattle.bm_base.specs.Machine.Replicas.{rack_of, is_draining}
-use Rattle.bm_base.specs.Machine.Excess.{state_at_choice}
+use Rattle.bm_base.specs.Words.{get, State, replica_at, has, rack_of, is_draining, state_at_choice}
 use Rattle.bm_base.specs.Promises.NextRound.{live_unmarked, live_marked, live_after, drained_unmarked, drained_marked, drained_after}
 
 -- Before a round marks, the live replicas are the good ones on nodes that do not drain, except

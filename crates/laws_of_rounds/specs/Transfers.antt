@@ -7,13 +7,7 @@ use Rattle.bm_base.specs.declared.level.Level.{Level}
 use Rattle.bm_base.specs.declared.level.Level.TheVariants.{BadlyDistributed}
 use Rattle.bm_base.specs.declared.storage.StorageInfo.{StorageInfo}
 use Rattle.bm_base.specs.declared.commands.Transfer.{Transfer}
-use Rattle.bm_base.specs.Maps.Map.{get, entries, len}
-use Rattle.bm_base.specs.Machine.State.{State, replica_at}
-use Rattle.bm_base.specs.Maps.Lists.{has}
-use Rattle.bm_base.specs.Machine.Replicas.{node_of, rack_of, has_storage, drains, is_draining}
-use Rattle.bm_base.specs.Machine.Levels.{level, level_number}
-use Rattle.bm_base.specs.Machine.Excess.{state_at_choice}
-use Rattle.bm_base.specs.Machine.Rounds.{whole_round}
+use Rattle.bm_base.specs.Words.{get, entries, len, State, replica_at, has, node_of, rack_of, has_storage, drains, is_draining, level, level_number, state_at_choice, whole_round}
 use Rattle.bm_base.specs.Promises.NextRound.{IsAmong, IsTransferCommanded, transfers_chosen, transfers_commanded, live_marked, drained_marked}
 
 -- a property of each transfer of the next round, given those chosen before it

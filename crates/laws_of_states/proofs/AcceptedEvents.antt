@@ -9,13 +9,7 @@ use Rattle.bm_base.specs.declared.event.Entry.{Entry}
 use Rattle.bm_base.specs.declared.event.Event.{Event}
 use Rattle.bm_base.specs.declared.event.Event.TheVariants.{Register, Dead, StorageFailed, Heartbeat, Drain, Undrain, AddBlock, DeleteBlock, SetReplication, Restamp, Received, Deleted, Corrupt, FullReport}
 use Rattle.bm_base.specs.declared.refusal.Refusal.TheVariants.{UnknownStorage, UnknownBlock, BlockKnown, StillStored, BadReplication, TooMany}
-use Rattle.bm_base.specs.Maps.Map.{Map, get, keep, revise, revise_at, contains_key}
-use Rattle.bm_base.specs.Machine.State.{Cluster, Holdings, State, replica_at, by_replica}
-use Rattle.bm_base.specs.Machine.Replicas.{has_storage}
-use Rattle.bm_base.specs.Machine.Events.{change_cluster, change_holdings, change, add_block, delete_block, set_replication, restamp, make_bad, remove_replica, without_storages, without_pending, change_marks_of_block, enter, report}
-use Rattle.bm_base.specs.Machine.Entries.{expanded}
-use Rattle.bm_base.specs.Machine.Refusals.{first_of, is_too_long, cluster_checks, block_checks, knows_storage, knows_block, is_still_stored, is_bad_replication, refusal_of}
-use Rattle.bm_base.specs.Machine.Calls.{after_event}
+use Rattle.bm_base.specs.Words.{Map, get, keep, revise, revise_at, contains_key, Cluster, Holdings, State, replica_at, by_replica, has_storage, change_cluster, change_holdings, change, add_block, delete_block, set_replication, restamp, make_bad, remove_replica, without_storages, without_pending, change_marks_of_block, enter, report, expanded, first_of, is_too_long, cluster_checks, block_checks, knows_storage, knows_block, is_still_stored, is_bad_replication, refusal_of, after_event}
 use Rattle.bm_base.specs.Promises.Lawful.{IsLawful, IsOrderly, IsLawfulHoldings, HasFittingNumbers}
 use Rattle.bm_base.proofs.Options.{there, is_there, fails_not}
 use Rattle.bm_base.proofs.ForEach.{each_all, each_mapped}

@@ -5,10 +5,7 @@ use Rattle.bm_base.specs.declared.replica.ReplicaId.{ReplicaId}
 use Rattle.bm_base.specs.declared.replica.Marks.{Marks}
 use Rattle.bm_base.specs.declared.commands.Transfer.{Transfer}
 use Rattle.bm_base.specs.declared.commands.Delete.{Delete}
-use Rattle.bm_base.specs.Maps.Map.{get}
-use Rattle.bm_base.specs.Machine.State.{Holdings, State}
-use Rattle.bm_base.specs.Machine.Excess.{state_at_choice}
-use Rattle.bm_base.specs.Machine.Rounds.{end_round, is_commanded, whole_round}
+use Rattle.bm_base.specs.Words.{get, Holdings, State, state_at_choice, end_round, is_commanded, whole_round}
 use Rattle.bm_base.specs.Promises.NextRound.{transfers_chosen, after_round}
 use Rattle.bm_base.proofs.MapLaws.{get-revise}
 use Rattle.laws_of_states.proofs.LawfulRounds.{ordered_tag}

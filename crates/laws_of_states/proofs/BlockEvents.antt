@@ -9,11 +9,7 @@ use Rattle.bm_base.specs.declared.replica.Tag.TheVariants.{Good, Stale, Bad, Str
 use Rattle.bm_base.specs.declared.replica.Marks.{Marks}
 use Rattle.bm_base.specs.declared.replica.Stamp.{Stamp}
 use Rattle.bm_base.specs.declared.replica.BlockInfo.{BlockInfo}
-use Rattle.bm_base.specs.Maps.Map.{Map, by_number, get, insert, keep, revise, revise_at, remove, contains_key}
-use Rattle.bm_base.specs.Machine.State.{Cluster, Holdings, by_replica, replica_cmp}
-use Rattle.bm_base.specs.Machine.Replicas.{is_good, is_stray}
-use Rattle.bm_base.specs.Machine.Events.{add_block, delete_block, set_replication, restamp, make_bad, without_pending, change_marks_of_block, as_stray, as_bad, as_restamped}
-use Rattle.bm_base.specs.Machine.Refusals.{knows_block, is_still_stored, is_bad_replication}
+use Rattle.bm_base.specs.Words.{Map, by_number, get, insert, keep, revise, revise_at, remove, contains_key, Cluster, Holdings, by_replica, replica_cmp, is_good, is_stray, add_block, delete_block, set_replication, restamp, make_bad, without_pending, change_marks_of_block, as_stray, as_bad, as_restamped, knows_block, is_still_stored, is_bad_replication}
 use Rattle.bm_base.specs.declared.limits.TheConstants.{MAX_REPLICATION}
 use Rattle.bm_base.specs.Promises.Lawful.{IsLawfulHoldings}
 use Rattle.bm_base.proofs.MapLaws.{get-remove}

@@ -4,8 +4,7 @@ use Rattle.std.specs.List.{list_any}
 use Rattle.std.proofs.Common.{sym, subst}
 use Rattle.bm_base.specs.declared.replica.ReplicaId.{ReplicaId}
 use Rattle.bm_base.specs.declared.commands.Delete.{Delete}
-use Rattle.bm_base.specs.Machine.State.{State}
-use Rattle.bm_base.specs.Machine.Rounds.{is_commanded}
+use Rattle.bm_base.specs.Words.{State, is_commanded}
 use Rattle.bm_base.specs.Promises.NextRound.{IsAmong, IsDeleteCommanded, deletes_commanded}
 use Rattle.bm_base.proofs.ListTests.{or_left, or_right, same_again}
 use Rattle.laws_of_states.proofs.RoundCommands.{IsTested}

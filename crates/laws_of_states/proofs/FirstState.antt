@@ -5,10 +5,7 @@ use Rattle.bm_base.specs.declared.replica.ReplicaId.{ReplicaId}
 use Rattle.bm_base.specs.declared.replica.Marks.{Marks}
 use Rattle.bm_base.specs.declared.replica.BlockInfo.{BlockInfo}
 use Rattle.bm_base.specs.declared.storage.StorageInfo.{StorageInfo}
-use Rattle.bm_base.specs.Maps.Map.{Order, get, len, empty, entries}
-use Rattle.bm_base.specs.Machine.State.{first_state, empty_cluster, empty_holdings, by_replica}
-use Rattle.bm_base.specs.Maps.Map.{by_number}
-use Rattle.bm_base.specs.Machine.Replicas.{drains}
+use Rattle.bm_base.specs.Words.{Order, get, len, empty, entries, first_state, empty_cluster, empty_holdings, by_replica, by_number, drains}
 use Rattle.bm_base.specs.Promises.Lawful.{IsLawful, IsOrderly}
 use Rattle.bm_base.proofs.MapLaws.{get-empty}
 use Rattle.bm_base.specs.Promises.Fitting.{HasFittingStart}

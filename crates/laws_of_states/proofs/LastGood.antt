@@ -4,12 +4,7 @@ use Rattle.std.proofs.Common.{sym, ap, ◌∙◌}
 use Rattle.bm_base.specs.declared.replica.Tag.TheVariants.{Good}
 use Rattle.bm_base.specs.declared.replica.Marks.{Marks}
 use Rattle.bm_base.specs.declared.replica.BlockInfo.{BlockInfo}
-use Rattle.bm_base.specs.Maps.Map.{get}
-use Rattle.bm_base.specs.Machine.State.{State, replica_at}
-use Rattle.bm_base.specs.Maps.Lists.{has}
-use Rattle.bm_base.specs.Machine.Excess.{state_after_expiry, state_at_choice}
-use Rattle.bm_base.specs.Machine.Rounds.{whole_round}
-use Rattle.bm_base.specs.Machine.Calls.{count_call}
+use Rattle.bm_base.specs.Words.{get, State, replica_at, has, state_after_expiry, state_at_choice, whole_round, count_call}
 use Rattle.bm_base.specs.Promises.Lawful.{IsOrderly}
 use Rattle.bm_base.specs.Promises.Sparing.{SparesLastGood, KeepsEnoughLive}
 use Rattle.bm_base.specs.Promises.NextRound.{after_round, live_after}

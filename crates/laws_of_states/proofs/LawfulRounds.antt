@@ -6,16 +6,7 @@ use Rattle.bm_base.specs.declared.replica.ReplicaId.{ReplicaId}
 use Rattle.bm_base.specs.declared.replica.Marks.{Marks}
 use Rattle.bm_base.specs.declared.commands.Transfer.{Transfer}
 use Rattle.bm_base.specs.declared.commands.Delete.{Delete}
-use Rattle.bm_base.specs.Maps.Map.{Map, get, revise, contains_key}
-use Rattle.bm_base.specs.Machine.State.{Cluster, Holdings, State, by_replica, replica_at}
-use Rattle.bm_base.specs.Maps.Lists.{has}
-use Rattle.bm_base.specs.Machine.Replicas.{is_good, is_stray}
-use Rattle.bm_base.specs.Machine.Excess.{without_expired, without_unordered_excess, excess_in, with_surplus_marked, state_after_expiry, state_at_choice}
-use Rattle.bm_base.specs.Machine.Transfers.{transfers}
-use Rattle.bm_base.specs.Machine.Deletes.{deletes}
-use Rattle.bm_base.specs.Machine.Rounds.{is_commanded, end_round, whole_round}
-use Rattle.bm_base.specs.Machine.Refusals.{round_refusal, last_number}
-use Rattle.bm_base.specs.Machine.Calls.{count_call}
+use Rattle.bm_base.specs.Words.{Map, get, revise, contains_key, Cluster, Holdings, State, by_replica, replica_at, has, is_good, is_stray, without_expired, without_unordered_excess, excess_in, with_surplus_marked, state_after_expiry, state_at_choice, transfers, deletes, is_commanded, end_round, whole_round, round_refusal, last_number, count_call}
 use Rattle.bm_base.specs.Promises.Lawful.{IsLawful, IsOrderly, IsLawfulHoldings, HasFittingNumbers, IsCommandedByNow}
 use Rattle.bm_base.proofs.Options.{there, is_there}
 use Rattle.bm_base.proofs.ForEach.{Each, each_mapped, each_then}

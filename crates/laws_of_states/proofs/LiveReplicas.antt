@@ -6,10 +6,7 @@ use Rattle.std.proofs.lemmas.Bool.{false≢true}
 use Rattle.bm_base.specs.declared.replica.Tag.{Tag}
 use Rattle.bm_base.specs.declared.replica.Tag.TheVariants.{Good, Stale, Bad, Stray}
 use Rattle.bm_base.specs.declared.replica.Marks.{Marks}
-use Rattle.bm_base.specs.Maps.Map.{get}
-use Rattle.bm_base.specs.Machine.State.{Cluster, Holdings, replica_at}
-use Rattle.bm_base.specs.Maps.Lists.{has}
-use Rattle.bm_base.specs.Machine.Replicas.{live, drained, is_usable, is_live_on, is_drained_on, is_draining, is_good}
+use Rattle.bm_base.specs.Words.{get, Cluster, Holdings, replica_at, has, live, drained, is_usable, is_live_on, is_drained_on, is_draining, is_good}
 use Rattle.bm_base.proofs.Options.{not_passed}
 use Rattle.bm_base.proofs.ListTests.{and_first, and_second}
 use Rattle.bm_base.proofs.Membership.{has_where}

@@ -8,12 +8,7 @@ use Rattle.bm_base.specs.declared.replica.Marks.{Marks}
 use Rattle.bm_base.specs.declared.replica.BlockInfo.{BlockInfo}
 use Rattle.bm_base.specs.declared.commands.Transfer.{Transfer}
 use Rattle.bm_base.specs.declared.commands.Delete.{Delete}
-use Rattle.bm_base.specs.Maps.Map.{get, entries}
-use Rattle.bm_base.specs.Machine.State.{Cluster, Holdings, State}
-use Rattle.bm_base.specs.Maps.Lists.{has}
-use Rattle.bm_base.specs.Machine.Replicas.{live, is_usable, is_live_on, is_draining, is_good, storages_where}
-use Rattle.bm_base.specs.Machine.Excess.{state_after_expiry, state_at_choice, without_expired, without_unordered_excess, with_surplus_marked, excess_in, excess_of, excess_among}
-use Rattle.bm_base.specs.Machine.Rounds.{end_round, is_commanded, whole_round}
+use Rattle.bm_base.specs.Words.{get, entries, Cluster, Holdings, State, has, live, is_usable, is_live_on, is_draining, is_good, storages_where, state_after_expiry, state_at_choice, without_expired, without_unordered_excess, with_surplus_marked, excess_in, excess_of, excess_among, end_round, is_commanded, whole_round}
 use Rattle.bm_base.specs.Promises.NextRound.{unmarked, live_unmarked, live_marked, live_after}
 use Rattle.bm_base.proofs.ListTests.{and_never}
 use Rattle.bm_base.proofs.Membership.{listed, revised_where, once_where}

@@ -5,10 +5,7 @@ use Rattle.bm_base.specs.declared.refusal.Refusal.{Refusal}
 use Rattle.bm_base.specs.declared.call.Call.{Call}
 use Rattle.bm_base.specs.declared.call.Call.TheVariants as call
 use Rattle.bm_base.specs.declared.call.Answer.{Answer}
-use Rattle.bm_base.specs.Machine.State.{State, first_state}
-use Rattle.bm_base.specs.Machine.Refusals.{refusal_of, round_refusal, node_refusal, storage_refusal, block_refusal}
-use Rattle.bm_base.specs.Machine.Rounds.{whole_round}
-use Rattle.bm_base.specs.Machine.Calls.{step, refused_or, count_call, state_after}
+use Rattle.bm_base.specs.Words.{State, first_state, refusal_of, round_refusal, node_refusal, storage_refusal, block_refusal, whole_round, step, refused_or, count_call, state_after}
 use Rattle.bm_base.specs.Promises.Lawful.{IsOrderly}
 use Rattle.laws_of_states.proofs.FirstState.{first_orderly}
 use Rattle.laws_of_states.proofs.LawfulRounds.{round_orderly}

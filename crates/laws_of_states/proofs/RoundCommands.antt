@@ -7,13 +7,7 @@ use Rattle.bm_base.specs.declared.replica.Marks.{Marks}
 use Rattle.bm_base.specs.declared.commands.Transfer.{Transfer}
 use Rattle.bm_base.specs.declared.commands.Delete.{Delete}
 use Rattle.bm_base.specs.declared.commands.NodeCommands.{NodeCommands}
-use Rattle.bm_base.specs.Maps.Map.{get, entries, keys}
-use Rattle.bm_base.specs.Machine.State.{RoundLimits, Cluster, Holdings, State, replica_at}
-use Rattle.bm_base.specs.Machine.Replicas.{has_storage}
-use Rattle.bm_base.specs.Machine.Excess.{state_after_expiry, state_at_choice}
-use Rattle.bm_base.specs.Machine.Transfers.{transfers}
-use Rattle.bm_base.specs.Machine.Deletes.{is_deletable, deletable_on, deletes_of, deletes}
-use Rattle.bm_base.specs.Machine.Rounds.{is_commanded, whole_round, commands_of, node_commands, has_commands}
+use Rattle.bm_base.specs.Words.{get, entries, keys, RoundLimits, Cluster, Holdings, State, replica_at, has_storage, state_after_expiry, state_at_choice, transfers, is_deletable, deletable_on, deletes_of, deletes, is_commanded, whole_round, commands_of, node_commands, has_commands}
 use Rattle.bm_base.specs.Promises.NextRound.{deletes_commanded, transfers_commanded}
 use Rattle.bm_base.proofs.ForEach.{Each, each_of, each_take, each_mapped, each_filter_by, each_flat_map, each_any}
 use Rattle.bm_base.proofs.ListTests.{and_first, and_second}

@@ -5,9 +5,7 @@ use Rattle.std.specs.Ordering.{is_lt}
 use Rattle.std.specs.Option.{option_map_or}
 use Rattle.std.proofs.Common.{cond, refl, sym, ap, subst, ◌∙◌, arith}
 use Rattle.std.proofs.lemmas.Bool.{eqb-true, false≢true}
-use Rattle.bm_base.specs.Machine.State.{Cluster}
-use Rattle.bm_base.specs.Maps.Lists.{has, has_repeats, least}
-use Rattle.bm_base.specs.Machine.Excess.{excess_cmp, excess_among}
+use Rattle.bm_base.specs.Words.{Cluster, has, has_repeats, least, excess_cmp, excess_among}
 use Rattle.bm_base.proofs.Clusters.{eqb_turned}
 use Rattle.std.proofs.lemmas.Option.{same_Some}
 use Rattle.bm_base.proofs.ListTests.{count_without, has_filter, once_filter, filter_filter, or_left, or_right, same_again, and_second}

@@ -7,11 +7,7 @@ use Rattle.bm_base.specs.declared.event.Event.{Event}
 use Rattle.bm_base.specs.declared.event.Event.TheVariants.{Heartbeat}
 use Rattle.bm_base.specs.declared.event.Remaining.{Remaining}
 use Rattle.bm_base.specs.declared.refusal.Refusal.{Refusal}
-use Rattle.bm_base.specs.Machine.State.{State, first_state}
-use Rattle.bm_base.specs.Machine.Configuration.{config_refusal}
-use Rattle.bm_base.specs.Machine.Calls.{step}
-use Rattle.bm_base.specs.Machine.Answering.{Refuses, may_run_out_of_memory}
-use Rattle.bm_base.specs.Machine.Refusals.{refusal_number}
+use Rattle.bm_base.specs.Words.{State, first_state, config_refusal, step, Refuses, may_run_out_of_memory, refusal_number}
 use Rattle.bm_answers.specs.declared.asked.Asked.{Asked}
 use Rattle.bm_answers.specs.declared.asked.Asked.TheVariants.{Asks, Long}
 use Rattle.bm_answers.specs.declared.line_answer.LineAnswer.{LineAnswer}

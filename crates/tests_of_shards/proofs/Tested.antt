@@ -2,8 +2,7 @@
 use Rattle.std.proofs.Common.{◌≡◌, false, [], ◌∷◌, ◌++◌, map, refl, ap}
 use Rattle.bm_base.specs.declared.round.Wish.{Wish}
 use Rattle.bm_base.specs.declared.round.RoundPart.{RoundPart}
-use Rattle.bm_base.specs.Maps.Map.{entries, insert, empty}
-use Rattle.bm_base.specs.Maps.Lists.{has_repeats}
+use Rattle.bm_base.specs.Words.{entries, insert, empty, has_repeats}
 use Rattle.bm_base.specs.Ordered.{by_pair, ordered_by}
 use Rattle.bm_base.specs.RoundParts.{wish_key}
 use Rattle.bm_base.specs.Choices.{merged_wishes}

@@ -12,11 +12,7 @@ use Rattle.bm_base.specs.declared.call.Answer.{Answer}
 use Rattle.bm_base.specs.declared.call.Answer.TheVariants as answer
 use Rattle.bm_base.specs.declared.event.Event.{Event}
 use Rattle.bm_base.specs.declared.event.Event.TheVariants.{Register}
-use Rattle.bm_base.specs.Maps.Map.{len}
-use Rattle.bm_base.specs.Machine.State.{State, first_state}
-use Rattle.bm_base.specs.Maps.Lists.{has, has_repeats}
-use Rattle.bm_base.specs.Machine.Refusals.{last_number, knows_node, knows_storage, refusal_of, cluster_checks, block_checks, calls_spent}
-use Rattle.bm_base.specs.Machine.Calls.{answers, done_by, after_event, refused_or, step, state_after}
+use Rattle.bm_base.specs.Words.{len, State, first_state, has, has_repeats, last_number, knows_node, knows_storage, refusal_of, cluster_checks, block_checks, calls_spent, answers, done_by, after_event, refused_or, step, state_after}
 use Rattle.worked_examples.specs.Runs.{run_of}
 use Rattle.worked_examples.specs.Script.{usual, registrations, heartbeats, ok}
 use Rattle.worked_examples.specs.Limits.{numbers_down, as_many_as_may_be, past_the_limit, storages_at_the_limit}

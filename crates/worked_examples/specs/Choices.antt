@@ -10,12 +10,7 @@ use Rattle.bm_base.specs.declared.storage.StorageInfo.{StorageInfo}
 use Rattle.bm_base.specs.declared.level.Level.{Level}
 use Rattle.bm_base.specs.declared.level.Level.TheVariants.{Highest, VeryUnderReplicated, UnderReplicated, BadlyDistributed, NoUsableReplica}
 use Rattle.bm_base.specs.declared.commands.Transfer.{Transfer}
-use Rattle.bm_base.specs.Maps.Map.{empty, insert_all}
-use Rattle.bm_base.specs.Machine.State.{Cluster, Holdings, replica_at}
-use Rattle.bm_base.specs.Machine.Levels.{level_number, level_of}
-use Rattle.bm_base.specs.Machine.Excess.{excess_of, excess_in, without_expired}
-use Rattle.bm_base.specs.Machine.Transfers.{wishes, least_source, least_target, holders_of, excluded_for, transfers}
-use Rattle.bm_base.specs.Machine.Deletes.{deletes}
+use Rattle.bm_base.specs.Words.{empty, insert_all, Cluster, Holdings, replica_at, level_number, level_of, excess_of, excess_in, without_expired, wishes, least_source, least_target, holders_of, excluded_for, transfers, deletes}
 
 -- The cluster.
 

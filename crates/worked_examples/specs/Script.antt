@@ -16,8 +16,7 @@ use Rattle.bm_base.specs.declared.call.Call.{Call}
 use Rattle.bm_base.specs.declared.call.Call.TheVariants as call
 use Rattle.bm_base.specs.declared.call.Answer.{Answer}
 use Rattle.bm_base.specs.declared.call.Answer.TheVariants as answer
-use Rattle.bm_base.specs.Machine.State.{replica_at}
-use Rattle.bm_base.specs.Machine.Configuration.{standard}
+use Rattle.bm_base.specs.Words.{replica_at, standard}
 use Rattle.worked_examples.specs.Runs.{run_of}
 
 -- a call with its answer

@@ -1,6 +1,5 @@
 use Rattle.std.proofs.Common.{◌≡◌, ℕ, take}
-use Rattle.bm_base.specs.Maps.Lists.{has}
-use Rattle.bm_base.specs.Maps.Map.{contains_key}
+use Rattle.bm_base.specs.Words.{has, contains_key}
 use Rattle.cluster_lost.proofs.set_of.Given as goal
 
 abbrev pub invariant-loop-block : goal.invariant-loop-block

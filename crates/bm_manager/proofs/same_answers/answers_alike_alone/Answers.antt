@@ -1,5 +1,4 @@
-use Rattle.bm_base.specs.Machine.State.{first_state}
-use Rattle.bm_base.specs.Machine.Calls.{step}
+use Rattle.bm_base.specs.Words.{first_state, step}
 use Rattle.bm_manager.proofs.SameAnswers.{both_alike}
 use Rattle.bm_manager.proofs.same_answers.answers_alike_alone.Goals as goal
 

@@ -1,6 +1,5 @@
 use Rattle.std.proofs.Common.{◌≡◌, ◌++◌, map, filter, take}
-use Rattle.bm_base.specs.Machine.State.{replica_at}
-use Rattle.bm_base.specs.Machine.Excess.{is_expired}
+use Rattle.bm_base.specs.Words.{replica_at, is_expired}
 use Rattle.bm_pending.proofs.transfer_lists.push_expired.Given as goal
 
 abbrev pub invariant-loop-target : goal.invariant-loop-target

@@ -1,7 +1,6 @@
 use Rattle.std.proofs.Common.{◌≡◌, ◌<◌, ◌≤◌, ◌-◌, ◌==◌, ◌++◌, not, filter, None, Some, ap, refl, sym, ◌∙◌, rules, arith}
 use Rattle.std.proofs.lemmas.Fn.{filter_same}
-use Rattle.bm_base.specs.Maps.Lists.{least}
-use Rattle.bm_base.specs.Machine.Excess.{excess_cmp, excess_among}
+use Rattle.bm_base.specs.Words.{least, excess_cmp, excess_among}
 use Rattle.bm_place.proofs.Surplus.{all_chosen, one_chosen, enough_chosen}
 use Rattle.bm_place.proofs.ComparedHolders.{few_without}
 use Rattle.bm_place.proofs.comparison.push_by_comparison.Goals as goal

@@ -1,6 +1,5 @@
 use Rattle.std.proofs.Common.{◌≡◌, ◌-◌, ◌++◌, ℕ, List, map}
-use Rattle.bm_base.specs.Machine.State.{Cluster}
-use Rattle.bm_base.specs.Machine.Excess.{excess_among}
+use Rattle.bm_base.specs.Words.{Cluster, excess_among}
 use Rattle.bm_place.specs.declared.comparison.Holder.{Holder}
 use Rattle.bm_place.specs.Comparison.{holder_at}
 use Rattle.bm_place.proofs.comparison.push_by_comparison.Given as goal

@@ -4,8 +4,7 @@ use Rattle.std.proofs.Common.{Some}
 use Rattle.bm_place.specs.declared.comparison.Holder.{Holder}
 use Rattle.std.proofs.lemmas.List.{drop_all, length-map}
 use Rattle.std.proofs.lemmas.Option.{slice_get_read}
-use Rattle.bm_base.specs.Machine.Excess.{excess_among}
-use Rattle.bm_base.specs.Machine.Replicas.{rack_of}
+use Rattle.bm_base.specs.Words.{excess_among, rack_of}
 use Rattle.bm_place.specs.Candidates.{is_on}
 use Rattle.bm_place.specs.ReplicaSpread.{is_rack}
 use Rattle.bm_place.specs.Tables.{count_at}

@@ -1,6 +1,5 @@
 use Rattle.std.proofs.Common.{◌++◌, drop, ℕ, List}
-use Rattle.bm_base.specs.Machine.State.{Cluster}
-use Rattle.bm_base.specs.Machine.Excess.{excess_among}
+use Rattle.bm_base.specs.Words.{Cluster, excess_among}
 use Rattle.bm_place.specs.SortedExcess.{AreReady}
 use Rattle.bm_place.proofs.SinglePass.{Passes}
 use Rattle.bm_place.proofs.sorted_excess.push_from_shared_racks.Given as goal

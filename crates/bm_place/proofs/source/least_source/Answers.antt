@@ -1,8 +1,7 @@
 use Rattle.std.proofs.Common.{◌≡◌, ℕ, ap, sym, subst, ◌∙◌}
 use Rattle.std.specs.Option.{IfSome}
 use Rattle.std.specs.Prelude.{nat_lt}
-use Rattle.bm_base.specs.Machine.Replicas.{is_draining}
-use Rattle.bm_base.specs.Machine.Transfers.{least_source, least_source_by, source_cmp, stream_limit}
+use Rattle.bm_base.specs.Words.{is_draining, least_source, least_source_by, source_cmp, stream_limit}
 use Rattle.bm_place.specs.Tables.{count_at}
 use Rattle.bm_place.specs.Sources.{streams_by, transfers_by}
 use Rattle.bm_place.specs.Least.{IsLeastOf}

@@ -1,7 +1,6 @@
 use Rattle.std.proofs.Common.{sym, subst}
 use Rattle.std.specs.Option.{IfSome}
-use Rattle.bm_base.specs.Maps.Map.{keys}
-use Rattle.bm_base.specs.Machine.Transfers.{scheduled_to, least_target, least_target_by, target_cmp, is_target}
+use Rattle.bm_base.specs.Words.{keys, scheduled_to, least_target, least_target_by, target_cmp, is_target}
 use Rattle.bm_place.specs.Least.{IsLeastOf}
 use Rattle.bm_place.specs.Found.{HasFreeBytesFor}
 use Rattle.bm_place.proofs.Best.{least-bears}

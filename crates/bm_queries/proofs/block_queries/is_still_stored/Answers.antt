@@ -1,8 +1,7 @@
 use Rattle.std.proofs.Common.{◌≡◌, ℕ, false, Option, ap, ◌∙◌, subst}
 use Rattle.std.specs.Option.{option_map_or}
 use Rattle.std.specs.List.{list_any}
-use Rattle.bm_base.specs.Machine.Refusals.{is_still_stored}
-use Rattle.bm_base.specs.Machine.Replicas.{is_stray}
+use Rattle.bm_base.specs.Words.{is_still_stored, is_stray}
 use Rattle.bm_arena.specs.Contents.{Contents}
 use Rattle.bm_arena.specs.Holding.{replicas_at}
 use Rattle.bm_levels.specs.Held.{holdings_with}

@@ -1,7 +1,6 @@
 use Rattle.std.proofs.Common.{◌≡◌, ◌++◌, ℕ, [], Option, ap, ◌∙◌, subst}
 use Rattle.std.specs.Option.{option_map_or}
-use Rattle.bm_base.specs.Machine.Queries.{places}
-use Rattle.bm_base.specs.Machine.Replicas.{is_good}
+use Rattle.bm_base.specs.Words.{places, is_good}
 use Rattle.bm_arena.specs.Contents.{Contents}
 use Rattle.bm_arena.specs.Holding.{replicas_at}
 use Rattle.bm_levels.specs.Held.{holdings_with}

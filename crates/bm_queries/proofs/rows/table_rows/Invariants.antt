@@ -1,8 +1,6 @@
 use Rattle.std.proofs.Common.{◌≡◌, ℕ, map, take}
 use Rattle.bm_base.specs.declared.limits.TheConstants.{MAX_PLACES}
-use Rattle.bm_base.specs.Maps.Map.{Map}
-use Rattle.bm_base.specs.Machine.State.{by_replica}
-use Rattle.bm_base.specs.Machine.Queries.{places}
+use Rattle.bm_base.specs.Words.{Map, by_replica, places}
 use Rattle.bm_levels.specs.Held.{holdings_with}
 use Rattle.bm_queries.proofs.rows.table_rows.Given as goal
 

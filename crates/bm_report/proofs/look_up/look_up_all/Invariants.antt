@@ -1,11 +1,10 @@
 use Rattle.std.proofs.Common.{[], ◌≡◌, ℕ, true, false, ◌++◌, map, drop}
 use Rattle.bm_arena.specs.Contents.{slot_of}
-use Rattle.bm_base.specs.Machine.Events.{is_named}
+use Rattle.bm_base.specs.Words.{is_named, expanded}
 use Rattle.bm_report.specs.DuringReport.{AreAtSlots, HaveCapacity, reported_of}
 use Rattle.bm_report.specs.Aborted.{NamesNew}
 use Rattle.bm_report.specs.Ready.{HaveReplicas}
 use Rattle.bm_report.specs.Expanded.{IsPrepared, of_part, reported_to_part}
-use Rattle.bm_base.specs.Machine.Entries.{expanded}
 use Rattle.bm_report.proofs.look_up.look_up_all.Given as goal
 
 abbrev pub invariant-loop-place : goal.invariant-loop-place

@@ -1,7 +1,6 @@
 use Rattle.std.proofs.Common.{◌≡◌, ◌+◌, ◌-◌, ◌++◌, ℕ, true, false, map}
-use Rattle.bm_base.specs.Machine.Events.{is_named}
+use Rattle.bm_base.specs.Words.{is_named, blocks_of_entry}
 use Rattle.bm_arena.specs.Contents.{slot_of}
-use Rattle.bm_base.specs.Machine.Entries.{blocks_of_entry}
 use Rattle.bm_base.specs.Shards.{shard_of}
 use Rattle.bm_report.specs.DuringReport.{AreAtSlots, HaveCapacity, reported_of}
 use Rattle.bm_report.specs.Aborted.{NamesNew}

@@ -1,7 +1,6 @@
 use Rattle.std.proofs.Common.{List, sym, subst}
 use Rattle.std.specs.Prelude.{IsTrue}
-use Rattle.bm_base.specs.Machine.Entries.{ReportedBlock}
-use Rattle.bm_base.specs.Machine.Events.{is_named}
+use Rattle.bm_base.specs.Words.{ReportedBlock, is_named}
 use Rattle.bm_report.proofs.Places.{places_of}
 use Rattle.bm_report.proofs.uncached_report.ready.Goals as goal
 

@@ -1,9 +1,7 @@
 use Rattle.std.proofs.Common.{◌≤◌, ◌∙◌, length, filter, sym, subst}
 use Rattle.std.specs.Prelude.{◌*◌}
 use Rattle.std.specs.List.{All}
-use Rattle.bm_base.specs.Maps.Map.{len}
-use Rattle.bm_base.specs.Machine.State.{limits_of}
-use Rattle.bm_base.specs.Machine.Replicas.{has_storage}
+use Rattle.bm_base.specs.Words.{len, limits_of, has_storage}
 use Rattle.bm_base.specs.Choices.{merged_wishes}
 use Rattle.bm_round.specs.Copies.{IsCopyOf}
 use Rattle.bm_round.proofs.Bounds.{few_transfers, few_deletes}

@@ -1,7 +1,6 @@
 use Rattle.std.proofs.Common.{ap, sym, length, ◌∙◌}
 use Rattle.std.specs.Prelude.{◌*◌, nat_le}
-use Rattle.bm_base.specs.Maps.Map.{len}
-use Rattle.bm_base.specs.Machine.State.{limits_of}
+use Rattle.bm_base.specs.Words.{len, limits_of}
 use Rattle.bm_round.proofs.First.{full_by_first}
 use Rattle.bm_round.proofs.choice.is_full.Goals as goal
 

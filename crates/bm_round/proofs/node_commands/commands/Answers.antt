@@ -2,9 +2,7 @@ use Rattle.std.proofs.Common.{◌≡◌, true, map, filter, sym, subst, ◌∙�
 use Rattle.std.specs.List.{All}
 use Rattle.std.specs.Ordering.{nat_cmp}
 use Rattle.std.specs.FinMap.{is_sorted}
-use Rattle.bm_base.specs.Maps.Map.{keys}
-use Rattle.bm_base.specs.Machine.Replicas.{has_storage}
-use Rattle.bm_base.specs.Machine.Rounds.{node_commands, has_commands, commands_of}
+use Rattle.bm_base.specs.Words.{keys, has_storage, node_commands, has_commands, commands_of}
 use Rattle.bm_round.proofs.NodeCommands.{nodes_ascend, each_has_commands, own_transfers, own_deletes}
 use Rattle.bm_round.proofs.node_commands.commands.Goals as goal
 

@@ -1,6 +1,5 @@
 use Rattle.std.proofs.Common.{◌≡◌, [], map, take}
-use Rattle.bm_base.specs.Maps.Map.{keys}
-use Rattle.bm_base.specs.Machine.Rounds.{node_commands}
+use Rattle.bm_base.specs.Words.{keys, node_commands}
 use Rattle.bm_round.specs.NodeIndex.{IsLookedUp}
 use Rattle.bm_round.proofs.node_commands.commands_by_node.Given as goal
 

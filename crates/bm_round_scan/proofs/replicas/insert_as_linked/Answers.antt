@@ -1,11 +1,9 @@
 use Rattle.std.proofs.Common.{◌≡◌, ℕ, List, ◌∷◌, ◌+◌, drop, ap, sym, ◌∙◌, arith}
 use Rattle.bm_base.specs.declared.replica.Marks.{Marks}
-use Rattle.bm_base.specs.Maps.Map.{Map, insert}
-use Rattle.bm_base.specs.Machine.State.{by_replica, replica_at}
+use Rattle.bm_base.specs.Words.{Map, insert, by_replica, replica_at, with_excess_reset}
 use Rattle.bm_arena.specs.Holding.{replicas_at}
 use Rattle.bm_arena.specs.Contents.{block_at}
 use Rattle.bm_levels.proofs.Slots.{next_at, none_at}
-use Rattle.bm_base.specs.Machine.Excess.{with_excess_reset}
 use Rattle.bm_round_scan.specs.Marking.{insert_on}
 use Rattle.bm_round_scan.proofs.replicas.insert_as_linked.Goals as goal
 use Rattle.bm_round_scan.proofs.replicas.insert_as_linked.Goals.{in-Some+in_ok-insert, in_default}

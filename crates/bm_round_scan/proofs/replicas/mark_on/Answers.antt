@@ -3,9 +3,7 @@ use Rattle.std.proofs.Common.{◌≡◌, ◌≤◌, ◌+◌, ◌++◌, ℕ, zero
 use Rattle.std.proofs.lemmas.Option.{slice_get_within}
 use Rattle.bm_base.specs.declared.replica.ReplicaId.{ReplicaId}
 use Rattle.bm_base.specs.declared.replica.Marks.{Marks}
-use Rattle.bm_base.specs.Maps.Map.{entries, len}
-use Rattle.bm_base.specs.Machine.State.{by_replica}
-use Rattle.bm_base.specs.Maps.Lists.{has}
+use Rattle.bm_base.specs.Words.{entries, len, by_replica, has}
 use Rattle.bm_base.proofs.MapLaws.{revise-mapped}
 use Rattle.bm_round_scan.specs.Marking.{marked_if}
 use Rattle.bm_round_scan.proofs.replicas.mark_on.Goals as goal

@@ -1,6 +1,5 @@
 use Rattle.std.proofs.Common.{◌≡◌, ◌++◌, map, take, drop}
-use Rattle.bm_base.specs.Maps.Map.{entries}
-use Rattle.bm_base.specs.Maps.Lists.{has}
+use Rattle.bm_base.specs.Words.{entries, has}
 use Rattle.bm_round_scan.specs.Marking.{marked_if}
 use Rattle.bm_round_scan.proofs.replicas.mark_on.Given as goal
 

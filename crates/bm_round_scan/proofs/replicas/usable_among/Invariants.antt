@@ -1,8 +1,7 @@
 use Rattle.std.proofs.Common.{◌≡◌, ◌++◌, ℕ, List, drop}
 use Rattle.bm_base.specs.declared.replica.ReplicaId.{ReplicaId}
 use Rattle.bm_base.specs.declared.replica.Marks.{Marks}
-use Rattle.bm_base.specs.Machine.State.{Cluster}
-use Rattle.bm_base.specs.Machine.Replicas.{is_live_on, is_drained_on}
+use Rattle.bm_base.specs.Words.{Cluster, is_live_on, is_drained_on}
 use Rattle.bm_round_scan.specs.Marking.{storages_in}
 use Rattle.bm_round_scan.proofs.replicas.usable_among.Given as goal
 

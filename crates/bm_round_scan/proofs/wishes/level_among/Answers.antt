@@ -1,7 +1,6 @@
 use Rattle.std.proofs.Common.{length, false, ◌∙◌, arith}
 use Rattle.std.specs.Prelude.{filter_map}
-use Rattle.bm_base.specs.Machine.Replicas.{rack_of, racks, is_multi_rack}
-use Rattle.bm_base.specs.Machine.Levels.{level_of}
+use Rattle.bm_base.specs.Words.{rack_of, racks, is_multi_rack, level_of}
 use Rattle.bm_base.proofs.Distinct.{level_of-spread}
 use Rattle.bm_round_scan.proofs.RacksSpared.{few_live, not_on_one}
 use Rattle.bm_round_scan.proofs.wishes.level_among.Goals as goal

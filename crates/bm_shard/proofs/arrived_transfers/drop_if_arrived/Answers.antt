@@ -1,6 +1,5 @@
 use Rattle.std.proofs.Common.{sym, ◌∙◌}
-use Rattle.bm_base.specs.Maps.Map.{contains_key}
-use Rattle.bm_base.specs.Machine.State.{replica_at}
+use Rattle.bm_base.specs.Words.{contains_key, replica_at}
 use Rattle.bm_arena.specs.Holding.{replicas_of}
 use Rattle.bm_arena.proofs.Words.{not_and}
 use Rattle.bm_shard.proofs.Arrivals.{dropped-one, dropped-none, none_to_drop}

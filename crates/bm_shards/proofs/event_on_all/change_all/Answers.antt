@@ -1,6 +1,5 @@
 use Rattle.std.proofs.Common.{◌∙◌, ap}
-use Rattle.bm_base.specs.Machine.Events.{change_holdings}
-use Rattle.bm_base.specs.Machine.Calls.{done}
+use Rattle.bm_base.specs.Words.{change_holdings, done}
 use Rattle.bm_shards.specs.Whole.{held_by}
 use Rattle.bm_shards.proofs.SameShards.{all_same_again, still_shards, same_held, same_took, same_stands}
 use Rattle.bm_shards.proofs.event_on_all.change_all.Goals as goal

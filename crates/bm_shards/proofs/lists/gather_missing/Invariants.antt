@@ -1,7 +1,6 @@
 use Rattle.std.proofs.Common.{◌≡◌, take}
 use Rattle.std.specs.List.{flat_map}
-use Rattle.bm_base.specs.Machine.State.{Cluster}
-use Rattle.bm_base.specs.Machine.Queries.{missing_blocks}
+use Rattle.bm_base.specs.Words.{Cluster, missing_blocks}
 use Rattle.bm_shards.specs.Whole.{AreUpToDate}
 use Rattle.bm_shards.proofs.lists.gather_missing.Given as goal
 

@@ -1,7 +1,6 @@
 use Rattle.std.proofs.Common.{◌≡◌, ◌∙◌, ◌+◌, ap, sym, arith, fold, take}
 use Rattle.std.proofs.lemmas.Result.{err_from_is_err_and}
-use Rattle.bm_base.specs.Machine.State.{State}
-use Rattle.bm_base.specs.Machine.Calls.{after_event}
+use Rattle.bm_base.specs.Words.{State, after_event}
 use Rattle.callers.proofs.Stops.{one_more, stops_at, stops_behind, calls_of-after_event}
 use Rattle.callers.proofs.concurrent_reader.apply_all.Goals as goal
 

@@ -1,6 +1,5 @@
 use Rattle.std.proofs.Common.{◌≡◌, ◌&&◌, not, filter, take}
-use Rattle.bm_base.specs.Machine.Refusals.{knows_storage}
-use Rattle.bm_base.specs.Machine.Replicas.{is_draining}
+use Rattle.bm_base.specs.Words.{knows_storage, is_draining}
 use Rattle.callers.proofs.storages.find_serving.Given as goal
 
 -- the list has those of the storages so far that serve

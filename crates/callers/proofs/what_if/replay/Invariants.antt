@@ -1,6 +1,5 @@
 use Rattle.std.proofs.Common.{◌≡◌, drop}
-use Rattle.bm_base.specs.Machine.State.{first_state}
-use Rattle.bm_base.specs.Machine.Calls.{state_after}
+use Rattle.bm_base.specs.Words.{first_state, state_after}
 use Rattle.callers.proofs.what_if.replay.Given as goal
 
 -- the remaining calls lead from this state to the state after all calls

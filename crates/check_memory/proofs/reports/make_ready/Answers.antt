@@ -3,8 +3,7 @@ use Rattle.std.proofs.lemmas.Bool.{false≢true}
 use Rattle.std.proofs.lemmas.Option.{none-some}
 use Rattle.std.specs.Option.{IsSome}
 use Rattle.bm_base.specs.declared.replica.Marks.{Marks}
-use Rattle.bm_base.specs.Maps.Map.{Map, empty, get}
-use Rattle.bm_base.specs.Machine.State.{Cluster, by_replica}
+use Rattle.bm_base.specs.Words.{Map, empty, get, Cluster, by_replica}
 use Rattle.bm_base.proofs.MapLaws.{get-empty}
 use Rattle.bm_arena.specs.Contents.{Contents}
 use Rattle.bm_arena.specs.Holding.{replicas_of, replicas_among}

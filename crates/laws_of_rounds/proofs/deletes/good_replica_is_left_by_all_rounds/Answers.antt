@@ -1,5 +1,4 @@
-use Rattle.bm_base.specs.Machine.State.{first_state, replica_at}
-use Rattle.bm_base.specs.Machine.Calls.{state_after}
+use Rattle.bm_base.specs.Words.{first_state, replica_at, state_after}
 use Rattle.laws_of_states.proofs.OrderlyStates.{calls_orderly}
 use Rattle.laws_of_rounds.proofs.Ordered.{done_reached, good_stays}
 use Rattle.laws_of_states.proofs.CommandedDeletes.{tested}

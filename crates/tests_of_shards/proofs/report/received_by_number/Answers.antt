@@ -3,8 +3,7 @@ use Rattle.std.specs.Prelude.{IsTrue}
 use Rattle.std.proofs.Math.Nat.{mod-one}
 use Rattle.bm_base.specs.declared.ids.Part.{Part}
 use Rattle.bm_base.specs.declared.event.Entry.{Entry}
-use Rattle.bm_base.specs.Machine.Entries.{ReportedBlock}
-use Rattle.bm_base.specs.Machine.Events.{is_named}
+use Rattle.bm_base.specs.Words.{ReportedBlock, is_named}
 use Rattle.bm_report.specs.Expanded.{reported_to_part}
 use Rattle.bm_report.specs.Ready.{HasSlotsFor}
 use Rattle.bm_report.proofs.SingleReplicas.{ok_then, simple_once}

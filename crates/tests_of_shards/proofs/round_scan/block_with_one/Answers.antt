@@ -6,10 +6,7 @@ use Rattle.bm_base.specs.declared.replica.ReplicaId.{ReplicaId}
 use Rattle.bm_base.specs.declared.replica.Marks.{Marks}
 use Rattle.bm_base.specs.declared.replica.Stamp.{Stamp}
 use Rattle.bm_base.specs.declared.storage.StorageInfo.{StorageInfo}
-use Rattle.bm_base.specs.Maps.Map.{Map, get, empty, keep, contains_key}
-use Rattle.bm_base.specs.Machine.State.{Cluster, Holdings, by_replica, replica_cmp, replica_at}
-use Rattle.bm_base.specs.Machine.Replicas.{node_of}
-use Rattle.bm_base.specs.Machine.Events.{enter, entered_marks, replaces}
+use Rattle.bm_base.specs.Words.{Map, get, empty, keep, contains_key, Cluster, Holdings, by_replica, replica_cmp, replica_at, node_of, enter, entered_marks, replaces}
 use Rattle.bm_base.proofs.MapLaws.{get-empty, get-insert}
 use Rattle.bm_base.proofs.MapEntries.{same_key, get_kept}
 use Rattle.bm_base.proofs.Options.{there, is_there}

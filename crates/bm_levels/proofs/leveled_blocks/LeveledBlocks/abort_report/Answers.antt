@@ -1,6 +1,5 @@
 use Rattle.std.proofs.Common.{subst}
-use Rattle.bm_base.specs.Machine.State.{Cluster}
-use Rattle.bm_base.specs.Machine.Events.{is_named}
+use Rattle.bm_base.specs.Words.{Cluster, is_named}
 use Rattle.bm_report.specs.Ready.{reported_blocks}
 use Rattle.bm_report.proofs.Preparation.{prepared-none}
 use Rattle.bm_levels.specs.Leveled.{Leveled, AreLevels}

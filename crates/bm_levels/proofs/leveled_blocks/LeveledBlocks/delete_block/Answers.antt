@@ -1,9 +1,8 @@
 use Rattle.std.proofs.Common.{◌≡◌, ◌∙◌, Some, None, sym, ap}
 use Rattle.std.specs.Prelude.{nat_eq}
 use Rattle.std.specs.Map.{lookup}
-use Rattle.bm_base.specs.Maps.Map.{get}
+use Rattle.bm_base.specs.Words.{get, as_stray}
 use Rattle.bm_base.proofs.MapEntries.{get_taken}
-use Rattle.bm_base.specs.Machine.Events.{as_stray}
 use Rattle.bm_arena.specs.Contents.{slot_of}
 use Rattle.bm_arena.specs.Holding.{blocks_of, info_at}
 use Rattle.bm_levels.proofs.RevisedHoldings.{remove_absent, block_absent, replicas_absent, known_at, entry_left}

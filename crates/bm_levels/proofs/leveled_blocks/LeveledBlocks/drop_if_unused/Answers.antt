@@ -1,7 +1,6 @@
 use Rattle.std.proofs.Common.{◌≡◌, ℕ, Bool, Option, Some, None, not, subst, sym, ap, ◌∙◌}
 use Rattle.std.specs.Prelude.{◌≢◌, IsSome}
-use Rattle.bm_base.specs.Machine.State.{Cluster}
-use Rattle.bm_base.specs.Machine.Replicas.{rack_of, is_draining, is_multi_rack}
+use Rattle.bm_base.specs.Words.{Cluster, rack_of, is_draining, is_multi_rack}
 use Rattle.bm_arena.specs.Contents.{slot_of}
 use Rattle.bm_arena.specs.Holding.{blocks_of, replicas_of}
 use Rattle.bm_base.proofs.Options.{not_there}

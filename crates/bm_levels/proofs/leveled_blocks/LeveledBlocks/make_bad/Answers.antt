@@ -1,6 +1,5 @@
 use Rattle.std.proofs.Common.{◌∙◌, sym}
-use Rattle.bm_base.specs.Machine.State.{replica_at}
-use Rattle.bm_base.specs.Machine.Events.{as_bad}
+use Rattle.bm_base.specs.Words.{replica_at, as_bad}
 use Rattle.bm_maps.proofs.ReplaceLaws.{no_change}
 use Rattle.bm_arena.specs.Holding.{replicas_of}
 use Rattle.bm_report.proofs.Maps.{get-here}

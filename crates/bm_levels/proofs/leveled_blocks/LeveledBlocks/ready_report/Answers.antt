@@ -1,6 +1,5 @@
 use Rattle.std.proofs.Common.{◌≡◌, ℕ, not, subst, sym, ap, ◌∙◌}
-use Rattle.bm_base.specs.Machine.State.{Cluster}
-use Rattle.bm_base.specs.Machine.Events.{is_named}
+use Rattle.bm_base.specs.Words.{Cluster, is_named}
 use Rattle.bm_arena.specs.Contents.{Contents, HasHead}
 use Rattle.bm_report.specs.Expanded.{reported_to_part}
 use Rattle.bm_report.specs.Ready.{reported_blocks, HaveReplicas}

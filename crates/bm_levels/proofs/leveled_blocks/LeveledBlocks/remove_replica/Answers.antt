@@ -1,8 +1,7 @@
 use Rattle.std.proofs.Common.{◌≡◌, ◌∙◌, Some, None, sym, ap, not}
 use Rattle.std.specs.Prelude.{is_some, nat_eq}
 use Rattle.std.specs.Map.{lookup}
-use Rattle.bm_base.specs.Maps.Map.{get}
-use Rattle.bm_base.specs.Machine.State.{replica_at}
+use Rattle.bm_base.specs.Words.{get, replica_at}
 use Rattle.bm_arena.specs.Contents.{slot_of}
 use Rattle.bm_arena.specs.Holding.{replicas_of, blocks_of, info_at}
 use Rattle.bm_base.proofs.Options.{not_there}

@@ -1,7 +1,6 @@
 use Rattle.std.proofs.Common.{subst, inl, inr, Some}
 use Rattle.std.specs.Prelude.{if◌then◌else◌}
-use Rattle.bm_base.specs.Machine.Replicas.{rack_of}
-use Rattle.bm_base.specs.Machine.Events.{drain, undrain}
+use Rattle.bm_base.specs.Words.{rack_of, drain, undrain}
 use Rattle.bm_levels.specs.Status.{drains_after_change}
 use Rattle.bm_levels.specs.Leveled.{Leveled, AreLevels}
 use Rattle.bm_levels.proofs.LeavingReplicas.{held_on}

@@ -1,6 +1,5 @@
 use Rattle.std.proofs.Common.{◌≡◌, ◌≤◌, length, [], ◌++◌, ap, sym, subst, ◌∙◌, append-nil, drop, drop_of_length-le, arith}
-use Rattle.bm_base.specs.Machine.Answering.{MayAnswerAll, state_after_answers}
-use Rattle.bm_base.specs.Machine.Calls.{step}
+use Rattle.bm_base.specs.Words.{MayAnswerAll, state_after_answers, step}
 use Rattle.bm_manager.proofs.manager.Manager.answer_all_with.Given.{Over}
 use Rattle.bm_manager.proofs.manager.Manager.answer_all_with.Goals as goal
 

@@ -1,7 +1,6 @@
 use Rattle.std.proofs.Common.{◌≡◌, ◌≤◌, List, ◌++◌, drop, length, vec_len, vec_capacity}
 use Rattle.bm_base.specs.declared.call.Answer.{Answer}
-use Rattle.bm_base.specs.Machine.Answering.{MayAnswerAll, state_after_answers}
-use Rattle.bm_base.specs.Machine.Calls.{step}
+use Rattle.bm_base.specs.Words.{MayAnswerAll, state_after_answers, step}
 use Rattle.bm_manager.proofs.manager.Manager.answer_all_with.Given as goal
 
 -- the answers so far, with any that the remaining calls may give, are answers that all the calls

@@ -2,8 +2,7 @@
 -- memory.
 use Rattle.std.proofs.Common.{ap, sym, subst, ◌∙◌, refl}
 use Rattle.bm_base.specs.declared.call.Answer.TheVariants as answer
-use Rattle.bm_base.specs.Machine.Answering.{MayAnswer, state_after_answer}
-use Rattle.bm_base.specs.Machine.Calls.{step}
+use Rattle.bm_base.specs.Words.{MayAnswer, state_after_answer, step}
 use Rattle.bm_manager.proofs.Runs.{ok_answer, ok_left, err_answer, err_left, step_answer, memory_answer, step_apply, step_round, step_replicas, step_corrupt, step_excess, step_blocks_on, step_missing, step_places, step_level, step_retired, step_calls, step_rounds}
 use Rattle.bm_manager.proofs.manager.Manager.answer_with.Goals as goal
 

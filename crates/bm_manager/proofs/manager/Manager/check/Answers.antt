@@ -1,7 +1,6 @@
 use Rattle.std.proofs.Common.{ap, sym, ◌∙◌, arith, Err}
 use Rattle.std.proofs.lemmas.Result.{err_from_is_err_and}
-use Rattle.bm_base.specs.Machine.Refusals.{refusal_of}
-use Rattle.bm_base.specs.Machine.Answering.{checked}
+use Rattle.bm_base.specs.Words.{refusal_of, checked}
 use Rattle.bm_manager.specs.contracts.manager.Manager.{the_view}
 use Rattle.bm_manager.proofs.Checks.{refused_by_cluster, refused_by_blocks, passed_by_both, calls_spent-last, calls_spent-below}
 use Rattle.bm_manager.proofs.manager.Manager.check.Goals as goal

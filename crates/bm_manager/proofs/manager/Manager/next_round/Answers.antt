@@ -1,7 +1,5 @@
 use Rattle.std.proofs.Common.{◌<◌, ap, sym, subst, ◌∙◌}
-use Rattle.bm_base.specs.Machine.Rounds.{whole_round}
-use Rattle.bm_base.specs.Machine.Calls.{count_call}
-use Rattle.bm_base.specs.Machine.Refusals.{last_number}
+use Rattle.bm_base.specs.Words.{whole_round, count_call, last_number}
 use Rattle.bm_manager.specs.contracts.manager.Manager.{the_view}
 use Rattle.bm_manager.proofs.ManagerRounds.{whole_commands, whole_state}
 use Rattle.bm_manager.proofs.Lawfulness.{next_manager}

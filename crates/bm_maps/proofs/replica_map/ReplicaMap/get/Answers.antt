@@ -1,8 +1,7 @@
 use Rattle.std.proofs.Common.{ap, sym, ◌∙◌}
 use Rattle.std.specs.FinMap.{find}
-use Rattle.bm_base.specs.Maps.Map.{get}
+use Rattle.bm_base.specs.Words.{get, replica_cmp, by_replica}
 use Rattle.bm_base.proofs.OfSorted.{get-of_sorted}
-use Rattle.bm_base.specs.Machine.State.{replica_cmp, by_replica}
 use Rattle.bm_maps.proofs.replica_map.ReplicaMap.get.Goals as goal
 
 pub returns : goal.returns

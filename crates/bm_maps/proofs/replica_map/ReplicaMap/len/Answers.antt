@@ -1,7 +1,6 @@
 use Rattle.std.proofs.Common.{ap, sym, ◌∙◌}
-use Rattle.bm_base.specs.Maps.Map.{len}
+use Rattle.bm_base.specs.Words.{len, by_replica}
 use Rattle.bm_base.proofs.OfSorted.{len-of_sorted}
-use Rattle.bm_base.specs.Machine.State.{by_replica}
 use Rattle.bm_maps.proofs.replica_map.ReplicaMap.len.Goals as goal
 
 pub returns : goal.returns

@@ -1,9 +1,8 @@
 use Rattle.std.proofs.Common.{rules, not, ◌&&◌, ◌∙◌, sym, filter}
 use Rattle.std.specs.Prelude.{◌==◌}
 use Rattle.std.proofs.lemmas.Fn.{filter_same}
-use Rattle.bm_base.specs.Maps.Map.{entries}
+use Rattle.bm_base.specs.Words.{entries, by_replica}
 use Rattle.bm_base.proofs.MapLaws.{remove-filter}
-use Rattle.bm_base.specs.Machine.State.{by_replica}
 use Rattle.bm_base.proofs.Ties.{replica_tie}
 use Rattle.bm_maps.proofs.replica_map.ReplicaMap.remove.Goals as goal
 

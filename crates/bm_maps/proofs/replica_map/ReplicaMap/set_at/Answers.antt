@@ -1,6 +1,5 @@
 use Rattle.std.proofs.Common.{◌≡◌, length, ap, sym, ◌∙◌, arith}
-use Rattle.bm_base.specs.Maps.Map.{len}
-use Rattle.bm_base.specs.Machine.State.{by_replica}
+use Rattle.bm_base.specs.Words.{len, by_replica}
 use Rattle.bm_base.proofs.OfSorted.{len-of_sorted}
 use Rattle.bm_maps.proofs.SortedLaws.{is_sorted-set_read, entries-set_read}
 use Rattle.bm_maps.proofs.replica_map.ReplicaMap.set_at.Goals as goal

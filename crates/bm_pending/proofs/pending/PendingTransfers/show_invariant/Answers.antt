@@ -1,8 +1,7 @@
 use Rattle.std.proofs.Common.{◌≡◌, true, ap, ◌∙◌, subst, nat_eq}
 use Rattle.std.specs.Prelude.{IsSome}
 use Rattle.std.specs.List.{IsDistinct}
-use Rattle.bm_base.specs.Maps.Map.{get}
-use Rattle.bm_base.specs.Maps.Lists.{has}
+use Rattle.bm_base.specs.Words.{get, has}
 use Rattle.bm_pending.specs.PendingMap.{PendingMap, blocks_in}
 use Rattle.bm_pending.proofs.ByPlaces.{places-seen, place-had, keys-seen}
 use Rattle.bm_pending.proofs.pending.PendingTransfers.show_invariant.Goals as goal

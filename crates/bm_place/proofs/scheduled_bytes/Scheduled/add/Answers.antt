@@ -1,7 +1,6 @@
 use Rattle.std.proofs.Common.{ap, sym, subst, ◌+◌, ◌≤◌, ◌∙◌}
 use Rattle.std.specs.Option.{IfSome}
-use Rattle.bm_base.specs.Maps.Map.{get, revise_at}
-use Rattle.bm_base.specs.Machine.Transfers.{scheduled_to}
+use Rattle.bm_base.specs.Words.{get, revise_at, scheduled_to}
 use Rattle.bm_place.specs.declared.scheduled_bytes.TargetRow.{TargetRow}
 use Rattle.bm_place.specs.Targets.{target_table}
 use Rattle.bm_place.specs.NodeStorages.{HaveNodeStorages, AreByNode}

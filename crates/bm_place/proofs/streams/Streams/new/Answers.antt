@@ -1,7 +1,6 @@
 use Rattle.std.proofs.Common.{refl, ap, sym, map, ◌∙◌, arith}
-use Rattle.bm_base.specs.Maps.Map.{get, keys, insert_all}
+use Rattle.bm_base.specs.Words.{get, keys, insert_all, node_number}
 use Rattle.bm_base.proofs.MapEntries.{get_here}
-use Rattle.bm_base.specs.Machine.Transfers.{node_number}
 use Rattle.bm_place.specs.Tables.{table, listed}
 use Rattle.bm_place.specs.Sources.{sender_table, transfers_by}
 use Rattle.bm_place.proofs.Tables.{row_made, row_made_of, made_past, made_past_of, none_behind}

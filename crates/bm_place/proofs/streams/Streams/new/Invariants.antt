@@ -1,7 +1,6 @@
 use Rattle.std.proofs.Common.{◌≡◌, Some, drop, map}
 use Rattle.std.specs.Option.{IfSome}
-use Rattle.bm_base.specs.Maps.Map.{get, insert_all, keys}
-use Rattle.bm_base.specs.Machine.Transfers.{node_number}
+use Rattle.bm_base.specs.Words.{get, insert_all, keys, node_number}
 use Rattle.bm_place.specs.Tables.{listed}
 use Rattle.bm_place.specs.Sources.{sender_table}
 use Rattle.bm_place.proofs.streams.Streams.new.Given as goal

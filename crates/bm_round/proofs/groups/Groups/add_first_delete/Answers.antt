@@ -1,7 +1,6 @@
 use Rattle.std.proofs.Common.{◌≤◌, ◌<◌, ◌++◌, ◌∷◌, [], length, set, get_or, ap, sym, ◌∙◌, arith}
 use Rattle.std.proofs.lemmas.Result.{IfOk-weaker}
-use Rattle.bm_base.specs.Maps.Map.{keys}
-use Rattle.bm_base.specs.Machine.Replicas.{has_storage}
+use Rattle.bm_base.specs.Words.{keys, has_storage}
 use Rattle.bm_round.specs.Commanded.{first_commands, first_by_node}
 use Rattle.bm_round.specs.NodeIndex.{index_where}
 use Rattle.bm_round.proofs.AddedCommands.{unchanged, command_changed, place_below}

@@ -2,10 +2,7 @@ use Rattle.std.proofs.Common.{◌==◌, [], refl, sym, ap, subst, ◌∙◌}
 use Rattle.std.specs.Option.{option_map_or}
 use Rattle.std.specs.List.Sorted.{IsNonDecreasing}
 use Rattle.std.proofs.lemmas.List.Sorted.{list_any-IsPermutation}
-use Rattle.bm_base.specs.Maps.Map.{revise}
-use Rattle.bm_base.specs.Maps.Lists.{has, has_repeats}
-use Rattle.bm_base.specs.Machine.Replicas.{is_live_on}
-use Rattle.bm_base.specs.Machine.Excess.{excess_of}
+use Rattle.bm_base.specs.Words.{revise, has, has_repeats, is_live_on, excess_of}
 use Rattle.bm_levels.specs.Held.{holdings_with}
 use Rattle.bm_round_scan.specs.declared.block_scan.BlockScan.{BlockScan}
 use Rattle.bm_round_scan.specs.Marking.{marked_if, storages_in}

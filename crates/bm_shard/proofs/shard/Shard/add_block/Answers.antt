@@ -1,6 +1,5 @@
 use Rattle.std.proofs.Common.{◌∙◌, subst, sym}
-use Rattle.bm_base.specs.Machine.Events.{add_block}
-use Rattle.bm_base.specs.Machine.Calls.{done}
+use Rattle.bm_base.specs.Words.{add_block, done}
 use Rattle.bm_maps.specs.SlotLists.{IsMember}
 use Rattle.bm_arena.specs.Contents.{IsLawful}
 use Rattle.bm_levels.specs.Held.{holdings_with}

@@ -1,9 +1,7 @@
 use Rattle.std.proofs.Common.{ap, subst, sym, ◌∙◌}
 use Rattle.bm_base.specs.declared.event.Done.{Done}
 use Rattle.bm_base.specs.declared.event.Event.{Event}
-use Rattle.bm_base.specs.Machine.State.{Cluster}
-use Rattle.bm_base.specs.Machine.Replicas.{is_multi_rack}
-use Rattle.bm_base.specs.Machine.Events.{register, heartbeat, change_cluster, change_holdings}
+use Rattle.bm_base.specs.Words.{Cluster, is_multi_rack, register, heartbeat, change_cluster, change_holdings}
 use Rattle.bm_parts.specs.Parts.{block_of, change_part}
 use Rattle.bm_shard.specs.Seen.{Seen, IsReadyFor}
 use Rattle.bm_shard.specs.Changed.{HasChanged}

@@ -1,8 +1,6 @@
 use Rattle.std.proofs.Common.{subst, sym, ap, ◌∙◌}
 use Rattle.bm_base.specs.declared.ids.Part.{Part}
-use Rattle.bm_base.specs.Machine.State.{Holdings}
-use Rattle.bm_base.specs.Machine.Calls.{done}
-use Rattle.bm_base.specs.Machine.Events.{change_cluster}
+use Rattle.bm_base.specs.Words.{Holdings, done, change_cluster}
 use Rattle.bm_parts.specs.Parts.{change_part}
 use Rattle.bm_parts.specs.PlacedLaws.{IsPlaced}
 use Rattle.bm_parts.proofs.WellPlaced.{event_keeps_placed}

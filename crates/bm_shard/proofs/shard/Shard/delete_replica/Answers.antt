@@ -1,7 +1,6 @@
 use Rattle.std.proofs.Common.{cond, subst, sym, ap, ◌∙◌}
-use Rattle.bm_base.specs.Machine.State.{replica_at}
+use Rattle.bm_base.specs.Words.{replica_at, done}
 use Rattle.bm_base.specs.Machine.Events as events
-use Rattle.bm_base.specs.Machine.Calls.{done}
 use Rattle.bm_arena.specs.Contents.{IsLawful}
 use Rattle.bm_levels.specs.Held.{holdings_with}
 use Rattle.bm_shard.proofs.ChangedBlocks.{changed_seen}

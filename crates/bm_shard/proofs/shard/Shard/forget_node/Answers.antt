@@ -1,7 +1,5 @@
 use Rattle.std.proofs.Common.{not, ap, subst, sym, ◌∙◌}
-use Rattle.bm_base.specs.Machine.Replicas.{has_storage}
-use Rattle.bm_base.specs.Machine.Events.{without_node, without_storages}
-use Rattle.bm_base.specs.Machine.Calls.{done, new_replicas}
+use Rattle.bm_base.specs.Words.{has_storage, without_node, without_storages, done, new_replicas}
 use Rattle.bm_arena.specs.Contents.{IsLawful}
 use Rattle.bm_arena.specs.Holding.{replicas_of}
 use Rattle.bm_levels.specs.Held.{holdings_with}

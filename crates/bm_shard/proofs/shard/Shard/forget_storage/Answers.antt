@@ -1,7 +1,6 @@
 use Rattle.std.proofs.Common.{ℕ, not, ap, subst, sym, ◌∙◌}
 use Rattle.std.specs.Prelude.{◌==◌}
-use Rattle.bm_base.specs.Machine.Events.{without_storage, without_storages}
-use Rattle.bm_base.specs.Machine.Calls.{done, new_replicas}
+use Rattle.bm_base.specs.Words.{without_storage, without_storages, done, new_replicas}
 use Rattle.bm_arena.specs.Contents.{HasHead, IsLawful}
 use Rattle.bm_arena.specs.Holding.{replicas_of}
 use Rattle.bm_levels.specs.Held.{holdings_with}

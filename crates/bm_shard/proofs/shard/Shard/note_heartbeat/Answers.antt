@@ -1,6 +1,5 @@
 use Rattle.std.proofs.Common.{refl, subst, sym}
-use Rattle.bm_base.specs.Machine.Events.{heartbeat}
-use Rattle.bm_base.specs.Machine.Calls.{done}
+use Rattle.bm_base.specs.Words.{heartbeat, done}
 use Rattle.bm_arena.specs.Contents.{IsLawful}
 use Rattle.bm_levels.specs.Held.{holdings_with}
 use Rattle.bm_levels.proofs.UpToDate.{heartbeat_leaves}

@@ -1,7 +1,5 @@
 use Rattle.std.proofs.Common.{subst, sym, ap, ◌∙◌}
-use Rattle.bm_base.specs.Machine.State.{replica_at}
-use Rattle.bm_base.specs.Machine.Events.{enter, entered_marks, entered_tag, was_bad, was_excess}
-use Rattle.bm_base.specs.Machine.Calls.{done, new_replicas}
+use Rattle.bm_base.specs.Words.{replica_at, enter, entered_marks, entered_tag, was_bad, was_excess, done, new_replicas}
 use Rattle.bm_arena.specs.Contents.{IsLawful}
 use Rattle.bm_arena.specs.Holding.{replicas_of, holdings_of}
 use Rattle.bm_report.specs.DuringReport.{IsOncePerNode}

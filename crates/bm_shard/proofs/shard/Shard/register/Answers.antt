@@ -1,6 +1,5 @@
 use Rattle.std.proofs.Common.{ap, subst, sym}
-use Rattle.bm_base.specs.Machine.Events.{register}
-use Rattle.bm_base.specs.Machine.Calls.{done}
+use Rattle.bm_base.specs.Words.{register, done}
 use Rattle.bm_parts.specs.PlacedLaws.{IsPlaced}
 use Rattle.bm_arena.specs.Contents.{IsLawful}
 use Rattle.bm_levels.specs.Held.{holdings_with}

@@ -1,7 +1,5 @@
 use Rattle.std.proofs.Common.{ℕ, List, None, subst, sym, ap, ◌∙◌}
-use Rattle.bm_base.specs.Machine.Entries.{ReportedBlock}
-use Rattle.bm_base.specs.Machine.Events.{report, entered_marks, entered_tag, was_bad, was_excess}
-use Rattle.bm_base.specs.Machine.Calls.{done, new_replicas}
+use Rattle.bm_base.specs.Words.{ReportedBlock, report, entered_marks, entered_tag, was_bad, was_excess, done, new_replicas}
 use Rattle.bm_arena.specs.Contents.{Contents, IsLawful}
 use Rattle.bm_arena.specs.Holding.{replicas_of, holdings_of}
 use Rattle.bm_report.specs.DuringReport.{IsOncePerNode}

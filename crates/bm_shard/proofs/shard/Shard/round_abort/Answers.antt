@@ -1,7 +1,5 @@
 use Rattle.std.proofs.Common.{ℕ, ◌==◌, map, filter, sym, ap, ◌∙◌}
-use Rattle.bm_base.specs.Maps.Map.{Map, entries}
-use Rattle.bm_base.specs.Machine.State.{by_replica}
-use Rattle.bm_base.specs.Machine.Transfers.{pending_targets}
+use Rattle.bm_base.specs.Words.{Map, entries, by_replica, pending_targets}
 use Rattle.bm_levels.specs.Held.{holdings_with}
 use Rattle.bm_shard.proofs.AfterRound.{same_without_room}
 use Rattle.bm_shard.proofs.shard.Shard.round_abort.Goals as goal

@@ -1,8 +1,6 @@
 use Rattle.std.proofs.Common.{◌≡◌, ◌+◌, None, arith, ap, sym, subst, ◌∙◌}
 use Rattle.bm_base.specs.declared.event.Event.TheVariants.{Register}
-use Rattle.bm_base.specs.Maps.Map.{insert, insert_all, remove, len}
-use Rattle.bm_base.specs.Machine.Events.{register}
-use Rattle.bm_base.specs.Machine.Refusals.{first_of, cluster_checks}
+use Rattle.bm_base.specs.Words.{insert, insert_all, remove, len, register, first_of, cluster_checks}
 use Rattle.bm_topo.specs.NewStorages.{new_storages}
 use Rattle.bm_topo.specs.Racks.{on_rack}
 use Rattle.bm_topo.proofs.RackChanges.{on_rack-le}

@@ -1,6 +1,5 @@
 use Rattle.std.proofs.Common.{refl, ap, ◌∙◌}
-use Rattle.bm_base.specs.Maps.Map.{contains_key, insert}
-use Rattle.bm_base.specs.Machine.Events.{drain}
+use Rattle.bm_base.specs.Words.{contains_key, insert, drain}
 use Rattle.bm_topo.proofs.Capacity.{same_capacity}
 use Rattle.bm_topo.proofs.SpotTable.{none_set}
 use Rattle.bm_topo.proofs.SoundTables.{sound-drained}

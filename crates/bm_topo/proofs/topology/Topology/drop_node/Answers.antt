@@ -1,8 +1,7 @@
 use Rattle.std.proofs.Common.{not, refl, ap, ◌∙◌, arith}
 use Rattle.std.specs.Prelude.{◌==◌}
-use Rattle.bm_base.specs.Maps.Map.{keep, len, remove}
+use Rattle.bm_base.specs.Words.{keep, len, remove, without_node}
 use Rattle.bm_base.proofs.Differences.{len-keep-le}
-use Rattle.bm_base.specs.Machine.Events.{without_node}
 use Rattle.bm_topo.proofs.Capacity.{seen_of, no_less, no_less-then}
 use Rattle.bm_topo.proofs.Lengths.{len-remove}
 use Rattle.bm_topo.proofs.SpotTable.{none_set}

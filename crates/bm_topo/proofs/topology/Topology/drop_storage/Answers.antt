@@ -1,6 +1,5 @@
 use Rattle.std.proofs.Common.{ap, ◌∙◌, arith}
-use Rattle.bm_base.specs.Maps.Map.{len, remove}
-use Rattle.bm_base.specs.Machine.Events.{without_storage}
+use Rattle.bm_base.specs.Words.{len, remove, without_storage}
 use Rattle.bm_topo.proofs.Capacity.{no_less_storages}
 use Rattle.bm_topo.proofs.Lengths.{len-remove}
 use Rattle.bm_topo.proofs.SpotTable.{none_set}

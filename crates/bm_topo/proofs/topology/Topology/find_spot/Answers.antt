@@ -1,6 +1,5 @@
 use Rattle.std.proofs.Common.{◌≡◌, None, subst, sym, ap, ◌∙◌}
-use Rattle.bm_base.specs.Maps.Map.{get, contains_key}
-use Rattle.bm_base.specs.Machine.Replicas.{node_of, rack_of, is_draining}
+use Rattle.bm_base.specs.Words.{get, contains_key, node_of, rack_of, is_draining}
 use Rattle.bm_topo.specs.Spots.{IsSpot}
 use Rattle.bm_topo.proofs.SpotTable.{spot_is, spot_none}
 use Rattle.bm_topo.proofs.topology.Topology.find_spot.Goals as goal

@@ -1,7 +1,6 @@
 use Rattle.std.proofs.Common.{ap, ◌∙◌}
 use Rattle.std.specs.Prelude.{nat_lt, length}
-use Rattle.bm_base.specs.Maps.Lists.{distinct}
-use Rattle.bm_base.specs.Machine.Replicas.{is_multi_rack}
+use Rattle.bm_base.specs.Words.{distinct, is_multi_rack}
 use Rattle.bm_topo.specs.Racks.{racks_of}
 use Rattle.bm_topo.proofs.RackCount.{racks_counted}
 use Rattle.bm_topo.proofs.topology.Topology.multi_rack.Goals as goal

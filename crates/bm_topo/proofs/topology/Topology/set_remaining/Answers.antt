@@ -1,6 +1,5 @@
 use Rattle.std.proofs.Common.{ap, ◌∙◌, arith}
-use Rattle.bm_base.specs.Maps.Map.{len}
-use Rattle.bm_base.specs.Machine.Events.{heartbeat, set_remaining}
+use Rattle.bm_base.specs.Words.{len, heartbeat, set_remaining}
 use Rattle.bm_topo.proofs.Capacity.{no_less_storages}
 use Rattle.bm_topo.proofs.SpotTable.{spots_told}
 use Rattle.bm_topo.proofs.SoundTables.{sound-told, len-set_remaining}

@@ -1,6 +1,5 @@
 use Rattle.std.proofs.Common.{arith, refl, ap, ◌∙◌}
-use Rattle.bm_base.specs.Maps.Map.{len, remove}
-use Rattle.bm_base.specs.Machine.Events.{undrain}
+use Rattle.bm_base.specs.Words.{len, remove, undrain}
 use Rattle.bm_topo.proofs.Capacity.{same_capacity, no_less_draining}
 use Rattle.bm_topo.proofs.SpotTable.{none_set}
 use Rattle.bm_topo.proofs.SoundTables.{sound-undrained}

@@ -1,6 +1,5 @@
 use Rattle.std.proofs.Common.{ap, sym, ◌∙◌}
-use Rattle.bm_base.specs.Maps.Map.{insert}
-use Rattle.bm_base.specs.Machine.State.{replica_at}
+use Rattle.bm_base.specs.Words.{insert, replica_at}
 use Rattle.cluster_report.proofs.CopyLemmas.{insert_more}
 use Rattle.cluster_report.proofs.transfers.Transfers.add_node.Goals as goal
 

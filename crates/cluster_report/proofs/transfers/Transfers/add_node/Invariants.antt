@@ -1,6 +1,5 @@
 use Rattle.std.proofs.Common.{◌≡◌, map, take}
-use Rattle.bm_base.specs.Maps.Map.{insert_all}
-use Rattle.bm_base.specs.Machine.State.{replica_at}
+use Rattle.bm_base.specs.Words.{insert_all, replica_at}
 use Rattle.cluster_report.proofs.transfers.Transfers.add_node.Given as goal
 
 abbrev pub invariant-loop-transfer : goal.invariant-loop-transfer

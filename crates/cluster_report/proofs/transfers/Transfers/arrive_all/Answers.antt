@@ -2,8 +2,7 @@ use Rattle.std.proofs.Common.{rules, ℕ, Bool, ◌∙◌, ◌==◌, ◌&&◌, n
 use Rattle.std.specs.Prelude.{nat_le}
 use Rattle.std.specs.List.{list_any}
 use Rattle.std.proofs.lemmas.Fn.{filter_same}
-use Rattle.bm_base.specs.Maps.Map.{keep}
-use Rattle.bm_base.specs.Machine.State.{by_replica}
+use Rattle.bm_base.specs.Words.{keep, by_replica}
 use Rattle.bm_base.proofs.MapLaws.{keep-filter}
 use Rattle.cluster_report.proofs.Naming.{named_in}
 use Rattle.cluster_report.proofs.transfers.Transfers.arrive_all.Goals as goal

@@ -1,8 +1,7 @@
 use Rattle.std.proofs.Common.{rules, not}
 use Rattle.std.proofs.lemmas.Fn.{filter_same}
 use Rattle.bm_base.proofs.MapLaws.{keep-filter}
-use Rattle.bm_base.specs.Machine.State.{by_replica}
-use Rattle.bm_base.specs.Machine.Replicas.{has_storage}
+use Rattle.bm_base.specs.Words.{by_replica, has_storage}
 use Rattle.cluster_report.proofs.transfers.Transfers.forget_node.Goals as goal
 
 pub returns-clause-copies : goal.returns-clause-copies

@@ -1,8 +1,6 @@
 use Rattle.std.proofs.Common.{rules, ◌≡◌, ℕ, false, sym, ap, ◌∙◌, ◌∷◌, []}
 use Rattle.std.proofs.lemmas.Option.{none-some}
-use Rattle.bm_base.specs.Maps.Map.{by_number, get}
-use Rattle.bm_base.specs.Machine.State.{Cluster, empty_cluster}
-use Rattle.bm_base.specs.Machine.Replicas.{are_siblings}
+use Rattle.bm_base.specs.Words.{by_number, get, Cluster, empty_cluster, are_siblings}
 use Rattle.bm_base.proofs.MapLaws.{get-empty}
 use Rattle.bm_base.proofs.Clusters.{no_siblings}
 use Rattle.bm_report.proofs.SingleReplicas.{ok_then}
