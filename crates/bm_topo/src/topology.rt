@@ -34,9 +34,9 @@ pub struct Location {
 /// free bytes.
 ///
 /// A contract sees the cluster of the definitions, and the spare capacity for nodes, racks,
-/// storages and nodes that drain. Where a storage is mostly takes one read of its spot, else a
-/// binary search, in at most `MAX_NODES` nodes and `MAX_STORAGES` storages; no look-up takes
-/// memory.
+/// storages and nodes that drain. The node and the rack of a storage mostly take one read, of its
+/// spot, and else a binary search among at most `MAX_NODES` nodes and `MAX_STORAGES` storages. No
+/// look-up takes memory.
 #[derive(Drop)]
 pub struct Topology {
     pub(crate) nodes: NumberMap<Rack>,
