@@ -148,7 +148,7 @@ impl Topology {
         self.nodes.get_near(number, self.places.of_node(number))
     }
 
-    /// Whether a node is one of those that drain, as directly.
+    /// Whether a node drains: two reads at the hint, and else a look-up.
     #[tactic(auto, unfolding(bm_base::specs::Machine::Replicas::drains))]
     fn drains(&self, node: NodeId) -> bool
         ensures { result ≡ replicas.drains self.now.cluster node }
