@@ -16,25 +16,25 @@ level_or_none None = NO_LEVEL
 level_or_none (Some l) = level_number l
 
 -- 0 if there is neither a number nor a list
-abbrev pub told_by : Answer → ℕ
-told_by (answer.LevelIs l) = level_or_none l
-told_by (answer.IsRetired true) = 1
-told_by (answer.Number n) = n
-told_by (answer.Replicas rs) = length rs
-told_by (answer.ReplicaIds rs) = length rs
-told_by (answer.Blocks bs) = length bs
-told_by (answer.Storages ss) = length ss
-told_by _ = 0
+abbrev pub number_in : Answer → ℕ
+number_in (answer.LevelIs l) = level_or_none l
+number_in (answer.IsRetired true) = 1
+number_in (answer.Number n) = n
+number_in (answer.Replicas rs) = length rs
+number_in (answer.ReplicaIds rs) = length rs
+number_in (answer.Blocks bs) = length bs
+number_in (answer.Storages ss) = length ss
+number_in _ = 0
 
-abbrev pub told_by_answer : Option LineAnswer → ℕ
-told_by_answer (Some (Answered c a)) = told_by a
-told_by_answer _ = 0
+abbrev pub number_of_answer : Option LineAnswer → ℕ
+number_of_answer (Some (Answered c a)) = number_in a
+number_of_answer _ = 0
 
-abbrev pub told_in : Option HandleState → ℕ
-told_in None = 0
-told_in (Some k) = told_by_answer k.answer
+abbrev pub number_of_state : Option HandleState → ℕ
+number_of_state None = 0
+number_of_state (Some k) = number_of_answer k.answer
 
 -- A question: if its call is accepted, its result is the stored answer's; else that is as it was.
 pub record AfterQuestion (old : Option HandleState) (c : Call) (now : Option HandleState) (code before after : ℕ) : Type 0 where
   pub called : AfterCall old c now code
-  pub told : after ≡ (if code == 0 then told_in now else before)
+  pub number : after ≡ (if code == 0 then number_of_state now else before)

@@ -1,6 +1,6 @@
 // Answers that are a number.
 ghost use Rattle.std.specs.Prelude.{◌≡◌};
-ghost use Rattle.puljemrod.specs.Telling.{level_or_none, told_by, told_by_answer, told_in};
+ghost use Rattle.puljemrod.specs.StoredNumbers.{level_or_none, number_in, number_of_answer, number_of_state};
 
 use crate::codes::NO_LEVEL;
 use crate::handle::Slot;
@@ -10,29 +10,29 @@ use std::alloc::Global;
 
 /// The number in the last answer, or the length of its list; 0 if it has neither. The handle is
 /// unchanged.
-pub fn told(alloc: Global, slot: &mut Slot) -> u64
-    ensures told { result ≡ told_in slot.old.handle.kept }
+pub fn stored_number(alloc: Global, slot: &mut Slot) -> u64
+    ensures number { result ≡ number_of_state slot.old.handle.kept }
     ensures unchanged { slot.new.handle.kept ≡ slot.old.handle.kept }
 {
     let Some(kept) = slot.take(alloc) else {
         return 0;
     };
-    let told = told_by_answer(&kept.answer);
+    let number = number_of_answer(&kept.answer);
     slot.put(kept);
-    told
+    number
 }
 
-fn told_by_answer(answer: &Option<LineAnswer>) -> u64
-    ensures { result ≡ told_by_answer answer.now }
+fn number_of_answer(answer: &Option<LineAnswer>) -> u64
+    ensures { result ≡ number_of_answer answer.now }
 {
     match answer {
-        Some(LineAnswer::Answered(_, answer)) => told_by(answer),
+        Some(LineAnswer::Answered(_, answer)) => number_in(answer),
         _ => 0,
     }
 }
 
-fn told_by(answer: &Answer) -> u64
-    ensures { result ≡ told_by answer.now }
+fn number_in(answer: &Answer) -> u64
+    ensures { result ≡ number_in answer.now }
 {
     match answer {
         Answer::LevelIs(level) => level_or_none(*level),
