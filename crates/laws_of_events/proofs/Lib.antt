@@ -51,7 +51,8 @@ pub mod Retiring
 -- for no_transfer_to_draining
 pub mod Spared
 
--- These laws cite only proofs of other crates. Of bm_base: Orderly (calls_lead_to_orderly),
--- Accepting (event_keeps_lawful), First (first_state_is_lawful) and Rounding (round_keeps_lawful).
--- Of bm_parts: Parts (cut_gives_parts, event_changes_one_part, every_number_has_its_shard,
--- parts_change_by_themselves, parts_give_back_whole) and PartSums (parts_answers_add_up).
+-- These laws cite only proofs of other crates. Of laws_of_states: OrderlyStates
+-- (calls_lead_to_orderly), AcceptedEvents (event_keeps_lawful), FirstState (first_state_is_lawful)
+-- and LawfulRounds (round_keeps_lawful). Of bm_parts: Parts (cut_gives_parts,
+-- event_changes_one_part, every_number_has_its_shard, parts_change_by_themselves,
+-- parts_give_back_whole) and PartSums (parts_answers_add_up).

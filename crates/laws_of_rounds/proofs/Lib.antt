@@ -53,7 +53,8 @@ pub mod Gained
 -- for obedience_is_not_refused
 pub mod Accepted
 
--- These laws cite only proofs of bm_base: Lively (drained_is_good_not_in_excess_and_draining,
--- live_is_good_not_in_excess_and_not_draining), AfterRound (round_changes_no_tag), Kept and Tested
--- (live_replica_is_not_deleted, enough_stay_live, last_good_replica_stays), LastGood and Tested
--- (only_good_replica_is_not_deleted).
+-- These laws cite only proofs of laws_of_states: LiveReplicas
+-- (drained_is_good_not_in_excess_and_draining, live_is_good_not_in_excess_and_not_draining),
+-- AfterRound (round_changes_no_tag), LiveAfterRound and CommandedDeletes
+-- (live_replica_is_not_deleted, enough_stay_live, last_good_replica_stays), LastGood and
+-- CommandedDeletes (only_good_replica_is_not_deleted).
