@@ -139,6 +139,10 @@ uint32_t puljemrod_close(puljemrod *handle);
  * number of a refusal, says what the line would; puljemrod_text makes the text of the answer. Lists
  * are read while the call runs, and not kept.
  *
+ * There is no safe mode: a replica that is reported before its block is added is stray, and the
+ * next round orders its delete. So add all blocks before the first report, and start rounds after
+ * it.
+ *
  * PULJEMROD_MEMORY comes only where nothing else refuses the event, but for puljemrod_register,
  * puljemrod_heartbeat and puljemrod_full_report: their lists are copied first, that of a heartbeat
  * into memory kept from earlier ones, if it is large enough. It never comes from

@@ -1,3 +1,4 @@
+-- Lemmas on placement: scans that end at the least, best targets, and excess.
 pub mod Tables
 pub mod Least
 pub mod Classes

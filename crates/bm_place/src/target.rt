@@ -88,7 +88,8 @@ fn storage_of(target: &Option<TargetRow>) -> Option<StorageId>
     }
 }
 
-/// Whether a target may be taken, and comes before the best so far, before which it does not go.
+/// Whether a target may be taken and beats the best so far. It has no more free bytes than the
+/// best, so only a better class can beat it.
 fn beats_best(
     target: &TargetRow,
     best: &Option<TargetRow>,

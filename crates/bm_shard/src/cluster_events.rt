@@ -16,10 +16,10 @@ use bm_pending::PendingTransfers;
 use bm_topo::Topology;
 
 impl Shard {
-    /// A node leaves with its storages: their replicas and the transfers to them leave. `multi`
-    /// tells whether the alive nodes are on two racks or more without it. Costs a read of each
-    /// storage of the cluster, one step for each of the replicas, and one pass over the transfers
-    /// for each storage of the node.
+    /// A node leaves with its storages: their replicas and the transfers to them leave. `multi` is
+    /// whether the alive nodes are on two racks or more without it. Costs a read of each storage of
+    /// the cluster, one step for each of the replicas, and one pass over the transfers for each
+    /// storage of the node.
     pub(crate) fn forget_node(&mut self, topology: &Topology, node: NodeId, multi: bool) -> Done
         requires multi { multi
             ≡ replicas.is_multi_rack (events.without_node topology.now.cluster node) }
@@ -81,8 +81,8 @@ impl Shard {
         NO_CHANGE
     }
 
-    /// A node comes with its storages, which are empty. `multi` tells whether the alive nodes are
-    /// on two racks or more with it.
+    /// A node comes with its storages, which are empty. `multi` is whether the alive nodes are on
+    /// two racks or more with it.
     pub(crate) fn register(
         &mut self,
         topology: &Topology,

@@ -17,10 +17,10 @@ use bm_topo::Topology;
 
 impl Shard {
     /// Changes the shard by an event that no check on the cluster refuses, in the capacity that
-    /// [`Shard::prepare`] reserved. `topology` is the cluster before the event, `multi` tells
-    /// whether the alive nodes are on two racks or more after it. Returns how many replicas came
-    /// and went. An event on a block of another shard changes nothing. What was prepared for
-    /// another event is given up. Takes no memory.
+    /// [`Shard::prepare`] reserved. `topology` is the cluster before the event, `multi` is whether
+    /// the alive nodes are on two racks or more after it. Returns how many replicas came and went.
+    /// An event on a block of another shard changes nothing. What was prepared for another event is
+    /// given up. Takes no memory.
     pub fn commit(&mut self, event: &Event, topology: &Topology, multi: bool) -> Done
         requires cluster { first_of (cluster_checks topology.now.cluster event.now) ≡ None }
         requires multi { multi ≡ is_multi_rack (change_cluster topology.now.cluster event.now) }

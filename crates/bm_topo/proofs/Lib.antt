@@ -1,3 +1,4 @@
+-- Lemmas on the cluster: its tables, racks, hints and spots.
 pub mod Keys
 pub mod IndexedEntries
 pub mod RackChanges

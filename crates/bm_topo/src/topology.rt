@@ -34,9 +34,9 @@ pub struct Location {
 /// free bytes.
 ///
 /// A contract sees the cluster of the definitions, and the spare capacity for nodes, racks,
-/// storages and nodes that drain. Where a storage is mostly takes one read of its spot, else a
-/// binary search, in at most `MAX_NODES` nodes and `MAX_STORAGES` storages; no look-up takes
-/// memory.
+/// storages and nodes that drain. The node and the rack of a storage mostly take one read, of its
+/// spot, and else a binary search among at most `MAX_NODES` nodes and `MAX_STORAGES` storages. No
+/// look-up takes memory.
 #[derive(Drop)]
 pub struct Topology {
     pub(crate) nodes: NumberMap<Rack>,
@@ -148,7 +148,7 @@ impl Topology {
         self.nodes.get_near(number, self.places.of_node(number))
     }
 
-    /// Whether a node is one of those that drain, as directly.
+    /// Whether a node drains: two reads at the hint, and else a look-up.
     #[tactic(auto, unfolding(bm_base::specs::Machine::Replicas::drains))]
     fn drains(&self, node: NodeId) -> bool
         ensures { result ≡ replicas.drains self.now.cluster node }
