@@ -19,7 +19,7 @@ use Rattle.bm_base.proofs.Sets.{some_passing, passing_some}
 use Rattle.bm_base.proofs.Membership.{has_where, once_where}
 use Rattle.laws_of_states.proofs.Surpluses.{kept_of, others, kept_step, chosen_first, least_among, least_there}
 use Rattle.laws_of_states.proofs.MarkedReplicas.{marked_is, marked_unmarked, unordered_dropped}
-use Rattle.laws_of_rounds.proofs.Reasons.{marks_unmarked, none_unknown, none_made_live}
+use Rattle.laws_of_rounds.proofs.DeleteReasons.{marks_unmarked, none_unknown, none_made_live}
 
 -- The least of a list has the least class, if the class is compared first.
 

@@ -11,8 +11,8 @@ use Rattle.bm_base.specs.Promises.Lawful.{IsOrderly, IsLawfulCluster}
 use Rattle.bm_base.proofs.Options.{there, not_there}
 use Rattle.bm_base.proofs.Clusters.{node_is, is_on}
 use Rattle.laws_of_states.proofs.OrderlyStates.{calls_orderly}
-use Rattle.laws_of_events.proofs.Arriving.{still_to_come}
-use Rattle.laws_of_events.proofs.Spared.{node_off, none_sent_there}
+use Rattle.laws_of_events.proofs.PendingTargets.{still_to_come}
+use Rattle.laws_of_events.proofs.NoTransferToDraining.{node_off, none_sent_there}
 use Rattle.laws_of_events.specs.PlainWords as law
 
 alive_node : (C : Cluster) → IsLawfulCluster C → (s : ℕ) → contains_key C.storages s ≡ true → law.IsOnAliveNode C s

@@ -22,13 +22,13 @@ use Rattle.bm_base.proofs.ListTests.{or_left, or_right, same_again, has_filter, 
 use Rattle.laws_of_states.proofs.Surpluses.{others, others_fewer}
 use Rattle.laws_of_rounds.specs.Obedience.{copies_commanded}
 use Rattle.laws_of_rounds.specs.Obedience.{copied, erased, Obeys, ObeysAll, after_obeying, live_obeying, as_listed}
-use Rattle.laws_of_rounds.proofs.Grouped.{all_of_each}
-use Rattle.laws_of_rounds.proofs.Later.{each_among, any_chosen}
-use Rattle.laws_of_rounds.proofs.Told.{among_map}
-use Rattle.laws_of_rounds.proofs.Usable.{live_once}
-use Rattle.laws_of_rounds.proofs.Obeying.{IsUsable, IsBeside, get_copied, get_without, beside_copy, beside_erasure, beside_round, live_now, live_usable, stays_live, target_elsewhere, through}
-use Rattle.laws_of_rounds.proofs.Obeyed.{target_live}
-use Rattle.laws_of_rounds.proofs.Paired.{OfTwo, GoApart, commanded_apart}
+use Rattle.laws_of_rounds.proofs.NodeGroups.{all_of_each}
+use Rattle.laws_of_rounds.proofs.NextRounds.{each_among, any_chosen}
+use Rattle.laws_of_rounds.proofs.NodeCommands.{among_map}
+use Rattle.laws_of_rounds.proofs.UsableReplicas.{live_once}
+use Rattle.laws_of_rounds.proofs.DuringObedience.{IsUsable, IsBeside, get_copied, get_without, beside_copy, beside_erasure, beside_round, live_now, live_usable, stays_live, target_elsewhere, through}
+use Rattle.laws_of_rounds.proofs.LiveTargets.{target_live}
+use Rattle.laws_of_rounds.proofs.DistinctTargets.{OfTwo, GoApart, commanded_apart}
 
 -- Lists without repeats.
 

@@ -18,12 +18,12 @@ use Rattle.laws_of_rounds.proofs.Needs.{level_known}
 use Rattle.std.proofs.lemmas.Option.{same_Some}
 use Rattle.bm_base.proofs.ForEach.{Each}
 use Rattle.bm_base.proofs.ListTests.{filter_append, same_again}
-use Rattle.laws_of_rounds.proofs.Grouped.{grouped}
+use Rattle.laws_of_rounds.proofs.NodeGroups.{grouped}
 use Rattle.bm_base.proofs.Sets.{has_keys}
 use Rattle.bm_base.proofs.OneWish.{once_keys}
-use Rattle.laws_of_rounds.proofs.Choosing.{target_is}
-use Rattle.laws_of_rounds.proofs.Sending.{chosen_at, target_parts}
-use Rattle.laws_of_rounds.proofs.Racked.{share_is, share_of}
+use Rattle.laws_of_rounds.proofs.ChosenTransfers.{target_is}
+use Rattle.laws_of_rounds.proofs.TransferLaws.{chosen_at, target_parts}
+use Rattle.laws_of_rounds.proofs.MarkedRacks.{share_is, share_of}
 use Rattle.bm_base.proofs.Sets.{rack_among}
 
 -- Requested copies of one block.

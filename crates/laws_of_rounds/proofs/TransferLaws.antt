@@ -21,14 +21,14 @@ use Rattle.bm_base.specs.Promises.NextRound.{IsAmong, transfers_chosen, transfer
 use Rattle.laws_of_rounds.specs.Transfers.{IsFreshNode}
 use Rattle.bm_base.proofs.ListTests.{and_first, and_second, or_left, or_right, same_again, filter_append, filter_filter, any_map, any_filter}
 use Rattle.bm_base.proofs.Membership.{has_where, has_listed, listed}
-use Rattle.laws_of_rounds.proofs.Grouped.{on_one_node, each_node, all_of_each}
+use Rattle.laws_of_rounds.proofs.NodeGroups.{on_one_node, each_node, all_of_each}
 use Rattle.bm_base.proofs.Sets.{has_keys}
 use Rattle.bm_base.proofs.OneWish.{once_keys}
 use Rattle.laws_of_states.proofs.RoundCommands.{chosen_deletes_of}
 use Rattle.laws_of_states.proofs.LiveAfterRound.{marks_started}
 use Rattle.bm_base.proofs.Sets.{passing_some}
-use Rattle.laws_of_rounds.proofs.Usable.{sources_are}
-use Rattle.laws_of_rounds.proofs.Choosing.{EachAfter, after_split, after_whole, IsChosenAfter, each_chosen, source_is, target_is}
+use Rattle.laws_of_rounds.proofs.UsableReplicas.{sources_are}
+use Rattle.laws_of_rounds.proofs.ChosenTransfers.{EachAfter, after_split, after_whole, IsChosenAfter, each_chosen, source_is, target_is}
 
 -- each transfer of the next round was chosen
 pub each_of : (M : State) → EachAfter (IsChosenAfter M.limits M.cluster (state_at_choice M).holdings) [] (transfers_chosen M)

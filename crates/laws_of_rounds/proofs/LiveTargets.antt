@@ -15,11 +15,11 @@ use Rattle.bm_base.proofs.ForEach.{Each}
 use Rattle.bm_base.proofs.ListTests.{same_again}
 use Rattle.laws_of_states.proofs.CommandedDeletes.{tested}
 use Rattle.laws_of_rounds.specs.Obedience.{copied, Obeys, after_events, after_obeying, live_obeying}
-use Rattle.laws_of_rounds.proofs.Reasons.{not_ordered}
-use Rattle.laws_of_rounds.proofs.Sending.{fresh_node}
-use Rattle.laws_of_rounds.proofs.Later.{commanded_chosen}
-use Rattle.laws_of_rounds.proofs.Paired.{one_copy}
-use Rattle.laws_of_rounds.proofs.Obeying.{IsUnspoilt, IsSafe, UnspoiltBeside, UsableBeside, copy_arrives, beside_copy, beside_round, replaced_is, live_now, step_unspoilt, step_usable, there_before, through}
+use Rattle.laws_of_rounds.proofs.DeleteReasons.{not_ordered}
+use Rattle.laws_of_rounds.proofs.TransferLaws.{fresh_node}
+use Rattle.laws_of_rounds.proofs.NextRounds.{commanded_chosen}
+use Rattle.laws_of_rounds.proofs.DistinctTargets.{one_copy}
+use Rattle.laws_of_rounds.proofs.DuringObedience.{IsUnspoilt, IsSafe, UnspoiltBeside, UsableBeside, copy_arrives, beside_copy, beside_round, replaced_is, live_now, step_unspoilt, step_usable, there_before, through}
 
 -- Events.
 

@@ -18,16 +18,16 @@ use Rattle.bm_base.proofs.Options.{there}
 use Rattle.bm_base.proofs.ForEach.{Each, each_of, each_then, each_filter_by, each_flat_map, each_any}
 use Rattle.bm_base.proofs.ListTests.{or_left, or_right, same_again}
 use Rattle.bm_base.proofs.Membership.{has_where}
-use Rattle.laws_of_rounds.proofs.Usable.{sources_usable}
-use Rattle.laws_of_rounds.proofs.Grouped.{each_node, each_on_node, all_of_each}
+use Rattle.laws_of_rounds.proofs.UsableReplicas.{sources_usable}
+use Rattle.laws_of_rounds.proofs.NodeGroups.{each_node, each_on_node, all_of_each}
 use Rattle.bm_base.proofs.Sets.{has_keys}
 use Rattle.laws_of_states.proofs.RoundCommands.{IsTested, chosen_deletes_of, deleted_is}
 use Rattle.laws_of_states.proofs.LiveAfterRound.{marks_started, marks_before, remarked, remarked_ordered, surplus_of}
 use Rattle.bm_base.proofs.Options.{revised}
 use Rattle.laws_of_states.proofs.MarkedReplicas.{ordered_by}
 use Rattle.laws_of_states.proofs.CommandedDeletes.{commanded_among}
-use Rattle.laws_of_rounds.proofs.Sending.{node_is, storage_is, streams_of_node, two_below, source_usable}
-use Rattle.laws_of_rounds.proofs.Later.{each_among, each_is, commanded_chosen, ordered_by_round, pending_now}
+use Rattle.laws_of_rounds.proofs.TransferLaws.{node_is, storage_is, streams_of_node, two_below, source_usable}
+use Rattle.laws_of_rounds.proofs.NextRounds.{each_among, each_is, commanded_chosen, ordered_by_round, pending_now}
 use Rattle.laws_of_states.proofs.AfterRound.{marks_after}
 
 -- The commands of a node are for its own storages.

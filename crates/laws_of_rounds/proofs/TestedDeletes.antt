@@ -7,7 +7,7 @@ use Rattle.bm_base.specs.Words.{State, is_commanded}
 use Rattle.bm_base.specs.Promises.NextRound.{IsAmong, IsDeleteCommanded, deletes_commanded}
 use Rattle.laws_of_states.proofs.RoundCommands.{IsTested, at_same}
 use Rattle.laws_of_states.proofs.CommandedDeletes.{delete_of}
-use Rattle.laws_of_rounds.proofs.Later.{any_chosen}
+use Rattle.laws_of_rounds.proofs.NextRounds.{any_chosen}
 
 pub untested : (M : State) (q : ReplicaId) → IsTested M q → IsDeleteCommanded M q
 unfolding is_commanded

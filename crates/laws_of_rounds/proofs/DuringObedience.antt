@@ -27,9 +27,9 @@ use Rattle.laws_of_states.proofs.LiveAfterRound.{live_stays}
 use Rattle.laws_of_states.proofs.AfterRound.{same_tag}
 use Rattle.laws_of_states.proofs.CommandedDeletes.{tested}
 use Rattle.laws_of_rounds.specs.Obedience.{copied, erased, Obeys, after_events, after_obeying, live_obeying}
-use Rattle.laws_of_rounds.proofs.Sending.{fresh_node, source_usable, node_is}
-use Rattle.laws_of_rounds.proofs.Later.{commanded_chosen}
-use Rattle.laws_of_rounds.proofs.Told.{same_rest}
+use Rattle.laws_of_rounds.proofs.TransferLaws.{fresh_node, source_usable, node_is}
+use Rattle.laws_of_rounds.proofs.NextRounds.{commanded_chosen}
+use Rattle.laws_of_rounds.proofs.NodeCommands.{same_rest}
 
 -- Marks.
 

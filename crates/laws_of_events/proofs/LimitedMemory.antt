@@ -3,7 +3,7 @@ use Rattle.std.proofs.Common.{◌≡◌, Bool, true, false, if◌then◌else◌,
 use Rattle.bm_base.specs.declared.call.Answer.{Answer}
 use Rattle.bm_base.specs.declared.call.Answer.TheVariants as answer
 use Rattle.bm_base.specs.Words.{State, step, is_refused, is_out_of_memory, state_after_answer}
-use Rattle.laws_of_events.proofs.Leading.{refusal_leaves}
+use Rattle.laws_of_events.proofs.LawfulStates.{refusal_leaves}
 use Rattle.laws_of_events.specs.Calls as law
 
 same_either : (b : Bool) (M N : State) → N ≡ M → (if b then M else N) ≡ M

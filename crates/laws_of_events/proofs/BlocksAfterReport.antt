@@ -13,7 +13,7 @@ use Rattle.bm_base.specs.Words.{Map, by_number, get, insert, insert_all, empty, 
 use Rattle.bm_base.proofs.MapLaws.{get-insert, get-empty}
 use Rattle.bm_base.proofs.Ties.{number_tie, replica_tie}
 use Rattle.bm_base.proofs.Clusters.{eqb_turned}
-use Rattle.laws_of_events.proofs.Counting.{same_unit}
+use Rattle.laws_of_events.proofs.EventCounts.{same_unit}
 use Rattle.laws_of_events.proofs.ReportLaws.{tells_all}
 use Rattle.laws_of_events.specs.Reports as law
 

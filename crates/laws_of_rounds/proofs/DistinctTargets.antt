@@ -10,11 +10,11 @@ use Rattle.bm_base.specs.Words.{keys, Cluster, State, has, has_repeats, node_of,
 use Rattle.bm_base.specs.Promises.NextRound.{IsAmong, IsTransferCommanded, transfers_chosen, transfers_commanded}
 use Rattle.bm_base.proofs.ForEach.{Each, each_then, each_appended, each_filtered, each_mapped, each_filter_by, each_flat_map}
 use Rattle.laws_of_states.proofs.RoundCommands.{chosen_deletes_of}
-use Rattle.laws_of_rounds.proofs.Grouped.{on_one_node}
+use Rattle.laws_of_rounds.proofs.NodeGroups.{on_one_node}
 use Rattle.bm_base.proofs.OneWish.{once_keys}
-use Rattle.laws_of_rounds.proofs.Sending.{fresh_node}
-use Rattle.laws_of_rounds.proofs.Later.{each_among, each_is, commanded_chosen}
-use Rattle.laws_of_rounds.proofs.Told.{among_cons, cons_head, cons_tail, has_among, no_cons}
+use Rattle.laws_of_rounds.proofs.TransferLaws.{fresh_node}
+use Rattle.laws_of_rounds.proofs.NextRounds.{each_among, each_is, commanded_chosen}
+use Rattle.laws_of_rounds.proofs.NodeCommands.{among_cons, cons_head, cons_tail, has_among, no_cons}
 
 -- Pairs in a list.
 

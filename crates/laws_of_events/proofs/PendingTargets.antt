@@ -31,7 +31,7 @@ use Rattle.laws_of_states.proofs.AcceptedEvents.{pending_before}
 use Rattle.bm_parts.proofs.ReportedReplicas.{IsKept, IsPut, enter_origin, enter_pending, report_origin, report_pending, stays_by}
 use Rattle.laws_of_events.proofs.ReportLaws.{held_report, held_received}
 use Rattle.laws_of_events.proofs.BlockChanges.{transfers_reported, transfer_received}
-use Rattle.laws_of_events.proofs.Reporting.{named_numbers}
+use Rattle.laws_of_events.proofs.ReportedReplicas.{named_numbers}
 use Rattle.laws_of_events.specs.LawfulForEver as law
 
 -- Lists with a test.

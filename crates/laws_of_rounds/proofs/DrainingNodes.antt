@@ -17,15 +17,15 @@ use Rattle.bm_base.specs.Words.{get, entries, Cluster, Holdings, State, replica_
 use Rattle.bm_base.specs.Promises.NextRound.{IsTransferCommanded, transfers_chosen, unmarked, drained_unmarked, drained_marked, drained_after}
 use Rattle.bm_base.proofs.ListTests.{has_filter, or_right, and_first, filter_append}
 use Rattle.bm_base.proofs.Membership.{revised_where, has_where}
-use Rattle.laws_of_rounds.proofs.Usable.{sources_are}
+use Rattle.laws_of_rounds.proofs.UsableReplicas.{sources_are}
 use Rattle.laws_of_states.proofs.LiveReplicas.{drained_is}
-use Rattle.laws_of_rounds.proofs.Racked.{least_below}
+use Rattle.laws_of_rounds.proofs.MarkedRacks.{least_below}
 use Rattle.laws_of_states.proofs.RoundCommands.{IsTested, deleted_is}
 use Rattle.laws_of_states.proofs.MarkedReplicas.{marked_in, ordered_by, ordered_usable, unordered_dropped}
 use Rattle.laws_of_states.proofs.LiveAfterRound.{surplus_of, marks_before, deleted_marks, live_is_kept, weaker_kind}
-use Rattle.laws_of_rounds.proofs.Reasons.{surplus_live, live_before_is}
-use Rattle.laws_of_rounds.proofs.Sending.{chosen_at, four_at_most, storage_is, streams_of_node, fresh_node}
-use Rattle.laws_of_rounds.proofs.Later.{commanded_chosen}
+use Rattle.laws_of_rounds.proofs.DeleteReasons.{surplus_live, live_before_is}
+use Rattle.laws_of_rounds.proofs.TransferLaws.{chosen_at, four_at_most, storage_is, streams_of_node, fresh_node}
+use Rattle.laws_of_rounds.proofs.NextRounds.{commanded_chosen}
 
 -- Marks.
 

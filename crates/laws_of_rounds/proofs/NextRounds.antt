@@ -21,8 +21,8 @@ use Rattle.laws_of_states.proofs.LiveAfterRound.{marks_started, remarked, remark
 use Rattle.bm_base.proofs.Options.{revised}
 use Rattle.laws_of_states.proofs.MarkedReplicas.{ordered_by}
 use Rattle.laws_of_states.proofs.AfterRound.{marks_after}
-use Rattle.laws_of_rounds.proofs.Reasons.{not_ordered}
-use Rattle.laws_of_rounds.proofs.Sending.{fresh_node}
+use Rattle.laws_of_rounds.proofs.DeleteReasons.{not_ordered}
+use Rattle.laws_of_rounds.proofs.TransferLaws.{fresh_node}
 
 -- Members of a list.
 

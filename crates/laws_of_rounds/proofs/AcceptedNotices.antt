@@ -11,10 +11,10 @@ use Rattle.bm_base.proofs.ForEach.{Each, each_all, each_of, each_then, each_flat
 use Rattle.bm_base.proofs.Clusters.{some_node}
 use Rattle.laws_of_states.proofs.RoundCommands.{each_delete}
 use Rattle.laws_of_rounds.specs.Obedience.{copied, erased, Obeys, OnlyObeys, after_obeying}
-use Rattle.laws_of_rounds.proofs.Grouped.{each_on_node}
-use Rattle.laws_of_rounds.proofs.Sending.{fresh_node, node_is}
-use Rattle.laws_of_rounds.proofs.Later.{commanded_chosen, each_is}
-use Rattle.laws_of_rounds.proofs.Obeying.{obeyed_beside}
+use Rattle.laws_of_rounds.proofs.NodeGroups.{each_on_node}
+use Rattle.laws_of_rounds.proofs.TransferLaws.{fresh_node, node_is}
+use Rattle.laws_of_rounds.proofs.NextRounds.{commanded_chosen, each_is}
+use Rattle.laws_of_rounds.proofs.DuringObedience.{obeyed_beside}
 
 abbrev IsKnown : Cluster → ℕ → Type 0
 IsKnown C s = knows_storage C s ≡ true

@@ -19,12 +19,12 @@ use Rattle.laws_of_rounds.specs.Deletes.{IsToBeDeleted}
 use Rattle.std.proofs.lemmas.Option.{same_Some}
 use Rattle.bm_base.proofs.ListTests.{same_again}
 use Rattle.bm_base.proofs.MapEntries.{same_key}
-use Rattle.laws_of_rounds.proofs.Grouped.{deletes_on_node}
+use Rattle.laws_of_rounds.proofs.NodeGroups.{deletes_on_node}
 use Rattle.bm_base.proofs.Sets.{has_keys}
 use Rattle.laws_of_states.proofs.RoundCommands.{chosen_deletes_of}
 use Rattle.laws_of_states.proofs.LiveAfterRound.{marks_before}
-use Rattle.laws_of_rounds.proofs.Sending.{storage_is}
-use Rattle.laws_of_rounds.proofs.Told.{no_cons, cons_head, cons_tail, among_cons, among_flat, among_map, among_filter, among_numbers, told_delete}
+use Rattle.laws_of_rounds.proofs.TransferLaws.{storage_is}
+use Rattle.laws_of_rounds.proofs.NodeCommands.{no_cons, cons_head, cons_tail, among_cons, among_flat, among_map, among_filter, among_numbers, told_delete}
 use Rattle.bm_base.proofs.Options.{there}
 
 -- Positions in lists.

@@ -16,7 +16,7 @@ use Rattle.bm_base.proofs.Options.{there, is_there}
 use Rattle.bm_base.proofs.MapEntries.{entry_passes, passes_entry}
 use Rattle.bm_base.proofs.ListTests.{any_map, any_filter}
 use Rattle.bm_parts.proofs.Filters.{any_shown}
-use Rattle.laws_of_events.proofs.Telling.{found_good}
+use Rattle.laws_of_events.proofs.ReportedMarks.{found_good}
 use Rattle.laws_of_events.specs.Queries as law
 
 -- All replicas.
