@@ -67,7 +67,7 @@ typedef struct puljemrod_options {
 
 #define PULJEMROD_STANDARD {1, 2, 1000, 100, 0, 0, 0}
 
-/* A code of a call. 1 to 15, 20 and 21 are refusals, with the numbers and names of
+/* A code of a call. Codes from 1 to 31 are refusals, with the numbers and names of
  * docs/FORMATS.md. */
 enum {
     PULJEMROD_OK = 0,

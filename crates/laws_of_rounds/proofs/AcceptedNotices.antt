@@ -42,10 +42,12 @@ delete_known M d at =
     each_is (λ (c : Delete). IsKnown M.cluster c.storage) (deletes_commanded M) d
     (each_delete M (λ (c : Delete). IsKnown M.cluster c.storage) (deletes_known M.limits M.cluster (state_at_choice M).holdings)) at
 
+-- A new check of `received` needs a further premise here: what a command guarantees of it.
 copy_accepted : (N : State) (t : Transfer) → IsKnown N.cluster t.target → refusal_of N (copied t) ≡ calls_spent N
 unfolding refusal_of cluster_checks block_checks
 copy_accepted N t known = ap (λ b. first_of ((UnknownStorage when not b) ∷ []) before calls_spent N) known
 
+-- The same for a new check of `deleted`.
 erasure_accepted : (N : State) (d : Delete) → IsKnown N.cluster d.storage → refusal_of N (erased d) ≡ calls_spent N
 unfolding refusal_of cluster_checks block_checks
 erasure_accepted N d known = ap (λ b. first_of ((UnknownStorage when not b) ∷ []) before calls_spent N) known
