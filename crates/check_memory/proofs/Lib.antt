@@ -1,1 +1,1 @@
--- Lemmas of the checks.
+-- The steps of each function's proof are in its folder; there is no further lemma.
