@@ -64,11 +64,8 @@ impl LevelIndex {
         ensures others { IsSameOutside slots.now self.old self.new }
         ensures room { KeepsCapacity self.old self.new }
     {
-        let mut rest = slots;
-        while !rest.is_empty() {
-            let (chunk, behind) = rest.split_at(rest.len().min(CHUNK));
+        for chunk in slots.chunks(CHUNK) {
             self.reclassify_chunk(arena, chunk, cluster_after);
-            rest = behind;
         }
     }
 

@@ -2,9 +2,7 @@
 pub mod RacksSpared
 pub mod NoneKept
 pub mod NoTransfers
-pub mod NoSurplus
 pub mod OwnReplicas
-pub mod AnyOrder
 pub mod OwnWish
 pub mod SortedElements
 pub mod CollectedFindings
