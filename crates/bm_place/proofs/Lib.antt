@@ -7,7 +7,6 @@ pub mod SameNodeTargets
 pub mod ScanStart
 pub mod TableInvariant
 pub mod ListIndices
-pub mod NodeStorages
 pub mod UpdatedTargets
 pub mod BestTargetScan
 pub mod TargetWalk

@@ -48,9 +48,9 @@ holds_back_at C a storage slot = option_map_or is_usable (marks_at a slot storag
 abbrev pub holds_back_on : Cluster → Contents → ℕ → Bool
 holds_back_on C a storage = list_any (holds_back_at C a storage) (list_of a storage)
 
--- whether the storage is one of the node, which drains, and such a block is in its list
-abbrev pub holds_back_node : Cluster → Contents → ℕ → ℕ → Bool
-holds_back_node C a n storage = (has_storage C n storage && is_draining C storage) && holds_back_on C a storage
+-- whether a block of a storage does, and the node of the storage drains
+abbrev pub holds_back_node : Cluster → Contents → ℕ → Bool
+holds_back_node C a storage = is_draining C storage && holds_back_on C a storage
 
 -- the known blocks at these slots, each with its number
 abbrev pub known_on : Contents → List ℕ → List (ℕ × ℕ)

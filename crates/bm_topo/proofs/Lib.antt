@@ -10,3 +10,4 @@ pub mod RackCount
 pub mod Capacity
 pub mod OwnStorages
 pub mod Repeats
+pub mod ByNode

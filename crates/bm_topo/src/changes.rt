@@ -120,6 +120,7 @@ impl Topology {
         self.nodes.insert_reserved(u64::from(node.0), rack);
         self.draining.remove(u64::from(node.0));
         add_storages(&mut self.storages, node, storages);
+        self.by_node.set(&self.storages);
     }
 
     fn drop_node(&mut self, node: NodeId)
@@ -129,6 +130,7 @@ impl Topology {
     {
         self.spot_count = 0;
         drop_storages(&mut self.storages, node);
+        self.by_node.set(&self.storages);
         self.draining.remove(u64::from(node.0));
         self.forget_node(node);
     }
@@ -178,6 +180,7 @@ impl Topology {
     {
         self.spot_count = 0;
         self.storages.remove(u64::from(storage.0));
+        self.by_node.set(&self.storages);
     }
 
     /// Sets the remaining bytes of known storages, one after another.
