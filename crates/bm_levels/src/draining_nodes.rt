@@ -15,9 +15,9 @@ use bm_base::{NodeId, StorageId};
 use bm_topo::Topology;
 
 impl LeveledBlocks {
-    /// A node begins or ceases to drain: the blocks with a replica on its storages are judged anew.
-    /// Nothing that is held changes. Takes no memory. A look at each of the blocks on the storages
-    /// of the node.
+    /// A node begins or ceases to drain: the blocks with a replica on its storages are
+    /// reclassified. All blocks and replicas stay. Takes no memory. Reads the blocks on the
+    /// storages of the node.
     pub fn set_draining(&mut self, topology: &Topology, node: NodeId, drains: bool)
         ensures arena { self.new.arena ≡ self.old.arena }
         ensures levels { AreLevels topology.now.cluster self.old

@@ -38,10 +38,10 @@ impl LeveledBlocks {
         removed as u128
     }
 
-    /// The replicas on all storages of a node leave, and their lists; answers how many. `multi`
-    /// says whether the alive nodes stand on two racks or more without it: where they did not
-    /// before, or no longer do, all blocks are judged anew, else those that lose a replica. Entries
-    /// with neither block nor replica go. Takes no memory. One step for each of the replicas.
+    /// Removes the replicas on all storages of a node, and their lists. Returns how many. `multi`
+    /// is whether the alive nodes are on two racks or more without it. If that changes, all
+    /// blocks are reclassified, else those that lose a replica. Unused entries are dropped. Takes
+    /// no memory. Takes one step for each of the replicas.
     pub fn forget_node(&mut self, topology: &Topology, node: NodeId, multi: bool) -> u128
         requires multi { multi
             ≡ replicas.is_multi_rack (events.without_node topology.now.cluster node) }

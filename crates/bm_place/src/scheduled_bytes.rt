@@ -32,12 +32,12 @@ pub struct TargetRow {
     pub scheduled: u64,
 }
 
-/// How many bytes are sent to each storage in a round, beside where it stands.
+/// The bytes scheduled to each storage in a round, with the storage's node and rack.
 ///
-/// Made once for a round: it knows nothing of transfers of earlier rounds. A contract sees a table
-/// with a row for each storage: the storage, its node and rack, whether the node drains, its
-/// remaining bytes and the bytes that are sent to it. Beside these rows it keeps what saves going
-/// over all of them.
+/// Made once for a round of this cluster: it has no transfers of earlier rounds. A contract sees a
+/// table with a row for each storage: the storage, its node and rack, whether the node drains, its
+/// remaining bytes and the bytes scheduled to it. It also keeps the best target of each node, so
+/// that a choice need not scan all rows.
 #[derive(Drop)]
 pub struct Scheduled<'a> {
     topology: &'a Topology,
@@ -67,9 +67,9 @@ impl<'a> Model for Scheduled<'a> {
 }
 
 impl<'a> Scheduled<'a> {
-    /// Nothing is sent yet to any storage of the cluster. `Memory` where a growth of the tables is
-    /// refused. Goes over the storages of the cluster once, by a few look-ups each, and sorts one
-    /// of each node by room.
+    /// Nothing is scheduled yet to any storage of the cluster. `Memory` if a table cannot grow.
+    /// Iterates over the storages of the cluster once, with a few look-ups each, and sorts one of
+    /// each node by free bytes.
     pub fn new(alloc: Global, topology: &'a Topology) -> Result<Scheduled<'a>, Refusal>
         ensures none_yet { IfOk result
             (λ t. t ≡ targets.target_table topology.now.cluster none_sent) }

@@ -16,10 +16,10 @@ use bm_topo::Topology;
 use std::alloc::{AllocError, Global};
 use std::marker::Model;
 
-/// Of how many transfers each node is the source in a round.
+/// The number of transfers that each node sends in a round.
 ///
-/// Made once for a round: it knows nothing of transfers of earlier rounds. A contract sees for each
-/// storage its node, and a count for each of these nodes.
+/// Made once for a round of this cluster: it has no transfers of earlier rounds. A contract sees
+/// for each storage its node, and a count for each of these nodes.
 #[derive(Drop)]
 pub struct Streams<'a> {
     topology: &'a Topology,
@@ -42,8 +42,8 @@ impl<'a> Model for Streams<'a> {
 }
 
 impl<'a> Streams<'a> {
-    /// No node is a source yet. `Memory` where a growth of the table is refused. Looks up each
-    /// storage of the cluster once.
+    /// No node sends yet. `Memory` if the table cannot grow. Looks up each storage of the cluster
+    /// once.
     pub fn new(alloc: Global, topology: &'a Topology) -> Result<Streams<'a>, Refusal>
         ensures none_yet { IfOk result
             (λ t. t ≡ sources.sender_table topology.now.cluster tables.none_sent) }

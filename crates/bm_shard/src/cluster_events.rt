@@ -18,8 +18,8 @@ use bm_topo::Topology;
 
 impl Shard {
     /// A node leaves with its storages: their replicas and the transfers to them leave. `multi`
-    /// says whether the alive nodes stand on two racks or more without it. One step for each of the
-    /// replicas, and one pass over the transfers.
+    /// tells whether the alive nodes are on two racks or more without it. Costs one step for each
+    /// of the replicas, and one pass over the transfers.
     pub(crate) fn forget_node(&mut self, topology: &Topology, node: NodeId, multi: bool) -> Done
         requires multi { multi
             ≡ replicas.is_multi_rack (events.without_node topology.now.cluster node) }
@@ -81,8 +81,8 @@ impl Shard {
         NO_CHANGE
     }
 
-    /// A node registers with its storages, which hold nothing yet. `multi` says whether the alive
-    /// nodes are on two racks or more with it.
+    /// A node comes with its storages, which are empty. `multi` tells whether the alive nodes are
+    /// on two racks or more with it.
     pub(crate) fn register(&mut self, topology: &Topology, multi: bool) -> Done
         requires placed { IsPlaced topology.now.cluster self.old.holdings }
         requires none { HasNoUnused self.old }
@@ -105,7 +105,7 @@ impl Shard {
         NO_CHANGE
     }
 
-    /// A node reports how many bytes remain on its storages: nothing changes.
+    /// A node reports the remaining bytes of its storages: nothing changes.
     pub(crate) fn note_heartbeat(&mut self) -> Done
         requires none { HasNoUnused self.old }
         ensures changed { (C : Cluster) (remaining : List Remaining) → HasChanged C

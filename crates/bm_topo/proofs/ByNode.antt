@@ -1,25 +1,22 @@
--- Storages sorted by node: those of a node stand side by side, in the order in which the table has
--- them.
-use Rattle.std.specs.Prelude.{◌==◌, ◌&&◌, nat_lt, nat_le, option_map}
+-- Storages sorted by node: those of a node are adjacent, in the order of the table.
+use Rattle.std.specs.Prelude.{◌==◌, ◌&&◌, nat_lt, nat_le, option_map, unwrap_or}
 use Rattle.std.specs.Option.{option_map_or}
 use Rattle.std.specs.List.{insert}
 use Rattle.std.specs.List.Sorted.{IsNonDecreasingBy, IsPartitionPoint}
-use Rattle.std.proofs.Common.{length-drop, ◌≡◌, ◌≤◌, ◌<◌, ◌+◌, ◌-◌, ℕ, zero, suc, Bool, true, false, cond, List, [], ◌∷◌, ◌++◌, length, map, filter, take, drop, get_or, Option, Some, None, is_some, refl, sym, ap, subst, ◌∙◌, arith}
+use Rattle.std.proofs.Common.{◌≡◌, ◌≤◌, ◌<◌, ◌+◌, ◌-◌, ℕ, zero, suc, Bool, true, false, cond, List, [], ◌∷◌, ◌++◌, length, map, filter, take, drop, get_or, Option, Some, None, is_some, refl, sym, ap, subst, ◌∙◌, arith}
 use Rattle.std.proofs.lemmas.Bool.{eqb-true}
 use Rattle.std.proofs.lemmas.Bool.Decides.{nat_tests}
-use Rattle.std.proofs.Math.Seq.{drop-append_seam, take-append_seam}
-use Rattle.std.proofs.lemmas.List.{append-nil, length-map, length_push, take_all, take_more, take-append-drop, take-append-le, drop-append-le, drop-take, take_more_set, take-set-le, length-take-le}
+use Rattle.std.proofs.lemmas.List.{append-nil, length-map, length_push, take_all, take_more, take-append-drop, length-take-le}
 use Rattle.std.proofs.lemmas.List.Edits.{length-insert}
-use Rattle.std.proofs.lemmas.Slice.{take-put_mid}
 use Rattle.std.proofs.lemmas.List.Sorted.{IsNonDecreasingBy-insert, IsNonDecreasingBy-short}
-use Rattle.std.proofs.Math.ListN.{set, length-set, get_or-map}
-use borrow.Rule.Slice.PartMut.{put_mid, mid_of}
+use Rattle.std.proofs.Math.ListN.{get_or-map}
 use Rattle.bm_base.specs.declared.storage.StorageInfo.{StorageInfo}
 use Rattle.bm_base.specs.declared.event.Remaining.{Remaining}
 use Rattle.bm_base.specs.Words.{Map, by_number, empty, get, keys, entries, len, contains_key, revise, revise_at, has, set_remaining, Cluster, node_of, has_storage}
 use Rattle.bm_base.proofs.ClusterEvents.{same_nodes}
+use Rattle.bm_base.proofs.Differences.{both_parts}
 use Rattle.bm_base.proofs.ForEach.{Each, each_all, each_take, each_both, each_then}
-use Rattle.bm_base.proofs.ListTests.{filter_append, has_filter, length_filter-le}
+use Rattle.bm_base.proofs.ListTests.{filter_append, has_filter}
 use Rattle.bm_base.proofs.MapLaws.{entries-revise}
 use Rattle.bm_base.proofs.MapEntries.{each_key}
 use Rattle.bm_base.proofs.Sets.{has_keys}
@@ -55,28 +52,6 @@ module _ {X : Type 0} (p : X → Bool) where
   parted : (xs : List X) (i : ℕ) → filter p (take i xs) ++ filter p (drop i xs) ≡ filter p xs
   parted xs i = sym (filter_append p (take i xs) (drop i xs)) ∙ ap (filter p) (take-append-drop i xs)
 
--- A number that is stored behind the first n, and then moved to a place among them.
-
-rotated : (front mid ys : List ℕ) (s : ℕ) → mid ≡ front ++ s ∷ [] → length mid ≡ length front + 1 → ys ≡ drop (length mid - 1) mid ++ take (length mid - 1) mid → ys ≡ s ∷ front
-rotated front mid ys s e long is =
-    let n : length mid - 1 ≡ length front = omega (arith, long) in
-    is ∙ (λ i. drop (n i) (e i) ++ take (n i) (e i)) ∙ (λ i. drop-append_seam front (s ∷ []) i ++ take-append_seam front (s ∷ []) i)
-
-pub inserted : (xs ys : List ℕ) (n place k s : ℕ) → place ≤ n → n < length xs → place + k ≡ n + 1
-    → ys ≡ drop (length (mid_of place k (set xs n s)) - 1) (mid_of place k (set xs n s)) ++ take (length (mid_of place k (set xs n s)) - 1) (mid_of place k (set xs n s))
-    → take (n + 1) (put_mid place k (set xs n s) ys) ≡ insert (take n xs) place s
-inserted xs ys n place k s within fits ends is =
-    let zs = set xs n s in
-    let long : length (take n xs) ≡ n = length-take-le n xs (omega (arith, fits)) in
-    let mid : mid_of place k zs ≡ drop place (take n xs) ++ s ∷ [] =
-    sym (drop-take place k zs) ∙ ap (λ m. drop place (take m zs)) ends ∙ ap (drop place) (take_more_set xs n s fits) ∙ drop-append-le place (take n xs) (s ∷ []) (omega (arith, long, within)) in
-    let turned : ys ≡ s ∷ drop place (take n xs) = rotated (drop place (take n xs)) (mid_of place k zs) ys s mid (ap length mid ∙ length_push (drop place (take n xs)) s) is in
-    let many : length ys ≡ length (drop place (take n xs)) + 1 = ap length turned ∙ (omega arith) in
-    let rest : length (drop place (take n xs)) ≡ n - place = length-drop place (take n xs) ∙ ap (λ m. m - place) long in
-    let front : take place xs ≡ take place (take n xs) = ap (take place) (sym (take-append-drop n xs)) ∙ take-append-le place (take n xs) (drop n xs) (omega (arith, long, within)) in
-    take-put_mid place k zs ys (n + 1) (omega (arith, many, rest, within)) (omega (arith, length-set xs n s, within, fits))
-    ∙ (λ i. (take-set-le place xs n s within ∙ front) i ++ turned i)
-
 -- Tests of numbers.
 
 above : (a m n : ℕ) → nat_le a m ≡ false → m ≡ n → (a == n) ≡ false
@@ -97,8 +72,19 @@ at_most a n h = grind (arith, h, nat_tests)
 more : (a n : ℕ) → nat_le a n ≡ false → n ≤ a
 more a n h = grind (arith, h, nat_tests)
 
+no_more : (a m n : ℕ) → a ≤ m → m ≤ n → nat_le a n ≡ true
+no_more a m n h g = grind (arith, h, g, nat_tests)
+
 module _ (key : ℕ → ℕ) where
-  -- behind all that are of its node or of lesser ones comes the next storage
+  -- if the last one is of this node or a lesser one, all are
+  pub after_all : (ss : List ℕ) (n : ℕ) → IsNonDecreasingBy key ss → ((d : ℕ) → 0 < length ss → key (get_or ss (length ss - 1) d) ≤ n)
+      → IsPartitionPoint (λ t. nat_le (key t) n ≡ true) (λ t. nat_le (key t) n ≡ false) ss (length ss)
+  after_all ss n sorted last = (
+    λ k d le lt. no_more (key (get_or ss k d)) (key (get_or ss (length ss - 1) d)) n (sorted k (length ss - 1) d (omega (arith, lt)) (omega (arith, lt))) (last d (omega (arith, lt))),
+    λ k d le lt. absurd (omega (arith, le, lt)),
+  )
+
+  -- the next storage comes after all that are of its node or of lesser ones
   module _ (ks ss : List ℕ) (s place : ℕ) (within : place ≤ length ss)
       (point : IsPartitionPoint (λ t. nat_le (key t) (key s) ≡ true) (λ t. nat_le (key t) (key s) ≡ false) ss place) where
     in_order_with : IsNonDecreasingBy key ss → IsNonDecreasingBy key (insert ss place s)
@@ -135,8 +121,8 @@ module _ (key : ℕ → ℕ) where
       let after : filter p (drop count rest) ≡ [] = none_left p (drop count rest) (each_from (λ x. p x ≡ false) rest count (λ k d le lt. behind (key (get_or rest k d)) n (end.1 k d le lt))) in
       sym (append-nil (take count rest)) ∙ (λ i. sym (all_left p (take count rest) own) i ++ sym after i) ∙ parted p rest count ∙ ap (filter p) is ∙ (λ i. sym before i ++ filter p (drop first ss)) ∙ parted p ss first
 
-pub none_by_node : (storages : Map by_number StorageInfo) → AreByNode storages [] []
-none_by_node storages = record { in_order = IsNonDecreasingBy-short (node_in storages) [] (omega arith); each = λ n. refl; many = refl }
+none_by_node : (key : ℕ → ℕ) → AreByNode key [] []
+none_by_node key = record { in_order = IsNonDecreasingBy-short key [] (omega arith); each = λ n. refl; many = refl }
 
 no_keys : keys {o = by_number} (empty {X = StorageInfo}) ≡ []
 unfolding keys entries empty
@@ -144,10 +130,10 @@ no_keys = refl
 
 pub none_known : (storages : Map by_number StorageInfo) (ss : List ℕ) → storages ≡ empty → ss ≡ [] → AreAllByNode storages ss
 none_known storages ss is none =
-    subst (λ m. AreAllByNode m ss) (sym is) (subst (λ xs. AreByNode empty xs ss) (sym no_keys) (subst (λ xs. AreByNode empty [] xs) (sym none) (none_by_node empty)))
+    subst (λ m. AreAllByNode m ss) (sym is) (subst (λ xs. AreByNode (node_in empty) xs ss) (sym no_keys) (subst (AreByNode (node_in empty) []) (sym none) (none_by_node (node_in empty))))
 
 pub one_more : (storages : Map by_number StorageInfo) (ks ss : List ℕ) (s place n : ℕ) → node_in storages s ≡ n → place ≤ length ss
-    → IsPartitionPoint (λ t. nat_le (node_in storages t) n ≡ true) (λ t. nat_le (node_in storages t) n ≡ false) ss place → AreByNode storages ks ss → AreByNode storages (ks ++ s ∷ []) (insert ss place s)
+    → IsPartitionPoint (λ t. nat_le (node_in storages t) n ≡ true) (λ t. nat_le (node_in storages t) n ≡ false) ss place → AreByNode (node_in storages) ks ss → AreByNode (node_in storages) (ks ++ s ∷ []) (insert ss place s)
 one_more storages ks ss s place n at within parts h =
     let point = subst (λ m. IsPartitionPoint (λ t. nat_le (node_in storages t) m ≡ true) (λ t. nat_le (node_in storages t) m ≡ false) ss place) (sym at) parts in
     record {
@@ -160,7 +146,7 @@ one_more storages ks ss s place n at within parts h =
 
 node_there : (m : Map by_number StorageInfo) (s : ℕ) (i : StorageInfo) → get m s ≡ Some i → node_in m s ≡ i.node
 unfolding node_in
-node_there m s i is = ap (λ o. option_map_or (λ (x : StorageInfo). x.node) o 0) is
+node_there m s i is = ap (λ o. unwrap_or (option_map (λ (x : StorageInfo). x.node) o) 0) is
 
 pub count_keys : (m : Map by_number StorageInfo) → length (keys m) ≡ len m
 unfolding keys len
@@ -175,28 +161,31 @@ module _ (m : Map by_number StorageInfo) (es : List (ℕ × StorageInfo)) (i : �
       ∙ ap (λ k. take i (map (λ (x : ℕ × StorageInfo). x.0) (entries m)) ++ k ∷ [])
       (get_or-map (λ (x : ℕ × StorageInfo). x.0) (entries m) i e ∙ ap (λ (x : ℕ × StorageInfo). x.0) (ap (λ xs. get_or xs i e) (sym is) ∙ sym read))
 
-  pub placed : (ss new : List ℕ) (e : ℕ × StorageInfo) (place : ℕ) → i < length es → e ≡ get_or es i e → place ≤ length ss
-      → (IsNonDecreasingBy (node_in m) ss → IsPartitionPoint (λ t. nat_le (node_in m t) e.1.node ≡ true) (λ t. nat_le (node_in m t) e.1.node ≡ false) ss place)
-      → new ≡ insert ss place e.0 → AreByNode m (take i (keys m)) ss → AreByNode m (take (i + 1) (keys m)) new
-  placed ss new e place below read within parts made h =
+  pub placed : (ss seen new : List ℕ) (e : ℕ × StorageInfo) (place : ℕ) → seen ≡ ss → i < length es → e ≡ get_or es i e → place ≤ length seen
+      → (IsNonDecreasingBy (node_in m) seen → IsPartitionPoint (λ t. nat_le (node_in m t) e.1.node ≡ true) (λ t. nat_le (node_in m t) e.1.node ≡ false) seen place)
+      → new ≡ insert ss place e.0 → AreByNode (node_in m) (take i (keys m)) ss → AreByNode (node_in m) (take (i + 1) (keys m)) new
+  placed ss seen new e place same below read within parts made h =
+      let key = node_in m in
       let node = node_there m e.0 e.1 (entry_there m es i e is below read) in
-      subst (λ xs. AreByNode m xs new) (sym (next_key e below read)) (subst (AreByNode m (take i (keys m) ++ e.0 ∷ [])) (sym made) (one_more m (take i (keys m)) ss e.0 place e.1.node node within (parts h.in_order) h))
+      let before = subst (AreByNode key (take i (keys m))) (sym same) h in
+      let after = one_more m (take i (keys m)) seen e.0 place e.1.node node within (parts before.in_order) before in
+      subst (λ xs. AreByNode key xs new) (sym (next_key e below read)) (subst (AreByNode key (take i (keys m) ++ e.0 ∷ [])) (ap (λ xs. insert xs place e.0) same ∙ sym made) after)
 
-  pub room_left : (ss : List ℕ) (bound : ℕ) → i < length es → len m ≤ bound → AreByNode m (take i (keys m)) ss → length ss < bound
+  pub room_left : (ss : List ℕ) (bound : ℕ) → i < length es → len m ≤ bound → AreByNode (node_in m) (take i (keys m)) ss → length ss < bound
   room_left ss bound below few h =
       let count = same_count m es is in
       let long = length-take-le i (keys m) (omega (arith, count, count_keys m, below)) in
       omega (arith, h.many, long, count, below, few)
 
-  pub all_placed : (ss : List ℕ) → length es ≤ i → AreByNode m (take i (keys m)) ss → AreAllByNode m ss
-  all_placed ss past h = let count = same_count m es is in subst (λ xs. AreByNode m xs ss) (take_all i (keys m) (omega (arith, count, count_keys m, past))) h
+  pub all_placed : (ss : List ℕ) → length es ≤ i → AreByNode (node_in m) (take i (keys m)) ss → AreAllByNode m ss
+  all_placed ss past h = let count = same_count m es is in subst (λ xs. AreByNode (node_in m) xs ss) (take_all i (keys m) (omega (arith, count, count_keys m, past))) h
 
 -- the storages of a node in a table are those of the node in the cluster
 known_own : (C : Cluster) (n s : ℕ) → contains_key C.storages s ≡ true → (node_in C.storages s == n) ≡ has_storage C n s
 unfolding node_in has_storage node_of
 known_own C n s = by (get C.storages s)
   where
-    by : (o : Option StorageInfo) → is_some o ≡ true → (option_map_or (λ (i : StorageInfo). i.node) o 0 == n) ≡ option_map_or (λ m. m == n) (option_map (λ (i : StorageInfo). i.node) o) false
+    by : (o : Option StorageInfo) → is_some o ≡ true → (unwrap_or (option_map (λ (i : StorageInfo). i.node) o) 0 == n) ≡ option_map_or (λ m. m == n) (option_map (λ (i : StorageInfo). i.node) o) false
     by None e = cc
     by (Some i) e = refl
 
@@ -218,17 +207,9 @@ own_each C n s = has_filter (has_storage C n) (keys C.storages) s ∙ ap (λ b. 
         and_true false = refl
 
 pub own_few : (C : Cluster) (n : ℕ) → length (filter (has_storage C n) (keys C.storages)) ≤ len C.storages
-own_few C n = let few = length_filter-le (has_storage C n) (keys C.storages) in omega (arith, few, count_keys C.storages)
+own_few C n = let parts = both_parts (has_storage C n) (keys C.storages) in omega (arith, parts, count_keys C.storages)
 
 -- A heartbeat moves no storage.
-
-node_read : (m : Map by_number StorageInfo) (s : ℕ) → node_in m s ≡ option_map_or (λ n. n) (option_map (λ (i : StorageInfo). i.node) (get m s)) 0
-unfolding node_in
-node_read m s = by (get m s)
-  where
-    by : (o : Option StorageInfo) → option_map_or (λ (i : StorageInfo). i.node) o 0 ≡ option_map_or (λ n. n) (option_map (λ (i : StorageInfo). i.node) o) 0
-    by None = refl
-    by (Some i) = refl
 
 same_firsts : (f : ℕ → StorageInfo → StorageInfo) (es : List (ℕ × StorageInfo)) → map (λ (e : ℕ × StorageInfo). e.0) (map (λ (e : ℕ × StorageInfo). (e.0, f e.0 e.1)) es) ≡ map (λ (e : ℕ × StorageInfo). e.0) es
 same_firsts f [] = refl
@@ -244,11 +225,7 @@ keys-told [] m = refl
 keys-told (r ∷ rs) m = keys-told rs (revise_at m r.storage (λ i. record i { remaining = r.remaining })) ∙ keys-revised m _
 
 pub by_node_told : (old new : Map by_number StorageInfo) (rs : List Remaining) (ss : List ℕ) → new ≡ set_remaining old rs → AreAllByNode old ss → AreAllByNode new ss
+unfolding node_in
 by_node_told old new rs ss is h =
-    let nodes : (s : ℕ) → node_in old s ≡ node_in new s = λ s. node_read old s ∙ ap (λ o. option_map_or (λ n. n) o 0) (sym (same_nodes old rs s) ∙ ap (λ m. option_map (λ (i : StorageInfo). i.node) (get m s)) (sym is)) ∙ sym (node_read new s) in
-    let ks : keys old ≡ keys new = sym (keys-told rs old) ∙ ap keys (sym is) in
-    record {
-      in_order = subst (λ (key : ℕ → ℕ). IsNonDecreasingBy key ss) (λ i s. nodes s i) h.in_order;
-      each = λ n. (λ i. filter (λ s. sym (nodes s) i == n) ss) ∙ h.each n ∙ (λ i. filter (λ s. nodes s i == n) (ks i));
-      many = h.many ∙ ap length ks;
-    }
+    let nodes : (s : ℕ) → node_in old s ≡ node_in new s = λ s. ap (λ o. unwrap_or o 0) (sym (same_nodes old rs s)) ∙ ap (λ m. node_in m s) (sym is) in
+    subst (λ (x : (ℕ → ℕ) × List ℕ). AreByNode x.0 x.1 ss) (λ i. (λ s. nodes s i, (sym (keys-told rs old) ∙ ap keys (sym is)) i)) h

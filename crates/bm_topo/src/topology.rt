@@ -11,9 +11,10 @@ ghost use Rattle.bm_base.specs.Promises.Lawful.{IsLawfulCluster};
 ghost use Rattle.bm_base.specs.declared.limits.TheConstants.{MAX_NODES, MAX_STORAGES};
 ghost use Rattle.bm_topo.specs.Seen.{no_room};
 
-use crate::by_node::StoragesByNode;
+use crate::by_node::{StoragesByNode, storages_of};
 use crate::index_hints::IndexHints;
 use crate::spots::{Spot, no_spots, set_spots, spot_on};
+use arrayvec::ArrayVec;
 use bm_base::{MAX_STORAGES, NodeId, Rack, Refusal, StorageId, StorageInfo};
 use bm_maps::NumberMap;
 use std::alloc::Global;
@@ -83,7 +84,7 @@ impl Model for Topology {
 
     ghost invariant = { λ t. (IsSound t.nodes.map t.racks.map t.draining.map t.storages.map)
         × (HasSpots (cluster_of t.nodes.map t.draining.map t.storages.map) t.spots t.spot_count)
-        × (AreAllByNode t.storages.map t.by_node) };
+        × (AreAllByNode t.storages.map t.by_node.items) };
 }
 
 impl Topology {
@@ -102,7 +103,7 @@ impl Topology {
             places: IndexHints::new(),
             spots: no_spots(),
             spot_count: 0,
-            by_node: StoragesByNode::new(),
+            by_node: ArrayVec::new(),
         })
     }
 
@@ -239,7 +240,7 @@ impl Topology {
             → lists.has result.now s ≡ replicas.has_storage self.now.cluster node s }
         ensures few { length result.now ≤ MAX_STORAGES }
     {
-        self.by_node.of_node(node, &self.storages)
+        storages_of(self.by_node.as_slice(), node, &self.storages, &self.places)
     }
 
     /// Whether two storages are different ones of one node; not where one of them is not known.

@@ -19,8 +19,8 @@ overflow_add-count c =
     let same = ap (λ t. len t.cluster.nodes) c.self.view_is in
     omega (arith, few, same, c.count_on-count.ensures, c.self.invariant.0.lawful.few_nodes)
 
-pub set-requires : goal.set-requires
-set-requires c =
+pub sort_by_node-requires : goal.sort_by_node-requires
+sort_by_node-requires c =
     let C = cluster_of c.self.inside.nodes.map c.self.inside.draining.map c.self.inside.storages.map in
     let accepted = subst (λ D. first_of (cluster_checks D (Register c.args.node c.args.rack c.args.storages.now)) ≡ None) (sym (ap (λ t. t.cluster) c.self.view_is)) c.requires.accepted in
     let few = (registration_is_new C c.args.node c.args.rack c.args.storages.now accepted).few_storages in
@@ -40,7 +40,7 @@ invariant_of-self c =
       sound-joined c.self.inside.nodes.map c.self.inside.racks.map _ _ c.self.inside.draining.map _ c.self.inside.storages.map _ c.args.node c.args.rack c.count_on-count.result c.args.storages.now (omega arith) accepted count nodes racks draining
           c.add_storages.ensures.after c.add_storages.ensures.small c.self.invariant.0,
       none_set _ c.self.inside.spots c.self.invariant.1.whole,
-      c.set.ensures,
+      c.sort_by_node.ensures,
     )
 
 pub returns-clause-after : goal.returns-clause-after

@@ -10,7 +10,7 @@ pub invariant_of-self : goal.invariant_of-self
 invariant_of-self c = (
   sound-told _ _ _ c.self.inside.storages.map _ c.args.remaining.now c.set_remaining.ensures.after c.self.invariant.0,
   spots_told _ _ c.self.inside.storages.map _ c.args.remaining.now c.set_remaining.ensures.after _ _ c.self.invariant.1,
-  by_node_told c.self.inside.storages.map _ c.args.remaining.now c.self.inside.by_node c.set_remaining.ensures.after c.self.invariant.2,
+  by_node_told c.self.inside.storages.map _ c.args.remaining.now c.self.inside.by_node.items c.set_remaining.ensures.after c.self.invariant.2,
 )
 
 pub returns-clause-after : goal.returns-clause-after
