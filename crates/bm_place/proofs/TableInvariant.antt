@@ -1,6 +1,5 @@
 -- A new table of storages and its best targets meets the invariant.
 use Rattle.std.specs.Prelude.{◌⊎◌, ◌==◌, option_map, option_and_then}
-use Rattle.std.specs.List.Sorted.{IsPermutation}
 use Rattle.std.specs.Option.{option_map_or}
 use Rattle.std.specs.Ordering.{eq_by_cmp, nat_cmp}
 use Rattle.std.specs.FinMap.{find, is_sorted}
@@ -17,7 +16,7 @@ use Rattle.bm_base.proofs.MapEntries.{each_entry, each_found, key_itself}
 use Rattle.bm_base.proofs.MapLaws.{find_below}
 use Rattle.bm_place.specs.declared.scheduled_bytes.TargetRow.{TargetRow}
 use Rattle.bm_place.specs.Targets.{target_at, target_table}
-use Rattle.bm_place.specs.BestTargets.{AreOf, IsMember, AreBestTargets, IsKept, CanReplace, are_of_one_node, with_firsts, best_by_node, AreBestInOrder}
+use Rattle.bm_place.specs.BestTargets.{AreOf, IsMember, AreBestTargets, IsKept, CanReplace, are_of_one_node, with_firsts, AreBestInOrder}
 use Rattle.bm_place.proofs.Tables.{get-table, has-keys}
 use Rattle.bm_place.proofs.SameNodeTargets.{IsLike, like, alike}
 use Rattle.bm_place.proofs.BestTargets.{AreFirst, covered}
