@@ -1,4 +1,4 @@
-use Rattle.std.proofs.Common.{◌≡◌, ◌≤◌, ℕ, true, [], length, arith, sym, ◌∙◌}
+use Rattle.std.proofs.Common.{◌≡◌, ◌≤◌, true, [], length, arith, sym, ◌∙◌}
 use Rattle.bm_base.specs.Machine.Replicas.{has_storage}
 use Rattle.bm_arena.specs.Contents.{list_of, HasHead}
 use Rattle.bm_levels.proofs.LeavingReplicas.{leaving_more, leaving_of, stays_empty}
