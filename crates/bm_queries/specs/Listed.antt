@@ -6,7 +6,7 @@ use Rattle.std.specs.List.{list_any}
 use Rattle.bm_base.specs.declared.replica.Marks.{Marks}
 use Rattle.bm_base.specs.declared.replica.Replica.{Replica}
 use Rattle.bm_base.specs.declared.replica.BlockInfo.{BlockInfo}
-use Rattle.bm_base.specs.Words.{Map, entries, Cluster, by_replica, is_corrupt, is_usable, is_live_on, has_storage, is_draining}
+use Rattle.bm_base.specs.Words.{Map, entries, Cluster, by_replica, is_corrupt, is_usable, is_live_on, is_draining}
 use Rattle.bm_arena.specs.Triplets.{Block}
 use Rattle.bm_arena.specs.Contents.{Contents, block_at, slot_of, marks_at, list_of}
 use Rattle.bm_arena.specs.Holding.{info_at, id_at}
