@@ -8,7 +8,6 @@ pub mod SameNodeTargets
 pub mod ScanStart
 pub mod TableInvariant
 pub mod ListIndices
-pub mod NodeStorages
 pub mod UpdatedTargets
 pub mod BestTargetScan
 pub mod TargetWalk

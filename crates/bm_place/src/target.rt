@@ -35,7 +35,7 @@ pub fn least_target(
     len: u64,
     level: Level,
     topology: &Topology,
-    scheduled: &Scheduled,
+    scheduled: &Scheduled<'_>,
 ) -> Option<StorageId>
     ensures found { (sent : ℕ → ℕ) → scheduled.now ≡ targets.target_table topology.now.cluster sent
         → IsFoundTarget topology.now.cluster scheduled.now sent level held.now barred.now len
@@ -56,7 +56,7 @@ fn least_fitting(
     len: u64,
     level: Level,
     topology: &Topology,
-    scheduled: &Scheduled,
+    scheduled: &Scheduled<'_>,
 ) -> Option<StorageId>
     ensures { (sent : ℕ → ℕ) → scheduled.now ≡ targets.target_table topology.now.cluster sent
         → result ≡ transfers.least_target_by topology.now.cluster sent level held.now

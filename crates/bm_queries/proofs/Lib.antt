@@ -8,5 +8,4 @@ pub mod OwnBlocks
 pub mod OnStorage
 pub mod AtSlot
 pub mod WaitingBlocks
-pub mod ByPlace
 pub mod KnownBlocks

@@ -79,17 +79,10 @@ impl Shard {
         ensures lists { HasNoLists (leaves topology.now.cluster event.now) self.new }
     {
         match event {
-            Event::Register {
-                node,
-                rack,
-                storages,
-            } => self.register(topology, *node, *rack, storages.as_slice(), multi),
+            Event::Register { .. } => self.register(topology, multi),
             Event::Dead { node } => self.forget_node(topology, *node, multi),
             Event::StorageFailed { storage } => self.forget_storage(topology, *storage),
-            Event::Heartbeat { remaining, .. } => self.note_heartbeat(
-                topology,
-                remaining.as_slice(),
-            ),
+            Event::Heartbeat { .. } => self.note_heartbeat(),
             Event::Drain { node } => self.set_draining(topology, *node, true),
             Event::Undrain { node } => self.set_draining(topology, *node, false),
             Event::AddBlock { id, stamp, repl } => self.add_block(topology, *id, *stamp, *repl),

@@ -11,3 +11,4 @@ pub mod RackCount
 pub mod Capacity
 pub mod OwnStorages
 pub mod Repeats
+pub mod ByNode
