@@ -212,7 +212,7 @@ text_found cmd m is p name d most w =
     let others = neither _ _ other.1 in
     let rule : rule_of a.0 ≡ option_rule name d most = ap rule_of (sym a.1) ∙ (rule_at cmd is w.place a.0 lt ∙ rule_here name d most w) in
     let is_name : a.0.id.now ≡ name = ap (λ (r : Rule). r.id) rule in
-    let plain = plain_facts cmd (ap (λ (x : App). x.top.is_good_and_unmarked) is) in
+    let plain = plain_facts cmd (ap (λ (x : App). x.top.is_plain) is) in
     let unique : (j : ℕ) (e : Arg) → j < length (args_of cmd) → bytes_eq (slice_index_or (args_of cmd) j e).id.now a.0.id.now ≡ true → j ≡ w.place =
     λ j e low same. only_named name d most w j (subst (λ n. j < n) count low)
     (subst (λ (r : Rule). bytes_eq r.id name ≡ true) (rule_at cmd is j e low) (subst (λ (u : Text). bytes_eq (slice_index_or (args_of cmd) j e).id.now u ≡ true) is_name same)) in
