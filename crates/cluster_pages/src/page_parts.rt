@@ -117,7 +117,8 @@ fn write_bar(text: &mut String, thousandths: u128, is_bad: bool) -> Result<(), A
     let class = if is_bad { "bad" } else { "part" };
     write!(
         text,
-        "<svg viewBox=\"0 0 1000 10\" preserveAspectRatio=\"none\" aria-hidden=\"true\"><rect class=\"all\" \
-         width=\"1000\" height=\"10\"/><rect class=\"{class}\" width=\"{thousandths}\" height=\"10\"/></svg>"
+        "<svg viewBox=\"0 0 1000 10\" preserveAspectRatio=\"none\" aria-hidden=\"true\">\
+         <rect class=\"all\" width=\"1000\" height=\"10\"/>\
+         <rect class=\"{class}\" width=\"{thousandths}\" height=\"10\"/></svg>"
     )
 }
