@@ -4,7 +4,7 @@ use crate::chart::write_chart;
 use crate::output::Standing;
 use crate::page_parts::{
     write_amount_row, write_bytes, write_cell, write_escaped, write_host, write_number_cell,
-    write_rack, write_share_cell,
+    write_rack, write_share_cells,
 };
 use crate::text::{all_blocks, all_replicas, first_of};
 use crate::text_parts::{bytes_on, level_word, path_at, remaining_on, replicas_on, state_word};
@@ -35,7 +35,7 @@ th, td { border-bottom: 1px solid #8884; padding: .3rem .6rem .3rem 0; text-alig
 vertical-align: top; }\n\
 td.n, th.n { font-variant-numeric: tabular-nums; text-align: right; white-space: nowrap; }\n\
 td.path { overflow-wrap: anywhere; min-width: 12rem; width: 60%; }\n\
-td.bar { min-width: 6rem; width: 30%; }\n\
+td.bar { min-width: 2.5rem; width: 30%; }\n\
 svg { display: block; height: .9rem; margin-top: .2rem; width: 100%; }\n\
 svg.chart { border-bottom: 1px solid #8888; height: 12rem; }\n\
 svg rect { fill: #3b7dd8; }\n\
@@ -169,7 +169,8 @@ fn write_tags(text: &mut String, report: &Report) -> Result<(), AllocError> {
 }
 
 const NODE_HEADS: &str = "<th>rack</th><th>node</th><th>state</th><th class=\"n\">storages</th>\
-<th class=\"n\">replicas</th><th class=\"n\">bytes</th><th class=\"n\">free</th><th>filled</th>";
+<th class=\"n\">replicas</th><th class=\"n\">bytes</th><th class=\"n\">free</th>\
+<th class=\"n\">filled</th><th></th>";
 
 fn write_nodes(text: &mut String, names: &Names, report: &Report) -> Result<(), AllocError> {
     begin_table(text, "Nodes", NODE_HEADS)?;
@@ -196,12 +197,12 @@ fn write_node(text: &mut String, names: &Names, row: &NodeRow) -> Result<(), All
     text.push_str("</td><td class=\"n\">")?;
     write_bytes(text, remaining)?;
     text.push_str("</td>")?;
-    write_share_cell(text, bytes, bytes.saturating_add(remaining), false)?;
+    write_share_cells(text, bytes, bytes.saturating_add(remaining), false)?;
     text.push_str("</tr>\n")
 }
 
 const STORAGE_HEADS: &str = "<th>node</th><th>storage</th><th class=\"n\">replicas</th>\
-<th class=\"n\">bytes</th><th class=\"n\">free</th><th>filled</th>";
+<th class=\"n\">bytes</th><th class=\"n\">free</th><th class=\"n\">filled</th><th></th>";
 
 /// The storages, in a part of the page that opens when it is asked for.
 fn write_storages(text: &mut String, names: &Names, nodes: &[NodeRow]) -> Result<(), AllocError> {
@@ -243,7 +244,7 @@ fn write_storage(text: &mut String, names: &Names, row: &StorageRow) -> Result<(
     text.push_str("</td><td class=\"n\">")?;
     write_bytes(text, remaining)?;
     text.push_str("</td>")?;
-    write_share_cell(text, row.bytes, row.bytes.saturating_add(remaining), false)
+    write_share_cells(text, row.bytes, row.bytes.saturating_add(remaining), false)
 }
 
 /// The files at risk; nothing where no file is known.
