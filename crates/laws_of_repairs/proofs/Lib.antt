@@ -1,0 +1,3 @@
+-- Lemmas.
+pub mod Rounds
+pub mod Reports
