@@ -1,6 +1,7 @@
 //! The levels of blocks while copies arrive and replicas are deleted, and no node or storage is
-//! lost: no block gets a level that had none, unless DataNodes report a replica of it. So who keeps
-//! the blocks with a level, and adds those that are reported, has all blocks with a level.
+//! lost: no block gets a level that had none, unless DataNodes report a replica of it. So a list
+//! that has all blocks with a level still has them if each block of a report is added, and its
+//! blocks at each level are all of them.
 #![tactic(auto)]
 
 ghost use Rattle.bm_base.specs.Promises.AllStates.{InLawfulStates};
@@ -15,4 +16,10 @@ pub fn round_gives_no_level()
 /// others.
 pub fn reports_keep_levels()
     ensures { law.ReportsKeepLevels }
+{}
+
+/// If a list has all blocks with a level, each once, then as many of the list are at a level as of
+/// all known blocks.
+pub fn covering_blocks_count_as_all()
+    ensures { law.CoveringBlocksCountAsAll }
 {}
