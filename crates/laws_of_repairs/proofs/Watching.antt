@@ -22,6 +22,7 @@ use Rattle.bm_base.proofs.Options.{is_there}
 use Rattle.bm_base.proofs.Sets.{has_keys}
 use Rattle.laws_of_states.proofs.LawfulRounds.{orderly}
 use Rattle.laws_of_rounds.proofs.Needs.{level_unknown}
+use Rattle.laws_of_rounds.proofs.Told.{same_rest}
 use Rattle.laws_of_repairs.specs.Repairs.{Covers, CoveringBlocksCountAsAll, is_report_beside}
 use Rattle.laws_of_repairs.proofs.Rounds.{round_gives_none}
 use Rattle.laws_of_repairs.proofs.Reports.{reports_keep}
@@ -100,7 +101,7 @@ covers_sorted M xs ys same covers b none = covers b (list_any-IsPermutation (λ 
     absent true e = absurd (false≢true (sym none ∙ contains_has (dedup nat_eq ys) b (Contains-dedup_nat ys b (has_contains ys b e))))
     absent false e = e
 
-without_level : (l : Option Level) → is_some l ≡ false → l ≡ None
+pub without_level : (l : Option Level) → is_some l ≡ false → l ≡ None
 without_level None e = refl
 without_level (Some l) e = absurd (true≢false e)
 
@@ -146,3 +147,9 @@ covers_told M N e xs ys c added beside is covers = subst (λ O. Covers O ys) (sy
 -- a round
 pub covers_round : (M N : State) (xs : List ℕ) → IsLawful M → N ≡ count_call (whole_round M).1 → Covers M xs → Covers N xs
 covers_round M N xs lawful is covers = subst (λ O. Covers O xs) (sym is) (λ b none. round_gives_none M (orderly M lawful) b (covers b none))
+
+pub round_is_next : (M : State) → (whole_round M).1.round ≡ M.round + 1
+round_is_next M = (same_rest M).3
+
+pub unknown_has_none : (M : State) (b : ℕ) → get M.holdings.blocks b ≡ None → level M.cluster M.holdings b ≡ None
+unknown_has_none M b e = level_unknown M.cluster M.holdings b e
