@@ -17,7 +17,8 @@ pub fn names_of(alloc: Global, cluster: &Cluster) -> Result<Names, AllocError>
 }
 
 fn add_nodes(alloc: Global, names: &mut Names, cluster: &Cluster) -> Result<(), AllocError>
-    ensures { OnOk result (names.new ≡ fold (with_node cluster.now) names.old cluster.now.node_rows) }
+    ensures { OnOk result (names.new
+        ≡ fold (with_node cluster.now) names.old cluster.now.node_rows) }
 {
     for row in cluster.node_rows.as_slice() {
         add_node(alloc, names, cluster, row)?;
@@ -44,7 +45,8 @@ fn add_node(
 }
 
 fn add_storages(alloc: Global, names: &mut Names, cluster: &Cluster) -> Result<(), AllocError>
-    ensures { OnOk result (names.new ≡ fold (with_storage cluster.now) names.old cluster.now.rows) }
+    ensures { OnOk result (names.new
+        ≡ fold (with_storage cluster.now) names.old cluster.now.rows) }
 {
     for row in cluster.rows.as_slice() {
         add_storage(alloc, names, cluster, row)?;

@@ -38,7 +38,8 @@ static TEXT_OPTIONS: [TextOption; 4] = [
     TextOption {
         name: "skip",
         value: "KINDS",
-        help: "files left out: erasure-coded, replication-over-16, open, snapshots, commas between them",
+        help: "files left out: erasure-coded, replication-over-16, open, snapshots, \
+               commas between them",
     },
     TextOption {
         name: "unclear",
@@ -49,7 +50,8 @@ static TEXT_OPTIONS: [TextOption; 4] = [
 
 /// What is said of a value that is none of its option's.
 pub const WRONG_VALUE: &str = "--remaining takes a whole number below 2^64; --skip takes \
-erasure-coded, replication-over-16, open and snapshots with commas between them; --unclear takes omit or good";
+erasure-coded, replication-over-16, open and snapshots with commas between them; \
+--unclear takes omit or good";
 
 /// The command with the options by which a cluster is read, and the files.
 pub fn with_input<'a>(alloc: Global, command: Command<'a>) -> Result<Command<'a>, AllocError> {

@@ -13,7 +13,8 @@ const EXAMPLES: &str = "Examples:\n  \
 ./puljemrod report --nodes nodes.txt fsck.txt\n  \
 ./puljemrod report --all --json fsck.txt > report.json\n  \
 ./puljemrod report --html report.html fsck.txt\n\n\
-A FILE holds lines of the line tool, or is a text of hdfs fsck. Several are read one after another,\n\
+A FILE holds lines of the line tool, or is a text of hdfs fsck. Several are read one after \
+another,\n\
 and a text of fsck only as the first. Without FILE standard input is read.";
 
 /// What the words ask for beside the cluster.

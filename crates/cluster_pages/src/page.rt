@@ -4,7 +4,7 @@ use crate::chart::write_chart;
 use crate::output::Standing;
 use crate::page_parts::{
     write_amount_row, write_bytes, write_cell, write_escaped, write_host, write_number_cell,
-    write_rack, write_share_cell,
+    write_rack, write_share_cells,
 };
 use crate::text::{all_blocks, all_replicas, first_of};
 use crate::text_parts::{bytes_on, level_word, path_at, remaining_on, replicas_on, state_word};
@@ -24,16 +24,18 @@ const HEAD: &str = "<!DOCTYPE html>\n<html lang=\"en\">\n<head>\n<meta charset=\
 body { font: 15px/1.45 system-ui, sans-serif; margin: 0 auto; max-width: 72rem; padding: 1rem; }\n\
 h1 { font-size: 1.5rem; margin: .2rem 0 1rem; }\n\
 h2 { font-size: 1.15rem; margin: 2rem 0 .5rem; }\n\
-dl { display: grid; gap: .6rem; grid-template-columns: repeat(auto-fit, minmax(8rem, 1fr)); margin: 0; }\n\
+dl { display: grid; gap: .6rem; grid-template-columns: repeat(auto-fit, minmax(8rem, 1fr)); \
+margin: 0; }\n\
 dl div { border: 1px solid #8885; border-radius: .4rem; padding: .5rem .7rem; }\n\
 dt { font-size: .85rem; opacity: .75; }\n\
 dd { font-size: 1.3rem; margin: 0; overflow-wrap: anywhere; }\n\
 .table { overflow-x: auto; }\n\
 table { border-collapse: collapse; width: 100%; }\n\
-th, td { border-bottom: 1px solid #8884; padding: .3rem .6rem .3rem 0; text-align: left; vertical-align: top; }\n\
+th, td { border-bottom: 1px solid #8884; padding: .3rem .6rem .3rem 0; text-align: left; \
+vertical-align: top; }\n\
 td.n, th.n { font-variant-numeric: tabular-nums; text-align: right; white-space: nowrap; }\n\
 td.path { overflow-wrap: anywhere; min-width: 12rem; width: 60%; }\n\
-td.bar { min-width: 6rem; width: 30%; }\n\
+td.bar { min-width: 2.5rem; width: 30%; }\n\
 svg { display: block; height: .9rem; margin-top: .2rem; width: 100%; }\n\
 svg.chart { border-bottom: 1px solid #8888; height: 12rem; }\n\
 svg rect { fill: #3b7dd8; }\n\
@@ -167,7 +169,8 @@ fn write_tags(text: &mut String, report: &Report) -> Result<(), AllocError> {
 }
 
 const NODE_HEADS: &str = "<th>rack</th><th>node</th><th>state</th><th class=\"n\">storages</th>\
-<th class=\"n\">replicas</th><th class=\"n\">bytes</th><th class=\"n\">free</th><th>filled</th>";
+<th class=\"n\">replicas</th><th class=\"n\">bytes</th><th class=\"n\">free</th>\
+<th class=\"n\">filled</th><th></th>";
 
 fn write_nodes(text: &mut String, names: &Names, report: &Report) -> Result<(), AllocError> {
     begin_table(text, "Nodes", NODE_HEADS)?;
@@ -194,12 +197,12 @@ fn write_node(text: &mut String, names: &Names, row: &NodeRow) -> Result<(), All
     text.push_str("</td><td class=\"n\">")?;
     write_bytes(text, remaining)?;
     text.push_str("</td>")?;
-    write_share_cell(text, bytes, bytes.saturating_add(remaining), false)?;
+    write_share_cells(text, bytes, bytes.saturating_add(remaining), false)?;
     text.push_str("</tr>\n")
 }
 
 const STORAGE_HEADS: &str = "<th>node</th><th>storage</th><th class=\"n\">replicas</th>\
-<th class=\"n\">bytes</th><th class=\"n\">free</th><th>filled</th>";
+<th class=\"n\">bytes</th><th class=\"n\">free</th><th class=\"n\">filled</th><th></th>";
 
 /// The storages, in a part of the page that opens when it is asked for.
 fn write_storages(text: &mut String, names: &Names, nodes: &[NodeRow]) -> Result<(), AllocError> {
@@ -241,7 +244,7 @@ fn write_storage(text: &mut String, names: &Names, row: &StorageRow) -> Result<(
     text.push_str("</td><td class=\"n\">")?;
     write_bytes(text, remaining)?;
     text.push_str("</td>")?;
-    write_share_cell(text, row.bytes, row.bytes.saturating_add(remaining), false)
+    write_share_cells(text, row.bytes, row.bytes.saturating_add(remaining), false)
 }
 
 /// The files at risk; nothing where no file is known.

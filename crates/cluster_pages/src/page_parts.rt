@@ -1,5 +1,5 @@
 // Cells and bars of a page.
-use crate::text_parts::thousandths;
+use crate::text_parts::{thousandths, write_share};
 use bm_base::{NodeId, Rack};
 use cluster_names::Names;
 use std::alloc::AllocError;
@@ -89,25 +89,20 @@ pub fn write_amount_row(
     )?;
     write_bytes(text, bytes)?;
     text.push_str("</td>")?;
-    let part = thousandths(count as u128, total);
-    let whole = part / 10;
-    let tenth = part % 10;
-    write!(
-        text,
-        "<td class=\"n\">{whole}.{tenth}%</td><td class=\"bar\">"
-    )?;
-    write_bar(text, part, is_bad)?;
-    text.push_str("</td></tr>\n")
+    write_share_cells(text, count as u128, total, is_bad)?;
+    text.push_str("</tr>\n")
 }
 
-/// A part of a total as a bar.
-pub fn write_share_cell(
+/// A part of a total in per cent, and as a bar.
+pub fn write_share_cells(
     text: &mut String,
     part: u128,
     total: u128,
     is_bad: bool,
 ) -> Result<(), AllocError> {
-    text.push_str("<td class=\"bar\">")?;
+    text.push_str("<td class=\"n\">")?;
+    write_share(text, part, total)?;
+    text.push_str("</td><td class=\"bar\">")?;
     write_bar(text, thousandths(part, total), is_bad)?;
     text.push_str("</td>")
 }
@@ -117,7 +112,8 @@ fn write_bar(text: &mut String, thousandths: u128, is_bad: bool) -> Result<(), A
     let class = if is_bad { "bad" } else { "part" };
     write!(
         text,
-        "<svg viewBox=\"0 0 1000 10\" preserveAspectRatio=\"none\" aria-hidden=\"true\"><rect class=\"all\" \
-         width=\"1000\" height=\"10\"/><rect class=\"{class}\" width=\"{thousandths}\" height=\"10\"/></svg>"
+        "<svg viewBox=\"0 0 1000 10\" preserveAspectRatio=\"none\" aria-hidden=\"true\">\
+         <rect class=\"all\" width=\"1000\" height=\"10\"/>\
+         <rect class=\"{class}\" width=\"{thousandths}\" height=\"10\"/></svg>"
     )
 }

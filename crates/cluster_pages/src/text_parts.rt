@@ -44,7 +44,7 @@ pub fn write_total(
 }
 
 /// A part of a total in per cent, to a tenth.
-fn write_share(text: &mut String, count: u128, total: u128) -> Result<(), AllocError>
+pub fn write_share(text: &mut String, count: u128, total: u128) -> Result<(), AllocError>
     ensures { OnOk result (string_bytes text.new ≡ string_bytes text.old ++ share count total) }
 {
     let thousandths = thousandths(count, total);

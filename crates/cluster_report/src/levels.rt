@@ -108,7 +108,8 @@ fn bytes_at(catalogue: &Catalogue, levels: &[Leveled], urgency: Level) -> u128
 }
 
 fn bytes_at_none(catalogue: &Catalogue, levels: &[Leveled]) -> u128
-    ensures { result ≡ sum_by (λ l. if is_none l.level then len_in catalogue.now l.block else 0) levels.now }
+    ensures { result ≡ sum_by (λ l. if is_none l.level then len_in catalogue.now l.block else 0)
+        levels.now }
 {
     let mut total = 0u128;
     for found in levels {
