@@ -200,7 +200,9 @@ fn lines_for<R: Eprint + Threads + Wait + Sync>(
     drained: &[NodeId],
     most: usize,
     progress: &mut Progress,
-) -> Result<String, Fault> {
+) -> Result<String, Fault>
+    requires { IsInStep loaded.old.session }
+{
     let done = repair_cluster(rt, alloc, &mut loaded.session, pace, drained, progress)?;
     let free = &done.datanodes.free;
     let unmended = unmended_of(alloc, &loaded.session, free, done.watch.blocks.as_slice())?;
@@ -217,7 +219,9 @@ fn picture_for<R: Eprint + Threads + Wait + Sync>(
     pace: Pace,
     drained: &[NodeId],
     progress: &mut Progress,
-) -> Result<String, Fault> {
+) -> Result<String, Fault>
+    requires { IsInStep loaded.old.session }
+{
     let done = repair_cluster(rt, alloc, &mut loaded.session, pace, drained, progress)?;
     Ok(picture_of(alloc, pace, done.rows.rows.as_slice())?)
 }

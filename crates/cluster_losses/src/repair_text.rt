@@ -7,7 +7,7 @@ use cluster_pages::text::first_of;
 use cluster_pages::text_parts::level_word;
 use cluster_repair::links::MICROS;
 use cluster_repair::reasons::{Reason, Unmended};
-use cluster_repair::repair::{Pace, Repair};
+use cluster_repair::repair::{Pace, Repair, rounds_of};
 use cluster_repair::rows::Row;
 use cluster_report::text_parts::write_count;
 use std::alloc::AllocError;
@@ -107,10 +107,10 @@ fn write_retirements(
     pace: Pace,
     repair: &Repair,
 ) -> Result<(), AllocError> {
-    for retirement in &repair.retirements {
+    for node in &repair.drained {
         text.push_str("node ")?;
-        write_node(text, &loaded.names, retirement.node)?;
-        match retirement.rounds {
+        write_node(text, &loaded.names, *node)?;
+        match rounds_of(repair.retired.as_slice(), *node) {
             Some(past) => {
                 let at = u64::from(past).saturating_mul(u64::from(pace.interval));
                 write!(text, " retired after {past} rounds, {at} seconds\n")?;

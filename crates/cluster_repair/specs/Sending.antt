@@ -3,6 +3,7 @@
 use Rattle.std.specs.Prelude.{ℕ, ◌+◌, ◌*◌, ◌-◌, ◌^◌, max, min, nat_eq, unwrap_or}
 use Rattle.std.specs.Int.{div_ceil}
 use Rattle.std.specs.HashMap.{get}
+use Rattle.bm_base.specs.declared.event.Remaining.{Remaining}
 use Rattle.cluster_repair.specs.declared.links.Links.{Links}
 use Rattle.cluster_repair.specs.declared.free.FreeBytes.{FreeBytes}
 
@@ -30,3 +31,7 @@ arrival l source target bytes now = min (max (max now (sends_until l source)) (r
 -- the free bytes of a storage; 0 of one that is not known
 abbrev pub free_on : FreeBytes → ℕ → ℕ
 free_on f s = unwrap_or (get nat_eq f.free s) 0
+
+-- what the node of a storage reports as free there
+abbrev pub remaining_in : FreeBytes → ℕ → Remaining
+remaining_in f s = record { storage = s; remaining = free_on f s }

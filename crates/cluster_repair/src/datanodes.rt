@@ -1,10 +1,12 @@
 // What DataNodes do with the commands of rounds, and what they report: a model.
-ghost use Rattle.std.specs.Prelude.{OnOk};
-ghost use Rattle.cluster_repair.specs.Rows.{IsReached};
+ghost use Rattle.std.specs.Prelude.{◌≡◌, None, OnOk};
+ghost use Rattle.bm_base.specs.Words.{after_event, refusal_of};
+ghost use Rattle.cluster_repair.specs.Rows.{AreReported};
 
 use crate::free::FreeBytes;
 use crate::links::Links;
 use crate::on_way::OnWay;
+use crate::watch::Watch;
 use bm_base::{Commands, Delete, Event, NodeId, Refusal, StorageId, Transfer};
 use bm_crew::NoGate;
 use bm_manager::Manager;
@@ -53,19 +55,20 @@ impl DataNodes {
     }
 
     /// DataNodes report the copies that have arrived by now, the deletes, and what is free.
-    #[tactic(auto, using(crate::proofs::Reach::reached_on))]
     pub fn report<H: Threads + Wait + Sync>(
         &mut self,
         rt: &H,
         alloc: Global,
         manager: &mut Manager,
+        watch: &mut Watch,
         blocks: &Catalogue,
         now: u64,
     ) -> Result<(), Refusal>
-        ensures { OnOk result (IsReached manager.old manager.new) }
+        ensures { OnOk result (AreReported manager.old manager.new
+            watch.old.blocks.items watch.new.blocks.items) }
     {
-        report_copies(rt, alloc, manager, &mut self.on_way, now)?;
-        report_deletes(rt, manager, self.deletes.as_slice())?;
+        report_copies(rt, alloc, manager, watch, &mut self.on_way, now)?;
+        report_deletes(rt, manager, watch, self.deletes.as_slice())?;
         self.free_deleted(blocks)?;
         report_free(rt, alloc, manager, &self.free)?;
         Ok(())
@@ -128,69 +131,105 @@ fn node_of(topology: &Topology, storage: StorageId) -> NodeId {
 }
 
 /// Reports an event. It is refused for lack of memory alone, since no node or storage leaves.
-#[tactic(auto, using(crate::proofs::Reach::reached_by_event))]
 fn apply<H: Threads + Wait + Sync>(
     rt: &H,
     manager: &mut Manager,
     event: &Event,
 ) -> Result<(), Refusal>
-    ensures { OnOk result (IsReached manager.old manager.new) }
+    ensures accepted { OnOk result (refusal_of manager.old event.now ≡ None) }
+    ensures state { OnOk result (manager.new ≡ after_event manager.old event.now) }
 {
     let _ = manager.apply(rt, &NoGate, event)?;
     Ok(())
 }
 
-#[tactic(auto, using(crate::proofs::Reach::reached_at_once, crate::proofs::Reach::reached_on))]
+#[tactic(auto, using(crate::proofs::Reach::reported_at_once))]
 fn report_copies<H: Threads + Wait + Sync>(
     rt: &H,
     alloc: Global,
     manager: &mut Manager,
+    watch: &mut Watch,
     on_way: &mut OnWay,
     now: u64,
 ) -> Result<(), Refusal>
-    ensures { OnOk result (IsReached manager.old manager.new) }
+    ensures { OnOk result (AreReported manager.old manager.new
+        watch.old.blocks.items watch.new.blocks.items) }
 {
     let due = on_way.take_due(alloc, now)?;
     for sent in &due {
-        let received = Event::Received {
-            storage: sent.transfer.target,
-            id: sent.transfer.block,
-            stamp: sent.transfer.stamp,
-        };
-        apply(rt, manager, &received)?;
+        report_copy(rt, manager, watch, &sent.transfer)?;
     }
     Ok(())
 }
 
-#[tactic(auto, using(crate::proofs::Reach::reached_at_once, crate::proofs::Reach::reached_on))]
+fn report_copy<H: Threads + Wait + Sync>(
+    rt: &H,
+    manager: &mut Manager,
+    watch: &mut Watch,
+    copied: &Transfer,
+) -> Result<(), Refusal>
+    ensures { OnOk result (AreReported manager.old manager.new
+        watch.old.blocks.items watch.new.blocks.items) }
+{
+    let received = Event::Received {
+        storage: copied.target,
+        id: copied.block,
+        stamp: copied.stamp,
+    };
+    apply(rt, manager, &received)?;
+    watch.add(copied.block)?;
+    Ok(())
+}
+
+#[tactic(auto, using(crate::proofs::Reach::reported_at_once))]
 fn report_deletes<H: Threads + Wait + Sync>(
     rt: &H,
     manager: &mut Manager,
+    watch: &mut Watch,
     deletes: &[Delete],
 ) -> Result<(), Refusal>
-    ensures { OnOk result (IsReached manager.old manager.new) }
+    ensures { OnOk result (AreReported manager.old manager.new
+        watch.old.blocks.items watch.new.blocks.items) }
 {
     for delete in deletes {
-        let deleted = Event::Deleted {
-            storage: delete.storage,
-            id: delete.block,
-        };
-        apply(rt, manager, &deleted)?;
+        report_delete(rt, manager, watch, delete)?;
     }
     Ok(())
 }
 
-#[tactic(auto, using(crate::proofs::Reach::reached_at_once, crate::proofs::Reach::reached_on))]
+fn report_delete<H: Threads + Wait + Sync>(
+    rt: &H,
+    manager: &mut Manager,
+    watch: &mut Watch,
+    delete: &Delete,
+) -> Result<(), Refusal>
+    ensures { OnOk result (AreReported manager.old manager.new
+        watch.old.blocks.items watch.new.blocks.items) }
+{
+    let deleted = Event::Deleted {
+        storage: delete.storage,
+        id: delete.block,
+    };
+    apply(rt, manager, &deleted)?;
+    watch.add(delete.block)?;
+    Ok(())
+}
+
+#[tactic(auto, using(crate::proofs::Reach::reported_at_once))]
 fn report_free<H: Threads + Wait + Sync>(
     rt: &H,
     alloc: Global,
     manager: &mut Manager,
     free: &FreeBytes,
 ) -> Result<(), Refusal>
-    ensures { OnOk result (IsReached manager.old manager.new) }
+    ensures { OnOk result ((bs : _) → AreReported manager.old manager.new bs bs) }
 {
     for node in &free.nodes {
-        let heartbeat = free.heartbeat(alloc, node)?;
+        let remaining = free.remaining_on(alloc, node)?;
+        let heartbeat = Event::Heartbeat {
+            node: node.node,
+            remaining,
+        };
         apply(rt, manager, &heartbeat)?;
     }
     Ok(())

@@ -1,9 +1,9 @@
 // The free bytes of storages, as their DataNodes know them.
-ghost use Rattle.std.specs.Prelude.{◌≡◌, ℕ, ◌+◌, ◌-◌, min, nat_eq, OnOk, if◌then◌else◌};
-ghost use Rattle.cluster_repair.specs.Sending.{most, free_on};
+ghost use Rattle.std.specs.Prelude.{◌≡◌, ℕ, ◌+◌, ◌-◌, min, nat_eq, map, IfOk, OnOk, if◌then◌else◌};
+ghost use Rattle.cluster_repair.specs.Sending.{most, free_on, remaining_in};
 
 use crate::numbers::put;
-use bm_base::{Event, Items, NodeId, Remaining, StorageId};
+use bm_base::{Items, NodeId, Remaining, StorageId};
 use bm_topo::Topology;
 use cluster_report::nodes::{all_nodes, all_storages};
 use std::alloc::{AllocError, Global};
@@ -74,8 +74,15 @@ impl FreeBytes {
         put(&mut self.free, storage.0, bytes)
     }
 
-    /// What a node reports.
-    pub fn heartbeat(&self, alloc: Global, node: &NodeStorages) -> Result<Event, AllocError> {
+    /// The free bytes that a node reports.
+    pub fn remaining_on(
+        &self,
+        alloc: Global,
+        node: &NodeStorages,
+    ) -> Result<Items<Remaining>, AllocError>
+        ensures { IfOk result (λ free. free
+            ≡ map (remaining_in self.now) node.now.storages.items) }
+    {
         let mut free = Vec::new(alloc);
         for storage in &node.storages {
             free.push(Remaining {
@@ -83,10 +90,7 @@ impl FreeBytes {
                 remaining: self.of(*storage),
             })?;
         }
-        Ok(Event::Heartbeat {
-            node: node.node,
-            remaining: Items::from_vec(free),
-        })
+        Ok(Items::from_vec(free))
     }
 }
 

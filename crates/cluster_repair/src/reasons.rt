@@ -1,6 +1,6 @@
 // Why blocks stay as they are.
-ghost use Rattle.std.specs.Prelude.{IfOk, OnOk};
-ghost use Rattle.cluster_repair.specs.Rows.{HaveTheirLevels};
+ghost use Rattle.std.specs.Prelude.{◌++◌, ◌∷◌, [], IfOk, OnOk};
+ghost use Rattle.cluster_repair.specs.Rows.{AreFound, AreLeveled, AreUnmended};
 
 use crate::free::FreeBytes;
 use bm_base::{BlockId, Level, NodeId, Rack, Refusal, Replica, StorageId};
@@ -28,15 +28,16 @@ pub struct Unmended {
     pub reason: Reason,
 }
 
-/// Of each of these blocks that has a level, why it stays as it is.
-#[tactic(auto, using(crate::proofs::Reach::none_unmended))]
+/// Why each of these blocks stays as it is, which are all that have a level.
+#[tactic(auto, using(crate::proofs::UnmendedLemmas::none_found, crate::proofs::UnmendedLemmas::all_found))]
 pub fn unmended_of(
     alloc: Global,
     session: &Session,
     free: &FreeBytes,
     blocks: &[u64],
 ) -> Result<Vec<Unmended>, Refusal>
-    ensures { IfOk result (λ v. HaveTheirLevels session.now.manager v.items) }
+    requires { AreLeveled session.now.manager blocks.now }
+    ensures { IfOk result (λ v. AreUnmended session.now.manager v.items) }
 {
     let replicas = session.manager.replicas()?;
     let mut found = Vec::new(alloc);
@@ -53,7 +54,6 @@ pub fn unmended_of(
 }
 
 /// Adds a block, if it has a level.
-#[tactic(auto, using(crate::proofs::Reach::unmended_and))]
 fn add_unmended(
     found: &mut Vec<Unmended>,
     session: &Session,
@@ -61,8 +61,8 @@ fn add_unmended(
     replicas: &[Replica],
     block: BlockId,
 ) -> Result<(), Refusal>
-    requires { HaveTheirLevels session.now.manager found.old.items }
-    ensures { OnOk result (HaveTheirLevels session.now.manager found.new.items) }
+    ensures { OnOk result ((bs : _) → AreFound session.now.manager bs found.old.items
+        → AreFound session.now.manager (bs ++ block ∷ []) found.new.items) }
 {
     let Some(level) = session.manager.level(block)? else {
         return Ok(());

@@ -1,7 +1,7 @@
 // What rounds leave: a row for every round, or for every second, fourth and so on of many.
 ghost use Rattle.std.specs.Prelude.{◌≡◌, [], filter, IfOk, OnOk};
 ghost use Rattle.bm_base.specs.Machine.State.{State};
-ghost use Rattle.cluster_repair.specs.Rows.{IsRowAfter, AreRowsAfter, is_on_stride};
+ghost use Rattle.cluster_repair.specs.Rows.{IsRowAfter, AreRowsAfter, EndsWith, is_on_stride};
 
 use cluster_report::levels::LevelCounts;
 use std::alloc::{AllocError, Global};
@@ -40,14 +40,17 @@ impl Rows {
     }
 
     /// Whether a round has a row, the last one aside.
-    pub fn is_due(&self, round: u32) -> bool {
+    pub fn is_due(&self, round: u32) -> bool
+        ensures { result ≡ is_on_stride round self.now.stride }
+    {
         is_on_stride(round, self.stride)
     }
 
     /// Adds the row of a round.
     pub fn push(&mut self, alloc: Global, row: Row) -> Result<(), AllocError>
-        ensures { OnOk result ((M : State) → AreRowsAfter M self.old.rows.items
+        ensures rows { OnOk result ((M : State) → AreRowsAfter M self.old.rows.items
             → IsRowAfter M row → AreRowsAfter M self.new.rows.items) }
+        ensures last { OnOk result (EndsWith self.new.rows.items row) }
     {
         self.make_room(alloc)?;
         self.rows.push(row)?;

@@ -1,47 +1,54 @@
-// The blocks whose level may change from round to round, counted by level.
-ghost use Rattle.std.specs.Prelude.{IfOk};
-ghost use Rattle.cluster_repair.specs.Rows.{AreCounts};
+// The blocks that have a level, counted by level from round to round.
+ghost use Rattle.std.specs.Prelude.{◌≡◌, ◌++◌, ◌∷◌, [], ℕ, false, None, is_some, map, filter, IfOk, OnOk};
+ghost use Rattle.bm_base.specs.Words.{has};
+ghost use Rattle.cluster_report.specs.Catalogues.{Lists, info_in};
+ghost use Rattle.laws_of_repairs.specs.Repairs.{Covers};
+ghost use Rattle.cluster_repair.specs.Rows.{AreCounts, AreLeveled};
 
-use bm_base::{BlockId, Commands, Refusal};
+use bm_base::{BlockId, Refusal};
 use bm_manager::Manager;
+use cluster_report::catalogue::Catalogue;
 use cluster_report::levels::{LevelCounts, Leveled, count_levels, levels_of};
 use std::alloc::{AllocError, Global};
 
-/// The numbers of the blocks that have a level, and of those of which a replica is to be deleted.
-/// No other block gets a level while nothing more is lost.
+/// The numbers of blocks, among them all that have a level. While nothing more is lost no other
+/// block gets one, if each block of a report is added.
 #[derive(Drop)]
 pub struct Watch {
     pub blocks: Vec<u64>,
 }
 
 impl Watch {
-    /// The blocks of these that have a level, and the missing ones.
+    /// The known blocks that have a level, by a question for each known block.
+    #[tactic(auto, using(crate::proofs::WatchLemmas::covers_known))]
     pub fn new(
         alloc: Global,
-        levels: &[Leveled],
-        missing: &[BlockId],
-    ) -> Result<Watch, AllocError> {
-        let mut blocks = with_level(alloc, levels)?;
-        for block in missing {
-            blocks.push(block.0)?;
-        }
+        manager: &Manager,
+        blocks: &Catalogue,
+    ) -> Result<Watch, AllocError>
+        requires { Lists blocks.now manager.now.holdings.blocks }
+        ensures { IfOk result (λ w. Covers manager.now w.blocks.items) }
+    {
+        let numbers = numbers_in(alloc, blocks)?;
+        let levels = levels_of(alloc, manager, numbers.as_slice())?;
+        let blocks = with_level(alloc, levels.as_slice())?;
         Ok(Watch { blocks })
     }
 
-    /// Adds the blocks of which a round deletes replicas.
-    pub fn add_deleted(&mut self, commands: &Commands) -> Result<(), AllocError> {
-        for node in commands.nodes.as_slice() {
-            for delete in node.deletes.as_slice() {
-                self.blocks.push(delete.block.0)?;
-            }
-        }
+    /// DataNodes report a replica of this block.
+    pub fn add(&mut self, block: BlockId) -> Result<(), AllocError>
+        ensures { OnOk result (self.new.blocks.items ≡ self.old.blocks.items ++ block ∷ []) }
+    {
+        self.blocks.push(block.0)?;
         Ok(())
     }
 
-    /// Counts the blocks at each level, by a question for each, and forgets those that have none.
-    #[tactic(auto, using(crate::proofs::Reach::counted_by))]
+    /// Counts all known blocks by level, by a question for each watched block, and forgets those
+    /// that have no level.
     pub fn count(&mut self, alloc: Global, manager: &Manager) -> Result<LevelCounts, Refusal>
-        ensures { IfOk result (AreCounts manager.now) }
+        requires { Covers manager.now self.old.blocks.items }
+        ensures counts { IfOk result (AreCounts manager.now) }
+        ensures blocks { OnOk result (AreLeveled manager.now self.new.blocks.items) }
     {
         self.blocks.sort()?;
         self.blocks.dedup();
@@ -53,13 +60,33 @@ impl Watch {
     }
 }
 
+/// The numbers of the known blocks.
+fn numbers_in(alloc: Global, blocks: &Catalogue) -> Result<Vec<u64>, AllocError>
+    ensures { IfOk result (λ v. (b : ℕ) → has v.items b ≡ false → info_in blocks.now b ≡ None) }
+{
+    blocks.blocks.keys().copied().collect(alloc)
+}
+
 /// The numbers of the blocks that have a level.
-fn with_level(alloc: Global, levels: &[Leveled]) -> Result<Vec<u64>, AllocError> {
-    let mut blocks = Vec::new(alloc);
-    for found in levels {
-        if found.level.is_some() {
-            blocks.push(found.block.0)?;
-        }
-    }
-    Ok(blocks)
+fn with_level(alloc: Global, levels: &[Leveled]) -> Result<Vec<u64>, AllocError>
+    ensures { IfOk result (λ v. v.items
+        ≡ map (λ l. l.block) (filter (λ l. is_some l.level) levels.now)) }
+{
+    levels
+        .iter()
+        .filter(|found| has_level(found))
+        .map(number_of)
+        .collect(alloc)
+}
+
+fn has_level(found: &Leveled) -> bool
+    ensures { result ≡ is_some found.now.level }
+{
+    found.level.is_some()
+}
+
+fn number_of(found: &Leveled) -> u64
+    ensures { result ≡ found.now.block }
+{
+    found.block.0
 }

@@ -1,5 +1,12 @@
-use Rattle.cluster_repair.specs.Rows.{GoesOn}
+use Rattle.std.specs.Prelude.{◌≤◌}
+use Rattle.bm_base.specs.Machine.State.{State}
+use Rattle.laws_of_repairs.specs.Repairs.{Covers}
+use Rattle.cluster_repair.specs.Rows.{IsUnderWay}
 use Rattle.cluster_repair.proofs.repair.Repair.take_rounds.Given as goal
 
 abbrev pub invariant-loop-past : goal.invariant-loop-past
-invariant-loop-past g l = GoesOn l.fn.manager l.manager l.fn.self.rows.rows.items l.self.rows.rows.items
+invariant-loop-past g l = record {
+  few : l.self.rounds ≤ l.past-index;
+  covers : Covers l.manager l.self.watch.blocks.items;
+  under_way : (M : State) → IsUnderWay M l.fn.manager l.fn.self → IsUnderWay M l.manager l.self;
+}
