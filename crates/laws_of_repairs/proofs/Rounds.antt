@@ -19,9 +19,9 @@ use Rattle.laws_of_states.proofs.MarkedReplicas.{after_marked}
 use Rattle.laws_of_rounds.specs.Levels.{need, AreOnOneRack, HasTwoRacks}
 use Rattle.laws_of_rounds.proofs.Needs.{short, level_unknown}
 use Rattle.laws_of_rounds.proofs.OneRack.{level_three}
-use Rattle.laws_of_rounds.proofs.Racked.{last_stays}
-use Rattle.laws_of_rounds.proofs.Reasons.{live_before_is, leaves_enough}
-use Rattle.laws_of_rounds.proofs.Told.{same_rest}
+use Rattle.laws_of_rounds.proofs.MarkedRacks.{last_stays}
+use Rattle.laws_of_rounds.proofs.DeleteReasons.{live_before_is, leaves_enough}
+use Rattle.laws_of_rounds.proofs.NodeCommands.{same_rest}
 
 -- Live replicas count when a round begins.
 

@@ -22,7 +22,7 @@ use Rattle.bm_base.proofs.Options.{is_there}
 use Rattle.bm_base.proofs.Sets.{has_keys}
 use Rattle.laws_of_states.proofs.LawfulRounds.{orderly}
 use Rattle.laws_of_rounds.proofs.Needs.{level_unknown}
-use Rattle.laws_of_rounds.proofs.Told.{same_rest}
+use Rattle.laws_of_rounds.proofs.NodeCommands.{same_rest}
 use Rattle.laws_of_repairs.specs.Repairs.{Covers, CoveringBlocksCountAsAll, is_report_beside}
 use Rattle.laws_of_repairs.proofs.Rounds.{round_gives_none}
 use Rattle.laws_of_repairs.proofs.Reports.{reports_keep}
