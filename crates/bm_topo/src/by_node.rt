@@ -7,9 +7,8 @@ ghost use Rattle.bm_topo.specs.Keys.{HasSmallKeys};
 ghost use Rattle.bm_topo.specs.ByNode.{node_in, AreAllByNode};
 
 use crate::index_hints::IndexHints;
-use arrayvec::ArrayVec;
 use bm_base::{MAX_STORAGES, NodeId, StorageId, StorageInfo};
-use bm_maps::NumberMap;
+use bm_maps::{ArrayVec, NumberMap};
 
 /// Storages sorted by node, those of a node by ascending number. There is capacity for each
 /// possible one, so that a change of the cluster takes no memory for them.

@@ -14,9 +14,8 @@ ghost use Rattle.bm_topo.specs.Seen.{no_room};
 use crate::by_node::{StoragesByNode, storages_of};
 use crate::index_hints::IndexHints;
 use crate::spots::{Spot, no_spots, set_spots, spot_on};
-use arrayvec::ArrayVec;
 use bm_base::{MAX_STORAGES, NodeId, Rack, Refusal, StorageId, StorageInfo};
-use bm_maps::NumberMap;
+use bm_maps::{ArrayVec, NumberMap};
 use std::alloc::Global;
 use std::marker::Model;
 
