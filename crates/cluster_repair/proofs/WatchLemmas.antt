@@ -1,14 +1,21 @@
 -- What a watch has, and counts.
-use Rattle.std.proofs.Common.{◌≡◌, ◌∙◌, ℕ, ◌+◌, Bool, true, false, List, [], ◌∷◌, Option, Some, None, refl, sym, ap, subst, map, length, filter, cond, is_some}
-use Rattle.std.specs.Prelude.{◌==◌, nat_eq, nat_cmp, count_by}
-use Rattle.std.specs.List.{dedup}
+use Rattle.std.proofs.Common.{◌≡◌, ◌∙◌, ℕ, ◌+◌, Bool, true, false, List, [], ◌∷◌, Option, Some, None, refl, sym, ap, subst, map, length, filter, cond, is_some, arith}
+use Rattle.std.specs.Prelude.{◌==◌, nat_eq, count_by}
+use Rattle.std.specs.List.{dedup, list_any}
+use Rattle.std.specs.Map.{lookup, keys_of}
+use Rattle.std.specs.Ordering.{nat_cmp}
 use Rattle.std.specs.List.Sorted.{IsPermutation, IsSorted, IsStrictlyIncreasing}
 use Rattle.std.proofs.lemmas.List.Kept.{IsStrictlyIncreasing-filter}
+use Rattle.std.proofs.lemmas.List.Sums.{length-filter}
 use Rattle.std.proofs.lemmas.Map.Keys.{IsStrictlyIncreasing-dedup}
+use Rattle.std.proofs.lemmas.Map.Made.{is_some-lookup}
 use Rattle.bm_base.specs.declared.level.Level.{Level}
 use Rattle.bm_base.specs.declared.level.Level.TheVariants.{Highest, VeryUnderReplicated, UnderReplicated, BadlyDistributed}
 use Rattle.bm_base.specs.declared.replica.BlockInfo.{BlockInfo}
 use Rattle.bm_base.specs.Words.{State, get, has, keys, is_at, level, missing_blocks}
+use Rattle.bm_base.proofs.Clusters.{eqb_turned}
+use Rattle.bm_base.proofs.ListTests.{any_agree}
+use Rattle.bm_base.proofs.Options.{not_there}
 use Rattle.bm_topo.proofs.Repeats.{no_repeats-rising}
 use Rattle.cluster_report.specs.Catalogues.{Lists, info_in}
 use Rattle.cluster_report.specs.Levels.{leveled, levels_counted, count_at}
@@ -19,9 +26,27 @@ use Rattle.laws_of_repairs.specs.Repairs.{Covers, blocks_at}
 use Rattle.laws_of_repairs.proofs.Watching.{has_level, count_as_all, covers_sorted, covers_leveled, leveled_all, unknown_has_none, without_level}
 use Rattle.cluster_repair.specs.Rows.{AreCounts, AreLeveled}
 
+-- a block that is no key is not known
+pub no_such_key : (c : Catalogue) (ks : List ℕ) (b : ℕ) → ks ≡ keys_of c.blocks.entries → has ks b ≡ false → info_in c b ≡ None
+no_such_key c ks b is none =
+    not_there (lookup (nat_eq b) c.blocks.entries)
+    (is_some-lookup (nat_eq b) c.blocks.entries ∙ ap (list_any (nat_eq b)) (sym is) ∙ any_agree (nat_eq b) (λ x. x == b) (λ x. eqb_turned b x) ks ∙ none)
+
+as_many_at : (M : State) (urgency : Level) (bs : List ℕ)
+    → length (filter (λ l. is_at urgency l.level) (map (leveled M.cluster M.holdings) bs)) ≡ length (filter (λ b. is_at urgency (level M.cluster M.holdings b)) bs)
+as_many_at M urgency [] = refl
+as_many_at M urgency (b ∷ bs) =
+    let rest = as_many_at M urgency bs in
+    elim (is_at urgency (level M.cluster M.holdings b)) as (λ t. length (cond t (leveled M.cluster M.holdings b ∷ filter (λ (l : Leveled). is_at urgency l.level) (map (leveled M.cluster M.holdings) bs)) (filter (λ (l : Leveled). is_at urgency l.level) (map (leveled M.cluster M.holdings) bs)))
+    ≡ length (cond t (b ∷ filter (λ c. is_at urgency (level M.cluster M.holdings c)) bs) (filter (λ c. is_at urgency (level M.cluster M.holdings c)) bs))) [
+      | true ↦ omega (arith, rest)
+      | false ↦ rest
+    ]
+
 count_mapped : (M : State) (urgency : Level) (bs : List ℕ) → count_at urgency (map (leveled M.cluster M.holdings) bs) ≡ blocks_at M urgency bs
-count_mapped M urgency [] = refl
-count_mapped M urgency (b ∷ bs) = ap (λ n. cond (is_at urgency (level M.cluster M.holdings b)) 1 0 + n) (count_mapped M urgency bs)
+count_mapped M urgency bs =
+    sym (length-filter (λ (l : Leveled). is_at urgency l.level) (map (leveled M.cluster M.holdings) bs))
+    ∙ as_many_at M urgency bs ∙ length-filter (λ b. is_at urgency (level M.cluster M.holdings b)) bs
 
 leveled_filter : (M : State) (bs : List ℕ) → map (λ l. l.block) (filter (λ l. is_some l.level) (map (leveled M.cluster M.holdings) bs)) ≡ filter (has_level M) bs
 leveled_filter M [] = refl

@@ -20,7 +20,6 @@ pub struct Watch {
 
 impl Watch {
     /// The known blocks that have a level, by a question for each known block.
-    #[tactic(auto, using(crate::proofs::WatchLemmas::covers_known))]
     pub fn new(
         alloc: Global,
         manager: &Manager,
@@ -64,7 +63,8 @@ impl Watch {
 fn numbers_in(alloc: Global, blocks: &Catalogue) -> Result<Vec<u64>, AllocError>
     ensures { IfOk result (λ v. (b : ℕ) → has v.items b ≡ false → info_in blocks.now b ≡ None) }
 {
-    blocks.blocks.keys().copied().collect(alloc)
+    let numbers: Vec<u64> = blocks.blocks.keys().copied().collect(alloc)?;
+    Ok(numbers)
 }
 
 /// The numbers of the blocks that have a level.

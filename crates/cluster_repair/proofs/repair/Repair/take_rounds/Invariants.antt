@@ -6,7 +6,7 @@ use Rattle.cluster_repair.proofs.repair.Repair.take_rounds.Given as goal
 
 abbrev pub invariant-loop-past : goal.invariant-loop-past
 invariant-loop-past g l = record {
-  few : l.self.rounds ≤ l.past-index;
+  few : l.self.rounds ≤ l.past;
   covers : Covers l.manager l.self.watch.blocks.items;
   under_way : (M : State) → IsUnderWay M l.fn.manager l.fn.self → IsUnderWay M l.manager l.self;
 }
