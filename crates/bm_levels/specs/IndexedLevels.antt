@@ -9,12 +9,17 @@ use Rattle.bm_queues.specs.Members.{Members}
 use Rattle.bm_queues.specs.Walks.{slots_from, IsOn, IsPast}
 use Rattle.bm_arena.specs.Triplets.{Block}
 use Rattle.bm_arena.specs.Contents.{Contents, block_at}
+use Rattle.bm_arena.specs.Holding.{id_at}
 use Rattle.bm_levels.specs.declared.classification.BlockStatus.{BlockStatus}
+use Rattle.bm_levels.specs.declared.numbered_lists.Member.{Member}
 use Rattle.bm_levels.specs.Status.{level_by, is_settled_at}
+use Rattle.bm_levels.specs.NumberedLists.{AreNumbered}
 
--- the levels of the slots, and the slots that a round has to scan
+-- the levels of the slots, the slots of each level with their numbers, and the slots that a round
+-- has to scan
 pub record IndexedLevels : Type 0 where
   pub levels : Levels
+  pub members : List (List Member)
   pub unsettled : Members
 
 -- copies of a block are wanted at each level but the one without a usable replica
@@ -51,6 +56,14 @@ HasCapacityForEach K slots = (slot : ℕ) → IsMember slot slots → HasCapacit
 -- a change keeps the capacity
 abbrev pub KeepsCapacity : IndexedLevels → IndexedLevels → Type 0
 KeepsCapacity old new = (bound : ℕ) → HasCapacityFor old bound → HasCapacityFor new bound
+
+-- next to each slot that has a level is the number of its block
+abbrev pub HasNumbers : Contents → IndexedLevels → Type 0
+HasNumbers a K = AreNumbered (id_at a) K.levels K.members
+
+-- a change keeps this
+abbrev pub KeepsNumbers : Contents → IndexedLevels → IndexedLevels → Type 0
+KeepsNumbers a old new = HasNumbers a old → HasNumbers a new
 
 -- a change reserves at most this many slots, and none if there was capacity for them
 abbrev pub GrowsWithin : ℕ → IndexedLevels → IndexedLevels → Type 0

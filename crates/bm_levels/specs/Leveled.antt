@@ -4,7 +4,7 @@ use Rattle.bm_base.specs.Machine.State.{Cluster}
 use Rattle.bm_arena.specs.Contents.{Contents, block_at, marks_at}
 use Rattle.bm_arena.specs.Holding.{info_at}
 use Rattle.bm_levels.specs.Status.{level_in, is_settled_at}
-use Rattle.bm_levels.specs.IndexedLevels.{IndexedLevels, level_of_slot, IsUnsettled, HasCapacityFor}
+use Rattle.bm_levels.specs.IndexedLevels.{IndexedLevels, level_of_slot, IsUnsettled, HasCapacityFor, HasNumbers}
 
 pub record Leveled : Type 0 where
   pub arena : Contents
@@ -21,6 +21,8 @@ pub record IsLeveled (v : Leveled) : Type 0 where
   pub unsettled : (slot : ℕ) → IsUnsettled v.kept slot ↔ (is_settled_at (block_at v.arena slot) ≡ false)
   -- a slot without a known block has no level
   pub unknown : (slot : ℕ) → info_at v.arena slot ≡ None → level_of_slot v.kept slot ≡ None
+  -- next to each slot in the list of a level is the number of its block
+  pub numbers : HasNumbers v.arena v.kept
 
 -- the level of each slot is that of its block in a cluster
 abbrev pub AreLevels : Cluster → Leveled → Type 0

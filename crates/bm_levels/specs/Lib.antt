@@ -1,5 +1,6 @@
 pub mod Status
 pub mod ReplicaCounts
+pub mod NumberedLists
 pub mod IndexedLevels
 pub mod Held
 pub mod Leveled

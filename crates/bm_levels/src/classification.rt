@@ -2,6 +2,7 @@
 ghost use Rattle.std.specs.Prelude.{◌≡◌, length, map, true};
 ghost use Rattle.std.specs.Option.{option_map_or};
 ghost use Rattle.bm_arena.specs.Contents.{block_at};
+ghost use Rattle.bm_arena.specs.Holding.{id_at};
 ghost use Rattle.bm_arena.specs.Triplets.{triplet_view};
 ghost use Rattle.bm_levels.specs.Status as status;
 ghost use Rattle.bm_levels.specs.ReplicaCounts.{IsCountOf};
@@ -10,7 +11,7 @@ ghost use Rattle.bm_levels.specs.ClusterAfter.{rack_after, drains_after, level_a
 use crate::cluster_after::ClusterAfter;
 use crate::replica_count::Count;
 use bm_arena::{Arena, Slot, Triplet};
-use bm_base::{Level, level_of};
+use bm_base::{BlockId, Level, level_of};
 
 /// The status of a block: what is stored with its slot.
 #[derive(Clone, Copy, Debug, PartialEq, Eq)]
@@ -26,6 +27,17 @@ pub(crate) fn are_equal(a: BlockStatus, b: BlockStatus) -> bool
     ensures { result ≡ true → a ≡ b }
 {
     a == b
+}
+
+/// The number of the block at a slot; 0 for a slot without a block.
+pub fn number_at(arena: &Arena, slot: Slot) -> BlockId
+    ensures { result ≡ id_at arena.now slot }
+{
+    if arena.has_entry(slot) {
+        arena.id_of(slot)
+    } else {
+        BlockId(0)
+    }
 }
 
 /// Classifies the block at a slot, given the number of its replicas. Scans each replica once, or

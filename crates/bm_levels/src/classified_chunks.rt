@@ -2,10 +2,10 @@
 ghost use Rattle.std.specs.Prelude.{◌≡◌, ◌<◌, ◌≤◌, ℕ, length, slice_get, slice_index_or, Some, true};
 ghost use Rattle.std.specs.Option.{option_map_or};
 ghost use Rattle.bm_arena.specs.Contents.{block_at};
-ghost use Rattle.bm_levels.specs.IndexedLevels.{HasCapacityForEach, KeepsCapacity, HaveStatuses, IsSameOutside};
+ghost use Rattle.bm_levels.specs.IndexedLevels.{HasCapacityForEach, KeepsCapacity, HaveStatuses, IsSameOutside, KeepsNumbers};
 ghost use Rattle.bm_levels.specs.ClusterAfter.{AreStatusesAfter, AreClassifiedAfter};
 
-use crate::classification::{BlockStatus, are_equal, classify};
+use crate::classification::{BlockStatus, are_equal, classify, number_at};
 use crate::cluster_after::ClusterAfter;
 use crate::level_index::LevelIndex;
 use bm_arena::{Arena, Slot};
@@ -63,6 +63,7 @@ impl LevelIndex {
         ensures status { AreClassifiedAfter cluster_after.now arena.now slots.now self.new }
         ensures others { IsSameOutside slots.now self.old self.new }
         ensures room { KeepsCapacity self.old self.new }
+        ensures numbers { KeepsNumbers arena.now self.old self.new }
     {
         let mut rest = slots;
         while !rest.is_empty() {
@@ -80,13 +81,14 @@ impl LevelIndex {
         ensures status { AreClassifiedAfter cluster_after.now arena.now chunk.now self.new }
         ensures others { IsSameOutside chunk.now self.old self.new }
         ensures room { KeepsCapacity self.old self.new }
+        ensures numbers { KeepsNumbers arena.now self.old self.new }
     {
         let status = classify_chunk(arena, chunk, cluster_after);
         if self.keeps_all(chunk, status.as_slice()) {
             return;
         }
         for (place, slot) in chunk.iter().enumerate() {
-            self.set_status(*slot, status[place]);
+            self.set_status(*slot, status[place], number_at(arena, *slot));
         }
     }
 

@@ -2,7 +2,7 @@
 ghost use Rattle.std.specs.Prelude.{◌≡◌, ℕ, ◌+◌};
 ghost use Rattle.bm_maps.specs.SlotLists.{IsMember};
 ghost use Rattle.bm_arena.specs.Contents.{list_of};
-ghost use Rattle.bm_levels.specs.IndexedLevels.{HasCapacityFor, HasCapacityForEach, KeepsCapacity};
+ghost use Rattle.bm_levels.specs.IndexedLevels.{HasCapacityFor, HasCapacityForEach, KeepsCapacity, KeepsNumbers};
 ghost use Rattle.bm_levels.specs.Leveled.{AreLevels};
 ghost use Rattle.bm_levels.specs.LevelsBy.{with_draining};
 ghost use Rattle.bm_levels.specs.ClusterAfter.{AreClassifiedOnStorage, AreClassifiedOnNode};
@@ -40,6 +40,7 @@ impl LevelIndex {
             → HasCapacityFor self.old (slot + 1) }
         ensures each { AreClassifiedOnNode cluster_after.now node arena.now self.old self.new }
         ensures room { KeepsCapacity self.old self.new }
+        ensures numbers { KeepsNumbers arena.now self.old self.new }
     {
         for place in 0..cluster_after.topology.storage_count() {
             if let Some(storage) = cluster_after.topology.storage_at(place) {
@@ -60,6 +61,7 @@ impl LevelIndex {
         requires { HasCapacityForEach self.old (list_of arena.now storage) }
         ensures each { AreClassifiedOnStorage cluster_after.now storage arena.now self.old self.new }
         ensures room { KeepsCapacity self.old self.new }
+        ensures numbers { KeepsNumbers arena.now self.old self.new }
     {
         for slot in arena.walk(storage) {
             self.classify(arena, slot, cluster_after);

@@ -4,11 +4,13 @@ ghost use Rattle.bm_base.specs.declared.refusal.Refusal.TheVariants.{Memory};
 ghost use Rattle.bm_base.specs.declared.level.Level.{Level};
 ghost use Rattle.bm_maps.specs.SlotLists.{Distinct};
 ghost use Rattle.bm_levels.specs.IndexedLevels.{level_of_slot, IsUnsettled, HasCapacityFor, HasCapacityAt, KeepsCapacity, GrowsWithin, AreSlotsAt, NeedCopies, slots_at, slots_needing_copies, HasStatus, IsSameAt, KeepsAhead};
+ghost use Rattle.bm_levels.specs.NumberedLists.{AreNumbered, members_of, slots_of_members};
 
 use crate::classification::BlockStatus;
+use crate::numbered_lists::{Member, NumberedLists};
 use bm_arena::Slot;
-use bm_base::{Level, Refusal};
-use bm_queues::{LevelLists, SlotSet};
+use bm_base::{BlockId, Level, Refusal};
+use bm_queues::SlotSet;
 use std::alloc::Global;
 use std::marker::Model;
 
@@ -38,7 +40,7 @@ fn rounded_up(bound: usize) -> usize
 /// delete stay unsettled until it is reported.
 #[derive(Drop)]
 pub struct LevelIndex {
-    pub(crate) levels: LevelLists,
+    pub(crate) levels: NumberedLists,
     pub(crate) unsettled: SlotSet,
 }
 
@@ -48,7 +50,8 @@ impl Model for LevelIndex {
     ghost Value = { IndexedLevels };
 
     ghost view = { λ k. record {
-      levels = k.levels;
+      levels = k.levels.levels;
+      members = k.levels.members;
       unsettled = k.unsettled;
     } };
 }
@@ -58,10 +61,12 @@ impl LevelIndex {
     pub fn new(alloc: Global) -> Result<LevelIndex, Refusal>
         ensures levels { IfOk result (λ k. (slot : ℕ) → level_of_slot k slot ≡ None) }
         ensures settled { IfOk result (λ k. (slot : ℕ) → IsUnsettled k slot → ⊥) }
+        ensures numbers { IfOk result (λ k. (number : ℕ → ℕ)
+            → AreNumbered number k.levels k.members) }
         ensures refused { IfErr result (λ e. e ≡ Memory) }
     {
         Ok(LevelIndex {
-            levels: LevelLists::new(alloc)?,
+            levels: NumberedLists::new(alloc)?,
             unsettled: SlotSet::new(alloc)?,
         })
     }
@@ -75,6 +80,8 @@ impl LevelIndex {
         ensures there { HasCapacityFor self.old bound → IsOk result }
         ensures unchanged { HasCapacityFor self.old bound → self.new ≡ self.old }
         ensures same { (slot : ℕ) → IsSameAt self.old self.new slot }
+        ensures numbers { (number : ℕ → ℕ) → AreNumbered number self.old.levels self.old.members
+            → AreNumbered number self.new.levels self.new.members }
         ensures refused { IfErr result (λ e. e ≡ Memory) }
     {
         if self.has_room_for(bound) {
@@ -97,21 +104,26 @@ impl LevelIndex {
         ensures kept { KeepsCapacity self.old self.new }
         ensures few { GrowsWithin bound self.old self.new }
         ensures same { (slot : ℕ) → IsSameAt self.old self.new slot }
+        ensures numbers { (number : ℕ → ℕ) → AreNumbered number self.old.levels self.old.members
+            → AreNumbered number self.new.levels self.new.members }
         ensures refused { IfErr result (λ e. e ≡ Memory) }
     {
         self.levels.grow_to(bound)?;
         self.unsettled.grow_to(bound)
     }
 
-    /// Sets the status of the block at a slot.
-    pub(crate) fn set_status(&mut self, slot: Slot, status: BlockStatus)
+    /// Sets the status of the block at a slot; `id` is the block's number.
+    pub(crate) fn set_status(&mut self, slot: Slot, status: BlockStatus, id: BlockId)
         requires room { HasCapacityAt self.old slot }
         ensures kept { HasStatus self.new slot status }
         ensures others { (other : ℕ) → other ≢ slot → IsSameAt self.old self.new other }
         ensures ahead { KeepsAhead slot self.old.unsettled.slots self.new.unsettled.slots }
         ensures room { KeepsCapacity self.old self.new }
+        ensures numbers { (number : ℕ → ℕ) → number slot ≡ id
+            → AreNumbered number self.old.levels self.old.members
+            → AreNumbered number self.new.levels self.new.members }
     {
-        self.levels.set(slot, status.level);
+        self.levels.set(slot, status.level, id);
         if status.is_settled {
             self.unsettled.remove(slot);
         } else {
@@ -141,13 +153,15 @@ impl LevelIndex {
         }
     }
 
-    /// The slots at a level, in any order.
-    pub fn at_level(&self, level: Level) -> &[u32]
-        ensures slots { result.now ≡ slots_at self.now level }
-        ensures exact { AreSlotsAt self.now level result.now }
-        ensures once { Distinct result.now }
+    /// The slots at a level, each with the number of its block, in any order.
+    pub fn at_level(&self, level: Level) -> &[Member]
+        ensures members { result.now ≡ members_of self.now.members level }
+        ensures slots { slots_of_members result.now ≡ slots_at self.now level }
+        ensures exact { AreSlotsAt self.now level (slots_of_members result.now) }
+        ensures once { Distinct (slots_of_members result.now) }
     {
-        self.levels.slots(level)
+        self.levels.show_invariant();
+        self.levels.members(level)
     }
 
     /// The number of slots at a level at which copies are wanted.
@@ -155,10 +169,10 @@ impl LevelIndex {
         ensures { result ≡ length (slots_needing_copies self.now) }
     {
         self.levels.show_invariant();
-        self.levels.slots(Level::Highest).len()
-            + self.levels.slots(Level::VeryUnderReplicated).len()
-            + self.levels.slots(Level::UnderReplicated).len()
-            + self.levels.slots(Level::BadlyDistributed).len()
+        self.levels.members(Level::Highest).len()
+            + self.levels.members(Level::VeryUnderReplicated).len()
+            + self.levels.members(Level::UnderReplicated).len()
+            + self.levels.members(Level::BadlyDistributed).len()
     }
 
     /// For proofs alone: the list of a level has exactly its slots, each once; no slot is unsettled

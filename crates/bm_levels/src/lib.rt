@@ -19,6 +19,8 @@ mod leveled_blocks;
 mod listed_replicas;
 mod lost_storages;
 mod mark_changes;
+mod member_arrays;
+mod numbered_lists;
 mod rack_changes;
 mod reclassification;
 mod replica_count;
@@ -29,5 +31,7 @@ mod storage_list;
 mod unsettled_slots;
 mod unused_entries;
 
+pub use classification::number_at;
 pub use level_index::LevelIndex;
 pub use leveled_blocks::LeveledBlocks;
+pub use numbered_lists::Member;

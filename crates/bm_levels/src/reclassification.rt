@@ -1,10 +1,10 @@
 // Blocks reclassified, by their slots.
 ghost use Rattle.std.specs.Prelude.{ℕ, ◌≢◌};
 ghost use Rattle.bm_arena.specs.Contents.{block_at};
-ghost use Rattle.bm_levels.specs.IndexedLevels.{HasCapacityAt, HasCapacityForEach, KeepsCapacity, IsClassifiedIn, AreClassifiedIn, HasStatus, IsSameAt, IsSameOutside, indexed_slots, KeepsAhead};
+ghost use Rattle.bm_levels.specs.IndexedLevels.{HasCapacityAt, HasCapacityForEach, KeepsCapacity, IsClassifiedIn, AreClassifiedIn, HasStatus, IsSameAt, IsSameOutside, indexed_slots, KeepsAhead, KeepsNumbers};
 ghost use Rattle.bm_levels.specs.ClusterAfter.{IsClassifiedAfter, AreClassifiedAfter};
 
-use crate::classification::{BlockStatus, are_equal, classify};
+use crate::classification::{BlockStatus, are_equal, classify, number_at};
 use crate::cluster_after::ClusterAfter;
 use crate::level_index::LevelIndex;
 use bm_arena::{Arena, Slot};
@@ -18,10 +18,12 @@ impl LevelIndex {
         ensures others { (other : ℕ) → other ≢ slot → IsSameAt self.old self.new other }
         ensures ahead { KeepsAhead slot self.old.unsettled.slots self.new.unsettled.slots }
         ensures room { KeepsCapacity self.old self.new }
+        ensures numbers { KeepsNumbers arena.now self.old self.new }
     {
         self.set_status(
             slot,
             classify(arena, slot, arena.triplet_count(slot), cluster_after),
+            number_at(arena, slot),
         );
     }
 
@@ -39,12 +41,13 @@ impl LevelIndex {
         ensures status { IsClassifiedAfter cluster_after.now (block_at arena.now slot) self.new slot }
         ensures others { (other : ℕ) → other ≢ slot → IsSameAt self.old self.new other }
         ensures room { KeepsCapacity self.old self.new }
+        ensures numbers { KeepsNumbers arena.now self.old self.new }
     {
         let status = classify(arena, slot, arena.triplet_count(slot), cluster_after);
         if are_equal(status, was) {
             return;
         }
-        self.set_status(slot, status);
+        self.set_status(slot, status, number_at(arena, slot));
     }
 
     /// Reclassifies the block at a slot, in an unchanged cluster.
@@ -55,6 +58,7 @@ impl LevelIndex {
         ensures others { (other : ℕ) → other ≢ slot → IsSameAt self.old self.new other }
         ensures ahead { KeepsAhead slot self.old.unsettled.slots self.new.unsettled.slots }
         ensures room { KeepsCapacity self.old self.new }
+        ensures numbers { KeepsNumbers arena.now self.old self.new }
     {
         self.classify(arena, slot, &ClusterAfter::unchanged(topology));
     }
@@ -73,6 +77,7 @@ impl LevelIndex {
         ensures status { IsClassifiedIn topology.now.cluster (block_at arena.now slot) self.new slot }
         ensures others { (other : ℕ) → other ≢ slot → IsSameAt self.old self.new other }
         ensures room { KeepsCapacity self.old self.new }
+        ensures numbers { KeepsNumbers arena.now self.old self.new }
     {
         self.classify_from(arena, slot, &ClusterAfter::unchanged(topology), was);
     }
@@ -84,6 +89,7 @@ impl LevelIndex {
         ensures status { AreClassifiedIn topology.now.cluster arena.now slots.now self.new }
         ensures others { IsSameOutside slots.now self.old self.new }
         ensures room { KeepsCapacity self.old self.new }
+        ensures numbers { KeepsNumbers arena.now self.old self.new }
     {
         self.classify_all(arena, slots, &ClusterAfter::unchanged(topology));
     }
@@ -94,6 +100,7 @@ impl LevelIndex {
         ensures status { AreClassifiedAfter cluster_after.now arena.now (indexed_slots arena.now) self.new }
         ensures others { IsSameOutside (indexed_slots arena.now) self.old self.new }
         ensures room { KeepsCapacity self.old self.new }
+        ensures numbers { KeepsNumbers arena.now self.old self.new }
     {
         for place in 0..arena.count() {
             if let Some(slot) = arena.slot_at(place) {
