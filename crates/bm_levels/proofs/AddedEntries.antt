@@ -4,13 +4,15 @@ use Rattle.std.specs.Prelude.{◌≡◌, ◌↔◌, ℕ, ◌+◌, ◌<◌, true,
 use Rattle.std.proofs.Common.{refl, sym, ap, subst, ◌∙◌, arith, inl, inr}
 use Rattle.std.proofs.lemmas.Bool.{cases_eq, ne_eqb, eq-eqb, true≢false}
 use Rattle.bm_base.specs.Words.{Cluster, rack_of, is_draining, is_multi_rack}
+use Rattle.bm_queues.specs.Levels.{level_at}
 use Rattle.bm_arena.specs.Triplets.{Block}
 use Rattle.bm_arena.specs.Contents.{Contents, block_at, slot_of, marks_at, find_marks, IsAdded, IsLawful}
 use Rattle.bm_arena.proofs.HeldReplicas.{same_replicas, same_blocks}
-use Rattle.bm_arena.specs.Holding.{replicas_of, blocks_of, info_at}
+use Rattle.bm_arena.specs.Holding.{replicas_of, blocks_of, info_at, id_at}
 use Rattle.bm_levels.specs.Status.{level_in, is_settled_at}
-use Rattle.bm_levels.specs.IndexedLevels.{IndexedLevels, IsUnsettled, HasCapacityFor, IsSameAt}
+use Rattle.bm_levels.specs.IndexedLevels.{IndexedLevels, IsUnsettled, HasCapacityFor, IsSameAt, KeepsNumbers}
 use Rattle.bm_levels.specs.Leveled.{Leveled, IsLeveled, AreLevels}
+use Rattle.bm_levels.proofs.Numbers.{numbered_again, has_level, id_in}
 use Rattle.bm_levels.proofs.StatusByCounts.{level_unknown}
 
 -- capacity for the slots below a bound is capacity for each of them
@@ -23,8 +25,8 @@ module _ (old : Leveled) (a : Contents) (K : IndexedLevels) (blocks : (slot : �
   marker : block_at a a.delimiter ≡ block_at old.arena old.arena.delimiter
   marker = ap (block_at a) delimiter ∙ blocks old.arena.delimiter
 
-  pub leveled_same : IsLeveled old → ((bound : ℕ) → HasCapacityFor old.kept bound → HasCapacityFor K bound) → IsLeveled (record { arena = a; kept = K })
-  leveled_same h room = record {
+  pub leveled_same : IsLeveled old → ((bound : ℕ) → HasCapacityFor old.kept bound → HasCapacityFor K bound) → KeepsNumbers a old.kept K → IsLeveled (record { arena = a; kept = K })
+  leveled_same h room numbers = record {
     free = λ s. ap (λ o. option_and_then (λ (b : Block). find_marks b.replicas s) o) marker ∙ h.free s;
     blank = ap (λ o. option_and_then (λ (b : Block). b.info) o) marker ∙ h.blank;
     room = λ z there. let P : Option Block → Type 0 = λ o. IsSome o in room (z + 1) (h.room z (subst P (blocks z) there));
@@ -32,6 +34,7 @@ module _ (old : Leveled) (a : Contents) (K : IndexedLevels) (blocks : (slot : �
         let P : Option Block → Type 0 = λ o. IsUnsettled K z ↔ (is_settled_at o ≡ false) in
         subst P (sym (blocks z)) (λ u. (h.unsettled z).0 ((same z).unsettled.0 u), λ s. (same z).unsettled.1 ((h.unsettled z).1 s));
     unknown = λ z e. (same z).level ∙ h.unknown z (sym (ap (λ o. option_and_then (λ (b : Block). b.info) o) (blocks z)) ∙ e);
+    numbers = numbers (numbered_again (id_at old.arena) (id_at a) old.kept.levels old.kept.members (λ z _. ap id_in (blocks z)) h.numbers);
   }
 
   pub levels_same : (C : Cluster) → AreLevels C old → AreLevels C (record { arena = a; kept = K })
@@ -56,8 +59,8 @@ module _ (old : Leveled) (a : Contents) (K : IndexedLevels) (id slot : ℕ) (law
   mark : block_at a a.delimiter ≡ block_at old.arena old.arena.delimiter
   mark = ap (block_at a) added.delimiter ∙ added.others old.arena.delimiter (λ e. added.marked (sym e))
 
-  pub leveled_added : IsLeveled old → ((z : ℕ) → IsSome (block_at a z) → HasCapacityFor K (z + 1)) → IsLeveled (record { arena = a; kept = K })
-  leveled_added h room = record {
+  pub leveled_added : IsLeveled old → ((z : ℕ) → IsSome (block_at a z) → HasCapacityFor K (z + 1)) → KeepsNumbers a old.kept K → IsLeveled (record { arena = a; kept = K })
+  leveled_added h room numbers = record {
     free = λ s. ap (λ o. option_and_then (λ (b : Block). find_marks b.replicas s) o) mark ∙ h.free s;
     blank = ap (λ o. option_and_then (λ (b : Block). b.info) o) mark ∙ h.blank;
     room = room;
@@ -73,6 +76,10 @@ module _ (old : Leveled) (a : Contents) (K : IndexedLevels) (id slot : ℕ) (law
       | inl here ↦ (same z).level ∙ h.unknown z (ap (info_at old.arena) here ∙ was_unknown)
       | inr differs ↦ (same z).level ∙ h.unknown z (sym (ap (λ o. option_and_then (λ (b : Block). b.info) o) (added.others z differs)) ∙ e)
     ];
+    numbers = numbers (numbered_again (id_at old.arena) (id_at a) old.kept.levels old.kept.members (λ z some. elim (cases_eq z slot) [
+      | inl here ↦ absurd (has_level (level_at old.kept.levels z) (h.unknown z (ap (info_at old.arena) here ∙ was_unknown)) some)
+      | inr differs ↦ ap id_in (added.others z differs)
+    ]) h.numbers);
   }
 
   pub levels_added : (C : Cluster) → AreLevels C old → AreLevels C (record { arena = a; kept = K })

@@ -3,14 +3,16 @@ use Rattle.std.specs.Prelude.{◌≡◌, ◌≢◌, ◌↔◌, ℕ, IsSome, Bool
 use Rattle.std.proofs.Common.{refl, sym, ap, subst, ◌∙◌, inl, inr}
 use Rattle.std.proofs.lemmas.Option.{same_Some}
 use Rattle.std.proofs.lemmas.Bool.{cases_eq, ne_eqb, eq-eqb, true≢false, false≢true}
+use Rattle.bm_queues.specs.Levels.{level_at}
 use Rattle.bm_arena.specs.Triplets.{Block}
 use Rattle.bm_arena.specs.Contents.{Contents, block_at, slot_of, find_marks, dropped, IsLawful}
-use Rattle.bm_arena.specs.Holding.{replicas_of, blocks_of, info_at}
+use Rattle.bm_arena.specs.Holding.{replicas_of, blocks_of, info_at, id_at}
 use Rattle.bm_arena.proofs.HeldReplicas.{same_replicas, same_blocks}
 use Rattle.bm_levels.specs.Status.{level_by, is_settled_at}
 use Rattle.bm_levels.specs.IndexedLevels.{IsUnsettled}
 use Rattle.bm_levels.specs.Leveled.{Leveled, IsLeveled}
 use Rattle.bm_levels.specs.LevelsBy.{AreLevelsBy}
+use Rattle.bm_levels.proofs.Numbers.{numbered_again, has_level, id_in}
 use Rattle.bm_levels.proofs.StatusByCounts.{level_unknown}
 
 module _ (old : Leveled) (c : Contents) (slot : ℕ) (k : Block) (lawful : IsLawful old.arena) (here : block_at old.arena slot ≡ Some k) (apart : slot ≢ old.arena.delimiter)
@@ -90,6 +92,10 @@ module _ (old : Leveled) (c : Contents) (slot : ℕ) (k : Block) (lawful : IsLaw
       | inl same ↦ h.unknown z (ap (info_at a) same ∙ ap (λ o. option_and_then (λ (b : Block). b.info) o) here ∙ unknown)
       | inr differs ↦ h.unknown z (sym (ap (λ o. option_and_then (λ (b : Block). b.info) o) (still z differs)) ∙ e)
     ];
+    numbers = numbered_again (id_at old.arena) (id_at c) old.kept.levels old.kept.members (λ z some. elim (cases_eq z slot) [
+      | inl same ↦ absurd (has_level (level_at old.kept.levels z) (h.unknown z (ap (info_at a) same ∙ ap (λ o. option_and_then (λ (b : Block). b.info) o) here ∙ unknown)) some)
+      | inr differs ↦ ap id_in (still z differs)
+    ]) h.numbers;
   }
 
   pub levels_still : (rack : ℕ → Option ℕ) (draining : ℕ → Bool) (multi : Bool) → AreLevelsBy rack draining multi old → AreLevelsBy rack draining multi (record { arena = c; kept = old.kept })

@@ -7,7 +7,7 @@ use Rattle.bm_arena.specs.Triplets.{Block}
 use Rattle.bm_arena.specs.Contents.{Contents, block_at, find_marks, empty_block}
 use Rattle.bm_arena.specs.Holding.{info_at}
 use Rattle.bm_levels.specs.Status.{is_settled_at}
-use Rattle.bm_levels.specs.IndexedLevels.{IndexedLevels, level_of_slot, IsUnsettled, HasCapacityFor}
+use Rattle.bm_levels.specs.IndexedLevels.{IndexedLevels, level_of_slot, IsUnsettled, HasCapacityFor, HasNumbers}
 use Rattle.bm_levels.specs.Leveled.{IsLeveled, AreLevels}
 use Rattle.bm_levels.proofs.StatusByCounts.{level_unknown}
 
@@ -26,8 +26,8 @@ module _ (a : Contents) (K : IndexedLevels) (vacant : (slot : ℕ) → slot ≢ 
     | inr differs ↦ ap is_settled_at (vacant slot differs)
   ]
 
-  pub leveled_new : HasCapacityFor K (a.delimiter + 1) → IsLeveled (record { arena = a; kept = K })
-  leveled_new room = record {
+  pub leveled_new : HasCapacityFor K (a.delimiter + 1) → HasNumbers a K → IsLeveled (record { arena = a; kept = K })
+  leveled_new room numbers = record {
     free = λ s. ap (λ o. option_and_then (λ (b : Block). find_marks b.replicas s) o) marker;
     blank = unknown a.delimiter;
     room = λ slot there. elim (cases_eq slot a.delimiter) [
@@ -36,6 +36,7 @@ module _ (a : Contents) (K : IndexedLevels) (vacant : (slot : ℕ) → slot ≢ 
     ];
     unsettled = λ slot. (λ u. absurd (settled slot u), λ s. absurd (true≢false (sym (all_settled slot) ∙ s)));
     unknown = λ slot _. levels slot;
+    numbers = numbers;
   }
 
   pub levels_new : (C : Cluster) → AreLevels C (record { arena = a; kept = K })

@@ -1,4 +1,6 @@
 pub mod Counts
+pub mod Numbers
+pub mod NumberedCells
 pub mod Slots
 pub mod StatusByCounts
 pub mod StatusUpdates

@@ -8,12 +8,13 @@ use Rattle.bm_base.specs.declared.replica.BlockInfo.{BlockInfo}
 use Rattle.bm_base.specs.Words.{Cluster, rack_of, is_draining, is_multi_rack}
 use Rattle.bm_arena.specs.Triplets.{Block}
 use Rattle.bm_arena.specs.Contents.{Contents, block_at, marks_at, find_marks, known_of}
-use Rattle.bm_arena.specs.Holding.{info_at}
+use Rattle.bm_arena.specs.Holding.{info_at, id_at}
 use Rattle.bm_levels.specs.Status.{level_by, is_settled_at}
-use Rattle.bm_levels.specs.IndexedLevels.{IndexedLevels, level_of_slot, IsUnsettled, HasCapacityFor, IsClassified, IsSameAt}
+use Rattle.bm_levels.specs.IndexedLevels.{IndexedLevels, level_of_slot, IsUnsettled, HasCapacityFor, IsClassified, IsSameAt, KeepsNumbers}
 use Rattle.bm_levels.specs.Leveled.{Leveled, IsLeveled, AreLevels}
 use Rattle.bm_levels.specs.LevelsBy.{AreLevelsBy}
 use Rattle.bm_levels.proofs.StatusByCounts.{level_unknown}
+use Rattle.bm_levels.proofs.Numbers.{numbered_again, same_id}
 
 pub no_replicas : (rs : List (ℕ × Marks)) → ((t : ℕ) → find_marks rs t ≡ None) → rs ≡ []
 no_replicas [] h = refl
@@ -50,8 +51,8 @@ module _ (rack : ℕ → Option ℕ) (draining : ℕ → Bool) (multi : Bool) (o
   same_info : (slot : ℕ) → info_at a slot ≡ info_at old.arena slot
   same_info slot = known_info (block_at a slot) (block_at old.arena slot) (known slot)
 
-  pub leveled_many : IsLeveled old → ((bound : ℕ) → HasCapacityFor old.kept bound → HasCapacityFor K bound) → IsLeveled (record { arena = a; kept = K })
-  leveled_many h room =
+  pub leveled_many : IsLeveled old → ((bound : ℕ) → HasCapacityFor old.kept bound → HasCapacityFor K bound) → KeepsNumbers a old.kept K → IsLeveled (record { arena = a; kept = K })
+  leveled_many h room numbers =
       let free_now : (t : ℕ) → marks_at a old.arena.delimiter t ≡ None = λ t. sym (ap (λ d. marks_at a d t) delimiter) ∙ free t ∙ h.free t in
       let blank_now : info_at a old.arena.delimiter ≡ None = same_info old.arena.delimiter ∙ h.blank in
       let now_settled = marker_settled (block_at a old.arena.delimiter) free_now blank_now in
@@ -78,6 +79,7 @@ module _ (rack : ℕ → Option ℕ) (draining : ℕ → Bool) (multi : Bool) (o
             | inr g ↦ g.1.level ∙ h.unknown z (sym (same_info z) ∙ e)
           ]
         ];
+        numbers = numbers (numbered_again (id_at old.arena) (id_at a) old.kept.levels old.kept.members (λ z _. same_id (block_at a z) (block_at old.arena z) (known z)) h.numbers);
       }
 
   pub levels_many : IsLeveled old → AreLevelsBy rack draining multi old → AreLevelsBy rack draining multi (record { arena = a; kept = K })
@@ -95,7 +97,7 @@ module _ (C : Cluster) (old : Leveled) (a : Contents) (K : IndexedLevels) (delim
     (known : (slot : ℕ) → known_of (block_at a slot) ≡ known_of (block_at old.arena slot))
     (each : (slot : ℕ) → slot ≢ old.arena.delimiter → (IsClassified (rack_of C) (is_draining C) (is_multi_rack C) (block_at a slot) K slot) ⊎ ((block_at a slot ≡ block_at old.arena slot) × IsSameAt old.kept K slot))
     (mark : IsSameAt old.kept K old.arena.delimiter) where
-  pub leveled_reported : IsLeveled old → ((bound : ℕ) → HasCapacityFor old.kept bound → HasCapacityFor K bound) → IsLeveled (record { arena = a; kept = K })
+  pub leveled_reported : IsLeveled old → ((bound : ℕ) → HasCapacityFor old.kept bound → HasCapacityFor K bound) → KeepsNumbers a old.kept K → IsLeveled (record { arena = a; kept = K })
   leveled_reported = leveled_many (rack_of C) (is_draining C) (is_multi_rack C) old a K delimiter free known each mark
 
   pub levels_reported : IsLeveled old → AreLevels C old → AreLevels C (record { arena = a; kept = K })

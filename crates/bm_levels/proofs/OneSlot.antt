@@ -5,12 +5,13 @@ use Rattle.std.proofs.lemmas.Bool.{cases_eq}
 use Rattle.bm_base.specs.Words.{Cluster, rack_of, is_draining, is_multi_rack}
 use Rattle.bm_arena.specs.Triplets.{Block}
 use Rattle.bm_arena.specs.Contents.{Contents, block_at, find_marks}
-use Rattle.bm_arena.specs.Holding.{info_at}
+use Rattle.bm_arena.specs.Holding.{info_at, id_at}
 use Rattle.bm_levels.specs.Status.{level_by, is_settled_at}
-use Rattle.bm_levels.specs.IndexedLevels.{IndexedLevels, level_of_slot, IsUnsettled, HasCapacityFor, IsClassified, IsSameAt}
+use Rattle.bm_levels.specs.IndexedLevels.{IndexedLevels, level_of_slot, IsUnsettled, HasCapacityFor, IsClassified, IsSameAt, KeepsNumbers}
 use Rattle.bm_levels.specs.Leveled.{Leveled, IsLeveled, AreLevels}
 use Rattle.bm_levels.specs.LevelsBy.{AreLevelsBy}
 use Rattle.bm_levels.proofs.StatusByCounts.{level_unknown}
+use Rattle.bm_levels.proofs.Numbers.{numbered_again, id_in}
 
 -- the slot of a number holds a block
 pub held_by : (a : Contents) (slot : ℕ) {id : ℕ} → (slot ≢ a.delimiter) × (b : Block) × (block_at a slot ≡ Some b) × (b.id ≡ id) → IsSome (block_at a slot)
@@ -29,8 +30,11 @@ module _ (rack : ℕ → Option ℕ) (draining : ℕ → Bool) (multi : Bool) (o
   marker : block_at a a.delimiter ≡ block_at old.arena old.arena.delimiter
   marker = ap (block_at a) changed.delimiter ∙ changed.blocks old.arena.delimiter (λ e. changed.apart (sym e))
 
-  pub leveled_where : IsLeveled old → ((bound : ℕ) → HasCapacityFor old.kept bound → HasCapacityFor K bound) → IsLeveled (record { arena = a; kept = K })
-  leveled_where h room = record {
+  same_ids : id_at a slot ≡ id_at old.arena slot → (z : ℕ) → id_at a z ≡ id_at old.arena z
+  same_ids id z = elim (cases_eq z slot) [ inl same ↦ let P : ℕ → Type 0 = λ x. id_at a x ≡ id_at old.arena x in subst P (sym same) id | inr differs ↦ ap id_in (changed.blocks z differs) ]
+
+  pub leveled_where : IsLeveled old → ((bound : ℕ) → HasCapacityFor old.kept bound → HasCapacityFor K bound) → id_at a slot ≡ id_at old.arena slot → KeepsNumbers a old.kept K → IsLeveled (record { arena = a; kept = K })
+  leveled_where h room id numbers = record {
     free = λ s. ap (λ o. option_and_then (λ (b : Block). find_marks b.replicas s) o) marker ∙ h.free s;
     blank = ap (λ o. option_and_then (λ (b : Block). b.info) o) marker ∙ h.blank;
     room = λ z there. elim (cases_eq z slot) [
@@ -48,6 +52,7 @@ module _ (rack : ℕ → Option ℕ) (draining : ℕ → Bool) (multi : Bool) (o
       | inl same ↦ let P : ℕ → Type 0 = λ x. info_at a x ≡ None → level_of_slot K x ≡ None in subst P (sym same) (λ f. status.level ∙ sym (level_unknown rack draining multi (block_at a slot) f)) e
       | inr differs ↦ (others z differs).level ∙ h.unknown z (sym (ap (λ o. option_and_then (λ (b : Block). b.info) o) (changed.blocks z differs)) ∙ e)
     ];
+    numbers = numbers (numbered_again (id_at old.arena) (id_at a) old.kept.levels old.kept.members (λ z _. same_ids id z) h.numbers);
   }
 
   pub levels_where : AreLevelsBy rack draining multi old → AreLevelsBy rack draining multi (record { arena = a; kept = K })
@@ -60,7 +65,7 @@ module _ (rack : ℕ → Option ℕ) (draining : ℕ → Bool) (multi : Bool) (o
 module _ (C : Cluster) (old : Leveled) (a : Contents) (K : IndexedLevels) (slot : ℕ) (changed : IsChangedAt old.arena a slot)
     (status : IsClassified (rack_of C) (is_draining C) (is_multi_rack C) (block_at a slot) K slot)
     (others : (other : ℕ) → other ≢ slot → IsSameAt old.kept K other) where
-  pub leveled_after : IsLeveled old → ((bound : ℕ) → HasCapacityFor old.kept bound → HasCapacityFor K bound) → IsLeveled (record { arena = a; kept = K })
+  pub leveled_after : IsLeveled old → ((bound : ℕ) → HasCapacityFor old.kept bound → HasCapacityFor K bound) → id_at a slot ≡ id_at old.arena slot → KeepsNumbers a old.kept K → IsLeveled (record { arena = a; kept = K })
   leveled_after = leveled_where (rack_of C) (is_draining C) (is_multi_rack C) old a K slot changed status others
 
   pub levels_after : AreLevels C old → AreLevels C (record { arena = a; kept = K })

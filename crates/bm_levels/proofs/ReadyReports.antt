@@ -7,17 +7,19 @@ use Rattle.std.proofs.lemmas.Option.{same_Some}
 use Rattle.bm_base.specs.declared.replica.Marks.{Marks}
 use Rattle.bm_base.specs.declared.replica.BlockInfo.{BlockInfo}
 use Rattle.bm_base.specs.Words.{Cluster, replica_at, get, rack_of, is_draining, is_multi_rack}
+use Rattle.bm_queues.specs.Levels.{level_at}
 use Rattle.bm_arena.specs.Triplets.{Block}
 use Rattle.bm_arena.specs.Contents.{Contents, block_at, slot_of, marks_at, find_marks, room_at, with_room, IsLawful}
-use Rattle.bm_arena.specs.Holding.{info_at}
+use Rattle.bm_arena.specs.Holding.{info_at, id_at}
 use Rattle.bm_arena.proofs.HeldReplicas.{info_in, replica_in, get-replicas_of, get-blocks_of}
 use Rattle.bm_report.specs.Expanded.{IsPrepared}
 use Rattle.bm_report.specs.Aborted.{is_unused_block, is_unused_number}
 use Rattle.bm_report.proofs.Maps.{get-here}
 use Rattle.bm_levels.specs.Unused.{IsUnused}
 use Rattle.bm_levels.specs.Status.{level_in, level_by, is_settled_at}
-use Rattle.bm_levels.specs.IndexedLevels.{IndexedLevels, HasCapacityFor, KeepsCapacity, IsSameAt}
+use Rattle.bm_levels.specs.IndexedLevels.{IndexedLevels, HasCapacityFor, KeepsCapacity, KeepsNumbers, IsSameAt}
 use Rattle.bm_levels.specs.Leveled.{Leveled, IsLeveled, AreLevels}
+use Rattle.bm_levels.proofs.Numbers.{numbered_again, has_level, id_in}
 use Rattle.bm_levels.proofs.StatusByCounts.{level_unknown}
 use Rattle.bm_levels.proofs.ManySlots.{no_replicas, marker_settled}
 
@@ -52,8 +54,14 @@ alike_marks o p t (inl h) = ap (λ x. option_and_then (λ (b : Block). find_mark
 alike_marks o p t (inr h) = h.0.marks t ∙ sym (h.1.marks t)
 
 module _ (old : Leveled) (a : Contents) (K : IndexedLevels) (alike : (slot : ℕ) → AreAlike (block_at a slot) (block_at old.arena slot)) (delimiter : a.delimiter ≡ old.arena.delimiter) (same : (slot : ℕ) → IsSameAt old.kept K slot) where
-  pub leveled_alike : IsLeveled old → ((z : ℕ) → IsSome (block_at a z) → HasCapacityFor K (z + 1)) → IsLeveled (record { arena = a; kept = K })
-  leveled_alike h room = record {
+  same_ids : IsLeveled old → (z : ℕ) → IsSome (level_at old.kept.levels z) → id_at a z ≡ id_at old.arena z
+  same_ids h z some = elim (alike z) [
+    | inl held ↦ ap id_in held.3 ∙ sym (ap id_in held.2)
+    | inr bare ↦ absurd (has_level (level_at old.kept.levels z) (h.unknown z bare.1.info) some)
+  ]
+
+  pub leveled_alike : IsLeveled old → ((z : ℕ) → IsSome (block_at a z) → HasCapacityFor K (z + 1)) → KeepsNumbers a old.kept K → IsLeveled (record { arena = a; kept = K })
+  leveled_alike h room numbers = record {
     free = λ s. ap (λ d. marks_at a d s) delimiter ∙ alike_marks (block_at a old.arena.delimiter) (block_at old.arena old.arena.delimiter) s (alike old.arena.delimiter) ∙ h.free s;
     blank = ap (info_at a) delimiter ∙ alike_info (block_at a old.arena.delimiter) (block_at old.arena old.arena.delimiter) (alike old.arena.delimiter) ∙ h.blank;
     room = room;
@@ -61,6 +69,7 @@ module _ (old : Leveled) (a : Contents) (K : IndexedLevels) (alike : (slot : ℕ
         let e = alike_settled (block_at a z) (block_at old.arena z) (alike z) in
         (λ u. e ∙ (h.unsettled z).0 ((same z).unsettled.0 u), λ s. (same z).unsettled.1 ((h.unsettled z).1 (sym e ∙ s)));
     unknown = λ z e. (same z).level ∙ h.unknown z (sym (alike_info (block_at a z) (block_at old.arena z) (alike z)) ∙ e);
+    numbers = numbers (numbered_again (id_at old.arena) (id_at a) old.kept.levels old.kept.members (same_ids h) h.numbers);
   }
 
   pub levels_alike : (C : Cluster) → AreLevels C old → AreLevels C (record { arena = a; kept = K })
@@ -212,8 +221,8 @@ module _ (a c : Contents) (lawful_a : IsLawful a) (lawful_c : IsLawful c) (prepa
 
     -- the invariant and the levels hold again, with capacity for more slots
     module _ (k K : IndexedLevels) (same : (slot : ℕ) → IsSameAt k K slot) where
-      pub leveled_again : KeepsCapacity k K → IsLeveled (record { arena = a; kept = k }) → IsLeveled (record { arena = d; kept = K })
-      leveled_again room h = leveled_alike (record { arena = a; kept = k }) d K alike_again (delimiter ∙ prepared.delimiter) same h (λ z there. room (z + 1) (h.room z (held_before z there)))
+      pub leveled_again : KeepsCapacity k K → IsLeveled (record { arena = a; kept = k }) → KeepsNumbers d k K → IsLeveled (record { arena = d; kept = K })
+      leveled_again room h numbers = leveled_alike (record { arena = a; kept = k }) d K alike_again (delimiter ∙ prepared.delimiter) same h (λ z there. room (z + 1) (h.room z (held_before z there))) numbers
 
       pub levels_again : (C : Cluster) → AreLevels C (record { arena = a; kept = k }) → AreLevels C (record { arena = d; kept = K })
       levels_again = levels_alike (record { arena = a; kept = k }) d K alike_again (delimiter ∙ prepared.delimiter) same

@@ -13,7 +13,7 @@ use Rattle.bm_arena.specs.Triplets.{Block}
 use Rattle.bm_arena.specs.Contents.{Contents, block_at, IsLawful}
 use Rattle.bm_arena.specs.Holding.{info_at}
 use Rattle.bm_levels.specs.Status.{drains_after_change, level_by}
-use Rattle.bm_levels.specs.IndexedLevels.{IndexedLevels, HasCapacityFor, IsClassified, IsSameAt, indexed_slots}
+use Rattle.bm_levels.specs.IndexedLevels.{IndexedLevels, HasCapacityFor, IsClassified, IsSameAt, KeepsNumbers, indexed_slots}
 use Rattle.bm_levels.specs.Leveled.{Leveled, IsLeveled, AreLevels}
 use Rattle.bm_levels.specs.LevelsBy.{AreLevelsBy}
 use Rattle.bm_levels.proofs.StatusByCounts.{level_unknown}
@@ -22,13 +22,14 @@ use Rattle.bm_levels.proofs.OneSlot.{held_by}
 module _ (rack : ℕ → Option ℕ) (draining : ℕ → Bool) (multi : Bool) (old : Leveled) (K : IndexedLevels) where
   -- the invariant holds again
   pub leveled_anew : ((slot : ℕ) → IsClassified rack draining multi (block_at old.arena slot) K slot ⊎ IsSameAt old.kept K slot) → IsLeveled old → ((bound : ℕ) → HasCapacityFor old.kept bound → HasCapacityFor K bound)
-      → IsLeveled (record { arena = old.arena; kept = K })
-  leveled_anew each h room = record {
+      → KeepsNumbers old.arena old.kept K → IsLeveled (record { arena = old.arena; kept = K })
+  leveled_anew each h room numbers = record {
     free = h.free;
     blank = h.blank;
     room = λ z there. room (z + 1) (h.room z there);
     unsettled = λ z. elim (each z) [ inl status ↦ status.unsettled | inr same ↦ (λ u. (h.unsettled z).0 (same.unsettled.0 u), λ s. same.unsettled.1 ((h.unsettled z).1 s)) ];
     unknown = λ z e. elim (each z) [ inl status ↦ status.level ∙ sym (level_unknown rack draining multi (block_at old.arena z) e) | inr same ↦ same.level ∙ h.unknown z e ];
+    numbers = numbers h.numbers;
   }
 
   -- each slot is reclassified, or its level does not depend on the change
@@ -73,7 +74,7 @@ led_unless v lawful h slot absent = elim (cases_eq slot v.arena.delimiter) [
 module _ (C : Cluster) (multi : Bool) (old : Leveled) (K : IndexedLevels)
     (status : (slot : ℕ) → IsMember slot (indexed_slots old.arena) → IsClassified (rack_of C) (drains_after_change C None) multi (block_at old.arena slot) K slot)
     (others : (slot : ℕ) → (IsMember slot (indexed_slots old.arena) → ⊥) → IsSameAt old.kept K slot) where
-  pub leveled_each : IsLeveled old → ((bound : ℕ) → HasCapacityFor old.kept bound → HasCapacityFor K bound) → IsLeveled (record { arena = old.arena; kept = K })
+  pub leveled_each : IsLeveled old → ((bound : ℕ) → HasCapacityFor old.kept bound → HasCapacityFor K bound) → KeepsNumbers old.arena old.kept K → IsLeveled (record { arena = old.arena; kept = K })
   leveled_each = leveled_anew (rack_of C) (drains_after_change C None) multi old K (λ slot. elim (dec_among slot (indexed_slots old.arena)) [ inl there ↦ inl (status slot there) | inr absent ↦ inr (others slot absent) ])
 
   pub levels_each : IsLawful old.arena → IsLeveled old → AreLevels C old → AreLevelsBy (rack_of C) (is_draining C) multi (record { arena = old.arena; kept = K })

@@ -11,7 +11,7 @@ use Rattle.bm_arena.specs.Contents.{Contents, block_at, slot_of, list_of, marks_
 use Rattle.bm_arena.specs.Holding.{replicas_of, blocks_of}
 use Rattle.bm_arena.proofs.Replicas.{Among-left}
 use Rattle.bm_levels.specs.Unused.{MakesNoUnused, HasNoUnusedAt, KeepsSlots}
-use Rattle.bm_levels.specs.IndexedLevels.{IndexedLevels, HasCapacityFor, IsClassified, IsSameAt}
+use Rattle.bm_levels.specs.IndexedLevels.{IndexedLevels, HasCapacityFor, IsClassified, IsSameAt, KeepsNumbers}
 use Rattle.bm_levels.specs.Leaving.{IsLeaving, MakesNoHead}
 use Rattle.bm_levels.specs.Leveled.{Leveled, IsLeveled}
 use Rattle.bm_levels.specs.LevelsBy.{AreLevelsBy}
@@ -102,7 +102,7 @@ module _ (rack : ℕ → Option ℕ) (draining : ℕ → Bool) (multi : Bool) (o
   each : (slot : ℕ) → slot ≢ old.arena.delimiter → (IsClassified rack draining multi (block_at a slot) K slot) ⊎ ((block_at a slot ≡ block_at old.arena slot) × IsSameAt old.kept K slot)
   each slot _ = elim (dec_among slot slots) [ inl there ↦ inl (status slot there) | inr away ↦ inr (others slot away, same slot away) ]
 
-  pub leveled_first : ((bound : ℕ) → HasCapacityFor old.kept bound → HasCapacityFor K bound) → IsLeveled (record { arena = a; kept = K })
+  pub leveled_first : ((bound : ℕ) → HasCapacityFor old.kept bound → HasCapacityFor K bound) → KeepsNumbers a old.kept K → IsLeveled (record { arena = a; kept = K })
   leveled_first = leveled_many rack draining multi old a K delimiter free known each (same old.arena.delimiter no_marker) leveled
 
   pub levels_first : AreLevelsBy rack draining multi old → AreLevelsBy rack draining multi (record { arena = a; kept = K })

@@ -1,5 +1,5 @@
 // Five lists of slots, one for each level, each slot with the number of its block.
-ghost use Rattle.std.specs.Prelude.{◌≡◌, ◌≢◌, ◌<◌, ◌≤◌, ◌==◌, ◌↔◌, ℕ, [], length, map, reverse, if◌then◌else◌, Option, Some, None, IfOk, IfErr, OnOk, OnErr, IsOk};
+ghost use Rattle.std.specs.Prelude.{◌≡◌, ◌<◌, ◌≤◌, ◌==◌, ◌↔◌, ℕ, true, [], length, reverse, if◌then◌else◌, Some, None, IfOk, IfErr, OnOk, OnErr, IsOk};
 ghost use Rattle.bm_base.specs.declared.level.Level.{Level};
 ghost use Rattle.bm_base.specs.declared.refusal.Refusal.TheVariants.{Memory};
 ghost use Rattle.bm_maps.specs.SlotLists.{IsMember, Distinct};
@@ -103,7 +103,7 @@ impl NumberedLists {
         ensures members { self.new.members ≡ self.old.members }
         ensures there { room ≤ length self.old.levels.levels → IsOk result }
         ensures refused { IfErr result (λ e. e ≡ Memory) }
-        ensures unchanged { OnErr result (self.new ≡ self.old) }
+        ensures unchanged { OnErr result (self.new.levels ≡ self.old.levels) }
     {
         if room <= self.cells.len() {
             return Ok(());
@@ -202,6 +202,7 @@ impl NumberedLists {
     pub(crate) fn members(&self, level: Level) -> &[Member]
         ensures members { result.now ≡ members_of self.now.members level }
         ensures slots { slots_of_members result.now ≡ reverse (slots_of self.now.levels level) }
+        ensures count { length result.now ≡ length (reverse (slots_of self.now.levels level)) }
         ensures few { length result.now ≤ length self.now.levels.levels }
     {
         self.arrays[level.number() as usize].as_slice()

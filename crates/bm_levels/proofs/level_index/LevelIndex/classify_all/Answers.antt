@@ -16,7 +16,7 @@ empty_of (x ∷ xs) e = let none = eqb-true (length (x ∷ xs)) 0 e in absurd (o
 pub loop-rest-init : goal.loop-rest-init
 loop-rest-init c =
     let C = c.args.cluster_after.now.topology.now.cluster in
-    record { underway = underway_none (rack_of C) (drains_after_change C c.args.cluster_after.now.drain_change) c.args.cluster_after.now.multi c.args.arena.now c.args.slots.now c.args.self.now; listed = λ slot h. h; room = λ bound h. h }
+    record { underway = underway_none (rack_of C) (drains_after_change C c.args.cluster_after.now.drain_change) c.args.cluster_after.now.multi c.args.arena.now c.args.slots.now c.args.self.now; listed = λ slot h. h; room = λ bound h. h; numbers = λ h. h }
 
 pub reclassify_chunk-requires-clause-room : goal.reclassify_chunk-requires-clause-room
 reclassify_chunk-requires-clause-room c slot there =
@@ -40,6 +40,7 @@ loop-rest-preserved c =
       underway = underway_chunk (rack_of C) D multi a all xs ys c.args.self.now c.loop-rest.self c.reclassify_chunk.new.self (λ slot h. listed slot (Among-left slot xs ys h)) (subst P (sym whole) c.loop-rest.invariant.underway) c.reclassify_chunk.ensures.status c.reclassify_chunk.ensures.others;
       listed = λ slot h. listed slot (among_back slot xs ys h);
       room = λ bound h. c.reclassify_chunk.ensures.room bound (c.loop-rest.invariant.room bound h);
+      numbers = λ h. c.reclassify_chunk.ensures.numbers (c.loop-rest.invariant.numbers h);
     }
 
 pub returns-clause-status : goal.returns-clause-status

@@ -9,6 +9,8 @@ use Rattle.bm_queues.specs.Levels as levels
 use Rattle.bm_queues.specs.Members.{Members}
 use Rattle.bm_queues.specs.Members as members
 use Rattle.bm_levels.specs.IndexedLevels.{IndexedLevels, GrowsWithin}
+use Rattle.bm_levels.specs.NumberedLists.{AreNumbered}
+use Rattle.bm_levels.proofs.Numbers.{numbered_grown}
 use Rattle.bm_levels.proofs.level_index.LevelIndex.grow.Goals as goal
 
 longer : (xs : List (Option Level)) (room : ℕ) → length (xs ++ replicate (room - length xs) None) ≤ max (length xs) room
@@ -32,14 +34,18 @@ set_within (Err x) old new room grown same = subst (λ (v : Members). v.room ≤
 pub returns-in_err-grow_to-clause-few : goal.returns-in_err-grow_to-clause-few
 returns-in_err-grow_to-clause-few c =
     let old = c.self.inside in
-    let P : IndexedLevels → Type 0 = λ K. GrowsWithin c.args.bound K (record { levels = c.grow_to.new.self; unsettled = old.unsettled }) in
-    subst P c.self.view_is (levels_within c.grow_to.result old.levels c.grow_to.new.self c.args.bound c.grow_to.ensures.after c.grow_to.ensures.unchanged, omega arith)
+    let P : IndexedLevels → Type 0 = λ K. GrowsWithin c.args.bound K (record { levels = c.grow_to.new.self.levels; members = c.grow_to.new.self.members; unsettled = old.unsettled }) in
+    subst P c.self.view_is (levels_within c.grow_to.result old.levels.levels c.grow_to.new.self.levels c.args.bound c.grow_to.ensures.after c.grow_to.ensures.unchanged, omega arith)
 
 pub returns-clause-few : goal.returns-clause-few
 returns-clause-few c =
     let old = c.self.inside in
-    let P : IndexedLevels → Type 0 = λ K. GrowsWithin c.args.bound K (record { levels = c.grow_to.new.self; unsettled = c.grow_to-2.new.self }) in
+    let P : IndexedLevels → Type 0 = λ K. GrowsWithin c.args.bound K (record { levels = c.grow_to.new.self.levels; members = c.grow_to.new.self.members; unsettled = c.grow_to-2.new.self }) in
     subst P c.self.view_is (
-      levels_within c.grow_to.result old.levels c.grow_to.new.self c.args.bound c.grow_to.ensures.after c.grow_to.ensures.unchanged,
+      levels_within c.grow_to.result old.levels.levels c.grow_to.new.self.levels c.args.bound c.grow_to.ensures.after c.grow_to.ensures.unchanged,
       set_within c.grow_to-2.result old.unsettled c.grow_to-2.new.self c.args.bound c.grow_to-2.ensures.after c.grow_to-2.ensures.unchanged,
     )
+
+pub returns-clause-numbers : goal.returns-clause-numbers
+returns-clause-numbers c number h =
+    numbered_grown number _ _ _ _ c.grow_to.ensures.levels c.grow_to.ensures.members (subst (λ (K : IndexedLevels). AreNumbered number K.levels K.members) (sym c.self.view_is) h)

@@ -1,9 +1,10 @@
-use Rattle.std.proofs.Common.{◌≡◌, ◌≤◌, ◌+◌, ℕ, List, [], ◌∷◌, None, true, length, drop, drop_of_length-le, subst, arith}
+use Rattle.std.proofs.Common.{◌≡◌, ◌≤◌, ◌+◌, ℕ, List, [], ◌∷◌, None, true, length, drop, drop_of_length-le, subst, sym, arith}
 use Rattle.std.specs.Prelude.{slice_index_or}
 use Rattle.std.proofs.lemmas.Grind.{common_steps}
 use Rattle.std.proofs.lemmas.Option.{slice_get-get_or}
 use Rattle.bm_base.specs.Machine.Replicas.{rack_of}
 use Rattle.bm_arena.specs.Contents.{block_at}
+use Rattle.bm_arena.specs.Holding.{id_at}
 use Rattle.bm_levels.specs.declared.classification.BlockStatus.{BlockStatus}
 use Rattle.bm_levels.specs.Status.{drains_after_change}
 use Rattle.bm_levels.specs.IndexedLevels.{HasStatus}
@@ -23,7 +24,7 @@ returns-then-keeps_all-clause-status c slot there =
 pub loop-place-init : goal.loop-place-init
 loop-place-init c =
     let C = c.args.cluster_after.now.topology.now.cluster in
-    record { underway = underway_none (rack_of C) (drains_after_change C c.args.cluster_after.now.drain_change) c.args.cluster_after.now.multi c.args.arena.now c.args.chunk.now c.args.self.now; room = λ bound h. h }
+    record { underway = underway_none (rack_of C) (drains_after_change C c.args.cluster_after.now.drain_change) c.args.cluster_after.now.multi c.args.arena.now c.args.chunk.now c.args.self.now; room = λ bound h. h; numbers = λ h. h }
 
 pub set_status-requires : goal.set_status-requires
 set_status-requires c =
@@ -47,6 +48,7 @@ loop-place-preserved c =
           (classified_as (rack_of C) D multi (block_at c.args.arena.now x) c.set_status.new.self x _ c.set_status.ensures.kept (c.classify_chunk-status.ensures c.loop-place.place x _ at))
           c.set_status.ensures.others;
       room = λ bound h. c.set_status.ensures.room bound (c.loop-place.invariant.room bound h);
+      numbers = λ h. c.set_status.ensures.numbers (id_at c.args.arena.now) (sym c.number_at.ensures) (c.loop-place.invariant.numbers h);
     }
 
 pub returns-clause-status : goal.returns-clause-status

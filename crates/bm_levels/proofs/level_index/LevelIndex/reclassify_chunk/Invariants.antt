@@ -1,13 +1,14 @@
 use Rattle.std.proofs.Common.{ℕ, drop}
-use Rattle.bm_levels.specs.IndexedLevels.{HasCapacityFor}
+use Rattle.bm_levels.specs.IndexedLevels.{HasCapacityFor, KeepsNumbers}
 use Rattle.bm_levels.specs.ClusterAfter.{rack_after, drains_after}
 use Rattle.bm_levels.proofs.StatusUpdates.{IsUnderway}
 use Rattle.bm_levels.proofs.level_index.LevelIndex.reclassify_chunk.Given as goal
 
--- the status of the slots so far is stored, and there is capacity for all
+-- the status of the slots so far is stored, there is capacity for all, and the numbers are kept
 pub record AreKeptSoFar (l : goal.Live-loop-place) : Type 0 where
   pub underway : IsUnderway (rack_after l.cluster_after) (drains_after l.cluster_after) l.cluster_after.multi l.arena l.chunk (drop l.place l.chunk) l.initial.self l.self
   pub room : (bound : ℕ) → HasCapacityFor l.initial.self bound → HasCapacityFor l.self bound
+  pub numbers : KeepsNumbers l.arena l.initial.self l.self
 
 abbrev pub invariant-loop-place : goal.invariant-loop-place
 invariant-loop-place l = AreKeptSoFar l

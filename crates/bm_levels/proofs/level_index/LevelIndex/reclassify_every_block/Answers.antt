@@ -1,7 +1,7 @@
 use Rattle.std.proofs.Common.{◌+◌, ℕ, List, drop, subst, sym, arith}
 use Rattle.bm_base.specs.Machine.Replicas.{rack_of}
 use Rattle.bm_levels.specs.Status.{drains_after_change}
-use Rattle.bm_levels.specs.IndexedLevels.{IndexedLevels, HasCapacityFor, indexed_slots}
+use Rattle.bm_levels.specs.IndexedLevels.{IndexedLevels, HasCapacityFor, KeepsNumbers, indexed_slots}
 use Rattle.bm_levels.proofs.StatusUpdates.{IsUnderway, underway_none, underway_more, underway_classified, underway_others, among_next}
 use Rattle.bm_levels.proofs.Slots.{led_next, led_none, led_end}
 use Rattle.bm_levels.proofs.level_index.LevelIndex.reclassify_every_block.Goals as goal
@@ -10,7 +10,7 @@ use Rattle.bm_levels.proofs.level_index.LevelIndex.reclassify_every_block.Goals.
 pub loop-place-init : goal.loop-place-init
 loop-place-init c =
     let C = c.args.cluster_after.now.topology.now.cluster in
-    record { underway = underway_none (rack_of C) (drains_after_change C c.args.cluster_after.now.drain_change) c.args.cluster_after.now.multi c.args.arena.now (indexed_slots c.args.arena.now) c.args.self.now; room = λ bound h. h }
+    record { underway = underway_none (rack_of C) (drains_after_change C c.args.cluster_after.now.drain_change) c.args.cluster_after.now.multi c.args.arena.now (indexed_slots c.args.arena.now) c.args.self.now; room = λ bound h. h; numbers = λ h. h }
 
 pub classify-requires : goal.classify-requires
 classify-requires c =
@@ -36,6 +36,7 @@ loop-place-preserved c =
           record {
             underway = subst Q (sym w.self-is) (underway_more (rack_of C) D c.args.cluster_after.now.multi a (indexed_slots a) rest x c.args.self.now c.loop-place.self w.classify.new.self there (subst P next c.loop-place.invariant.underway) w.classify.ensures.status w.classify.ensures.others);
             room = subst R (sym w.self-is) (λ bound h. w.classify.ensures.room bound (c.loop-place.invariant.room bound h));
+            numbers = let S : IndexedLevels → Type 0 = λ K. KeepsNumbers a c.args.self.now K in subst S (sym w.self-is) (λ h. w.classify.ensures.numbers (c.loop-place.invariant.numbers h));
           }
       | in_default w ↦ absurd (led_none a i (sym w.in_default.ensures) (omega (arith, c.loop-place-test.true, c.count-place-end.ensures)))
     ]

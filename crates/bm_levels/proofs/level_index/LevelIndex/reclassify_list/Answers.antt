@@ -23,6 +23,7 @@ loop-slot-init c =
       underway = subst P (sym e) (underway_none (rack_of C) D c.args.cluster_after.now.multi c.args.arena.now all K);
       listed = λ slot h. let Q : List ℕ → Type 0 = λ l. IsMember slot l in subst Q e h;
       room = λ bound h. h;
+      numbers = λ h. h;
     }
 
 pub classify-requires : goal.classify-requires
@@ -46,6 +47,7 @@ loop-slot-preserved c =
       underway = underway_more (rack_of C) D multi a all c.next.new.self x c.args.self.now c.loop-slot.self c.classify.new.self there (subst P next c.loop-slot.invariant.underway) c.classify.ensures.status c.classify.ensures.others;
       listed = λ slot h. let Q : List ℕ → Type 0 = λ l. IsMember slot l in c.loop-slot.invariant.listed slot (subst Q (sym next) (inr h));
       room = λ bound h. c.classify.ensures.room bound (c.loop-slot.invariant.room bound h);
+      numbers = λ h. c.classify.ensures.numbers (c.loop-slot.invariant.numbers h);
     }
 
 pub returns-clause-each : goal.returns-clause-each

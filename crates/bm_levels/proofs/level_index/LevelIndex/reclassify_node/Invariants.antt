@@ -1,16 +1,17 @@
 use Rattle.std.proofs.Common.{ℕ, ◌⊎◌}
 use Rattle.bm_maps.specs.SlotLists.{IsMember}
 use Rattle.bm_arena.specs.Contents.{list_of, block_at}
-use Rattle.bm_levels.specs.IndexedLevels.{HasCapacityFor, IsSameAt}
+use Rattle.bm_levels.specs.IndexedLevels.{HasCapacityFor, IsSameAt, KeepsNumbers}
 use Rattle.bm_levels.specs.ClusterAfter.{IsClassifiedAfter}
 use Rattle.bm_levels.proofs.Places.{HaveGone}
 use Rattle.bm_levels.proofs.level_index.LevelIndex.reclassify_node.Given as goal
 
--- the slots on the storages so far are classified, and there is capacity for all
+-- the slots on the storages so far are classified, there is capacity for all, and the numbers are kept
 pub record AreJudgedSoFar (l : goal.Live-loop-place) : Type 0 where
   pub each : (slot : ℕ) → IsClassifiedAfter l.cluster_after (block_at l.arena slot) l.self slot
       ⊎ (IsSameAt l.initial.self l.self slot × HaveGone l.cluster_after.topology.now.cluster l.node (λ s. IsMember slot (list_of l.arena s) → ⊥) l.place)
   pub room : (bound : ℕ) → HasCapacityFor l.initial.self bound → HasCapacityFor l.self bound
+  pub numbers : KeepsNumbers l.arena l.initial.self l.self
 
 abbrev pub invariant-loop-place : goal.invariant-loop-place
 invariant-loop-place l = AreJudgedSoFar l

@@ -14,7 +14,7 @@ invariant_of-self c =
     let a = c.self.inside.arena in
     let K = c.self.inside.kept in
     leveled_again a a c.show_invariant.ensures c.show_invariant.ensures (prepared-none a) c.abort.new.arena c.show_invariant-2.ensures (is_named (reported_blocks c.args.report.now)) r.delimiter r.marker r.numbers r.entries (none_fresh a (is_named (reported_blocks c.args.report.now)))
-    K K (λ z. same_itself K z) (λ z h. h) c.self.invariant
+    K K (λ z. same_itself K z) (λ z h. h) c.self.invariant (λ h. h)
 
 pub returns-clause-levels : goal.returns-clause-levels
 returns-clause-levels c =

@@ -48,7 +48,7 @@ mark c =
 pub invariant_of-self : goal.invariant_of-self
 invariant_of-self c =
     let r = c.apply_full-applied.ensures in
-    leveled_reported c.args.topology.now.cluster (before c) c.apply_full-applied.new.arena c.update_all.new.self r.entries.delimiter r.free r.entries.known (each c) (mark c) c.self.invariant c.update_all.ensures.room
+    leveled_reported c.args.topology.now.cluster (before c) c.apply_full-applied.new.arena c.update_all.new.self r.entries.delimiter r.free r.entries.known (each c) (mark c) c.self.invariant c.update_all.ensures.room c.update_all.ensures.numbers
 
 pub returns-clause-levels : goal.returns-clause-levels
 returns-clause-levels c =

@@ -7,6 +7,7 @@ use Rattle.bm_arena.specs.Holding.{blocks_of, replicas_of, with_known}
 use Rattle.bm_levels.specs.Changes.{changed}
 use Rattle.bm_levels.specs.Leveled.{Leveled, AreLevels}
 use Rattle.bm_levels.proofs.AllMarks.{keeps_then, block_replicas, block_known}
+use Rattle.bm_levels.proofs.Numbers.{id_in, same_id}
 use Rattle.bm_levels.proofs.OneSlot.{IsChangedAt, held_by, leveled_after, levels_after}
 use Rattle.bm_levels.proofs.leveled_blocks.LeveledBlocks.change_block.Goals as goal
 
@@ -25,7 +26,11 @@ at_slot c =
     record { blocks = (keeps c).blocks; delimiter = (keeps c).delimiter; apart = found.0; held = held_by c.self.inside.arena c.args.slot found }
 
 pub invariant_of-self : goal.invariant_of-self
-invariant_of-self c = leveled_after c.args.topology.now.cluster (before c) c.set_info.new.self c.update_level.new.self c.args.slot (at_slot c) c.update_level.ensures.status c.update_level.ensures.others c.self.invariant c.update_level.ensures.room
+invariant_of-self c =
+    let marked = c.change_marks.ensures in
+    let found = marked.lawful.found c.requires.0 c.args.slot (ap (λ l. lookup (nat_eq c.requires.0) l) marked.rest.ids ∙ here c) in
+    leveled_after c.args.topology.now.cluster (before c) c.set_info.new.self c.update_level.new.self c.args.slot (at_slot c) c.update_level.ensures.status c.update_level.ensures.others c.self.invariant c.update_level.ensures.room
+    (ap id_in (c.set_info.ensures.entry found.1 found.2) ∙ sym (ap id_in found.2) ∙ same_id _ _ marked.known) c.update_level.ensures.numbers
 
 pub returns-clause-blocks : goal.returns-clause-blocks
 returns-clause-blocks c =

@@ -4,6 +4,7 @@ use Rattle.bm_arena.specs.Holding.{replicas_at}
 use Rattle.bm_levels.specs.IndexedLevels.{IsUnsettled}
 use Rattle.bm_levels.specs.Changes.{changed, all_changed}
 use Rattle.bm_levels.specs.Leveled.{Leveled, AreLevels}
+use Rattle.bm_levels.proofs.Numbers.{same_id}
 use Rattle.bm_levels.proofs.OneSlot.{IsChangedAt, leveled_after, levels_after}
 use Rattle.bm_levels.proofs.RoundStart.{start_room, changed_there}
 use Rattle.bm_levels.proofs.leveled_blocks.LeveledBlocks.clear_unordered_excess_at.Goals as goal
@@ -23,7 +24,7 @@ at_slot c =
 
 pub invariant_of-self : goal.invariant_of-self
 invariant_of-self c =
-    leveled_after c.args.topology.now.cluster (before c) c.change_marks.new.arena c.update_level.new.self c.args.slot (at_slot c) c.update_level.ensures.status c.update_level.ensures.others c.self.invariant c.update_level.ensures.room
+    leveled_after c.args.topology.now.cluster (before c) c.change_marks.new.arena c.update_level.new.self c.args.slot (at_slot c) c.update_level.ensures.status c.update_level.ensures.others c.self.invariant c.update_level.ensures.room (same_id _ _ c.change_marks.ensures.known) c.update_level.ensures.numbers
 
 pub returns-then-change_marks-clause-begun : goal.returns-then-change_marks-clause-begun
 unfolding changed

@@ -8,6 +8,7 @@ use Rattle.bm_levels.specs.Leveled.{Leveled, AreLevels}
 use Rattle.bm_levels.proofs.AllMarks.{block_replicas}
 use Rattle.bm_levels.proofs.ListedMarks.{excess_by}
 use Rattle.bm_levels.proofs.GroupedReplicas.{group_marks, some_of_block}
+use Rattle.bm_levels.proofs.Numbers.{same_id}
 use Rattle.bm_levels.proofs.OneSlot.{IsChangedAt, held_by, leveled_after, levels_after}
 use Rattle.bm_levels.proofs.RevisedHoldings.{replicas_absent_by}
 use Rattle.bm_levels.proofs.leveled_blocks.LeveledBlocks.mark_together.Goals as goal
@@ -34,7 +35,7 @@ at_slot c =
 
 pub invariant_of-self : goal.invariant_of-self
 invariant_of-self c =
-    leveled_after c.args.topology.now.cluster (before c) c.mark_listed.new.arena c.update_level.new.self c.in-Some.slot (at_slot c) c.update_level.ensures.status c.update_level.ensures.others c.self.invariant c.update_level.ensures.room
+    leveled_after c.args.topology.now.cluster (before c) c.mark_listed.new.arena c.update_level.new.self c.in-Some.slot (at_slot c) c.update_level.ensures.status c.update_level.ensures.others c.self.invariant c.update_level.ensures.room (same_id _ _ c.mark_listed.ensures.known) c.update_level.ensures.numbers
 
 pub returns-clause-replicas : goal.returns-clause-replicas
 returns-clause-replicas c =

@@ -1,4 +1,5 @@
 use Rattle.std.proofs.Common.{subst, ◌∙◌}
+use Rattle.bm_arena.specs.Holding.{id_at}
 use Rattle.bm_levels.specs.IndexedLevels.{HasCapacityFor}
 use Rattle.bm_levels.proofs.EmptyArena.{leveled_new, levels_new}
 use Rattle.bm_levels.proofs.leveled_blocks.LeveledBlocks.new.Goals as goal
@@ -9,6 +10,7 @@ invariant_of-result c =
     leveled_new c.in_ok-arena.arena c.grow_to.new.self c.in_ok-arena.ensures.blocks c.in_ok-arena.ensures.delimiter
     (λ slot. (c.grow_to.ensures.same slot).level ∙ c.in_ok-kept.ensures.levels slot) (λ slot u. c.in_ok-kept.ensures.settled slot ((c.grow_to.ensures.same slot).unsettled.0 u))
     (subst (HasCapacityFor c.grow_to.new.self) (c.slot_bound.ensures.bound ∙ c.in_ok-arena.ensures.bound) r)
+    (c.grow_to.ensures.numbers (id_at c.in_ok-arena.arena) (c.in_ok-kept.ensures.numbers (id_at c.in_ok-arena.arena)))
 
 pub returns-clause-levels : goal.returns-clause-levels
 returns-clause-levels c =

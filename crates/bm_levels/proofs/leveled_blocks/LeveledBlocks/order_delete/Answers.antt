@@ -6,6 +6,7 @@ use Rattle.bm_arena.specs.Contents.{slot_of, marks_at, with_marks}
 use Rattle.bm_levels.specs.Changes.{as_ordered}
 use Rattle.bm_levels.specs.Status.{is_good_and_unmarked}
 use Rattle.bm_levels.specs.Leveled.{Leveled, AreLevels}
+use Rattle.bm_levels.proofs.Numbers.{same_id}
 use Rattle.bm_levels.proofs.OneSlot.{held_by, leveled_after, levels_after}
 use Rattle.bm_levels.proofs.DeleteOrdered.{level_ordered, not_plain_then, unsettled_by, leveled_alike, levels_alike}
 use Rattle.bm_levels.proofs.leveled_blocks.LeveledBlocks.order_delete.Goals as goal
@@ -17,7 +18,7 @@ invariant_of-self c =
     let here = subst P (sym c.self.view_is) c.requires.slot.1 in
     leveled_after c.args.topology.now.cluster (record { arena = c.self.inside.arena; kept = c.self.inside.kept }) c.set_marks_near.new.self c.update_level.new.self c.args.slot
     (record { blocks = r.blocks; delimiter = r.delimiter; apart = (c.show_invariant.ensures.found c.requires.slot.0 c.args.slot here).0; held = held_by c.self.inside.arena c.args.slot (c.show_invariant.ensures.found c.requires.slot.0 c.args.slot here) })
-    c.update_level.ensures.status c.update_level.ensures.others c.self.invariant c.update_level.ensures.room
+    c.update_level.ensures.status c.update_level.ensures.others c.self.invariant c.update_level.ensures.room (same_id _ _ c.set_marks_near.ensures.known) c.update_level.ensures.numbers
 
 pub invariant_of-self-else-is_good_and_unmarked : goal.invariant_of-self-else-is_good_and_unmarked
 invariant_of-self-else-is_good_and_unmarked c =

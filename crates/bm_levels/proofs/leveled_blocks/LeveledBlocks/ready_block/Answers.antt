@@ -1,7 +1,7 @@
 use Rattle.std.proofs.Common.{◌≢◌, ◌≡◌, ℕ, Some, not, subst, sym, ap, ◌∙◌}
 use Rattle.bm_base.specs.Machine.State.{Cluster}
 use Rattle.bm_arena.specs.Contents.{Contents, block_at, slot_of, empty_block, IsAdded}
-use Rattle.bm_arena.specs.Holding.{blocks_of, replicas_of}
+use Rattle.bm_arena.specs.Holding.{blocks_of, replicas_of, id_at}
 use Rattle.bm_base.proofs.Options.{not_there}
 use Rattle.bm_levels.specs.Leveled.{Leveled, AreLevels}
 use Rattle.bm_report.proofs.SingleReplicas.{ok_then}
@@ -33,7 +33,7 @@ numbers c = numbers_again (before c) c.add_entry.new.self c.grow_to.new.self c.a
     (sym c.find.ensures ∙ not_there c.find.result (sym c.is_some.ensures ∙ c.if-is_some.false)) (c.drop_entry.ensures.numbers (empty_block c.args.id) (added_then c).entry)
 
 pub invariant_of-self-then-is_err : goal.invariant_of-self-then-is_err
-invariant_of-self-then-is_err c = leveled_same (before c) c.drop_entry.new.self c.grow_to.new.self (again c) (marker c) c.grow_to.ensures.same c.self.invariant c.grow_to.ensures.kept
+invariant_of-self-then-is_err c = leveled_same (before c) c.drop_entry.new.self c.grow_to.new.self (again c) (marker c) c.grow_to.ensures.same c.self.invariant c.grow_to.ensures.kept (c.grow_to.ensures.numbers (id_at c.drop_entry.new.self))
 
 pub returns-then-is_err-clause-blocks : goal.returns-then-is_err-clause-blocks
 returns-then-is_err-clause-blocks c = blocks_again c.self.inside.arena c.drop_entry.new.self (again c) (numbers c) ∙ ap (λ (v : Leveled). blocks_of v.arena) c.self.view_is
@@ -55,6 +55,7 @@ pub invariant_of-self-else-is_err : goal.invariant_of-self-else-is_err
 invariant_of-self-else-is_err c =
     leveled_added (first c) c.add_entry.new.self c.grow_to.new.self c.args.id c.in_ok-slot.slot c.show_invariant.ensures (added_else c) c.grow_to.ensures.same c.self.invariant
     (λ z there. room_below c.grow_to.new.self c.slot_bound.result z (ok_then c.grow_to.result _ (c.is_err.ensures.negation ∙ ap not c.if-is_err.false) c.grow_to.ensures.room) (c.slot_bound.ensures.above z there))
+    (c.grow_to.ensures.numbers (id_at c.add_entry.new.self))
 
 pub returns-clause-levels : goal.returns-clause-levels
 returns-clause-levels c =

@@ -1,5 +1,6 @@
 use Rattle.std.proofs.Common.{not, subst, ap, ◌∙◌}
 use Rattle.bm_base.specs.Words.{Cluster, is_named}
+use Rattle.bm_arena.specs.Holding.{id_at}
 use Rattle.bm_report.specs.Ready.{reported_blocks}
 use Rattle.bm_report.proofs.SingleReplicas.{ok_then}
 use Rattle.bm_levels.specs.Leveled.{Leveled, AreLevels}
@@ -16,7 +17,7 @@ invariant_of-self-then-is_err c =
     let k = c.ready_one-found.ensures in
     let r = c.abort.ensures in
     leveled_again c.self.inside.arena c.ready_one-found.new.arena c.show_invariant.ensures c.show_invariant-2.ensures k.kept c.abort.new.arena c.show_invariant-then-is_err.ensures (is_named (reported_blocks c.ready_one-found.new.self))
-    r.delimiter r.marker r.numbers r.entries k.fresh c.self.inside.kept c.grow_to-grown.new.self c.grow_to-grown.ensures.same c.grow_to-grown.ensures.kept c.self.invariant
+    r.delimiter r.marker r.numbers r.entries k.fresh c.self.inside.kept c.grow_to-grown.new.self c.grow_to-grown.ensures.same c.grow_to-grown.ensures.kept c.self.invariant (c.grow_to-grown.ensures.numbers (id_at c.abort.new.arena))
 
 pub returns-then-is_err-clause-levels : goal.returns-then-is_err-clause-levels
 returns-then-is_err-clause-levels c =
@@ -44,6 +45,7 @@ invariant_of-self c =
     leveled_alike (start c) c.ready_one-found.new.arena c.grow_to-grown.new.self (alike_ready c.self.inside.arena c.ready_one-found.new.arena c.show_invariant.ensures c.show_invariant-2.ensures c.ready_one-found.ensures.kept) c.ready_one-found.ensures.kept.delimiter
     c.grow_to-grown.ensures.same c.self.invariant
     (λ z there. room_below c.grow_to-grown.new.self c.slot_bound.result z (ok_then c.grow_to-grown.result _ (c.is_err-else-is_err.ensures.negation ∙ ap not c.if-is_err-2.false) c.grow_to-grown.ensures.room) (c.slot_bound.ensures.above z there))
+    (c.grow_to-grown.ensures.numbers (id_at c.ready_one-found.new.arena))
 
 pub returns-clause-levels : goal.returns-clause-levels
 returns-clause-levels c =

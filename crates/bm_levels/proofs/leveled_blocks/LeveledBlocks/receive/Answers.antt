@@ -9,6 +9,7 @@ use Rattle.bm_base.specs.declared.replica.Stamp.{Stamp}
 use Rattle.bm_report.specs.Ready.{LookedUpReport, reported_blocks}
 use Rattle.bm_levels.specs.IndexedLevels.{HasCapacityAt}
 use Rattle.bm_levels.specs.Leveled.{Leveled, IsLeveled, AreLevels}
+use Rattle.bm_levels.proofs.Numbers.{same_id}
 use Rattle.bm_levels.proofs.OneSlot.{IsChangedAt, held_by, leveled_after, levels_after}
 use Rattle.bm_levels.proofs.leveled_blocks.LeveledBlocks.receive.Goals as goal
 
@@ -55,7 +56,7 @@ changed c =
 pub invariant_of-self : goal.invariant_of-self
 invariant_of-self c =
     leveled_after c.args.topology.now.cluster (record { arena = c.self.inside.arena; kept = c.self.inside.kept }) c.apply_received-applied.new.arena c.update_from.new.self c.slot_of_one-slot.result (changed c)
-    c.update_from.ensures.status c.update_from.ensures.others c.self.invariant c.update_from.ensures.room
+    c.update_from.ensures.status c.update_from.ensures.others c.self.invariant c.update_from.ensures.room (same_id _ _ (c.apply_received-applied.ensures.entries.known c.slot_of_one-slot.result)) c.update_from.ensures.numbers
 
 pub returns-clause-levels : goal.returns-clause-levels
 returns-clause-levels c =

@@ -11,7 +11,7 @@ reclassify_every_block-requires c = λ slot there. c.self.invariant.room slot (l
 pub invariant_of-self : goal.invariant_of-self
 invariant_of-self c =
     leveled_each c.args.topology.now.cluster c.args.multi (record { arena = c.self.inside.arena; kept = c.self.inside.kept }) c.reclassify_every_block.new.self
-    c.reclassify_every_block.ensures.status c.reclassify_every_block.ensures.others c.self.invariant c.reclassify_every_block.ensures.room
+    c.reclassify_every_block.ensures.status c.reclassify_every_block.ensures.others c.self.invariant c.reclassify_every_block.ensures.room c.reclassify_every_block.ensures.numbers
 
 pub returns-clause-levels : goal.returns-clause-levels
 returns-clause-levels c =

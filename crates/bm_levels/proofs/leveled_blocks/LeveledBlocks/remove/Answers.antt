@@ -1,6 +1,7 @@
 use Rattle.std.proofs.Common.{◌≡◌, Some, subst, sym}
 use Rattle.bm_arena.specs.Contents.{slot_of}
 use Rattle.bm_levels.specs.Leveled.{Leveled, AreLevels}
+use Rattle.bm_levels.proofs.Numbers.{same_id}
 use Rattle.bm_levels.proofs.OneSlot.{held_by, leveled_after, levels_after}
 use Rattle.bm_levels.proofs.leveled_blocks.LeveledBlocks.remove.Goals as goal
 
@@ -11,7 +12,7 @@ invariant_of-self c =
     let here = subst P (sym c.self.view_is) c.requires.slot.1 in
     leveled_after c.args.topology.now.cluster (record { arena = c.self.inside.arena; kept = c.self.inside.kept }) c.unlink.new.self c.update_from.new.self c.args.slot
     (record { blocks = r.blocks; delimiter = r.delimiter; apart = (c.show_invariant.ensures.found c.requires.slot.0 c.args.slot here).0; held = held_by c.self.inside.arena c.args.slot (c.show_invariant.ensures.found c.requires.slot.0 c.args.slot here) })
-    c.update_from.ensures.status c.update_from.ensures.others c.self.invariant c.update_from.ensures.room
+    c.update_from.ensures.status c.update_from.ensures.others c.self.invariant c.update_from.ensures.room (same_id _ _ c.unlink.ensures.others.known) c.update_from.ensures.numbers
 
 pub returns-clause-levels : goal.returns-clause-levels
 returns-clause-levels c =

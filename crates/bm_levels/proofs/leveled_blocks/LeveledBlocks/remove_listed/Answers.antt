@@ -37,7 +37,7 @@ invariant_of-self c =
     let u = c.unlink_all.ensures in
     leveled_first (rack_after c.args.cluster_after.now) (drains_after c.args.cluster_after.now) c.args.cluster_after.now.multi
     old c.unlink_all.new.arena c.classify_all.new.self c.args.storage c.args.slots.now f.0 f.1 c.show_invariant.ensures c.self.invariant u.others u.known u.delimiter
-    c.classify_all.ensures.status c.classify_all.ensures.others c.classify_all.ensures.room
+    c.classify_all.ensures.status c.classify_all.ensures.others c.classify_all.ensures.room c.classify_all.ensures.numbers
 
 pub returns-clause-left : goal.returns-clause-left
 returns-clause-left c =

@@ -15,7 +15,7 @@ pub invariant_of-self : goal.invariant_of-self
 invariant_of-self c =
     let C = c.args.topology.now.cluster in
     leveled_anew (rack_of C) (drains_after_change C (Some (drain_change c.args.node c.args.drains))) c.multi_rack.result (record { arena = c.self.inside.arena; kept = c.self.inside.kept }) c.reclassify_node.new.self
-    (λ slot. elim (c.reclassify_node.ensures.each slot) [ inl status ↦ inl status | inr same ↦ inr same.0 ]) c.self.invariant c.reclassify_node.ensures.room
+    (λ slot. elim (c.reclassify_node.ensures.each slot) [ inl status ↦ inl status | inr same ↦ inr same.0 ]) c.self.invariant c.reclassify_node.ensures.room c.reclassify_node.ensures.numbers
 
 pub returns-clause-levels : goal.returns-clause-levels
 returns-clause-levels c =

@@ -1,6 +1,7 @@
-use Rattle.std.proofs.Common.{◌≡◌, Some, subst, sym}
+use Rattle.std.proofs.Common.{◌≡◌, ◌∙◌, Some, ap, subst, sym}
 use Rattle.bm_arena.specs.Contents.{slot_of}
 use Rattle.bm_levels.specs.Leveled.{Leveled, AreLevels}
+use Rattle.bm_levels.proofs.Numbers.{id_in}
 use Rattle.bm_levels.proofs.OneSlot.{held_by, leveled_after, levels_after}
 use Rattle.bm_levels.proofs.leveled_blocks.LeveledBlocks.set_info.Goals as goal
 
@@ -9,9 +10,10 @@ invariant_of-self c =
     let r = c.set_info.ensures.rest in
     let P : Leveled → Type 0 = λ v. slot_of v.arena c.requires.0 ≡ Some c.args.slot in
     let here = subst P (sym c.self.view_is) c.requires.1 in
+    let found = c.show_invariant.ensures.found c.requires.0 c.args.slot here in
     leveled_after c.args.topology.now.cluster (record { arena = c.self.inside.arena; kept = c.self.inside.kept }) c.set_info.new.self c.update_level.new.self c.args.slot
     (record { blocks = r.blocks; delimiter = r.delimiter; apart = (c.show_invariant.ensures.found c.requires.0 c.args.slot here).0; held = held_by c.self.inside.arena c.args.slot (c.show_invariant.ensures.found c.requires.0 c.args.slot here) })
-    c.update_level.ensures.status c.update_level.ensures.others c.self.invariant c.update_level.ensures.room
+    c.update_level.ensures.status c.update_level.ensures.others c.self.invariant c.update_level.ensures.room (ap id_in (c.set_info.ensures.entry found.1 found.2) ∙ sym (ap id_in found.2)) c.update_level.ensures.numbers
 
 pub returns-clause-levels : goal.returns-clause-levels
 returns-clause-levels c =
