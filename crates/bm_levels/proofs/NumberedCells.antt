@@ -1,18 +1,18 @@
 -- The cell of a slot and the array of its level, as the calls read and write them.
 use Rattle.std.proofs.Common.{◌≡◌, ◌⊎◌, ℕ, zero, suc, ◌<◌, ◌≤◌, ◌+◌, ◌-◌, ◌++◌, List, [], ◌∷◌, length, get_or, set, map, take, replicate, Option, Some, None, inl, inr, refl, vec_capacity, vec_len, subst, sym, ap, ◌∙◌, arith}
-use Rattle.std.specs.Prelude.{IsSome, is_some}
+use Rattle.std.specs.Prelude.{is_some}
 use Rattle.std.specs.List.{All, Contains, swap_remove}
 use Rattle.std.specs.declared.vec.Vec.{Vec}
 use Rattle.std.proofs.Math.Seq.{map-set_same}
 use Rattle.std.proofs.Math.ListN as listn
 use Rattle.std.proofs.lemmas.Bool.{cases_eq}
-use Rattle.std.proofs.lemmas.List.{get_or-map, get_or_default, get_or-set_same, get_or-set_other, length-map, length-set, map-set, map-append, take_all, take_more_set}
+use Rattle.std.proofs.lemmas.List.{get_or-map, get_or-set_same, get_or-set_other, length-map, length-set, map-set, map-append, take_all, take_more_set}
 use Rattle.std.proofs.lemmas.List.Elements.{All-get_or, All-set, All-push, Contains-append_cases}
 use Rattle.std.proofs.lemmas.List.Sorted.{IsPermutation-swap_remove, IsPermutation-sym, Contains-permutation}
 use Rattle.bm_base.specs.declared.level.Level.{Level}
 use Rattle.bm_base.specs.declared.level.Level.TheVariants.{Highest, VeryUnderReplicated, UnderReplicated, BadlyDistributed, NoUsableReplica}
 use Rattle.bm_base.specs.Machine.Levels.{level_number}
-use Rattle.bm_queues.specs.Levels.{Levels, level_at}
+use Rattle.bm_queues.specs.Levels.{Levels}
 use Rattle.bm_queues.specs.DenseLevels.{AreDense, seen, level_in, array_of}
 use Rattle.bm_queues.proofs.LevelLaws.{level_below, last-below, left-dense, more-dense, room-for-one, arrays-few}
 use Rattle.bm_levels.specs.declared.numbered_lists.Member.{Member}

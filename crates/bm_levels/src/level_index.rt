@@ -1,5 +1,6 @@
 // The status of each block of a shard: its level, and whether it is settled.
 ghost use Rattle.std.specs.Prelude.{◌≡◌, true, ◌≢◌, ℕ, ◌+◌, ◌≤◌, None, length, IfOk, IfErr, OnOk, IsOk};
+ghost use Rattle.std.specs.List.{All};
 ghost use Rattle.bm_base.specs.declared.refusal.Refusal.TheVariants.{Memory};
 ghost use Rattle.bm_base.specs.declared.level.Level.{Level};
 ghost use Rattle.bm_maps.specs.SlotLists.{Distinct};
@@ -159,6 +160,8 @@ impl LevelIndex {
         ensures slots { slots_of_members result.now ≡ slots_at self.now level }
         ensures exact { AreSlotsAt self.now level (slots_of_members result.now) }
         ensures once { Distinct (slots_of_members result.now) }
+        ensures numbers { (number : ℕ → ℕ) → AreNumbered number self.now.levels self.now.members
+            → All (λ m. m.id ≡ number m.slot) result.now }
     {
         self.levels.show_invariant();
         self.levels.members(level)

@@ -41,12 +41,11 @@ pub fn missing_blocks(alloc: Global, blocks: &LeveledBlocks) -> Result<Items<Blo
     ensures refused { IfErr result (λ e. e ≡ Memory) }
 {
     blocks.show_invariant();
-    let arena = blocks.arena();
-    arena.show_invariant();
+    blocks.arena().show_invariant();
     let mut ids = Vec::new(alloc);
-    let slots = blocks.level_index().at_level(Level::NoUsableReplica);
-    for slot in slots {
-        ids.push(arena.id_of(*slot as usize))?;
+    let members = blocks.level_index().at_level(Level::NoUsableReplica);
+    for member in members {
+        ids.push(member.id)?;
     }
     ids.sort()?;
     Ok(Items::from_vec(ids))

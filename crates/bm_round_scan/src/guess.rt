@@ -1,7 +1,6 @@
 // A guess of the wishes that a round needs.
 ghost use Rattle.std.specs.Prelude.{◌<◌};
 
-use bm_arena::Slot;
 use bm_base::Level;
 use bm_levels::LeveledBlocks;
 use bm_parts::merge::Key;
@@ -50,7 +49,8 @@ pub fn likely_bound(
     Ok(keys.get(most / step).copied())
 }
 
-/// Appends the key of every `step`-th slot of a level.
+/// Appends the level and the number of the block at every `step`-th slot of a level, unless it has a
+/// pending transfer.
 fn push_keys(
     blocks: &LeveledBlocks,
     pending: &PendingTransfers,
@@ -61,24 +61,8 @@ fn push_keys(
     requires { 0 < step }
 {
     for member in blocks.level_index().at_level(level).iter().step_by(step) {
-        push_key(blocks, pending, level, *member as usize, into)?;
-    }
-    Ok(())
-}
-
-/// Appends the level and the number of the block at a slot, unless it has a pending transfer.
-fn push_key(
-    blocks: &LeveledBlocks,
-    pending: &PendingTransfers,
-    level: Level,
-    slot: Slot,
-    into: &mut Vec<Key>,
-) -> Result<(), AllocError> {
-    let arena = blocks.arena();
-    if arena.has_entry(slot) {
-        let id = arena.id_of(slot);
-        if pending.count_of(id) == 0 {
-            into.push((level.number() as u64, id.0))?;
+        if pending.count_of(member.id) == 0 {
+            into.push((level.number() as u64, member.id.0))?;
         }
     }
     Ok(())

@@ -1,13 +1,13 @@
 // The keys of slots: the level of the block, and its number.
 ghost use Rattle.std.specs.Prelude.{◌≡◌, Some};
 ghost use Rattle.bm_parts.specs.Before as before;
-ghost use Rattle.bm_arena.specs.Holding as holding;
-ghost use Rattle.bm_levels.specs.IndexedLevels as level_index;
+ghost use Rattle.bm_arena.specs.Holding.{id_at};
+ghost use Rattle.bm_levels.specs.IndexedLevels.{level_of_slot};
 ghost use Rattle.bm_round_scan.specs.ScannedSlots as visits;
 
 use bm_arena::{Arena, Slot};
 use bm_base::Level;
-use bm_levels::LevelIndex;
+use bm_levels::{LevelIndex, Member, number_at};
 use bm_parts::merge::Key;
 
 /// Represents the level of a block that has none: one more than the greatest.
@@ -21,26 +21,16 @@ pub(crate) fn key_of(kept: &LevelIndex, arena: &Arena, slot: Slot) -> Key
         Some(level) => level.number(),
         None => NO_LEVEL,
     };
-    (level as u64, number_of(arena, slot))
+    (level as u64, number_at(arena, slot).0)
 }
 
-/// The same for a known level, so that only the number is read.
-pub(crate) fn key_at_level(_kept: &LevelIndex, arena: &Arena, slot: Slot, level: Level) -> Key
-    requires { level_index.level_of_slot _kept.now slot ≡ Some level }
-    ensures { result ≡ visits.key_at _kept.now arena.now slot }
+/// The same for a slot in the list of a level, of which neither the cell nor the block is read.
+pub(crate) fn key_of_member(_kept: &LevelIndex, _arena: &Arena, member: Member, level: Level) -> Key
+    requires level { level_of_slot _kept.now member.slot ≡ Some level }
+    requires number { member.id ≡ id_at _arena.now member.slot }
+    ensures { result ≡ visits.key_at _kept.now _arena.now member.slot }
 {
-    (level.number() as u64, number_of(arena, slot))
-}
-
-/// The number of the block at a slot; 0 for a slot without a block.
-fn number_of(arena: &Arena, slot: Slot) -> u64
-    ensures { result ≡ holding.id_at arena.now slot }
-{
-    if arena.has_entry(slot) {
-        arena.id_of(slot).0
-    } else {
-        0
-    }
+    (level.number() as u64, member.id.0)
 }
 
 /// Whether a key comes before a bound, if there is one.

@@ -1,10 +1,10 @@
 // The slots that a round scans.
 ghost use Rattle.std.specs.Prelude.{◌≡◌, ◌++◌, filter, map, IfOk, OnOk};
 ghost use Rattle.std.specs.List.Sorted.{IsPermutation};
-ghost use Rattle.bm_levels.specs.IndexedLevels.{slots_at};
+ghost use Rattle.bm_levels.specs.IndexedLevels.{slots_at, HasNumbers};
 ghost use Rattle.bm_round_scan.specs.ScannedSlots as visits;
 
-use crate::keys::{is_before, key_at_level, key_of};
+use crate::keys::{is_before, key_of, key_of_member};
 use crate::scan::RoundScan;
 use bm_arena::Slot;
 use bm_base::{BlockId, Level};
@@ -17,6 +17,7 @@ pub(crate) fn slots_to_scan(
     alloc: Global,
     start: &RoundScan,
 ) -> Result<Vec<(Key, Slot)>, AllocError>
+    requires { HasNumbers start.now.arena.now start.now.kept.now }
     ensures { IfOk result (λ v. v.items
         ≡ map (visits.keyed_at start.now.kept.now start.now.arena.now)
         (visits.scanned_slots start.now.kept.now start.now.arena.now start.now.bound
@@ -35,12 +36,14 @@ pub(crate) fn slots_to_scan(
 }
 
 /// Appends the settled slots of a level that come before the bound and lack pending transfers. The
-/// bound is compared first: mostly few slots come before it.
+/// bound is compared first: mostly few slots come before it. The numbers are next to the slots, so
+/// no block is read that does not come before it.
 fn push_settled(
     start: &RoundScan,
     level: Level,
     into: &mut Vec<(Key, Slot)>,
 ) -> Result<(), AllocError>
+    requires { HasNumbers start.now.arena.now start.now.kept.now }
     ensures { OnOk result (into.new.items ≡ into.old.items
         ++ map (visits.keyed_at start.now.kept.now start.now.arena.now)
         (filter
@@ -50,8 +53,8 @@ fn push_settled(
 {
     let members = start.kept.at_level(level);
     for member in members {
-        let slot = *member as usize;
-        let key = key_at_level(start.kept, start.arena, slot, level);
+        let slot = member.slot as usize;
+        let key = key_of_member(start.kept, start.arena, *member, level);
         if is_before(start.bound, key)
             && start.is_settled(slot)
             && !start.has_enough_pending(slot, BlockId(key.1))

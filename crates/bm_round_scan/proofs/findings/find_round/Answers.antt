@@ -8,12 +8,16 @@ use Rattle.bm_base.specs.RoundParts.{wish_key, delete_key}
 use Rattle.bm_arena.specs.Contents.{Contents, slot_of, IsLawful}
 use Rattle.bm_arena.specs.Holding.{id_at}
 use Rattle.bm_levels.specs.Held.{holdings_with}
-use Rattle.bm_levels.specs.IndexedLevels.{IndexedLevels}
+use Rattle.bm_levels.specs.IndexedLevels.{IndexedLevels, HasNumbers}
 use Rattle.bm_round_scan.specs.ScannedSlots.{scanned_slots, keyed_at, has_enough_pending, AreMarked}
 use Rattle.bm_round_scan.specs.Gathering.{HasFound, IsInOrder}
 use Rattle.bm_round_scan.proofs.ScannedSlots.{AreListed}
 use Rattle.bm_round_scan.proofs.AllFindings.{told_known, all_found}
 use Rattle.bm_round_scan.proofs.findings.find_round.Goals as goal
+
+pub slots_to_scan-requires : goal.slots_to_scan-requires
+slots_to_scan-requires c =
+    subst (λ (K : IndexedLevels). HasNumbers c.arena-2.result.now K) (sym c.level_index-2.ensures) (subst (λ (a : Contents). HasNumbers a c.args.blocks.now.kept) (sym c.arena-2.ensures) c.show_invariant.ensures.numbers)
 
 pub scan_all-requires-clause-known : goal.scan_all-requires-clause-known
 scan_all-requires-clause-known c slot there =

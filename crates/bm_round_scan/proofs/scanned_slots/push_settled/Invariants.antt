@@ -1,5 +1,6 @@
 use Rattle.std.proofs.Common.{◌≡◌, ◌++◌, map, filter, drop}
 use Rattle.bm_levels.specs.IndexedLevels.{slots_at}
+use Rattle.bm_levels.specs.NumberedLists.{slots_of_members}
 use Rattle.bm_round_scan.specs.ScannedSlots.{keyed_at, is_settled_to_scan, has_enough_pending}
 use Rattle.bm_round_scan.proofs.scanned_slots.push_settled.Given as goal
 
@@ -8,5 +9,5 @@ abbrev pub invariant-loop-member : goal.invariant-loop-member
 invariant-loop-member l =
     let s = l.start in
     let told = is_settled_to_scan l.start.kept.now s.arena.now s.bound (has_enough_pending s.topology.now.cluster s.pend s.round s.arena.now s.pending.now) in
-    l.into.items ++ map (keyed_at l.start.kept.now s.arena.now) (filter told (drop l.member-index l.members))
+    l.into.items ++ map (keyed_at l.start.kept.now s.arena.now) (filter told (slots_of_members (drop l.member-index l.members)))
     ≡ l.initial.into.items ++ map (keyed_at l.start.kept.now s.arena.now) (filter told (slots_at l.start.kept.now l.level))

@@ -4,7 +4,7 @@ use Rattle.std.proofs.lemmas.Grind.{common_steps}
 use Rattle.bm_maps.specs.SlotLinks.{end_of_links}
 use Rattle.bm_queues.specs.DenseLevels.{AreDense}
 use Rattle.bm_queues.proofs.LevelLaws.{padded, grown-dense}
-use Rattle.bm_levels.specs.NumberedLists.{levels_in, indices_in, slots_in, arrays_in}
+use Rattle.bm_levels.specs.NumberedLists.{levels_in, indices_in, slots_in}
 use Rattle.bm_levels.proofs.NumberedCells.{arrays-fit, grown-levels, grown-indices}
 use Rattle.bm_levels.proofs.numbered_lists.NumberedLists.grow_to.Goals as goal
 

@@ -4,7 +4,7 @@ use Rattle.bm_queues.specs.Levels.{level_at}
 use Rattle.bm_queues.specs.DenseLevels.{level_in}
 use Rattle.bm_queues.proofs.LevelLaws.{level-set}
 use Rattle.bm_levels.specs.NumberedLists.{NumberedLevels, AreNumbered}
-use Rattle.bm_levels.proofs.NumberedCells.{level-here, index-below, last-fits, levels-left, dense-left, numbered-left}
+use Rattle.bm_levels.proofs.NumberedCells.{index-below, last-fits, levels-left, dense-left, numbered-left}
 use Rattle.bm_levels.proofs.numbered_lists.NumberedLists.leave.Goals as goal
 
 pub overflow_sub-len : goal.overflow_sub-len
