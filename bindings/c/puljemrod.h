@@ -67,7 +67,7 @@ typedef struct puljemrod_options {
 
 #define PULJEMROD_STANDARD {1, 2, 1000, 100, 0, 0, 0}
 
-/* A code of a call. 1 to 15, 20 and 21 are refusals, with the numbers and names of
+/* A code of a call. Codes from 1 to 31 are refusals, with the numbers and names of
  * docs/FORMATS.md. */
 enum {
     PULJEMROD_OK = 0,
@@ -138,6 +138,10 @@ uint32_t puljemrod_close(puljemrod *handle);
  * Each is a line's event without the text: faster, and with the same codes. PULJEMROD_OK, or the
  * number of a refusal, says what the line would; puljemrod_text makes the text of the answer. Lists
  * are read while the call runs, and not kept.
+ *
+ * There is no safe mode: a replica that is reported before its block is added is stray, and the
+ * next round orders its delete. So add all blocks before the first report, and start rounds after
+ * it.
  *
  * PULJEMROD_MEMORY comes only where nothing else refuses the event, but for puljemrod_register,
  * puljemrod_heartbeat and puljemrod_full_report: their lists are copied first, that of a heartbeat

@@ -40,11 +40,13 @@ STANDARD = {"shards": 1, "work": 2, "invalidate": 1000, "pend": 100}
 
 
 class Fault(Exception):
-    """A line has no answer; the reason is the text. By the tool, the manager has ended and its state is lost."""
+    """A line has no answer; the reason is the text. By the tool, the manager has ended and its
+    state is lost."""
 
 
 class OutOfMemory(Fault):
-    """Memory was refused. The lines before were answered. By the library, this one changed nothing."""
+    """Memory was refused. The lines before were answered. By the library, this one changed
+    nothing."""
 
 
 class TooMuch(Fault):
@@ -52,15 +54,17 @@ class TooMuch(Fault):
 
 
 class TextOwed(Fault):
-    """The line is answered, and memory was refused for the text of the answer: `Library.retry` makes it."""
+    """The line is answered, and memory was refused for the text of the answer: `Library.retry`
+    makes it."""
 
 
 class Manager:
     """One block manager. Not for several threads at once.
 
-    Its engine is the library, or the line tool as a child process: the one that is named by its path, else the
-    library if it is built, else the tool. `options` are those of the tool: shards, workers, work, invalidate,
-    pend; the library also takes first_round and first_call, and works with one thread."""
+    Its engine is the library, or the line tool as a child process: the one that is named by its
+    path, else the library if it is built, else the tool. `options` are those of the tool: shards,
+    workers, work, invalidate, pend; the library also takes first_round and first_call, and works
+    with one thread."""
 
     def __init__(self, tool=None, library=None, **options):
         if library or not tool and LIBRARY.exists():
@@ -140,8 +144,9 @@ def load(path):
 class Library:
     """One block manager. Not for several threads at once.
 
-    Options are shards, work, invalidate, pend, first_round and first_call; `workers` is passed over, since the
-    calling thread does all work. Without a `secret`, which only the time of a call depends on, one is drawn."""
+    Options are shards, work, invalidate, pend, first_round and first_call; `workers` is passed
+    over, since the calling thread does all work. Without a `secret`, which only the time of a call
+    depends on, one is drawn."""
 
     def __init__(self, path=LIBRARY, **options):
         self.library, self.handle, self.len = load(path), Handle(), ctypes.c_size_t()
@@ -172,8 +177,8 @@ class Library:
         return text.raw
 
     def answer(self, block):
-        """The answers to whole lines. Both are bytes, and each line ends with a line feed. A fault has the
-        answers before it in `answers`."""
+        """The answers to whole lines. Both are bytes, and each line ends with a line feed. A fault
+        has the answers before it in `answers`."""
         answers = []
         for line in block.split(b"\n")[:-1]:
             try:

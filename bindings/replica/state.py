@@ -49,7 +49,8 @@ class Replica:
         # The last hash, with the number of lines; and those that no leader has confirmed.
         self.hashed = (0, "")
         self.unconfirmed = {}
-        # The output from `position` on: a log key, and how many of its values are in the store already.
+        # The output from `position` on: a log key, and how many of its values are in the store
+        # already.
         self.outputs = deque()
         self.position = (1, 0)
 

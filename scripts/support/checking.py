@@ -11,7 +11,8 @@ TOP = Path(__file__).resolve().parents[2]
 
 EXAMPLES = TOP / "examples"
 
-# The line tool with one shard and one worker, with fewer workers than shards, and with more: no answer depends on it.
+# The line tool with one shard and one worker, with fewer workers than shards, and with more: no
+# answer depends on it.
 SHARDS_AND_WORKERS = [
     ["--shards", "1", "--workers", "1"],
     ["--shards", "3", "--workers", "2"],
@@ -108,7 +109,8 @@ def program(crate):
 
 
 class Proved:
-    """A static library that is proved over the libraries that are there: once for both compilers, as `rt ci` does for a program."""
+    """A static library that is proved over the libraries that are there: once for both compilers,
+    as `rt ci` does for a program."""
 
     def __init__(self, crate, below):
         kit = Path(ended_well(["rt", "doc"]).decode().strip()).parent
@@ -143,8 +145,9 @@ def ended_well(command, folder=TOP):
 def library(compiler="llvm", crate="puljemrod"):
     """The static library by one of the two compilers, `llvm` or `rattle`.
 
-    After an `rt ci` that left the libraries below it without stamps, `rt lib` would prove all of them again. Then the
-    compiler is called as `rt ci` calls it for a program, over the libraries that are there."""
+    After an `rt ci` that left the libraries below it without stamps, `rt lib` would prove all of
+    them again. Then the compiler is called as `rt ci` calls it for a program, over the libraries
+    that are there."""
     folder = TOP / "crates" / crate
     made = folder / "out" / f"lib{crate}.a"
     below = {name: TOP / "crates" / name / "out/rlib" / f"{name}.rlib" for name in below_crate(crate)}
@@ -158,7 +161,8 @@ def library(compiler="llvm", crate="puljemrod"):
 
 
 def chosen_numbers(*words):
-    """Numbers that share groups of a table without a secret. The words are those of chosen_numbers.c."""
+    """Numbers that share groups of a table without a secret. The words are those of
+    chosen_numbers.c."""
     with tempfile.TemporaryDirectory() as folder:
         path = os.path.join(folder, "chosen_numbers")
         source = Path(__file__).with_name("chosen_numbers.c")
@@ -168,7 +172,8 @@ def chosen_numbers(*words):
 
 
 def cluster_command(word):
-    """The words that start the program for clusters: `import`, `report`, `what-if` or `simulate`."""
+    """The words that start the program for clusters: `import`, `report`, `what-if` or
+    `simulate`."""
     return [program("puljemrod_cluster"), word]
 
 
@@ -182,7 +187,8 @@ def stored_output(crate, part=None):
 
 
 class Watch:
-    """Runs programs with a library of this folder before the C library. It writes to the file that the variable names."""
+    """Runs programs with a library of this folder before the C library. It writes to the file that
+    the variable names."""
 
     def __init__(self, name, variable):
         self.folder = tempfile.TemporaryDirectory()

@@ -1,4 +1,5 @@
-// Stands before a program's allocator (LD_PRELOAD): refuses allocations where it is told to, and counts the bytes that are held.
+// Stands before a program's allocator (LD_PRELOAD): refuses the allocations that it is asked to, and
+// counts the bytes that are held.
 // What it sees goes to the file that MEMORY_LOG names, a line each.
 //
 // The program tells it where it is by lines on standard error:

@@ -4,10 +4,11 @@ from collections import Counter
 
 from model.lines import CALLS
 from model.rounds import stream_limit
+from model.state import REFUSALS
 
 # What the scripts of a run have to reach. Rounds and calls run out only past what a run can make.
 HAS_TO_REACH = [
-    *[f"refused {it}" for it in (*range(1, 12), 20, 21)],
+    *[f"refused {it}" for name, it in REFUSALS.items() if name not in ("RoundsSpent", "CallsSpent")],
     *[f"{op} answered" for op in CALLS],
     *[f"level {it}" for it in (0, 1, 2, 3, 4, "none")],
     *[f"retired {it}" for it in ("yes", "no")],

@@ -50,7 +50,7 @@ def marked(folder):
 
 @contextlib.contextmanager
 def scratch(seconds=0):
-    """A scratch folder. At its end, also after a signal or so many seconds, it is removed, and no
+    """A scratch folder. At its end, also after a signal or `seconds` seconds, it is removed, and no
     process is left that was started in it."""
 
     def ends(number, _):
@@ -290,7 +290,7 @@ class Manager:
 
     def compare(self, options=()):
         """The answers, commands and hashes in the store are those of one run of the tool on the
-        lines of the log; what each writer is to be told."""
+        lines of the log. Returns the answers that each writer must get."""
         taken = list(self.taken())
         lines = [line for _, batch in taken for line in batch]
         run = subprocess.run([self.tool, *options], input=b"".join(lines), capture_output=True,
@@ -400,7 +400,8 @@ def etcd_is_there():
 
 
 def archive():
-    """The library for C, which is built only if it is missing; None where there is no linker for it."""
+    """The library for C, which is built only if it is missing; None where there is no linker for
+    it."""
     if not shutil.which("cc"):
         return None
     path = TOP / "crates/puljemrod/out/libpuljemrod.a"

@@ -19,6 +19,10 @@ pub struct Remaining {
 }
 
 /// An event; docs/FORMATS.md says what each means.
+///
+/// There is no safe mode: a replica that is reported before its block is added is stray, and the
+/// next round orders its delete. So add all blocks before the first report, and start rounds after
+/// it.
 #[derive(Clone, Debug, PartialEq, Eq)]
 pub enum Event {
     Register { node: u32, rack: u32, storages: Vec<u32> },

@@ -31,7 +31,7 @@ abbrev pub asked_next : State → Asked → State
 asked_next M (Asks k) = (step M k).1
 asked_next M _ = M
 
--- whether memory may lack for it: it is a call that takes some, and nothing else refuses it
+-- whether it may run out of memory: it is a call that takes some, and nothing else refuses it
 abbrev pub asked_may_lack : State → Asked → Bool
 asked_may_lack M (Asks k) = may_run_out_of_memory step M k
 asked_may_lack M _ = false

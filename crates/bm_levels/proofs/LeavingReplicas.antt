@@ -1,7 +1,7 @@
 -- Replicas that leave one after another.
 use Rattle.std.specs.Prelude.{◌≡◌, ◌≢◌, ℕ, ◌+◌, ◌-◌, ◌<◌, ◌≤◌, length, Bool, true, false, not, ◌==◌, List, [], Option, Some, None, IsSome, is_some, option_and_then}
 use Rattle.std.proofs.Common.{cond, refl, sym, ap, subst, ◌∙◌, arith}
-use Rattle.std.proofs.lemmas.Bool.{eqb-false, false≢true}
+use Rattle.std.proofs.lemmas.Bool.{eqb-false, eqb-true, false≢true}
 use Rattle.bm_base.specs.declared.replica.ReplicaId.{ReplicaId}
 use Rattle.bm_base.specs.declared.replica.Marks.{Marks}
 use Rattle.bm_base.specs.Words.{get, keep, remove, len, replica_at, new_replicas}
@@ -51,6 +51,27 @@ leaving_more p a b c m n f g = record {
   others = λ q e. g.others q e ∙ f.others q e;
   count = omega (arith, f.count, g.count);
 }
+
+-- what leaves one storage leaves those that pass, where it does
+pub leaving_of : (p : ℕ → Bool) (a b : Contents) (s n : ℕ) → p s ≡ true → IsLeaving (λ t. t == s) a b n → IsLeaving p a b n
+leaving_of p a b s n own h = record {
+  blocks = h.blocks;
+  lists = λ t off. h.lists t (other t (t == s) refl off);
+  others = λ q off. h.others q (other q.storage (q.storage == s) refl off);
+  count = h.count;
+}
+  where
+    other : (t : ℕ) (x : Bool) → (t == s) ≡ x → p t ≡ false → (t == s) ≡ false
+    other t false e off = e
+    other t true e off = absurd (false≢true (sym off ∙ ap p (eqb-true t s e) ∙ own))
+
+-- a list that is empty stays so
+pub stays_empty : (a b : Contents) (s t n : ℕ) → IsLeaving (λ u. u == s) a b n → list_of b s ≡ [] → list_of a t ≡ [] → list_of b t ≡ []
+stays_empty a b s t n h gone empty = by (t == s) refl
+  where
+    by : (x : Bool) → (t == s) ≡ x → list_of b t ≡ []
+    by true e = ap (list_of b) (eqb-true t s e) ∙ gone
+    by false e = h.lists t e ∙ empty
 
 -- one replica left
 pub leaving_one : (a b : Contents) (id slot s : ℕ) → slot_of a id ≡ Some slot → IsSome (marks_at a slot s) → KeepsOthers a b slot s → blocks_of b ≡ blocks_of a

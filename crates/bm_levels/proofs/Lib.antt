@@ -1,3 +1,4 @@
+-- Lemmas on levels: counts of replicas, statuses, and the invariant after each change.
 pub mod Counts
 pub mod Numbers
 pub mod NumberedCells

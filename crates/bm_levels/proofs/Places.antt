@@ -1,46 +1,61 @@
--- Iterating over the storages of a node, by their indexes in the cluster.
-use Rattle.std.specs.Prelude.{◌≡◌, ℕ, suc, ◌+◌, ◌<◌, ◌≤◌, ◌==◌, Bool, true, false, List, [], ◌∷◌, map, length, slice_get, Option, Some, None, is_some, option_map}
-use Rattle.std.specs.Option.{option_map_or}
-use Rattle.std.specs.Ordering.{eq_by_cmp}
-use Rattle.std.specs.FinMap.{find}
-use Rattle.std.proofs.Common.{cond, refl, sym, ap, ◌∙◌, arith, inl, inr}
+-- The storages of a node, one after another.
+use Rattle.std.specs.Prelude.{◌≡◌, ◌⊎◌, ℕ, zero, suc, ◌+◌, ◌<◌, ◌≤◌, ◌==◌, ◌||◌, Bool, true, false, List, [], ◌∷◌, length, Option}
+use Rattle.std.proofs.Common.{get_or, refl, sym, ap, subst, ◌∙◌, arith, inl, inr, eqb-true}
 use Rattle.std.proofs.lemmas.Bool.{cases_eq, false≢true}
-use Rattle.bm_base.specs.declared.storage.StorageInfo.{StorageInfo}
-use Rattle.bm_base.specs.Words.{Order, by_number, get, keys, entries, len, Cluster, node_of, has_storage}
-use Rattle.bm_base.proofs.MapEntries.{same_key}
+use Rattle.bm_base.specs.Maps.Lists.{has}
+use Rattle.bm_maps.specs.SlotLists.{IsMember}
+use Rattle.bm_base.proofs.ListTests.{or_left, or_right, same_again}
+use Rattle.bm_arena.specs.Contents.{Contents, block_at, list_of}
+use Rattle.bm_levels.specs.IndexedLevels.{IndexedLevels, IsClassified, IsSameAt}
+use Rattle.bm_levels.proofs.StatusUpdates.{classified_still, same_chain}
 
--- a key that is found has an index
-found_place : {K X : Type 0} (o : Order K) (q : K) (es : List (K × X)) → is_some (find o.cmp q es) ≡ true → (i : ℕ) × (i < length es) × (slice_get (map (λ (e : K × X). e.0) es) i ≡ Some q)
-found_place o q [] h = absurd (false≢true h)
-found_place {K} {X} o q (e ∷ es) h = by (eq_by_cmp o.cmp q e.0) refl h (λ later. found_place o q es later)
+-- a number of a list has a place
+has_place : (ss : List ℕ) (s : ℕ) → has ss s ≡ true → (i : ℕ) × (i < length ss) × (get_or ss i 0 ≡ s)
+has_place [] s e = absurd (false≢true e)
+has_place (x ∷ xs) s e = by (x == s) refl e (λ later. has_place xs s later)
   where
-    by : (b : Bool) → eq_by_cmp o.cmp q e.0 ≡ b → is_some (cond b (Some e.1) (find o.cmp q es)) ≡ true
-        → (is_some (find o.cmp q es) ≡ true → (i : ℕ) × (i < length es) × (slice_get (map (λ (x : K × X). x.0) es) i ≡ Some q))
-        → (i : ℕ) × (i < length (e ∷ es)) × (slice_get (map (λ (x : K × X). x.0) (e ∷ es)) i ≡ Some q)
-    by true tie _ rest = (0, omega arith, ap (λ k. Some k) (sym (same_key o q e.0 tie)))
+    by : (b : Bool) → (x == s) ≡ b → (b || has xs s) ≡ true → (has xs s ≡ true → (i : ℕ) × (i < length xs) × (get_or xs i 0 ≡ s)) → (i : ℕ) × (i < length (x ∷ xs)) × (get_or (x ∷ xs) i 0 ≡ s)
+    by true same _ rest = (0, omega arith, eqb-true x s same)
     by false _ later rest = let r = rest later in (suc r.0, omega (arith, r.1), r.2)
 
-pub storage_place : (C : Cluster) (n s : ℕ) → has_storage C n s ≡ true → (i : ℕ) × (i < len C.storages) × (slice_get (keys C.storages) i ≡ Some s)
-unfolding has_storage node_of get keys len entries
-storage_place C n s h = found_place by_number s C.storages.list (by (get C.storages s) h)
-  where
-    by : (o : Option StorageInfo) → option_map_or (λ m. m == n) (option_map (λ (i : StorageInfo). i.node) o) false ≡ true → is_some o ≡ true
-    by None e = absurd (false≢true e)
-    by (Some i) e = refl
+has_at : (ss : List ℕ) (i : ℕ) → i < length ss → has ss (get_or ss i 0) ≡ true
+has_at [] i lt = absurd (omega (arith, lt))
+has_at (x ∷ xs) zero lt = or_left (x == x) (has xs x) (same_again x)
+has_at (x ∷ xs) (suc i) lt = or_right (x == get_or xs i 0) (has xs (get_or xs i 0)) (has_at xs i (omega (arith, lt)))
 
-module _ (C : Cluster) (n : ℕ) (P : ℕ → Type 0) where
-  -- P holds of the node's storages at the indexes below this one
+-- what is read at a place, whatever is read past the last one
+read_at : (ss : List ℕ) (i d : ℕ) → i < length ss → get_or ss i d ≡ get_or ss i 0
+read_at [] i d lt = absurd (omega (arith, lt))
+read_at (x ∷ xs) zero d lt = refl
+read_at (x ∷ xs) (suc i) d lt = read_at xs i d (omega (arith, lt))
+
+pub own_at : (ss : List ℕ) (i s : ℕ) → i < length ss → s ≡ get_or ss i s → has ss s ≡ true
+own_at ss i s lt is = ap (has ss) (is ∙ read_at ss i s lt) ∙ has_at ss i lt
+
+module _ (ss : List ℕ) (P : ℕ → Type 0) where
+  -- those at the first places have gone
   abbrev pub HaveGone : ℕ → Type 0
-  HaveGone place = (i s : ℕ) → i < place → slice_get (keys C.storages) i ≡ Some s → has_storage C n s ≡ true → P s
+  HaveGone place = (i : ℕ) → i < place → P (get_or ss i 0)
 
-  pub gone_none : HaveGone 0
-  gone_none i s lt = absurd (omega (arith, lt))
+  pub gone_all : (place : ℕ) → length ss ≤ place → HaveGone place → (s : ℕ) → has ss s ≡ true → P s
+  gone_all place past h s there = let k = has_place ss s there in subst P k.2 (h k.0 (omega (arith, k.1, past)))
 
-  pub gone_more : (place : ℕ) → HaveGone place → ((s : ℕ) → slice_get (keys C.storages) place ≡ Some s → has_storage C n s ≡ true → P s) → HaveGone (place + 1)
-  gone_more place h here i s lt at own = elim (cases_eq i place) [
-    | inl same ↦ here s (sym (ap (slice_get (keys C.storages)) same) ∙ at) own
-    | inr differs ↦ h i s (omega (arith, lt, differs)) at own
+-- one more has gone, and those before it still have
+pub gone_more : (ss : List ℕ) (P Q : ℕ → Type 0) (place s : ℕ) → place < length ss → s ≡ get_or ss place s → HaveGone ss P place → ((t : ℕ) → P t → Q t) → Q s → HaveGone ss Q (place + 1)
+gone_more ss P Q place s below is h still here i lt = elim (cases_eq i place) [
+  | inl same ↦ subst Q (is ∙ read_at ss place s below ∙ ap (λ k. get_or ss k 0) (sym same)) here
+  | inr differs ↦ still (get_or ss i 0) (h i (omega (arith, lt, differs)))
+]
+
+-- the slots on one storage more are judged
+pub classified_next : (rack : ℕ → Option ℕ) (draining : ℕ → Bool) (multi : Bool) (a : Contents) (ss : List ℕ) (place s slot : ℕ) (K L M : IndexedLevels) → place < length ss → s ≡ get_or ss place s
+    → IsClassified rack draining multi (block_at a slot) L slot ⊎ (IsSameAt K L slot × HaveGone ss (λ t. IsMember slot (list_of a t) → ⊥) place)
+    → IsClassified rack draining multi (block_at a slot) M slot ⊎ (IsSameAt L M slot × (IsMember slot (list_of a s) → ⊥))
+    → IsClassified rack draining multi (block_at a slot) M slot ⊎ (IsSameAt K M slot × HaveGone ss (λ t. IsMember slot (list_of a t) → ⊥) (place + 1))
+classified_next rack draining multi a ss place s slot K L M below is before after = elim after [
+  | inl status ↦ inl status
+  | inr same ↦ elim before [
+    | inl was ↦ inl (classified_still rack draining multi (block_at a slot) L M slot was same.0)
+    | inr was ↦ inr (same_chain K L M slot was.0 same.0, gone_more ss (λ t. IsMember slot (list_of a t) → ⊥) (λ t. IsMember slot (list_of a t) → ⊥) place s below is was.1 (λ t h. h) same.1)
   ]
-
-  pub gone_all : (place : ℕ) → len C.storages ≤ place → HaveGone place → (s : ℕ) → has_storage C n s ≡ true → P s
-  gone_all place past h s own = let k = storage_place C n s own in h k.0 s (omega (arith, k.1, past)) k.2 own
+]

@@ -65,11 +65,8 @@ impl LevelIndex {
         ensures room { KeepsCapacity self.old self.new }
         ensures numbers { KeepsNumbers arena.now self.old self.new }
     {
-        let mut rest = slots;
-        while !rest.is_empty() {
-            let (chunk, behind) = rest.split_at(rest.len().min(CHUNK));
+        for chunk in slots.chunks(CHUNK) {
             self.reclassify_chunk(arena, chunk, cluster_after);
-            rest = behind;
         }
     }
 

@@ -16,8 +16,8 @@ use bm_topo::Topology;
 
 impl LeveledBlocks {
     /// A node begins or ceases to drain: the blocks with a replica on its storages are
-    /// reclassified. All blocks and replicas stay. Takes no memory. Reads each storage of the
-    /// cluster, and the blocks on those of the node.
+    /// reclassified. All blocks and replicas stay. Takes no memory. Reads the blocks on the
+    /// storages of the node.
     pub fn set_draining(&mut self, topology: &Topology, node: NodeId, drains: bool)
         ensures arena { self.new.arena ≡ self.old.arena }
         ensures levels { AreLevels topology.now.cluster self.old
@@ -42,12 +42,8 @@ impl LevelIndex {
         ensures room { KeepsCapacity self.old self.new }
         ensures numbers { KeepsNumbers arena.now self.old self.new }
     {
-        for place in 0..cluster_after.topology.storage_count() {
-            if let Some(storage) = cluster_after.topology.storage_at(place) {
-                if cluster_after.topology.has_storage(node, storage) {
-                    self.reclassify_list(arena, storage, cluster_after);
-                }
-            }
+        for storage in cluster_after.topology.storages_of(node) {
+            self.reclassify_list(arena, *storage, cluster_after);
         }
     }
 

@@ -106,15 +106,11 @@ impl LeveledBlocks {
         let mut removed = 0;
         let mut four = FourStorages::one(StorageId(0));
         let mut count = 0usize;
-        for place in 0..cluster_after.topology.storage_count() {
-            if let Some(storage) = cluster_after.topology.storage_at(place) {
-                if cluster_after.topology.has_storage(node, storage) {
-                    four.push_next(storage, count == 0);
-                    count = (count + 1) % 4;
-                    if count == 0 {
-                        removed += self.clear_four(cluster_after, node, &four);
-                    }
-                }
+        for storage in cluster_after.topology.storages_of(node) {
+            four.push_next(*storage, count == 0);
+            count = (count + 1) % 4;
+            if count == 0 {
+                removed += self.clear_four(cluster_after, node, &four);
             }
         }
         if count > 0 {

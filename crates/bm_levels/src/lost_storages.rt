@@ -41,7 +41,7 @@ impl LeveledBlocks {
     /// Removes the replicas on all storages of a node, and their lists. Returns how many. `multi`
     /// is whether the alive nodes are on two racks or more without it. If that changes, all
     /// blocks are reclassified, else those that lose a replica. Unused entries are dropped. Takes
-    /// no memory. Reads each storage of the cluster, and takes one step for each of the replicas.
+    /// no memory. Takes one step for each of the replicas.
     pub fn forget_node(&mut self, topology: &Topology, node: NodeId, multi: bool) -> u128
         requires multi { multi
             ≡ replicas.is_multi_rack (events.without_node topology.now.cluster node) }
@@ -81,12 +81,9 @@ impl LeveledBlocks {
         ensures levels { KeepsLevelsAfter cluster_after.now self.old self.new }
     {
         let mut removed = self.clear_four_at_a_time(cluster_after, node);
-        for place in 0..cluster_after.topology.storage_count() {
-            if let Some(storage) = cluster_after.topology.storage_at(place) {
-                if cluster_after.topology.has_storage(node, storage) {
-                    removed += self.clear(cluster_after, storage) as u128;
-                }
-            }
+        for storage in cluster_after.topology.storages_of(node) {
+            let count = self.clear(cluster_after, *storage);
+            removed += count as u128;
         }
         removed
     }

@@ -46,7 +46,7 @@ impl LevelIndex {
         slot < self.unsettled.room() && self.unsettled.contains(slot)
     }
 
-    /// The slots at which a round has to look, in any order.
+    /// The slots that a round has to scan, in any order.
     pub fn unsettled_slots(&self) -> Walk<'_>
         ensures slots { result ≡ self.now.unsettled.slots }
         ensures once { Distinct result }

@@ -13,7 +13,7 @@ use Rattle.bm_lines.specs.Asking.{call_op}
 abbrev pub whole : ℕ → Data
 whole n = number (unsigned n)
 
--- an array of what each stands for
+-- the array of these values, each as data
 abbrev pub items_by : {A : Type 0} → (A → Data) → List A → Items
 items_by f [] = no_items
 items_by f (x ∷ xs) = item (f x) (items_by f xs)

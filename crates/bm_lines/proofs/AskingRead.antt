@@ -18,7 +18,7 @@ use Rattle.bm_lines.proofs.AskingData.{whole, items_by, remaining_data, run_item
 small : (n : ℕ) → n < 2 ^ 32 → below_32 n ≡ Some n
 small n h = rw (lt-ltb n (2 ^ 32) h) refl
 
--- what is read of each item of an array that was made of a list
+-- reading each item of an array made of a list gives the list again
 module _ {A : Type 0} (f : A → Data) (read : Data → Option A) (P : A → Type 0) (back : (x : A) → P x → read (in_order (f x)) ≡ Some x) where
   each_back : (xs : List A) → All P xs → each read (listed (items_in_order (items_by f xs))) ≡ Some xs
   each_back [] h = refl

@@ -36,7 +36,7 @@ text_of_entry : (e : Entry) → compact_text (entry_data e) ≡ entry_text e
 unfolding entry_text
 text_of_entry e = text_of_run _ e.from e.to e.stamp refl
 
--- a field and what stands behind it, where the name needs no escape
+-- a field and the fields after it, if its name needs no escape
 number_then : (name : List ℕ) (n : ℕ) (fields : List ℕ) (ms : Members) → escape name ≡ name → fields ≡ members_text true ms → number_text name n ++ fields ≡ members_text true (numbered name n ms)
 number_then name n fields ms plain same =
     rw (plain, ← same) (ap (λ l. 44 ∷ 34 ∷ l) (append_assoc name (34 ∷ 58 ∷ decimal n) fields ∙ sym (append_assoc name (34 ∷ []) (58 ∷ (decimal n ++ fields)))))
@@ -47,7 +47,7 @@ stamp_then stamp fields ms same =
     append_assoc (number_text (codes "gen") stamp.generation) (number_text (codes "len") stamp.len) fields
     ∙ number_then (codes "gen") stamp.generation _ (numbered (codes "len") stamp.len ms) refl (number_then (codes "len") stamp.len fields ms refl same)
 
--- the last field, where it is a list
+-- the last field, if it is a list
 list_last : {A : Type 0} (f : A → Data) (text : A → List ℕ) → ((x : A) → compact_text (f x) ≡ text x) → (name : List ℕ) (xs : List A) → escape name ≡ name
     → list_text name text xs ++ 125 ∷ [] ≡ members_text true (member name (array (items_by f xs)) no_members)
 unfolding list_text

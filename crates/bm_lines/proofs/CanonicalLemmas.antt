@@ -14,7 +14,7 @@ use Rattle.std.proofs.lemmas.Int.Digits.{digits_more, digits_value_more}
 use Rattle.std.proofs.lemmas.Bool.{eq-eqb, ne_eqb}
 use Rattle.std.proofs.lemmas.Fmt.{decimal-digits_value}
 
--- what a match says where there is a value
+-- if a match on an option holds, its case for a value holds of the value
 pub where_some : {A : Type 0} (N : Type 0) (P : A → Type 0) (r : Option A) → MatchOption r N P → IfSome r P
 where_some N P (Some x) h = h
 where_some N P None h = tt
@@ -31,7 +31,7 @@ pub value_step : (bytes : List ℕ) (count : ℕ) → count < length bytes → 4
     → digits_value 10 (take count bytes) * 10 + (get_or bytes count 0 - 48) ≡ digits_value 10 (take (count + 1) bytes)
 value_step bytes count less low high = omega (arith, digits_value_more 10 bytes count less, digit_below _ low high)
 
--- digits with no zero before them are what is written of their number
+-- digits without a leading zero are the decimal text of their number
 pub as_written : (bytes : List ℕ) (count number : ℕ) → number ≡ digits_value 10 (take count bytes) → AllDigits 10 (take count bytes) → count ≤ length bytes
     → number < 2 ^ 64 → count ≢ 0 → (get_or bytes 0 0 ≡ 48 → count ≡ 1) → bytes ≡ decimal number ++ take (length bytes - count) (drop count bytes)
 as_written bytes count number value h within fits some plain =
@@ -71,7 +71,7 @@ pub in_list : (fields name list body after rest : List ℕ) (before mark behind 
     → fields ≡ (before ++ (name ++ (mark ++ (body ++ behind)))) ++ rest
 in_list fields name list body after rest before mark behind a b c = rw (a, b, c) (simp append_assoc)
 
--- a whole line, by its op and what stands behind that
+-- a whole line, from its op and the fields after it
 pub asked_line : (line behind fields op : List ℕ) (o : Option Call) → line ≡ codes "{\"op\":\"" ++ behind → behind ≡ (op ++ codes "\"") ++ fields
     → IfSome o (λ k. Asks op fields k) → IfSome o (λ k. line ≡ line_text k)
 unfolding line_text

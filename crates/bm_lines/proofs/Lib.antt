@@ -1,3 +1,4 @@
+-- Lemmas on lines: reading a line, writing one, and reading it back.
 pub mod CallOfLemmas
 pub mod ListLemmas
 pub mod OpLemmas

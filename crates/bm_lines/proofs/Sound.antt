@@ -143,7 +143,7 @@ mutual
       let value = is_plain-append (compact_text d) (members_text true ms) (plain_text d h.1.0) (plain_members true ms h.1.1) in
       is_plain-append (comma_if later) (quoted k ++ 58 ∷ rest) (plain_comma later) (is_plain-append (quoted k) (58 ∷ rest) h.0 value)
 
--- what is read of a text, by what the grammar finds at its beginning
+-- the data read of a text, from what the grammar finds at its beginning
 abbrev whole : Option (json.Json × List Token) → Option Data
 whole found = option_and_then of_json (option_and_then (λ p. json.if_last p.0 p.1) found)
 

@@ -1,6 +1,6 @@
--- Texts put together.
+-- Concatenated texts.
 use Rattle.std.proofs.Common.{◌≡◌, ℕ, List, ◌++◌, append_assoc}
 
--- what is written before and behind a text goes round it
+-- a text is written in three parts: before, body and behind
 pub wrapped : (first second third old body before behind : List ℕ) → first ≡ old ++ before → second ≡ first ++ body → third ≡ second ++ behind → third ≡ old ++ (before ++ (body ++ behind))
 wrapped first second third old body before behind e f g = rw (g, f, e) (simp append_assoc)

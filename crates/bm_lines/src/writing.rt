@@ -25,9 +25,9 @@ pub fn has_op(call: &Call) -> bool
 pub fn line_of(alloc: Global, call: &Call) -> Result<String, AllocError>
     requires { has_op call.now ≡ true }
     ensures text { IfOk result (λ s. string_bytes s ≡ line_text call.now) }
-    // What is read of it is the call,
+    // The line is read as the call,
     ensures asks { IfOk result (λ s. call_of (string_bytes s) ≡ Some call.now) }
-    // and no line end is in it.
+    // and it contains no line end.
     ensures one_line { IfOk result (λ s. IsPart (string_bytes s)) }
 {
     let line = line_text(alloc, call)?;

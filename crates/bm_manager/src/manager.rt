@@ -22,7 +22,8 @@ use std::thread::Threads;
 /// ```text
 /// let mut manager = Manager::new(alloc, Config::standard())?;
 /// manager.apply(&rt, &NoGate, &Event::AddBlock { id: BlockId(7), stamp, repl: 2 })?;
-/// manager.apply(&rt, &NoGate, &Event::Received { storage: StorageId(11), id: BlockId(7), stamp })?;
+/// let received = Event::Received { storage: StorageId(11), id: BlockId(7), stamp };
+/// manager.apply(&rt, &NoGate, &received)?;
 /// let storages = manager.places(BlockId(7))?;
 /// let commands = manager.round(&rt, &NoGate)?;
 /// ```

@@ -21,42 +21,42 @@ less : (a b : ℕ) → T (is_lt (nat_cmp a b)) → a < b
 less a b h = less_by a b (nat_lt a b) (a == b) refl h
 
 -- what the order of two numbers implies
-abbrev By : ℕ → ℕ → Ordering → Type 0
-By a b Less = a ≤ b
-By a b Equal = a ≤ b
-By a b Greater = b < a
+abbrev OrderImplies : ℕ → ℕ → Ordering → Type 0
+OrderImplies a b Less = a ≤ b
+OrderImplies a b Equal = a ≤ b
+OrderImplies a b Greater = b < a
 
-by_two : (a b : ℕ) (lt eq : Bool) → nat_lt a b ≡ lt → (a == b) ≡ eq → By a b (cond lt Less (cond eq Equal Greater))
-by_two a b true eq is same = let lt = ltb-true a b is in omega (arith, lt)
-by_two a b false true is same = let tie = eqb-true a b same in omega (arith, tie)
-by_two a b false false is same = let gt : b < a = grind (arith, nat_tests, is, same) in gt
+order_implies_by_tests : (a b : ℕ) (lt eq : Bool) → nat_lt a b ≡ lt → (a == b) ≡ eq → OrderImplies a b (cond lt Less (cond eq Equal Greater))
+order_implies_by_tests a b true eq is same = let lt = ltb-true a b is in omega (arith, lt)
+order_implies_by_tests a b false true is same = let tie = eqb-true a b same in omega (arith, tie)
+order_implies_by_tests a b false false is same = let gt : b < a = grind (arith, nat_tests, is, same) in gt
 
-by : (a b : ℕ) → By a b (nat_cmp a b)
-by a b = by_two a b (nat_lt a b) (a == b) refl refl
+order_implies : (a b : ℕ) → OrderImplies a b (nat_cmp a b)
+order_implies a b = order_implies_by_tests a b (nat_lt a b) (a == b) refl refl
 
 greater : (a b : ℕ) → b < a → nat_cmp a b ≡ Greater
-greater a b lt = elim (nat_cmp a b) as (λ r. By a b r → r ≡ Greater) [
+greater a b lt = elim (nat_cmp a b) as (λ r. OrderImplies a b r → r ≡ Greater) [
   | Less ↦ λ le. absurd (omega (arith, le, lt))
   | Equal ↦ λ le. absurd (omega (arith, le, lt))
   | Greater ↦ λ gt. refl
-] (by a b)
+] (order_implies a b)
 
 module _ {X : Type 0} where
   pub place_upto : (k : ℕ) (e : ℕ × X) (es : List (ℕ × X)) → T (is_sorted nat_cmp (e ∷ es)) → place nat_cmp k (e ∷ es) ≤ k - e.0
   place_upto k e [] h =
-      elim (nat_cmp k e.0) as (λ r. By k e.0 r → distance_to r zero ≤ k - e.0) [
+      elim (nat_cmp k e.0) as (λ r. OrderImplies k e.0 r → distance_to r zero ≤ k - e.0) [
         | Less ↦ λ b. omega arith
         | Equal ↦ λ b. omega arith
         | Greater ↦ λ b. let lt : e.0 < k = b in omega (arith, lt)
-      ] (by k e.0)
+      ] (order_implies k e.0)
   place_upto k e (f ∷ fs) h =
       let rest : place nat_cmp k (f ∷ fs) ≤ k - f.0 = place_upto k f fs (second _ _ h) in
       let rise : e.0 < f.0 = less e.0 f.0 (first _ _ (first _ _ h)) in
-      elim (nat_cmp k e.0) as (λ r. By k e.0 r → distance_to r (place nat_cmp k (f ∷ fs)) ≤ k - e.0) [
+      elim (nat_cmp k e.0) as (λ r. OrderImplies k e.0 r → distance_to r (place nat_cmp k (f ∷ fs)) ≤ k - e.0) [
         | Less ↦ λ b. omega arith
         | Equal ↦ λ b. omega arith
         | Greater ↦ λ b. let lt : e.0 < k = b in omega (arith, lt, rest, rise)
-      ] (by k e.0)
+      ] (order_implies k e.0)
 
   spread : (e : ℕ × X) (es : List (ℕ × X)) (d : ℕ × X) → T (is_sorted nat_cmp (e ∷ es)) → length es + e.0 ≤ (get_or (e ∷ es) (length es) d).0
   spread e [] d h = omega arith
@@ -71,11 +71,11 @@ module _ {X : Type 0} where
   place_from k e (f ∷ fs) d h le =
       let rest : length fs ≤ place nat_cmp k (f ∷ fs) + ((get_or (f ∷ fs) (length fs) d).0 - k) = place_from k f fs d (second _ _ h) le in
       let wide : suc (length fs) + e.0 ≤ (get_or (f ∷ fs) (length fs) d).0 = spread e (f ∷ fs) d h in
-      elim (nat_cmp k e.0) as (λ r. By k e.0 r → suc (length fs) ≤ distance_to r (place nat_cmp k (f ∷ fs)) + ((get_or (f ∷ fs) (length fs) d).0 - k)) [
+      elim (nat_cmp k e.0) as (λ r. OrderImplies k e.0 r → suc (length fs) ≤ distance_to r (place nat_cmp k (f ∷ fs)) + ((get_or (f ∷ fs) (length fs) d).0 - k)) [
         | Less ↦ λ b. let le : k ≤ e.0 = b in omega (arith, le, wide)
         | Equal ↦ λ b. let le : k ≤ e.0 = b in omega (arith, le, wide)
         | Greater ↦ λ b. omega (arith, rest)
-      ] (by k e.0)
+      ] (order_implies k e.0)
 
   -- the same for reads of the first and of the last entry
   pub upto_read : (k : ℕ) (es : List (ℕ × X)) (d : ℕ × X) → T (is_sorted nat_cmp es) → 0 < length es → place nat_cmp k es ≤ k - (get_or es 0 d).0
@@ -100,4 +100,4 @@ module _ {X : Type 0} where
 
   pub before_read : (k : ℕ) (es : List (ℕ × X)) (i : ℕ) (d : ℕ × X) → i + 1 ≡ length es → k ≤ (get_or es i d).0 → place nat_cmp k es ≤ i
   before_read k es i d last le =
-      place_before nat_cmp nat_cmp_total k es i d (omega (arith, last)) (λ gt. let lt : (get_or es i d).0 < k = subst (By k (get_or es i d).0) gt (by k (get_or es i d).0) in omega (arith, lt, le))
+      place_before nat_cmp nat_cmp_total k es i d (omega (arith, last)) (λ gt. let lt : (get_or es i d).0 < k = subst (OrderImplies k (get_or es i d).0) gt (order_implies k (get_or es i d).0) in omega (arith, lt, le))

@@ -1,3 +1,4 @@
+-- Lemmas on the maps: binary search, changes of sorted vectors, capacity and lists of slots.
 pub mod SortedLaws
 pub mod ReplaceLaws
 pub mod PutLaws

@@ -1,4 +1,4 @@
-//! Sorted maps and links between slots.
+//! Sorted maps, links between slots, and vectors of a fixed capacity.
 #![tactic(auto)]
 
 mod number_map;
@@ -7,6 +7,7 @@ mod replica_map;
 mod slot_link;
 pub mod sorted;
 
+pub use arrayvec::ArrayVec;
 pub use number_map::NumberMap;
 pub use replica_map::ReplicaMap;
 pub use slot_link::{END_OF_LINKS, NO_LINK, SlotLink, fits_link};

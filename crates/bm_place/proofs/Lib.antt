@@ -1,3 +1,4 @@
+-- Lemmas on placement: scans that end at the least, best targets, and excess.
 pub mod Tables
 pub mod Least
 pub mod Classes
@@ -7,7 +8,6 @@ pub mod SameNodeTargets
 pub mod ScanStart
 pub mod TableInvariant
 pub mod ListIndices
-pub mod NodeStorages
 pub mod UpdatedTargets
 pub mod BestTargetScan
 pub mod TargetWalk

@@ -1,9 +1,12 @@
 -- Elements of a list and their indices.
-use Rattle.std.specs.Prelude.{slice_get}
+use Rattle.std.specs.Prelude.{◌==◌, ◌||◌, filter_map, slice_get}
+use Rattle.std.specs.List.{cons_option}
 use Rattle.std.specs.List.Sorted.{IsPermutation}
-use Rattle.std.proofs.Common.{◌≡◌, ◌≤◌, ◌<◌, ◌-◌, ℕ, zero, suc, List, [], ◌∷◌, take, drop, get_or, Some, inl, inr, sym, ap, ◌∙◌, arith}
+use Rattle.std.proofs.Common.{◌≡◌, ℕ, zero, suc, Bool, true, false, List, [], ◌∷◌, get_or, Option, Some, None, refl, inl, inr, sym, ap, subst, ◌∙◌}
+use Rattle.std.proofs.lemmas.Bool.{eqb-true}
 use Rattle.std.proofs.lemmas.List.Sorted.{Contains-permutation}
 use Rattle.std.proofs.lemmas.Option.{same_Some, slice_get-get_or, slice_get_within}
+use Rattle.bm_base.specs.Maps.Lists.{has}
 use Rattle.bm_place.specs.BestTargets.{IsMember}
 
 pub place_among : {X : Type 0} (xs : List X) (x : X) → IsMember xs x → (i : ℕ) × (slice_get xs i ≡ Some x)
@@ -24,14 +27,32 @@ moved_among xs ys x moved there =
     let q = Contains-permutation xs ys x moved (p.0, within, at) in
     among_place ys q.0 x (slice_get-get_or ys q.0 x q.1 ∙ ap Some q.2)
 
-pub among_take : {X : Type 0} (xs : List X) (n k : ℕ) (x : X) → slice_get xs k ≡ Some x → k < n → IsMember (take n xs) x
-among_take [] n k x is less = cc
-among_take (y ∷ xs) zero k x is less = absurd (omega arith)
-among_take (y ∷ xs) (suc n) zero x is less = inl (same_Some y x is)
-among_take (y ∷ xs) (suc n) (suc k) x is less = inr (among_take xs n k x is (omega arith))
+-- The images of some elements.
 
-pub at_drop : {X : Type 0} (xs : List X) (n i : ℕ) (x : X) → slice_get xs i ≡ Some x → n ≤ i → slice_get (drop n xs) (i - n) ≡ Some x
-at_drop xs zero i x is more = let same : i - 0 ≡ i = omega arith in ap (slice_get xs) same ∙ is
-at_drop [] (suc n) i x is more = cc
-at_drop (y ∷ xs) (suc n) zero x is more = absurd (omega arith)
-at_drop (y ∷ xs) (suc n) (suc i) x is more = let same : suc i - suc n ≡ i - n = omega arith in ap (slice_get (drop n xs)) same ∙ at_drop xs n i x is (omega arith)
+module _ {X Y : Type 0} (f : X → Option Y) where
+  pub made_among : (xs : List X) (x : X) (y : Y) → IsMember xs x → f x ≡ Some y → IsMember (filter_map f xs) y
+  made_among [] x y none is = absurd none
+  made_among (z ∷ xs) x y (inl e) is = subst (λ o. IsMember (cons_option o (filter_map f xs)) y) (sym (ap f e ∙ is)) (inl refl)
+  made_among (z ∷ xs) x y (inr there) is = by (f z) (made_among xs x y there is)
+    where
+      by : (o : Option Y) → IsMember (filter_map f xs) y → IsMember (cons_option o (filter_map f xs)) y
+      by None h = h
+      by (Some w) h = inr h
+
+  pub of_made : (xs : List X) (y : Y) → IsMember (filter_map f xs) y → (x : X) × (f x ≡ Some y)
+  of_made [] y none = absurd none
+  of_made (x ∷ xs) y there = by (f x) refl there (λ h. of_made xs y h)
+    where
+      by : (o : Option Y) → f x ≡ o → IsMember (cons_option o (filter_map f xs)) y → (IsMember (filter_map f xs) y → (x : X) × (f x ≡ Some y)) → (x : X) × (f x ≡ Some y)
+      by None is h rest = rest h
+      by (Some z) is (inl e) rest = (x, is ∙ ap Some e)
+      by (Some z) is (inr h) rest = rest h
+
+-- a number of a list is among it
+pub has_among : (xs : List ℕ) (x : ℕ) → has xs x ≡ true → IsMember xs x
+has_among [] x e = cc
+has_among (y ∷ xs) x e = by (y == x) refl e (λ h. has_among xs x h)
+  where
+    by : (b : Bool) → (y == x) ≡ b → (b || has xs x) ≡ true → (has xs x ≡ true → IsMember xs x) → IsMember (y ∷ xs) x
+    by true same _ rest = inl (eqb-true y x same)
+    by false _ later rest = inr (rest later)

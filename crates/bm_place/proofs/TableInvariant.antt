@@ -1,22 +1,22 @@
 -- A new table of storages and its best targets meets the invariant.
-use Rattle.std.specs.Prelude.{◌⊎◌, option_map, option_and_then}
-use Rattle.std.specs.List.Sorted.{IsPermutation}
+use Rattle.std.specs.Prelude.{◌⊎◌, ◌==◌, option_map, option_and_then}
 use Rattle.std.specs.Option.{option_map_or}
 use Rattle.std.specs.Ordering.{eq_by_cmp, nat_cmp}
 use Rattle.std.specs.FinMap.{find, is_sorted}
 use Rattle.std.specs.FinMap.Entries.{below_all}
 use Rattle.std.proofs.Common.{◌≡◌, ◌≤◌, ℕ, Bool, true, false, cond, List, [], ◌∷◌, map, Option, Some, None, is_some, refl, inl, inr, sym, ap, subst, ◌∙◌, T, arith}
+use Rattle.std.proofs.lemmas.Bool.{eq-eqb}
 use Rattle.std.proofs.lemmas.List.Sorted.{IsPermutation-sym}
 use Rattle.std.proofs.lemmas.Option.{same_Some, cond_some, none-some}
 use Rattle.bm_base.specs.Maps.Conjunction.{first, second}
-use Rattle.bm_base.specs.Words.{has, Map, by_number, empty, get, entries, keys, Cluster, node_of, rack_of, is_draining, drains}
+use Rattle.bm_base.specs.Words.{has, Map, by_number, empty, get, entries, keys, Cluster, has_storage, node_of, rack_of, is_draining, drains}
 use Rattle.bm_base.specs.declared.storage.StorageInfo.{StorageInfo}
 use Rattle.bm_base.proofs.ForEach.{Each, each_then}
 use Rattle.bm_base.proofs.MapEntries.{each_entry, each_found, key_itself}
 use Rattle.bm_base.proofs.MapLaws.{find_below}
 use Rattle.bm_place.specs.declared.scheduled_bytes.TargetRow.{TargetRow}
 use Rattle.bm_place.specs.Targets.{target_at, target_table}
-use Rattle.bm_place.specs.BestTargets.{IsMember, AreBestTargets, IsKept, CanReplace, are_of_one_node, with_firsts, best_by_node, AreBestInOrder}
+use Rattle.bm_place.specs.BestTargets.{AreOf, IsMember, AreBestTargets, IsKept, CanReplace, are_of_one_node, with_firsts, AreBestInOrder}
 use Rattle.bm_place.proofs.Tables.{get-table, has-keys}
 use Rattle.bm_place.proofs.SameNodeTargets.{IsLike, like, alike}
 use Rattle.bm_place.proofs.BestTargets.{AreFirst, covered}
@@ -27,11 +27,6 @@ pub among_mapped : {X Y : Type 0} (f : X → Y) (xs : List X) (y : Y) → IsMemb
 among_mapped f [] y none = absurd none
 among_mapped f (x ∷ xs) y (inl e) = (x, inl refl, e)
 among_mapped f (x ∷ xs) y (inr there) = let h = among_mapped f xs y there in (h.0, inr h.1, h.2)
-
-pub among_map : {X Y : Type 0} (f : X → Y) (xs : List X) (x : X) → IsMember xs x → IsMember (map f xs) (f x)
-among_map f [] x none = absurd none
-among_map f (y ∷ xs) x (inl e) = inl (ap f e)
-among_map f (y ∷ xs) x (inr there) = inr (among_map f xs x there)
 
 each_among : {X : Type 0} (P : X → Type 0) (xs : List X) (x : X) → Each P xs → IsMember xs x → P x
 each_among P [] x h none = absurd none
@@ -166,3 +161,10 @@ kept_made C rows cs made are =
         let b = (row t.storage t (among_rows rows at_storage t there_t)).0 in
         (λ i. are_of_one_node (sym a i) (sym b i))
         ∙ alike (target_at C (λ _. 0) s.storage) (target_at C (λ _. 0) t.storage) (alike_on C s.storage t.storage (ap (λ (t : TargetRow). t.node) a ∙ same ∙ ap (λ (t : TargetRow). t.node) (sym b)))
+
+pub of_cluster_made : (C : Cluster) (rows : Map by_number TargetRow) → rows ≡ target_table C (λ _. 0) → AreOf C rows
+unfolding has_storage
+of_cluster_made C rows made s t is =
+    let r = row_made C s t (ap (λ m. get m s) (sym made) ∙ is) in
+    let n = on_node C s r.1 in
+    (n.0, ap (λ (u : TargetRow). u.node) (sym r.0) ∙ n.1, ap (λ o. option_map_or (λ m. m == n.0) o false) n.1 ∙ eq-eqb n.0 n.0 refl)

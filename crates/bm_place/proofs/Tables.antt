@@ -1,6 +1,6 @@
 -- Entries of a table, and the effect of a change of a count.
 use Rattle.std.specs.Prelude.{unwrap_or, option_map}
-use Rattle.std.proofs.Common.{◌≡◌, ◌≤◌, ℕ, ◌+◌, suc, zero, Bool, true, false, cond, ◌&&◌, ◌||◌, List, [], ◌∷◌, map, drop, Option, Some, None, is_some, refl, sym, ap, ◌∙◌, arith}
+use Rattle.std.proofs.Common.{◌≡◌, ◌≤◌, ℕ, ◌+◌, suc, zero, Bool, true, false, cond, ◌||◌, List, [], ◌∷◌, map, drop, Option, Some, None, is_some, refl, sym, ap, ◌∙◌, arith}
 use Rattle.std.specs.Prelude.{◌==◌, slice_get}
 use Rattle.std.specs.Ordering.{nat_cmp, eq_by_cmp}
 use Rattle.std.specs.FinMap.{find}
@@ -8,9 +8,10 @@ use Rattle.std.proofs.lemmas.Bool.{eqb-true}
 use Rattle.std.proofs.lemmas.List.{length-map}
 use Rattle.std.proofs.lemmas.Option.{slice_get_past}
 use Rattle.std.proofs.lemmas.Bool.Decides.{nat_tests}
-use Rattle.bm_base.specs.Words.{has, Map, by_number, empty, entries, get, insert, insert_all, keys, len, revise_at, contains_key}
+use Rattle.bm_base.specs.Words.{has, Map, by_number, empty, entries, get, insert, insert_all, keys, len, revise_at, contains_key, Cluster, node_of, node_number}
 use Rattle.bm_base.proofs.MapLaws.{same_map, get-insert, get-empty, get-revise}
 use Rattle.bm_base.proofs.Ties.{number_tie}
+use Rattle.bm_base.specs.declared.storage.StorageInfo.{StorageInfo}
 use Rattle.bm_place.specs.Tables.{listed, table, count_at}
 
 pub equal_back : (q k : ℕ) (b : Bool) → (q == k) ≡ b → (k == q) ≡ b
@@ -60,6 +61,15 @@ has-bare (e ∷ es) q =
 pub has-keys : {Y : Type 0} (m : Map by_number Y) (q : ℕ) → has (keys m) q ≡ contains_key m q
 unfolding keys entries get
 has-keys m q = has-bare m.list q
+
+-- the node of a storage, as a table of the nodes has it
+pub node_table : (C : Cluster) (s : ℕ) → get (table (node_number C) (keys C.storages)) s ≡ node_of C s
+unfolding node_number node_of
+node_table C s = get-table (node_number C) (keys C.storages) s ∙ ap (λ b. cond b (Some (node_number C s)) None) (has-keys C.storages s) ∙ by (get C.storages s)
+  where
+    by : (o : Option StorageInfo) → cond (is_some o) (Some (unwrap_or (option_map (λ (i : StorageInfo). i.node) o) 0)) None ≡ option_map (λ (i : StorageInfo). i.node) o
+    by None = refl
+    by (Some i) = refl
 
 -- Counts.
 

@@ -6,20 +6,18 @@ use Rattle.std.proofs.Common.{◌≡◌, ◌≤◌, ℕ, Bool, true, false, cond
 use Rattle.std.proofs.lemmas.Bool.{eqb-true}
 use Rattle.std.proofs.lemmas.List.Quantifiers.{position-Some}
 use Rattle.std.proofs.lemmas.Option.{same_Some, none-some, slice_get-get_or, slice_get_within}
-use Rattle.bm_base.specs.Maps.Map.{Map, by_number, get, revise_at}
+use Rattle.bm_base.specs.Words.{Map, by_number, get, revise_at, has, has_storage, Cluster}
 use Rattle.bm_base.proofs.MapLaws.{get-revise}
 use Rattle.bm_base.proofs.MapEntries.{get_revised}
 use Rattle.bm_base.proofs.Ties.{number_tie}
 use Rattle.bm_maps.proofs.ReplaceLaws.{no_change}
 use Rattle.bm_place.specs.declared.scheduled_bytes.TargetRow.{TargetRow}
-use Rattle.bm_place.specs.declared.node_storages.NodeStorage.{NodeStorage}
 use Rattle.bm_place.specs.Targets.{free_bytes_on}
-use Rattle.bm_place.specs.NodeStorages.{node_storage_of, HaveNodeStorages}
 use Rattle.bm_place.specs.Scan.{scan}
-use Rattle.bm_place.specs.BestTargets.{IsMember, IsKept, CanReplace, are_of_one_node, is_better_than, cmp_of_one_node, reposition}
+use Rattle.bm_place.specs.BestTargets.{AreOf, IsMember, IsKept, CanReplace, are_of_one_node, is_better_than, cmp_of_one_node, reposition}
 use Rattle.bm_place.proofs.SameNodeTargets.{IsLike, like, alike, like_back, like_then, like_itself, less_room, ranks}
 use Rattle.bm_place.proofs.ScanStart.{found}
-use Rattle.bm_place.proofs.NodeStorages.{made_among, of_made}
+use Rattle.bm_place.proofs.ListIndices.{made_among, of_made, has_among}
 use Rattle.bm_place.proofs.NonePasses.{none_passes}
 use Rattle.bm_place.proofs.SortedTargets.{without, among_put, put_among, of_without, here_or_without, among_at, apart_without, only_alike, put_in_order}
 
@@ -181,42 +179,41 @@ module _ (rows : Map by_number TargetRow) (target len : ℕ) where
             };
       }
 
-  -- the storages keep their seats
-  pub seated_added : (seats : List NodeStorage) → HaveNodeStorages rows seats → HaveNodeStorages added seats
-  seated_added seats seated s t is = let h = row_before s t is in subst (λ t. IsMember seats (node_storage_of t)) h.2 (by (s == target) h.0 (seated s h.0 h.1))
-    where
-      by : (b : Bool) (x : TargetRow) → IsMember seats (node_storage_of x) → IsMember seats (node_storage_of (cond b (sent_more len x) x))
-      by true x h = h
-      by false x h = h
+  -- each row is of its storage of the cluster still
+  pub still_of : (C : Cluster) → AreOf C rows → AreOf C added
+  still_of C placed s t is =
+      let h = row_before s t is in
+      let n = placed s h.0 h.1 in
+      (n.0, ap (λ (u : TargetRow). u.node) (sym h.2) ∙ (like_before (s == target) h.0).node ∙ n.1, n.2)
 
 -- the same for equal lists, if the best target is found among the storages of the node
-pub kept_renewed : (old new : Map by_number TargetRow) (target len : ℕ) (cs ds : List TargetRow) (seats near : List NodeStorage) (row best : TargetRow) (place : ℕ) → IsKept old cs → IfSome (get old target) (λ t. len + t.scheduled ≤ t.remaining)
-    → new ≡ revise_at old target (sent_more len) → get new target ≡ Some row → position (λ c. c.storage == target) cs ≡ Some place → HaveNodeStorages new seats → ((e : NodeStorage) → IsMember seats e → e.node ≡ row.node → IsMember near e)
-    → scan cmp_of_one_node (λ c. are_of_one_node c row) (Some row) (filter_map (λ e. get new e.storage) near) ≡ Some best → ds ≡ reposition best place cs → IsKept new ds
-kept_renewed old new target len cs ds seats near row best place kept fits made there placed seated nearby is put =
+pub kept_renewed : (C : Cluster) (old new : Map by_number TargetRow) (target len : ℕ) (cs ds : List TargetRow) (near : List ℕ) (row best : TargetRow) (place : ℕ) → IsKept old cs → IfSome (get old target) (λ t. len + t.scheduled ≤ t.remaining)
+    → new ≡ revise_at old target (sent_more len) → get new target ≡ Some row → position (λ c. c.storage == target) cs ≡ Some place → AreOf C new → ((n s : ℕ) → row.node ≡ Some n → has near s ≡ has_storage C n s)
+    → scan cmp_of_one_node (λ c. are_of_one_node c row) (Some row) (filter_map (λ s. get new s) near) ≡ Some best → ds ≡ reposition best place cs → IsKept new ds
+kept_renewed C old new target len cs ds near row best place kept fits made there placed of_cluster nearby is put =
     let p = position-Some (λ (c : TargetRow). c.storage == target) cs place row placed in
     let c = get_or cs place row in
     subst (λ m. IsKept m ds) (sym made)
-    (subst (IsKept (added old target len)) (sym put) (kept_added old target len cs kept fits place row c best (ap (λ m. get m target) (sym made) ∙ there) (slice_get-get_or cs place row p.0) (eqb-true c.storage target p.1) ts part all (ap (λ m. scan cmp_of_one_node (λ c. are_of_one_node c row) (Some row) (filter_map (λ (e : NodeStorage). get m e.storage) near)) (sym made) ∙ is)))
+    (subst (IsKept (added old target len)) (sym put) (kept_added old target len cs kept fits place row c best (ap (λ m. get m target) (sym made) ∙ there) (slice_get-get_or cs place row p.0) (eqb-true c.storage target p.1) ts part all (ap (λ m. scan cmp_of_one_node (λ c. are_of_one_node c row) (Some row) (filter_map (λ s. get m s) near)) (sym made) ∙ is)))
   where
     rows : Map by_number TargetRow
     rows = added old target len
 
     ts : List TargetRow
-    ts = filter_map (λ (e : NodeStorage). get rows e.storage) near
+    ts = filter_map (λ s. get rows s) near
 
     stands_at : (s : ℕ) (t : TargetRow) → get rows s ≡ Some t → t.storage ≡ s
     stands_at s t e = at_storage old target len cs kept fits s t e
 
     part : (t : TargetRow) → IsMember ts t → get rows t.storage ≡ Some t
     part t h =
-        let e = of_made (λ (e : NodeStorage). get rows e.storage) near t h in
-        ap (get rows) (stands_at e.0.storage t e.1) ∙ e.1
+        let e = of_made (λ s. get rows s) near t h in
+        ap (get rows) (stands_at e.0 t e.1) ∙ e.1
 
     all : (s : ℕ) (t : TargetRow) → get rows s ≡ Some t → are_of_one_node t row ≡ true → IsMember ts t
     all s t e same =
-        let seat = subst (λ m. HaveNodeStorages m seats) made seated s t e in
-        made_among (λ (e : NodeStorage). get rows e.storage) near (node_storage_of t) t (nearby (node_storage_of t) seat (like t row same).node) (ap (get rows) (stands_at s t e) ∙ e)
+        let n = of_cluster s t (ap (λ m. get m s) made ∙ e) in
+        made_among (λ s. get rows s) near s t (has_among near s (nearby n.0 s (sym (like t row same).node ∙ n.1) ∙ n.2)) e
 
 -- if the target is not among the best ones, or is unknown
 pub kept_same : (old new : Map by_number TargetRow) (target len : ℕ) (cs : List TargetRow) → IsKept old cs → IfSome (get old target) (λ t. len + t.scheduled ≤ t.remaining) → new ≡ revise_at old target (sent_more len)

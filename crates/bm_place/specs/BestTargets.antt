@@ -5,7 +5,7 @@ use Rattle.std.specs.Ordering.{nat_cmp, ordering_then, is_lt}
 use Rattle.std.specs.Bool.{beq}
 use Rattle.std.specs.List.Sorted.{IsPermutation, IsSorted}
 use Rattle.std.specs.Option.{option_eq, option_map_or}
-use Rattle.bm_base.specs.Maps.Map.{Map, by_number, empty, entries, get, insert, values}
+use Rattle.bm_base.specs.Words.{Map, by_number, empty, entries, get, insert, values, Cluster, has_storage}
 use Rattle.bm_place.specs.declared.scheduled_bytes.TargetRow.{TargetRow}
 use Rattle.bm_place.specs.Targets.{free_bytes_on}
 
@@ -99,3 +99,12 @@ pub record IsKept (rows : Map by_number TargetRow) (cs : List TargetRow) : Type 
   pub at_storage : (s : ℕ) (t : TargetRow) → get rows s ≡ Some t → t.storage ≡ s
   pub within : (s : ℕ) (t : TargetRow) → get rows s ≡ Some t → t.scheduled ≤ t.remaining
   pub best_targets : AreBestTargets rows cs
+
+-- each row is of a storage of the cluster, and names its node
+abbrev pub AreOf : Cluster → Map by_number TargetRow → Type 0
+AreOf C rows = (s : ℕ) (t : TargetRow) → get rows s ≡ Some t → (n : ℕ) × (t.node ≡ Some n) × (has_storage C n s ≡ true)
+
+-- What is true of a table of the storages of a cluster, and its foremost targets.
+pub record IsIndexed (C : Cluster) (rows : Map by_number TargetRow) (cs : List TargetRow) : Type 0 where
+  pub kept : IsKept rows cs
+  pub of_cluster : AreOf C rows

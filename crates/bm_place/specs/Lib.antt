@@ -11,5 +11,4 @@ pub mod ReplicaSpread
 pub mod Candidates
 pub mod Comparison
 pub mod BestTargets
-pub mod NodeStorages
 pub mod SortedExcess

@@ -6,7 +6,6 @@ ghost use Rattle.bm_place.specs.BestTargets as nodes;
 ghost use Rattle.bm_place.specs.Scan as scanned;
 ghost use Rattle.bm_place.specs.Targets as targets;
 
-use crate::node_storages::NodeStorage;
 use crate::scheduled_bytes::TargetRow;
 use bm_base::StorageId;
 use bm_maps::NumberMap;
@@ -80,17 +79,13 @@ fn sort_targets(targets: &mut Vec<TargetRow>)
 }
 
 /// The best of a target and the rows of some storages of its node. Looks up each storage once.
-pub fn best_on_node(
-    target: TargetRow,
-    rows: &NumberMap<TargetRow>,
-    near: &[NodeStorage],
-) -> TargetRow
+pub fn best_on_node(target: TargetRow, rows: &NumberMap<TargetRow>, near: &[StorageId]) -> TargetRow
     ensures { scanned.scan nodes.cmp_of_one_node (λ c. nodes.are_of_one_node c target) (Some target)
-        (filter_map (λ e. table.get rows.now.map e.storage) near.now) ≡ Some result }
+        (filter_map (λ s. table.get rows.now.map s) near.now) ≡ Some result }
 {
     let mut best = target;
-    for seat in near {
-        best = better_of(&best, &target, rows.get(u64::from(seat.storage.0)));
+    for storage in near {
+        best = better_of(&best, &target, rows.get(u64::from(storage.0)));
     }
     best
 }

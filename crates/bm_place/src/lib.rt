@@ -10,7 +10,6 @@
 mod best_targets;
 mod comparison;
 mod excess;
-mod node_storages;
 mod replica_spread;
 mod scheduled_bytes;
 mod sorted_excess;

@@ -1,20 +1,19 @@
 // The bytes scheduled to each storage in a round.
-ghost use Rattle.std.specs.Prelude.{◌≡◌, ◌≤◌, ◌+◌, ◌==◌, false, if◌then◌else◌, ℕ, List, [], ◌∷◌, ◌++◌, IfOk, IfErr};
+ghost use Rattle.std.specs.Prelude.{◌≡◌, ◌≤◌, ◌+◌, ◌==◌, if◌then◌else◌, ℕ, List, [], ◌∷◌, ◌++◌, Some, IfOk, IfErr};
 ghost use Rattle.std.specs.Option.{IfSome};
 ghost use Rattle.bm_base.specs.declared.refusal.Refusal.TheVariants.{Memory};
 ghost use Rattle.bm_base.specs.declared.commands.Transfer.{Transfer};
-ghost use Rattle.bm_base.specs.Machine.State.{Cluster};
+ghost use Rattle.bm_base.specs.Words.{Cluster, has_storage};
 ghost use Rattle.bm_base.specs.Maps.Map as map;
 ghost use Rattle.bm_base.specs.Machine.Transfers as transfers;
 ghost use Rattle.bm_place.specs.Tables.{none_sent};
 ghost use Rattle.bm_place.specs.Targets as targets;
 ghost use Rattle.bm_place.specs.Found.{HasFreeBytesFor, with_sent, targets_with};
-ghost use Rattle.bm_place.specs.BestTargets.{AreBestTargets, IsKept};
-ghost use Rattle.bm_place.specs.NodeStorages.{HaveNodeStorages, AreByNode};
+ghost use Rattle.bm_base.specs.Maps.Lists as lists;
+ghost use Rattle.bm_place.specs.BestTargets.{AreBestTargets, IsKept, AreOf};
 ghost use Rattle.bm_place.specs.declared.scheduled_bytes.TargetRow.{TargetRow};
 
 use crate::best_targets::{best_of_each_node, best_on_node, index_of_storage, reposition};
-use crate::node_storages::{NodeStorage, node_storages_of, storages_near_node};
 use bm_base::{NodeId, Rack, Refusal, StorageId};
 use bm_maps::NumberMap;
 use bm_topo::Topology;
@@ -35,22 +34,21 @@ pub struct TargetRow {
 
 /// The bytes scheduled to each storage in a round, with the storage's node and rack.
 ///
-/// Made once for a round: it has the cluster as it was then, and no transfers of earlier rounds. A
-/// contract sees a table with a row for each storage: the storage, its node and rack, whether the
-/// node drains, its remaining bytes and the bytes scheduled to it. It also keeps the best target of
-/// each node, so that a choice need not scan all rows.
+/// Made once for a round of this cluster: it has no transfers of earlier rounds. A contract sees a
+/// table with a row for each storage: the storage, its node and rack, whether the node drains, its
+/// remaining bytes and the bytes scheduled to it. It also keeps the best target of each node, so
+/// that a choice need not scan all rows.
 #[derive(Drop)]
-pub struct Scheduled {
+pub struct Scheduled<'a> {
+    topology: &'a Topology,
     pub(crate) rows: NumberMap<TargetRow>,
     /// The best storage of each node: the one with most free bytes, and of these the least. No
     /// other is the target of a copy. They are sorted by the same order, so the first eligible one
     /// is the target.
     best_targets: Vec<TargetRow>,
-    /// All storages, sorted by their nodes.
-    seats: Vec<NodeStorage>,
 }
 
-impl Model for Scheduled {
+impl<'a> Model for Scheduled<'a> {
     ghost use Rattle.std.specs.Coded.{coded_ℕ};
     ghost use Rattle.bm_base.specs.Maps.Map.{Map, by_number};
     ghost use Rattle.bm_base.specs.Maps.MapCode.{code};
@@ -63,29 +61,27 @@ impl Model for Scheduled {
 
     ghost view = { λ s. s.rows.map };
 
-    ghost use Rattle.bm_place.specs.NodeStorages.{IsIndexed};
+    ghost use Rattle.bm_place.specs.BestTargets.{IsIndexed};
 
-    ghost invariant = { λ s. IsIndexed s.rows.map s.best_targets.items s.seats.items };
+    ghost invariant = { λ s. IsIndexed s.topology.now.cluster s.rows.map s.best_targets.items };
 }
 
-impl Scheduled {
+impl<'a> Scheduled<'a> {
     /// Nothing is scheduled yet to any storage of the cluster. `Memory` if a table cannot grow.
-    /// Iterates over the storages of the cluster once, with a few look-ups each, and sorts them by
-    /// their nodes, and one of each node by free bytes.
-    pub fn new(alloc: Global, topology: &Topology) -> Result<Scheduled, Refusal>
+    /// Iterates over the storages of the cluster once, with a few look-ups each, and sorts one of
+    /// each node by free bytes.
+    pub fn new(alloc: Global, topology: &'a Topology) -> Result<Scheduled<'a>, Refusal>
         ensures none_yet { IfOk result
             (λ t. t ≡ targets.target_table topology.now.cluster none_sent) }
         ensures of_transfers { IfOk result (λ t. t ≡ targets_with topology.now.cluster []) }
         ensures refused { IfErr result (λ e. e ≡ Memory) }
     {
         let rows = rows_of(alloc, topology)?;
-        let listed = rows.entries();
-        let best_targets = best_of_each_node(alloc, listed)?;
-        let seats = node_storages_of(alloc, listed)?;
+        let best_targets = best_of_each_node(alloc, rows.entries())?;
         Ok(Scheduled {
+            topology,
             rows,
             best_targets,
-            seats,
         })
     }
 
@@ -103,7 +99,7 @@ impl Scheduled {
             → self.old ≡ targets_with C chosen → self.new ≡ targets_with C (chosen ++ t ∷ []) }
     {
         add_to(&mut self.rows, target, len);
-        update_best(&mut self.best_targets, &self.rows, &self.seats, target);
+        update_best(&mut self.best_targets, &self.rows, self.topology, target);
     }
 
     /// The best storage of each node: the one with most free bytes, and of these the least. Sorted
@@ -147,22 +143,32 @@ fn add_to(rows: &mut NumberMap<TargetRow>, target: StorageId, len: u64)
 fn update_best(
     best_targets: &mut Vec<TargetRow>,
     rows: &NumberMap<TargetRow>,
-    seats: &[NodeStorage],
+    topology: &Topology,
     target: StorageId,
 )
     ensures { (old : map.Map map.by_number TargetRow) (len : ℕ)
         → IsKept old best_targets.old.items → HasFreeBytesFor old len target
         → rows.now.map ≡ with_sent old target len
-        → HaveNodeStorages rows.now.map seats.now → AreByNode seats.now
+        → AreOf topology.now.cluster rows.now.map
         → IsKept rows.now.map best_targets.new.items }
 {
     let Some(place) = index_of_storage(best_targets, target) else {
         return;
     };
     if let Some(row) = rows.get(u64::from(target.0)) {
-        let near = storages_near_node(seats, row.node);
-        let best = best_on_node(row, rows, near);
+        let best = best_on_node(row, rows, storages_near(row.node, topology));
         reposition(best_targets, place, &best);
+    }
+}
+
+/// The storages of a node, if there is one.
+fn storages_near(node: Option<NodeId>, topology: &Topology) -> &[StorageId]
+    ensures { (n s : ℕ) → node ≡ Some n
+        → lists.has result.now s ≡ has_storage topology.now.cluster n s }
+{
+    match node {
+        Some(node) => topology.storages_of(node),
+        None => &[],
     }
 }
 

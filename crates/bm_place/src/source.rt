@@ -35,7 +35,7 @@ pub fn least_source(
     usable: &[StorageId],
     level: Level,
     topology: &Topology,
-    streams: &Streams,
+    streams: &Streams<'_>,
 ) -> Option<StorageId>
     ensures found { (sends : ℕ → ℕ) → streams.now ≡ sources.sender_table topology.now.cluster sends
         → IsFoundSource topology.now.cluster streams.now sends level usable.now result }
@@ -64,7 +64,7 @@ fn storage_of(source: &Option<SourceRow>) -> Option<StorageId>
 
 /// A storage as a source.
 #[tactic(auto, unfolding(bm_base::specs::Machine::Transfers::node_number))]
-fn source_at(topology: &Topology, streams: &Streams, storage: StorageId) -> SourceRow
+fn source_at(topology: &Topology, streams: &Streams<'_>, storage: StorageId) -> SourceRow
     ensures { result ≡ sources.source_at topology.now.cluster
         (sources.streams_by topology.now.cluster (tables.count_at streams.now.counts)) storage }
 {

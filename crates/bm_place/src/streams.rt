@@ -18,47 +18,49 @@ use std::marker::Model;
 
 /// The number of transfers that each node sends in a round.
 ///
-/// Made once for a round: it has the cluster as it was then, and no transfers of earlier rounds. A
-/// contract sees for each storage its node, and a count for each of these nodes.
+/// Made once for a round of this cluster: it has no transfers of earlier rounds. A contract sees
+/// for each storage its node, and a count for each of these nodes.
 #[derive(Drop)]
-pub struct Streams {
-    pub(crate) nodes: NumberMap<NodeId>,
+pub struct Streams<'a> {
+    topology: &'a Topology,
     counts: NumberMap<u32>,
 }
 
-impl Model for Streams {
+impl<'a> Model for Streams<'a> {
+    ghost use Rattle.bm_base.specs.Words.{keys, node_number};
+    ghost use Rattle.bm_place.specs.Tables.{table};
     ghost use Rattle.bm_place.specs.Sources.{Senders, coded_senders};
 
     ghost Value = { Senders };
 
     ghost coded = { coded_senders };
 
-    ghost view = { λ s. record { nodes = s.nodes.map; counts = s.counts.map } };
+    ghost view = { λ s. record {
+      nodes = table (node_number s.topology.now.cluster) (keys s.topology.now.cluster.storages);
+      counts = s.counts.map;
+    } };
 }
 
-impl Streams {
-    /// No node sends yet. `Memory` if a table cannot grow. Looks up each storage of the cluster
+impl<'a> Streams<'a> {
+    /// No node sends yet. `Memory` if the table cannot grow. Looks up each storage of the cluster
     /// once.
-    pub fn new(alloc: Global, topology: &Topology) -> Result<Streams, Refusal>
+    pub fn new(alloc: Global, topology: &'a Topology) -> Result<Streams<'a>, Refusal>
         ensures none_yet { IfOk result
             (λ t. t ≡ sources.sender_table topology.now.cluster tables.none_sent) }
         ensures of_transfers { IfOk result (λ t. t ≡ senders_with topology.now.cluster []) }
         ensures refused { IfErr result (λ e. e ≡ Memory) }
     {
-        let mut nodes = NumberMap::new(alloc);
-        nodes.reserve(topology.storage_count() as usize)?;
         let mut counts = NumberMap::new(alloc);
         let mut last = None;
         for place in 0..topology.storage_count() {
             let Some(storage) = topology.storage_at(place) else {
-                return Ok(Streams { nodes, counts });
+                return Ok(Streams { topology, counts });
             };
             let node = node_number(topology, storage);
-            nodes.insert(u64::from(storage.0), node)?;
             enter(&mut counts, node, last)?;
             last = Some(node);
         }
-        Ok(Streams { nodes, counts })
+        Ok(Streams { topology, counts })
     }
 
     /// Counts one transfer more for the node of `source`; ignores an unknown storage. The node
@@ -74,7 +76,7 @@ impl Streams {
             → t.source ≡ source
             → self.old ≡ senders_with C chosen → self.new ≡ senders_with C (chosen ++ t ∷ []) }
     {
-        if let Some(node) = self.nodes.get(u64::from(source.0)) {
+        if let Some(node) = self.topology.node_of(source) {
             add_one(&mut self.counts, node);
         }
     }

@@ -35,7 +35,7 @@ pub fn least_target(
     len: u64,
     level: Level,
     topology: &Topology,
-    scheduled: &Scheduled,
+    scheduled: &Scheduled<'_>,
 ) -> Option<StorageId>
     ensures found { (sent : ℕ → ℕ) → scheduled.now ≡ targets.target_table topology.now.cluster sent
         → IsFoundTarget topology.now.cluster scheduled.now sent level held.now barred.now len
@@ -56,7 +56,7 @@ fn least_fitting(
     len: u64,
     level: Level,
     topology: &Topology,
-    scheduled: &Scheduled,
+    scheduled: &Scheduled<'_>,
 ) -> Option<StorageId>
     ensures { (sent : ℕ → ℕ) → scheduled.now ≡ targets.target_table topology.now.cluster sent
         → result ≡ transfers.least_target_by topology.now.cluster sent level held.now
@@ -88,7 +88,8 @@ fn storage_of(target: &Option<TargetRow>) -> Option<StorageId>
     }
 }
 
-/// Whether a target may be taken, and comes before the best so far, before which it does not go.
+/// Whether a target may be taken and beats the best so far. It has no more free bytes than the
+/// best, so only a better class can beat it.
 fn beats_best(
     target: &TargetRow,
     best: &Option<TargetRow>,

@@ -1,3 +1,4 @@
+-- Lemmas on queries: what is found at slots, once sorted, is what the definition lists.
 pub mod DistinctKeys
 pub mod IndexedSlots
 pub mod GatheredReplicas
@@ -7,5 +8,4 @@ pub mod OwnBlocks
 pub mod OnStorage
 pub mod AtSlot
 pub mod WaitingBlocks
-pub mod ByPlace
 pub mod KnownBlocks

@@ -1,5 +1,5 @@
 -- A node is held back exactly if it drains and a block waits in the list of one of its storages.
-use Rattle.std.proofs.Common.{◌≡◌, ℕ, Bool, true, false, not, ◌&&◌, List, [], ◌∷◌, length, Option, Some, None, is_some, refl, sym, ap, inl, inr, ◌∙◌, arith}
+use Rattle.std.proofs.Common.{◌≡◌, ℕ, Bool, true, false, not, ◌&&◌, List, [], ◌∷◌, length, filter, Option, Some, None, is_some, refl, sym, ap, inl, inr, ◌∙◌, arith}
 use Rattle.std.specs.Prelude.{nat_lt, nat_le, option_and_then}
 use Rattle.std.specs.Option.{option_map_or}
 use Rattle.std.specs.Cmp.{both_ways}
@@ -10,6 +10,7 @@ use Rattle.bm_base.specs.declared.replica.BlockInfo.{BlockInfo}
 use Rattle.bm_base.specs.Words.{Map, get, keys, contains_key, Cluster, Holdings, by_replica, replica_at, has, node_of, has_storage, is_draining, is_usable, is_live_on, is_drained_on, live, drained, has_enough_live, is_held_back_by}
 use Rattle.bm_maps.specs.SlotLists.{IsMember}
 use Rattle.bm_base.proofs.Clusters.{some_node}
+use Rattle.bm_base.proofs.ListTests.{has_filter}
 use Rattle.bm_base.proofs.Options.{there, is_there, chained}
 use Rattle.bm_base.proofs.Sets.{some_passing, passing_some, has_keys}
 use Rattle.bm_base.proofs.Membership.{has_where}
@@ -73,7 +74,7 @@ module _ (C : Cluster) (n : ℕ) (v : Leveled) (lawful : IsLawful v.arena) (leve
         (i.0, found_info v.arena pending lawful b slot k here stands ∙ i.1)
 
   -- a block that holds the node back waits in a list
-  then_waits : (b : ℕ) → contains_key H.blocks b ≡ true → is_held_back_by C H n b ≡ true → (s : ℕ) × (contains_key C.storages s ≡ true) × (holds_back_node C v.arena n s ≡ true)
+  then_waits : (b : ℕ) → contains_key H.blocks b ≡ true → is_held_back_by C H n b ≡ true → (s : ℕ) × (has_storage C n s ≡ true) × (holds_back_node C v.arena s ≡ true)
   unfolding is_held_back_by holdings_with
   then_waits b known held =
       let a = v.arena in
@@ -89,15 +90,14 @@ module _ (C : Cluster) (n : ℕ) (v : Leveled) (lawful : IsLawful v.arena) (leve
       let waits : holds_back_at C a s slot.0 ≡ true =
       and_from (option_map_or is_usable (marks_at a slot.0 s) false) (lacks_live C (block_at a slot.0)) (ap (λ o. option_map_or is_usable o false) marks ∙ parts.0) (lacks_is b slot.0 f.1 slot.1 f.2 i.0 i.1 ∙ two.1) in
       let listed : IsMember slot.0 (list_of a s) = (lawful.exact slot.0 s).1 (ap is_some marks) in
-      (s, known_storage C n s at.2, and_from (has_storage C n s && is_draining C s) (holds_back_on C a s) (and_from (has_storage C n s) (is_draining C s) at.2 parts.1) (any_among (holds_back_at C a s) (list_of a s) slot.0 listed waits))
+      (s, at.2, and_from (is_draining C s) (holds_back_on C a s) parts.1 (any_among (holds_back_at C a s) (list_of a s) slot.0 listed waits))
 
   -- a block that waits holds the node back
-  then_held : (s : ℕ) → holds_back_node C v.arena n s ≡ true → (b : ℕ) × (contains_key H.blocks b ≡ true) × (is_held_back_by C H n b ≡ true)
+  then_held : (s : ℕ) → has_storage C n s ≡ true → holds_back_node C v.arena s ≡ true → (b : ℕ) × (contains_key H.blocks b ≡ true) × (is_held_back_by C H n b ≡ true)
   unfolding is_held_back_by
-  then_held s waits =
+  then_held s own_s waits =
       let a = v.arena in
-      let two = and_parts (has_storage C n s && is_draining C s) (holds_back_on C a s) waits in
-      let on = and_parts (has_storage C n s) (is_draining C s) two.0 in
+      let two = and_parts (is_draining C s) (holds_back_on C a s) waits in
       let at = some_among (holds_back_at C a s) (list_of a s) two.1 in
       let slot = at.0 in
       let own = own_listed v lawful leveled s slot at.1 in
@@ -106,22 +106,29 @@ module _ (C : Cluster) (n : ℕ) (v : Leveled) (lawful : IsLawful v.arena) (leve
       let m = passes_some is_usable (marks_at a slot s) parts.0 in
       let i = lacks_known b slot own.block own.led own.here parts.1 in
       let marks : get H.replicas (replica_at b s) ≡ Some m.0 = sym (marks_here b slot own.block own.led own.here s) ∙ m.1 in
-      let there : has (drained C H b) s ≡ true = has_where (is_drained_on C) H b s ∙ ap (λ o. option_map_or (is_drained_on C s) o false) marks ∙ and_from (is_usable m.0) (is_draining C s) m.2 on.1 in (
+      let there : has (drained C H b) s ≡ true = has_where (is_drained_on C) H b s ∙ ap (λ o. option_map_or (is_drained_on C s) o false) marks ∙ and_from (is_usable m.0) (is_draining C s) m.2 two.0 in (
         b,
         is_there (get H.blocks b) i.0 i.1,
-        and_from (list_any (has_storage C n) (drained C H b)) (not (has_enough_live C H b)) (passing_some (has_storage C n) (drained C H b) s there on.0)
+        and_from (list_any (has_storage C n) (drained C H b)) (not (has_enough_live C H b)) (passing_some (has_storage C n) (drained C H b) s there own_s)
             (sym (lacks_is b slot own.block own.led own.here i.0 i.1) ∙ parts.1),
       )
 
-  pub held_back_is : list_any (holds_back_node C v.arena n) (keys C.storages) ≡ holds_back C n H
+  abbrev own : List ℕ
+  own = filter (has_storage C n) (keys C.storages)
+
+  has_own : (s : ℕ) → has own s ≡ (has_storage C n s && contains_key C.storages s)
+  has_own s = has_filter (has_storage C n) (keys C.storages) s ∙ ap (λ b. has_storage C n s && b) (has_keys C.storages s)
+
+  pub held_back_is : list_any (holds_back_node C v.arena) own ≡ holds_back C n H
   unfolding holds_back
   held_back_is =
-      both_ways (list_any (holds_back_node C v.arena n) (keys C.storages)) (list_any (is_held_back_by C H n) (keys H.blocks))
+      both_ways (list_any (holds_back_node C v.arena) own) (list_any (is_held_back_by C H n) (keys H.blocks))
       (λ h.
-      let s = some_passing (holds_back_node C v.arena n) (keys C.storages) h in
-      let b = then_held s.0 s.2 in
+      let s = some_passing (holds_back_node C v.arena) own h in
+      let on = and_parts (has_storage C n s.0) (contains_key C.storages s.0) (sym (has_own s.0) ∙ s.1) in
+      let b = then_held s.0 on.0 s.2 in
       passing_some (is_held_back_by C H n) (keys H.blocks) b.0 (has_keys H.blocks b.0 ∙ b.1) b.2)
       (λ h.
       let b = some_passing (is_held_back_by C H n) (keys H.blocks) h in
       let s = then_waits b.0 (sym (has_keys H.blocks b.0) ∙ b.1) b.2 in
-      passing_some (holds_back_node C v.arena n) (keys C.storages) s.0 (has_keys C.storages s.0 ∙ s.1) s.2)
+      passing_some (holds_back_node C v.arena) own s.0 (has_own s.0 ∙ and_from (has_storage C n s.0) (contains_key C.storages s.0) s.1 (known_storage C n s.0 s.1)) s.2)

@@ -6,7 +6,7 @@ use Rattle.std.specs.List.{list_any}
 use Rattle.bm_base.specs.declared.replica.Marks.{Marks}
 use Rattle.bm_base.specs.declared.replica.Replica.{Replica}
 use Rattle.bm_base.specs.declared.replica.BlockInfo.{BlockInfo}
-use Rattle.bm_base.specs.Words.{Map, entries, Cluster, by_replica, is_corrupt, is_usable, is_live_on, has_storage, is_draining}
+use Rattle.bm_base.specs.Words.{Map, entries, Cluster, by_replica, is_corrupt, is_usable, is_live_on, is_draining}
 use Rattle.bm_arena.specs.Triplets.{Block}
 use Rattle.bm_arena.specs.Contents.{Contents, block_at, slot_of, marks_at, list_of}
 use Rattle.bm_arena.specs.Holding.{info_at, id_at}
@@ -48,9 +48,9 @@ holds_back_at C a storage slot = option_map_or is_usable (marks_at a slot storag
 abbrev pub holds_back_on : Cluster → Contents → ℕ → Bool
 holds_back_on C a storage = list_any (holds_back_at C a storage) (list_of a storage)
 
--- whether the storage is one of the node, which drains, and such a block is in its list
-abbrev pub holds_back_node : Cluster → Contents → ℕ → ℕ → Bool
-holds_back_node C a n storage = (has_storage C n storage && is_draining C storage) && holds_back_on C a storage
+-- whether a block of a storage does, and the node of the storage drains
+abbrev pub holds_back_node : Cluster → Contents → ℕ → Bool
+holds_back_node C a storage = is_draining C storage && holds_back_on C a storage
 
 -- the known blocks at these slots, each with its number
 abbrev pub known_on : Contents → List ℕ → List (ℕ × ℕ)

@@ -1,5 +1,6 @@
 // Whether a block holds a node back.
 ghost use Rattle.std.specs.Prelude.{◌≡◌, ℕ, length};
+ghost use Rattle.std.specs.List.{list_any};
 ghost use Rattle.bm_base.specs.Words.{Map, by_replica};
 ghost use Rattle.bm_base.specs.Machine.Replicas as replicas;
 ghost use Rattle.bm_arena.specs.Contents.{block_at};
@@ -73,15 +74,21 @@ fn holds_back_on(topology: &Topology, arena: &Arena, storage: StorageId) -> bool
     false
 }
 
-/// Whether the storage is one of the node, which drains, and such a block is in its list.
-fn holds_back_node(topology: &Topology, arena: &Arena, node: NodeId, storage: StorageId) -> bool
-    ensures { result ≡ holds_back_node topology.now.cluster arena.now node storage }
+/// Whether a block of a storage does, and the node of the storage drains.
+fn holds_back_node(topology: &Topology, arena: &Arena, storage: StorageId) -> bool
+    ensures { result ≡ holds_back_node topology.now.cluster arena.now storage }
 {
-    if topology.has_storage(node, storage) && topology.is_draining(storage) {
-        holds_back_on(topology, arena, storage)
-    } else {
-        false
-    }
+    let is_draining = topology.is_draining(storage);
+    is_draining && holds_back_on(topology, arena, storage)
+}
+
+/// Whether a block of one of these storages does.
+fn any_waits(topology: &Topology, arena: &Arena, storages: &[StorageId]) -> bool
+    ensures { result ≡ list_any (holds_back_node topology.now.cluster arena.now) storages.now }
+{
+    storages
+        .iter()
+        .any(|storage| holds_back_node(topology, arena, *storage))
 }
 
 /// Whether a block holds a node back: it has a drained replica there, and fewer live ones than are
@@ -94,12 +101,5 @@ pub fn is_held_back(blocks: &LeveledBlocks, topology: &Topology, node: NodeId) -
     blocks.show_invariant();
     let arena = blocks.arena();
     arena.show_invariant();
-    for place in 0..topology.storage_count() {
-        if let Some(storage) = topology.storage_at(place) {
-            if holds_back_node(topology, arena, node, storage) {
-                return true;
-            }
-        }
-    }
-    false
+    any_waits(topology, arena, topology.storages_of(node))
 }

@@ -1,3 +1,4 @@
+-- Lemmas on lists and sets of slots: links, arrays, and iteration while they change.
 pub mod Chains
 pub mod HeldLists
 pub mod Calls

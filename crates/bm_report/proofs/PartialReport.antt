@@ -4,8 +4,6 @@ use Rattle.std.specs.Prelude.{slice_get, nat_eq, ◌⊎◌}
 use Rattle.std.specs.Map.{lookup}
 use Rattle.std.proofs.lemmas.Bool.{cases_Bool, eqb-true, eqb-false}
 use Rattle.std.proofs.lemmas.Option.{none-some}
-use Rattle.std.proofs.lemmas.List.{take-append-drop}
-use Rattle.std.proofs.Common.{take}
 use Rattle.bm_base.specs.Machine.State.{Cluster}
 use Rattle.bm_maps.specs.SlotLists.{IsMember}
 use Rattle.bm_arena.specs.Contents.{Contents, block_at, IsEntry, HasHead}
@@ -109,13 +107,6 @@ here-part a (x ∷ xs) ys h = (h.0, here-part a xs ys h.1)
 pub room-part : (a : Contents) (s : ℕ) (xs ys : List ReportedSlot) → HaveCapacity a s (xs ++ ys) → HaveCapacity a s xs
 room-part a s [] ys h = tt
 room-part a s (x ∷ xs) ys h = (h.0, room-part a s xs ys h.1)
-
-pub underway-split : (C : Cluster) (s k : ℕ) (all rest xs ys : List ReportedSlot) (first now : Contents) (t u : ReportCounts) → xs ≡ take k rest → ys ≡ drop k rest
-    → IsUnderway C s all rest first now t u → IsUnderway C s all (xs ++ ys) first now t u
-underway-split C s k all rest xs ys first now t u front back f =
-    let P : List ReportedSlot → Type 0 = λ r. IsUnderway C s all r first now t u in
-    let whole : xs ++ ys ≡ rest = (λ i. front i ++ back i) ∙ take-append-drop k rest in
-    subst P (sym whole) f
 
 pub underway-next : (C : Cluster) (s : ℕ) (all xs rest : List ReportedSlot) (first now next : Contents) (t u v : ReportCounts)
     → IsUnderway C s all (xs ++ rest) first now t u → IsEntered C s xs now next → IsCounted C s xs now next u v → IsUnderway C s all rest first next t v

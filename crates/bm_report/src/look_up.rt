@@ -30,8 +30,8 @@ fn slot_for(arena: &mut Arena, id: BlockId) -> Result<Slot, Refusal>
     arena.add_entry(id)
 }
 
-/// Looks up one number, and reserves a replica on the storage. After an `Err` every new entry is
-/// named.
+/// Looks up one number, and reserves a replica on the storage. `named` lists every new entry, even
+/// after an `Err`.
 fn look_up_one(
     arena: &mut Arena,
     storage: StorageId,

@@ -52,7 +52,8 @@ pub(crate) fn receive(
     }
 }
 
-/// What linking a block did, which may have left another storage of the node.
+/// The counts of one added replica; `left_sibling` is whether it replaced one on another storage of
+/// the node.
 fn applied_by_link(left_sibling: bool) -> Applied
     ensures added { result.added ≡ 1 }
     ensures removed { result.removed ≡ (if left_sibling then 1 else 0) }

@@ -155,10 +155,7 @@ pub(crate) fn add_all_reported(
     ensures grown { vec_len changed.new ≤ vec_len changed.old + length named.now }
     ensures capacity { vec_capacity changed.new ≡ vec_capacity changed.old }
 {
-    let mut rest = named;
-    while !rest.is_empty() {
-        let (chunk, behind) = rest.split_at(rest.len().min(CHUNK));
+    for chunk in named.chunks(CHUNK) {
         add_chunk(arena, topology, storage, chunk, tally, changed);
-        rest = behind;
     }
 }

@@ -1,4 +1,4 @@
--- A command more for the node of a storage.
+-- One more command for the node of a storage.
 use Rattle.std.proofs.Common.{◌≡◌, ◌<◌, ◌≤◌, ℕ, zero, suc, Bool, true, false, cond, List, [], ◌∷◌, ◌++◌, map, filter, get_or, set, length, Option, Some, None, is_some, refl, sym, ap, subst, ◌∙◌, arith, nat_lt, append-nil, T}
 use Rattle.std.specs.Prelude.{◌==◌, option_map}
 use Rattle.std.specs.Option.{option_map_or}

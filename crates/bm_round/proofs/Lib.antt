@@ -1,3 +1,4 @@
+-- Lemmas on a round's choices: merged wishes, transfers, deletes and commands.
 pub mod WishCopies
 pub mod KeyedLists
 pub mod AddedCommands

@@ -23,7 +23,7 @@ with_copies limits C chosen w = transfers_over limits C chosen (replicate w.coun
 abbrev pub HasFewDeletes : Cluster → ℕ → List Delete → Type 0
 HasFewDeletes C most ds = (n : ℕ) → length (filter (λ d. has_storage C n d.storage) ds) ≤ most
 
--- what each alive node is commanded, where it is anything or not
+-- the commands of each alive node, whether it has any or not
 abbrev pub commands_by_node : Cluster → List Transfer → List Delete → List NodeCommands
 commands_by_node C ts ds = map (node_commands C ts ds) (keys C.nodes)
 

@@ -14,10 +14,10 @@ use std::alloc::Global;
 
 /// The transfers chosen so far, with what they count to.
 #[derive(Drop)]
-pub(crate) struct ChosenSoFar {
+pub(crate) struct ChosenSoFar<'a> {
     pub transfers: Vec<Transfer>,
-    pub streams: Streams,
-    pub scheduled: Scheduled,
+    pub streams: Streams<'a>,
+    pub scheduled: Scheduled<'a>,
     /// For the current wish: the storages that may be the source; those that hold a live replica
     /// of the block or will; and those on whose nodes no copy may be put. The three lists are
     /// cleared and filled again for each wish, so they allocate only where one grows past its
@@ -27,9 +27,9 @@ pub(crate) struct ChosenSoFar {
     pub excluded: Vec<StorageId>,
 }
 
-impl ChosenSoFar {
+impl<'a> ChosenSoFar<'a> {
     /// Nothing is chosen yet.
-    pub fn new(alloc: Global, topology: &Topology) -> Result<ChosenSoFar, Refusal>
+    pub fn new(alloc: Global, topology: &'a Topology) -> Result<ChosenSoFar<'a>, Refusal>
         ensures nothing { IfOk result (λ c. c.transfers.items ≡ []) }
         ensures counted { IfOk result (IsCounted topology.now.cluster) }
         ensures refused { IfErr result (λ e. e ≡ Memory) }

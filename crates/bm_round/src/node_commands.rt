@@ -65,7 +65,7 @@ fn has_commands(commands: &NodeCommands) -> bool
     !commands.transfers.as_slice().is_empty() || !commands.deletes.as_slice().is_empty()
 }
 
-/// What each alive node is commanded, where it is anything or not.
+/// The commands of each alive node, whether it has any or not.
 pub(crate) fn commands_by_node(
     alloc: Global,
     transfers: &[Transfer],

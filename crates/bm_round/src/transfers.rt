@@ -49,7 +49,7 @@ fn choose_copies(
     wish: &Wish,
     topology: &Topology,
     config: &Config,
-    choice: &mut ChosenSoFar,
+    choice: &mut ChosenSoFar<'_>,
 ) -> Result<(), Refusal>
     requires counted { IsCounted topology.now.cluster choice.old }
     requires fresh { targets_of choice.old.transfers.items wish.now.block ≡ [] }
@@ -75,7 +75,7 @@ fn next_copy(
     wish: &Wish,
     topology: &Topology,
     config: &Config,
-    choice: &ChosenSoFar,
+    choice: &ChosenSoFar<'_>,
 ) -> Option<Transfer>
     requires counted { IsCounted topology.now.cluster choice.now }
     requires sources { choice.now.sources.items ≡ choices.sources_by wish.now }

@@ -1,9 +1,8 @@
+-- Lemmas on a round's findings: which blocks are scanned, and what is found in each.
 pub mod RacksSpared
 pub mod NoneKept
 pub mod NoTransfers
-pub mod NoSurplus
 pub mod OwnReplicas
-pub mod AnyOrder
 pub mod OwnWish
 pub mod SortedElements
 pub mod CollectedFindings

@@ -2,24 +2,24 @@
 use Rattle.std.specs.Prelude.{◌≡◌, ℕ, Bool, true, false, nat_le, length, map, filter, List, [], ◌∷◌, ◌++◌, Option, option_and_then, option_to_list}
 use Rattle.std.specs.Option.{option_map_or}
 use Rattle.std.specs.List.{flat_map}
-use Rattle.std.proofs.Common.{refl, sym, ap, ◌∙◌}
+use Rattle.std.proofs.Common.{refl, sym, ◌∙◌}
 use Rattle.std.proofs.lemmas.List.{flat_map_more}
 use Rattle.bm_base.specs.declared.replica.BlockInfo.{BlockInfo}
 use Rattle.bm_base.specs.declared.replica.Marks.{Marks}
 use Rattle.bm_base.specs.declared.replica.ReplicaId.{ReplicaId}
 use Rattle.bm_base.specs.declared.round.Wish.{Wish}
-use Rattle.bm_base.specs.Words.{get, entries, Cluster, Holdings, is_live_on, is_drained_on, live, drained, storages_where, has_enough_live, without_expired, without_unordered_excess, with_surplus_marked, pending_targets}
+use Rattle.bm_base.specs.Words.{get, Cluster, Holdings, is_live_on, is_drained_on, live, drained, storages_where, has_enough_live, without_expired, without_unordered_excess, with_surplus_marked, pending_targets}
 use Rattle.bm_base.specs.RoundParts.{holdings_at_choice}
 use Rattle.bm_parts.specs.Before.{wishes_before}
 use Rattle.bm_arena.specs.Contents.{Contents}
 use Rattle.bm_levels.specs.Held.{holdings_with}
+use Rattle.bm_levels.specs.Status.{storages_at}
 use Rattle.bm_pending.specs.PendingMap.{PendingMap}
 use Rattle.bm_pending.specs.Remaining.{remaining_targets}
 use Rattle.bm_round_scan.specs.declared.block_scan.BlockScan.{BlockScan}
 use Rattle.bm_round_scan.specs.declared.scan.Findings.{Findings}
 use Rattle.bm_round_scan.specs.declared.replicas.UsableReplicas.{UsableReplicas}
-use Rattle.bm_round_scan.specs.Marking.{storages_in}
-use Rattle.bm_round_scan.specs.BlockScans.{replicas_on, deletes_of, IsBlockScan, AreUsable}
+use Rattle.bm_round_scan.specs.BlockScans.{scanned_replicas, replicas_on, deletes_of, IsBlockScan, AreUsable}
 use Rattle.bm_round_scan.specs.Requests.{wish_in, wish_by}
 use Rattle.bm_round_scan.specs.Gathering.{excess_at, wishes_at, deletes_at, HasFound}
 use Rattle.bm_round_scan.proofs.OwnReplicas.{storages_own}
@@ -27,18 +27,18 @@ use Rattle.bm_round_scan.proofs.OwnWish.{wish_known}
 
 -- the result of the scan of a block
 pub record IsSeen (C : Cluster) (l : BlockScan) (u : UsableReplicas) (e : Bool) : Type 0 where
-  pub usable : AreUsable C (entries l.replicas) u
+  pub usable : AreUsable C l.replicas.items u
   pub enough : e ≡ option_map_or (λ (i : BlockInfo). nat_le i.repl (length u.live)) l.info false
 
 -- the wish of the block by this scan
 abbrev wish_seen : Cluster → ℕ → ℕ → PendingMap → BlockScan → UsableReplicas → Option Wish
-wish_seen C pend r p l u = option_and_then (λ i. wish_by C l.id i u.live u.drained (storages_in (λ _ _. true) (entries l.replicas)) (remaining_targets pend r p l.id)) l.info
+wish_seen C pend r p l u = option_and_then (λ i. wish_by C l.id i u.live u.drained (storages_at (λ _ _. true) l.replicas.items) (remaining_targets pend r p l.id)) l.info
 
 -- the findings of the block are appended
 pub record IsPut (C : Cluster) (pend r : ℕ) (bound : Option (ℕ × ℕ)) (p : PendingMap) (l : BlockScan) (u : UsableReplicas) (e : Bool) (f g : Findings) : Type 0 where
-  pub excess : g.excess.items ≡ f.excess.items ++ replicas_on l.excess.items (entries l.replicas)
+  pub excess : g.excess.items ≡ f.excess.items ++ replicas_on l.excess.items (scanned_replicas l)
   pub wishes : g.wishes.items ≡ f.wishes.items ++ wishes_before bound (option_to_list (wish_seen C pend r p l u))
-  pub deletes : g.deletes.items ≡ f.deletes.items ++ deletes_of e (entries l.replicas)
+  pub deletes : g.deletes.items ≡ f.deletes.items ++ deletes_of e (scanned_replicas l)
 
 module _ (C : Cluster) (pend r : ℕ) (a : Contents) (p : PendingMap) (l : BlockScan) (u : UsableReplicas) (e : Bool) (look : IsBlockScan C pend r (holdings_with a p.map) l) (seen : IsSeen C l u e) where
   abbrev H : Holdings
@@ -59,13 +59,13 @@ module _ (C : Cluster) (pend r : ℕ) (a : Contents) (p : PendingMap) (l : Block
   known = look.info ∙ sym known_at_start
 
   lives_are : u.live ≡ live C G l.id
-  lives_are = seen.usable.live ∙ ap (λ m. storages_in (is_live_on C) (entries m)) look.replicas ∙ storages_own (is_live_on C) G l.id
+  lives_are = seen.usable.live ∙ storages_own (is_live_on C) G l.id l.replicas.items look.replicas
 
   drained_are : u.drained ≡ drained C G l.id
-  drained_are = seen.usable.drained ∙ ap (λ m. storages_in (is_drained_on C) (entries m)) look.replicas ∙ storages_own (is_drained_on C) G l.id
+  drained_are = seen.usable.drained ∙ storages_own (is_drained_on C) G l.id l.replicas.items look.replicas
 
-  pairs_are : storages_in (λ _ _. true) (entries l.replicas) ≡ storages_where (λ _ _. true) G l.id
-  pairs_are = ap (λ m. storages_in (λ _ _. true) (entries m)) look.replicas ∙ storages_own (λ _ _. true) G l.id
+  pairs_are : storages_at (λ _ _. true) l.replicas.items ≡ storages_where (λ _ _. true) G l.id
+  pairs_are = storages_own (λ _ _. true) G l.id l.replicas.items look.replicas
 
   enough_is : e ≡ has_enough_live C G l.id
   unfolding has_enough_live
@@ -79,7 +79,7 @@ module _ (C : Cluster) (pend r : ℕ) (a : Contents) (p : PendingMap) (l : Block
 
   pub found_more : (bound : Option (ℕ × ℕ)) (f g : Findings) → IsPut C pend r bound p l u e f g → (bs : List ℕ) → HasFound C pend r H bound bs f → HasFound C pend r H bound (bs ++ l.id ∷ []) g
   found_more bound f g put bs has = record {
-    excess = put.excess ∙ (λ j. has.excess j ++ map (λ (e : ReplicaId × Marks). e.0) (filter (λ e. look.excess e.0.storage j) (entries (look.replicas j)))) ∙ more (excess_at C pend r H) bs l.id;
+    excess = put.excess ∙ (λ j. has.excess j ++ map (λ (e : ReplicaId × Marks). e.0) (filter (λ e. look.excess e.0.storage j) (look.replicas j))) ∙ more (excess_at C pend r H) bs l.id;
     wishes = put.wishes ∙ (λ j. has.wishes j ++ wishes_before bound (option_to_list (wish_is j))) ∙ more (λ b. wishes_before bound (wishes_at C pend r H b)) bs l.id;
-    deletes = put.deletes ∙ (λ j. has.deletes j ++ deletes_of (enough_is j) (entries (look.replicas j))) ∙ more (deletes_at C pend r H) bs l.id;
+    deletes = put.deletes ∙ (λ j. has.deletes j ++ deletes_of (enough_is j) (look.replicas j)) ∙ more (deletes_at C pend r H) bs l.id;
   }

@@ -1,20 +1,18 @@
 // One block as a round begins.
-ghost use Rattle.std.specs.Prelude.{◌≡◌, ℕ, false, Some, IfOk, IfErr, OnOk, ◌++◌, length};
+ghost use Rattle.std.specs.Prelude.{◌≡◌, ℕ, false, Some, IfOk, IfErr, OnOk, ◌++◌, []};
 ghost use Rattle.std.specs.Option.{option_map_or};
 ghost use Rattle.std.specs.List.Sorted.{IsNonDecreasing, IsPermutation};
 ghost use Rattle.bm_base.specs.declared.refusal.Refusal.TheVariants.{Memory};
-ghost use Rattle.bm_base.specs.Words.{has, has_repeats, Map, empty, entries, revise, by_replica};
+ghost use Rattle.bm_base.specs.Words.{has_repeats, Map, by_replica};
 ghost use Rattle.bm_base.specs.Machine.Excess as excess;
 ghost use Rattle.bm_arena.specs.Contents.{slot_of};
 ghost use Rattle.bm_levels.specs.Held.{holdings_with};
-ghost use Rattle.bm_round_scan.specs.Marking.{marked_if};
-ghost use Rattle.bm_round_scan.specs.BlockScans.{IsBlockScan, AreUsable, replicas_on, needs_delete, deletes_of};
-ghost use Rattle.std.specs.Prelude.{[]};
+ghost use Rattle.bm_round_scan.specs.Marking.{marked_on};
+ghost use Rattle.bm_round_scan.specs.BlockScans.{IsBlockScan, AreUsable, scanned_replicas, replicas_on, needs_delete, deletes_of};
 
 use crate::replicas::{UsableReplicas, contains_near, fill_at_round_start, mark_on, usable_among};
 use bm_arena::{Arena, Slot};
 use bm_base::{BlockId, BlockInfo, Delete, Marks, Refusal, ReplicaId, StorageId};
-use bm_maps::ReplicaMap;
 use bm_place::{ExcessScratch, fill_excess};
 use bm_topo::Topology;
 use std::alloc::{AllocError, Global};
@@ -27,12 +25,11 @@ pub(crate) struct BlockScan {
     pub info: Option<BlockInfo>,
     /// The storages of its surplus live replicas, ascending.
     pub excess: Vec<StorageId>,
-    /// All its replicas with the marks of the round: those that are surplus are marked.
-    pub replicas: ReplicaMap<Marks>,
+    /// The storages of all its replicas, ascending, with the marks of the round: those that are
+    /// surplus are marked.
+    pub replicas: Vec<(StorageId, Marks)>,
     /// A scratch buffer for the storages of a settled block.
     pub storages: Vec<StorageId>,
-    /// A scratch buffer to sort its replicas, if it has more than a few.
-    triplets: Vec<(StorageId, Marks)>,
     /// Scratch buffers for the choice of excess.
     room: ExcessScratch,
 }
@@ -40,22 +37,20 @@ pub(crate) struct BlockScan {
 impl BlockScan {
     /// Scans no block yet. Takes no memory.
     pub(crate) fn new(alloc: Global) -> BlockScan
-        ensures { result.replicas ≡ empty }
+        ensures { result.replicas.items ≡ [] }
     {
         BlockScan {
             id: BlockId(0),
             info: None,
             excess: Vec::new(alloc),
-            replicas: ReplicaMap::new(alloc),
+            replicas: Vec::new(alloc),
             storages: Vec::new(alloc),
-            triplets: Vec::new(alloc),
             room: ExcessScratch::new(alloc),
         }
     }
 
     /// Scans the block of a number with this slot, and returns the storages of its usable replicas:
-    /// a few reads of each of its replicas, and O(n log n) steps for n replicas, more than eight.
-    /// It takes memory only in three cases: more than four are live or drained; the block has more
+    /// a few reads of each of its replicas, and O(n log n) steps for n of them. It takes memory only in three cases: more than four are live or drained; the block has more
     /// replicas than each block before; a list of surplus grows past its capacity.
     pub(crate) fn scan_block(
         &mut self,
@@ -71,12 +66,12 @@ impl BlockScan {
             → IsBlockScan topology.now.cluster pend r (holdings_with arena.now pending) self.new) }
         ensures in_order { OnOk result (IsNonDecreasing self.new.excess.items) }
         ensures usable { IfOk result
-            (λ u. AreUsable topology.now.cluster (entries self.new.replicas) u) }
+            (λ u. AreUsable topology.now.cluster self.new.replicas.items u) }
         ensures refused { IfErr result (λ e. e ≡ Memory) }
     {
         arena.show_invariant();
-        fill_at_round_start(&mut self.replicas, &mut self.triplets, arena, slot, id)?;
-        let usable = usable_among(alloc, topology, self.replicas.entries())?;
+        fill_at_round_start(&mut self.replicas, arena, slot)?;
+        let usable = usable_among(alloc, topology, self.replicas.as_slice())?;
         self.id = id;
         self.info = arena.info(slot);
         fill_surplus(
@@ -97,33 +92,34 @@ impl BlockScan {
         topology: &Topology,
         usable: UsableReplicas,
     ) -> Result<UsableReplicas, AllocError>
-        requires usable { AreUsable topology.now.cluster (entries self.old.replicas) usable }
+        requires usable { AreUsable topology.now.cluster self.old.replicas.items usable }
         requires in_order { IsNonDecreasing self.old.excess.items }
-        ensures marked { OnOk result (self.new
-            ≡ record self.old {
-              replicas = revise self.old.replicas
-                  (λ q m. marked_if (has self.old.excess.items q.storage) m);
-            }) }
+        ensures marked { OnOk result (self.new.replicas.items
+            ≡ marked_on self.old.excess.items self.old.replicas.items) }
+        ensures others { self.new ≡ record self.old { replicas = self.new.replicas } }
         ensures usable { IfOk result
-            (λ u. AreUsable topology.now.cluster (entries self.new.replicas) u) }
+            (λ u. AreUsable topology.now.cluster self.new.replicas.items u) }
     {
         if self.excess.as_slice().is_empty() {
             return Ok(usable);
         }
         mark_on(&mut self.replicas, self.excess.as_slice());
-        usable_among(alloc, topology, self.replicas.entries())
+        usable_among(alloc, topology, self.replicas.as_slice())
     }
 
     /// Appends the surplus replicas.
     pub(crate) fn push_excess(&self, into: &mut Vec<ReplicaId>) -> Result<(), AllocError>
         requires { IsNonDecreasing self.now.excess.items }
         ensures { OnOk result (into.new.items ≡ into.old.items
-            ++ replicas_on self.now.excess.items (entries self.now.replicas)) }
+            ++ replicas_on self.now.excess.items (scanned_replicas self.now)) }
     {
         let mut near = 0;
-        for (replica, _) in self.replicas.entries() {
-            if contains_near(self.excess.as_slice(), replica.storage, &mut near) {
-                into.push(*replica)?;
+        for (storage, _) in self.replicas.as_slice() {
+            if contains_near(self.excess.as_slice(), *storage, &mut near) {
+                into.push(ReplicaId {
+                    block: self.id,
+                    storage: *storage,
+                })?;
             }
         }
         Ok(())
@@ -136,13 +132,13 @@ impl BlockScan {
         into: &mut Vec<Delete>,
     ) -> Result<(), AllocError>
         ensures { OnOk result (into.new.items ≡ into.old.items
-            ++ deletes_of enough (entries self.now.replicas)) }
+            ++ deletes_of enough (scanned_replicas self.now)) }
     {
-        for (replica, marks) in self.replicas.entries() {
+        for (storage, marks) in self.replicas.as_slice() {
             if needs_delete(enough, marks) {
                 into.push(Delete {
-                    storage: replica.storage,
-                    block: replica.block,
+                    storage: *storage,
+                    block: self.id,
                 })?;
             }
         }

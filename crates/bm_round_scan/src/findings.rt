@@ -28,9 +28,8 @@ use std::alloc::Global;
 /// other blocks, but for those at such a level: each of these costs one step of dense memory, and
 /// the comparison of a level and a number. Of a settled block with a pending transfer the live
 /// replicas are counted first: it is left out if the live replicas and the pending transfers reach
-/// the number wanted. Each scanned block costs a few steps for each of its replicas; one with n of
-/// them, more than eight, costs O(n log n) steps: they are sorted, and each is searched for among
-/// those in excess. The result is sorted.
+/// the number wanted. A scanned block with n replicas costs O(n log n) steps: they are sorted, and
+/// each is searched for among those in excess. The result is sorted.
 pub fn find_round(
     alloc: Global,
     blocks: &LeveledBlocks,

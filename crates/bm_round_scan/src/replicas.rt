@@ -1,23 +1,19 @@
 // The replicas of one block, with their marks as a round begins.
 ghost use Rattle.std.specs.Prelude.{◌≡◌, true, false, filter_map, IfOk, OnOk};
 ghost use Rattle.std.specs.List.Sorted.{IsNonDecreasing};
-ghost use Rattle.bm_base.specs.Maps.Map as map_of;
-ghost use Rattle.bm_base.specs.Maps.Lists.{has};
+ghost use Rattle.bm_base.specs.Words.{by_number, has};
 ghost use Rattle.bm_base.specs.Machine.Replicas as replicas;
 ghost use Rattle.bm_base.specs.Spread.{spread};
 ghost use Rattle.bm_arena.specs.Holding.{replicas_at};
-ghost use Rattle.bm_round_scan.specs.Marking.{marked_if, insert_on, all_storages};
+ghost use Rattle.bm_levels.specs.Status.{storages_at};
+ghost use Rattle.bm_round_scan.specs.Gathering.{IsInOrder};
+ghost use Rattle.bm_round_scan.specs.Marking.{marked_if, marked_on, excess_reset};
 ghost use Rattle.bm_round_scan.specs.BlockScans.{AreUsable};
 
 use bm_arena::{Arena, Slot};
-use bm_base::{BlockId, Marks, Rack, ReplicaId, StorageId, StorageIds};
-use bm_maps::ReplicaMap;
+use bm_base::{Marks, Rack, StorageId, StorageIds};
 use bm_topo::Topology;
 use std::alloc::{AllocError, Global};
-
-/// The maximum number of replicas that are inserted in the order in which they were linked. More
-/// are sorted first.
-const INSERT_AT_MOST: usize = 8;
 
 /// The storages of a block's usable replicas.
 #[derive(Drop)]
@@ -27,112 +23,36 @@ pub(crate) struct UsableReplicas {
 }
 
 /// Replaces the contents by the replicas at a slot, by ascending storage. One in excess counts
-/// again if its delete was not ordered. It takes O(n log n) steps for n of them: more than a few
-/// are sorted first, so that none has to move for another. `triplets` is a scratch buffer.
+/// again if its delete was not ordered. It takes O(n log n) steps for n of them.
 pub(crate) fn fill_at_round_start(
-    into: &mut ReplicaMap<Marks>,
-    triplets: &mut Vec<(StorageId, Marks)>,
-    arena: &Arena,
-    slot: Slot,
-    block: BlockId,
-) -> Result<(), AllocError>
-    ensures { OnOk result (into.new ≡ insert_on block map_of.empty (replicas_at arena.now slot)) }
-{
-    clear(into);
-    if arena.triplet_count(slot) <= INSERT_AT_MOST {
-        return insert_as_linked(into, arena, slot, block);
-    }
-    insert_in_order(into, triplets, arena, slot, block)
-}
-
-/// Inserts the replicas at a slot in the order in which they were linked.
-fn insert_as_linked(
-    into: &mut ReplicaMap<Marks>,
-    arena: &Arena,
-    slot: Slot,
-    block: BlockId,
-) -> Result<(), AllocError>
-    ensures { OnOk result (into.new ≡ insert_on block into.old (replicas_at arena.now slot)) }
-{
-    for place in 0..arena.triplet_count(slot) {
-        if let Some((storage, marks)) = arena.triplet_at(slot, place) {
-            into.insert(ReplicaId { block, storage }, marks.with_excess_reset())?;
-        }
-    }
-    Ok(())
-}
-
-/// Inserts the replicas at a slot by ascending storage.
-fn insert_in_order(
-    into: &mut ReplicaMap<Marks>,
-    triplets: &mut Vec<(StorageId, Marks)>,
-    arena: &Arena,
-    slot: Slot,
-    block: BlockId,
-) -> Result<(), AllocError>
-    ensures { OnOk result (into.new ≡ insert_on block into.old (replicas_at arena.now slot)) }
-{
-    arena.show_invariant();
-    fill_triplets(triplets, arena, slot)?;
-    triplets.sort_unstable_by_key(|triplet| triplet.0);
-    insert_each(into, block, triplets.as_slice())
-}
-
-/// Replaces the contents by the replicas at a slot, with their marks as they are.
-fn fill_triplets(
     into: &mut Vec<(StorageId, Marks)>,
     arena: &Arena,
     slot: Slot,
 ) -> Result<(), AllocError>
-    ensures { OnOk result (into.new.items ≡ replicas_at arena.now slot) }
+    ensures { OnOk result (IsInOrder by_number (λ r. r.0)
+        (excess_reset (replicas_at arena.now slot)) into.new.items) }
 {
     into.clear();
     for place in 0..arena.triplet_count(slot) {
-        if let Some(triplet) = arena.triplet_at(slot, place) {
-            into.push(triplet)?;
+        if let Some((storage, marks)) = arena.triplet_at(slot, place) {
+            into.push((storage, marks.with_excess_reset()))?;
         }
     }
+    into.sort_unstable_by_key(|replica| replica.0);
     Ok(())
-}
-
-/// Inserts these replicas of a block one after another.
-fn insert_each(
-    into: &mut ReplicaMap<Marks>,
-    block: BlockId,
-    triplets: &[(StorageId, Marks)],
-) -> Result<(), AllocError>
-    ensures { OnOk result (into.new ≡ insert_on block into.old triplets.now) }
-{
-    for (storage, marks) in triplets {
-        let replica = ReplicaId {
-            block,
-            storage: *storage,
-        };
-        into.insert(replica, marks.with_excess_reset())?;
-    }
-    Ok(())
-}
-
-/// Takes all out, and keeps the memory.
-fn clear(replicas: &mut ReplicaMap<Marks>)
-    ensures { replicas.new ≡ map_of.empty }
-{
-    replicas.retain(|_| false);
 }
 
 /// Marks the replicas on these storages, which are sorted, as in excess: both lists are merged in
 /// one pass. Takes no memory.
-pub(crate) fn mark_on(replicas: &mut ReplicaMap<Marks>, excess: &[StorageId])
+pub(crate) fn mark_on(replicas: &mut Vec<(StorageId, Marks)>, excess: &[StorageId])
     requires { IsNonDecreasing excess.now }
-    ensures { replicas.new
-        ≡ map_of.revise replicas.old (λ q m. marked_if (has excess.now q.storage) m) }
+    ensures { replicas.new.items ≡ marked_on excess.now replicas.old.items }
 {
     let mut near = 0;
-    for at in 0..replicas.len() {
-        if let Some((replica, marks)) = replicas.entry_at(at) {
-            let is_excess = contains_near(excess, replica.storage, &mut near);
-            replicas.set_at(at, marked_if(is_excess, marks));
-        }
+    for place in 0..replicas.len() {
+        let (storage, marks) = replicas[place];
+        let is_excess = contains_near(excess, storage, &mut near);
+        replicas[place] = (storage, marked_if(is_excess, marks));
     }
 }
 
@@ -140,18 +60,18 @@ pub(crate) fn mark_on(replicas: &mut ReplicaMap<Marks>, excess: &[StorageId])
 pub(crate) fn usable_among(
     alloc: Global,
     topology: &Topology,
-    run: &[(ReplicaId, Marks)],
+    replicas: &[(StorageId, Marks)],
 ) -> Result<UsableReplicas, AllocError>
-    ensures { IfOk result (λ u. AreUsable topology.now.cluster run.now u) }
+    ensures { IfOk result (λ u. AreUsable topology.now.cluster replicas.now u) }
 {
     let mut live = StorageIds::new(alloc);
     let mut drained = StorageIds::new(alloc);
-    for (replica, marks) in run {
+    for (storage, marks) in replicas {
         if marks.is_usable() {
-            if topology.is_draining(replica.storage) {
-                drained.push(replica.storage)?;
+            if topology.is_draining(*storage) {
+                drained.push(*storage)?;
             } else {
-                live.push(replica.storage)?;
+                live.push(*storage)?;
             }
         }
     }
@@ -161,13 +81,13 @@ pub(crate) fn usable_among(
 /// The storages of these replicas.
 pub(crate) fn storages_of(
     alloc: Global,
-    run: &[(ReplicaId, Marks)],
+    replicas: &[(StorageId, Marks)],
 ) -> Result<StorageIds, AllocError>
-    ensures { IfOk result (λ v. v ≡ all_storages run.now) }
+    ensures { IfOk result (λ v. v ≡ storages_at (λ _ _. true) replicas.now) }
 {
     let mut storages = StorageIds::new(alloc);
-    for (replica, _) in run {
-        storages.push(replica.storage)?;
+    for (storage, _) in replicas {
+        storages.push(*storage)?;
     }
     Ok(storages)
 }

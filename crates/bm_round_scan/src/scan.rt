@@ -105,7 +105,7 @@ impl<'a> RoundScan<'a> {
         let enough = has_enough(look.info, usable.live.as_slice().len());
         look.push_excess(&mut found.excess)?;
         look.push_deletes(enough, &mut found.deletes)?;
-        let storages = storages_of(alloc, look.replicas.entries())?;
+        let storages = storages_of(alloc, look.replicas.as_slice())?;
         let storages = storages.as_slice();
         let wishes = &mut found.wishes;
         self.push_wish(alloc, look.id, look.info, usable, storages, wishes)?;

@@ -1,4 +1,4 @@
--- The numbers of pairs that came and went.
+-- The numbers of replicas that came and went.
 use Rattle.std.proofs.Common.{◌≡◌, ◌+◌, ◌-◌, ◌≤◌, fold, Bool, true, false, cond, not, List, [], ◌∷◌, Option, Some, is_some, count_by, None, refl, sym, ap, ◌∙◌, is_eq}
 use Rattle.std.specs.Prelude.{option_map, option_and_then}
 use Rattle.std.specs.FinMap.{find}
@@ -27,7 +27,7 @@ pub same_replicas : (m : Map by_replica Marks) → new_replicas m m ≡ 0
 unfolding new_replicas get entries
 same_replicas m = none_missing by_replica m.list m.list (λ q h. h)
 
--- The pairs that came and went by each change in place.
+-- The numbers of replicas that came and went by each change in place.
 
 pub none_by_revise : (m : Map by_replica Marks) (f : ReplicaId → Marks → Marks) → (new_replicas m (revise m f) ≡ 0) × (new_replicas (revise m f) m ≡ 0)
 unfolding new_replicas

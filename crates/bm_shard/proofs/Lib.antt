@@ -1,3 +1,4 @@
+-- Lemmas on a shard: what each event and each round leaves of it, as contracts see it.
 mod Levels
 mod SameHoldings
 mod EmptyHoldings

@@ -1,9 +1,10 @@
 // Events on the cluster, as they change a shard. None takes memory.
-ghost use Rattle.std.specs.Prelude.{◌≡◌, ◌<◌, ◌^◌, ◌==◌, ◌&&◌, not, None, if◌then◌else◌};
-ghost use Rattle.bm_base.specs.Words.{keep, first_of, cluster_checks};
+ghost use Rattle.std.specs.Prelude.{◌≡◌, ◌<◌, ◌^◌, ◌==◌, ◌&&◌, ℕ, List, not, None, if◌then◌else◌};
+ghost use Rattle.bm_base.specs.Words.{keep, Cluster, first_of, cluster_checks};
 ghost use Rattle.bm_base.specs.Machine.Replicas as replicas;
 ghost use Rattle.bm_base.specs.Machine.Events as events;
 ghost use Rattle.bm_base.specs.declared.event.Event.TheVariants as event_of;
+ghost use Rattle.bm_base.specs.declared.event.Remaining.{Remaining};
 ghost use Rattle.bm_parts.specs.PlacedLaws.{IsPlaced};
 ghost use Rattle.bm_shard.specs.Unused.{HasNoUnused};
 ghost use Rattle.bm_shard.specs.LeavingStorages.{HasNoLists};
@@ -11,15 +12,14 @@ ghost use Rattle.bm_shard.specs.Changed.{HasChanged};
 
 use crate::block_events::NO_CHANGE;
 use crate::shard::{PreparedEvent, Shard};
-use bm_base::{Done, NodeId, Rack, Remaining, StorageId};
+use bm_base::{Done, NodeId, StorageId};
 use bm_pending::PendingTransfers;
 use bm_topo::Topology;
 
 impl Shard {
-    /// A node leaves with its storages: their replicas and the transfers to them leave. `multi`
-    /// tells whether the alive nodes are on two racks or more without it. Costs a read of each
-    /// storage of the cluster, one step for each of the replicas, and one pass over the transfers
-    /// for each storage of the node.
+    /// A node leaves with its storages: their replicas and the transfers to them leave. `multi` is
+    /// whether the alive nodes are on two racks or more without it. Costs one step for each
+    /// of the replicas, and one pass over the transfers.
     pub(crate) fn forget_node(&mut self, topology: &Topology, node: NodeId, multi: bool) -> Done
         requires multi { multi
             ≡ replicas.is_multi_rack (events.without_node topology.now.cluster node) }
@@ -81,31 +81,21 @@ impl Shard {
         NO_CHANGE
     }
 
-    /// A node comes with its storages, which are empty. `multi` tells whether the alive nodes are
+    /// A node comes with its storages, which are empty. `multi` is whether the alive nodes are
     /// on two racks or more with it.
-    pub(crate) fn register(
-        &mut self,
-        topology: &Topology,
-        node: NodeId,
-        rack: Rack,
-        storages: &[StorageId],
-        multi: bool,
-    ) -> Done
-        requires cluster { first_of
-            (cluster_checks topology.now.cluster (event_of.Register node rack storages.now))
-            ≡ None }
-        requires multi { multi
-            ≡ replicas.is_multi_rack (events.register topology.now.cluster node rack storages.now) }
+    pub(crate) fn register(&mut self, topology: &Topology, multi: bool) -> Done
         requires placed { IsPlaced topology.now.cluster self.old.holdings }
         requires none { HasNoUnused self.old }
-        ensures changed { HasChanged topology.now.cluster
-            (events.register topology.now.cluster node rack storages.now) self.old self.new
+        ensures changed { (node rack : ℕ) (storages : List ℕ)
+            → first_of (cluster_checks topology.now.cluster (event_of.Register node rack storages))
+            ≡ None
+            → multi
+            ≡ replicas.is_multi_rack (events.register topology.now.cluster node rack storages)
+            → HasChanged topology.now.cluster
+            (events.register topology.now.cluster node rack storages) self.old self.new
             self.old.holdings result }
         ensures bare { HasNoUnused self.new }
     {
-        let _ = node;
-        let _ = rack;
-        let _ = storages;
         self.prepared = PreparedEvent::Nothing;
         topology.show_invariant();
         self.blocks.show_invariant();
@@ -116,15 +106,12 @@ impl Shard {
     }
 
     /// A node reports the remaining bytes of its storages: nothing changes.
-    pub(crate) fn note_heartbeat(&mut self, topology: &Topology, remaining: &[Remaining]) -> Done
+    pub(crate) fn note_heartbeat(&mut self) -> Done
         requires none { HasNoUnused self.old }
-        ensures changed { HasChanged topology.now.cluster
-            (events.heartbeat topology.now.cluster remaining.now) self.old self.new
-            self.old.holdings result }
+        ensures changed { (C : Cluster) (remaining : List Remaining) → HasChanged C
+            (events.heartbeat C remaining) self.old self.new self.old.holdings result }
         ensures bare { HasNoUnused self.new }
     {
-        let _ = topology;
-        let _ = remaining;
         self.prepared = PreparedEvent::Nothing;
         self.blocks.show_invariant();
         self.blocks.arena().show_invariant();
@@ -163,13 +150,7 @@ fn drop_transfers_to(pending: &mut PendingTransfers, topology: &Topology, node: 
         ≡ keep pending.old.map
         (λ q _. not (replicas.has_storage topology.now.cluster node q.storage)) }
 {
-    for place in 0..topology.storage_count() {
-        if let Some(storage) = topology.storage_at(place) {
-            if topology.has_storage(node, storage) {
-                drop_transfers_on(pending, storage);
-            }
-        }
-    }
+    pending.drop_storages(topology.storages_of(node));
 }
 
 /// The transfers to a storage leave.

@@ -17,10 +17,10 @@ use bm_topo::Topology;
 
 impl Shard {
     /// Changes the shard by an event that no check on the cluster refuses, in the capacity that
-    /// [`Shard::prepare`] reserved. `topology` is the cluster before the event, `multi` tells
-    /// whether the alive nodes are on two racks or more after it. Returns how many replicas came
-    /// and went. An event on a block of another shard changes nothing. What was prepared for
-    /// another event is given up. Takes no memory.
+    /// [`Shard::prepare`] reserved. `topology` is the cluster before the event, `multi` is whether
+    /// the alive nodes are on two racks or more after it. Returns how many replicas came and went.
+    /// An event on a block of another shard changes nothing. What was prepared for another event is
+    /// given up. Takes no memory.
     pub fn commit(&mut self, event: &Event, topology: &Topology, multi: bool) -> Done
         requires cluster { first_of (cluster_checks topology.now.cluster event.now) ≡ None }
         requires multi { multi ≡ is_multi_rack (change_cluster topology.now.cluster event.now) }
@@ -79,17 +79,10 @@ impl Shard {
         ensures lists { HasNoLists (leaves topology.now.cluster event.now) self.new }
     {
         match event {
-            Event::Register {
-                node,
-                rack,
-                storages,
-            } => self.register(topology, *node, *rack, storages.as_slice(), multi),
+            Event::Register { .. } => self.register(topology, multi),
             Event::Dead { node } => self.forget_node(topology, *node, multi),
             Event::StorageFailed { storage } => self.forget_storage(topology, *storage),
-            Event::Heartbeat { remaining, .. } => self.note_heartbeat(
-                topology,
-                remaining.as_slice(),
-            ),
+            Event::Heartbeat { .. } => self.note_heartbeat(),
             Event::Drain { node } => self.set_draining(topology, *node, true),
             Event::Undrain { node } => self.set_draining(topology, *node, false),
             Event::AddBlock { id, stamp, repl } => self.add_block(topology, *id, *stamp, *repl),

@@ -1,3 +1,4 @@
+-- Lemmas on all shards: what they hold together, and what is gathered from each.
 pub mod NewShards
 pub mod SameShards
 pub mod Gathered

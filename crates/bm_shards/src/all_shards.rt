@@ -36,7 +36,7 @@ impl Model for AllShards {
 }
 
 impl AllShards {
-    /// Empty shards, as many as configured, whose tables hash by this secret. `Memory`.
+    /// The configured number of empty shards, whose tables hash by this secret. `Memory`.
     #[tactic(auto, unfolding(crate::specs::Whole::IsUpToDate, crate::specs::Whole::HasTaken))]
     pub fn new(alloc: Global, config: &Config, secret: HashSecret) -> Result<AllShards, Refusal>
         requires { config_refusal config.now ≡ None }

@@ -14,8 +14,8 @@ use bm_topo::Topology;
 impl AllShards {
     /// Changes the shards by an event that no check on the cluster refuses. A heartbeat changes
     /// none; an event on a block changes the block's shard alone; any other is made by the workers,
-    /// on all shards or on none. `topology` is the cluster before the event, `multi` tells whether
-    /// the alive nodes are on two racks or more after it. Returns how many replicas came and went.
+    /// on all shards or on none. `topology` is the cluster before the event, `multi` is whether the
+    /// alive nodes are on two racks or more after it. Returns how many replicas came and went.
     /// `Memory`, but for an event that takes no memory, and then a contract sees no change but of
     /// capacity.
     #[tactic(auto, unfolding(crate::specs::Whole::IsUpToDate, crate::specs::Whole::HasTaken))]

@@ -1,4 +1,4 @@
-// The queries of all shards. No query changes anything.
+// The queries of all shards, and the check of an event on its block. They change nothing.
 ghost use Rattle.std.specs.Prelude.{◌≡◌, true, false, None, length, IfOk, IfErr, OnOk};
 ghost use Rattle.std.specs.List.{list_any};
 ghost use Rattle.bm_base.specs.declared.refusal.Refusal.TheVariants.{Memory};

@@ -49,7 +49,7 @@ in_range most t passed = go (starts_with_minus t) refl
         let high = rw minus at passed.3 in
         (no_minus t minus, rw minus at passed.0, omega (arith, ints), omega (arith, ints))
 
--- ---- places
+-- ---- indices of options
 
 none_at : {X : Type 0} (p : X → Bool) (xs : List X) → list_any p xs ≡ false → (j : ℕ) (d : X) → j < length xs → p (slice_index_or xs j d) ≡ true → ⊥
 none_at p [] none j d lt is = absurd (omega arith)
@@ -86,7 +86,7 @@ nth [] k lt = absurd (omega arith)
 nth (x ∷ xs) zero lt = (x, refl)
 nth (x ∷ xs) (suc k) lt = nth xs k (omega arith)
 
--- ---- what the rule of an argument says
+-- ---- what the rule of an argument implies
 
 none_of : {X : Type 0} (o : Option X) → not (is_some o) ≡ true → o ≡ None
 none_of None e = refl
@@ -154,7 +154,7 @@ no_groups cmd is k d lt =
     let simple : (slice_index_or options k blank).is_simple ≡ true = AllPass-from_list_all (λ (r : Rule). r.is_simple) options refl k blank (subst (λ n. k < n) count lt) in
     (simple_parts (slice_index_or (args_of cmd) k d) (ap (λ (r : Rule). r.is_simple) (rule_at cmd is k d lt) ∙ simple)).1
 
--- where an option stands among the options, and among those that are filled in for the parse
+-- an option's index among the options, and among those that are filled in for the parse
 pub record Place (name d : Text) (most : ℕ) : Type 0 where
   pub place : ℕ
   pub before : List Rule
@@ -212,7 +212,7 @@ text_found cmd m is p name d most w =
     let others = neither _ _ other.1 in
     let rule : rule_of a.0 ≡ option_rule name d most = ap rule_of (sym a.1) ∙ (rule_at cmd is w.place a.0 lt ∙ rule_here name d most w) in
     let is_name : a.0.id.now ≡ name = ap (λ (r : Rule). r.id) rule in
-    let plain = plain_facts cmd (ap (λ (x : App). x.top.is_good_and_unmarked) is) in
+    let plain = plain_facts cmd (ap (λ (x : App). x.top.is_plain) is) in
     let unique : (j : ℕ) (e : Arg) → j < length (args_of cmd) → bytes_eq (slice_index_or (args_of cmd) j e).id.now a.0.id.now ≡ true → j ≡ w.place =
     λ j e low same. only_named name d most w j (subst (λ n. j < n) count low)
     (subst (λ (r : Rule). bytes_eq r.id name ≡ true) (rule_at cmd is j e low) (subst (λ (u : Text). bytes_eq (slice_index_or (args_of cmd) j e).id.now u ≡ true) is_name same)) in

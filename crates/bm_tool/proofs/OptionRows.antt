@@ -87,7 +87,7 @@ other_defaults name (a ∷ rules) rows none = go (has_name name a) refl (other_d
 abbrev standard_row : Rule → Text → Row
 standard_row a d = record { id = a.id; values = d ∷ []; count = None; source = Some DefaultValue; reading = reading_by a }
 
--- the number for the rows without the standard values, from what is found with them
+-- a text found with the standard values gives the number found without them
 own_default : (d : Text) (a : Rule) (rows : List Row) (t : Text) → bytes_eq a.id a.id ≡ true → a.defaults ≡ d ∷ []
     → first_of a.id (with_default rows a) ≡ Some t → option_map_or number_of (first_of a.id rows) (number_of d) ≡ number_of t
 own_default d a rows t own defaults found = go (has_row a.id rows) refl

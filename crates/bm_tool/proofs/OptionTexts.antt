@@ -21,7 +21,7 @@ use Rattle.clap.specs.declared.parser.matches.Found.{Found}
 use Rattle.clap.specs.declared.parser.matches.MatchedArg.{MatchedArg}
 use Rattle.clap.proofs.CallerLemmas.{default_present, entry_by_id, same_rules_by_id}
 
--- the text of an argument, with what is known of it
+-- the text of an argument, and its properties
 pub record HasText (f : Found) (a : Arg) (q : ValueParser) : Type 0 where
   pub text : List ℕ
   pub value : first_value f a.id.now ≡ Some text

@@ -1,3 +1,4 @@
+-- Lemmas on the cluster: its tables, racks, hints and spots.
 pub mod Keys
 pub mod IndexedEntries
 pub mod RackChanges
@@ -10,3 +11,4 @@ pub mod RackCount
 pub mod Capacity
 pub mod OwnStorages
 pub mod Repeats
+pub mod ByNode

@@ -20,7 +20,7 @@ at_most r xs = count_by-le-length (λ y. y == r) xs
 bounded : (a b : ℕ) → nat_lt (1 + a) (suc b) ≡ nat_lt a b
 bounded a b = both_ways (nat_lt (1 + a) (suc b)) (nat_lt a b) (λ e. lt-ltb a b (let h = ltb-true (1 + a) (suc b) e in omega (arith, h))) (λ e. lt-ltb (1 + a) (suc b) (let h = ltb-true a b e in omega (arith, h)))
 
--- those behind a first one are spread further where not all of them are like it
+-- after f, a list is spread further exactly if not all of its elements are f
 spread_from-counted : (f : ℕ) (xs : List ℕ) → nat_lt 1 (spread_after (Some f) xs) ≡ nat_lt (count_by (λ y. y == f) xs) (length xs)
 spread_from-counted f [] = refl
 spread_from-counted f (x ∷ xs) =

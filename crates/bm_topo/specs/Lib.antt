@@ -4,3 +4,4 @@ pub mod Keys
 pub mod Sound
 pub mod NewStorages
 pub mod Spots
+pub mod ByNode

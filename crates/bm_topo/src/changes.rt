@@ -8,6 +8,7 @@ ghost use Rattle.bm_base.specs.Words.{first_of, cluster_checks, Refuses};
 ghost use Rattle.bm_base.specs.declared.event.Event.TheVariants as event_of;
 ghost use Rattle.bm_topo.specs.Seen.{IsReadyFor, HasNoLessRoom, IsSameCapacity, grows_cluster};
 
+use crate::by_node::sort_by_node;
 use crate::tables::{add_storages, drop_storages, leave_rack, set_remaining};
 use crate::topology::Topology;
 use bm_base::{Event, NodeId, Rack, Refusal, Remaining, StorageId};
@@ -120,6 +121,7 @@ impl Topology {
         self.nodes.insert_reserved(u64::from(node.0), rack);
         self.draining.remove(u64::from(node.0));
         add_storages(&mut self.storages, node, storages);
+        sort_by_node(&mut self.by_node, &self.storages, &self.places);
     }
 
     fn drop_node(&mut self, node: NodeId)
@@ -129,6 +131,7 @@ impl Topology {
     {
         self.spot_count = 0;
         drop_storages(&mut self.storages, node);
+        sort_by_node(&mut self.by_node, &self.storages, &self.places);
         self.draining.remove(u64::from(node.0));
         self.forget_node(node);
     }
@@ -178,6 +181,7 @@ impl Topology {
     {
         self.spot_count = 0;
         self.storages.remove(u64::from(storage.0));
+        sort_by_node(&mut self.by_node, &self.storages, &self.places);
     }
 
     /// Sets the remaining bytes of known storages, one after another.

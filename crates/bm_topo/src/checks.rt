@@ -95,6 +95,7 @@ impl Topology {
         if !self.knows_node(node) {
             return Err(Refusal::UnknownNode);
         }
+        // An unknown storage is foreign too: if none is foreign, one pass over the list is enough.
         if !self.names_foreign_storage(node, remaining) {
             return Ok(());
         }

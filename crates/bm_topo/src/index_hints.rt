@@ -29,7 +29,7 @@ const FACTORS: [u64; 16] = [
     0xB003_27C8_98FB_213F,
 ];
 
-/// Which note is that of a number: the first bits of its product with the factor.
+/// Gives each number an index among the hints: the first bits of its product with the factor.
 #[derive(Clone, Copy)]
 struct Hash {
     factor: u64,
@@ -164,7 +164,7 @@ fn hint_for(notes: &[u16], hash: Hash, number: u64) -> usize {
 }
 
 impl Hash {
-    /// Which note is that of a number.
+    /// The index of a number's hint.
     #[inline]
     fn hint_slot(self, number: u64) -> usize {
         number.wrapping_mul(self.factor).wrapping_shr(self.shift) as usize

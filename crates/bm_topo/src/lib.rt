@@ -2,6 +2,7 @@
 //! how much is free there.
 #![tactic(auto)]
 
+mod by_node;
 mod changes;
 mod checks;
 mod index_hints;

@@ -1,8 +1,9 @@
 // The tables of the cluster, and what they answer.
-ghost use Rattle.std.specs.Prelude.{◌≡◌, ◌≤◌, IfOk, IsOk, Some, None, false, option_map, slice_get, if◌then◌else◌};
+ghost use Rattle.std.specs.Prelude.{◌≡◌, ◌≤◌, ℕ, IfOk, IsOk, Some, None, false, length, filter, option_map, slice_get, if◌then◌else◌};
 ghost use Rattle.std.specs.Option.{option_map_or};
 ghost use Rattle.bm_base.specs.Maps.Map as map;
 ghost use Rattle.bm_base.specs.Machine.State as state;
+ghost use Rattle.bm_base.specs.Maps.Lists as lists;
 ghost use Rattle.bm_base.specs.Machine.Replicas as replicas;
 ghost use Rattle.bm_base.specs.Machine.Excess as excess;
 ghost use Rattle.bm_base.specs.Machine.Refusals.{knows_node, knows_storage};
@@ -10,10 +11,11 @@ ghost use Rattle.bm_base.specs.Promises.Lawful.{IsLawfulCluster};
 ghost use Rattle.bm_base.specs.declared.limits.TheConstants.{MAX_NODES, MAX_STORAGES};
 ghost use Rattle.bm_topo.specs.Seen.{no_room};
 
+use crate::by_node::{StoragesByNode, storages_of};
 use crate::index_hints::IndexHints;
 use crate::spots::{Spot, no_spots, set_spots, spot_on};
 use bm_base::{MAX_STORAGES, NodeId, Rack, Refusal, StorageId, StorageInfo};
-use bm_maps::NumberMap;
+use bm_maps::{ArrayVec, NumberMap};
 use std::alloc::Global;
 use std::marker::Model;
 
@@ -34,9 +36,9 @@ pub struct Location {
 /// free bytes.
 ///
 /// A contract sees the cluster of the definitions, and the spare capacity for nodes, racks,
-/// storages and nodes that drain. Where a storage is mostly takes one read of its spot, else a
-/// binary search, in at most `MAX_NODES` nodes and `MAX_STORAGES` storages; no look-up takes
-/// memory.
+/// storages and nodes that drain. The node and the rack of a storage mostly take one read, of its
+/// spot, and else a binary search among at most `MAX_NODES` nodes and `MAX_STORAGES` storages. No
+/// look-up takes memory.
 #[derive(Drop)]
 pub struct Topology {
     pub(crate) nodes: NumberMap<Rack>,
@@ -51,12 +53,15 @@ pub struct Topology {
     pub(crate) spots: [Spot; MAX_STORAGES],
     // How many spots are set: 0 while the cluster changes.
     pub(crate) spot_count: usize,
+    // The storages, sorted by node.
+    pub(crate) by_node: StoragesByNode,
 }
 
 impl Model for Topology {
     ghost use Rattle.bm_topo.specs.Seen.{Seen, coded_seen};
     ghost use Rattle.bm_topo.specs.Sound.{IsSound, cluster_of};
     ghost use Rattle.bm_topo.specs.Spots.{HasSpots};
+    ghost use Rattle.bm_topo.specs.ByNode.{AreAllByNode};
 
     ghost Value = { Seen };
 
@@ -77,7 +82,8 @@ impl Model for Topology {
     } };
 
     ghost invariant = { λ t. (IsSound t.nodes.map t.racks.map t.draining.map t.storages.map)
-        × (HasSpots (cluster_of t.nodes.map t.draining.map t.storages.map) t.spots t.spot_count) };
+        × (HasSpots (cluster_of t.nodes.map t.draining.map t.storages.map) t.spots t.spot_count)
+        × (AreAllByNode t.storages.map t.by_node.items) };
 }
 
 impl Topology {
@@ -96,6 +102,7 @@ impl Topology {
             places: IndexHints::new(),
             spots: no_spots(),
             spot_count: 0,
+            by_node: ArrayVec::new(),
         })
     }
 
@@ -148,7 +155,7 @@ impl Topology {
         self.nodes.get_near(number, self.places.of_node(number))
     }
 
-    /// Whether a node is one of those that drain, as directly.
+    /// Whether a node drains: two reads at the hint, and else a look-up.
     #[tactic(auto, unfolding(bm_base::specs::Machine::Replicas::drains))]
     fn drains(&self, node: NodeId) -> bool
         ensures { result ≡ replicas.drains self.now.cluster node }
@@ -221,6 +228,18 @@ impl Topology {
             Some(its_node) => its_node == node,
             None => false,
         }
+    }
+
+    /// The storages of a node, by ascending number; none where the node is not alive. Two binary
+    /// searches.
+    pub fn storages_of(&self, node: NodeId) -> &[StorageId]
+        ensures storages { result.now ≡ filter (replicas.has_storage self.now.cluster node)
+            (map.keys self.now.cluster.storages) }
+        ensures each { (s : ℕ)
+            → lists.has result.now s ≡ replicas.has_storage self.now.cluster node s }
+        ensures few { length result.now ≤ MAX_STORAGES }
+    {
+        storages_of(self.by_node.as_slice(), node, &self.storages, &self.places)
     }
 
     /// Whether two storages are different ones of one node; not where one of them is not known.

@@ -1,5 +1,5 @@
-//! The lists that a locator learnt. They exist in proofs; at run time one byte tells whether there
-//! are any.
+//! The lists that a locator learnt. They exist in proofs; at run time one byte is set if there are
+//! any.
 ghost use Rattle.std.specs.Prelude.{◌≡◌, ◌++◌, ◌∷◌, []};
 ghost use Rattle.bm_view.specs.History.{versions};
 

@@ -1,6 +1,6 @@
 -- Lemmas of the callers.
 mod Refused
 mod Stops
-mod Told
+mod LearntLists
 mod Members
 mod Holdings

@@ -15,22 +15,22 @@ refused_so None false e h = absurd h
 refused_so (Some r) takes e h = inr (ap Some (sym h))
 
 -- one more event is accepted
-pub one_more : (M L N : State) (told : List Event) (i : ℕ) (x d : Event) → i < length told → x ≡ get_or told i d → L ≡ fold after_event M (take i told) → N ≡ after_event L x → N ≡ fold after_event M (take (i + 1) told)
-one_more M L N told i x d inside is before now =
-    now ∙ ap (λ P. after_event P x) before ∙ ap (after_event (fold after_event M (take i told))) is ∙ sym (fold_more after_event M told i d inside)
+pub one_more : (M L N : State) (events : List Event) (i : ℕ) (x d : Event) → i < length events → x ≡ get_or events i d → L ≡ fold after_event M (take i events) → N ≡ after_event L x → N ≡ fold after_event M (take (i + 1) events)
+one_more M L N events i x d inside is before now =
+    now ∙ ap (λ P. after_event P x) before ∙ ap (after_event (fold after_event M (take i events))) is ∙ sym (fold_more after_event M events i d inside)
 
 -- changes stop at an event that is refused
-pub stops_at : (M N : State) (told : List Event) (i : ℕ) (x d : Event) (e : Refusal) (takes : Bool) → i < length told → x ≡ get_or told i d → N ≡ fold after_event M (take i told) → Refuses (refusal_of N x) takes e → StopsAmong M told e N
-stops_at M N told i x d e takes inside is state cause = record {
+pub stops_at : (M N : State) (events : List Event) (i : ℕ) (x d : Event) (e : Refusal) (takes : Bool) → i < length events → x ≡ get_or events i d → N ≡ fold after_event M (take i events) → Refuses (refusal_of N x) takes e → StopsAmong M events e N
+stops_at M N events i x d e takes inside is state cause = record {
   taken = i;
   state = state;
-  cause = subst (λ es. (e ≡ Memory) ⊎ (event_refusal N es ≡ Some e)) (sym (drop_more told i d inside))
+  cause = subst (λ es. (e ≡ Memory) ⊎ (event_refusal N es ≡ Some e)) (sym (drop_more events i d inside))
       (subst (λ y. (e ≡ Memory) ⊎ (refusal_of N y ≡ Some e)) is (refused_so (refusal_of N x) takes e cause));
 }
 
 -- changes stop after an event that is accepted
-pub stops_behind : (M N : State) (told : List Event) (i : ℕ) (e : Refusal) → N ≡ fold after_event M (take (i + 1) told) → e ≡ Memory → StopsAmong M told e N
-stops_behind M N told i e state cause = record {
+pub stops_behind : (M N : State) (events : List Event) (i : ℕ) (e : Refusal) → N ≡ fold after_event M (take (i + 1) events) → e ≡ Memory → StopsAmong M events e N
+stops_behind M N events i e state cause = record {
   taken = i + 1;
   state = state;
   cause = inl cause;

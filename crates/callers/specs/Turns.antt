@@ -11,10 +11,10 @@ next_refusal M [] = round_refusal M
 next_refusal M (e ∷ es) = refusal_of M e
 
 -- The first events were accepted. The next call ran out of memory, or the definition refused it.
-pub record StopsAt (M : State) (told : List Event) (r : Refusal) (N : State) : Type 0 where
+pub record StopsAt (M : State) (events : List Event) (r : Refusal) (N : State) : Type 0 where
   pub taken : ℕ
-  pub state : N ≡ fold after_event M (take taken told)
-  pub cause : Refuses (next_refusal N (drop taken told)) true r
+  pub state : N ≡ fold after_event M (take taken events)
+  pub cause : Refuses (next_refusal N (drop taken events)) true r
 
 -- why the next of these events is refused, if there is one
 abbrev pub event_refusal : State → List Event → Option Refusal
@@ -22,7 +22,7 @@ event_refusal M [] = None
 event_refusal M (e ∷ es) = refusal_of M e
 
 -- The first events were accepted. Then memory ran out, or the definition refused the next event.
-pub record StopsAmong (M : State) (told : List Event) (r : Refusal) (N : State) : Type 0 where
+pub record StopsAmong (M : State) (events : List Event) (r : Refusal) (N : State) : Type 0 where
   pub taken : ℕ
-  pub state : N ≡ fold after_event M (take taken told)
-  pub cause : (r ≡ Memory) ⊎ (event_refusal N (drop taken told) ≡ Some r)
+  pub state : N ≡ fold after_event M (take taken events)
+  pub cause : (r ≡ Memory) ⊎ (event_refusal N (drop taken events) ≡ Some r)

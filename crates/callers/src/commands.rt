@@ -25,11 +25,11 @@ pub fn commands_of_parts(
     requires wishes { AreSorted (map keyed_wishes parts.now) }
     requires deletes { AreSorted (map keyed_deletes parts.now) }
     requires one_wish { has_repeats (map (λ w. w.block) (merged_wishes parts.now)) ≡ false }
-    ensures commands { IfOk result (λ told. told ≡ commands_of topology.now.cluster round
+    ensures commands { IfOk result (λ made. made ≡ commands_of topology.now.cluster round
         (chosen_transfers (limits_of config.now) topology.now.cluster parts.now)
         (chosen_deletes (limits_of config.now) topology.now.cluster parts.now)) }
-    ensures sends { IfOk result (λ told. All (SendsItsOwn topology.now.cluster) told.nodes) }
-    ensures deletes { IfOk result (λ told. All (DeletesItsOwn topology.now.cluster) told.nodes) }
+    ensures sends { IfOk result (λ made. All (SendsItsOwn topology.now.cluster) made.nodes) }
+    ensures deletes { IfOk result (λ made. All (DeletesItsOwn topology.now.cluster) made.nodes) }
     ensures refused { IfErr result (λ e. e ≡ Memory) }
 {
     let chosen = choose(alloc, parts, topology, config)?;

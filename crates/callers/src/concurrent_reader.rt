@@ -4,7 +4,7 @@ ghost use Rattle.bm_base.specs.Words.{after_event, refusal_of};
 ghost use Rattle.bm_base.specs.declared.refusal.Refusal.TheVariants.{Memory};
 ghost use Rattle.bm_view.specs.History.{last_of};
 ghost use Rattle.callers.specs.Turns.{StopsAmong};
-ghost use Rattle.callers.specs.ConcurrentReader.{IsNoOlder, IsToldAfter};
+ghost use Rattle.callers.specs.ConcurrentReader.{IsNoOlder, IsLearntAfter};
 
 use bm_base::{BlockId, Event, Refusal};
 use bm_crew::NoGate;
@@ -20,7 +20,7 @@ use std::thread::{Threads, join_mut};
 #[derive(Clone, Copy, Debug, PartialEq, Eq)]
 pub struct Seen {
     /// The number of calls of the version that it learned of.
-    pub told: u64,
+    pub learnt: u64,
     /// The replicas of the block in this version or in a later one.
     pub found: Option<Located>,
 }
@@ -88,7 +88,7 @@ pub fn apply_beside_reader<R: Threads + Wait + Sync>(
     ensures state { OnOk result.changes (manager.new ≡ fold after_event manager.old events.now) }
     ensures stopped { IfErr result.changes
         (λ e. StopsAmong manager.old events.now e manager.new) }
-    ensures told { IfOk result.seen (λ seen. All (IsToldAfter manager.old.calls) seen.items) }
+    ensures learnt { IfOk result.seen (λ seen. All (IsLearntAfter manager.old.calls) seen.items) }
     ensures no_older { IfOk result.seen (λ seen. All IsNoOlder seen.items) }
     ensures calls { (last_of publisher.new.list).calls ≤ manager.new.calls }
     ensures home { (publisher.new.home ≡ publisher.old.home)
@@ -114,7 +114,7 @@ fn in_two_threads<J: Home + Send + Sync, R: Threads + Wait + Sync>(
     ensures state { OnOk result.changes (manager.new ≡ fold after_event manager.old events.now) }
     ensures stopped { IfErr result.changes
         (λ e. StopsAmong manager.old events.now e manager.new) }
-    ensures told { IfOk result.seen (λ seen. All (IsToldAfter J.before) seen.items) }
+    ensures learnt { IfOk result.seen (λ seen. All (IsLearntAfter J.before) seen.items) }
     ensures no_older { IfOk result.seen (λ seen. All IsNoOlder seen.items) }
     ensures calls { (last_of publisher.new.list).calls ≤ manager.new.calls }
     ensures home { (publisher.new.home ≡ J.home) × (locator.new.home ≡ J.home) }
@@ -131,7 +131,7 @@ fn in_two_threads<J: Home + Send + Sync, R: Threads + Wait + Sync>(
         &mut || -> Result<Vec<Seen>, AllocError>
             requires { locator.now.home ≡ J.home }
             ensures home { locator.exit.now.home ≡ J.home }
-            ensures told { IfOk result (λ seen. All (IsToldAfter J.before) seen.items) }
+            ensures learnt { IfOk result (λ seen. All (IsLearntAfter J.before) seen.items) }
             ensures no_older { IfOk result (λ seen. All IsNoOlder seen.items) }
         { look_at_each::<J, R>(rt, alloc, locator, &from, id) },
         &mut || -> Result<(), Refusal>
@@ -208,7 +208,7 @@ fn look_at_each<J: Home, R: Wait>(
 ) -> Result<Vec<Seen>, AllocError>
     requires { locator.old.home ≡ J.home }
     ensures home { locator.new.home ≡ J.home }
-    ensures told { IfOk result (λ seen. All (IsToldAfter J.before) seen.items) }
+    ensures learnt { IfOk result (λ seen. All (IsLearntAfter J.before) seen.items) }
     ensures no_older { IfOk result (λ seen. All IsNoOlder seen.items) }
 {
     let mut seen = Vec::new(alloc);
@@ -222,13 +222,13 @@ fn look_at_each<J: Home, R: Wait>(
 fn look_after(locator: &mut Locator, receipt: Receipt, id: BlockId) -> Seen
     requires { locator.old.home ≡ receipt.home }
     ensures home { locator.new.home ≡ locator.old.home }
-    ensures told { result.told ≡ (last_of receipt.list).calls }
+    ensures learnt { result.learnt ≡ (last_of receipt.list).calls }
     ensures no_older { IsNoOlder result }
 {
-    let told = receipt.calls();
+    let learnt = receipt.calls();
     locator.learn(receipt);
     Seen {
-        told,
+        learnt,
         found: locator.locate(id),
     }
 }

@@ -37,8 +37,8 @@ fn copy_by(
     block: BlockId,
     stamp: Stamp,
     topology: &Topology,
-    streams: &Streams,
-    scheduled: &Scheduled,
+    streams: &Streams<'_>,
+    scheduled: &Scheduled<'_>,
 ) -> Option<Transfer>
     requires streams { streams.now ≡ senders_with topology.now.cluster [] }
     requires scheduled { scheduled.now ≡ targets_with topology.now.cluster [] }

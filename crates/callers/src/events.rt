@@ -14,7 +14,7 @@ pub fn arrival(
     bytes: u64,
     entries: &[Entry],
 ) -> Result<Vec<Event>, AllocError>
-    ensures { IfOk result (λ told. told.items
+    ensures { IfOk result (λ events. events.items
         ≡ Event.Register node rack (storage ∷ [])
         ∷ Event.Heartbeat node (record { storage = storage; remaining = bytes } ∷ [])
         ∷ Event.FullReport storage entries.now ∷ []) }
@@ -23,9 +23,9 @@ pub fn arrival(
         storage,
         remaining: bytes,
     };
-    let mut told = Vec::new(alloc);
-    told.push(Event::register(alloc, node, rack, &[storage])?)?;
-    told.push(Event::heartbeat(alloc, node, &[free])?)?;
-    told.push(Event::full_report(alloc, storage, entries)?)?;
-    Ok(told)
+    let mut events = Vec::new(alloc);
+    events.push(Event::register(alloc, node, rack, &[storage])?)?;
+    events.push(Event::heartbeat(alloc, node, &[free])?)?;
+    events.push(Event::full_report(alloc, storage, entries)?)?;
+    Ok(events)
 }

@@ -1,24 +1,33 @@
-//! Small proved callers of the library, for developers who build on it. The page of each crate
-//! quotes its caller.
+//! Small proved callers of the library, for developers who build on it. The `CALLING.md` of each
+//! crate quotes its caller.
 //!
-//! | You want | Look at | Page |
-//! |---|---|---|
-//! | events from lists of your own | `arrival` (`events.rt`) | `bm_base/CALLING.md` |
-//! | to iterate over an answer and print it as the tool does | `replica_lines` (`printed_answers.rt`) | `bm_base/CALLING.md` |
-//! | a NameNode's loop: events, then a round, then the commands of each DataNode | `turn`, `for_node` (`name_node.rt`) | `bm_manager/CALLING.md` |
-//! | to ask "what if": which blocks are missing if a node dies | `missing_if_dead` (`what_if.rt`) | `bm_manager/CALLING.md` |
-//! | to go on when out of memory | `apply_or_free` (`memory.rt`) | `bm_manager/CALLING.md` |
-//! | a reader that learns of a published version | `publish_and_look` (`informed_reader.rt`) | `bm_view/CALLING.md` |
-//! | changes, with a reader in a thread of its own | `apply_beside_reader` (`concurrent_reader.rt`) | `bm_view/CALLING.md` |
-//! | to read and write the tool's lines | `tidy_line` (`lines.rt`) | `bm_lines/CALLING.md` |
-//! | to count the pieces of work of a call | `apply_counted` (`counting_gate.rt`) | `bm_crew/CALLING.md` |
-//! | which storages of a list are known and do not drain | `find_serving` (`storages.rt`) | `bm_topo/CALLING.md` |
-//! | the source and the target of one more copy of a block | `first_copy` (`copy_choice.rt`) | `bm_place/CALLING.md` |
-//! | the commands of a round, from what the shards found | `commands_of_parts` (`commands.rt`) | `bm_round/CALLING.md` |
-//! | to put a replica into an arena | `put_replica` (`replicas.rt`) | `bm_arena/CALLING.md` |
-//! | to take a full report, or none of it | `take_report` (`full_report.rt`) | `bm_report/CALLING.md` |
-//! | a set of slots, each once | `note_slots`, `in_order` (`slots.rt`) | `bm_queues/CALLING.md` |
-//! | an event on the cluster and on one shard: on both, or on neither | `take_event` (`one_shard.rt`) | `bm_shard/CALLING.md` |
+//! `bm_base`:
+//! - events from lists of your own: `arrival` (`events.rt`)
+//! - an answer, printed as the tool does: `replica_lines` (`printed_answers.rt`)
+//!
+//! `bm_manager`:
+//! - a NameNode's loop of events, a round, and the commands of each DataNode: `turn`, `for_node`
+//!   (`name_node.rt`)
+//! - "what if": which blocks are missing if a node dies: `missing_if_dead` (`what_if.rt`)
+//! - going on when out of memory: `apply_or_free` (`memory.rt`)
+//!
+//! `bm_view`:
+//! - a reader that learns of a published version: `publish_and_look` (`informed_reader.rt`)
+//! - changes, with a reader in a thread of its own: `apply_beside_reader` (`concurrent_reader.rt`)
+//!
+//! `bm_lines`:
+//! - the tool's lines, read and written: `tidy_line` (`lines.rt`)
+//!
+//! Inner crates:
+//! - `bm_crew`, a count of the pieces of work of a call: `apply_counted` (`counting_gate.rt`)
+//! - `bm_topo`, known storages that do not drain: `find_serving` (`storages.rt`)
+//! - `bm_place`, the source and the target of a copy: `first_copy` (`copy_choice.rt`)
+//! - `bm_round`, the commands of a round: `commands_of_parts` (`commands.rt`)
+//! - `bm_arena`, a replica put into an arena: `put_replica` (`replicas.rt`)
+//! - `bm_report`, a full report, or none of it: `take_report` (`full_report.rt`)
+//! - `bm_queues`, a set of slots, each once: `note_slots`, `in_order` (`slots.rt`)
+//! - `bm_shard`, an event on the cluster and on one shard, or on neither: `take_event`
+//!   (`one_shard.rt`)
 #![tactic(auto)]
 
 mod commands;

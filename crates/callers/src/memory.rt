@@ -32,6 +32,6 @@ pub fn apply_or_free<R: Threads + Wait + Sync, S: Drop>(
             *spare = None;
             manager.apply(rt, &NoGate, event)
         }
-        told => told,
+        answer => answer,
     }
 }

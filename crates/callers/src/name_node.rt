@@ -17,17 +17,17 @@ use std::thread::Threads;
 pub fn turn<R: Threads + Wait + Sync>(
     rt: &R,
     manager: &mut Manager,
-    told: &[Event],
+    events: &[Event],
 ) -> Result<Commands, Refusal>
     ensures commands { IfOk result
-        (λ k. k ≡ (whole_round (fold after_event manager.old told.now)).0) }
+        (λ k. k ≡ (whole_round (fold after_event manager.old events.now)).0) }
     ensures state { OnOk result
-        (manager.new ≡ count_call (whole_round (fold after_event manager.old told.now)).1) }
+        (manager.new ≡ count_call (whole_round (fold after_event manager.old events.now)).1) }
     ensures last_good { IfOk result
-        (λ k. SparesLastGood (fold after_event manager.old told.now) k) }
-    ensures stopped { IfErr result (λ e. StopsAt manager.old told.now e manager.new) }
+        (λ k. SparesLastGood (fold after_event manager.old events.now) k) }
+    ensures stopped { IfErr result (λ e. StopsAt manager.old events.now e manager.new) }
 {
-    for event in told {
+    for event in events {
         manager.apply(rt, &NoGate, event)?;
     }
     manager.round(rt, &NoGate)
@@ -48,9 +48,9 @@ fn own_part(nodes: &[NodeCommands], node: NodeId) -> Option<&NodeCommands>
     ensures commanded { IfSome result (λ k. Contains nodes.now k.now) }
     ensures nothing { IfNone result (All (λ k. (k.node == node) ≡ false) nodes.now) }
 {
-    for told in nodes {
-        if told.node == node {
-            return Some(told);
+    for commands in nodes {
+        if commands.node == node {
+            return Some(commands);
         }
     }
     None

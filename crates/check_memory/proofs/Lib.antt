@@ -1,0 +1,1 @@
+-- The steps of each function's proof are in its folder; there is no further lemma.

@@ -67,7 +67,7 @@ fn choose<R: Eprint>(
     alloc: Global,
     live: &[StorageId],
     topology: &Topology,
-    streams: &mut Streams,
+    streams: &mut Streams<'_>,
     tally: &mut Tally,
 ) -> Result<(), Refusal>
     requires { streams.old ≡ sender_table topology.now.cluster (λ _. 0) }
@@ -81,7 +81,12 @@ fn choose<R: Eprint>(
 }
 
 /// The first storage is the source, and then the next one, if there is one.
-fn choose_sources(live: &[StorageId], topology: &Topology, streams: &mut Streams, tally: &mut Tally)
+fn choose_sources(
+    live: &[StorageId],
+    topology: &Topology,
+    streams: &mut Streams<'_>,
+    tally: &mut Tally,
+)
     requires { streams.old ≡ sender_table topology.now.cluster (λ _. 0) }
 {
     let first = least_source(live, Level::Highest, topology, streams);
@@ -99,7 +104,7 @@ fn choose_sources(live: &[StorageId], topology: &Topology, streams: &mut Streams
 fn choose_targets(
     live: &[StorageId],
     topology: &Topology,
-    scheduled: &mut Scheduled,
+    scheduled: &mut Scheduled<'_>,
     tally: &mut Tally,
 )
     requires { scheduled.old ≡ target_table topology.now.cluster (λ _. 0) }

@@ -1,7 +1,7 @@
-// Lists of calls, many times: four threads work each in five shards, after each call the state is
-// published, and two threads read in parallel. Each answer is that of a manager of one shard and
-// one thread, and so is each read; and no reader goes back. That the reads come between the calls,
-// and not all after them, is counted over all lists: a reader finds a later version than at its
+// Lists of random calls on a manager with five shards and four threads. The state is published
+// after each call, and two threads read in parallel. Each answer, and each read, must be that of a
+// manager with one shard and one thread, and no reader may go back. To show that reads come between
+// calls, and not all after the last one, it counts the reads that find a later version than the
 // read before.
 ghost use Rattle.std.specs.Prelude.{◌≡◌, All};
 ghost use Rattle.bm_view.specs.Holders.{IsNewAt};
@@ -20,19 +20,19 @@ use std::marker::Brand;
 use std::sync::Wait;
 use std::thread::{Threads, join};
 
-/// How many calls are made on one manager.
+/// The number of calls on one manager.
 const LIST: u32 = 100;
 
 const SHARDS: u32 = 5;
 
 const WORKERS: u32 = 4;
 
-/// How often readers have to find a later version than at the read before, over all lists. Where
-/// all reads come after the last call, that is never.
+/// The least number of reads, over all lists, that find a later version than the read before. If
+/// all reads come after the last call, there are none.
 const LEAST_LATER: u32 = 1;
 
-/// Whether `times` lists are answered and read as they should be, and readers went from one version
-/// to a later one.
+/// Whether all answers and reads of `times` lists are right, and readers went from one version to a
+/// later one.
 pub fn are_all_alike<R: Threads + Wait + Sync>(
     rt: &R,
     host: &HostRuntime,
@@ -63,7 +63,7 @@ fn tell_later(rt: &HostRuntime, later: u32) {
     let _ = eprintln!(rt; "{later} times a reader found a later version than at its read before");
 }
 
-/// A list that is drawn, with two readers. An answer that is wrong counts as a read that is.
+/// Draws a list and makes its calls, with two readers. A wrong answer counts as a wrong read.
 fn read_list<R: Threads + Wait + Sync>(
     rt: &R,
     alloc: Global,
@@ -78,7 +78,7 @@ fn read_list<R: Threads + Wait + Sync>(
     reads
 }
 
-/// Rounds with few commands, and copies that are soon given up.
+/// Rounds with few commands, and transfers that expire soon.
 fn config(shards: u32, workers: u32) -> Config {
     Config {
         shards,
@@ -90,7 +90,7 @@ fn config(shards: u32, workers: u32) -> Config {
     }
 }
 
-/// Where the block is at first, and after each of the calls that are drawn next, in a manager of
+/// The locations of the block at first, and after each of the next calls drawn, in a manager with
 /// one shard and one worker.
 fn locate_after_each<R: Threads + Wait + Sync>(
     rt: &R,
@@ -123,7 +123,7 @@ fn locate_each<R: Threads + Wait + Sync>(
     Ok(())
 }
 
-/// Makes a call that is drawn. Its answer is looked at when the two managers make it.
+/// Draws a call and makes it. Its answer is compared when the two managers make it.
 fn make_next<R: Threads + Wait + Sync>(
     rt: &R,
     alloc: Global,
@@ -136,8 +136,8 @@ fn make_next<R: Threads + Wait + Sync>(
     Ok(())
 }
 
-/// Where a manager has a block, as a locator is to answer it: a block that was not added is
-/// nowhere.
+/// The locations of a block in a manager, as a locator must answer them: none of a block that was
+/// not added.
 fn locate_in(manager: &Manager, block: BlockId) -> Located {
     let calls = manager.calls();
     let places = match manager.places(block) {
@@ -147,7 +147,7 @@ fn locate_in(manager: &Manager, block: BlockId) -> Located {
     Located { calls, places }
 }
 
-/// The list on two new managers, with two readers.
+/// Makes the calls of the list on two new managers, with two readers.
 fn read_pair<R: Threads + Wait + Sync>(
     rt: &R,
     alloc: Global,
@@ -162,7 +162,7 @@ fn read_pair<R: Threads + Wait + Sync>(
     reads
 }
 
-/// With locators of the publisher, which the brand names from here on.
+/// The same with two locators of the publisher; from here on a brand names their view.
 fn read_with<R: Threads + Wait + Sync>(
     rt: &R,
     alloc: Global,
@@ -225,8 +225,8 @@ fn new_channels<J: Home>(
     Ok(((to_one, to_other), (from_one, from_other)))
 }
 
-/// Makes the calls, and two threads read in parallel. The readers come first: where no thread can
-/// be started, the first closure is called last, and so finds all receipts.
+/// Makes the calls while two threads read. The readers are the first closure: if no thread can be
+/// started, that one is called last, and finds all receipts.
 fn join_all<J: Home + Send + Sync, R: Threads + Wait + Sync>(
     rt: &R,
     alloc: Global,
@@ -256,8 +256,8 @@ fn join_all<J: Home + Send + Sync, R: Threads + Wait + Sync>(
     reads
 }
 
-/// Makes the calls, publishes after each, and sends each reader the receipt. How many answers
-/// differ, or can't be sent.
+/// Makes the calls, publishes after each, and sends each reader the receipt. Returns how many
+/// answers differ or receipts cannot be sent.
 fn make_all<J: Home, R: Threads + Wait + Sync>(
     rt: &R,
     alloc: Global,
@@ -272,15 +272,15 @@ fn make_all<J: Home, R: Threads + Wait + Sync>(
     let mut wrong = 0u32;
     for number in 0..LIST {
         let is_alike = matches!(pair.is_next_alike(rt, alloc, run, number), Ok(true));
-        let is_settled_to_scan = is_alike
+        let is_sent = is_alike
             && publish_to::<J, R>(rt, &mut pair.other, publisher, &to_one)
             && publish_to::<J, R>(rt, &mut pair.other, publisher, &to_other);
-        wrong = wrong.saturating_add(u32::from(!is_settled_to_scan));
+        wrong = wrong.saturating_add(u32::from(!is_sent));
     }
     wrong
 }
 
-/// Publishes the state, and sends a reader the receipt. Whether that could be done.
+/// Publishes the state, and sends a reader the receipt. Returns whether both succeeded.
 fn publish_to<J: Home, R: Threads + Wait + Sync>(
     rt: &R,
     manager: &mut Manager,

@@ -1,22 +1,22 @@
-// What happened in a run.
+// The events and answers of a run, counted.
 
 use bm_base::{Answer, Call, Commands, Event};
 
 const KINDS: usize = 14;
 
-/// How many accepted events of each kind there have to be.
+/// The least number of accepted events of each kind.
 const LEAST_OF_A_KIND: u32 = 5;
 
 const LEAST_ACCEPTED: u32 = 300;
 
-/// How many rounds have to command something.
+/// The least number of rounds with a command.
 const LEAST_ROUNDS: u32 = 50;
 
 const LEAST_LISTS: u32 = 30;
 
 const LEAST_REFUSALS: u32 = 100;
 
-/// How many calls were answered how.
+/// The numbers of answers, by kind.
 #[derive(Clone, Copy)]
 pub struct Counts {
     /// The accepted events of each kind.
@@ -90,7 +90,7 @@ impl Counts {
         all
     }
 
-    /// A line for whoever looks on. One that can't be printed is left out.
+    /// Prints one line of counts on standard error. A failed write is ignored.
     pub fn tell(&self, rt: &HostRuntime) {
         let accepted = self.accepted_events();
         let Counts {
@@ -105,7 +105,7 @@ impl Counts {
         );
     }
 
-    /// Whether the run shows something.
+    /// Whether enough of each kind happened for the comparison to mean something.
     pub fn are_enough(&self) -> bool {
         self.accepted.iter().all(|count| *count >= LEAST_OF_A_KIND)
             && self.accepted_events() >= LEAST_ACCEPTED

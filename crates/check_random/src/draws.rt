@@ -1,4 +1,4 @@
-// Calls that are drawn: of all kinds, on so few nodes, storages and blocks that most of them hit
+// Random calls of all kinds, on so few nodes, storages and blocks that most of them change
 // something.
 ghost use Rattle.std.specs.Prelude.{◌<◌};
 
@@ -12,13 +12,13 @@ const NODES: u32 = 6;
 
 const RACKS: u32 = 3;
 
-/// Each node may have two storages: of node 3 they are 31 and 32.
+/// Each node has up to two storages; those of node 3 are 31 and 32.
 const STORAGES_OF_A_NODE: u32 = 2;
 
 /// Blocks 0 to 29.
 const BLOCKS: u32 = 30;
 
-/// A round, a question or an event.
+/// A round, a query or an event.
 pub fn call(rng: &mut Pcg32, alloc: Global) -> Result<Call, AllocError> {
     match rng.random_range(0..10u32) {
         0 => Ok(Call::Round),
@@ -42,7 +42,7 @@ fn question(rng: &mut Pcg32) -> Call {
     }
 }
 
-/// An event: those that bring nodes, blocks and replicas more often than the others.
+/// An event. Those that add nodes, blocks and replicas are drawn more often than the others.
 fn event(rng: &mut Pcg32, alloc: Global) -> Result<Event, AllocError> {
     match rng.random_range(0..40u32) {
         0..=5 => register(rng, alloc),
@@ -92,7 +92,7 @@ fn block_event(rng: &mut Pcg32) -> Event {
     }
 }
 
-/// A node with its two storages, or, once in four times, with one of another node beside them.
+/// A node with its two storages and, once in four times, any other storage too.
 fn register(rng: &mut Pcg32, alloc: Global) -> Result<Event, AllocError> {
     let node = node(rng);
     let mut storages = Vec::new(alloc);
@@ -109,7 +109,7 @@ fn register(rng: &mut Pcg32, alloc: Global) -> Result<Event, AllocError> {
     })
 }
 
-/// The remaining bytes of one storage of a node, or, once in four times, of any other.
+/// The remaining bytes of a storage of the node or, once in four times, of any storage.
 fn heartbeat(rng: &mut Pcg32, alloc: Global) -> Result<Event, AllocError> {
     let node = node(rng);
     let own = storage_of(node, rng.random_range(0..STORAGES_OF_A_NODE));
@@ -165,12 +165,12 @@ pub fn block(rng: &mut Pcg32) -> BlockId {
     BlockId(u64::from(rng.random_range(0..BLOCKS)))
 }
 
-/// Mostly of the first generation.
+/// A stamp, mostly of the first generation.
 fn stamp(rng: &mut Pcg32) -> Stamp {
     of_generation(u32::from(rng.random_range(0..6u32) == 0))
 }
 
-/// So many generations after the first.
+/// The stamp `later` generations after the first.
 fn of_generation(later: u32) -> Stamp {
     Stamp {
         generation: Gen(u64::from(later).saturating_add(1)),

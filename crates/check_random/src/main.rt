@@ -1,18 +1,21 @@
-//! Makes the same calls, drawn by a seed, on a manager with one shard and one worker and on another
-//! one, whose numbers of shards and workers are drawn too, and compares each answer: `check_random
-//! [CALLS [SEED]]`. The calls come in lists of 2,000, each on two new managers. Standard output has
-//! how many calls were answered alike.
+//! Compares managers by random calls.
 //!
-//! `check_random beside [TIMES [SEED]]` makes TIMES lists of 100 calls, the other manager with five
-//! shards and four workers. It publishes after each call, and two threads read in parallel with the
-//! calls: each read must be of a state that a manager of one shard and one worker had.
+//! `check_random [CALLS [SEED]]` makes the same random calls on two managers, and compares each
+//! answer. One has one shard and one worker; the other has random numbers of both. The calls come
+//! in lists of 2,000, each on two new managers. Prints how many calls were answered alike.
 //!
-//! Ends with status 1 where two answers differ, where a read is of no version that was published or
-//! goes back, where memory is refused, where an argument is no number, and where the run was too
-//! poor to show much: fewer than the least number of accepted events of each kind, rounds with a
-//! command, lists that are not empty, and refusals; or, with readers, none of these that went from
-//! one version to a later one, as it is where no thread can be started. (Fewer calls than a list
-//! has show little, and are not judged so.)
+//! `check_random beside [TIMES [SEED]]` makes TIMES lists of 100 calls; the other manager has five
+//! shards and four workers. It publishes after each call, and two threads read in parallel: each
+//! read must be of a state that the manager with one shard and one worker had.
+//!
+//! The exit status is 1 in five cases:
+//! - two answers differ;
+//! - a read goes back, or is of no published version;
+//! - memory is refused;
+//! - an argument is no number;
+//! - too little happened: too few accepted events of some kind, rounds with a command, lists that
+//!   are not empty, or refusals; or, with readers, no reader went from one version to a later one,
+//!   as when no thread can be started. This is not asked of fewer calls than a list has.
 #![tactic(auto)]
 
 mod concurrent_calls;
@@ -29,10 +32,10 @@ use std::process::ExitCode;
 
 const SEED: u64 = 20_260_123;
 
-/// How many lists are made with readers.
+/// The standard number of lists with readers.
 const TIMES: u32 = 200;
 
-/// `count` calls, or as many lists with readers, by a seed.
+/// The command line: `count` calls, or `count` lists with readers, and the seed.
 #[derive(Clone, Copy)]
 struct Asked {
     is_beside: bool,
@@ -68,7 +71,7 @@ fn exit_code_of(rt: &HostRuntime, done: Result<bool, Refusal>, count: u32, what:
     }
 }
 
-/// What the arguments ask for. `None` where a word is no number.
+/// Reads the command line. `None` if an argument is no number.
 fn read_words(rt: &HostRuntime) -> Option<Asked> {
     let mut words = env::args(rt).ok()?;
     let _program = words.next();
@@ -95,7 +98,7 @@ fn is_beside(word: &Option<String>) -> bool {
     matches!(word, Some(word) if word.as_str() == "beside")
 }
 
-/// The number that a word has, and another one where there is no word.
+/// The number that a word has; `otherwise` if there is no word.
 fn number_in(word: Option<String>, otherwise: u64) -> Option<u64> {
     match word {
         Some(word) => word.as_str().parse::<u64>().ok(),

@@ -1,4 +1,4 @@
-// Two managers that differ in shards and workers, and calls that both have to answer alike.
+// Two managers with different shards and workers, and calls that both must answer alike.
 
 use crate::counts::Counts;
 use crate::draws;
@@ -12,10 +12,10 @@ use std::alloc::{AllocError, Global};
 use std::sync::Wait;
 use std::thread::Threads;
 
-/// How many calls are made on two managers before two new ones are.
+/// The number of calls on two managers before two new ones are made.
 pub const LIST: u32 = 2000;
 
-/// What calls are drawn from, what happened in them, and where differences are printed.
+/// A run: the source of random calls, the counts so far, and the place to print differences.
 #[derive(Drop)]
 pub struct Run<'a> {
     pub host: &'a HostRuntime,
@@ -65,8 +65,8 @@ fn is_list_alike<R: Threads + Wait + Sync>(
     Ok(is_alike?)
 }
 
-/// Any numbers of shards and workers; rounds with few commands, and copies that are soon given up,
-/// so that the limits of both are met.
+/// Random numbers of shards and workers. Rounds have few commands and transfers expire soon, so
+/// that both limits are reached.
 fn draw_config(rng: &mut Pcg32) -> Config {
     let shards = 1 + rng.random_range(0..64);
     let workers = 1 + rng.random_range(0..16);
@@ -83,20 +83,21 @@ fn draw_config(rng: &mut Pcg32) -> Config {
     }
 }
 
-/// Two managers that differ in shards and workers. These, calls and answers are let go by `drop`:
-/// its proof is one for all functions, and that of a value which goes at the end of its scope is
-/// one for each.
+/// Two managers with different shards and workers.
+///
+/// Managers, calls and answers are dropped by `drop`, which is proved once. A value that is dropped
+/// at the end of its scope would be proved in each function.
 #[derive(Drop)]
 pub struct Pair {
     one: Manager,
-    /// Hashes by a secret, the first one by none.
+    /// Its tables hash by a secret; those of `one` by none.
     pub other: Manager,
-    /// That of the other.
+    /// The configuration of `other`.
     config: Config,
 }
 
 impl Pair {
-    /// The first one has one shard and one worker.
+    /// `one` has one shard and one worker, `other` this configuration.
     pub fn new(alloc: Global, config: Config) -> Result<Pair, Refusal> {
         let alone = Config {
             shards: 1,
@@ -113,7 +114,7 @@ impl Pair {
         }
     }
 
-    /// Whether both answer `count` calls alike, which are drawn.
+    /// Whether both answer `count` random calls alike.
     fn are_alike<R: Threads + Wait + Sync>(
         &mut self,
         rt: &R,
@@ -129,7 +130,7 @@ impl Pair {
         Ok(true)
     }
 
-    /// Whether both answer a call alike, which is drawn.
+    /// Whether both answer a random call alike.
     pub fn is_next_alike<R: Threads + Wait + Sync>(
         &mut self,
         rt: &R,
@@ -165,7 +166,7 @@ impl Pair {
     }
 }
 
-/// Prints where two answers differ. A line that can't be printed is left out.
+/// Prints where two answers differ. A failed write is ignored.
 fn tell_apart(
     rt: &HostRuntime,
     config: &Config,

@@ -1,4 +1,4 @@
-// Threads that read in parallel with a manager, to which receipts come over channels.
+// Threads that read in parallel with a manager, and get its receipts over channels.
 ghost use Rattle.std.specs.Prelude.{◌≡◌};
 
 use bm_base::BlockId;
@@ -8,27 +8,27 @@ use std::marker::{Brand, PhantomData};
 use std::sync::Wait;
 use std::thread::{Threads, join};
 
-/// How often a reader reads before each receipt, and after it.
+/// The number of reads before each receipt, and after it.
 const READS: u32 = 20;
 
-/// What readers look for.
+/// What readers compare with.
 #[derive(Drop)]
 pub struct List {
     pub block: BlockId,
-    /// Where the block is in each version that can be published.
+    /// The block's locations in each version that can be published.
     pub located: Vec<Located>,
 }
 
-/// What was read.
+/// The results of the reads.
 #[derive(Clone, Copy)]
 pub struct Reads {
-    /// Of the read before, how many calls its version has.
+    /// The calls of the version of the last read.
     last: Option<u64>,
     /// No read may be of a version with fewer calls.
     least: u64,
-    /// How often a reader read a later version than at its read before.
+    /// The number of reads of a later version than the read before.
     pub later: u32,
-    /// How many reads were of no version, or went back.
+    /// The number of reads of no version, and of those that went back.
     pub wrong: u32,
 }
 
@@ -42,8 +42,8 @@ impl Reads {
         }
     }
 
-    /// A read. It is wrong where it is of no version, or of an older one than was read or learnt
-    /// before.
+    /// Counts a read. It is wrong if it is of no version, or of an older one than was read or
+    /// learnt before.
     fn note(&mut self, list: &List, seen: Located) {
         let is_known = list.located.as_slice().iter().any(|one| *one == seen);
         let is_later = matches!(self.last, Some(before) if before < seen.calls);
@@ -57,7 +57,7 @@ impl Reads {
         self.wrong = self.wrong.saturating_add(count);
     }
 
-    /// Those of two readers.
+    /// The results of two readers together.
     fn plus(self, other: Reads) -> Reads {
         Reads {
             later: self.later.saturating_add(other.later),
@@ -67,7 +67,7 @@ impl Reads {
     }
 }
 
-/// Names what one `open_view` made, for receipts that cross a channel. A call picks it.
+/// Names one call of `open_view`, for receipts that cross a channel.
 pub trait Home {
     ghost use Rattle.bm_view.specs.Holders.{Home};
 
@@ -97,7 +97,7 @@ pub fn make_notice<J: Home>(receipt: Receipt) -> Notice<J>
     }
 }
 
-/// Two threads read.
+/// Reads in two threads.
 pub fn read_both<J: Home + Send + Sync, R: Threads + Wait + Sync>(
     rt: &R,
     list: &List,

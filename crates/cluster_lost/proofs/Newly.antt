@@ -29,12 +29,12 @@ by_tie p x b rest false e = neither (p x) (p b && rest)
     neither true c = refl
     neither false c = refl
 
-never : (a : Bool) → false ≡ (a && false)
-never true = refl
-never false = refl
+false_and : (a : Bool) → false ≡ (a && false)
+false_and true = refl
+false_and false = refl
 
 any_tied : (p : ℕ → Bool) (xs : List ℕ) (b : ℕ) → list_any (λ x. p x && (x == b)) xs ≡ (p b && has xs b)
-any_tied p [] b = never (p b)
+any_tied p [] b = false_and (p b)
 any_tied p (x ∷ xs) b = ap (λ z. (p x && (x == b)) || z) (any_tied p xs b) ∙ by_tie p x b (has xs b) (x == b) refl
 
 has_filtered : (p : ℕ → Bool) (xs : List ℕ) (b : ℕ) → has (filter p xs) b ≡ (p b && has xs b)

@@ -16,7 +16,7 @@ use Rattle.bm_base.proofs.MapLaws.{get-keep, get-revise}
 use Rattle.bm_base.proofs.Options.{none_stays, all_stays}
 use Rattle.bm_base.proofs.MapEntries.{key_itself, not_tied, get_here, get_taken, get_left}
 use Rattle.bm_parts.proofs.ReportedReplicas.{stays_by}
-use Rattle.laws_of_events.proofs.Reporting.{named_numbers, reported_elsewhere}
+use Rattle.laws_of_events.proofs.ReportedReplicas.{named_numbers, reported_elsewhere}
 use Rattle.bm_parts.specs.Parts.{IsSameOf}
 use Rattle.bm_parts.proofs.OneBlock.{others_stay}
 use Rattle.laws_of_events.specs.Changes as law

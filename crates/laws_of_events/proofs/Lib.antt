@@ -3,11 +3,11 @@
 --
 -- for answered_calls_lead_to_lawful, answered_calls_lead_to_orderly, call_keeps_lawful,
 -- calls_lead_to_lawful, refusal_leaves_state
-pub mod Leading
--- for the lemmas of Listing, ReportLaws
-pub mod Telling
--- for the lemmas of Arriving, BlockChanges, ReportLaws, RunLaws
-pub mod Reporting
+pub mod LawfulStates
+-- for the lemmas of ListedReplicas, ReportLaws
+pub mod ReportedMarks
+-- for the lemmas of PendingTargets, BlockChanges, ReportLaws, RunLaws
+pub mod ReportedReplicas
 -- for last_entry_decides, received_is_there, received_leaves_bad_bad, received_leaves_other_nodes,
 -- report_leaves_bad_bad, report_leaves_other_nodes, report_tells_all, second_report_changes_nothing
 pub mod ReportLaws
@@ -21,24 +21,24 @@ pub mod NodeChanges
 -- report_ends_transfers, report_leaves_unnamed_blocks, restamped_block_has_no_good_replica
 pub mod BlockChanges
 -- for counts_add_up
-pub mod Counting
+pub mod EventCounts
 -- for no_event_clears_bad
 pub mod BadStays
 -- for report_is_what_is_asked
-pub mod Asked
+pub mod BlocksAfterReport
 -- for event_is_counted, query_leaves_state, round_is_counted
-pub mod Calling
+pub mod StatesAfterCalls
 -- for transfers_are_still_to_come
-pub mod Arriving
+pub mod PendingTargets
 -- for calls_lead_to_sound
-pub mod Plainly
+pub mod PlainStates
 -- for blocks_on_are_held, corrupt_are_stale_or_bad, excess_are_marked,
 -- missing_have_no_usable_replica, places_are_good, replicas_are_held
-pub mod Listing
+pub mod ListedReplicas
 -- for lists_ascend
-pub mod Rising
+pub mod AscendingLists
 -- for other_answer_is_the_steps, refused_answer_leaves_state
-pub mod Wanting
+pub mod LimitedMemory
 -- for backward_run_names_none, numbers_are_counted, run_may_be_cut, runs_are_alike_one_by_one,
 -- runs_name_their_numbers, same_told_is_alike, what_is_told_last_counts
 pub mod RunLaws
@@ -47,11 +47,12 @@ pub mod RunLaws
 -- registered_node_does_not_drain, second_drain_changes_nothing, undrain_takes_nothing
 pub mod DrainLaws
 -- for retired_is_said_plainly, retired_node_may_die
-pub mod Retiring
+pub mod RetiredNodes
 -- for no_transfer_to_draining
-pub mod Spared
+pub mod NoTransferToDraining
 
--- These laws cite only proofs of other crates. Of bm_base: Orderly (calls_lead_to_orderly),
--- Accepting (event_keeps_lawful), First (first_state_is_lawful) and Rounding (round_keeps_lawful).
+-- These laws cite only proofs of other crates. Of laws_of_states: OrderlyStates
+-- (calls_lead_to_orderly), AcceptedEvents (event_keeps_lawful), FirstState (first_state_is_lawful)
+-- and LawfulRounds (round_keeps_lawful).
 -- Of bm_parts: Parts (cut_gives_parts, event_changes_one_part, every_number_has_its_shard,
 -- parts_change_by_themselves, parts_give_back_whole) and PartSums (parts_answers_add_up).

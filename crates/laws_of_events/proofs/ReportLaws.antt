@@ -26,8 +26,8 @@ use Rattle.bm_base.proofs.ForEach.{Each, each_then}
 use Rattle.bm_base.proofs.MapEntries.{each_entry, get_here}
 use Rattle.bm_base.proofs.Clusters.{no_siblings}
 use Rattle.bm_parts.proofs.ReportedReplicas.{IsKept, IsPut, enter_origin, report_origin, stays_by}
-use Rattle.laws_of_events.proofs.Telling.{tag_where, told_marks}
-use Rattle.laws_of_events.proofs.Reporting.{named_since, named_numbers, last_is, put_or, reported_here, reported_elsewhere}
+use Rattle.laws_of_events.proofs.ReportedMarks.{tag_where, told_marks}
+use Rattle.laws_of_events.proofs.ReportedReplicas.{named_since, named_numbers, last_is, put_or, reported_here, reported_elsewhere}
 use Rattle.laws_of_events.specs.Reports as law
 use Rattle.laws_of_events.specs.Runs.{last_stamp}
 

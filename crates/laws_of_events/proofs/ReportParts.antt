@@ -21,8 +21,8 @@ use Rattle.bm_base.proofs.Entries.{expanded-++}
 use Rattle.bm_base.proofs.Options.{staying, all_stays}
 use Rattle.bm_base.proofs.ForEach.{Each}
 use Rattle.bm_parts.proofs.ReportedReplicas.{stays_by}
-use Rattle.laws_of_events.proofs.Telling.{tag_where}
-use Rattle.laws_of_events.proofs.Reporting.{last_is, put_or, reported_here, reported_elsewhere}
+use Rattle.laws_of_events.proofs.ReportedMarks.{tag_where}
+use Rattle.laws_of_events.proofs.ReportedReplicas.{last_is, put_or, reported_here, reported_elsewhere}
 use Rattle.laws_of_events.specs.Reports as law
 use Rattle.laws_of_events.specs.Runs.{last_stamp}
 

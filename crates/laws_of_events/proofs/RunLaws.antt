@@ -12,7 +12,7 @@ use Rattle.bm_base.specs.Words.{get, keep, has, Cluster, Holdings, State, replic
 use Rattle.bm_base.proofs.MapLaws.{same_map}
 use Rattle.bm_base.proofs.Entries.{length-expanded, has-told_by, expanded-++, expanded-one_by_one, told_by-backwards, told_by-cut}
 use Rattle.bm_parts.proofs.ReportedReplicas.{stays_by}
-use Rattle.laws_of_events.proofs.Reporting.{named_since, put_or, reported_here, reported_elsewhere}
+use Rattle.laws_of_events.proofs.ReportedReplicas.{named_since, put_or, reported_here, reported_elsewhere}
 use Rattle.laws_of_events.specs.Reports.{numbers_of}
 use Rattle.laws_of_events.specs.Runs as law
 

@@ -1,7 +1,7 @@
 //! Laws of events: consequences of the definitions of `bm_base`, for every state, every lawful
 //! state or every list of calls.
 //!
-//! - `show_invariant`, `plain_words`: what holds of every state that calls lead to
+//! - `lawful`, `plain_words`: what holds of every state that calls lead to
 //! - `calls`: the state after each kind of call
 //! - `changes`, `reports`: what each event changes, and what it keeps
 //! - `runs`: full reports whose entries are runs of block numbers

@@ -18,10 +18,10 @@ use Rattle.bm_base.proofs.MapEntries.{each_entry}
 use Rattle.bm_base.proofs.OneWish.{once_keys}
 use Rattle.bm_base.proofs.Sets.{some_passing}
 use Rattle.bm_base.proofs.Sets.{has_distinct, has_filter_map, rack_among}
-use Rattle.laws_of_rounds.proofs.Wished.{badly_counted}
-use Rattle.laws_of_rounds.proofs.Told.{among_map, has_among, passing_there}
+use Rattle.laws_of_rounds.proofs.RequestedCopies.{badly_counted}
+use Rattle.laws_of_rounds.proofs.NodeCommands.{among_map, has_among, passing_there}
 use Rattle.bm_base.proofs.Options.{there}
-use Rattle.laws_of_rounds.proofs.Deferred.{among_found}
+use Rattle.laws_of_rounds.proofs.DeferredDeletes.{among_found}
 
 -- Lists without repeats.
 

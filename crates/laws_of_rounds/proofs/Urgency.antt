@@ -16,9 +16,9 @@ use Rattle.bm_base.specs.Words.{Map, by_number, get, keys, entries, RoundLimits,
 use Rattle.bm_base.specs.Promises.NextRound.{transfers_chosen}
 use Rattle.std.proofs.lemmas.Option.{same_Some}
 use Rattle.bm_base.proofs.ForEach.{Each, each_of, each_appended, each_then, each_flat_map}
-use Rattle.laws_of_rounds.proofs.Choosing.{EachAfter, after_push, after_split, IsOfLevel, each_wish, each_replicate}
-use Rattle.laws_of_rounds.proofs.Later.{each_at}
-use Rattle.laws_of_rounds.proofs.Wished.{of_wish}
+use Rattle.laws_of_rounds.proofs.ChosenTransfers.{EachAfter, after_push, after_split, IsOfLevel, each_wish, each_replicate}
+use Rattle.laws_of_rounds.proofs.NextRounds.{each_at}
+use Rattle.laws_of_rounds.proofs.RequestedCopies.{of_wish}
 
 -- a requested copy is served before another
 abbrev IsBefore : RequestedCopy → RequestedCopy → Type 0

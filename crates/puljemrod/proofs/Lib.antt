@@ -1,3 +1,4 @@
+-- Lemmas on handles: what one owns, heartbeats, lines, and rows that are copied out.
 mod AsBox
 mod Beats
 mod Somes

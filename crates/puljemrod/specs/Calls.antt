@@ -62,13 +62,13 @@ pub record IsAnswered (M : State) (line : List ℕ) (k : HandleState) : Type 0 w
 
 -- The text can be copied out, and the code is the number of the answer; or memory was refused for
 -- the text, and the text that can be copied out is as before.
-abbrev pub IsTold : List ℕ → HandleState → ℕ → ℕ → Type 0
-IsTold before k code len = ((code ≡ k.number) × (k.answer ≡ None) × (len ≡ length k.text.items)) ⊎ ((code ≡ NO_TEXT) × (len ≡ 0) × (k.text.items ≡ before))
+abbrev pub IsTextStored : List ℕ → HandleState → ℕ → ℕ → Type 0
+IsTextStored before k code len = ((code ≡ k.number) × (k.answer ≡ None) × (len ≡ length k.text.items)) ⊎ ((code ≡ NO_TEXT) × (len ≡ 0) × (k.text.items ≡ before))
 
 -- A call on a line: memory was refused for a line that is not too long, and nothing changed; or the
 -- line is answered.
 abbrev pub IsLine : HandleState → List ℕ → HandleState → ℕ → ℕ → Type 0
-IsLine k line now code len = ((code ≡ MEMORY) × (now ≡ k) × (len ≡ 0) × (asked line ≡ Long → ⊥)) ⊎ (IsAnswered k.manager line now × IsTold [] now code len)
+IsLine k line now code len = ((code ≡ MEMORY) × (now ≡ k) × (len ≡ 0) × (asked line ≡ Long → ⊥)) ⊎ (IsAnswered k.manager line now × IsTextStored [] now code len)
 
 -- the call is made by the definition
 abbrev pub IsMade : HandleState → Call → HandleState → ℕ → Type 0
@@ -95,7 +95,7 @@ pub record IsText (k now : HandleState) (code len : ℕ) : Type 0 where
   pub state : now.manager ≡ k.manager
   pub number : now.number ≡ k.number
   pub text : last_text now ≡ last_text k
-  pub told : ((code ≡ k.number) × (now.answer ≡ None) × (len ≡ length now.text.items)) ⊎ ((code ≡ NO_TEXT) × (len ≡ 0) × (now ≡ k) × (k.answer ≡ None → ⊥))
+  pub stored : ((code ≡ k.number) × (now.answer ≡ None) × (len ≡ length now.text.items)) ⊎ ((code ≡ NO_TEXT) × (len ≡ 0) × (now ≡ k) × (k.answer ≡ None → ⊥))
 
 -- the effect of a call on a closed handle, which keeps the length of an answer, and on an open one
 

@@ -2,7 +2,7 @@
 pub mod Handles
 pub mod Calls
 pub mod Rows
-pub mod Telling
-pub mod Commanding
-pub mod Listing
-pub mod Doing
+pub mod StoredNumbers
+pub mod CommandRows
+pub mod ListRows
+pub mod DoneRows

@@ -2,7 +2,7 @@
 ghost use Rattle.std.specs.Prelude.{◌≡◌, ◌++◌, ◌==◌, ◌-◌, ◌^◌, if◌then◌else◌, length, take, drop, min, flat_map};
 ghost use Rattle.bm_base.specs.declared.call.Call.TheVariants.{Round};
 ghost use Rattle.puljemrod.specs.Calls.{AfterCall};
-ghost use Rattle.puljemrod.specs.Commanding.{copy_row, delete_row, copies_for, deletes_for, copies_in, deletes_in, round_in, nodes_by_answer, round_by_answer};
+ghost use Rattle.puljemrod.specs.CommandRows.{copy_row, delete_row, copies_for, deletes_for, copies_in, deletes_in, round_in, nodes_by_answer, round_by_answer};
 
 use crate::calls::make_call;
 use crate::copies::{Row, copy_rows};

@@ -2,7 +2,7 @@
 ghost use Rattle.std.specs.Prelude.{◌≡◌, ◌^◌, ◌/◌, ◌%◌, None, Some};
 ghost use Rattle.puljemrod.specs.declared.codes.TheConstants.{CLOSED};
 ghost use Rattle.puljemrod.specs.declared.handle_state.HandleState.{HandleState};
-ghost use Rattle.puljemrod.specs.Doing.{done_by_answer};
+ghost use Rattle.puljemrod.specs.DoneRows.{done_by_answer};
 
 use crate::codes::CLOSED;
 use crate::handle::Slot;

@@ -1,4 +1,5 @@
-// The events, each by a function of its own.
+// The events, each by a function of its own. There is no safe mode: a replica that is reported
+// before its block is added is stray, and the next round orders its delete.
 ghost use Rattle.std.specs.Prelude.{map};
 ghost use Rattle.bm_base.specs.declared.event.Event.TheVariants as event;
 ghost use Rattle.puljemrod.specs.Calls.{AfterEvent, AfterListed, AfterBeat};

@@ -62,7 +62,7 @@ impl Handle {
 pub struct Slot {
     pub handle: Handle,
     pub is_open: bool,
-    ghost told: { is_open ≡ is_some handle.kept },
+    ghost open_if_kept: { is_open ≡ is_some handle.kept },
 }
 
 impl Slot {

@@ -26,7 +26,7 @@ mod parts;
 mod questions;
 mod rows;
 mod spare;
-mod told;
+mod stored_number;
 
 use codes::{CLOSED, OPEN};
 use handle::Slot;

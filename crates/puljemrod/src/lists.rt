@@ -1,6 +1,6 @@
 // The list of a question, copied out as rows.
 ghost use Rattle.std.specs.Prelude.{◌≡◌, ◌++◌, length, take, drop, min};
-ghost use Rattle.puljemrod.specs.Listing.{replica_row, pair_row, number_row, tag_number, replicas_by_answer, pairs_by_answer, numbers_by_answer, replicas_in, pairs_in, numbers_in};
+ghost use Rattle.puljemrod.specs.ListRows.{replica_row, pair_row, number_row, tag_number, replicas_by_answer, pairs_by_answer, numbers_by_answer, replicas_in, pairs_in, numbers_in};
 
 use crate::copies::{Row, copy_list};
 use crate::handle::Slot;

@@ -1,19 +1,19 @@
 // The questions, each by a function of its own.
 ghost use Rattle.bm_base.specs.declared.call.Call.TheVariants as call;
-ghost use Rattle.puljemrod.specs.Telling.{AfterQuestion};
+ghost use Rattle.puljemrod.specs.StoredNumbers.{AfterQuestion};
 
 use crate::calls::make_call;
 use crate::handle::Slot;
-use crate::told::told;
+use crate::stored_number::stored_number;
 use bm_base::{BlockId, Call, NodeId, StorageId};
 use std::alloc::Global;
 
-fn ask(alloc: Global, slot: &mut Slot, call: Call, told_number: &mut u64) -> u32
-    ensures { AfterQuestion slot.old.handle.kept call slot.new.handle.kept result told_number.old told_number.new }
+fn ask(alloc: Global, slot: &mut Slot, call: Call, number: &mut u64) -> u32
+    ensures { AfterQuestion slot.old.handle.kept call slot.new.handle.kept result number.old number.new }
 {
     let code = make_call(alloc, slot, call);
     if code == 0 {
-        *told_number = told(alloc, slot);
+        *number = stored_number(alloc, slot);
     }
     code
 }

@@ -334,7 +334,7 @@ fn version(calls: u64) -> Option<Located> {
 fn may_be_seen(seen: &Seen, told: u64) -> bool {
     match seen.found {
         Some(found) => {
-            seen.told == told && told <= found.calls && seen.found == version(found.calls)
+            seen.learnt == told && told <= found.calls && seen.found == version(found.calls)
         }
         None => false,
     }

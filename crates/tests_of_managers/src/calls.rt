@@ -8,7 +8,7 @@ pub(crate) const STAMP: (u64, u64) = (1, 10);
 
 /// A call with the numbers of its fields, in the order of its line.
 #[derive(Clone, Copy)]
-pub(crate) enum Told<'a> {
+pub(crate) enum Case<'a> {
     /// A node, its rack and its storages.
     Register(u32, u32, &'a [u32]),
     /// A node, and storages with their free bytes.
@@ -48,24 +48,24 @@ fn stamp_of((generation, len): (u64, u64)) -> Stamp {
 }
 
 /// An event on nodes or storages, without a list.
-fn event_on_nodes(told: Told<'_>) -> Option<Event> {
+fn event_on_nodes(told: Case<'_>) -> Option<Event> {
     Some(match told {
-        Told::Drain(node) => Event::Drain { node: NodeId(node) },
-        Told::Undrain(node) => Event::Undrain { node: NodeId(node) },
-        Told::Dead(node) => Event::Dead { node: NodeId(node) },
-        Told::Failed(storage) => Event::StorageFailed {
+        Case::Drain(node) => Event::Drain { node: NodeId(node) },
+        Case::Undrain(node) => Event::Undrain { node: NodeId(node) },
+        Case::Dead(node) => Event::Dead { node: NodeId(node) },
+        Case::Failed(storage) => Event::StorageFailed {
             storage: StorageId(storage),
         },
-        Told::Received(storage, block, stamp) => Event::Received {
+        Case::Received(storage, block, stamp) => Event::Received {
             storage: StorageId(storage),
             id: BlockId(block),
             stamp: stamp_of(stamp),
         },
-        Told::Deleted(storage, block) => Event::Deleted {
+        Case::Deleted(storage, block) => Event::Deleted {
             storage: StorageId(storage),
             id: BlockId(block),
         },
-        Told::Corrupt(storage, block) => Event::Corrupt {
+        Case::Corrupt(storage, block) => Event::Corrupt {
             storage: StorageId(storage),
             id: BlockId(block),
         },
@@ -73,19 +73,19 @@ fn event_on_nodes(told: Told<'_>) -> Option<Event> {
     })
 }
 
-fn event_on_block(told: Told<'_>) -> Option<Event> {
+fn event_on_block(told: Case<'_>) -> Option<Event> {
     Some(match told {
-        Told::Add(block, stamp, repl) => Event::AddBlock {
+        Case::Add(block, stamp, repl) => Event::AddBlock {
             id: BlockId(block),
             stamp: stamp_of(stamp),
             repl,
         },
-        Told::Delete(block) => Event::DeleteBlock { id: BlockId(block) },
-        Told::SetReplication(block, repl) => Event::SetReplication {
+        Case::Delete(block) => Event::DeleteBlock { id: BlockId(block) },
+        Case::SetReplication(block, repl) => Event::SetReplication {
             id: BlockId(block),
             repl,
         },
-        Told::Restamp(block, stamp) => Event::Restamp {
+        Case::Restamp(block, stamp) => Event::Restamp {
             id: BlockId(block),
             stamp: stamp_of(stamp),
         },
@@ -94,17 +94,17 @@ fn event_on_block(told: Told<'_>) -> Option<Event> {
 }
 
 /// A call that is no event. Everything else becomes the question for the number of calls.
-fn question(told: Told<'_>) -> Call {
+fn question(told: Case<'_>) -> Call {
     match told {
-        Told::Round => Call::Round,
-        Told::Replicas => Call::Replicas,
-        Told::AllCorrupt => Call::Corrupt,
-        Told::Excess => Call::Excess,
-        Told::Missing => Call::Missing,
-        Told::BlocksOn(storage) => Call::BlocksOn(StorageId(storage)),
-        Told::Places(block) => Call::Places(BlockId(block)),
-        Told::LevelOf(block) => Call::LevelOf(BlockId(block)),
-        Told::Retired(node) => Call::Retired(NodeId(node)),
+        Case::Round => Call::Round,
+        Case::Replicas => Call::Replicas,
+        Case::AllCorrupt => Call::Corrupt,
+        Case::Excess => Call::Excess,
+        Case::Missing => Call::Missing,
+        Case::BlocksOn(storage) => Call::BlocksOn(StorageId(storage)),
+        Case::Places(block) => Call::Places(BlockId(block)),
+        Case::LevelOf(block) => Call::LevelOf(BlockId(block)),
+        Case::Retired(node) => Call::Retired(NodeId(node)),
         _ => Call::Calls,
     }
 }
@@ -152,19 +152,19 @@ fn report(rt: &impl Abort, alloc: Global, storage: u32, told: &[(u64, u64, (u64,
     }
 }
 
-fn event_of(rt: &impl Abort, alloc: Global, told: Told<'_>) -> Option<Event> {
+fn event_of(rt: &impl Abort, alloc: Global, told: Case<'_>) -> Option<Event> {
     match told {
-        Told::Register(node, rack, storages) => Some(register(rt, alloc, node, rack, storages)),
-        Told::Heartbeat(node, remaining) => Some(heartbeat(rt, alloc, node, remaining)),
-        Told::Report(storage, runs) => Some(report(rt, alloc, storage, runs)),
-        Told::Add(..) | Told::Delete(_) | Told::SetReplication(..) | Told::Restamp(..) => {
+        Case::Register(node, rack, storages) => Some(register(rt, alloc, node, rack, storages)),
+        Case::Heartbeat(node, remaining) => Some(heartbeat(rt, alloc, node, remaining)),
+        Case::Report(storage, runs) => Some(report(rt, alloc, storage, runs)),
+        Case::Add(..) | Case::Delete(_) | Case::SetReplication(..) | Case::Restamp(..) => {
             event_on_block(told)
         }
         _ => event_on_nodes(told),
     }
 }
 
-pub(crate) fn call_of(rt: &impl Abort, alloc: Global, told: Told<'_>) -> Call {
+pub(crate) fn call_of(rt: &impl Abort, alloc: Global, told: Case<'_>) -> Call {
     match event_of(rt, alloc, told) {
         Some(event) => Call::Apply(event),
         None => question(told),

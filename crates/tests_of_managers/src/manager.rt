@@ -1,7 +1,7 @@
 // With ample memory each call that takes memory is accepted and has the answer that was worked out
 // by hand, for any number of shards and workers. The shards of a call are worked at the same time.
 
-use crate::calls::{STAMP, Told, call_of};
+use crate::calls::{Case, STAMP, call_of};
 use bm_base::{
     Answer, Call, Commands, Config, Delete, Items, NodeCommands, Refusal, ReplicaId, StorageId,
     Transfer,
@@ -118,33 +118,33 @@ fn is_as(answer: &Answer, must: &Must<'_>) -> bool {
 
 const OLD: (u64, u64) = (0, 10);
 
-static CALL_BY_CALL: [(Told<'static>, Must<'static>); 13] = [
-    (Told::Register(1, 1, &[11, 12]), ACCEPTED),
-    (Told::Register(1, 1, &[13]), Must::Refused(2)),
-    (Told::Register(2, 1, &[21]), ACCEPTED),
-    (Told::Add(7, STAMP, 3), ACCEPTED),
-    (Told::Received(11, 7, STAMP), Must::Done(1, 0)),
-    (Told::Received(12, 7, STAMP), Must::Done(1, 1)),
-    (Told::Received(21, 7, STAMP), Must::Done(1, 0)),
-    (Told::Places(7), Must::Places(&[12, 21])),
-    (Told::Received(12, 7, OLD), ACCEPTED),
-    (Told::Received(99, 7, STAMP), Must::Refused(3)),
-    (Told::Places(7), Must::Places(&[21])),
-    (Told::Places(8), Must::Refused(5)),
-    (Told::Calls, Must::Number(7)),
+static CALL_BY_CALL: [(Case<'static>, Must<'static>); 13] = [
+    (Case::Register(1, 1, &[11, 12]), ACCEPTED),
+    (Case::Register(1, 1, &[13]), Must::Refused(2)),
+    (Case::Register(2, 1, &[21]), ACCEPTED),
+    (Case::Add(7, STAMP, 3), ACCEPTED),
+    (Case::Received(11, 7, STAMP), Must::Done(1, 0)),
+    (Case::Received(12, 7, STAMP), Must::Done(1, 1)),
+    (Case::Received(21, 7, STAMP), Must::Done(1, 0)),
+    (Case::Places(7), Must::Places(&[12, 21])),
+    (Case::Received(12, 7, OLD), ACCEPTED),
+    (Case::Received(99, 7, STAMP), Must::Refused(3)),
+    (Case::Places(7), Must::Places(&[21])),
+    (Case::Places(8), Must::Refused(5)),
+    (Case::Calls, Must::Number(7)),
 ];
 
-static ROUNDS: [(Told<'static>, Must<'static>); 15] = [
-    (Told::Register(1, 1, &[11]), ACCEPTED),
-    (Told::Register(2, 1, &[21]), ACCEPTED),
-    (Told::Register(3, 2, &[31]), ACCEPTED),
-    (Told::Heartbeat(1, &[(11, 1000)]), ACCEPTED),
-    (Told::Heartbeat(2, &[(21, 1000)]), ACCEPTED),
-    (Told::Heartbeat(3, &[(31, 1000)]), ACCEPTED),
-    (Told::Add(7, STAMP, 2), ACCEPTED),
-    (Told::Received(11, 7, STAMP), Must::Done(1, 0)),
+static ROUNDS: [(Case<'static>, Must<'static>); 15] = [
+    (Case::Register(1, 1, &[11]), ACCEPTED),
+    (Case::Register(2, 1, &[21]), ACCEPTED),
+    (Case::Register(3, 2, &[31]), ACCEPTED),
+    (Case::Heartbeat(1, &[(11, 1000)]), ACCEPTED),
+    (Case::Heartbeat(2, &[(21, 1000)]), ACCEPTED),
+    (Case::Heartbeat(3, &[(31, 1000)]), ACCEPTED),
+    (Case::Add(7, STAMP, 2), ACCEPTED),
+    (Case::Received(11, 7, STAMP), Must::Done(1, 0)),
     (
-        Told::Round,
+        Case::Round,
         Must::Round(
             1,
             &[Orders {
@@ -154,11 +154,11 @@ static ROUNDS: [(Told<'static>, Must<'static>); 15] = [
             }],
         ),
     ),
-    (Told::Round, Must::Round(2, &[])),
-    (Told::Received(31, 7, STAMP), Must::Done(1, 0)),
-    (Told::Received(21, 7, STAMP), Must::Done(1, 0)),
+    (Case::Round, Must::Round(2, &[])),
+    (Case::Received(31, 7, STAMP), Must::Done(1, 0)),
+    (Case::Received(21, 7, STAMP), Must::Done(1, 0)),
     (
-        Told::Round,
+        Case::Round,
         Must::Round(
             3,
             &[Orders {
@@ -168,41 +168,41 @@ static ROUNDS: [(Told<'static>, Must<'static>); 15] = [
             }],
         ),
     ),
-    (Told::Round, Must::Round(4, &[])),
-    (Told::Places(7), Must::Places(&[11, 21, 31])),
+    (Case::Round, Must::Round(4, &[])),
+    (Case::Places(7), Must::Places(&[11, 21, 31])),
 ];
 
 /// A block with three requested replicas has twelve, four on each of three racks. No storage has
 /// reported its free bytes. So of the replicas that are not alone on their rack, the one on the
 /// greatest storage goes first, and the one on the least storage of each rack stays.
-static NINE_OF_TWELVE: [(Told<'static>, Must<'static>); 27] = [
-    (Told::Register(0, 0, &[101]), ACCEPTED),
-    (Told::Register(1, 0, &[102]), ACCEPTED),
-    (Told::Register(2, 0, &[103]), ACCEPTED),
-    (Told::Register(3, 0, &[104]), ACCEPTED),
-    (Told::Register(4, 1, &[105]), ACCEPTED),
-    (Told::Register(5, 1, &[106]), ACCEPTED),
-    (Told::Register(6, 1, &[107]), ACCEPTED),
-    (Told::Register(7, 1, &[108]), ACCEPTED),
-    (Told::Register(8, 2, &[109]), ACCEPTED),
-    (Told::Register(9, 2, &[110]), ACCEPTED),
-    (Told::Register(10, 2, &[111]), ACCEPTED),
-    (Told::Register(11, 2, &[112]), ACCEPTED),
-    (Told::Add(7, STAMP, 3), ACCEPTED),
-    (Told::Received(112, 7, STAMP), Must::Done(1, 0)),
-    (Told::Received(111, 7, STAMP), Must::Done(1, 0)),
-    (Told::Received(110, 7, STAMP), Must::Done(1, 0)),
-    (Told::Received(109, 7, STAMP), Must::Done(1, 0)),
-    (Told::Received(108, 7, STAMP), Must::Done(1, 0)),
-    (Told::Received(107, 7, STAMP), Must::Done(1, 0)),
-    (Told::Received(106, 7, STAMP), Must::Done(1, 0)),
-    (Told::Received(105, 7, STAMP), Must::Done(1, 0)),
-    (Told::Received(104, 7, STAMP), Must::Done(1, 0)),
-    (Told::Received(103, 7, STAMP), Must::Done(1, 0)),
-    (Told::Received(102, 7, STAMP), Must::Done(1, 0)),
-    (Told::Received(101, 7, STAMP), Must::Done(1, 0)),
+static NINE_OF_TWELVE: [(Case<'static>, Must<'static>); 27] = [
+    (Case::Register(0, 0, &[101]), ACCEPTED),
+    (Case::Register(1, 0, &[102]), ACCEPTED),
+    (Case::Register(2, 0, &[103]), ACCEPTED),
+    (Case::Register(3, 0, &[104]), ACCEPTED),
+    (Case::Register(4, 1, &[105]), ACCEPTED),
+    (Case::Register(5, 1, &[106]), ACCEPTED),
+    (Case::Register(6, 1, &[107]), ACCEPTED),
+    (Case::Register(7, 1, &[108]), ACCEPTED),
+    (Case::Register(8, 2, &[109]), ACCEPTED),
+    (Case::Register(9, 2, &[110]), ACCEPTED),
+    (Case::Register(10, 2, &[111]), ACCEPTED),
+    (Case::Register(11, 2, &[112]), ACCEPTED),
+    (Case::Add(7, STAMP, 3), ACCEPTED),
+    (Case::Received(112, 7, STAMP), Must::Done(1, 0)),
+    (Case::Received(111, 7, STAMP), Must::Done(1, 0)),
+    (Case::Received(110, 7, STAMP), Must::Done(1, 0)),
+    (Case::Received(109, 7, STAMP), Must::Done(1, 0)),
+    (Case::Received(108, 7, STAMP), Must::Done(1, 0)),
+    (Case::Received(107, 7, STAMP), Must::Done(1, 0)),
+    (Case::Received(106, 7, STAMP), Must::Done(1, 0)),
+    (Case::Received(105, 7, STAMP), Must::Done(1, 0)),
+    (Case::Received(104, 7, STAMP), Must::Done(1, 0)),
+    (Case::Received(103, 7, STAMP), Must::Done(1, 0)),
+    (Case::Received(102, 7, STAMP), Must::Done(1, 0)),
+    (Case::Received(101, 7, STAMP), Must::Done(1, 0)),
     (
-        Told::Round,
+        Case::Round,
         Must::Round(
             1,
             &[
@@ -255,7 +255,7 @@ static NINE_OF_TWELVE: [(Told<'static>, Must<'static>); 27] = [
         ),
     ),
     (
-        Told::Excess,
+        Case::Excess,
         Must::Replicas(&[
             (102, 7),
             (103, 7),
@@ -270,7 +270,7 @@ static NINE_OF_TWELVE: [(Told<'static>, Must<'static>); 27] = [
     ),
 ];
 
-fn calls_of(rt: &impl Abort, alloc: Global, story: &[(Told<'_>, Must<'_>)]) -> Vec<Call> {
+fn calls_of(rt: &impl Abort, alloc: Global, story: &[(Case<'_>, Must<'_>)]) -> Vec<Call> {
     let mut calls = Vec::new(alloc);
     for (told, _) in story {
         calls.push(call_of(rt, alloc, *told)).expect(rt, "memory");
@@ -287,7 +287,7 @@ fn config(shards: u32, workers: u32) -> Config {
     }
 }
 
-fn check_answers(rt: &impl Abort, answers: &[Answer], story: &[(Told<'_>, Must<'_>)]) {
+fn check_answers(rt: &impl Abort, answers: &[Answer], story: &[(Case<'_>, Must<'_>)]) {
     assert!(rt; answers.len() == story.len());
     for (index, (answer, (_, must))) in answers.iter().zip(story.iter()).enumerate() {
         assert!(rt; is_as(answer, must), "call {index}");
@@ -297,7 +297,7 @@ fn check_answers(rt: &impl Abort, answers: &[Answer], story: &[(Told<'_>, Must<'
 fn check_both(
     rt: &impl Abort,
     answered: Result<(Items<Answer>, Items<Answer>), Refusal>,
-    story: &[(Told<'_>, Must<'_>)],
+    story: &[(Case<'_>, Must<'_>)],
 ) {
     let (answers, others) = answered.expect(rt, "memory");
     check_answers(rt, answers.as_slice(), story);
@@ -311,7 +311,7 @@ fn check_story<R: Abort + Threads + Wait + Sync>(
     alloc: Global,
     shards: u32,
     workers: u32,
-    story: &[(Told<'_>, Must<'_>)],
+    story: &[(Case<'_>, Must<'_>)],
 ) {
     let calls = calls_of(rt, alloc, story);
     let mut manager = Manager::new(alloc, config(shards, workers)).expect(rt, "memory");
@@ -328,7 +328,7 @@ fn check_story<R: Abort + Threads + Wait + Sync>(
 fn check_stories<R: Abort + Threads + Wait + Sync>(
     rt: &R,
     alloc: Global,
-    story: &[(Told<'_>, Must<'_>)],
+    story: &[(Case<'_>, Must<'_>)],
 ) {
     for (shards, workers) in &SETTINGS {
         check_story(rt, alloc, *shards, *workers, story);
@@ -435,22 +435,22 @@ impl Gate for Meeting {
 }
 
 /// Calls with their answers, and whether the crew works on them: it does for calls on all shards.
-static MET: [(Told<'static>, Must<'static>, bool); 17] = [
-    (Told::Register(1, 1, &[11]), ACCEPTED, true),
-    (Told::Register(2, 2, &[21]), ACCEPTED, true),
-    (Told::Add(4, STAMP, 2), ACCEPTED, false),
-    (Told::Add(5, STAMP, 2), ACCEPTED, false),
-    (Told::Add(6, STAMP, 2), ACCEPTED, false),
-    (Told::Add(7, STAMP, 2), ACCEPTED, false),
-    (Told::Report(11, &[(4, 7, STAMP)]), Must::Done(4, 0), true),
-    (Told::Received(21, 5, STAMP), Must::Done(1, 0), false),
-    (Told::Received(21, 6, STAMP), Must::Done(1, 0), false),
-    (Told::Received(21, 7, STAMP), Must::Done(1, 0), false),
-    (Told::Drain(1), ACCEPTED, true),
-    (Told::Undrain(1), ACCEPTED, true),
-    (Told::Heartbeat(2, &[(21, 1000)]), ACCEPTED, false),
+static MET: [(Case<'static>, Must<'static>, bool); 17] = [
+    (Case::Register(1, 1, &[11]), ACCEPTED, true),
+    (Case::Register(2, 2, &[21]), ACCEPTED, true),
+    (Case::Add(4, STAMP, 2), ACCEPTED, false),
+    (Case::Add(5, STAMP, 2), ACCEPTED, false),
+    (Case::Add(6, STAMP, 2), ACCEPTED, false),
+    (Case::Add(7, STAMP, 2), ACCEPTED, false),
+    (Case::Report(11, &[(4, 7, STAMP)]), Must::Done(4, 0), true),
+    (Case::Received(21, 5, STAMP), Must::Done(1, 0), false),
+    (Case::Received(21, 6, STAMP), Must::Done(1, 0), false),
+    (Case::Received(21, 7, STAMP), Must::Done(1, 0), false),
+    (Case::Drain(1), ACCEPTED, true),
+    (Case::Undrain(1), ACCEPTED, true),
+    (Case::Heartbeat(2, &[(21, 1000)]), ACCEPTED, false),
     (
-        Told::Round,
+        Case::Round,
         Must::Round(
             1,
             &[Orders {
@@ -461,9 +461,9 @@ static MET: [(Told<'static>, Must<'static>, bool); 17] = [
         ),
         true,
     ),
-    (Told::Failed(21), Must::Done(0, 3), true),
-    (Told::Dead(1), Must::Done(0, 4), true),
-    (Told::Places(4), Must::Places(&[]), false),
+    (Case::Failed(21), Must::Done(0, 3), true),
+    (Case::Dead(1), Must::Done(0, 4), true),
+    (Case::Places(4), Must::Places(&[]), false),
 ];
 
 /// Whether a call has the expected answer, and the shards' pieces met at the gate exactly if the
@@ -473,7 +473,7 @@ fn is_met<R: Abort + Threads + Wait + Sync>(
     alloc: Global,
     manager: &mut Manager,
     gate: &Meeting,
-    told: Told<'_>,
+    told: Case<'_>,
     must: Must<'_>,
     crewed: bool,
 ) -> bool {

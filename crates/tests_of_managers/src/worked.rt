@@ -1,5 +1,5 @@
-// The worked examples: scripts of calls and their answers, worked out by hand from the rules in
-// docs/FORMATS.md.
+// The worked examples: scripts of calls and their answers, worked out by hand from docs/RULES.md
+// and docs/FORMATS.md.
 use crate::rows::{
     CLUSTER, FIRST_PATH, FIRST_PATH_ANSWERS, NOTHING, ONE_COPY_A_NODE, ONE_DELETE, Row, TWO_ROUNDS,
     USUAL, go,

@@ -1,1 +1,2 @@
+-- Lemmas of the tests.
 pub mod Tested

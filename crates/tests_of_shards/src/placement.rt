@@ -413,7 +413,7 @@ static SOURCES: [Source<'static>; 12] = [
 ];
 
 /// Adds a transfer from a storage, which may send it at the highest level.
-fn send(rt: &impl Abort, topology: &Topology, streams: &mut Streams, source: StorageId)
+fn send(rt: &impl Abort, topology: &Topology, streams: &mut Streams<'_>, source: StorageId)
     requires { (sends : ℕ → ℕ) × (streams.old ≡ sender_table topology.now.cluster sends) }
     ensures { (sends : ℕ → ℕ) × (streams.new ≡ sender_table topology.now.cluster sends) }
 {
@@ -675,7 +675,7 @@ fn fill(
     rt: &impl Abort,
     alloc: Global,
     topology: &Topology,
-    scheduled: &mut Scheduled,
+    scheduled: &mut Scheduled<'_>,
     target: u32,
     len: u64,
 )

@@ -10,7 +10,7 @@ use std::process::Abort;
 
 /// An event on a cluster.
 #[derive(Clone, Copy)]
-enum Told {
+enum Case {
     /// A node registers: the node, its rack, its first storage and the number of its storages.
     Comes(u32, u32, u32, u32),
     /// A node registers on rack 1 with two storages.
@@ -49,7 +49,7 @@ enum Deed {
 /// A change of a cluster, or a question to it.
 #[derive(Clone, Copy)]
 enum Step {
-    Do(Deed, Told),
+    Do(Deed, Case),
     /// Registers 256 nodes without storages, each on a rack of its own.
     Crowd,
     HasRacks,
@@ -121,22 +121,22 @@ fn two(rt: &impl Abort, alloc: Global, first: u32, second: u32) -> Items<Storage
     Items::from_vec(Vec::from_slice(alloc, both.as_slice()).expect(rt, "memory"))
 }
 
-fn event_of(rt: &impl Abort, alloc: Global, told: Told) -> Event {
+fn event_of(rt: &impl Abort, alloc: Global, told: Case) -> Event {
     match told {
-        Told::Comes(node, rack, first, count) => Event::Register {
+        Case::Comes(node, rack, first, count) => Event::Register {
             node: NodeId(node),
             rack: Rack(rack),
             storages: storages(rt, alloc, first, count),
         },
-        Told::ComesWithTwo(node, first, second) => Event::Register {
+        Case::ComesWithTwo(node, first, second) => Event::Register {
             node: NodeId(node),
             rack: Rack(1),
             storages: two(rt, alloc, first, second),
         },
-        Told::Beats(node, storage, left) => {
+        Case::Beats(node, storage, left) => {
             heartbeat(rt, alloc, node, [free(storage, left)].as_slice())
         }
-        Told::BeatsWithTwo(node, first, left, second, other) => {
+        Case::BeatsWithTwo(node, first, left, second, other) => {
             heartbeat(
                 rt,
                 alloc,
@@ -144,20 +144,20 @@ fn event_of(rt: &impl Abort, alloc: Global, told: Told) -> Event {
                 [free(first, left), free(second, other)].as_slice(),
             )
         }
-        Told::Dies(node) => Event::Dead { node: NodeId(node) },
-        Told::Fails(storage) => Event::StorageFailed {
+        Case::Dies(node) => Event::Dead { node: NodeId(node) },
+        Case::Fails(storage) => Event::StorageFailed {
             storage: StorageId(storage),
         },
-        Told::Reports(storage, count) => Event::FullReport {
+        Case::Reports(storage, count) => Event::FullReport {
             storage: StorageId(storage),
             entries: entries(rt, alloc, 7, 7, count),
         },
-        Told::ReportsRuns(storage, from, to, count) => Event::FullReport {
+        Case::ReportsRuns(storage, from, to, count) => Event::FullReport {
             storage: StorageId(storage),
             entries: entries(rt, alloc, from, to, count),
         },
-        Told::Drains(node) => Event::Drain { node: NodeId(node) },
-        Told::Stays(node) => Event::Undrain { node: NodeId(node) },
+        Case::Drains(node) => Event::Drain { node: NodeId(node) },
+        Case::Stays(node) => Event::Undrain { node: NodeId(node) },
     }
 }
 
@@ -281,18 +281,18 @@ struct Scenario<'a> {
 
 /// Four nodes with a storage each, two on each of two racks.
 const FOUR_NODES: [(Step, Answer); 12] = [
-    (Step::Do(Deed::Take, Told::Comes(1, 1, 11, 1)), Answer::Fine),
-    (Step::Do(Deed::Take, Told::Comes(2, 1, 21, 1)), Answer::Fine),
-    (Step::Do(Deed::Take, Told::Comes(3, 2, 31, 1)), Answer::Fine),
-    (Step::Do(Deed::Take, Told::Comes(4, 2, 41, 1)), Answer::Fine),
+    (Step::Do(Deed::Take, Case::Comes(1, 1, 11, 1)), Answer::Fine),
+    (Step::Do(Deed::Take, Case::Comes(2, 1, 21, 1)), Answer::Fine),
+    (Step::Do(Deed::Take, Case::Comes(3, 2, 31, 1)), Answer::Fine),
+    (Step::Do(Deed::Take, Case::Comes(4, 2, 41, 1)), Answer::Fine),
     (Step::FreeOn(11), Answer::Number(0)),
     (Step::FreeOn(21), Answer::Number(0)),
     (Step::FreeOn(31), Answer::Number(0)),
     (Step::FreeOn(41), Answer::Number(0)),
-    (Step::Do(Deed::Take, Told::Beats(1, 11, 1000)), Answer::Fine),
-    (Step::Do(Deed::Take, Told::Beats(2, 21, 1000)), Answer::Fine),
-    (Step::Do(Deed::Take, Told::Beats(3, 31, 1000)), Answer::Fine),
-    (Step::Do(Deed::Take, Told::Beats(4, 41, 1000)), Answer::Fine),
+    (Step::Do(Deed::Take, Case::Beats(1, 11, 1000)), Answer::Fine),
+    (Step::Do(Deed::Take, Case::Beats(2, 21, 1000)), Answer::Fine),
+    (Step::Do(Deed::Take, Case::Beats(3, 31, 1000)), Answer::Fine),
+    (Step::Do(Deed::Take, Case::Beats(4, 41, 1000)), Answer::Fine),
 ];
 
 static SCENARIOS: [Scenario<'static>; 13] = [
@@ -319,11 +319,11 @@ static SCENARIOS: [Scenario<'static>; 13] = [
         name: "deaths leave one rack",
         setup: &FOUR_NODES,
         steps: &[
-            (Step::Do(Deed::Foresee, Told::Dies(3)), Answer::Yes),
-            (Step::Do(Deed::Take, Told::Dies(3)), Answer::Fine),
-            (Step::Do(Deed::Foresee, Told::Dies(4)), Answer::No),
+            (Step::Do(Deed::Foresee, Case::Dies(3)), Answer::Yes),
+            (Step::Do(Deed::Take, Case::Dies(3)), Answer::Fine),
+            (Step::Do(Deed::Foresee, Case::Dies(4)), Answer::No),
             (Step::HasRacks, Answer::Yes),
-            (Step::Do(Deed::Take, Told::Dies(4)), Answer::Fine),
+            (Step::Do(Deed::Take, Case::Dies(4)), Answer::Fine),
             (Step::HasRacks, Answer::No),
             (Step::NodeOf(31), Answer::Nothing),
             (Step::Storages, Answer::Number(2)),
@@ -333,14 +333,14 @@ static SCENARIOS: [Scenario<'static>; 13] = [
         name: "a node on another rack makes two",
         setup: &[],
         steps: &[
-            (Step::Do(Deed::Foresee, Told::Comes(1, 1, 0, 0)), Answer::No),
-            (Step::Do(Deed::Take, Told::Comes(1, 1, 0, 0)), Answer::Fine),
-            (Step::Do(Deed::Foresee, Told::Comes(2, 1, 0, 0)), Answer::No),
+            (Step::Do(Deed::Foresee, Case::Comes(1, 1, 0, 0)), Answer::No),
+            (Step::Do(Deed::Take, Case::Comes(1, 1, 0, 0)), Answer::Fine),
+            (Step::Do(Deed::Foresee, Case::Comes(2, 1, 0, 0)), Answer::No),
             (
-                Step::Do(Deed::Foresee, Told::Comes(2, 2, 0, 0)),
+                Step::Do(Deed::Foresee, Case::Comes(2, 2, 0, 0)),
                 Answer::Yes,
             ),
-            (Step::Do(Deed::Foresee, Told::Dies(1)), Answer::No),
+            (Step::Do(Deed::Foresee, Case::Dies(1)), Answer::No),
         ],
     },
     // A dead node loses its storages, so it can join again with others.
@@ -348,8 +348,8 @@ static SCENARIOS: [Scenario<'static>; 13] = [
         name: "a dead node comes again with other storages",
         setup: &FOUR_NODES,
         steps: &[
-            (Step::Do(Deed::Take, Told::Dies(1)), Answer::Fine),
-            (Step::Do(Deed::Take, Told::Comes(1, 7, 13, 1)), Answer::Fine),
+            (Step::Do(Deed::Take, Case::Dies(1)), Answer::Fine),
+            (Step::Do(Deed::Take, Case::Comes(1, 7, 13, 1)), Answer::Fine),
             (Step::NodeOf(11), Answer::Nothing),
             (Step::RackOf(13), Answer::Number(7)),
             (Step::FreeOn(13), Answer::Number(0)),
@@ -359,13 +359,13 @@ static SCENARIOS: [Scenario<'static>; 13] = [
         name: "a failed storage comes back with a later node",
         setup: &FOUR_NODES,
         steps: &[
-            (Step::Do(Deed::Take, Told::Fails(11)), Answer::Fine),
+            (Step::Do(Deed::Take, Case::Fails(11)), Answer::Fine),
             (Step::Nodes, Answer::Number(4)),
             (
-                Step::Do(Deed::Check, Told::Fails(11)),
+                Step::Do(Deed::Check, Case::Fails(11)),
                 Answer::Refused(Refusal::UnknownStorage),
             ),
-            (Step::Do(Deed::Take, Told::Comes(5, 1, 11, 1)), Answer::Fine),
+            (Step::Do(Deed::Take, Case::Comes(5, 1, 11, 1)), Answer::Fine),
             (Step::NodeOf(11), Answer::Number(5)),
             (Step::FreeOn(11), Answer::Number(0)),
         ],
@@ -377,7 +377,7 @@ static SCENARIOS: [Scenario<'static>; 13] = [
             (
                 Step::Do(
                     Deed::Take,
-                    Told::BeatsWithTwo(1, 11, 5, 11, 18_446_744_073_709_551_615),
+                    Case::BeatsWithTwo(1, 11, 5, 11, 18_446_744_073_709_551_615),
                 ),
                 Answer::Fine,
             ),
@@ -389,12 +389,12 @@ static SCENARIOS: [Scenario<'static>; 13] = [
         setup: &FOUR_NODES,
         steps: &[
             (
-                Step::Do(Deed::GiveUp, Told::Comes(5, 1, 51, 1)),
+                Step::Do(Deed::GiveUp, Case::Comes(5, 1, 51, 1)),
                 Answer::Fine,
             ),
             (Step::Nodes, Answer::Number(4)),
             (Step::NodeOf(51), Answer::Nothing),
-            (Step::Do(Deed::Take, Told::Comes(5, 1, 51, 1)), Answer::Fine),
+            (Step::Do(Deed::Take, Case::Comes(5, 1, 51, 1)), Answer::Fine),
             (Step::Nodes, Answer::Number(5)),
         ],
     },
@@ -403,56 +403,56 @@ static SCENARIOS: [Scenario<'static>; 13] = [
         setup: &FOUR_NODES,
         steps: &[
             (
-                Step::Do(Deed::Check, Told::ComesWithTwo(1, 99, 99)),
+                Step::Do(Deed::Check, Case::ComesWithTwo(1, 99, 99)),
                 Answer::Refused(Refusal::NodeKnown),
             ),
             (
-                Step::Do(Deed::Check, Told::ComesWithTwo(5, 51, 51)),
+                Step::Do(Deed::Check, Case::ComesWithTwo(5, 51, 51)),
                 Answer::Refused(Refusal::StorageKnown),
             ),
             (
-                Step::Do(Deed::Check, Told::ComesWithTwo(5, 11, 11)),
+                Step::Do(Deed::Check, Case::ComesWithTwo(5, 11, 11)),
                 Answer::Refused(Refusal::StorageKnown),
             ),
             (
-                Step::Do(Deed::Check, Told::ComesWithTwo(5, 51, 11)),
+                Step::Do(Deed::Check, Case::ComesWithTwo(5, 51, 11)),
                 Answer::Refused(Refusal::StorageKnown),
             ),
-            (Step::Do(Deed::Check, Told::Comes(5, 1, 0, 0)), Answer::Fine),
+            (Step::Do(Deed::Check, Case::Comes(5, 1, 0, 0)), Answer::Fine),
             (
-                Step::Do(Deed::Check, Told::BeatsWithTwo(9, 99, 5, 99, 5)),
+                Step::Do(Deed::Check, Case::BeatsWithTwo(9, 99, 5, 99, 5)),
                 Answer::Refused(Refusal::UnknownNode),
             ),
             (
-                Step::Do(Deed::Check, Told::BeatsWithTwo(1, 21, 5, 99, 5)),
+                Step::Do(Deed::Check, Case::BeatsWithTwo(1, 21, 5, 99, 5)),
                 Answer::Refused(Refusal::UnknownStorage),
             ),
             (
-                Step::Do(Deed::Check, Told::BeatsWithTwo(1, 11, 5, 21, 5)),
+                Step::Do(Deed::Check, Case::BeatsWithTwo(1, 11, 5, 21, 5)),
                 Answer::Refused(Refusal::NotItsStorage),
             ),
             (
-                Step::Do(Deed::Check, Told::Dies(9)),
+                Step::Do(Deed::Check, Case::Dies(9)),
                 Answer::Refused(Refusal::UnknownNode),
             ),
             (
-                Step::Do(Deed::Check, Told::Reports(11, 65_536)),
+                Step::Do(Deed::Check, Case::Reports(11, 65_536)),
                 Answer::Fine,
             ),
             (
-                Step::Do(Deed::Check, Told::Reports(11, 65_537)),
+                Step::Do(Deed::Check, Case::Reports(11, 65_537)),
                 Answer::Refused(Refusal::TooMany),
             ),
             (
-                Step::Do(Deed::Check, Told::Reports(99, 65_537)),
+                Step::Do(Deed::Check, Case::Reports(99, 65_537)),
                 Answer::Refused(Refusal::UnknownStorage),
             ),
             (
-                Step::Do(Deed::Check, Told::Drains(9)),
+                Step::Do(Deed::Check, Case::Drains(9)),
                 Answer::Refused(Refusal::UnknownNode),
             ),
             (
-                Step::Do(Deed::Check, Told::Stays(9)),
+                Step::Do(Deed::Check, Case::Stays(9)),
                 Answer::Refused(Refusal::UnknownNode),
             ),
         ],
@@ -464,12 +464,12 @@ static SCENARIOS: [Scenario<'static>; 13] = [
             (Step::Crowd, Answer::Fine),
             (Step::Nodes, Answer::Number(256)),
             (
-                Step::Do(Deed::Check, Told::Comes(256, 1, 0, 0)),
+                Step::Do(Deed::Check, Case::Comes(256, 1, 0, 0)),
                 Answer::Refused(Refusal::TooMany),
             ),
-            (Step::Do(Deed::Take, Told::Dies(9)), Answer::Fine),
+            (Step::Do(Deed::Take, Case::Dies(9)), Answer::Fine),
             (
-                Step::Do(Deed::Check, Told::Comes(256, 1, 0, 0)),
+                Step::Do(Deed::Check, Case::Comes(256, 1, 0, 0)),
                 Answer::Fine,
             ),
         ],
@@ -479,21 +479,21 @@ static SCENARIOS: [Scenario<'static>; 13] = [
         setup: &[],
         steps: &[
             (
-                Step::Do(Deed::Take, Told::Comes(1, 1, 0, 4095)),
+                Step::Do(Deed::Take, Case::Comes(1, 1, 0, 4095)),
                 Answer::Fine,
             ),
             (
-                Step::Do(Deed::Check, Told::ComesWithTwo(2, 5000, 5001)),
+                Step::Do(Deed::Check, Case::ComesWithTwo(2, 5000, 5001)),
                 Answer::Refused(Refusal::TooMany),
             ),
             (
-                Step::Do(Deed::Take, Told::Comes(2, 1, 5000, 1)),
+                Step::Do(Deed::Take, Case::Comes(2, 1, 5000, 1)),
                 Answer::Fine,
             ),
             (Step::Storages, Answer::Number(4096)),
             (Step::StorageAt(4095), Answer::Number(5000)),
             (
-                Step::Do(Deed::Check, Told::Comes(3, 1, 5001, 1)),
+                Step::Do(Deed::Check, Case::Comes(3, 1, 5001, 1)),
                 Answer::Refused(Refusal::TooMany),
             ),
         ],
@@ -503,12 +503,12 @@ static SCENARIOS: [Scenario<'static>; 13] = [
         setup: &FOUR_NODES,
         steps: &[
             (
-                Step::Do(Deed::Take, Told::Comes(5, 1, 1001, 4092)),
+                Step::Do(Deed::Take, Case::Comes(5, 1, 1001, 4092)),
                 Answer::Fine,
             ),
             (Step::Storages, Answer::Number(4096)),
             (
-                Step::Do(Deed::Take, Told::Comes(6, 1, 6000, 1)),
+                Step::Do(Deed::Take, Case::Comes(6, 1, 6000, 1)),
                 Answer::Refused(Refusal::TooMany),
             ),
         ],
@@ -520,17 +520,17 @@ static SCENARIOS: [Scenario<'static>; 13] = [
         setup: &FOUR_NODES,
         steps: &[
             (
-                Step::Do(Deed::Check, Told::ReportsRuns(11, 0, 1_048_575, 1)),
+                Step::Do(Deed::Check, Case::ReportsRuns(11, 0, 1_048_575, 1)),
                 Answer::Fine,
             ),
             (
-                Step::Do(Deed::Check, Told::ReportsRuns(11, 0, 1_048_576, 1)),
+                Step::Do(Deed::Check, Case::ReportsRuns(11, 0, 1_048_576, 1)),
                 Answer::Refused(Refusal::TooMany),
             ),
             (
                 Step::Do(
                     Deed::Check,
-                    Told::ReportsRuns(
+                    Case::ReportsRuns(
                         11,
                         18_446_744_073_709_551_615,
                         18_446_744_073_709_551_615,
@@ -542,27 +542,27 @@ static SCENARIOS: [Scenario<'static>; 13] = [
             (
                 Step::Do(
                     Deed::Check,
-                    Told::ReportsRuns(11, 0, 18_446_744_073_709_551_615, 65_536),
+                    Case::ReportsRuns(11, 0, 18_446_744_073_709_551_615, 65_536),
                 ),
                 Answer::Refused(Refusal::TooMany),
             ),
             (
-                Step::Do(Deed::Check, Told::ReportsRuns(11, 1, 16, 65_536)),
+                Step::Do(Deed::Check, Case::ReportsRuns(11, 1, 16, 65_536)),
                 Answer::Fine,
             ),
             (
-                Step::Do(Deed::Check, Told::ReportsRuns(11, 1, 17, 65_536)),
+                Step::Do(Deed::Check, Case::ReportsRuns(11, 1, 17, 65_536)),
                 Answer::Refused(Refusal::TooMany),
             ),
             (
                 Step::Do(
                     Deed::Check,
-                    Told::ReportsRuns(11, 18_446_744_073_709_551_615, 0, 65_536),
+                    Case::ReportsRuns(11, 18_446_744_073_709_551_615, 0, 65_536),
                 ),
                 Answer::Fine,
             ),
             (
-                Step::Do(Deed::Check, Told::ReportsRuns(11, 9, 8, 65_537)),
+                Step::Do(Deed::Check, Case::ReportsRuns(11, 9, 8, 65_537)),
                 Answer::Refused(Refusal::TooMany),
             ),
         ],
@@ -575,27 +575,27 @@ static SCENARIOS: [Scenario<'static>; 13] = [
             (Step::NodeDrains(9), Answer::Nothing),
             (Step::OnDraining(11), Answer::No),
             (Step::OnDraining(99), Answer::No),
-            (Step::Do(Deed::GiveUp, Told::Drains(1)), Answer::Fine),
+            (Step::Do(Deed::GiveUp, Case::Drains(1)), Answer::Fine),
             (Step::NodeDrains(1), Answer::No),
-            (Step::Do(Deed::Take, Told::Drains(1)), Answer::Fine),
-            (Step::Do(Deed::Take, Told::Drains(3)), Answer::Fine),
-            (Step::Do(Deed::Take, Told::Drains(1)), Answer::Fine),
+            (Step::Do(Deed::Take, Case::Drains(1)), Answer::Fine),
+            (Step::Do(Deed::Take, Case::Drains(3)), Answer::Fine),
+            (Step::Do(Deed::Take, Case::Drains(1)), Answer::Fine),
             (Step::NodeDrains(1), Answer::Yes),
             (Step::NodeDrains(2), Answer::No),
             (Step::OnDraining(11), Answer::Yes),
             (Step::OnDraining(21), Answer::No),
             (Step::OnDraining(31), Answer::Yes),
             (Step::HasRacks, Answer::Yes),
-            (Step::Do(Deed::Foresee, Told::Drains(4)), Answer::Yes),
+            (Step::Do(Deed::Foresee, Case::Drains(4)), Answer::Yes),
             (Step::Nodes, Answer::Number(4)),
             (Step::FreeOn(11), Answer::Number(1000)),
-            (Step::Do(Deed::Take, Told::Stays(1)), Answer::Fine),
-            (Step::Do(Deed::Take, Told::Stays(1)), Answer::Fine),
+            (Step::Do(Deed::Take, Case::Stays(1)), Answer::Fine),
+            (Step::Do(Deed::Take, Case::Stays(1)), Answer::Fine),
             (Step::NodeDrains(1), Answer::No),
             (Step::OnDraining(31), Answer::Yes),
-            (Step::Do(Deed::Take, Told::Dies(3)), Answer::Fine),
+            (Step::Do(Deed::Take, Case::Dies(3)), Answer::Fine),
             (Step::NodeDrains(3), Answer::Nothing),
-            (Step::Do(Deed::Take, Told::Comes(3, 2, 31, 1)), Answer::Fine),
+            (Step::Do(Deed::Take, Case::Comes(3, 2, 31, 1)), Answer::Fine),
             (Step::NodeDrains(3), Answer::No),
         ],
     },

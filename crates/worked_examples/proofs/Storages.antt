@@ -1,5 +1,4 @@
--- One node brings so many storages that the check for repeats takes too many steps to compute. It
--- is proved instead.
+-- One node has too many storages to compute the check for repeats. It is proved instead.
 use Rattle.std.specs.Prelude.{◌≡◌, ℕ, zero, suc, ◌+◌, ◌-◌, ◌<◌, ◌≤◌, false, nat_le, nat_lt, List, ◌∷◌, ◌++◌, map, length, Option, None}
 use Rattle.std.specs.List.{list_any}
 use Rattle.std.proofs.Common.{refl, ap, ◌∙◌, arith}

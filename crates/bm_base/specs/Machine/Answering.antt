@@ -18,9 +18,9 @@ checked (Some r) = Err r
 -- How a call may be refused: by the definition's refusal; if there is none, by `Memory`, if the
 -- call takes memory; else not at all.
 abbrev pub Refuses : Option Refusal → Bool → Refusal → Type 0
-Refuses (Some r) takes e = e ≡ r
-Refuses None true e = e ≡ Memory
-Refuses None false e = ⊥
+Refuses (Some first) takes r = r ≡ first
+Refuses None true r = r ≡ Memory
+Refuses None false r = ⊥
 
 -- P holds of what was found; if nothing was found, or the call was out of memory, it states nothing
 abbrev pub IfFound : {A E : Type 0} → Result (Option A) E → (A → Type 0) → Type 0

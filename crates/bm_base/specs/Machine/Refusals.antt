@@ -76,8 +76,7 @@ is_too_long es = nat_lt MAX_ENTRIES (length es) || nat_lt MAX_NUMBERS (numbers_i
 abbrev pub last_number : ℕ
 last_number = 18446744073709551615
 
--- The checks of an event on the cluster, in the order of their numbers, all of which are below
--- those of its checks on blocks.
+-- The checks of an event on the cluster, in their order. They come before its checks on the blocks.
 unfoldable pub cluster_checks : Cluster → Event → List (Refusal × Bool)
 cluster_checks C (Register n rack ss) =
     (NodeKnown when knows_node C n)

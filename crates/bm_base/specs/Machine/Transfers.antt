@@ -30,8 +30,8 @@ pending_targets H b = map (λ e. e.0.storage) (filter (λ e. e.0.block == b) (en
 
 -- The number of copies that a block at this level needs, by the number of wanted live replicas. A
 -- badly distributed block needs one if none is pending. One without a usable replica needs none,
--- since there is nothing to copy. Any other needs as many as are missing, with the pending ones
--- counted as there.
+-- since there is nothing to copy. Any other needs `repl` less its live replicas and its pending
+-- transfers.
 abbrev pub requested_count : Cluster → Holdings → Level → ℕ → ℕ → ℕ
 requested_count C H BadlyDistributed repl b = if length (pending_targets H b) == 0 then 1 else 0
 requested_count C H NoUsableReplica repl b = 0

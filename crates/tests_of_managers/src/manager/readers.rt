@@ -2,7 +2,7 @@
 ghost use Rattle.std.specs.Prelude.{◌≡◌};
 
 use super::config;
-use crate::calls::{STAMP, Told, call_of};
+use crate::calls::{Case, STAMP, call_of};
 use crate::located::is_found_on;
 use crate::notices::{Home, Notice, make_notice};
 use bm_base::{Answer, BlockId};
@@ -19,23 +19,23 @@ use std::thread::{Threads, join};
 const READS: u32 = 2_000;
 
 /// Four nodes on two racks, and block 7 with three requested replicas.
-static CLUSTER: [Told<'static>; 9] = [
-    Told::Register(1, 1, &[11]),
-    Told::Register(2, 1, &[21]),
-    Told::Register(3, 2, &[31]),
-    Told::Register(4, 2, &[41]),
-    Told::Heartbeat(1, &[(11, 1000)]),
-    Told::Heartbeat(2, &[(21, 1000)]),
-    Told::Heartbeat(3, &[(31, 1000)]),
-    Told::Heartbeat(4, &[(41, 1000)]),
-    Told::Add(7, STAMP, 3),
+static CLUSTER: [Case<'static>; 9] = [
+    Case::Register(1, 1, &[11]),
+    Case::Register(2, 1, &[21]),
+    Case::Register(3, 2, &[31]),
+    Case::Register(4, 2, &[41]),
+    Case::Heartbeat(1, &[(11, 1000)]),
+    Case::Heartbeat(2, &[(21, 1000)]),
+    Case::Heartbeat(3, &[(31, 1000)]),
+    Case::Heartbeat(4, &[(41, 1000)]),
+    Case::Add(7, STAMP, 3),
 ];
 
 fn make<R: Abort + Threads + Wait + Sync>(
     rt: &R,
     alloc: Global,
     manager: &mut Manager,
-    told: Told<'_>,
+    told: Case<'_>,
 ) {
     let call = call_of(rt, alloc, told);
     let answer = manager.answer(rt, &NoGate, &call);
@@ -92,7 +92,7 @@ fn publish_and_learn<R: Abort + Threads + Wait + Sync>(
 enum Step<'a> {
     /// Makes the calls of the cluster.
     Cluster,
-    Make(Told<'a>),
+    Make(Case<'a>),
     /// Publishes, and the first locator learns the receipt, which has this number of calls.
     Publish(u64),
     /// The first locator finds a block on these storages, in the version with this number of calls.
@@ -105,11 +105,11 @@ static READERS_SEE_PUBLISHED_VERSIONS: [Step<'static>; 14] = [
     Step::First(7, 0, &[]),
     Step::Second(7, 0, &[]),
     Step::Cluster,
-    Step::Make(Told::Received(11, 7, STAMP)),
+    Step::Make(Case::Received(11, 7, STAMP)),
     Step::Publish(10),
     Step::First(7, 10, &[11]),
     Step::First(8, 10, &[]),
-    Step::Make(Told::Received(31, 7, STAMP)),
+    Step::Make(Case::Received(31, 7, STAMP)),
     Step::First(7, 10, &[11]),
     Step::Publish(11),
     Step::First(7, 11, &[11, 31]),
@@ -202,13 +202,13 @@ fn readers_see_published_versions(rt: HostRuntime) {
 }
 
 /// Calls after those of the cluster, with the storages of block 7 after each.
-static BESIDE: [(Told<'static>, &'static [u32]); 6] = [
-    (Told::Received(11, 7, STAMP), &[11]),
-    (Told::Received(31, 7, STAMP), &[11, 31]),
-    (Told::Report(21, &[(1, 200, STAMP)]), &[11, 21, 31]),
-    (Told::Round, &[11, 21, 31]),
-    (Told::Failed(31), &[11, 21]),
-    (Told::Dead(1), &[21]),
+static BESIDE: [(Case<'static>, &'static [u32]); 6] = [
+    (Case::Received(11, 7, STAMP), &[11]),
+    (Case::Received(31, 7, STAMP), &[11, 31]),
+    (Case::Report(21, &[(1, 200, STAMP)]), &[11, 21, 31]),
+    (Case::Round, &[11, 21, 31]),
+    (Case::Failed(31), &[11, 21]),
+    (Case::Dead(1), &[21]),
 ];
 
 /// Whether a locator may answer this at some time: in the version with this number of calls block 7

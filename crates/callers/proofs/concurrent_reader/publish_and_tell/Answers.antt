@@ -3,7 +3,7 @@ use Rattle.bm_base.specs.Machine.State.{State}
 use Rattle.bm_base.specs.Promises.Versions.{Version}
 use Rattle.bm_view.specs.History.{last_of}
 use Rattle.bm_view.specs.Holders.{Listed}
-use Rattle.callers.proofs.Told.{calls_of-version}
+use Rattle.callers.proofs.LearntLists.{calls_of-version}
 use Rattle.callers.proofs.concurrent_reader.publish_and_tell.Goals as goal
 
 pub make_notice-requires-clause-new : goal.make_notice-requires-clause-new

@@ -3,7 +3,7 @@ use Rattle.bm_base.specs.Promises.Versions.{Version}
 use Rattle.bm_view.specs.History.{last_of}
 use Rattle.bm_view.specs.Holders.{Listed}
 use Rattle.bm_view.specs.declared.locator.Located.{Located}
-use Rattle.callers.proofs.Told.{last_told, if_some, calls_of-version}
+use Rattle.callers.proofs.LearntLists.{last_learnt, if_some, calls_of-version}
 use Rattle.callers.proofs.informed_reader.publish_and_look.Goals as goal
 
 pub returns-clause-no_older : goal.returns-clause-no_older
@@ -14,5 +14,5 @@ returns-clause-no_older g c =
     if_some c.locate.result _ _ c.locate.ensures.no_older
     (λ (seen : Located) h.
     subst (λ n. n ≤ seen.calls) is
-    (last_told c.args.locator.now.told c.in_ok-receipt.receipt.list seen.calls
+    (last_learnt c.args.locator.now.told c.in_ok-receipt.receipt.list seen.calls
     (subst (λ told. All (λ known. (last_of known).calls ≤ seen.calls) told) c.learn.ensures.told h)))

@@ -4,4 +4,4 @@ use Rattle.callers.proofs.name_node.turn.Given as goal
 
 -- the events so far are applied
 abbrev pub invariant-loop-event : goal.invariant-loop-event
-invariant-loop-event g l = l.manager ≡ fold after_event l.fn.manager (take l.event-index l.told)
+invariant-loop-event g l = l.manager ≡ fold after_event l.fn.manager (take l.event-index l.events)

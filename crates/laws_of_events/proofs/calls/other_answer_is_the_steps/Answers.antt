@@ -1,4 +1,4 @@
-use Rattle.laws_of_events.proofs.Wanting.{other_is_the_steps}
+use Rattle.laws_of_events.proofs.LimitedMemory.{other_is_the_steps}
 use Rattle.laws_of_events.proofs.calls.other_answer_is_the_steps.Goals as goal
 
 pub returns : goal.returns

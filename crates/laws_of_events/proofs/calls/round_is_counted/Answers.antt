@@ -1,4 +1,4 @@
-use Rattle.laws_of_events.proofs.Calling.{round_counted}
+use Rattle.laws_of_events.proofs.StatesAfterCalls.{round_counted}
 use Rattle.laws_of_events.proofs.calls.round_is_counted.Goals as goal
 
 pub returns : goal.returns

@@ -1,4 +1,4 @@
-use Rattle.laws_of_events.proofs.Spared.{none_sent_there}
+use Rattle.laws_of_events.proofs.NoTransferToDraining.{none_sent_there}
 use Rattle.laws_of_events.proofs.draining.no_transfer_to_draining.Goals as goal
 
 pub returns : goal.returns

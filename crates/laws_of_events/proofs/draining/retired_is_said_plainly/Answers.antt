@@ -1,4 +1,4 @@
-use Rattle.laws_of_events.proofs.Retiring.{said_plainly}
+use Rattle.laws_of_events.proofs.RetiredNodes.{said_plainly}
 use Rattle.laws_of_events.proofs.draining.retired_is_said_plainly.Goals as goal
 
 pub returns : goal.returns

@@ -3,7 +3,7 @@ use Rattle.bm_base.specs.Promises.Lawful.{IsOrderly}
 use Rattle.laws_of_states.proofs.LawfulRounds.{orderly}
 use Rattle.laws_of_states.proofs.OrderlyStates.{calls_orderly}
 use Rattle.laws_of_events.specs.Draining.{retired_node_may_die}
-use Rattle.laws_of_events.proofs.Retiring.{may_die}
+use Rattle.laws_of_events.proofs.RetiredNodes.{may_die}
 use Rattle.laws_of_events.proofs.draining.retired_node_may_die.Goals as goal
 
 in_orderly : (M : State) → IsOrderly M → retired_node_may_die M

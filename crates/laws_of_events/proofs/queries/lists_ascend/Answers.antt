@@ -1,4 +1,4 @@
-use Rattle.laws_of_events.proofs.Rising.{all_lists_ascend}
+use Rattle.laws_of_events.proofs.AscendingLists.{all_lists_ascend}
 use Rattle.laws_of_events.proofs.queries.lists_ascend.Goals as goal
 
 pub returns : goal.returns

@@ -1,4 +1,4 @@
-use Rattle.laws_of_events.proofs.Listing.{missing_listed}
+use Rattle.laws_of_events.proofs.ListedReplicas.{missing_listed}
 use Rattle.laws_of_events.proofs.queries.missing_have_no_usable_replica.Goals as goal
 
 pub returns : goal.returns

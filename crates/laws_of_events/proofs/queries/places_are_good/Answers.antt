@@ -1,4 +1,4 @@
-use Rattle.laws_of_events.proofs.Listing.{places_listed}
+use Rattle.laws_of_events.proofs.ListedReplicas.{places_listed}
 use Rattle.laws_of_events.proofs.queries.places_are_good.Goals as goal
 
 pub returns : goal.returns

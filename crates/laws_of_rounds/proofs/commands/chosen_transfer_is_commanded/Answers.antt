@@ -2,7 +2,7 @@ use Rattle.bm_base.specs.Promises.Lawful.{IsOrderly}
 use Rattle.bm_base.specs.Machine.State.{State}
 use Rattle.laws_of_states.proofs.OrderlyStates.{calls_orderly}
 use Rattle.laws_of_states.proofs.LawfulRounds.{orderly}
-use Rattle.laws_of_rounds.proofs.Told.{chosen_told}
+use Rattle.laws_of_rounds.proofs.NodeCommands.{chosen_told}
 use Rattle.laws_of_rounds.specs.Commands.{ChosenTransferIsCommanded}
 use Rattle.laws_of_rounds.proofs.commands.chosen_transfer_is_commanded.Goals as goal
 

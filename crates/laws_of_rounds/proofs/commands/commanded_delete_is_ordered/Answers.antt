@@ -1,4 +1,4 @@
-use Rattle.laws_of_rounds.proofs.Told.{ordered_after}
+use Rattle.laws_of_rounds.proofs.NodeCommands.{ordered_after}
 use Rattle.laws_of_states.proofs.CommandedDeletes.{tested}
 use Rattle.laws_of_rounds.proofs.commands.commanded_delete_is_ordered.Goals as goal
 

@@ -1,4 +1,4 @@
-use Rattle.laws_of_rounds.proofs.Told.{pending_told}
+use Rattle.laws_of_rounds.proofs.NodeCommands.{pending_told}
 use Rattle.laws_of_rounds.proofs.commands.commanded_transfer_is_pending.Goals as goal
 
 pub returns : goal.returns

@@ -1,5 +1,5 @@
-use Rattle.laws_of_rounds.proofs.Told.{ordered_told}
-use Rattle.laws_of_rounds.proofs.Untested.{untested}
+use Rattle.laws_of_rounds.proofs.NodeCommands.{ordered_told}
+use Rattle.laws_of_rounds.proofs.TestedDeletes.{untested}
 use Rattle.laws_of_rounds.proofs.commands.ordered_is_commanded.Goals as goal
 
 pub returns : goal.returns

@@ -1,4 +1,4 @@
-use Rattle.laws_of_rounds.proofs.Told.{same_rest}
+use Rattle.laws_of_rounds.proofs.NodeCommands.{same_rest}
 use Rattle.laws_of_rounds.proofs.commands.round_keeps_the_rest.Goals as goal
 
 pub returns : goal.returns

@@ -1,4 +1,4 @@
-use Rattle.laws_of_rounds.proofs.Grouped.{few_a_node}
+use Rattle.laws_of_rounds.proofs.NodeGroups.{few_a_node}
 use Rattle.laws_of_rounds.proofs.deletes.at_most_invalidate_a_node.Goals as goal
 
 pub returns : goal.returns

@@ -3,7 +3,7 @@ use Rattle.bm_base.specs.Machine.State.{State}
 use Rattle.laws_of_states.proofs.OrderlyStates.{calls_orderly}
 use Rattle.laws_of_states.proofs.LawfulRounds.{orderly}
 use Rattle.laws_of_states.proofs.CommandedDeletes.{tested}
-use Rattle.laws_of_rounds.proofs.Reasons.{corrupt_waits}
+use Rattle.laws_of_rounds.proofs.DeleteReasons.{corrupt_waits}
 use Rattle.laws_of_rounds.specs.Deletes.{CorruptWaitsForLive}
 use Rattle.laws_of_rounds.proofs.deletes.corrupt_waits_for_live.Goals as goal
 

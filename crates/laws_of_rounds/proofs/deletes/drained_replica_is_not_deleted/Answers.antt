@@ -1,6 +1,6 @@
 use Rattle.bm_base.specs.Machine.State.{replica_at}
 use Rattle.laws_of_states.proofs.CommandedDeletes.{tested}
-use Rattle.laws_of_rounds.proofs.Drained.{drained_kept}
+use Rattle.laws_of_rounds.proofs.DrainingNodes.{drained_kept}
 use Rattle.laws_of_rounds.proofs.deletes.drained_replica_is_not_deleted.Goals as goal
 
 pub returns : goal.returns

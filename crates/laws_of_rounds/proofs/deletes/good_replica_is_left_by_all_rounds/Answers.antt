@@ -1,6 +1,6 @@
 use Rattle.bm_base.specs.Words.{first_state, replica_at, state_after}
 use Rattle.laws_of_states.proofs.OrderlyStates.{calls_orderly}
-use Rattle.laws_of_rounds.proofs.Ordered.{done_reached, good_stays}
+use Rattle.laws_of_rounds.proofs.OrderedDeletes.{done_reached, good_stays}
 use Rattle.laws_of_states.proofs.CommandedDeletes.{tested}
 use Rattle.laws_of_rounds.proofs.deletes.good_replica_is_left_by_all_rounds.Goals as goal
 

@@ -1,4 +1,4 @@
-use Rattle.laws_of_rounds.proofs.Reasons.{not_ordered}
+use Rattle.laws_of_rounds.proofs.DeleteReasons.{not_ordered}
 use Rattle.laws_of_states.proofs.CommandedDeletes.{tested}
 use Rattle.laws_of_rounds.proofs.deletes.none_is_ordered_again.Goals as goal
 

@@ -2,7 +2,7 @@ use Rattle.bm_base.specs.Promises.Lawful.{IsOrderly}
 use Rattle.bm_base.specs.Machine.State.{State}
 use Rattle.laws_of_states.proofs.OrderlyStates.{calls_orderly}
 use Rattle.laws_of_states.proofs.LawfulRounds.{orderly}
-use Rattle.laws_of_rounds.proofs.Deferred.{only_limit}
+use Rattle.laws_of_rounds.proofs.DeferredDeletes.{only_limit}
 use Rattle.laws_of_rounds.specs.Deletes.{OnlyTheLimitDefers}
 use Rattle.laws_of_rounds.proofs.deletes.only_the_limit_defers.Goals as goal
 

@@ -1,4 +1,4 @@
-use Rattle.laws_of_rounds.proofs.Usable.{drained_once}
+use Rattle.laws_of_rounds.proofs.UsableReplicas.{drained_once}
 use Rattle.laws_of_rounds.proofs.live.drained_stands_once.Goals as goal
 
 pub returns : goal.returns

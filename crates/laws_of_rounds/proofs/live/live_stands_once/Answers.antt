@@ -1,4 +1,4 @@
-use Rattle.laws_of_rounds.proofs.Usable.{live_once}
+use Rattle.laws_of_rounds.proofs.UsableReplicas.{live_once}
 use Rattle.laws_of_rounds.proofs.live.live_stands_once.Goals as goal
 
 pub returns : goal.returns

@@ -1,4 +1,4 @@
-use Rattle.laws_of_rounds.proofs.Usable.{sources_usable}
+use Rattle.laws_of_rounds.proofs.UsableReplicas.{sources_usable}
 use Rattle.laws_of_rounds.proofs.live.sources_are_usable.Goals as goal
 
 pub returns : goal.returns

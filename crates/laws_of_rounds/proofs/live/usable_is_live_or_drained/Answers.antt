@@ -1,4 +1,4 @@
-use Rattle.laws_of_rounds.proofs.Usable.{usable_is}
+use Rattle.laws_of_rounds.proofs.UsableReplicas.{usable_is}
 use Rattle.laws_of_rounds.proofs.live.usable_is_live_or_drained.Goals as goal
 
 pub returns : goal.returns

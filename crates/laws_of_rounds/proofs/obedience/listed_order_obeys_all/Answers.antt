@@ -1,4 +1,4 @@
-use Rattle.laws_of_rounds.proofs.Gained.{listed_obeys}
+use Rattle.laws_of_rounds.proofs.LiveCounts.{listed_obeys}
 use Rattle.laws_of_rounds.proofs.obedience.listed_order_obeys_all.Goals as goal
 
 pub returns : goal.returns

@@ -1,4 +1,4 @@
-use Rattle.laws_of_rounds.proofs.Later.{no_transfer_twice}
+use Rattle.laws_of_rounds.proofs.NextRounds.{no_transfer_twice}
 use Rattle.laws_of_rounds.proofs.rounds.no_transfer_twice.Goals as goal
 
 pub returns : goal.returns

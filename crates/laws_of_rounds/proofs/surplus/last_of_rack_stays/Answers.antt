@@ -2,7 +2,7 @@ use Rattle.bm_base.specs.Promises.Lawful.{IsOrderly}
 use Rattle.bm_base.specs.Machine.State.{State}
 use Rattle.laws_of_states.proofs.OrderlyStates.{calls_orderly}
 use Rattle.laws_of_states.proofs.LawfulRounds.{orderly}
-use Rattle.laws_of_rounds.proofs.Racked.{last_stays}
+use Rattle.laws_of_rounds.proofs.MarkedRacks.{last_stays}
 use Rattle.laws_of_rounds.specs.Surplus.{LastOfRackStays}
 use Rattle.laws_of_rounds.proofs.surplus.last_of_rack_stays.Goals as goal
 

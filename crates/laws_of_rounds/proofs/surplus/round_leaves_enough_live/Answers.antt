@@ -1,4 +1,4 @@
-use Rattle.laws_of_rounds.proofs.Reasons.{leaves_enough}
+use Rattle.laws_of_rounds.proofs.DeleteReasons.{leaves_enough}
 use Rattle.laws_of_rounds.proofs.surplus.round_leaves_enough_live.Goals as goal
 
 pub returns : goal.returns

@@ -1,4 +1,4 @@
-use Rattle.laws_of_rounds.proofs.Reasons.{surplus_count}
+use Rattle.laws_of_rounds.proofs.DeleteReasons.{surplus_count}
 use Rattle.laws_of_rounds.proofs.surplus.surplus_is_marked.Goals as goal
 
 pub returns : goal.returns

@@ -1,4 +1,4 @@
-use Rattle.laws_of_rounds.proofs.Sending.{few_commanded}
+use Rattle.laws_of_rounds.proofs.TransferLaws.{few_commanded}
 use Rattle.laws_of_rounds.proofs.transfers.at_most_work_a_node.Goals as goal
 
 pub returns : goal.returns

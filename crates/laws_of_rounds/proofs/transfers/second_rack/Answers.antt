@@ -1,4 +1,4 @@
-use Rattle.laws_of_rounds.proofs.Wished.{second_rack}
+use Rattle.laws_of_rounds.proofs.RequestedCopies.{second_rack}
 use Rattle.laws_of_rounds.proofs.transfers.second_rack.Goals as goal
 
 pub returns : goal.returns

@@ -1,4 +1,4 @@
-use Rattle.laws_of_rounds.proofs.Sending.{fresh_node}
+use Rattle.laws_of_rounds.proofs.TransferLaws.{fresh_node}
 use Rattle.laws_of_rounds.proofs.transfers.target_is_on_fresh_node.Goals as goal
 
 pub returns : goal.returns

@@ -1,5 +1,5 @@
 use Rattle.std.proofs.Common.{◌≡◌, ◌-◌, ◌++◌, length, take, drop, flat_map, min}
-use Rattle.puljemrod.specs.Commanding.{copies_for}
+use Rattle.puljemrod.specs.CommandRows.{copies_for}
 use Rattle.puljemrod.proofs.commands.copy_copies.Given as goal
 
 abbrev pub invariant-loop-one : goal.invariant-loop-one

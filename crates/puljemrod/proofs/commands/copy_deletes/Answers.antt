@@ -1,6 +1,6 @@
 use Rattle.std.proofs.Common.{◌≡◌, ◌+◌, ◌++◌, arith, ap, sym, flat_map, map, take, length, length-append, ◌∙◌}
 use Rattle.std.proofs.lemmas.List.{length-map}
-use Rattle.puljemrod.specs.Commanding.{delete_row, deletes_for}
+use Rattle.puljemrod.specs.CommandRows.{delete_row, deletes_for}
 use Rattle.puljemrod.proofs.RowLists.{one_node, flat_more}
 use Rattle.puljemrod.proofs.commands.copy_deletes.Goals as goal
 

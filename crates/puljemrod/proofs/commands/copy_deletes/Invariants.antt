@@ -1,5 +1,5 @@
 use Rattle.std.proofs.Common.{◌≡◌, ◌-◌, ◌++◌, length, take, drop, flat_map, min}
-use Rattle.puljemrod.specs.Commanding.{deletes_for}
+use Rattle.puljemrod.specs.CommandRows.{deletes_for}
 use Rattle.puljemrod.proofs.commands.copy_deletes.Given as goal
 
 abbrev pub invariant-loop-one : goal.invariant-loop-one

@@ -1,15 +1,29 @@
-use Rattle.std.proofs.Common.{◌≤◌, ◌+◌, inl, inr, arith}
-use Rattle.bm_base.specs.Maps.Map.{len}
+use Rattle.std.proofs.Common.{◌≤◌, ◌+◌, length, inl, inr, arith, ◌∙◌}
 use Rattle.bm_maps.specs.SlotLists.{IsMember}
 use Rattle.bm_arena.specs.Contents.{list_of}
-use Rattle.bm_levels.proofs.Places.{gone_all}
+use Rattle.bm_levels.specs.ClusterAfter.{rack_after, drains_after}
+use Rattle.bm_levels.proofs.Places.{gone_all, classified_next}
 use Rattle.bm_levels.proofs.level_index.LevelIndex.reclassify_node.Goals as goal
 
 pub reclassify_list-requires : goal.reclassify_list-requires
-reclassify_list-requires c = λ slot there. c.loop-place.invariant.room (slot + 1) (c.requires slot c.in-Some.storage there)
+reclassify_list-requires c = λ slot there. c.loop-storage.invariant.room (slot + 1) (c.requires slot c.storage-item.result there)
+
+pub loop-storage-preserved : goal.loop-storage-preserved
+loop-storage-preserved c =
+    let A = c.args.cluster_after.now in
+    let before = c.loop-storage.invariant in
+    record {
+      each = λ slot. classified_next (rack_after A) (drains_after A) A.multi c.args.arena.now c.storages_of-storage-items.result.now c.loop-storage.storage-index c.storage-item.result slot c.args.self.now c.loop-storage.self c.reclassify_list.new.self
+          c.loop-storage-test.true c.storage-item.is (before.each slot) (c.reclassify_list.ensures.each slot);
+      room = λ bound h. c.reclassify_list.ensures.room bound (before.room bound h);
+      numbers = λ h. c.reclassify_list.ensures.numbers (before.numbers h);
+    }
 
 pub returns-clause-each : goal.returns-clause-each
 returns-clause-each c slot =
-    let C = c.args.cluster_after.now.topology.now.cluster in
-    let past : len C.storages ≤ c.loop-place.place = omega (arith, c.loop-place-test.false, c.storage_count-place-end.ensures.count) in
-    elim (c.loop-place.invariant.each slot) [ inl status ↦ inl status | inr same ↦ inr (same.0, gone_all C c.args.node (λ s. IsMember slot (list_of c.args.arena.now s) → ⊥) c.loop-place.place past same.1) ]
+    let items = c.storages_of-storage-items in
+    let past : length items.result.now ≤ c.loop-storage.storage-index = omega (arith, c.loop-storage-test.false) in
+    elim (c.loop-storage.invariant.each slot) [
+      | inl status ↦ inl status
+      | inr same ↦ inr (same.0, λ storage own. gone_all items.result.now (λ s. IsMember slot (list_of c.args.arena.now s) → ⊥) c.loop-storage.storage-index past same.1 storage (items.ensures.each storage ∙ own))
+    ]

@@ -7,11 +7,11 @@ use Rattle.bm_levels.proofs.Places.{HaveGone}
 use Rattle.bm_levels.proofs.level_index.LevelIndex.reclassify_node.Given as goal
 
 -- the slots on the storages so far are classified, there is capacity for all, and the numbers are kept
-pub record AreJudgedSoFar (l : goal.Live-loop-place) : Type 0 where
+pub record AreJudgedSoFar (l : goal.Live-loop-storage) : Type 0 where
   pub each : (slot : ℕ) → IsClassifiedAfter l.cluster_after (block_at l.arena slot) l.self slot
-      ⊎ (IsSameAt l.initial.self l.self slot × HaveGone l.cluster_after.topology.now.cluster l.node (λ s. IsMember slot (list_of l.arena s) → ⊥) l.place)
+      ⊎ (IsSameAt l.initial.self l.self slot × HaveGone l.storage-items (λ s. IsMember slot (list_of l.arena s) → ⊥) l.storage-index)
   pub room : (bound : ℕ) → HasCapacityFor l.initial.self bound → HasCapacityFor l.self bound
   pub numbers : KeepsNumbers l.arena l.initial.self l.self
 
-abbrev pub invariant-loop-place : goal.invariant-loop-place
-invariant-loop-place l = AreJudgedSoFar l
+abbrev pub invariant-loop-storage : goal.invariant-loop-storage
+invariant-loop-storage l = AreJudgedSoFar l

@@ -5,13 +5,13 @@ use Rattle.bm_levels.specs.ClusterAfter.{is_on_node, KeepsLevelsAfter}
 use Rattle.bm_levels.proofs.leveled_blocks.LeveledBlocks.clear_four_at_a_time.Given as goal
 
 -- `removed` replicas have left
-pub record AreLeaving (l : goal.Live-loop-place) : Type 0 where
+pub record AreLeaving (l : goal.Live-loop-storage) : Type 0 where
   pub left : IsLeaving (is_on_node l.cluster_after l.node) l.initial.self.arena l.self.arena l.removed
-  pub few : l.removed ≤ l.place * (2 ^ 66 + 256)
+  pub few : l.removed ≤ l.storage-index * (2 ^ 66 + 256)
   pub next : l.count < 4
   pub bare : MakesNoUnused l.initial.self.arena l.self.arena
   pub fewer : MakesNoHead l.initial.self.arena l.self.arena
   pub levels : KeepsLevelsAfter l.cluster_after l.initial.self l.self
 
-abbrev pub invariant-loop-place : goal.invariant-loop-place
-invariant-loop-place l = AreLeaving l
+abbrev pub invariant-loop-storage : goal.invariant-loop-storage
+invariant-loop-storage l = AreLeaving l

@@ -7,14 +7,14 @@ use Rattle.bm_levels.proofs.Places.{HaveGone}
 use Rattle.bm_levels.proofs.leveled_blocks.LeveledBlocks.clear_node.Given as goal
 
 -- the replicas on the node's storages so far have left
-pub record AreLeaving (l : goal.Live-loop-place) : Type 0 where
-  pub left : IsLeaving (is_on_node l.cluster_after l.node) l.fn.self.arena l.self.arena l.removed
-  pub none : HaveGone l.cluster_after.topology.now.cluster l.node (λ s. list_of l.self.arena s ≡ []) l.place
-  pub heads : HaveGone l.cluster_after.topology.now.cluster l.node (λ s. HasHead l.self.arena s → ⊥) l.place
+pub record AreLeaving (l : goal.Live-loop-storage) : Type 0 where
+  pub left : IsLeaving (is_on_node l.cluster_after l.fn.node) l.fn.self.arena l.self.arena l.removed
+  pub none : HaveGone l.storage-items (λ s. list_of l.self.arena s ≡ []) l.storage-index
+  pub heads : HaveGone l.storage-items (λ s. HasHead l.self.arena s → ⊥) l.storage-index
   pub bare : MakesNoUnused l.fn.self.arena l.self.arena
   pub fewer : MakesNoHead l.fn.self.arena l.self.arena
-  pub few : l.removed ≤ 2 ^ 99 + l.place * 2 ^ 64
+  pub few : l.removed ≤ 2 ^ 99 + l.storage-index * 2 ^ 64
   pub levels : KeepsLevelsAfter l.cluster_after l.fn.self l.self
 
-abbrev pub invariant-loop-place : goal.invariant-loop-place
-invariant-loop-place l = AreLeaving l
+abbrev pub invariant-loop-storage : goal.invariant-loop-storage
+invariant-loop-storage l = AreLeaving l

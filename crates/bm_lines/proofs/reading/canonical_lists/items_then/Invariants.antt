@@ -2,7 +2,7 @@ use Rattle.std.proofs.Common.{◌≡◌, ◌++◌, ◌<◌, All, length}
 use Rattle.bm_lines.specs.Asking.{with_commas}
 use Rattle.bm_lines.proofs.reading.canonical_lists.items_then.Given as goal
 
--- the items so far, of which there is one, and what is behind them
+-- the items so far, at least one, and the rest of the text
 abbrev pub invariant-loop-next : goal.invariant-loop-next
 invariant-loop-next g l = record {
   text : l.list ≡ with_commas g.T.CanonicalItem.written l.items.items ++ l.rest;

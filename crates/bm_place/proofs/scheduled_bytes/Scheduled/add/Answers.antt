@@ -3,8 +3,8 @@ use Rattle.std.specs.Option.{IfSome}
 use Rattle.bm_base.specs.Words.{get, revise_at, scheduled_to}
 use Rattle.bm_place.specs.declared.scheduled_bytes.TargetRow.{TargetRow}
 use Rattle.bm_place.specs.Targets.{target_table}
-use Rattle.bm_place.specs.NodeStorages.{HaveNodeStorages, AreByNode}
-use Rattle.bm_place.proofs.UpdatedTargets.{seated_added}
+use Rattle.bm_place.specs.BestTargets.{AreOf}
+use Rattle.bm_place.proofs.UpdatedTargets.{still_of}
 use Rattle.bm_place.proofs.TransferCounts.{targets-more, targets-chosen}
 use Rattle.bm_place.proofs.scheduled_bytes.Scheduled.add.Goals as goal
 
@@ -22,12 +22,7 @@ returns-clause-of_transfers c C chosen t at long made =
 pub invariant_of-self : goal.invariant_of-self
 invariant_of-self c =
     let inside = c.self.inside in
+    let C = inside.topology.now.cluster in
     let fits = subst (λ rows. IfSome (get rows c.args.target) (λ (t : TargetRow). c.args.len + t.scheduled ≤ t.remaining)) (sym c.self.view_is) c.requires.fits in
-    let seated = subst (λ rows. HaveNodeStorages rows inside.seats.items) (sym c.add_to.ensures) (seated_added inside.rows.map c.args.target c.args.len inside.seats.items c.self.invariant.seated) in
-    record {
-      kept =
-          c.update_best.ensures inside.rows.map c.args.len c.self.invariant.kept fits c.add_to.ensures (subst (HaveNodeStorages c.add_to.new.rows.map) (sym c.deref.ensures.value) seated)
-          (subst AreByNode (sym c.deref.ensures.value) c.self.invariant.by_node);
-      seated = seated;
-      by_node = c.self.invariant.by_node;
-    }
+    let of_cluster = subst (AreOf C) (sym c.add_to.ensures) (still_of inside.rows.map c.args.target c.args.len C c.self.invariant.of_cluster) in
+    record { kept = c.update_best.ensures inside.rows.map c.args.len c.self.invariant.kept fits c.add_to.ensures of_cluster; of_cluster = of_cluster }

@@ -1,10 +1,7 @@
 use Rattle.std.proofs.Common.{map, subst}
-use Rattle.std.specs.List.Sorted.{IsPermutation}
 use Rattle.bm_base.specs.Machine.Transfers.{scheduled_to}
 use Rattle.bm_place.specs.BestTargets.{AreBestInOrder}
-use Rattle.bm_place.specs.NodeStorages.{node_storage_of}
-use Rattle.bm_place.proofs.TableInvariant.{kept_made}
-use Rattle.bm_place.proofs.NodeStorages.{seated}
+use Rattle.bm_place.proofs.TableInvariant.{kept_made, of_cluster_made}
 use Rattle.bm_place.proofs.scheduled_bytes.Scheduled.new.Goals as goal
 
 pub invariant_of-result : goal.invariant_of-result
@@ -12,9 +9,8 @@ invariant_of-result c =
     record {
       kept =
           kept_made c.args.topology.now.cluster c.in_ok-rows.rows.map c.in_ok-best_targets.best_targets.items c.in_ok-rows.ensures
-          (subst (λ es. AreBestInOrder (map (λ e. e.1) es) c.in_ok-best_targets.best_targets.items) c.entries-listed.ensures c.in_ok-best_targets.ensures);
-      seated = seated c.in_ok-rows.rows.map c.in_ok-seats.seats.items (subst (λ es. IsPermutation (map (λ e. node_storage_of e.1) es) c.in_ok-seats.seats.items) c.entries-listed.ensures c.in_ok-seats.ensures.moved);
-      by_node = c.in_ok-seats.ensures.in_order;
+          (subst (λ es. AreBestInOrder (map (λ e. e.1) es) c.in_ok-best_targets.best_targets.items) c.entries.ensures c.in_ok-best_targets.ensures);
+      of_cluster = of_cluster_made c.args.topology.now.cluster c.in_ok-rows.rows.map c.in_ok-rows.ensures;
     }
 
 pub returns-clause-of_transfers : goal.returns-clause-of_transfers

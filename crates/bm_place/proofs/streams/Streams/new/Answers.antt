@@ -3,26 +3,20 @@ use Rattle.bm_base.specs.Words.{get, keys, insert_all, node_number}
 use Rattle.bm_base.proofs.MapEntries.{get_here}
 use Rattle.bm_place.specs.Tables.{table, listed}
 use Rattle.bm_place.specs.Sources.{sender_table, transfers_by}
-use Rattle.bm_place.proofs.Tables.{row_made, row_made_of, made_past, made_past_of, none_behind}
+use Rattle.bm_place.proofs.Tables.{row_made_of, made_past_of, none_behind}
 use Rattle.bm_place.proofs.streams.Streams.new.Goals as goal
 
 pub loop-place-init : goal.loop-place-init
 unfolding table
 loop-place-init c =
     let C = c.args.topology.now.cluster in
-    record {
-      nodes = ap (λ m. insert_all m (listed (node_number C) (keys C.storages))) (c.reserve.ensures.same ∙ c.new-nodes.ensures.empty);
-      last = tt;
-      counts = ap (λ m. insert_all m (listed (λ _. 0) (map (node_number C) (keys C.storages)))) c.new-counts.ensures.empty;
-    }
+    record { last = tt; counts = ap (λ m. insert_all m (listed (λ _. 0) (map (node_number C) (keys C.storages)))) c.new-counts.ensures.empty }
 
 pub loop-place-preserved : goal.loop-place-preserved
 loop-place-preserved c =
     let C = c.args.topology.now.cluster in
     let at = sym c.storage_at.ensures ∙ c.in-Some.is in
     record {
-      nodes = row_made (node_number C) (keys C.storages) c.loop-place.place (sender_table C (λ _. 0)).nodes c.loop-place.nodes.map c.insert.new.self.map c.in-Some.storage c.from.result c.node_number-node.result
-          at (c.from.ensures ∙ c.storage.view_is) c.node_number-node.ensures c.in_ok-insert.ensures.ok c.loop-place.invariant.nodes;
       counts = row_made_of (λ _. 0) (keys C.storages) c.loop-place.place (sender_table C (λ _. 0)).counts (node_number C) c.loop-place.counts.map c.enter.new.counts.map c.in-Some.storage c.node_number-node.result 0
           at c.node_number-node.ensures refl c.in_ok-enter.ensures c.loop-place.invariant.counts;
       last = ap (λ m. get m c.node_number-node.result) c.in_ok-enter.ensures ∙ get_here c.loop-place.counts.map c.node_number-node.result 0;
@@ -33,7 +27,7 @@ returns-in_default-clause-none_yet c =
     let C = c.args.topology.now.cluster in
     let past = sym c.storage_at.ensures ∙ c.in_default.is in
     λ i. record {
-      nodes = made_past (node_number C) (keys C.storages) c.loop-place.place (sender_table C (λ _. 0)).nodes c.loop-place.nodes.map past c.loop-place.invariant.nodes i;
+      nodes = (sender_table C (λ _. 0)).nodes;
       counts = made_past_of (λ _. 0) (keys C.storages) c.loop-place.place (sender_table C (λ _. 0)).counts (node_number C) c.loop-place.counts.map past c.loop-place.invariant.counts i;
     }
 
@@ -46,7 +40,7 @@ returns-clause-none_yet c =
     let C = c.args.topology.now.cluster in
     let past = none_behind C.storages c.loop-place.place (omega (arith, c.loop-place-test.false, c.storage_count-place-end.ensures.count)) in
     λ i. record {
-      nodes = made_past (node_number C) (keys C.storages) c.loop-place.place (sender_table C (λ _. 0)).nodes c.loop-place.nodes.map past c.loop-place.invariant.nodes i;
+      nodes = (sender_table C (λ _. 0)).nodes;
       counts = made_past_of (λ _. 0) (keys C.storages) c.loop-place.place (sender_table C (λ _. 0)).counts (node_number C) c.loop-place.counts.map past c.loop-place.invariant.counts i;
     }
 

@@ -5,12 +5,11 @@ use Rattle.bm_place.specs.Tables.{listed}
 use Rattle.bm_place.specs.Sources.{sender_table}
 use Rattle.bm_place.proofs.streams.Streams.new.Given as goal
 
--- the tables so far and the rows of the rest are the whole tables
+-- with the nodes of the storages that are left the table is whole
 abbrev pub invariant-loop-place : goal.invariant-loop-place
 invariant-loop-place l =
     let C = l.topology.cluster in
     record {
-      nodes : insert_all l.nodes.map (listed (node_number C) (drop l.place (keys C.storages))) ≡ (sender_table C (λ _. 0)).nodes;
       last : IfSome l.last (λ n. get l.counts.map n ≡ Some 0);
       counts : insert_all l.counts.map (listed (λ _. 0) (map (node_number C) (drop l.place (keys C.storages)))) ≡ (sender_table C (λ _. 0)).counts;
     }

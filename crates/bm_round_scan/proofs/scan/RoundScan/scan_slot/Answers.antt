@@ -14,9 +14,8 @@ use Rattle.bm_round_scan.specs.declared.scan.Findings.{Findings}
 use Rattle.bm_round_scan.specs.Gathering.{HasFound}
 use Rattle.bm_parts.specs.Before.{wishes_before}
 use Rattle.bm_pending.specs.Remaining.{remaining_targets}
-use Rattle.bm_round_scan.specs.Marking.{all_storages}
 use Rattle.bm_round_scan.specs.Requests.{wish_by}
-use Rattle.bm_levels.specs.Status.{is_settled_at}
+use Rattle.bm_levels.specs.Status.{is_settled_at, storages_at}
 use Rattle.bm_levels.proofs.EqualLists.{among_has}
 use Rattle.bm_round_scan.proofs.NextBlock.{found_more}
 use Rattle.bm_round_scan.proofs.SettledBlocks.{settled_more}
@@ -42,7 +41,7 @@ returns-clause-more c bs has =
       wishes =
           c.in_ok-push_wish.ensures.wish
           ∙ ap (λ ss. c.args.found.now.wishes.items ++ wishes_before c.args.self.now.bound (option_to_list (option_and_then (λ i. wish_by c.args.self.now.topology.now.cluster l.id i c.in_ok-usable.usable.live c.in_ok-usable.usable.drained ss (remaining_targets c.args.self.now.pend c.args.self.now.round c.args.self.now.pending.now l.id)) l.info)))
-          (c.as_slice-storages.ensures ∙ c.in_ok-storages.ensures ∙ ap all_storages c.entries.ensures);
+          (c.as_slice-storages.ensures ∙ c.in_ok-storages.ensures ∙ ap (storages_at (λ _ _. true)) c.as_slice-2.ensures.value);
       deletes = c.in_ok-push_deletes.ensures;
     }) bs has)
 

@@ -1,7 +1,7 @@
-use Rattle.std.proofs.Common.{ap, subst, sym, ◌∙◌}
+use Rattle.std.proofs.Common.{[], ap, subst, sym, ◌∙◌, ◌≡◌, None}
 use Rattle.bm_base.specs.declared.event.Done.{Done}
 use Rattle.bm_base.specs.declared.event.Event.{Event}
-use Rattle.bm_base.specs.Words.{Cluster, is_multi_rack, register, heartbeat, change_cluster, change_holdings}
+use Rattle.bm_base.specs.Words.{Cluster, is_multi_rack, change_cluster, change_holdings, first_of, cluster_checks}
 use Rattle.bm_parts.specs.Parts.{block_of, change_part}
 use Rattle.bm_shard.specs.Seen.{Seen, IsReadyFor}
 use Rattle.bm_shard.specs.Changed.{HasChanged}
@@ -15,10 +15,12 @@ Changes C old new answer e = HasChanged C (change_cluster C e) old new (change_p
 abbrev ChangesAny : Cluster → Seen → Seen → Done → Event → Type 0
 ChangesAny C old new answer e = HasChanged C (change_cluster C e) old new (change_holdings C old.holdings e) answer
 
-pub register-requires-clause-multi : goal.register-requires-clause-multi
-unfolding change_cluster
-register-requires-clause-multi c =
-    c.requires.multi ∙ ap (λ e. is_multi_rack (change_cluster c.args.topology.now.cluster e)) c.in-Register.is ∙ ap (λ ss. is_multi_rack (register c.args.topology.now.cluster c.in-Register.node c.in-Register.rack ss)) (sym c.as_slice.ensures)
+registered : (c : goal.After-register) → Changes c.args.topology.now.cluster c.args.self.now c.register.new.self c.register.result c.args.event.now
+unfolding change_cluster change_holdings
+registered c =
+    subst (λ e. Changes c.args.topology.now.cluster c.args.self.now c.register.new.self c.register.result e) (sym c.in-Register.is)
+    (c.register.ensures.changed _ _ _ (subst (λ e. first_of (cluster_checks c.args.topology.now.cluster e) ≡ None) c.in-Register.is c.requires.cluster)
+    (c.requires.multi ∙ ap (λ e. is_multi_rack (change_cluster c.args.topology.now.cluster e)) c.in-Register.is))
 
 pub forget_node-requires-clause-multi : goal.forget_node-requires-clause-multi
 unfolding change_cluster
@@ -37,8 +39,7 @@ unfolding IsReadyFor
 report-requires-clause-ready c = (_, subst (λ e. IsReadyFor e c.args.self.now) c.in-FullReport.is c.requires.ready)
 
 pub returns-in-Register-clause-changed : goal.returns-in-Register-clause-changed
-unfolding change_cluster change_holdings
-returns-in-Register-clause-changed c = subst (λ e. Changes c.args.topology.now.cluster c.args.self.now c.register.new.self c.register.result e) (sym c.in-Register.is) (let P : _ → Type 0 = λ ss. HasChanged c.args.topology.now.cluster (register c.args.topology.now.cluster c.in-Register.node c.in-Register.rack ss) c.args.self.now c.register.new.self c.args.self.now.holdings c.register.result in subst P c.as_slice.ensures c.register.ensures.changed)
+returns-in-Register-clause-changed c = registered c
 
 pub returns-in-Dead-clause-changed : goal.returns-in-Dead-clause-changed
 unfolding change_cluster change_holdings
@@ -50,7 +51,8 @@ returns-in-StorageFailed-clause-changed c = subst (λ e. Changes c.args.topology
 
 pub returns-in-Heartbeat-clause-changed : goal.returns-in-Heartbeat-clause-changed
 unfolding change_cluster change_holdings
-returns-in-Heartbeat-clause-changed c = subst (λ e. Changes c.args.topology.now.cluster c.args.self.now c.note_heartbeat.new.self c.note_heartbeat.result e) (sym c.in-Heartbeat.is) (let P : _ → Type 0 = λ rs. HasChanged c.args.topology.now.cluster (heartbeat c.args.topology.now.cluster rs) c.args.self.now c.note_heartbeat.new.self c.args.self.now.holdings c.note_heartbeat.result in subst P c.as_slice-in-Heartbeat.ensures c.note_heartbeat.ensures.changed)
+returns-in-Heartbeat-clause-changed c =
+    subst (λ e. Changes c.args.topology.now.cluster c.args.self.now c.note_heartbeat.new.self c.note_heartbeat.result e) (sym c.in-Heartbeat.is) (c.note_heartbeat.ensures.changed c.args.topology.now.cluster _)
 
 pub returns-in-Drain-clause-changed : goal.returns-in-Drain-clause-changed
 unfolding change_cluster change_holdings
@@ -114,7 +116,11 @@ unfolding change_cluster change_holdings IsReadyFor
 returns-in-FullReport-clause-changed c = subst (λ e. Changes c.args.topology.now.cluster c.args.self.now c.report.new.self c.report.result e) (sym c.in-FullReport.is) (c.report.ensures.changed _ (subst (λ e. IsReadyFor e c.args.self.now) c.in-FullReport.is c.requires.ready))
 
 pub returns-in-Register-clause-few : goal.returns-in-Register-clause-few
-returns-in-Register-clause-few c none = none_few c.args.self.now.holdings c.register.result c.register.ensures.changed.done
+unfolding change_cluster
+returns-in-Register-clause-few c none =
+    none_few c.args.self.now.holdings c.register.result
+    (c.register.ensures.changed _ _ _ (subst (λ e. first_of (cluster_checks c.args.topology.now.cluster e) ≡ None) c.in-Register.is c.requires.cluster)
+    (c.requires.multi ∙ ap (λ e. is_multi_rack (change_cluster c.args.topology.now.cluster e)) c.in-Register.is)).done
 
 pub returns-in-Heartbeat-clause-few : goal.returns-in-Heartbeat-clause-few
-returns-in-Heartbeat-clause-few c none = none_few c.args.self.now.holdings c.note_heartbeat.result c.note_heartbeat.ensures.changed.done
+returns-in-Heartbeat-clause-few c none = none_few c.args.self.now.holdings c.note_heartbeat.result (c.note_heartbeat.ensures.changed c.args.topology.now.cluster []).done

@@ -11,13 +11,12 @@ use Rattle.bm_shard.proofs.shard.Shard.note_heartbeat.Goals as goal
 
 pub returns-clause-changed : goal.returns-clause-changed
 unfolding holdings_with done
-returns-clause-changed c =
-    let C = c.args.topology.now.cluster in
+returns-clause-changed c C remaining =
     let old = c.self.inside in
     let none = same_replicas (holdings_with old.blocks.arena old.pending.map).replicas in
     let lawful = subst (λ a. IsLawful a) c.arena.ensures c.show_invariant-2.ensures in
-    changed_seen C (heartbeat C c.args.remaining.now) old.blocks old.blocks old.pending.map old.pending.map lawful c.show_invariant.ensures lawful
-    (heartbeat_leaves C c.args.remaining.now old.blocks) old.part old.round old.pend _ _ (λ H. H) _ c.args.self.now c.self.view_is refl
+    changed_seen C (heartbeat C remaining) old.blocks old.blocks old.pending.map old.pending.map lawful c.show_invariant.ensures lawful
+    (heartbeat_leaves C remaining old.blocks) old.part old.round old.pend _ _ (λ H. H) _ c.args.self.now c.self.view_is refl
     (λ i. record { added = sym none i; removed = sym none i })
 
 none : (c : goal.After-show_invariant-2) → HasNoUnused c.self.inside.blocks.arena

@@ -13,16 +13,16 @@ use Rattle.bm_shard.proofs.shard.Shard.register.Goals as goal
 
 pub returns-clause-changed : goal.returns-clause-changed
 unfolding done holdings_with
-returns-clause-changed c =
+returns-clause-changed c node rack storages fine multi =
     let C = c.args.topology.now.cluster in
-    let D = register C c.args.node c.args.rack c.args.storages.now in
+    let D = register C node rack storages in
     let old = c.self.inside in
     let none = same_replicas (holdings_with old.blocks.arena old.pending.map).replicas in
     let P : Seen → Type 0 = λ s. IsPlaced C s.holdings in
     let placed = subst P (sym c.self.view_is) c.requires.placed in
-    let same = same_next_to C old.blocks.arena old.pending.map c.args.node c.args.rack c.args.storages.now c.show_invariant.ensures placed c.requires.cluster in
+    let same = same_next_to C old.blocks.arena old.pending.map node rack storages c.show_invariant.ensures placed fine in
     changed_seen C D old.blocks c.reclassify_for_racks.new.self old.pending.map old.pending.map (subst (λ a. IsLawful a) c.arena.ensures c.show_invariant-3.ensures) c.show_invariant-2.ensures (subst (λ a. IsLawful a) c.arena-2.ensures c.show_invariant-4.ensures)
-    (c.reclassify_for_racks.ensures.levels D c.requires.multi same) old.part old.round old.pend _ _ (λ H. H) _ c.args.self.now c.self.view_is
+    (c.reclassify_for_racks.ensures.levels D multi same) old.part old.round old.pend _ _ (λ H. H) _ c.args.self.now c.self.view_is
     (ap (λ a. holdings_with a old.pending.map) c.reclassify_for_racks.ensures.arena) (λ i. record { added = sym none i; removed = sym none i })
 
 none : (c : goal.After-show_invariant-4) → HasNoUnused c.reclassify_for_racks.new.self.arena

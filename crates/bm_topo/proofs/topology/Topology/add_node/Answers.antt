@@ -1,12 +1,16 @@
-use Rattle.std.proofs.Common.{◌≡◌, ◌+◌, None, arith, ap, sym, subst, ◌∙◌}
+use Rattle.std.proofs.Common.{◌≡◌, ◌+◌, ℕ, None, arith, ap, sym, subst, ◌∙◌}
+use Rattle.std.proofs.lemmas.List.{length-map}
+use Rattle.bm_base.specs.declared.storage.StorageInfo.{StorageInfo}
 use Rattle.bm_base.specs.declared.event.Event.TheVariants.{Register}
 use Rattle.bm_base.specs.Words.{insert, insert_all, remove, len, register, first_of, cluster_checks}
+use Rattle.bm_base.proofs.MapEntries.{len_insert_all}
 use Rattle.bm_topo.specs.NewStorages.{new_storages}
 use Rattle.bm_topo.specs.Racks.{on_rack}
+use Rattle.bm_topo.specs.Sound.{cluster_of}
 use Rattle.bm_topo.proofs.RackChanges.{on_rack-le}
 use Rattle.bm_topo.proofs.Capacity.{same_capacity}
 use Rattle.bm_topo.proofs.SpotTable.{none_set}
-use Rattle.bm_topo.proofs.SoundTables.{sound-joined}
+use Rattle.bm_topo.proofs.SoundTables.{sound-joined, registration_is_new}
 use Rattle.bm_topo.proofs.topology.Topology.add_node.Goals as goal
 
 pub overflow_add-count : goal.overflow_add-count
@@ -14,6 +18,17 @@ overflow_add-count c =
     let few = on_rack-le c.args.self.now.cluster.nodes c.args.rack in
     let same = ap (λ t. len t.cluster.nodes) c.self.view_is in
     omega (arith, few, same, c.count_on-count.ensures, c.self.invariant.0.lawful.few_nodes)
+
+pub sort_by_node-requires : goal.sort_by_node-requires
+sort_by_node-requires c =
+    let C = cluster_of c.self.inside.nodes.map c.self.inside.draining.map c.self.inside.storages.map in
+    let accepted = subst (λ D. first_of (cluster_checks D (Register c.args.node c.args.rack c.args.storages.now)) ≡ None) (sym (ap (λ t. t.cluster) c.self.view_is)) c.requires.accepted in
+    let few = (registration_is_new C c.args.node c.args.rack c.args.storages.now accepted).few_storages in
+    let new = new_storages c.args.node c.args.storages.now in
+    let more = len_insert_all c.self.inside.storages.map new in
+    let many = length-map {B = ℕ × StorageInfo} c.args.storages.now (λ s. (s, record { node = c.args.node; remaining = 0 })) in
+    let after = ap len c.add_storages.ensures.after in
+    record { few = omega (arith, few, more, many, after); small = c.add_storages.ensures.small c.self.invariant.0.storage_ids }
 
 pub invariant_of-self : goal.invariant_of-self
 invariant_of-self c =
@@ -25,6 +40,7 @@ invariant_of-self c =
       sound-joined c.self.inside.nodes.map c.self.inside.racks.map _ _ c.self.inside.draining.map _ c.self.inside.storages.map _ c.args.node c.args.rack c.count_on-count.result c.args.storages.now (omega arith) accepted count nodes racks draining
           c.add_storages.ensures.after c.add_storages.ensures.small c.self.invariant.0,
       none_set _ c.self.inside.spots c.self.invariant.1.whole,
+      c.sort_by_node.ensures,
     )
 
 pub returns-clause-after : goal.returns-clause-after

@@ -10,6 +10,7 @@ invariant_of-self c = (
   sound-drained _ _ c.self.inside.draining.map _ _ c.args.node (ap (λ t. contains_key t.cluster.nodes c.args.node) c.self.view_is ∙ c.requires.alive)
       (c.insert_reserved.ensures.after ∙ ap (λ k. insert c.self.inside.draining.map k tt) (c.from.ensures ∙ c.node.view_is)) c.self.invariant.0,
   none_set _ c.self.inside.spots c.self.invariant.1.whole,
+  c.self.invariant.2,
 )
 
 pub returns-clause-after : goal.returns-clause-after

@@ -13,7 +13,13 @@ invariant_of-self c =
     let left = c.remove.ensures.after ∙ ap (remove c.self.inside.draining.map) (c.from.ensures ∙ c.node.view_is) in (
       sound-kept _ _ c.self.inside.draining.map _ c.self.inside.storages.map _ c.args.node c.drop_storages.ensures.after left c.self.invariant.0,
       none_set _ c.self.inside.spots c.self.invariant.1.whole,
+      c.sort_by_node.ensures,
     )
+
+pub sort_by_node-requires : goal.sort_by_node-requires
+sort_by_node-requires c =
+    let sound = sound-kept _ _ c.self.inside.draining.map _ c.self.inside.storages.map _ c.args.node c.drop_storages.ensures.after refl c.self.invariant.0 in
+    record { few = sound.lawful.few_storages; small = sound.storage_ids }
 
 pub forget_node-requires-clause-storages : goal.forget_node-requires-clause-storages
 forget_node-requires-clause-storages c s i e here = none_left c.self.inside.storages.map _ c.args.node s i c.drop_storages.ensures.after e here

@@ -7,7 +7,12 @@ use Rattle.bm_topo.proofs.SoundTables.{sound-removed}
 use Rattle.bm_topo.proofs.topology.Topology.drop_storage.Goals as goal
 
 pub invariant_of-self : goal.invariant_of-self
-invariant_of-self c = (sound-removed _ _ _ c.self.inside.storages.map _ c.from.result c.remove.ensures.after c.self.invariant.0, none_set _ c.self.inside.spots c.self.invariant.1.whole)
+invariant_of-self c = (sound-removed _ _ _ c.self.inside.storages.map _ c.from.result c.remove.ensures.after c.self.invariant.0, none_set _ c.self.inside.spots c.self.invariant.1.whole, c.sort_by_node.ensures)
+
+pub sort_by_node-requires : goal.sort_by_node-requires
+sort_by_node-requires c =
+    let sound = sound-removed _ _ _ c.self.inside.storages.map _ c.from.result c.remove.ensures.after c.self.invariant.0 in
+    record { few = sound.lawful.few_storages; small = sound.storage_ids }
 
 pub returns-clause-after : goal.returns-clause-after
 unfolding without_storage

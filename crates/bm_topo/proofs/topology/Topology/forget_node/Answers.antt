@@ -26,6 +26,7 @@ invariant_of-self c =
           (c.leave_rack.ensures.after ∙ ap (without_one c.self.inside.racks.map c.in-Some.rack) counted)
           (λ s i e. c.requires.storages s i (ap (λ t. get t.cluster.storages s) (sym c.self.view_is) ∙ e)) (ap (λ t. contains_key t.cluster.draining c.args.node) c.self.view_is ∙ c.requires.draining) c.self.invariant.0,
       none_set _ c.self.inside.spots c.self.invariant.1.whole,
+      c.self.invariant.2,
     )
 
 pub returns-clause-no_growth : goal.returns-clause-no_growth

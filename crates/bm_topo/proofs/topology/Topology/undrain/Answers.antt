@@ -10,6 +10,7 @@ pub invariant_of-self : goal.invariant_of-self
 invariant_of-self c = (
   sound-undrained _ _ c.self.inside.draining.map _ _ c.args.node (c.remove.ensures.after ∙ ap (remove c.self.inside.draining.map) (c.from.ensures ∙ c.node.view_is)) c.self.invariant.0,
   none_set _ c.self.inside.spots c.self.invariant.1.whole,
+  c.self.invariant.2,
 )
 
 pub returns-clause-after : goal.returns-clause-after

@@ -1,0 +1,8 @@
+use Rattle.std.proofs.Common.{◌≡◌, ◌++◌, drop}
+use Rattle.bm_arena.specs.Holding.{replicas_at}
+use Rattle.bm_round_scan.specs.Marking.{excess_reset}
+use Rattle.bm_round_scan.proofs.replicas.fill_at_round_start.Given as goal
+
+-- those so far and the rest are all
+abbrev pub invariant-loop-place : goal.invariant-loop-place
+invariant-loop-place l = l.into.items ++ excess_reset (drop l.place (replicas_at l.arena l.slot)) ≡ excess_reset (replicas_at l.arena l.slot)

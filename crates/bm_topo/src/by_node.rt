@@ -1,0 +1,99 @@
+// The storages of the cluster, sorted by node: so those of one node are adjacent.
+ghost use Rattle.std.specs.Prelude.{◌≡◌, ◌≤◌, ◌<◌, ◌-◌, ◌==◌, true, false, ℕ, length, filter, nat_le, slice_index_or};
+ghost use Rattle.std.specs.List.Sorted.{IsNonDecreasingBy, IsPartitionPoint};
+ghost use Rattle.bm_base.specs.Maps.Map as map;
+ghost use Rattle.bm_base.specs.declared.limits.TheConstants.{MAX_STORAGES};
+ghost use Rattle.bm_topo.specs.Keys.{HasSmallKeys};
+ghost use Rattle.bm_topo.specs.ByNode.{node_in, AreAllByNode};
+
+use crate::index_hints::IndexHints;
+use bm_base::{MAX_STORAGES, NodeId, StorageId, StorageInfo};
+use bm_maps::{ArrayVec, NumberMap};
+
+/// Storages sorted by node, those of a node by ascending number. There is capacity for each
+/// possible one, so that a change of the cluster takes no memory for them.
+pub(crate) type StoragesByNode = ArrayVec<StorageId, MAX_STORAGES>;
+
+/// Sets the storages to those of a table, each inserted at its index. Takes no memory.
+pub(crate) fn sort_by_node(
+    sorted: &mut StoragesByNode,
+    storages: &NumberMap<StorageInfo>,
+    places: &IndexHints,
+)
+    requires few { map.len storages.now.map ≤ MAX_STORAGES }
+    requires small { HasSmallKeys storages.now.map }
+    ensures { AreAllByNode storages.now.map sorted.new.items }
+{
+    sorted.clear();
+    for (number, info) in storages.entries() {
+        let place = index_for(sorted.as_slice(), info.node, storages, places);
+        sorted.insert(place, StorageId(*number as u32));
+    }
+}
+
+/// The storages of a node, by two binary searches.
+pub(crate) fn storages_of<'a>(
+    sorted: &'a [StorageId],
+    node: NodeId,
+    storages: &NumberMap<StorageInfo>,
+    places: &IndexHints,
+) -> &'a [StorageId]
+    requires { AreAllByNode storages.now.map sorted.now }
+    ensures { result.now ≡ filter
+        (λ s. node_in storages.now.map s == node) (map.keys storages.now.map) }
+{
+    let first = sorted.partition_point(|storage| node_in(storages, places, *storage) < node.0);
+    let rest = &sorted[first..];
+    let count = rest.partition_point(|storage| node_in(storages, places, *storage) <= node.0);
+    &rest[..count]
+}
+
+/// The index of a further storage of a node: after those of this node and of lesser ones. Storages
+/// mostly come in the order of their nodes, so the last one is compared first.
+fn index_for(
+    sorted: &[StorageId],
+    node: NodeId,
+    storages: &NumberMap<StorageInfo>,
+    places: &IndexHints,
+) -> usize
+    ensures within { result ≤ length sorted.now }
+    ensures parted { IsNonDecreasingBy (node_in storages.now.map) sorted.now → IsPartitionPoint
+        (λ s. nat_le (node_in storages.now.map s) node ≡ true)
+        (λ s. nat_le (node_in storages.now.map s) node ≡ false) sorted.now result }
+{
+    if is_after_all(sorted, node, storages) {
+        return sorted.len();
+    }
+    sorted.partition_point(|storage| node_in(storages, places, *storage) <= node.0)
+}
+
+/// Whether the last storage, if there is one, is of this node or a lesser one. One read where it
+/// has the same index in the table.
+fn is_after_all(sorted: &[StorageId], node: NodeId, storages: &NumberMap<StorageInfo>) -> bool
+    ensures { result ≡ true → (d : ℕ) → 0 < length sorted.now
+        → node_in storages.now.map (slice_index_or sorted.now (length sorted.now - 1) d) ≤ node }
+{
+    if sorted.is_empty() {
+        return true;
+    }
+    let last = sorted.len() - 1;
+    node_near(storages, sorted[last], last) <= node.0
+}
+
+/// The node of a storage; 0 of one that the table does not have.
+fn node_in(storages: &NumberMap<StorageInfo>, places: &IndexHints, storage: StorageId) -> u32
+    ensures { result ≡ node_in storages.now.map storage }
+{
+    node_near(storages, storage, places.of_storage(u64::from(storage.0)))
+}
+
+/// The same, with a guess of the storage's index in the table.
+#[tactic(auto, unfolding(crate::specs::ByNode::node_in))]
+fn node_near(storages: &NumberMap<StorageInfo>, storage: StorageId, guess: usize) -> u32
+    ensures { result ≡ node_in storages.now.map storage }
+{
+    match storages.get_near(u64::from(storage.0), guess) {
+        Some(info) => info.node.0,
+        None => 0,
+    }
+}
