@@ -8,8 +8,8 @@ use Rattle.std.proofs.lemmas.Cmp.{on_total, then_total, back_total}
 use Rattle.std.proofs.lemmas.List.MinMax.{ranks_by}
 use Rattle.bm_base.specs.Words.{Cluster, has, remaining}
 use Rattle.bm_base.proofs.ListTests.{or_right}
-use Rattle.bm_place.specs.declared.comparison.Holder.{Holder}
-use Rattle.bm_place.specs.Comparison.{holder_at}
+use Rattle.bm_place.specs.declared.holders.Holder.{Holder}
+use Rattle.bm_place.specs.Holders.{holder_at}
 use Rattle.bm_place.specs.SortedExcess.{cmp_in_class}
 
 -- the sort's requirement of the order

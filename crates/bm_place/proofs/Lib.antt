@@ -17,7 +17,6 @@ pub mod TransferCounts
 pub mod NonePasses
 pub mod SourceScan
 pub mod Surplus
-pub mod ComparedHolders
 pub mod RowOrder
 pub mod LeastTarget
 pub mod OrderIndependence

@@ -1,18 +1,25 @@
 -- Storages that are looked up and put in another order stay the same storages.
 use Rattle.std.specs.Prelude.{if◌then◌else◌}
 use Rattle.std.specs.List.Sorted.{IsPermutation}
-use Rattle.std.proofs.Common.{◌≡◌, ℕ, List, [], ◌∷◌, map, refl, ap, ◌∙◌}
+use Rattle.std.proofs.Common.{◌≡◌, ℕ, Bool, List, [], ◌∷◌, map, count_by, refl, ap, ◌∙◌, arith}
 use Rattle.std.proofs.lemmas.List.Elements.{All-map}
 use Rattle.std.proofs.lemmas.List.Sorted.{All-permutation, sum_by-IsPermutation}
 use Rattle.bm_base.specs.Words.{Map, by_number, Cluster}
 use Rattle.bm_base.proofs.ForEach.{Each, each_all}
-use Rattle.bm_place.specs.declared.comparison.Holder.{Holder}
-use Rattle.bm_place.specs.Candidates.{CountsRacks}
-use Rattle.bm_place.specs.Comparison.{holder_at, count_among}
+use Rattle.bm_place.specs.declared.holders.Holder.{Holder}
+use Rattle.bm_place.specs.RackCounts.{CountsRacks}
+use Rattle.bm_place.specs.Holders.{holder_at, count_among}
 use Rattle.bm_place.specs.ReplicaSpread.{is_rack}
 use Rattle.bm_place.specs.Tables.{count_at}
-use Rattle.bm_place.proofs.ComparedHolders.{count_mapped}
 use Rattle.bm_place.proofs.OrderIndependence.{HaveAlike}
+use Rattle.bm_place.proofs.Surplus.{count_cons}
+
+count_mapped : {X Y : Type 0} (f : X → Y) (p : Y → Bool) (xs : List X) → count_by p (map f xs) ≡ count_by (λ x. p (f x)) xs
+count_mapped f p [] = refl
+count_mapped f p (x ∷ xs) =
+    let one = count_cons p (f x) (map f xs) in
+    let other = count_cons (λ y. p (f y)) x xs in
+    omega (arith, one, other, count_mapped f p xs)
 
 abbrev pub storages : List Holder → List ℕ
 storages holders = map (λ h. h.storage) holders

@@ -13,9 +13,9 @@ use Rattle.std.proofs.lemmas.List.Folds.{list_any-append}
 use Rattle.std.proofs.lemmas.Option.{same_Some, slice_get-map}
 use Rattle.bm_base.specs.Words.{Map, by_number, Cluster, has, has_repeats, least, rack_of, share_rack, has_rack_mate, excess_cmp, excess_among}
 use Rattle.bm_base.proofs.ListTests.{once_filter, or_left, or_right, same_again}
-use Rattle.bm_place.specs.declared.comparison.Holder.{Holder}
-use Rattle.bm_place.specs.Candidates.{is_on, CountsRacks}
-use Rattle.bm_place.specs.Comparison.{holder_at}
+use Rattle.bm_place.specs.declared.holders.Holder.{Holder}
+use Rattle.bm_place.specs.RackCounts.{is_on, CountsRacks}
+use Rattle.bm_place.specs.Holders.{holder_at}
 use Rattle.bm_place.specs.SortedExcess.{cmp_in_class, AreReady}
 use Rattle.bm_place.specs.Tables.{count_at}
 use Rattle.bm_place.proofs.InClass.{is_better_than, InOrder, order_without, order_behind, not_itself, sorted_order}

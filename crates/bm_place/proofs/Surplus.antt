@@ -1,33 +1,20 @@
--- Excess: the scan of the remaining storages ends at the first in excess, the racks are counted,
--- and one choice follows another.
-use Rattle.std.specs.Prelude.{option_map}
+-- Excess: its order, and the counts of racks.
 use Rattle.std.specs.Option.{option_map_or}
-use Rattle.std.proofs.Common.{append-nil, append_assoc, arith}
-use Rattle.std.proofs.Common.{◌≡◌, ◌≤◌, ◌<◌, ◌+◌, ◌-◌, ℕ, zero, suc, Bool, true, false, cond, not, nat_lt, List, [], ◌∷◌, ◌++◌, map, drop, filter, length, count_by, Option, Some, None, refl, sym, ap, ◌∙◌, ◌==◌}
-use Rattle.std.specs.Ordering.{nat_cmp, ordering_then}
+use Rattle.std.proofs.Common.{◌≡◌, ◌≤◌, ◌+◌, ℕ, Bool, true, false, cond, nat_lt, List, [], ◌∷◌, drop, filter, length, count_by, Option, Some, None, refl, sym, ap, ◌∙◌, ◌==◌, arith}
 use Rattle.std.specs.Cmp.{IsTotalOrder, nat_cmp_total}
 use Rattle.std.proofs.lemmas.Cmp.{on_total, then_total, back_total}
 use Rattle.std.proofs.lemmas.Bool.{eqb-true, eq-eqb}
 use Rattle.std.proofs.lemmas.List.Sums.{sum_by-cons, count_by-le-length}
-use Rattle.bm_base.specs.Words.{Map, by_number, insert, Cluster, least, rack_of, remaining, share_rack, has_rack_mate, excess_cmp, excess_among}
-use Rattle.bm_place.specs.declared.comparison.Candidate.{Candidate}
+use Rattle.bm_base.specs.Words.{Map, by_number, insert, Cluster, rack_of, remaining, share_rack, has_rack_mate, excess_cmp}
 use Rattle.bm_place.specs.Tables.{count_at}
-use Rattle.bm_place.specs.Candidates.{is_on, cmp_candidates}
+use Rattle.bm_place.specs.RackCounts.{is_on}
 use Rattle.bm_place.specs.ReplicaSpread.{is_rack}
-use Rattle.bm_place.specs.Scan.{scan}
-use Rattle.bm_place.proofs.RowScan.{scan-found}
 use Rattle.bm_place.proofs.TransferCounts.{count_none}
 use Rattle.bm_place.proofs.Tables.{count-insert}
 
 pub excess_cmp_total : (C : Cluster) (left : List ℕ) → IsTotalOrder (excess_cmp C left)
 unfolding excess_cmp
 excess_cmp_total C left = then_total (on_total (λ s. cond (has_rack_mate C left s) 0 1) nat_cmp_total) (then_total (on_total (remaining C) nat_cmp_total) (back_total nat_cmp_total))
-
--- Candidates.
-
--- a storage as a candidate, with these counts of racks
-abbrev candidate_by : Cluster → (ℕ → ℕ) → ℕ → Candidate
-candidate_by C count s = record { class = cond (option_map_or (λ r. nat_lt 1 (count r)) (rack_of C s) false) 0 1; remaining = remaining C s; storage = s }
 
 pub mate_as : (C : Cluster) (left : List ℕ) (count : ℕ → ℕ) → ((r : ℕ) → count r ≡ count_by (is_on C r) left) → (s : ℕ) → option_map_or (λ r. nat_lt 1 (count r)) (rack_of C s) false ≡ has_rack_mate C left s
 unfolding has_rack_mate share_rack
@@ -37,30 +24,9 @@ mate_as C left count counted s = by (rack_of C s)
     by None = sym (ap (λ n. nat_lt 1 n) (count_none left))
     by (Some r) = ap (λ n. nat_lt 1 n) (counted r)
 
-ordered_as : (C : Cluster) (left : List ℕ) (count : ℕ → ℕ) → ((r : ℕ) → count r ≡ count_by (is_on C r) left) → (s t : ℕ) → cmp_candidates (candidate_by C count s) (candidate_by C count t) ≡ excess_cmp C left s t
-unfolding excess_cmp
-ordered_as C left count counted s t =
-    λ i. ordering_then (nat_cmp (cond (mate_as C left count counted s i) 0 1) (cond (mate_as C left count counted t i) 0 1)) (ordering_then (nat_cmp (remaining C s) (remaining C t)) (nat_cmp t s))
-
 pub all_pass : {X : Type 0} (xs : List X) → filter (λ _. true) xs ≡ xs
 all_pass [] = refl
 all_pass (x ∷ xs) = ap (λ ys. x ∷ ys) (all_pass xs)
-
-storage_again : (C : Cluster) (count : ℕ → ℕ) (o : Option ℕ) → option_map (λ (c : Candidate). c.storage) (option_map (candidate_by C count) o) ≡ o
-storage_again C count None = refl
-storage_again C count (Some s) = refl
-
--- a scan of all has found the first in excess
-pub found_by : (C : Cluster) (left : List ℕ) (count : ℕ → ℕ) (best : Option Candidate) → ((r : ℕ) → count r ≡ count_by (is_on C r) left)
-    → best ≡ scan cmp_candidates (λ _. true) None (map (candidate_by C count) left)
-    → option_map (λ (c : Candidate). c.storage) best ≡ least (excess_cmp C left) left
-found_by C left count best counted is =
-    ap (option_map (λ (c : Candidate). c.storage)) (
-    is
-    ∙ scan-found (candidate_by C count) cmp_candidates (λ _. true) (excess_cmp C left) (λ _. true) (excess_cmp_total C left) (ordered_as C left count counted) (λ _. refl) left
-    )
-    ∙ storage_again C count (least (excess_cmp C left) (filter (λ _. true) left))
-    ∙ ap (least (excess_cmp C left)) (all_pass left)
 
 -- Counting.
 
@@ -103,27 +69,3 @@ module _ {X : Type 0} (rack : X → Option ℕ) where
   count_fits counts xs i x k next on inv =
       let left = count_left (stands_on k) xs i x true next (ap (is_rack k) on ∙ eq-eqb k k refl) in
       omega (arith, inv k, left, count_by-le-length (stands_on k) xs)
-
--- One choice after another.
-
-none_chosen : (C : Cluster) (k : ℕ) (left : List ℕ) → None ≡ least (excess_cmp C left) left → excess_among C k left ≡ []
-none_chosen C zero left e = refl
-none_chosen C (suc k) left e = ap (λ m. option_map_or (λ x. x ∷ excess_among C k (filter (λ s. not (s == x)) left)) m []) (sym e)
-
--- if none is in excess, or none is to be chosen, all are chosen
-pub all_chosen : (C : Cluster) (k : ℕ) (left chosen all : List ℕ) → None ≡ least (excess_cmp C left) left → chosen ++ excess_among C k left ≡ all → chosen ≡ all
-all_chosen C k left chosen all e inv = sym (append-nil chosen) ∙ ap (λ xs. chosen ++ xs) (sym (none_chosen C k left e)) ∙ inv
-
-pub enough_chosen : (C : Cluster) (n i : ℕ) (left chosen all : List ℕ) → n ≤ i → chosen ++ excess_among C (n - i) left ≡ all → chosen ≡ all
-enough_chosen C n i left chosen all h inv =
-    let e : n - i ≡ 0 = omega arith in
-    sym (append-nil chosen) ∙ ap (λ k. chosen ++ excess_among C k left) (sym e) ∙ inv
-
-pub one_chosen : (C : Cluster) (n i x : ℕ) (left rest chosen more all : List ℕ) → i < n → Some x ≡ least (excess_cmp C left) left → rest ≡ filter (λ s. not (s == x)) left → more ≡ chosen ++ x ∷ []
-    → chosen ++ excess_among C (n - i) left ≡ all → more ++ excess_among C (n - (i + 1)) rest ≡ all
-one_chosen C n i x left rest chosen more all h e f g inv =
-    let k : suc (n - (i + 1)) ≡ n - i = omega arith in
-    ap (λ xs. xs ++ excess_among C (n - (i + 1)) rest) g ∙ append_assoc chosen (x ∷ []) _
-    ∙ ap (λ xs. chosen ++ x ∷ excess_among C (n - (i + 1)) xs) f
-    ∙ ap (λ m. chosen ++ option_map_or (λ y. y ∷ excess_among C (n - (i + 1)) (filter (λ s. not (s == y)) left)) m []) e
-    ∙ ap (λ j. chosen ++ excess_among C j left) k ∙ inv

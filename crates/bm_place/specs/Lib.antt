@@ -8,7 +8,7 @@ pub mod Found
 pub mod Scan
 pub mod UpToTwo
 pub mod ReplicaSpread
-pub mod Candidates
-pub mod Comparison
+pub mod RackCounts
+pub mod Holders
 pub mod BestTargets
 pub mod SortedExcess

@@ -4,9 +4,9 @@ use Rattle.std.specs.declared.cmp.Ordering.{Ordering}
 use Rattle.std.specs.Ordering.{nat_cmp, ordering_then}
 use Rattle.std.specs.List.Sorted.{IsSorted}
 use Rattle.bm_base.specs.Words.{Map, by_number, has_repeats, Cluster}
-use Rattle.bm_place.specs.declared.comparison.Holder.{Holder}
-use Rattle.bm_place.specs.Candidates.{CountsRacks}
-use Rattle.bm_place.specs.Comparison.{holder_at}
+use Rattle.bm_place.specs.declared.holders.Holder.{Holder}
+use Rattle.bm_place.specs.RackCounts.{CountsRacks}
+use Rattle.bm_place.specs.Holders.{holder_at}
 
 -- The order of excess within a class: one with fewer remaining bytes, then the greater number.
 abbrev pub cmp_in_class : Holder → Holder → Ordering

@@ -4,25 +4,21 @@ ghost use Rattle.bm_base.specs.declared.refusal.Refusal.TheVariants.{Memory};
 ghost use Rattle.bm_base.specs.Machine.Excess as excess;
 ghost use Rattle.bm_base.specs.Maps.Lists.{has_repeats};
 
-use crate::comparison::{Holder, fill_holders, push_by_comparison};
+use crate::holders::{Holder, fill_holders};
 use crate::sorted_excess::{count_racks, push_in_order, sort_holders};
 use bm_base::{Refusal, StorageId};
 use bm_maps::NumberMap;
 use bm_topo::Topology;
 use std::alloc::{AllocError, Global};
 
-/// Up to this number of live replicas are compared pairwise, which is faster than to sort them and
-/// count their racks.
-const COMPARE_AT_MOST: usize = 8;
-
 /// Scratch buffers for the choice of excess, used again from block to block.
 #[derive(Drop)]
 pub struct ExcessScratch {
-    /// For few live replicas: the remaining ones, looked up. For many: all, in order.
+    /// The live replicas, looked up, in order.
     holders: Vec<Holder>,
-    /// For many live replicas: those that had their rack for themselves when the pass reached them.
+    /// Those that had their rack for themselves when the pass reached them.
     kept: Vec<StorageId>,
-    /// For many replicas: the number of remaining ones on each rack.
+    /// The number of remaining ones on each rack.
     racks: NumberMap<usize>,
 }
 
@@ -42,9 +38,9 @@ impl ExcessScratch {
 /// then one on whose storage fewer bytes remain, then the greater storage. An unknown storage has
 /// no rack and no remaining bytes. `live` names each storage once.
 ///
-/// Each replica is looked up once. Up to eight are compared with one another. More of them, n, are
-/// sorted, their racks are counted, and one pass chooses, in O(n log n) steps. If none is in excess
-/// it takes no memory; else `Memory` if a list cannot grow.
+/// Each replica is looked up once. They are sorted, their racks are counted, and one pass chooses:
+/// O(n log n) steps for n of them. If none is in excess it takes no memory; else `Memory` if a list
+/// cannot grow.
 pub fn excess_of(
     alloc: Global,
     live: &[StorageId],
@@ -84,9 +80,6 @@ pub fn fill_excess(
     let surplus = live.len().saturating_sub(repl as usize);
     if surplus == 0 {
         return Ok(());
-    }
-    if live.len() <= COMPARE_AT_MOST {
-        return Ok(push_by_comparison(into, &mut room.holders, live, surplus, topology)?);
     }
     Ok(push_by_sorting(into, room, live, surplus, topology)?)
 }

@@ -8,8 +8,8 @@
 #![tactic(auto)]
 
 mod best_targets;
-mod comparison;
 mod excess;
+mod holders;
 mod replica_spread;
 mod scheduled_bytes;
 mod sorted_excess;

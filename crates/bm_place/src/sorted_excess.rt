@@ -1,16 +1,16 @@
-// Excess among many live replicas: they are sorted, and then one pass chooses.
+// The choice of excess: the live replicas are sorted, and then one pass chooses.
 ghost use Rattle.std.specs.Prelude.{◌≡◌, ◌+◌, ◌-◌, ◌++◌, ◌&&◌, if◌then◌else◌, false, nat_lt, take, ℕ, List, OnOk, IfOk};
 ghost use Rattle.std.specs.Option.{option_map_or};
 ghost use Rattle.std.specs.List.Sorted.{IsPermutation, IsSorted};
 ghost use Rattle.bm_base.specs.Machine.Excess as excess;
 ghost use Rattle.bm_base.specs.Maps.Map as map;
 ghost use Rattle.bm_base.specs.Machine.State.{Cluster};
-ghost use Rattle.bm_place.specs.Comparison as compared;
+ghost use Rattle.bm_place.specs.Holders as looked_up;
 ghost use Rattle.bm_place.specs.SortedExcess as pass;
 ghost use Rattle.bm_place.specs.ReplicaSpread.{is_rack};
 ghost use Rattle.bm_place.specs.Tables as tables;
 
-use crate::comparison::Holder;
+use crate::holders::Holder;
 use bm_base::{Rack, StorageId};
 use bm_maps::NumberMap;
 use std::alloc::AllocError;
@@ -34,7 +34,7 @@ pub(crate) fn count_racks(
     holders: &[Holder],
 ) -> Result<(), AllocError>
     ensures { OnOk result ((r : ℕ) →
-        tables.count_at counts.new.map r ≡ compared.count_among holders.now r) }
+        tables.count_at counts.new.map r ≡ looked_up.count_among holders.now r) }
 {
     clear(counts);
     for holder in holders {

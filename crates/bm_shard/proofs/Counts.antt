@@ -1,5 +1,5 @@
 -- The numbers of replicas that came and went.
-use Rattle.std.proofs.Common.{◌≡◌, ◌+◌, ◌-◌, ◌≤◌, fold, Bool, true, false, cond, not, List, [], ◌∷◌, Option, Some, is_some, count_by, None, refl, sym, ap, ◌∙◌, is_eq}
+use Rattle.std.proofs.Common.{◌≡◌, ◌+◌, ◌-◌, fold, Bool, true, false, cond, not, List, [], ◌∷◌, Option, Some, is_some, count_by, None, refl, sym, ap, ◌∙◌, is_eq}
 use Rattle.std.specs.Prelude.{option_map, option_and_then}
 use Rattle.std.specs.FinMap.{find}
 use Rattle.std.specs.Ordering.{eq_by_cmp}
@@ -8,7 +8,7 @@ use Rattle.bm_base.specs.declared.replica.Marks.{Marks}
 use Rattle.bm_base.specs.declared.replica.ReplicaId.{ReplicaId}
 use Rattle.bm_base.specs.Words.{Map, Order, get, entries, keep, revise, remove, len, by_replica, new_replicas}
 use Rattle.bm_base.proofs.MapLaws.{same_map, get-revise, get-remove, get-keep}
-use Rattle.bm_base.proofs.Differences.{none_new, none_came, some_left, len-keep-le}
+use Rattle.bm_base.proofs.Differences.{none_new, none_came, some_left}
 
 -- a key that is found among some entries is found among more
 found_more : {X : Type 0} (b : Bool) (x : X) (o : Option X) → is_some o ≡ true → is_some (cond b (Some x) o) ≡ true

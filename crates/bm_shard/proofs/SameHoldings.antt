@@ -1,5 +1,5 @@
 -- If the blocks and replicas stay, so does all that is seen but capacity.
-use Rattle.std.proofs.Common.{◌≡◌, ℕ, refl, sym, ap, subst, ◌∙◌}
+use Rattle.std.proofs.Common.{◌≡◌, ℕ, sym, ap, subst, ◌∙◌}
 use Rattle.bm_base.specs.declared.ids.Part.{Part}
 use Rattle.bm_base.specs.Words.{Map, get, Cluster, by_replica, level}
 use Rattle.bm_base.proofs.MapLaws.{same_map}

@@ -7,12 +7,6 @@ unfolding excess_of
 returns-then-surplus-eq0-clause-chosen c once =
     c.clear.ensures.items ∙ ap (λ k. excess_among c.args.topology.now.cluster k c.args.live.now) (sym c.if-surplus-eq0.true ∙ c.saturating_sub-surplus.ensures)
 
-pub returns-then-live-le-COMPARE_AT_MOST-clause-chosen : goal.returns-then-live-le-COMPARE_AT_MOST-clause-chosen
-unfolding excess_of
-returns-then-live-le-COMPARE_AT_MOST-clause-chosen c once =
-    let C = c.args.topology.now.cluster in
-    c.in_ok-push_by_comparison.ensures ∙ (λ i. c.clear.ensures.items i ++ excess_among C (c.saturating_sub-surplus.ensures i) c.args.live.now)
-
 pub returns-clause-chosen : goal.returns-clause-chosen
 unfolding excess_of
 returns-clause-chosen c once =

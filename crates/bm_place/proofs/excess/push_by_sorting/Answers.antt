@@ -1,7 +1,7 @@
 use Rattle.std.specs.List.Sorted.{IsPermutation, IsSorted}
 use Rattle.std.proofs.Common.{◌≡◌, ◌∙◌, ◌++◌, ℕ, ap, sym, subst}
 use Rattle.std.proofs.lemmas.Result.{IfOk-weaker}
-use Rattle.bm_place.specs.Comparison.{count_among}
+use Rattle.bm_place.specs.Holders.{count_among}
 use Rattle.bm_place.specs.SortedExcess.{cmp_in_class}
 use Rattle.bm_place.specs.Tables.{count_at}
 use Rattle.bm_place.proofs.PermutedStorages.{storages, moved_looked_up, moved_alike, counts_storages}

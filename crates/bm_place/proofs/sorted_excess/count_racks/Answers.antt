@@ -1,8 +1,8 @@
 use Rattle.std.proofs.Common.{◌+◌, ap, refl, ◌∙◌, arith}
 use Rattle.std.proofs.lemmas.Option.{slice_get_read}
 use Rattle.bm_base.specs.Maps.Map.{insert}
-use Rattle.bm_place.specs.declared.comparison.Holder.{Holder}
-use Rattle.bm_place.specs.Comparison.{count_among}
+use Rattle.bm_place.specs.declared.holders.Holder.{Holder}
+use Rattle.bm_place.specs.Holders.{count_among}
 use Rattle.bm_place.specs.Tables.{count_at}
 use Rattle.bm_place.proofs.Tables.{count-empty, drop-next}
 use Rattle.bm_place.proofs.Surplus.{counted_next, skipped_next, count_fits}

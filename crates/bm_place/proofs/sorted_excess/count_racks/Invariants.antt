@@ -1,5 +1,5 @@
 use Rattle.std.proofs.Common.{◌≡◌, ◌+◌, ℕ, drop}
-use Rattle.bm_place.specs.Comparison.{count_among}
+use Rattle.bm_place.specs.Holders.{count_among}
 use Rattle.bm_place.specs.Tables.{count_at}
 use Rattle.bm_place.proofs.sorted_excess.count_racks.Given as goal
 

@@ -1,14 +1,14 @@
 use Rattle.std.proofs.Common.{◌≡◌, ◌∙◌, ◌+◌, ◌++◌, ◌-◌, ◌≤◌, ◌&&◌, ℕ, cond, [], ◌∷◌, drop, length, sym, ap, subst, refl, arith}
 use Rattle.std.specs.Prelude.{slice_get}
 use Rattle.std.proofs.Common.{Some}
-use Rattle.bm_place.specs.declared.comparison.Holder.{Holder}
+use Rattle.bm_place.specs.declared.holders.Holder.{Holder}
 use Rattle.std.proofs.lemmas.List.{drop_all, length-map}
 use Rattle.std.proofs.lemmas.Option.{slice_get_read}
 use Rattle.bm_base.specs.Words.{excess_among, rack_of}
-use Rattle.bm_place.specs.Candidates.{is_on}
+use Rattle.bm_place.specs.RackCounts.{is_on}
 use Rattle.bm_place.specs.ReplicaSpread.{is_rack}
 use Rattle.bm_place.specs.Tables.{count_at}
-use Rattle.bm_place.specs.Comparison.{holder_at}
+use Rattle.bm_place.specs.Holders.{holder_at}
 use Rattle.bm_place.proofs.SinglePass.{Passes, none_passed, one_chosen, one_kept, all_passed, same_passes, next_looked_up, counts_more}
 use Rattle.bm_place.proofs.sorted_excess.push_from_shared_racks.Goals as goal
 use Rattle.bm_place.proofs.sorted_excess.push_from_shared_racks.Goals.{then-take_one_if_shared+in_ok-push, else-take_one_if_shared+in_ok-push-2}

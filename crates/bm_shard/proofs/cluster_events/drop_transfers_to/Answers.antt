@@ -1,5 +1,5 @@
 use Rattle.std.specs.Prelude.{not}
-use Rattle.std.proofs.Common.{ap, ◌∙◌}
+use Rattle.std.proofs.Common.{◌∙◌}
 use Rattle.bm_base.specs.Maps.Map.{keep}
 use Rattle.bm_shard.proofs.cluster_events.drop_transfers_to.Goals as goal
 
