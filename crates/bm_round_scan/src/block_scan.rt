@@ -50,8 +50,9 @@ impl BlockScan {
     }
 
     /// Scans the block of a number with this slot, and returns the storages of its usable replicas:
-    /// a few reads of each of its replicas, and O(n log n) steps for n of them. It takes memory only in three cases: more than four are live or drained; the block has more
-    /// replicas than each block before; a list of surplus grows past its capacity.
+    /// a few reads of each of its replicas, and O(n log n) steps for n of them. It takes memory
+    /// only in three cases: more than four are live or drained; the block has more replicas than
+    /// each block before; a list of surplus grows past its capacity.
     pub(crate) fn scan_block(
         &mut self,
         alloc: Global,
