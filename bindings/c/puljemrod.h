@@ -158,7 +158,7 @@ typedef struct puljemrod_entry {
     uint64_t len;
 } puljemrod_entry;
 
-/* The free bytes of a storage. */
+/* The free bytes of a storage: 0 until a heartbeat has reported more. */
 typedef struct puljemrod_remaining {
     uint32_t storage;
     uint64_t remaining;
