@@ -104,7 +104,7 @@ pub record IsKept (rows : Map by_number TargetRow) (cs : List TargetRow) : Type 
 abbrev pub AreOf : Cluster → Map by_number TargetRow → Type 0
 AreOf C rows = (s : ℕ) (t : TargetRow) → get rows s ≡ Some t → (n : ℕ) × (t.node ≡ Some n) × (has_storage C n s ≡ true)
 
--- What is true of a table of the storages of a cluster, and its foremost targets.
+-- A table of the storages of a cluster as targets, and the best target of each node.
 pub record IsIndexed (C : Cluster) (rows : Map by_number TargetRow) (cs : List TargetRow) : Type 0 where
   pub kept : IsKept rows cs
   pub of_cluster : AreOf C rows

@@ -1,4 +1,4 @@
--- What the book beside a manager has of its state.
+-- The part of a manager's state that the book of a report has.
 use Rattle.std.specs.Prelude.{◌≡◌, ⊤, ◌-◌, None, not, nat_le}
 use Rattle.std.specs.List.{flat_map}
 use Rattle.bm_base.specs.declared.call.Call.{Call}

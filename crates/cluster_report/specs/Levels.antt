@@ -14,7 +14,7 @@ leveled C H b = record { block = b; level = level C H b }
 abbrev pub count_at : Level → List Leveled → ℕ
 count_at urgency ls = count_by (λ l. is_at urgency l.level) ls
 
--- how many of these blocks are at each level, and beside them so many missing ones
+-- the number of these blocks at each level, and the number of missing blocks
 abbrev pub levels_counted : List Leveled → ℕ → LevelCounts
 levels_counted ls missing = record {
   highest = count_at Highest ls;

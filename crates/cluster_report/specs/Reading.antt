@@ -1,5 +1,5 @@
--- The lines of an input: the calls that they ask for are made one after another, and what is
--- refused is told.
+-- The lines of an input: the calls that they ask for are made one after another, and refused lines
+-- are reported.
 use Rattle.std.specs.Prelude.{◌≡◌, ℕ, ◌+◌, ◌==◌, Bool, true, ◌&&◌, List, [], ◌∷◌, ◌++◌, length, nat_lt, if◌then◌else◌, Option, Some, None, IfSome, is_none, codes, decimal}
 use Rattle.bm_base.specs.declared.call.Call.{Call}
 use Rattle.bm_base.specs.declared.call.Answer.{Answer}
@@ -15,7 +15,7 @@ without_end [] = []
 without_end (b ∷ []) = if b == 10 then [] else b ∷ []
 without_end (b ∷ c ∷ bs) = b ∷ without_end (c ∷ bs)
 
--- what is told of an answer: nothing, but where the call is refused
+-- the message about an answer: none, unless the call is refused
 abbrev pub told_of : Call → Answer → Option (List ℕ)
 told_of k a = if is_refused a then Some (answer_text k a) else None
 
@@ -27,7 +27,7 @@ abbrev pub state_by : State → Option Call → State
 state_by M None = M
 state_by M (Some k) = (step M k).1
 
--- what is told of a line
+-- the message about a line
 unfoldable pub told : State → List ℕ → Option (List ℕ)
 told M line = if nat_lt MAX_LINE (length line) then Some (codes "refused 21 LongLine") else told_by M (call_of line)
 
@@ -40,7 +40,7 @@ unfoldable pub after_lines : State → List (List ℕ) → State
 after_lines M [] = M
 after_lines M (l ∷ ls) = after_lines (after_line M l) ls
 
--- whether nothing is told of any line
+-- whether no line has a message
 unfoldable pub all_accepted : State → List (List ℕ) → Bool
 all_accepted M [] = true
 all_accepted M (l ∷ ls) = is_none (told M l) && all_accepted (after_line M l) ls

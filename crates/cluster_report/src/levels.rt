@@ -58,8 +58,8 @@ fn level_in(manager: &Manager, block: BlockId) -> Option<Level>
     }
 }
 
-/// How many of these blocks are at each level, and beside them so many missing ones, in five looks
-/// at each. Takes no memory.
+/// Counts these blocks by level, and adds the number of missing blocks. Reads each level five
+/// times. Takes no memory.
 pub fn count_levels(levels: &[Leveled], missing: usize) -> LevelCounts
     ensures { result ≡ levels_counted levels.now missing }
 {

@@ -9,8 +9,8 @@
 //! The report has a line for each fact (docs/FORMATS.md): the accepted calls and the rounds; each
 //! node with its rack, whether it is live, drains or is retired, and what its storages hold; the
 //! blocks by level; the replicas by tag; the transfers on their way; and the first missing and the
-//! most urgent blocks. A line that asks for no call, or whose call is refused, is told on standard
-//! error with its number, and the report still comes.
+//! most urgent blocks. A line that asks for no call, or whose call is refused, is reported on
+//! standard error with its number, and the report still comes.
 //!
 //! The numbers of the stored run of `puljemrod_cluster` follow from the rules. Nodes 1, 2 and 5
 //! stand on rack 1, nodes 3 and 4 on rack 2; nodes 2 and 5 drain, and node 5 has nothing, so it is

@@ -5,7 +5,7 @@ use std::alloc::{AllocError, Global};
 
 /// The configuration that the words of a command line name, the program's name first: each option
 /// at most once, a whole number within its range. What is not named is standard. An `Err` is a
-/// request for help, a command line that is refused, or want of memory.
+/// request for help, a command line that is refused, or out of memory.
 pub fn config_of(alloc: Global, words: &[String]) -> Result<Config, Error> {
     let command = command(alloc)?;
     let matches = command.try_get_matches_from(words)?;

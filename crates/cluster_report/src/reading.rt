@@ -13,8 +13,8 @@ use std::io::{BufRead, ErrorKind, Write};
 use std::sync::Wait;
 use std::thread::Threads;
 
-/// Takes every line, and says whether all were accepted. What is not is told by the number of its
-/// line. No more of the input is held than one line.
+/// Takes every line, and returns whether all were accepted. Each other line is reported by its
+/// number. Holds one line of the input at a time.
 pub fn read_lines<R: BufRead, N: Write, H: Threads + Wait + Sync>(
     rt: &H,
     alloc: Global,

@@ -32,9 +32,10 @@ pub struct Report {
     pub urgent: Items<Leveled>,
 }
 
-/// How the cluster of a manager stands, by the book beside it. The manager is asked for all
-/// replicas at once, which takes the memory of the list; for those in excess, and for the missing
-/// blocks; for the level of each block that has a replica; and, for each node, as `node_rows` says.
+/// The state of a manager's cluster, with the book of its blocks and nodes. The manager is asked
+/// for all replicas at once, which takes the memory of the list; for those in excess, and for the
+/// missing blocks; for the level of each block that has a replica; and, for each node, as
+/// `node_rows` says.
 pub fn report_of(alloc: Global, manager: &Manager, book: &Book) -> Result<Report, Refusal>
     requires { Follows book.now manager.now }
     ensures { IfOk result (λ r. r ≡ report_of manager.now) }
@@ -68,8 +69,8 @@ fn report_on(
     )
 }
 
-/// The same, where these are the levels of the blocks that have a replica, so many replicas are in
-/// excess, and these are the missing blocks.
+/// The same, given the levels of the blocks that have a replica, the number of replicas in excess,
+/// and the missing blocks.
 fn with_levels(
     alloc: Global,
     manager: &Manager,

@@ -36,7 +36,7 @@ pub fn run<R: BufRead, W: Write, N: Write, H: Threads + Wait + Sync>(
         Appends (W.contents writer.old) (W.contents writer.new) (report_on config.now input))) }
     ensures accepted { IfOk result (λ all.
         SaysIfAccepted all (first_state config.now) (R.remaining reader.old)) }
-    // Each line that was refused is told by its number, and no other.
+    // Exactly the refused lines are reported, by their numbers.
     ensures notes { OnOk result (IfSome (R.remaining reader.old) (λ input.
         Appends (N.contents notes.old) (N.contents notes.new) (notes_on config.now input))) }
     // Where a read fails or memory lacks, the writer is as it was.
@@ -99,7 +99,7 @@ fn write_flushed<W: Write>(writer: &mut W, text: &[u8]) -> Result<(), Fault>
     Ok(())
 }
 
-/// The text of the report. What the manager refuses here is refused for want of memory.
+/// The text of the report. The manager refuses a question here only if it is out of memory.
 fn text_of(alloc: Global, session: &Session) -> Result<String, AllocError>
     requires { IsInStep session.now }
     ensures { IfOk result (λ s. string_bytes s ≡ report_text (report_of session.now.manager)) }

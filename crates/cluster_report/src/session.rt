@@ -1,4 +1,4 @@
-// The manager and the book beside it, one line after another.
+// The manager and a book of its blocks and nodes, one line after another.
 ghost use Rattle.std.specs.Prelude.{◌≡◌, Some, IfOk, OnOk, option_map, string_bytes};
 ghost use Rattle.bm_base.specs.Words.{first_state, step};
 ghost use Rattle.cluster_report.specs.Sessions.{IsInStep};
@@ -64,7 +64,8 @@ impl Session {
         }
     }
 
-    /// Makes a call, and notes in the book what it says. What is told of its answer.
+    /// Makes a call and notes it in the book. Returns the message about its answer, if there is
+    /// one.
     pub fn take_call<H: Threads + Wait + Sync>(
         &mut self,
         rt: &H,

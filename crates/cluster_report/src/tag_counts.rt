@@ -15,7 +15,7 @@ pub struct TagCounts {
     pub stray: usize,
 }
 
-/// How many of these replicas have each tag, in four looks at each. Takes no memory.
+/// Counts these replicas by tag. Reads each four times. Takes no memory.
 pub fn count_tags(replicas: &[Replica]) -> TagCounts
     ensures { result ≡ tags_counted replicas.now }
 {

@@ -136,7 +136,7 @@ impl Transfers {
         Ok(())
     }
 
-    /// Forgets the copies that were commanded so many rounds ago.
+    /// Forgets the copies that were commanded that many rounds ago.
     fn give_up_old(&mut self, round: u64)
         ensures copies { self.new.copies ≡ map_of.keep self.old.copies
             (λ _ r. not (nat_le self.old.pend (round - r))) }
