@@ -1,2 +1,3 @@
 -- Lemmas.
 pub mod Steps
+pub mod Outcomes

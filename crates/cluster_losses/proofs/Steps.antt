@@ -8,6 +8,7 @@ use Rattle.bm_base.specs.Words.{Cluster, Holdings, State, change_cluster, change
 use Rattle.bm_base.specs.Promises.Lawful.{IsLawful}
 use Rattle.cluster_lost.specs.Losses.{is_loss, are_losses, AreMissing}
 use Rattle.cluster_report.specs.declared.book.Book.{Book}
+use Rattle.cluster_report.specs.Catalogues.{Lists}
 use Rattle.cluster_report.specs.Sessions.{Follows}
 
 first_none : (x y : Option Refusal) → (x before y) ≡ None → x ≡ None
@@ -20,18 +21,23 @@ accepted_by_cluster M C e same h = ap (λ D. first_of (cluster_checks D e)) same
 
 pub follows_event : (M : State) (old new : Book) (e : Event) → Follows old M → new.topology.cluster ≡ change_cluster old.topology.cluster e
     → ((H : Holdings) → old.transfers.copies ≡ H.pending → new.transfers.copies ≡ (change_holdings old.topology.cluster H e).pending)
-    → new.transfers.pend ≡ old.transfers.pend → Follows new (after_event M e)
+    → new.transfers.pend ≡ old.transfers.pend
+    → ((C : Cluster) (H : Holdings) → Lists old.blocks H.blocks → Lists new.blocks (change_holdings C H e).blocks)
+    → Follows new (after_event M e)
 unfolding after_event
-follows_event M old new e f cluster copies pend = record {
+follows_event M old new e f cluster copies pend blocks = record {
   cluster = cluster ∙ ap (λ C. change_cluster C e) f.cluster;
   copies = copies M.holdings f.copies ∙ ap (λ C. (change_holdings C M.holdings e).pending) f.cluster;
   pend = pend ∙ f.pend;
+  blocks = blocks M.cluster M.holdings f.blocks;
 }
 
 pub follows_after : (M N : State) (old new : Book) (e : Event) → N ≡ after_event M e → Follows old M → new.topology.cluster ≡ change_cluster old.topology.cluster e
     → ((H : Holdings) → old.transfers.copies ≡ H.pending → new.transfers.copies ≡ (change_holdings old.topology.cluster H e).pending)
-    → new.transfers.pend ≡ old.transfers.pend → Follows new N
-follows_after M N old new e is f cluster copies pend = subst (λ O. Follows new O) (sym is) (follows_event M old new e f cluster copies pend)
+    → new.transfers.pend ≡ old.transfers.pend
+    → ((C : Cluster) (H : Holdings) → Lists old.blocks H.blocks → Lists new.blocks (change_holdings C H e).blocks)
+    → Follows new N
+follows_after M N old new e is f cluster copies pend blocks = subst (λ O. Follows new O) (sym is) (follows_event M old new e f cluster copies pend blocks)
 
 one_more : (a b : Bool) → not a ≡ true → b ≡ true → not (a || (not b || false)) ≡ true
 one_more true b h l = cc

@@ -1,16 +1,22 @@
 // A table: each rack or each node is lost alone, and comes back.
-ghost use Rattle.std.specs.Prelude.{OnOk};
+ghost use Rattle.std.specs.Prelude.{map, IfOk, OnOk};
 ghost use Rattle.cluster_report.specs.Sessions.{IsInStep};
+ghost use Rattle.cluster_losses.specs.Events.{death};
+ghost use Rattle.cluster_losses.specs.Answers.{IsOutcome, HasLostFiles};
 
 use crate::fault::Fault;
-use crate::held::Held;
+use crate::loss::Kind;
 use crate::loss_events::{Lost, nodes_on};
 use crate::set_back::{Return, returns_of};
-use crate::text::fits_word;
+use crate::text::{fits_word, write_node, write_rack};
 use crate::without::{Outcome, without};
 use bm_base::{NodeId, Rack, Refusal};
+use cluster_input::loaded::Loaded;
+use cluster_names::Files;
+use cluster_pages::at_risk::files_at_risk;
 use cluster_report::book::Book;
 use cluster_report::nodes::all_nodes;
+use cluster_report::session::Session;
 use std::alloc::{AllocError, Global};
 use std::sync::Wait;
 use std::thread::Threads;
@@ -60,60 +66,68 @@ pub fn nodes_of(alloc: Global, book: &Book) -> Result<Vec<Part>, AllocError> {
 struct Row {
     number: u32,
     nodes: usize,
+    lost_files: usize,
     without: Outcome,
 }
 
 /// The table of what is lost with each of these alone, the worst first: by lost blocks, then by the
-/// blocks at levels 0, 1 and 2, then by number.
+/// blocks at the first three levels, then by number.
 pub fn table_of<H: Threads + Wait + Sync>(
     rt: &H,
     alloc: Global,
-    held: &mut Held,
-    what: &str,
+    loaded: &mut Loaded,
+    kind: Kind,
     parts: &[Part],
 ) -> Result<String, Fault>
-    requires { IsInStep held.old.session }
+    requires { IsInStep loaded.old.session }
 {
-    let excess = held.session.manager.excess()?;
+    let excess = loaded.session.manager.excess()?;
     if !excess.is_empty() {
         return Err(Fault::Excess);
     }
-    let replicas = held.session.manager.replicas()?;
-    let returns = returns_of(alloc, held, replicas.as_slice())?;
+    let replicas = loaded.session.manager.replicas()?;
+    let returns = returns_of(alloc, &loaded.session.book, replicas.as_slice())?;
     let mut rows = Vec::new(alloc);
     for part in parts {
-        let row = row_of(rt, alloc, held, part)?;
+        let row = row_of(rt, alloc, &mut loaded.session, &loaded.files, part)?;
         if rows.push(row).is_err() {
             return Err(Fault::Memory);
         }
-        set_back(rt, held, returns.as_slice(), part)?;
+        set_back(rt, &mut loaded.session, returns.as_slice(), part)?;
     }
     // Each node came back once, so what did not come back then is missing now.
-    let now = held.session.manager.replicas()?;
+    let now = loaded.session.manager.replicas()?;
     if now.as_slice() != replicas.as_slice() {
         return Err(Fault::NotSetBack);
     }
     rows.sort_by_key(|row| badness(row))?;
-    Ok(table_text(alloc, what, rows.as_slice())?)
+    Ok(table_text(alloc, loaded, kind, rows.as_slice())?)
 }
 
 /// Loses one of them.
+#[tactic(auto, using(crate::proofs::Outcomes::outcome_of, crate::proofs::Outcomes::lost_files_of))]
 fn row_of<H: Threads + Wait + Sync>(
     rt: &H,
     alloc: Global,
-    held: &mut Held,
+    session: &mut Session,
+    files: &Files,
     part: &Part,
 ) -> Result<Row, Fault>
-    requires { IsInStep held.old.session }
-    ensures { OnOk result (IsInStep held.new.session) }
+    requires { IsInStep session.old }
+    ensures outcome { IfOk result (λ r.
+        IsOutcome session.old.manager (map death part.now.nodes) r.without) }
+    ensures files { IfOk result (λ r. HasLostFiles files.now r) }
+    ensures in_step { OnOk result (IsInStep session.new) }
 {
     let lost = Lost::of_nodes(alloc, part.nodes.as_slice())?;
     let losses = lost.events(alloc)?;
-    let missing = held.session.manager.missing()?;
-    let found = without(rt, alloc, held, missing.as_slice(), losses.as_slice())?;
+    let missing = session.manager.missing()?;
+    let found = without(rt, alloc, session, missing.as_slice(), losses.as_slice())?;
+    let risk = files_at_risk(alloc, files, found.lost.as_slice(), &[])?;
     Ok(Row {
         number: part.number,
         nodes: part.nodes.len(),
+        lost_files: risk.lost.len(),
         without: found,
     })
 }
@@ -121,15 +135,15 @@ fn row_of<H: Threads + Wait + Sync>(
 /// Makes its nodes come back.
 fn set_back<H: Threads + Wait + Sync>(
     rt: &H,
-    held: &mut Held,
+    session: &mut Session,
     returns: &[Return],
     part: &Part,
 ) -> Result<(), Refusal>
-    requires { IsInStep held.old.session }
-    ensures { OnOk result (IsInStep held.new.session) }
+    requires { IsInStep session.old }
+    ensures { OnOk result (IsInStep session.new) }
 {
     for node in returns {
-        node.make(rt, held, part.nodes.as_slice())?;
+        node.make(rt, session, part.nodes.as_slice())?;
     }
     Ok(())
 }
@@ -146,43 +160,77 @@ fn badness(row: &Row) -> (usize, usize, usize, usize, u32) {
     )
 }
 
-fn table_text(alloc: Global, what: &str, rows: &[Row]) -> Result<String, AllocError> {
+fn table_text(
+    alloc: Global,
+    loaded: &Loaded,
+    kind: Kind,
+    rows: &[Row],
+) -> Result<String, AllocError> {
     let mut text = String::new(alloc);
-    write_heading(&mut text, what)?;
+    write_heading(&mut text, loaded, kind)?;
     for row in rows {
-        write_row(&mut text, row)?;
+        write_row(alloc, &mut text, loaded, kind, row)?;
     }
     Ok(text)
 }
 
-fn write_heading(text: &mut String, what: &str) -> Result<(), AllocError> {
-    write!(text, "{what:>10} {:>6} {:>11} ", "nodes", "lost blocks")?;
+fn write_heading(text: &mut String, loaded: &Loaded, kind: Kind) -> Result<(), AllocError> {
+    let what = match kind {
+        Kind::Rack => "rack",
+        _ => "node",
+    };
+    write!(text, "{what:<28} {:>6} ", "nodes")?;
+    if loaded.files.file_count() > 0 {
+        write!(text, "{:>10} ", "lost_files")?;
+    }
+    write!(text, "{:>11} {:>9} ", "lost_blocks", "highest")?;
     write!(
         text,
-        "{:>9} {:>9} {:>9} {:>9} ",
-        "level 0", "level 1", "level 2", "level 3"
+        "{:>21} {:>16} {:>17} ",
+        "very_under_replicated", "under_replicated", "badly_distributed"
     )?;
-    writeln!(
+    write!(
         text,
-        "{:>20} {:>20} {:>7}",
-        "bytes to copy", "free bytes", "suffice"
+        "{:>20} {:>20} {:>7}\n",
+        "bytes_to_copy", "free_bytes", "suffice"
     )
 }
 
-fn write_row(text: &mut String, row: &Row) -> Result<(), AllocError> {
-    let number = row.number;
+fn write_row(
+    alloc: Global,
+    text: &mut String,
+    loaded: &Loaded,
+    kind: Kind,
+    row: &Row,
+) -> Result<(), AllocError> {
+    let name = name_of(alloc, loaded, kind, row.number)?;
+    let name = name.as_str();
     let nodes = row.nodes;
+    write!(text, "{name:<28} {nodes:>6} ")?;
+    if loaded.files.file_count() > 0 {
+        let files = row.lost_files;
+        write!(text, "{files:>10} ")?;
+    }
     let lost = row.without.lost.len();
     let after = &row.without.after;
     let fits = fits_word(after);
-    write!(text, "{number:>10} {nodes:>6} {lost:>11} ")?;
+    write!(text, "{lost:>11} {:>9} ", after.levels.highest)?;
     write!(
         text,
-        "{:>9} {:>9} {:>9} {:>9} ",
-        after.levels.highest,
+        "{:>21} {:>16} {:>17} ",
         after.levels.very_under_replicated,
         after.levels.under_replicated,
         after.levels.badly_distributed
     )?;
-    writeln!(text, "{:>20} {:>20} {fits:>7}", after.lacking, after.free)
+    write!(text, "{:>20} {:>20} {fits:>7}\n", after.lacking, after.free)
+}
+
+/// The name of a row.
+fn name_of(alloc: Global, loaded: &Loaded, kind: Kind, number: u32) -> Result<String, AllocError> {
+    let mut name = String::new(alloc);
+    match kind {
+        Kind::Rack => write_rack(&mut name, &loaded.names, Rack(number))?,
+        _ => write_node(&mut name, &loaded.names, NodeId(number))?,
+    }
+    Ok(name)
 }

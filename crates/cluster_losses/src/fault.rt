@@ -1,20 +1,14 @@
 // Why a run ends without its answer.
 use crate::loss::Kind;
 use bm_base::Refusal;
-use cluster_report::fault::Fault as LineFault;
 use std::alloc::AllocError;
 use thiserror::Error;
 
-/// Why there is no answer, or an unknown part of it where a write failed.
+/// Why there is no answer.
 #[derive(Clone, Copy, Debug, Error)]
 pub enum Fault {
     #[error("memory fault")]
     Memory,
-    #[error("read fault")]
-    Read,
-    /// A write or the flush failed.
-    #[error("write fault")]
-    Write,
     /// A word of the command line names nothing of the cluster.
     #[error("the cluster has no such {0}")]
     Unknown(Kind),
@@ -40,16 +34,6 @@ impl From<Refusal> for Fault {
         match refusal {
             Refusal::Memory => Fault::Memory,
             refusal => Fault::Refused(refusal),
-        }
-    }
-}
-
-impl From<LineFault> for Fault {
-    fn from(fault: LineFault) -> Self {
-        match fault {
-            LineFault::Memory => Fault::Memory,
-            LineFault::Read => Fault::Read,
-            LineFault::Write => Fault::Write,
         }
     }
 }

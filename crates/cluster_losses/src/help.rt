@@ -2,21 +2,32 @@
 use crate::options::command;
 use clap::Error;
 use clap::error::ErrorKind;
+use cluster_input::options::WRONG_VALUE;
 use std::alloc::{AllocError, Global};
 
 pub static EXAMPLES: &str = "\
-Examples, where cluster.jsonl has lines of the line tool:
-  what-if --lose rack:1 cluster.jsonl             rack 1 burns
-  what-if --lose node:3 --lose node:4 FILE        two nodes die at once
-  what-if --lose each-rack FILE                   a table: each rack alone, the worst first
-  what-if --drain 3 FILE                          node 3 is taken away";
+A FILE holds lines of the line tool, or is a text of hdfs fsck; without FILE standard input is read. \
+Racks, nodes and storages have the names of the text; in lines they have their numbers. A HOST may leave out the port.
+
+Examples:
+  what-if --lose rack:/rack7 --nodes nodes.txt fsck.txt       rack /rack7 burns
+  what-if --lose rack:1 cluster.jsonl                         the same of lines
+  what-if --lose node:10.1.1.11 --lose node:10.1.1.12 FILE    two nodes die at once
+  what-if --lose each-rack FILE                               a table: each rack alone, the worst first
+  what-if --drain 10.1.1.11 --mend FILE                       when the node can be switched off";
 
 /// What is said of words that ask no question.
 pub fn wrong_question(alloc: Global) -> Result<Error, AllocError> {
     let mut command = command(alloc)?;
     command.error(
         ErrorKind::ValueValidation,
-        "--lose takes rack:NAME, node:NAME, storage:NAME, each-rack and each-node, the last two \
-         alone; at least one --lose or --drain is wanted",
+        "--lose takes rack:NAME, node:HOST, storage:ID, each-rack and each-node, the last two \
+         alone and without --mend; at least one --lose or --drain is wanted; --svg needs --mend",
     )
+}
+
+/// What is said of a value that is none of its option's.
+pub fn wrong_value(alloc: Global) -> Result<Error, AllocError> {
+    let mut command = command(alloc)?;
+    command.error(ErrorKind::ValueValidation, WRONG_VALUE)
 }

@@ -1,7 +1,7 @@
 // The bytes of the copies that blocks lack.
-use crate::catalogue::Catalogue;
-use crate::held::Held;
 use bm_base::{BlockId, Replica, ReplicaId};
+use cluster_report::book::Book;
+use cluster_report::catalogue::Catalogue;
 
 /// The usable replicas of one block, counted.
 #[derive(Clone, Copy)]
@@ -37,23 +37,23 @@ impl Tally {
 
 /// The bytes of all copies that blocks lack, of which some replica can be copied: for each block
 /// its length times the wanted replicas that are not live. All replicas come by block.
-pub fn bytes_lacking(held: &Held, replicas: &[Replica], excess: &[ReplicaId]) -> u128 {
+pub fn bytes_lacking(book: &Book, replicas: &[Replica], excess: &[ReplicaId]) -> u128 {
     let mut bytes = 0u128;
     let mut tally = Tally::new(BlockId(0));
     for replica in replicas {
         if replica.block != tally.block {
-            bytes = bytes.saturating_add(tally.bytes_lacking(&held.blocks));
+            bytes = bytes.saturating_add(tally.bytes_lacking(&book.blocks));
             tally = Tally::new(replica.block);
         }
         if is_usable(replica, excess) {
-            if held.session.book.topology.is_draining(replica.storage) {
+            if book.topology.is_draining(replica.storage) {
                 tally.drained = tally.drained.saturating_add(1);
             } else {
                 tally.live = tally.live.saturating_add(1);
             }
         }
     }
-    bytes.saturating_add(tally.bytes_lacking(&held.blocks))
+    bytes.saturating_add(tally.bytes_lacking(&book.blocks))
 }
 
 /// Whether a replica is good and not in excess.

@@ -1,12 +1,13 @@
-//! What is lost with racks, nodes and storages: reads the lines of the line tool from standard
-//! input, makes their calls on one manager, and tells how the cluster stands without what is lost,
-//! where no round came between.
+//! What is lost with racks, nodes and storages: reads lines of the line tool or a text of `hdfs
+//! fsck`, makes their calls on one manager, and writes how the cluster stands without what is lost,
+//! with no round between. It may go on with rounds until nothing more is copied.
 //!
 //! ```text
-//! puljemrod_cluster what-if --lose rack:1 < cluster.jsonl
+//! puljemrod_cluster what-if --lose rack:1 cluster.jsonl
+//! puljemrod_cluster what-if --lose rack:/rack7 --nodes nodes.txt fsck.txt
 //! ```
 //!
-//! The answer has a line for each fact (docs/CLUSTERS.md). For `each-rack` and `each-node` it is a
+//! The answer has a line for each fact (docs/WHAT_IF.md). For `each-rack` and `each-node` it is a
 //! table: each is lost alone, and comes back before the next.
 //!
 //! Ends with status 0; with status 1 where a line was refused, a name is not of the cluster, or a
@@ -14,16 +15,17 @@
 #![tactic(auto)]
 
 mod answers;
-pub mod catalogue;
 mod each;
+pub mod events;
 pub mod fault;
-pub mod held;
 mod help;
 mod lacking_bytes;
 pub mod loss;
 pub mod loss_events;
+mod named;
 mod options;
-mod reading;
+mod repair_picture;
+mod repair_text;
 mod set_back;
 pub mod standing;
 mod text;
@@ -32,18 +34,26 @@ pub mod without;
 ghost use Rattle.cluster_report.specs.Sessions.{IsInStep};
 
 use answers::answer_to_losses;
+use bm_base::NodeId;
 use clap::Error;
 use clap::error::ErrorKind;
+use cluster_input::loaded::Loaded;
+use cluster_input::options::files_of;
+use cluster_input::sources::load;
+use cluster_progress::Progress;
+use cluster_repair::reasons::unmended_of;
+use cluster_repair::repair::{Pace, repair_cluster};
 use each::{nodes_of, racks_of, table_of};
 use fault::Fault;
-use held::Held;
-use loss::{Loss, Question};
+use loss::{Kind, Loss, Question};
 use loss_events::Lost;
-use options::{Asked, asked_by};
-use reading::read_lines;
+use options::{Asked, asked_of, matches_of};
+use repair_picture::picture_of;
+use repair_text::write_repair;
 use std::alloc::Global;
 use std::io;
-use std::io::{BufReader, Write};
+use std::io::Write;
+use std::rt::Files;
 use std::sync::Wait;
 use std::thread::Threads;
 use text::write_lost;
@@ -54,20 +64,30 @@ const FAULTED: u8 = 1;
 
 const MISUSED: u8 = 2;
 
-/// Answers what the words of a command line ask, the program's name first, from standard input to
-/// standard output, with refused lines on `notes`. The result is the exit status.
-pub fn losses_by_words<R: Input + Print + Eprint + AllocGlobal + Threads + Wait + Sync, N: Print>(
-    rt: &R,
-    notes: &N,
-    words: &[String],
-) -> u8 {
-    match asked_by(rt.alloc(), words) {
-        Ok(asked) => match run(rt, notes, &asked) {
-            Ok(true) => DONE,
-            Ok(false) => FAULTED,
-            Err(fault) => say_fault(rt, fault),
-        },
-        Err(error) => say_error(rt, &error),
+/// The program's name, in what it says.
+const PROGRAM: &str = "what-if";
+
+/// Answers what the words of a command line ask, the program's name first, on standard output, with
+/// refused lines on `notes`. The result is the exit status.
+pub fn losses_by_words<
+    R: Input + Print + Eprint + Files + AllocGlobal + Threads + Wait + Sync,
+    N: Print,
+>(rt: &R, notes: &N, words: &[String]) -> u8 {
+    let alloc: Global = rt.alloc();
+    let matches = match matches_of(alloc, words) {
+        Ok(matches) => matches,
+        Err(error) => return say_error(rt, &error),
+    };
+    let asked = match asked_of(alloc, &matches) {
+        Ok(asked) => asked,
+        Err(error) => return say_error(rt, &error),
+    };
+    match load(rt, notes, PROGRAM, &asked.input, files_of(&matches)) {
+        Some((mut loaded, all_accepted)) => {
+            let status = answer(rt, &mut loaded, &asked);
+            if all_accepted { status } else { FAULTED }
+        }
+        None => FAULTED,
     }
 }
 
@@ -81,66 +101,127 @@ fn say_error<R: Print + Eprint>(rt: &R, error: &Error) -> u8 {
 }
 
 fn say_fault<R: Eprint>(rt: &R, fault: Fault) -> u8 {
-    let _ = rt.eprintln(format_args!("cluster_losses: {fault}"));
+    let _ = rt.eprintln(format_args!("{PROGRAM}: {fault}"));
     FAULTED
 }
 
-/// The whole run, from standard input to standard output. Answers whether every line was accepted.
-fn run<R: Input + Print + AllocGlobal + Threads + Wait + Sync, N: Print>(
+/// The answer about a cluster, to standard output. A closed pipe is not said.
+fn answer<R: Print + Eprint + AllocGlobal + Threads + Wait + Sync>(
     rt: &R,
-    notes: &N,
+    loaded: &mut Loaded,
     asked: &Asked<'_>,
-) -> Result<bool, Fault> {
-    let alloc: Global = rt.alloc();
-    let Ok(mut reader) = BufReader::new(alloc, rt.reader()) else {
-        return Err(Fault::Memory);
-    };
-    let mut told = io::writer(notes);
-    let mut held = Held::new(alloc, &asked.config)?;
-    let all_accepted = read_lines(rt, alloc, &mut held, &mut reader, &mut told)?;
-    let text = text_for(rt, alloc, &mut held, &asked.question)?;
-    let mut writer = io::writer(rt);
-    match writer.write_all(text.as_bytes()) {
-        Ok(()) if writer.flush().is_ok() => Ok(all_accepted),
-        _ => Err(Fault::Write),
+) -> u8
+    requires { IsInStep loaded.old.session }
+{
+    let mut progress = Progress::new(asked.shows_progress);
+    let text = text_for(rt, rt.alloc(), loaded, asked, &mut progress);
+    progress.end(rt);
+    match text {
+        Ok(text) => write_answer(rt, &text),
+        Err(fault) => say_fault(rt, fault),
     }
 }
 
-fn text_for<H: Threads + Wait + Sync>(
-    rt: &H,
+fn write_answer<R: Print + Eprint>(rt: &R, text: &String) -> u8 {
+    match write_flushed(&mut io::writer(rt), text.as_bytes()) {
+        Ok(()) => DONE,
+        Err(error) if error.kind() == io::ErrorKind::BrokenPipe => FAULTED,
+        Err(error) => {
+            let _ = rt.eprintln(format_args!("{PROGRAM}: write fault: {error}"));
+            FAULTED
+        }
+    }
+}
+
+fn write_flushed<W: Write>(writer: &mut W, text: &[u8]) -> io::Result<()> {
+    writer.write_all(text)?;
+    writer.flush()
+}
+
+fn text_for<R: Eprint + Threads + Wait + Sync>(
+    rt: &R,
     alloc: Global,
-    held: &mut Held,
-    question: &Question<'_>,
+    loaded: &mut Loaded,
+    asked: &Asked<'_>,
+    progress: &mut Progress,
 ) -> Result<String, Fault>
-    requires { IsInStep held.old.session }
+    requires { IsInStep loaded.old.session }
 {
-    match question {
-        Question::Losses(losses) => losses_text(rt, alloc, held, losses.as_slice()),
+    match &asked.question {
+        Question::Losses(losses) => {
+            losses_text(rt, alloc, loaded, asked, losses.as_slice(), progress)
+        }
         Question::EachRack => {
-            let parts = racks_of(alloc, &held.session.book)?;
-            table_of(rt, alloc, held, "rack", parts.as_slice())
+            let parts = racks_of(alloc, &loaded.session.book)?;
+            table_of(rt, alloc, loaded, Kind::Rack, parts.as_slice())
         }
         Question::EachNode => {
-            let parts = nodes_of(alloc, &held.session.book)?;
-            table_of(rt, alloc, held, "node", parts.as_slice())
+            let parts = nodes_of(alloc, &loaded.session.book)?;
+            table_of(rt, alloc, loaded, Kind::Node, parts.as_slice())
         }
     }
 }
 
 /// What is lost with all of these.
-fn losses_text<H: Threads + Wait + Sync>(
-    rt: &H,
+fn losses_text<R: Eprint + Threads + Wait + Sync>(
+    rt: &R,
     alloc: Global,
-    held: &mut Held,
+    loaded: &mut Loaded,
+    asked: &Asked<'_>,
     losses: &[Loss<'_>],
+    progress: &mut Progress,
 ) -> Result<String, Fault>
-    requires { IsInStep held.old.session }
+    requires { IsInStep loaded.old.session }
 {
-    let lost = Lost::named(alloc, &held.session.book, losses)?;
+    let lost = Lost::named(alloc, loaded, losses)?;
     let mut text = String::new(alloc);
-    write_lost(&mut text, &held.session.book, &lost)?;
+    write_lost(&mut text, loaded, &lost)?;
     let events = lost.events(alloc)?;
-    let answer = answer_to_losses(rt, alloc, held, events.as_slice())?;
+    let answer = answer_to_losses(rt, alloc, loaded, events.as_slice(), asked.most)?;
     text.push_str(answer.as_str())?;
+    let Some(pace) = asked.pace else {
+        return Ok(text);
+    };
+    let drained = lost.drained.as_slice();
+    if asked.is_picture {
+        return picture_for(rt, alloc, loaded, pace, drained, progress);
+    }
+    let repair = lines_for(rt, alloc, loaded, pace, drained, asked.most, progress)?;
+    text.push_str(repair.as_str())?;
     Ok(text)
+}
+
+/// What is copied again, as lines.
+fn lines_for<R: Eprint + Threads + Wait + Sync>(
+    rt: &R,
+    alloc: Global,
+    loaded: &mut Loaded,
+    pace: Pace,
+    drained: &[NodeId],
+    most: usize,
+    progress: &mut Progress,
+) -> Result<String, Fault>
+    requires { IsInStep loaded.old.session }
+{
+    let done = repair_cluster(rt, alloc, &mut loaded.session, pace, drained, progress)?;
+    let free = &done.datanodes.free;
+    let unmended = unmended_of(alloc, &loaded.session, free, done.watch.blocks.as_slice())?;
+    let mut text = String::new(alloc);
+    write_repair(&mut text, loaded, pace, &done, unmended.as_slice(), most)?;
+    Ok(text)
+}
+
+/// What is copied again, as a picture.
+fn picture_for<R: Eprint + Threads + Wait + Sync>(
+    rt: &R,
+    alloc: Global,
+    loaded: &mut Loaded,
+    pace: Pace,
+    drained: &[NodeId],
+    progress: &mut Progress,
+) -> Result<String, Fault>
+    requires { IsInStep loaded.old.session }
+{
+    let done = repair_cluster(rt, alloc, &mut loaded.session, pace, drained, progress)?;
+    Ok(picture_of(alloc, pace, done.rows.rows.as_slice())?)
 }

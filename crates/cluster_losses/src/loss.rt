@@ -40,6 +40,13 @@ pub enum Question<'a> {
     EachNode,
 }
 
+impl Question<'_> {
+    /// Whether all losses come at once.
+    pub fn is_one(&self) -> bool {
+        matches!(self, Question::Losses(_))
+    }
+}
+
 /// The question of these words: the values of `--lose` and those of `--drain`. `None` if nothing is
 /// lost, a word is none that is known, or `each-rack` or `each-node` has another word next to it.
 pub fn question_of<'a>(
@@ -81,7 +88,7 @@ fn losses_of<'a>(
     Ok(Some(Question::Losses(losses)))
 }
 
-/// What `rack:NAME`, `node:NAME` or `storage:NAME` names.
+/// What `rack:NAME`, `node:HOST` or `storage:ID` names.
 fn loss_of(word: &str) -> Option<Loss<'_>> {
     let (kind, name) = word.split_once(':')?;
     let kind = match kind {

@@ -1,10 +1,13 @@
 // The events by which racks, nodes and storages are lost.
-ghost use Rattle.std.specs.Prelude.{◌≡◌, true, IfOk, OnOk};
+ghost use Rattle.std.specs.Prelude.{◌≡◌, ◌++◌, [], true, map, IfOk, OnOk};
 ghost use Rattle.cluster_lost.specs.Losses.{are_losses};
+ghost use Rattle.cluster_losses.specs.Events.{death, failure, drain, events_of};
 
 use crate::fault::Fault;
 use crate::loss::{Kind, Loss};
+use crate::named::{nodes_named, rack_named, storage_named};
 use bm_base::{Event, NodeId, Rack, StorageId};
+use cluster_input::loaded::Loaded;
 use cluster_report::book::Book;
 use cluster_report::nodes::all_nodes;
 use std::alloc::{AllocError, Global};
@@ -18,7 +21,11 @@ pub struct Lost {
 }
 
 impl Lost {
-    fn new(alloc: Global) -> Lost {
+    fn new(alloc: Global) -> Lost
+        ensures drained { result.drained.items ≡ [] }
+        ensures storages { result.storages.items ≡ [] }
+        ensures nodes { result.nodes.items ≡ [] }
+    {
         Lost {
             drained: Vec::new(alloc),
             storages: Vec::new(alloc),
@@ -27,66 +34,56 @@ impl Lost {
     }
 
     /// What these losses name.
-    pub fn named(alloc: Global, book: &Book, losses: &[Loss<'_>]) -> Result<Lost, Fault> {
+    pub fn named(alloc: Global, loaded: &Loaded, losses: &[Loss<'_>]) -> Result<Lost, Fault> {
         let mut lost = Lost::new(alloc);
         for loss in losses {
-            lost.add(alloc, book, *loss)?;
+            lost.add(alloc, loaded, *loss)?;
         }
         Ok(lost)
     }
 
     /// These nodes.
-    pub fn of_nodes(alloc: Global, nodes: &[NodeId]) -> Result<Lost, AllocError> {
+    pub fn of_nodes(alloc: Global, nodes: &[NodeId]) -> Result<Lost, AllocError>
+        ensures { IfOk result (λ it. events_of it ≡ map death nodes.now) }
+    {
         let mut lost = Lost::new(alloc);
-        for node in nodes {
-            lost.nodes.push(*node)?;
-        }
+        lost.nodes = nodes.iter().copied().collect(alloc)?;
         Ok(lost)
     }
 
-    fn add(&mut self, alloc: Global, book: &Book, loss: Loss<'_>) -> Result<(), Fault> {
-        let Ok(number) = loss.name.parse::<u32>() else {
-            return Err(Fault::Unknown(loss.kind));
-        };
+    fn add(&mut self, alloc: Global, loaded: &Loaded, loss: Loss<'_>) -> Result<(), Fault> {
         match loss.kind {
-            Kind::Rack => self.add_rack(alloc, book, Rack(number)),
+            Kind::Rack => {
+                let nodes = nodes_in(alloc, loaded, loss.name)?;
+                add_all(&mut self.nodes, nodes.as_slice(), loss.kind)
+            }
             Kind::Node => {
-                let node = known_node(book, NodeId(number), loss.kind)?;
-                push_once(&mut self.nodes, node)?;
-                Ok(())
+                let nodes = nodes_named(alloc, loaded, loss.name)?;
+                add_all(&mut self.nodes, nodes.as_slice(), loss.kind)
             }
             Kind::Drain => {
-                let node = known_node(book, NodeId(number), loss.kind)?;
-                push_once(&mut self.drained, node)?;
+                let nodes = nodes_named(alloc, loaded, loss.name)?;
+                add_all(&mut self.drained, nodes.as_slice(), loss.kind)
+            }
+            Kind::Storage => self.add_storage(loaded, loss.name),
+        }
+    }
+
+    fn add_storage(&mut self, loaded: &Loaded, name: &str) -> Result<(), Fault> {
+        match storage_named(loaded, name) {
+            Some(storage) if loaded.session.book.topology.knows_storage(storage) => {
+                push_once(&mut self.storages, storage)?;
                 Ok(())
             }
-            Kind::Storage => self.add_storage(book, StorageId(number)),
+            _ => Err(Fault::Unknown(Kind::Storage)),
         }
-    }
-
-    fn add_rack(&mut self, alloc: Global, book: &Book, rack: Rack) -> Result<(), Fault> {
-        let nodes = nodes_on(alloc, book, rack)?;
-        if nodes.is_empty() {
-            return Err(Fault::Unknown(Kind::Rack));
-        }
-        for node in &nodes {
-            push_once(&mut self.nodes, *node)?;
-        }
-        Ok(())
-    }
-
-    fn add_storage(&mut self, book: &Book, storage: StorageId) -> Result<(), Fault> {
-        if !book.topology.knows_storage(storage) {
-            return Err(Fault::Unknown(Kind::Storage));
-        }
-        push_once(&mut self.storages, storage)?;
-        Ok(())
     }
 
     /// First the nodes that drain, then the storages that fail, then the nodes that die, so that
     /// each is known when its event comes.
     pub fn events(&self, alloc: Global) -> Result<Vec<Event>, AllocError>
-        ensures { IfOk result (λ v. are_losses v.items ≡ true) }
+        ensures events { IfOk result (λ v. v.items ≡ events_of self.now) }
+        ensures losses { IfOk result (λ v. are_losses v.items ≡ true) }
     {
         let mut events = Vec::new(alloc);
         add_drains(&mut events, self.drained.as_slice())?;
@@ -106,11 +103,23 @@ pub fn nodes_on(alloc: Global, book: &Book, rack: Rack) -> Result<Vec<NodeId>, A
         .collect(alloc)
 }
 
-fn known_node(book: &Book, node: NodeId, kind: Kind) -> Result<NodeId, Fault> {
-    match book.topology.node_drains(node) {
-        Some(_) => Ok(node),
-        None => Err(Fault::Unknown(kind)),
+/// The alive nodes of the rack of this name.
+fn nodes_in(alloc: Global, loaded: &Loaded, name: &str) -> Result<Vec<NodeId>, AllocError> {
+    match rack_named(loaded, name) {
+        Some(rack) => nodes_on(alloc, &loaded.session.book, rack),
+        None => Ok(Vec::new(alloc)),
     }
+}
+
+/// Adds these nodes, of which a name has to name at least one.
+fn add_all(nodes: &mut Vec<NodeId>, named: &[NodeId], kind: Kind) -> Result<(), Fault> {
+    if named.is_empty() {
+        return Err(Fault::Unknown(kind));
+    }
+    for node in named {
+        push_once(nodes, *node)?;
+    }
+    Ok(())
 }
 
 fn push_once<T: Copy + PartialEq>(items: &mut Vec<T>, item: T) -> Result<(), AllocError> {
@@ -124,7 +133,9 @@ fn push_once<T: Copy + PartialEq>(items: &mut Vec<T>, item: T) -> Result<(), All
 #[tactic(auto, using(crate::proofs::Steps::losses_and))]
 fn add_drains(events: &mut Vec<Event>, nodes: &[NodeId]) -> Result<(), AllocError>
     requires { are_losses events.old.items ≡ true }
-    ensures { OnOk result (are_losses events.new.items ≡ true) }
+    ensures events { OnOk result (events.new.items
+        ≡ events.old.items ++ map drain nodes.now) }
+    ensures losses { OnOk result (are_losses events.new.items ≡ true) }
 {
     for node in nodes {
         events.push(Event::Drain { node: *node })?;
@@ -135,7 +146,9 @@ fn add_drains(events: &mut Vec<Event>, nodes: &[NodeId]) -> Result<(), AllocErro
 #[tactic(auto, using(crate::proofs::Steps::losses_and))]
 fn add_failures(events: &mut Vec<Event>, storages: &[StorageId]) -> Result<(), AllocError>
     requires { are_losses events.old.items ≡ true }
-    ensures { OnOk result (are_losses events.new.items ≡ true) }
+    ensures events { OnOk result (events.new.items
+        ≡ events.old.items ++ map failure storages.now) }
+    ensures losses { OnOk result (are_losses events.new.items ≡ true) }
 {
     for storage in storages {
         events.push(Event::StorageFailed { storage: *storage })?;
@@ -146,7 +159,9 @@ fn add_failures(events: &mut Vec<Event>, storages: &[StorageId]) -> Result<(), A
 #[tactic(auto, using(crate::proofs::Steps::losses_and))]
 fn add_deaths(events: &mut Vec<Event>, nodes: &[NodeId]) -> Result<(), AllocError>
     requires { are_losses events.old.items ≡ true }
-    ensures { OnOk result (are_losses events.new.items ≡ true) }
+    ensures events { OnOk result (events.new.items
+        ≡ events.old.items ++ map death nodes.now) }
+    ensures losses { OnOk result (are_losses events.new.items ≡ true) }
 {
     for node in nodes {
         events.push(Event::Dead { node: *node })?;

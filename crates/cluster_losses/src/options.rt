@@ -1,65 +1,150 @@
 // The options of the program.
-use crate::help::{EXAMPLES, wrong_question};
+use crate::help::{EXAMPLES, wrong_question, wrong_value};
 use crate::loss::{Question, question_of};
-use bm_base::Config;
-use clap::{Arg, ArgAction, Command, Error};
-use cluster_report::options::{NUMBERS, argument, config_from, with};
+use clap::{Arg, ArgAction, ArgMatches, Command, Error, value_parser};
+use cluster_input::options as input;
+use cluster_input::options::with_input;
+use cluster_repair::repair::Pace;
+use cluster_report::options::with;
 use std::alloc::{AllocError, Global};
+
+/// How many lost blocks and files are named, if not all.
+pub const MOST_NAMED: usize = 10;
 
 /// What the words of a command line ask for.
 #[derive(Drop)]
 pub struct Asked<'a> {
-    pub config: Config,
+    pub input: input::Asked<'a>,
     pub question: Question<'a>,
+    /// How fast it is mended, if that is asked for.
+    pub pace: Option<Pace>,
+    /// Whether the answer is a picture.
+    pub is_picture: bool,
+    /// How many of each list are named at most.
+    pub most: usize,
+    pub shows_progress: bool,
 }
 
-/// What the words of a command line ask for, the program's name first. An `Err` is a request for
-/// help, a command line that is refused, or out of memory.
-pub fn asked_by<'a>(alloc: Global, words: &'a [String]) -> Result<Asked<'a>, Error> {
+/// The words of a command line, the program's name first. An `Err` is a request for help, a command
+/// line that is refused, or out of memory.
+pub fn matches_of<'a>(alloc: Global, words: &'a [String]) -> Result<ArgMatches<'a>, Error> {
     let command = command(alloc)?;
-    let matches = command.try_get_matches_from(words)?;
+    command.try_get_matches_from(words)
+}
+
+/// What the words ask for.
+pub fn asked_of<'a>(alloc: Global, matches: &ArgMatches<'a>) -> Result<Asked<'a>, Error> {
+    let Some(input) = input::asked_of(matches) else {
+        return Err(wrong_value(alloc)?);
+    };
     let lose = matches.get_strs("lose").unwrap_or(&[]);
     let drain = matches.get_strs("drain").unwrap_or(&[]);
+    let pace = pace_in(matches);
+    let is_picture = matches.get_flag("svg");
     let Some(question) = question_of(alloc, lose, drain)? else {
         return Err(wrong_question(alloc)?);
     };
+    if !may_ask(&question, pace, is_picture) {
+        return Err(wrong_question(alloc)?);
+    }
+    let most = if matches.get_flag("all") {
+        usize::MAX
+    } else {
+        MOST_NAMED
+    };
     Ok(Asked {
-        config: config_from(&matches),
+        input,
         question,
+        pace,
+        is_picture,
+        most,
+        shows_progress: input.input_bytes.is_some(),
+    })
+}
+
+/// A table is of losses alone, and a picture of what is mended.
+fn may_ask(question: &Question<'_>, pace: Option<Pace>, is_picture: bool) -> bool {
+    match pace {
+        Some(_) => question.is_one(),
+        None => !is_picture,
+    }
+}
+
+fn pace_in(matches: &ArgMatches<'_>) -> Option<Pace> {
+    if !matches.get_flag("mend") {
+        return None;
+    }
+    let megabytes = matches.get_one::<u32>("bandwidth").unwrap_or(50);
+    Some(Pace {
+        bandwidth: u64::from(megabytes) * 1_000_000,
+        interval: matches.get_one::<u32>("interval").unwrap_or(3),
     })
 }
 
 /// The command line.
 pub fn command<'a>(alloc: Global) -> Result<Command<'a>, AllocError> {
-    let mut command = program(alloc)
-        .arg(several(
-            alloc,
-            "lose",
-            "WHAT",
-            "rack:NAME, node:NAME, storage:NAME, each-rack or each-node, the last two alone",
-        ))?
-        .arg(several(alloc, "drain", "NAME", "a node that is to be taken away"))?;
-    for number in &NUMBERS {
-        command = with(command, argument(alloc, number))?;
-    }
-    Ok(command)
+    let command = with_losses(alloc, program(alloc))?;
+    let command = with_repair(alloc, command)?;
+    let command = with_input(alloc, command)?;
+    Ok(command.after_help(EXAMPLES))
+}
+
+/// The command with what is lost.
+fn with_losses<'a>(alloc: Global, command: Command<'a>) -> Result<Command<'a>, AllocError> {
+    let lose = several(alloc, "lose", "WHAT").help(
+        "rack:NAME, node:HOST, storage:ID, each-rack or each-node, the last two alone",
+    );
+    let drain = several(alloc, "drain", "HOST").help(
+        "a node that is to be taken away; may be given several times",
+    );
+    let all = flag(alloc, "all").help("names all lost files and blocks, not the first ten");
+    let command = with(command, lose)?;
+    let command = with(command, drain)?;
+    with(command, all)
+}
+
+/// The command with how it is repaired.
+fn with_repair<'a>(alloc: Global, command: Command<'a>) -> Result<Command<'a>, AllocError> {
+    let mend = flag(alloc, "mend").help("goes on in rounds until nothing more is copied");
+    let svg = flag(alloc, "svg").help("with --mend: a picture of the rounds");
+    let bandwidth = number(alloc, "bandwidth", "50", 100_000).help(
+        "with --mend: megabytes a second that a node sends, and receives, 1 to 100,000",
+    );
+    let interval = number(alloc, "interval", "3", 3_600).help(
+        "with --mend: seconds from round to round, 1 to 3,600",
+    );
+    let command = with(command, mend)?;
+    let command = with(command, svg)?;
+    let command = with(command, bandwidth)?;
+    with(command, interval)
 }
 
 fn program<'a>(alloc: Global) -> Command<'a> {
-    Command::new(alloc, "cluster_losses")
-        .about(
-            "Makes the calls of the line tool's lines, and tells what is lost with racks, nodes and storages",
-        )
-        .after_help(EXAMPLES)
+    Command::new(alloc, "what-if").about(
+        "Prints what is lost with racks, nodes and storages of a cluster",
+    )
 }
 
 /// An option that may occur several times.
-fn several<'a>(alloc: Global, name: &'a str, value: &'a str, help: &'a str) -> Arg<'a> {
+fn several<'a>(alloc: Global, name: &'a str, value: &'a str) -> Arg<'a> {
     new_arg(alloc, name)
         .action(ArgAction::Append)
         .long(name)
         .value_name(value)
-        .help(help)
+}
+
+fn flag<'a>(alloc: Global, name: &'a str) -> Arg<'a> {
+    new_arg(alloc, name).action(ArgAction::SetTrue).long(name)
+}
+
+/// An option with a whole number from 1 to `most`.
+fn number<'a>(alloc: Global, name: &'a str, standard: &'a str, most: u32) -> Arg<'a> {
+    new_arg(alloc, name)
+        .action(ArgAction::Set)
+        .long(name)
+        .value_name("N")
+        .default_value(standard)
+        .value_parser(value_parser!(u32).range(1..=i64::from(most)))
 }
 
 fn new_arg<'a>(alloc: Global, name: &'a str) -> Arg<'a> {

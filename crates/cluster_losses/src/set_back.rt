@@ -2,14 +2,15 @@
 ghost use Rattle.std.specs.Prelude.{OnOk};
 ghost use Rattle.cluster_report.specs.Sessions.{IsInStep};
 
-use crate::catalogue::Catalogue;
-use crate::held::Held;
+use crate::events::apply_all;
 use bm_base::{
     Entry, Event, Gen, Items, MAX_ENTRIES, NodeId, Refusal, Remaining, Replica, Stamp, StorageId,
 };
 use bm_topo::Topology;
 use cluster_report::book::Book;
+use cluster_report::catalogue::Catalogue;
 use cluster_report::nodes::{all_nodes, all_storages};
+use cluster_report::session::Session;
 use std::alloc::{AllocError, Global};
 use std::sync::Wait;
 use std::thread::Threads;
@@ -26,14 +27,14 @@ impl Return {
     pub fn make<H: Threads + Wait + Sync>(
         &self,
         rt: &H,
-        held: &mut Held,
+        session: &mut Session,
         nodes: &[NodeId],
     ) -> Result<(), Refusal>
-        requires { IsInStep held.old.session }
-        ensures { OnOk result (IsInStep held.new.session) }
+        requires { IsInStep session.old }
+        ensures { OnOk result (IsInStep session.new) }
     {
         if nodes.contains(&self.node) {
-            held.apply_all(rt, self.events.as_slice())?;
+            apply_all(rt, session, self.events.as_slice())?;
         }
         Ok(())
     }
@@ -42,10 +43,9 @@ impl Return {
 /// The return of each node of a cluster with these replicas.
 pub fn returns_of(
     alloc: Global,
-    held: &Held,
+    book: &Book,
     replicas: &[Replica],
 ) -> Result<Vec<Return>, AllocError> {
-    let book = &held.session.book;
     let storages = all_storages(alloc, &book.topology)?;
     let mut stored = lists_for(alloc, storages.as_slice())?;
     for replica in replicas {
@@ -56,7 +56,7 @@ pub fn returns_of(
     let mut returns = Vec::new(alloc);
     let nodes = all_nodes(alloc, &book.topology)?;
     for node in &nodes {
-        let events = events_of(alloc, held, *node, storages.as_slice(), stored.as_slice())?;
+        let events = events_of(alloc, book, *node, storages.as_slice(), stored.as_slice())?;
         returns.push(Return {
             node: *node,
             events,
@@ -85,12 +85,11 @@ fn push_at(lists: &mut Vec<Vec<Replica>>, at: usize, replica: Replica) -> Result
 /// drains if it did.
 fn events_of(
     alloc: Global,
-    held: &Held,
+    book: &Book,
     node: NodeId,
     storages: &[StorageId],
     stored: &[Vec<Replica>],
 ) -> Result<Vec<Event>, AllocError> {
-    let book = &held.session.book;
     let mut events = Vec::new(alloc);
     events.push(registration(alloc, book, node, storages)?)?;
     events.push(heartbeat(alloc, &book.topology, node, storages)?)?;
@@ -99,7 +98,7 @@ fn events_of(
             add_reports(
                 alloc,
                 &mut events,
-                &held.blocks,
+                &book.blocks,
                 *storage,
                 replicas.as_slice(),
             )?;

@@ -4,13 +4,13 @@ ghost use Rattle.bm_base.specs.Machine.Queries.{missing_blocks};
 ghost use Rattle.cluster_report.specs.Levels.{levels_counted};
 ghost use Rattle.cluster_report.specs.Reports.{levels_held};
 
-use crate::held::Held;
 use crate::lacking_bytes::bytes_lacking;
 use bm_base::{BlockId, Items, Refusal};
 use bm_topo::Topology;
 use cluster_report::levels::{LevelCounts, count_levels};
 use cluster_report::nodes::all_storages;
 use cluster_report::report::held_levels;
+use cluster_report::session::Session;
 use std::alloc::{AllocError, Global};
 
 /// How a cluster stands.
@@ -27,22 +27,22 @@ pub struct Standing {
 
 /// How a cluster stands. The manager is asked for all replicas at once, for those in excess, for
 /// the missing blocks, and for the level of each block that has a replica.
-pub fn standing_of(alloc: Global, held: &Held) -> Result<Standing, Refusal>
-    ensures levels { IfOk result (λ s. let M = held.now.session.manager in
+pub fn standing_of(alloc: Global, session: &Session) -> Result<Standing, Refusal>
+    ensures levels { IfOk result (λ s. let M = session.now.manager in
         s.levels ≡ levels_counted (levels_held M)
         (length (missing_blocks M.cluster M.holdings))) }
-    ensures missing { IfOk result (λ s. let M = held.now.session.manager in
+    ensures missing { IfOk result (λ s. let M = session.now.manager in
         s.missing ≡ missing_blocks M.cluster M.holdings) }
 {
-    let manager = &held.session.manager;
+    let manager = &session.manager;
     let replicas = manager.replicas()?;
     let levels = held_levels(alloc, manager, replicas.as_slice())?;
     let excess = manager.excess()?;
     let missing = manager.missing()?;
     Ok(Standing {
         levels: count_levels(levels.as_slice(), missing.as_slice().len()),
-        lacking: bytes_lacking(held, replicas.as_slice(), excess.as_slice()),
-        free: free_bytes(alloc, &held.session.book.topology)?,
+        lacking: bytes_lacking(&session.book, replicas.as_slice(), excess.as_slice()),
+        free: free_bytes(alloc, &session.book.topology)?,
         missing,
     })
 }

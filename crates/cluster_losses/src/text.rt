@@ -1,57 +1,140 @@
 // The answer as text: a line for each fact.
-ghost use Rattle.std.specs.Prelude.{◌≡◌, ◌++◌, IfOk, OnOk, nat_le, codes, take, string_bytes};
+ghost use Rattle.std.specs.Prelude.{◌≡◌, ◌++◌, [], IfOk, OnOk, nat_le, codes, option_map, option_copied, string_bytes};
 ghost use Rattle.std.specs.List.{flat_map};
-ghost use Rattle.cluster_report.specs.Text.{count_line};
-ghost use Rattle.cluster_losses.specs.Text.{change_line, levels_text, lost_text, yes_or_no, fits_line, copies_text, answer_text};
+ghost use Rattle.cluster_names.specs.Rows.{shown, name_or_number};
+ghost use Rattle.cluster_losses.specs.Text.{node_words, node_line, storage_line, lost_text, change_line, levels_text, end_with, block_line, blocks_text, files_text, yes_or_no, fits_line, copies_text, answer_text};
 
 use crate::loss_events::Lost;
 use crate::standing::Standing;
 use crate::without::Outcome;
-use bm_base::{BlockId, NodeId};
-use cluster_report::book::Book;
+use bm_base::{BlockId, NodeId, Rack, StorageId};
+use cluster_input::loaded::Loaded;
+use cluster_names::{Files, Names};
+use cluster_pages::at_risk::{AtRisk, FileRow};
+use cluster_pages::text::first_of;
+use cluster_pages::text_parts::write_files;
 use cluster_report::levels::LevelCounts;
 use cluster_report::text_parts::write_count;
 use std::alloc::{AllocError, Global};
 
-/// How many lost blocks are named.
-const MOST_NAMED: usize = 10;
+/// What is lost, as the cluster is before.
+#[tactic(auto, unfolding(crate::specs::Text::lost_text))]
+pub fn write_lost(text: &mut String, loaded: &Loaded, lost: &Lost) -> Result<(), AllocError>
+    ensures { OnOk result (string_bytes text.new ≡ string_bytes text.old
+        ++ lost_text loaded.now.names loaded.now.session.book.topology.cluster lost.now) }
+{
+    write_nodes(text, "drain", loaded, lost.drained.as_slice())?;
+    write_storages(text, &loaded.names, lost.storages.as_slice())?;
+    write_nodes(text, "lose", loaded, lost.nodes.as_slice())
+}
 
-/// What is lost, in the numbers of nodes and storages, as the cluster is before.
-pub fn write_lost(text: &mut String, book: &Book, lost: &Lost) -> Result<(), AllocError> {
-    write_nodes(text, "drain", book, lost.drained.as_slice())?;
-    for storage in &lost.storages {
-        write_count(text, "lose storage", u128::from(storage.0))?;
+fn write_storages(
+    text: &mut String,
+    names: &Names,
+    storages: &[StorageId],
+) -> Result<(), AllocError>
+    ensures { OnOk result (string_bytes text.new ≡ string_bytes text.old
+        ++ flat_map (storage_line names.now) storages.now) }
+{
+    for storage in storages {
+        write_storage_line(text, names, *storage)?;
     }
-    write_nodes(text, "lose", book, lost.nodes.as_slice())
+    Ok(())
+}
+
+#[tactic(auto, unfolding(crate::specs::Text::storage_line))]
+fn write_storage_line(
+    text: &mut String,
+    names: &Names,
+    storage: StorageId,
+) -> Result<(), AllocError>
+    ensures { OnOk result (string_bytes text.new ≡ string_bytes text.old
+        ++ storage_line names.now storage) }
+{
+    text.push_str("lose storage ")?;
+    write_name(text, names.storage(storage), storage.0)?;
+    text.push_str("\n")
 }
 
 fn write_nodes(
     text: &mut String,
     what: &str,
-    book: &Book,
+    loaded: &Loaded,
     nodes: &[NodeId],
-) -> Result<(), AllocError> {
+) -> Result<(), AllocError>
+    ensures { OnOk result (string_bytes text.new ≡ string_bytes text.old
+        ++ flat_map (node_line what.now loaded.now.names
+        loaded.now.session.book.topology.cluster) nodes.now) }
+{
     for node in nodes {
-        let number = node.0;
-        let rack = book.rack_of(*node).0;
-        writeln!(text, "{what} node {number} rack {rack}")?;
+        let rack = loaded.session.book.rack_of(*node);
+        write_node_line(text, what, &loaded.names, *node, rack)?;
     }
     Ok(())
+}
+
+#[tactic(auto, unfolding(crate::specs::Text::node_words))]
+fn write_node_line(
+    text: &mut String,
+    what: &str,
+    names: &Names,
+    node: NodeId,
+    rack: Rack,
+) -> Result<(), AllocError>
+    ensures { OnOk result (string_bytes text.new ≡ string_bytes text.old
+        ++ node_words what.now names.now node rack) }
+{
+    write!(text, "{what} node ")?;
+    write_name(text, names.host(node), node.0)?;
+    text.push_str(" rack ")?;
+    write_name(text, names.rack(rack), rack.0)?;
+    text.push_str("\n")
+}
+
+/// The name of a node, or its number.
+pub fn write_node(text: &mut String, names: &Names, node: NodeId) -> Result<(), AllocError>
+    ensures { OnOk result (string_bytes text.new ≡ string_bytes text.old
+        ++ name_or_number [] names.now.nodes node) }
+{
+    write_name(text, names.host(node), node.0)
+}
+
+/// The name of a rack, or its number.
+pub fn write_rack(text: &mut String, names: &Names, rack: Rack) -> Result<(), AllocError>
+    ensures { OnOk result (string_bytes text.new ≡ string_bytes text.old
+        ++ name_or_number [] names.now.racks rack) }
+{
+    write_name(text, names.rack(rack), rack.0)
+}
+
+/// A name, or the number of what has none.
+fn write_name(text: &mut String, name: Option<&str>, number: u32) -> Result<(), AllocError>
+    ensures { OnOk result (string_bytes text.new ≡ string_bytes text.old
+        ++ shown (option_copied name.entry) [] number) }
+{
+    match name {
+        Some(name) => text.push_str(name),
+        None => write!(text, "{number}"),
+    }
 }
 
 /// The blocks before and after, what is lost, and what is to be copied.
 #[tactic(auto, unfolding(crate::specs::Text::answer_text))]
 pub fn answer_text(
     alloc: Global,
+    files: &Files,
+    most: usize,
     before: &Standing,
     without: &Outcome,
+    risk: &AtRisk,
 ) -> Result<String, AllocError>
-    ensures { IfOk result (λ text. string_bytes text
-        ≡ answer_text before.now without.now.after without.now.lost) }
+    ensures { IfOk result (λ text. string_bytes text ≡ answer_text files.now most
+        before.now without.now.after without.now.lost risk.now.lost) }
 {
     let mut text = String::new(alloc);
     write_levels(&mut text, &before.levels, &without.after.levels)?;
-    write_lost_blocks(&mut text, without.lost.as_slice())?;
+    write_lost_files(&mut text, files, most, risk.lost.as_slice())?;
+    write_lost_blocks(&mut text, files, most, without.lost.as_slice())?;
     write_copies(&mut text, &without.after)?;
     Ok(text)
 }
@@ -65,26 +148,26 @@ fn write_levels(
     ensures { OnOk result (string_bytes text.new ≡ string_bytes text.old
         ++ levels_text before.now after.now) }
 {
-    write_change(text, "level 0", before.highest, after.highest)?;
+    write_change(text, "level highest", before.highest, after.highest)?;
     write_change(
         text,
-        "level 1",
+        "level very_under_replicated",
         before.very_under_replicated,
         after.very_under_replicated,
     )?;
     write_change(
         text,
-        "level 2",
+        "level under_replicated",
         before.under_replicated,
         after.under_replicated,
     )?;
     write_change(
         text,
-        "level 3",
+        "level badly_distributed",
         before.badly_distributed,
         after.badly_distributed,
     )?;
-    write_change(text, "level 4", before.missing, after.missing)?;
+    write_change(text, "level missing", before.missing, after.missing)?;
     write_change(text, "level none", before.none, after.none)
 }
 
@@ -101,43 +184,68 @@ fn write_change(
     write!(text, "{what} before {before} after {after}\n")
 }
 
-/// How many blocks are lost, and the first of them.
-#[tactic(auto, unfolding(crate::specs::Text::lost_text))]
-fn write_lost_blocks(text: &mut String, lost: &[BlockId]) -> Result<(), AllocError>
+/// How many files are lost, and the first of them.
+#[tactic(auto, unfolding(crate::specs::Text::files_text))]
+fn write_lost_files(
+    text: &mut String,
+    files: &Files,
+    most: usize,
+    rows: &[FileRow],
+) -> Result<(), AllocError>
     ensures { OnOk result (string_bytes text.new ≡ string_bytes text.old
-        ++ lost_text lost.now) }
+        ++ files_text files.now most rows.now) }
+{
+    if files.file_count() == 0 {
+        return Ok(());
+    }
+    write_count(text, "lost files", rows.len() as u128)?;
+    write_files(text, "lost file", files, first_of(rows, most))
+}
+
+/// How many blocks are lost, and the first of them.
+#[tactic(auto, unfolding(crate::specs::Text::blocks_text))]
+fn write_lost_blocks(
+    text: &mut String,
+    files: &Files,
+    most: usize,
+    lost: &[BlockId],
+) -> Result<(), AllocError>
+    ensures { OnOk result (string_bytes text.new ≡ string_bytes text.old
+        ++ blocks_text files.now most lost.now) }
 {
     write_count(text, "lost blocks", lost.len() as u128)?;
-    write_blocks(text, first_of(lost))
+    write_blocks(text, files, first_of(lost, most))
 }
 
-/// The first of these blocks.
-#[tactic(auto, using(std::proofs::lemmas::List::take_all))]
-fn first_of(blocks: &[BlockId]) -> &[BlockId]
-    ensures { result.now ≡ take 10 blocks.now }
-{
-    if blocks.len() <= MOST_NAMED {
-        blocks
-    } else {
-        &blocks[..MOST_NAMED]
-    }
-}
-
-fn write_blocks(text: &mut String, blocks: &[BlockId]) -> Result<(), AllocError>
+fn write_blocks(text: &mut String, files: &Files, blocks: &[BlockId]) -> Result<(), AllocError>
     ensures { OnOk result (string_bytes text.new ≡ string_bytes text.old
-        ++ flat_map (count_line (codes "lost block")) blocks.now) }
+        ++ flat_map (block_line files.now) blocks.now) }
 {
     for block in blocks {
-        write_block(text, *block)?;
+        write_block(text, files, *block)?;
     }
     Ok(())
 }
 
-fn write_block(text: &mut String, block: BlockId) -> Result<(), AllocError>
+#[tactic(auto, unfolding(crate::specs::Text::block_line))]
+fn write_block(text: &mut String, files: &Files, block: BlockId) -> Result<(), AllocError>
     ensures { OnOk result (string_bytes text.new ≡ string_bytes text.old
-        ++ count_line (codes "lost block") block) }
+        ++ block_line files.now block) }
 {
-    write_count(text, "lost block", u128::from(block.0))
+    let number = block.0;
+    write!(text, "lost block {number}")?;
+    write_end(text, files.path_of(block))
+}
+
+/// The end of a line: the file of a block, if it is known, and the index of the block there.
+pub fn write_end(text: &mut String, place: Option<(&str, u64)>) -> Result<(), AllocError>
+    ensures { OnOk result (string_bytes text.new ≡ string_bytes text.old
+        ++ end_with (option_map (λ p. (p.0.now, p.1)) place.entry)) }
+{
+    match place {
+        Some((path, index)) => write!(text, " index {index} file {path}\n"),
+        None => text.push_str("\n"),
+    }
 }
 
 /// The bytes that are to be copied, and whether they fit.

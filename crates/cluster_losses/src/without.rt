@@ -6,10 +6,11 @@ ghost use Rattle.cluster_report.specs.Levels.{levels_counted};
 ghost use Rattle.cluster_report.specs.Reports.{levels_held};
 ghost use Rattle.cluster_report.specs.Sessions.{IsInStep};
 
-use crate::held::Held;
+use crate::events::apply_all;
 use crate::standing::{Standing, standing_of};
 use bm_base::{BlockId, Event, Items, Refusal};
 use cluster_lost::lost_blocks;
+use cluster_report::session::Session;
 use std::alloc::Global;
 use std::sync::Wait;
 use std::thread::Threads;
@@ -27,30 +28,30 @@ pub struct Outcome {
 pub fn without<H: Threads + Wait + Sync>(
     rt: &H,
     alloc: Global,
-    held: &mut Held,
+    session: &mut Session,
     missing: &[BlockId],
     losses: &[Event],
 ) -> Result<Outcome, Refusal>
-    requires in_step { IsInStep held.old.session }
+    requires in_step { IsInStep session.old }
     requires losses { are_losses losses.now ≡ true }
-    requires missing { let M = held.old.session.manager in
+    requires missing { let M = session.old.manager in
         missing.now ≡ missing_blocks M.cluster M.holdings }
     // The lost blocks are those whose usable replicas were all on what is lost.
-    ensures lost { IfOk result (λ w. w.lost ≡ lost_blocks held.old.session.manager losses.now) }
+    ensures lost { IfOk result (λ w. w.lost ≡ lost_blocks session.old.manager losses.now) }
     ensures levels { IfOk result (λ w.
-        let M = after_losses held.old.session.manager losses.now in
+        let M = after_losses session.old.manager losses.now in
         w.after.levels ≡ levels_counted (levels_held M)
         (length (missing_blocks M.cluster M.holdings))) }
     ensures missing { IfOk result (λ w.
-        let M = after_losses held.old.session.manager losses.now in
+        let M = after_losses session.old.manager losses.now in
         w.after.missing ≡ missing_blocks M.cluster M.holdings) }
-    ensures state { OnOk result (held.new.session.manager
-        ≡ after_losses held.old.session.manager losses.now) }
-    ensures in_step { OnOk result (IsInStep held.new.session) }
+    ensures state { OnOk result (session.new.manager
+        ≡ after_losses session.old.manager losses.now) }
+    ensures in_step { OnOk result (IsInStep session.new) }
 {
-    held.session.manager.show_invariant();
-    held.apply_all(rt, losses)?;
-    let after = standing_of(alloc, held)?;
+    session.manager.show_invariant();
+    apply_all(rt, session, losses)?;
+    let after = standing_of(alloc, session)?;
     let lost = lost_blocks(alloc, missing, after.missing.as_slice())?;
     Ok(Outcome { after, lost })
 }

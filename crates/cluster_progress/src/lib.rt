@@ -31,6 +31,13 @@ impl Progress {
         }
     }
 
+    /// Shows `12 rounds`, where nobody knows how many there will be.
+    pub fn show_made<R: Eprint>(&mut self, rt: &R, made: u32) {
+        if self.is_new(u64::from(made)) {
+            let _ = eprint!(rt; "{CLEARED}{made} rounds");
+        }
+    }
+
     /// Shows `34 % of the input`, if the number changed.
     pub fn show_input<R: Eprint>(&mut self, rt: &R, read: u64, all: u64) {
         let percent = percent_of(read, all);

@@ -8,3 +8,8 @@ pub mod ReadLemmas
 pub mod SentLemmas
 pub mod CopyLemmas
 pub mod StepLemmas
+-- Lengths of blocks.
+pub mod LengthLemmas
+pub mod CatalogueLemmas
+-- A whole report.
+pub mod ReportLemmas

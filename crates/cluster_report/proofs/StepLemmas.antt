@@ -9,11 +9,14 @@ use Rattle.bm_base.specs.declared.call.Call.{Call}
 use Rattle.bm_base.specs.declared.call.Call.TheVariants as call
 use Rattle.bm_base.specs.declared.call.Answer.{Answer}
 use Rattle.bm_base.specs.declared.call.Answer.TheVariants as answer
-use Rattle.bm_base.specs.Words.{keep, insert_all, Cluster, State, state_after_expiry, state_at_choice, whole_round, ◌before◌, first_of, cluster_checks, refusal_of, round_refusal, node_refusal, storage_refusal, block_refusal, step, refused_or, after_event, count_call, MayAnswer, state_after_answer, is_out_of_memory}
+use Rattle.bm_base.specs.declared.replica.BlockInfo.{BlockInfo}
+use Rattle.bm_base.specs.Words.{Map, by_number, keep, insert_all, Cluster, State, state_after_expiry, state_at_choice, with_surplus_marked, without_unordered_excess, without_expired, whole_round, end_round, ◌before◌, first_of, cluster_checks, refusal_of, round_refusal, node_refusal, storage_refusal, block_refusal, step, refused_or, after_event, count_call, MayAnswer, state_after_answer, is_out_of_memory}
 use Rattle.bm_base.specs.Promises.Lawful.{IsLawful}
 use Rattle.cluster_report.specs.declared.book.Book.{Book}
 use Rattle.cluster_report.specs.declared.transfers.Transfers.{Transfers}
-use Rattle.cluster_report.specs.Books.{IsAccepted, cluster_after, AreCopiesAfter}
+use Rattle.cluster_report.specs.declared.catalogue.Catalogue.{Catalogue}
+use Rattle.cluster_report.specs.Books.{IsAccepted, cluster_after, AreCopiesAfter, AreBlocksAfter}
+use Rattle.cluster_report.specs.Catalogues.{Lists}
 use Rattle.cluster_report.specs.Copies.{commanded_to}
 use Rattle.cluster_report.specs.Sessions.{Follows}
 use Rattle.cluster_report.proofs.CopyLemmas.{round_copies}
@@ -113,6 +116,43 @@ copies_step M (call.Retired n) old new L same pend h = h ∙ same ∙ ap (λ S. 
 copies_step M call.Calls old new L same pend h = h ∙ same
 copies_step M call.Rounds old new L same pend h = h ∙ same
 
+-- ---- the blocks after a call
+
+event_blocks : (M : State) (e : Event) (d : Done) (o : Option Refusal) (old new : Catalogue) → Lists old M.holdings.blocks
+    → AreBlocksAfter M.cluster old (call.Apply e) (refused_or M o (answer.Done d, after_event M e)).0 new
+    → Lists new (refused_or M o (answer.Done d, after_event M e)).1.holdings.blocks
+unfolding after_event
+event_blocks M e d None old new lists h = h M.holdings lists
+event_blocks M e d (Some r) old new lists h = subst (λ c. Lists c M.holdings.blocks) (sym h) lists
+
+round_blocks : (M : State) → (whole_round M).1.holdings.blocks ≡ M.holdings.blocks
+unfolding whole_round state_at_choice state_after_expiry with_surplus_marked without_unordered_excess without_expired end_round
+round_blocks M = refl
+
+other_blocks : (M next : State) (a : Answer) (o : Option Refusal) → next.holdings.blocks ≡ M.holdings.blocks
+    → (refused_or M o (a, next)).1.holdings.blocks ≡ M.holdings.blocks
+other_blocks M next a None h = h
+other_blocks M next a (Some r) h = refl
+
+lists_still : (old new : Catalogue) (blocks after : Map by_number BlockInfo) → Lists old blocks → new ≡ old → after ≡ blocks → Lists new after
+lists_still old new blocks after lists same kept = subst (λ c. Lists c after) (sym same) (subst (Lists old) (sym kept) lists)
+
+blocks_step : (M : State) (k : Call) (old new : Catalogue) → Lists old M.holdings.blocks → AreBlocksAfter M.cluster old k (step M k).0 new
+    → Lists new (step M k).1.holdings.blocks
+unfolding step
+blocks_step M (call.Apply e) old new lists h = event_blocks M e _ (refusal_of M e) old new lists h
+blocks_step M call.Round old new lists h = lists_still old new _ _ lists h (other_blocks M _ _ (round_refusal M) (round_blocks M))
+blocks_step M call.Replicas old new lists h = lists_still old new _ _ lists h refl
+blocks_step M call.Corrupt old new lists h = lists_still old new _ _ lists h refl
+blocks_step M call.Excess old new lists h = lists_still old new _ _ lists h refl
+blocks_step M call.Missing old new lists h = lists_still old new _ _ lists h refl
+blocks_step M (call.BlocksOn s) old new lists h = lists_still old new _ _ lists h (other_blocks M M _ (storage_refusal M.cluster s) refl)
+blocks_step M (call.Places b) old new lists h = lists_still old new _ _ lists h (other_blocks M M _ (block_refusal M.holdings b) refl)
+blocks_step M (call.LevelOf b) old new lists h = lists_still old new _ _ lists h (other_blocks M M _ (block_refusal M.holdings b) refl)
+blocks_step M (call.Retired n) old new lists h = lists_still old new _ _ lists h (other_blocks M M _ (node_refusal M.cluster n) refl)
+blocks_step M call.Calls old new lists h = lists_still old new _ _ lists h refl
+blocks_step M call.Rounds old new lists h = lists_still old new _ _ lists h refl
+
 -- ---- the limits stay
 
 other_limits : (M next : State) (a : Answer) (o : Option Refusal) → next.limits ≡ M.limits → (refused_or M o (a, next)).1.limits ≡ M.limits
@@ -161,8 +201,8 @@ left_step M N k b none e = e ∙ ap (λ c. cond c M (step M k).1) none
 -- the book follows the manager after a call
 pub follows_by : (M N : State) (old new : Book) (k : Call) (a : Answer) → IsLawful M → Follows old M → MayAnswer step M k a → is_out_of_memory a ≡ false → N ≡ state_after_answer step M k a
     → new.topology.cluster ≡ cluster_after old.topology.cluster k a → AreCopiesAfter old.topology.cluster old.transfers k a new.transfers → new.transfers.pend ≡ old.transfers.pend
-    → Follows new N
-follows_by M N old new k a L F may none left cluster copies pend =
+    → AreBlocksAfter old.topology.cluster old.blocks k a new.blocks → Follows new N
+follows_by M N old new k a L F may none left cluster copies pend blocks =
     let is : a ≡ (step M k).0 = answered M k a may none in
     let next : (step M k).1 ≡ N = sym (left_step M N k (is_out_of_memory a) none left) in
     record {
@@ -171,6 +211,10 @@ follows_by M N old new k a L F may none left cluster copies pend =
           copies_step M k old.transfers new.transfers L F.copies F.pend
           (subst (λ b. AreCopiesAfter M.cluster old.transfers k b new.transfers) is (subst (λ C. AreCopiesAfter C old.transfers k a new.transfers) F.cluster copies))
           ∙ ap (λ S. S.holdings.pending) next;
+      blocks =
+          subst (λ S. Lists new.blocks S.holdings.blocks) next
+          (blocks_step M k old.blocks new.blocks F.blocks
+          (subst (λ b. AreBlocksAfter M.cluster old.blocks k b new.blocks) is (subst (λ C. AreBlocksAfter C old.blocks k a new.blocks) F.cluster blocks)));
       pend = pend ∙ F.pend ∙ ap (λ l. l.pend) (sym (limits_step M k)) ∙ ap (λ S. S.limits.pend) next;
     }
 

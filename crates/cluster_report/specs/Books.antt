@@ -6,7 +6,9 @@ use Rattle.bm_base.specs.declared.call.Call.TheVariants as call
 use Rattle.bm_base.specs.declared.call.Answer.{Answer}
 use Rattle.bm_base.specs.declared.call.Answer.TheVariants as answer
 use Rattle.bm_base.specs.Words.{keep, insert_all, Cluster, Holdings, change_cluster, change_holdings, first_of, cluster_checks}
+use Rattle.cluster_report.specs.Catalogues.{Lists}
 use Rattle.cluster_report.specs.Copies.{commanded_to}
+use Rattle.cluster_report.specs.declared.catalogue.Catalogue.{Catalogue}
 use Rattle.cluster_report.specs.declared.transfers.Transfers.{Transfers}
 
 -- no check on the cluster refuses an event that was accepted
@@ -27,3 +29,8 @@ AreCopiesAfter C old (call.Apply e) (answer.Done d) new = (H : Holdings) → old
 AreCopiesAfter C old call.Round (answer.Commanded told) new =
     new.copies ≡ insert_all (keep old.copies (λ _ r. not (nat_le old.pend (told.round - r)))) (flat_map (commanded_to told.round) told.nodes)
 AreCopiesAfter C old _ _ new = new.copies ≡ old.copies
+
+-- What an accepted event makes of the blocks. No other call changes them.
+abbrev pub AreBlocksAfter : Cluster → Catalogue → Call → Answer → Catalogue → Type 0
+AreBlocksAfter C old (call.Apply e) (answer.Done d) new = (H : Holdings) → Lists old H.blocks → Lists new (change_holdings C H e).blocks
+AreBlocksAfter C old _ _ new = new ≡ old

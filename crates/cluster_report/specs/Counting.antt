@@ -1,8 +1,10 @@
 -- Replicas counted by tag, and the blocks that they are of.
-use Rattle.std.specs.Prelude.{ℕ, not, nat_eq, List, map, filter, count_by}
+use Rattle.std.specs.Prelude.{ℕ, Bool, not, nat_eq, List, map, filter, count_by, sum_by, if◌then◌else◌}
 use Rattle.std.specs.List.{dedup}
 use Rattle.bm_base.specs.declared.replica.Replica.{Replica}
 use Rattle.bm_base.specs.Machine.Replicas.{is_good, is_stale, is_bad, is_stray}
+use Rattle.bm_base.specs.declared.replica.Tag.{Tag}
+use Rattle.cluster_report.specs.declared.tag_counts.TagBytes.{TagBytes}
 use Rattle.cluster_report.specs.declared.tag_counts.TagCounts.{TagCounts}
 
 -- how many of these replicas have each tag
@@ -12,6 +14,18 @@ tags_counted rs = record {
   stale = count_by (λ r. is_stale r.tag) rs;
   bad = count_by (λ r. is_bad r.tag) rs;
   stray = count_by (λ r. is_stray r.tag) rs;
+}
+
+-- the bytes of those of these replicas that have a tag, by the lengths of blocks
+abbrev pub bytes_where : (ℕ → ℕ) → (Tag → Bool) → List Replica → ℕ
+bytes_where len p rs = sum_by (λ r. if p r.tag then len r.block else 0) rs
+
+-- the same by tag; of stray replicas no length is known
+abbrev pub tag_bytes : (ℕ → ℕ) → List Replica → TagBytes
+tag_bytes len rs = record {
+  good = bytes_where len is_good rs;
+  stale = bytes_where len is_stale rs;
+  bad = bytes_where len is_bad rs;
 }
 
 -- the block of each of these replicas but of the stray ones

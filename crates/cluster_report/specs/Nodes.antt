@@ -1,14 +1,21 @@
 -- The nodes of a state with their storages, as a report tells of them.
-use Rattle.std.specs.Prelude.{ℕ, List, map, filter, length, unwrap_or, if◌then◌else◌}
+use Rattle.std.specs.Prelude.{ℕ, List, map, filter, length, sum_by, unwrap_or, if◌then◌else◌}
 use Rattle.bm_base.specs.Words.{get, State, has_storage, drains, remaining, blocks_on, is_retired}
+use Rattle.cluster_report.specs.Catalogues.{len_of}
 use Rattle.cluster_report.specs.declared.nodes.NodeState.{NodeState}
 use Rattle.cluster_report.specs.declared.nodes.NodeState.TheVariants.{Live, Draining, Retired}
 use Rattle.cluster_report.specs.declared.nodes.StorageRow.{StorageRow}
 use Rattle.cluster_report.specs.declared.nodes.NodeRow.{NodeRow}
 
--- a storage: how many replicas it holds, of any tag, and the bytes that are left on it
+-- a storage: how many replicas it holds, of any tag, the bytes of their blocks, and the bytes that
+-- are left on it
 abbrev pub storage_row : State → ℕ → StorageRow
-storage_row M s = record { storage = s; replicas = length (blocks_on M.holdings s); remaining = remaining M.cluster s }
+storage_row M s = record {
+  storage = s;
+  replicas = length (blocks_on M.holdings s);
+  bytes = sum_by (len_of M.holdings.blocks) (blocks_on M.holdings s);
+  remaining = remaining M.cluster s;
+}
 
 -- those of these storages that stand on a node
 abbrev pub storage_rows : State → ℕ → List ℕ → List StorageRow

@@ -1,14 +1,16 @@
 -- A session between two lines.
 use Rattle.std.specs.Prelude.{◌≡◌}
 use Rattle.bm_base.specs.Machine.State.{State}
+use Rattle.cluster_report.specs.Catalogues.{Lists}
 use Rattle.cluster_report.specs.declared.book.Book.{Book}
 use Rattle.cluster_report.specs.declared.session.Session.{Session}
 
--- the book has the cluster and the copies on their way of a state
+-- the book has the cluster, the copies on their way and the blocks of a state
 pub record Follows (book : Book) (M : State) : Type 0 where
   pub cluster : book.topology.cluster ≡ M.cluster
   pub copies : book.transfers.copies ≡ M.holdings.pending
   pub pend : book.transfers.pend ≡ M.limits.pend
+  pub blocks : Lists book.blocks M.holdings.blocks
 
 -- the book follows the manager
 abbrev pub IsInStep : Session → Type 0

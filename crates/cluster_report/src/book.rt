@@ -1,22 +1,25 @@
-// What the manager cannot be asked: its nodes and storages, and the copies on their way, as the
-// accepted calls tell of them.
+// What the manager cannot be asked: its nodes and storages, the copies on their way, and the
+// lengths of blocks.
 ghost use Rattle.std.specs.Prelude.{◌≡◌, IfOk, OnOk, OnErr, unwrap_or};
 ghost use Rattle.bm_base.specs.Maps.Map as map;
 ghost use Rattle.bm_base.specs.Words.{Cluster, Holdings, empty_cluster, change_cluster, change_holdings, first_of, cluster_checks};
-ghost use Rattle.cluster_report.specs.Books.{IsAccepted, cluster_after, AreCopiesAfter};
+ghost use Rattle.cluster_report.specs.Books.{IsAccepted, cluster_after, AreCopiesAfter, AreBlocksAfter};
+ghost use Rattle.cluster_report.specs.Catalogues.{info_in, Lists};
 
+use crate::catalogue::Catalogue;
 use crate::transfers::Transfers;
-use bm_base::{Answer, Call, Config, Event, NodeId, Rack, Refusal};
+use bm_base::{Answer, BlockId, BlockInfo, Call, Config, Event, NodeId, Rack, Refusal};
 use bm_maps::NumberMap;
 use bm_topo::Topology;
 use std::alloc::{AllocError, Global};
 
-/// The cluster, the racks of its nodes, and the copies on their way.
+/// The cluster, the racks of its nodes, the copies on their way, and what is known of each block.
 #[derive(Drop)]
 pub struct Book {
     pub topology: Topology,
     pub racks: NumberMap<Rack>,
     pub transfers: Transfers,
+    pub blocks: Catalogue,
     ghost on_racks: { racks.map ≡ topology.cluster.nodes },
 }
 
@@ -27,15 +30,17 @@ impl Book {
         ensures cluster { IfOk result (λ b. b.topology.cluster ≡ empty_cluster) }
         ensures copies { IfOk result (λ b. b.transfers.copies ≡ map.empty) }
         ensures pend { IfOk result (λ b. b.transfers.pend ≡ config.now.pend) }
+        ensures blocks { IfOk result (λ b. Lists b.blocks map.empty) }
     {
         Ok(Book {
             topology: Topology::new(alloc)?,
             racks: NumberMap::new(alloc),
             transfers: Transfers::new(alloc, config.pend),
+            blocks: Catalogue::new(alloc),
         })
     }
 
-    /// Notes what a call and its answer say of nodes, storages and copies.
+    /// Notes what a call and its answer say of nodes, storages, copies and blocks.
     pub fn take(&mut self, call: &Call, answer: &Answer) -> Result<(), AllocError>
         requires { IsAccepted self.old.topology.cluster call.now answer.now }
         ensures cluster { OnOk result (self.new.topology.cluster
@@ -43,6 +48,8 @@ impl Book {
         ensures copies { OnOk result (AreCopiesAfter self.old.topology.cluster
             self.old.transfers call.now answer.now self.new.transfers) }
         ensures pend { OnOk result (self.new.transfers.pend ≡ self.old.transfers.pend) }
+        ensures blocks { OnOk result (AreBlocksAfter self.old.topology.cluster self.old.blocks
+            call.now answer.now self.new.blocks) }
     {
         match (call, answer) {
             (Call::Apply(event), Answer::Done(_)) => self.take_event(event),
@@ -61,14 +68,24 @@ impl Book {
             → self.new.transfers.copies
             ≡ (change_holdings self.old.topology.cluster H event.now).pending) }
         ensures pend { OnOk result (self.new.transfers.pend ≡ self.old.transfers.pend) }
+        ensures blocks { OnOk result ((C : Cluster) (H : Holdings) → Lists self.old.blocks H.blocks
+            → Lists self.new.blocks (change_holdings C H event.now).blocks) }
     {
         if self.topology.prepare(event).is_err() {
             return Err(AllocError);
         }
+        self.blocks.take_event(event)?;
         take_rack(&mut self.racks, event)?;
         self.transfers.take_event(&self.topology, event);
         self.topology.commit(event);
         Ok(())
+    }
+
+    /// The stamp and the wanted replicas of a known block.
+    pub fn info_of(&self, block: BlockId) -> Option<BlockInfo>
+        ensures { result ≡ info_in self.now.blocks block }
+    {
+        self.blocks.get(block)
     }
 
     /// The rack of a node; 0 of a node that is not known.

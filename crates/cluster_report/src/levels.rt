@@ -1,14 +1,13 @@
 // How urgent blocks are, counted by level, and the most urgent ones.
-ghost use Rattle.std.specs.Prelude.{◌≡◌, ◌++◌, IfOk, map, count_by, is_none};
+ghost use Rattle.std.specs.Prelude.{◌≡◌, ◌++◌, IfOk, map, count_by, sum_by, is_none, if◌then◌else◌};
 ghost use Rattle.bm_base.specs.Machine.Levels.{is_at, level};
-ghost use Rattle.cluster_report.specs.Levels.{all_at, leveled, levels_counted, most_urgent};
+ghost use Rattle.cluster_report.specs.Levels.{all_at, bytes_at, level_bytes, leveled, levels_counted, urgent_first};
+ghost use Rattle.cluster_report.specs.Catalogues.{len_in};
 
+use crate::catalogue::Catalogue;
 use bm_base::{BlockId, Level};
 use bm_manager::Manager;
 use std::alloc::{AllocError, Global};
-
-/// How many of the most urgent and of the missing blocks are named.
-pub const MOST_NAMED: usize = 10;
 
 /// A block and its level, if it has one.
 #[derive(Clone, Copy)]
@@ -27,6 +26,17 @@ pub struct LevelCounts {
     pub missing: usize,
     /// Those that want no replica.
     pub none: usize,
+}
+
+/// The bytes of the blocks at each level.
+#[derive(Clone, Copy)]
+pub struct LevelBytes {
+    pub highest: u128,
+    pub very_under_replicated: u128,
+    pub under_replicated: u128,
+    pub badly_distributed: u128,
+    pub missing: u128,
+    pub none: u128,
 }
 
 /// The level of each of these blocks, one question each.
@@ -73,6 +83,52 @@ pub fn count_levels(levels: &[Leveled], missing: usize) -> LevelCounts
     }
 }
 
+/// The bytes of these blocks by level, and of the missing ones.
+pub fn level_bytes(catalogue: &Catalogue, levels: &[Leveled], missing: &[BlockId]) -> LevelBytes
+    ensures { result ≡ level_bytes (len_in catalogue.now) levels.now missing.now }
+{
+    LevelBytes {
+        highest: bytes_at(catalogue, levels, Level::Highest),
+        very_under_replicated: bytes_at(catalogue, levels, Level::VeryUnderReplicated),
+        under_replicated: bytes_at(catalogue, levels, Level::UnderReplicated),
+        badly_distributed: bytes_at(catalogue, levels, Level::BadlyDistributed),
+        missing: catalogue.bytes_of(missing),
+        none: bytes_at_none(catalogue, levels),
+    }
+}
+
+fn bytes_at(catalogue: &Catalogue, levels: &[Leveled], urgency: Level) -> u128
+    ensures { result ≡ bytes_at (len_in catalogue.now) urgency levels.now }
+{
+    let mut total = 0u128;
+    for found in levels {
+        total += u128::from(len_if(catalogue, found, stands_at(found, urgency)));
+    }
+    total
+}
+
+fn bytes_at_none(catalogue: &Catalogue, levels: &[Leveled]) -> u128
+    ensures { result ≡ sum_by (λ l. if is_none l.level then len_in catalogue.now l.block else 0)
+        levels.now }
+{
+    let mut total = 0u128;
+    for found in levels {
+        total += u128::from(len_if(catalogue, found, has_none(found)));
+    }
+    total
+}
+
+/// The length of a block where it counts, and else 0.
+fn len_if(catalogue: &Catalogue, found: &Leveled, counts: bool) -> u64
+    ensures { result ≡ (if counts then len_in catalogue.now found.now.block else 0) }
+{
+    if counts {
+        catalogue.len_of(found.block)
+    } else {
+        0
+    }
+}
+
 fn count_at(levels: &[Leveled], urgency: Level) -> usize
     ensures { result ≡ count_by (λ l. is_at urgency l.level) levels.now }
 {
@@ -112,17 +168,15 @@ fn is_at(found: Option<Level>, urgency: Level) -> bool
     }
 }
 
-/// The first of these blocks that want a copy and have one to copy from, by level and then in their
+/// Those of these blocks that want a copy and have one to copy from, by level and then in their
 /// order.
-pub fn most_urgent(alloc: Global, levels: &[Leveled]) -> Result<Vec<Leveled>, AllocError>
-    ensures { IfOk result (λ v. v.items ≡ most_urgent levels.now) }
+pub fn urgent_first(alloc: Global, levels: &[Leveled]) -> Result<Vec<Leveled>, AllocError>
+    ensures { IfOk result (λ v. v.items ≡ urgent_first levels.now) }
 {
     let urgent = all_at(alloc, levels, Level::Highest)?;
     let urgent = and_all_at(alloc, urgent, levels, Level::VeryUnderReplicated)?;
     let urgent = and_all_at(alloc, urgent, levels, Level::UnderReplicated)?;
-    let mut urgent = and_all_at(alloc, urgent, levels, Level::BadlyDistributed)?;
-    urgent.truncate(MOST_NAMED);
-    Ok(urgent)
+    and_all_at(alloc, urgent, levels, Level::BadlyDistributed)
 }
 
 /// These, and behind them those at one level.

@@ -2,6 +2,7 @@
 ghost use Rattle.std.specs.Prelude.{◌≡◌, IfOk, map};
 ghost use Rattle.bm_base.specs.Maps.Map as map_of;
 ghost use Rattle.cluster_report.specs.Nodes.{storage_row, storage_rows, state_of, node_row};
+ghost use Rattle.cluster_report.specs.Sessions.{Follows};
 
 use crate::book::Book;
 use bm_base::{Items, NodeId, Rack, Refusal, StorageId};
@@ -24,6 +25,8 @@ pub struct StorageRow {
     pub storage: StorageId,
     /// How many replicas it holds, of any tag.
     pub replicas: usize,
+    /// The bytes of their blocks; a stray replica counts for 0.
+    pub bytes: u128,
     /// The bytes that are left on it, as a heartbeat told.
     pub remaining: u64,
 }
@@ -46,7 +49,7 @@ pub fn node_rows(
     nodes: &[NodeId],
     storages: &[StorageId],
 ) -> Result<Items<NodeRow>, Refusal>
-    requires { book.now.topology.cluster ≡ manager.now.cluster }
+    requires { Follows book.now manager.now }
     ensures { IfOk result (λ rows. rows ≡ map (node_row manager.now storages.now) nodes.now) }
 {
     let mut rows = Vec::new(alloc);
@@ -92,14 +95,14 @@ fn node_row(
     node: NodeId,
     storages: &[StorageId],
 ) -> Result<NodeRow, Refusal>
-    requires { book.now.topology.cluster ≡ manager.now.cluster }
+    requires { Follows book.now manager.now }
     ensures { IfOk result (λ row. row ≡ node_row manager.now storages.now node) }
 {
     Ok(NodeRow {
         node,
         rack: book.rack_of(node),
         state: state_of(manager, &book.topology, node)?,
-        storages: storage_rows(alloc, manager, &book.topology, node, storages)?,
+        storages: storage_rows(alloc, manager, book, node, storages)?,
     })
 }
 
@@ -121,36 +124,33 @@ fn state_of(manager: &Manager, topology: &Topology, node: NodeId) -> Result<Node
 fn storage_rows(
     alloc: Global,
     manager: &Manager,
-    topology: &Topology,
+    book: &Book,
     node: NodeId,
     storages: &[StorageId],
 ) -> Result<Items<StorageRow>, Refusal>
-    requires { topology.now.cluster ≡ manager.now.cluster }
+    requires { Follows book.now manager.now }
     ensures { IfOk result (λ rows. rows ≡ storage_rows manager.now node storages.now) }
 {
     let mut rows = Vec::new(alloc);
     for storage in storages {
-        if topology.has_storage(node, *storage) {
-            let row = storage_row(manager, topology, *storage)?;
+        if book.topology.has_storage(node, *storage) {
+            let row = storage_row(manager, book, *storage)?;
             rows.push(row)?;
         }
     }
     Ok(Items::from_vec(rows))
 }
 
-#[tactic(auto, unfolding(bm_base::specs::Machine::Excess::remaining))]
-fn storage_row(
-    manager: &Manager,
-    topology: &Topology,
-    storage: StorageId,
-) -> Result<StorageRow, Refusal>
-    requires { topology.now.cluster ≡ manager.now.cluster }
+#[tactic(auto, unfolding(bm_base::specs::Machine::Excess::remaining), using(crate::proofs::LengthLemmas::bytes_are))]
+fn storage_row(manager: &Manager, book: &Book, storage: StorageId) -> Result<StorageRow, Refusal>
+    requires { Follows book.now manager.now }
     ensures { IfOk result (λ row. row ≡ storage_row manager.now storage) }
 {
     let blocks = manager.blocks_on(storage)?;
     Ok(StorageRow {
         storage,
         replicas: blocks.as_slice().len(),
-        remaining: topology.remaining(storage).unwrap_or(0),
+        bytes: book.blocks.bytes_of(blocks.as_slice()),
+        remaining: book.topology.remaining(storage).unwrap_or(0),
     })
 }

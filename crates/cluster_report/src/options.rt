@@ -1,16 +1,7 @@
-// The options of the program: those of the line tool.
+// The options of a manager: those of the line tool.
 use bm_base::Config;
-use clap::{Arg, ArgAction, ArgMatches, Command, Error, value_parser};
+use clap::{Arg, ArgAction, ArgMatches, Command, value_parser};
 use std::alloc::{AllocError, Global};
-
-/// The configuration that the words of a command line name, the program's name first: each option
-/// at most once, a whole number within its range. What is not named is standard. An `Err` is a
-/// request for help, a command line that is refused, or out of memory.
-pub fn config_of(alloc: Global, words: &[String]) -> Result<Config, Error> {
-    let command = command(alloc)?;
-    let matches = command.try_get_matches_from(words)?;
-    Ok(config_from(&matches))
-}
 
 /// An option with a whole number from 1 to `most`.
 pub struct Number {
@@ -53,21 +44,7 @@ pub static NUMBERS: [Number; 5] = [
     },
 ];
 
-fn command<'a>(alloc: Global) -> Result<Command<'a>, AllocError> {
-    let mut command = program(alloc);
-    for number in &NUMBERS {
-        command = with(command, argument(alloc, number))?;
-    }
-    Ok(command)
-}
-
-fn program<'a>(alloc: Global) -> Command<'a> {
-    Command::new(alloc, "cluster_report").about(
-        "Makes the calls of the line tool's lines, and tells at the end how the cluster stands",
-    )
-}
-
-/// The command with one more argument.
+/// Adds one argument to the command.
 pub fn with<'a>(command: Command<'a>, arg: Arg<'a>) -> Result<Command<'a>, AllocError> {
     command.arg(arg)
 }

@@ -1,5 +1,5 @@
 // The whole report, counted.
-ghost use Rattle.std.specs.Prelude.{◌≡◌, IfOk, length, map, take};
+ghost use Rattle.std.specs.Prelude.{◌≡◌, IfOk, length, map};
 ghost use Rattle.bm_base.specs.Machine.Queries.{all_replicas, excess_replicas, missing_blocks};
 ghost use Rattle.cluster_report.specs.Counting.{blocks_held};
 ghost use Rattle.cluster_report.specs.Levels.{leveled};
@@ -7,9 +7,11 @@ ghost use Rattle.cluster_report.specs.Reports.{levels_held, report_of};
 ghost use Rattle.cluster_report.specs.Sessions.{Follows};
 
 use crate::book::Book;
-use crate::levels::{LevelCounts, Leveled, MOST_NAMED, count_levels, levels_of, most_urgent};
+use crate::levels::{
+    LevelBytes, LevelCounts, Leveled, count_levels, level_bytes, levels_of, urgent_first,
+};
 use crate::nodes::{NodeRow, all_nodes, all_storages, node_rows};
-use crate::tag_counts::{TagCounts, count_tags, held_blocks};
+use crate::tag_counts::{TagBytes, TagCounts, count_tags, held_blocks, tag_bytes};
 use bm_base::{BlockId, Items, Refusal, Replica};
 use bm_manager::Manager;
 use std::alloc::{AllocError, Global};
@@ -21,14 +23,16 @@ pub struct Report {
     pub round: u64,
     pub nodes: Items<NodeRow>,
     pub levels: LevelCounts,
+    pub level_bytes: LevelBytes,
     pub tags: TagCounts,
+    pub tag_bytes: TagBytes,
     /// The replicas in excess, which are good ones.
     pub excess: usize,
     /// The copies on their way.
     pub transfers: usize,
-    /// The first of the missing blocks.
+    /// The missing blocks, rising.
     pub missing: Items<BlockId>,
-    /// The most urgent of the others.
+    /// The others that want a copy, the most urgent first.
     pub urgent: Items<Leveled>,
 }
 
@@ -88,18 +92,44 @@ fn with_levels(
     ensures { IfOk result (λ r. r ≡ report_of manager.now) }
 {
     let nodes = nodes_of(alloc, manager, book)?;
-    let urgent = most_urgent(alloc, levels)?;
+    let urgent = urgent_first(alloc, levels)?;
     Ok(Report {
         calls: manager.calls(),
         round: manager.rounds(),
         nodes,
         levels: count_levels(levels, missing.as_slice().len()),
+        level_bytes: held_level_bytes(manager, book, levels, missing.as_slice()),
         tags: count_tags(replicas),
+        tag_bytes: held_tag_bytes(manager, book, replicas),
         excess,
         transfers: book.transfers.count(),
-        missing: first_of(missing),
+        missing,
         urgent: Items::from_vec(urgent),
     })
+}
+
+/// The bytes of the blocks at each level, by the lengths in the book.
+fn held_level_bytes(
+    manager: &Manager,
+    book: &Book,
+    levels: &[Leveled],
+    missing: &[BlockId],
+) -> LevelBytes
+    requires follows { Follows book.now manager.now }
+    requires levels { levels.now ≡ levels_held manager.now }
+    requires missing { missing.now ≡ missing_blocks manager.now.cluster manager.now.holdings }
+    ensures { result ≡ (report_of manager.now).level_bytes }
+{
+    level_bytes(&book.blocks, levels, missing)
+}
+
+/// The bytes of the replicas of each tag, by the lengths in the book.
+fn held_tag_bytes(manager: &Manager, book: &Book, replicas: &[Replica]) -> TagBytes
+    requires follows { Follows book.now manager.now }
+    requires replicas { replicas.now ≡ all_replicas manager.now.holdings }
+    ensures { result ≡ (report_of manager.now).tag_bytes }
+{
+    tag_bytes(&book.blocks, replicas)
 }
 
 fn count_excess(manager: &Manager) -> Result<usize, Refusal>
@@ -124,19 +154,10 @@ pub fn held_levels(
 
 /// Every node with every storage of it.
 fn nodes_of(alloc: Global, manager: &Manager, book: &Book) -> Result<Items<NodeRow>, Refusal>
-    requires { book.now.topology.cluster ≡ manager.now.cluster }
+    requires { Follows book.now manager.now }
     ensures { IfOk result (λ rows. rows ≡ (report_of manager.now).nodes) }
 {
     let nodes = all_nodes(alloc, &book.topology)?;
     let storages = all_storages(alloc, &book.topology)?;
     node_rows(alloc, manager, book, nodes.as_slice(), storages.as_slice())
-}
-
-/// The first of these blocks.
-fn first_of(blocks: Items<BlockId>) -> Items<BlockId>
-    ensures { result ≡ take 10 blocks }
-{
-    let mut first = blocks.into_vec();
-    first.truncate(MOST_NAMED);
-    Items::from_vec(first)
 }

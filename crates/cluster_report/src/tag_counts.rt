@@ -1,8 +1,10 @@
 // How many replicas there are of each tag, and which blocks they are of.
-ghost use Rattle.std.specs.Prelude.{◌≡◌, IfOk, count_by};
+ghost use Rattle.std.specs.Prelude.{◌≡◌, IfOk, count_by, if◌then◌else◌};
 ghost use Rattle.bm_base.specs.Machine.Replicas.{is_good, is_stale, is_bad, is_stray};
-ghost use Rattle.cluster_report.specs.Counting.{tags_counted, known_numbers, blocks_held};
+ghost use Rattle.cluster_report.specs.Counting.{tags_counted, tag_bytes, bytes_where, known_numbers, blocks_held};
+ghost use Rattle.cluster_report.specs.Catalogues.{len_in};
 
+use crate::catalogue::Catalogue;
 use bm_base::Replica;
 use std::alloc::{AllocError, Global};
 
@@ -49,6 +51,66 @@ fn count_stray(replicas: &[Replica]) -> usize
     ensures { result ≡ count_by (λ r. is_stray r.tag) replicas.now }
 {
     replicas.iter().filter(|replica| is_stray(replica)).count()
+}
+
+/// The bytes of the replicas of each tag but the stray ones, of which no length is known: a replica
+/// has the length of its block.
+#[derive(Clone, Copy)]
+pub struct TagBytes {
+    pub good: u128,
+    pub stale: u128,
+    pub bad: u128,
+}
+
+pub fn tag_bytes(catalogue: &Catalogue, replicas: &[Replica]) -> TagBytes
+    ensures { result ≡ tag_bytes (len_in catalogue.now) replicas.now }
+{
+    TagBytes {
+        good: good_bytes(catalogue, replicas),
+        stale: stale_bytes(catalogue, replicas),
+        bad: bad_bytes(catalogue, replicas),
+    }
+}
+
+fn good_bytes(catalogue: &Catalogue, replicas: &[Replica]) -> u128
+    ensures { result ≡ bytes_where (len_in catalogue.now) is_good replicas.now }
+{
+    let mut total = 0u128;
+    for replica in replicas {
+        total += u128::from(len_if(catalogue, replica, is_good(replica)));
+    }
+    total
+}
+
+fn stale_bytes(catalogue: &Catalogue, replicas: &[Replica]) -> u128
+    ensures { result ≡ bytes_where (len_in catalogue.now) is_stale replicas.now }
+{
+    let mut total = 0u128;
+    for replica in replicas {
+        total += u128::from(len_if(catalogue, replica, is_stale(replica)));
+    }
+    total
+}
+
+fn bad_bytes(catalogue: &Catalogue, replicas: &[Replica]) -> u128
+    ensures { result ≡ bytes_where (len_in catalogue.now) is_bad replicas.now }
+{
+    let mut total = 0u128;
+    for replica in replicas {
+        total += u128::from(len_if(catalogue, replica, is_bad(replica)));
+    }
+    total
+}
+
+/// The length of a replica's block where it counts, and else 0.
+fn len_if(catalogue: &Catalogue, replica: &Replica, counts: bool) -> u64
+    ensures { result ≡ (if counts then len_in catalogue.now replica.now.block else 0) }
+{
+    if counts {
+        catalogue.len_of(replica.block)
+    } else {
+        0
+    }
 }
 
 /// The numbers of the blocks of these replicas but the stray ones, of neighbours that are equal

@@ -43,13 +43,13 @@ pub struct Scale {
 }
 
 impl Scale {
-    /// The scale on which all counts of these rounds fit.
+    /// The scale on which all counts of these rounds have room. Rounds may be left out.
     pub fn new(rows: &[Counts]) -> Scale {
         let mut greatest = 1u64;
         for series in &ALL_SERIES {
             greatest = greatest.max(series.greatest(rows));
         }
-        let rounds = (rows.len() as u64).max(1);
+        let rounds = last_round(rows).max(1);
         let count_step = step_for(greatest, STEPS_UP);
         let count_steps = greatest.div_ceil(count_step);
         Scale {
@@ -81,6 +81,14 @@ impl Scale {
         ensures bottom { result ≤ BOTTOM }
     {
         BOTTOM - (count.saturating_mul(HEIGHT) / self.most).min(HEIGHT)
+    }
+}
+
+/// The round of the last row.
+fn last_round(rows: &[Counts]) -> u64 {
+    match rows.last() {
+        Some(row) => u64::from(row.round),
+        None => 0,
     }
 }
 

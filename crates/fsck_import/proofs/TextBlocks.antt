@@ -15,7 +15,7 @@ use Rattle.fsck_cluster.specs.declared.cluster.Cluster.{Cluster}
 use Rattle.fsck_cluster.specs.declared.node_list.NodeList.{NodeList}
 use Rattle.fsck_cluster.specs.declared.node_list.NodeRefusal.{NodeRefusal}
 use Rattle.fsck_import.specs.CallsFor.{calls_for}
-use Rattle.fsck_import.specs.Importing.{TellsText, blocks_of, taken}
+use Rattle.fsck_import.specs.Importing.{HasBlocks, TellsText, blocks_of, taken}
 use Rattle.fsck_import.specs.Laws.{IsFresh, after_blocks}
 use Rattle.fsck_import.specs.Listings.{Listing, headed, with_listed}
 use Rattle.fsck_import.specs.Lines.{after_bytes, after_lines, after_text, at_line, without_end}
@@ -68,18 +68,23 @@ end_taken : (s read : Reading) → at_end s ≡ Ok read → with_spares s.cluste
 end_taken s read e =
     at_spares s.files s.listing (with_spares s.cluster) read (if_ok (files.is_whole s.files.part) (with_cluster s.files s.listing (with_spares s.cluster)) (cause.File why.CutOff) read e).1
 
+-- what was read has the blocks of the text
+pub has_blocks : (text : Text) (start read : Reading) → reading_of start text ≡ Ok read → HasBlocks start text read
+has_blocks text start read told remaining fresh =
+    let all = came_of ended (after_text after_line start text) read told in
+    let last = line_ok all.0.1 (at_end all.0.0) read all.2 in
+    tells_blocks start.cluster all.0.0.cluster read.cluster (blocks_of start.files (lines_of text)) remaining fresh
+    (lines_taken 1 start (lines_of text) all.0 all.1) (end_taken all.0.0 read last)
+
+pub known_blocks : (known : Option Text) (start read : Reading) → IfSome known (λ text. reading_of start text ≡ Ok read)
+    → IfSome known (λ text. HasBlocks start text read)
+known_blocks None start read told = tt
+known_blocks (Some text) start read told = has_blocks text start read told
+
 pub tells_text : (text : Text) (start read : Reading) (remaining : ℕ) (old new : Option Text) → reading_of start text ≡ Ok read
     → Tells (calls_for read.cluster remaining) old new → TellsText text start remaining old new
 tells_text text start read remaining old new told tells =
-    let all = came_of ended (after_text after_line start text) read told in
-    let last = line_ok all.0.1 (at_end all.0.0) read all.2 in
-    record {
-      read = read;
-      told = told;
-      tells = tells;
-      blocks = λ fresh. tells_blocks start.cluster all.0.0.cluster read.cluster (blocks_of start.files (lines_of text)) remaining fresh
-          (lines_taken 1 start (lines_of text) all.0 all.1) (end_taken all.0.0 read last);
-    }
+    record { read = read; told = told; tells = tells; blocks = λ fresh. has_blocks text start read told remaining fresh }
 
 -- The nodes of a report.
 

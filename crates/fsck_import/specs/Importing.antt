@@ -28,6 +28,11 @@ abbrev pub blocks_of : Files → List Text → List Block
 blocks_of f [] = []
 blocks_of f (line ∷ lines) = taken (λ g. blocks_of g lines) (files.after_line f (without_end 13 line))
 
+-- what was read of a text has its blocks, if no block came before
+abbrev pub HasBlocks : Reading → Text → Reading → Type 0
+HasBlocks start text read =
+    (remaining : ℕ) → IsFresh start.cluster → TellsBlocks start.cluster (blocks_of start.files (lines_of text)) read.cluster remaining
+
 -- what was written tells of the blocks of a text
 pub record TellsText (text : Text) (start : Reading) (remaining : ℕ) (old new : Option Text) : Type 0 where
   pub read : Reading

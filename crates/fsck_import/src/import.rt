@@ -118,7 +118,7 @@ fn put_files<F: Destination>(alloc: Global, listing: &Listing, files: &mut F) ->
     files.put(table.as_str())
 }
 
-fn notes_of(read: &Reading) -> Notes {
+pub fn notes_of(read: &Reading) -> Notes {
     Notes {
         left_out: read.files.left_out,
         unclear_blocks: read.files.unclear_blocks,

@@ -4,15 +4,15 @@
 #![tactic(auto)]
 
 mod destination;
-mod fault;
+pub mod fault;
 mod file_table;
-mod import;
-mod lines;
-mod listing;
+pub mod import;
+pub mod lines;
+pub mod listing;
 mod name_table;
-mod options;
-mod reading;
-mod writing;
+pub mod options;
+pub mod reading;
+pub mod writing;
 
 use clap::Error;
 use clap::error::ErrorKind;
@@ -142,8 +142,20 @@ fn said<R: Eprint>(rt: &R, asked: &Asked<'_>, ended: Result<Notes, Fault>) -> u8
 }
 
 fn say_notes<R: Eprint>(rt: &R, asked: &Asked<'_>, notes: &Notes) {
+    say_text_notes(rt, asked.values.unclear, notes);
+    if notes.lines > MOST_LINES {
+        let lines = notes.lines;
+        let _ = rt.eprintln(format_args!(
+            "fsck_import: warning: {lines} lines are more than the line tool reads in a run \
+             ({MOST_LINES}); ./puljemrod report has no such limit"
+        ));
+    }
+}
+
+/// Says what was left out of a text or taken with a doubt.
+pub fn say_text_notes<R: Eprint>(rt: &R, unclear: Unclear, notes: &Notes) {
     say_left_out(rt, &notes.left_out);
-    let (block, blocks) = match asked.values.unclear {
+    let (block, blocks) = match unclear {
         Unclear::Good => (
             "block with more places than live replicas taken with each place as good",
             "blocks with more places than live replicas taken with each place as good",
@@ -161,13 +173,6 @@ fn say_notes<R: Eprint>(rt: &R, asked: &Asked<'_>, notes: &Notes) {
         "replicas on nodes in maintenance taken as live",
     );
     say_not_in_text(rt, notes);
-    if notes.lines > MOST_LINES {
-        let lines = notes.lines;
-        let _ = rt.eprintln(format_args!(
-            "fsck_import: warning: {lines} lines are more than the line tool reads in a run \
-             ({MOST_LINES}); ./puljemrod report has no such limit"
-        ));
-    }
 }
 
 /// Says what the text lacks: blocks of other files make stray replicas.

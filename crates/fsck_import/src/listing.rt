@@ -48,6 +48,12 @@ impl Listing {
         &self.files
     }
 
+    pub fn into_files(self) -> Files
+        ensures { result ≡ self.files }
+    {
+        self.files
+    }
+
     /// Takes the path, if a line is the heading of a file.
     pub fn take_line(&mut self, alloc: Global, line: &str) -> Result<(), AllocError>
         ensures { OnOk result (self.new ≡ headed self.old line.now) }

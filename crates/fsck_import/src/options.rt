@@ -130,7 +130,11 @@ fn new_arg<'a>(alloc: Global, name: &'a str) -> Arg<'a>
 }
 
 /// What the texts of these options say; `None` if one of them is none of its values.
-fn values_of(remaining: Option<&str>, skip: Option<&str>, unclear: Option<&str>) -> Option<Values>
+pub fn values_of(
+    remaining: Option<&str>,
+    skip: Option<&str>,
+    unclear: Option<&str>,
+) -> Option<Values>
     ensures { result ≡ values_of (option_copied remaining.entry) (option_copied skip.entry)
         (option_copied unclear.entry) }
 {

@@ -2,6 +2,7 @@
 ghost use Rattle.std.specs.Prelude.{◌≡◌, Ok, Some, IfOk, OnOk, IfErr, IfSome};
 ghost use Rattle.fsck_import.specs.Causes.{IsCause};
 ghost use Rattle.fsck_import.specs.Reading.{beginning, after_taken, at_end, ended_nodes, nodes_of, reading_of, IsFileFault, IsNodeFault, IsFaultOfReading, IsFaultOfNodes};
+ghost use Rattle.fsck_import.specs.Importing.{HasBlocks};
 ghost use Rattle.fsck_import.specs.Laws.{IsFresh};
 ghost use Rattle.fsck_import.specs.Lines.{IsReadFault};
 
@@ -111,6 +112,9 @@ pub fn read_cluster<R: BufRead>(
 ) -> Result<Reading, Fault>
     ensures text { IfOk result (λ read. IfSome (R.remaining reader.old)
         (λ text. reading_of reading text ≡ Ok read)) }
+    // However many bytes are free, the calls for the cluster are those of the text's blocks.
+    ensures blocks { IfOk result (λ read. IfSome (R.remaining reader.old)
+        (λ text. HasBlocks reading text read)) }
     ensures refused { IfErr result (λ f. IsFaultOfReading reading f (R.remaining reader.old)) }
 {
     let mut read = reading;

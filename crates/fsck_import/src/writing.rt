@@ -79,7 +79,7 @@ fn write_registers<W: Write>(alloc: Global, writer: &mut W, cluster: &Cluster) -
     Ok(())
 }
 
-fn register(alloc: Global, rows: &[Row], node: &NodeRow) -> Result<Call, AllocError>
+pub fn register(alloc: Global, rows: &[Row], node: &NodeRow) -> Result<Call, AllocError>
     ensures { IfOk result (λ call. call ≡ register rows.now node.now) }
 {
     let storages = storages_of(alloc, rows, node.number)?;
@@ -119,7 +119,7 @@ fn write_heartbeats<W: Write>(
     Ok(())
 }
 
-fn heartbeat(
+pub fn heartbeat(
     alloc: Global,
     rows: &[Row],
     node: &NodeRow,
@@ -227,7 +227,7 @@ fn write_row<W: Write>(alloc: Global, writer: &mut W, row: &Row) -> Result<(), F
 }
 
 /// As many replicas as fit into a report, and the others.
-fn parts_of(held: &[Held]) -> (&[Held], &[Held])
+pub fn parts_of(held: &[Held]) -> (&[Held], &[Held])
     ensures first { result.0.now ≡ take MAX_ENTRIES held.now }
     ensures others { result.1.now ≡ drop MAX_ENTRIES held.now }
 {
@@ -238,7 +238,7 @@ fn parts_of(held: &[Held]) -> (&[Held], &[Held])
 }
 
 /// Replicas, as the entries of a report.
-fn entries_of(alloc: Global, held: &[Held]) -> Result<Vec<Entry>, AllocError>
+pub fn entries_of(alloc: Global, held: &[Held]) -> Result<Vec<Entry>, AllocError>
     ensures { IfOk result (λ v. v.items ≡ map entry held.now) }
 {
     held.iter()

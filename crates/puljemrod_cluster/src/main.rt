@@ -12,7 +12,7 @@
 #![tactic(auto)]
 
 use cluster_losses::losses_by_words;
-use cluster_report::report_by_words;
+use cluster_pages::report_by_words;
 use cluster_simulation::simulate_by_words;
 use fsck_import::import_by_words;
 use std::env::Env;

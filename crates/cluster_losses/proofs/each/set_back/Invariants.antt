@@ -2,4 +2,4 @@ use Rattle.cluster_report.specs.Sessions.{IsInStep}
 use Rattle.cluster_losses.proofs.each.set_back.Given as goal
 
 abbrev pub invariant-loop-node : goal.invariant-loop-node
-invariant-loop-node g l = IsInStep l.held.session
+invariant-loop-node g l = IsInStep l.session

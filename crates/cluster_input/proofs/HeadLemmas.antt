@@ -1,0 +1,69 @@
+-- The first lines of a text.
+use Rattle.std.proofs.Common.{◌≡◌, ℕ, zero, suc, Bool, true, false, cond, not, ◌||◌, List, [], ◌∷◌, ◌++◌, drop, length, Option, Some, None, IfSome, refl, sym, ap, subst, ◌∙◌, append_assoc, append-nil}
+use Rattle.std.specs.List.{find, list_any}
+use Rattle.std.specs.Io.{StartsWith, appended_bytes}
+use Rattle.std.specs.Io.KnownBytes.{Consumes, IsAtEnd}
+use Rattle.std.proofs.lemmas.List.{take-append-drop}
+use Rattle.cluster_input.specs.Kinds.{is_blank, is_brace, are_lines, IsHead, IsHeadOf}
+
+-- what is not blank in the front is the first in the whole
+find_in : (p : ℕ → Bool) (xs ys : List ℕ) → list_any p xs ≡ true → find p (xs ++ ys) ≡ find p xs
+find_in p [] ys h = cc
+find_in p (x ∷ xs) ys h = by (p x) h (λ k. find_in p xs ys k)
+  where
+    by : (b : Bool) → (b || list_any p xs) ≡ true → (list_any p xs ≡ true → find p (xs ++ ys) ≡ find p xs)
+        → cond b (Some x) (find p (xs ++ ys)) ≡ cond b (Some x) (find p xs)
+    by true k rest = refl
+    by false k rest = rest k
+
+abbrev pub any_of : ℕ → Bool
+any_of b = not (is_blank b)
+
+alike_here : (head rest : List ℕ) → list_any any_of head ≡ true → are_lines head ≡ are_lines (head ++ rest)
+alike_here head rest h = ap is_brace (sym (find_in any_of head rest h))
+
+pub none_read : (known : Option (List ℕ)) → Consumes known known []
+none_read None = tt
+none_read (Some text) = refl
+
+pub more_read : (a b c : Option (List ℕ)) (xs ys : List ℕ) → Consumes a b xs → Consumes b c ys → Consumes a c (xs ++ ys)
+more_read None b c xs ys h k = tt
+more_read (Some a) None c xs ys h k = absurd h
+more_read (Some a) (Some b) None xs ys h k = k
+more_read (Some a) (Some b) (Some c) xs ys h k = h ∙ ap (λ t. xs ++ t) k ∙ sym (append_assoc xs ys c)
+
+-- one more line is behind the head
+pub head_more : (known a b : Option (List ℕ)) (old new : List ℕ) → Consumes known a old → Consumes a b (appended_bytes old new) → StartsWith new old
+    → Consumes known b new
+head_more known a b old new h k starts =
+    subst (Consumes known b) (ap (λ xs. xs ++ drop (length old) new) (sym starts) ∙ take-append-drop (length old) new)
+    (more_read known a b old (appended_bytes old new) h k)
+
+-- the head ends with a line that is not blank
+pub head_found : (known left : Option (List ℕ)) (head : List ℕ) → Consumes known left head → list_any any_of head ≡ true
+    → IfSome known (λ text. IsHeadOf text head left)
+head_found None left head h found = tt
+head_found (Some text) None head h found = absurd h
+head_found (Some text) (Some rest) head h found = record {
+  rest = rest;
+  left_is = refl;
+  begins = record { parts = h; alike = alike_here head rest found ∙ ap are_lines (sym h) };
+}
+
+-- or it is all of the text
+pub head_whole : (known left : Option (List ℕ)) (head : List ℕ) → Consumes known left head → IsAtEnd left
+    → IfSome known (λ text. IsHeadOf text head left)
+head_whole None left head h done = tt
+head_whole (Some text) None head h done = absurd h
+head_whole (Some text) (Some rest) head h done =
+    let whole : text ≡ head = h ∙ ap (λ t. head ++ t) done ∙ append-nil head in
+    record { rest = rest; left_is = refl; begins = record { parts = h; alike = ap are_lines (sym whole) } }
+
+pub any_dropped : (n : ℕ) (xs : List ℕ) → list_any any_of (drop n xs) ≡ true → list_any any_of xs ≡ true
+any_dropped zero xs h = h
+any_dropped (suc n) [] h = h
+any_dropped (suc n) (x ∷ xs) h = or_later (any_of x) (list_any any_of xs) (any_dropped n xs h)
+  where
+    or_later : (a b : Bool) → b ≡ true → (a || b) ≡ true
+    or_later true b e = refl
+    or_later false b e = e

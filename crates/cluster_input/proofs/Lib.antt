@@ -1,0 +1,4 @@
+-- Lemmas.
+pub mod MakeLemmas
+pub mod HeadLemmas
+pub mod LoadLemmas

@@ -1,0 +1,27 @@
+-- Lines of the tool or a text of fsck: by the first byte that is not blank. An opening brace is
+-- 123.
+use Rattle.std.specs.Prelude.{◌≡◌, ℕ, ◌==◌, ◌||◌, Bool, true, not, List, ◌++◌, Option, Some, None}
+use Rattle.std.specs.List.{find}
+
+-- a space, a tab, or the end of a line
+abbrev pub is_blank : ℕ → Bool
+is_blank b = (b == 32) || (b == 9) || (b == 10) || (b == 13)
+
+abbrev pub is_brace : Option ℕ → Bool
+is_brace None = true
+is_brace (Some b) = b == 123
+
+-- lines of the tool begin with a brace; a blank text has no lines but those that are refused
+abbrev pub are_lines : List ℕ → Bool
+are_lines text = is_brace (find (λ b. not (is_blank b)) text)
+
+-- the first bytes of a text, by which it is seen what it is
+pub record IsHead (text head rest : List ℕ) : Type 0 where
+  pub parts : text ≡ head ++ rest
+  pub alike : are_lines head ≡ are_lines text
+
+-- the head of a text was read, and this is left
+pub record IsHeadOf (text head : List ℕ) (left : Option (List ℕ)) : Type 0 where
+  pub rest : List ℕ
+  pub left_is : left ≡ Some rest
+  pub begins : IsHead text head rest

@@ -1,0 +1,194 @@
+// A cluster from its text.
+ghost use Rattle.std.specs.Prelude.{◌≡◌, [], Some, IfOk, IfSome, OnOk};
+ghost use Rattle.std.specs.Fmt.{option_append};
+ghost use Rattle.std.specs.Io.KnownBytes.{Appends};
+ghost use Rattle.bm_base.specs.Machine.State.{first_state};
+ghost use Rattle.bm_lines.specs.Lines.{lines_of};
+ghost use Rattle.cluster_names.specs.FileTable.{no_blocks};
+ghost use Rattle.cluster_report.specs.Sessions.{IsInStep};
+ghost use Rattle.cluster_report.specs.Reading.{SaysIfAccepted, notes_text};
+ghost use Rattle.cluster_input.specs.ClusterNames.{no_names};
+ghost use Rattle.cluster_input.specs.Kinds.{are_lines};
+ghost use Rattle.cluster_input.specs.Inputs.{IsAfter, IsRead, AreTaken, accepts, accepts_as, notes_as, notes_on};
+
+use crate::calls::make_calls;
+use crate::fault::Fault;
+use crate::kind::{are_lines, read_head};
+use crate::names::names_of;
+use bm_base::Config;
+use cluster_names::{Files, Names};
+use cluster_report::reading::read_lines;
+use cluster_report::session::Session;
+use fsck_import::import::{Notes, notes_of};
+use fsck_import::reading::{Reading, read_cluster};
+use std::alloc::Global;
+use std::io::{BufRead, Read, Write};
+use std::sync::Wait;
+use std::thread::Threads;
+
+/// A cluster that was read: the manager with its book, and the names where the text has them.
+#[derive(Drop)]
+pub struct Loaded {
+    pub session: Session,
+    pub names: Names,
+    /// The file of each block.
+    pub files: Files,
+    /// What the user has to know of a text of fsck.
+    pub notes: Option<Notes>,
+}
+
+impl Loaded {
+    /// Nothing was read.
+    pub fn new(alloc: Global, config: &Config) -> Result<Loaded, Fault>
+        ensures state { IfOk result (λ it. it.session.manager ≡ first_state config.now) }
+        ensures in_step { IfOk result (λ it. IsInStep it.session) }
+        ensures names { IfOk result (λ it. it.names ≡ no_names) }
+        ensures files { IfOk result (λ it. it.files ≡ no_blocks) }
+    {
+        let Ok(session) = Session::new(alloc, config) else {
+            return Err(Fault::Memory);
+        };
+        Ok(Loaded {
+            session,
+            names: Names::new(alloc),
+            files: Files::new(alloc),
+            notes: None,
+        })
+    }
+
+    /// Takes a text, which holds lines of the tool or is one of fsck, and makes its calls. Whether
+    /// all were accepted: a line that is refused is noted by its number, and a refused call for a
+    /// text of fsck is a fault. `start` is how a text of fsck is read, and `remaining` the number
+    /// of free bytes on each storage whose node's are not known.
+    pub fn take_text<R: BufRead, N: Write, H: Threads + Wait + Sync>(
+        &mut self,
+        rt: &H,
+        start: Reading,
+        remaining: u64,
+        reader: &mut R,
+        notes: &mut N,
+    ) -> Result<bool, Fault>
+        requires { IsInStep self.old.session }
+        ensures state { OnOk result (IfSome (R.remaining reader.old) (λ text.
+            IsAfter (are_lines text) start remaining text self.old self.new)) }
+        ensures accepted { IfOk result (λ all. IfSome (R.remaining reader.old) (λ text.
+            all ≡ accepts self.old.session.manager text)) }
+        ensures notes { OnOk result (IfSome (R.remaining reader.old) (λ text.
+            Appends (N.contents notes.old) (N.contents notes.new)
+            (notes_on self.old.session.manager text))) }
+        ensures in_step { OnOk result (IsInStep self.new.session) }
+    {
+        let mut head = Vec::new(self.session.alloc);
+        match read_head(reader, &mut head) {
+            Ok(()) => self.take_behind(rt, start, remaining, head.as_slice(), reader, notes),
+            Err(fault) => {
+                drop(start);
+                Err(fault)
+            }
+        }
+    }
+
+    /// Takes a text whose head was read.
+    fn take_behind<R: BufRead, N: Write, H: Threads + Wait + Sync>(
+        &mut self,
+        rt: &H,
+        start: Reading,
+        remaining: u64,
+        head: &[u8],
+        reader: &mut R,
+        notes: &mut N,
+    ) -> Result<bool, Fault>
+        requires { IsInStep self.old.session }
+        ensures state { OnOk result (IfSome (option_append (Some head.now) (R.remaining reader.old))
+            (λ text. IsAfter (are_lines head.now) start remaining text self.old self.new)) }
+        ensures accepted { IfOk result (λ all.
+            IfSome (option_append (Some head.now) (R.remaining reader.old)) (λ text.
+            all ≡ accepts_as (are_lines head.now) self.old.session.manager text)) }
+        ensures notes { OnOk result
+            (IfSome (option_append (Some head.now) (R.remaining reader.old)) (λ text.
+            Appends (N.contents notes.old) (N.contents notes.new)
+            (notes_as (are_lines head.now) self.old.session.manager text))) }
+        ensures in_step { OnOk result (IsInStep self.new.session) }
+    {
+        let holds_lines = are_lines(head);
+        let mut whole = head.chain(reader);
+        self.take_kind(rt, holds_lines, start, remaining, &mut whole, notes)
+    }
+
+    /// Takes a text of which it is known whether it holds lines of the tool.
+    fn take_kind<R: BufRead, N: Write, H: Threads + Wait + Sync>(
+        &mut self,
+        rt: &H,
+        holds_lines: bool,
+        start: Reading,
+        remaining: u64,
+        reader: &mut R,
+        notes: &mut N,
+    ) -> Result<bool, Fault>
+        requires { IsInStep self.old.session }
+        ensures state { OnOk result (IfSome (R.remaining reader.old) (λ text.
+            IsAfter holds_lines start remaining text self.old self.new)) }
+        ensures accepted { IfOk result (λ all. IfSome (R.remaining reader.old) (λ text.
+            all ≡ accepts_as holds_lines self.old.session.manager text)) }
+        ensures notes { OnOk result (IfSome (R.remaining reader.old) (λ text.
+            Appends (N.contents notes.old) (N.contents notes.new)
+            (notes_as holds_lines self.old.session.manager text))) }
+        ensures in_step { OnOk result (IsInStep self.new.session) }
+    {
+        if holds_lines {
+            drop(start);
+            return self.take_lines(rt, reader, notes);
+        }
+        self.take_fsck(rt, start, remaining, reader)?;
+        Ok(true)
+    }
+
+    /// Takes lines of the tool.
+    pub fn take_lines<R: BufRead, N: Write, H: Threads + Wait + Sync>(
+        &mut self,
+        rt: &H,
+        reader: &mut R,
+        notes: &mut N,
+    ) -> Result<bool, Fault>
+        requires { IsInStep self.old.session }
+        ensures state { OnOk result (IfSome (R.remaining reader.old) (λ text.
+            AreTaken text self.old self.new)) }
+        ensures accepted { IfOk result (λ all.
+            SaysIfAccepted all self.old.session.manager (R.remaining reader.old)) }
+        ensures notes { OnOk result (IfSome (R.remaining reader.old) (λ text.
+            Appends (N.contents notes.old) (N.contents notes.new)
+            (notes_text 1 self.old.session.manager (lines_of text)))) }
+        ensures in_step { OnOk result (IsInStep self.new.session) }
+    {
+        let alloc = self.session.alloc;
+        match read_lines(rt, alloc, &mut self.session, reader, notes) {
+            Ok(all_accepted) => Ok(all_accepted),
+            Err(fault) => Err(Fault::from(fault)),
+        }
+    }
+
+    /// Takes a text of fsck. The names of its cluster come in place of those before.
+    fn take_fsck<R: BufRead, H: Threads + Wait + Sync>(
+        &mut self,
+        rt: &H,
+        start: Reading,
+        remaining: u64,
+        reader: &mut R,
+    ) -> Result<(), Fault>
+        requires { IsInStep self.old.session }
+        ensures state { OnOk result (IfSome (R.remaining reader.old) (λ text.
+            IsRead start remaining text self.old self.new)) }
+        ensures in_step { OnOk result (IsInStep self.new.session) }
+    {
+        let alloc = self.session.alloc;
+        let read = match read_cluster(alloc, reader, start) {
+            Ok(read) => read,
+            Err(fault) => return Err(Fault::from(fault)),
+        };
+        make_calls(rt, &mut self.session, &read.cluster, remaining)?;
+        self.names = names_of(alloc, &read.cluster)?;
+        self.notes = Some(notes_of(&read));
+        self.files = read.listing.into_files();
+        Ok(())
+    }
+}

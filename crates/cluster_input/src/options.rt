@@ -1,0 +1,130 @@
+// The options by which a cluster is read: the same for each word that reads one.
+use bm_base::Config;
+use clap::{Arg, ArgAction, ArgMatches, Command, value_parser};
+use cluster_report::options::{NUMBERS, argument, config_from, with};
+use fsck_import::options::{Values, values_of};
+use std::alloc::{AllocError, Global};
+
+/// What the words ask for about the cluster.
+#[derive(Clone, Copy)]
+pub struct Asked<'a> {
+    pub config: Config,
+    /// How a text of fsck is read.
+    pub values: Values,
+    /// The report on DataNodes, if one is named.
+    pub nodes: Option<&'a str>,
+    /// The length of the input, if its progress is to be shown.
+    pub input_bytes: Option<u64>,
+}
+
+/// An option with a value, for a text of fsck.
+struct TextOption {
+    name: &'static str,
+    value: &'static str,
+    help: &'static str,
+}
+
+static TEXT_OPTIONS: [TextOption; 4] = [
+    TextOption {
+        name: "nodes",
+        value: "FILE",
+        help: "text of hdfs dfsadmin -report: racks, free bytes, decommissioned and empty nodes",
+    },
+    TextOption {
+        name: "remaining",
+        value: "BYTES",
+        help: "free bytes of each storage without --nodes, below 2^64; without it 1099511627776",
+    },
+    TextOption {
+        name: "skip",
+        value: "KINDS",
+        help: "files left out: erasure-coded, replication-over-16, open, snapshots, \
+               commas between them",
+    },
+    TextOption {
+        name: "unclear",
+        value: "HOW",
+        help: "blocks with more places than live replicas: omit, good; without it they are refused",
+    },
+];
+
+/// What is said of a value that is none of its option's.
+pub const WRONG_VALUE: &str = "--remaining takes a whole number below 2^64; --skip takes \
+erasure-coded, replication-over-16, open and snapshots with commas between them; \
+--unclear takes omit or good";
+
+/// The command with the options by which a cluster is read, and the files.
+pub fn with_input<'a>(alloc: Global, command: Command<'a>) -> Result<Command<'a>, AllocError> {
+    let mut command = with(command, files(alloc))?;
+    for option in &TEXT_OPTIONS {
+        command = with(command, text_option(alloc, option))?;
+    }
+    for number in &NUMBERS {
+        command = with(command, argument(alloc, number))?;
+    }
+    let command = with(command, quiet(alloc))?;
+    with(command, progress(alloc))
+}
+
+fn files<'a>(alloc: Global) -> Arg<'a> {
+    Arg::new(alloc, "FILE")
+        .action(ArgAction::Append)
+        .num_args(1..)
+        .help("files with lines of the line tool, or one text of hdfs fsck")
+}
+
+fn text_option<'a>(alloc: Global, option: &TextOption) -> Arg<'a> {
+    new_arg(alloc, option.name)
+        .action(ArgAction::Set)
+        .long(option.name)
+        .value_name(option.value)
+        .help(option.help)
+}
+
+fn quiet<'a>(alloc: Global) -> Arg<'a> {
+    new_arg(alloc, "quiet")
+        .action(ArgAction::SetTrue)
+        .long("quiet")
+        .help("shows no progress on standard error")
+}
+
+/// For a caller that knows standard error to be a terminal, and the length of the input.
+fn progress<'a>(alloc: Global) -> Arg<'a> {
+    new_arg(alloc, "progress")
+        .action(ArgAction::Set)
+        .long("progress")
+        .value_name("BYTES")
+        .hide(true)
+        .value_parser(value_parser!(u64))
+}
+
+fn new_arg<'a>(alloc: Global, name: &'a str) -> Arg<'a> {
+    Arg::new(alloc, name)
+}
+
+/// What the words ask for; `None` if a value is none of its option's.
+pub fn asked_of<'a>(matches: &ArgMatches<'a>) -> Option<Asked<'a>> {
+    let values = values_of(
+        matches.get_str("remaining"),
+        matches.get_str("skip"),
+        matches.get_str("unclear"),
+    )?;
+    Some(Asked {
+        config: config_from(matches),
+        values,
+        nodes: matches.get_str("nodes"),
+        input_bytes: input_bytes_of(matches),
+    })
+}
+
+fn input_bytes_of(matches: &ArgMatches<'_>) -> Option<u64> {
+    if matches.get_flag("quiet") {
+        return None;
+    }
+    matches.get_one::<u64>("progress")
+}
+
+/// The files that the words name, one after another; `None` is standard input.
+pub fn files_of<'m, 'a>(matches: &'m ArgMatches<'a>) -> Option<&'m [&'a str]> {
+    matches.get_strs("FILE")
+}

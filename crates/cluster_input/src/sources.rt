@@ -1,0 +1,274 @@
+// The files that are named, or standard input.
+ghost use Rattle.std.specs.Prelude.{◌≡◌, None, IfSome};
+ghost use Rattle.cluster_report.specs.Sessions.{IsInStep};
+
+use crate::fault::Fault;
+use crate::loaded::Loaded;
+use crate::options::Asked;
+use crate::watched::{Meter, NoteWriter, WatchedReader};
+use fsck_cluster::Cluster;
+use fsck_import::reading::{Reading, read_nodes};
+use fsck_import::say_text_notes;
+use std::alloc::Global;
+use std::fs::File;
+use std::io;
+use std::io::{BufReader, Write};
+use std::rt::Files;
+use std::sync::Wait;
+use std::thread::Threads;
+
+/// What reading needs to speak: the name of the program for its messages, and the progress, which
+/// each message takes away first.
+#[derive(Drop)]
+struct Console<'c, R> {
+    rt: &'c R,
+    program: &'c str,
+    meter: &'c Meter,
+}
+
+/// Loads the cluster of these files, or of standard input where there is none. The result has
+/// whether every call was accepted. Refused lines go to `notes`; standard error says why nothing
+/// was loaded, after the name of the program.
+pub fn load<R: Input + Eprint + Files + AllocGlobal + Threads + Wait + Sync, N: Print>(
+    rt: &R,
+    notes: &N,
+    program: &str,
+    asked: &Asked<'_>,
+    files: Option<&[&str]>,
+) -> Option<(Loaded, bool)>
+    ensures { IfSome result (λ p. IsInStep p.0.session) }
+{
+    let meter = Meter::new(asked.input_bytes);
+    let console = Console {
+        rt,
+        program,
+        meter: &meter,
+    };
+    let nodes = nodes_of(&console, asked)?;
+    let mut loaded = match Loaded::new(rt.alloc(), &asked.config) {
+        Ok(loaded) => loaded,
+        Err(fault) => {
+            drop(nodes);
+            return said(&console, None, &fault, None);
+        }
+    };
+    let start = start_of(rt.alloc(), nodes, asked);
+    let mut writer = NoteWriter::new(io::writer(notes), rt, &meter);
+    let all_accepted = take_all(&console, &mut loaded, start, asked, files, &mut writer)?;
+    meter.clear(rt);
+    if let Some(notes) = &loaded.notes {
+        say_text_notes(rt, asked.values.unclear, notes);
+    }
+    Some((loaded, all_accepted))
+}
+
+/// Nothing was read; these nodes are known.
+fn start_of(alloc: Global, nodes: Cluster, asked: &Asked<'_>) -> Reading {
+    Reading::new(alloc, nodes, asked.values.skips, asked.values.unclear, true)
+}
+
+/// Says a fault of a file or of standard input, with the system's words for a read that failed.
+/// Nothing was loaded.
+fn said<R: Eprint, T>(
+    console: &Console<'_, R>,
+    path: Option<&str>,
+    fault: &Fault,
+    error: Option<io::Error>,
+) -> Option<T>
+    ensures { result ≡ None }
+{
+    let (rt, program) = (console.rt, console.program);
+    console.meter.clear(rt);
+    let reason = if matches!(fault, Fault::Read) {
+        error
+    } else {
+        None
+    };
+    let _ = match (path, reason) {
+        (Some(path), Some(error)) => {
+            rt.eprintln(format_args!("{program}: {path}: {fault}: {error}"))
+        }
+        (Some(path), None) => rt.eprintln(format_args!("{program}: {path}: {fault}")),
+        (None, Some(error)) => rt.eprintln(format_args!("{program}: {fault}: {error}")),
+        (None, None) => rt.eprintln(format_args!("{program}: {fault}")),
+    };
+    None
+}
+
+/// The nodes of the report on DataNodes, if one is named. It is no part of the progress.
+fn nodes_of<R: Eprint + Files + AllocGlobal>(
+    console: &Console<'_, R>,
+    asked: &Asked<'_>,
+) -> Option<Cluster> {
+    let alloc: Global = console.rt.alloc();
+    let Some(path) = asked.nodes else {
+        return Some(Cluster::new(alloc));
+    };
+    let mut reader = opened(console, None, path)?;
+    match read_nodes(alloc, &mut reader) {
+        Ok(nodes) => Some(nodes),
+        Err(fault) => {
+            let fault = Fault::from(fault);
+            said(console, Some(path), &fault, reader.get_ref().error())
+        }
+    }
+}
+
+/// A file, opened for reading.
+fn opened<'c, R: Eprint + Files + AllocGlobal>(
+    console: &Console<'c, R>,
+    meter: Option<&'c Meter>,
+    path: &str,
+) -> Option<BufReader<WatchedReader<'c, R::File, R>>> {
+    let alloc: Global = console.rt.alloc();
+    let file = file_at(console, path)?;
+    let watched = WatchedReader::new(file, console.rt, meter);
+    let Ok(reader) = BufReader::new(alloc, watched) else {
+        let _: Option<()> = said(console, Some(path), &Fault::Memory, None);
+        return None;
+    };
+    Some(reader)
+}
+
+/// Opens a file. Where it cannot be, the system's reason is said.
+fn file_at<R: Eprint + Files>(console: &Console<'_, R>, path: &str) -> Option<R::File> {
+    match File::open(console.rt, path) {
+        Ok(file) => Some(file),
+        Err(error) => {
+            let (rt, program) = (console.rt, console.program);
+            console.meter.clear(rt);
+            let _ = rt.eprintln(format_args!("{program}: {path}: {error}"));
+            None
+        }
+    }
+}
+
+/// Takes these files, or standard input where there is none.
+fn take_all<R: Input + Eprint + Files + AllocGlobal + Threads + Wait + Sync, W: Write>(
+    console: &Console<'_, R>,
+    loaded: &mut Loaded,
+    start: Reading,
+    asked: &Asked<'_>,
+    files: Option<&[&str]>,
+    notes: &mut W,
+) -> Option<bool>
+    requires { IsInStep loaded.old.session }
+    ensures { IfSome result (λ all. IsInStep loaded.new.session) }
+{
+    match files {
+        None => take_input(console, loaded, start, asked, notes),
+        Some(paths) => take_files(console, loaded, start, asked, paths, notes),
+    }
+}
+
+/// Takes standard input.
+fn take_input<R: Input + Eprint + AllocGlobal + Threads + Wait + Sync, W: Write>(
+    console: &Console<'_, R>,
+    loaded: &mut Loaded,
+    start: Reading,
+    asked: &Asked<'_>,
+    notes: &mut W,
+) -> Option<bool>
+    requires { IsInStep loaded.old.session }
+    ensures { IfSome result (λ all. IsInStep loaded.new.session) }
+{
+    let rt = console.rt;
+    let input = WatchedReader::new(rt.reader(), rt, Some(console.meter));
+    let Ok(mut reader) = BufReader::new(rt.alloc(), input) else {
+        drop(start);
+        return said(console, None, &Fault::Memory, None);
+    };
+    match loaded.take_text(rt, start, asked.values.remaining, &mut reader, notes) {
+        Ok(all_accepted) => Some(all_accepted),
+        Err(fault) => said(console, None, &fault, reader.get_ref().error()),
+    }
+}
+
+/// Takes these files, one after another.
+fn take_files<R: Eprint + Files + AllocGlobal + Threads + Wait + Sync, W: Write>(
+    console: &Console<'_, R>,
+    loaded: &mut Loaded,
+    start: Reading,
+    asked: &Asked<'_>,
+    paths: &[&str],
+    notes: &mut W,
+) -> Option<bool>
+    requires { IsInStep loaded.old.session }
+    ensures { IfSome result (λ all. IsInStep loaded.new.session) }
+{
+    let Some((path, others)) = paths.split_first() else {
+        drop(start);
+        return Some(true);
+    };
+    let first = take_first(console, loaded, start, asked, path, notes);
+    take_others(console, loaded, first, others, notes)
+}
+
+/// Takes the first file, which may be a text of fsck.
+fn take_first<R: Eprint + Files + AllocGlobal + Threads + Wait + Sync, W: Write>(
+    console: &Console<'_, R>,
+    loaded: &mut Loaded,
+    start: Reading,
+    asked: &Asked<'_>,
+    path: &str,
+    notes: &mut W,
+) -> Option<bool>
+    requires { IsInStep loaded.old.session }
+    ensures { IfSome result (λ all. IsInStep loaded.new.session) }
+{
+    let Some(mut reader) = opened(console, Some(console.meter), path) else {
+        drop(start);
+        return None;
+    };
+    match loaded.take_text(
+        console.rt,
+        start,
+        asked.values.remaining,
+        &mut reader,
+        notes,
+    ) {
+        Ok(all_accepted) => Some(all_accepted),
+        Err(fault) => said(console, Some(path), &fault, reader.get_ref().error()),
+    }
+}
+
+/// Takes the other files, which hold lines of the tool, unless there was a fault before.
+fn take_others<R: Eprint + Files + AllocGlobal + Threads + Wait + Sync, W: Write>(
+    console: &Console<'_, R>,
+    loaded: &mut Loaded,
+    before: Option<bool>,
+    paths: &[&str],
+    notes: &mut W,
+) -> Option<bool>
+    requires { IfSome before (λ all. IsInStep loaded.old.session) }
+    ensures { IfSome result (λ all. IsInStep loaded.new.session) }
+{
+    let mut all_accepted = before?;
+    for path in paths {
+        let is_accepted = take_other(console, loaded, path, notes)?;
+        all_accepted = all_accepted && is_accepted;
+    }
+    Some(all_accepted)
+}
+
+fn take_other<R: Eprint + Files + AllocGlobal + Threads + Wait + Sync, W: Write>(
+    console: &Console<'_, R>,
+    loaded: &mut Loaded,
+    path: &str,
+    notes: &mut W,
+) -> Option<bool>
+    requires { IsInStep loaded.old.session }
+    ensures { IfSome result (λ all. IsInStep loaded.new.session) }
+{
+    let mut reader = opened(console, Some(console.meter), path)?;
+    match loaded.take_lines(console.rt, &mut reader, notes) {
+        Ok(true) => Some(true),
+        Ok(false) => {
+            let (rt, program) = (console.rt, console.program);
+            console.meter.clear(rt);
+            let _ = rt.eprintln(format_args!("{program}: the lines above are of {path}"));
+            Some(false)
+        }
+        Err(fault) => said(console, Some(path), &fault, reader.get_ref().error()),
+    }
+}

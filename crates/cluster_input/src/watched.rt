@@ -1,0 +1,113 @@
+// What is read and noted while progress is shown.
+use cluster_progress::Progress;
+use std::cell::Cell;
+use std::io;
+use std::io::{Read, Write};
+
+/// How many bytes of the input were read. Where the input's length is known, standard error shows
+/// the part that was read.
+#[derive(Drop)]
+pub struct Meter {
+    progress: Cell<Progress>,
+    read: Cell<u64>,
+    all: u64,
+}
+
+impl Meter {
+    /// Nothing was read of an input of this many bytes. Without a number nothing is shown.
+    pub fn new(all: Option<u64>) -> Meter {
+        Meter {
+            progress: Cell::new(Progress::new(all.is_some())),
+            read: Cell::new(0),
+            all: all.unwrap_or(0),
+        }
+    }
+
+    /// Counts bytes that were read.
+    fn take<R: Eprint>(&self, rt: &R, bytes: usize) {
+        let read = self.read.get().saturating_add(bytes as u64);
+        self.read.set(read);
+        let mut progress = self.progress.get();
+        progress.show_input(rt, read, self.all);
+        self.progress.set(progress);
+    }
+
+    /// Takes the line with the progress away, so that another can be written in its place.
+    pub fn clear<R: Eprint>(&self, rt: &R) {
+        let mut progress = self.progress.get();
+        progress.end(rt);
+        self.progress.set(progress);
+    }
+}
+
+/// A reader whose bytes a meter counts, if there is one. It keeps the error of the last read that
+/// failed.
+#[derive(Drop)]
+pub struct WatchedReader<'w, I, R> {
+    inner: I,
+    rt: &'w R,
+    meter: Option<&'w Meter>,
+    error: Option<io::Error>,
+}
+
+impl<'w, I, R> WatchedReader<'w, I, R> {
+    pub fn new(inner: I, rt: &'w R, meter: Option<&'w Meter>) -> WatchedReader<'w, I, R> {
+        WatchedReader {
+            inner,
+            rt,
+            meter,
+            error: None,
+        }
+    }
+
+    /// Why the last read that failed did.
+    pub fn error(&self) -> Option<io::Error> {
+        self.error
+    }
+}
+
+impl<I: Read, R: Eprint> Read for WatchedReader<'_, I, R> {
+    ghost remaining = { λ r. I.remaining r.inner };
+
+    fn read(&mut self, buf: &mut [u8]) -> io::Result<usize> {
+        match self.inner.read(buf) {
+            Ok(given) => {
+                if let Some(meter) = self.meter {
+                    meter.take(self.rt, given);
+                }
+                Ok(given)
+            }
+            Err(error) => {
+                self.error = Some(error);
+                Err(error)
+            }
+        }
+    }
+}
+
+/// A writer of notes, which takes the line with the progress away first.
+#[derive(Drop)]
+pub struct NoteWriter<'w, W, R> {
+    inner: W,
+    rt: &'w R,
+    meter: &'w Meter,
+}
+
+impl<'w, W, R> NoteWriter<'w, W, R> {
+    pub fn new(inner: W, rt: &'w R, meter: &'w Meter) -> NoteWriter<'w, W, R> {
+        NoteWriter { inner, rt, meter }
+    }
+}
+
+impl<W: Write, R: Eprint> Write for NoteWriter<'_, W, R> {
+    ghost contents = { λ w. W.contents w.inner };
+
+    fn write(&mut self, buf: &[u8]) -> io::Result<usize> {
+        self.meter.clear(self.rt);
+        self.inner.write(buf)
+    }
+
+    fn flush(&mut self) -> io::Result<()> {
+        self.inner.flush()
+    }
+}

@@ -1,0 +1,3 @@
+-- Lemmas.
+pub mod AtRiskLemmas
+pub mod OutputLemmas

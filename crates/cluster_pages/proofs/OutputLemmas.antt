@@ -1,0 +1,23 @@
+-- A report that is made and printed.
+use Rattle.std.proofs.Common.{◌≡◌, ℕ, List, Option}
+use Rattle.std.specs.Io.KnownBytes.{Appends}
+use Rattle.cluster_input.specs.declared.loaded.Loaded.{Loaded}
+use Rattle.cluster_pages.specs.Output.{IsReportOn, PrintsReport, StandsAs}
+use Rattle.cluster_pages.specs.Text.{report_text}
+use Rattle.cluster_pages.specs.declared.output.Standing.{Standing}
+
+-- the text of what is counted is a report
+pub reported : (loaded : Loaded) (most : ℕ) (text : List ℕ) (standing : Standing)
+    → StandsAs loaded standing
+    → text ≡ report_text loaded.names loaded.files most standing.report standing.risk
+    → IsReportOn loaded most text
+reported loaded most text standing stands text_is =
+    record { standing = standing; stands = stands; text_is = text_is }
+
+-- it is printed
+pub printed : (loaded : Loaded) (most : ℕ) (old new : Option (List ℕ)) (text : List ℕ)
+    → IsReportOn loaded most text
+    → Appends old new text
+    → PrintsReport loaded most old new
+printed loaded most old new text is_report appends =
+    record { text = text; is_report = is_report; appends = appends }

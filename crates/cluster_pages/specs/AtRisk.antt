@@ -1,0 +1,54 @@
+-- The files of blocks that are missing, or one failure away from that.
+use Rattle.std.specs.Prelude.{◌≡◌, ℕ, ◌+◌, ◌-◌, ◌^◌, ◌<◌, ◌==◌, min, set, Bool, false, if◌then◌else◌, nat_eq, nat_lt, Option, Some, None, List, map, filter, length, get_or, count_by}
+use Rattle.std.specs.Option.{option_map_or}
+use Rattle.std.specs.List.{enumerate_from}
+use Rattle.bm_base.specs.declared.level.Level.TheVariants.{Highest}
+use Rattle.cluster_names.specs.FileTable.{FileTable, place_of}
+use Rattle.cluster_names.specs.declared.files.FilePlace.{FilePlace}
+use Rattle.cluster_report.specs.Levels.{all_at}
+use Rattle.cluster_report.specs.declared.levels.Leveled.{Leveled}
+use Rattle.cluster_pages.specs.declared.at_risk.AtRisk.{AtRisk}
+use Rattle.cluster_pages.specs.declared.at_risk.FileRow.{FileRow}
+
+-- one more is counted at an index, if there is such an index
+abbrev pub with_one : List ℕ → ℕ → List ℕ
+with_one counts i = if nat_lt i (length counts) then set counts i (min (get_or counts i 0 + 1) (2 ^ 64 - 1)) else counts
+
+-- a block is counted of which this is the place
+abbrev pub with_place : Option FilePlace → List ℕ → List ℕ
+with_place None counts = counts
+with_place (Some p) counts = with_one counts p.file
+
+-- whether a block is in the file of this index
+abbrev pub is_in : FileTable → ℕ → ℕ → Bool
+is_in f file block = option_map_or (λ p. p.file == file) (place_of f block) false
+
+-- for each file how many of these blocks are in it
+pub record AreCounts (f : FileTable) (blocks counts : List ℕ) : Type 0 where
+  pub all : length counts ≡ length f.paths
+  pub each : (file : ℕ) → file < length f.paths → get_or counts file 0 ≡ count_by (is_in f file) blocks
+
+abbrev pub file_row : ℕ × ℕ → FileRow
+file_row p = record { file = p.0; blocks = p.1 }
+
+-- the files with such a block, in the order in which they were read
+abbrev pub rows_of : List ℕ → List FileRow
+rows_of counts = filter (λ r. nat_lt 0 r.blocks) (map file_row (enumerate_from 0 counts))
+
+-- those of these files that have none of the blocks that are counted
+abbrev pub rows_without : List ℕ → List FileRow → List FileRow
+rows_without counts rows = filter (λ r. nat_eq (get_or counts r.file 0) 0) rows
+
+-- the blocks at the highest level
+abbrev pub highest_of : List Leveled → List ℕ
+highest_of urgent = map (λ l. l.block) (all_at Highest urgent)
+
+-- The lost files have a missing block. The endangered ones have a block at the highest level, and
+-- are not lost.
+pub record AreAtRisk (f : FileTable) (missing : List ℕ) (urgent : List Leveled) (risk : AtRisk) : Type 0 where
+  pub missing_counts : List ℕ
+  pub missing_counted : AreCounts f missing missing_counts
+  pub highest_counts : List ℕ
+  pub highest_counted : AreCounts f (highest_of urgent) highest_counts
+  pub lost : risk.lost ≡ rows_of missing_counts
+  pub endangered : risk.endangered ≡ rows_without missing_counts (rows_of highest_counts)

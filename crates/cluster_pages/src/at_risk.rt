@@ -1,0 +1,142 @@
+// The files of blocks that are missing, or one failure away from that.
+ghost use Rattle.std.specs.Prelude.{◌≡◌, get_or, replicate, IfOk};
+ghost use Rattle.bm_base.specs.Machine.Levels.{is_at};
+ghost use Rattle.cluster_pages.specs.AtRisk.{AreAtRisk, AreCounts, highest_of, rows_of, rows_without, with_one, with_place};
+
+use bm_base::{BlockId, Items, Level};
+use cluster_names::{FilePlace, Files};
+use cluster_report::levels::Leveled;
+use std::alloc::{AllocError, Global};
+
+/// A file by its index, and how many of its blocks are at risk.
+#[derive(Clone, Copy)]
+pub struct FileRow {
+    pub file: usize,
+    pub blocks: usize,
+}
+
+/// The files at risk, in the order in which they were read.
+#[derive(Drop)]
+pub struct AtRisk {
+    /// Those with a missing block.
+    pub lost: Items<FileRow>,
+    /// Those with a block at the highest level that are not lost.
+    pub endangered: Items<FileRow>,
+}
+
+/// The files of these missing blocks, and of the urgent ones at the highest level.
+pub fn files_at_risk(
+    alloc: Global,
+    files: &Files,
+    missing: &[BlockId],
+    urgent: &[Leveled],
+) -> Result<AtRisk, AllocError>
+    ensures { IfOk result (λ risk. AreAtRisk files.now missing.now urgent.now risk) }
+{
+    let highest = highest_of(alloc, urgent)?;
+    let missing_counts = count_by_file(alloc, files, missing)?;
+    let highest_counts = count_by_file(alloc, files, highest.as_slice())?;
+    let lost = rows_of(alloc, missing_counts.as_slice())?;
+    let both = rows_of(alloc, highest_counts.as_slice())?;
+    let endangered = rows_without(alloc, missing_counts.as_slice(), both.as_slice())?;
+    Ok(AtRisk {
+        lost: Items::from_vec(lost),
+        endangered: Items::from_vec(endangered),
+    })
+}
+
+/// The blocks at the highest level.
+fn highest_of(alloc: Global, urgent: &[Leveled]) -> Result<Vec<BlockId>, AllocError>
+    ensures { IfOk result (λ v. v.items ≡ highest_of urgent.now) }
+{
+    urgent
+        .iter()
+        .filter(|found| is_highest(found))
+        .map(block_of)
+        .collect(alloc)
+}
+
+fn block_of(found: &Leveled) -> BlockId
+    ensures { result ≡ found.now.block }
+{
+    found.block
+}
+
+fn is_highest(found: &Leveled) -> bool
+    ensures { result ≡ is_at Level.Highest found.now.level }
+{
+    match found.level {
+        Some(level) => level.number() == Level::Highest.number(),
+        None => false,
+    }
+}
+
+/// How many of these blocks are in each file.
+fn count_by_file(alloc: Global, files: &Files, blocks: &[BlockId]) -> Result<Vec<usize>, AllocError>
+    ensures { IfOk result (λ counts. AreCounts files.now blocks.now counts.items) }
+{
+    let mut counts = no_counts(alloc, files.file_count())?;
+    for block in blocks {
+        count_place(&mut counts, files.place_of(*block));
+    }
+    Ok(counts)
+}
+
+fn no_counts(alloc: Global, files: usize) -> Result<Vec<usize>, AllocError>
+    ensures { IfOk result (λ counts. counts.items ≡ replicate files 0) }
+{
+    vec![in alloc; 0usize; files]
+}
+
+/// Counts a block of which this is the place; nothing where it has none.
+fn count_place(counts: &mut Vec<usize>, place: Option<FilePlace>)
+    ensures { counts.new.items ≡ with_place place counts.old.items }
+{
+    if let Some(place) = place {
+        add_one(counts.as_mut_slice(), place.file);
+    }
+}
+
+/// Counts one more at an index; nothing where there is none.
+fn add_one(counts: &mut [usize], index: usize)
+    ensures { counts.new ≡ with_one counts.old index }
+{
+    if index < counts.len() {
+        counts[index] = counts[index].saturating_add(1);
+    }
+}
+
+/// The files with such a block.
+fn rows_of(alloc: Global, counts: &[usize]) -> Result<Vec<FileRow>, AllocError>
+    ensures { IfOk result (λ v. v.items ≡ rows_of counts.now) }
+{
+    counts
+        .iter()
+        .enumerate()
+        .map(|(file, blocks)| FileRow {
+            file,
+            blocks: *blocks,
+        })
+        .filter(|row| row.blocks > 0)
+        .collect(alloc)
+}
+
+/// Those of these files that have none of the counted blocks.
+fn rows_without(
+    alloc: Global,
+    counts: &[usize],
+    rows: &[FileRow],
+) -> Result<Vec<FileRow>, AllocError>
+    ensures { IfOk result (λ v. v.items ≡ rows_without counts.now rows.now) }
+{
+    rows.iter()
+        .filter(|row| count_at(counts, row.file) == 0)
+        .copied()
+        .collect(alloc)
+}
+
+fn count_at(counts: &[usize], index: usize) -> usize
+    ensures { result ≡ get_or counts.now index 0 }
+{
+    counts.get(index).copied().unwrap_or(0)
+}

@@ -1,0 +1,201 @@
+//! The report on a cluster: reads lines of the line tool or a text of `hdfs fsck`, and prints how
+//! the cluster stands.
+//!
+//! ```text
+//! puljemrod_cluster report cluster.jsonl
+//! puljemrod_cluster report --nodes nodes.txt fsck.txt
+//! ```
+//!
+//! The report has a line for each fact (docs/CLUSTERS.md). A line of the input that asks for no
+//! call, or whose call is refused, is noted on standard error with its number, and the report still
+//! comes.
+//!
+//! The numbers of the stored run of `puljemrod_cluster` follow from the rules. Nodes 1, 2 and 5
+//! stand on rack 1, nodes 3 and 4 on rack 2; nodes 2 and 5 drain, and node 5 has nothing, so it is
+//! retired. Replicas that were found bad or are of another version count for nothing. Of the blocks
+//! - 1 wants three replicas and has live ones on storages 11 and 31, not all but a third or more:
+//!   under_replicated;
+//! - 2 wants two and has one on storage 21, which drains, and none live: highest; the one on
+//!   storage 41 is stale;
+//! - 3 wants one and has none: it is missing;
+//! - 4 wants two; the replica on storage 11 was found bad, the one on storage 31 is live: highest;
+//! - 5 wants one and has it on storage 41: no level;
+//! - 6 wants two and has them on storages 31 and 41, both on rack 2: badly_distributed;
+//! - 7 wants seven and has live ones on storages 11 and 41, fewer than a third:
+//!   very_under_replicated;
+//! - 8 wants one and has live ones on storages 11 and 31, so the round marks one as being in
+//!   excess: no level;
+//! - 9 is not known, so its replica on storage 12 is stray.
+//!
+//! Copies can go to storages 11, 12 and 31 alone: nothing is free on storage 41, and nothing is
+//! copied to a node that drains or that has a replica of the block already, of whatever tag. So the
+//! round commands four copies: of block 2 to storages 12 and 31, of block 7 to storage 31 and of
+//! block 6 to storage 12; blocks 1 and 4 stand on nodes 1 and 3 already. One of them has come:
+//! three are on their way, and block 2 has one live replica now, which is the highest level still.
+//!
+//! Ends with status 0 where every line asked for a call that was accepted; with status 1 where one
+//! did not, or where a read, a write or memory was refused; and with status 2 where the words ask
+//! for nothing that there is.
+#![tactic(auto)]
+
+pub mod at_risk;
+mod chart;
+pub mod json;
+pub mod options;
+pub mod output;
+pub mod page;
+mod page_parts;
+pub mod text;
+pub mod text_parts;
+
+ghost use Rattle.cluster_report.specs.Sessions.{IsInStep};
+
+use clap::Error;
+use clap::error::ErrorKind;
+use cluster_input::loaded::Loaded;
+use cluster_input::options::{asked_of, files_of};
+use cluster_input::sources::load;
+use json::standing_json;
+use options::{Form, form_of, matches_of, wrong_value};
+use output::{PrintFault, Standing, print_report, standing_of, write_flushed};
+use page::standing_page;
+use std::alloc::Global;
+use std::io::Write;
+use std::rt::Files;
+use std::sync::Wait;
+use std::thread::Threads;
+use std::{fs, io};
+
+const DONE: u8 = 0;
+
+const FAULTED: u8 = 1;
+
+const MISUSED: u8 = 2;
+
+/// The program's name, in what it says.
+const PROGRAM: &str = "report";
+
+/// Makes the report that the words of a command line ask for, the program's name first, with
+/// refused lines on `notes`. The result is the exit status.
+pub fn report_by_words<
+    R: Input + Print + Eprint + Files + AllocGlobal + Threads + Wait + Sync,
+    N: Print,
+>(rt: &R, notes: &N, words: &[String]) -> u8 {
+    let alloc: Global = rt.alloc();
+    let matches = match matches_of(alloc, words) {
+        Ok(matches) => matches,
+        Err(error) => return say_error(rt, &error),
+    };
+    let Some(asked) = asked_of(&matches) else {
+        return match wrong_value(alloc) {
+            Ok(error) => say_error(rt, &error),
+            Err(_) => say_memory(rt),
+        };
+    };
+    match load(rt, notes, PROGRAM, &asked, files_of(&matches)) {
+        Some((loaded, all_accepted)) => {
+            let status = report_on(rt, &loaded, &form_of(&matches));
+            if all_accepted { status } else { FAULTED }
+        }
+        None => FAULTED,
+    }
+}
+
+/// Says why there is no report.
+fn say_error<R: Print + Eprint>(rt: &R, error: &Error) -> u8 {
+    if matches!(error.kind(), ErrorKind::OutOfMemory) {
+        return say_memory(rt);
+    }
+    let _ = error.print(rt);
+    if error.use_stderr() { MISUSED } else { DONE }
+}
+
+fn say_memory<R: Eprint>(rt: &R) -> u8 {
+    let _ = rt.eprintln(format_args!("{PROGRAM}: memory fault"));
+    FAULTED
+}
+
+/// The report on a cluster: the page, if one is asked for, and then the lines or the JSON value on
+/// standard output.
+fn report_on<R: Print + Eprint + Files + AllocGlobal>(
+    rt: &R,
+    loaded: &Loaded,
+    form: &Form<'_>,
+) -> u8
+    requires { IsInStep loaded.now.session }
+{
+    let alloc: Global = rt.alloc();
+    let Ok(standing) = standing_of(alloc, loaded) else {
+        return say_memory(rt);
+    };
+    let is_page_written = match form.page {
+        Some(path) => write_page(rt, loaded, form.most, &standing, path),
+        None => true,
+    };
+    if !is_page_written {
+        return FAULTED;
+    }
+    let mut writer = io::writer(rt);
+    let printed = if form.is_json {
+        print_json(alloc, &mut writer, loaded, form.most, &standing)
+    } else {
+        print_report(alloc, &mut writer, loaded, form.most, &standing)
+    };
+    match printed {
+        Ok(()) => DONE,
+        Err(fault) => say_print_fault(rt, &fault),
+    }
+}
+
+/// Says why the report was not printed; nothing where its reader went away.
+fn say_print_fault<R: Eprint>(rt: &R, fault: &PrintFault) -> u8 {
+    let is_unread = match fault {
+        PrintFault::Write(error) => error.kind() == io::ErrorKind::BrokenPipe,
+        PrintFault::Memory => false,
+    };
+    if !is_unread {
+        let _ = rt.eprintln(format_args!("{PROGRAM}: {fault}"));
+    }
+    FAULTED
+}
+
+/// Prints the report as one JSON value on a line.
+fn print_json<W: Write>(
+    alloc: Global,
+    writer: &mut W,
+    loaded: &Loaded,
+    most: usize,
+    standing: &Standing,
+) -> Result<(), PrintFault> {
+    let Ok(mut text) = standing_json(alloc, loaded, most, standing) else {
+        return Err(PrintFault::Memory);
+    };
+    text.push_str("\n")?;
+    match write_flushed(writer, text.as_bytes()) {
+        Ok(()) => Ok(()),
+        Err(error) => Err(PrintFault::Write(error)),
+    }
+}
+
+/// Writes the page to a file, and says why it could not.
+fn write_page<R: Eprint + Files + AllocGlobal>(
+    rt: &R,
+    loaded: &Loaded,
+    most: usize,
+    standing: &Standing,
+    path: &str,
+) -> bool {
+    let Ok(page) = standing_page(rt.alloc(), loaded, most, standing) else {
+        let _ = say_memory(rt);
+        return false;
+    };
+    match fs::write(rt, path, page) {
+        Ok(()) => true,
+        Err(error) => {
+            let _ = rt.eprintln(format_args!(
+                "{PROGRAM}: the page cannot be written to {path}: {error}"
+            ));
+            false
+        }
+    }
+}

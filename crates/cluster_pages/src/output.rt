@@ -1,0 +1,110 @@
+// A report, written.
+ghost use Rattle.std.specs.Prelude.{◌≡◌, IfOk, IfErr, OnOk, string_bytes};
+ghost use Rattle.std.specs.Io.KnownBytes.{Appends};
+ghost use Rattle.cluster_report.specs.Sessions.{IsInStep};
+ghost use Rattle.cluster_pages.specs.Output.{IsReportOn, PrintsReport, StandsAs, WritesNothing};
+
+use crate::at_risk::{AtRisk, files_at_risk};
+use crate::text::report_text;
+use cluster_input::loaded::Loaded;
+use cluster_report::report::{Report, report_of};
+use std::alloc::{AllocError, Global};
+use std::io;
+use std::io::Write;
+use thiserror::Error;
+
+/// How a cluster stands, and its files at risk.
+#[derive(Drop)]
+pub struct Standing {
+    pub report: Report,
+    pub risk: AtRisk,
+}
+
+/// How a loaded cluster stands. The manager refuses only what is out of memory here.
+pub fn standing_of(alloc: Global, loaded: &Loaded) -> Result<Standing, AllocError>
+    requires { IsInStep loaded.now.session }
+    ensures { IfOk result (λ s. StandsAs loaded.now s) }
+{
+    let Ok(report) = report_of(alloc, &loaded.session.manager, &loaded.session.book) else {
+        return Err(AllocError);
+    };
+    let risk = files_at_risk(
+        alloc,
+        &loaded.files,
+        report.missing.as_slice(),
+        report.urgent.as_slice(),
+    )?;
+    Ok(Standing { report, risk })
+}
+
+/// The text of a report, with at most this number of blocks and files of each list.
+#[tactic(auto, using(crate::proofs::OutputLemmas::reported))]
+pub fn standing_text(
+    alloc: Global,
+    loaded: &Loaded,
+    most: usize,
+    standing: &Standing,
+) -> Result<String, AllocError>
+    requires { StandsAs loaded.now standing.now }
+    ensures { IfOk result (λ s. IsReportOn loaded.now most (string_bytes s)) }
+{
+    report_text(
+        alloc,
+        &loaded.names,
+        &loaded.files,
+        most,
+        &standing.report,
+        &standing.risk,
+    )
+}
+
+/// Why a report is not printed, or an unknown part of it where a write failed.
+#[derive(Clone, Copy, Debug, Error)]
+pub enum PrintFault {
+    #[error("memory fault")]
+    Memory,
+    /// A write or the flush failed.
+    #[error("write fault: {0}")]
+    Write(io::Error),
+}
+
+impl From<AllocError> for PrintFault {
+    ghost use Rattle.std.specs.Prelude.{◌≡◌};
+    ghost use Rattle.cluster_pages.specs.declared.output.PrintFault.TheVariants.{Memory};
+
+    ghost from_gives = { λ _ e. e ≡ Memory };
+
+    fn from(_error: AllocError) -> Self {
+        PrintFault::Memory
+    }
+}
+
+/// Prints the lines of a report, with at most this number of blocks and files of each list. Nothing
+/// is written before all of the text was made.
+#[tactic(auto, using(crate::proofs::OutputLemmas::printed))]
+pub fn print_report<W: Write>(
+    alloc: Global,
+    writer: &mut W,
+    loaded: &Loaded,
+    most: usize,
+    standing: &Standing,
+) -> Result<(), PrintFault>
+    requires { StandsAs loaded.now standing.now }
+    ensures text { OnOk result (PrintsReport loaded.now most
+        (W.contents writer.old) (W.contents writer.new)) }
+    ensures nothing_written { IfErr result (λ f. WritesNothing f writer.old writer.new) }
+{
+    let text = standing_text(alloc, loaded, most, standing)?;
+    match write_flushed(writer, text.as_bytes()) {
+        Ok(()) => Ok(()),
+        Err(error) => Err(PrintFault::Write(error)),
+    }
+}
+
+/// Writes all of a text, and flushes.
+pub fn write_flushed<W: Write>(writer: &mut W, text: &[u8]) -> io::Result<()>
+    ensures { OnOk result (Appends (W.contents writer.old) (W.contents writer.new) text.now) }
+{
+    writer.write_all(text)?;
+    writer.flush()
+}

@@ -1,0 +1,119 @@
+// Cells and bars of a page.
+use crate::text_parts::{thousandths, write_share};
+use bm_base::{NodeId, Rack};
+use cluster_names::Names;
+use std::alloc::AllocError;
+
+/// A text, with the five characters that HTML gives a meaning written by their names.
+pub fn write_escaped(text: &mut String, plain: &str) -> Result<(), AllocError> {
+    for letter in plain.chars() {
+        match letter {
+            '&' => text.push_str("&amp;")?,
+            '<' => text.push_str("&lt;")?,
+            '>' => text.push_str("&gt;")?,
+            '"' => text.push_str("&quot;")?,
+            '\'' => text.push_str("&#39;")?,
+            _ => text.push(letter)?,
+        }
+    }
+    Ok(())
+}
+
+pub fn write_cell(text: &mut String, word: &str) -> Result<(), AllocError> {
+    write!(text, "<td>{word}</td>")
+}
+
+pub fn write_number_cell(text: &mut String, number: u128) -> Result<(), AllocError> {
+    write!(text, "<td class=\"n\">{number}</td>")
+}
+
+/// The binary units above the byte, each 1,024 of the one before.
+static UNITS: [&str; 8] = ["KiB", "MiB", "GiB", "TiB", "PiB", "EiB", "ZiB", "YiB"];
+
+/// Bytes in the greatest unit of which there is one, to a tenth, rounded down.
+pub fn write_bytes(text: &mut String, bytes: u128) -> Result<(), AllocError> {
+    let mut below = bytes;
+    for unit in &UNITS {
+        if below < 1024 * 1024 {
+            return write_in_unit(text, below, *unit);
+        }
+        below /= 1024;
+    }
+    write!(text, "{bytes} B")
+}
+
+/// So many of the unit below this one.
+fn write_in_unit(text: &mut String, below: u128, unit: &str) -> Result<(), AllocError> {
+    if below < 1024 && unit == "KiB" {
+        return write!(text, "{below} B");
+    }
+    let whole = below / 1024;
+    let tenth = below % 1024 * 10 / 1024;
+    write!(text, "{whole}.{tenth} {unit}")
+}
+
+/// The name of a rack, or its number where it has none.
+pub fn write_rack(text: &mut String, names: &Names, rack: Rack) -> Result<(), AllocError> {
+    match names.rack(rack) {
+        Some(name) => write_escaped(text, name),
+        None => {
+            let number = rack.0;
+            write!(text, "{number}")
+        }
+    }
+}
+
+/// The name of a node, or its number where it has none.
+pub fn write_host(text: &mut String, names: &Names, node: NodeId) -> Result<(), AllocError> {
+    match names.host(node) {
+        Some(name) => write_escaped(text, name),
+        None => {
+            let number = node.0;
+            write!(text, "{number}")
+        }
+    }
+}
+
+/// A row with a count, its bytes, its part of the total in per cent, and that as a bar.
+pub fn write_amount_row(
+    text: &mut String,
+    what: &str,
+    count: usize,
+    bytes: u128,
+    total: u128,
+    is_bad: bool,
+) -> Result<(), AllocError> {
+    write!(
+        text,
+        "<tr><td>{what}</td><td class=\"n\">{count}</td><td class=\"n\">"
+    )?;
+    write_bytes(text, bytes)?;
+    text.push_str("</td>")?;
+    write_share_cells(text, count as u128, total, is_bad)?;
+    text.push_str("</tr>\n")
+}
+
+/// A part of a total in per cent, and as a bar.
+pub fn write_share_cells(
+    text: &mut String,
+    part: u128,
+    total: u128,
+    is_bad: bool,
+) -> Result<(), AllocError> {
+    text.push_str("<td class=\"n\">")?;
+    write_share(text, part, total)?;
+    text.push_str("</td><td class=\"bar\">")?;
+    write_bar(text, thousandths(part, total), is_bad)?;
+    text.push_str("</td>")
+}
+
+/// A bar of so many thousandths of its width.
+fn write_bar(text: &mut String, thousandths: u128, is_bad: bool) -> Result<(), AllocError> {
+    let class = if is_bad { "bad" } else { "part" };
+    write!(
+        text,
+        "<svg viewBox=\"0 0 1000 10\" preserveAspectRatio=\"none\" aria-hidden=\"true\">\
+         <rect class=\"all\" width=\"1000\" height=\"10\"/>\
+         <rect class=\"{class}\" width=\"{thousandths}\" height=\"10\"/></svg>"
+    )
+}

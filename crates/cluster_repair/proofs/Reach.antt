@@ -1,0 +1,146 @@
+-- How reports and rounds lead from one state to another, and what is noted on the way.
+use Rattle.std.proofs.Common.{◌≡◌, ◌∙◌, ◌++◌, ℕ, ◌+◌, Bool, true, false, not, List, [], ◌∷◌, Option, Some, None, refl, sym, ap, subst, arith}
+use Rattle.std.specs.Prelude.{◌==◌}
+use Rattle.std.specs.List.{filter}
+use Rattle.std.proofs.lemmas.List.Elements.{All-nil, All-same, All-push, All-filter}
+use Rattle.bm_base.specs.declared.event.Event.{Event}
+use Rattle.bm_base.specs.declared.event.Event.TheVariants.{Heartbeat, Received, Deleted}
+use Rattle.bm_base.specs.declared.event.Remaining.{Remaining}
+use Rattle.bm_base.specs.declared.replica.Stamp.{Stamp}
+use Rattle.bm_base.specs.declared.refusal.Refusal.{Refusal}
+use Rattle.bm_base.specs.declared.call.Call.{Call}
+use Rattle.bm_base.specs.declared.call.Call.TheVariants as call
+use Rattle.bm_base.specs.declared.call.Answer.TheVariants as answer
+use Rattle.bm_base.specs.Words.{State, whole_round, refusal_of, round_refusal, step, refused_or, count_call, done_by, after_event, state_after, is_retired}
+use Rattle.laws_of_repairs.specs.Repairs.{Covers}
+use Rattle.laws_of_repairs.proofs.Watching.{round_is_next, covers_heard, covers_told}
+use Rattle.cluster_repair.specs.declared.rows.Row.{Row}
+use Rattle.cluster_repair.specs.declared.repair.Repair.{Repair}
+use Rattle.cluster_repair.specs.declared.repair.Retirement.{Retirement}
+use Rattle.cluster_repair.specs.Rows.{IsReached, AreReported, AreCounts, IsRowAfter, AreRowsAfter, EndsWith, IsRetiredAfter, AreRetired, IsUnderWay, AreLeveled, IsDone, is_on_stride}
+
+state_after-append : (M : State) (calls more : List Call) → state_after M (calls ++ more) ≡ state_after (state_after M calls) more
+state_after-append M [] more = refl
+state_after-append M (k ∷ calls) more = state_after-append (step M k).1 calls more
+
+none_more : (n : ℕ) → n ≡ n + 0
+none_more n = omega arith
+
+reached_at_once : (M : State) → IsReached 0 M M
+reached_at_once M = record { calls = []; leads = refl; later = none_more M.round }
+
+reached_on : (L M N : State) (j k : ℕ) → IsReached j L M → IsReached k M N → IsReached (j + k) L N
+reached_on L M N j k first second = record {
+  calls = first.calls ++ second.calls;
+  leads = second.leads ∙ (ap (λ S. state_after S second.calls) first.leads ∙ sym (state_after-append L first.calls second.calls));
+  later = let one = first.later in let two = second.later in omega (arith, one, two);
+}
+
+reached_by_event : (M N : State) (e : Event) → refusal_of M e ≡ None → N ≡ after_event M e → IsReached 0 M N
+unfolding step after_event
+reached_by_event M N e accepted after = record {
+  calls = call.Apply e ∷ [];
+  leads = after ∙ sym (ap (λ r. (refused_or M r (answer.Done (done_by M e), after_event M e)).1) accepted);
+  later = ap (λ (S : State). S.round) after ∙ none_more M.round;
+}
+
+reached_by_round : (M N : State) → round_refusal M ≡ None → N ≡ count_call (whole_round M).1 → IsReached 1 M N
+unfolding step
+reached_by_round M N accepted after = record {
+  calls = call.Round ∷ [];
+  leads = after ∙ sym (ap (λ r. (refused_or M r (answer.Commanded (whole_round M).0, count_call (whole_round M).1)).1) accepted);
+  later = ap (λ (S : State). S.round) after ∙ round_is_next M;
+}
+
+-- Reports.
+
+pub reported_at_once : (M : State) (bs : List ℕ) → AreReported M M bs bs
+reported_at_once M bs = record { reached = reached_at_once M; covers = λ c. c }
+
+pub reported_on : (L M N : State) (xs ys zs : List ℕ) → AreReported L M xs ys → AreReported M N ys zs → AreReported L N xs zs
+reported_on L M N xs ys zs first second = record {
+  reached = reached_on L M N 0 0 first.reached second.reached;
+  covers = λ c. second.covers (first.covers c);
+}
+
+pub reported_copy : (M N : State) (xs ys : List ℕ) (s c : ℕ) (stamp : Stamp) → refusal_of M (Received s c stamp) ≡ None → N ≡ after_event M (Received s c stamp)
+    → ys ≡ xs ++ c ∷ [] → AreReported M N xs ys
+reported_copy M N xs ys s c stamp accepted after added = record {
+  reached = reached_by_event M N (Received s c stamp) accepted after;
+  covers = covers_told M N (Received s c stamp) xs ys c added (λ b apart. ap not apart) after;
+}
+
+pub reported_delete : (M N : State) (xs ys : List ℕ) (s c : ℕ) → refusal_of M (Deleted s c) ≡ None → N ≡ after_event M (Deleted s c) → ys ≡ xs ++ c ∷ [] → AreReported M N xs ys
+reported_delete M N xs ys s c accepted after added = record {
+  reached = reached_by_event M N (Deleted s c) accepted after;
+  covers = covers_told M N (Deleted s c) xs ys c added (λ b apart. ap not apart) after;
+}
+
+pub reported_free : (M N : State) (xs : List ℕ) (n : ℕ) (rs : List Remaining) → refusal_of M (Heartbeat n rs) ≡ None → N ≡ after_event M (Heartbeat n rs) → AreReported M N xs xs
+reported_free M N xs n rs accepted after = record {
+  reached = reached_by_event M N (Heartbeat n rs) accepted after;
+  covers = covers_heard M N (Heartbeat n rs) xs (λ b. refl) after;
+}
+
+-- Rows.
+
+no_rows : (M : State) → AreRowsAfter M []
+no_rows M = record { all = All-nil (IsRowAfter M) }
+
+pub rows_and : (M : State) (rows new : List Row) (row : Row) → new ≡ rows ++ row ∷ [] → AreRowsAfter M rows → IsRowAfter M row → AreRowsAfter M new
+rows_and M rows new row is before one = record { all = All-same (IsRowAfter M) new _ is (All-push (IsRowAfter M) rows row before.all one) }
+
+pub rows_among : (M : State) (rows new : List Row) (stride : ℕ) → new ≡ filter (λ r. is_on_stride r.round stride) rows → AreRowsAfter M rows
+    → AreRowsAfter M new
+rows_among M rows new stride is before = record {
+  all = All-same (IsRowAfter M) new _ is (All-filter (λ r. is_on_stride r.round stride) (IsRowAfter M) rows before.all);
+}
+
+-- Retirements.
+
+none_retired : (M : State) → AreRetired M []
+none_retired M = record { all = All-nil (IsRetiredAfter M) }
+
+pub retired_and : (M N : State) (ts new : List Retirement) (t : Retirement) → new ≡ ts ++ t ∷ [] → is_retired N.cluster N.holdings t.node ≡ true
+    → IsReached t.rounds M N → AreRetired M ts → AreRetired M new
+retired_and M N ts new t is retired reached before = record {
+  all = All-same (IsRetiredAfter M) new _ is (All-push (IsRetiredAfter M) ts t before.all (record { state = N; reached = reached; retired = retired }));
+}
+
+-- Rounds.
+
+pub under_way_at_once : (M : State) (r : Repair) → r.rows.rows.items ≡ [] → r.retired.items ≡ [] → r.rounds ≡ 0 → IsUnderWay M M r
+under_way_at_once M r rows retired rounds = record {
+  reached = subst (λ n. IsReached n M M) (sym rounds) (reached_at_once M);
+  rows = subst (AreRowsAfter M) (sym rows) (no_rows M);
+  retired = subst (AreRetired M) (sym retired) (none_retired M);
+}
+
+-- reports and a round
+pub under_way_by_round : (M K L N : State) (old new : Repair) → IsReached 0 K L → round_refusal L ≡ None → N ≡ count_call (whole_round L).1 → new.rounds ≡ old.rounds + 1
+    → new.rows.rows.items ≡ old.rows.rows.items → (IsReached old.rounds M L → AreRetired M old.retired.items → AreRetired M new.retired.items)
+    → IsUnderWay M K old → IsUnderWay M N new
+under_way_by_round M K L N old new reported accepted after rounds rows noted on =
+    let now : IsReached old.rounds M L = subst (λ n. IsReached n M L) (sym (none_more old.rounds)) (reached_on M K L old.rounds 0 on.reached reported) in
+    record {
+      reached = subst (λ n. IsReached n M N) (sym rounds) (reached_on M L N old.rounds 1 now (reached_by_round L N accepted after));
+      rows = subst (AreRowsAfter M) (sym rows) on.rows;
+      retired = noted now on.retired;
+    }
+
+-- a row
+pub noted : (M N : State) (old new : Repair) (row : Row) → AreCounts N row.levels → row.round ≡ old.rounds → AreLeveled N new.watch.blocks.items
+    → (AreRowsAfter M old.rows.rows.items → IsRowAfter M row → AreRowsAfter M new.rows.rows.items) → EndsWith new.rows.rows.items row
+    → new.rounds ≡ old.rounds → new.retired.items ≡ old.retired.items → IsUnderWay M N old → IsDone M N new
+noted M N old new row counts round blocks rows ends rounds retired on = record {
+  under_way = record {
+    reached = subst (λ n. IsReached n M N) (sym rounds) on.reached;
+    rows = rows on.rows (record { state = N; reached = subst (λ n. IsReached n M N) (sym round) on.reached; counts = counts });
+    retired = subst (AreRetired M) (sym retired) on.retired;
+  };
+  last = row;
+  ends = ends;
+  round = round ∙ sym rounds;
+  counts = counts;
+  blocks = blocks;
+}

@@ -1,0 +1,14 @@
+use Rattle.std.proofs.Common.{refl}
+use Rattle.laws_of_repairs.proofs.Watching.{covers_round}
+use Rattle.cluster_repair.proofs.Reach.{under_way_by_round}
+use Rattle.cluster_repair.proofs.repair.Repair.take_round.Goals as goal
+
+pub returns-clause-covers : goal.returns-clause-covers
+returns-clause-covers g c =
+    covers_round c.report.new.manager c.round.new.self c.report.new.watch.blocks.items c.show_invariant.ensures c.in_ok-commands.ensures.state
+    (c.in_ok-report.ensures.covers c.requires.covers)
+
+pub returns-clause-under_way : goal.returns-clause-under_way
+returns-clause-under_way g c M on =
+    under_way_by_round M c.args.manager.now c.report.new.manager c.round.new.self c.args.self.now _ c.in_ok-report.ensures.reached c.in_ok-commands.ensures.accepted c.in_ok-commands.ensures.state
+    refl refl (c.in_ok-note_retired.ensures M) on

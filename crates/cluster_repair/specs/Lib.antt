@@ -1,0 +1,3 @@
+-- How what is lost is copied again.
+pub mod Sending
+pub mod Rows

@@ -1,0 +1,90 @@
+-- What rounds leave, and how a manager came there.
+use Rattle.std.specs.Prelude.{◌≡◌, ℕ, Bool, true, ◌+◌, ◌-◌, ◌%◌, ◌==◌, max, List, [], ◌∷◌, ◌++◌, map, filter, length, Some, is_some}
+use Rattle.std.specs.List.{All}
+use Rattle.std.specs.List.Sorted.{IsStrictlyIncreasing}
+use Rattle.bm_base.specs.declared.call.Call.{Call}
+use Rattle.bm_base.specs.declared.level.Level.TheVariants.{Highest, VeryUnderReplicated, UnderReplicated, BadlyDistributed}
+use Rattle.bm_base.specs.Words.{State, has, keys, level, missing_blocks, is_retired, state_after}
+use Rattle.cluster_report.specs.declared.levels.LevelCounts.{LevelCounts}
+use Rattle.laws_of_repairs.specs.Repairs.{Covers, blocks_at}
+use Rattle.cluster_repair.specs.declared.rows.Row.{Row}
+use Rattle.cluster_repair.specs.declared.reasons.Unmended.{Unmended}
+use Rattle.cluster_repair.specs.declared.repair.Repair.{Repair}
+use Rattle.cluster_repair.specs.declared.repair.Retirement.{Retirement}
+
+-- some calls lead from one state to another, and this number of rounds is among them
+pub record IsReached (rounds : ℕ) (M N : State) : Type 0 where
+  pub calls : List Call
+  pub leads : N ≡ state_after M calls
+  pub later : N.round ≡ M.round + rounds
+
+-- reports of DataNodes lead from one state to another; blocks are added to those that are watched
+pub record AreReported (M N : State) (old new : List ℕ) : Type 0 where
+  pub reached : IsReached 0 M N
+  pub covers : Covers M old → Covers N new
+
+-- the counts are those of all known blocks, by the level that the manager answers
+pub record AreCounts (M : State) (c : LevelCounts) : Type 0 where
+  pub highest : c.highest ≡ blocks_at M Highest (keys M.holdings.blocks)
+  pub very_under_replicated : c.very_under_replicated ≡ blocks_at M VeryUnderReplicated (keys M.holdings.blocks)
+  pub under_replicated : c.under_replicated ≡ blocks_at M UnderReplicated (keys M.holdings.blocks)
+  pub badly_distributed : c.badly_distributed ≡ blocks_at M BadlyDistributed (keys M.holdings.blocks)
+  pub missing : c.missing ≡ length (missing_blocks M.cluster M.holdings)
+
+-- a row has the counts of a state that its number of rounds led to
+pub record IsRowAfter (M : State) (row : Row) : Type 0 where
+  pub state : State
+  pub reached : IsReached row.round M state
+  pub counts : AreCounts state row.levels
+
+pub record AreRowsAfter (M : State) (rows : List Row) : Type 0 where
+  pub all : All (IsRowAfter M) rows
+
+-- a row is the last
+pub record EndsWith (rows : List Row) (row : Row) : Type 0 where
+  pub front : List Row
+  pub is : rows ≡ front ++ row ∷ []
+
+-- after its number of rounds the manager answered that a node is retired
+pub record IsRetiredAfter (M : State) (t : Retirement) : Type 0 where
+  pub state : State
+  pub reached : IsReached t.rounds M state
+  pub retired : is_retired state.cluster state.holdings t.node ≡ true
+
+pub record AreRetired (M : State) (ts : List Retirement) : Type 0 where
+  pub all : All (IsRetiredAfter M) ts
+
+-- Rounds led from one state to another, and what was noted is what the manager answered on the way.
+pub record IsUnderWay (M N : State) (r : Repair) : Type 0 where
+  pub reached : IsReached r.rounds M N
+  pub rows : AreRowsAfter M r.rows.rows.items
+  pub retired : AreRetired M r.retired.items
+
+-- these are the blocks with a level, ascending
+pub record AreLeveled (M : State) (bs : List ℕ) : Type 0 where
+  pub ascending : IsStrictlyIncreasing bs
+  pub all : (b : ℕ) → has bs b ≡ is_some (level M.cluster M.holdings b)
+
+-- The same at the end: the last row is that of the last round, and the watched blocks are those
+-- with a level.
+pub record IsDone (M N : State) (r : Repair) : Type 0 where
+  pub under_way : IsUnderWay M N r
+  pub last : Row
+  pub ends : EndsWith r.rows.rows.items last
+  pub round : last.round ≡ r.rounds
+  pub counts : AreCounts N last.levels
+  pub blocks : AreLeveled N r.watch.blocks.items
+
+-- of these blocks those with a level, and the level that the manager answers
+pub record AreFound (M : State) (bs : List ℕ) (us : List Unmended) : Type 0 where
+  pub blocks : map (λ u. u.block) us ≡ filter (λ b. is_some (level M.cluster M.holdings b)) bs
+  pub each : All (λ u. level M.cluster M.holdings u.block ≡ Some u.level) us
+
+-- all blocks with a level, ascending, and the level that the manager answers
+pub record AreUnmended (M : State) (us : List Unmended) : Type 0 where
+  pub blocks : AreLeveled M (map (λ u. u.block) us)
+  pub each : All (λ u. level M.cluster M.holdings u.block ≡ Some u.level) us
+
+-- whether a round is one of 1, 1 + stride and so on
+abbrev pub is_on_stride : ℕ → ℕ → Bool
+is_on_stride round stride = (round - 1) % max stride 1 == 0

@@ -1,0 +1,37 @@
+-- When copies arrive, and what is free: a model. Each node sends one copy at a time and receives
+-- one at a time, at one bandwidth.
+use Rattle.std.specs.Prelude.{ℕ, ◌+◌, ◌*◌, ◌-◌, ◌^◌, max, min, nat_eq, unwrap_or}
+use Rattle.std.specs.Int.{div_ceil}
+use Rattle.std.specs.HashMap.{get}
+use Rattle.bm_base.specs.declared.event.Remaining.{Remaining}
+use Rattle.cluster_repair.specs.declared.links.Links.{Links}
+use Rattle.cluster_repair.specs.declared.free.FreeBytes.{FreeBytes}
+
+-- the last number of 64 bits
+abbrev pub most : ℕ
+most = 2 ^ 64 - 1
+
+-- how many microseconds a number of bytes takes at a bandwidth in bytes a second, rounded up
+abbrev pub micros_for : ℕ → ℕ → ℕ
+micros_for bandwidth bytes = min (div_ceil (bytes * 1000000) (max bandwidth 1)) most
+
+-- until when a node sends
+abbrev pub sends_until : Links → ℕ → ℕ
+sends_until l n = unwrap_or (get nat_eq l.sending n) 0
+
+-- until when a node receives
+abbrev pub receives_until : Links → ℕ → ℕ
+receives_until l n = unwrap_or (get nat_eq l.receiving n) 0
+
+-- When a copy arrives that is commanded now: it starts once its source sends no other copy and its
+-- target receives none.
+abbrev pub arrival : Links → ℕ → ℕ → ℕ → ℕ → ℕ
+arrival l source target bytes now = min (max (max now (sends_until l source)) (receives_until l target) + micros_for l.bandwidth bytes) most
+
+-- the free bytes of a storage; 0 of one that is not known
+abbrev pub free_on : FreeBytes → ℕ → ℕ
+free_on f s = unwrap_or (get nat_eq f.free s) 0
+
+-- what the node of a storage reports as free there
+abbrev pub remaining_in : FreeBytes → ℕ → Remaining
+remaining_in f s = record { storage = s; remaining = free_on f s }

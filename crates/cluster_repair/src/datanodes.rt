@@ -1,0 +1,236 @@
+// What DataNodes do with the commands of rounds, and what they report: a model.
+ghost use Rattle.std.specs.Prelude.{◌≡◌, None, OnOk};
+ghost use Rattle.bm_base.specs.Words.{after_event, refusal_of};
+ghost use Rattle.cluster_repair.specs.Rows.{AreReported};
+
+use crate::free::FreeBytes;
+use crate::links::Links;
+use crate::on_way::OnWay;
+use crate::watch::Watch;
+use bm_base::{Commands, Delete, Event, NodeId, Refusal, StorageId, Transfer};
+use bm_crew::NoGate;
+use bm_manager::Manager;
+use bm_topo::Topology;
+use cluster_report::catalogue::Catalogue;
+use std::alloc::{AllocError, Global};
+use std::sync::Wait;
+use std::thread::Threads;
+
+/// What DataNodes have to do, and what they have done.
+#[derive(Drop)]
+pub struct DataNodes {
+    pub links: Links,
+    pub on_way: OnWay,
+    pub deletes: Vec<Delete>,
+    pub free: FreeBytes,
+    /// When the last copy arrives, in microseconds.
+    pub last_arrival: u64,
+    /// All copies sent, and their bytes.
+    pub copies: u64,
+    pub bytes: u128,
+}
+
+impl DataNodes {
+    /// Nothing is on its way.
+    pub fn new(
+        alloc: Global,
+        topology: &Topology,
+        bandwidth: u64,
+    ) -> Result<DataNodes, AllocError> {
+        let free = FreeBytes::new(alloc, topology)?;
+        Ok(DataNodes {
+            links: Links::new(alloc, bandwidth),
+            on_way: OnWay::new(alloc),
+            deletes: Vec::new(alloc),
+            free,
+            last_arrival: 0,
+            copies: 0,
+            bytes: 0,
+        })
+    }
+
+    /// Whether nothing is left to be done.
+    pub fn are_idle(&self) -> bool {
+        self.on_way.is_empty() && self.deletes.is_empty()
+    }
+
+    /// DataNodes report the copies that have arrived by now, the deletes, and what is free.
+    pub fn report<H: Threads + Wait + Sync>(
+        &mut self,
+        rt: &H,
+        alloc: Global,
+        manager: &mut Manager,
+        watch: &mut Watch,
+        blocks: &Catalogue,
+        now: u64,
+    ) -> Result<(), Refusal>
+        ensures { OnOk result (AreReported manager.old manager.new
+            watch.old.blocks.items watch.new.blocks.items) }
+    {
+        report_copies(rt, alloc, manager, watch, &mut self.on_way, now)?;
+        report_deletes(rt, manager, watch, self.deletes.as_slice())?;
+        self.free_deleted(blocks)?;
+        report_free(rt, alloc, manager, &self.free)?;
+        Ok(())
+    }
+
+    /// The bytes of deleted replicas are free again.
+    fn free_deleted(&mut self, blocks: &Catalogue) -> Result<(), AllocError> {
+        for delete in &self.deletes {
+            self.free
+                .give_back(delete.storage, blocks.len_of(delete.block))?;
+        }
+        self.deletes.clear();
+        Ok(())
+    }
+
+    /// DataNodes begin what a round commands.
+    pub fn obey(
+        &mut self,
+        topology: &Topology,
+        commands: &Commands,
+        now: u64,
+    ) -> Result<(), AllocError> {
+        for node in commands.nodes.as_slice() {
+            for transfer in node.transfers.as_slice() {
+                self.send(topology, *transfer, now)?;
+            }
+            for delete in node.deletes.as_slice() {
+                self.deletes.push(*delete)?;
+            }
+        }
+        Ok(())
+    }
+
+    /// Sends a copy, unless it is on its way already: then the target refuses the second.
+    fn send(
+        &mut self,
+        topology: &Topology,
+        transfer: Transfer,
+        now: u64,
+    ) -> Result<(), AllocError> {
+        if self.on_way.has(&transfer) {
+            return Ok(());
+        }
+        let bytes = transfer.stamp.len;
+        let source = node_of(topology, transfer.source);
+        let target = node_of(topology, transfer.target);
+        let arrival = self.links.send(source, target, bytes, now)?;
+        self.on_way.add(arrival, transfer)?;
+        self.free.take(transfer.target, bytes)?;
+        self.last_arrival = self.last_arrival.max(arrival);
+        self.copies = self.copies.saturating_add(1);
+        self.bytes = self.bytes.saturating_add(u128::from(bytes));
+        Ok(())
+    }
+}
+
+/// The node of a storage; each storage of a command is known.
+fn node_of(topology: &Topology, storage: StorageId) -> NodeId {
+    topology.node_of(storage).unwrap_or(NodeId(0))
+}
+
+/// Reports an event. It is refused for lack of memory alone, since no node or storage leaves.
+fn apply<H: Threads + Wait + Sync>(
+    rt: &H,
+    manager: &mut Manager,
+    event: &Event,
+) -> Result<(), Refusal>
+    ensures accepted { OnOk result (refusal_of manager.old event.now ≡ None) }
+    ensures state { OnOk result (manager.new ≡ after_event manager.old event.now) }
+{
+    let _ = manager.apply(rt, &NoGate, event)?;
+    Ok(())
+}
+
+#[tactic(auto, using(crate::proofs::Reach::reported_at_once))]
+fn report_copies<H: Threads + Wait + Sync>(
+    rt: &H,
+    alloc: Global,
+    manager: &mut Manager,
+    watch: &mut Watch,
+    on_way: &mut OnWay,
+    now: u64,
+) -> Result<(), Refusal>
+    ensures { OnOk result (AreReported manager.old manager.new
+        watch.old.blocks.items watch.new.blocks.items) }
+{
+    let due = on_way.take_due(alloc, now)?;
+    for sent in &due {
+        report_copy(rt, manager, watch, &sent.transfer)?;
+    }
+    Ok(())
+}
+
+fn report_copy<H: Threads + Wait + Sync>(
+    rt: &H,
+    manager: &mut Manager,
+    watch: &mut Watch,
+    copied: &Transfer,
+) -> Result<(), Refusal>
+    ensures { OnOk result (AreReported manager.old manager.new
+        watch.old.blocks.items watch.new.blocks.items) }
+{
+    let received = Event::Received {
+        storage: copied.target,
+        id: copied.block,
+        stamp: copied.stamp,
+    };
+    apply(rt, manager, &received)?;
+    watch.add(copied.block)?;
+    Ok(())
+}
+
+#[tactic(auto, using(crate::proofs::Reach::reported_at_once))]
+fn report_deletes<H: Threads + Wait + Sync>(
+    rt: &H,
+    manager: &mut Manager,
+    watch: &mut Watch,
+    deletes: &[Delete],
+) -> Result<(), Refusal>
+    ensures { OnOk result (AreReported manager.old manager.new
+        watch.old.blocks.items watch.new.blocks.items) }
+{
+    for delete in deletes {
+        report_delete(rt, manager, watch, delete)?;
+    }
+    Ok(())
+}
+
+fn report_delete<H: Threads + Wait + Sync>(
+    rt: &H,
+    manager: &mut Manager,
+    watch: &mut Watch,
+    delete: &Delete,
+) -> Result<(), Refusal>
+    ensures { OnOk result (AreReported manager.old manager.new
+        watch.old.blocks.items watch.new.blocks.items) }
+{
+    let deleted = Event::Deleted {
+        storage: delete.storage,
+        id: delete.block,
+    };
+    apply(rt, manager, &deleted)?;
+    watch.add(delete.block)?;
+    Ok(())
+}
+
+#[tactic(auto, using(crate::proofs::Reach::reported_at_once))]
+fn report_free<H: Threads + Wait + Sync>(
+    rt: &H,
+    alloc: Global,
+    manager: &mut Manager,
+    free: &FreeBytes,
+) -> Result<(), Refusal>
+    ensures { OnOk result ((bs : _) → AreReported manager.old manager.new bs bs) }
+{
+    for node in &free.nodes {
+        let remaining = free.remaining_on(alloc, node)?;
+        let heartbeat = Event::Heartbeat {
+            node: node.node,
+            remaining,
+        };
+        apply(rt, manager, &heartbeat)?;
+    }
+    Ok(())
+}

@@ -1,0 +1,127 @@
+// The free bytes of storages, as their DataNodes know them.
+ghost use Rattle.std.specs.Prelude.{◌≡◌, ℕ, ◌+◌, ◌-◌, min, nat_eq, map, IfOk, OnOk, if◌then◌else◌};
+ghost use Rattle.cluster_repair.specs.Sending.{most, free_on, remaining_in};
+
+use crate::numbers::put;
+use bm_base::{Items, NodeId, Remaining, StorageId};
+use bm_topo::Topology;
+use cluster_report::nodes::{all_nodes, all_storages};
+use std::alloc::{AllocError, Global};
+use std::collections::HashMap;
+
+/// A node with its storages, ascending.
+#[derive(Drop)]
+pub struct NodeStorages {
+    pub node: NodeId,
+    pub storages: Vec<StorageId>,
+}
+
+/// The free bytes of each storage. A copy takes its bytes when it is commanded.
+#[derive(Drop)]
+pub struct FreeBytes {
+    /// Ascending.
+    pub storages: Vec<StorageId>,
+    pub nodes: Vec<NodeStorages>,
+    pub free: HashMap<u32, u64>,
+}
+
+impl FreeBytes {
+    /// As the last heartbeats reported them.
+    pub fn new(alloc: Global, topology: &Topology) -> Result<FreeBytes, AllocError> {
+        let storages = all_storages(alloc, topology)?;
+        let nodes = nodes_with(alloc, topology, storages.as_slice())?;
+        let mut free = HashMap::new(alloc);
+        for storage in &storages {
+            let remaining = topology.remaining(*storage).unwrap_or(0);
+            put(&mut free, storage.0, remaining)?;
+        }
+        Ok(FreeBytes {
+            storages,
+            nodes,
+            free,
+        })
+    }
+
+    pub fn of(&self, storage: StorageId) -> u64
+        ensures { result ≡ free_on self.now storage }
+    {
+        self.free.get(&storage.0).copied().unwrap_or(0)
+    }
+
+    pub fn take(&mut self, storage: StorageId, bytes: u64) -> Result<(), AllocError>
+        ensures { OnOk result ((s : ℕ) → free_on self.new s
+            ≡ (if nat_eq storage s then free_on self.old storage - bytes
+            else free_on self.old s)) }
+    {
+        let left = self.of(storage).saturating_sub(bytes);
+        self.put(storage, left)
+    }
+
+    pub fn give_back(&mut self, storage: StorageId, bytes: u64) -> Result<(), AllocError>
+        ensures { OnOk result ((s : ℕ) → free_on self.new s
+            ≡ (if nat_eq storage s then min (free_on self.old storage + bytes) most
+            else free_on self.old s)) }
+    {
+        let left = self.of(storage).saturating_add(bytes);
+        self.put(storage, left)
+    }
+
+    #[tactic(auto, using(crate::proofs::NumberLemmas::number_put))]
+    fn put(&mut self, storage: StorageId, bytes: u64) -> Result<(), AllocError>
+        ensures { OnOk result ((s : ℕ) → free_on self.new s
+            ≡ (if nat_eq storage s then bytes else free_on self.old s)) }
+    {
+        put(&mut self.free, storage.0, bytes)
+    }
+
+    /// The free bytes that a node reports.
+    pub fn remaining_on(
+        &self,
+        alloc: Global,
+        node: &NodeStorages,
+    ) -> Result<Items<Remaining>, AllocError>
+        ensures { IfOk result (λ free. free
+            ≡ map (remaining_in self.now) node.now.storages.items) }
+    {
+        let mut free = Vec::new(alloc);
+        for storage in &node.storages {
+            free.push(Remaining {
+                storage: *storage,
+                remaining: self.of(*storage),
+            })?;
+        }
+        Ok(Items::from_vec(free))
+    }
+}
+
+fn nodes_with(
+    alloc: Global,
+    topology: &Topology,
+    storages: &[StorageId],
+) -> Result<Vec<NodeStorages>, AllocError> {
+    let all = all_nodes(alloc, topology)?;
+    let mut nodes = Vec::new(alloc);
+    for node in &all {
+        let storages = storages_of(alloc, topology, *node, storages)?;
+        nodes.push(NodeStorages {
+            node: *node,
+            storages,
+        })?;
+    }
+    Ok(nodes)
+}
+
+fn storages_of(
+    alloc: Global,
+    topology: &Topology,
+    node: NodeId,
+    storages: &[StorageId],
+) -> Result<Vec<StorageId>, AllocError> {
+    let mut own = Vec::new(alloc);
+    for storage in storages {
+        if topology.has_storage(node, *storage) {
+            own.push(*storage)?;
+        }
+    }
+    Ok(own)
+}

@@ -1,0 +1,18 @@
+//! How what is lost is copied again, round by round, by DataNodes that obey the commands of each
+//! round at a bandwidth.
+//!
+//! How fast DataNodes are is a model: each sends one copy at a time and receives one at a time, in
+//! the order of the commands. A copy takes its bytes from the target's free bytes when it is
+//! commanded. A delete is done by the next round. Copies that were commanded before never come.
+//! Clients, disks and switches are not in the model.
+#![tactic(auto)]
+
+pub mod datanodes;
+pub mod free;
+pub mod links;
+mod numbers;
+pub mod on_way;
+pub mod reasons;
+pub mod repair;
+pub mod rows;
+pub mod watch;

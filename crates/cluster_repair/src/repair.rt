@@ -1,0 +1,291 @@
+// Rounds until nothing more is copied.
+ghost use Rattle.std.specs.Prelude.{◌≡◌, ◌+◌, ◌<◌, [], IfOk, OnOk};
+ghost use Rattle.bm_base.specs.Machine.State.{State};
+ghost use Rattle.cluster_report.specs.Sessions.{IsInStep};
+ghost use Rattle.laws_of_repairs.specs.Repairs.{Covers};
+ghost use Rattle.cluster_repair.specs.Rows.{IsReached, AreRetired, IsUnderWay, IsDone};
+
+use crate::datanodes::DataNodes;
+use crate::links::MICROS;
+use crate::rows::{Row, Rows};
+use crate::watch::Watch;
+use bm_base::{Commands, NodeId, Refusal};
+use bm_crew::NoGate;
+use bm_manager::Manager;
+use bm_topo::Topology;
+use cluster_progress::Progress;
+use cluster_report::catalogue::Catalogue;
+use cluster_report::session::Session;
+use cluster_report::transfers::Transfers;
+use std::alloc::{AllocError, Global};
+use std::sync::Wait;
+use std::thread::Threads;
+
+/// At most this number of rounds is taken.
+const MOST_ROUNDS: u32 = 1_000_000;
+
+/// How fast DataNodes are, and how often rounds come.
+#[derive(Clone, Copy)]
+pub struct Pace {
+    /// In bytes a second, of each node, in and out.
+    pub bandwidth: u64,
+    /// In seconds.
+    pub interval: u32,
+}
+
+/// When a node can be switched off that is to be taken away.
+#[derive(Clone, Copy)]
+pub struct Retirement {
+    pub node: NodeId,
+    /// The number of rounds after which the manager first answers that it is retired.
+    pub rounds: u32,
+}
+
+/// What is copied, and what the manager answers about it.
+#[derive(Drop)]
+pub struct Repair {
+    pub datanodes: DataNodes,
+    pub watch: Watch,
+    pub rows: Rows,
+    /// The alive nodes that are to be taken away.
+    pub drained: Vec<NodeId>,
+    /// Those of them that are retired.
+    pub retired: Vec<Retirement>,
+    /// The rounds that were taken.
+    pub rounds: u32,
+    /// The copies that the last round commanded.
+    pub commanded: usize,
+}
+
+/// What does not change while it is repaired.
+#[derive(Clone, Copy)]
+struct Facts<'a> {
+    alloc: Global,
+    topology: &'a Topology,
+    blocks: &'a Catalogue,
+    /// The microseconds from round to round.
+    interval: u64,
+    /// For how many rounds the manager awaits copies that were commanded before.
+    awaited: u32,
+}
+
+/// Takes rounds until nothing is on its way and a round commands nothing. Copies that were
+/// commanded before never come: the manager gives them up.
+#[tactic(auto, using(crate::proofs::Reach::under_way_at_once))]
+pub fn repair_cluster<R: Eprint + Threads + Wait + Sync>(
+    rt: &R,
+    alloc: Global,
+    session: &mut Session,
+    pace: Pace,
+    drained: &[NodeId],
+    progress: &mut Progress,
+) -> Result<Repair, Refusal>
+    requires { IsInStep session.old }
+    ensures { IfOk result (λ r. IsDone session.old.manager session.new.manager r) }
+{
+    let mut repair = Repair::new(alloc, session, pace, drained)?;
+    let book = &session.book;
+    let facts = Facts {
+        alloc,
+        topology: &book.topology,
+        blocks: &book.blocks,
+        interval: u64::from(pace.interval).saturating_mul(MICROS),
+        awaited: awaited_rounds(&book.transfers),
+    };
+    repair.take_rounds(rt, &mut session.manager, &facts, progress)?;
+    repair.note_row(alloc, &session.manager)?;
+    Ok(repair)
+}
+
+/// After how many rounds no copy is awaited that was commanded before.
+fn awaited_rounds(transfers: &Transfers) -> u32 {
+    if transfers.count() == 0 {
+        0
+    } else {
+        transfers.pend
+    }
+}
+
+impl Repair {
+    /// No round was taken.
+    fn new(
+        alloc: Global,
+        session: &Session,
+        pace: Pace,
+        drained: &[NodeId],
+    ) -> Result<Repair, Refusal>
+        requires { IsInStep session.now }
+        ensures covers { IfOk result (λ r. Covers session.now.manager r.watch.blocks.items) }
+        ensures rows { IfOk result (λ r. r.rows.rows.items ≡ []) }
+        ensures retired { IfOk result (λ r. r.retired.items ≡ []) }
+        ensures rounds { IfOk result (λ r. r.rounds ≡ 0) }
+    {
+        let topology = &session.book.topology;
+        let watch = Watch::new(alloc, &session.manager, &session.book.blocks)?;
+        let datanodes = DataNodes::new(alloc, topology, pace.bandwidth)?;
+        let drained = alive_among(alloc, topology, drained)?;
+        Ok(Repair {
+            datanodes,
+            watch,
+            rows: Rows::new(alloc),
+            drained,
+            retired: Vec::new(alloc),
+            rounds: 0,
+            commanded: 0,
+        })
+    }
+
+    fn take_rounds<R: Eprint + Threads + Wait + Sync>(
+        &mut self,
+        rt: &R,
+        manager: &mut Manager,
+        facts: &Facts<'_>,
+        progress: &mut Progress,
+    ) -> Result<(), Refusal>
+        requires covers { Covers manager.old self.old.watch.blocks.items }
+        requires none { self.old.rounds ≡ 0 }
+        ensures covers { OnOk result (Covers manager.new self.new.watch.blocks.items) }
+        ensures under_way { OnOk result ((M : State) → IsUnderWay M manager.old self.old
+            → IsUnderWay M manager.new self.new) }
+    {
+        for past in 0..MOST_ROUNDS {
+            progress.show_made(rt, past);
+            if self.is_over(facts) {
+                return Ok(());
+            }
+            self.note_due(facts.alloc, manager)?;
+            self.take_round(rt, manager, facts)?;
+        }
+        Ok(())
+    }
+
+    /// Whether nothing more comes after the rounds that were taken.
+    fn is_over(&self, facts: &Facts<'_>) -> bool {
+        self.rounds > 0 && self.rounds >= facts.awaited && self.datanodes.are_idle()
+    }
+
+    /// One round: DataNodes report what they have done and what is free, and the manager commands.
+    fn take_round<H: Threads + Wait + Sync>(
+        &mut self,
+        rt: &H,
+        manager: &mut Manager,
+        facts: &Facts<'_>,
+    ) -> Result<(), Refusal>
+        requires covers { Covers manager.old self.old.watch.blocks.items }
+        requires few { self.old.rounds < 1000000 }
+        ensures covers { OnOk result (Covers manager.new self.new.watch.blocks.items) }
+        ensures rounds { OnOk result (self.new.rounds ≡ self.old.rounds + 1) }
+        ensures under_way { OnOk result ((M : State) → IsUnderWay M manager.old self.old
+            → IsUnderWay M manager.new self.new) }
+    {
+        let now = u64::from(self.rounds).saturating_mul(facts.interval);
+        let watch = &mut self.watch;
+        self.datanodes
+            .report(rt, facts.alloc, manager, watch, facts.blocks, now)?;
+        note_retired(manager, self.drained.as_slice(), &mut self.retired, self.rounds)?;
+        manager.show_invariant();
+        let commands = manager.round(rt, &NoGate)?;
+        self.datanodes.obey(facts.topology, &commands, now)?;
+        self.commanded = copies_in(&commands);
+        self.rounds += 1;
+        Ok(())
+    }
+
+    /// Adds the row of the round that was taken last, if it is due.
+    fn note_due(&mut self, alloc: Global, manager: &Manager) -> Result<(), Refusal>
+        requires { Covers manager.now self.old.watch.blocks.items }
+        ensures covers { OnOk result (Covers manager.now self.new.watch.blocks.items) }
+        ensures rounds { OnOk result (self.new.rounds ≡ self.old.rounds) }
+        ensures under_way { OnOk result ((M : State) → IsUnderWay M manager.now self.old
+            → IsUnderWay M manager.now self.new) }
+    {
+        if self.rounds > 0 && self.rows.is_due(self.rounds) {
+            self.note_row(alloc, manager)?;
+        }
+        Ok(())
+    }
+
+    /// Adds the row of the round that was taken last.
+    fn note_row(&mut self, alloc: Global, manager: &Manager) -> Result<(), Refusal>
+        requires { Covers manager.now self.old.watch.blocks.items }
+        ensures covers { OnOk result (Covers manager.now self.new.watch.blocks.items) }
+        ensures rounds { OnOk result (self.new.rounds ≡ self.old.rounds) }
+        ensures done { OnOk result ((M : State) → IsUnderWay M manager.now self.old
+            → IsDone M manager.now self.new) }
+    {
+        let levels = self.watch.count(alloc, manager)?;
+        let row = Row {
+            round: self.rounds,
+            levels,
+            commanded: self.commanded,
+            on_way: self.datanodes.on_way.len(),
+        };
+        self.rows.push(alloc, row)?;
+        Ok(())
+    }
+}
+
+/// Those of these nodes that are alive.
+fn alive_among(
+    alloc: Global,
+    topology: &Topology,
+    drained: &[NodeId],
+) -> Result<Vec<NodeId>, AllocError> {
+    let mut alive = Vec::new(alloc);
+    for node in drained {
+        if topology.node_drains(*node).is_some() {
+            alive.push(*node)?;
+        }
+    }
+    Ok(alive)
+}
+
+/// Notes which of these nodes are retired after this number of rounds, and were not before.
+fn note_retired(
+    manager: &Manager,
+    drained: &[NodeId],
+    retired: &mut Vec<Retirement>,
+    rounds: u32,
+) -> Result<(), Refusal>
+    ensures { OnOk result ((M : State) → IsReached rounds M manager.now
+        → AreRetired M retired.old.items → AreRetired M retired.new.items) }
+{
+    for node in drained {
+        note_if_retired(manager, *node, retired, rounds)?;
+    }
+    Ok(())
+}
+
+#[tactic(auto, using(crate::proofs::Reach::retired_and))]
+fn note_if_retired(
+    manager: &Manager,
+    node: NodeId,
+    retired: &mut Vec<Retirement>,
+    rounds: u32,
+) -> Result<(), Refusal>
+    ensures { OnOk result ((M : State) → IsReached rounds M manager.now
+        → AreRetired M retired.old.items → AreRetired M retired.new.items) }
+{
+    if rounds_of(retired.as_slice(), node).is_none() && manager.retired(node)? {
+        retired.push(Retirement { node, rounds })?;
+    }
+    Ok(())
+}
+
+/// After how many rounds a node was retired.
+pub fn rounds_of(retired: &[Retirement], node: NodeId) -> Option<u32> {
+    for retirement in retired {
+        if retirement.node == node {
+            return Some(retirement.rounds);
+        }
+    }
+    None
+}
+
+fn copies_in(commands: &Commands) -> usize {
+    let mut copies = 0usize;
+    for node in commands.nodes.as_slice() {
+        copies = copies.saturating_add(node.transfers.as_slice().len());
+    }
+    copies
+}

@@ -1,0 +1,104 @@
+// What rounds leave: a row for every round, or for every second, fourth and so on of many.
+ghost use Rattle.std.specs.Prelude.{◌≡◌, [], filter, IfOk, OnOk};
+ghost use Rattle.bm_base.specs.Machine.State.{State};
+ghost use Rattle.cluster_repair.specs.Rows.{IsRowAfter, AreRowsAfter, EndsWith, is_on_stride};
+
+use cluster_report::levels::LevelCounts;
+use std::alloc::{AllocError, Global};
+
+/// There are at most this number of rows: before one more comes, every second goes.
+const MOST_KEPT: usize = 256;
+
+/// What a round leaves.
+#[derive(Clone, Copy)]
+pub struct Row {
+    /// The number of rounds, with this one.
+    pub round: u32,
+    /// The blocks at each level.
+    pub levels: LevelCounts,
+    /// The copies that the round commands.
+    pub commanded: usize,
+    /// The copies on their way.
+    pub on_way: usize,
+}
+
+/// The rows of rounds 1, 1 + `stride` and so on, and of the last.
+#[derive(Drop)]
+pub struct Rows {
+    pub rows: Vec<Row>,
+    pub stride: u32,
+}
+
+impl Rows {
+    pub fn new(alloc: Global) -> Rows
+        ensures { result.rows.items ≡ [] }
+    {
+        Rows {
+            rows: Vec::new(alloc),
+            stride: 1,
+        }
+    }
+
+    /// Whether a round has a row, the last one aside.
+    pub fn is_due(&self, round: u32) -> bool
+        ensures { result ≡ is_on_stride round self.now.stride }
+    {
+        is_on_stride(round, self.stride)
+    }
+
+    /// Adds the row of a round.
+    pub fn push(&mut self, alloc: Global, row: Row) -> Result<(), AllocError>
+        ensures rows { OnOk result ((M : State) → AreRowsAfter M self.old.rows.items
+            → IsRowAfter M row → AreRowsAfter M self.new.rows.items) }
+        ensures last { OnOk result (EndsWith self.new.rows.items row) }
+    {
+        self.make_room(alloc)?;
+        self.rows.push(row)?;
+        Ok(())
+    }
+
+    /// Drops every second row if there are too many for one more.
+    fn make_room(&mut self, alloc: Global) -> Result<(), AllocError>
+        ensures { OnOk result ((M : State) → AreRowsAfter M self.old.rows.items
+            → AreRowsAfter M self.new.rows.items) }
+    {
+        if self.rows.len() < MOST_KEPT {
+            return Ok(());
+        }
+        self.thin(alloc)?;
+        Ok(())
+    }
+
+    /// Drops every second row.
+    #[tactic(auto, using(crate::proofs::Reach::rows_among))]
+    fn thin(&mut self, alloc: Global) -> Result<(), AllocError>
+        ensures { OnOk result ((M : State) → AreRowsAfter M self.old.rows.items
+            → AreRowsAfter M self.new.rows.items) }
+    {
+        let stride = self.stride.saturating_mul(2);
+        self.rows = rows_on(alloc, self.rows.as_slice(), stride)?;
+        self.stride = stride;
+        Ok(())
+    }
+}
+
+fn rows_on(alloc: Global, rows: &[Row], stride: u32) -> Result<Vec<Row>, AllocError>
+    ensures { IfOk result (λ v. v.items ≡ filter (λ r. is_on_stride r.round stride) rows.now) }
+{
+    rows.iter()
+        .filter(|row| has_stride(row, stride))
+        .copied()
+        .collect(alloc)
+}
+
+fn has_stride(row: &Row, stride: u32) -> bool
+    ensures { result ≡ is_on_stride row.now.round stride }
+{
+    is_on_stride(row.round, stride)
+}
+
+fn is_on_stride(round: u32, stride: u32) -> bool
+    ensures { result ≡ is_on_stride round stride }
+{
+    round.saturating_sub(1) % stride.max(1) == 0
+}

@@ -1,0 +1,5 @@
+use Rattle.cluster_report.proofs.CatalogueLemmas.{lists_empty}
+use Rattle.cluster_report.proofs.catalogue.Catalogue.new.Goals as goal
+
+pub returns : goal.returns
+returns c = lists_empty (record { blocks = c.new.result }) c.new.ensures.empty

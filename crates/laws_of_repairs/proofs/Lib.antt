@@ -1,0 +1,4 @@
+-- Lemmas.
+pub mod Rounds
+pub mod Reports
+pub mod Watching

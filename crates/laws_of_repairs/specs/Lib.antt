@@ -1,0 +1,2 @@
+-- Levels while copies arrive.
+pub mod Repairs

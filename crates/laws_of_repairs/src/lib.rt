@@ -1,0 +1,25 @@
+//! The levels of blocks while copies arrive and replicas are deleted, and no node or storage is
+//! lost: no block gets a level that had none, unless DataNodes report a replica of it. So a list
+//! that has all blocks with a level still has them if each block of a report is added, and its
+//! blocks at each level are all of them.
+#![tactic(auto)]
+
+ghost use Rattle.bm_base.specs.Promises.AllStates.{InLawfulStates};
+ghost use Rattle.laws_of_repairs.specs.Repairs as law;
+
+/// In a lawful state a round gives no block a level that had none.
+pub fn round_gives_no_level()
+    ensures { InLawfulStates law.RoundGivesNoLevel }
+{}
+
+/// A heartbeat keeps the levels of all blocks, and a notice of a copy or a delete those of all
+/// others.
+pub fn reports_keep_levels()
+    ensures { law.ReportsKeepLevels }
+{}
+
+/// If a list has all blocks with a level, each once, then as many of the list are at a level as of
+/// all known blocks.
+pub fn covering_blocks_count_as_all()
+    ensures { law.CoveringBlocksCountAsAll }
+{}
