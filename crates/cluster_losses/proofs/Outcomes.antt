@@ -8,7 +8,7 @@ use Rattle.cluster_report.specs.Levels.{levels_counted}
 use Rattle.cluster_report.specs.Reports.{levels_held}
 use Rattle.cluster_pages.specs.AtRisk.{AreAtRisk}
 use Rattle.cluster_pages.specs.declared.at_risk.AtRisk.{AtRisk}
-use Rattle.cluster_losses.specs.Answers.{IsOutcome, HasLostFiles}
+use Rattle.cluster_losses.specs.Outcomes.{IsOutcome, HasLostFiles}
 use Rattle.cluster_losses.specs.declared.without.Outcome.{Outcome}
 use Rattle.cluster_losses.specs.declared.each.Row.{Row}
 

@@ -15,4 +15,4 @@ death n = Dead n
 
 -- First nodes drain, then storages fail, then nodes die.
 abbrev pub events_of : Lost → List Event
-events_of lost = map drain lost.drained ++ (map failure lost.storages ++ map death lost.nodes)
+events_of lost = map drain lost.drained.items ++ (map failure lost.storages.items ++ map death lost.nodes.items)

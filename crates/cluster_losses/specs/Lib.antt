@@ -1,4 +1,3 @@
--- What is answered about losses.
-pub mod Text
-pub mod Answers
+-- Losses, and what they leave.
 pub mod Events
+pub mod Outcomes

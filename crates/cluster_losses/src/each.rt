@@ -2,13 +2,11 @@
 ghost use Rattle.std.specs.Prelude.{map, IfOk, OnOk};
 ghost use Rattle.cluster_report.specs.Sessions.{IsInStep};
 ghost use Rattle.cluster_losses.specs.Events.{death};
-ghost use Rattle.cluster_losses.specs.Answers.{IsOutcome, HasLostFiles};
+ghost use Rattle.cluster_losses.specs.Outcomes.{IsOutcome, HasLostFiles};
 
 use crate::fault::Fault;
-use crate::loss::Kind;
 use crate::loss_events::{Lost, nodes_on};
 use crate::set_back::{Return, returns_of};
-use crate::text::{fits_word, write_node, write_rack};
 use crate::without::{Outcome, without};
 use bm_base::{NodeId, Rack, Refusal};
 use cluster_input::loaded::Loaded;
@@ -63,22 +61,23 @@ pub fn nodes_of(alloc: Global, book: &Book) -> Result<Vec<Part>, AllocError> {
 
 /// What is lost with one of them.
 #[derive(Drop)]
-struct Row {
-    number: u32,
-    nodes: usize,
-    lost_files: usize,
-    without: Outcome,
+pub struct Row {
+    /// Of the rack or node.
+    pub number: u32,
+    /// How many nodes are lost.
+    pub nodes: usize,
+    pub lost_files: usize,
+    pub without: Outcome,
 }
 
-/// The table of what is lost with each of these alone, the worst first: by lost blocks, then by the
-/// blocks at the first three levels, then by number.
-pub fn table_of<H: Threads + Wait + Sync>(
+/// What is lost with each of these alone, the worst first: by lost blocks, then by the blocks at the
+/// first three levels, then by number.
+pub fn rows_of<H: Threads + Wait + Sync>(
     rt: &H,
     alloc: Global,
     loaded: &mut Loaded,
-    kind: Kind,
     parts: &[Part],
-) -> Result<String, Fault>
+) -> Result<Vec<Row>, Fault>
     requires { IsInStep loaded.old.session }
 {
     let excess = loaded.session.manager.excess()?;
@@ -101,7 +100,7 @@ pub fn table_of<H: Threads + Wait + Sync>(
         return Err(Fault::NotSetBack);
     }
     rows.sort_by_key(|row| badness(row))?;
-    Ok(table_text(alloc, loaded, kind, rows.as_slice())?)
+    Ok(rows)
 }
 
 /// Loses one of them.
@@ -115,7 +114,7 @@ fn row_of<H: Threads + Wait + Sync>(
 ) -> Result<Row, Fault>
     requires { IsInStep session.old }
     ensures outcome { IfOk result (λ r.
-        IsOutcome session.old.manager (map death part.now.nodes) r.without) }
+        IsOutcome session.old.manager (map death part.now.nodes.items) r.without) }
     ensures files { IfOk result (λ r. HasLostFiles files.now r) }
     ensures in_step { OnOk result (IsInStep session.new) }
 {
@@ -158,79 +157,4 @@ fn badness(row: &Row) -> (usize, usize, usize, usize, u32) {
         usize::MAX - levels.under_replicated,
         row.number,
     )
-}
-
-fn table_text(
-    alloc: Global,
-    loaded: &Loaded,
-    kind: Kind,
-    rows: &[Row],
-) -> Result<String, AllocError> {
-    let mut text = String::new(alloc);
-    write_heading(&mut text, loaded, kind)?;
-    for row in rows {
-        write_row(alloc, &mut text, loaded, kind, row)?;
-    }
-    Ok(text)
-}
-
-fn write_heading(text: &mut String, loaded: &Loaded, kind: Kind) -> Result<(), AllocError> {
-    let what = match kind {
-        Kind::Rack => "rack",
-        _ => "node",
-    };
-    write!(text, "{what:<28} {:>6} ", "nodes")?;
-    if loaded.files.file_count() > 0 {
-        write!(text, "{:>10} ", "lost_files")?;
-    }
-    write!(text, "{:>11} {:>9} ", "lost_blocks", "highest")?;
-    write!(
-        text,
-        "{:>21} {:>16} {:>17} ",
-        "very_under_replicated", "under_replicated", "badly_distributed"
-    )?;
-    write!(
-        text,
-        "{:>20} {:>20} {:>7}\n",
-        "bytes_to_copy", "free_bytes", "suffice"
-    )
-}
-
-fn write_row(
-    alloc: Global,
-    text: &mut String,
-    loaded: &Loaded,
-    kind: Kind,
-    row: &Row,
-) -> Result<(), AllocError> {
-    let name = name_of(alloc, loaded, kind, row.number)?;
-    let name = name.as_str();
-    let nodes = row.nodes;
-    write!(text, "{name:<28} {nodes:>6} ")?;
-    if loaded.files.file_count() > 0 {
-        let files = row.lost_files;
-        write!(text, "{files:>10} ")?;
-    }
-    let lost = row.without.lost.len();
-    let after = &row.without.after;
-    let fits = fits_word(after);
-    write!(text, "{lost:>11} {:>9} ", after.levels.highest)?;
-    write!(
-        text,
-        "{:>21} {:>16} {:>17} ",
-        after.levels.very_under_replicated,
-        after.levels.under_replicated,
-        after.levels.badly_distributed
-    )?;
-    write!(text, "{:>20} {:>20} {fits:>7}\n", after.lacking, after.free)
-}
-
-/// The name of a row.
-fn name_of(alloc: Global, loaded: &Loaded, kind: Kind, number: u32) -> Result<String, AllocError> {
-    let mut name = String::new(alloc);
-    match kind {
-        Kind::Rack => write_rack(&mut name, &loaded.names, Rack(number))?,
-        _ => write_node(&mut name, &loaded.names, NodeId(number))?,
-    }
-    Ok(name)
 }

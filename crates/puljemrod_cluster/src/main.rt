@@ -11,9 +11,9 @@
 //! The stored run is a report, which `crates/cluster_report` explains.
 #![tactic(auto)]
 
-use cluster_losses::losses_by_words;
 use cluster_pages::report_by_words;
 use cluster_simulation::simulate_by_words;
+use cluster_what_if::losses_by_words;
 use fsck_import::import_by_words;
 use std::env::Env;
 use std::process::ExitCode;

@@ -1,7 +1,7 @@
 use Rattle.std.proofs.Common.{◌≡◌, ◌++◌, string_bytes, take}
 use Rattle.std.specs.List.{flat_map}
-use Rattle.cluster_losses.specs.Text.{node_line}
-use Rattle.cluster_losses.proofs.text.write_nodes.Given as goal
+use Rattle.cluster_what_if.specs.Text.{node_line}
+use Rattle.cluster_what_if.proofs.text.write_nodes.Given as goal
 
 abbrev pub invariant-loop-node : goal.invariant-loop-node
 invariant-loop-node l =

@@ -1,9 +1,9 @@
 // The options of the program.
 use crate::help::{EXAMPLES, wrong_question, wrong_value};
-use crate::loss::{Question, question_of};
 use clap::{Arg, ArgAction, ArgMatches, Command, Error, value_parser};
 use cluster_input::options as input;
 use cluster_input::options::with_input;
+use cluster_losses::loss::{Question, question_of};
 use cluster_repair::repair::Pace;
 use cluster_report::options::with;
 use std::alloc::{AllocError, Global};

@@ -1,5 +1,5 @@
 -- The text of an answer: a line for each fact. A line ends with the byte 10.
-use Rattle.std.specs.Prelude.{ℕ, ◌×◌, Bool, true, false, nat_le, nat_eq, if◌then◌else◌, List, [], ◌++◌, Option, Some, None, unwrap_or, codes, decimal, length, take}
+use Rattle.std.specs.Prelude.{ℕ, Bool, true, false, nat_le, nat_eq, if◌then◌else◌, List, [], ◌++◌, Option, Some, None, unwrap_or, codes, decimal, length, take}
 use Rattle.std.specs.List.{flat_map}
 use Rattle.bm_base.specs.Words.{get, Cluster}
 use Rattle.cluster_names.specs.Rows.{name_or_number}
@@ -28,8 +28,8 @@ storage_line names s = codes "lose storage " ++ (name_or_number [] names.storage
 -- all that is lost or drained, by name
 unfoldable pub lost_text : Names → Cluster → Lost → List ℕ
 lost_text names C lost =
-    flat_map (node_line (codes "drain") names C) lost.drained
-    ++ (flat_map (storage_line names) lost.storages
+    flat_map (node_line (codes "drain") names C) lost.drained.items
+    ++ (flat_map (storage_line names) lost.storages.items
     ++ flat_map (node_line (codes "lose") names C) lost.nodes)
 
 -- what is counted, before the losses and after them

@@ -2,13 +2,13 @@
 ghost use Rattle.std.specs.Prelude.{◌≡◌, ◌++◌, [], IfOk, OnOk, nat_le, codes, option_map, option_copied, string_bytes};
 ghost use Rattle.std.specs.List.{flat_map};
 ghost use Rattle.cluster_names.specs.Rows.{shown, name_or_number};
-ghost use Rattle.cluster_losses.specs.Text.{node_words, node_line, storage_line, lost_text, change_line, levels_text, end_with, block_line, blocks_text, files_text, yes_or_no, fits_line, copies_text, answer_text};
+ghost use Rattle.cluster_what_if.specs.Text.{node_words, node_line, storage_line, lost_text, change_line, levels_text, end_with, block_line, blocks_text, files_text, yes_or_no, fits_line, copies_text, answer_text};
 
-use crate::loss_events::Lost;
-use crate::standing::Standing;
-use crate::without::Outcome;
 use bm_base::{BlockId, NodeId, Rack, StorageId};
 use cluster_input::loaded::Loaded;
+use cluster_losses::loss_events::Lost;
+use cluster_losses::standing::Standing;
+use cluster_losses::without::Outcome;
 use cluster_names::{Files, Names};
 use cluster_pages::at_risk::{AtRisk, FileRow};
 use cluster_pages::text::first_of;

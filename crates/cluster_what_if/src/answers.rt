@@ -2,13 +2,13 @@
 ghost use Rattle.std.specs.Prelude.{◌≡◌, true, IfOk, OnOk, string_bytes};
 ghost use Rattle.cluster_lost.specs.Losses.{are_losses, after_losses};
 ghost use Rattle.cluster_report.specs.Sessions.{IsInStep};
-ghost use Rattle.cluster_losses.specs.Answers.{IsAnswer};
+ghost use Rattle.cluster_what_if.specs.Answers.{IsAnswer};
 
-use crate::standing::standing_of;
 use crate::text::answer_text;
-use crate::without::without;
 use bm_base::{Event, Refusal};
 use cluster_input::loaded::Loaded;
+use cluster_losses::standing::standing_of;
+use cluster_losses::without::without;
 use cluster_pages::at_risk::files_at_risk;
 use std::alloc::Global;
 use std::sync::Wait;

@@ -1,6 +1,6 @@
 use Rattle.std.proofs.Common.{◌≡◌, [], subst}
 use Rattle.cluster_pages.specs.AtRisk.{AreAtRisk}
-use Rattle.cluster_losses.proofs.answers.answer_to_losses.Goals as goal
+use Rattle.cluster_what_if.proofs.answers.answer_to_losses.Goals as goal
 
 pub returns-clause-text : goal.returns-clause-text
 returns-clause-text g c = record {

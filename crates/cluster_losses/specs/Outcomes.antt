@@ -1,5 +1,5 @@
--- What is answered about losses.
-use Rattle.std.specs.Prelude.{◌≡◌, ℕ, List, [], length}
+-- How a cluster stands after losses, and what is lost.
+use Rattle.std.specs.Prelude.{◌≡◌, List, [], length}
 use Rattle.bm_base.specs.declared.event.Event.{Event}
 use Rattle.bm_base.specs.Words.{State, missing_blocks}
 use Rattle.cluster_names.specs.FileTable.{FileTable}
@@ -8,7 +8,6 @@ use Rattle.cluster_report.specs.Levels.{levels_counted}
 use Rattle.cluster_report.specs.Reports.{levels_held}
 use Rattle.cluster_pages.specs.AtRisk.{AreAtRisk}
 use Rattle.cluster_pages.specs.declared.at_risk.AtRisk.{AtRisk}
-use Rattle.cluster_losses.specs.Text.{answer_text}
 use Rattle.cluster_losses.specs.declared.standing.Standing.{Standing}
 use Rattle.cluster_losses.specs.declared.without.Outcome.{Outcome}
 use Rattle.cluster_losses.specs.declared.each.Row.{Row}
@@ -17,17 +16,6 @@ use Rattle.cluster_losses.specs.declared.each.Row.{Row}
 pub record StandsAs (M : State) (s : Standing) : Type 0 where
   pub levels : s.levels ≡ levels_counted (levels_held M) (length (missing_blocks M.cluster M.holdings))
   pub missing : s.missing ≡ missing_blocks M.cluster M.holdings
-
--- The text has how the cluster stands before losses and after them, with no round between, the
--- blocks whose usable replicas were all on what is lost, and the files of these blocks.
-pub record IsAnswer (f : FileTable) (most : ℕ) (M : State) (es : List Event) (text : List ℕ) : Type 0 where
-  pub before : Standing
-  pub after : Standing
-  pub risk : AtRisk
-  pub stands_before : StandsAs M before
-  pub stands_after : StandsAs (after_losses M es) after
-  pub files : AreAtRisk f (lost_blocks M es) [] risk
-  pub text_is : text ≡ answer_text f most before after (lost_blocks M es) risk.lost
 
 -- What is found without what is lost: the blocks that are lost, and how the cluster stands.
 pub record IsOutcome (M : State) (es : List Event) (w : Outcome) : Type 0 where
