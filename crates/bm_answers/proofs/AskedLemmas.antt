@@ -3,7 +3,7 @@ use Rattle.std.proofs.Common.{◌≡◌, Option, None, Some, ℕ, ◌<◌, ◌�
 use Rattle.std.proofs.lemmas.Bool.{lt-ltb, le-ltb}
 use Rattle.std.specs.Prelude.{OnErr}
 use Rattle.bm_base.specs.declared.call.Call.{Call}
-use Rattle.bm_lines.specs.Reading.CallOf.{call_of}
+use Rattle.bm_lines.specs.Parser.CallOf.{call_of}
 use Rattle.bm_lines.specs.declared.limits.TheConstants.{MAX_LINE}
 use Rattle.bm_answers.specs.OneLine.{asked, asked_by}
 use Rattle.bm_answers.specs.declared.asked.Asked.TheVariants.{Long, Asks, Bad}

@@ -20,14 +20,14 @@ use Rattle.bm_arena.proofs.EntryViews.{seen_at, entry_seen}
 use Rattle.bm_arena.proofs.KeptLinks.{KeepsLinks, IsSound-relinked, lists_from-relinked}
 
 -- a block that is seen without replicas has no triplets
-pub bare-seen : (e : BlockEntry) → (entry_view e).replicas ≡ [] → e.triplets.items ≡ []
-bare-seen e none = by e.triplets.items none
+pub no_replicas-seen : (e : BlockEntry) → (entry_view e).replicas ≡ [] → e.triplets.items ≡ []
+no_replicas-seen e none = by e.triplets.items none
   where
     by : (ts : List Triplet) → map triplet_view ts ≡ [] → ts ≡ []
     by [] none = refl
     by (t ∷ ts) none = absurd (cc)
 
-module _ (slots new : Slab BlockEntry) (x : ℕ) (e : BlockEntry) (there : get slots x ≡ Some e) (bare : e.triplets.items ≡ []) (is : new.slots ≡ set slots.slots x None)
+module _ (slots new : Slab BlockEntry) (x : ℕ) (e : BlockEntry) (there : get slots x ≡ Some e) (no_replicas : e.triplets.items ≡ []) (is : new.slots ≡ set slots.slots x None)
     (ids after : List (ℕ × ℕ)) (heads : List (ℕ × Option ℕ)) (delimiter : ℕ) (arena : IsArena slots ids heads delimiter) (differs : x ≢ delimiter)
     (updates : (q : ℕ) → lookup (nat_eq q) after ≡ cond (eqb e.id q) None (lookup (nat_eq q) ids)) where
   gone : get new x ≡ None
@@ -43,7 +43,7 @@ module _ (slots new : Slab BlockEntry) (x : ℕ) (e : BlockEntry) (there : get s
   same_triplets : (s y : ℕ) → triplet_at new y s ≡ triplet_at slots y s
   same_triplets s y =
       elim (cases_eq y x) [
-        | inl same ↦ rw same (ap (read s) gone ∙ sym (ap (read s) there ∙ ap (λ ts. find_triplet ts s) bare))
+        | inl same ↦ rw same (ap (read s) gone ∙ sym (ap (read s) there ∙ ap (λ ts. find_triplet ts s) no_replicas))
         | inr other ↦ ap (read s) (kept y other)
       ]
 
@@ -112,7 +112,7 @@ id-seen slots x id is b seen =
 
 -- the same, from the contracts of the calls of `drop_entry`
 module _ (slots new : Slab BlockEntry) (x id : ℕ) (removed : Some id ≡ option_map (λ (e : BlockEntry). e.id) (get slots x)) (is : new.slots ≡ set slots.slots x None)
-    (bare : IsSomeAnd (get_or (slot_views slots) x None) (λ (b : Block). b.replicas ≡ []))
+    (no_replicas : IsSomeAnd (get_or (slot_views slots) x None) (λ (b : Block). b.replicas ≡ []))
     (ids after : List (ℕ × ℕ)) (heads : List (ℕ × Option ℕ)) (delimiter : ℕ) (arena : IsArena slots ids heads delimiter) (differs : x ≢ delimiter)
     (updates : (q : ℕ) → lookup (nat_eq q) after ≡ cond (eqb id q) None (lookup (nat_eq q) ids)) where
   entry : (e : BlockEntry) × (get slots x ≡ Some e) × (e.id ≡ id) × (e.triplets.items ≡ [])
@@ -122,7 +122,7 @@ module _ (slots new : Slab BlockEntry) (x id : ℕ) (removed : Some id ≡ optio
       by None at named = absurd (none-some id (sym named))
       by (Some e) at named =
           let P : Option Block → Type 0 = λ o. IsSomeAnd o (λ (b : Block). b.replicas ≡ []) in
-          (e, at, sym (same_Some id e.id named), bare-seen e (subst P (seen_at slots x e at) bare))
+          (e, at, sym (same_Some id e.id named), no_replicas-seen e (subst P (seen_at slots x e at) no_replicas))
 
   updates_own : (q : ℕ) → lookup (nat_eq q) after ≡ cond (eqb entry.0.id q) None (lookup (nat_eq q) ids)
   updates_own q = rw entry.2 (updates q)
@@ -155,11 +155,11 @@ module _ (slots new : Slab BlockEntry) (x id : ℕ) (removed : Some id ≡ optio
   drop_entry-lists = dropped-lists slots new x entry.0 entry.1 entry.3 is ids after heads delimiter arena differs updates_own
 
 pub drop_entry-none : (slots : Slab BlockEntry) (x : ℕ) → None ≡ option_map (λ (e : BlockEntry). e.id) (get slots x) → IsSomeAnd (get_or (slot_views slots) x None) (λ (b : Block). b.replicas ≡ []) → ⊥
-drop_entry-none slots x named bare = by (get slots x) refl named
+drop_entry-none slots x named no_replicas = by (get slots x) refl named
   where
     by : (o : Option BlockEntry) → get slots x ≡ o → None ≡ option_map (λ (e : BlockEntry). e.id) o → ⊥
     by None at named =
         let nothing : get_or (slot_views slots) x None ≡ None = get_or-map (option_map entry_view) slots.slots x None ∙ ap (option_map entry_view) at in
         let P : Option Block → Type 0 = λ o. IsSomeAnd o (λ (b : Block). b.replicas ≡ []) in
-        subst P nothing bare
+        subst P nothing no_replicas
     by (Some e) at named = none-some e.id named

@@ -41,12 +41,12 @@ lists_from-same old new (e ∷ es) distinct same =
     rw (head, later) refl
 
 -- an entry without triplets is inserted at a vacant slot
-module _ (old new : Slab BlockEntry) (key : ℕ) (e : BlockEntry) (vacant : get old key ≡ None) (up : Updates old new key (Some e)) (bare : e.triplets.items ≡ []) where
+module _ (old new : Slab BlockEntry) (key : ℕ) (e : BlockEntry) (vacant : get old key ≡ None) (up : Updates old new key (Some e)) (no_replicas : e.triplets.items ≡ []) where
   links-inserted : (s x : ℕ) → triplet_at new x s ≡ triplet_at old x s
   links-inserted s x =
       elim (cases_eq x key) [
         | inl same ↦
-            rw same (ap (read s) up.changed ∙ ap (λ ts. find_triplet ts s) bare ∙ sym (ap (read s) vacant))
+            rw same (ap (read s) up.changed ∙ ap (λ ts. find_triplet ts s) no_replicas ∙ sym (ap (read s) vacant))
         | inr differs ↦ ap (read s) (up.others x differs)
       ]
 
@@ -79,7 +79,7 @@ module _ (old new : Slab BlockEntry) (key : ℕ) (e : BlockEntry) (vacant : get 
           elim (cases_eq x key) [
             | inl same ↦
                 let now : Some (entry_view e) ≡ Some b = sym seen-inserted_here ∙ (rw same at is) in
-                let none : Distinct (storages_of (entry_view e)) = rw (storages_seen e, bare) tt in
+                let none : Distinct (storages_of (entry_view e)) = rw (storages_seen e, no_replicas) tt in
                 let P : Block → Type 0 = λ c. Distinct (storages_of c) in
                 subst P (same_Some (entry_view e) b now) none
             | inr differs ↦ sound.once x b (sym (seen-inserted_other x differs) ∙ is)
@@ -139,25 +139,25 @@ lookup-push q k v (e ∷ es) none =
     ]
 
 -- a new number gets an entry
-module _ (old new : Slab BlockEntry) (key : ℕ) (e : BlockEntry) (vacant : get old key ≡ None) (up : Updates old new key (Some e)) (bare : e.triplets.items ≡ [])
+module _ (old new : Slab BlockEntry) (key : ℕ) (e : BlockEntry) (vacant : get old key ≡ None) (up : Updates old new key (Some e)) (no_replicas : e.triplets.items ≡ [])
     (ids : List (ℕ × ℕ)) (heads : List (ℕ × Option ℕ)) (delimiter : ℕ) (arena : IsArena old ids heads delimiter) (absent : lookup (nat_eq e.id) ids ≡ None)
     (below : key < end_of_links) where
   seen_here : get_or (slot_views new) key None ≡ Some (entry_view e)
-  seen_here = seen-inserted_here old new key e vacant up bare
+  seen_here = seen-inserted_here old new key e vacant up no_replicas
 
   seen_elsewhere : (x : ℕ) → x ≢ key → get_or (slot_views new) x None ≡ get_or (slot_views old) x None
-  seen_elsewhere = seen-inserted_other old new key e vacant up bare
+  seen_elsewhere = seen-inserted_other old new key e vacant up no_replicas
 
   -- a slot that had a block is not the new slot
   was_other : (x : ℕ) (b : Block) → get_or (slot_views old) x None ≡ Some b → x ≢ key
-  was_other x b is same = none-some b (sym (seen-inserted_before old new key e vacant up bare) ∙ (rw same at is))
+  was_other x b is same = none-some b (sym (seen-inserted_before old new key e vacant up no_replicas) ∙ (rw same at is))
 
   pub added_unmarked : key ≢ delimiter
   added_unmarked same = was_other delimiter arena.numbers.marker.0 arena.numbers.marker.1 (sym same)
 
   pub IsArena-added : IsDistinct nat_eq (keys_of (ids ++ (e.id, key) ∷ [])) → IsArena new (ids ++ (e.id, key) ∷ []) heads delimiter
   IsArena-added each = record {
-    sound = IsSound-inserted old new key e vacant up bare heads arena.sound;
+    sound = IsSound-inserted old new key e vacant up no_replicas heads arena.sound;
     unique = arena.unique;
     numbers = record {
       there = λ id slot is.
@@ -193,20 +193,20 @@ module _ (old new : Slab BlockEntry) (key : ℕ) (e : BlockEntry) (vacant : get 
       (record { blocks = slot_views new; ids = ids ++ (e.id, key) ∷ []; lists = lists_from new heads; delimiter = delimiter; steps = steps; bound = max bound (key + 1) })
       e.id key
   IsAdded-view steps bound no_info three = record {
-    vacant = seen-inserted_before old new key e vacant up bare;
+    vacant = seen-inserted_before old new key e vacant up no_replicas;
     entry = seen_here ∙ ap Some (empty_seen no_info three);
     marked = added_unmarked;
     others = seen_elsewhere;
     ids = refl;
     found = λ other. lookup-push other e.id key ids absent;
-    lists = lists_from-inserted old new key e vacant up bare heads arena.sound arena.unique;
+    lists = lists_from-inserted old new key e vacant up no_replicas heads arena.sound arena.unique;
     steps = refl;
     delimiter = refl;
     bound = refl;
   }
     where
       empty_seen : e.info ≡ None → e.triplets.capacity ≡ INLINE_TRIPLETS → entry_view e ≡ empty_block e.id
-      empty_seen no_info three = rw (no_info, three, bare) refl
+      empty_seen no_info three = rw (no_info, three, no_replicas) refl
 
 -- the first arena
 pub IsSound-first : (slots : Slab BlockEntry) → slots.slots ≡ [] → IsSound slots []
@@ -219,23 +219,23 @@ IsSound-first slots empty = record {
     nothing : (x s : ℕ) → triplet_at slots x s ≡ None
     nothing x s = ap (λ l. read s (get_or l x None)) empty
 
-module _ (old new : Slab BlockEntry) (key : ℕ) (e : BlockEntry) (empty : old.slots ≡ []) (up : Updates old new key (Some e)) (bare : e.triplets.items ≡ []) where
+module _ (old new : Slab BlockEntry) (key : ℕ) (e : BlockEntry) (empty : old.slots ≡ []) (up : Updates old new key (Some e)) (no_replicas : e.triplets.items ≡ []) where
   nothing_there : get old key ≡ None
   nothing_there = ap (λ l. get_or l key None) empty
 
   pub first_blocks : (slot : ℕ) → slot ≢ key → get_or (slot_views new) slot None ≡ None
-  first_blocks slot differs = seen-inserted_other old new key e nothing_there up bare slot differs ∙ ap (λ l. get_or (map (option_map entry_view) l) slot None) empty
+  first_blocks slot differs = seen-inserted_other old new key e nothing_there up no_replicas slot differs ∙ ap (λ l. get_or (map (option_map entry_view) l) slot None) empty
 
   pub IsArena-first : (ids : List (ℕ × ℕ)) (heads : List (ℕ × Option ℕ)) → ids ≡ [] → heads ≡ [] → key < end_of_links → IsArena new ids heads key
   unfolding IsDistinct
   IsArena-first ids heads no_ids no_heads below =
       rw (no_ids, no_heads) (record {
-        sound = IsSound-inserted old new key e nothing_there up bare [] (IsSound-first old empty);
+        sound = IsSound-inserted old new key e nothing_there up no_replicas [] (IsSound-first old empty);
         unique = tt;
         numbers = record {
           there = λ id slot is. absurd (none-some slot is);
           known = λ slot b is differs. absurd (none-some b (sym (first_blocks slot differs) ∙ is));
-          marker = (entry_view e, seen-inserted_here old new key e nothing_there up bare, omega arith);
+          marker = (entry_view e, seen-inserted_here old new key e nothing_there up no_replicas, omega arith);
           each = tt;
           small = λ slot b is.
               elim (cases_eq slot key) [
@@ -249,7 +249,7 @@ module _ (old new : Slab BlockEntry) (key : ℕ) (e : BlockEntry) (empty : old.s
 -- listed with the slot, and the entry was inserted there
 module _ (slots mid new : Slab BlockEntry) (capacity key slot : ℕ) (e : BlockEntry) (ids entries : List (ℕ × ℕ)) (heads : List (ℕ × Option ℕ)) (delimiter : ℕ)
     (grown : mid ≡ record slots { capacity = capacity }) (key_is : key ≡ mid.vacant_key) (slot_is : slot ≡ mid.vacant_key)
-    (vacant : get mid key ≡ None) (up : Updates mid new key (Some e)) (bare : e.triplets.items ≡ [])
+    (vacant : get mid key ≡ None) (up : Updates mid new key (Some e)) (no_replicas : e.triplets.items ≡ [])
     (absent : None ≡ lookup (nat_eq e.id) ids) (entries_are : entries ≡ ids ++ (e.id, slot) ∷ []) (each : IsDistinct nat_eq (keys_of entries)) (below : slot < end_of_links) (arena : IsArena slots ids heads delimiter) where
   same_key : key ≡ slot
   same_key = key_is ∙ sym slot_is
@@ -264,7 +264,7 @@ module _ (slots mid new : Slab BlockEntry) (capacity key slot : ℕ) (e : BlockE
   each_listed = rw (same_key, ← entries_are) each
 
   pub add_entry-arena : IsArena new entries heads delimiter
-  add_entry-arena = rw (entries_are, ← same_key) (IsArena-added mid new key e vacant up bare ids heads delimiter mid_arena (sym absent) key_below each_listed)
+  add_entry-arena = rw (entries_are, ← same_key) (IsArena-added mid new key e vacant up no_replicas ids heads delimiter mid_arena (sym absent) key_below each_listed)
 
   pub add_entry-added : (steps bound above : ℕ) → above ≡ max bound (slot + 1) → e.info ≡ None → e.triplets.capacity ≡ INLINE_TRIPLETS
       → IsAdded
@@ -272,5 +272,5 @@ module _ (slots mid new : Slab BlockEntry) (capacity key slot : ℕ) (e : BlockE
       (record { blocks = slot_views new; ids = entries; lists = lists_from new heads; delimiter = delimiter; steps = steps; bound = above })
       e.id slot
   add_entry-added steps bound above above_is no_info three =
-      let added = IsAdded-view mid new key e vacant up bare ids heads delimiter mid_arena (sym absent) key_below steps bound no_info three in
+      let added = IsAdded-view mid new key e vacant up no_replicas ids heads delimiter mid_arena (sym absent) key_below steps bound no_info three in
       rw (entries_are, above_is, ← same_key) (rw grown at added)

@@ -3,14 +3,14 @@ use Rattle.std.proofs.Common.{◌≡◌, ◌≢◌, ℕ, Some, IsSome, refl, sym
 use Rattle.bm_base.specs.declared.replica.Marks.{Marks}
 use Rattle.bm_base.specs.Words.{insert, replica_at}
 use Rattle.bm_arena.specs.Contents.{Contents, block_at, slot_of, marks_at, known_of, IsLawful, KeepsAllBut, with_marks}
-use Rattle.bm_arena.specs.Holding.{replicas_of, blocks_of}
+use Rattle.bm_arena.specs.HeldMaps.{replicas_of, blocks_of}
 use Rattle.bm_arena.proofs.SetMarks.{set_at, set-marks, set-others, set-elsewhere, set-known}
 use Rattle.bm_arena.proofs.ChangedBlock.{keeps-changed}
 use Rattle.bm_arena.proofs.HeldReplicas.{replicas-put, blocks-kept}
 
 pub record HasMarksSet (old new : Contents) (slot s : ℕ) (m : Marks) : Type 0 where
   pub marks : IsSome (marks_at old slot s) → marks_at new slot s ≡ Some m
-  pub beside : (other : ℕ) → other ≢ s → marks_at new slot other ≡ marks_at old slot other
+  pub other_storages : (other : ℕ) → other ≢ s → marks_at new slot other ≡ marks_at old slot other
   pub others : (other : ℕ) → other ≢ slot → block_at new other ≡ block_at old other
   pub known : known_of (block_at new slot) ≡ known_of (block_at old slot)
   pub rest : KeepsAllBut slot old new
@@ -20,17 +20,17 @@ pub record HasMarksSet (old new : Contents) (slot s : ℕ) (m : Marks) : Type 0 
 set_here : (old : Contents) (slot s : ℕ) (m : Marks) → IsLawful old → HasMarksSet old (set_at old slot s m) slot s m
 set_here old slot s m lawful =
     let marks = set-marks old slot s m in
-    let beside = set-others old slot s m in
+    let other_storages = set-others old slot s m in
     let others = set-elsewhere old slot s m in
     let known = set-known old slot s m in
     let rest = keeps-changed old slot (with_marks s m) (λ b. refl) in
     record {
       marks = marks;
-      beside = beside;
+      other_storages = other_storages;
       others = others;
       known = known;
       rest = rest;
-      replicas = λ id here some. replicas-put old (set_at old slot s m) lawful slot s id here rest.ids others beside m (marks some);
+      replicas = λ id here some. replicas-put old (set_at old slot s m) lawful slot s id here rest.ids others other_storages m (marks some);
       blocks = blocks-kept old (set_at old slot s m) slot rest.ids others known;
     }
 

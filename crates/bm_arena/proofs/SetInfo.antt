@@ -5,7 +5,7 @@ use Rattle.std.proofs.lemmas.Bool.{cases_eq, false≢true}
 use Rattle.bm_base.specs.declared.replica.BlockInfo.{BlockInfo}
 use Rattle.bm_arena.specs.Triplets.{Block}
 use Rattle.bm_arena.specs.Contents.{Contents, block_at, slot_of, marks_at, find_marks, with_info, empty_block, IsAdded, IsLawful}
-use Rattle.bm_arena.specs.Holding.{replicas_of, blocks_of, with_known}
+use Rattle.bm_arena.specs.HeldMaps.{replicas_of, blocks_of, with_known}
 use Rattle.bm_arena.proofs.ChangedBlock.{changed_at, changed-here, changed-elsewhere, changed-blind}
 use Rattle.bm_arena.proofs.HeldReplicas.{replicas-kept, blocks-set, same_replicas, same_blocks}
 

@@ -3,7 +3,7 @@ ghost use Rattle.std.specs.Prelude.{◌≡◌, ◌≢◌, ◌+◌, ℕ, None, So
 ghost use Rattle.bm_base.specs.declared.refusal.Refusal.TheVariants.{Memory};
 ghost use Rattle.bm_base.specs.Maps.Map.{empty};
 ghost use Rattle.bm_arena.specs.Contents.{block_at, empty_block, saturating_next, IsLawful};
-ghost use Rattle.bm_arena.specs.Holding.{replicas_of, blocks_of};
+ghost use Rattle.bm_arena.specs.HeldMaps.{replicas_of, blocks_of};
 
 use crate::predicted_slots::PredictedSlots;
 use crate::slot_index::SlotIndex;

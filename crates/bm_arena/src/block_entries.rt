@@ -3,7 +3,7 @@ ghost use Rattle.std.specs.Prelude.{◌≡◌, ◌≢◌, ◌≤◌, ◌==◌, �
 ghost use Rattle.bm_base.specs.declared.refusal.Refusal.TheVariants.{Memory};
 ghost use Rattle.bm_arena.specs.Triplets.{Block, change_block};
 ghost use Rattle.bm_arena.specs.Contents.{dropped, room_at, with_room, with_marks, with_info, block_at, marks_at, known_of, slot_of, IsAdded, HasCapacity, IsLawful, KeepsAllBut};
-ghost use Rattle.bm_arena.specs.Holding.{replicas_of, blocks_of, with_known};
+ghost use Rattle.bm_arena.specs.HeldMaps.{replicas_of, blocks_of, with_known};
 ghost use Rattle.bm_base.specs.Words.{insert, replica_at};
 
 use crate::arena::{Arena, Slot};
@@ -48,7 +48,7 @@ impl Arena {
     /// Drops the entry in `slot`, which has no replica. The entry that was last in the order of
     /// `slot_at` takes its index. Takes no memory.
     pub fn drop_entry(&mut self, slot: Slot)
-        requires bare { IsSomeAnd (block_at self.old slot) (λ b. b.replicas ≡ []) }
+        requires no_replicas { IsSomeAnd (block_at self.old slot) (λ b. b.replicas ≡ []) }
         requires entry { slot ≢ self.old.delimiter }
         ensures after { (b : Block) → block_at self.old slot ≡ Some b
             → self.new ≡ dropped self.old slot b.id }
@@ -120,7 +120,7 @@ impl Arena {
             } }
         ensures marks { IsSome (marks_at self.old slot storage)
             → marks_at self.new slot storage ≡ Some marks }
-        ensures beside { (other : ℕ) → other ≢ storage
+        ensures other_storages { (other : ℕ) → other ≢ storage
             → marks_at self.new slot other ≡ marks_at self.old slot other }
         ensures others { (other : ℕ) → other ≢ slot
             → block_at self.new other ≡ block_at self.old other }
@@ -146,7 +146,7 @@ impl Arena {
             } }
         ensures marks { IsSome (marks_at self.old slot storage)
             → marks_at self.new slot storage ≡ Some marks }
-        ensures beside { (other : ℕ) → other ≢ storage
+        ensures other_storages { (other : ℕ) → other ≢ storage
             → marks_at self.new slot other ≡ marks_at self.old slot other }
         ensures others { (other : ℕ) → other ≢ slot
             → block_at self.new other ≡ block_at self.old other }

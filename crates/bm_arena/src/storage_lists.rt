@@ -6,7 +6,7 @@ ghost use Rattle.indexmap.specs.IndexMap.{swap_remove_entry};
 ghost use Rattle.bm_base.specs.declared.refusal.Refusal.TheVariants.{Memory};
 ghost use Rattle.bm_maps.specs.SlotLists.{slot_after};
 ghost use Rattle.bm_arena.specs.Contents.{IsReserved, no_marks, list_of, slot_before, HasHead, HasCapacity, marks_at, linked_front, unlinked, moved_front, KeepsOthers, IsLawful, slot_of};
-ghost use Rattle.bm_arena.specs.Holding.{replicas_of, blocks_of};
+ghost use Rattle.bm_arena.specs.HeldMaps.{replicas_of, blocks_of};
 ghost use Rattle.bm_base.specs.Words.{insert, remove, replica_at};
 ghost use Rattle.bm_maps.specs.SlotLists.{without};
 

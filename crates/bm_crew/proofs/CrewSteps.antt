@@ -12,7 +12,7 @@ use Rattle.bm_crew.specs.declared.bag.Bag.{Bag}
 use Rattle.bm_crew.specs.declared.bag.BagPass.{BagPass}
 use Rattle.bm_crew.specs.declared.helper.Helper.{Helper}
 use Rattle.bm_crew.specs.declared.collector.Collector.{Collector}
-use Rattle.bm_crew.specs.Rule.{helper_view, with_given, after_put, after_take, after_join, after_tell}
+use Rattle.bm_crew.specs.Rule.{helper_view, with_given, after_put, after_take, after_join, after_renewal}
 use Rattle.bm_crew.specs.Bags.{view_of, given_of, taken_of, IsCallerOf, IsHelperOf, AllJoined}
 use Rattle.bm_crew.specs.Work.{IsPlacedResultOf, AreFilled, slots_after}
 use Rattle.bm_crew.specs.Crews.{IsIdle, CanHelp, IsHelping, HasHelped, IsCollecting, JoinsSince}
@@ -80,10 +80,10 @@ idle_split n bag all others last is each = let h : All (IsIdle n bag) (others ++
 
 module _ {T U : Type 0} (pre : ℕ → T → Type 0) (post : ℕ → T → U → Type 0) (bag : Bag (ℕ × T)) (old : Collector T U) (helper : Helper T U) (new : BagPass (ℕ × T)) where
   -- the calling thread passed to an idle helper the pieces that were given
-  pub told_collects : (n : ℕ) → IsCollecting pre post bag old → IsIdle n bag helper → IsCallerOf bag new → view_of new ≡ after_tell (after_join (view_of old.pass) (view_of helper.pass)) → IsCollecting pre post bag (record { pass = new; slots = old.slots })
-  told_collects n was idle leads told =
-      let given : given_of new ≡ given_of old.pass = ap (λ (v : PassView (ℕ × T)). v.given) told in
-      let taken : taken_of new ≡ taken_of old.pass = ap (λ (v : PassView (ℕ × T)). v.taken) told ∙ ap (λ l. taken_of old.pass ++ l) idle.none_taken ∙ append-nil (taken_of old.pass) in
+  pub renewed_collects : (n : ℕ) → IsCollecting pre post bag old → IsIdle n bag helper → IsCallerOf bag new → view_of new ≡ after_renewal (after_join (view_of old.pass) (view_of helper.pass)) → IsCollecting pre post bag (record { pass = new; slots = old.slots })
+  renewed_collects n was idle leads knows_all =
+      let given : given_of new ≡ given_of old.pass = ap (λ (v : PassView (ℕ × T)). v.given) knows_all in
+      let taken : taken_of new ≡ taken_of old.pass = ap (λ (v : PassView (ℕ × T)). v.taken) knows_all ∙ ap (λ l. taken_of old.pass ++ l) idle.none_taken ∙ append-nil (taken_of old.pass) in
       record {
         leads = leads;
         accepts = subst (λ l. All (λ item. pre item.1.0 item.1.1) l) (sym given) was.accepts;
@@ -91,17 +91,17 @@ module _ {T U : Type 0} (pre : ℕ → T → Type 0) (post : ℕ → T → U →
         filled = subst (λ l. AreFilled post l old.slots.items) (sym taken) was.filled;
       }
 
-  pub told_helps : (other : BagPass (ℕ × T)) → IsCollecting pre post bag old → IsIdle (length (given_of old.pass)) bag helper → IsHelperOf bag other → view_of other ≡ helper_view true (given_of old.pass) → CanHelp pre bag (record { pass = other; done = helper.done })
-  told_helps other was idle of told = record {
+  pub renewed_helps : (other : BagPass (ℕ × T)) → IsCollecting pre post bag old → IsIdle (length (given_of old.pass)) bag helper → IsHelperOf bag other → view_of other ≡ helper_view true (given_of old.pass) → CanHelp pre bag (record { pass = other; done = helper.done })
+  renewed_helps other was idle of knows_all = record {
     idle = record {
       of = of;
-      none_taken = ap (λ (v : PassView (ℕ × T)). v.taken) told;
+      none_taken = ap (λ (v : PassView (ℕ × T)). v.taken) knows_all;
       none_done = idle.none_done;
-      not_ended = ap (λ (v : PassView (ℕ × T)). v.found_empty) told;
-      room = subst (λ (g : List (ℕ × (ℕ × T))). length g ≤ vec_capacity helper.done) (sym (ap (λ (v : PassView (ℕ × T)). v.given) told)) idle.room;
+      not_ended = ap (λ (v : PassView (ℕ × T)). v.found_empty) knows_all;
+      room = subst (λ (g : List (ℕ × (ℕ × T))). length g ≤ vec_capacity helper.done) (sym (ap (λ (v : PassView (ℕ × T)). v.given) knows_all)) idle.room;
     };
-    told = ap (λ (v : PassView (ℕ × T)). v.told) told;
-    accepts = subst (λ l. All (λ item. pre item.1.0 item.1.1) l) (sym (ap (λ (v : PassView (ℕ × T)). v.given) told)) was.accepts;
+    knows_all = ap (λ (v : PassView (ℕ × T)). v.knows_all) knows_all;
+    accepts = subst (λ l. All (λ item. pre item.1.0 item.1.1) l) (sym (ap (λ (v : PassView (ℕ × T)). v.given) knows_all)) was.accepts;
   }
 
 -- a worker with capacity for more has capacity for less

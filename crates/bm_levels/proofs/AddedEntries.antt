@@ -7,7 +7,7 @@ use Rattle.bm_base.specs.Words.{Cluster, rack_of, is_draining, is_multi_rack}
 use Rattle.bm_arena.specs.Triplets.{Block}
 use Rattle.bm_arena.specs.Contents.{Contents, block_at, slot_of, marks_at, find_marks, IsAdded, IsLawful}
 use Rattle.bm_arena.proofs.HeldReplicas.{same_replicas, same_blocks}
-use Rattle.bm_arena.specs.Holding.{replicas_of, blocks_of, info_at}
+use Rattle.bm_arena.specs.HeldMaps.{replicas_of, blocks_of, info_at}
 use Rattle.bm_levels.specs.Status.{level_in, is_settled_at}
 use Rattle.bm_levels.specs.IndexedLevels.{IndexedLevels, IsUnsettled, HasCapacityFor, IsSameAt}
 use Rattle.bm_levels.specs.Leveled.{Leveled, IsLeveled, AreLevels}

@@ -17,7 +17,7 @@ use Rattle.bm_base.specs.Maps.Map.{revise}
 use Rattle.bm_base.proofs.MapLaws.{same_map, get-revise}
 use Rattle.bm_arena.specs.Triplets.{Block, change_block}
 use Rattle.bm_arena.specs.Contents.{Contents, block_at, slot_of, marks_at, find_marks, change_marks, with_marks, known_of, IsLawful, KeepsAllBut}
-use Rattle.bm_arena.specs.Holding.{replicas_at, replicas_of, blocks_of}
+use Rattle.bm_arena.specs.HeldMaps.{replicas_at, replicas_of, blocks_of}
 use Rattle.bm_arena.proofs.ChangedBlock.{changed-here}
 use Rattle.bm_arena.proofs.HeldReplicas.{get-replicas_of, one_number, blocks-kept}
 use Rattle.bm_levels.specs.Changes.{each_changed}

@@ -12,7 +12,7 @@ use Rattle.bm_levels.specs.IndexedLevels.{IndexedLevels, IsClassified, IsSameAt}
 use Rattle.bm_levels.specs.Leveled.{Leveled, AreLevels}
 use Rattle.bm_levels.specs.LevelsBy.{AreLevelsBy, IsOff}
 use Rattle.bm_levels.proofs.UpToDate.{level_alike}
-use Rattle.bm_levels.proofs.Reclassified.{levels_anew}
+use Rattle.bm_levels.proofs.Reclassified.{levels_again}
 
 abbrev pub drain_change : ℕ → Bool → DrainChange
 drain_change n d = record { node = n; drains = d }
@@ -81,6 +81,6 @@ module _ (C : Cluster) (n : ℕ) where
       let Q : Bool → Type 0 = λ m. AreLevelsBy (rack_of C) (is_draining C) m old in
       turned_levels d (record { arena = old.arena; kept = K })
       (subst P is
-      (levels_anew (rack_of C) (drains_after_change C (Some (drain_change n d))) multi old K (rack_of C) (is_draining C) multi (λ slot.
+      (levels_again (rack_of C) (drains_after_change C (Some (drain_change n d))) multi old K (rack_of C) (is_draining C) multi (λ slot.
       elim (each slot) [ inl status ↦ inl status | inr same ↦ inr (same.0, off_alike d multi old.arena lawful slot same.1) ])
       (subst Q (sym is) h)))

@@ -5,7 +5,7 @@ use Rattle.std.proofs.lemmas.Option.{same_Some}
 use Rattle.std.proofs.lemmas.Bool.{cases_eq, ne_eqb, eq-eqb, true≢false, false≢true}
 use Rattle.bm_arena.specs.Triplets.{Block}
 use Rattle.bm_arena.specs.Contents.{Contents, block_at, slot_of, find_marks, dropped, IsLawful}
-use Rattle.bm_arena.specs.Holding.{replicas_of, blocks_of, info_at}
+use Rattle.bm_arena.specs.HeldMaps.{replicas_of, blocks_of, info_at}
 use Rattle.bm_arena.proofs.HeldReplicas.{same_replicas, same_blocks}
 use Rattle.bm_levels.specs.Status.{level_by, is_settled_at}
 use Rattle.bm_levels.specs.IndexedLevels.{IsUnsettled}
@@ -14,7 +14,7 @@ use Rattle.bm_levels.specs.LevelsBy.{AreLevelsBy}
 use Rattle.bm_levels.proofs.StatusByCounts.{level_unknown}
 
 module _ (old : Leveled) (c : Contents) (slot : ℕ) (k : Block) (lawful : IsLawful old.arena) (here : block_at old.arena slot ≡ Some k) (apart : slot ≢ old.arena.delimiter)
-    (bare : k.replicas ≡ []) (unknown : k.info ≡ None)
+    (no_replicas : k.replicas ≡ []) (unknown : k.info ≡ None)
     (entries : (other : ℕ) → block_at c other ≡ (if other == slot then None else block_at old.arena other))
     (numbers : (id : ℕ) → slot_of c id ≡ (if k.id == id then None else slot_of old.arena id)) (delimiter : c.delimiter ≡ old.arena.delimiter) where
   abbrev a : Contents
@@ -49,7 +49,7 @@ module _ (old : Leveled) (c : Contents) (slot : ℕ) (k : Block) (lawful : IsLaw
           ]
 
   pub replicas_still : replicas_of c ≡ replicas_of a
-  replicas_still = same_replicas a c (λ q. found_still (λ o. option_and_then (λ (b : Block). find_marks b.replicas q.storage) o) refl (ap (λ rs. find_marks rs q.storage) bare) q.block)
+  replicas_still = same_replicas a c (λ q. found_still (λ o. option_and_then (λ (b : Block). find_marks b.replicas q.storage) o) refl (ap (λ rs. find_marks rs q.storage) no_replicas) q.block)
 
   pub blocks_still : blocks_of c ≡ blocks_of a
   blocks_still = same_blocks a c (λ b. found_still (λ o. option_and_then (λ (x : Block). x.info) o) refl unknown b)
@@ -65,7 +65,7 @@ module _ (old : Leveled) (c : Contents) (slot : ℕ) (k : Block) (lawful : IsLaw
 
   settled_empty : is_settled_at (Some k) ≡ true
   unfolding is_settled_at
-  settled_empty = rw (bare, unknown) refl
+  settled_empty = rw (no_replicas, unknown) refl
 
   marker : block_at c c.delimiter ≡ block_at a a.delimiter
   marker = ap (block_at c) delimiter ∙ still a.delimiter (λ e. apart (sym e))
@@ -116,12 +116,12 @@ pub emptied : (old : Leveled) (c : Contents) (slot id : ℕ) → IsLawful old.ar
     → ((other : ℕ) → block_at c other ≡ (if other == slot then None else block_at old.arena other))
     → ((b : Block) → block_at old.arena slot ≡ Some b → (id : ℕ) → slot_of c id ≡ (if b.id == id then None else slot_of old.arena id))
     → IsEmptied old c slot
-emptied old c slot id lawful here bare unknown after entries numbers =
+emptied old c slot id lawful here no_replicas unknown after entries numbers =
     let f = lawful.found id slot here in
     let k = f.1 in
     let e = f.2 in
     let P : Option Block → Type 0 = λ o. IsSomeAnd o (λ (b : Block). b.replicas ≡ []) in
-    let none = subst P e bare in
+    let none = subst P e no_replicas in
     let info = sym (ap (λ o. option_and_then (λ (b : Block). b.info) o) e) ∙ unknown in
     let is = after k e in
     record {

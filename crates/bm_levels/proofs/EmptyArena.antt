@@ -5,7 +5,7 @@ use Rattle.std.proofs.lemmas.Bool.{cases_eq, true≢false, false≢true}
 use Rattle.bm_base.specs.Words.{Cluster, rack_of, is_draining, is_multi_rack}
 use Rattle.bm_arena.specs.Triplets.{Block}
 use Rattle.bm_arena.specs.Contents.{Contents, block_at, find_marks, empty_block}
-use Rattle.bm_arena.specs.Holding.{info_at}
+use Rattle.bm_arena.specs.HeldMaps.{info_at}
 use Rattle.bm_levels.specs.Status.{is_settled_at}
 use Rattle.bm_levels.specs.IndexedLevels.{IndexedLevels, level_of_slot, IsUnsettled, HasCapacityFor}
 use Rattle.bm_levels.specs.Leveled.{IsLeveled, AreLevels}

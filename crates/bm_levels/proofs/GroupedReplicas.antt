@@ -55,9 +55,9 @@ unfolding has_storage
 storage_there ps s at p within same = list_any_at (λ (q : ReplicaId). q.storage == s) ps at p within same
 
 -- the marks of a replica, by the result of looking for its storage in a list
-module _ (ps : List ReplicaId) (s : ℕ) (m : Marks) (r : Bool) (told : r ≡ has_storage ps s) where
+module _ (ps : List ReplicaId) (s : ℕ) (m : Marks) (r : Bool) (held_is : r ≡ has_storage ps s) where
   marks_by : (b : Bool) → r ≡ b → excess_on ps s m ≡ cond b (as_excess m) m
-  marks_by b is = ap (λ t. cond t (as_excess m) m) (sym told ∙ is)
+  marks_by b is = ap (λ t. cond t (as_excess m) m) (sym held_is ∙ is)
 
   pub listed_marks : (new : Marks) → new ≡ as_excess m → r ≡ true → new ≡ excess_on ps s m
   listed_marks new is there = is ∙ sym (marks_by true there)

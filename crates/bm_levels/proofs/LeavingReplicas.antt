@@ -12,10 +12,10 @@ use Rattle.bm_base.proofs.Differences.{some_left}
 use Rattle.bm_base.proofs.MapEntries.{get_left}
 use Rattle.bm_arena.specs.Triplets.{Block}
 use Rattle.bm_arena.specs.Contents.{Contents, block_at, list_of, slot_of, marks_at, find_marks, IsLawful, KeepsOthers}
-use Rattle.bm_arena.specs.Holding.{replicas_of, blocks_of}
+use Rattle.bm_arena.specs.HeldMaps.{replicas_of, blocks_of}
 use Rattle.bm_arena.proofs.HeldReplicas.{get-replicas_of}
 use Rattle.bm_report.proofs.Maps.{get-here, len-out}
-use Rattle.bm_levels.specs.Leaving.{IsLeaving}
+use Rattle.bm_levels.specs.LeavingReplicas.{IsLeaving}
 
 -- each slot of a list holds a block
 pub held_on : (a : Contents) → IsLawful a → (s slot : ℕ) → IsMember slot (list_of a s) → IsSome (block_at a slot)

@@ -16,26 +16,26 @@ use Rattle.bm_levels.specs.Status.{storages_at, level_in, level_by}
 use Rattle.bm_levels.specs.Held.{holdings_with}
 use Rattle.bm_levels.proofs.EqualLists.{same_length, has_among, among_has, once_distinct, passing_distinct, passing_found}
 
-module _ (a : Contents) (pending : Map by_replica ℕ) (lawful : IsLawful a) (b slot : ℕ) (k : Block) (here : slot_of a b ≡ Some slot) (stands : block_at a slot ≡ Some k) where
+module _ (a : Contents) (pending : Map by_replica ℕ) (lawful : IsLawful a) (b slot : ℕ) (k : Block) (here : slot_of a b ≡ Some slot) (block_there : block_at a slot ≡ Some k) where
   abbrev pub H : Holdings
   H = holdings_with a pending
 
   -- the replica of the block on a storage is the one in its list
   pub found_marks : (s : ℕ) → get H.replicas (replica_at b s) ≡ find_marks k.replicas s
   unfolding holdings_with
-  found_marks s = get-replicas_of a (replica_at b s) ∙ ap (λ o. option_and_then (λ x. marks_at a x s) o) here ∙ ap (λ o. option_and_then (λ (z : Block). find_marks z.replicas s) o) stands
+  found_marks s = get-replicas_of a (replica_at b s) ∙ ap (λ o. option_and_then (λ x. marks_at a x s) o) here ∙ ap (λ o. option_and_then (λ (z : Block). find_marks z.replicas s) o) block_there
 
   pub found_info : get H.blocks b ≡ k.info
   unfolding holdings_with
-  found_info = get-blocks_of a b ∙ ap (λ o. option_and_then (λ x. option_and_then (λ (z : Block). z.info) (block_at a x)) o) here ∙ ap (λ o. option_and_then (λ (z : Block). z.info) o) stands
+  found_info = get-blocks_of a b ∙ ap (λ o. option_and_then (λ x. option_and_then (λ (z : Block). z.info) (block_at a x)) o) here ∙ ap (λ o. option_and_then (λ (z : Block). z.info) o) block_there
 
   module _ (p : ℕ → Marks → Bool) where
     pub alike : AreAlike (storages_where p H b) (storages_at p k.replicas)
-    alike s = has_where p H b s ∙ ap (λ o. option_map_or (p s) o false) (found_marks s) ∙ sym (passing_found p k.replicas (lawful.once slot k stands) s)
+    alike s = has_where p H b s ∙ ap (λ o. option_map_or (p s) o false) (found_marks s) ∙ sym (passing_found p k.replicas (lawful.once slot k block_there) s)
 
     pub as_many : length (storages_where p H b) ≡ length (storages_at p k.replicas)
     as_many =
-        same_length (storages_where p H b) (storages_at p k.replicas) (once_distinct (storages_where p H b) (once_where p H b)) (passing_distinct p k.replicas (lawful.once slot k stands))
+        same_length (storages_where p H b) (storages_at p k.replicas) (once_distinct (storages_where p H b) (once_where p H b)) (passing_distinct p k.replicas (lawful.once slot k block_there))
         (λ z h. has_among (storages_at p k.replicas) z (sym (alike z) ∙ among_has (storages_where p H b) z h))
         (λ z h. has_among (storages_where p H b) z (alike z ∙ among_has (storages_at p k.replicas) z h))
 

@@ -9,7 +9,7 @@ use Rattle.bm_base.specs.declared.replica.BlockInfo.{BlockInfo}
 use Rattle.bm_base.specs.Words.{Cluster, replica_at, get, rack_of, is_draining, is_multi_rack}
 use Rattle.bm_arena.specs.Triplets.{Block}
 use Rattle.bm_arena.specs.Contents.{Contents, block_at, slot_of, marks_at, find_marks, room_at, with_room, IsLawful}
-use Rattle.bm_arena.specs.Holding.{info_at}
+use Rattle.bm_arena.specs.HeldMaps.{info_at}
 use Rattle.bm_arena.proofs.HeldReplicas.{info_in, replica_in, get-replicas_of, get-blocks_of}
 use Rattle.bm_report.specs.Expanded.{IsPrepared}
 use Rattle.bm_report.specs.Aborted.{is_unused_block, is_unused_number}
@@ -22,15 +22,15 @@ use Rattle.bm_levels.proofs.StatusByCounts.{level_unknown}
 use Rattle.bm_levels.proofs.ManySlots.{no_replicas, marker_settled}
 
 -- a slot has no known block and no replica
-pub record IsBareAt (o : Option Block) : Type 0 where
+pub record IsUnusedAt (o : Option Block) : Type 0 where
   pub info : option_and_then (λ (b : Block). b.info) o ≡ None
   pub marks : (t : ℕ) → option_and_then (λ (b : Block). find_marks b.replicas t) o ≡ None
 
 -- two slots hold the same but for capacity, or both hold nothing
 abbrev pub AreAlike : Option Block → Option Block → Type 0
-AreAlike o p = ((k : Block) × (room : ℕ) × (p ≡ Some k) × (o ≡ Some (with_room room k))) ⊎ (IsBareAt o × IsBareAt p)
+AreAlike o p = ((k : Block) × (room : ℕ) × (p ≡ Some k) × (o ≡ Some (with_room room k))) ⊎ (IsUnusedAt o × IsUnusedAt p)
 
-pub none_unused : (o : Option Block) → o ≡ None → IsBareAt o
+pub none_unused : (o : Option Block) → o ≡ None → IsUnusedAt o
 none_unused o e = record { info = ap (λ x. option_and_then (λ (b : Block). b.info) x) e; marks = λ t. ap (λ x. option_and_then (λ (b : Block). find_marks b.replicas t) x) e }
 
 alike_info : (o p : Option Block) → AreAlike o p → option_and_then (λ (b : Block). b.info) o ≡ option_and_then (λ (b : Block). b.info) p
@@ -93,10 +93,10 @@ module _ (a c : Contents) (lawful_a : IsLawful a) (lawful_c : IsLawful c) (prepa
           let same : x ≡ slot = same_Some _ _ (sym (prepared.slots k.id x f) ∙ leads) in
           absurd (slot_held k.id slot (f ∙ ap (λ y. Some y) same) none)
 
-  vacant_there : (slot : ℕ) → block_at a slot ≡ None → IsBareAt (block_at c slot)
+  vacant_there : (slot : ℕ) → block_at a slot ≡ None → IsUnusedAt (block_at c slot)
   vacant_there slot none = by (block_at c slot) refl
     where
-      by : (o : Option Block) → block_at c slot ≡ o → IsBareAt (block_at c slot)
+      by : (o : Option Block) → block_at c slot ≡ o → IsUnusedAt (block_at c slot)
       by None e = none_unused (block_at c slot) e
       by (Some k) e =
           let n = new_number slot k none e in
@@ -144,7 +144,7 @@ module _ (a c : Contents) (lawful_a : IsLawful a) (lawful_c : IsLawful c) (prepa
       | inr differs ↦ by differs (block_at d slot) refl (block_at a slot) refl
     ]
       where
-        gone : slot ≢ d.delimiter → block_at d slot ≡ None → (k : Block) → block_at a slot ≡ Some k → IsBareAt (block_at a slot)
+        gone : slot ≢ d.delimiter → block_at d slot ≡ None → (k : Block) → block_at a slot ≡ Some k → IsUnusedAt (block_at a slot)
         gone differs none k e =
             let now = prepared.entries slot k e in
             let leads = lawful_c.known slot (with_room (room_at c slot) k) now (λ same. differs (same ∙ sym delimiter)) in
@@ -157,7 +157,7 @@ module _ (a c : Contents) (lawful_a : IsLawful a) (lawful_c : IsLawful c) (prepa
             sure : {k : Block} → Some k ≡ None → ⊥
             sure f = cc
 
-            case : (t : Bool) → (named k.id && is_unused_number c k.id) ≡ t → slot_of c k.id ≡ Some slot → block_at c slot ≡ Some (with_room (room_at c slot) k) → IsBareAt (block_at a slot)
+            case : (t : Bool) → (named k.id && is_unused_number c k.id) ≡ t → slot_of c k.id ≡ Some slot → block_at c slot ≡ Some (with_room (room_at c slot) k) → IsUnusedAt (block_at a slot)
             case true f leads now =
                 let parts = unused_parts k (sym (has_no_replicas k.id slot (with_room (room_at c slot) k) leads now) ∙ and_right (named k.id) (is_unused_number c k.id) f) in
                 record {
@@ -200,9 +200,9 @@ module _ (a c : Contents) (lawful_a : IsLawful a) (lawful_c : IsLawful c) (prepa
             either : (o : Option Block) → block_at a slot ≡ o → ((named b && is_unused_number c b) ≡ false) × (slot_of c b ≡ Some slot) → (slot ≢ c.delimiter) × (k : Block) × (block_at c slot ≡ Some k) × (k.id ≡ b) → IsSome (block_at a slot)
             either (Some k) g parts found = ap is_some g
             either None g parts found =
-                let bare = vacant_there slot g in
-                let info : found.1.info ≡ None = sym (ap (λ x. option_and_then (λ (y : Block). y.info) x) found.2) ∙ bare.info in
-                let none : found.1.replicas ≡ [] = no_replicas found.1.replicas (λ t. sym (ap (λ x. option_and_then (λ (y : Block). find_marks y.replicas t) x) found.2) ∙ bare.marks t) in
+                let unused = vacant_there slot g in
+                let info : found.1.info ≡ None = sym (ap (λ x. option_and_then (λ (y : Block). y.info) x) found.2) ∙ unused.info in
+                let none : found.1.replicas ≡ [] = no_replicas found.1.replicas (λ t. sym (ap (λ x. option_and_then (λ (y : Block). find_marks y.replicas t) x) found.2) ∙ unused.marks t) in
                 let isb : is_unused_number c b ≡ true = has_no_replicas b slot found.1 parts.1 found.2 ∙ (λ i. not (is_some (info i)) && (length (none i) == 0)) in
                 absurd (never (fresh b f (ap is_some parts.1)) isb parts.0)
 
@@ -220,9 +220,9 @@ module _ (a c : Contents) (lawful_a : IsLawful a) (lawful_c : IsLawful c) (prepa
 
 -- an unused entry has no replica
 pub unused_there : (a : Contents) (b slot : ℕ) → IsLawful a → slot_of a b ≡ Some slot → IsUnused a b → IsSomeAnd (block_at a slot) (λ (k : Block). k.replicas ≡ [])
-unused_there a b slot lawful at bare =
+unused_there a b slot lawful at unused =
     let found = lawful.found b slot at in
-    let none : found.1.replicas ≡ [] = no_replicas found.1.replicas (λ t. sym (ap (λ x. option_and_then (λ (y : Block). find_marks y.replicas t) x) found.2) ∙ sym (get-here a b slot t at) ∙ bare.empty t) in
+    let none : found.1.replicas ≡ [] = no_replicas found.1.replicas (λ t. sym (ap (λ x. option_and_then (λ (y : Block). find_marks y.replicas t) x) found.2) ∙ sym (get-here a b slot t at) ∙ unused.empty t) in
     let P : Option Block → Type 0 = λ o. IsSomeAnd o (λ (k : Block). k.replicas ≡ []) in
     subst P (sym found.2) none
 

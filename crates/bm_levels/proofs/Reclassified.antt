@@ -11,7 +11,7 @@ use Rattle.bm_maps.specs.SlotLists.{IsMember}
 use Rattle.bm_maps.proofs.SlotLists.{dec_among}
 use Rattle.bm_arena.specs.Triplets.{Block}
 use Rattle.bm_arena.specs.Contents.{Contents, block_at, IsLawful}
-use Rattle.bm_arena.specs.Holding.{info_at}
+use Rattle.bm_arena.specs.HeldMaps.{info_at}
 use Rattle.bm_levels.specs.Status.{drains_after_change, level_by}
 use Rattle.bm_levels.specs.IndexedLevels.{IndexedLevels, HasCapacityFor, IsClassified, IsSameAt, indexed_slots}
 use Rattle.bm_levels.specs.Leveled.{Leveled, IsLeveled, AreLevels}
@@ -21,9 +21,9 @@ use Rattle.bm_levels.proofs.OneSlot.{held_by}
 
 module _ (rack : ℕ → Option ℕ) (draining : ℕ → Bool) (multi : Bool) (old : Leveled) (K : IndexedLevels) where
   -- the invariant holds again
-  pub leveled_anew : ((slot : ℕ) → IsClassified rack draining multi (block_at old.arena slot) K slot ⊎ IsSameAt old.kept K slot) → IsLeveled old → ((bound : ℕ) → HasCapacityFor old.kept bound → HasCapacityFor K bound)
+  pub leveled_again : ((slot : ℕ) → IsClassified rack draining multi (block_at old.arena slot) K slot ⊎ IsSameAt old.kept K slot) → IsLeveled old → ((bound : ℕ) → HasCapacityFor old.kept bound → HasCapacityFor K bound)
       → IsLeveled (record { arena = old.arena; kept = K })
-  leveled_anew each h room = record {
+  leveled_again each h room = record {
     free = h.free;
     blank = h.blank;
     room = λ z there. room (z + 1) (h.room z there);
@@ -32,10 +32,10 @@ module _ (rack : ℕ → Option ℕ) (draining : ℕ → Bool) (multi : Bool) (o
   }
 
   -- each slot is reclassified, or its level does not depend on the change
-  pub levels_anew : (rack' : ℕ → Option ℕ) (draining' : ℕ → Bool) (multi' : Bool)
+  pub levels_again : (rack' : ℕ → Option ℕ) (draining' : ℕ → Bool) (multi' : Bool)
       → ((slot : ℕ) → IsClassified rack draining multi (block_at old.arena slot) K slot ⊎ (IsSameAt old.kept K slot × (level_by rack' draining' multi' (block_at old.arena slot) ≡ level_by rack draining multi (block_at old.arena slot))))
       → AreLevelsBy rack' draining' multi' old → AreLevelsBy rack draining multi (record { arena = old.arena; kept = K })
-  levels_anew rack' draining' multi' each h slot = elim (each slot) [ inl status ↦ status.level | inr same ↦ same.0.level ∙ h slot ∙ same.1 ]
+  levels_again rack' draining' multi' each h slot = elim (each slot) [ inl status ↦ status.level | inr same ↦ same.0.level ∙ h slot ∙ same.1 ]
 
 -- the slot of a number is one of the slots to which numbers lead
 led_among : (ps : List (ℕ × ℕ)) (id slot : ℕ) → lookup (nat_eq id) ps ≡ Some slot → IsMember slot (map (λ (p : ℕ × ℕ). p.1) ps)
@@ -74,12 +74,12 @@ module _ (C : Cluster) (multi : Bool) (old : Leveled) (K : IndexedLevels)
     (status : (slot : ℕ) → IsMember slot (indexed_slots old.arena) → IsClassified (rack_of C) (drains_after_change C None) multi (block_at old.arena slot) K slot)
     (others : (slot : ℕ) → (IsMember slot (indexed_slots old.arena) → ⊥) → IsSameAt old.kept K slot) where
   pub leveled_each : IsLeveled old → ((bound : ℕ) → HasCapacityFor old.kept bound → HasCapacityFor K bound) → IsLeveled (record { arena = old.arena; kept = K })
-  leveled_each = leveled_anew (rack_of C) (drains_after_change C None) multi old K (λ slot. elim (dec_among slot (indexed_slots old.arena)) [ inl there ↦ inl (status slot there) | inr absent ↦ inr (others slot absent) ])
+  leveled_each = leveled_again (rack_of C) (drains_after_change C None) multi old K (λ slot. elim (dec_among slot (indexed_slots old.arena)) [ inl there ↦ inl (status slot there) | inr absent ↦ inr (others slot absent) ])
 
   pub levels_each : IsLawful old.arena → IsLeveled old → AreLevels C old → AreLevelsBy (rack_of C) (is_draining C) multi (record { arena = old.arena; kept = K })
   unfolding drains_after_change
   levels_each lawful h =
-      levels_anew (rack_of C) (is_draining C) multi old K (rack_of C) (is_draining C) (is_multi_rack C) (λ slot.
+      levels_again (rack_of C) (is_draining C) multi old K (rack_of C) (is_draining C) (is_multi_rack C) (λ slot.
       elim (dec_among slot (indexed_slots old.arena)) [
         | inl there ↦ inl (status slot there)
         | inr absent ↦

@@ -15,7 +15,7 @@ use Rattle.bm_base.proofs.MapLaws.{same_map, get-remove, get-revise}
 use Rattle.bm_base.proofs.MapEntries.{same_key}
 use Rattle.bm_maps.proofs.ReplaceLaws.{same_change, no_change, insert_there}
 use Rattle.bm_arena.specs.Contents.{Contents, slot_of, marks_at, find_marks}
-use Rattle.bm_arena.specs.Holding.{replicas_at, replicas_of, blocks_of, info_at, with_known}
+use Rattle.bm_arena.specs.HeldMaps.{replicas_at, replicas_of, blocks_of, info_at, with_known}
 use Rattle.bm_arena.proofs.HeldReplicas.{get-replicas_of, get-blocks_of}
 use Rattle.bm_report.proofs.Maps.{get-here}
 use Rattle.bm_levels.proofs.AllMarks.{marks_listed}

@@ -19,7 +19,7 @@ use Rattle.bm_parts.specs.Settled.{IsSettled}
 use Rattle.bm_parts.proofs.SettledBlocks.{settled_is_left}
 use Rattle.bm_arena.specs.Triplets.{Block}
 use Rattle.bm_arena.specs.Contents.{Contents, block_at, slot_of, marks_at, find_marks, IsLawful}
-use Rattle.bm_arena.specs.Holding.{replicas_at, replicas_of, holdings_of}
+use Rattle.bm_arena.specs.HeldMaps.{replicas_at, replicas_of, holdings_of}
 use Rattle.bm_arena.proofs.HeldReplicas.{get-replicas_of}
 use Rattle.bm_levels.specs.Status.{is_settled_at}
 use Rattle.bm_levels.specs.Held.{holdings_with}
@@ -29,18 +29,18 @@ use Rattle.bm_levels.proofs.AllMarks.{found_changed, marks_listed}
 
 -- the number of a settled slot
 module _ (a : Contents) (lawful : IsLawful a) (b slot : ℕ) (here : slot_of a b ≡ Some slot) (settled : is_settled_at (block_at a slot) ≡ true) where
-  stands : (k : Block) × (block_at a slot ≡ Some k)
-  stands = let f = lawful.found b slot here in (f.1, f.2)
+  block_there : (k : Block) × (block_at a slot ≡ Some k)
+  block_there = let f = lawful.found b slot here in (f.1, f.2)
 
-  settled_there : is_settled_at (Some stands.0) ≡ true
-  settled_there = sym (ap is_settled_at stands.1) ∙ settled
+  settled_there : is_settled_at (Some block_there.0) ≡ true
+  settled_there = sym (ap is_settled_at block_there.1) ∙ settled
 
   pub settled_block : IsSettled (holdings_of a) b
   unfolding holdings_of holdings_with
   settled_block = record {
     all_plain = λ q m same e.
-        all_plain_at a empty lawful b slot stands.0 here stands.1 settled_there q.storage m (ap (λ z. get (replicas_of a) (replica_at z q.storage)) (sym same) ∙ e);
-    few = few_at a empty lawful b slot stands.0 here stands.1 settled_there;
+        all_plain_at a empty lawful b slot block_there.0 here block_there.1 settled_there q.storage m (ap (λ z. get (replicas_of a) (replica_at z q.storage)) (sym same) ∙ e);
+    few = few_at a empty lawful b slot block_there.0 here block_there.1 settled_there;
   }
 
   -- dropping marks of excess changes nothing there

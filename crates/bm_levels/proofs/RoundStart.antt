@@ -8,7 +8,7 @@ use Rattle.bm_base.specs.Words.{revise, Cluster, Holdings, with_excess_reset, wi
 use Rattle.bm_base.specs.RoundParts.{surplus}
 use Rattle.bm_arena.specs.Triplets.{Block}
 use Rattle.bm_arena.specs.Contents.{Contents, block_at, slot_of, IsLawful, KeepsAllBut, KeepsEntries}
-use Rattle.bm_arena.specs.Holding.{replicas_at, replicas_of, blocks_of, info_at, holdings_of}
+use Rattle.bm_arena.specs.HeldMaps.{replicas_at, replicas_of, blocks_of, info_at, holdings_of}
 use Rattle.bm_arena.proofs.HeldReplicas.{same_blocks, under}
 use Rattle.bm_arena.proofs.StableEntries.{entries-chain}
 use Rattle.bm_levels.specs.Status.{is_settled_at}

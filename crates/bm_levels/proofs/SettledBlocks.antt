@@ -53,20 +53,20 @@ no_more p (r ∷ rs) =
       | false ↦ omega (arith, rest)
     ]
 
-module _ (a : Contents) (pending : Map by_replica ℕ) (lawful : IsLawful a) (b slot : ℕ) (k : Block) (here : slot_of a b ≡ Some slot) (stands : block_at a slot ≡ Some k) (settled : is_settled_at (Some k) ≡ true) where
+module _ (a : Contents) (pending : Map by_replica ℕ) (lawful : IsLawful a) (b slot : ℕ) (k : Block) (here : slot_of a b ≡ Some slot) (block_there : block_at a slot ≡ Some k) (settled : is_settled_at (Some k) ≡ true) where
   pub all_plain_at : (s : ℕ) (m : Marks) → get (holdings_with a pending).replicas (replica_at b s) ≡ Some m → m ≡ plain
   unfolding is_settled_at
   all_plain_at s m e =
       let h = parts_of (list_any (λ (r : ℕ × Marks). not (is_good_and_unmarked r.1)) k.replicas) (option_map_or (λ (i : BlockInfo). nat_le (length k.replicas) i.repl) k.info true) settled in
-      plain_is m (each_plain k.replicas s m h.0 (sym (found_marks a pending lawful b slot k here stands s) ∙ e))
+      plain_is m (each_plain k.replicas s m h.0 (sym (found_marks a pending lawful b slot k here block_there s) ∙ e))
 
   pub few_at : (i : BlockInfo) → get (holdings_with a pending).blocks b ≡ Some i → length (storages_where (λ _ m. is_usable m) (holdings_with a pending) b) ≤ i.repl
   unfolding is_settled_at
   few_at i e =
       let h = parts_of (list_any (λ (r : ℕ × Marks). not (is_good_and_unmarked r.1)) k.replicas) (option_map_or (λ (i : BlockInfo). nat_le (length k.replicas) i.repl) k.info true) settled in
-      let known : k.info ≡ Some i = sym (found_info a pending lawful b slot k here stands) ∙ e in
+      let known : k.info ≡ Some i = sym (found_info a pending lawful b slot k here block_there) ∙ e in
       let few : nat_le (length k.replicas) i.repl ≡ true = sym (ap (λ o. option_map_or (λ (j : BlockInfo). nat_le (length k.replicas) j.repl) o true) known) ∙ h.1 in
       let all = no_more (λ _ m. is_usable m) k.replicas in
-      let many = as_many a pending lawful b slot k here stands (λ _ m. is_usable m) in
+      let many = as_many a pending lawful b slot k here block_there (λ _ m. is_usable m) in
       let le : length k.replicas ≤ i.repl = grind (arith, nat_tests, few) in
       omega (arith, le, all, many)

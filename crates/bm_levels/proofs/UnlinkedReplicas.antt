@@ -8,11 +8,11 @@ use Rattle.bm_maps.proofs.SlotLists.{dec_among}
 use Rattle.bm_base.proofs.Options.{there}
 use Rattle.bm_arena.specs.Triplets.{Block}
 use Rattle.bm_arena.specs.Contents.{Contents, block_at, slot_of, list_of, marks_at, find_marks, known_of, unlinked, IsLawful, KeepsOthers}
-use Rattle.bm_arena.specs.Holding.{replicas_of, blocks_of}
+use Rattle.bm_arena.specs.HeldMaps.{replicas_of, blocks_of}
 use Rattle.bm_arena.proofs.Replicas.{Among-left}
 use Rattle.bm_levels.specs.Unused.{MakesNoUnused, HasNoUnusedAt, KeepsSlots}
 use Rattle.bm_levels.specs.IndexedLevels.{IndexedLevels, HasCapacityFor, IsClassified, IsSameAt}
-use Rattle.bm_levels.specs.Leaving.{IsLeaving, MakesNoHead}
+use Rattle.bm_levels.specs.LeavingReplicas.{IsLeaving, MakesNoHead}
 use Rattle.bm_levels.specs.Leveled.{Leveled, IsLeveled}
 use Rattle.bm_levels.specs.LevelsBy.{AreLevelsBy}
 use Rattle.bm_levels.proofs.LeavingReplicas.{apart_from, led_by, leaving_none, leaving_one, leaving_more}
@@ -111,8 +111,8 @@ module _ (rack : ℕ → Option ℕ) (draining : ℕ → Bool) (multi : Bool) (o
 -- Only the blocks at these slots change before their unused entries are dropped.
 pub unused_taken : (a m c : Contents) (slots : List ℕ) → m.ids ≡ a.ids → ((slot : ℕ) → (IsMember slot slots → ⊥) → block_at m slot ≡ block_at a slot) → KeepsSlots m c → blocks_of c ≡ blocks_of m
     → replicas_of c ≡ replicas_of m → HasNoUnusedAt slots m c → MakesNoUnused a c
-unused_taken a m c slots ids others kept blocks replicas none b bare =
-    let was = unused_held m c b (some_before (kept b bare.entry) bare.entry) blocks replicas bare in
+unused_taken a m c slots ids others kept blocks replicas none b unused =
+    let was = unused_held m c b (some_before (kept b unused.entry) unused.entry) blocks replicas unused in
     let led = there (slot_of m b) was.entry in
     let here : slot_of a b ≡ Some led.0 = sym (same_numbers a m ids b) ∙ led.1 in
-    unused_elsewhere a m b led.0 here led.1 (others led.0 (λ among. none b led.0 among led.1 bare)) was
+    unused_elsewhere a m b led.0 here led.1 (others led.0 (λ among. none b led.0 among led.1 unused)) was

@@ -6,7 +6,7 @@ use Rattle.bm_base.specs.Machine.Excess.{with_excess_reset}
 use Rattle.bm_maps.specs.SlotLists.{IsMember, Distinct}
 use Rattle.bm_queues.specs.Walks.{slots_from, IsOn, IsPast}
 use Rattle.bm_arena.specs.Contents.{block_at, KeepsEntries}
-use Rattle.bm_arena.specs.Holding.{replicas_at}
+use Rattle.bm_arena.specs.HeldMaps.{replicas_at}
 use Rattle.bm_arena.proofs.StableEntries.{entries-none, entries-chain}
 use Rattle.bm_levels.specs.Changes.{all_changed}
 use Rattle.bm_levels.specs.IndexedLevels.{KeepsAhead}

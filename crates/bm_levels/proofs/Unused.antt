@@ -11,7 +11,7 @@ use Rattle.bm_maps.specs.SlotLists.{without}
 use Rattle.bm_base.proofs.Options.{there}
 use Rattle.bm_arena.specs.Triplets.{Block}
 use Rattle.bm_arena.specs.Contents.{Contents, block_at, slot_of, find_marks, list_of, HasHead, unlinked, IsLawful}
-use Rattle.bm_arena.specs.Holding.{replicas_at, replicas_of, blocks_of, info_at}
+use Rattle.bm_arena.specs.HeldMaps.{replicas_at, replicas_of, blocks_of, info_at}
 use Rattle.bm_report.specs.Aborted.{is_unused_number}
 use Rattle.bm_report.proofs.Maps.{get-here}
 use Rattle.bm_levels.specs.Unused.{IsUnused, MakesNoUnused, MakesUnusedOnly, KeepsSlots}
@@ -20,7 +20,7 @@ use Rattle.bm_levels.proofs.RevisedHoldings.{known_at}
 -- an unused entry was unused before if no block and no replica of the number was lost
 pub unused_before : (a c : Contents) (b : ℕ) → IsSome (slot_of a b) → (get (blocks_of c) b ≡ None → get (blocks_of a) b ≡ None)
     → ((s : ℕ) → get (replicas_of c) (replica_at b s) ≡ None → get (replicas_of a) (replica_at b s) ≡ None) → IsUnused c b → IsUnused a b
-unused_before a c b led unknown empty bare = record { entry = led; unknown = unknown bare.unknown; empty = λ s. empty s (bare.empty s) }
+unused_before a c b led unknown empty unused = record { entry = led; unknown = unknown unused.unknown; empty = λ s. empty s (unused.empty s) }
 
 -- an unused entry was unused before if the number had one and the arena held the same
 pub unused_held : (a c : Contents) (b : ℕ) → IsSome (slot_of a b) → blocks_of c ≡ blocks_of a → replicas_of c ≡ replicas_of a → IsUnused c b → IsUnused a b
@@ -34,9 +34,9 @@ pub some_before : {o p : Option ℕ} → p ≡ o → IsSome p → IsSome o
 some_before e there = let P : Option ℕ → Type 0 = λ o. IsSome o in subst P e there
 
 -- an unused entry has nothing at its slot
-module _ (a : Contents) (b slot : ℕ) (led : slot_of a b ≡ Some slot) (bare : IsUnused a b) where
+module _ (a : Contents) (b slot : ℕ) (led : slot_of a b ≡ Some slot) (unused : IsUnused a b) where
   pub unused_info : info_at a slot ≡ None
-  unused_info = sym (known_at a b slot led) ∙ bare.unknown
+  unused_info = sym (known_at a b slot led) ∙ unused.unknown
 
   listed_marks : (o : Option Block) (s : ℕ) → find_marks (option_map_or (λ (k : Block). k.replicas) o []) s ≡ option_and_then (λ (k : Block). find_marks k.replicas s) o
   listed_marks None s = refl
@@ -48,7 +48,7 @@ module _ (a : Contents) (b slot : ℕ) (led : slot_of a b ≡ Some slot) (bare :
       by : (rs : List (ℕ × Marks)) → replicas_at a slot ≡ rs → rs ≡ []
       by [] e = refl
       by (r ∷ rs) e =
-          absurd (none-some _ (sym (bare.empty r.0) ∙ get-here a b slot r.0 led ∙ sym (listed_marks (block_at a slot) r.0) ∙ ap (λ l. find_marks l r.0) e
+          absurd (none-some _ (sym (unused.empty r.0) ∙ get-here a b slot r.0 led ∙ sym (listed_marks (block_at a slot) r.0) ∙ ap (λ l. find_marks l r.0) e
           ∙ ap (λ t. cond t (Some r.1) (find_marks rs r.0)) (eq-eqb r.0 r.0 refl)))
 
   pub unused_counted : IsLawful a → is_unused_number a b ≡ true
@@ -71,13 +71,13 @@ module _ (a c : Contents) (slot : ℕ) (blocks : blocks_of c ≡ blocks_of a) (r
       by None e = absurd (let P : Option ℕ → Type 0 = λ o. IsSome o in false≢true (subst P (numbers b (λ f. none-some _ (sym e ∙ f)) ∙ e) some))
 
   pub unused_dropped : MakesNoUnused a c
-  unused_dropped b bare = unused_held a c b (was_there b bare.entry) blocks replicas bare
+  unused_dropped b unused = unused_held a c b (was_there b unused.entry) blocks replicas unused
 
   pub unused_gone : (b : ℕ) → slot_of a b ≡ Some slot → IsUnused c b → ⊥
-  unused_gone b led bare =
-      let was = unused_dropped b bare in
+  unused_gone b led unused =
+      let was = unused_dropped b unused in
       let P : Option ℕ → Type 0 = λ o. IsSome o in
-      false≢true (subst P (gone b led (unused_replicas a b slot led was) (unused_info a b slot led was)) bare.entry)
+      false≢true (subst P (gone b led (unused_replicas a b slot led was) (unused_info a b slot led was)) unused.entry)
 
 -- a number whose block stays as it is
 pub unused_elsewhere : (a m : Contents) (b x : ℕ) → slot_of a b ≡ Some x → slot_of m b ≡ Some x → block_at m x ≡ block_at a x → IsUnused m b → IsUnused a b
@@ -90,45 +90,45 @@ unused_elsewhere a m b x here led still =
 pub unused_changed : (a m c : Contents) (slot : ℕ) → m.ids ≡ a.ids → ((other : ℕ) → other ≢ slot → block_at m other ≡ block_at a other) → blocks_of c ≡ blocks_of m → replicas_of c ≡ replicas_of m
     → ((id : ℕ) → slot_of m id ≢ Some slot → slot_of c id ≡ slot_of m id)
     → ((id : ℕ) → slot_of m id ≡ Some slot → replicas_at m slot ≡ [] → info_at m slot ≡ None → slot_of c id ≡ None) → MakesNoUnused a c
-unused_changed a m c slot ids others blocks replicas numbers gone b bare =
-    let was = unused_dropped m c slot blocks replicas numbers gone b bare in
+unused_changed a m c slot ids others blocks replicas numbers gone b unused =
+    let was = unused_dropped m c slot blocks replicas numbers gone b unused in
     let led = there (slot_of m b) was.entry in
     let here : slot_of a b ≡ Some led.0 = sym (same_numbers a m ids b) ∙ led.1 in
-    let apart : led.0 ≢ slot = λ e. unused_gone m c slot blocks replicas numbers gone b (led.1 ∙ ap (λ x. Some x) e) bare in
+    let apart : led.0 ≢ slot = λ e. unused_gone m c slot blocks replicas numbers gone b (led.1 ∙ ap (λ x. Some x) e) unused in
     unused_elsewhere a m b led.0 here led.1 (others led.0 apart) was
 
 -- A report is aborted: its numbers lose their unused entries.
 module _ (a c : Contents) (named : ℕ → Bool) (lawful : IsLawful a) (blocks : blocks_of c ≡ blocks_of a) (replicas : replicas_of c ≡ replicas_of a)
     (numbers : (b : ℕ) → slot_of c b ≡ (if named b && is_unused_number a b then None else slot_of a b)) where
   pub unused_aborted : MakesNoUnused a c
-  unused_aborted b bare = unused_held a c b (by (named b && is_unused_number a b) (some_before (numbers b) bare.entry)) blocks replicas bare
+  unused_aborted b unused = unused_held a c b (by (named b && is_unused_number a b) (some_before (numbers b) unused.entry)) blocks replicas unused
     where
       by : (t : Bool) → IsSome (if t then None else slot_of a b) → IsSome (slot_of a b)
       by true some = absurd (false≢true some)
       by false some = some
 
   pub unused_unnamed : (b : ℕ) → IsTrue (named b) → IsUnused c b → ⊥
-  unused_unnamed b name bare =
-      let was = unused_aborted b bare in
+  unused_unnamed b name unused =
+      let was = unused_aborted b unused in
       let led = there (slot_of a b) was.entry in
       let dropped : slot_of c b ≡ None = numbers b ∙ (λ i. if name i && unused_counted a b led.0 led.1 was lawful i then None else slot_of a b) in
       let P : Option ℕ → Type 0 = λ o. IsSome o in
-      false≢true (subst P dropped bare.entry)
+      false≢true (subst P dropped unused.entry)
 
 -- an abort drops the entries that a look-up made
 pub unused_again : (a m c : Contents) (named : ℕ → Bool) → IsLawful m → blocks_of m ≡ blocks_of a → replicas_of m ≡ replicas_of a → ((b : ℕ) → slot_of a b ≡ None → IsSome (slot_of m b) → IsTrue (named b))
     → blocks_of c ≡ blocks_of m → replicas_of c ≡ replicas_of m → ((b : ℕ) → slot_of c b ≡ (if named b && is_unused_number m b then None else slot_of m b)) → MakesNoUnused a c
-unused_again a m c named lawful blocks replicas fresh blocks_c replicas_c numbers b bare =
-    let was = unused_aborted m c named lawful blocks_c replicas_c numbers b bare in
+unused_again a m c named lawful blocks replicas fresh blocks_c replicas_c numbers b unused =
+    let was = unused_aborted m c named lawful blocks_c replicas_c numbers b unused in
     unused_held a m b (by (slot_of a b) refl was.entry) blocks replicas was
   where
     by : (o : Option ℕ) → slot_of a b ≡ o → IsSome (slot_of m b) → IsSome (slot_of a b)
     by (Some x) e some = ap is_some e
-    by None e some = absurd (unused_unnamed m c named lawful blocks_c replicas_c numbers b (fresh b e some) bare)
+    by None e some = absurd (unused_unnamed m c named lawful blocks_c replicas_c numbers b (fresh b e some) unused)
 
 -- if other numbers keep their entries, only these can have new unused ones
-pub unused_beside : (a c : Contents) (these : ℕ → Bool) → blocks_of c ≡ blocks_of a → replicas_of c ≡ replicas_of a → ((b : ℕ) → these b ≡ false → slot_of c b ≡ slot_of a b) → MakesUnusedOnly these a c
-unused_beside a c these blocks replicas others b not_these bare = unused_held a c b (some_before (others b not_these) bare.entry) blocks replicas bare
+pub unused_apart : (a c : Contents) (these : ℕ → Bool) → blocks_of c ≡ blocks_of a → replicas_of c ≡ replicas_of a → ((b : ℕ) → these b ≡ false → slot_of c b ≡ slot_of a b) → MakesUnusedOnly these a c
+unused_apart a c these blocks replicas others b not_these unused = unused_held a c b (some_before (others b not_these) unused.entry) blocks replicas unused
 
 -- If one entry is dropped, a number that keeps an entry keeps the same one.
 pub slots_kept : (a c : Contents) (slot : ℕ) → ((id : ℕ) → slot_of a id ≢ Some slot → slot_of c id ≡ slot_of a id) → ((id : ℕ) → slot_of a id ≡ Some slot → slot_of c id ≡ None) → KeepsSlots a c

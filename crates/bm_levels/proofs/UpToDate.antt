@@ -13,7 +13,7 @@ use Rattle.bm_parts.proofs.Deaths.{rack_elsewhere, draining_elsewhere, rack_left
 use Rattle.bm_parts.proofs.ClusterLevels.{heartbeat_leaves_racks, stands_before}
 use Rattle.bm_arena.specs.Triplets.{Block}
 use Rattle.bm_arena.specs.Contents.{Contents, block_at, list_of, marks_at, find_marks, slot_of, IsLawful}
-use Rattle.bm_arena.specs.Holding.{replicas_of, holdings_of}
+use Rattle.bm_arena.specs.HeldMaps.{replicas_of, holdings_of}
 use Rattle.bm_report.proofs.Maps.{get-here}
 use Rattle.bm_levels.specs.declared.cluster_after.DrainChange.{DrainChange}
 use Rattle.bm_levels.specs.Status.{drains_after_change, level_by}
@@ -74,14 +74,14 @@ pub led_to : (v : Leveled) → IsLawful v.arena → IsLeveled v → (slot s : �
 led_to v lawful leveled slot s there = led_by v.arena lawful s (leveled.free s) slot there
 
 module _ (C D : Cluster) (v : Leveled) (lawful : IsLawful v.arena) (leveled : IsLeveled v) (same : IsSameForHeld C D v.arena) where
-  stands : (slot s : ℕ) → IsSome (marks_at v.arena slot s) → (rack_of C s ≡ rack_of D s) × (is_draining C s ≡ is_draining D s)
-  stands slot s there =
+  same_there : (slot s : ℕ) → IsSome (marks_at v.arena slot s) → (rack_of C s ≡ rack_of D s) × (is_draining C s ≡ is_draining D s)
+  same_there slot s there =
       let id = led_to v lawful leveled slot s there in
       let some : IsSome (get (replicas_of v.arena) (replica_at id.0 s)) = ap is_some (get-here v.arena id.0 slot s id.1) ∙ there in
       (sym (same.rack (replica_at id.0 s) some), sym (same.draining (replica_at id.0 s) some))
 
   pub levels_for_held : AreLevelsBy (rack_of C) (is_draining C) (is_multi_rack D) v → AreLevels D v
-  levels_for_held = levels_alike (rack_of C) (rack_of D) (is_draining C) (is_draining D) (is_multi_rack D) v stands
+  levels_for_held = levels_alike (rack_of C) (rack_of D) (is_draining C) (is_draining D) (is_multi_rack D) v same_there
 
 -- a heartbeat keeps all levels
 pub heartbeat_leaves : (C : Cluster) (rs : List Remaining) (v : Leveled) → AreLevels C v → AreLevels (heartbeat C rs) v

@@ -9,7 +9,7 @@ use Rattle.bm_base.specs.declared.replica.BlockInfo.{BlockInfo}
 use Rattle.bm_base.specs.declared.commands.Delete.{Delete}
 use Rattle.bm_base.specs.Words.{as_stray, as_restamped, is_commanded, Holdings, with_excess_reset, without_unordered_excess}
 use Rattle.bm_arena.specs.Contents.{Contents}
-use Rattle.bm_arena.specs.Holding.{holdings_of}
+use Rattle.bm_arena.specs.HeldMaps.{holdings_of}
 use Rattle.bm_levels.specs.declared.mark_changes.MarkChange.{MarkChange}
 use Rattle.bm_levels.specs.declared.mark_changes.MarkChange.TheVariants.{Deleted, Restamped, RoundBegun}
 

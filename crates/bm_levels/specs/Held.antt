@@ -2,7 +2,7 @@
 use Rattle.std.specs.Prelude.{ℕ}
 use Rattle.bm_base.specs.Words.{Map, Holdings, by_replica}
 use Rattle.bm_arena.specs.Contents.{Contents}
-use Rattle.bm_arena.specs.Holding.{replicas_of, blocks_of}
+use Rattle.bm_arena.specs.HeldMaps.{replicas_of, blocks_of}
 
 -- the holdings with these pending transfers
 unfoldable pub holdings_with : Contents → Map by_replica ℕ → Holdings

@@ -2,7 +2,7 @@
 use Rattle.std.specs.Prelude.{◌≡◌, ◌↔◌, ℕ, ◌+◌, false, None, IsSome}
 use Rattle.bm_base.specs.Machine.State.{Cluster}
 use Rattle.bm_arena.specs.Contents.{Contents, block_at, marks_at}
-use Rattle.bm_arena.specs.Holding.{info_at}
+use Rattle.bm_arena.specs.HeldMaps.{info_at}
 use Rattle.bm_levels.specs.Status.{level_in, is_settled_at}
 use Rattle.bm_levels.specs.IndexedLevels.{IndexedLevels, level_of_slot, IsUnsettled, HasCapacityFor}
 

@@ -4,7 +4,7 @@ use Rattle.bm_base.specs.declared.replica.ReplicaId.{ReplicaId}
 use Rattle.bm_base.specs.Words.{get, Cluster, rack_of, has_storage, is_draining, drain, undrain}
 use Rattle.bm_maps.specs.SlotLists.{IsMember}
 use Rattle.bm_arena.specs.Contents.{Contents, block_at, list_of}
-use Rattle.bm_arena.specs.Holding.{replicas_of}
+use Rattle.bm_arena.specs.HeldMaps.{replicas_of}
 use Rattle.bm_levels.specs.Status.{level_by}
 use Rattle.bm_levels.specs.IndexedLevels.{level_of_slot}
 use Rattle.bm_levels.specs.Leveled.{Leveled}

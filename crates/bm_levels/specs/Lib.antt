@@ -5,6 +5,6 @@ pub mod Held
 pub mod Leveled
 pub mod LevelsBy
 pub mod ClusterAfter
-pub mod Leaving
+pub mod LeavingReplicas
 pub mod Changes
 pub mod Unused

@@ -4,7 +4,7 @@ use Rattle.std.specs.Prelude.{◌≡◌, ◌≢◌, ℕ, Bool, false, List, [], 
 use Rattle.bm_base.specs.Words.{get, replica_at}
 use Rattle.bm_maps.specs.SlotLists.{IsMember}
 use Rattle.bm_arena.specs.Contents.{Contents, block_at, slot_of}
-use Rattle.bm_arena.specs.Holding.{replicas_at, replicas_of, blocks_of}
+use Rattle.bm_arena.specs.HeldMaps.{replicas_at, replicas_of, blocks_of}
 
 -- the number has an entry, and neither a known block nor a replica
 pub record IsUnused (a : Contents) (b : ℕ) : Type 0 where

@@ -3,7 +3,7 @@ ghost use Rattle.std.specs.Prelude.{◌≡◌, ◌==◌, ℕ, true, false, IsSom
 ghost use Rattle.std.specs.Option.{option_map};
 ghost use Rattle.bm_base.specs.Words.{insert, remove, revise, revise_at, contains_key, replica_at, as_stray, as_bad, as_restamped};
 ghost use Rattle.bm_arena.specs.Contents.{slot_of, marks_at, KeepsAllBut};
-ghost use Rattle.bm_arena.specs.Holding.{replicas_of, blocks_of, info_at, with_known};
+ghost use Rattle.bm_arena.specs.HeldMaps.{replicas_of, blocks_of, info_at, with_known};
 ghost use Rattle.bm_levels.specs.Unused.{HasNoEmptyEntry, MakesNoUnused};
 ghost use Rattle.bm_levels.specs.Changes.{changed, with_stamp, with_repl};
 ghost use Rattle.bm_levels.specs.Leveled.{KeepsLevels};
@@ -36,7 +36,7 @@ impl LeveledBlocks {
         ensures replicas { replicas_of self.new.arena
             ≡ revise (replicas_of self.old.arena) (λ q m. if q.block == id then as_stray m else m) }
         ensures entry { HasNoEmptyEntry self.new.arena id }
-        ensures bare { MakesNoUnused self.old.arena self.new.arena }
+        ensures unused { MakesNoUnused self.old.arena self.new.arena }
         ensures levels { KeepsLevels topology.now.cluster self.old self.new }
     {
         if let Some(slot) = self.slot_of(id) {
@@ -109,7 +109,7 @@ impl LeveledBlocks {
             ≡ contains_key (replicas_of self.old.arena) (replica_at id storage) }
         ensures entry { result ≡ true → contains_key (blocks_of self.old.arena) id ≡ false
             → HasNoEmptyEntry self.new.arena id }
-        ensures bare { MakesNoUnused self.old.arena self.new.arena }
+        ensures unused { MakesNoUnused self.old.arena self.new.arena }
         ensures levels { KeepsLevels topology.now.cluster self.old self.new }
     {
         let Some(slot) = self.slot_of(id) else {

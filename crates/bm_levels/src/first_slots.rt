@@ -1,7 +1,7 @@
 // The first slots in the list of a storage.
 ghost use Rattle.std.specs.Prelude.{◌≡◌, ◌<◌, ◌≤◌, ◌+◌, ◌++◌, [], length};
 ghost use Rattle.bm_arena.specs.Contents.{list_of};
-ghost use Rattle.bm_levels.specs.Leaving.{HasFirstSlots};
+ghost use Rattle.bm_levels.specs.LeavingReplicas.{HasFirstSlots};
 
 use crate::classified_chunks::CHUNK;
 use bm_arena::{Arena, Slot, Walk};

@@ -1,7 +1,7 @@
 // The lists of a node's storages taken apart in step, so that their cache misses overlap.
 ghost use Rattle.std.specs.Prelude.{◌≡◌, ◌==◌, ◌||◌, ◌≤◌, ◌+◌, ◌^◌, false};
 ghost use Rattle.bm_levels.specs.Unused.{MakesNoUnused};
-ghost use Rattle.bm_levels.specs.Leaving.{IsLeaving, IsLeavingStorage, HasFirstSlots, MakesNoHead};
+ghost use Rattle.bm_levels.specs.LeavingReplicas.{IsLeaving, IsLeavingStorage, HasFirstSlots, MakesNoHead};
 ghost use Rattle.bm_levels.specs.ClusterAfter.{is_on_node, KeepsLevelsAfter};
 
 use crate::classified_chunks::CHUNK;
@@ -99,7 +99,7 @@ impl LeveledBlocks {
     ) -> u128
         ensures left { IsLeaving (is_on_node cluster_after.now node) self.old.arena self.new.arena result }
         ensures few { result ≤ 2 ^ 99 }
-        ensures bare { MakesNoUnused self.old.arena self.new.arena }
+        ensures unused { MakesNoUnused self.old.arena self.new.arena }
         ensures fewer { MakesNoHead self.old.arena self.new.arena }
         ensures levels { KeepsLevelsAfter cluster_after.now self.old self.new }
     {
@@ -129,7 +129,7 @@ impl LeveledBlocks {
     ) -> u128
         ensures left { IsLeaving (is_on_node cluster_after.now node) self.old.arena self.new.arena result }
         ensures few { result ≤ 2 ^ 66 + 256 }
-        ensures bare { MakesNoUnused self.old.arena self.new.arena }
+        ensures unused { MakesNoUnused self.old.arena self.new.arena }
         ensures fewer { MakesNoHead self.old.arena self.new.arena }
         ensures levels { KeepsLevelsAfter cluster_after.now self.old self.new }
     {
@@ -161,7 +161,7 @@ impl LeveledBlocks {
         requires fourth { HasFirstSlots self.old.arena four.now.fourth lists.now.fourth }
         ensures left { IsLeaving (is_on_node cluster_after.now node) self.old.arena self.new.arena result }
         ensures few { result ≤ 256 }
-        ensures bare { MakesNoUnused self.old.arena self.new.arena }
+        ensures unused { MakesNoUnused self.old.arena self.new.arena }
         ensures fewer { MakesNoHead self.old.arena self.new.arena }
         ensures levels { KeepsLevelsAfter cluster_after.now self.old self.new }
     {
@@ -207,7 +207,7 @@ impl LeveledBlocks {
         ensures storage { IsLeavingStorage storage self.old.arena self.new.arena result }
         ensures left { IsLeaving (is_on_node cluster_after.now node) self.old.arena self.new.arena result }
         ensures few { result ≤ 64 }
-        ensures bare { MakesNoUnused self.old.arena self.new.arena }
+        ensures unused { MakesNoUnused self.old.arena self.new.arena }
         ensures fewer { MakesNoHead self.old.arena self.new.arena }
         ensures levels { KeepsLevelsAfter cluster_after.now self.old self.new }
     {

@@ -3,7 +3,7 @@ ghost use Rattle.std.specs.Prelude.{◌≡◌, ◌≢◌, ℕ, IsSome, Some, IfO
 ghost use Rattle.bm_base.specs.declared.refusal.Refusal.TheVariants.{Memory};
 ghost use Rattle.bm_base.specs.Words.{Map, empty, insert, remove, level, Cluster, by_replica, replica_at};
 ghost use Rattle.bm_arena.specs.Contents.{slot_of, marks_at, KeepsAllBut, KeepsEntries, KeepsOthers};
-ghost use Rattle.bm_arena.specs.Holding.{replicas_of, blocks_of, with_known};
+ghost use Rattle.bm_arena.specs.HeldMaps.{replicas_of, blocks_of, with_known};
 ghost use Rattle.bm_levels.specs.Unused.{HasNoUnused, MakesNoUnused};
 ghost use Rattle.bm_levels.specs.Held.{holdings_with};
 ghost use Rattle.bm_levels.specs.Leveled.{AreLevels, KeepsLevels, IsLeveled};
@@ -39,7 +39,7 @@ impl LeveledBlocks {
         ensures blocks { IfOk result (λ b. blocks_of b.arena ≡ empty) }
         ensures replicas { IfOk result (λ b. replicas_of b.arena ≡ empty) }
         ensures levels { IfOk result (λ b. (C : Cluster) → AreLevels C b) }
-        ensures bare { IfOk result (λ b. HasNoUnused b.arena) }
+        ensures unused { IfOk result (λ b. HasNoUnused b.arena) }
         ensures refused { IfErr result (λ e. e ≡ Memory) }
     {
         let arena = Arena::with_secret(alloc, secret)?;

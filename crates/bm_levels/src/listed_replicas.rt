@@ -2,7 +2,7 @@
 ghost use Rattle.std.specs.Prelude.{◌≡◌, ◌==◌, true, not, position};
 ghost use Rattle.std.specs.List.{position_or_len};
 ghost use Rattle.bm_arena.specs.Contents.{block_at, known_of, KeepsAllBut, IsLawful};
-ghost use Rattle.bm_arena.specs.Holding.{replicas_at};
+ghost use Rattle.bm_arena.specs.HeldMaps.{replicas_at};
 ghost use Rattle.bm_levels.specs.Changes.{as_excess, excess_on, each_changed, has_storage, AreByStorage};
 
 use bm_arena::{Arena, Slot};

@@ -5,10 +5,10 @@ ghost use Rattle.bm_base.specs.Machine.Replicas as replicas;
 ghost use Rattle.bm_base.specs.Machine.Events as events;
 ghost use Rattle.bm_base.specs.Machine.Calls as calls;
 ghost use Rattle.bm_arena.specs.Contents.{list_of, HasHead};
-ghost use Rattle.bm_arena.specs.Holding.{replicas_of, blocks_of};
+ghost use Rattle.bm_arena.specs.HeldMaps.{replicas_of, blocks_of};
 ghost use Rattle.bm_levels.specs.Unused.{MakesNoUnused};
 ghost use Rattle.bm_levels.specs.Leveled.{AreLevels};
-ghost use Rattle.bm_levels.specs.Leaving.{IsLeaving, HasNoHeads, MakesNoHead};
+ghost use Rattle.bm_levels.specs.LeavingReplicas.{IsLeaving, HasNoHeads, MakesNoHead};
 ghost use Rattle.bm_levels.specs.ClusterAfter.{is_on_node, KeepsLevelsAfter};
 
 use crate::cluster_after::ClusterAfter;
@@ -27,7 +27,7 @@ impl LeveledBlocks {
         ensures removed { result
             ≡ calls.new_replicas (replicas_of self.new.arena) (replicas_of self.old.arena) }
         ensures few { result < 2 ^ 100 }
-        ensures bare { MakesNoUnused self.old.arena self.new.arena }
+        ensures unused { MakesNoUnused self.old.arena self.new.arena }
         ensures head { HasHead self.new.arena storage → ⊥ }
         ensures fewer { MakesNoHead self.old.arena self.new.arena }
         ensures levels { AreLevels topology.now.cluster self.old
@@ -52,7 +52,7 @@ impl LeveledBlocks {
         ensures removed { result
             ≡ calls.new_replicas (replicas_of self.new.arena) (replicas_of self.old.arena) }
         ensures few { result < 2 ^ 100 }
-        ensures bare { MakesNoUnused self.old.arena self.new.arena }
+        ensures unused { MakesNoUnused self.old.arena self.new.arena }
         ensures heads { HasNoHeads (replicas.has_storage topology.now.cluster node) self.new.arena }
         ensures fewer { MakesNoHead self.old.arena self.new.arena }
         ensures levels { AreLevels topology.now.cluster self.old
@@ -75,7 +75,7 @@ impl LeveledBlocks {
         ensures few { result < 2 ^ 100 }
         ensures none { (s : ℕ) → is_on_node cluster_after.now node s ≡ true
             → list_of self.new.arena s ≡ [] }
-        ensures bare { MakesNoUnused self.old.arena self.new.arena }
+        ensures unused { MakesNoUnused self.old.arena self.new.arena }
         ensures heads { HasNoHeads (is_on_node cluster_after.now node) self.new.arena }
         ensures fewer { MakesNoHead self.old.arena self.new.arena }
         ensures levels { KeepsLevelsAfter cluster_after.now self.old self.new }

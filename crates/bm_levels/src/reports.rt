@@ -7,7 +7,7 @@ ghost use Rattle.bm_base.specs.Machine.State.{Cluster};
 ghost use Rattle.bm_base.specs.Machine.Events as events;
 ghost use Rattle.bm_base.specs.Machine.Calls as calls;
 ghost use Rattle.bm_arena.specs.Contents.{HasHead, KeepsEntries};
-ghost use Rattle.bm_arena.specs.Holding.{replicas_of, blocks_of, holdings_of};
+ghost use Rattle.bm_arena.specs.HeldMaps.{replicas_of, blocks_of, holdings_of};
 ghost use Rattle.bm_report.specs.Expanded.{reported_to_part};
 ghost use Rattle.bm_report.specs.DuringReport.{IsOncePerNode};
 ghost use Rattle.bm_report.specs.Ready.{reported_blocks, IsLookedUp, IsReady, IsReportedAt, HasGoodExcess, HaveReplicas};
@@ -33,12 +33,12 @@ impl LeveledBlocks {
         part: Part,
     ) -> Result<(), Refusal>
         requires part { part.index < part.shards }
-        ensures told { OnOk result (reported_blocks report.new ≡ reported_to_part part entries.now) }
+        ensures reported { OnOk result (reported_blocks report.new ≡ reported_to_part part entries.now) }
         ensures ready { OnOk result (IsReady report.new self.new.arena storage) }
         ensures fresh { OnOk result (report.new.changed ≡ []) }
         ensures blocks { blocks_of self.new.arena ≡ blocks_of self.old.arena }
         ensures replicas { replicas_of self.new.arena ≡ replicas_of self.old.arena }
-        ensures bare { MakesUnusedOnly (events.is_named (reported_to_part part entries.now))
+        ensures unused { MakesUnusedOnly (events.is_named (reported_to_part part entries.now))
             self.old.arena self.new.arena }
         ensures given_up { OnErr result (MakesNoUnused self.old.arena self.new.arena) }
         ensures there { HasHead self.old.arena storage
@@ -69,11 +69,11 @@ impl LeveledBlocks {
         id: BlockId,
         stamp: Stamp,
     ) -> Result<(), Refusal>
-        ensures told { OnOk result (reported_blocks report.new ≡ record { id = id; stamp = stamp } ∷ []) }
+        ensures reported { OnOk result (reported_blocks report.new ≡ record { id = id; stamp = stamp } ∷ []) }
         ensures looked_up { OnOk result (IsLookedUp report.new self.new.arena storage) }
         ensures blocks { blocks_of self.new.arena ≡ blocks_of self.old.arena }
         ensures replicas { replicas_of self.new.arena ≡ replicas_of self.old.arena }
-        ensures bare { MakesUnusedOnly (λ b. id == b) self.old.arena self.new.arena }
+        ensures unused { MakesUnusedOnly (λ b. id == b) self.old.arena self.new.arena }
         ensures given_up { OnErr result (MakesNoUnused self.old.arena self.new.arena) }
         ensures levels { (C : Cluster) → KeepsLevels C self.old self.new }
         ensures refused { IfErr result (λ e. e ≡ Memory) }
@@ -93,10 +93,10 @@ impl LeveledBlocks {
     /// Aborts a prepared report: drops the unused entries of its numbers, and forgets the numbers.
     /// All blocks and replicas stay. Takes no memory.
     pub fn abort_report(&mut self, report: &mut Report)
-        ensures told { reported_blocks report.new ≡ [] }
+        ensures reported { reported_blocks report.new ≡ [] }
         ensures blocks { blocks_of self.new.arena ≡ blocks_of self.old.arena }
         ensures replicas { replicas_of self.new.arena ≡ replicas_of self.old.arena }
-        ensures bare { MakesNoUnused self.old.arena self.new.arena }
+        ensures unused { MakesNoUnused self.old.arena self.new.arena }
         ensures left { HasNoUnusedOf (events.is_named (reported_blocks report.old)) self.new.arena }
         ensures levels { (C : Cluster) → KeepsLevels C self.old self.new }
     {
@@ -115,7 +115,7 @@ impl LeveledBlocks {
         id: BlockId,
         stamp: Stamp,
     ) -> Applied
-        requires told { reported_blocks report.now ≡ record { id = id; stamp = stamp } ∷ [] }
+        requires reported { reported_blocks report.now ≡ record { id = id; stamp = stamp } ∷ [] }
         requires looked_up { IsLookedUp report.now self.old.arena storage }
         requires once { IsOncePerNode topology.now.cluster (replicas_of self.old.arena) }
         ensures received { HasReceived topology.now.cluster storage id stamp
@@ -153,7 +153,7 @@ impl LeveledBlocks {
         ensures split { report.new.came ≤ length report.new.changed }
         ensures came { (slot : ℕ) → IsMember slot (take report.new.came report.new.changed)
             → IsReportedAt self.old.arena (reported_blocks report.old) slot }
-        ensures told { reported_blocks report.new ≡ reported_blocks report.old }
+        ensures reported { reported_blocks report.new ≡ reported_blocks report.old }
         ensures added { result.added
             ≡ calls.new_replicas (replicas_of self.old.arena) (replicas_of self.new.arena) }
         ensures removed { result.removed

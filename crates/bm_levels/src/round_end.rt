@@ -3,7 +3,7 @@ ghost use Rattle.std.specs.Prelude.{◌≡◌, ◌<◌, ℕ, Some};
 ghost use Rattle.bm_base.specs.Words.{insert, revise, revise_at, replica_at};
 ghost use Rattle.bm_base.specs.RoundParts as parts;
 ghost use Rattle.bm_arena.specs.Contents.{slot_of, marks_at};
-ghost use Rattle.bm_arena.specs.Holding.{replicas_of, blocks_of};
+ghost use Rattle.bm_arena.specs.HeldMaps.{replicas_of, blocks_of};
 ghost use Rattle.bm_levels.specs.Changes.{as_ordered, with_deletes_ordered};
 ghost use Rattle.bm_levels.specs.Leveled.{KeepsLevels};
 

@@ -4,7 +4,7 @@ ghost use Rattle.bm_base.specs.Words.{revise, revise_at, with_excess_reset};
 ghost use Rattle.bm_base.specs.Machine.Excess as excess;
 ghost use Rattle.bm_base.specs.RoundParts as parts;
 ghost use Rattle.bm_arena.specs.Contents.{block_at, slot_of, KeepsEntries};
-ghost use Rattle.bm_arena.specs.Holding.{replicas_at, replicas_of, blocks_of};
+ghost use Rattle.bm_arena.specs.HeldMaps.{replicas_at, replicas_of, blocks_of};
 ghost use Rattle.bm_levels.specs.Unused.{KeepsBlocksOutside};
 ghost use Rattle.bm_levels.specs.Changes.{as_excess, all_changed, has_replica, has_block, at_round_start, AreOfBlock, AreByStorage, AreInOrder};
 ghost use Rattle.bm_levels.specs.IndexedLevels.{IsUnsettled, KeepsAhead};

@@ -1,9 +1,9 @@
 // The list of a storage taken apart, some blocks at a time, so that cache misses overlap.
 ghost use Rattle.std.specs.Prelude.{◌≡◌, ◌<◌, ◌≤◌, ◌+◌, ℕ, [], length, take, None};
 ghost use Rattle.bm_arena.specs.Contents.{block_at, known_of, list_of, marks_at, HasHead};
-ghost use Rattle.bm_arena.specs.Holding.{replicas_of, blocks_of};
+ghost use Rattle.bm_arena.specs.HeldMaps.{replicas_of, blocks_of};
 ghost use Rattle.bm_levels.specs.Unused.{KeepsBlocksOutside, MakesNoUnused};
-ghost use Rattle.bm_levels.specs.Leaving.{IsLeavingStorage, HasFirstSlots, DropsFirstSlots, MakesNoHead};
+ghost use Rattle.bm_levels.specs.LeavingReplicas.{IsLeavingStorage, HasFirstSlots, DropsFirstSlots, MakesNoHead};
 ghost use Rattle.bm_levels.specs.ClusterAfter.{KeepsLevelsAfter};
 
 use crate::cluster_after::ClusterAfter;
@@ -36,7 +36,7 @@ impl LeveledBlocks {
     pub(crate) fn clear(&mut self, cluster_after: &ClusterAfter<'_>, storage: StorageId) -> usize
         ensures left { IsLeavingStorage storage self.old.arena self.new.arena result }
         ensures none { list_of self.new.arena storage ≡ [] }
-        ensures bare { MakesNoUnused self.old.arena self.new.arena }
+        ensures unused { MakesNoUnused self.old.arena self.new.arena }
         ensures head { HasHead self.new.arena storage → ⊥ }
         ensures fewer { MakesNoHead self.old.arena self.new.arena }
         ensures levels { KeepsLevelsAfter cluster_after.now self.old self.new }
@@ -61,7 +61,7 @@ impl LeveledBlocks {
             ≡ result + length (list_of self.new.arena storage) }
         ensures some { 0 < length (list_of self.old.arena storage) → 0 < result }
         ensures few { result ≤ 64 }
-        ensures bare { MakesNoUnused self.old.arena self.new.arena }
+        ensures unused { MakesNoUnused self.old.arena self.new.arena }
         ensures fewer { MakesNoHead self.old.arena self.new.arena }
         ensures levels { KeepsLevelsAfter cluster_after.now self.old self.new }
     {
@@ -81,7 +81,7 @@ impl LeveledBlocks {
         requires { HasFirstSlots self.old.arena storage slots.now }
         ensures left { IsLeavingStorage storage self.old.arena self.new.arena (length slots.now) }
         ensures list { DropsFirstSlots storage slots.now self.old.arena self.new.arena }
-        ensures bare { MakesNoUnused self.old.arena self.new.arena }
+        ensures unused { MakesNoUnused self.old.arena self.new.arena }
         ensures fewer { MakesNoHead self.old.arena self.new.arena }
         ensures levels { KeepsLevelsAfter cluster_after.now self.old self.new }
     {

@@ -2,7 +2,7 @@
 ghost use Rattle.std.specs.Prelude.{◌≡◌, ◌≢◌, ℕ, [], Some, None, IsSomeAnd};
 ghost use Rattle.bm_base.specs.Machine.State.{Cluster};
 ghost use Rattle.bm_arena.specs.Contents.{block_at, slot_of};
-ghost use Rattle.bm_arena.specs.Holding.{replicas_at, replicas_of, blocks_of, info_at};
+ghost use Rattle.bm_arena.specs.HeldMaps.{replicas_at, replicas_of, blocks_of, info_at};
 ghost use Rattle.bm_levels.specs.Unused.{IsUnused, HasNoUnusedAt, MakesNoUnused, KeepsSlots};
 ghost use Rattle.bm_levels.specs.Leveled.{KeepsLevels};
 ghost use Rattle.bm_levels.specs.LevelsBy.{KeepsAllLevels};
@@ -15,7 +15,7 @@ impl LeveledBlocks {
     pub fn drop_unused(&mut self, slots: &[Slot])
         ensures blocks { blocks_of self.new.arena ≡ blocks_of self.old.arena }
         ensures replicas { replicas_of self.new.arena ≡ replicas_of self.old.arena }
-        ensures bare { MakesNoUnused self.old.arena self.new.arena }
+        ensures unused { MakesNoUnused self.old.arena self.new.arena }
         ensures left { HasNoUnusedAt slots.now self.old.arena self.new.arena }
         ensures slots { KeepsSlots self.old.arena self.new.arena }
         ensures levels { (C : Cluster) → KeepsLevels C self.old self.new }

@@ -5,9 +5,9 @@ use Rattle.std.proofs.lemmas.Str.{is_utf8-from_IsUtf8}
 use Rattle.serde_json.specs.Read.{read}
 use Rattle.bm_base.specs.declared.call.Call.{Call}
 use Rattle.bm_lines.specs.Lines.{IsPart}
-use Rattle.bm_lines.specs.Reading.CallOf.{call_in, view_of, call_of}
-use Rattle.bm_lines.specs.Asking.{has_op, line_text}
-use Rattle.bm_lines.specs.Fitting.{FitsWhole}
+use Rattle.bm_lines.specs.Parser.CallOf.{call_in, view_of, call_of}
+use Rattle.bm_lines.specs.CallText.{has_op, line_text}
+use Rattle.bm_lines.specs.FittingNumbers.{FitsWhole}
 use Rattle.bm_lines.proofs.Plain.{is_plain, IsPart-plain, IsUtf8-plain}
 use Rattle.bm_lines.proofs.Sound.{plain_text, read-compact_text}
 use Rattle.bm_lines.proofs.AskingData.{asking_data}

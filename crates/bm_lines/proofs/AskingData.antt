@@ -8,7 +8,7 @@ use Rattle.bm_base.specs.declared.event.Event.{Event}
 use Rattle.bm_base.specs.declared.event.Event.TheVariants.{Register, Heartbeat, Dead, StorageFailed, Drain, Undrain, AddBlock, DeleteBlock, SetReplication, Restamp, Received, Deleted, Corrupt, FullReport}
 use Rattle.bm_base.specs.declared.call.Call.{Call}
 use Rattle.bm_base.specs.declared.call.Call.TheVariants as call
-use Rattle.bm_lines.specs.Asking.{call_op}
+use Rattle.bm_lines.specs.CallText.{call_op}
 
 abbrev pub whole : ℕ → Data
 whole n = number (unsigned n)

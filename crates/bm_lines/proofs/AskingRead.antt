@@ -8,10 +8,10 @@ use Rattle.bm_base.specs.declared.event.Event.{Event}
 use Rattle.bm_base.specs.declared.event.Event.TheVariants.{Register, Heartbeat, Dead, StorageFailed, Drain, Undrain, AddBlock, DeleteBlock, SetReplication, Restamp, Received, Deleted, Corrupt, FullReport}
 use Rattle.bm_base.specs.declared.call.Call.{Call}
 use Rattle.bm_base.specs.declared.call.Call.TheVariants as call
-use Rattle.bm_lines.specs.Asking.{has_op}
-use Rattle.bm_lines.specs.Reading.Fields.{listed, each, below_32, small_in, entry_in, remaining_in}
-use Rattle.bm_lines.specs.Reading.CallOf.{call_in}
-use Rattle.bm_lines.specs.Fitting.{FitsEntry, FitsRemaining, FitsWholeEvent, FitsWhole}
+use Rattle.bm_lines.specs.CallText.{has_op}
+use Rattle.bm_lines.specs.Parser.Fields.{listed, each, below_32, small_in, entry_in, remaining_in}
+use Rattle.bm_lines.specs.Parser.CallOf.{call_in}
+use Rattle.bm_lines.specs.FittingNumbers.{FitsEntry, FitsRemaining, FitsWholeEvent, FitsWhole}
 use Rattle.bm_lines.proofs.Sound.{in_order, items_in_order}
 use Rattle.bm_lines.proofs.AskingData.{whole, items_by, remaining_data, run_items, stamp_items, entry_data, asking_data}
 

@@ -11,8 +11,8 @@ use Rattle.bm_base.specs.declared.event.Event.{Event}
 use Rattle.bm_base.specs.declared.event.Event.TheVariants.{Register, Heartbeat, Dead, StorageFailed, Drain, Undrain, AddBlock, DeleteBlock, SetReplication, Restamp, Received, Deleted, Corrupt, FullReport}
 use Rattle.bm_base.specs.declared.call.Call.{Call}
 use Rattle.bm_base.specs.declared.call.Call.TheVariants as call
-use Rattle.bm_lines.specs.Asking.{event_op, call_op}
-use Rattle.bm_lines.specs.Fitting.{FitsEntry, FitsRemaining, FitsWholeEvent, FitsWhole}
+use Rattle.bm_lines.specs.CallText.{event_op, call_op}
+use Rattle.bm_lines.specs.FittingNumbers.{FitsEntry, FitsRemaining, FitsWholeEvent, FitsWhole}
 use Rattle.bm_lines.proofs.Plain.{is_plain}
 use Rattle.bm_lines.proofs.Sound.{IsSound, AreSound, HasSound}
 use Rattle.bm_lines.proofs.AskingData.{whole, items_by, remaining_data, run_items, stamp_items, entry_data, event_members, call_members, asking_data}

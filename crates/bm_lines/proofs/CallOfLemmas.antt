@@ -5,7 +5,7 @@ use Rattle.std.specs.Str.{is_utf8}
 use Rattle.std.proofs.lemmas.Str.{IsUtf8-from_is_utf8, is_utf8-from_IsUtf8}
 use Rattle.serde_json.specs.Data.{Data}
 use Rattle.serde_json.specs.Read.{read}
-use Rattle.bm_lines.specs.Reading.CallOf.{view_of}
+use Rattle.bm_lines.specs.Parser.CallOf.{view_of}
 
 pub view_of-text : (line : List ℕ) (d : Data) → IsUtf8 line → read line ≡ Some d → Some d ≡ view_of line
 unfolding view_of

@@ -1,8 +1,8 @@
 -- Texts read from their beginning: numbers, entries of a report, and whole lines.
 use Rattle.std.proofs.Common.{◌≡◌, ◌≢◌, ℕ, ◌+◌, ◌-◌, ◌*◌, ◌<◌, ◌≤◌, ◌^◌, List, ◌++◌, Option, Some, None, IfSome, decimal, length, get_or, take, drop, refl, ap, sym, ◌∙◌, arith, codes, append_assoc}
 use Rattle.bm_base.specs.declared.event.Entry.{Entry}
-use Rattle.bm_lines.specs.Asking.{call_fields, line_text, entry_text}
-use Rattle.bm_lines.specs.Reading.Canonical.{Asks}
+use Rattle.bm_lines.specs.CallText.{call_fields, line_text, entry_text}
+use Rattle.bm_lines.specs.Parser.Canonical.{Asks}
 use Rattle.bm_base.specs.declared.call.Call.{Call}
 use Rattle.std.specs.Char.{digit_value}
 use Rattle.std.specs.Option.{MatchOption}

@@ -5,7 +5,7 @@ use Rattle.serde_json.specs.Data.{Data}
 use Rattle.serde_json.specs.Find.{as_array, get}
 use Rattle.serde_json.specs.View.{view, items_of, items_view}
 use Rattle.serde_json.specs.declared.value.Value.{Value}
-use Rattle.bm_lines.specs.Reading.Fields.{listed, each, list_field, entry_among, entry_in, remaining_among, remaining_in}
+use Rattle.bm_lines.specs.Parser.Fields.{listed, each, list_field, entry_among, entry_in, remaining_among, remaining_in}
 
 -- a list of data, made into items and listed again
 pub listed-items : (ds : List Data) → listed (items_of ds) ≡ ds

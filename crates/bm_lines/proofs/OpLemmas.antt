@@ -1,8 +1,8 @@
 -- Which calls have a list.
 use Rattle.std.proofs.Common.{◌≡◌, ◌≢◌, false, refl}
-use Rattle.bm_lines.specs.declared.reading.op.Op.{Op}
-use Rattle.bm_lines.specs.declared.reading.op.Op.TheVariants.{Register, Heartbeat, Report}
-use Rattle.bm_lines.specs.Reading.Op.{has_list}
+use Rattle.bm_lines.specs.declared.parser.op.Op.{Op}
+use Rattle.bm_lines.specs.declared.parser.op.Op.TheVariants.{Register, Heartbeat, Report}
+use Rattle.bm_lines.specs.Parser.Op.{has_list}
 
 pub without_list : (o : Op) → o ≢ Register → o ≢ Heartbeat → o ≢ Report → has_list o ≡ false
 without_list Register a b c = absurd (a refl)

@@ -4,10 +4,10 @@ use Rattle.std.specs.Prelude.{IfSome}
 use Rattle.serde_json.specs.Data.{Data}
 use Rattle.bm_base.specs.declared.event.Event.{Event}
 use Rattle.bm_base.specs.declared.call.Call.{Call}
-use Rattle.bm_lines.specs.declared.reading.op.Op.{Op}
-use Rattle.bm_lines.specs.declared.reading.op.Op.TheVariants.{Register, Heartbeat, Dead, StorageFailed, Drain, Undrain, Add, Delete, SetReplication, Restamp, Received, Deleted, Corrupt, Report, Round, ListReplicas, ListCorrupt, ListMissing, ListExcess, ListStorage, ListPlaces, Level, Retired}
-use Rattle.bm_lines.specs.Reading.CallOf.{apply_one, apply_two, apply_three, call_for, call_in}
-use Rattle.bm_lines.specs.Asking.{has_op}
+use Rattle.bm_lines.specs.declared.parser.op.Op.{Op}
+use Rattle.bm_lines.specs.declared.parser.op.Op.TheVariants.{Register, Heartbeat, Dead, StorageFailed, Drain, Undrain, Add, Delete, SetReplication, Restamp, Received, Deleted, Corrupt, Report, Round, ListReplicas, ListCorrupt, ListMissing, ListExcess, ListStorage, ListPlaces, Level, Retired}
+use Rattle.bm_lines.specs.Parser.CallOf.{apply_one, apply_two, apply_three, call_for, call_in}
+use Rattle.bm_lines.specs.CallText.{has_op}
 
 abbrev pub HasOp : Option Call → Type 0
 HasOp o = IfSome o (λ k. has_op k ≡ true)

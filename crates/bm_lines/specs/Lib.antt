@@ -1,7 +1,7 @@
 -- The definitions of lines: how bytes are cut into them, and which call a line asks for.
 pub mod Lines
 pub mod Held
-pub mod Reading
+pub mod Parser
 pub mod Print
-pub mod Asking
-pub mod Fitting
+pub mod CallText
+pub mod FittingNumbers

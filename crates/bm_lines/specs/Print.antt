@@ -75,7 +75,7 @@ head_text _ = []
 abbrev pub answer_text : Call → Answer → List ℕ
 answer_text k (answer.Done d) = done_text d
 answer_text k (answer.Refused r) = refused_text r
-answer_text k (answer.Commanded told) = round_text told
+answer_text k (answer.Commanded commands) = round_text commands
 answer_text k (answer.Replicas rs) = head_text k ++ flat_map replica_item rs
 answer_text k (answer.ReplicaIds ps) = head_text k ++ flat_map replica_id_item ps
 answer_text k (answer.Blocks bs) = head_text k ++ flat_map number_item bs

@@ -2,20 +2,20 @@
 //! into lines, a line read as a call, the line that asks for a call, and the line of an answer.
 //!
 //! `specs/` defines the lines of an input (`Lines`), the call that a line asks for (`CallOf`), the
-//! line that asks for a call (`Asking`) and the text of an answer (`Print`). `CALLING.md` has a
+//! line that asks for a call (`CallText`) and the text of an answer (`Print`). `CALLING.md` has a
 //! caller.
 #![tactic(auto)]
 
+mod field_writer;
 mod limits;
 mod line;
+mod parser;
 mod print;
 mod print_items;
-mod reading;
-mod writing;
-mod writing_fields;
+mod writer;
 
 pub use limits::MAX_LINE;
 pub use line::{LINE_END, Line, line_end};
+pub use parser::{call_of, canonical_call};
 pub use print::answer_line;
-pub use reading::{call_of, canonical_call};
-pub use writing::{has_op, line_of};
+pub use writer::{has_op, line_of};

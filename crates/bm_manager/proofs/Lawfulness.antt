@@ -17,9 +17,9 @@ use Rattle.bm_manager.proofs.Checks.{round_passed}
 -- at the beginning
 pub new_manager : (c : Config) (C : Cluster) (F : Whole) → config_refusal c ≡ None → HasFittingStart c → C ≡ empty_cluster → F.holdings ≡ empty_holdings
     → IsUpToDate C F → HasTaken c.first_round c.pend F → IsManager c C F c.first_round c.first_call
-new_manager c C F allowed fits none nothing stands taken = record {
+new_manager c C F allowed fits none nothing up_to_date taken = record {
   allowed = allowed;
-  standing = stands;
+  up_to_date = up_to_date;
   taken = taken;
   lawful = subst IsLawful (λ i. state_of c (sym none i) (sym nothing i) c.first_round c.first_call) (first_lawful c fits);
 }
@@ -30,13 +30,13 @@ module _ (c : Config) (C : Cluster) (F : Whole) (round calls : ℕ) (is : IsMana
       → D ≡ C → E ≡ change_cluster D e → G.holdings ≡ change_holdings D F.holdings e → IsUpToDate (change_cluster D e) G → HasTaken round c.pend G
       → IsManager c E G round (calls + 1)
   unfolding after_event
-  changed_manager e D E G fits none same after left stands taken =
+  changed_manager e D E G fits none same after left up_to_date taken =
       let M = state_of c C F.holdings round calls in
       let cluster : change_cluster C e ≡ E = sym (after ∙ ap (λ X. change_cluster X e) same) in
       let holdings : change_holdings C F.holdings e ≡ G.holdings = sym (left ∙ ap (λ X. change_holdings X F.holdings e) same) in
       record {
         allowed = is.allowed;
-        standing = subst (λ X. IsUpToDate X G) (sym after) stands;
+        up_to_date = subst (λ X. IsUpToDate X G) (sym after) up_to_date;
         taken = taken;
         lawful = subst IsLawful (λ i. state_of c (cluster i) (holdings i) round (calls + 1)) (event_lawful M e is.lawful fits none);
       }
@@ -45,11 +45,11 @@ module _ (c : Config) (C : Cluster) (F : Whole) (round calls : ℕ) (is : IsMana
   pub next_manager : (G : Whole) → round < last_number → calls < last_number
       → G.holdings ≡ left_by_round (limits_of c) C (round + 1) F.holdings → IsUpToDate C G → HasTaken (round + 1) c.pend G
       → IsManager c C G (round + 1) (calls + 1)
-  next_manager G rounds_left calls_left left stands taken =
+  next_manager G rounds_left calls_left left up_to_date taken =
       let M = state_of c C F.holdings round calls in
       record {
         allowed = is.allowed;
-        standing = stands;
+        up_to_date = up_to_date;
         taken = taken;
         lawful = subst IsLawful (sym (whole_state M G.holdings left)) (round_lawful M is.lawful (round_passed M rounds_left calls_left));
       }

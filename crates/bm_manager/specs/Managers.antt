@@ -14,6 +14,6 @@ pub record IsManager (c : Config) (C : Cluster) (F : Whole) (round calls : ℕ) 
   -- the configuration is within its ranges, so there is a worker
   pub allowed : config_refusal c ≡ None
   -- each shard is up to date in the cluster, and has taken the rounds
-  pub standing : IsUpToDate C F
+  pub up_to_date : IsUpToDate C F
   pub taken : HasTaken round c.pend F
   pub lawful : IsLawful (state_of c C F.holdings round calls)

@@ -66,8 +66,8 @@ module _ (es fs : List (ℕ × PendingTargets)) (b : ℕ) (f : List (ℕ × ℕ)
       get-map_of fs q ∙ ap (find nat_cmp q.storage) (changed q.block) ∙ find-either q.storage (nat_eq b q.block) (f (targets_at es q.block)) (targets_at es q.block)
       ∙ (λ j. cond (nat_eq_equiv.symm b q.block j) (find nat_cmp q.storage (f (targets_at es q.block))) (sym (get-map_of es q) j))
 
-  pub rising-changed : ((q : ℕ) → T (is_sorted nat_cmp (targets_at es q))) → ((xs : List (ℕ × ℕ)) → T (is_sorted nat_cmp xs) → T (is_sorted nat_cmp (f xs))) → IsPending fs
-  rising-changed rise keeps = record { rising = λ q. subst (λ xs. T (is_sorted nat_cmp xs)) (sym (changed q)) (either (nat_eq b q) q) }
+  pub ascending-changed : ((q : ℕ) → T (is_sorted nat_cmp (targets_at es q))) → ((xs : List (ℕ × ℕ)) → T (is_sorted nat_cmp xs) → T (is_sorted nat_cmp (f xs))) → IsPending fs
+  ascending-changed rise keeps = record { ascending = λ q. subst (λ xs. T (is_sorted nat_cmp xs)) (sym (changed q)) (either (nat_eq b q) q) }
     where
       either : (t : Bool) (q : ℕ) → T (is_sorted nat_cmp (cond t (f (targets_at es q)) (targets_at es q)))
       either true q = keeps (targets_at es q) (rise q)
@@ -84,8 +84,8 @@ module _ (es fs : List (ℕ × PendingTargets)) (b : ℕ) where
         ∙ both_or (q.block == b) (q.storage == s) (Some r) (get (map_of es) q)
         ∙ sym (get-insert (map_of es) (replica_at b s) r q ∙ ap (λ t. cond t (Some r) (get (map_of es) q)) (replica_tie q (replica_at b s))))
 
-    pub rising-inserted : ((q : ℕ) → T (is_sorted nat_cmp (targets_at es q))) → IsPending fs
-    rising-inserted rise = rising-changed es fs b (put nat_cmp s r) changed rise (λ xs h. is_sorted-put nat_cmp nat_cmp_total s r xs h)
+    pub ascending-inserted : ((q : ℕ) → T (is_sorted nat_cmp (targets_at es q))) → IsPending fs
+    ascending-inserted rise = ascending-changed es fs b (put nat_cmp s r) changed rise (λ xs h. is_sorted-put nat_cmp nat_cmp_total s r xs h)
 
   -- one target less
   module _ (s : ℕ) (changed : (q : ℕ) → targets_at fs q ≡ cond (nat_eq b q) (filter (λ t. not (t.0 == s)) (targets_at es q)) (targets_at es q)) (rise : (q : ℕ) → T (is_sorted nat_cmp (targets_at es q))) where
@@ -98,8 +98,8 @@ module _ (es fs : List (ℕ × PendingTargets)) (b : ℕ) where
         ∙ both_or (q.block == b) (q.storage == s) None (get (map_of es) q)
         ∙ sym (get-remove (map_of es) (replica_at b s) q ∙ ap (λ t. cond t None (get (map_of es) q)) (replica_tie q (replica_at b s))))
 
-    pub rising-removed : IsPending fs
-    rising-removed = rising-changed es fs b (filter (λ t. not (t.0 == s))) changed rise (λ xs h. is_sorted-filter (λ k _. not (k == s)) xs h)
+    pub ascending-removed : IsPending fs
+    ascending-removed = ascending-changed es fs b (filter (λ t. not (t.0 == s))) changed rise (λ xs h. is_sorted-filter (λ k _. not (k == s)) xs h)
 
   -- no target any more
   module _ (changed : (q : ℕ) → targets_at fs q ≡ cond (nat_eq b q) [] (targets_at es q)) where
@@ -122,8 +122,8 @@ module _ (es fs : List (ℕ × PendingTargets)) (p : ℕ → ℕ → Bool) (chan
       same_map (map_of fs) (keep (map_of es) (λ q t. p q.storage t)) (λ q.
       get-map_of fs q ∙ ap (find nat_cmp q.storage) (changed q.block) ∙ sym (get-kept es p rise q))
 
-  pub rising-kept : IsPending fs
-  rising-kept = record { rising = λ q. subst (λ xs. T (is_sorted nat_cmp xs)) (sym (changed q)) (is_sorted-filter p (targets_at es q) (rise q)) }
+  pub ascending-kept : IsPending fs
+  ascending-kept = record { ascending = λ q. subst (λ xs. T (is_sorted nat_cmp xs)) (sym (changed q)) (is_sorted-filter p (targets_at es q) (rise q)) }
 
 -- What is seen of the capacity.
 

@@ -11,9 +11,9 @@ module _ {S X : Type 0} (R : S → X → Bool → S → X → Type 0) (test : X 
   pub filter-RetainsInTurn : (xs ys : List X) → RetainsInTurn R s xs ys → ys ≡ filter test xs
   filter-RetainsInTurn [] ys h = h
   filter-RetainsInTurn (x ∷ xs) ys h =
-      let told = says x h.0 h.1 h.2 h.3 in
-      let rest = filter-RetainsInTurn xs h.4 (subst (λ t. RetainsInTurn R t xs h.4) told.2 h.5) in
-      h.6 ∙ (λ j. cond (told.0 j) (told.1 j ∷ rest j) (rest j))
+      let turn = says x h.0 h.1 h.2 h.3 in
+      let rest = filter-RetainsInTurn xs h.4 (subst (λ t. RetainsInTurn R t xs h.4) turn.2 h.5) in
+      h.6 ∙ (λ j. cond (turn.0 j) (turn.1 j ∷ rest j) (rest j))
 
 -- a write of as many elements is what was written
 pub refill-same : {X : Type 0} (n : ℕ) (xs ws : List X) → length xs ≡ n → length ws ≡ n → refill n xs ws ≡ ws

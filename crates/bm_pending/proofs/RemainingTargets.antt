@@ -6,9 +6,9 @@ use Rattle.std.proofs.Common.{refl, sym, ap, ◌∙◌}
 use Rattle.bm_base.specs.declared.replica.ReplicaId.{ReplicaId}
 use Rattle.bm_base.specs.Words.{entries, is_expired}
 use Rattle.bm_pending.specs.Inside.{PendingTargets, map_of, capacities_of, targets_at}
-use Rattle.bm_pending.specs.Remaining.{remaining_targets}
+use Rattle.bm_pending.specs.RemainingTargets.{remaining_targets}
 use Rattle.bm_pending.proofs.Blocks.{filtered-targets}
-use Rattle.bm_pending.proofs.Changes.{map-kept, rising-kept}
+use Rattle.bm_pending.proofs.Changes.{map-kept, ascending-kept}
 use Rattle.bm_pending.proofs.GroupedTransfers.{targets-seen}
 
 module _ (es : List (ℕ × PendingTargets)) (rise : (q : ℕ) → T (is_sorted nat_cmp (targets_at es q))) (pend r : ℕ) where
@@ -25,5 +25,5 @@ module _ (es : List (ℕ × PendingTargets)) (rise : (q : ℕ) → T (is_sorted 
   pub left-seen : (b : ℕ) → remaining_targets pend r (record { map = map_of es; rooms = capacities_of es }) b ≡ map (λ t. t.0) (filter stays (targets_at es b))
   left-seen b =
       ap (λ m. map (λ (e : ReplicaId × ℕ). e.0.storage) (filter (λ e. e.0.block == b) (entries m))) (sym (map-kept es left (λ _ t. not (is_expired pend r t)) left-targets rise))
-      ∙ targets-seen left b (rising-kept es left (λ _ t. not (is_expired pend r t)) left-targets rise).rising
+      ∙ targets-seen left b (ascending-kept es left (λ _ t. not (is_expired pend r t)) left-targets rise).ascending
       ∙ ap (map (λ (t : ℕ × ℕ). t.0)) (left-targets b)

@@ -26,9 +26,9 @@ Above : ℕ → List ℕ → Type 0
 Above k [] = ⊤
 Above k (x ∷ xs) = (k < x) × Above k xs
 
-pub Rising : List ℕ → Type 0
-Rising [] = ⊤
-Rising (k ∷ ks) = Above k ks × Rising ks
+pub Ascending : List ℕ → Type 0
+Ascending [] = ⊤
+Ascending (k ∷ ks) = Above k ks × Ascending ks
 
 unequal : (k x : ℕ) → nat_eq k x ≡ false → k ≡ x → ⊥
 unequal k x e is = true≢false (sym (eq-eqb k x is) ∙ e)
@@ -40,8 +40,8 @@ above_from k (x ∷ xs) up d =
     let least : k ≤ x = up 0 k (omega arith) in
     (omega (arith, least, unequal k x d.0), above_from k xs (λ j n lt. up (suc j) n (omega (arith, lt))) d.1)
 
-pub ascending_from : (ks : List ℕ) → IsNonDecreasing ks → IsDistinct nat_eq ks → Rising ks
-unfolding Rising IsDistinct
+pub ascending_from : (ks : List ℕ) → IsNonDecreasing ks → IsDistinct nat_eq ks → Ascending ks
+unfolding Ascending IsDistinct
 ascending_from [] up d = tt
 ascending_from (k ∷ ks) up d =
     (above_from k ks (λ j n lt. up 0 (suc j) n (omega arith) (omega (arith, lt))) d.0, ascending_from ks (λ i j n le lt. up (suc i) (suc j) n (omega (arith, le)) (omega (arith, lt))) d.1)
@@ -73,8 +73,8 @@ module _ (targets : ℕ → List (ℕ × ℕ)) (rise : (b : ℕ) → T (is_sorte
   sorted_appended k [] ys h under up = up
   sorted_appended k (t ∷ ts) ys h under up = both _ _ (below_appended (replica_at k t.0) (transfers_to k ts) ys (first _ _ h) (under t.0)) (sorted_appended k ts ys (second _ _ h) under up)
 
-  is_sorted-transfers_of : (ks : List ℕ) → Rising ks → T (is_sorted replica_cmp (transfers_of ks))
-  unfolding Rising
+  is_sorted-transfers_of : (ks : List ℕ) → Ascending ks → T (is_sorted replica_cmp (transfers_of ks))
+  unfolding Ascending
   is_sorted-transfers_of [] h = tt
   is_sorted-transfers_of (k ∷ ks) h =
       sorted_appended k (targets k) (transfers_of ks) (is_sorted-transfers_to k (targets k) (rise k)) (λ s. below_rest k s ks h.0) (is_sorted-transfers_of ks h.1)
@@ -102,9 +102,9 @@ module _ (targets : ℕ → List (ℕ × ℕ)) (rise : (b : ℕ) → T (is_sorte
       ∙ found_once (q.block == k) (list_any (nat_eq q.block) ks) (find nat_cmp q.storage (targets k)) (find nat_cmp q.storage (targets q.block)) (λ e. ap (λ b. find nat_cmp q.storage (targets b)) (sym (eqb-true q.block k e)))
 
   -- where no block but these has targets
-  module _ (ks : List ℕ) (rising : Rising ks) (all : (b : ℕ) → list_any (nat_eq b) ks ≡ false → targets b ≡ []) where
+  module _ (ks : List ℕ) (ascending : Ascending ks) (all : (b : ℕ) → list_any (nat_eq b) ks ≡ false → targets b ≡ []) where
     in_order : Map by_replica ℕ
-    in_order = record { list = transfers_of ks; sorted = is_sorted-transfers_of ks rising }
+    in_order = record { list = transfers_of ks; sorted = is_sorted-transfers_of ks ascending }
 
     covered : (s : ℕ) (t : Bool) (ts : List (ℕ × ℕ)) → (t ≡ false → ts ≡ []) → cond t (find nat_cmp s ts) None ≡ find nat_cmp s ts
     covered s true ts none = refl
@@ -121,8 +121,8 @@ named b ts = map (λ t. replica_at b t.0) ts
 
 module _ (es : List (ℕ × PendingTargets)) (rise : (b : ℕ) → T (is_sorted nat_cmp (targets_at es b))) where
   -- all transfers
-  pub all-entries : (ks : List ℕ) → Rising ks → ((b : ℕ) → list_any (nat_eq b) ks ≡ false → targets_at es b ≡ []) → flat_map (λ b. transfers_to b (targets_at es b)) ks ≡ entries (map_of es)
-  all-entries ks rising all = transfers_of-entries (targets_at es) rise ks rising all (map_of es) (get-map_of es)
+  pub all-entries : (ks : List ℕ) → Ascending ks → ((b : ℕ) → list_any (nat_eq b) ks ≡ false → targets_at es b ≡ []) → flat_map (λ b. transfers_to b (targets_at es b)) ks ≡ entries (map_of es)
+  all-entries ks ascending all = transfers_of-entries (targets_at es) rise ks ascending all (map_of es) (get-map_of es)
 
   -- the names of those that are given up
   module _ (pend r : ℕ) where
@@ -137,9 +137,9 @@ module _ (es : List (ℕ × PendingTargets)) (rise : (b : ℕ) → T (is_sorted 
     names_of [] = refl
     names_of (k ∷ ks) = map-append (λ (e : ReplicaId × ℕ). e.0) (transfers_to k (old k)) (flat_map (λ b. transfers_to b (old b)) ks) ∙ (λ j. names_to k (old k) j ++ names_of ks j)
 
-    pub all-expired : (ks : List ℕ) → Rising ks → ((b : ℕ) → list_any (nat_eq b) ks ≡ false → old b ≡ []) → flat_map (λ b. named b (old b)) ks ≡ expired_of pend r (map_of es)
-    all-expired ks rising all =
+    pub all-expired : (ks : List ℕ) → Ascending ks → ((b : ℕ) → list_any (nat_eq b) ks ≡ false → old b ≡ []) → flat_map (λ b. named b (old b)) ks ≡ expired_of pend r (map_of es)
+    all-expired ks ascending all =
         sym (names_of ks)
         ∙ ap (map (λ (e : ReplicaId × ℕ). e.0))
-        (transfers_of-entries old (λ b. is_sorted-filter (λ _ t. is_expired pend r t) (targets_at es b) (rise b)) ks rising all (keep (map_of es) (λ q t. is_expired pend r t)) (get-kept es (λ _ t. is_expired pend r t) rise)
+        (transfers_of-entries old (λ b. is_sorted-filter (λ _ t. is_expired pend r t) (targets_at es b) (rise b)) ks ascending all (keep (map_of es) (λ q t. is_expired pend r t)) (get-kept es (λ _ t. is_expired pend r t) rise)
         ∙ entries-keep by_replica (map_of es) (λ q t. is_expired pend r t))

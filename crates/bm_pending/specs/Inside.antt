@@ -46,4 +46,4 @@ capacities_of es = map (λ e. (e.0, room_in e.1)) es
 
 -- the targets of each block are ascending
 pub record IsPending (es : List (ℕ × PendingTargets)) : Type 0 where
-  pub rising : (b : ℕ) → T (is_sorted nat_cmp (targets_at es b))
+  pub ascending : (b : ℕ) → T (is_sorted nat_cmp (targets_at es b))

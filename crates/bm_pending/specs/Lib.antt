@@ -1,4 +1,4 @@
 pub mod PendingMap
 pub mod Inside
-pub mod Remaining
+pub mod RemainingTargets
 pub mod TargetCounts

@@ -8,9 +8,9 @@
 
 mod by_block;
 mod own_transfers;
-mod pending;
-mod remaining;
+mod pending_transfers;
+mod remaining_targets;
 mod targets;
 mod transfer_lists;
 
-pub use pending::PendingTransfers;
+pub use pending_transfers::PendingTransfers;

@@ -5,7 +5,7 @@ ghost use Rattle.bm_base.specs.RoundParts.{own_transfers};
 ghost use Rattle.bm_pending.specs.PendingMap.{room};
 ghost use Rattle.bm_pending.specs.TargetCounts.{count_at};
 
-use crate::pending::PendingTransfers;
+use crate::pending_transfers::PendingTransfers;
 use bm_base::{BlockId, HashSecret, Part, Refusal, Transfer, shard_of};
 use indexmap::IndexMap;
 

@@ -42,7 +42,7 @@ fn replica_id(block: u64, storage: u32) -> ReplicaId
 
 /// The numbers of the blocks, ascending.
 fn numbers_in(blocks: &Blocks, alloc: Global) -> Result<Vec<u64>, Refusal>
-    ensures rising { IfOk result (λ v. IsNonDecreasing v.items) }
+    ensures ascending { IfOk result (λ v. IsNonDecreasing v.items) }
     ensures distinct { IfOk result (λ v. IsDistinct nat_eq v.items) }
     ensures absent { IfOk result (λ v. (b : ℕ) → list_any (nat_eq b) v.items ≡ false
         → targets_at blocks.now.entries b ≡ []) }
@@ -94,7 +94,7 @@ fn has_expired(targets: &[(u32, u64)], pend: u32, round: u64) -> bool
 
 /// The numbers of the blocks with an expired transfer, ascending.
 fn expiring_in(blocks: &Blocks, alloc: Global, pend: u32, round: u64) -> Result<Vec<u64>, Refusal>
-    ensures rising { IfOk result (λ v. IsNonDecreasing v.items) }
+    ensures ascending { IfOk result (λ v. IsNonDecreasing v.items) }
     ensures distinct { IfOk result (λ v. IsDistinct nat_eq v.items) }
     ensures absent { IfOk result (λ v. (b : ℕ) → list_any (nat_eq b) v.items ≡ false
         → expired_among pend round (targets_at blocks.now.entries b) ≡ []) }

@@ -57,15 +57,15 @@ fits_of true true c d e = refl
 fits_of true false c d e = cc
 fits_of false b c d e = cc
 
-module _ (C : Cluster) (w : ReplicaSpread) (urgency : Level) (barred : List ℕ) (len : ℕ) (c t : TargetRow) (same : IsLike c t) where
-  same_excluded : is_excluded_by C barred c ≡ is_excluded_by C barred t
+module _ (C : Cluster) (w : ReplicaSpread) (urgency : Level) (excluded : List ℕ) (len : ℕ) (c t : TargetRow) (same : IsLike c t) where
+  same_excluded : is_excluded_by C excluded c ≡ is_excluded_by C excluded t
   unfolding is_excluded_by
-  same_excluded = ap (λ n. is_excluded_by C barred (record t { node = n })) same.node
+  same_excluded = ap (λ n. is_excluded_by C excluded (record t { node = n })) same.node
 
-  pub free_too : free_bytes_on t ≤ free_bytes_on c → c.scheduled ≤ c.remaining → is_available C w urgency barred len t ≡ true → is_available C w urgency barred len c ≡ true
+  pub free_too : free_bytes_on t ≤ free_bytes_on c → c.scheduled ≤ c.remaining → is_available C w urgency excluded len t ≡ true → is_available C w urgency excluded len c ≡ true
   free_too more within e =
       let there : nat_le (len + t.scheduled) t.remaining ≡ true =
-      fits_of (not t.is_draining) (nat_le (len + t.scheduled) t.remaining) (not (is_at BadlyDistributed (Some urgency) && is_one w.racks && (class_by_spread w t.rack == 1))) (not (is_excluded_by C barred t)) e in
+      fits_of (not t.is_draining) (nat_le (len + t.scheduled) t.remaining) (not (is_at BadlyDistributed (Some urgency) && is_one w.racks && (class_by_spread w t.rack == 1))) (not (is_excluded_by C excluded t)) e in
       let below = leb-true (len + t.scheduled) t.remaining there in
       let here : nat_le (len + c.scheduled) c.remaining ≡ true = grind (arith, nat_tests) in
       (λ i. (not (same.is_draining i) && (here ∙ sym there) i && not (is_at BadlyDistributed (Some urgency) && is_one w.racks && (class_by_spread w (same.rack i) == 1))) && not (same_excluded i)) ∙ e
@@ -106,7 +106,7 @@ then_equal Greater q e = cc
 
 -- The best targets of the table of a cluster.
 
-module _ (C : Cluster) (sent : ℕ → ℕ) (urgency : Level) (holders barred : List ℕ) (len : ℕ) where
+module _ (C : Cluster) (sent : ℕ → ℕ) (urgency : Level) (holders excluded : List ℕ) (len : ℕ) where
   exact : (s t : ℕ) → target_cmp C sent holders s t ≡ Equal → s ≡ t
   unfolding target_cmp
   exact s t e =
@@ -129,26 +129,26 @@ module _ (C : Cluster) (sent : ℕ → ℕ) (urgency : Level) (holders barred : 
     known : (s : ℕ) → has storages s ≡ true → has (keys C.storages) s ≡ true
     known s h = let c = of_storage cs s h in subst (λ s. has (keys C.storages) s ≡ true) c.2 (row_of c.0.storage c.0 (best_targets.known c.0 c.1)).0
 
-    enough : (s : ℕ) → has (keys C.storages) s ≡ true → is_target C sent urgency holders barred len s ≡ true
-        → (r : ℕ) × (has storages r ≡ true) × (is_target C sent urgency holders barred len r ≡ true) × (is_lt (target_cmp C sent holders s r) ≡ false)
+    enough : (s : ℕ) → has (keys C.storages) s ≡ true → is_target C sent urgency holders excluded len s ≡ true
+        → (r : ℕ) × (has storages r ≡ true) × (is_target C sent urgency holders excluded len r ≡ true) × (is_lt (target_cmp C sent holders s r) ≡ false)
     enough s there may =
         let t = target_at C sent s in
         let w = replica_spread_of C holders in
         let c = best_targets.first t (get-table (target_at C sent) (keys C.storages) s ∙ ap (λ b. cond b (Some t) None) there) in
         let same = like c.0 t c.2.alike in
-        let free = free_too C w urgency barred len c.0 t same (more_room c.0 t c.2.before) (best_targets.within c.0 c.1) (tested_as C sent urgency holders barred len s ∙ may) in (
+        let free = free_too C w urgency excluded len c.0 t same (more_room c.0 t c.2.before) (best_targets.within c.0 c.1) (tested_as C sent urgency holders excluded len s ∙ may) in (
           c.0.storage,
           has_storage_of cs c.0 c.1,
-          sym (tested_as C sent urgency holders barred len c.0.storage) ∙ ap (is_available C w urgency barred len) (made c.0 c.1) ∙ free,
-          ap is_lt (sym (ordered_as C sent holders s c.0.storage)) ∙ ap (λ u. is_lt (cmp_targets w t u)) (made c.0 c.1) ∙ not_before C w urgency barred len c.0 t same c.2.before,
+          sym (tested_as C sent urgency holders excluded len c.0.storage) ∙ ap (is_available C w urgency excluded len) (made c.0 c.1) ∙ free,
+          ap is_lt (sym (ordered_as C sent holders s c.0.storage)) ∙ ap (λ u. is_lt (cmp_targets w t u)) (made c.0 c.1) ∙ not_before C w urgency excluded len c.0 t same c.2.before,
         )
 
-    least_of_fewer : least (target_cmp C sent holders) (filter (is_target C sent urgency holders barred len) storages) ≡ least_target_by C sent urgency holders barred len
+    least_of_fewer : least (target_cmp C sent holders) (filter (is_target C sent urgency holders excluded len) storages) ≡ least_target_by C sent urgency holders excluded len
     unfolding least_target_by
     least_of_fewer =
         let order = target_cmp C sent holders in
         let total = target_cmp_total C sent holders in
-        let test = is_target C sent urgency holders barred len in
+        let test = is_target C sent urgency holders excluded len in
         same_least order total exact test storages (keys C.storages) known enough (least order (filter test storages)) (least order (filter test (keys C.storages))) (least-bears order total test storages)
         (least-bears order total test (keys C.storages))
 
@@ -157,16 +157,16 @@ module _ (C : Cluster) (sent : ℕ → ℕ) (urgency : Level) (holders barred : 
     storage_again (Some s) = refl
 
     -- the result of the scan of all is the target
-    pub target_found : (w : ReplicaSpread) (best : Option TargetRow) → w ≡ replica_spread_of C holders → scan (cmp_targets w) (is_available C w urgency barred len) None cs ≡ best
-        → option_map (λ (t : TargetRow). t.storage) best ≡ least_target_by C sent urgency holders barred len
+    pub target_found : (w : ReplicaSpread) (best : Option TargetRow) → w ≡ replica_spread_of C holders → scan (cmp_targets w) (is_available C w urgency excluded len) None cs ≡ best
+        → option_map (λ (t : TargetRow). t.storage) best ≡ least_target_by C sent urgency holders excluded len
     target_found w best stands inv =
         let v = replica_spread_of C holders in
         ap (option_map (λ (t : TargetRow). t.storage)) (
         sym inv
-        ∙ ap (λ w. scan (cmp_targets w) (is_available C w urgency barred len) None cs) stands
-        ∙ ap (scan (cmp_targets v) (is_available C v urgency barred len) None) (sym all_made)
-        ∙ scan-found (target_at C sent) (cmp_targets v) (is_available C v urgency barred len) (target_cmp C sent holders) (is_target C sent urgency holders barred len) (target_cmp_total C sent holders)
-        (ordered_as C sent holders) (tested_as C sent urgency holders barred len) storages
+        ∙ ap (λ w. scan (cmp_targets w) (is_available C w urgency excluded len) None cs) stands
+        ∙ ap (scan (cmp_targets v) (is_available C v urgency excluded len) None) (sym all_made)
+        ∙ scan-found (target_at C sent) (cmp_targets v) (is_available C v urgency excluded len) (target_cmp C sent holders) (is_target C sent urgency holders excluded len) (target_cmp_total C sent holders)
+        (ordered_as C sent holders) (tested_as C sent urgency holders excluded len) storages
         )
-        ∙ storage_again (least (target_cmp C sent holders) (filter (is_target C sent urgency holders barred len) storages))
+        ∙ storage_again (least (target_cmp C sent holders) (filter (is_target C sent urgency holders excluded len) storages))
         ∙ least_of_fewer

@@ -1,4 +1,4 @@
--- The class by a standing is the class by the lists of racks and storages.
+-- The class by a spread is the class by the lists of racks and storages.
 use Rattle.std.proofs.Common.{◌≡◌, ℕ, suc, Bool, true, false, cond, ◌&&◌, List, [], ◌∷◌, map, filter_map, length, Option, Some, None, refl, sym, ap, ◌∙◌, arith, ◌==◌}
 use Rattle.std.specs.declared.cmp.Ordering.{Ordering}
 use Rattle.std.specs.declared.cmp.Ordering.TheVariants.{Less, Equal, Greater}
@@ -67,7 +67,7 @@ unfolding insert
 shape-all [] m = refl
 shape-all (x ∷ xs) m = shape-all xs (insert m x tt) ∙ ap (λ w. with_numbers w xs) (shape-put x m.list)
 
--- A standing depends on the racks and on the storages.
+-- A spread depends on the racks and on the storages.
 
 racks_with : (C : Cluster) (w : ReplicaSpread) (ss : List ℕ) → (with_storages C w ss).racks ≡ with_numbers w.racks (filter_map (rack_of C) ss)
 racks_with C w [] = refl

@@ -25,23 +25,23 @@ not_true true e = cc
 not_true false e = refl
 
 -- the properties of a target
-pub parts : (C : Cluster) (sent : ℕ → ℕ) (urgency : Level) (holders barred : List ℕ) (len s : ℕ) → is_target C sent urgency holders barred len s ≡ true → (len + sent s ≤ remaining C s) × (is_draining C s ≡ false) × (is_excluded C barred s ≡ false)
+pub parts : (C : Cluster) (sent : ℕ → ℕ) (urgency : Level) (holders excluded : List ℕ) (len s : ℕ) → is_target C sent urgency holders excluded len s ≡ true → (len + sent s ≤ remaining C s) × (is_draining C s ≡ false) × (is_excluded C excluded s ≡ false)
 unfolding is_target
-parts C sent urgency holders barred len s e =
-    let all = four (nat_le (len + sent s) (remaining C s)) (not (is_draining C s)) (not (is_excluded C barred s)) (not (is_at BadlyDistributed (Some urgency) && (length (racks C holders) == 1) && (class_of C holders s == 1))) e in
-    (leb-true (len + sent s) (remaining C s) all.0, not_true (is_draining C s) all.1, not_true (is_excluded C barred s) all.2)
+parts C sent urgency holders excluded len s e =
+    let all = four (nat_le (len + sent s) (remaining C s)) (not (is_draining C s)) (not (is_excluded C excluded s)) (not (is_at BadlyDistributed (Some urgency) && (length (racks C holders) == 1) && (class_of C holders s == 1))) e in
+    (leb-true (len + sent s) (remaining C s) all.0, not_true (is_draining C s) all.1, not_true (is_excluded C excluded s) all.2)
 
-module _ (C : Cluster) (sent : ℕ → ℕ) (urgency : Level) (holders barred : List ℕ) (len : ℕ) where
+module _ (C : Cluster) (sent : ℕ → ℕ) (urgency : Level) (holders excluded : List ℕ) (len : ℕ) where
   abbrev IsFound : Option ℕ → Type 0
-  IsFound m = IsLeastOf (target_cmp C sent holders) (is_target C sent urgency holders barred len) (keys C.storages) m
+  IsFound m = IsLeastOf (target_cmp C sent holders) (is_target C sent urgency holders excluded len) (keys C.storages) m
 
   pub has_room : (m : Option ℕ) → IsFound m → IfSome m (λ s. len + sent s ≤ remaining C s)
   has_room None h = tt
-  has_room (Some s) h = (parts C sent urgency holders barred len s h.0).0
+  has_room (Some s) h = (parts C sent urgency holders excluded len s h.0).0
 
   pub on_kept_node : (m : Option ℕ) → IsFound m → IfSome m (λ s. is_draining C s ≡ false)
   on_kept_node None h = tt
-  on_kept_node (Some s) h = (parts C sent urgency holders barred len s h.0).1
+  on_kept_node (Some s) h = (parts C sent urgency holders excluded len s h.0).1
 
   not_any : (q : ℕ → Bool) (bs : List ℕ) (b : ℕ) → list_any q bs ≡ false → has bs b ≡ true → q b ≡ false
   not_any q [] b none there = cc
@@ -52,12 +52,12 @@ module _ (C : Cluster) (sent : ℕ → ℕ) (urgency : Level) (holders barred : 
       by false is true same none there rest = ap q (sym (eqb-true x b same)) ∙ is
       by false is false same none there rest = rest none there
 
-  pub on_unbarred_node : (m : Option ℕ) → IsFound m → IfSome m (λ s. (b n : ℕ) → has barred b ≡ true → node_of C b ≡ Some n → has_storage C n s ≡ false)
+  pub on_allowed_node : (m : Option ℕ) → IsFound m → IfSome m (λ s. (b n : ℕ) → has excluded b ≡ true → node_of C b ≡ Some n → has_storage C n s ≡ false)
   unfolding is_excluded
-  on_unbarred_node None h = tt
-  on_unbarred_node (Some s) h = λ b n there at.
+  on_allowed_node None h = tt
+  on_allowed_node (Some s) h = λ b n there at.
       ap (λ o. option_map_or (λ n. has_storage C n s) o false) (sym at)
-      ∙ not_any (λ t. option_map_or (λ n. has_storage C n s) (node_of C t) false) barred b (parts C sent urgency holders barred len s h.0).2 there
+      ∙ not_any (λ t. option_map_or (λ n. has_storage C n s) (node_of C t) false) excluded b (parts C sent urgency holders excluded len s h.0).2 there
 
   one_true : (n : ℕ) → n ≡ 1 → (n == 1) ≡ true
   one_true n e = eq-eqb n 1 e
@@ -68,7 +68,7 @@ module _ (C : Cluster) (sent : ℕ → ℕ) (urgency : Level) (holders barred : 
       ap (λ t. cond t (cond (is_on_racks C (racks C holders) s) 1 0) (cond ((length (distinct holders) == 2) && (length (racks C holders) == 2)) (cond (is_on_racks C (racks C holders) s) 0 1) 0)) (one_true (length (racks C holders)) one)
       ∙ ap (λ t. cond t 1 0) is
 
-  pub on_other_rack : (m : Option ℕ) → IsFound m → LeavesRack C sent urgency holders barred len m
+  pub on_other_rack : (m : Option ℕ) → IsFound m → LeavesRack C sent urgency holders excluded len m
   unfolding target_cmp
   on_other_rack None h one t there may off = tt
   on_other_rack (Some s) h one t there may off = by (is_on_racks C (racks C holders) s) refl

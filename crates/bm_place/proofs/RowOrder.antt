@@ -29,9 +29,9 @@ tests_swapped false b c true = refl
 tests_swapped true b c false = refl
 tests_swapped false b c false = refl
 
-pub tested_as : (C : Cluster) (sent : ℕ → ℕ) (urgency : Level) (holders barred : List ℕ) (len s : ℕ) → is_available C (replica_spread_of C holders) urgency barred len (target_at C sent s) ≡ is_target C sent urgency holders barred len s
+pub tested_as : (C : Cluster) (sent : ℕ → ℕ) (urgency : Level) (holders excluded : List ℕ) (len s : ℕ) → is_available C (replica_spread_of C holders) urgency excluded len (target_at C sent s) ≡ is_target C sent urgency holders excluded len s
 unfolding is_target is_excluded is_excluded_by has_storage
-tested_as C sent urgency holders barred len s =
-    tests_swapped (nat_le (len + sent s) (remaining C s)) (not (is_excluded_by C barred (target_at C sent s))) (not (is_at BadlyDistributed (Some urgency) && is_one (replica_spread_of C holders).racks && (class_by_spread (replica_spread_of C holders) (rack_of C s) == 1)))
+tested_as C sent urgency holders excluded len s =
+    tests_swapped (nat_le (len + sent s) (remaining C s)) (not (is_excluded_by C excluded (target_at C sent s))) (not (is_at BadlyDistributed (Some urgency) && is_one (replica_spread_of C holders).racks && (class_by_spread (replica_spread_of C holders) (rack_of C s) == 1)))
     (not (is_draining C s))
-    ∙ (λ i. nat_le (len + sent s) (remaining C s) && not (is_draining C s) && not (is_excluded_by C barred (target_at C sent s)) && not (is_at BadlyDistributed (Some urgency) && sym (one_standing C holders) i && (sym (class_standing C holders s) i == 1)))
+    ∙ (λ i. nat_le (len + sent s) (remaining C s) && not (is_draining C s) && not (is_excluded_by C excluded (target_at C sent s)) && not (is_at BadlyDistributed (Some urgency) && sym (one_standing C holders) i && (sym (class_standing C holders s) i == 1)))

@@ -36,8 +36,8 @@ count_cons p x xs = sum_by-cons (λ y. cond (p y) 1 0) x xs
 -- Counting the racks of looked up storages.
 
 module _ {X : Type 0} (rack : X → Option ℕ) where
-  abbrev stands_on : ℕ → X → Bool
-  stands_on r x = is_rack r (rack x)
+  abbrev on_rack : ℕ → X → Bool
+  on_rack r x = is_rack r (rack x)
 
   -- the count of a list by its first element and the rest
   count_left : (p : X → Bool) (xs : List X) (i : ℕ) (x : X) (b : Bool) → drop i xs ≡ x ∷ drop (i + 1) xs → p x ≡ b → count_by p (drop i xs) ≡ cond b 1 0 + count_by p (drop (i + 1) xs)
@@ -45,27 +45,27 @@ module _ {X : Type 0} (rack : X → Option ℕ) where
 
   -- one with a rack is counted
   pub counted_next : (counts more : Map by_number ℕ) (xs : List X) (i : ℕ) (x : X) (k n : ℕ) (whole : ℕ → ℕ) → drop i xs ≡ x ∷ drop (i + 1) xs → rack x ≡ Some k → n ≡ count_at counts k + 1 → more ≡ insert counts k n
-      → ((r : ℕ) → count_at counts r + count_by (stands_on r) (drop i xs) ≡ whole r) → (r : ℕ) → count_at more r + count_by (stands_on r) (drop (i + 1) xs) ≡ whole r
+      → ((r : ℕ) → count_at counts r + count_by (on_rack r) (drop i xs) ≡ whole r) → (r : ℕ) → count_at more r + count_by (on_rack r) (drop (i + 1) xs) ≡ whole r
   counted_next counts more xs i x k n whole next on count is inv r =
-      let here : stands_on r x ≡ (k == r) = ap (is_rack r) on in
+      let here : on_rack r x ≡ (k == r) = ap (is_rack r) on in
       let new : count_at more r ≡ cond (k == r) n (count_at counts r) = ap (λ m. count_at m r) is ∙ count-insert counts k n r in
-      by (k == r) refl (count_left (stands_on r) xs i x (k == r) next here) new (inv r)
+      by (k == r) refl (count_left (on_rack r) xs i x (k == r) next here) new (inv r)
     where
-      by : (b : Bool) → (k == r) ≡ b → count_by (stands_on r) (drop i xs) ≡ cond b 1 0 + count_by (stands_on r) (drop (i + 1) xs) → count_at more r ≡ cond b n (count_at counts r)
-          → count_at counts r + count_by (stands_on r) (drop i xs) ≡ whole r → count_at more r + count_by (stands_on r) (drop (i + 1) xs) ≡ whole r
+      by : (b : Bool) → (k == r) ≡ b → count_by (on_rack r) (drop i xs) ≡ cond b 1 0 + count_by (on_rack r) (drop (i + 1) xs) → count_at more r ≡ cond b n (count_at counts r)
+          → count_at counts r + count_by (on_rack r) (drop i xs) ≡ whole r → count_at more r + count_by (on_rack r) (drop (i + 1) xs) ≡ whole r
       by true e left new inv = let same = ap (count_at counts) (eqb-true k r e) in omega (arith, inv, left, new, count, same)
       by false e left new inv = omega (arith, inv, left, new)
 
   -- one without a rack is not counted
   pub skipped_next : (counts : Map by_number ℕ) (xs : List X) (i : ℕ) (x : X) (whole : ℕ → ℕ) → drop i xs ≡ x ∷ drop (i + 1) xs → rack x ≡ None
-      → ((r : ℕ) → count_at counts r + count_by (stands_on r) (drop i xs) ≡ whole r) → (r : ℕ) → count_at counts r + count_by (stands_on r) (drop (i + 1) xs) ≡ whole r
+      → ((r : ℕ) → count_at counts r + count_by (on_rack r) (drop i xs) ≡ whole r) → (r : ℕ) → count_at counts r + count_by (on_rack r) (drop (i + 1) xs) ≡ whole r
   skipped_next counts xs i x whole next none inv r =
-      let left = count_left (stands_on r) xs i x false next (ap (is_rack r) none) in
+      let left = count_left (on_rack r) xs i x false next (ap (is_rack r) none) in
       omega (arith, inv r, left)
 
   -- a count with one more is at most the number of the elements
   pub count_fits : (counts : Map by_number ℕ) (xs : List X) (i : ℕ) (x : X) (k : ℕ) → drop i xs ≡ x ∷ drop (i + 1) xs → rack x ≡ Some k
-      → ((r : ℕ) → count_at counts r + count_by (stands_on r) (drop i xs) ≡ count_by (stands_on r) xs) → count_at counts k + 1 ≤ length xs
+      → ((r : ℕ) → count_at counts r + count_by (on_rack r) (drop i xs) ≡ count_by (on_rack r) xs) → count_at counts k + 1 ≤ length xs
   count_fits counts xs i x k next on inv =
-      let left = count_left (stands_on k) xs i x true next (ap (is_rack k) on ∙ eq-eqb k k refl) in
-      omega (arith, inv k, left, count_by-le-length (stands_on k) xs)
+      let left = count_left (on_rack k) xs i x true next (ap (is_rack k) on ∙ eq-eqb k k refl) in
+      omega (arith, inv k, left, count_by-le-length (on_rack k) xs)

@@ -81,10 +81,10 @@ module _ (rows : Map by_number TargetRow) (at_storage : (s : ℕ) (t : TargetRow
       let is = each_among (λ (e : ℕ × TargetRow). get rows e.0 ≡ Some e.1) (entries rows) h.0 (each_entry rows) h.1 in
       ap (get rows) (ap (λ (u : TargetRow). u.storage) (sym h.2) ∙ at_storage h.0.0 h.0.1 is) ∙ is ∙ ap Some h.2
 
-  pub are_foremost : (cs : List TargetRow) → AreBestInOrder (rows_of rows) cs → ((s : ℕ) (t : TargetRow) → get rows s ≡ Some t → t.scheduled ≤ t.remaining)
+  pub are_best : (cs : List TargetRow) → AreBestInOrder (rows_of rows) cs → ((s : ℕ) (t : TargetRow) → get rows s ≡ Some t → t.scheduled ≤ t.remaining)
       → ((t : TargetRow) → IsMember (rows_of rows) t → (n : ℕ) × (t.node ≡ Some n))
       → ((s t : TargetRow) → IsMember (rows_of rows) s → IsMember (rows_of rows) t → s.node ≡ t.node → are_of_one_node s t ≡ true) → AreBestTargets rows cs
-  are_foremost cs are within on_node alike_on = record {
+  are_best cs are within on_node alike_on = record {
     known = λ c there. among_rows c (of_rows c there);
     first = λ t is. first_of t (row_among rows t.storage t is);
     within = λ c there. within c.storage c (among_rows c (of_rows c there));
@@ -137,7 +137,7 @@ kept_made C rows cs made are =
     record {
       at_storage = at_storage;
       within = within;
-      best_targets = are_foremost rows at_storage cs are within node one;
+      best_targets = are_best rows at_storage cs are within node one;
     }
   where
     row : (s : ℕ) (t : TargetRow) → get rows s ≡ Some t → (target_at C (λ _. 0) s ≡ t) × (has (keys C.storages) s ≡ true)

@@ -45,9 +45,9 @@ not_before_first w x t first less = ap (λ n. is_lt (ordering_then (nat_cmp (cla
     by Equal r e f = f
     by Greater r e f = refl
 
-module _ (C : Cluster) (w : ReplicaSpread) (urgency : Level) (barred : List ℕ) (len : ℕ) where
+module _ (C : Cluster) (w : ReplicaSpread) (urgency : Level) (excluded : List ℕ) (len : ℕ) where
   abbrev may : TargetRow → Bool
-  may = is_available C w urgency barred len
+  may = is_available C w urgency excluded len
 
   abbrev order : TargetRow → TargetRow → Ordering
   order = cmp_targets w
@@ -57,7 +57,7 @@ module _ (C : Cluster) (w : ReplicaSpread) (urgency : Level) (barred : List ℕ)
   too_full t less = by t.is_draining (nat_le (len + t.scheduled) t.remaining) refl
     where
       by : (a b : Bool) → nat_le (len + t.scheduled) t.remaining ≡ b
-          → ((not a && b && not (is_at BadlyDistributed (Some urgency) && is_one w.racks && (class_by_spread w t.rack == 1))) && not (is_excluded_by C barred t)) ≡ false
+          → ((not a && b && not (is_at BadlyDistributed (Some urgency) && is_one w.racks && (class_by_spread w t.rack == 1))) && not (is_excluded_by C excluded t)) ≡ false
       by true b e = refl
       by false false e = refl
       by false true e = let fits = leb-true (len + t.scheduled) t.remaining e in absurd (omega arith)

@@ -55,8 +55,8 @@ module _ (rows : Map by_number TargetRow) (target len : ℕ) where
   no_more_room false x = omega arith
 
   -- the best target of a row stays so with more scheduled to the row
-  stands_still : (b : Bool) (c x : TargetRow) → CanReplace c x → CanReplace c (cond b (sent_more len x) x)
-  stands_still b c x h = record {
+  still_replaces : (b : Bool) (c x : TargetRow) → CanReplace c x → CanReplace c (cond b (sent_more len x) x)
+  still_replaces b c x h = record {
     alike = alike c (cond b (sent_more len x) x) (like_then c x (cond b (sent_more len x) x) (like c x h.alike) (like_back (cond b (sent_more len x) x) x (like_before b x)));
     before = ranks.chain (cond b (sent_more len x) x) x c (less_room (cond b (sent_more len x) x) x (same_storage b x) (no_more_room b x)) h.before;
   }
@@ -79,7 +79,7 @@ module _ (rows : Map by_number TargetRow) (target len : ℕ) where
     still_first t e =
         let h = row_before t.storage t e in
         let old = kept.best_targets.first h.0 (ap (get rows) (kept.at_storage t.storage h.0 h.1) ∙ h.1) in
-        (old.0, old.1, subst (CanReplace old.0) h.2 (stands_still (t.storage == target) old.0 h.0 old.2))
+        (old.0, old.1, subst (CanReplace old.0) h.2 (still_replaces (t.storage == target) old.0 h.0 old.2))
 
     -- a target other than this one is unchanged
     still_known : (c : TargetRow) → IsMember cs c → (c.storage == target) ≡ false → get added c.storage ≡ Some c
@@ -113,7 +113,7 @@ module _ (rows : Map by_number TargetRow) (target len : ℕ) where
       best_like : IsLike best row
       best_like = like best row ((found (λ c. are_of_one_node c row) row best ts is).passes (alike row row (like_itself row)))
 
-      -- the best target of the node stands for each row of the node
+      -- the best target of the node replaces for each row of the node
       stood_for_by_best : (s : ℕ) (t : TargetRow) → get added s ≡ Some t → IsLike t row → CanReplace best t
       stood_for_by_best s t e h = record {
         alike = alike best t (like_then best row t best_like (like_back t row h));
@@ -160,8 +160,8 @@ module _ (rows : Map by_number TargetRow) (target len : ℕ) where
           let h = still_first t e in
           elim (here_or_without place cs old h.0 at h.1) [
             | inl same ↦
-                let stands = subst (λ c. CanReplace c t) (sym same) h.2 in
-                (best, put_among place cs best best (slice_get_within cs place old at) (inl refl), stood_for_by_best t.storage t e (like_then t old row (like_back old t (like old t stands.alike)) old_like))
+                let replaces = subst (λ c. CanReplace c t) (sym same) h.2 in
+                (best, put_among place cs best best (slice_get_within cs place old at) (inl refl), stood_for_by_best t.storage t e (like_then t old row (like_back old t (like old t replaces.alike)) old_like))
             | inr other ↦ (h.0, put_among place cs best h.0 (slice_get_within cs place old at) (inr other), h.2)
           ]
 
@@ -202,13 +202,13 @@ kept_renewed C old new target len cs ds near row best place kept fits made there
     ts : List TargetRow
     ts = filter_map (λ s. get rows s) near
 
-    stands_at : (s : ℕ) (t : TargetRow) → get rows s ≡ Some t → t.storage ≡ s
-    stands_at s t e = at_storage old target len cs kept fits s t e
+    row_at : (s : ℕ) (t : TargetRow) → get rows s ≡ Some t → t.storage ≡ s
+    row_at s t e = at_storage old target len cs kept fits s t e
 
     part : (t : TargetRow) → IsMember ts t → get rows t.storage ≡ Some t
     part t h =
         let e = of_made (λ s. get rows s) near t h in
-        ap (get rows) (stands_at e.0 t e.1) ∙ e.1
+        ap (get rows) (row_at e.0 t e.1) ∙ e.1
 
     all : (s : ℕ) (t : TargetRow) → get rows s ≡ Some t → are_of_one_node t row ≡ true → IsMember ts t
     all s t e same =

@@ -21,15 +21,15 @@ pub record IsLeastSource (C : Cluster) (sends : ℕ → ℕ) (urgency : Level) (
 
 -- the target that was found among the storages of a cluster, where `sent` has the bytes scheduled
 -- to each
-pub record IsLeastTarget (C : Cluster) (sent : ℕ → ℕ) (urgency : Level) (holders barred : List ℕ) (len : ℕ) (found : Option ℕ) : Type 0 where
+pub record IsLeastTarget (C : Cluster) (sent : ℕ → ℕ) (urgency : Level) (holders excluded : List ℕ) (len : ℕ) (found : Option ℕ) : Type 0 where
   -- the one that the definition chooses
-  pub choice : found ≡ least_target_by C sent urgency holders barred len
+  pub choice : found ≡ least_target_by C sent urgency holders excluded len
   -- it is eligible, and no eligible one comes before it
-  pub least : IsLeastOf (target_cmp C sent holders) (is_target C sent urgency holders barred len) (keys C.storages) found
+  pub least : IsLeastOf (target_cmp C sent holders) (is_target C sent urgency holders excluded len) (keys C.storages) found
   pub room : IfSome found (λ s. len + sent s ≤ remaining C s)
-  pub not_excluded_node : IfSome found (λ s. (b n : ℕ) → has barred b ≡ true → node_of C b ≡ Some n → has_storage C n s ≡ false)
+  pub not_excluded_node : IfSome found (λ s. (b n : ℕ) → has excluded b ≡ true → node_of C b ≡ Some n → has_storage C n s ≡ false)
   pub not_draining : IfSome found (λ s. is_draining C s ≡ false)
-  pub other_rack : LeavesRack C sent urgency holders barred len found
+  pub other_rack : LeavesRack C sent urgency holders excluded len found
 
 -- the table of sources for these chosen transfers
 abbrev pub senders_with : Cluster → List Transfer → Senders
@@ -54,9 +54,9 @@ pub record IsFoundSource (C : Cluster) (S : Senders) (sends : ℕ → ℕ) (urge
   pub countable : IfSome found (IsCountable S)
 
 -- the target that was found with the help of a table of targets
-pub record IsFoundTarget (C : Cluster) (rows : Map by_number TargetRow) (sent : ℕ → ℕ) (urgency : Level) (holders barred : List ℕ) (len : ℕ) (found : Option ℕ)
+pub record IsFoundTarget (C : Cluster) (rows : Map by_number TargetRow) (sent : ℕ → ℕ) (urgency : Level) (holders excluded : List ℕ) (len : ℕ) (found : Option ℕ)
     : Type 0 where
-  pub target : IsLeastTarget C sent urgency holders barred len found
+  pub target : IsLeastTarget C sent urgency holders excluded len found
   -- the length fits on it by the table
   pub fits : IfSome found (HasFreeBytesFor rows len)
 

@@ -37,11 +37,11 @@ is_eligible w urgency len t = not t.is_draining && nat_le (len + t.scheduled) t.
 
 -- whether it is on the node of one of these storages: the same on rows as `is_excluded`
 unfoldable pub is_excluded_by : Cluster → List ℕ → TargetRow → Bool
-is_excluded_by C barred t = list_any (λ b. option_map_or (λ n. option_map_or (λ m. m == n) t.node false) (node_of C b) false) barred
+is_excluded_by C excluded t = list_any (λ b. option_map_or (λ n. option_map_or (λ m. m == n) t.node false) (node_of C b) false) excluded
 
 -- whether it may be taken: the same on rows as `is_target`
 abbrev pub is_available : Cluster → ReplicaSpread → Level → List ℕ → ℕ → TargetRow → Bool
-is_available C w urgency barred len t = is_eligible w urgency len t && not (is_excluded_by C barred t)
+is_available C w urgency excluded len t = is_eligible w urgency len t && not (is_excluded_by C excluded t)
 
 abbrev pub coded_target : Coded TargetRow
 coded_target =
@@ -57,6 +57,6 @@ is_off_racks C holders s = not (is_on_racks C (racks C holders) s)
 -- if the block is held on one rack, and a storage off that rack is eligible, the result is off that
 -- rack
 abbrev pub LeavesRack : Cluster → (ℕ → ℕ) → Level → List ℕ → List ℕ → ℕ → Option ℕ → Type 0
-LeavesRack C sent urgency holders barred len found =
-    length (racks C holders) ≡ 1 → (t : ℕ) → has (keys C.storages) t ≡ true → is_target C sent urgency holders barred len t ≡ true → is_off_racks C holders t ≡ true
+LeavesRack C sent urgency holders excluded len found =
+    length (racks C holders) ≡ 1 → (t : ℕ) → has (keys C.storages) t ≡ true → is_target C sent urgency holders excluded len t ≡ true → is_off_racks C holders t ≡ true
     → IfSome found (λ s. is_off_racks C holders s ≡ true)

@@ -19,14 +19,14 @@ impl ReplicaSpread {
     pub fn of(held: &[StorageId], topology: &Topology) -> ReplicaSpread
         ensures { result ≡ places.replica_spread_of topology.now.cluster held.now }
     {
-        let mut standing = ReplicaSpread {
+        let mut spread = ReplicaSpread {
             racks: UpToTwo::Nothing,
             storages: UpToTwo::Nothing,
         };
         for storage in held {
-            standing = standing.with(*storage, topology);
+            spread = spread.with(*storage, topology);
         }
-        standing
+        spread
     }
 
     fn with(&self, storage: StorageId, topology: &Topology) -> ReplicaSpread

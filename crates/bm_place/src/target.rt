@@ -15,7 +15,7 @@ use bm_base::{Level, StorageId};
 use bm_topo::Topology;
 
 /// The storage to which a block of `len` bytes is copied at this level. `held` are the storages
-/// that hold a live replica of the block or will, `barred` those on whose nodes no copy may be put;
+/// that hold a live replica of the block or will, `excluded` those on whose nodes no copy may be put;
 /// an unknown one has no rack, and excludes nothing.
 ///
 /// A storage is eligible if `len` fits with the bytes scheduled to it, and its node does not drain
@@ -28,31 +28,31 @@ use bm_topo::Topology;
 /// free bytes. It ends at the first eligible one of the better class, or as soon as the length fits
 /// no longer. For each of them, free bytes, class and whether the node drains take constant time.
 /// Whether the node is excluded is tested last, only if the storage would be taken, with a look-up
-/// for each of `barred`. Takes no memory.
+/// for each of `excluded`. Takes no memory.
 pub fn least_target(
     held: &[StorageId],
-    barred: &[StorageId],
+    excluded: &[StorageId],
     len: u64,
     level: Level,
     topology: &Topology,
     scheduled: &Scheduled<'_>,
 ) -> Option<StorageId>
     ensures found { (sent : ℕ → ℕ) → scheduled.now ≡ targets.target_table topology.now.cluster sent
-        → IsFoundTarget topology.now.cluster scheduled.now sent level held.now barred.now len
+        → IsFoundTarget topology.now.cluster scheduled.now sent level held.now excluded.now len
         result }
     ensures of_transfers { (chosen : List Transfer)
         → scheduled.now ≡ targets_with topology.now.cluster chosen
         → result ≡ transfers.least_target topology.now.cluster chosen level held.now
-        barred.now len }
+        excluded.now len }
 {
-    least_fitting(held, barred, len, level, topology, scheduled)
+    least_fitting(held, excluded, len, level, topology, scheduled)
 }
 
 /// The same, in the order of the best targets: it ends at the first eligible one of the better
 /// class, or at one with too few free bytes.
 fn least_fitting(
     held: &[StorageId],
-    barred: &[StorageId],
+    excluded: &[StorageId],
     len: u64,
     level: Level,
     topology: &Topology,
@@ -60,17 +60,17 @@ fn least_fitting(
 ) -> Option<StorageId>
     ensures { (sent : ℕ → ℕ) → scheduled.now ≡ targets.target_table topology.now.cluster sent
         → result ≡ transfers.least_target_by topology.now.cluster sent level held.now
-        barred.now len }
+        excluded.now len }
 {
-    let standing = ReplicaSpread::of(held, topology);
+    let spread = ReplicaSpread::of(held, topology);
     let targets = scheduled.best_targets();
     let mut best = None;
     for target in targets {
         if free_bytes_on(target) < len {
             return storage_of(&best);
         }
-        if beats_best(target, &best, &standing, topology, barred, len, level) {
-            if standing.class_of(target.rack) == 0 {
+        if beats_best(target, &best, &spread, topology, excluded, len, level) {
+            if spread.class_of(target.rack) == 0 {
                 return Some(target.storage);
             }
             best = Some(*target);
@@ -93,25 +93,25 @@ fn storage_of(target: &Option<TargetRow>) -> Option<StorageId>
 fn beats_best(
     target: &TargetRow,
     best: &Option<TargetRow>,
-    standing: &ReplicaSpread,
+    spread: &ReplicaSpread,
     topology: &Topology,
-    barred: &[StorageId],
+    excluded: &[StorageId],
     len: u64,
     level: Level,
 ) -> bool
     requires { IfSome best.now (λ b. nodes.is_better_than target.now b ≡ false) }
-    ensures { result ≡ (targets.is_available topology.now.cluster standing.now level barred.now len
-        target.now && scanned.is_better (targets.cmp_targets standing.now) best.now target.now) }
+    ensures { result ≡ (targets.is_available topology.now.cluster spread.now level excluded.now len
+        target.now && scanned.is_better (targets.cmp_targets spread.now) best.now target.now) }
 {
-    is_better(target, best, standing)
-        && is_eligible(target, standing, len, level)
-        && !is_excluded(target, topology, barred)
+    is_better(target, best, spread)
+        && is_eligible(target, spread, len, level)
+        && !is_excluded(target, topology, excluded)
 }
 
 /// Whether the node does not drain, the length fits, and a badly distributed block that is held on
 /// one rack would get to another one.
-fn is_eligible(target: &TargetRow, standing: &ReplicaSpread, len: u64, level: Level) -> bool
-    ensures { result ≡ targets.is_eligible standing.now level len target.now }
+fn is_eligible(target: &TargetRow, spread: &ReplicaSpread, len: u64, level: Level) -> bool
+    ensures { result ≡ targets.is_eligible spread.now level len target.now }
 {
     if target.is_draining
         || target.scheduled > target.remaining
@@ -120,28 +120,28 @@ fn is_eligible(target: &TargetRow, standing: &ReplicaSpread, len: u64, level: Le
         return false;
     }
     !(level == Level::BadlyDistributed
-        && standing.racks.is_one()
-        && standing.class_of(target.rack) == 1)
+        && spread.racks.is_one()
+        && spread.class_of(target.rack) == 1)
 }
 
 /// Whether it beats the best so far. Targets come in order of free bytes, so only a better class
 /// can.
-fn is_better(target: &TargetRow, best: &Option<TargetRow>, standing: &ReplicaSpread) -> bool
+fn is_better(target: &TargetRow, best: &Option<TargetRow>, spread: &ReplicaSpread) -> bool
     requires { IfSome best.now (λ b. nodes.is_better_than target.now b ≡ false) }
-    ensures { result ≡ scanned.is_better (targets.cmp_targets standing.now) best.now target.now }
+    ensures { result ≡ scanned.is_better (targets.cmp_targets spread.now) best.now target.now }
 {
     match best {
-        Some(best) => standing.class_of(target.rack) < standing.class_of(best.rack),
+        Some(best) => spread.class_of(target.rack) < spread.class_of(best.rack),
         None => true,
     }
 }
 
 /// Whether a target is on the node of one of these storages.
 #[tactic(auto, unfolding(crate::specs::Targets::is_excluded_by))]
-fn is_excluded(target: &TargetRow, topology: &Topology, barred: &[StorageId]) -> bool
-    ensures { result ≡ targets.is_excluded_by topology.now.cluster barred.now target.now }
+fn is_excluded(target: &TargetRow, topology: &Topology, excluded: &[StorageId]) -> bool
+    ensures { result ≡ targets.is_excluded_by topology.now.cluster excluded.now target.now }
 {
-    barred.iter().any(|storage| match topology.node_of(*storage) {
+    excluded.iter().any(|storage| match topology.node_of(*storage) {
         Some(node) => target.node == Some(node),
         None => false,
     })

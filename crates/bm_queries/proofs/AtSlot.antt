@@ -16,7 +16,7 @@ use Rattle.bm_base.proofs.MapEntries.{each_entry, passes_entry}
 use Rattle.bm_base.proofs.Membership.{has_where}
 use Rattle.bm_arena.specs.Triplets.{Block}
 use Rattle.bm_arena.specs.Contents.{Contents, block_at, slot_of, marks_at, find_marks, IsLawful}
-use Rattle.bm_arena.specs.Holding.{replicas_of, replicas_at, info_at}
+use Rattle.bm_arena.specs.HeldMaps.{replicas_of, replicas_at, info_at}
 use Rattle.bm_arena.proofs.HeldReplicas.{get-replicas_of, get-blocks_of}
 use Rattle.bm_levels.specs.Status.{storages_at}
 use Rattle.bm_levels.specs.Held.{holdings_with}
@@ -69,9 +69,9 @@ module _ (a : Contents) (lawful : IsLawful a) (pending : Map by_replica ℕ) (b 
   none_held : slot_of a b ≡ None → (s : ℕ) → get (replicas_of a) (replica_at b s) ≡ None
   none_held e s = get-replicas_of a (replica_at b s) ∙ ap (λ o. option_and_then (λ k. marks_at a k s) o) e
 
-  module _ (slot : ℕ) (k : Block) (here : slot_of a b ≡ Some slot) (stands : block_at a slot ≡ Some k) where
+  module _ (slot : ℕ) (k : Block) (here : slot_of a b ≡ Some slot) (block_there : block_at a slot ≡ Some k) where
     marks_held : (s : ℕ) → get (replicas_of a) (replica_at b s) ≡ find_marks k.replicas s
-    marks_held s = get-replicas_of a (replica_at b s) ∙ ap (λ o. option_and_then (λ x. marks_at a x s) o) here ∙ ap (λ o. option_and_then (λ (z : Block). find_marks z.replicas s) o) stands
+    marks_held s = get-replicas_of a (replica_at b s) ∙ ap (λ o. option_and_then (λ x. marks_at a x s) o) here ∙ ap (λ o. option_and_then (λ (z : Block). find_marks z.replicas s) o) block_there
 
     any_held : (p : ℕ → Marks → Bool) → list_any (λ (e : ReplicaId × Marks). (e.0.block == b) && p e.0.storage e.1) (entries (replicas_of a)) ≡ list_any (λ (r : ℕ × Marks). p r.0 r.1) k.replicas
     any_held p =
@@ -83,7 +83,7 @@ module _ (a : Contents) (lawful : IsLawful a) (pending : Map by_replica ℕ) (b 
         marks_pass (λ (r : ℕ × Marks). p r.0 r.1) k.replicas e.0.0.storage e.0.1
         (sym (marks_held e.0.0.storage) ∙ ap (λ c. get (replicas_of a) (replica_at c e.0.0.storage)) (sym (eqb-true e.0.0.block b two.0)) ∙ e.1) two.1)
         (λ h.
-        let r = each_any (λ (r : ℕ × Marks). find_marks k.replicas r.0 ≡ Some r.1) (λ (r : ℕ × Marks). p r.0 r.1) k.replicas (each_marks k.replicas (lawful.once slot k stands)) h in
+        let r = each_any (λ (r : ℕ × Marks). find_marks k.replicas r.0 ≡ Some r.1) (λ (r : ℕ × Marks). p r.0 r.1) k.replicas (each_marks k.replicas (lawful.once slot k block_there)) h in
         passes_entry (replicas_of a) test (replica_at b r.0.0) r.0.1 (marks_held r.0.0 ∙ r.1) (and_from (b == b) (p r.0.0 r.0.1) (eq-eqb b b refl) r.2))
 
   -- whether one of the block's replicas passes

@@ -47,10 +47,10 @@ module _ {K X : Type 0} (o : Order K) (key : X → K) where
   strictly : (xs : List X) → IsSortedByKey key o.cmp xs → IsDistinct (eq_by_cmp o.cmp) (map key xs) → IsStrictlySortedBy o.cmp (map key xs)
   unfolding IsStrictlySortedBy
   strictly [] sorted distinct = tt
-  strictly (y ∷ ys) sorted distinct = stands (y ∷ ys) y sorted distinct
+  strictly (y ∷ ys) sorted distinct = strictly_from (y ∷ ys) y sorted distinct
     where
-      stands : (xs : List X) (y : X) → IsSortedByKey key o.cmp xs → IsDistinct (eq_by_cmp o.cmp) (map key xs) → IsStrictlySortedBy o.cmp (map key xs)
-      stands xs y sorted distinct =
+      strictly_from : (xs : List X) (y : X) → IsSortedByKey key o.cmp xs → IsDistinct (eq_by_cmp o.cmp) (map key xs) → IsStrictlySortedBy o.cmp (map key xs)
+      strictly_from xs y sorted distinct =
           sorted_from_all_adjacent o.total (map key xs) (key y) (λ k lt.
           let long : length (map key xs) ≡ length xs = length-map xs key in
           let at : get_or (map key xs) k (key y) ≡ key (get_or xs k y) = get_or-map key xs k y in

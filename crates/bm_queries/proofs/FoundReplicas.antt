@@ -16,7 +16,7 @@ use Rattle.bm_base.proofs.MapEntries.{key_itself, not_tied, each_entry, passes_e
 use Rattle.bm_base.proofs.Options.{chained}
 use Rattle.bm_arena.specs.Triplets.{Block}
 use Rattle.bm_arena.specs.Contents.{Contents, block_at, slot_of, marks_at, find_marks, IsLawful}
-use Rattle.bm_arena.specs.Holding.{replicas_of}
+use Rattle.bm_arena.specs.HeldMaps.{replicas_of}
 use Rattle.bm_arena.proofs.HeldReplicas.{get-replicas_of}
 use Rattle.bm_parts.specs.Found.{IsGathered}
 use Rattle.bm_parts.specs.QueryLaws.{replica_key}

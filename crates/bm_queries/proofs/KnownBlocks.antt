@@ -22,7 +22,7 @@ use Rattle.bm_base.proofs.MapEntries.{key_itself, not_tied, each_entry}
 use Rattle.bm_base.proofs.Options.{chained}
 use Rattle.bm_base.proofs.Sets.{has_keys}
 use Rattle.bm_arena.specs.Contents.{Contents, slot_of, IsLawful}
-use Rattle.bm_arena.specs.Holding.{info_at, blocks_of, id_at}
+use Rattle.bm_arena.specs.HeldMaps.{info_at, blocks_of, id_at}
 use Rattle.bm_arena.proofs.HeldReplicas.{get-blocks_of}
 use Rattle.bm_parts.specs.Found.{IsGathered}
 use Rattle.bm_parts.proofs.Filters.{any_shown, all_each, filter_all}

@@ -21,7 +21,7 @@ use Rattle.bm_base.proofs.Membership.{any_replica}
 use Rattle.bm_base.proofs.Ties.{replica_tie}
 use Rattle.bm_parts.proofs.Filters.{map_filter}
 use Rattle.bm_arena.specs.Contents.{block_at, slot_of, marks_at, list_of, IsLawful}
-use Rattle.bm_arena.specs.Holding.{replicas_of, id_at}
+use Rattle.bm_arena.specs.HeldMaps.{replicas_of, id_at}
 use Rattle.bm_arena.proofs.HeldReplicas.{get-replicas_of}
 use Rattle.bm_levels.specs.Status.{level_in}
 use Rattle.bm_levels.specs.Held.{holdings_with}

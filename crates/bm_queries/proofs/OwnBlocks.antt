@@ -8,7 +8,7 @@ use Rattle.bm_maps.specs.SlotLists.{IsMember, Distinct}
 use Rattle.bm_base.proofs.Options.{there, chained}
 use Rattle.bm_arena.specs.Triplets.{Block}
 use Rattle.bm_arena.specs.Contents.{Contents, block_at, slot_of, marks_at, list_of, IsLawful}
-use Rattle.bm_arena.specs.Holding.{info_at, id_at}
+use Rattle.bm_arena.specs.HeldMaps.{info_at, id_at}
 use Rattle.bm_levels.specs.IndexedLevels.{level_of_slot}
 use Rattle.bm_levels.specs.Leveled.{Leveled, IsLeveled}
 use Rattle.bm_base.specs.declared.level.Level.{Level}

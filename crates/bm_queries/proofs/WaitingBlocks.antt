@@ -17,7 +17,7 @@ use Rattle.bm_base.proofs.Membership.{has_where}
 use Rattle.bm_parts.specs.QueryLaws.{holds_back}
 use Rattle.bm_arena.specs.Triplets.{Block}
 use Rattle.bm_arena.specs.Contents.{block_at, slot_of, marks_at, find_marks, list_of, IsLawful}
-use Rattle.bm_arena.specs.Holding.{info_at}
+use Rattle.bm_arena.specs.HeldMaps.{info_at}
 use Rattle.bm_arena.proofs.HeldReplicas.{get-blocks_of}
 use Rattle.bm_levels.specs.Status.{storages_at}
 use Rattle.bm_levels.specs.Held.{holdings_with}
@@ -53,16 +53,16 @@ module _ (C : Cluster) (n : ℕ) (v : Leveled) (lawful : IsLawful v.arena) (leve
   abbrev H : Holdings
   H = holdings_with v.arena pending
 
-  module _ (b slot : ℕ) (k : Block) (here : slot_of v.arena b ≡ Some slot) (stands : block_at v.arena slot ≡ Some k) where
+  module _ (b slot : ℕ) (k : Block) (here : slot_of v.arena b ≡ Some slot) (block_there : block_at v.arena slot ≡ Some k) where
     marks_here : (s : ℕ) → marks_at v.arena slot s ≡ get H.replicas (replica_at b s)
-    marks_here s = ap (λ o. option_and_then (λ (z : Block). find_marks z.replicas s) o) stands ∙ sym (found_marks v.arena pending lawful b slot k here stands s)
+    marks_here s = ap (λ o. option_and_then (λ (z : Block). find_marks z.replicas s) o) block_there ∙ sym (found_marks v.arena pending lawful b slot k here block_there s)
 
     lacks_is : (i : BlockInfo) → get H.blocks b ≡ Some i → lacks_live C (block_at v.arena slot) ≡ not (has_enough_live C H b)
     unfolding has_enough_live
     lacks_is i known =
-        let info : k.info ≡ Some i = sym (found_info v.arena pending lawful b slot k here stands) ∙ known in
-        let many = as_many v.arena pending lawful b slot k here stands (is_live_on C) in
-        ap (lacks_live C) stands
+        let info : k.info ≡ Some i = sym (found_info v.arena pending lawful b slot k here block_there) ∙ known in
+        let many = as_many v.arena pending lawful b slot k here block_there (is_live_on C) in
+        ap (lacks_live C) block_there
         ∙ ap (λ o. option_map_or (λ (i : BlockInfo). nat_lt (length (storages_at (is_live_on C) k.replicas)) i.repl) o false) info
         ∙ fewer (length (storages_at (is_live_on C) k.replicas)) i.repl
         ∙ ap (λ l. not (nat_le i.repl l)) (sym many)
@@ -70,8 +70,8 @@ module _ (C : Cluster) (n : ℕ) (v : Leveled) (lawful : IsLawful v.arena) (leve
 
     lacks_known : lacks_live C (block_at v.arena slot) ≡ true → (i : BlockInfo) × (get H.blocks b ≡ Some i)
     lacks_known e =
-        let i = passes_some (λ (i : BlockInfo). nat_lt (length (storages_at (is_live_on C) k.replicas)) i.repl) k.info (sym (ap (lacks_live C) stands) ∙ e) in
-        (i.0, found_info v.arena pending lawful b slot k here stands ∙ i.1)
+        let i = passes_some (λ (i : BlockInfo). nat_lt (length (storages_at (is_live_on C) k.replicas)) i.repl) k.info (sym (ap (lacks_live C) block_there) ∙ e) in
+        (i.0, found_info v.arena pending lawful b slot k here block_there ∙ i.1)
 
   -- a block that holds the node back waits in a list
   then_waits : (b : ℕ) → contains_key H.blocks b ≡ true → is_held_back_by C H n b ≡ true → (s : ℕ) × (has_storage C n s ≡ true) × (holds_back_node C v.arena s ≡ true)

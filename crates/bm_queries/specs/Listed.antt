@@ -9,7 +9,7 @@ use Rattle.bm_base.specs.declared.replica.BlockInfo.{BlockInfo}
 use Rattle.bm_base.specs.Words.{Map, entries, Cluster, by_replica, is_corrupt, is_usable, is_live_on, is_draining}
 use Rattle.bm_arena.specs.Triplets.{Block}
 use Rattle.bm_arena.specs.Contents.{Contents, block_at, slot_of, marks_at, list_of}
-use Rattle.bm_arena.specs.Holding.{info_at, id_at}
+use Rattle.bm_arena.specs.HeldMaps.{info_at, id_at}
 use Rattle.bm_levels.specs.Status.{storages_at}
 use Rattle.bm_queries.specs.declared.replicas.ReplicaFilter.{ReplicaFilter}
 use Rattle.bm_queries.specs.declared.replicas.ReplicaFilter.TheVariants.{All, Corrupt, Excess}

@@ -7,7 +7,7 @@ ghost use Rattle.bm_base.specs.Words.{Map, keys, by_replica};
 ghost use Rattle.bm_base.specs.Machine.Queries as queries;
 ghost use Rattle.bm_base.specs.Promises.Versions as versions;
 ghost use Rattle.bm_arena.specs.Contents.{block_at, slot_of};
-ghost use Rattle.bm_arena.specs.Holding.{blocks_of};
+ghost use Rattle.bm_arena.specs.HeldMaps.{blocks_of};
 ghost use Rattle.bm_levels.specs.IndexedLevels.{indexed_slots};
 ghost use Rattle.bm_levels.specs.Held.{holdings_with};
 ghost use Rattle.bm_queries.specs.Listed.{known_on, with_slot, HasItsSlot};

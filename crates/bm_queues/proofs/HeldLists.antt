@@ -223,9 +223,9 @@ module _ (k : ℕ) (next back : List (Option ℕ)) (f : ℕ → List ℕ) (held 
         ]
 
     -- the meaning of a new back link
-    told : (y : ℕ) → y ≢ x → (o : Option ℕ) → after ≡ o → (IsMember y (f home.0) × (link_at cut_back y ≡ Some p)) ⊎ (link_at cut_back y ≡ link_at back y)
-    told y differs None none = inr (cut_back-others y differs (λ e. none-some y (sym none ∙ e)))
-    told y differs (Some w) some =
+    link_is : (y : ℕ) → y ≢ x → (o : Option ℕ) → after ≡ o → (IsMember y (f home.0) × (link_at cut_back y ≡ Some p)) ⊎ (link_at cut_back y ≡ link_at back y)
+    link_is y differs None none = inr (cut_back-others y differs (λ e. none-some y (sym none ∙ e)))
+    link_is y differs (Some w) some =
         elim (cases_eq y w) [
           | inl same ↦ (let is : after ≡ Some y = some ∙ ap Some (sym same) in inl (after-among y is, cut_back-ahead y differs is))
           | inr other ↦ inr (cut_back-others y differs (λ e. other (sym (same_Some w y (sym some ∙ e)))))
@@ -234,7 +234,7 @@ module _ (k : ℕ) (next back : List (Option ℕ)) (f : ℕ → List ℕ) (held 
     cut-complete : (y c : ℕ) → link_at cut_back y ≡ Some c → (l : ℕ) × (l < k) × IsMember y (without x (f l))
     cut-complete y c is =
         let differs : y ≢ x = λ e. none-some c (sym cut_back-own ∙ ap (link_at cut_back) (sym e) ∙ is) in
-        elim (told y differs after refl) [
+        elim (link_is y differs after refl) [
           | inl t ↦ (home.0, home.1, Among-without_other x y (f home.0) t.0 differs)
           | inr t ↦ (let found = held.complete y c (sym t ∙ is) in (found.0, found.1, Among-without_other x y (f found.0) found.2 differs))
         ]
@@ -244,7 +244,7 @@ module _ (k : ℕ) (next back : List (Option ℕ)) (f : ℕ → List ℕ) (held 
         elim (cases_eq y x) [
           | inl same ↦ ap (λ w. link_at cut (k + w)) same ∙ cut-own
           | inr differs ↦
-              elim (told y differs after refl) [
+              elim (link_is y differs after refl) [
                 | inl t ↦ absurd (none-some p (sym none ∙ t.1))
                 | inr t ↦
                     let was : link_at back y ≡ None = sym t ∙ none in
@@ -369,9 +369,9 @@ module _ (k : ℕ) (next back : List (Option ℕ)) (f : ℕ → List ℕ) (held 
           | inr h ↦ elim (put-member m z b) [ inl e' ↦ absurd (z_apart l z low h e'.0) | inr h' ↦ held.once l m z low low' h h' ]
         ]
 
-    put_told : (y : ℕ) → y ≢ x → (o : Option ℕ) → first ≡ o → (IsMember y (f at) × (link_at put_back y ≡ Some (k + x))) ⊎ (link_at put_back y ≡ link_at back y)
-    put_told y differs None none = inr (put_back-others y differs (λ e. none-some y (sym none ∙ e)))
-    put_told y differs (Some w) some =
+    put_link_is : (y : ℕ) → y ≢ x → (o : Option ℕ) → first ≡ o → (IsMember y (f at) × (link_at put_back y ≡ Some (k + x))) ⊎ (link_at put_back y ≡ link_at back y)
+    put_link_is y differs None none = inr (put_back-others y differs (λ e. none-some y (sym none ∙ e)))
+    put_link_is y differs (Some w) some =
         elim (cases_eq y w) [
           | inl same ↦ (let is : first ≡ Some y = some ∙ ap Some (sym same) in inl (first-in y is, put_back-first y differs is))
           | inr other ↦ inr (put_back-others y differs (λ e. other (sym (same_Some w y (sym some ∙ e)))))
@@ -382,7 +382,7 @@ module _ (k : ℕ) (next back : List (Option ℕ)) (f : ℕ → List ℕ) (held 
         elim (cases_eq y x) [
           | inl same ↦ (at, there, rw (eq-eqb at at refl) (inl same))
           | inr differs ↦
-              elim (put_told y differs first refl) [
+              elim (put_link_is y differs first refl) [
                 | inl t ↦ (at, there, put-kept at y t.0)
                 | inr t ↦ (let found = held.complete y c (sym t ∙ is) in (found.0, found.1, put-kept found.0 y found.2))
               ]
@@ -391,7 +391,7 @@ module _ (k : ℕ) (next back : List (Option ℕ)) (f : ℕ → List ℕ) (held 
     put-clear : (y : ℕ) → link_at put_back y ≡ None → link_at put (k + y) ≡ None
     put-clear y none =
         let differs : y ≢ x = λ e. none-some at (sym none ∙ ap (link_at put_back) e ∙ put_back-own) in
-        elim (put_told y differs first refl) [
+        elim (put_link_is y differs first refl) [
           | inl t ↦ absurd (none-some (k + x) (sym none ∙ t.1))
           | inr t ↦ put-rest (k + y) (λ e. omega (arith, there, e)) (λ e. differs (omega (arith, e))) ∙ held.clear y (sym t ∙ none)
         ]

@@ -11,7 +11,7 @@ use Rattle.bm_maps.specs.SlotLists.{IsMember, without}
 use Rattle.bm_arena.specs.Contents.{Contents, block_at, slot_of, marks_at, saturating_next}
 use Rattle.bm_report.specs.declared.types.ReportedSlot.{ReportedSlot}
 use Rattle.bm_report.specs.declared.report_counts.ReportCounts.{ReportCounts}
-use Rattle.bm_arena.specs.Holding.{replicas_of, blocks_of, info_at}
+use Rattle.bm_arena.specs.HeldMaps.{replicas_of, blocks_of, info_at}
 use Rattle.bm_report.specs.DuringReport.{entered_at, entered_one, entered_all, fresh, marks_during_report, is_excess_good, behind, without_all, saturating_sum, AreAtSlots, HaveCapacity, KeepsRest, IsEntered, IsCounted, IsOncePerNode, IsExcessGood, counts_after_move, counts_after_link, slot_in}
 use Rattle.bm_arena.proofs.HeldReplicas.{get-blocks_of}
 use Rattle.bm_report.proofs.Frames.{framed-none, framed-chain}

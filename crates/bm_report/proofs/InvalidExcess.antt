@@ -10,7 +10,7 @@ use Rattle.bm_base.specs.Words.{get, insert, replica_at, is_good}
 use Rattle.bm_arena.specs.Triplets.{Block}
 use Rattle.bm_arena.specs.Contents.{Contents, block_at, slot_of, marks_at, find_marks, IsLawful}
 use Rattle.bm_report.specs.declared.types.ReportedSlot.{ReportedSlot}
-use Rattle.bm_arena.specs.Holding.{replicas_of}
+use Rattle.bm_arena.specs.HeldMaps.{replicas_of}
 use Rattle.bm_report.specs.DuringReport.{without_invalid_excess, is_excess_good, invalid_excess_out_one, invalid_excess_out_all, AreAtSlots, IsExcessGood, DropsInvalidExcess}
 use Rattle.bm_arena.proofs.HeldReplicas.{replicas-put, blocks-kept}
 use Rattle.bm_arena.proofs.SetMarks.{set_at, set-elsewhere, set-known, set-marks, set-others}

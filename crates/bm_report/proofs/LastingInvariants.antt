@@ -87,12 +87,12 @@ unslotted_back : (ts : List ReportedBlock) → map reported_of (map unslotted ts
 unslotted_back [] = refl
 unslotted_back (t ∷ ts) = ap (λ l. t ∷ l) (unslotted_back ts)
 
-pub once-told : (C : Cluster) (H : Holdings) (s : ℕ) (ts : List ReportedBlock) → IsOncePerNode C H.replicas → IsOncePerNode C (report C H s ts).replicas
-once-told C H s ts once =
+pub once-reported : (C : Cluster) (H : Holdings) (s : ℕ) (ts : List ReportedBlock) → IsOncePerNode C H.replicas → IsOncePerNode C (report C H s ts).replicas
+once-reported C H s ts once =
     let P : List ReportedBlock → Type 0 = λ l. IsOncePerNode C (report C H s l).replicas in
     subst P (unslotted_back ts) (once_after C H s (map unslotted ts) once)
 
-pub good-told : (C : Cluster) (H : Holdings) (s : ℕ) (ts : List ReportedBlock) → HasGoodExcess H.replicas → HasGoodExcess (report C H s ts).replicas
-good-told C H s ts good =
+pub good-reported : (C : Cluster) (H : Holdings) (s : ℕ) (ts : List ReportedBlock) → HasGoodExcess H.replicas → HasGoodExcess (report C H s ts).replicas
+good-reported C H s ts good =
     let P : List ReportedBlock → Type 0 = λ l. HasGoodExcess (report C H s l).replicas in
     subst P (unslotted_back ts) (good_after C H s (map unslotted ts) good)

@@ -35,9 +35,9 @@ came-push slot xs ys is x m =
     elim (Among-append x xs (slot ∷ []) (subst P is m)) [ inl was ↦ inl was | inr (inl same) ↦ inr same | inr (inr none) ↦ absurd none ]
 
 -- the slot of a named number is that of a reported number
-pub slot-told : (a : Contents) (ns : List ReportedSlot) (slot : ℕ) → AreAtSlots a ns → IsMember slot (map slot_in ns) → IsReportedAt a (map reported_of ns) slot
-slot-told a [] slot here m = absurd m
-slot-told a (n ∷ ns) slot here (inl same) = (n.id, first_named (reported_of n) (map reported_of ns), here.0 ∙ ap (λ k. Some k) (sym same))
-slot-told a (n ∷ ns) slot here (inr later) =
-    let led = slot-told a ns slot here.1 later in
+pub slot-reported : (a : Contents) (ns : List ReportedSlot) (slot : ℕ) → AreAtSlots a ns → IsMember slot (map slot_in ns) → IsReportedAt a (map reported_of ns) slot
+slot-reported a [] slot here m = absurd m
+slot-reported a (n ∷ ns) slot here (inl same) = (n.id, first_named (reported_of n) (map reported_of ns), here.0 ∙ ap (λ k. Some k) (sym same))
+slot-reported a (n ∷ ns) slot here (inr later) =
+    let led = slot-reported a ns slot here.1 later in
     (led.0, then_named (reported_of n) (map reported_of ns) led.0 led.1, led.2)

@@ -10,7 +10,7 @@ use Rattle.bm_arena.specs.Contents.{Contents, block_at, IsEntry, HasHead}
 use Rattle.bm_arena.proofs.Replicas.{Among-left, Among-last}
 use Rattle.bm_report.specs.declared.types.ReportedSlot.{ReportedSlot}
 use Rattle.bm_report.specs.declared.report_counts.ReportCounts.{ReportCounts}
-use Rattle.bm_arena.specs.Holding.{replicas_of, blocks_of}
+use Rattle.bm_arena.specs.HeldMaps.{replicas_of, blocks_of}
 use Rattle.bm_report.specs.DuringReport.{AreAtSlots, HaveCapacity, IsOncePerNode, IsEntered, IsCounted, IsListed, FitsCounters}
 use Rattle.bm_report.proofs.EnteredChain.{entered-none, counted-none, entered-append, counted-append, here-framed, room-framed}
 use Rattle.bm_report.proofs.OncePerNode.{once-entered_all}

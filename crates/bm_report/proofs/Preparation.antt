@@ -9,7 +9,7 @@ use Rattle.bm_arena.specs.Triplets.{Block, change_block}
 use Rattle.bm_arena.specs.Contents.{Contents, block_at, slot_of, marks_at, find_marks, room_at, with_room, HasCapacity, IsAdded, IsReserved, IsLawful}
 use Rattle.bm_arena.proofs.MoreCapacity.{room-here, room-elsewhere, room-blind, room-marks}
 use Rattle.bm_report.specs.declared.types.ReportedSlot.{ReportedSlot}
-use Rattle.bm_arena.specs.Holding.{info_at}
+use Rattle.bm_arena.specs.HeldMaps.{info_at}
 use Rattle.bm_report.specs.DuringReport.{AreAtSlots, HaveCapacity}
 use Rattle.bm_report.specs.Expanded.{IsPrepared}
 use Rattle.bm_arena.proofs.HeldReplicas.{same_replicas, same_blocks, under}

@@ -10,7 +10,7 @@ use Rattle.bm_arena.specs.Triplets.{Block}
 use Rattle.bm_arena.specs.Contents.{Contents, block_at, slot_of, marks_at, find_marks, IsLawful, KeepsOthers}
 use Rattle.bm_report.specs.declared.types.ReportedSlot.{ReportedSlot}
 use Rattle.bm_report.specs.declared.types.Applied.{Applied}
-use Rattle.bm_arena.specs.Holding.{replicas_of, blocks_of, holdings_of, info_at}
+use Rattle.bm_arena.specs.HeldMaps.{replicas_of, blocks_of, holdings_of, info_at}
 use Rattle.bm_report.specs.DuringReport.{entered_at, marks_during_report, without_invalid_excess, saturating_sum, KeepsRest, IsOncePerNode}
 use Rattle.bm_report.specs.Received.{HasReceived}
 use Rattle.bm_arena.proofs.HeldReplicas.{get-blocks_of, replicas-put, replicas-out, blocks-kept}

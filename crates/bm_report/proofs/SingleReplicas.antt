@@ -15,7 +15,7 @@ use Rattle.std.proofs.lemmas.Bool.{false≢true}
 use Rattle.bm_base.specs.declared.replica.Marks.{Marks}
 use Rattle.bm_arena.specs.Triplets.{Block}
 use Rattle.bm_arena.specs.Contents.{Contents, block_at, slot_of, marks_at, find_marks, IsLawful}
-use Rattle.bm_arena.specs.Holding.{replicas_of}
+use Rattle.bm_arena.specs.HeldMaps.{replicas_of}
 use Rattle.bm_report.specs.DuringReport.{IsOncePerNode, IsExcessGood, is_excess_good}
 use Rattle.bm_report.specs.Ready.{HasGoodExcess}
 use Rattle.bm_report.specs.Tested.{IsSingle}

@@ -17,7 +17,7 @@ use Rattle.bm_arena.specs.Contents.{Contents, block_at, slot_of, marks_at, list_
 use Rattle.bm_maps.proofs.SlotLists.{Among-without, Among-without_other, without-gone, Distinct-without}
 use Rattle.bm_report.specs.declared.types.ReportedSlot.{ReportedSlot}
 use Rattle.bm_report.specs.declared.report_counts.ReportCounts.{ReportCounts}
-use Rattle.bm_arena.specs.Holding.{replicas_of, blocks_of, holdings_of, id_at}
+use Rattle.bm_arena.specs.HeldMaps.{replicas_of, blocks_of, holdings_of, id_at}
 use Rattle.bm_report.specs.DuringReport.{after, behind, without_all, slot_in, entered_all, fresh, out_all, invalid_excess_out_all, reported_of, AreAtSlots, HaveCapacity, IsOncePerNode, IsExcessGood, IsEntered, IsCounted, IsSwept, DropsInvalidExcess, IsListed}
 use Rattle.bm_arena.proofs.HeldReplicas.{get-replicas_of, blocks-kept, one_number}
 use Rattle.bm_arena.proofs.StableEntries.{entries-chain, entries-others}
@@ -34,8 +34,8 @@ same_slot : (x y : ℕ) → Some x ≡ Some y → x ≡ y
 same_slot x y e = cc
 
 -- changing the delimiter's block does not change replicas
-pub replicas-beside : (a c : Contents) → IsLawful a → c.ids ≡ a.ids → ((other : ℕ) → other ≢ a.delimiter → block_at c other ≡ block_at a other) → replicas_of c ≡ replicas_of a
-replicas-beside a c lawful ids blocks =
+pub replicas-kept : (a c : Contents) → IsLawful a → c.ids ≡ a.ids → ((other : ℕ) → other ≢ a.delimiter → block_at c other ≡ block_at a other) → replicas_of c ≡ replicas_of a
+replicas-kept a c lawful ids blocks =
     same_map (replicas_of c) (replicas_of a) (λ q.
     get-replicas_of c q ∙ ap (λ l. option_and_then (λ k. marks_at c k q.storage) (lookup (nat_eq q.block) l)) ids ∙ by q (slot_of a q.block) refl ∙ sym (get-replicas_of a q))
   where
@@ -114,7 +114,7 @@ excess-out s (b ∷ bs) K good = excess-out s bs (remove K (replica_at b s)) (λ
 module _ (C : Cluster) (s : ℕ) (ns : List ReportedSlot) (a0 a1 : Contents) (lawful0 : IsLawful a0) (here : AreAtSlots a0 ns) (room : HaveCapacity a0 s ns)
     (list1 : list_of a1 s ≡ a0.delimiter ∷ list_of a0 s) (others1 : KeepsOthers a0 a1 a0.delimiter s) where
   pub replicas1 : replicas_of a1 ≡ replicas_of a0
-  replicas1 = replicas-beside a0 a1 lawful0 others1.ids others1.blocks
+  replicas1 = replicas-kept a0 a1 lawful0 others1.ids others1.blocks
 
   pub blocks1 : blocks_of a1 ≡ blocks_of a0
   blocks1 = blocks-kept a0 a1 a0.delimiter others1.ids others1.blocks others1.known
@@ -188,13 +188,13 @@ module _ (C : Cluster) (s : ℕ) (ns : List ReportedSlot) (a0 a1 : Contents) (la
         by None e = absurd (some_there (get (replicas_of a0) (replica_at b s)) some (get-replicas_of a0 (replica_at b s) ∙ ap (λ o. option_and_then (λ k. marks_at a0 k s) o) e))
         by (Some x) e =
             let Q : Option Marks → Type 0 = λ o. IsSome o in
-            let stands : IsMember x (list_of a0 s) = (lawful0.exact x s).1 (subst Q (get-here a0 b x s e) some) in
+            let was_there : IsMember x (list_of a0 s) = (lawful0.exact x s).1 (subst Q (get-here a0 b x s e) some) in
             let P : List ℕ → Type 0 = λ l. IsMember x l in
-            let left : IsMember x (behind a2 s) = subst P (sym behind2) (kept-other a0 lawful0 ns b here named x e (list_of a0 s) stands) in
+            let left : IsMember x (behind a2 s) = subst P (sym behind2) (kept-other a0 lawful0 ns b here named x e (list_of a0 s) was_there) in
             any-in (id_at a2) b x (behind a2 s) left (one_number a2 lawful2 (id_at a2 x) b x (leads2 x left) (slot2 b ∙ e))
 
     replicas4 : replicas_of a4 ≡ replicas_of a3
-    replicas4 = replicas-beside a3 a4 lawful3 others4.ids others4.blocks
+    replicas4 = replicas-kept a3 a4 lawful3 others4.ids others4.blocks
 
     replicas3 : replicas_of a3 ≡ out_all s bs (replicas_of a2)
     unfolding bs

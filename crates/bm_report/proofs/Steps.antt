@@ -6,7 +6,7 @@ use Rattle.bm_base.specs.declared.replica.Marks.{Marks}
 use Rattle.bm_base.specs.Words.{get, insert, remove, len, Cluster, replica_at, are_siblings}
 use Rattle.bm_maps.specs.SlotLists.{IsMember, without}
 use Rattle.bm_arena.specs.Contents.{Contents, slot_of, marks_at, list_of, IsLawful, KeepsOthers}
-use Rattle.bm_arena.specs.Holding.{replicas_of}
+use Rattle.bm_arena.specs.HeldMaps.{replicas_of}
 use Rattle.bm_report.specs.DuringReport.{entered_at, behind, KeepsRest, IsOncePerNode}
 use Rattle.bm_arena.proofs.HeldReplicas.{replicas-put, replicas-out}
 use Rattle.bm_report.proofs.AfterDelimiter.{behind-linked, behind-moved, behind-kept}
@@ -85,10 +85,10 @@ module _ (C : Cluster) (a c : Contents) (s b slot : ℕ) (m : Marks) (lawful : I
   pub alone-length : 0 + len (replicas_of c) ≡ len (replicas_of a) + 1
   alone-length = let e = linked-length in omega arith
 
-  module _ (d : Contents) (t : ℕ) (lawful_c : IsLawful c) (there : IsSome (marks_at a slot t)) (sisters : are_siblings C s t ≡ true)
+  module _ (d : Contents) (t : ℕ) (lawful_c : IsLawful c) (there : IsSome (marks_at a slot t)) (siblings : are_siblings C s t ≡ true)
       (others_d : KeepsOthers c d slot t) (gone : marks_at d slot t ≡ None) where
     apart_t : t ≢ s
-    apart_t = siblings_apart C s t sisters
+    apart_t = siblings_apart C s t siblings
 
     here_linked : slot_of c b ≡ Some slot
     here_linked = ap (λ l. lookup (nat_eq b) l) others.ids ∙ here
@@ -100,7 +100,7 @@ module _ (C : Cluster) (a c : Contents) (s b slot : ℕ) (m : Marks) (lawful : I
     moved-map = replicas-out c d lawful_c slot t b here_linked others_d.ids others_d.blocks others_d.marks gone
 
     pub moved-replicas : replicas_of d ≡ entered_at C (replicas_of a) (replica_at b s) m
-    moved-replicas = moved-map ∙ ap (λ K. remove K (replica_at b t)) linked-map ∙ put-moved C (replicas_of a) b s t m once there_a sisters
+    moved-replicas = moved-map ∙ ap (λ K. remove K (replica_at b t)) linked-map ∙ put-moved C (replicas_of a) b s t m once there_a siblings
 
     pub moved-length : 1 + len (replicas_of d) ≡ len (replicas_of a) + 1
     moved-length =

@@ -10,7 +10,7 @@ use Rattle.bm_maps.specs.SlotLists.{IsMember, Distinct, without}
 use Rattle.bm_maps.specs.SlotLists.{first_of, slot_after}
 use Rattle.bm_arena.specs.Contents.{Contents, block_at, slot_of, marks_at, list_of, find_marks, known_of, saturating_next, IsLawful, KeepsOthers}
 use Rattle.bm_report.specs.declared.report_counts.ReportCounts.{ReportCounts}
-use Rattle.bm_arena.specs.Holding.{replicas_of, id_at}
+use Rattle.bm_arena.specs.HeldMaps.{replicas_of, id_at}
 use Rattle.bm_report.specs.DuringReport.{IsListed, after, behind, out_all, saturating_sum, counts_after_sweep, IsSwept}
 use Rattle.bm_arena.proofs.HeldReplicas.{replicas-out, blocks-kept}
 use Rattle.bm_arena.proofs.StableEntries.{entries-none, entries-chain, entries-others}

@@ -3,7 +3,7 @@ use Rattle.std.proofs.Common.{false, ◌≡◌, ◌≢◌, ℕ, List, [], ◌∷
 use Rattle.std.specs.Option.{option_and_then, option_map_or}
 use Rattle.bm_base.specs.declared.replica.BlockInfo.{BlockInfo}
 use Rattle.bm_base.specs.Machine.State.{Cluster}
-use Rattle.bm_arena.specs.Holding.{holdings_of, info_at}
+use Rattle.bm_arena.specs.HeldMaps.{holdings_of, info_at}
 use Rattle.bm_report.specs.Ready.{AreAlreadyThere}
 use Rattle.bm_report.proofs.Maps.{get-here}
 use Rattle.bm_report.proofs.ReceivedReplicas.{marks_are}
@@ -16,25 +16,25 @@ use Rattle.bm_report.specs.declared.types.ReportedSlot.{ReportedSlot}
 use Rattle.bm_report.specs.DuringReport.{marks_during_report, without_invalid_excess, reported_of, IsAlreadyThere, AllAlreadyThere, AreAtSlots}
 
 -- the same, by the block in a slot
-abbrev StandsAs : ℕ → Stamp → Option Block → Type 0
-StandsAs s t o =
+abbrev HasReplica : ℕ → Stamp → Option Block → Type 0
+HasReplica s t o =
     option_and_then (λ (b : Block). find_marks b.replicas s) o
     ≡ Some (marks_during_report (option_and_then (λ (b : Block). b.info) o) (option_and_then (λ (b : Block). find_marks b.replicas s) o) t)
 
-pub stands_at : (a b : Contents) (s : ℕ) (n : ReportedSlot) → block_at b n.slot ≡ block_at a n.slot → IsAlreadyThere a s n → IsAlreadyThere b s n
-stands_at a b s n same h = let P : Option Block → Type 0 = λ o. StandsAs s n.stamp o in subst P (sym same) h
+pub already_at : (a b : Contents) (s : ℕ) (n : ReportedSlot) → block_at b n.slot ≡ block_at a n.slot → IsAlreadyThere a s n → IsAlreadyThere b s n
+already_at a b s n same h = let P : Option Block → Type 0 = λ o. HasReplica s n.stamp o in subst P (sym same) h
 
-pub stands_same : (a b : Contents) (s : ℕ) (n : ReportedSlot) → b.blocks ≡ a.blocks → IsAlreadyThere a s n → IsAlreadyThere b s n
-stands_same a b s n same h = stands_at a b s n (ap (λ (x : Contents). block_at x n.slot) (λ i. record b { blocks = same i })) h
+pub already_same : (a b : Contents) (s : ℕ) (n : ReportedSlot) → b.blocks ≡ a.blocks → IsAlreadyThere a s n → IsAlreadyThere b s n
+already_same a b s n same h = already_at a b s n (ap (λ (x : Contents). block_at x n.slot) (λ i. record b { blocks = same i })) h
 
 pub all_same : (a b : Contents) (s : ℕ) (ns : List ReportedSlot) → b.blocks ≡ a.blocks → AllAlreadyThere a s ns → AllAlreadyThere b s ns
 all_same a b s [] same h = tt
-all_same a b s (n ∷ ns) same h = (stands_same a b s n same h.0, all_same a b s ns same h.1)
+all_same a b s (n ∷ ns) same h = (already_same a b s n same h.0, all_same a b s ns same h.1)
 
-pub all_beside : (a b : Contents) (s : ℕ) (ns : List ReportedSlot) → IsLawful a → AreAtSlots a ns → ((x : ℕ) → x ≢ a.delimiter → block_at b x ≡ block_at a x) → AllAlreadyThere a s ns → AllAlreadyThere b s ns
-all_beside a b s [] lawful here beside h = tt
-all_beside a b s (n ∷ ns) lawful here beside h =
-    (stands_at a b s n (beside n.slot (lawful.found n.id n.slot here.0).0) h.0, all_beside a b s ns lawful here.1 beside h.1)
+pub already_all : (a b : Contents) (s : ℕ) (ns : List ReportedSlot) → IsLawful a → AreAtSlots a ns → ((x : ℕ) → x ≢ a.delimiter → block_at b x ≡ block_at a x) → AllAlreadyThere a s ns → AllAlreadyThere b s ns
+already_all a b s [] lawful here others h = tt
+already_all a b s (n ∷ ns) lawful here others h =
+    (already_at a b s n (others n.slot (lawful.found n.id n.slot here.0).0) h.0, already_all a b s ns lawful here.1 others h.1)
 
 pub one_of : (a : Contents) (s : ℕ) (ns : List ReportedSlot) (i : ℕ) (n : ReportedSlot) → slice_get ns i ≡ Some n → AllAlreadyThere a s ns → IsAlreadyThere a s n
 one_of a s [] i n e h = absurd (none-some n e)

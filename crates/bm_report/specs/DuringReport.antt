@@ -12,7 +12,7 @@ use Rattle.bm_maps.specs.SlotLists.{IsMember, without}
 use Rattle.bm_arena.specs.Contents.{Contents, block_at, slot_of, marks_at, list_of, HasHead, HasCapacity, saturating_next, known_of, IsEntry, KeepsEntries}
 use Rattle.bm_report.specs.declared.types.ReportedSlot.{ReportedSlot}
 use Rattle.bm_report.specs.declared.report_counts.ReportCounts.{ReportCounts}
-use Rattle.bm_arena.specs.Holding.{replicas_of, blocks_of, info_at, id_at}
+use Rattle.bm_arena.specs.HeldMaps.{replicas_of, blocks_of, info_at, id_at}
 
 -- The marks of a reported replica while the report runs. The mark "in excess" means that it was so
 -- before the report, even if it is not good now. So a block that is named again finds the state

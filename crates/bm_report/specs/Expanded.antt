@@ -6,7 +6,7 @@ use Rattle.bm_base.specs.Machine.Entries.{ReportedBlock, expanded}
 use Rattle.bm_parts.specs.Parts.{reported_of}
 use Rattle.bm_arena.specs.Triplets.{Block}
 use Rattle.bm_arena.specs.Contents.{Contents, block_at, slot_of, marks_at, list_of, room_at, with_room, HasHead, HasCapacity}
-use Rattle.bm_arena.specs.Holding.{replicas_of, blocks_of}
+use Rattle.bm_arena.specs.HeldMaps.{replicas_of, blocks_of}
 
 -- the reported blocks of a shard's numbers
 abbrev pub of_part : Part → List ReportedBlock → List ReportedBlock

@@ -8,7 +8,7 @@ use Rattle.bm_arena.specs.Contents.{Contents, slot_of, marks_at, list_of, HasHea
 use Rattle.bm_report.specs.declared.types.ReportedSlot.{ReportedSlot}
 use Rattle.bm_report.specs.DuringReport.{AreAtSlots, HaveCapacity, IsOncePerNode, FitsCounters, reported_of}
 use Rattle.bm_report.specs.declared.report_counts.ReportCounts.{ReportCounts}
-use Rattle.bm_arena.specs.Holding.{replicas_of}
+use Rattle.bm_arena.specs.HeldMaps.{replicas_of}
 
 -- a report as it was looked up
 pub record LookedUpReport : Type 0 where

@@ -3,7 +3,7 @@ use Rattle.std.specs.Prelude.{◌≡◌, ◌≢◌, ℕ, ◌+◌, Some}
 use Rattle.bm_base.specs.declared.replica.Stamp.{Stamp}
 use Rattle.bm_base.specs.Words.{Cluster, replica_at, enter, new_replicas}
 use Rattle.bm_arena.specs.Contents.{Contents, block_at, slot_of, marks_at, KeepsEntries}
-use Rattle.bm_arena.specs.Holding.{replicas_of, blocks_of, holdings_of}
+use Rattle.bm_arena.specs.HeldMaps.{replicas_of, blocks_of, holdings_of}
 use Rattle.bm_report.specs.declared.types.Applied.{Applied}
 use Rattle.bm_report.specs.DuringReport.{saturating_sum}
 

@@ -1,7 +1,7 @@
 // Aborts a report that was looked up.
 ghost use Rattle.std.specs.Prelude.{◌≡◌, ℕ, if◌then◌else◌, Some, None, ◌∷◌, []};
 ghost use Rattle.bm_arena.specs.Contents.{block_at, slot_of};
-ghost use Rattle.bm_arena.specs.Holding.{replicas_of, blocks_of};
+ghost use Rattle.bm_arena.specs.HeldMaps.{replicas_of, blocks_of};
 ghost use Rattle.bm_report.specs.Aborted.{IsAborted, IsDropped, is_at, is_unused_number};
 
 use crate::types::ReportedSlot;

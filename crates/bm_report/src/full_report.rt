@@ -4,7 +4,7 @@ ghost use Rattle.bm_base.specs.Machine.Events as events;
 ghost use Rattle.bm_base.specs.Machine.Calls as calls;
 ghost use Rattle.bm_maps.specs.SlotLists.{IsMember};
 ghost use Rattle.bm_arena.specs.Contents.{block_at, marks_at, list_of, HasHead, IsEntry, KeepsEntries};
-ghost use Rattle.bm_arena.specs.Holding.{replicas_of, blocks_of, holdings_of};
+ghost use Rattle.bm_arena.specs.HeldMaps.{replicas_of, blocks_of, holdings_of};
 ghost use Rattle.bm_report.specs.DuringReport.{AreAtSlots, HaveCapacity, IsOncePerNode, IsExcessGood, reported_of, slot_in, saturating_sum, AllAlreadyThere};
 
 use crate::report_counts::ReportCounts;

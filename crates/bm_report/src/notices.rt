@@ -3,7 +3,7 @@ ghost use Rattle.std.specs.Prelude.{◌≡◌, ◌≢◌, ◌+◌, ℕ, if◌the
 ghost use Rattle.bm_base.specs.Words.{remove, replica_at};
 ghost use Rattle.bm_base.specs.Machine.Calls as calls;
 ghost use Rattle.bm_arena.specs.Contents.{block_at, slot_of, marks_at, HasHead, HasCapacity, KeepsEntries};
-ghost use Rattle.bm_arena.specs.Holding.{replicas_of, blocks_of};
+ghost use Rattle.bm_arena.specs.HeldMaps.{replicas_of, blocks_of};
 ghost use Rattle.bm_report.specs.DuringReport.{saturating_sum, IsOncePerNode};
 ghost use Rattle.bm_report.specs.Ready.{HasSlotFor};
 ghost use Rattle.bm_report.specs.Received.{HasReceived};

@@ -5,7 +5,7 @@ ghost use Rattle.bm_base.specs.Machine.Events as events;
 ghost use Rattle.bm_base.specs.Machine.Calls as calls;
 ghost use Rattle.bm_maps.specs.SlotLists.{IsMember};
 ghost use Rattle.bm_arena.specs.Contents.{block_at, slot_of, marks_at, HasHead, IsEntry, KeepsEntries};
-ghost use Rattle.bm_arena.specs.Holding.{replicas_of, blocks_of, holdings_of};
+ghost use Rattle.bm_arena.specs.HeldMaps.{replicas_of, blocks_of, holdings_of};
 ghost use Rattle.bm_report.specs.DuringReport.{IsOncePerNode, saturating_sum, slot_in};
 ghost use Rattle.bm_report.specs.Expanded.{IsPrepared, reported_to_part};
 ghost use Rattle.bm_report.specs.Aborted.{is_unused_number};
@@ -54,7 +54,7 @@ impl Model for Report {
 impl Report {
     /// A report that names no number. Takes no memory.
     pub fn new(alloc: Global) -> Report
-        ensures told { reported_blocks result ≡ [] }
+        ensures reported { reported_blocks result ≡ [] }
         ensures changed { result.changed ≡ [] }
     {
         Report {
@@ -76,7 +76,7 @@ impl Report {
         part: Part,
     ) -> Result<(), Refusal>
         requires part { part.index < part.shards }
-        ensures told { OnOk result (reported_blocks self.new ≡ reported_to_part part entries.now) }
+        ensures reported { OnOk result (reported_blocks self.new ≡ reported_to_part part entries.now) }
         ensures ready { OnOk result (IsReady self.new arena.new storage) }
         ensures changed { OnOk result (self.new.changed ≡ []) }
         ensures kept { IsPrepared arena.old arena.new }
@@ -106,7 +106,7 @@ impl Report {
         id: BlockId,
         stamp: Stamp,
     ) -> Result<(), Refusal>
-        ensures told { OnOk result (reported_blocks self.new ≡ record { id = id; stamp = stamp } ∷ []) }
+        ensures reported { OnOk result (reported_blocks self.new ≡ record { id = id; stamp = stamp } ∷ []) }
         ensures looked_up { OnOk result (IsLookedUp self.new arena.new storage) }
         ensures kept { IsPrepared arena.old arena.new }
         ensures others { (b : ℕ) → b ≢ id → slot_of arena.new b ≡ slot_of arena.old b }
@@ -160,7 +160,7 @@ impl Report {
         ensures split { self.new.came ≤ length self.new.changed }
         ensures came { (slot : ℕ) → IsMember slot (take self.new.came self.new.changed)
             → IsMember slot self.old.changed ⊎ IsReportedAt arena.old (reported_blocks self.old) slot }
-        ensures told { reported_blocks self.new ≡ reported_blocks self.old }
+        ensures reported { reported_blocks self.new ≡ reported_blocks self.old }
         ensures added { result.added
             ≡ calls.new_replicas (replicas_of arena.old) (replicas_of arena.new) }
         ensures removed { result.removed
@@ -189,7 +189,7 @@ impl Report {
         id: BlockId,
         stamp: Stamp,
     ) -> Applied
-        requires told { reported_blocks self.now ≡ record { id = id; stamp = stamp } ∷ [] }
+        requires reported { reported_blocks self.now ≡ record { id = id; stamp = stamp } ∷ [] }
         requires looked_up { IsLookedUp self.now arena.old storage }
         requires once { IsOncePerNode topology.now.cluster (replicas_of arena.old) }
         ensures { HasReceived topology.now.cluster storage id stamp arena.old arena.new result }
@@ -200,7 +200,7 @@ impl Report {
     /// Aborts the report: drops the unused entries of its numbers, without a block and replicas,
     /// and forgets the numbers. All blocks and replicas stay. Takes no memory.
     pub fn abort(&mut self, arena: &mut Arena)
-        ensures told { reported_blocks self.new ≡ [] }
+        ensures reported { reported_blocks self.new ≡ [] }
         ensures replicas { replicas_of arena.new ≡ replicas_of arena.old }
         ensures blocks { blocks_of arena.new ≡ blocks_of arena.old }
         ensures lists { arena.new.lists ≡ arena.old.lists }

@@ -3,7 +3,7 @@ ghost use Rattle.std.specs.Prelude.{◌≡◌, ◌≢◌, ◌+◌, ◌∷◌, []
 ghost use Rattle.bm_base.specs.Words.{insert, len, replica_at};
 ghost use Rattle.bm_maps.specs.SlotLists.{without};
 ghost use Rattle.bm_arena.specs.Contents.{block_at, slot_of, marks_at, saturating_next, HasHead, HasCapacity};
-ghost use Rattle.bm_arena.specs.Holding.{replicas_of};
+ghost use Rattle.bm_arena.specs.HeldMaps.{replicas_of};
 ghost use Rattle.bm_report.specs.DuringReport.{behind, entered_at, KeepsRest, IsOncePerNode, saturating_sum, IsEntered, IsCounted, FitsCounters, IsAlreadyThere};
 
 use crate::report_counts::ReportCounts;
@@ -109,11 +109,11 @@ pub(crate) fn link_new(
     ensures steps { arena.new.steps ≡ saturating_sum (if result then 2 else 1) arena.old.steps }
 {
     arena.show_invariant();
-    let sister = sibling_of(arena, topology, named.slot, storage);
+    let sibling = sibling_of(arena, topology, named.slot, storage);
     arena.link_front(named.slot, storage, marks);
-    match sister {
-        Some(sister) => {
-            arena.unlink(named.slot, sister);
+    match sibling {
+        Some(sibling) => {
+            arena.unlink(named.slot, sibling);
             true
         }
         None => false,

@@ -7,7 +7,7 @@ ghost use Rattle.std.specs.Prelude.{◌≡◌, ◌≤◌, ◌<◌, ◌+◌, ◌�
 ghost use Rattle.bm_maps.specs.SlotLists.{IsMember};
 ghost use Rattle.bm_arena.specs.Contents.{block_at, slot_of, marks_at, HasHead, HasCapacity};
 ghost use Rattle.bm_report.specs.declared.types.ReportedSlot.{ReportedSlot};
-ghost use Rattle.bm_arena.specs.Holding.{replicas_of};
+ghost use Rattle.bm_arena.specs.HeldMaps.{replicas_of};
 ghost use Rattle.bm_report.specs.DuringReport.{AreAtSlots, HaveCapacity, IsOncePerNode, IsEntered, IsCounted, IsListed, FitsCounters, IsAlreadyThere, AllAlreadyThere, slot_in};
 ghost use Rattle.bm_report.specs.declared.reported_chunks.TheConstants.{CHUNK};
 

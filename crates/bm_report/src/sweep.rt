@@ -2,7 +2,7 @@
 // of a replica that is no longer good.
 ghost use Rattle.std.specs.Prelude.{◌≡◌, ◌≤◌, ◌<◌, ◌+◌, ◌^◌, ℕ, length, vec_len, vec_capacity, ◌++◌, ◌∷◌, [], false, IsSome, None, Some};
 ghost use Rattle.bm_arena.specs.Contents.{marks_at, slot_of};
-ghost use Rattle.bm_arena.specs.Holding.{replicas_of};
+ghost use Rattle.bm_arena.specs.HeldMaps.{replicas_of};
 ghost use Rattle.bm_report.specs.DuringReport.{behind, IsSwept, IsListed, AreAtSlots, IsExcessGood, DropsInvalidExcess};
 
 use crate::report_counts::ReportCounts;

@@ -23,15 +23,15 @@ pub none_first : (limits : RoundLimits) (C : Cluster) (ds : List Delete) → ds 
 unfolding first_of_each_node
 none_first limits C ds none = subst (λ (xs : List Delete). [] ≡ first_of_each_node limits C xs) (sym none) (sym (flat_none (λ _. take limits.invalidate []) (λ _. none_taken limits.invalidate) (keys C.nodes)))
 
-untold : (C : Cluster) (n : ℕ) → has_commands (node_commands C [] [] n) ≡ false
+no_commands : (C : Cluster) (n : ℕ) → has_commands (node_commands C [] [] n) ≡ false
 unfolding node_commands
-untold C n = refl
+no_commands C n = refl
 
 none_of : (C : Cluster) (ns : List ℕ) → filter has_commands (map (node_commands C [] []) ns) ≡ []
 none_of C [] = refl
 none_of C (n ∷ ns) =
     let rest = filter has_commands (map (node_commands C [] []) ns) in
-    ap (λ b. cond b (node_commands C [] [] n ∷ rest) rest) (untold C n) ∙ none_of C ns
+    ap (λ b. cond b (node_commands C [] [] n ∷ rest) rest) (no_commands C n) ∙ none_of C ns
 
-pub none_told : (C : Cluster) (ts : List Transfer) (ds : List Delete) → ts ≡ [] → ds ≡ [] → [] ≡ filter has_commands (map (node_commands C ts ds) (keys C.nodes))
-none_told C ts ds no_transfer no_delete = sym ((λ j. filter has_commands (map (node_commands C (no_transfer j) (no_delete j)) (keys C.nodes))) ∙ none_of C (keys C.nodes))
+pub none_commanded : (C : Cluster) (ts : List Transfer) (ds : List Delete) → ts ≡ [] → ds ≡ [] → [] ≡ filter has_commands (map (node_commands C ts ds) (keys C.nodes))
+none_commanded C ts ds no_transfer no_delete = sym ((λ j. filter has_commands (map (node_commands C (no_transfer j) (no_delete j)) (keys C.nodes))) ∙ none_of C (keys C.nodes))

@@ -12,7 +12,7 @@ use Rattle.bm_base.specs.RoundParts.{wish_key, delete_key}
 use Rattle.bm_base.specs.Choices.{merged_wishes, merged_deletes}
 use Rattle.bm_base.proofs.ForEach.{Each}
 use Rattle.bm_parts.specs.Merging.{put_all, AreSorted}
-use Rattle.bm_round.specs.Merging.{keyed_wish, keyed_wishes, keyed_deletes}
+use Rattle.bm_round.specs.KeyedParts.{keyed_wish, keyed_wishes, keyed_deletes}
 use Rattle.bm_parts.proofs.MergedLists.{list-from_none, sorted_put_all}
 
 -- the elements in the order of their keys are the values of the entries put into none

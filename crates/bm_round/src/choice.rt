@@ -9,7 +9,7 @@ ghost use Rattle.bm_parts.specs.Before.{part_before};
 ghost use Rattle.bm_parts.specs.Merging.{AreSorted};
 ghost use Rattle.bm_round.specs.Copies.{IsCopyOf};
 ghost use Rattle.bm_round.specs.Commanded.{IsChosenOf, HasFewDeletes, first_by_node, deletes_of_all};
-ghost use Rattle.bm_round.specs.Merging as merging;
+ghost use Rattle.bm_round.specs.KeyedParts as merging;
 
 use crate::chosen_so_far::is_full_count;
 use crate::groups::Groups;

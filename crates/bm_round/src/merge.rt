@@ -6,7 +6,7 @@ ghost use Rattle.bm_base.specs.Maps.Map.{values};
 ghost use Rattle.bm_base.specs.Choices as choices;
 ghost use Rattle.bm_base.specs.Ordered.{pair_cmp};
 ghost use Rattle.bm_parts.specs.Merging.{AreSorted, as_lists};
-ghost use Rattle.bm_round.specs.Merging as merging;
+ghost use Rattle.bm_round.specs.KeyedParts as merging;
 
 use bm_base::{Delete, Refusal, RoundPart, Wish};
 use bm_parts::merge::{Key, merge_all};
@@ -20,7 +20,7 @@ pub fn merge_wishes<'a>(alloc: Global, parts: &'a [RoundPart]) -> Result<Vec<&'a
     requires sorted { AreSorted (map merging.keyed_wishes parts.now) }
     ensures wishes { IfOk result
         (λ v. merging.referenced_wishes v.items ≡ choices.merged_wishes parts.now) }
-    ensures rising { IfOk result
+    ensures ascending { IfOk result
         (λ v. T (is_sorted pair_cmp (map merging.keyed_wish (merging.referenced_wishes v.items)))) }
     ensures refused { IfErr result (λ e. e ≡ Memory) }
 {

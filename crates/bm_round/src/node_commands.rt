@@ -24,7 +24,7 @@ pub fn commands(
 ) -> Result<Commands, Refusal>
     ensures commands { IfOk result (λ k. k
         ≡ rounds.commands_of topology.now.cluster round chosen.now.transfers chosen.now.deletes) }
-    ensures rising { IfOk result (λ k. commanded.AscendByNode k.nodes) }
+    ensures ascending { IfOk result (λ k. commanded.AscendByNode k.nodes) }
     ensures some_command { IfOk result (λ k. All commanded.HasCommands k.nodes) }
     ensures own_transfers { IfOk result
         (λ k. All (commanded.SendsItsOwn topology.now.cluster) k.nodes) }

@@ -7,7 +7,7 @@ ghost use Rattle.bm_base.specs.Choices as choices;
 ghost use Rattle.bm_place.specs.Found.{IsCountable, HasFreeBytesFor};
 ghost use Rattle.bm_round.specs.Commanded.{with_copies};
 ghost use Rattle.bm_round.specs.TransferCounts.{IsCounted};
-ghost use Rattle.bm_round.specs.Merging.{referenced_wishes};
+ghost use Rattle.bm_round.specs.KeyedParts.{referenced_wishes};
 
 use crate::chosen_so_far::ChosenSoFar;
 use bm_base::{Config, Refusal, Transfer, Wish};

@@ -22,7 +22,7 @@ use Rattle.bm_base.proofs.Options.{there, is_there, chained}
 use Rattle.bm_base.proofs.SortedParts.{wish_is}
 use Rattle.bm_arena.specs.Triplets.{Block}
 use Rattle.bm_arena.specs.Contents.{Contents, block_at, slot_of, marks_at, IsLawful}
-use Rattle.bm_arena.specs.Holding.{info_at, replicas_of, id_at}
+use Rattle.bm_arena.specs.HeldMaps.{info_at, replicas_of, id_at}
 use Rattle.bm_arena.proofs.HeldReplicas.{get-replicas_of, get-blocks_of}
 use Rattle.bm_parts.specs.Settled.{IsSettled}
 use Rattle.bm_parts.specs.Before.{is_before, wishes_before, part_before}
@@ -38,14 +38,14 @@ use Rattle.bm_levels.specs.Leveled.{Leveled, IsLeveled, AreLevels}
 use Rattle.bm_levels.proofs.Levels.{level_is_at_slot}
 use Rattle.bm_round_scan.specs.declared.scan.Findings.{Findings}
 use Rattle.bm_round_scan.specs.ScannedSlots.{scanned_slots, key_at, keyed_at, has_enough_pending}
-use Rattle.bm_round_scan.specs.Gathering.{wishes_at, HasFound, IsInOrder}
+use Rattle.bm_round_scan.specs.BlockFindings.{wishes_at, HasFound, IsInOrder}
 use Rattle.bm_round_scan.proofs.CollectedFindings.{gathered_of}
 use Rattle.bm_round_scan.proofs.EnoughPending.{none_wished}
 use Rattle.bm_round_scan.proofs.SettledBlocks.{settled_there}
 use Rattle.bm_round_scan.proofs.BlockFindings.{excess_listed, wishes_listed, deletes_listed, wish_level}
 use Rattle.bm_round_scan.proofs.PassingElements.{Passing, passing_listed, passing_gathered}
 use Rattle.bm_round_scan.proofs.Permutations.{among_moved, among_before, distinct_moved}
-use Rattle.bm_round_scan.proofs.ScannedSlots.{AreListed, mapped_among, visit_known, ids_once, unsettled_visited, level_visited}
+use Rattle.bm_round_scan.proofs.ScannedSlots.{AreListed, mapped_among, scanned_known_slot, ids_once, unsettled_scanned, level_scanned}
 
 module _ (v : Leveled) (lawful : IsLawful v.arena) (leveled : IsLeveled v) (is : AreListed v.kept) (C : Cluster) (levels : AreLevels C v) (pend r : ℕ) (way : PendingMap) where
   abbrev a : Contents
@@ -121,8 +121,8 @@ module _ (v : Leveled) (lawful : IsLawful v.arena) (leveled : IsLeveled v) (is :
   -- The scanned slots, in any order.
 
   module _ (bound : Option (ℕ × ℕ)) (keyed : List ((ℕ × ℕ) × ℕ)) (moved : IsPermutation (map (keyed_at v.kept v.arena) (scanned_slots v.kept v.arena bound has_enough)) keyed) where
-    abbrev told : List ℕ
-    told = scanned_slots v.kept a bound has_enough
+    abbrev scanned : List ℕ
+    scanned = scanned_slots v.kept a bound has_enough
 
     abbrev ids : List ℕ
     ids = map (λ (e : (ℕ × ℕ) × ℕ). id_at a e.1) keyed
@@ -135,23 +135,23 @@ module _ (v : Leveled) (lawful : IsLawful v.arena) (leveled : IsLeveled v) (is :
     same_slots [] = refl
     same_slots (s ∷ ss) = ap (λ xs. s ∷ xs) (same_slots ss)
 
-    ids_moved : IsPermutation (map (id_at a) told) ids
-    ids_moved = subst (λ xs. IsPermutation xs ids) (without_keys (id_at a) told) (IsPermutation-map (λ (e : (ℕ × ℕ) × ℕ). id_at a e.1) _ keyed moved)
+    ids_moved : IsPermutation (map (id_at a) scanned) ids
+    ids_moved = subst (λ xs. IsPermutation xs ids) (without_keys (id_at a) scanned) (IsPermutation-map (λ (e : (ℕ × ℕ) × ℕ). id_at a e.1) _ keyed moved)
 
-    slots_moved : IsPermutation told (map (λ (e : (ℕ × ℕ) × ℕ). e.1) keyed)
-    slots_moved = subst (λ xs. IsPermutation xs (map (λ (e : (ℕ × ℕ) × ℕ). e.1) keyed)) (without_keys (λ s. s) told ∙ same_slots told) (IsPermutation-map (λ (e : (ℕ × ℕ) × ℕ). e.1) _ keyed moved)
+    slots_moved : IsPermutation scanned (map (λ (e : (ℕ × ℕ) × ℕ). e.1) keyed)
+    slots_moved = subst (λ xs. IsPermutation xs (map (λ (e : (ℕ × ℕ) × ℕ). e.1) keyed)) (without_keys (λ s. s) scanned ∙ same_slots scanned) (IsPermutation-map (λ (e : (ℕ × ℕ) × ℕ). e.1) _ keyed moved)
 
     -- each of these slots is that of its block's number
-    pub told_known : (slot : ℕ) → IsMember slot (map (λ (e : (ℕ × ℕ) × ℕ). e.1) keyed) → slot_of a (id_at a slot) ≡ Some slot
-    told_known slot h = visit_known v lawful leveled is bound has_enough slot (among_before told (map (λ (e : (ℕ × ℕ) × ℕ). e.1) keyed) slots_moved slot h)
+    pub scanned_known : (slot : ℕ) → IsMember slot (map (λ (e : (ℕ × ℕ) × ℕ). e.1) keyed) → slot_of a (id_at a slot) ≡ Some slot
+    scanned_known slot h = scanned_known_slot v lawful leveled is bound has_enough slot (among_before scanned (map (λ (e : (ℕ × ℕ) × ℕ). e.1) keyed) slots_moved slot h)
 
     once : Distinct ids
-    once = distinct_moved (map (id_at a) told) ids ids_moved (ids_once v lawful leveled is bound has_enough)
+    once = distinct_moved (map (id_at a) scanned) ids ids_moved (ids_once v lawful leveled is bound has_enough)
 
-    visited_id : (b slot : ℕ) → slot_of a b ≡ Some slot → IsMember slot told → IsMember b ids
-    visited_id b slot here h =
-        among_moved (map (id_at a) told) ids ids_moved b
-        (let P : ℕ → Type 0 = λ c. IsMember c (map (id_at a) told) in subst P (own_id b slot here) (mapped_among (id_at a) slot told h))
+    scanned_id : (b slot : ℕ) → slot_of a b ≡ Some slot → IsMember slot scanned → IsMember b ids
+    scanned_id b slot here h =
+        among_moved (map (id_at a) scanned) ids ids_moved b
+        (let P : ℕ → Type 0 = λ c. IsMember c (map (id_at a) scanned) in subst P (own_id b slot here) (mapped_among (id_at a) slot scanned h))
 
     -- a block with a slot is settled or is scanned
     settled_or : (b slot : ℕ) → slot_of a b ≡ Some slot → IsSettled H b ⊎ IsMember b ids
@@ -159,7 +159,7 @@ module _ (v : Leveled) (lawful : IsLawful v.arena) (leveled : IsLeveled v) (is :
         elim (cases_Bool (is_settled_at (block_at a slot))) [
           | inl settled ↦ inl (settled_there a pending lawful b slot here settled)
           | inr loose ↦ (let there = (leveled.unsettled slot).1 loose in
-              inr (visited_id b slot here (unsettled_visited v.kept is a bound has_enough slot there)))
+              inr (scanned_id b slot here (unsettled_scanned v.kept is a bound has_enough slot there)))
         ]
 
     covers_excess : (q : ReplicaId) → IsSurplus C U q → IsMember q.block ids
@@ -191,7 +191,7 @@ module _ (v : Leveled) (lawful : IsLawful v.arena) (leveled : IsLeveled v) (is :
               let at : level_of_slot v.kept slot.0 ≡ Some w.level =
               levels slot.0 ∙ sym (ap (option_and_then (λ s. level_in C (block_at a s))) slot.1) ∙ sym (level_is_at_slot C a pending w.block lawful) ∙ sym (settled_is_left C pend r H w.block settled).3 ∙ wish_level C pend r H w.level w.block w wished in
               let key : key_at v.kept a slot.0 ≡ wish_key w = (λ j. (option_map_or level_number (at j) 5, own_id w.block slot.0 slot.1 j)) in
-              visited_id w.block slot.0 slot.1 (level_visited v.kept is a bound has_enough w.level slot.0 (wish_usable w.level w.block w wished) at (ap (is_before bound) key ∙ early) (wish_lacks w slot.0 slot.1 settled wished)))
+              scanned_id w.block slot.0 slot.1 (level_scanned v.kept is a bound has_enough w.level slot.0 (wish_usable w.level w.block w wished) at (ap (is_before bound) key ∙ early) (wish_lacks w slot.0 slot.1 settled wished)))
           | inr visited ↦ visited
         ]
 

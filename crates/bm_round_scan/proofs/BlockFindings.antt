@@ -28,7 +28,7 @@ use Rattle.bm_parts.specs.Found.{IsSurplus, IsRequested, IsDeletable}
 use Rattle.bm_parts.proofs.Filters.{any_shown}
 use Rattle.bm_round_scan.specs.BlockScans.{own_replicas, surplus_of, needs_delete}
 use Rattle.bm_round_scan.specs.Requests.{wish_in}
-use Rattle.bm_round_scan.specs.Gathering.{excess_at, wishes_at, deletes_at}
+use Rattle.bm_round_scan.specs.BlockFindings.{excess_at, wishes_at, deletes_at}
 use Rattle.bm_round_scan.proofs.CollectedFindings.{IsListed}
 use Rattle.bm_round_scan.proofs.SortedElements.{tie}
 

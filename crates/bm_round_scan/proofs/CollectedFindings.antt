@@ -8,7 +8,7 @@ use Rattle.bm_maps.specs.SlotLists.{IsMember, Distinct}
 use Rattle.bm_base.proofs.ForEach.{Each, each_of, each_then, each_appended, each_flat}
 use Rattle.bm_base.proofs.ListTests.{or_left, or_right}
 use Rattle.bm_parts.specs.Found.{IsGathered}
-use Rattle.bm_round_scan.specs.Gathering.{IsInOrder}
+use Rattle.bm_round_scan.specs.BlockFindings.{IsInOrder}
 use Rattle.bm_round_scan.proofs.SortedElements.{tie, gathered_sorted}
 
 pub each_by_recursion : {X : Type 0} (P : X → Type 0) (xs : List X) → Each P xs → AllByRecursion P xs

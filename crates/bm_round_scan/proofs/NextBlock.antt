@@ -15,13 +15,13 @@ use Rattle.bm_arena.specs.Contents.{Contents}
 use Rattle.bm_levels.specs.Held.{holdings_with}
 use Rattle.bm_levels.specs.Status.{storages_at}
 use Rattle.bm_pending.specs.PendingMap.{PendingMap}
-use Rattle.bm_pending.specs.Remaining.{remaining_targets}
+use Rattle.bm_pending.specs.RemainingTargets.{remaining_targets}
 use Rattle.bm_round_scan.specs.declared.block_scan.BlockScan.{BlockScan}
 use Rattle.bm_round_scan.specs.declared.scan.Findings.{Findings}
 use Rattle.bm_round_scan.specs.declared.replicas.UsableReplicas.{UsableReplicas}
 use Rattle.bm_round_scan.specs.BlockScans.{scanned_replicas, replicas_on, deletes_of, IsBlockScan, AreUsable}
 use Rattle.bm_round_scan.specs.Requests.{wish_in, wish_by}
-use Rattle.bm_round_scan.specs.Gathering.{excess_at, wishes_at, deletes_at, HasFound}
+use Rattle.bm_round_scan.specs.BlockFindings.{excess_at, wishes_at, deletes_at, HasFound}
 use Rattle.bm_round_scan.proofs.OwnReplicas.{storages_own}
 use Rattle.bm_round_scan.proofs.OwnWish.{wish_known}
 

@@ -7,7 +7,7 @@ use Rattle.bm_base.specs.declared.replica.ReplicaId.{ReplicaId}
 use Rattle.bm_base.specs.Words.{Map, get, empty, entries, by_replica, has, is_expired}
 use Rattle.bm_base.proofs.MapLaws.{same_map, get-empty, entries-keep}
 use Rattle.bm_pending.specs.PendingMap.{PendingMap, blocks_in}
-use Rattle.bm_pending.specs.Remaining.{remaining_targets}
+use Rattle.bm_pending.specs.RemainingTargets.{remaining_targets}
 
 module _ (p : PendingMap) (listed : (q : ReplicaId) → IsSome (get p.map q) → has (blocks_in p) q.block ≡ true) (none : length (blocks_in p) ≡ 0) where
   absent : (q : ReplicaId) (o : Option ℕ) → get p.map q ≡ o → o ≡ None

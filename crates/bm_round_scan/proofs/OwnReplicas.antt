@@ -29,14 +29,14 @@ use Rattle.bm_parts.proofs.Filters.{all_each, any_shown, map_filter}
 use Rattle.bm_parts.proofs.JoinedShares.{gathered, own_entries}
 use Rattle.bm_arena.specs.Triplets.{Block}
 use Rattle.bm_arena.specs.Contents.{Contents, block_at, slot_of, find_marks, IsLawful}
-use Rattle.bm_arena.specs.Holding.{replicas_at}
+use Rattle.bm_arena.specs.HeldMaps.{replicas_at}
 use Rattle.bm_levels.specs.Status.{storages_at}
 use Rattle.bm_levels.specs.Held.{holdings_with}
 use Rattle.bm_levels.proofs.EqualLists.{has_among, passing_listed, passing_found}
 use Rattle.bm_levels.proofs.Levels.{found_marks, found_info}
 use Rattle.bm_round_scan.specs.declared.block_scan.BlockScan.{BlockScan}
-use Rattle.bm_round_scan.specs.Gathering.{IsInOrder}
-use Rattle.bm_round_scan.specs.Marking.{marked_if, marked_on, excess_reset, of_block}
+use Rattle.bm_round_scan.specs.BlockFindings.{IsInOrder}
+use Rattle.bm_round_scan.specs.BlockMarks.{marked_if, marked_on, excess_reset, of_block}
 use Rattle.bm_round_scan.specs.BlockScans.{own_replicas, surplus_of, IsBlockScan}
 use Rattle.bm_round_scan.proofs.SortedElements.{ascends_from}
 
@@ -107,7 +107,7 @@ module _ (b : ℕ) where
       (λ k e low lt. ap (λ o. is_lt (ordering_then o (nat_cmp (get_or ys (k + 1) e).0 (get_or ys k e).0))) (tied_itself nat_cmp_total b) ∙ is.sorted k e low lt)
       (IsDistinct-IsPermutation is_tie (λ x y. (eq_by_cmp_equiv by_replica.total).symm (key x) (key y)) (excess_reset rs) ys is.permutation (all_apart rs d))
 
-module _ (a : Contents) (pending : Map by_replica ℕ) (lawful : IsLawful a) (b slot : ℕ) (k : Block) (here : slot_of a b ≡ Some slot) (stands : block_at a slot ≡ Some k) (C : Cluster) (pend r : ℕ) where
+module _ (a : Contents) (pending : Map by_replica ℕ) (lawful : IsLawful a) (b slot : ℕ) (k : Block) (here : slot_of a b ≡ Some slot) (block_there : block_at a slot ≡ Some k) (C : Cluster) (pend r : ℕ) where
   abbrev H : Holdings
   H = holdings_with a pending
 
@@ -123,21 +123,21 @@ module _ (a : Contents) (pending : Map by_replica ℕ) (lawful : IsLawful a) (b 
   each_own =
       each_mapped IsOwn (of_block b) (excess_reset k.replicas)
       (each_mapped (λ (x : ℕ × Marks). IsOwn (of_block b x)) (λ (x : ℕ × Marks). (x.0, with_excess_reset x.1)) k.replicas
-      (each_then (λ x. find_marks k.replicas x.0 ≡ Some x.1) (λ x. IsOwn (of_block b (x.0, with_excess_reset x.1))) k.replicas (found_each k.replicas (lawful.once slot k stands))
+      (each_then (λ x. find_marks k.replicas x.0 ≡ Some x.1) (λ x. IsOwn (of_block b (x.0, with_excess_reset x.1))) k.replicas (found_each k.replicas (lawful.once slot k block_there))
       (λ x e. get_keeps U.replicas (λ q _. q.block == b) (replica_at b x.0) (with_excess_reset x.1)
-      (get-revise H.replicas (λ _ m. with_excess_reset m) (replica_at b x.0) ∙ ap (option_map with_excess_reset) (found_marks a pending lawful b slot k here stands x.0 ∙ e)) (eq-eqb b b refl))))
+      (get-revise H.replicas (λ _ m. with_excess_reset m) (replica_at b x.0) ∙ ap (option_map with_excess_reset) (found_marks a pending lawful b slot k here block_there x.0 ∙ e)) (eq-eqb b b refl))))
 
   all_own : (q : ReplicaId) (m : Marks) → get (own_replicas U b) q ≡ Some m → list_any (λ e. eq_by_cmp replica_cmp q e.0) (map (of_block b) (excess_reset k.replicas)) ≡ true
   unfolding without_unordered_excess without_expired
   all_own q m e =
       let kept = get_kept U.replicas (λ q _. q.block == b) q m e in
       let was = get_revised H.replicas (λ _ m. with_excess_reset m) q m kept.0 in
-      let found = sym (found_marks a pending lawful b slot k here stands q.storage) ∙ ap (λ c. get H.replicas (replica_at c q.storage)) (sym (eqb-true q.block b kept.1)) ∙ was.1 in
+      let found = sym (found_marks a pending lawful b slot k here block_there q.storage) ∙ ap (λ c. get H.replicas (replica_at c q.storage)) (sym (eqb-true q.block b kept.1)) ∙ was.1 in
       any_map (λ e. eq_by_cmp replica_cmp q e.0) (of_block b) (excess_reset k.replicas)
       ∙ any_map (λ (x : ℕ × Marks). eq_by_cmp replica_cmp q (replica_at b x.0)) (λ (x : ℕ × Marks). (x.0, with_excess_reset x.1)) k.replicas
       ∙ any_agree (λ (x : ℕ × Marks). eq_by_cmp replica_cmp q (replica_at b x.0)) (λ x. x.0 == q.storage) (λ x. replica_tie q (replica_at b x.0) ∙ ap (λ t. t && (q.storage == x.0)) kept.1 ∙ eqb_turned q.storage x.0) k.replicas
       ∙ sym (any_shown (λ s. s == q.storage) (λ (x : ℕ × Marks). x.0) (λ _. true) k.replicas)
-      ∙ found_listed k.replicas (lawful.once slot k stands) q.storage was.0 found
+      ∙ found_listed k.replicas (lawful.once slot k block_there) q.storage was.0 found
 
   -- those at the slot, sorted, are the block's replicas
   own_sorted : (ys : List (ℕ × Marks)) → IsInOrder by_number (λ r. r.0) (excess_reset k.replicas) ys → map (of_block b) ys ≡ entries (own_replicas U b)
@@ -145,7 +145,7 @@ module _ (a : Contents) (pending : Map by_replica ℕ) (lawful : IsLawful a) (b 
       let xs : List (ReplicaId × Marks) = map (of_block b) (excess_reset k.replicas) in
       let zs : List (ReplicaId × Marks) = map (of_block b) ys in
       let moved : IsPermutation xs zs = IsPermutation-map (of_block b) (excess_reset k.replicas) ys is.permutation in
-      let same = entries-of_sorted by_replica zs (sorted_ascend b k.replicas ys (lawful.once slot k stands) is) in
+      let same = entries-of_sorted by_replica zs (sorted_ascend b k.replicas ys (lawful.once slot k block_there) is) in
       sym same
       ∙ ap entries
       (sym (own_entries (of_sorted zs)) ∙ ap (insert_all empty) same
@@ -161,7 +161,7 @@ module _ (a : Contents) (pending : Map by_replica ℕ) (lawful : IsLawful a) (b 
   excess_is : (ys : List (ℕ × Marks)) → map (of_block b) ys ≡ entries (own_replicas U b) → option_map_or (λ i. excess_of C (storages_at (is_live_on C) ys) i.repl) k.info [] ≡ surplus_of C pend r H b
   unfolding excess_in without_unordered_excess without_expired
   excess_is ys own =
-      (λ j. option_map_or (λ i. excess_of C (storages_own (is_live_on C) U b ys own j) i.repl) (sym (found_info a pending lawful b slot k here stands) j) [])
+      (λ j. option_map_or (λ i. excess_of C (storages_own (is_live_on C) U b ys own j) i.repl) (sym (found_info a pending lawful b slot k here block_there) j) [])
 
 -- the sorted replicas of a block are its own replicas
 own_of : (a : Contents) (C : Cluster) (b slot : ℕ) (rs : List (ℕ × Marks)) → IsLawful a → slot_of a b ≡ Some slot → IsInOrder by_number (λ r. r.0) (excess_reset (replicas_at a slot)) rs
@@ -185,18 +185,18 @@ pub look_is : (a : Contents) (C : Cluster) (l : BlockScan) (slot : ℕ) (rs : Li
 look_is a C l slot rs lawful here filled info excess replicas pend r pending =
     let found = lawful.found l.id slot here in
     let k : Block = found.1 in
-    let stands : block_at a slot ≡ Some k = found.2 in
-    let m : Map by_replica Marks = own_replicas (U a pending lawful l.id slot k here stands C pend r) l.id in
+    let block_there : block_at a slot ≡ Some k = found.2 in
+    let m : Map by_replica Marks = own_replicas (U a pending lawful l.id slot k here block_there C pend r) l.id in
     let own : map (of_block l.id) rs ≡ entries m = own_of a C l.id slot rs lawful here filled pend r pending in
-    let known : l.info ≡ k.info = info ∙ ap (option_and_then (λ (z : Block). z.info)) stands in
+    let known : l.info ≡ k.info = info ∙ ap (option_and_then (λ (z : Block). z.info)) block_there in
     let many : (s : ℕ) → has l.excess.items s ≡ has (surplus_of C pend r (holdings_with a pending) l.id) s =
-    λ s. excess s ∙ (λ j. has (option_map_or (λ i. excess_of C (storages_at (is_live_on C) rs) i.repl) (known j) []) s) ∙ ap (λ ss. has ss s) (excess_is a pending lawful l.id slot k here stands C pend r rs own) in
+    λ s. excess s ∙ (λ j. has (option_map_or (λ i. excess_of C (storages_at (is_live_on C) rs) i.repl) (known j) []) s) ∙ ap (λ ss. has ss s) (excess_is a pending lawful l.id slot k here block_there C pend r rs own) in
     let marked : ReplicaId × Marks → ReplicaId × Marks = λ e. (e.0, marked_if (has l.excess.items e.0.storage) e.1) in
     record {
-      info = known ∙ sym (found_info a pending lawful l.id slot k here stands);
+      info = known ∙ sym (found_info a pending lawful l.id slot k here block_there);
       excess = many;
       replicas =
           ap (map (of_block l.id)) replicas ∙ map-map (of_block l.id) (λ (x : ℕ × Marks). (x.0, marked_if (has l.excess.items x.0) x.1)) rs ∙ sym (map-map marked (of_block l.id) rs) ∙ ap (map marked) own
           ∙ sym (entries-revise by_replica m (λ q x. marked_if (has l.excess.items q.storage) x))
-          ∙ ap entries ((λ j. revise m (λ q x. marked_if (many q.storage j) x)) ∙ marked_is a pending lawful l.id slot k here stands C pend r);
+          ∙ ap entries ((λ j. revise m (λ q x. marked_if (many q.storage j) x)) ∙ marked_is a pending lawful l.id slot k here block_there C pend r);
     }

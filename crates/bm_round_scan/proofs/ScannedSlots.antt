@@ -11,7 +11,7 @@ use Rattle.bm_maps.specs.SlotLists.{IsMember, Distinct}
 use Rattle.bm_base.specs.Maps.Lists.{has}
 use Rattle.bm_arena.specs.Triplets.{Block}
 use Rattle.bm_arena.specs.Contents.{Contents, block_at, slot_of, IsLawful}
-use Rattle.bm_arena.specs.Holding.{info_at, id_at}
+use Rattle.bm_arena.specs.HeldMaps.{info_at, id_at}
 use Rattle.bm_arena.proofs.Replicas.{Among-append, Among-left}
 use Rattle.bm_levels.specs.Status.{is_settled_at}
 use Rattle.bm_levels.specs.IndexedLevels.{IndexedLevels, level_of_slot, IsUnsettled, NeedCopies, slots_needing_copies, needs_copies}
@@ -113,43 +113,43 @@ module _ (K : IndexedLevels) (is : AreListed K) where
   u = K.unsettled.slots
 
   module _ (a : Contents) (bound : Option (ℕ × ℕ)) (has_enough : ℕ → Bool) where
-    abbrev told : ℕ → Bool
-    told = is_settled_to_scan K a bound has_enough
+    abbrev to_scan : ℕ → Bool
+    to_scan = is_settled_to_scan K a bound has_enough
 
     abbrev slots : List ℕ
     slots = scanned_slots K a bound has_enough
 
     abbrev settled : List ℕ
-    settled = filter told (slots_needing_copies K)
+    settled = filter to_scan (slots_needing_copies K)
 
     settled_apart : AreApart u settled
-    settled_apart z here there = true≢false (sym (among_has u z here) ∙ by (has u z) (former (not (has u z)) (not (has_enough z)) (latter (is_before bound (key_at K a z)) (not (has u z) && not (has_enough z)) (among_filtered told z (slots_needing_copies K) there).1)))
+    settled_apart z here there = true≢false (sym (among_has u z here) ∙ by (has u z) (former (not (has u z)) (not (has_enough z)) (latter (is_before bound (key_at K a z)) (not (has u z) && not (has_enough z)) (among_filtered to_scan z (slots_needing_copies K) there).1)))
       where
         by : (t : Bool) → not t ≡ true → t ≡ false
         by true e = absurd (true≢false (sym e))
         by false e = refl
 
-    pub visits_once : Distinct slots
-    visits_once = distinct_appended u settled is.unsettled (distinct_filtered told (slots_needing_copies K) is.once) settled_apart
+    pub scanned_once : Distinct slots
+    scanned_once = distinct_appended u settled is.unsettled (distinct_filtered to_scan (slots_needing_copies K) is.once) settled_apart
 
-    pub unsettled_visited : (slot : ℕ) → IsUnsettled K slot → IsMember slot slots
-    unsettled_visited slot h = Among-left slot u settled h
+    pub unsettled_scanned : (slot : ℕ) → IsUnsettled K slot → IsMember slot slots
+    unsettled_scanned slot h = Among-left slot u settled h
 
-    pub level_visited : (l : Level) (slot : ℕ) → l ≢ NoUsableReplica → level_of_slot K slot ≡ Some l → is_before bound (key_at K a slot) ≡ true → has_enough slot ≡ false → IsMember slot slots
-    level_visited l slot wanted at early lacks =
+    pub level_scanned : (l : Level) (slot : ℕ) → l ≢ NoUsableReplica → level_of_slot K slot ≡ Some l → is_before bound (key_at K a slot) ≡ true → has_enough slot ≡ false → IsMember slot slots
+    level_scanned l slot wanted at early lacks =
         elim (cases_Bool (has u slot)) [
-          | inl there ↦ unsettled_visited slot (has_among u slot there)
+          | inl there ↦ unsettled_scanned slot (has_among u slot there)
           | inr none ↦
-              among_right slot u settled (among_passing told slot (slots_needing_copies K) ((is.wishing slot).1 (ap needs_copies at ∙ wishing_at l wanted))
+              among_right slot u settled (among_passing to_scan slot (slots_needing_copies K) ((is.wishing slot).1 (ap needs_copies at ∙ wishing_at l wanted))
               (and_from (is_before bound (key_at K a slot)) (not (has u slot) && not (has_enough slot)) early (and_from (not (has u slot)) (not (has_enough slot)) (ap not none) (ap not lacks))))
         ]
 
     -- each scanned slot is unsettled, or has a level
-    visit_is : (slot : ℕ) → IsMember slot slots → IsUnsettled K slot ⊎ ((l : Level) × (level_of_slot K slot ≡ Some l))
-    visit_is slot h =
+    scanned_is : (slot : ℕ) → IsMember slot slots → IsUnsettled K slot ⊎ ((l : Level) × (level_of_slot K slot ≡ Some l))
+    scanned_is slot h =
         elim (Among-append slot u settled h) [
           | inl loose ↦ inl loose
-          | inr wishing ↦ inr (level_wishing (level_of_slot K slot) ((is.wishing slot).0 (among_filtered told slot (slots_needing_copies K) wishing).0))
+          | inr wishing ↦ inr (level_wishing (level_of_slot K slot) ((is.wishing slot).0 (among_filtered to_scan slot (slots_needing_copies K) wishing).0))
         ]
 
 module _ (v : Leveled) (lawful : IsLawful v.arena) (leveled : IsLeveled v) (is : AreListed v.kept) (bound : Option (ℕ × ℕ)) (has_enough : ℕ → Bool) where
@@ -158,8 +158,8 @@ module _ (v : Leveled) (lawful : IsLawful v.arena) (leveled : IsLeveled v) (is :
 
   -- an occupied slot other than the delimiter's is the slot of its block's number
   known_at : (slot : ℕ) → slot ≢ a.delimiter → (o : Option Block) → block_at a slot ≡ o → o ≢ None → slot_of a (id_at a slot) ≡ Some slot
-  known_at slot other None stands some = absurd (some refl)
-  known_at slot other (Some k) stands some = ap (slot_of a) (ap (λ o. option_map_or (λ (b : Block). b.id) o 0) stands) ∙ lawful.known slot k stands other
+  known_at slot other None block_there some = absurd (some refl)
+  known_at slot other (Some k) block_there some = ap (slot_of a) (ap (λ o. option_map_or (λ (b : Block). b.id) o 0) block_there) ∙ lawful.known slot k block_there other
 
   unsettled_held : (slot : ℕ) → is_settled_at (block_at a slot) ≡ false → block_at a slot ≢ None
   unfolding is_settled_at
@@ -175,9 +175,9 @@ module _ (v : Leveled) (lawful : IsLawful v.arena) (leveled : IsLeveled v) (is :
       never e = cc
 
   -- a scanned slot is the slot of its block's number
-  pub visit_known : (slot : ℕ) → IsMember slot (scanned_slots v.kept a bound has_enough) → slot_of a (id_at a slot) ≡ Some slot
-  visit_known slot h =
-      elim (visit_is v.kept is a bound has_enough slot h) [
+  pub scanned_known_slot : (slot : ℕ) → IsMember slot (scanned_slots v.kept a bound has_enough) → slot_of a (id_at a slot) ≡ Some slot
+  scanned_known_slot slot h =
+      elim (scanned_is v.kept is a bound has_enough slot h) [
         | inl loose ↦ let e = (leveled.unsettled slot).0 loose in known_at slot (unsettled_known slot e) (block_at a slot) refl (unsettled_held slot e)
         | inr at ↦
             known_at slot (λ same. level_info slot at.0 at.1 (ap (info_at a) same ∙ leveled.blank)) (block_at a slot) refl
@@ -185,9 +185,9 @@ module _ (v : Leveled) (lawful : IsLawful v.arena) (leveled : IsLeveled v) (is :
       ]
 
   pub ids_once : Distinct (map (id_at a) (scanned_slots v.kept a bound has_enough))
-  ids_once = distinct_mapped (id_at a) (slot_of a) (scanned_slots v.kept a bound has_enough) (visits_once v.kept is a bound has_enough) visit_known
+  ids_once = distinct_mapped (id_at a) (slot_of a) (scanned_slots v.kept a bound has_enough) (scanned_once v.kept is a bound has_enough) scanned_known_slot
 
 -- the slots of the four levels, appended level by level, are the list of all
-pub told_by_level : {Y : Type 0} (f : ℕ → Y) (p : ℕ → Bool) (u w x y z : List ℕ)
+pub scanned_by_level : {Y : Type 0} (f : ℕ → Y) (p : ℕ → Bool) (u w x y z : List ℕ)
     → (((map f u ++ map f (filter p w)) ++ map f (filter p x)) ++ map f (filter p y)) ++ map f (filter p z) ≡ map f (u ++ filter p (w ++ (x ++ (y ++ z))))
-told_by_level f p u w x y z = simp (filter-append, map-append, append_assoc)
+scanned_by_level f p u w x y z = simp (filter-append, map-append, append_assoc)

@@ -21,17 +21,17 @@ use Rattle.bm_parts.proofs.SettledBlocks.{settled_is_left, settled_is_kept}
 use Rattle.bm_parts.proofs.Storages.{storages_revised}
 use Rattle.bm_arena.specs.Triplets.{Block}
 use Rattle.bm_arena.specs.Contents.{Contents, block_at, slot_of, IsLawful}
-use Rattle.bm_arena.specs.Holding.{info_at, replicas_at}
+use Rattle.bm_arena.specs.HeldMaps.{info_at, replicas_at}
 use Rattle.bm_arena.proofs.HeldReplicas.{get-blocks_of}
 use Rattle.bm_levels.specs.Status.{is_settled_at, storages_at}
 use Rattle.bm_levels.specs.Held.{holdings_with}
 use Rattle.bm_levels.proofs.SettledBlocks.{all_plain_at, few_at}
 use Rattle.bm_pending.specs.PendingMap.{PendingMap}
-use Rattle.bm_pending.specs.Remaining.{remaining_targets}
+use Rattle.bm_pending.specs.RemainingTargets.{remaining_targets}
 use Rattle.bm_round_scan.specs.declared.scan.Findings.{Findings}
 use Rattle.bm_round_scan.specs.BlockScans.{own_replicas, replicas_on, needs_delete}
 use Rattle.bm_round_scan.specs.Requests.{wish_by}
-use Rattle.bm_round_scan.specs.Gathering.{excess_at, wishes_at, deletes_at, HasFound}
+use Rattle.bm_round_scan.specs.BlockFindings.{excess_at, wishes_at, deletes_at, HasFound}
 use Rattle.bm_round_scan.proofs.NoneKept.{none_kept}
 use Rattle.bm_round_scan.proofs.OwnWish.{wish_known}
 use Rattle.bm_round_scan.proofs.SortedStorages.{sorted_where}

@@ -16,7 +16,7 @@ use Rattle.bm_base.specs.Maps.Map.{Order}
 use Rattle.bm_base.proofs.ForEach.{Each, each_all}
 use Rattle.bm_parts.specs.Found.{IsGathered}
 use Rattle.bm_parts.proofs.Filters.{all_each}
-use Rattle.bm_round_scan.specs.Gathering.{IsInOrder}
+use Rattle.bm_round_scan.specs.BlockFindings.{IsInOrder}
 
 -- an order that is neither greater nor equal is less
 less_left : (r : Ordering) → is_lt (ordering_reverse r) ≡ false → is_eq r ≡ false → T (is_lt r)

@@ -76,7 +76,7 @@ any_same x xs = any_agree (λ y. eq_by_cmp nat_cmp x y) (λ y. y == x) (λ y. nu
 differ : (xs : List ℕ) → Distinct xs → IsDistinct (λ x y. eq_by_cmp nat_cmp x y) xs
 differ xs once = subst (λ t. IsDistinct t xs) (λ j x y. sym (number_tie x y) j) (as_ties xs once)
 
-module _ (p : ℕ → Marks → Bool) (a : Contents) (pending : Map by_replica ℕ) (lawful : IsLawful a) (b slot : ℕ) (k : Block) (here : slot_of a b ≡ Some slot) (stands : block_at a slot ≡ Some k) where
+module _ (p : ℕ → Marks → Bool) (a : Contents) (pending : Map by_replica ℕ) (lawful : IsLawful a) (b slot : ℕ) (k : Block) (here : slot_of a b ≡ Some slot) (block_there : block_at a slot ≡ Some k) where
   abbrev H : Holdings
   H = holdings_with a pending
 
@@ -86,8 +86,8 @@ module _ (p : ℕ → Marks → Bool) (a : Contents) (pending : Map by_replica �
       let xs = storages_at p k.replicas in
       let zs = storages_where p H b in
       let P : ℕ → Type 0 = λ x. has zs x ≡ true in
-      let same = alike a pending lawful b slot k here stands p in
+      let same = alike a pending lawful b slot k here block_there p in
       gathered_alike by_number (λ (n : ℕ). n) P (λ _ _ _ _ same. same) ys zs
-      (gathered_sorted by_number (λ (n : ℕ). n) P xs ys (record { permutation = moved; sorted = sorted }) (differ xs (passing_distinct p k.replicas (lawful.once slot k stands)))
+      (gathered_sorted by_number (λ (n : ℕ). n) P xs ys (record { permutation = moved; sorted = sorted }) (differ xs (passing_distinct p k.replicas (lawful.once slot k block_there)))
       (each_has P xs (λ x t. same x ∙ t)) (λ x t. any_same x xs ∙ sym (same x) ∙ t))
       (record { rises = where_ascend p H b; only = all_each P zs (each_has P zs (λ x t. t)); all = λ x t. any_same x zs ∙ t })

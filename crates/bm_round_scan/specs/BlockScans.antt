@@ -8,7 +8,7 @@ use Rattle.bm_base.specs.RoundParts.{holdings_at_choice}
 use Rattle.bm_levels.specs.Status.{storages_at}
 use Rattle.bm_round_scan.specs.declared.block_scan.BlockScan.{BlockScan}
 use Rattle.bm_round_scan.specs.declared.replicas.UsableReplicas.{UsableReplicas}
-use Rattle.bm_round_scan.specs.Marking.{of_block}
+use Rattle.bm_round_scan.specs.BlockMarks.{of_block}
 
 -- the replicas of one block, among those of all blocks
 abbrev pub own_replicas : Holdings → ℕ → Map by_replica Marks

@@ -4,9 +4,9 @@ use Rattle.std.specs.Option.{option_map_or}
 use Rattle.bm_base.specs.Words.{Cluster, has, is_live_on, level_number}
 use Rattle.bm_parts.specs.Before.{is_before}
 use Rattle.bm_arena.specs.Contents.{Contents, block_at}
-use Rattle.bm_arena.specs.Holding.{id_at, info_at, replicas_at}
+use Rattle.bm_arena.specs.HeldMaps.{id_at, info_at, replicas_at}
 use Rattle.bm_pending.specs.PendingMap.{PendingMap}
-use Rattle.bm_pending.specs.Remaining.{remaining_targets}
+use Rattle.bm_pending.specs.RemainingTargets.{remaining_targets}
 use Rattle.bm_levels.specs.Status.{is_settled_at, storages_at}
 use Rattle.bm_levels.specs.IndexedLevels.{IndexedLevels, IsUnsettled, level_of_slot, slots_needing_copies}
 

@@ -7,7 +7,7 @@ ghost use Rattle.bm_base.specs.Words.{has_repeats, Map, by_replica};
 ghost use Rattle.bm_base.specs.Machine.Excess as excess;
 ghost use Rattle.bm_arena.specs.Contents.{slot_of};
 ghost use Rattle.bm_levels.specs.Held.{holdings_with};
-ghost use Rattle.bm_round_scan.specs.Marking.{marked_on};
+ghost use Rattle.bm_round_scan.specs.BlockMarks.{marked_on};
 ghost use Rattle.bm_round_scan.specs.BlockScans.{IsBlockScan, AreUsable, scanned_replicas, replicas_on, needs_delete, deletes_of};
 
 use crate::replicas::{UsableReplicas, contains_near, fill_at_round_start, mark_on, usable_among};

@@ -5,7 +5,7 @@ ghost use Rattle.bm_base.specs.declared.replica.ReplicaId.{ReplicaId};
 ghost use Rattle.bm_base.specs.Maps.Map.{get, contains_key};
 ghost use Rattle.bm_base.specs.RoundParts.{round_part};
 ghost use Rattle.bm_parts.specs.Before.{part_before};
-ghost use Rattle.bm_arena.specs.Holding.{replicas_of};
+ghost use Rattle.bm_arena.specs.HeldMaps.{replicas_of};
 ghost use Rattle.bm_levels.specs.Leveled.{AreLevels};
 ghost use Rattle.bm_levels.specs.Held.{holdings_with};
 

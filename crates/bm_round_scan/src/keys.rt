@@ -1,9 +1,9 @@
 // The keys of slots: the level of the block, and its number.
 ghost use Rattle.std.specs.Prelude.{◌≡◌, Some};
 ghost use Rattle.bm_parts.specs.Before as before;
-ghost use Rattle.bm_arena.specs.Holding as holding;
+ghost use Rattle.bm_arena.specs.HeldMaps as holding;
 ghost use Rattle.bm_levels.specs.IndexedLevels as level_index;
-ghost use Rattle.bm_round_scan.specs.ScannedSlots as visits;
+ghost use Rattle.bm_round_scan.specs.ScannedSlots as scanned;
 
 use bm_arena::{Arena, Slot};
 use bm_base::Level;
@@ -15,7 +15,7 @@ const NO_LEVEL: u32 = 5;
 
 /// The level and the number of the block at a slot: the key of its wish, if the slot is settled.
 pub(crate) fn key_of(kept: &LevelIndex, arena: &Arena, slot: Slot) -> Key
-    ensures { result ≡ visits.key_at kept.now arena.now slot }
+    ensures { result ≡ scanned.key_at kept.now arena.now slot }
 {
     let level = match kept.level(slot) {
         Some(level) => level.number(),
@@ -27,7 +27,7 @@ pub(crate) fn key_of(kept: &LevelIndex, arena: &Arena, slot: Slot) -> Key
 /// The same for a known level, so that only the number is read.
 pub(crate) fn key_at_level(_kept: &LevelIndex, arena: &Arena, slot: Slot, level: Level) -> Key
     requires { level_index.level_of_slot _kept.now slot ≡ Some level }
-    ensures { result ≡ visits.key_at _kept.now arena.now slot }
+    ensures { result ≡ scanned.key_at _kept.now arena.now slot }
 {
     (level.number() as u64, number_of(arena, slot))
 }

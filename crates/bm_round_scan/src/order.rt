@@ -5,7 +5,7 @@ ghost use Rattle.bm_base.specs.declared.replica.ReplicaId.{ReplicaId};
 ghost use Rattle.bm_base.specs.Machine.State.{by_replica};
 ghost use Rattle.bm_base.specs.Ordered.{by_pair};
 ghost use Rattle.bm_base.specs.RoundParts as parts;
-ghost use Rattle.bm_round_scan.specs.Gathering.{IsInOrder};
+ghost use Rattle.bm_round_scan.specs.BlockFindings.{IsInOrder};
 
 use bm_base::{Delete, ReplicaId, Wish};
 use std::alloc::AllocError;

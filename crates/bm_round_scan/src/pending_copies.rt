@@ -1,11 +1,11 @@
 // Whether the pending transfers of a settled block make up for the replicas that it lacks.
 ghost use Rattle.std.specs.Prelude.{◌≡◌, length, map};
 ghost use Rattle.bm_base.specs.Machine.Replicas as replicas;
-ghost use Rattle.bm_arena.specs.Holding.{id_at};
+ghost use Rattle.bm_arena.specs.HeldMaps.{id_at};
 ghost use Rattle.bm_arena.specs.Triplets.{triplet_view};
 ghost use Rattle.bm_levels.specs.Status.{storages_at};
-ghost use Rattle.bm_pending.specs.Remaining.{remaining_targets};
-ghost use Rattle.bm_round_scan.specs.ScannedSlots as visits;
+ghost use Rattle.bm_pending.specs.RemainingTargets.{remaining_targets};
+ghost use Rattle.bm_round_scan.specs.ScannedSlots as scanned;
 
 use crate::scan::RoundScan;
 use bm_arena::{Slot, Triplet};
@@ -19,7 +19,7 @@ impl<'a> RoundScan<'a> {
     pub(crate) fn has_enough_pending(&self, slot: Slot, id: BlockId) -> bool
         requires { id ≡ id_at self.now.arena.now slot }
         ensures { result
-            ≡ visits.has_enough_pending self.now.topology.now.cluster self.now.pend
+            ≡ scanned.has_enough_pending self.now.topology.now.cluster self.now.pend
             self.now.round self.now.arena.now self.now.pending.now slot }
     {
         let pending = self.count_remaining(id);

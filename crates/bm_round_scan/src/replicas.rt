@@ -4,10 +4,10 @@ ghost use Rattle.std.specs.List.Sorted.{IsNonDecreasing};
 ghost use Rattle.bm_base.specs.Words.{by_number, has};
 ghost use Rattle.bm_base.specs.Machine.Replicas as replicas;
 ghost use Rattle.bm_base.specs.Spread.{spread};
-ghost use Rattle.bm_arena.specs.Holding.{replicas_at};
+ghost use Rattle.bm_arena.specs.HeldMaps.{replicas_at};
 ghost use Rattle.bm_levels.specs.Status.{storages_at};
-ghost use Rattle.bm_round_scan.specs.Gathering.{IsInOrder};
-ghost use Rattle.bm_round_scan.specs.Marking.{marked_if, marked_on, excess_reset};
+ghost use Rattle.bm_round_scan.specs.BlockFindings.{IsInOrder};
+ghost use Rattle.bm_round_scan.specs.BlockMarks.{marked_if, marked_on, excess_reset};
 ghost use Rattle.bm_round_scan.specs.BlockScans.{AreUsable};
 
 use bm_arena::{Arena, Slot};

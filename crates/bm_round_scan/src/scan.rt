@@ -5,9 +5,9 @@ ghost use Rattle.bm_base.specs.declared.refusal.Refusal.TheVariants.{Memory};
 ghost use Rattle.bm_base.specs.Words.{values, has};
 ghost use Rattle.bm_maps.specs.SlotLists.{IsMember};
 ghost use Rattle.bm_arena.specs.Contents.{slot_of};
-ghost use Rattle.bm_arena.specs.Holding.{id_at};
+ghost use Rattle.bm_arena.specs.HeldMaps.{id_at};
 ghost use Rattle.bm_levels.specs.Held.{holdings_with};
-ghost use Rattle.bm_round_scan.specs.Gathering.{HasFound};
+ghost use Rattle.bm_round_scan.specs.BlockFindings.{HasFound};
 ghost use Rattle.bm_round_scan.specs.ScannedSlots.{AreMarked};
 
 use crate::block_scan::BlockScan;

@@ -2,7 +2,7 @@
 ghost use Rattle.std.specs.Prelude.{◌≡◌, ◌++◌, filter, map, IfOk, OnOk};
 ghost use Rattle.std.specs.List.Sorted.{IsPermutation};
 ghost use Rattle.bm_levels.specs.IndexedLevels.{slots_at};
-ghost use Rattle.bm_round_scan.specs.ScannedSlots as visits;
+ghost use Rattle.bm_round_scan.specs.ScannedSlots as scanned;
 
 use crate::keys::{is_before, key_at_level, key_of};
 use crate::scan::RoundScan;
@@ -18,9 +18,9 @@ pub(crate) fn slots_to_scan(
     start: &RoundScan,
 ) -> Result<Vec<(Key, Slot)>, AllocError>
     ensures { IfOk result (λ v. v.items
-        ≡ map (visits.keyed_at start.now.kept.now start.now.arena.now)
-        (visits.scanned_slots start.now.kept.now start.now.arena.now start.now.bound
-        (visits.has_enough_pending start.now.topology.now.cluster start.now.pend start.now.round
+        ≡ map (scanned.keyed_at start.now.kept.now start.now.arena.now)
+        (scanned.scanned_slots start.now.kept.now start.now.arena.now start.now.bound
+        (scanned.has_enough_pending start.now.topology.now.cluster start.now.pend start.now.round
         start.now.arena.now start.now.pending.now))) }
 {
     let mut keyed = Vec::new(alloc);
@@ -42,10 +42,10 @@ fn push_settled(
     into: &mut Vec<(Key, Slot)>,
 ) -> Result<(), AllocError>
     ensures { OnOk result (into.new.items ≡ into.old.items
-        ++ map (visits.keyed_at start.now.kept.now start.now.arena.now)
+        ++ map (scanned.keyed_at start.now.kept.now start.now.arena.now)
         (filter
-        (visits.is_settled_to_scan start.now.kept.now start.now.arena.now start.now.bound
-        (visits.has_enough_pending start.now.topology.now.cluster start.now.pend start.now.round
+        (scanned.is_settled_to_scan start.now.kept.now start.now.arena.now start.now.bound
+        (scanned.has_enough_pending start.now.topology.now.cluster start.now.pend start.now.round
         start.now.arena.now start.now.pending.now)) (slots_at start.now.kept.now level))) }
 {
     let members = start.kept.at_level(level);

@@ -7,7 +7,7 @@ ghost use Rattle.bm_arena.specs.Contents.{block_at, slot_of};
 ghost use Rattle.bm_arena.specs.Triplets.{triplet_view};
 ghost use Rattle.bm_levels.specs.Held.{holdings_with};
 ghost use Rattle.bm_levels.specs.Status.{is_settled_at, storages_at};
-ghost use Rattle.bm_round_scan.specs.Gathering.{wishes_at};
+ghost use Rattle.bm_round_scan.specs.BlockFindings.{wishes_at};
 
 use crate::replicas::UsableReplicas;
 use crate::scan::RoundScan;

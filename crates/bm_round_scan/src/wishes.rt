@@ -4,7 +4,7 @@ ghost use Rattle.bm_base.specs.declared.refusal.Refusal.TheVariants.{Memory};
 ghost use Rattle.bm_base.specs.Machine.Replicas as replicas;
 ghost use Rattle.bm_base.specs.Machine.Levels as levels;
 ghost use Rattle.bm_parts.specs.Before.{wishes_before};
-ghost use Rattle.bm_pending.specs.Remaining.{remaining_targets};
+ghost use Rattle.bm_pending.specs.RemainingTargets.{remaining_targets};
 ghost use Rattle.bm_round_scan.specs.Requests.{count_at, wish_by};
 
 use crate::keys::is_before;

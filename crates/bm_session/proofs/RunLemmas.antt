@@ -14,7 +14,7 @@ use Rattle.bm_session.specs.declared.fault.Fault.{Fault}
 use Rattle.bm_session.specs.declared.fault.Fault.TheVariants as fault
 use Rattle.bm_lines.specs.Lines.{lines_of, whole_lines}
 use Rattle.bm_session.specs.Text.{texts, text}
-use Rattle.bm_session.specs.Starting.{StartFault}
+use Rattle.bm_session.specs.StartFaults.{StartFault}
 use Rattle.bm_session.specs.Progress.{Progress, PieceFault, IsSummary}
 use Rattle.bm_session.specs.Outcome.{Faulted, Leaves, FaultCounts, HasCause, ConfigOfFault, ChecksConfig}
 use Rattle.bm_session.proofs.LineLemmas.{whole_lines-split}

@@ -2,6 +2,6 @@
 pub mod Ends
 pub mod FaultCounts
 pub mod Text
-pub mod Starting
+pub mod StartFaults
 pub mod Progress
 pub mod Outcome

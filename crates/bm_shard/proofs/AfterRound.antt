@@ -8,7 +8,7 @@ use Rattle.bm_base.specs.declared.replica.Marks.{Marks}
 use Rattle.bm_base.specs.Words.{Map, revise, keep, insert_all, Cluster, by_replica, replica_at, storages_where, is_expired, without_expired, without_unordered_excess, with_surplus_marked, excess_in, is_commanded, end_round}
 use Rattle.bm_base.specs.RoundParts.{surplus, holdings_at_choice, round_on_part, own_transfers, own_deletes}
 use Rattle.bm_arena.specs.Contents.{Contents}
-use Rattle.bm_arena.specs.Holding.{replicas_of, blocks_of, holdings_of}
+use Rattle.bm_arena.specs.HeldMaps.{replicas_of, blocks_of, holdings_of}
 use Rattle.bm_levels.specs.Held.{holdings_with}
 use Rattle.bm_base.specs.declared.ids.Part.{Part}
 use Rattle.bm_levels.specs.Leveled.{Leveled}
@@ -44,5 +44,5 @@ pub same_without_room : (v : Leveled) (P Q : Map by_replica ℕ) → Q ≡ P →
     → IsSameButCapacity before (seen_of v Q part round pend room')
 same_without_room v P Q same part round pend room room' before is = subst (λ s. IsSameButCapacity s (seen_of v Q part round pend room')) is (record {
   rest = λ i. record { holdings = holdings_with v.arena (same i); part = part; round = round; pend = pend; levels = levels_of v; room = room' };
-  levels = λ C stands. refl;
+  levels = λ C up_to_date. refl;
 })

@@ -36,23 +36,23 @@ module _ (C D : Cluster) (v w : Leveled) (P Q : Map by_replica ℕ) (lawful_v : 
 -- A shard that changes only its capacity is up to date in the same clusters. So an event has the
 -- same effect on it as before.
 
-pub stands_still : (C : Cluster) (old mid : Seen) → IsUpToDate C old → IsSameButCapacity old mid → IsUpToDate C mid
-stands_still C old mid stands same =
+pub stays_up_to_date : (C : Cluster) (old mid : Seen) → IsUpToDate C old → IsSameButCapacity old mid → IsUpToDate C mid
+stays_up_to_date C old mid up_to_date same =
     let held : mid.holdings ≡ old.holdings = ap (λ (s : Seen). s.holdings) same.rest in
     record {
-      levels = λ n. ap (λ m. get m n) (same.levels C stands) ∙ stands.levels n ∙ ap (λ H. level C H n) (sym held);
-      placed = subst (λ H. IsPlaced C H) (sym held) stands.placed;
+      levels = λ n. ap (λ m. get m n) (same.levels C up_to_date) ∙ up_to_date.levels n ∙ ap (λ H. level C H n) (sym held);
+      placed = subst (λ H. IsPlaced C H) (sym held) up_to_date.placed;
     }
 
 pub changed_after : (C D : Cluster) (old mid new : Seen) (to : Holdings → Part → Holdings) (answer : Done) → IsUpToDate C old → IsSameButCapacity old mid
     → HasChanged C D mid new (to mid.holdings mid.part) answer → HasChanged C D old new (to old.holdings old.part) answer
-changed_after C D old mid new to answer stands same changed =
+changed_after C D old mid new to answer up_to_date same changed =
     let P : Seen → Type 0 = λ S. HasChanged C D S new (to S.holdings S.part) answer in
     let h = subst P same.rest changed in
     record {
       holdings = h.holdings;
       done = h.done;
-      levels = λ right. h.levels (λ b. ap (λ m. get m b) (same.levels C stands) ∙ right b);
+      levels = λ right. h.levels (λ b. ap (λ m. get m b) (same.levels C up_to_date) ∙ right b);
       part = h.part;
       round = h.round;
       pend = h.pend;

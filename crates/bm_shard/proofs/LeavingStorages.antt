@@ -9,7 +9,7 @@ use Rattle.bm_base.specs.Machine.State.{Cluster}
 use Rattle.bm_maps.specs.SlotLists.{IsMember}
 use Rattle.bm_parts.specs.Parts.{block_of}
 use Rattle.bm_arena.specs.Contents.{Contents}
-use Rattle.bm_levels.specs.Leaving.{HasNoHeads}
+use Rattle.bm_levels.specs.LeavingReplicas.{HasNoHeads}
 use Rattle.bm_shard.specs.Inside.{heads_of}
 use Rattle.bm_shard.specs.LeavingStorages.{leaves}
 

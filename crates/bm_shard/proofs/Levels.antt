@@ -11,7 +11,7 @@ use Rattle.bm_base.proofs.MapLaws.{get-empty, get-insert, get-remove}
 use Rattle.bm_base.proofs.Ties.{number_tie}
 use Rattle.bm_arena.specs.Triplets.{Block}
 use Rattle.bm_arena.specs.Contents.{block_at, slot_of, IsLawful}
-use Rattle.bm_arena.specs.Holding.{info_at}
+use Rattle.bm_arena.specs.HeldMaps.{info_at}
 use Rattle.bm_levels.specs.IndexedLevels.{IndexedLevels, level_of_slot}
 use Rattle.bm_levels.specs.Leveled.{Leveled, AreLevels, IsLeveled}
 use Rattle.bm_levels.specs.Status.{level_in}

@@ -13,7 +13,7 @@ use Rattle.bm_base.proofs.Options.{there}
 use Rattle.bm_parts.specs.LevelLaws.{IsRacked}
 use Rattle.bm_parts.specs.PlacedLaws.{IsPlaced}
 use Rattle.bm_arena.specs.Contents.{Contents}
-use Rattle.bm_arena.specs.Holding.{holdings_of}
+use Rattle.bm_arena.specs.HeldMaps.{holdings_of}
 use Rattle.bm_levels.specs.Held.{holdings_with}
 use Rattle.bm_levels.specs.LevelsBy.{IsSameForHeld}
 use Rattle.bm_levels.proofs.UpToDate.{register_is_same}

@@ -48,14 +48,14 @@ by_own C old new answer e b on is h = subst (λ H. HasChanged C (change_cluster 
 -- an event of another shard changes only the capacity
 pub left_alone : (C : Cluster) (e : Event) (old new : Seen) → owns old.part e ≡ false → IsUpToDate C old → IsSameButCapacity old new
     → (new.holdings ≡ change_part C old.holdings old.part.index old.part.shards e) × (record { added = 0; removed = 0 } ≡ done old.holdings new.holdings) × IsUpToDate (change_cluster C e) new
-left_alone C e old new other stands same =
+left_alone C e old new other up_to_date same =
     let b = on_block old.part e (block_of e) refl other in
     let held : new.holdings ≡ old.holdings = ap (λ s. s.holdings) same.rest in (
       held ∙ sym (other_stays old.part e C old.holdings other),
       sym (ap (done old.holdings) held ∙ nothing_done old.holdings),
       subst (λ D. IsUpToDate D new) (sym (same_cluster C e b.0 b.1)) (record {
-        levels = λ n. ap (λ m. get m n) (same.levels C stands) ∙ stands.levels n ∙ ap (λ H. level C H n) (sym held);
-        placed = subst (λ H. IsPlaced C H) (sym held) stands.placed;
+        levels = λ n. ap (λ m. get m n) (same.levels C up_to_date) ∙ up_to_date.levels n ∙ ap (λ H. level C H n) (sym held);
+        placed = subst (λ H. IsPlaced C H) (sym held) up_to_date.placed;
       }),
     )
 

@@ -4,7 +4,7 @@ use Rattle.bm_base.specs.declared.ids.Part.{Part}
 use Rattle.bm_base.specs.Words.{Map, get, Cluster, by_replica, level}
 use Rattle.bm_base.proofs.MapLaws.{same_map}
 use Rattle.bm_arena.specs.Contents.{IsLawful}
-use Rattle.bm_arena.specs.Holding.{replicas_of, blocks_of}
+use Rattle.bm_arena.specs.HeldMaps.{replicas_of, blocks_of}
 use Rattle.bm_levels.specs.Leveled.{Leveled, AreLevels, IsLeveled}
 use Rattle.bm_levels.specs.Held.{holdings_with}
 use Rattle.bm_shard.specs.Seen.{Seen, Reserved}
@@ -35,7 +35,7 @@ module _ (v w : Leveled) (P : Map by_replica ℕ) (lawful_v : IsLawful v.arena) 
   pub same_but_room : (part : Part) (round pend : ℕ) (room room' : Reserved) → IsSameButCapacity (seen_of v P part round pend room) (seen_of w P part round pend room')
   same_but_room part round pend room room' = record {
     rest = λ i. record { holdings = holdings_same i; part = part; round = round; pend = pend; levels = levels_of w; room = room' };
-    levels = λ C stands. levels_same C stands.levels;
+    levels = λ C up_to_date. levels_same C up_to_date.levels;
   }
 
   -- for a shard that was seen as `before`

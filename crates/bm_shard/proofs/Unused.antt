@@ -16,7 +16,7 @@ use Rattle.bm_base.proofs.MapLaws.{get-insert, get-revise}
 use Rattle.bm_base.proofs.MapEntries.{get_here}
 use Rattle.bm_base.proofs.Ties.{number_tie}
 use Rattle.bm_arena.specs.Contents.{Contents, block_at, slot_of, IsLawful}
-use Rattle.bm_arena.specs.Holding.{replicas_of, blocks_of}
+use Rattle.bm_arena.specs.HeldMaps.{replicas_of, blocks_of}
 use Rattle.bm_arena.proofs.HeldReplicas.{one_number}
 use Rattle.bm_arena.proofs.Replicas.{Among-append}
 use Rattle.bm_maps.specs.SlotLists.{IsMember}
@@ -44,38 +44,38 @@ module _ (v : Leveled) (P : Map by_replica ℕ) (part : Part) (round pend : ℕ)
 
   pub unused_inside : (b : ℕ) → IsUnused seen b → levels.IsUnused v.arena b
   unfolding holdings_with
-  unused_inside b bare = record { entry = has_entry v.arena b bare.entry; unknown = bare.unknown; empty = bare.empty }
+  unused_inside b unused = record { entry = has_entry v.arena b unused.entry; unknown = unused.unknown; empty = unused.empty }
 
   pub unused_outside : (b : ℕ) → levels.IsUnused v.arena b → IsUnused seen b
   unfolding holdings_with
-  unused_outside b bare = record { entry = entered v.arena b bare.entry; unknown = bare.unknown; empty = bare.empty }
+  unused_outside b unused = record { entry = entered v.arena b unused.entry; unknown = unused.unknown; empty = unused.empty }
 
   pub none_outside : levels.HasNoUnused v.arena → HasNoUnused seen
-  none_outside none b bare = none b (unused_inside b bare)
+  none_outside none b unused = none b (unused_inside b unused)
 
   -- for a shard that was seen as `before`
   pub none_inside : (before : Seen) → seen ≡ before → HasNoUnused before → levels.HasNoUnused v.arena
-  none_inside before is none b bare = let P : Seen → Type 0 = λ S. HasNoUnused S in subst P (sym is) none b (unused_outside b bare)
+  none_inside before is none b unused = let P : Seen → Type 0 = λ S. HasNoUnused S in subst P (sym is) none b (unused_outside b unused)
 
   -- no number has an unused entry that had none before
   pub none_kept : (w : Leveled) (before : Seen) → seen ≡ before → HasNoUnused before → levels.MakesNoUnused v.arena w.arena → levels.HasNoUnused w.arena
-  none_kept w before is none keeps b bare = none_inside before is none b (keeps b bare)
+  none_kept w before is none keeps b unused = none_inside before is none b (keeps b unused)
 
 -- only these numbers have unused entries, if none had one before, and only these got one
 pub only_these : (a c : Contents) (these : ℕ → Bool) → levels.HasNoUnused a → levels.MakesUnusedOnly these a c → (b : ℕ) → levels.IsUnused c b → IsTrue (these b)
-only_these a c these none keeps b bare = by (these b) refl
+only_these a c these none keeps b unused = by (these b) refl
   where
     by : (t : Bool) → these b ≡ t → t ≡ true
     by true e = refl
-    by false e = absurd (none b (keeps b e bare))
+    by false e = absurd (none b (keeps b e unused))
 
 -- the same arena
 pub same_unused : (a c : Contents) → c ≡ a → levels.MakesNoUnused a c
-same_unused a c is b bare = let P : Contents → Type 0 = λ x. levels.IsUnused x b in subst P is bare
+same_unused a c is b unused = let P : Contents → Type 0 = λ x. levels.IsUnused x b in subst P is unused
 
 -- no number has an unused entry, if none had one before, and none got one
 pub none_more : (a c : Contents) → levels.HasNoUnused a → levels.MakesNoUnused a c → levels.HasNoUnused c
-none_more a c none keeps b bare = none b (keeps b bare)
+none_more a c none keeps b unused = none b (keeps b unused)
 
 -- Changes in place, of the same numbers.
 
@@ -101,7 +101,7 @@ none_put m n b i is q none = by (q == b) (ap (λ t. cond t (Some i) (get m q)) (
 
 pub unused_by : (a c : Contents) → c.ids ≡ a.ids → ((b : ℕ) → get (blocks_of c) b ≡ None → get (blocks_of a) b ≡ None) → ((q : ReplicaId) → get (replicas_of c) q ≡ None → get (replicas_of a) q ≡ None)
     → levels.MakesNoUnused a c
-unused_by a c ids unknown empty b bare = unused_before a c b (some_before (same_numbers a c ids b) bare.entry) (unknown b) (λ s. empty (replica_at b s)) bare
+unused_by a c ids unknown empty b unused = unused_before a c b (some_before (same_numbers a c ids b) unused.entry) (unknown b) (λ s. empty (replica_at b s)) unused
 
 pub same_none : {K X : Type 0} {o : Order K} (m n : Map o X) → n ≡ m → (q : K) → get n q ≡ None → get m q ≡ None
 same_none m n is q none = sym (ap (λ k. get k q) is) ∙ none
@@ -112,16 +112,16 @@ pub none_received : (C : Cluster) (H : Holdings) (a c : Contents) (s b : ℕ) (s
     → ((slot : ℕ) → slot_of a b ≢ Some slot → block_at c slot ≡ block_at a slot) → replicas_of c ≡ (enter C H (replica_at b s) stamp).replicas
     → ((n : ℕ) → levels.IsUnused a n → b ≡ n) → levels.HasNoUnused c
 unfolding enter
-none_received C H a c s b stamp lawful ids others is only n bare =
+none_received C H a c s b stamp lawful ids others is only n unused =
     elim (cases_eq n b) [
       | inl same ↦
           let put : is_some (get (replicas_of c) (replica_at b s)) ≡ true = ap (λ m. is_some (get m (replica_at b s))) is ∙ ap is_some (get_here _ (replica_at b s) _) in
-          false≢true (sym (ap is_some (sym (ap (λ x. get (replicas_of c) (replica_at x s)) same) ∙ bare.empty s)) ∙ put)
+          false≢true (sym (ap is_some (sym (ap (λ x. get (replicas_of c) (replica_at x s)) same) ∙ unused.empty s)) ∙ put)
       | inr differs ↦
-          let led = there (slot_of c n) bare.entry in
+          let led = there (slot_of c n) unused.entry in
           let here : slot_of a n ≡ Some led.0 = sym (same_numbers a c ids n) ∙ led.1 in
           let apart : slot_of a b ≢ Some led.0 = λ e. differs (one_number a lawful n b led.0 here e) in
-          differs (sym (only n (unused_elsewhere a c n led.0 here led.1 (others led.0 apart) bare)))
+          differs (sym (only n (unused_elsewhere a c n led.0 here led.1 (others led.0 apart) unused)))
     ]
 
 -- After a report no entry is unused, if at most those of its numbers were before, and none at the
@@ -130,24 +130,24 @@ pub none_reported : (C : Cluster) (H : Holdings) (s : ℕ) (ns : List ReportedSl
     → levels.IsSameButDelimiter changed a m → ((slot : ℕ) → IsMember slot (take came changed) → IsReportedAt a (map reported_of ns) slot) → replicas_of m ≡ (report C H s (map reported_of ns)).replicas
     → ((n : ℕ) → levels.IsUnused a n → IsTrue (is_named (map reported_of ns) n)) → levels.MakesNoUnused m c
     → levels.HasNoUnusedAt (drop came changed) m c → levels.HasNoUnused c
-none_reported C H s ns a m c changed came lawful ids others reported_blocks is only keeps left n bare =
-    let mid = keeps n bare in
+none_reported C H s ns a m c changed came lawful ids others reported_blocks is only keeps left n unused =
+    let mid = keeps n unused in
     let led = there (slot_of m n) mid.entry in
     let here : slot_of a n ≡ Some led.0 = sym (same_numbers a m ids n) ∙ led.1 in
-    let not_told : IsTrue (is_named (map reported_of ns) n) → ⊥ = λ h.
-    let stands : contains_key (replicas_of m) (replica_at n s) ≡ true = named_there C H s ns m is (replica_at n s) (eq-eqb s s refl) ∙ h in
-    false≢true (sym (ap is_some (mid.empty s)) ∙ stands) in
+    let not_reported : IsTrue (is_named (map reported_of ns) n) → ⊥ = λ h.
+    let replica_there : contains_key (replicas_of m) (replica_at n s) ≡ true = named_there C H s ns m is (replica_at n s) (eq-eqb s s refl) ∙ h in
+    false≢true (sym (ap is_some (mid.empty s)) ∙ replica_there) in
     elim (dec_among led.0 (drop came changed)) [
-      | inl swept ↦ left n led.0 swept led.1 bare
+      | inl swept ↦ left n led.0 swept led.1 unused
       | inr unswept ↦
           elim (dec_among led.0 (take came changed)) [
             | inl first ↦
                 let t = reported_blocks led.0 first in
                 let P : ℕ → Type 0 = λ b. IsTrue (is_named (map reported_of ns) b) in
-                not_told (subst P (one_number a lawful t.0 n led.0 t.2 here) t.1)
+                not_reported (subst P (one_number a lawful t.0 n led.0 t.2 here) t.1)
             | inr unlisted ↦
                 let absent : IsMember led.0 changed → ⊥ = λ h. in_neither led.0 unlisted unswept h in
-                not_told (only n (unused_elsewhere a m n led.0 here led.1 (others led.0 (lawful.found n led.0 here).0 absent) mid))
+                not_reported (only n (unused_elsewhere a m n led.0 here led.1 (others led.0 (lawful.found n led.0 here).0 absent) mid))
           ]
     ]
   where
@@ -181,7 +181,7 @@ unfolding is_named
 named_alone r b stamp n is h = let P : List ReportedBlock → Type 0 = λ ts. IsTrue (is_named ts n) in subst P (sym is) (ap (λ t. t || false) h)
 
 pub none_prepared : (S : Seen) (these : ℕ → Bool) → HasNoUnused S → HasUnusedOnly these S
-none_prepared S these none b bare = absurd (none b bare)
+none_prepared S these none b unused = absurd (none b unused)
 
 -- The numbers to which an event may give entries.
 

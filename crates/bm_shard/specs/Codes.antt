@@ -17,8 +17,8 @@ coded_level = code_by ℕ coded_ℕ level_number level_of_number level_again
 abbrev pub coded_part : Coded Part
 coded_part = code_by (ℕ × ℕ) (coded× coded_ℕ coded_ℕ) (λ p. (p.index, p.shards)) (λ t. record { index = t.0; shards = t.1 }) (λ _. refl)
 
-abbrev pub coded_told : Coded ReportedBlock
-coded_told = code_by (ℕ × Stamp) (coded× coded_ℕ coded_stamp) (λ t. (t.id, t.stamp)) (λ t. record { id = t.0; stamp = t.1 }) (λ _. refl)
+abbrev pub coded_reported : Coded ReportedBlock
+coded_reported = code_by (ℕ × Stamp) (coded× coded_ℕ coded_stamp) (λ t. (t.id, t.stamp)) (λ t. record { id = t.0; stamp = t.1 }) (λ _. refl)
 
 abbrev cases : LookUp → (ℕ × List ReportedBlock) ⊎ (ℕ × List ReportedBlock)
 cases (NoticeOf s ts) = inl (s, ts)
@@ -33,7 +33,7 @@ look_up_again (NoticeOf s ts) = refl
 look_up_again (ReportOf s ts) = refl
 
 abbrev pub coded_look_up : Coded LookUp
-coded_look_up = code_by ((ℕ × List ReportedBlock) ⊎ (ℕ × List ReportedBlock)) (coded⊎ (coded× coded_ℕ (coded_list coded_told)) (coded× coded_ℕ (coded_list coded_told))) cases look_up look_up_again
+coded_look_up = code_by ((ℕ × List ReportedBlock) ⊎ (ℕ × List ReportedBlock)) (coded⊎ (coded× coded_ℕ (coded_list coded_reported)) (coded× coded_ℕ (coded_list coded_reported))) cases look_up look_up_again
 
 abbrev pub coded_room : Coded Reserved
 coded_room =

@@ -57,4 +57,4 @@ HasPrepared _ r a = Unit {0}
 pub record IsShard (part : Part) (v : Leveled) (r : LookedUpReport) (p : PreparedEvent) : Type 0 where
   pub index : part.index < part.shards
   pub ready : HasPrepared p r v.arena
-  pub bare : (b : ℕ) → IsUnused v.arena b → IsTrue (is_prepared p r b)
+  pub unused : (b : ℕ) → IsUnused v.arena b → IsTrue (is_prepared p r b)

@@ -14,8 +14,8 @@ use Rattle.bm_parts.specs.Parts.{reported_of}
 
 -- What was looked up for a storage: the reported block of a notice, or those of a full report.
 pub data LookUp : Type 0 where
-  NoticeOf : (storage : ℕ) → (told : List ReportedBlock) → LookUp
-  ReportOf : (storage : ℕ) → (told : List ReportedBlock) → LookUp
+  NoticeOf : (storage : ℕ) → (reported : List ReportedBlock) → LookUp
+  ReportOf : (storage : ℕ) → (reported : List ReportedBlock) → LookUp
 
 -- The reservations. Only the calls that make them and the calls that need them read them.
 pub record Reserved : Type 0 where

@@ -1,7 +1,7 @@
 // Transfers that end as the replicas for which they were commanded are reported.
 ghost use Rattle.std.specs.Prelude.{◌≡◌, ◌==◌, ◌&&◌, ℕ, not, slice_get, Some};
 ghost use Rattle.bm_base.specs.Words.{contains_key, keep, replica_at};
-ghost use Rattle.bm_arena.specs.Holding.{replicas_of};
+ghost use Rattle.bm_arena.specs.HeldMaps.{replicas_of};
 ghost use Rattle.bm_pending.specs.PendingMap.{blocks_in};
 ghost use Rattle.bm_shard.specs.Arrived.{has_arrived};
 

@@ -30,7 +30,7 @@ impl Shard {
         requires entry { IsMember id self.old.room.entries }
         ensures changed { HasChanged topology.now.cluster topology.now.cluster self.old self.new
             (events.add_block self.old.holdings id stamp repl) result }
-        ensures bare { HasNoUnused self.new }
+        ensures unused { HasNoUnused self.new }
     {
         let prepared = self.prepared;
         self.prepared = PreparedEvent::Nothing;
@@ -49,7 +49,7 @@ impl Shard {
         requires none { HasNoUnused self.old }
         ensures changed { HasChanged topology.now.cluster topology.now.cluster self.old self.new
             (events.delete_block self.old.holdings id) result }
-        ensures bare { HasNoUnused self.new }
+        ensures unused { HasNoUnused self.new }
     {
         self.prepared = PreparedEvent::Nothing;
         self.blocks.show_invariant();
@@ -65,7 +65,7 @@ impl Shard {
         requires none { HasNoUnused self.old }
         ensures changed { HasChanged topology.now.cluster topology.now.cluster self.old self.new
             (events.set_replication self.old.holdings id repl) result }
-        ensures bare { HasNoUnused self.new }
+        ensures unused { HasNoUnused self.new }
     {
         self.prepared = PreparedEvent::Nothing;
         self.blocks.show_invariant();
@@ -81,7 +81,7 @@ impl Shard {
         requires none { HasNoUnused self.old }
         ensures changed { HasChanged topology.now.cluster topology.now.cluster self.old self.new
             (events.restamp self.old.holdings id stamp) result }
-        ensures bare { HasNoUnused self.new }
+        ensures unused { HasNoUnused self.new }
     {
         self.prepared = PreparedEvent::Nothing;
         self.blocks.show_invariant();
@@ -97,7 +97,7 @@ impl Shard {
         requires none { HasNoUnused self.old }
         ensures changed { HasChanged topology.now.cluster topology.now.cluster self.old self.new
             (events.make_bad self.old.holdings (replica_at id storage)) result }
-        ensures bare { HasNoUnused self.new }
+        ensures unused { HasNoUnused self.new }
     {
         self.prepared = PreparedEvent::Nothing;
         self.blocks.show_invariant();
@@ -117,7 +117,7 @@ impl Shard {
         requires none { HasNoUnused self.old }
         ensures changed { HasChanged topology.now.cluster topology.now.cluster self.old self.new
             (events.remove_replica self.old.holdings (replica_at id storage)) result }
-        ensures bare { HasNoUnused self.new }
+        ensures unused { HasNoUnused self.new }
     {
         self.prepared = PreparedEvent::Nothing;
         self.blocks.show_invariant();

@@ -30,7 +30,7 @@ impl Shard {
             (replicas.has_storage topology.now.cluster node)) result }
         ensures few { (result.added < 2 ^ 100) × (result.removed < 2 ^ 100) }
         ensures lists { HasNoLists (replicas.has_storage topology.now.cluster node) self.new }
-        ensures bare { HasNoUnused self.new }
+        ensures unused { HasNoUnused self.new }
     {
         self.prepared = PreparedEvent::Nothing;
         self.blocks.show_invariant();
@@ -50,7 +50,7 @@ impl Shard {
             (events.without_storages self.old.holdings (λ t. t == storage)) result }
         ensures few { (result.added < 2 ^ 100) × (result.removed < 2 ^ 100) }
         ensures lists { HasNoLists (λ s. s == storage) self.new }
-        ensures bare { HasNoUnused self.new }
+        ensures unused { HasNoUnused self.new }
     {
         self.prepared = PreparedEvent::Nothing;
         self.blocks.show_invariant();
@@ -70,7 +70,7 @@ impl Shard {
             (if drains then events.begin_drain topology.now.cluster self.old.holdings node
             else self.old.holdings) result }
         ensures nothing { (result.added ≡ 0) × (result.removed ≡ 0) }
-        ensures bare { HasNoUnused self.new }
+        ensures unused { HasNoUnused self.new }
     {
         self.prepared = PreparedEvent::Nothing;
         self.blocks.show_invariant();
@@ -94,7 +94,7 @@ impl Shard {
             → HasChanged topology.now.cluster
             (events.register topology.now.cluster node rack storages) self.old self.new
             self.old.holdings result }
-        ensures bare { HasNoUnused self.new }
+        ensures unused { HasNoUnused self.new }
     {
         self.prepared = PreparedEvent::Nothing;
         topology.show_invariant();
@@ -110,7 +110,7 @@ impl Shard {
         requires none { HasNoUnused self.old }
         ensures changed { (C : Cluster) (remaining : List Remaining) → HasChanged C
             (events.heartbeat C remaining) self.old self.new self.old.holdings result }
-        ensures bare { HasNoUnused self.new }
+        ensures unused { HasNoUnused self.new }
     {
         self.prepared = PreparedEvent::Nothing;
         self.blocks.show_invariant();

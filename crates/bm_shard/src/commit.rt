@@ -24,7 +24,7 @@ impl Shard {
     pub fn commit(&mut self, event: &Event, topology: &Topology, multi: bool) -> Done
         requires cluster { first_of (cluster_checks topology.now.cluster event.now) ≡ None }
         requires multi { multi ≡ is_multi_rack (change_cluster topology.now.cluster event.now) }
-        requires standing { IsUpToDate topology.now.cluster self.old }
+        requires up_to_date { IsUpToDate topology.now.cluster self.old }
         requires ready { IsReadyFor event.now self.old }
         ensures holdings { self.new.holdings
             ≡ change_part topology.now.cluster self.old.holdings self.old.part.index
@@ -32,8 +32,8 @@ impl Shard {
         ensures done { result ≡ done self.old.holdings self.new.holdings }
         ensures few { block_of event.now ≡ None
             → (result.added < 2 ^ 100) × (result.removed < 2 ^ 100) }
-        ensures standing { IsUpToDate (change_cluster topology.now.cluster event.now) self.new }
-        ensures bare { HasNoUnused self.new }
+        ensures up_to_date { IsUpToDate (change_cluster topology.now.cluster event.now) self.new }
+        ensures unused { HasNoUnused self.new }
         ensures lists { HasNoLists (leaves topology.now.cluster event.now) self.new }
         ensures part { self.new.part ≡ self.old.part }
         ensures rounds { (self.new.round ≡ self.old.round) × (self.new.pend ≡ self.old.pend) }
@@ -75,7 +75,7 @@ impl Shard {
             self.old.part.shards event.now) result }
         ensures few { block_of event.now ≡ None
             → (result.added < 2 ^ 100) × (result.removed < 2 ^ 100) }
-        ensures bare { HasNoUnused self.new }
+        ensures unused { HasNoUnused self.new }
         ensures lists { HasNoLists (leaves topology.now.cluster event.now) self.new }
     {
         match event {

@@ -3,7 +3,7 @@ ghost use Rattle.std.specs.Prelude.{◌≡◌, ◌==◌, ◌<◌, ◌∷◌, [],
 ghost use Rattle.bm_base.specs.declared.refusal.Refusal.TheVariants.{Memory};
 ghost use Rattle.bm_base.specs.Words.{Refuses, Cluster, is_named};
 ghost use Rattle.bm_maps.specs.SlotLists.{IsMember};
-ghost use Rattle.bm_arena.specs.Holding.{replicas_of, blocks_of};
+ghost use Rattle.bm_arena.specs.HeldMaps.{replicas_of, blocks_of};
 ghost use Rattle.bm_report.specs.Expanded.{reported_to_part};
 ghost use Rattle.bm_levels.specs.Unused.{HasNoUnusedOf, MakesNoUnused};
 ghost use Rattle.bm_levels.specs.Leveled.{AreLevels};
@@ -27,7 +27,7 @@ impl Shard {
     pub fn prepare(&mut self, event: &Event, topology: &Topology) -> Result<(), Refusal>
         ensures ready { OnOk result (IsReadyFor event.now self.new) }
         ensures same { IsSameButCapacity self.old self.new }
-        ensures bare { HasUnusedOnly (may_add_entry self.old.part event.now) self.new }
+        ensures unused { HasUnusedOnly (may_add_entry self.old.part event.now) self.new }
         ensures given_up { OnErr result (HasNoUnused self.new) }
         ensures refused { IfErr result (Refuses None (needs_reservation event.now)) }
     {
@@ -59,7 +59,7 @@ impl Shard {
         requires none { HasNoUnused self.old }
         ensures ready { OnOk result (IsMember id self.new.room.entries) }
         ensures same { IsSameButCapacity self.old self.new }
-        ensures bare { HasUnusedOnly (λ b. id == b) self.new }
+        ensures unused { HasUnusedOnly (λ b. id == b) self.new }
         ensures given_up { OnErr result (HasNoUnused self.new) }
         ensures refused { IfErr result (λ e. e ≡ Memory) }
     {
@@ -80,7 +80,7 @@ impl Shard {
         ensures ready { OnOk result (self.new.room.report
             ≡ Some (NoticeOf storage (record { id = id; stamp = stamp } ∷ []))) }
         ensures same { IsSameButCapacity self.old self.new }
-        ensures bare { HasUnusedOnly (λ b. id == b) self.new }
+        ensures unused { HasUnusedOnly (λ b. id == b) self.new }
         ensures given_up { OnErr result (HasNoUnused self.new) }
         ensures refused { IfErr result (λ e. e ≡ Memory) }
     {
@@ -109,7 +109,7 @@ impl Shard {
         ensures ready { OnOk result (self.new.room.report
             ≡ Some (ReportOf storage (reported_to_part part entries.now))) }
         ensures same { IsSameButCapacity self.old self.new }
-        ensures bare { HasUnusedOnly (is_named (reported_to_part part entries.now)) self.new }
+        ensures unused { HasUnusedOnly (is_named (reported_to_part part entries.now)) self.new }
         ensures given_up { OnErr result (HasNoUnused self.new) }
         ensures refused { IfErr result (λ e. e ≡ Memory) }
     {
@@ -131,7 +131,7 @@ impl Shard {
     /// in some cluster. Takes no memory.
     pub fn abort(&mut self)
         ensures same { IsSameButCapacity self.old self.new }
-        ensures bare { HasNoUnused self.new }
+        ensures unused { HasNoUnused self.new }
         ensures transfers { self.new.room.transfers ≡ self.old.room.transfers }
     {
         let prepared = self.prepared;
@@ -152,7 +152,7 @@ pub(crate) fn drop_prepared(
 )
     ensures blocks { blocks_of blocks.new.arena ≡ blocks_of blocks.old.arena }
     ensures replicas { replicas_of blocks.new.arena ≡ replicas_of blocks.old.arena }
-    ensures bare { MakesNoUnused blocks.old.arena blocks.new.arena }
+    ensures unused { MakesNoUnused blocks.old.arena blocks.new.arena }
     ensures left { HasNoUnusedOf (is_prepared prepared report.old) blocks.new.arena }
     ensures levels { (C : Cluster) → AreLevels C blocks.old → AreLevels C blocks.new }
 {

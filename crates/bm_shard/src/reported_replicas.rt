@@ -39,7 +39,7 @@ impl Shard {
         ensures changed { HasChanged topology.now.cluster topology.now.cluster self.old self.new
             (events.enter topology.now.cluster self.old.holdings (replica_at id storage) stamp)
             result }
-        ensures bare { HasNoUnused self.new }
+        ensures unused { HasNoUnused self.new }
     {
         self.prepared = PreparedEvent::Nothing;
         self.blocks.show_invariant();
@@ -62,7 +62,7 @@ impl Shard {
             → HasChanged topology.now.cluster topology.now.cluster self.old self.new
             (events.report topology.now.cluster self.old.holdings storage ts) result }
         ensures few { (result.added < 2 ^ 100) × (result.removed < 2 ^ 100) }
-        ensures bare { HasNoUnused self.new }
+        ensures unused { HasNoUnused self.new }
     {
         self.prepared = PreparedEvent::Nothing;
         self.blocks.show_invariant();

@@ -21,7 +21,7 @@ impl Shard {
     /// are scanned until it is reported. `Memory`.
     pub fn round_part(&self, round: u64, topology: &Topology) -> Result<RoundPart, Refusal>
         requires next { round ≡ self.now.round + 1 }
-        requires standing { IsUpToDate topology.now.cluster self.now }
+        requires up_to_date { IsUpToDate topology.now.cluster self.now }
         ensures part { IfOk result (λ p. p ≡ next_part topology.now.cluster self.now) }
         ensures refused { IfErr result (λ e. e ≡ Memory) }
     {
@@ -37,7 +37,7 @@ impl Shard {
         bound: Option<Key>,
     ) -> Result<RoundPart, Refusal>
         requires next { round ≡ self.now.round + 1 }
-        requires standing { IsUpToDate topology.now.cluster self.now }
+        requires up_to_date { IsUpToDate topology.now.cluster self.now }
         ensures part { IfOk result
             (λ p. p ≡ part_before bound (next_part topology.now.cluster self.now)) }
         ensures refused { IfErr result (λ e. e ≡ Memory) }
@@ -88,7 +88,7 @@ impl Shard {
     /// its own chosen transfers become pending. Every shard takes every round, also one in which
     /// nothing was chosen. What was prepared for an event is given up. Takes no memory.
     pub fn round_commit(&mut self, part: &RoundPart, chosen: &Chosen, topology: &Topology)
-        requires standing { IsUpToDate topology.now.cluster self.old }
+        requires up_to_date { IsUpToDate topology.now.cluster self.old }
         requires part { part.now.excess ≡ (next_part topology.now.cluster self.old).excess }
         requires ready { IsReadyForRound chosen.now self.old }
         requires counted { self.old.round + 1 < 2 ^ 64 }
@@ -96,10 +96,10 @@ impl Shard {
             ≡ round_on_part topology.now.cluster self.old.pend (self.old.round + 1)
             self.old.holdings self.old.part.index self.old.part.shards chosen.now.transfers
             chosen.now.deletes }
-        ensures standing { IsUpToDate topology.now.cluster self.new }
+        ensures up_to_date { IsUpToDate topology.now.cluster self.new }
         ensures part { self.new.part ≡ self.old.part }
         ensures rounds { (self.new.round ≡ self.old.round + 1) × (self.new.pend ≡ self.old.pend) }
-        ensures bare { HasNoUnused self.new }
+        ensures unused { HasNoUnused self.new }
     {
         self.abort();
         self.take_round(part, chosen, topology);
@@ -107,7 +107,7 @@ impl Shard {
 
     /// Takes the shard's next round, with nothing prepared.
     fn take_round(&mut self, part: &RoundPart, chosen: &Chosen, topology: &Topology)
-        requires standing { IsUpToDate topology.now.cluster self.old }
+        requires up_to_date { IsUpToDate topology.now.cluster self.old }
         requires part { part.now.excess ≡ (next_part topology.now.cluster self.old).excess }
         requires ready { IsReadyForRound chosen.now self.old }
         requires counted { self.old.round + 1 < 2 ^ 64 }
@@ -116,10 +116,10 @@ impl Shard {
             ≡ round_on_part topology.now.cluster self.old.pend (self.old.round + 1)
             self.old.holdings self.old.part.index self.old.part.shards chosen.now.transfers
             chosen.now.deletes }
-        ensures standing { IsUpToDate topology.now.cluster self.new }
+        ensures up_to_date { IsUpToDate topology.now.cluster self.new }
         ensures part { self.new.part ≡ self.old.part }
         ensures rounds { (self.new.round ≡ self.old.round + 1) × (self.new.pend ≡ self.old.pend) }
-        ensures bare { HasNoUnused self.new }
+        ensures unused { HasNoUnused self.new }
     {
         let round = self.round + 1;
         self.prepared = PreparedEvent::Nothing;

@@ -79,8 +79,8 @@ impl Shard {
             (λ s. s.part ≡ record { index = index; shards = config.now.shards }) }
         ensures round { IfOk result (λ s. s.round ≡ config.now.first_round) }
         ensures pend { IfOk result (λ s. s.pend ≡ config.now.pend) }
-        ensures standing { IfOk result (λ s. (C : Cluster) → IsUpToDate C s) }
-        ensures bare { IfOk result (λ s. HasNoUnused s) }
+        ensures up_to_date { IfOk result (λ s. (C : Cluster) → IsUpToDate C s) }
+        ensures unused { IfOk result (λ s. HasNoUnused s) }
         ensures refused { IfErr result (λ e. e ≡ Memory) }
     {
         Shard::with_secret(alloc, index, config, HashSecret::none())
@@ -100,8 +100,8 @@ impl Shard {
             (λ s. s.part ≡ record { index = index; shards = config.now.shards }) }
         ensures round { IfOk result (λ s. s.round ≡ config.now.first_round) }
         ensures pend { IfOk result (λ s. s.pend ≡ config.now.pend) }
-        ensures standing { IfOk result (λ s. (C : Cluster) → IsUpToDate C s) }
-        ensures bare { IfOk result (λ s. HasNoUnused s) }
+        ensures up_to_date { IfOk result (λ s. (C : Cluster) → IsUpToDate C s) }
+        ensures unused { IfOk result (λ s. HasNoUnused s) }
         ensures refused { IfErr result (λ e. e ≡ Memory) }
     {
         let blocks = LeveledBlocks::new(alloc, secret)?;

@@ -18,7 +18,7 @@ use Rattle.bm_parts.proofs.Before.{ascends_still, merged_before}
 use Rattle.bm_parts.proofs.Filters.{filter_all}
 use Rattle.bm_parts.proofs.MergedChoices.{wishes_join, parts_choose_transfers, parts_choose_deletes}
 use Rattle.bm_parts.proofs.WholeParts.{whole_has_its_parts}
-use Rattle.bm_round.specs.Merging.{keyed_wishes, keyed_delete, keyed_deletes}
+use Rattle.bm_round.specs.KeyedParts.{keyed_wishes, keyed_delete, keyed_deletes}
 use Rattle.bm_round.proofs.WishCopies.{none_has}
 use Rattle.bm_shard.specs.Seen.{Seen}
 use Rattle.bm_shard.specs.UpToDate.{next_part}

@@ -20,9 +20,9 @@ excess_at (p ∷ ps) (suc i) = excess_at ps i
 module _ (C : Cluster) where
   -- each shard may be asked for its part in its next round
   pub can_find : (last pend : ℕ) (ss : List (ℕ × Seen)) → AreUpToDate C ss → HaveTaken last pend ss → All (λ (s : ℕ × Seen). CanFind C (last + 1) s.1) ss
-  can_find last pend [] stands took = All-nil (λ (s : ℕ × Seen). CanFind C (last + 1) s.1)
-  can_find last pend (s ∷ ss) stands took =
-      All-cons (λ (s : ℕ × Seen). CanFind C (last + 1) s.1) s ss (record { next = ap (λ x. x + 1) (sym took.0); stands = stands.0 }) (can_find last pend ss stands.1 took.2)
+  can_find last pend [] up_to_date took = All-nil (λ (s : ℕ × Seen). CanFind C (last + 1) s.1)
+  can_find last pend (s ∷ ss) up_to_date took =
+      All-cons (λ (s : ℕ × Seen). CanFind C (last + 1) s.1) s ss (record { next = ap (λ x. x + 1) (sym took.0); up_to_date = up_to_date.0 }) (can_find last pend ss up_to_date.1 took.2)
 
   -- The excess of each shard is at its index.
 

@@ -13,22 +13,22 @@ use Rattle.bm_shard.specs.UpToDate as shard
 use Rattle.bm_shards.specs.Whole.{Whole, AreUpToDate, IsUpToDate}
 
 module _ (C : Cluster) (n : ℕ) (rs : List Remaining) (lawful : IsLawfulCluster C) (fine : first_of (cluster_checks C (Heartbeat n rs)) ≡ None) where
-  one_stands : (S : Seen) → shard.IsUpToDate C S → shard.IsUpToDate (change_cluster C (Heartbeat n rs)) S
+  one_up_to_date : (S : Seen) → shard.IsUpToDate C S → shard.IsUpToDate (change_cluster C (Heartbeat n rs)) S
   unfolding change_cluster change_holdings
-  one_stands S h = record {
+  one_up_to_date S h = record {
     levels = λ b. h.levels b ∙ sym (heartbeat_leaves_levels C rs S.holdings b);
     placed = event_keeps_placed C S.holdings (Heartbeat n rs) 0 1 lawful fine h.placed;
   }
 
-  each_stands : (ss : List (ℕ × Seen)) → AreUpToDate C ss → AreUpToDate (change_cluster C (Heartbeat n rs)) ss
-  each_stands [] h = tt
-  each_stands (s ∷ ss) h = (one_stands s.1 h.0, each_stands ss h.1)
+  each_up_to_date : (ss : List (ℕ × Seen)) → AreUpToDate C ss → AreUpToDate (change_cluster C (Heartbeat n rs)) ss
+  each_up_to_date [] h = tt
+  each_up_to_date (s ∷ ss) h = (one_up_to_date s.1 h.0, each_up_to_date ss h.1)
 
-pub stands_heard : (C : Cluster) (e : Event) (n : ℕ) (rs : List Remaining) (F : Whole) → e ≡ Heartbeat n rs → IsLawfulCluster C → first_of (cluster_checks C e) ≡ None → IsUpToDate C F
+pub heartbeat_up_to_date : (C : Cluster) (e : Event) (n : ℕ) (rs : List Remaining) (F : Whole) → e ≡ Heartbeat n rs → IsLawfulCluster C → first_of (cluster_checks C e) ≡ None → IsUpToDate C F
     → IsUpToDate (change_cluster C e) F
 unfolding IsUpToDate
-stands_heard C e n rs F is lawful fine h =
-    subst (λ x. AreUpToDate (change_cluster C x) F.shards) (sym is) (each_stands C n rs lawful (subst (λ x. first_of (cluster_checks C x) ≡ None) is fine) F.shards h)
+heartbeat_up_to_date C e n rs F is lawful fine h =
+    subst (λ x. AreUpToDate (change_cluster C x) F.shards) (sym is) (each_up_to_date C n rs lawful (subst (λ x. first_of (cluster_checks C x) ≡ None) is fine) F.shards h)
 
 pub holdings_heard : (C : Cluster) (H : Holdings) (e : Event) (n : ℕ) (rs : List Remaining) → e ≡ Heartbeat n rs → H ≡ change_holdings C H e
 unfolding change_holdings

@@ -46,9 +46,9 @@ module _ (config : Config) where
   new_empty index [] each = refl
   new_empty index (s ∷ ss) each = (λ j. joined_with (each.0.empty j) (new_empty (suc index) ss each.1 j)) ∙ next_to_empty
 
-  pub new_stand : (C : Cluster) (index : ℕ) (ss : List (ℕ × Seen)) → AreNew config index ss → AreUpToDate C ss
-  new_stand C index [] each = tt
-  new_stand C index (s ∷ ss) each = (each.0.stands C, new_stand C (suc index) ss each.1)
+  pub new_up_to_date : (C : Cluster) (index : ℕ) (ss : List (ℕ × Seen)) → AreNew config index ss → AreUpToDate C ss
+  new_up_to_date C index [] each = tt
+  new_up_to_date C index (s ∷ ss) each = (each.0.up_to_date C, new_up_to_date C (suc index) ss each.1)
 
   pub new_took : (index : ℕ) (ss : List (ℕ × Seen)) → AreNew config index ss → HaveTaken config.first_round config.pend ss
   new_took index [] each = tt

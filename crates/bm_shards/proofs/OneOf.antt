@@ -15,7 +15,7 @@ use Rattle.bm_shard.specs.Seen.{Seen}
 use Rattle.bm_shard.specs.UpToDate.{IsUpToDate, IsSameButCapacity}
 use Rattle.bm_shards.specs.Whole.{parts_of, held_by, AreIndexed, AreShards, AreUpToDate, HaveTaken}
 use Rattle.bm_shards.specs.OneShard.{IsChanged, IsMadeAt}
-use Rattle.bm_shards.proofs.SameShards.{count_of, stands_still, are_shards}
+use Rattle.bm_shards.proofs.SameShards.{count_of, stays_up_to_date, are_shards}
 
 get_part : (ss : List (ℕ × Seen)) (k : ℕ) (s : ℕ × Seen) → slice_get ss k ≡ Some s → slice_get (parts_of ss) k ≡ Some s.1.holdings
 get_part [] k s e = cc
@@ -47,15 +47,15 @@ indexed_set shards i (r ∷ ss) zero s x h e same part =
     (same ∙ ap (λ t. t.0) (sym (same_Some r s e)) ∙ h.0, part ∙ ap (λ t. t.1.part) (sym (same_Some r s e)) ∙ h.1, h.2)
 indexed_set shards i (r ∷ ss) (suc k) s x h e same part = (h.0, h.1, indexed_set shards (suc i) ss k s x h.2 e same part)
 
-pub stands_at : (C : Cluster) (ss : List (ℕ × Seen)) (k : ℕ) (s : ℕ × Seen) → AreUpToDate C ss → slice_get ss k ≡ Some s → IsUpToDate C s.1
-stands_at C [] k s h e = cc
-stands_at C (r ∷ ss) zero s h e = subst (λ t. IsUpToDate C t.1) (same_Some r s e) h.0
-stands_at C (r ∷ ss) (suc k) s h e = stands_at C ss k s h.1 e
+pub up_to_date_at : (C : Cluster) (ss : List (ℕ × Seen)) (k : ℕ) (s : ℕ × Seen) → AreUpToDate C ss → slice_get ss k ≡ Some s → IsUpToDate C s.1
+up_to_date_at C [] k s h e = cc
+up_to_date_at C (r ∷ ss) zero s h e = subst (λ t. IsUpToDate C t.1) (same_Some r s e) h.0
+up_to_date_at C (r ∷ ss) (suc k) s h e = up_to_date_at C ss k s h.1 e
 
-stands_set : (C : Cluster) (ss : List (ℕ × Seen)) (k : ℕ) (x : ℕ × Seen) → AreUpToDate C ss → IsUpToDate C x.1 → AreUpToDate C (slice_set ss k x)
-stands_set C [] k x h one = tt
-stands_set C (r ∷ ss) zero x h one = (one, h.1)
-stands_set C (r ∷ ss) (suc k) x h one = (h.0, stands_set C ss k x h.1 one)
+up_to_date_set : (C : Cluster) (ss : List (ℕ × Seen)) (k : ℕ) (x : ℕ × Seen) → AreUpToDate C ss → IsUpToDate C x.1 → AreUpToDate C (slice_set ss k x)
+up_to_date_set C [] k x h one = tt
+up_to_date_set C (r ∷ ss) zero x h one = (one, h.1)
+up_to_date_set C (r ∷ ss) (suc k) x h one = (h.0, up_to_date_set C ss k x h.1 one)
 
 took_set : (round pend : ℕ) (ss : List (ℕ × Seen)) (k : ℕ) (s x : ℕ × Seen) → HaveTaken round pend ss → slice_get ss k ≡ Some s → x.1.round ≡ s.1.round → x.1.pend ≡ s.1.pend → HaveTaken round pend (slice_set ss k x)
 took_set round pend [] k s x h e same again = cc
@@ -123,11 +123,11 @@ module _ (C : Cluster) (e : Event) (b : ℕ) (ss ts : List (ℕ × Seen)) (h : A
           made.holds.done ∙ ap (done S.1.holdings) changed_part ∙ all.1 ∙ ap (λ Qs. done (held_by ss) (whole_of Qs)) (sym parts_now),
         )
 
-    pub one_stands : AreUpToDate C ss → AreUpToDate (change_cluster C e) ts
-    one_stands stand =
+    pub one_up_to_date : AreUpToDate C ss → AreUpToDate (change_cluster C e) ts
+    one_up_to_date was_up_to_date =
         let same : change_cluster C e ≡ C = same_cluster C e b is in
         subst (λ D. AreUpToDate D ts) (sym same)
-        (subst (AreUpToDate C) (sym made.now) (stands_set C ss place (S.0, made.made) stand (subst (λ D. IsUpToDate D made.made) same made.holds.stands)))
+        (subst (AreUpToDate C) (sym made.now) (up_to_date_set C ss place (S.0, made.made) was_up_to_date (subst (λ D. IsUpToDate D made.made) same made.holds.up_to_date)))
 
     pub one_took : (round pend : ℕ) → HaveTaken round pend ss → HaveTaken round pend ts
     one_took round pend took = subst (HaveTaken round pend) (sym made.now) (took_set round pend ss place S (S.0, made.made) took made.there made.holds.round made.holds.pend)
@@ -157,9 +157,9 @@ module _ (C : Cluster) (e : Event) (b : ℕ) (ss ts : List (ℕ × Seen)) (h : A
       few = h.few;
     })
 
-    pub still_stands : AreUpToDate C ss → AreUpToDate C ts
-    still_stands stand =
-        subst (AreUpToDate C) (sym made.now) (stands_set C ss place (O.0, made.made) stand (stands_still C O.1 made.made made.holds (stands_at C ss place O stand made.there)))
+    pub still_up_to_date : AreUpToDate C ss → AreUpToDate C ts
+    still_up_to_date was_up_to_date =
+        subst (AreUpToDate C) (sym made.now) (up_to_date_set C ss place (O.0, made.made) was_up_to_date (stays_up_to_date C O.1 made.made made.holds (up_to_date_at C ss place O was_up_to_date made.there)))
 
     pub still_took : (round pend : ℕ) → HaveTaken round pend ss → HaveTaken round pend ts
     still_took round pend took =
@@ -198,7 +198,7 @@ module _ (C : Cluster) (e : Event) (b place : ℕ) (ss ts : List (ℕ × Seen)) 
       by (Ok d) made still =
           let here = subst (λ k. IsMadeAt (λ S T. IsChanged C e S T d) k ss ts) at made in
           let all = one_is_enough C e b ss ts h is d here in
-          (all.2, all.0, one_stands C e b ss ts h is d here, all.1, one_took C e b ss ts h is d here, tt, (λ _. tt))
+          (all.2, all.0, one_up_to_date C e b ss ts h is d here, all.1, one_took C e b ss ts h is d here, tt, (λ _. tt))
       by (Err x) made still =
           let here = subst (λ k. IsMadeAt IsSameButCapacity k ss ts) at still in
-          (tt, tt, (λ _. tt), still_are C e b ss ts h is here, still_took C e b ss ts h is here, still_held C e b ss ts h is here, still_stands C e b ss ts h is here)
+          (tt, tt, (λ _. tt), still_are C e b ss ts h is here, still_took C e b ss ts h is here, still_held C e b ss ts h is here, still_up_to_date C e b ss ts h is here)

@@ -65,9 +65,9 @@ pub no_check : (H : Holdings) (e : Event) → block_of e ≡ None → checked No
 no_check H e none = ap checked (sym (no_block_checks H e none))
 
 -- if the whole is up to date in a cluster, so is each shard
-pub stands_inside : (C : Cluster) (items : List (ℕ × Seen)) (F : Whole) → record { holdings = held_by items; shards = items } ≡ F → IsUpToDate C F → AreUpToDate C items
+pub up_to_date_inside : (C : Cluster) (items : List (ℕ × Seen)) (F : Whole) → record { holdings = held_by items; shards = items } ≡ F → IsUpToDate C F → AreUpToDate C items
 unfolding IsUpToDate
-stands_inside C items F seen h = subst (λ (G : Whole). AreUpToDate C G.shards) (sym seen) h
+up_to_date_inside C items F seen h = subst (λ (G : Whole). AreUpToDate C G.shards) (sym seen) h
 
 -- Some shard holds a node back.
 

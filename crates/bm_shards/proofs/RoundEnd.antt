@@ -13,8 +13,8 @@ use Rattle.bm_shards.specs.Answers.{EachBecame}
 use Rattle.bm_shards.specs.Worked.{IsSame}
 use Rattle.bm_shards.specs.Rounds.{commands_in, left_by_round}
 use Rattle.bm_shards.specs.RoundWorked.{HasTakenRound}
-use Rattle.bm_shards.proofs.RoundsTaken.{are_after, held_after, stands_after, took_after}
-use Rattle.bm_shards.proofs.SameShards.{still_shards, same_held, same_stands, same_took}
+use Rattle.bm_shards.proofs.RoundsTaken.{are_after, held_after, up_to_date_after, took_after}
+use Rattle.bm_shards.proofs.SameShards.{still_shards, same_held, same_up_to_date, same_took}
 
 module _ (C : Cluster) (limits : RoundLimits) (last : ℕ) (ss : List (ℕ × Seen)) (h : AreShards (length ss) ss) (took : HaveTaken last limits.pend ss) where
   -- The round was taken.
@@ -26,8 +26,8 @@ module _ (C : Cluster) (limits : RoundLimits) (last : ℕ) (ss : List (ℕ × Se
     pub end_shards : AreShards (length ts) ts
     end_shards = are_after C chosen last limits.pend ss ts each h took
 
-    pub end_stands : AreUpToDate C ts
-    end_stands = stands_after C chosen ss ts each
+    pub end_up_to_date : AreUpToDate C ts
+    end_up_to_date = up_to_date_after C chosen ss ts each
 
     pub end_took : HaveTaken (last + 1) limits.pend ts
     end_took = took_after C chosen last limits.pend ss ts each took
@@ -48,8 +48,8 @@ module _ (C : Cluster) (limits : RoundLimits) (last : ℕ) (ss : List (ℕ × Se
     pub still_held : held_by ts ≡ held_by ss
     still_held = same_held ss ts still
 
-    pub still_stand : AreUpToDate C ss → AreUpToDate C ts
-    still_stand = same_stands C ss ts still
+    pub all_still_up_to_date : AreUpToDate C ss → AreUpToDate C ts
+    all_still_up_to_date = same_up_to_date C ss ts still
 
     pub still_took : HaveTaken last limits.pend ts
     still_took = same_took last limits.pend ss ts still took

@@ -17,7 +17,7 @@ use Rattle.bm_shards.specs.Answers.{EachBecame, Asked, shard_answered, first_fau
 use Rattle.bm_shards.specs.Worked.{IsSame, IsPrepared}
 use Rattle.bm_shards.specs.RoundWorked.{HasPart, CanCommitRound, HasTakenRound}
 use Rattle.bm_shards.proofs.Gathered.{prepared_same, prepared_ready}
-use Rattle.bm_shards.proofs.SameShards.{count_of, are_shards, same_all, same_stands}
+use Rattle.bm_shards.proofs.SameShards.{count_of, are_shards, same_all, same_up_to_date}
 
 module _ (C : Cluster) (chosen : Chosen) where
   -- After the preparation.
@@ -27,20 +27,20 @@ module _ (C : Cluster) (chosen : Chosen) where
 
   can_commit_round : (all : List RoundPart) (ss : List (ℕ × Seen)) → All (HasPart C all) ss → AreUpToDate C ss → All IsCounted ss → All (λ (s : ℕ × Seen). IsReadyForRound chosen s.1) ss
       → All (CanCommitRound C all chosen) ss
-  can_commit_round all [] has stands few ready = All-nil (CanCommitRound C all chosen)
-  can_commit_round all (s ∷ ss) has stands few ready =
+  can_commit_round all [] has up_to_date few ready = All-nil (CanCommitRound C all chosen)
+  can_commit_round all (s ∷ ss) has up_to_date few ready =
       All-cons (CanCommitRound C all chosen) s ss
-      (record { stands = stands.0; part = All-head (HasPart C all) s ss has; ready = All-head (λ (s : ℕ × Seen). IsReadyForRound chosen s.1) s ss ready; counted = All-head IsCounted s ss few })
-      (can_commit_round all ss (All-tail (HasPart C all) s ss has) stands.1 (All-tail IsCounted s ss few) (All-tail (λ (s : ℕ × Seen). IsReadyForRound chosen s.1) s ss ready))
+      (record { up_to_date = up_to_date.0; part = All-head (HasPart C all) s ss has; ready = All-head (λ (s : ℕ × Seen). IsReadyForRound chosen s.1) s ss ready; counted = All-head IsCounted s ss few })
+      (can_commit_round all ss (All-tail (HasPart C all) s ss has) up_to_date.1 (All-tail IsCounted s ss few) (All-tail (λ (s : ℕ × Seen). IsReadyForRound chosen s.1) s ss ready))
 
   -- if no preparation was refused, each shard may take the round
   pub all_ready_for_round : (all : List RoundPart) (ss : List (ℕ × Seen)) (ps : List (ℕ × Asked (Unit {0}))) → EachBecame (IsPrepared (IsReadyForRound chosen)) ss ps → All (HasPart C all) ss
       → AreUpToDate C ss → All IsCounted ss → first_fault ps ≡ Ok tt → All (CanCommitRound C all chosen) (map shard_answered ps)
-  all_ready_for_round all ss ps each has stands few fine =
+  all_ready_for_round all ss ps each has up_to_date few fine =
       let same = prepared_same (IsReadyForRound chosen) ss ps each in
       can_commit_round all (map shard_answered ps)
       (same_all (HasPart C all) (λ s t one h. ap (λ i. option_map (λ (p : RoundPart). p.excess) (slice_get all i)) one.0 ∙ h ∙ ap (λ S. Some (next_part C S).excess) (sym one.1.rest)) ss (map shard_answered ps) same has)
-      (same_stands C ss (map shard_answered ps) same stands)
+      (same_up_to_date C ss (map shard_answered ps) same up_to_date)
       (same_all IsCounted (λ s t one h. subst (λ n. n + 1 < 2 ^ 64) (sym (ap (λ S. S.round) one.1.rest)) h) ss (map shard_answered ps) same few) (prepared_ready (IsReadyForRound chosen) ss ps each fine)
 
   -- After the round, for shards that changed only their capacity before it.
@@ -51,7 +51,7 @@ module _ (C : Cluster) (chosen : Chosen) where
         h.0 ∙ same.0,
         record {
           holdings = h.1.holdings ∙ (λ j. round_on_part C (is j).pend ((is j).round + 1) (is j).holdings (is j).part.index (is j).part.shards chosen.transfers chosen.deletes);
-          stands = h.1.stands;
+          up_to_date = h.1.up_to_date;
           part = h.1.part ∙ ap (λ S. S.part) is;
           round = h.1.round ∙ ap (λ S. S.round + 1) is;
           pend = h.1.pend ∙ ap (λ S. S.pend) is;
@@ -84,11 +84,11 @@ module _ (C : Cluster) (chosen : Chosen) where
   indexed_after shards index (s ∷ ss) [] each h = absurd each
   indexed_after shards index (s ∷ ss) (t ∷ ts) each h = (each.0.0 ∙ h.0, each.0.1.part ∙ h.1, indexed_after shards (suc index) ss ts each.1 h.2)
 
-  pub stands_after : (ss ts : List (ℕ × Seen)) → EachBecame (HasTakenRound C chosen) ss ts → AreUpToDate C ts
-  stands_after [] [] each = tt
-  stands_after [] (t ∷ ts) each = absurd each
-  stands_after (s ∷ ss) [] each = absurd each
-  stands_after (s ∷ ss) (t ∷ ts) each = (each.0.1.stands, stands_after ss ts each.1)
+  pub up_to_date_after : (ss ts : List (ℕ × Seen)) → EachBecame (HasTakenRound C chosen) ss ts → AreUpToDate C ts
+  up_to_date_after [] [] each = tt
+  up_to_date_after [] (t ∷ ts) each = absurd each
+  up_to_date_after (s ∷ ss) [] each = absurd each
+  up_to_date_after (s ∷ ss) (t ∷ ts) each = (each.0.1.up_to_date, up_to_date_after ss ts each.1)
 
   pub took_after : (last pend : ℕ) (ss ts : List (ℕ × Seen)) → EachBecame (HasTakenRound C chosen) ss ts → HaveTaken last pend ss → HaveTaken (last + 1) pend ts
   took_after last pend [] [] each took = tt

@@ -20,8 +20,8 @@ pub count_of : (ss : List (ℕ × Seen)) → length (parts_of ss) ≡ length ss
 count_of [] = refl
 count_of (s ∷ ss) = ap suc (count_of ss)
 
-pub stands_still : (C : Cluster) (S T : Seen) → IsSameButCapacity S T → IsUpToDate C S → IsUpToDate C T
-stands_still C S T same h =
+pub stays_up_to_date : (C : Cluster) (S T : Seen) → IsSameButCapacity S T → IsUpToDate C S → IsUpToDate C T
+stays_up_to_date C S T same h =
     let held : T.holdings ≡ S.holdings = ap (λ s. s.holdings) same.rest in
     record {
       levels = λ b. ap (λ m. get m b) (same.levels C h) ∙ h.levels b ∙ ap (λ H. level C H b) (sym held);
@@ -34,17 +34,17 @@ same_again R S T first next =
     let with_room : Seen → Seen = λ s. record s { levels = T.levels; room = T.room } in
     record {
       rest = next.rest ∙ ap with_room first.rest;
-      levels = λ C h. next.levels C (stands_still C R S first h) ∙ first.levels C h;
+      levels = λ C h. next.levels C (stays_up_to_date C R S first h) ∙ first.levels C h;
     }
 
 -- no number has an unused entry afterwards, if the step keeps the entries
 pub unused_again : (S T : Seen) → IsSameButCapacity S T → T.room.entries ≡ S.room.entries → HasNoUnused S → HasNoUnused T
-unused_again S T same entries none b bare =
+unused_again S T same entries none b unused =
     let held : T.holdings ≡ S.holdings = ap (λ s. s.holdings) same.rest in
     none b (record {
-      entry = subst (λ (l : List ℕ). IsMember b l) entries bare.entry;
-      unknown = ap (λ (H : Holdings). get H.blocks b) (sym held) ∙ bare.unknown;
-      empty = λ s. ap (λ (H : Holdings). get H.replicas (replica_at b s)) (sym held) ∙ bare.empty s;
+      entry = subst (λ (l : List ℕ). IsMember b l) entries unused.entry;
+      unknown = ap (λ (H : Holdings). get H.blocks b) (sym held) ∙ unused.unknown;
+      empty = λ s. ap (λ (H : Holdings). get H.replicas (replica_at b s)) (sym held) ∙ unused.empty s;
     })
 
 pub all_same_again : (rs ss ts : List (ℕ × Seen)) → AllZip IsSame rs ss → AllZip IsSame ss ts → AllZip IsSame rs ts
@@ -92,11 +92,11 @@ same_indexed shards index [] (t ∷ ts) each h = absurd each
 same_indexed shards index (s ∷ ss) [] each h = absurd each
 same_indexed shards index (s ∷ ss) (t ∷ ts) each h = (each.0.0 ∙ h.0, ap (λ S. S.part) each.0.1.rest ∙ h.1, same_indexed shards (suc index) ss ts each.1 h.2)
 
-pub same_stands : (C : Cluster) (ss ts : List (ℕ × Seen)) → AllZip IsSame ss ts → AreUpToDate C ss → AreUpToDate C ts
-same_stands C [] [] each h = tt
-same_stands C [] (t ∷ ts) each h = absurd each
-same_stands C (s ∷ ss) [] each h = absurd each
-same_stands C (s ∷ ss) (t ∷ ts) each h = (stands_still C s.1 t.1 each.0.1 h.0, same_stands C ss ts each.1 h.1)
+pub same_up_to_date : (C : Cluster) (ss ts : List (ℕ × Seen)) → AllZip IsSame ss ts → AreUpToDate C ss → AreUpToDate C ts
+same_up_to_date C [] [] each h = tt
+same_up_to_date C [] (t ∷ ts) each h = absurd each
+same_up_to_date C (s ∷ ss) [] each h = absurd each
+same_up_to_date C (s ∷ ss) (t ∷ ts) each h = (stays_up_to_date C s.1 t.1 each.0.1 h.0, same_up_to_date C ss ts each.1 h.1)
 
 pub same_took : (round pend : ℕ) (ss ts : List (ℕ × Seen)) → AllZip IsSame ss ts → HaveTaken round pend ss → HaveTaken round pend ts
 same_took round pend [] [] each h = tt

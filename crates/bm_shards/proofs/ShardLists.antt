@@ -15,22 +15,22 @@ use Rattle.bm_shards.specs.Answers.{EachBecame, Asked, shard_answered, first_fau
 use Rattle.bm_shards.specs.Whole.{parts_of, held_by, AreIndexed, AreShards, AreUpToDate, HaveTaken}
 use Rattle.bm_shards.specs.declared.answers.Answered.{Answered}
 use Rattle.bm_shards.proofs.Gathered.{prepared_same, prepared_ready}
-use Rattle.bm_shards.proofs.SameShards.{count_of, are_shards, same_stands}
+use Rattle.bm_shards.proofs.SameShards.{count_of, are_shards, same_up_to_date}
 
 module _ (C : Cluster) (e : Event) where
   -- After the preparation.
 
   can_commit : (ss : List (ℕ × Seen)) → AreUpToDate C ss → All (λ (s : ℕ × Seen). IsReadyFor e s.1) ss → All (λ (s : ℕ × Seen). CanCommit C e s.1) ss
-  can_commit [] stands ready = All-nil (λ (s : ℕ × Seen). CanCommit C e s.1)
-  can_commit (s ∷ ss) stands ready =
-      All-cons (λ (s : ℕ × Seen). CanCommit C e s.1) s ss (record { stands = stands.0; ready = All-head (λ (s : ℕ × Seen). IsReadyFor e s.1) s ss ready })
-      (can_commit ss stands.1 (All-tail (λ (s : ℕ × Seen). IsReadyFor e s.1) s ss ready))
+  can_commit [] up_to_date ready = All-nil (λ (s : ℕ × Seen). CanCommit C e s.1)
+  can_commit (s ∷ ss) up_to_date ready =
+      All-cons (λ (s : ℕ × Seen). CanCommit C e s.1) s ss (record { up_to_date = up_to_date.0; ready = All-head (λ (s : ℕ × Seen). IsReadyFor e s.1) s ss ready })
+      (can_commit ss up_to_date.1 (All-tail (λ (s : ℕ × Seen). IsReadyFor e s.1) s ss ready))
 
   -- if no preparation was refused, each shard may be changed
   pub all_ready : (ss : List (ℕ × Seen)) (ps : List (ℕ × Asked (Unit {0}))) → EachBecame (IsPrepared (IsReadyFor e)) ss ps → AreUpToDate C ss → first_fault ps ≡ Ok tt
       → All (λ (s : ℕ × Seen). CanCommit C e s.1) (map shard_answered ps)
-  all_ready ss ps each stands fine =
-      can_commit (map shard_answered ps) (same_stands C ss (map shard_answered ps) (prepared_same (IsReadyFor e) ss ps each) stands) (prepared_ready (IsReadyFor e) ss ps each fine)
+  all_ready ss ps each up_to_date fine =
+      can_commit (map shard_answered ps) (same_up_to_date C ss (map shard_answered ps) (prepared_same (IsReadyFor e) ss ps each) up_to_date) (prepared_ready (IsReadyFor e) ss ps each fine)
 
   -- After the event.
 
@@ -48,11 +48,11 @@ module _ (C : Cluster) (e : Event) where
   indexed_again shards index (s ∷ ss) [] each h = absurd each
   indexed_again shards index (s ∷ ss) (c ∷ cs) each h = (each.0.0 ∙ h.0, each.0.1.part ∙ h.1, indexed_again shards (suc index) ss cs each.1 h.2)
 
-  pub stand_again : (ss : List (ℕ × Seen)) (cs : List (ℕ × Answered Done)) → EachBecame (IsCommitted C e) ss cs → AreUpToDate (change_cluster C e) (map shard_answered cs)
-  stand_again [] [] each = tt
-  stand_again [] (c ∷ cs) each = absurd each
-  stand_again (s ∷ ss) [] each = absurd each
-  stand_again (s ∷ ss) (c ∷ cs) each = (each.0.1.stands, stand_again ss cs each.1)
+  pub changed_up_to_date : (ss : List (ℕ × Seen)) (cs : List (ℕ × Answered Done)) → EachBecame (IsCommitted C e) ss cs → AreUpToDate (change_cluster C e) (map shard_answered cs)
+  changed_up_to_date [] [] each = tt
+  changed_up_to_date [] (c ∷ cs) each = absurd each
+  changed_up_to_date (s ∷ ss) [] each = absurd each
+  changed_up_to_date (s ∷ ss) (c ∷ cs) each = (each.0.1.up_to_date, changed_up_to_date ss cs each.1)
 
   pub took_again : (round pend : ℕ) (ss : List (ℕ × Seen)) (cs : List (ℕ × Answered Done)) → EachBecame (IsCommitted C e) ss cs → HaveTaken round pend ss → HaveTaken round pend (map shard_answered cs)
   took_again round pend [] [] each h = tt
@@ -60,11 +60,11 @@ module _ (C : Cluster) (e : Event) where
   took_again round pend (s ∷ ss) [] each h = absurd each
   took_again round pend (s ∷ ss) (c ∷ cs) each h = (each.0.1.round ∙ h.0, each.0.1.pend ∙ h.1, took_again round pend ss cs each.1 h.2)
 
-  done_told : (ss : List (ℕ × Seen)) (cs : List (ℕ × Answered Done)) → EachBecame (IsCommitted C e) ss cs → done_of cs ≡ done_of_all (parts_of ss) (parts_of (map shard_answered cs))
-  done_told [] [] each = refl
-  done_told [] (c ∷ cs) each = absurd each
-  done_told (s ∷ ss) [] each = absurd each
-  done_told (s ∷ ss) (c ∷ cs) each = λ j. record { added = (each.0.1.done j).added + (done_told ss cs each.1 j).added; removed = (each.0.1.done j).removed + (done_told ss cs each.1 j).removed }
+  done_is : (ss : List (ℕ × Seen)) (cs : List (ℕ × Answered Done)) → EachBecame (IsCommitted C e) ss cs → done_of cs ≡ done_of_all (parts_of ss) (parts_of (map shard_answered cs))
+  done_is [] [] each = refl
+  done_is [] (c ∷ cs) each = absurd each
+  done_is (s ∷ ss) [] each = absurd each
+  done_is (s ∷ ss) (c ∷ cs) each = λ j. record { added = (each.0.1.done j).added + (done_is ss cs each.1 j).added; removed = (each.0.1.done j).removed + (done_is ss cs each.1 j).removed }
 
   pub all_few : (ss : List (ℕ × Seen)) (cs : List (ℕ × Answered Done)) → EachBecame (IsCommitted C e) ss cs → All IsFew cs
   all_few [] [] each = All-nil IsFew
@@ -85,7 +85,7 @@ module _ (C : Cluster) (e : Event) where
       let whole = whole_changes_by_event C e shards Ps Qs h.some long h.own changed in (
         record { indexed = indexed_again shards 0 ss cs each h.indexed; own = whole.1; long = whole.2 ∙ count_of (map shard_answered cs); some = h.some; few = h.few },
         whole.0,
-        done_told ss cs each ∙ done_adds_up C e shards Ps Qs h.some long h.own changed,
+        done_is ss cs each ∙ done_adds_up C e shards Ps Qs h.some long h.own changed,
       )
 
   -- The same, in the form of a function's goals.
@@ -108,4 +108,4 @@ module _ (C : Cluster) (e : Event) where
 
   pub now_done : (ss last : List (ℕ × Seen)) (cs : List (ℕ × Answered Done)) (d : Done) → EachBecame (IsCommitted C e) ss cs → last ≡ map shard_answered cs → d ≡ done_of cs → AreShards (length ss) ss
       → d ≡ done (held_by ss) (held_by last)
-  now_done ss last cs d each end told h = told ∙ (changed_shards (length ss) ss cs each h).2 ∙ ap (λ xs. done (held_by ss) (held_by xs)) (sym end)
+  now_done ss last cs d each end done_is h = done_is ∙ (changed_shards (length ss) ss cs each h).2 ∙ ap (λ xs. done (held_by ss) (held_by xs)) (sym end)

@@ -11,7 +11,7 @@ use Rattle.bm_shard.specs.UpToDate.{IsUpToDate}
 pub record IsChanged (C : Cluster) (e : Event) (S T : Seen) (d : Done) : Type 0 where
   pub holdings : T.holdings ≡ change_part C S.holdings S.part.index S.part.shards e
   pub done : d ≡ done S.holdings T.holdings
-  pub stands : IsUpToDate (change_cluster C e) T
+  pub up_to_date : IsUpToDate (change_cluster C e) T
   pub part : T.part ≡ S.part
   pub round : T.round ≡ S.round
   pub pend : T.pend ≡ S.pend

@@ -10,7 +10,7 @@ use Rattle.bm_shard.specs.UpToDate.{IsUpToDate, next_part}
 -- a shard of which this is the next round
 pub record CanFind (C : Cluster) (r : ℕ) (S : Seen) : Type 0 where
   pub next : r ≡ S.round + 1
-  pub stands : IsUpToDate C S
+  pub up_to_date : IsUpToDate C S
 
 -- the shard's part is at its index, as far as the round needs it
 abbrev pub HasPart : Cluster → List RoundPart → ℕ × Seen → Type 0
@@ -18,7 +18,7 @@ HasPart C parts s = option_map (λ (p : RoundPart). p.excess) (slice_get parts s
 
 -- a shard that may take its next round, whose number is still one of 64 bits
 pub record CanCommitRound (C : Cluster) (parts : List RoundPart) (chosen : Chosen) (s : ℕ × Seen) : Type 0 where
-  pub stands : IsUpToDate C s.1
+  pub up_to_date : IsUpToDate C s.1
   pub part : HasPart C parts s
   pub ready : IsReadyForRound chosen s.1
   pub counted : s.1.round + 1 < 2 ^ 64
@@ -26,7 +26,7 @@ pub record CanCommitRound (C : Cluster) (parts : List RoundPart) (chosen : Chose
 -- a shard that took its next round
 pub record HasTakenRound (C : Cluster) (chosen : Chosen) (S made : Seen) : Type 0 where
   pub holdings : made.holdings ≡ round_on_part C S.pend (S.round + 1) S.holdings S.part.index S.part.shards chosen.transfers chosen.deletes
-  pub stands : IsUpToDate C made
+  pub up_to_date : IsUpToDate C made
   pub part : made.part ≡ S.part
   pub round : made.round ≡ S.round + 1
   pub pend : made.pend ≡ S.pend

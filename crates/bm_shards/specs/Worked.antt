@@ -19,7 +19,7 @@ pub record IsNew (config : Config) (i : ℕ) (s : ℕ × Seen) : Type 0 where
   pub part : s.1.part ≡ record { index = i; shards = config.shards }
   pub round : s.1.round ≡ config.first_round
   pub pend : s.1.pend ≡ config.pend
-  pub stands : (C : Cluster) → IsUpToDate C s.1
+  pub up_to_date : (C : Cluster) → IsUpToDate C s.1
 
 -- new shards, from this index on
 abbrev pub AreNew : Config → ℕ → List (ℕ × Seen) → Type 0
@@ -33,7 +33,7 @@ IsSame s t = (t.0 ≡ s.0) × IsSameButCapacity s.1 t.1
 -- the reservations for an event or a round are given up: no number has an unused entry, no block
 -- unused capacity for transfers
 pub record HasGivenUp (S : Seen) : Type 0 where
-  pub bare : HasNoUnused S
+  pub unused : HasNoUnused S
   pub freed : HasNoUnusedCapacity S
 
 -- the same shard in all but capacity, which is ready, or out of memory
@@ -44,7 +44,7 @@ pub record IsPrepared (IsReady : Seen → Type 0) (S : Seen) (made : Asked (Unit
 
 -- a shard that may be changed
 pub record CanCommit (C : Cluster) (e : Event) (S : Seen) : Type 0 where
-  pub stands : IsUpToDate C S
+  pub up_to_date : IsUpToDate C S
   pub ready : IsReadyFor e S
 
 -- a shard that was changed, and what it answered
@@ -52,7 +52,7 @@ pub record IsCommitted (C : Cluster) (e : Event) (S : Seen) (made : Answered Don
   pub holdings : made.shard.holdings ≡ change_part C S.holdings S.part.index S.part.shards e
   pub done : made.answer ≡ done S.holdings made.shard.holdings
   pub few : (made.answer.added < 2 ^ 100) × (made.answer.removed < 2 ^ 100)
-  pub stands : IsUpToDate (change_cluster C e) made.shard
+  pub up_to_date : IsUpToDate (change_cluster C e) made.shard
   pub part : made.shard.part ≡ S.part
   pub round : made.shard.round ≡ S.round
   pub pend : made.shard.pend ≡ S.pend

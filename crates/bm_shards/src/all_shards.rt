@@ -42,7 +42,7 @@ impl AllShards {
         requires { config_refusal config.now ≡ None }
         ensures count { IfOk result (λ f. length f.shards ≡ config.now.shards) }
         ensures empty { IfOk result (λ f. f.holdings ≡ empty_holdings) }
-        ensures standing { IfOk result (λ f. (C : Cluster) → IsUpToDate C f) }
+        ensures up_to_date { IfOk result (λ f. (C : Cluster) → IsUpToDate C f) }
         ensures rounds { IfOk result (HasTaken config.now.first_round config.now.pend) }
         ensures refused { IfErr result (λ e. e ≡ Memory) }
     {

@@ -32,12 +32,12 @@ pub(crate) fn change_all<W: Workers>(
     requires every { block_of event.now ≡ None }
     requires multi { multi ≡ is_multi_rack (change_cluster topology.now.cluster event.now) }
     requires shards { AreShards (length shards.old.items) shards.old.items }
-    requires standing { AreUpToDate topology.now.cluster shards.old.items }
+    requires up_to_date { AreUpToDate topology.now.cluster shards.old.items }
     ensures done { IfOk result
         (λ d. d ≡ done (held_by shards.old.items) (held_by shards.new.items)) }
     ensures changed { OnOk result (held_by shards.new.items
         ≡ change_holdings topology.now.cluster (held_by shards.old.items) event.now) }
-    ensures standing { OnOk result
+    ensures up_to_date { OnOk result
         (AreUpToDate (change_cluster topology.now.cluster event.now) shards.new.items) }
     ensures shards { AreShards (length shards.new.items) shards.new.items }
     ensures rounds { (round pend : ℕ) → HaveTaken round pend shards.old.items
@@ -65,7 +65,7 @@ fn prepare_for_event<W: Workers>(
     event: &Event,
     topology: &Topology,
 ) -> Result<PassBuffers<Answered<Done>>, Refusal>
-    requires standing { AreUpToDate topology.now.cluster shards.old.items }
+    requires up_to_date { AreUpToDate topology.now.cluster shards.old.items }
     ensures same { AllZip IsSame shards.old.items shards.new.items }
     ensures ready { OnOk result
         (All (λ s. CanCommit topology.now.cluster event.now s.1) shards.new.items) }
@@ -102,7 +102,7 @@ fn commit_and_gather<W: Workers>(
     ensures done { result ≡ done (held_by shards.old.items) (held_by shards.new.items) }
     ensures changed { held_by shards.new.items
         ≡ change_holdings topology.now.cluster (held_by shards.old.items) event.now }
-    ensures standing { AreUpToDate (change_cluster topology.now.cluster event.now) shards.new.items }
+    ensures up_to_date { AreUpToDate (change_cluster topology.now.cluster event.now) shards.new.items }
     ensures shards { AreShards (length shards.new.items) shards.new.items }
     ensures rounds { (round pend : ℕ) → HaveTaken round pend shards.old.items
         → HaveTaken round pend shards.new.items }

@@ -26,12 +26,12 @@ pub(crate) fn change_own(
     requires cluster { first_of (cluster_checks topology.now.cluster event.now) ≡ None }
     requires multi { multi ≡ is_multi_rack (change_cluster topology.now.cluster event.now) }
     requires shards { AreShards (length shards.old.items) shards.old.items }
-    requires standing { AreUpToDate topology.now.cluster shards.old.items }
+    requires up_to_date { AreUpToDate topology.now.cluster shards.old.items }
     ensures done { IfOk result
         (λ d. d ≡ done (held_by shards.old.items) (held_by shards.new.items)) }
     ensures changed { OnOk result (held_by shards.new.items
         ≡ change_holdings topology.now.cluster (held_by shards.old.items) event.now) }
-    ensures standing { OnOk result
+    ensures up_to_date { OnOk result
         (AreUpToDate (change_cluster topology.now.cluster event.now) shards.new.items) }
     ensures shards { AreShards (length shards.new.items) shards.new.items }
     ensures rounds { (round pend : ℕ) → HaveTaken round pend shards.old.items
@@ -64,7 +64,7 @@ fn change_at(
     requires place { place < length shards.old.items }
     requires cluster { first_of (cluster_checks topology.now.cluster event.now) ≡ None }
     requires multi { multi ≡ is_multi_rack (change_cluster topology.now.cluster event.now) }
-    requires standing { (s : ℕ × Seen) → slice_get shards.old.items place ≡ Some s
+    requires up_to_date { (s : ℕ × Seen) → slice_get shards.old.items place ≡ Some s
         → IsUpToDate topology.now.cluster s.1 }
     ensures changed { IfOk result
         (IsChangedAt topology.now.cluster event.now place shards.old.items shards.new.items) }
@@ -86,10 +86,10 @@ fn change_shard(
 ) -> Result<Done, Refusal>
     requires cluster { first_of (cluster_checks topology.now.cluster event.now) ≡ None }
     requires multi { multi ≡ is_multi_rack (change_cluster topology.now.cluster event.now) }
-    requires standing { IsUpToDate topology.now.cluster shard.old }
+    requires up_to_date { IsUpToDate topology.now.cluster shard.old }
     ensures changed { IfOk result (IsChanged topology.now.cluster event.now shard.old shard.new) }
     ensures same { OnErr result (IsSameButCapacity shard.old shard.new) }
-    ensures bare { OnErr result (HasNoUnused shard.new) }
+    ensures unused { OnErr result (HasNoUnused shard.new) }
     ensures refused { IfErr result (Refuses None (takes_memory event.now)) }
 {
     match shard.prepare(event, topology) {

@@ -28,11 +28,11 @@ impl AllShards {
     ) -> Result<Done, Refusal>
         requires cluster { first_of (cluster_checks topology.now.cluster event.now) ≡ None }
         requires multi { multi ≡ is_multi_rack (change_cluster topology.now.cluster event.now) }
-        requires standing { IsUpToDate topology.now.cluster self.old }
+        requires up_to_date { IsUpToDate topology.now.cluster self.old }
         ensures done { IfOk result (λ d. d ≡ done self.old.holdings self.new.holdings) }
         ensures changed { OnOk result (self.new.holdings
             ≡ change_holdings topology.now.cluster self.old.holdings event.now) }
-        ensures standing { OnOk result
+        ensures up_to_date { OnOk result
             (IsUpToDate (change_cluster topology.now.cluster event.now) self.new) }
         ensures rounds { (round pend : ℕ) → HasTaken round pend self.old
             → HasTaken round pend self.new }

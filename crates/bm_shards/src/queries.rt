@@ -115,7 +115,7 @@ fn own_shard(shards: &[(u32, Shard)], id: BlockId) -> &Shard
     requires { AreShards (length shards.now) shards.now }
     ensures own { result.now.holdings
         ≡ cut (held_by shards.now) (shard_of id (length shards.now)) (length shards.now) }
-    ensures standing { (C : Cluster) → AreUpToDate C shards.now → shard.IsUpToDate C result.now }
+    ensures up_to_date { (C : Cluster) → AreUpToDate C shards.now → shard.IsUpToDate C result.now }
 {
     match shards.get(index_of_shard(id, shards.len())) {
         Some(one) => &one.1,

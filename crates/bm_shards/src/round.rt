@@ -37,7 +37,7 @@ impl AllShards {
     ) -> Result<Commands, Refusal>
         requires config { config_refusal config.now ≡ None }
         requires counted { last + 1 < 2 ^ 64 }
-        requires standing { IsUpToDate topology.now.cluster self.old }
+        requires up_to_date { IsUpToDate topology.now.cluster self.old }
         requires rounds { HasTaken last config.now.pend self.old }
         ensures commands { IfOk result
             (λ k. k ≡ commands_in (limits_of config.now) topology.now.cluster (last + 1)
@@ -45,7 +45,7 @@ impl AllShards {
         ensures changed { OnOk result (self.new.holdings
             ≡ left_by_round (limits_of config.now) topology.now.cluster (last + 1)
             self.old.holdings) }
-        ensures standing { IsUpToDate topology.now.cluster self.new }
+        ensures up_to_date { IsUpToDate topology.now.cluster self.new }
         ensures rounds { OnOk result (HasTaken (last + 1) config.now.pend self.new) }
         ensures unchanged { OnErr result (self.new.holdings ≡ self.old.holdings) }
         ensures kept { OnErr result (HasTaken last config.now.pend self.new) }
@@ -74,7 +74,7 @@ fn round_all<W: Workers>(
     requires config { config_refusal config.now ≡ None }
     requires counted { last + 1 < 2 ^ 64 }
     requires shards { AreShards (length shards.old.items) shards.old.items }
-    requires standing { AreUpToDate topology.now.cluster shards.old.items }
+    requires up_to_date { AreUpToDate topology.now.cluster shards.old.items }
     requires rounds { HaveTaken last config.now.pend shards.old.items }
     ensures commands { IfOk result
         (λ k. k ≡ commands_in (limits_of config.now) topology.now.cluster (last + 1)
@@ -83,7 +83,7 @@ fn round_all<W: Workers>(
         ≡ left_by_round (limits_of config.now) topology.now.cluster (last + 1)
         (held_by shards.old.items)) }
     ensures shards { AreShards (length shards.new.items) shards.new.items }
-    ensures standing { AreUpToDate topology.now.cluster shards.new.items }
+    ensures up_to_date { AreUpToDate topology.now.cluster shards.new.items }
     ensures rounds { OnOk result (HaveTaken (last + 1) config.now.pend shards.new.items) }
     ensures unchanged { OnErr result (held_by shards.new.items ≡ held_by shards.old.items) }
     ensures kept { OnErr result (HaveTaken last config.now.pend shards.new.items) }
@@ -112,7 +112,7 @@ fn take_round<W: Workers>(
     topology: &Topology,
 ) -> Result<(), Refusal>
     requires parts { All (HasPart topology.now.cluster parts.now) shards.old.items }
-    requires standing { AreUpToDate topology.now.cluster shards.old.items }
+    requires up_to_date { AreUpToDate topology.now.cluster shards.old.items }
     requires counted { All (λ s. s.1.round + 1 < 2 ^ 64) shards.old.items }
     ensures taken { OnOk result
         (EachBecame (HasTakenRound topology.now.cluster chosen.now) shards.old.items
@@ -145,7 +145,7 @@ fn prepare_for_round<W: Workers>(
     topology: &Topology,
 ) -> Result<Ready<Shard, Shard>, Refusal>
     requires parts { All (HasPart topology.now.cluster parts.now) shards.old.items }
-    requires standing { AreUpToDate topology.now.cluster shards.old.items }
+    requires up_to_date { AreUpToDate topology.now.cluster shards.old.items }
     requires counted { All (λ s. s.1.round + 1 < 2 ^ 64) shards.old.items }
     ensures same { AllZip IsSame shards.old.items shards.new.items }
     ensures ready { OnOk result

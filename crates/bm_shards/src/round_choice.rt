@@ -4,7 +4,7 @@ ghost use Rattle.bm_base.specs.declared.refusal.Refusal.TheVariants.{Memory};
 ghost use Rattle.bm_base.specs.Words.{limits_of, has_repeats, commands_of};
 ghost use Rattle.bm_base.specs.Choices as choices;
 ghost use Rattle.bm_parts.specs.Merging.{AreSorted};
-ghost use Rattle.bm_round.specs.Merging.{keyed_wishes, keyed_deletes};
+ghost use Rattle.bm_round.specs.KeyedParts.{keyed_wishes, keyed_deletes};
 
 use bm_base::{Chosen, Commands, Config, Refusal, RoundPart};
 use bm_round::{choose, commands};

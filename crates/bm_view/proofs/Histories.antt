@@ -88,12 +88,12 @@ settles xs v shown pre close some =
     (cases_lt (length shown) (length all))
 
 -- the learnt versions are a prefix of the current value, unless that is older
-pub told_begins : (told shown both : List JournalEntry) → IsPrefix told both → IsPrefix shown both → IsSettled told → length told ≤ length shown + 1 → 0 < length shown → IsPrefix (versions told) (shown_in shown)
-told_begins told shown both p q whole close some =
+pub heard_begins : (heard shown both : List JournalEntry) → IsPrefix heard both → IsPrefix shown both → IsSettled heard → length heard ≤ length shown + 1 → 0 < length shown → IsPrefix (versions heard) (shown_in shown)
+heard_begins heard shown both p q whole close some =
     ⊎_elim
-    (λ (lt : length shown < length told). whole shown (prefix_shorter shown told both q p (omega arith)) close some)
-    (λ (le : length told ≤ length shown). prefix_trans (versions told) (versions shown) (shown_in shown) (versions_prefix told shown (prefix_shorter told shown both p q le)) (versions_shown_in shown))
-    (cases_lt (length shown) (length told))
+    (λ (lt : length shown < length heard). whole shown (prefix_shorter shown heard both q p (omega arith)) close some)
+    (λ (le : length heard ≤ length shown). prefix_trans (versions heard) (versions shown) (shown_in shown) (versions_prefix heard shown (prefix_shorter heard shown both p q le)) (versions_shown_in shown))
+    (cases_lt (length shown) (length heard))
 
 pub opening_is_settled : IsSettled opening_log
 opening_is_settled = settles [] opening

@@ -46,8 +46,8 @@ shows seat v x y next goes is views h at =
     (Some y, kept_set y views seat (Some y) (λ j u e. fits_later u x y (h j u e) later) (goes_self y), refl)
 
 -- the publisher passes on what it saw
-pub tells : (seat : ℕ) (v : Option Evidence) → Forks Holds seat v v v
-tells seat v x views h at = kept_snoc x (set views seat v) v (kept_set x views seat v h (h seat v at)) (h seat v at)
+pub shares : (seat : ℕ) (v : Option Evidence) → Forks Holds seat v v v
+shares seat v x views h at = kept_snoc x (set views seat v) v (kept_set x views seat v h (h seat v at)) (h seat v at)
 
 -- a locator learns it
 pub learns : (seat : ℕ) (v : Option Evidence) (other : ℕ) (note : Option Evidence) → Merges Holds seat v other note note None

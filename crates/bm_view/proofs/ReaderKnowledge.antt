@@ -29,19 +29,19 @@ later (Some s) x w home list saw sees =
     }
 
 -- all learnt lists are prefixes of a longer list too
-pub all_begin : (told : List (List Version)) (now longer : List Version) → All (λ known. IsPrefix known now) told → IsPrefix now longer → All (λ known. IsPrefix known longer) told
-all_begin told now longer h p = λ k d lt. prefix_trans _ now longer (h k d lt) p
+pub all_begin : (learnt : List (List Version)) (now longer : List Version) → All (λ known. IsPrefix known now) learnt → IsPrefix now longer → All (λ known. IsPrefix known longer) learnt
+all_begin learnt now longer h p = λ k d lt. prefix_trans _ now longer (h k d lt) p
 
 -- with one more list
-pub all_told : (told : List (List Version)) (now longer one : List Version) → All (λ known. IsPrefix known now) told → IsPrefix now longer → IsPrefix one longer → All (λ known. IsPrefix known longer) (told ++ one ∷ [])
-all_told told now longer one h p q = All-push (λ known. IsPrefix known longer) told one (all_begin told now longer h p) q
+pub all_learnt : (learnt : List (List Version)) (now longer one : List Version) → All (λ known. IsPrefix known now) learnt → IsPrefix now longer → IsPrefix one longer → All (λ known. IsPrefix known longer) (learnt ++ one ∷ [])
+all_learnt learnt now longer one h p q = All-push (λ known. IsPrefix known longer) learnt one (all_begin learnt now longer h p) q
 
-pub none_older : (told : List (List Version)) (now : List Version) → All (λ known. IsPrefix known now) told → IsHistory now → All (λ known. (last_of known).calls ≤ (last_of now).calls) told
-none_older told now h history = λ k d lt. last_of-prefix _ now (h k d lt) history
+pub none_older : (learnt : List (List Version)) (now : List Version) → All (λ known. IsPrefix known now) learnt → IsHistory now → All (λ known. (last_of known).calls ≤ (last_of now).calls) learnt
+none_older learnt now h history = λ k d lt. last_of-prefix _ now (h k d lt) history
 
 -- what is true of all learnt lists is true of the last
-pub latest : (told : List (List Version)) (one : List Version) (n : ℕ) → All (λ known. (last_of known).calls ≤ n) (told ++ one ∷ []) → (last_of one).calls ≤ n
-latest told one n h = subst (λ (l : List Version). (last_of l).calls ≤ n) (get_or-append_seam told one [] []) (h (length told) [] (omega (arith, length-append told (one ∷ []))))
+pub latest : (learnt : List (List Version)) (one : List Version) (n : ℕ) → All (λ known. (last_of known).calls ≤ n) (learnt ++ one ∷ []) → (last_of one).calls ≤ n
+latest learnt one n h = subst (λ (l : List Version). (last_of l).calls ≤ n) (get_or-append_seam learnt one [] []) (h (length learnt) [] (omega (arith, length-append learnt (one ∷ []))))
 
 pub if_some : {A : Type 0} (o : Option A) (P Q : A → Type 0) → IfSome o P → ((x : A) → P x → Q x) → IfSome o Q
 if_some None P Q h then = tt

@@ -39,4 +39,4 @@ shown_in (e ∷ f ∷ es) = put_if e.done e.table (shown_in (f ∷ es))
 -- finds the value of this journal, or of the journal just before its last entry. A journal that
 -- ends with a settlement is one.
 abbrev pub IsSettled : List JournalEntry → Type 0
-IsSettled told = (shown : List JournalEntry) → IsPrefix shown told → length told ≤ length shown + 1 → 0 < length shown → IsPrefix (versions told) (shown_in shown)
+IsSettled heard = (shown : List JournalEntry) → IsPrefix shown heard → length heard ≤ length shown + 1 → 0 < length shown → IsPrefix (versions heard) (shown_in shown)

@@ -38,7 +38,7 @@ pub struct Locator {
     answered: Evidence,
     /// The longest journal that it learnt. It has no bytes.
     heard: Evidence,
-    told: LearntLists,
+    learnt: LearntLists,
 }
 
 impl Model for Locator {
@@ -54,7 +54,7 @@ impl Model for Locator {
     ghost view = { λ l. record {
       home = l.answered.home;
       list = shown_in l.answered.log;
-      told = l.told;
+      learnt = l.learnt;
     } };
 
     ghost invariant = { λ l.
@@ -63,7 +63,7 @@ impl Model for Locator {
         × IsSettled l.heard.log
         × HasSeen (sight l.seat.reader.place) l.answered.home (shown_in l.answered.log)
         × IsHistory (versions l.heard.log)
-        × All (λ known. IsPrefix known (versions l.heard.log)) l.told };
+        × All (λ known. IsPrefix known (versions l.heard.log)) l.learnt };
 }
 
 // A reader, and the number of proposals in the longest journal that it learnt.
@@ -133,7 +133,7 @@ impl Locator {
     pub(crate) fn new(alloc: Global, reader: VersionReader, first: Evidence) -> Locator
         requires log { first.log ≡ opening_log }
         requires seen { HasSeen (sight reader.place) first.home (opening ∷ []) }
-        ensures { result ≡ record { home = first.home; list = opening ∷ []; told = [] } }
+        ensures { result ≡ record { home = first.home; list = opening ∷ []; learnt = [] } }
     {
         Locator {
             seat: ReaderSlot {
@@ -142,7 +142,7 @@ impl Locator {
             },
             answered: first.again(),
             heard: first,
-            told: LearntLists::nothing(),
+            learnt: LearntLists::nothing(),
         }
     }
 
@@ -151,11 +151,11 @@ impl Locator {
     pub fn learn(&mut self, receipt: Receipt)
         requires { receipt.home ≡ self.old.home }
         ensures same { (self.new.home ≡ self.old.home) × (self.new.list ≡ self.old.list) }
-        ensures told { self.new.told ≡ self.old.told ++ receipt.list ∷ [] }
+        ensures learnt { self.new.learnt ≡ self.old.learnt ++ receipt.list ∷ [] }
     {
         let (evidence, number) = receipt.into_parts();
         self.heard.show_one_journal(&evidence);
-        self.told.add(&evidence);
+        self.learnt.add(&evidence);
         if self.seat.learnt_number.is_below(&number) {
             self.heard = evidence;
             self.seat.learnt_number = number;
@@ -170,16 +170,16 @@ impl Locator {
     /// is published. But the contracts of `left_right` do not say which table a reader has once it
     /// has entered. So no proof ties what it reads to what was in the journal by then.
     pub fn locate(&mut self, id: BlockId) -> Option<Located>
-        ensures same { (self.new.home ≡ self.old.home) × (self.new.told ≡ self.old.told) }
+        ensures same { (self.new.home ≡ self.old.home) × (self.new.learnt ≡ self.old.learnt) }
         ensures none { IfNone result (self.new.list ≡ self.old.list) }
         ensures answer { IfSome result (λ found.
             let shown = last_of self.new.list in
             (found.calls ≡ shown.calls) × (found.places ≡ places_in shown.rows id)) }
         ensures history { OnSome result (IsHistory self.new.list) }
         ensures later { OnSome result (IsPrefix self.old.list self.new.list) }
-        ensures told { OnSome result (All (λ known. IsPrefix known self.new.list) self.old.told) }
+        ensures learnt { OnSome result (All (λ known. IsPrefix known self.new.list) self.old.learnt) }
         ensures no_older { IfSome result
-            (λ found. All (EndsBy found.calls) self.old.told) }
+            (λ found. All (EndsBy found.calls) self.old.learnt) }
     {
         let Some(seen) = replace_with(&mut self.seat, id, read) else {
             return None;

@@ -2,7 +2,7 @@
 use Rattle.std.proofs.Common.{◌≡◌}
 use Rattle.bm_base.specs.Maps.Map.{empty}
 use Rattle.bm_arena.specs.Contents.{Contents}
-use Rattle.bm_arena.specs.Holding.{replicas_of, blocks_of, holdings_of}
+use Rattle.bm_arena.specs.HeldMaps.{replicas_of, blocks_of, holdings_of}
 
 -- equal blocks and replicas make equal holdings
 pub same_holdings : (a c : Contents) → replicas_of c ≡ replicas_of a → blocks_of c ≡ blocks_of a → holdings_of c ≡ holdings_of a

@@ -74,7 +74,7 @@ fn make_notice<J: Home>(receipt: Receipt) -> Notice<J>
 
 /// Applies the events in their order, and publishes after each. In parallel, a thread has the
 /// locator learn each receipt, and then looks the block up.
-pub fn apply_beside_reader<R: Threads + Wait + Sync>(
+pub fn apply_with_reader<R: Threads + Wait + Sync>(
     rt: &R,
     alloc: Global,
     manager: &mut Manager,

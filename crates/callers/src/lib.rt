@@ -13,7 +13,7 @@
 //!
 //! `bm_view`:
 //! - a reader that learns of a published version: `publish_and_look` (`informed_reader.rt`)
-//! - changes, with a reader in a thread of its own: `apply_beside_reader` (`concurrent_reader.rt`)
+//! - changes, with a reader in a thread of its own: `apply_with_reader` (`concurrent_reader.rt`)
 //!
 //! `bm_lines`:
 //! - the tool's lines, read and written: `tidy_line` (`lines.rt`)
@@ -48,7 +48,7 @@ mod storages;
 mod what_if;
 
 pub use commands::commands_of_parts;
-pub use concurrent_reader::{Seen, SideBySide, apply_beside_reader};
+pub use concurrent_reader::{Seen, SideBySide, apply_with_reader};
 pub use copy_choice::first_copy;
 pub use counting_gate::{Pieces, apply_counted};
 pub use events::arrival;

@@ -26,7 +26,7 @@ pub fn take_event(
         (shard.new.holdings ≡ change_part topology.old.cluster shard.old.holdings
         shard.old.part.index shard.old.part.shards event.now) }
     ensures done { IfOk result (λ d. d ≡ done shard.old.holdings shard.new.holdings) }
-    ensures standing { IsUpToDate topology.new.cluster shard.new }
+    ensures up_to_date { IsUpToDate topology.new.cluster shard.new }
     ensures refused { IfErr result
         (Refuses (first_of (cluster_checks topology.old.cluster event.now)
         before first_of (block_checks shard.old.holdings event.now))

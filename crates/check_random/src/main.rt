@@ -4,7 +4,7 @@
 //! answer. One has one shard and one worker; the other has random numbers of both. The calls come
 //! in lists of 2,000, each on two new managers. Prints how many calls were answered alike.
 //!
-//! `check_random beside [TIMES [SEED]]` makes TIMES lists of 100 calls; the other manager has five
+//! `check_random concurrent [TIMES [SEED]]` makes TIMES lists of 100 calls; the other manager has five
 //! shards and four workers. It publishes after each call, and two threads read in parallel: each
 //! read must be of a state that the manager with one shard and one worker had.
 //!
@@ -38,7 +38,7 @@ const TIMES: u32 = 200;
 /// The command line: `count` calls, or `count` lists with readers, and the seed.
 #[derive(Clone, Copy)]
 struct Asked {
-    is_beside: bool,
+    is_concurrent: bool,
     count: u32,
     seed: u64,
 }
@@ -48,9 +48,9 @@ fn main(rt: HostRuntime) -> ExitCode {
         return ExitCode::FAILURE;
     };
     let Asked { count, seed, .. } = asked;
-    if asked.is_beside {
+    if asked.is_concurrent {
         let done = concurrent_calls::are_all_alike(&rt, &rt, count, seed);
-        exit_code_of(&rt, done, count, "lists alike beside readers")
+        exit_code_of(&rt, done, count, "lists alike with concurrent readers")
     } else {
         let done = pair::are_all_alike(&rt, &rt, count, seed);
         exit_code_of(&rt, done, count, "calls alike")
@@ -80,22 +80,22 @@ fn read_words(rt: &HostRuntime) -> Option<Asked> {
 
 fn read_all(words: &mut Args<Global>) -> Option<Asked> {
     let first = words.next();
-    let is_beside = is_beside(&first);
-    let (word, otherwise) = if is_beside {
+    let is_concurrent = is_concurrent(&first);
+    let (word, otherwise) = if is_concurrent {
         (words.next(), TIMES)
     } else {
         (first, pair::LIST)
     };
     let count = number_in(word, u64::from(otherwise))?;
     Some(Asked {
-        is_beside,
+        is_concurrent,
         count: u32::try_from(count).ok()?,
         seed: number_in(words.next(), SEED)?,
     })
 }
 
-fn is_beside(word: &Option<String>) -> bool {
-    matches!(word, Some(word) if word.as_str() == "beside")
+fn is_concurrent(word: &Option<String>) -> bool {
+    matches!(word, Some(word) if word.as_str() == "concurrent")
 }
 
 /// The number that a word has; `otherwise` if there is no word.

@@ -4,11 +4,11 @@ use Rattle.std.specs.Fmt.{option_append}
 use Rattle.std.specs.Io.KnownBytes.{Appends}
 use Rattle.bm_base.specs.Machine.State.{State}
 use Rattle.bm_lines.specs.Lines.{lines_of}
-use Rattle.cluster_report.specs.Reading.{after_lines}
+use Rattle.cluster_report.specs.LineNotes.{after_lines}
 use Rattle.fsck_import.specs.CallsFor.{calls_for}
-use Rattle.fsck_import.specs.Importing.{HasBlocks}
-use Rattle.fsck_import.specs.Reading.{reading_of}
-use Rattle.fsck_import.specs.declared.reading.Reading.{Reading}
+use Rattle.fsck_import.specs.Imports.{HasBlocks}
+use Rattle.fsck_import.specs.TextReading.{reading_of}
+use Rattle.fsck_import.specs.declared.text_reader.Reading.{Reading}
 use Rattle.cluster_input.specs.ClusterNames.{names_of}
 use Rattle.cluster_input.specs.Inputs.{AreTaken, IsAfter, IsRead, accepts, accepts_as, notes_as, notes_on}
 use Rattle.cluster_input.specs.Kinds.{are_lines, IsHeadOf}
@@ -58,9 +58,9 @@ pub is_read : (known : Option (List ℕ)) (start read : Reading) (remaining : �
     → IfSome known (λ text. reading_of start text ≡ Ok read) → IfSome known (λ text. HasBlocks start text read)
     → Makes (calls_for read.cluster remaining) old.session.manager new.session.manager → new.names ≡ names_of read.cluster
     → new.files ≡ read.listing.files → IfSome known (λ text. IsRead start remaining text old new)
-is_read None start read remaining old new told blocks makes names files = tt
-is_read (Some text) start read remaining old new told blocks makes names files =
-    record { read = read; told = told; makes = makes; blocks = blocks; names = names; files = files }
+is_read None start read remaining old new read_is blocks makes names files = tt
+is_read (Some text) start read remaining old new read_is blocks makes names files =
+    record { read = read; read_is = read_is; makes = makes; blocks = blocks; names = names; files = files }
 
 -- lines were read, and nothing but the session changed
 pub are_taken : (known : Option (List ℕ)) (old new : Loaded) → IfSome known (λ text. new.session.manager ≡ after_lines old.session.manager (lines_of text))

@@ -13,7 +13,7 @@ use Rattle.bm_base.specs.declared.limits.TheConstants.{MAX_ENTRIES}
 use Rattle.bm_base.specs.declared.call.Answer.{Answer}
 use Rattle.bm_base.specs.Words.{State, step, answers, state_after, is_refused}
 use Rattle.bm_lines.specs.Print.{answer_text}
-use Rattle.cluster_report.specs.Reading.{told_of}
+use Rattle.cluster_report.specs.LineNotes.{refusal_text_of}
 use Rattle.fsck_cluster.specs.declared.rows.Held.{Held}
 use Rattle.fsck_cluster.specs.declared.rows.Row.{Row}
 use Rattle.fsck_import.specs.CallsFor.{entry, received, reports}
@@ -50,12 +50,12 @@ none_only : (b : Bool) (text : List ℕ) → cond b (Some text) None ≡ None �
 none_only true text e = cc
 none_only false text e = refl
 
-not_told : (k : Call) (a : Answer) → told_of k a ≡ None → is_refused a ≡ false
-not_told k a e = none_only (is_refused a) (answer_text k a) e
+not_refused : (k : Call) (a : Answer) → refusal_text_of k a ≡ None → is_refused a ≡ false
+not_refused k a e = none_only (is_refused a) (answer_text k a) e
 
--- a call of which nothing is told
-pub one_made : (k : Call) (M N : State) → N ≡ (step M k).1 → None ≡ told_of k (step M k).0 → Makes (k ∷ []) M N
-one_made k M N state told = record { state = state; accepted = rw (not_told k (step M k).0 (sym told)) refl }
+-- a call of which nothing is refusal_text
+pub one_made : (k : Call) (M N : State) → N ≡ (step M k).1 → None ≡ refusal_text_of k (step M k).0 → Makes (k ∷ []) M N
+one_made k M N state refusal_text = record { state = state; accepted = rw (not_refused k (step M k).0 (sym refusal_text)) refl }
 
 take_next : {A : Type 0} (xs : List A) (i : ℕ) → take (suc i) xs ≡ take i xs ++ option_to_list (slice_get xs i)
 take_next {A} [] zero = refl
@@ -148,8 +148,8 @@ pub reports_made : (row : Row) (entries : List Entry) (first others held : List 
     → first ≡ take MAX_ENTRIES held → others ≡ drop MAX_ENTRIES held → held ≡ row.held
     → Makes (call.Apply (FullReport row.number entries) ∷ []) a b → Makes (map (received row.number) others) b c → Makes (reports row) a c
 reports_made row entries first others held a b c entries_are first_is others_are held_is one more =
-    let told : entries ≡ map entry (take MAX_ENTRIES row.held) = entries_are ∙ ap (map entry) first_is ∙ ap (λ h. map entry (take MAX_ENTRIES h)) held_is in
+    let refusal_text : entries ≡ map entry (take MAX_ENTRIES row.held) = entries_are ∙ ap (map entry) first_is ∙ ap (λ h. map entry (take MAX_ENTRIES h)) held_is in
     let rest : others ≡ drop MAX_ENTRIES row.held = others_are ∙ ap (drop MAX_ENTRIES) held_is in
-    subst (λ es. Makes (call.Apply (FullReport row.number es) ∷ map (received row.number) (drop MAX_ENTRIES row.held)) a c) told
+    subst (λ es. Makes (call.Apply (FullReport row.number es) ∷ map (received row.number) (drop MAX_ENTRIES row.held)) a c) refusal_text
     (subst (λ hs. Makes (call.Apply (FullReport row.number entries) ∷ map (received row.number) hs) a c) rest
     (made_more (call.Apply (FullReport row.number entries) ∷ []) (map (received row.number) others) a b c one more))

@@ -1,4 +1,4 @@
--- The names of a cluster that was read.
+-- The names of a loaded cluster.
 use Rattle.std.specs.Prelude.{ℕ, ◌++◌, ◌∷◌, [], fold, if◌then◌else◌}
 use Rattle.cluster_names.specs.Rows.{Rows, is_free}
 use Rattle.cluster_names.specs.declared.names.Names.{Names}
@@ -11,7 +11,7 @@ use Rattle.fsck_cluster.specs.declared.rows.Row.{Row}
 abbrev pub no_names : Names
 no_names = record { racks = []; nodes = []; storages = [] }
 
--- with one more name, unless the number or the name was there
+-- with one more name, unless the number or the name is known
 abbrev pub with_name : Rows → ℕ → Text → Rows
 with_name rows number name = if is_free rows number name then rows ++ (number, name) ∷ [] else rows
 

@@ -1,5 +1,4 @@
--- Lines of the tool or a text of fsck: by the first byte that is not blank. An opening brace is
--- 123.
+-- The kind of a text, lines of the tool or fsck, by its first byte that is not blank.
 use Rattle.std.specs.Prelude.{◌≡◌, ℕ, ◌==◌, ◌||◌, Bool, true, not, List, ◌++◌, Option, Some, None}
 use Rattle.std.specs.List.{find}
 
@@ -11,16 +10,16 @@ abbrev pub is_brace : Option ℕ → Bool
 is_brace None = true
 is_brace (Some b) = b == 123
 
--- lines of the tool begin with a brace; a blank text has no lines but those that are refused
+-- lines of the tool begin with an opening brace, 123; each line of a blank text is refused
 abbrev pub are_lines : List ℕ → Bool
 are_lines text = is_brace (find (λ b. not (is_blank b)) text)
 
--- the first bytes of a text, by which it is seen what it is
+-- the first bytes of a text, which show its kind
 pub record IsHead (text head rest : List ℕ) : Type 0 where
   pub parts : text ≡ head ++ rest
   pub alike : are_lines head ≡ are_lines text
 
--- the head of a text was read, and this is left
+-- the head of a text, and the rest of the text after it
 pub record IsHeadOf (text head : List ℕ) (left : Option (List ℕ)) : Type 0 where
   pub rest : List ℕ
   pub left_is : left ≡ Some rest

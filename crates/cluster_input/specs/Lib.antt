@@ -1,4 +1,4 @@
--- What a cluster is that was read: from lines of the tool, or from a text of fsck.
+-- A cluster that is loaded from lines of the tool or from a text of fsck.
 pub mod Kinds
 pub mod Making
 pub mod ClusterNames

@@ -1,4 +1,4 @@
-// The calls for a cluster that was read, made one after another.
+// Makes the calls for a cluster of fsck, one after another.
 ghost use Rattle.std.specs.Prelude.{◌≡◌, ◌∷◌, [], map, filter, option_to_list, slice_get, OnOk};
 ghost use Rattle.std.specs.List.{flat_map};
 ghost use Rattle.fsck_import.specs.CallsFor.{register, heartbeat, add, received, reports, corrupt, drain, drains, draining, calls_before, calls_after, calls_for};
@@ -9,12 +9,12 @@ use crate::fault::Fault;
 use bm_base::{Call, Event, Items, NodeId, StorageId};
 use cluster_report::session::Session;
 use fsck_cluster::{Cluster, Held, NodeRow, Row};
-use fsck_import::writing::{entries_of, heartbeat, parts_of, register};
+use fsck_import::line_writer::{entries_of, heartbeat, parts_of, register};
 use std::sync::Wait;
 use std::thread::Threads;
 
-/// Makes the calls that make a manager know a cluster. `remaining` is the number of free bytes on
-/// each storage whose node's are not known.
+/// Makes the calls that build a cluster in a manager. `remaining` is the free bytes of each storage
+/// whose node has no known number.
 pub fn make_calls<H: Threads + Wait + Sync>(
     rt: &H,
     session: &mut Session,
@@ -30,7 +30,7 @@ pub fn make_calls<H: Threads + Wait + Sync>(
     make_after(rt, session, cluster)
 }
 
-/// Nodes with their storages, what is free there, and blocks.
+/// Adds the nodes with their storages, the free bytes, and the blocks.
 fn make_before<H: Threads + Wait + Sync>(
     rt: &H,
     session: &mut Session,
@@ -47,7 +47,7 @@ fn make_before<H: Threads + Wait + Sync>(
     make_adds(rt, session, cluster)
 }
 
-/// Replicas, those of them that are corrupt, and nodes that are decommissioned.
+/// Adds the replicas, the corrupt ones among them, and the nodes that are decommissioned.
 fn make_after<H: Threads + Wait + Sync>(
     rt: &H,
     session: &mut Session,
@@ -115,7 +115,7 @@ fn make_adds<H: Threads + Wait + Sync>(
     Ok(())
 }
 
-/// The block at an index is added.
+/// Adds the block at an index.
 #[tactic(auto, using(crate::proofs::MakeLemmas::none_made))]
 fn make_add<H: Threads + Wait + Sync>(
     rt: &H,
@@ -156,7 +156,8 @@ fn make_reports<H: Threads + Wait + Sync>(
     Ok(())
 }
 
-/// The replicas on a storage: as many as fit into a report, and then each of the others.
+/// Reports the replicas on a storage: as many as fit into a report, then each of the others by a
+/// notice.
 fn make_row<H: Threads + Wait + Sync>(rt: &H, session: &mut Session, row: &Row) -> Result<(), Fault>
     requires { IsInStep session.old }
     ensures made { OnOk result (Makes (reports row.now)
@@ -231,7 +232,7 @@ fn make_drains<H: Threads + Wait + Sync>(
     Ok(())
 }
 
-/// A node drains, if it is being decommissioned, or has been.
+/// Decommissions the node, if it drains.
 #[tactic(auto, using(crate::proofs::MakeLemmas::none_made))]
 fn make_drain<H: Threads + Wait + Sync>(
     rt: &H,

@@ -1,8 +1,8 @@
-// Why no cluster was read.
+// The faults of loading a cluster.
 use std::alloc::AllocError;
 use thiserror::Error;
 
-/// Why no cluster was read. The manager may have taken a part of the calls.
+/// Why no cluster was loaded. The manager may have taken some of the calls.
 #[derive(Debug, Drop, Error)]
 pub enum Fault {
     #[error("memory fault")]
@@ -12,10 +12,10 @@ pub enum Fault {
     /// A note on a refused line could not be written.
     #[error("write fault")]
     Write,
-    /// A line of a text of fsck, or of the report on DataNodes, is refused.
+    /// A line of a text of fsck, or of the report on DataNodes, was refused.
     #[error("{0}")]
     Text(fsck_import::fault::Fault),
-    /// The manager refuses a call for a text of fsck.
+    /// The manager refused a call for a text of fsck.
     #[error("a call for the text is {0}")]
     Call(String),
 }

@@ -1,13 +1,13 @@
-// Whether a text holds lines of the tool or is one of fsck.
+// The kind of a text: lines of the tool, or fsck.
 ghost use Rattle.std.specs.Prelude.{◌≡◌, [], not, drop, IfSome, OnOk};
 ghost use Rattle.std.specs.List.{find, list_any};
 ghost use Rattle.cluster_input.specs.Kinds.{is_blank, is_brace, are_lines, IsHeadOf};
 
 use crate::fault::Fault;
-use cluster_report::reading::read_fault;
+use cluster_report::line_reader::read_fault;
 use std::io::BufRead;
 
-/// Reads the lines of a text up to the first that is not blank.
+/// Reads the lines of a text up to the first one that is not blank.
 #[tactic(auto, using(crate::proofs::HeadLemmas::head_whole, crate::proofs::HeadLemmas::none_read))]
 pub fn read_head<R: BufRead>(reader: &mut R, head: &mut Vec<u8>) -> Result<(), Fault>
     requires { head.old.items ≡ [] }
@@ -28,7 +28,7 @@ pub fn read_head<R: BufRead>(reader: &mut R, head: &mut Vec<u8>) -> Result<(), F
     Err(Fault::Read)
 }
 
-/// Whether a byte behind the first `start` is not blank.
+/// Whether a byte from index `start` on is not blank.
 fn has_word(text: &[u8], start: usize) -> bool
     ensures { result ≡ list_any (λ b. not (is_blank b)) (drop start text.now) }
 {

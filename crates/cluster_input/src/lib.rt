@@ -1,5 +1,6 @@
-//! A cluster from its text: lines of the line tool, or what `hdfs fsck` printed, with the names of
-//! racks, nodes, storages and files where the text has them. All calls are made on one manager.
+//! Loads a cluster from a text, which is lines of the line tool or the output of `hdfs fsck`. Keeps
+//! the names of racks, nodes, storages and files, if the text has them. All calls are made on one
+//! manager.
 #![tactic(auto)]
 
 mod calls;

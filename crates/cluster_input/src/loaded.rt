@@ -1,4 +1,4 @@
-// A cluster from its text.
+// A loaded cluster.
 ghost use Rattle.std.specs.Prelude.{◌≡◌, [], Some, IfOk, IfSome, OnOk};
 ghost use Rattle.std.specs.Fmt.{option_append};
 ghost use Rattle.std.specs.Io.KnownBytes.{Appends};
@@ -6,7 +6,7 @@ ghost use Rattle.bm_base.specs.Machine.State.{first_state};
 ghost use Rattle.bm_lines.specs.Lines.{lines_of};
 ghost use Rattle.cluster_names.specs.FileTable.{no_blocks};
 ghost use Rattle.cluster_report.specs.Sessions.{IsInStep};
-ghost use Rattle.cluster_report.specs.Reading.{SaysIfAccepted, notes_text};
+ghost use Rattle.cluster_report.specs.LineNotes.{IsAllAccepted, notes_text};
 ghost use Rattle.cluster_input.specs.ClusterNames.{no_names};
 ghost use Rattle.cluster_input.specs.Kinds.{are_lines};
 ghost use Rattle.cluster_input.specs.Inputs.{IsAfter, IsRead, AreTaken, accepts, accepts_as, notes_as, notes_on};
@@ -17,28 +17,28 @@ use crate::kind::{are_lines, read_head};
 use crate::names::names_of;
 use bm_base::Config;
 use cluster_names::{Files, Names};
-use cluster_report::reading::read_lines;
+use cluster_report::line_reader::read_lines;
 use cluster_report::session::Session;
 use fsck_import::import::{Notes, notes_of};
-use fsck_import::reading::{Reading, read_cluster};
+use fsck_import::text_reader::{Reading, read_cluster};
 use std::alloc::Global;
 use std::io::{BufRead, Read, Write};
 use std::sync::Wait;
 use std::thread::Threads;
 
-/// A cluster that was read: the manager with its book, and the names where the text has them.
+/// A loaded cluster: the manager with its book, and the names, if the text has them.
 #[derive(Drop)]
 pub struct Loaded {
     pub session: Session,
     pub names: Names,
     /// The file of each block.
     pub files: Files,
-    /// What the user has to know of a text of fsck.
+    /// Facts of a text of fsck that the user should know.
     pub notes: Option<Notes>,
 }
 
 impl Loaded {
-    /// Nothing was read.
+    /// The cluster before the first text.
     pub fn new(alloc: Global, config: &Config) -> Result<Loaded, Fault>
         ensures state { IfOk result (λ it. it.session.manager ≡ first_state config.now) }
         ensures in_step { IfOk result (λ it. IsInStep it.session) }
@@ -56,10 +56,10 @@ impl Loaded {
         })
     }
 
-    /// Takes a text, which holds lines of the tool or is one of fsck, and makes its calls. Whether
-    /// all were accepted: a line that is refused is noted by its number, and a refused call for a
-    /// text of fsck is a fault. `start` is how a text of fsck is read, and `remaining` the number
-    /// of free bytes on each storage whose node's are not known.
+    /// Reads a text of either kind and makes its calls. Returns whether all were accepted. A
+    /// refused line gets a note with its number; a refused call of a text of fsck is a fault.
+    /// `start` is the state before the first line of fsck, and `remaining` is the free bytes of
+    /// each storage whose node has no known number.
     pub fn take_text<R: BufRead, N: Write, H: Threads + Wait + Sync>(
         &mut self,
         rt: &H,
@@ -88,7 +88,7 @@ impl Loaded {
         }
     }
 
-    /// Takes a text whose head was read.
+    /// Reads the rest of a text, whose head was read.
     fn take_behind<R: BufRead, N: Write, H: Threads + Wait + Sync>(
         &mut self,
         rt: &H,
@@ -115,7 +115,7 @@ impl Loaded {
         self.take_kind(rt, holds_lines, start, remaining, &mut whole, notes)
     }
 
-    /// Takes a text of which it is known whether it holds lines of the tool.
+    /// Reads a text of a known kind.
     fn take_kind<R: BufRead, N: Write, H: Threads + Wait + Sync>(
         &mut self,
         rt: &H,
@@ -143,7 +143,7 @@ impl Loaded {
         Ok(true)
     }
 
-    /// Takes lines of the tool.
+    /// Reads lines of the tool.
     pub fn take_lines<R: BufRead, N: Write, H: Threads + Wait + Sync>(
         &mut self,
         rt: &H,
@@ -154,7 +154,7 @@ impl Loaded {
         ensures state { OnOk result (IfSome (R.remaining reader.old) (λ text.
             AreTaken text self.old self.new)) }
         ensures accepted { IfOk result (λ all.
-            SaysIfAccepted all self.old.session.manager (R.remaining reader.old)) }
+            IsAllAccepted all self.old.session.manager (R.remaining reader.old)) }
         ensures notes { OnOk result (IfSome (R.remaining reader.old) (λ text.
             Appends (N.contents notes.old) (N.contents notes.new)
             (notes_text 1 self.old.session.manager (lines_of text)))) }
@@ -167,7 +167,7 @@ impl Loaded {
         }
     }
 
-    /// Takes a text of fsck. The names of its cluster come in place of those before.
+    /// Reads a text of fsck. The names of its cluster replace the earlier ones.
     fn take_fsck<R: BufRead, H: Threads + Wait + Sync>(
         &mut self,
         rt: &H,

@@ -1,4 +1,4 @@
-// The names of a cluster that was read.
+// The names of a loaded cluster.
 ghost use Rattle.std.specs.Prelude.{◌≡◌, fold, IfOk, OnOk};
 ghost use Rattle.cluster_input.specs.ClusterNames.{names_of, no_names, with_node, with_storage};
 

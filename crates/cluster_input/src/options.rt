@@ -1,19 +1,19 @@
-// The options by which a cluster is read: the same for each word that reads one.
+// The options for loading a cluster, the same for each command that loads one.
 use bm_base::Config;
 use clap::{Arg, ArgAction, ArgMatches, Command, value_parser};
 use cluster_report::options::{NUMBERS, argument, config_from, with};
 use fsck_import::options::{Values, values_of};
 use std::alloc::{AllocError, Global};
 
-/// What the words ask for about the cluster.
+/// The values of the options for loading a cluster.
 #[derive(Clone, Copy)]
 pub struct Asked<'a> {
     pub config: Config,
-    /// How a text of fsck is read.
+    /// The options for a text of fsck.
     pub values: Values,
     /// The report on DataNodes, if one is named.
     pub nodes: Option<&'a str>,
-    /// The length of the input, if its progress is to be shown.
+    /// The length of the input in bytes, if its progress is shown.
     pub input_bytes: Option<u64>,
 }
 
@@ -48,12 +48,12 @@ static TEXT_OPTIONS: [TextOption; 4] = [
     },
 ];
 
-/// What is said of a value that is none of its option's.
+/// The message about a text that is no value of its option.
 pub const WRONG_VALUE: &str = "--remaining takes a whole number below 2^64; --skip takes \
 erasure-coded, replication-over-16, open and snapshots with commas between them; \
 --unclear takes omit or good";
 
-/// The command with the options by which a cluster is read, and the files.
+/// The command with the options for loading a cluster, and the files.
 pub fn with_input<'a>(alloc: Global, command: Command<'a>) -> Result<Command<'a>, AllocError> {
     let mut command = with(command, files(alloc))?;
     for option in &TEXT_OPTIONS {
@@ -88,7 +88,7 @@ fn quiet<'a>(alloc: Global) -> Arg<'a> {
         .help("shows no progress on standard error")
 }
 
-/// For a caller that knows standard error to be a terminal, and the length of the input.
+/// For a caller that knows that standard error is a terminal, and the length of the input.
 fn progress<'a>(alloc: Global) -> Arg<'a> {
     new_arg(alloc, "progress")
         .action(ArgAction::Set)
@@ -102,7 +102,7 @@ fn new_arg<'a>(alloc: Global, name: &'a str) -> Arg<'a> {
     Arg::new(alloc, name)
 }
 
-/// What the words ask for; `None` if a value is none of its option's.
+/// Reads the values of the options. `None` if a text is no value of its option.
 pub fn asked_of<'a>(matches: &ArgMatches<'a>) -> Option<Asked<'a>> {
     let values = values_of(
         matches.get_str("remaining"),
@@ -124,7 +124,7 @@ fn input_bytes_of(matches: &ArgMatches<'_>) -> Option<u64> {
     matches.get_one::<u64>("progress")
 }
 
-/// The files that the words name, one after another; `None` is standard input.
+/// The files that the words name; `None` is standard input.
 pub fn files_of<'m, 'a>(matches: &'m ArgMatches<'a>) -> Option<&'m [&'a str]> {
     matches.get_strs("FILE")
 }

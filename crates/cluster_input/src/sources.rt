@@ -1,4 +1,4 @@
-// The files that are named, or standard input.
+// Loads a cluster from files or from standard input.
 ghost use Rattle.std.specs.Prelude.{◌≡◌, None, IfSome};
 ghost use Rattle.cluster_report.specs.Sessions.{IsInStep};
 
@@ -7,8 +7,8 @@ use crate::loaded::Loaded;
 use crate::options::Asked;
 use crate::watched::{Meter, NoteWriter, WatchedReader};
 use fsck_cluster::Cluster;
-use fsck_import::reading::{Reading, read_nodes};
 use fsck_import::say_text_notes;
+use fsck_import::text_reader::{Reading, read_nodes};
 use std::alloc::Global;
 use std::fs::File;
 use std::io;
@@ -17,8 +17,8 @@ use std::rt::Files;
 use std::sync::Wait;
 use std::thread::Threads;
 
-/// What reading needs to speak: the name of the program for its messages, and the progress, which
-/// each message takes away first.
+/// The messages of loading: the program's name, and the progress line, which each message erases
+/// first.
 #[derive(Drop)]
 struct Console<'c, R> {
     rt: &'c R,
@@ -26,9 +26,9 @@ struct Console<'c, R> {
     meter: &'c Meter,
 }
 
-/// Loads the cluster of these files, or of standard input where there is none. The result has
-/// whether every call was accepted. Refused lines go to `notes`; standard error says why nothing
-/// was loaded, after the name of the program.
+/// Loads the cluster of these files, or of standard input if there are none. The result has whether
+/// every call was accepted. Refused lines go to `notes`. If nothing was loaded, the reason is
+/// printed to standard error after the program's name.
 pub fn load<R: Input + Eprint + Files + AllocGlobal + Threads + Wait + Sync, N: Print>(
     rt: &R,
     notes: &N,
@@ -62,12 +62,12 @@ pub fn load<R: Input + Eprint + Files + AllocGlobal + Threads + Wait + Sync, N: 
     Some((loaded, all_accepted))
 }
 
-/// Nothing was read; these nodes are known.
+/// The state before the first line, with the known nodes.
 fn start_of(alloc: Global, nodes: Cluster, asked: &Asked<'_>) -> Reading {
     Reading::new(alloc, nodes, asked.values.skips, asked.values.unclear, true)
 }
 
-/// Says a fault of a file or of standard input, with the system's words for a read that failed.
+/// Prints a fault of a file or of standard input, with the system's message for a failed read.
 /// Nothing was loaded.
 fn said<R: Eprint, T>(
     console: &Console<'_, R>,
@@ -95,7 +95,7 @@ fn said<R: Eprint, T>(
     None
 }
 
-/// The nodes of the report on DataNodes, if one is named. It is no part of the progress.
+/// Reads the nodes of the report on DataNodes, if one is named. The progress does not count it.
 fn nodes_of<R: Eprint + Files + AllocGlobal>(
     console: &Console<'_, R>,
     asked: &Asked<'_>,
@@ -130,7 +130,7 @@ fn opened<'c, R: Eprint + Files + AllocGlobal>(
     Some(reader)
 }
 
-/// Opens a file. Where it cannot be, the system's reason is said.
+/// Opens a file. Prints the system's message if that fails.
 fn file_at<R: Eprint + Files>(console: &Console<'_, R>, path: &str) -> Option<R::File> {
     match File::open(console.rt, path) {
         Ok(file) => Some(file),
@@ -143,7 +143,7 @@ fn file_at<R: Eprint + Files>(console: &Console<'_, R>, path: &str) -> Option<R:
     }
 }
 
-/// Takes these files, or standard input where there is none.
+/// Reads these files, or standard input if there are none.
 fn take_all<R: Input + Eprint + Files + AllocGlobal + Threads + Wait + Sync, W: Write>(
     console: &Console<'_, R>,
     loaded: &mut Loaded,
@@ -161,7 +161,7 @@ fn take_all<R: Input + Eprint + Files + AllocGlobal + Threads + Wait + Sync, W: 
     }
 }
 
-/// Takes standard input.
+/// Reads standard input.
 fn take_input<R: Input + Eprint + AllocGlobal + Threads + Wait + Sync, W: Write>(
     console: &Console<'_, R>,
     loaded: &mut Loaded,
@@ -184,7 +184,7 @@ fn take_input<R: Input + Eprint + AllocGlobal + Threads + Wait + Sync, W: Write>
     }
 }
 
-/// Takes these files, one after another.
+/// Reads these files, one after another.
 fn take_files<R: Eprint + Files + AllocGlobal + Threads + Wait + Sync, W: Write>(
     console: &Console<'_, R>,
     loaded: &mut Loaded,
@@ -204,7 +204,7 @@ fn take_files<R: Eprint + Files + AllocGlobal + Threads + Wait + Sync, W: Write>
     take_others(console, loaded, first, others, notes)
 }
 
-/// Takes the first file, which may be a text of fsck.
+/// Reads the first file, which may be a text of fsck.
 fn take_first<R: Eprint + Files + AllocGlobal + Threads + Wait + Sync, W: Write>(
     console: &Console<'_, R>,
     loaded: &mut Loaded,
@@ -232,7 +232,7 @@ fn take_first<R: Eprint + Files + AllocGlobal + Threads + Wait + Sync, W: Write>
     }
 }
 
-/// Takes the other files, which hold lines of the tool, unless there was a fault before.
+/// Reads the other files, which hold lines of the tool, unless there was a fault before.
 fn take_others<R: Eprint + Files + AllocGlobal + Threads + Wait + Sync, W: Write>(
     console: &Console<'_, R>,
     loaded: &mut Loaded,

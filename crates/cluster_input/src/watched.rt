@@ -1,11 +1,11 @@
-// What is read and noted while progress is shown.
+// Readers and writers for use while progress is shown.
 use cluster_progress::Progress;
 use std::cell::Cell;
 use std::io;
 use std::io::{Read, Write};
 
-/// How many bytes of the input were read. Where the input's length is known, standard error shows
-/// the part that was read.
+/// The number of bytes read. If the input's length is known, standard error shows the part that was
+/// read.
 #[derive(Drop)]
 pub struct Meter {
     progress: Cell<Progress>,
@@ -14,7 +14,7 @@ pub struct Meter {
 }
 
 impl Meter {
-    /// Nothing was read of an input of this many bytes. Without a number nothing is shown.
+    /// The start of an input of this many bytes. Without a length, nothing is shown.
     pub fn new(all: Option<u64>) -> Meter {
         Meter {
             progress: Cell::new(Progress::new(all.is_some())),
@@ -23,7 +23,7 @@ impl Meter {
         }
     }
 
-    /// Counts bytes that were read.
+    /// Adds to the number of bytes read.
     fn take<R: Eprint>(&self, rt: &R, bytes: usize) {
         let read = self.read.get().saturating_add(bytes as u64);
         self.read.set(read);
@@ -32,7 +32,7 @@ impl Meter {
         self.progress.set(progress);
     }
 
-    /// Takes the line with the progress away, so that another can be written in its place.
+    /// Erases the progress line, so that another line can be written.
     pub fn clear<R: Eprint>(&self, rt: &R) {
         let mut progress = self.progress.get();
         progress.end(rt);
@@ -40,8 +40,7 @@ impl Meter {
     }
 }
 
-/// A reader whose bytes a meter counts, if there is one. It keeps the error of the last read that
-/// failed.
+/// A reader whose bytes a meter counts, if there is one. Keeps the error of the last failed read.
 #[derive(Drop)]
 pub struct WatchedReader<'w, I, R> {
     inner: I,
@@ -60,7 +59,7 @@ impl<'w, I, R> WatchedReader<'w, I, R> {
         }
     }
 
-    /// Why the last read that failed did.
+    /// The error of the last failed read.
     pub fn error(&self) -> Option<io::Error> {
         self.error
     }
@@ -85,7 +84,7 @@ impl<I: Read, R: Eprint> Read for WatchedReader<'_, I, R> {
     }
 }
 
-/// A writer of notes, which takes the line with the progress away first.
+/// A writer of notes, which erases the progress line first.
 #[derive(Drop)]
 pub struct NoteWriter<'w, W, R> {
     inner: W,

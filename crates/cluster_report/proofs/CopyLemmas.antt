@@ -62,7 +62,7 @@ module _ {K X : Type 0} {o : Order K} where
       same_map (insert_all m xs) (insert_all m ys) (λ q.
       get_insert_all m v xs q all_xs ∙ ap (λ b. cond b (Some v) (get m q)) (same (λ e. eq_by_cmp o.cmp q e.0)) ∙ sym (get_insert_all m v ys q all_ys))
 
--- ---- what the nodes are told, all together
+-- ---- what the nodes are all_sent, all together
 
 same_truth : (a b : Bool) → (a ≡ true → b ≡ true) → (b ≡ true → a ≡ true) → a ≡ b
 same_truth true b f g = sym (f refl)
@@ -82,23 +82,23 @@ any_flat p f [] = refl
 any_flat p f (x ∷ xs) = list_any-append p (f x) (flat_map f xs) ∙ ap (λ b. list_any p (f x) || b) (any_flat p f xs)
 
 module _ (C : Cluster) (ns : List ℕ) (p : Transfer → Bool) where
-  abbrev told_to : List Transfer → ℕ → Bool
-  told_to ts n = list_any (λ t. has_storage C n t.source && p t) ts
+  abbrev sent_to : List Transfer → ℕ → Bool
+  sent_to ts n = list_any (λ t. has_storage C n t.source && p t) ts
 
-  told_one : (t : Transfer) (ts : List Transfer) (b : Bool) → p t ≡ b → list_any (λ n. has_storage C n t.source) ns ≡ true → (p t || list_any p ts) ≡ true
-      → (list_any p ts ≡ true → list_any (told_to ts) ns ≡ true) → list_any (told_to (t ∷ ts)) ns ≡ true
-  told_one t ts true e at h rest =
-      any_weaker (λ n. has_storage C n t.source) (told_to (t ∷ ts)) (λ n k. or_left (has_storage C n t.source && p t) (told_to ts n) (both_true _ _ k e)) ns at
-  told_one t ts false e at h rest =
-      any_weaker (told_to ts) (told_to (t ∷ ts)) (λ n k. or_right (has_storage C n t.source && p t) (told_to ts n) k) ns (rest (or_second (p t) (list_any p ts) e h))
+  sent_one : (t : Transfer) (ts : List Transfer) (b : Bool) → p t ≡ b → list_any (λ n. has_storage C n t.source) ns ≡ true → (p t || list_any p ts) ≡ true
+      → (list_any p ts ≡ true → list_any (sent_to ts) ns ≡ true) → list_any (sent_to (t ∷ ts)) ns ≡ true
+  sent_one t ts true e at h rest =
+      any_weaker (λ n. has_storage C n t.source) (sent_to (t ∷ ts)) (λ n k. or_left (has_storage C n t.source && p t) (sent_to ts n) (both_true _ _ k e)) ns at
+  sent_one t ts false e at h rest =
+      any_weaker (sent_to ts) (sent_to (t ∷ ts)) (λ n k. or_right (has_storage C n t.source && p t) (sent_to ts n) k) ns (rest (or_second (p t) (list_any p ts) e h))
 
-  told : (ts : List Transfer) → Each (λ t. list_any (λ n. has_storage C n t.source) ns ≡ true) ts → list_any p ts ≡ true → list_any (told_to ts) ns ≡ true
-  told [] h e = cc
-  told (t ∷ ts) h e = told_one t ts (p t) refl h.0 e (told ts h.1)
+  all_sent : (ts : List Transfer) → Each (λ t. list_any (λ n. has_storage C n t.source) ns ≡ true) ts → list_any p ts ≡ true → list_any (sent_to ts) ns ≡ true
+  all_sent [] h e = cc
+  all_sent (t ∷ ts) h e = sent_one t ts (p t) refl h.0 e (all_sent ts h.1)
 
-  of_told : (ts : List Transfer) → list_any (told_to ts) ns ≡ true → list_any p ts ≡ true
-  of_told ts e =
-      let n = each_any (λ _. Unit {0}) (told_to ts) ns (each_of (λ _. Unit {0}) ns (λ _. tt)) e in
+  of_sent : (ts : List Transfer) → list_any (sent_to ts) ns ≡ true → list_any p ts ≡ true
+  of_sent ts e =
+      let n = each_any (λ _. Unit {0}) (sent_to ts) ns (each_of (λ _. Unit {0}) ns (λ _. tt)) e in
       any_weaker (λ t. has_storage C n.0 t.source && p t) p (λ t k. and_second (has_storage C n.0 t.source) (p t) k) ts n.2
 
 some_commands : {X Y : Type 0} (p : Y → Bool) (f : X → Y) (xs : List X) (n : ℕ) → (nat_lt 0 (length xs + n) && list_any p (map f xs)) ≡ list_any p (map f xs)
@@ -113,21 +113,21 @@ module _ (C : Cluster) (r : ℕ) (ts : List Transfer) (ds : List Delete) where
   abbrev sent : Transfer → ReplicaId × ℕ
   sent t = (replica_at t.block t.target, r)
 
-  one_told : (p : ReplicaId × ℕ → Bool) (n : ℕ) → (has_commands (node_commands C ts ds n) && list_any p (commanded_to r (node_commands C ts ds n))) ≡ list_any (λ t. has_storage C n t.source && p (sent t)) ts
+  one_commanded : (p : ReplicaId × ℕ → Bool) (n : ℕ) → (has_commands (node_commands C ts ds n) && list_any p (commanded_to r (node_commands C ts ds n))) ≡ list_any (λ t. has_storage C n t.source && p (sent t)) ts
   unfolding node_commands
-  one_told p n =
+  one_commanded p n =
       some_commands p sent (filter (λ t. has_storage C n t.source) ts) _
       ∙ any_map p sent (filter (λ t. has_storage C n t.source) ts)
       ∙ any_filter (λ t. p (sent t)) (λ t. has_storage C n t.source) ts
 
-  all_told : (p : ReplicaId × ℕ → Bool) (ns : List ℕ) → Each (λ t. list_any (λ n. has_storage C n t.source) ns ≡ true) ts
+  all_commanded : (p : ReplicaId × ℕ → Bool) (ns : List ℕ) → Each (λ t. list_any (λ n. has_storage C n t.source) ns ≡ true) ts
       → list_any p (flat_map (commanded_to r) (filter has_commands (map (node_commands C ts ds) ns))) ≡ list_any p (map sent ts)
-  all_told p ns each =
+  all_commanded p ns each =
       any_flat p (commanded_to r) (filter has_commands (map (node_commands C ts ds) ns))
       ∙ any_filter (λ k. list_any p (commanded_to r k)) has_commands (map (node_commands C ts ds) ns)
       ∙ any_map (λ k. has_commands k && list_any p (commanded_to r k)) (node_commands C ts ds) ns
-      ∙ any_agree _ (λ n. list_any (λ t. has_storage C n t.source && p (sent t)) ts) (one_told p) ns
-      ∙ same_truth _ _ (of_told C ns (λ t. p (sent t)) ts) (told C ns (λ t. p (sent t)) ts each)
+      ∙ any_agree _ (λ n. list_any (λ t. has_storage C n t.source && p (sent t)) ts) (one_commanded p) ns
+      ∙ same_truth _ _ (of_sent C ns (λ t. p (sent t)) ts) (all_sent C ns (λ t. p (sent t)) ts each)
       ∙ sym (any_map p sent ts)
 
   all_put : (m : Map by_replica ℕ) (ns : List ℕ) → Each (λ t. list_any (λ n. has_storage C n t.source) ns ≡ true) ts
@@ -137,7 +137,7 @@ module _ (C : Cluster) (r : ℕ) (ts : List Transfer) (ds : List Delete) where
       (each_flat (λ e. e.1 ≡ r) (commanded_to r) (filter has_commands (map (node_commands C ts ds) ns))
       (each_of _ (filter has_commands (map (node_commands C ts ds) ns)) (λ k. each_mapped (λ e. e.1 ≡ r) sent k.transfers (each_of _ k.transfers (λ t. refl)))))
       (each_mapped (λ e. e.1 ≡ r) sent ts (each_of _ ts (λ t. refl)))
-      (λ p. all_told p ns each)
+      (λ p. all_commanded p ns each)
 
 -- the copies that a round leaves on their way, from what it commands
 pub round_copies : (M : State) → IsLawful M

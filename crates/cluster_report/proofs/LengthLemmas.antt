@@ -5,7 +5,7 @@ use Rattle.bm_base.specs.declared.replica.BlockInfo.{BlockInfo}
 use Rattle.bm_base.specs.declared.replica.Replica.{Replica}
 use Rattle.bm_base.specs.Maps.Map.{Map, by_number}
 use Rattle.cluster_report.specs.Catalogues.{Lists, len_in, len_of}
-use Rattle.cluster_report.specs.Counting.{tag_bytes}
+use Rattle.cluster_report.specs.TagTotals.{tag_bytes}
 use Rattle.cluster_report.specs.Levels.{level_bytes}
 use Rattle.cluster_report.specs.declared.levels.Leveled.{Leveled}
 use Rattle.cluster_report.specs.declared.catalogue.Catalogue.{Catalogue}

@@ -5,7 +5,7 @@ use Rattle.std.proofs.lemmas.Bool.Decides.{eqb_tells}
 use Rattle.std.specs.Io.BufRead.{take_through, drop_through}
 use denote.Ref.{Bor}
 use Rattle.bm_lines.specs.Lines.{lines_of, onto}
-use Rattle.cluster_report.specs.Reading.{without_end}
+use Rattle.cluster_report.specs.LineNotes.{without_end}
 
 without_end-push : (xs : List ℕ) → without_end (xs ++ 10 ∷ []) ≡ xs
 without_end-push [] = refl

@@ -4,7 +4,7 @@ use Rattle.std.specs.Io.BufRead.{take_through, drop_through}
 use Rattle.std.specs.Io.KnownBytes.{Appends, IsAtEnd}
 use Rattle.bm_base.specs.Machine.State.{State}
 use Rattle.bm_lines.specs.Lines.{lines_of}
-use Rattle.cluster_report.specs.Reading.{without_end, told, after_line, after_lines, all_accepted, note_text, notes_text}
+use Rattle.cluster_report.specs.LineNotes.{without_end, refusal_text, after_line, after_lines, all_accepted, note_text, notes_text}
 use Rattle.cluster_report.proofs.LineLemmas.{lines_of-through}
 
 -- ---- known bytes
@@ -79,10 +79,10 @@ not_noted n what known none = subst (λ w. Appends known known (note_text n w)) 
 -- one line more was taken
 pub taken_line : (M N N' : State) (start now now' left left' : Option (List ℕ)) (input : List ℕ) (n : ℕ) (a is b : Bool) (read line : List ℕ)
     → (t : Taken M start input n N a now left) → Reads t.rest read left' → line ≡ without_end read
-    → N' ≡ after_line N line → is ≡ is_none (told N line) → b ≡ (a && is) → Appends now now' (note_text n (told N line))
+    → N' ≡ after_line N line → is ≡ is_none (refusal_text N line) → b ≡ (a && is) → Appends now now' (note_text n (refusal_text N line))
     → Taken M start input (n + 1) N' b now' left'
 unfolding after_lines all_accepted notes_text
-taken_line M N N' start now now' left left' input n a is b read line t reads line_is next told_is both note =
+taken_line M N N' start now now' left left' input n a is b read line t reads line_is next refusal_is both note =
     let ls = lines_of (drop_through 10 t.rest) in
     let lines : lines_of t.rest ≡ line ∷ ls = reads.lines_are ∙ ap (λ l. l ∷ ls) (sym line_is) in
     record {
@@ -92,14 +92,14 @@ taken_line M N N' start now now' left left' input n a is b read line t reads lin
       all =
           t.all
           ∙ ap (λ xs. a && all_accepted N xs) lines
-          ∙ and_more a (is_none (told N line)) (all_accepted (after_line N line) ls)
-          ∙ ap (λ x. (a && x) && all_accepted (after_line N line) ls) (sym told_is)
+          ∙ and_more a (is_none (refusal_text N line)) (all_accepted (after_line N line) ls)
+          ∙ ap (λ x. (a && x) && all_accepted (after_line N line) ls) (sym refusal_is)
           ∙ ap (λ x. x && all_accepted (after_line N line) ls) (sym both)
           ∙ ap (λ S. b && all_accepted S ls) (sym next);
       noted = λ new h.
           t.noted new
           (subst (λ xs. Appends now new (notes_text n N xs)) (sym lines)
-          (Appends-then now now' new (note_text n (told N line)) (notes_text (n + 1) (after_line N line) ls) note (subst (λ S. Appends now' new (notes_text (n + 1) S ls)) next h)));
+          (Appends-then now now' new (note_text n (refusal_text N line)) (notes_text (n + 1) (after_line N line) ls) note (subst (λ S. Appends now' new (notes_text (n + 1) S ls)) next h)));
     }
 
 lines_of-none : lines_of [] ≡ []

@@ -1,4 +1,4 @@
--- Each copy that a round commands is told to an alive node.
+-- Each copy of a round is commanded to an alive node.
 use Rattle.std.proofs.Common.{◌≡◌, ℕ, ◌*◌, Bool, true, false, List, [], ◌∷◌, ◌++◌, Option, Some, filter, length, option_to_list, ap, sym, ◌∙◌}
 use Rattle.std.specs.Prelude.{◌==◌, nat_lt, nat_le, option_map, option_and_then}
 use Rattle.std.specs.Option.{option_map_or}
@@ -16,7 +16,7 @@ use Rattle.bm_base.proofs.Sets.{passing_some, has_keys}
 use Rattle.bm_base.proofs.MapEntries.{known_revised}
 use Rattle.bm_parts.proofs.ChosenCopies.{HasOne, each_storage, made, unless}
 
--- the storage stands on an alive node
+-- the storage is on an alive node
 abbrev pub HasNode : Cluster → ℕ → Type 0
 HasNode C s = list_any (λ n. has_storage C n s) (keys C.nodes) ≡ true
 

@@ -1,9 +1,9 @@
--- The copies on their way.
+-- The pending copies.
 use Rattle.std.specs.Prelude.{ℕ, List, map}
 use Rattle.bm_base.specs.declared.replica.ReplicaId.{ReplicaId}
 use Rattle.bm_base.specs.declared.commands.NodeCommands.{NodeCommands}
 use Rattle.bm_base.specs.Machine.State.{replica_at}
 
--- the copies that a node is commanded to make in this round, by block and target
+-- the copies that this round commands to a node, by block and target
 abbrev pub commanded_to : ℕ → NodeCommands → List (ReplicaId × ℕ)
 commanded_to round k = map (λ t. (replica_at t.block t.target, round)) k.transfers

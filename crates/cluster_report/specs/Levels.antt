@@ -11,7 +11,7 @@ use Rattle.cluster_report.specs.declared.levels.LevelCounts.{LevelCounts}
 abbrev pub leveled : Cluster → Holdings → ℕ → Leveled
 leveled C H b = record { block = b; level = level C H b }
 
--- how many of these blocks are at a level
+-- the number of these blocks at a level
 abbrev pub count_at : Level → List Leveled → ℕ
 count_at urgency ls = count_by (λ l. is_at urgency l.level) ls
 
@@ -26,11 +26,11 @@ levels_counted ls missing = record {
   none = count_by (λ l. is_none l.level) ls;
 }
 
--- the bytes of those of these blocks that are at a level, by the lengths of blocks
+-- the bytes of the blocks at a level, by the lengths of blocks
 abbrev pub bytes_at : (ℕ → ℕ) → Level → List Leveled → ℕ
 bytes_at len urgency ls = sum_by (λ l. if is_at urgency l.level then len l.block else 0) ls
 
--- the bytes of the blocks at each level, and beside them of these missing ones
+-- the bytes of the blocks at each level, and of the missing blocks
 abbrev pub level_bytes : (ℕ → ℕ) → List Leveled → List ℕ → LevelBytes
 level_bytes len ls missing = record {
   highest = bytes_at len Highest ls;
@@ -41,11 +41,10 @@ level_bytes len ls missing = record {
   none = sum_by (λ l. if is_none l.level then len l.block else 0) ls;
 }
 
--- those of these blocks that are at a level
+-- the blocks at a level
 abbrev pub all_at : Level → List Leveled → List Leveled
 all_at urgency ls = filter (λ l. is_at urgency l.level) ls
 
--- those of these blocks that want a copy and have one to copy from, by level and then in their
--- order
+-- the blocks that need a copy and have a source, by level and then in their order
 abbrev pub urgent_first : List Leveled → List Leveled
 urgent_first ls = ((all_at Highest ls ++ all_at VeryUnderReplicated ls) ++ all_at UnderReplicated ls) ++ all_at BadlyDistributed ls

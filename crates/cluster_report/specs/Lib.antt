@@ -1,11 +1,11 @@
--- What a report says of a state, its text, and how it comes from lines.
+-- The report on a state, its text, and the lines of its input.
 pub mod Books
 pub mod Catalogues
 pub mod Copies
-pub mod Counting
+pub mod TagTotals
 pub mod Levels
 pub mod Nodes
-pub mod Reading
+pub mod LineNotes
 pub mod Reports
 pub mod Sessions
 pub mod Text

@@ -1,4 +1,4 @@
--- The nodes of a state with their storages, as a report tells of them.
+-- The nodes of a state with their storages, as a report lists them.
 use Rattle.std.specs.Prelude.{ℕ, List, map, filter, length, sum_by, unwrap_or, if◌then◌else◌}
 use Rattle.bm_base.specs.Words.{get, State, has_storage, drains, remaining, blocks_on, is_retired}
 use Rattle.cluster_report.specs.Catalogues.{len_of}
@@ -7,8 +7,7 @@ use Rattle.cluster_report.specs.declared.nodes.NodeState.TheVariants.{Live, Drai
 use Rattle.cluster_report.specs.declared.nodes.StorageRow.{StorageRow}
 use Rattle.cluster_report.specs.declared.nodes.NodeRow.{NodeRow}
 
--- a storage: how many replicas it holds, of any tag, the bytes of their blocks, and the bytes that
--- are left on it
+-- a storage: its replicas of any tag, the bytes of their blocks, and its free bytes
 abbrev pub storage_row : State → ℕ → StorageRow
 storage_row M s = record {
   storage = s;
@@ -17,15 +16,15 @@ storage_row M s = record {
   remaining = remaining M.cluster s;
 }
 
--- those of these storages that stand on a node
+-- the storages of a node, among these
 abbrev pub storage_rows : State → ℕ → List ℕ → List StorageRow
 storage_rows M n ss = map (storage_row M) (filter (has_storage M.cluster n) ss)
 
--- retired where it can be taken away; else it drains, or it is live
+-- retired if it can be removed; else draining or live
 abbrev pub state_of : State → ℕ → NodeState
 state_of M n = if is_retired M.cluster M.holdings n then Retired else if drains M.cluster n then Draining else Live
 
--- a node, with those of these storages that stand on it
+-- a node with its storages, among these
 abbrev pub node_row : State → List ℕ → ℕ → NodeRow
 node_row M ss n = record {
   node = n;

@@ -1,8 +1,8 @@
--- What a report says of a state.
+-- The report on a state.
 use Rattle.std.specs.Prelude.{List, map, length}
 use Rattle.bm_base.specs.Words.{keys, len, State, all_replicas, excess_replicas, missing_blocks}
 use Rattle.cluster_report.specs.Catalogues.{len_of}
-use Rattle.cluster_report.specs.Counting.{tags_counted, tag_bytes, blocks_held}
+use Rattle.cluster_report.specs.TagTotals.{tags_counted, tag_bytes, blocks_held}
 use Rattle.cluster_report.specs.Levels.{leveled, levels_counted, level_bytes, urgent_first}
 use Rattle.cluster_report.specs.Nodes.{node_row}
 use Rattle.cluster_report.specs.declared.levels.Leveled.{Leveled}
@@ -12,7 +12,7 @@ use Rattle.cluster_report.specs.declared.report.Report.{Report}
 abbrev pub levels_held : State → List Leveled
 levels_held M = map (leveled M.cluster M.holdings) (blocks_held (all_replicas M.holdings))
 
--- how the cluster of a state stands
+-- the report on a state
 abbrev pub report_of : State → Report
 report_of M = record {
   calls = M.calls;

@@ -5,7 +5,7 @@ use Rattle.cluster_report.specs.Catalogues.{Lists}
 use Rattle.cluster_report.specs.declared.book.Book.{Book}
 use Rattle.cluster_report.specs.declared.session.Session.{Session}
 
--- the book has the cluster, the copies on their way and the blocks of a state
+-- the book holds the cluster, the pending copies and the blocks of a state
 pub record Follows (book : Book) (M : State) : Type 0 where
   pub cluster : book.topology.cluster ≡ M.cluster
   pub copies : book.transfers.copies ≡ M.holdings.pending

@@ -1,4 +1,4 @@
-// What the manager cannot be asked: its nodes and storages, the copies on their way, and the
+// The facts for which the manager has no query: its nodes and storages, the pending copies, and the
 // lengths of blocks.
 ghost use Rattle.std.specs.Prelude.{◌≡◌, IfOk, OnOk, OnErr, unwrap_or};
 ghost use Rattle.bm_base.specs.Maps.Map as map;
@@ -13,7 +13,8 @@ use bm_maps::NumberMap;
 use bm_topo::Topology;
 use std::alloc::{AllocError, Global};
 
-/// The cluster, the racks of its nodes, the copies on their way, and what is known of each block.
+/// The cluster, the racks of its nodes, the pending copies, and the stamp and wanted replicas of
+/// each block.
 #[derive(Drop)]
 pub struct Book {
     pub topology: Topology,
@@ -24,7 +25,7 @@ pub struct Book {
 }
 
 impl Book {
-    /// Nothing was told.
+    /// The book of a new manager.
     #[tactic(auto, unfolding(bm_base::specs::Machine::State::empty_cluster))]
     pub fn new(alloc: Global, config: &Config) -> Result<Book, Refusal>
         ensures cluster { IfOk result (λ b. b.topology.cluster ≡ empty_cluster) }
@@ -40,7 +41,7 @@ impl Book {
         })
     }
 
-    /// Notes what a call and its answer say of nodes, storages, copies and blocks.
+    /// Notes the effect of a call and its answer on nodes, storages, copies and blocks.
     pub fn take(&mut self, call: &Call, answer: &Answer) -> Result<(), AllocError>
         requires { IsAccepted self.old.topology.cluster call.now answer.now }
         ensures cluster { OnOk result (self.new.topology.cluster
@@ -58,8 +59,8 @@ impl Book {
         }
     }
 
-    /// The manager accepted an event. Its transfers cost a look at each copy that is on its way,
-    /// where the event takes any away; the rest at most a look at each node and each storage.
+    /// Notes an event that the manager accepted. An event that removes copies scans all pending
+    /// copies; the rest scans at most the nodes and the storages.
     pub fn take_event(&mut self, event: &Event) -> Result<(), AllocError>
         requires { first_of (cluster_checks self.old.topology.cluster event.now) ≡ None }
         ensures cluster { OnOk result (self.new.topology.cluster
@@ -88,7 +89,7 @@ impl Book {
         self.blocks.get(block)
     }
 
-    /// The rack of a node; 0 of a node that is not known.
+    /// The rack of a node; 0 of an unknown node.
     pub fn rack_of(&self, node: NodeId) -> Rack
         ensures { result ≡ unwrap_or (map.get self.now.topology.cluster.nodes node) 0 }
     {
@@ -99,7 +100,7 @@ impl Book {
     }
 }
 
-/// A node comes to its rack, or leaves it.
+/// Adds or removes a node's rack.
 #[tactic(auto, unfolding(bm_base::specs::Machine::Events::change_cluster, bm_base::specs::Machine::Events::register, bm_base::specs::Machine::Events::without_node, bm_base::specs::Machine::Events::without_storage, bm_base::specs::Machine::Events::heartbeat, bm_base::specs::Machine::Events::drain, bm_base::specs::Machine::Events::undrain))]
 fn take_rack(racks: &mut NumberMap<Rack>, event: &Event) -> Result<(), AllocError>
     ensures ok { OnOk result ((C : Cluster) → racks.old.map ≡ C.nodes

@@ -1,5 +1,4 @@
-// The stamp and the wanted replicas of each known block. The manager answers no question about
-// them.
+// The stamp and the wanted replicas of each known block. The manager has no query for them.
 ghost use Rattle.std.specs.Prelude.{◌≡◌, ℕ, nat_eq, sum_by, Some, None, OnOk, if◌then◌else◌};
 ghost use Rattle.bm_base.specs.Maps.Map as map_of;
 ghost use Rattle.bm_base.specs.Words.{Cluster, Holdings, change_holdings, set_replication, restamp};
@@ -9,14 +8,14 @@ use bm_base::{BlockId, BlockInfo, Event, Stamp};
 use std::alloc::{AllocError, Global};
 use std::collections::HashMap;
 
-/// What is known of each block, found by hash.
+/// The stamp and the wanted replicas of each block, found by hash.
 #[derive(Drop)]
 pub struct Catalogue {
     pub blocks: HashMap<u64, BlockInfo>,
 }
 
 impl Catalogue {
-    /// No block. Takes no memory.
+    /// An empty catalogue. Takes no memory.
     pub fn new(alloc: Global) -> Catalogue
         ensures { Lists result map_of.empty }
     {
@@ -31,7 +30,7 @@ impl Catalogue {
         self.blocks.get(&block.0).copied()
     }
 
-    /// The length of a block in bytes; 0 of one that is not known.
+    /// The length of a block in bytes; 0 of an unknown block.
     pub fn len_of(&self, block: BlockId) -> u64
         ensures { result ≡ len_in self.now block }
     {
@@ -52,7 +51,7 @@ impl Catalogue {
         total
     }
 
-    /// Notes what an accepted event makes of a block.
+    /// Notes the effect of an accepted event on blocks.
     #[tactic(auto, unfolding(bm_base::specs::Machine::Events::change_holdings, bm_base::specs::Machine::Events::without_storages, bm_base::specs::Machine::Events::add_block, bm_base::specs::Machine::Events::delete_block, bm_base::specs::Machine::Events::without_pending, bm_base::specs::Machine::Events::change_marks_of_block, bm_base::specs::Machine::Events::set_replication, bm_base::specs::Machine::Events::restamp, bm_base::specs::Machine::Events::enter, bm_base::specs::Machine::Events::remove_replica, bm_base::specs::Machine::Events::make_bad, bm_base::specs::Machine::Events::report), using(crate::proofs::CatalogueLemmas::lists_drained))]
     pub fn take_event(&mut self, event: &Event) -> Result<(), AllocError>
         ensures { OnOk result ((C : Cluster) (H : Holdings) → Lists self.old H.blocks

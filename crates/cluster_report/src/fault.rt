@@ -1,8 +1,8 @@
-// Why a run ends with no report.
+// The faults that end a run.
 use std::alloc::AllocError;
 use thiserror::Error;
 
-/// Why there is no report, or an unknown part of it where a write failed.
+/// Why there is no report. After a failed write, an unknown part was written.
 #[derive(Clone, Copy, Debug, Error)]
 pub enum Fault {
     #[error("memory fault")]

@@ -1,4 +1,4 @@
-// How urgent blocks are, counted by level, and the most urgent ones.
+// The blocks counted by level, and the most urgent ones.
 ghost use Rattle.std.specs.Prelude.{◌≡◌, ◌++◌, IfOk, map, count_by, sum_by, is_none, if◌then◌else◌};
 ghost use Rattle.bm_base.specs.Machine.Levels.{is_at, level};
 ghost use Rattle.cluster_report.specs.Levels.{all_at, bytes_at, level_bytes, leveled, levels_counted, urgent_first};
@@ -16,7 +16,7 @@ pub struct Leveled {
     pub level: Option<Level>,
 }
 
-/// How many blocks are at each level.
+/// The number of blocks at each level.
 #[derive(Clone, Copy)]
 pub struct LevelCounts {
     pub highest: usize,
@@ -24,7 +24,7 @@ pub struct LevelCounts {
     pub under_replicated: usize,
     pub badly_distributed: usize,
     pub missing: usize,
-    /// Those that want no replica.
+    /// The blocks that need no copy.
     pub none: usize,
 }
 
@@ -39,7 +39,7 @@ pub struct LevelBytes {
     pub none: u128,
 }
 
-/// The level of each of these blocks, one question each.
+/// The level of each of these blocks. Makes one query for each.
 pub fn levels_of(
     alloc: Global,
     manager: &Manager,
@@ -57,7 +57,7 @@ pub fn levels_of(
     Ok(levels)
 }
 
-/// The level of a block; none of one that is not known.
+/// The level of a block; none of an unknown block.
 #[tactic(auto, unfolding(bm_base::specs::Machine::Levels::level, bm_base::specs::Machine::Refusals::block_refusal, bm_base::specs::Machine::Refusals::knows_block))]
 fn level_in(manager: &Manager, block: BlockId) -> Option<Level>
     ensures { result ≡ level manager.now.cluster manager.now.holdings block }
@@ -102,7 +102,7 @@ fn bytes_at(catalogue: &Catalogue, levels: &[Leveled], urgency: Level) -> u128
 {
     let mut total = 0u128;
     for found in levels {
-        total += u128::from(len_if(catalogue, found, stands_at(found, urgency)));
+        total += u128::from(len_if(catalogue, found, is_at_level(found, urgency)));
     }
     total
 }
@@ -118,7 +118,7 @@ fn bytes_at_none(catalogue: &Catalogue, levels: &[Leveled]) -> u128
     total
 }
 
-/// The length of a block where it counts, and else 0.
+/// The length of a block if it counts; else 0.
 fn len_if(catalogue: &Catalogue, found: &Leveled, counts: bool) -> u64
     ensures { result ≡ (if counts then len_in catalogue.now found.now.block else 0) }
 {
@@ -134,7 +134,7 @@ fn count_at(levels: &[Leveled], urgency: Level) -> usize
 {
     levels
         .iter()
-        .filter(|found| stands_at(found, urgency))
+        .filter(|found| is_at_level(found, urgency))
         .count()
 }
 
@@ -151,14 +151,14 @@ fn has_none(found: &Leveled) -> bool
     found.level.is_none()
 }
 
-/// Whether a block stands at this level.
-fn stands_at(found: &Leveled, urgency: Level) -> bool
+/// Whether a block is at this level.
+fn is_at_level(found: &Leveled, urgency: Level) -> bool
     ensures { result ≡ is_at urgency found.now.level }
 {
     is_at(found.level, urgency)
 }
 
-/// Whether a level is there and is this one.
+/// Whether the level is this one.
 fn is_at(found: Option<Level>, urgency: Level) -> bool
     ensures { result ≡ is_at urgency found }
 {
@@ -168,19 +168,18 @@ fn is_at(found: Option<Level>, urgency: Level) -> bool
     }
 }
 
-/// Those of these blocks that want a copy and have one to copy from, by level and then in their
-/// order.
+/// The blocks that need a copy and have a source, by level and then in their order.
 pub fn urgent_first(alloc: Global, levels: &[Leveled]) -> Result<Vec<Leveled>, AllocError>
     ensures { IfOk result (λ v. v.items ≡ urgent_first levels.now) }
 {
     let urgent = all_at(alloc, levels, Level::Highest)?;
-    let urgent = and_all_at(alloc, urgent, levels, Level::VeryUnderReplicated)?;
-    let urgent = and_all_at(alloc, urgent, levels, Level::UnderReplicated)?;
-    and_all_at(alloc, urgent, levels, Level::BadlyDistributed)
+    let urgent = append_all_at(alloc, urgent, levels, Level::VeryUnderReplicated)?;
+    let urgent = append_all_at(alloc, urgent, levels, Level::UnderReplicated)?;
+    append_all_at(alloc, urgent, levels, Level::BadlyDistributed)
 }
 
-/// These, and behind them those at one level.
-fn and_all_at(
+/// Appends the blocks at one level.
+fn append_all_at(
     alloc: Global,
     mut urgent: Vec<Leveled>,
     levels: &[Leveled],
@@ -194,13 +193,13 @@ fn and_all_at(
     Ok(urgent)
 }
 
-/// Those at one level.
+/// The blocks at one level.
 fn all_at(alloc: Global, levels: &[Leveled], urgency: Level) -> Result<Vec<Leveled>, AllocError>
     ensures { IfOk result (λ v. v.items ≡ all_at urgency levels.now) }
 {
     levels
         .iter()
-        .filter(|found| stands_at(found, urgency))
+        .filter(|found| is_at_level(found, urgency))
         .copied()
         .collect(alloc)
 }

@@ -1,17 +1,17 @@
-//! How a cluster stands after calls: a manager, a book of what it cannot be asked, the lines of an
-//! input that ask for calls, and what is counted at the end.
+//! The report on a cluster after calls: a manager, a book of the facts for which it has no query,
+//! the lines of an input, and the counts at the end.
 //!
-//! A line that asks for no call, or whose call is refused, is noted with its number, and the others
-//! are taken.
+//! A line that asks for no call, or whose call is refused, gets a note with its number. The other
+//! lines are taken.
 #![tactic(auto)]
 
 pub mod book;
 pub mod catalogue;
 pub mod fault;
 pub mod levels;
+pub mod line_reader;
 pub mod nodes;
 pub mod options;
-pub mod reading;
 pub mod report;
 pub mod session;
 pub mod tag_counts;

@@ -1,4 +1,4 @@
-// The nodes with their storages, as a report tells of them.
+// The nodes with their storages, as a report lists them.
 ghost use Rattle.std.specs.Prelude.{◌≡◌, IfOk, map};
 ghost use Rattle.bm_base.specs.Maps.Map as map_of;
 ghost use Rattle.cluster_report.specs.Nodes.{storage_row, storage_rows, state_of, node_row};
@@ -10,28 +10,28 @@ use bm_manager::Manager;
 use bm_topo::Topology;
 use std::alloc::{AllocError, Global};
 
-/// Whether a node is in use.
+/// The state of a node.
 #[derive(Clone, Copy)]
 pub enum NodeState {
     Live,
-    /// It is to be taken away, and a block holds it back.
+    /// It drains, and some block still needs it.
     Draining,
-    /// It can be taken away.
+    /// It drains, and can be removed.
     Retired,
 }
 
 #[derive(Clone, Copy)]
 pub struct StorageRow {
     pub storage: StorageId,
-    /// How many replicas it holds, of any tag.
+    /// The number of its replicas, of any tag.
     pub replicas: usize,
     /// The bytes of their blocks; a stray replica counts for 0.
     pub bytes: u128,
-    /// The bytes that are left on it, as a heartbeat told.
+    /// Its free bytes, from the last heartbeat.
     pub remaining: u64,
 }
 
-/// A node with its storages, which rise.
+/// A node with its storages, in ascending order.
 #[derive(Drop)]
 pub struct NodeRow {
     pub node: NodeId,
@@ -40,8 +40,8 @@ pub struct NodeRow {
     pub storages: Items<StorageRow>,
 }
 
-/// These nodes: a look at each storage for each node, a question about each storage, which lists
-/// the blocks on it, and for a node that drains one about all blocks.
+/// The rows of these nodes. For each node it scans all storages, and makes one query for the blocks
+/// on each of its own. For each draining node, one query scans all blocks.
 pub fn node_rows(
     alloc: Global,
     manager: &Manager,
@@ -60,7 +60,7 @@ pub fn node_rows(
     Ok(Items::from_vec(rows))
 }
 
-/// Every node, rising.
+/// All nodes, in ascending order.
 pub fn all_nodes(alloc: Global, topology: &Topology) -> Result<Vec<NodeId>, AllocError>
     ensures { IfOk result (λ v. v.items ≡ map_of.keys topology.now.cluster.nodes) }
 {
@@ -74,7 +74,7 @@ pub fn all_nodes(alloc: Global, topology: &Topology) -> Result<Vec<NodeId>, Allo
     Ok(nodes)
 }
 
-/// Every storage, rising.
+/// All storages, in ascending order.
 pub fn all_storages(alloc: Global, topology: &Topology) -> Result<Vec<StorageId>, AllocError>
     ensures { IfOk result (λ v. v.items ≡ map_of.keys topology.now.cluster.storages) }
 {
@@ -120,7 +120,7 @@ fn state_of(manager: &Manager, topology: &Topology, node: NodeId) -> Result<Node
     }
 }
 
-/// Those of these storages that stand on the node.
+/// The rows of the node's storages, among these.
 fn storage_rows(
     alloc: Global,
     manager: &Manager,

@@ -75,7 +75,7 @@ pub fn config_from(matches: &ArgMatches<'_>) -> Config {
     }
 }
 
-/// The number of an option; `standard` if it has none, which a default value rules out.
+/// The number of an option. Each option has a default value, so `standard` is never used.
 fn number_in(matches: &ArgMatches<'_>, name: &str, standard: u32) -> u32 {
     matches.get_one::<u32>(name).unwrap_or(standard)
 }

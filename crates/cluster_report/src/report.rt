@@ -1,7 +1,7 @@
-// The whole report, counted.
+// The whole report.
 ghost use Rattle.std.specs.Prelude.{◌≡◌, IfOk, length, map};
 ghost use Rattle.bm_base.specs.Machine.Queries.{all_replicas, excess_replicas, missing_blocks};
-ghost use Rattle.cluster_report.specs.Counting.{blocks_held};
+ghost use Rattle.cluster_report.specs.TagTotals.{blocks_held};
 ghost use Rattle.cluster_report.specs.Levels.{leveled};
 ghost use Rattle.cluster_report.specs.Reports.{levels_held, report_of};
 ghost use Rattle.cluster_report.specs.Sessions.{Follows};
@@ -16,7 +16,7 @@ use bm_base::{BlockId, Items, Refusal, Replica};
 use bm_manager::Manager;
 use std::alloc::{AllocError, Global};
 
-/// How a cluster stands.
+/// The report on a cluster.
 #[derive(Drop)]
 pub struct Report {
     pub calls: u64,
@@ -26,20 +26,19 @@ pub struct Report {
     pub level_bytes: LevelBytes,
     pub tags: TagCounts,
     pub tag_bytes: TagBytes,
-    /// The replicas in excess, which are good ones.
+    /// The number of replicas in excess; all are good.
     pub excess: usize,
-    /// The copies on their way.
+    /// The number of pending copies.
     pub transfers: usize,
-    /// The missing blocks, rising.
+    /// The missing blocks, in ascending order.
     pub missing: Items<BlockId>,
-    /// The others that want a copy, the most urgent first.
+    /// The other blocks that need a copy, the most urgent first.
     pub urgent: Items<Leveled>,
 }
 
-/// The state of a manager's cluster, with the book of its blocks and nodes. The manager is asked
-/// for all replicas at once, which takes the memory of the list; for those in excess, and for the
-/// missing blocks; for the level of each block that has a replica; and, for each node, as
-/// `node_rows` says.
+/// The report on a manager's cluster, by its book. Asks the manager for three lists (all replicas,
+/// which takes the most memory, those in excess, and the missing blocks), for the level of each
+/// block with a replica, and for the nodes as `node_rows` does.
 pub fn report_of(alloc: Global, manager: &Manager, book: &Book) -> Result<Report, Refusal>
     requires { Follows book.now manager.now }
     ensures { IfOk result (λ r. r ≡ report_of manager.now) }
@@ -48,7 +47,7 @@ pub fn report_of(alloc: Global, manager: &Manager, book: &Book) -> Result<Report
     report_on(alloc, manager, book, replicas.as_slice())
 }
 
-/// The same, where these are all replicas.
+/// The same, given all replicas.
 fn report_on(
     alloc: Global,
     manager: &Manager,
@@ -139,7 +138,7 @@ fn count_excess(manager: &Manager) -> Result<usize, Refusal>
     Ok(excess.as_slice().len())
 }
 
-/// The levels of the blocks of these replicas but the stray ones.
+/// The levels of the blocks of these replicas, without the stray ones.
 pub fn held_levels(
     alloc: Global,
     manager: &Manager,
@@ -152,7 +151,7 @@ pub fn held_levels(
     levels_of(alloc, manager, held.as_slice())
 }
 
-/// Every node with every storage of it.
+/// All nodes with all their storages.
 fn nodes_of(alloc: Global, manager: &Manager, book: &Book) -> Result<Items<NodeRow>, Refusal>
     requires { Follows book.now manager.now }
     ensures { IfOk result (λ rows. rows ≡ (report_of manager.now).nodes) }

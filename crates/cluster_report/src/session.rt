@@ -1,8 +1,8 @@
-// The manager and a book of its blocks and nodes, one line after another.
+// A manager and its book, which take one line after another.
 ghost use Rattle.std.specs.Prelude.{◌≡◌, Some, IfOk, OnOk, option_map, string_bytes};
 ghost use Rattle.bm_base.specs.Words.{first_state, step};
 ghost use Rattle.cluster_report.specs.Sessions.{IsInStep};
-ghost use Rattle.cluster_report.specs.Reading.{told, told_of, after_line};
+ghost use Rattle.cluster_report.specs.LineNotes.{refusal_text, refusal_text_of, after_line};
 
 use crate::book::Book;
 use bm_base::{Answer, Call, Config, Refusal};
@@ -13,7 +13,7 @@ use std::alloc::{AllocError, Global};
 use std::sync::Wait;
 use std::thread::Threads;
 
-/// A manager, and the book that stands for its nodes and storages.
+/// A manager, and the book that follows it.
 #[derive(Drop)]
 pub struct Session {
     pub alloc: Global,
@@ -22,7 +22,7 @@ pub struct Session {
 }
 
 impl Session {
-    /// No line was read.
+    /// The session before the first line.
     #[tactic(auto, unfolding(bm_base::specs::Machine::State::empty_holdings))]
     pub fn new(alloc: Global, config: &Config) -> Result<Session, Refusal>
         ensures state { IfOk result (λ s. s.manager ≡ first_state config.now) }
@@ -42,16 +42,17 @@ impl Session {
         }
     }
 
-    /// Makes the call that a line asks for. Where none is made, what the line tool answers.
-    #[tactic(auto, unfolding(crate::specs::Reading::told, crate::specs::Reading::after_line))]
+    /// Makes the call that a line asks for. Returns the text of its refusal, as the line tool
+    /// prints it; `None` if it is accepted.
+    #[tactic(auto, unfolding(crate::specs::LineNotes::refusal_text, crate::specs::LineNotes::after_line))]
     pub fn take_line<H: Threads + Wait + Sync>(
         &mut self,
         rt: &H,
         line: &[u8],
     ) -> Result<Option<String>, AllocError>
         requires { IsInStep self.old }
-        ensures told { IfOk result (λ o. option_map string_bytes o
-            ≡ told self.old.manager line.now) }
+        ensures refusal_text { IfOk result (λ o. option_map string_bytes o
+            ≡ refusal_text self.old.manager line.now) }
         ensures state { OnOk result (self.new.manager ≡ after_line self.old.manager line.now) }
         ensures in_step { OnOk result (IsInStep self.new) }
     {
@@ -64,16 +65,16 @@ impl Session {
         }
     }
 
-    /// Makes a call and notes it in the book. Returns the message about its answer, if there is
-    /// one.
+    /// Makes a call and notes it in the book. Returns the text of its refusal; `None` if it is
+    /// accepted.
     pub fn take_call<H: Threads + Wait + Sync>(
         &mut self,
         rt: &H,
         call: &Call,
     ) -> Result<Option<String>, AllocError>
         requires { IsInStep self.old }
-        ensures told { IfOk result (λ o. option_map string_bytes o
-            ≡ told_of call.now (step self.old.manager call.now).0) }
+        ensures refusal_text { IfOk result (λ o. option_map string_bytes o
+            ≡ refusal_text_of call.now (step self.old.manager call.now).0) }
         ensures state { OnOk result (self.new.manager ≡ (step self.old.manager call.now).1) }
         ensures in_step { OnOk result (IsInStep self.new) }
     {
@@ -83,13 +84,17 @@ impl Session {
             return Err(AllocError);
         }
         self.book.take(call, &answer)?;
-        told_of(self.alloc, call, &answer)
+        refusal_text_of(self.alloc, call, &answer)
     }
 }
 
-/// The text of a refusal; nothing of another answer.
-fn told_of(alloc: Global, call: &Call, answer: &Answer) -> Result<Option<String>, AllocError>
-    ensures { IfOk result (λ o. option_map string_bytes o ≡ told_of call.now answer.now) }
+/// The text of a refusal; `None` for another answer.
+fn refusal_text_of(
+    alloc: Global,
+    call: &Call,
+    answer: &Answer,
+) -> Result<Option<String>, AllocError>
+    ensures { IfOk result (λ o. option_map string_bytes o ≡ refusal_text_of call.now answer.now) }
 {
     match answer {
         Answer::Refused(_) => {

@@ -1,14 +1,14 @@
-// How many replicas there are of each tag, and which blocks they are of.
+// The replicas counted by tag, and their blocks.
 ghost use Rattle.std.specs.Prelude.{◌≡◌, IfOk, count_by, if◌then◌else◌};
 ghost use Rattle.bm_base.specs.Machine.Replicas.{is_good, is_stale, is_bad, is_stray};
-ghost use Rattle.cluster_report.specs.Counting.{tags_counted, tag_bytes, bytes_where, known_numbers, blocks_held};
+ghost use Rattle.cluster_report.specs.TagTotals.{tags_counted, tag_bytes, bytes_where, known_numbers, blocks_held};
 ghost use Rattle.cluster_report.specs.Catalogues.{len_in};
 
 use crate::catalogue::Catalogue;
 use bm_base::Replica;
 use std::alloc::{AllocError, Global};
 
-/// How many replicas have each tag.
+/// The number of replicas of each tag.
 #[derive(Clone, Copy)]
 pub struct TagCounts {
     pub good: usize,
@@ -53,8 +53,8 @@ fn count_stray(replicas: &[Replica]) -> usize
     replicas.iter().filter(|replica| is_stray(replica)).count()
 }
 
-/// The bytes of the replicas of each tag but the stray ones, of which no length is known: a replica
-/// has the length of its block.
+/// The bytes of the replicas of each tag: a replica has the length of its block. The length of a
+/// stray one is unknown.
 #[derive(Clone, Copy)]
 pub struct TagBytes {
     pub good: u128,
@@ -102,7 +102,7 @@ fn bad_bytes(catalogue: &Catalogue, replicas: &[Replica]) -> u128
     total
 }
 
-/// The length of a replica's block where it counts, and else 0.
+/// The length of a replica's block if it counts; else 0.
 fn len_if(catalogue: &Catalogue, replica: &Replica, counts: bool) -> u64
     ensures { result ≡ (if counts then len_in catalogue.now replica.now.block else 0) }
 {
@@ -113,9 +113,9 @@ fn len_if(catalogue: &Catalogue, replica: &Replica, counts: bool) -> u64
     }
 }
 
-/// The numbers of the blocks of these replicas but the stray ones, of neighbours that are equal
-/// one. So of all replicas, which come by block, each known block that has a replica is there once,
-/// and they rise.
+/// The blocks of these replicas without the stray ones, one of each run of equal numbers. All
+/// replicas are sorted by block, so this lists each known block with a replica once, in ascending
+/// order.
 pub fn held_blocks(alloc: Global, replicas: &[Replica]) -> Result<Vec<u64>, AllocError>
     ensures { IfOk result (λ v. v.items ≡ blocks_held replicas.now) }
 {
@@ -124,7 +124,7 @@ pub fn held_blocks(alloc: Global, replicas: &[Replica]) -> Result<Vec<u64>, Allo
     Ok(numbers)
 }
 
-/// The number of each one's block but of the stray ones.
+/// The block of each replica that is not stray.
 fn known_numbers(alloc: Global, replicas: &[Replica]) -> Result<Vec<u64>, AllocError>
     ensures { IfOk result (λ v. v.items ≡ known_numbers replicas.now) }
 {

@@ -4,7 +4,7 @@ ghost use Rattle.cluster_report.specs.Text.{count_line};
 
 use std::alloc::AllocError;
 
-/// What is counted, and how many there are.
+/// Appends a name and its count.
 #[tactic(auto, unfolding(crate::specs::Text::count_line))]
 pub fn write_count(text: &mut String, what: &str, count: u128) -> Result<(), AllocError>
     ensures { OnOk result (string_bytes text.new ≡ string_bytes text.old

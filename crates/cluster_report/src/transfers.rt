@@ -1,5 +1,5 @@
-// The copies on their way: commanded, not come, and not given up. The manager answers no question
-// about them, so they are kept here by its rules.
+// The pending copies: commanded, and neither arrived nor expired. The manager has no query for
+// them, so they are kept here by its rules.
 ghost use Rattle.std.specs.Prelude.{◌≡◌, ◌==◌, ◌&&◌, ◌-◌, OnOk, None, true, not, nat_le, map, if◌then◌else◌};
 ghost use Rattle.std.specs.List.{flat_map, list_any};
 ghost use Rattle.bm_base.specs.Maps.Map as map_of;
@@ -11,16 +11,16 @@ use bm_maps::ReplicaMap;
 use bm_topo::Topology;
 use std::alloc::{AllocError, Global};
 
-/// For each copy on its way, by block and target, the round that commanded it.
+/// For each pending copy, by block and target, the round that commanded it.
 #[derive(Drop)]
 pub struct Transfers {
     pub copies: ReplicaMap<u64>,
-    /// For how many rounds a copy is awaited.
+    /// The number of rounds after which a copy expires.
     pub pend: u32,
 }
 
 impl Transfers {
-    /// None yet. Takes no memory.
+    /// No copy. Takes no memory.
     pub fn new(alloc: Global, pend: u32) -> Transfers
         ensures copies { result.copies ≡ map_of.empty }
         ensures pend { result.pend ≡ pend }
@@ -37,8 +37,8 @@ impl Transfers {
         self.copies.len()
     }
 
-    /// Forgets the copies that an accepted event takes away, where the cluster is as it was before
-    /// it. An event that takes some away costs a look at each.
+    /// Forgets the copies that an accepted event removes; `topology` is the cluster before it. An
+    /// event that removes copies scans all of them.
     #[tactic(auto, unfolding(bm_base::specs::Machine::Events::change_holdings, bm_base::specs::Machine::Events::without_storages, bm_base::specs::Machine::Events::begin_drain, bm_base::specs::Machine::Events::add_block, bm_base::specs::Machine::Events::delete_block, bm_base::specs::Machine::Events::without_pending, bm_base::specs::Machine::Events::change_marks_of_block, bm_base::specs::Machine::Events::set_replication, bm_base::specs::Machine::Events::restamp, bm_base::specs::Machine::Events::enter, bm_base::specs::Machine::Events::remove_replica, bm_base::specs::Machine::Events::make_bad, bm_base::specs::Machine::Events::report, bm_base::specs::Machine::Refusals::cluster_checks))]
     pub fn take_event(&mut self, topology: &Topology, event: &Event)
         requires { first_of (cluster_checks topology.now.cluster event.now) ≡ None }
@@ -110,7 +110,7 @@ impl Transfers {
         self.copies.remove(ReplicaId { block, storage });
     }
 
-    /// All that a report names has come to the storage.
+    /// All blocks that a report names have arrived on the storage.
     fn arrive_all(&mut self, storage: StorageId, entries: &[Entry])
         ensures copies { self.new.copies ≡ map_of.keep self.old.copies
             (λ q _. not ((q.storage == storage) && is_named (expanded entries.now) q.block)) }
@@ -119,8 +119,7 @@ impl Transfers {
         self.copies.retain(|copy| !(copy.0.storage == storage && is_named(entries, copy.0.block)));
     }
 
-    /// The manager took a round: copies that are too old are given up, and those that it commands
-    /// are on their way.
+    /// Notes a round: drops expired copies, and adds those that the round commands.
     pub fn take_round(&mut self, commands: &Commands) -> Result<(), AllocError>
         ensures copies { OnOk result (self.new.copies ≡ map_of.insert_all
             (map_of.keep self.old.copies
@@ -129,15 +128,15 @@ impl Transfers {
         ensures pend { self.new.pend ≡ self.old.pend }
     {
         let round = commands.round;
-        self.give_up_old(round);
+        self.drop_expired(round);
         for node in commands.nodes.as_slice() {
             self.add_node(round, node)?;
         }
         Ok(())
     }
 
-    /// Forgets the copies that were commanded that many rounds ago.
-    fn give_up_old(&mut self, round: u64)
+    /// Forgets the expired copies.
+    fn drop_expired(&mut self, round: u64)
         ensures copies { self.new.copies ≡ map_of.keep self.old.copies
             (λ _ r. not (nat_le self.old.pend (round - r))) }
         ensures pend { self.new.pend ≡ self.old.pend }

@@ -4,17 +4,17 @@ use Rattle.std.specs.Prelude.{IsOk}
 use Rattle.fsck_text.specs.Cuts.{Text}
 use Rattle.std.specs.Io.KnownBytes.{Appends}
 use Rattle.fsck_import.specs.CallsFor.{calls_for}
-use Rattle.fsck_import.specs.Importing.{IsFaultOfRun, IsRunFault, TellsFiles, TellsNames, TellsText, WritesNoLine, WritesNothing}
+use Rattle.fsck_import.specs.Imports.{IsFaultOfRun, IsRunFault, WritesFiles, WritesNames, WritesText, WritesNoLine, WritesNothing}
 use Rattle.fsck_import.specs.FileTables.{files_text}
 use Rattle.fsck_import.specs.NameTable.{table_of}
 use Rattle.fsck_import.specs.Lines.{IsReadFault}
-use Rattle.fsck_import.specs.Reading.{reading_of, IsFaultOfReading}
-use Rattle.fsck_import.specs.Writing.{IsOutputFault, IsTableFault, IsWriteFault, Tells}
+use Rattle.fsck_import.specs.TextReading.{reading_of, IsFaultOfReading}
+use Rattle.fsck_import.specs.WrittenCalls.{IsOutputFault, IsTableFault, IsWriteFault, WritesCalls}
 use Rattle.fsck_import.specs.declared.fault.Unread.{Unread}
 use Rattle.fsck_import.specs.declared.fault.Fault.{Fault}
 use Rattle.fsck_import.specs.declared.fault.Fault.TheVariants as fault
-use Rattle.fsck_import.specs.declared.reading.Reading.{Reading}
-use Rattle.fsck_import.proofs.TextBlocks.{tells_text}
+use Rattle.fsck_import.specs.declared.text_reader.Reading.{Reading}
+use Rattle.fsck_import.proofs.TextBlocks.{writes_text}
 
 pub table_output : (f : Fault) → IsTableFault f → IsOutputFault f
 table_output (fault.Refused unread) h = h
@@ -37,31 +37,31 @@ each_known None h p = tt
 each_known (Some text) h p = h text p
 
 -- a fault of reading is one of the run
-read_run : (f : Fault) (told : Result Reading Unread) → IsReadFault f told → IsRunFault f told
-read_run (fault.Refused unread) told h = h
-read_run fault.Memory told h = tt
-read_run fault.Read told h = tt
-read_run fault.Write told h = absurd h
-read_run fault.Table told h = absurd h
-read_run fault.LongReport told h = absurd h
+read_run : (f : Fault) (outcome : Result Reading Unread) → IsReadFault f outcome → IsRunFault f outcome
+read_run (fault.Refused unread) outcome h = h
+read_run fault.Memory outcome h = tt
+read_run fault.Read outcome h = tt
+read_run fault.Write outcome h = absurd h
+read_run fault.Table outcome h = absurd h
+read_run fault.LongReport outcome h = absurd h
 
 pub reading_refuses : (f : Fault) (start : Reading) (known : Option Text) → IsFaultOfReading start f known → IsFaultOfRun start f known
 reading_refuses f start known = each_known known (λ text h. read_run f (reading_of start text) h)
 
 -- a fault of writing is one of a run on a text that is taken
-output_run : (f : Fault) (told : Result Reading Unread) → IsOk told → IsOutputFault f → IsRunFault f told
-output_run (fault.Refused unread) told taken h = absurd h
-output_run fault.Read told taken h = absurd h
-output_run fault.Memory told taken h = tt
-output_run fault.Write told taken h = taken
-output_run fault.Table told taken h = taken
-output_run fault.LongReport told taken h = taken
+output_run : (f : Fault) (outcome : Result Reading Unread) → IsOk outcome → IsOutputFault f → IsRunFault f outcome
+output_run (fault.Refused unread) outcome taken h = absurd h
+output_run fault.Read outcome taken h = absurd h
+output_run fault.Memory outcome taken h = tt
+output_run fault.Write outcome taken h = taken
+output_run fault.Table outcome taken h = taken
+output_run fault.LongReport outcome taken h = taken
 
-is_taken : (told : Result Reading Unread) (read : Reading) → told ≡ Ok read → IsOk told
-is_taken told read e = subst IsOk (sym e) refl
+is_taken : (outcome : Result Reading Unread) (read : Reading) → outcome ≡ Ok read → IsOk outcome
+is_taken outcome read e = subst IsOk (sym e) refl
 
 pub output_refuses : (f : Fault) (start read : Reading) (known : Option Text) → IfSome known (λ text. reading_of start text ≡ Ok read) → IsOutputFault f → IsFaultOfRun start f known
-output_refuses f start read known told h = each_known known (λ text e. output_run f (reading_of start text) (is_taken (reading_of start text) read e) h) told
+output_refuses f start read known read_is h = each_known known (λ text e. output_run f (reading_of start text) (is_taken (reading_of start text) read e) h) read_is
 
 -- nothing is written by what is left alone
 pub unwritten : {W : Type 0} (f : Fault) (w : W) → WritesNoLine f w w
@@ -90,16 +90,16 @@ output_writes fault.LongReport old new h = tt
 
 -- what a run that ends well wrote
 pub whole_text : (known : Option Text) (start read : Reading) (remaining : ℕ) (old new : Option Text) → IfSome known (λ text. reading_of start text ≡ Ok read)
-    → Tells (calls_for read.cluster remaining) old new → IfSome known (λ text. TellsText text start remaining old new)
-whole_text known start read remaining old new told tells =
-    each_known known (λ text e. tells_text text start read remaining old new e tells) told
+    → WritesCalls (calls_for read.cluster remaining) old new → IfSome known (λ text. WritesText text start remaining old new)
+whole_text known start read remaining old new read_is writes =
+    each_known known (λ text e. writes_text text start read remaining old new e writes) read_is
 
 pub whole_names : (known : Option Text) (start read : Reading) (old new : Option Text) → IfSome known (λ text. reading_of start text ≡ Ok read)
-    → Appends old new (table_of read.cluster) → IfSome known (λ text. TellsNames text start old new)
-whole_names known start read old new told written =
-    each_known known (λ text e. record { read = read; told = e; written = written }) told
+    → Appends old new (table_of read.cluster) → IfSome known (λ text. WritesNames text start old new)
+whole_names known start read old new read_is written =
+    each_known known (λ text e. record { read = read; read_is = e; written = written }) read_is
 
 pub whole_files : (known : Option Text) (start read : Reading) (old new : Option Text) → IfSome known (λ text. reading_of start text ≡ Ok read)
-    → Appends old new (files_text read.listing.files) → IfSome known (λ text. TellsFiles text start old new)
-whole_files known start read old new told written =
-    each_known known (λ text e. record { read = read; told = e; written = written }) told
+    → Appends old new (files_text read.listing.files) → IfSome known (λ text. WritesFiles text start old new)
+whole_files known start read old new read_is written =
+    each_known known (λ text e. record { read = read; read_is = e; written = written }) read_is

@@ -14,7 +14,7 @@ pub mod ReplicaLemmas
 pub mod BlockLemmas
 pub mod ReportLemmas
 pub mod SpareLemmas
-pub mod TellsLemmas
+pub mod BlockCalls
 pub mod StartLemmas
 pub mod TextBlocks
 pub mod ImportLemmas

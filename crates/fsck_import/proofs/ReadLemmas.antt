@@ -52,15 +52,15 @@ still_refused fault.LongReport g r h = h
 
 module _ {T : Type 0} (after : T → Text → Result T Cause) where
   -- at the end of the text nothing is left to take
-  pub end_told : (o : Option Text) (rest : Text) (n : ℕ) (s : T) → o ≡ Some rest → IsAtEnd o → after_lines after n s (lines_of rest) ≡ Ok (s, n)
-  end_told o rest n s e h =
+  pub end_read : (o : Option Text) (rest : Text) (n : ℕ) (s : T) → o ≡ Some rest → IsAtEnd o → after_lines after n s (lines_of rest) ≡ Ok (s, n)
+  end_read o rest n s e h =
       let empty : rest ≡ [] = subst IsAtEnd e h in
       ap (λ t. after_lines after n s (lines_of t)) empty ∙ ap (after_lines after n s) lines_of-none
 
   -- the lines that are left, after one that was taken
-  pub told_more : (n : ℕ) (s d : T) (rest line read : Text) (left : Option Text) → Reads rest read left → line ≡ without_end 10 read → at_line n (after_bytes after s line) ≡ Ok d
+  pub read_more : (n : ℕ) (s d : T) (rest line read : Text) (left : Option Text) → Reads rest read left → line ≡ without_end 10 read → at_line n (after_bytes after s line) ≡ Ok d
       → after_lines after n s (lines_of rest) ≡ after_lines after (n + 1) d (lines_of (drop_through 10 rest))
-  told_more n s d rest line read left reads line_is taken =
+  read_more n s d rest line read left reads line_is taken =
       ap (after_lines after n s) reads.lines_are
       ∙ ap (λ t. after_ok (λ e. after_lines after (n + 1) e (lines_of (drop_through 10 rest))) (at_line n (after_bytes after s t))) (sym line_is)
       ∙ ap (after_ok (λ e. after_lines after (n + 1) e (lines_of (drop_through 10 rest)))) taken

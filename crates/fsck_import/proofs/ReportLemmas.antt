@@ -23,7 +23,7 @@ use Rattle.fsck_import.specs.CallsFor.{register, heartbeat, add, entry, received
 use Rattle.fsck_import.specs.Laws.{replica, replicas_by, replicas_reported, corrupt_by, called_corrupt, drained_by, drained}
 use Rattle.fsck_import.proofs.NameLemmas.{same_number, same_name, name_is_itself}
 use Rattle.fsck_import.proofs.CallLemmas.{none-append, none-map, none-flat, none-nodes}
-use Rattle.fsck_import.proofs.StorageLemmas.{told_of, on_storage, on_row, on_rows, Fit}
+use Rattle.fsck_import.proofs.StorageLemmas.{reported_of, on_storage, on_row, on_rows, Fit}
 use Rattle.fsck_import.proofs.BadLemmas.{by_name, node_number, DrainsAs}
 
 -- what the calls after the adds say of a kind, if those before say nothing
@@ -40,35 +40,35 @@ module _ {X : Type 0} (g : Call → List X) (c : Cluster) (remaining : ℕ) wher
 
 -- Replicas.
 
-one_told : (h : Held) → blocks_of_entry (entry h) ≡ told_of h ∷ []
+one_reported : (h : Held) → blocks_of_entry (entry h) ≡ reported_of h ∷ []
 unfolding blocks_of_entry
-one_told h = let n : run_length (entry h) ≡ 1 = omega arith in ap (λ k. map (λ b. record { id = b; stamp = h.stamp }) (range_from h.id k)) n
+one_reported h = let n : run_length (entry h) ≡ 1 = omega arith in ap (λ k. map (λ b. record { id = b; stamp = h.stamp }) (range_from h.id k)) n
 
-entries_told : (held : List Held) → expanded (map entry held) ≡ map told_of held
+entries_reported : (held : List Held) → expanded (map entry held) ≡ map reported_of held
 unfolding expanded
-entries_told [] = refl
-entries_told (h ∷ held) = ap (λ t. t ++ expanded (map entry held)) (one_told h) ∙ ap (λ t. told_of h ∷ t) (entries_told held)
+entries_reported [] = refl
+entries_reported (h ∷ held) = ap (λ t. t ++ expanded (map entry held)) (one_reported h) ∙ ap (λ t. reported_of h ∷ t) (entries_reported held)
 
-named_told : (name : Text) (held : List Held) → map (replica name) (map told_of held) ≡ map (on_storage name) held
-named_told name [] = refl
-named_told name (h ∷ held) = ap (λ t. on_storage name h ∷ t) (named_told name held)
+named_reported : (name : Text) (held : List Held) → map (replica name) (map reported_of held) ≡ map (on_storage name) held
+named_reported name [] = refl
+named_reported name (h ∷ held) = ap (λ t. on_storage name h ∷ t) (named_reported name held)
 
-received_told : (names : List Text) (number : ℕ) (held : List Held) → replicas_reported names (map (received number) held) ≡ map (on_storage (name_of names number)) held
-received_told names number [] = refl
-received_told names number (h ∷ held) = ap (λ t. on_storage (name_of names number) h ∷ t) (received_told names number held)
+received_reported : (names : List Text) (number : ℕ) (held : List Held) → replicas_reported names (map (received number) held) ≡ map (on_storage (name_of names number)) held
+received_reported names number [] = refl
+received_reported names number (h ∷ held) = ap (λ t. on_storage (name_of names number) h ∷ t) (received_reported names number held)
 
-both_told : (names : List Text) (number : ℕ) (front rest : List Held)
+both_reported : (names : List Text) (number : ℕ) (front rest : List Held)
     → replicas_reported names (call.Apply (FullReport number (map entry front)) ∷ map (received number) rest) ≡ map (on_storage (name_of names number)) (front ++ rest)
-both_told names number front rest =
+both_reported names number front rest =
     let name = name_of names number in
-    ap (λ t. map (replica name) t ++ replicas_reported names (map (received number) rest)) (entries_told front)
-    ∙ ap (λ t. t ++ replicas_reported names (map (received number) rest)) (named_told name front)
-    ∙ ap (λ t. map (on_storage name) front ++ t) (received_told names number rest)
+    ap (λ t. map (replica name) t ++ replicas_reported names (map (received number) rest)) (entries_reported front)
+    ∙ ap (λ t. t ++ replicas_reported names (map (received number) rest)) (named_reported name front)
+    ∙ ap (λ t. map (on_storage name) front ++ t) (received_reported names number rest)
     ∙ sym (map-append (on_storage name) front rest)
 
 -- a storage reports all its replicas
 row_reported : (names : List Text) (row : Row) → replicas_reported names (reports row) ≡ on_row (name_of names row.number) row
-row_reported names row = both_told names row.number (take MAX_ENTRIES row.held) (drop MAX_ENTRIES row.held) ∙ ap (map (on_storage (name_of names row.number))) (take-append-drop MAX_ENTRIES row.held)
+row_reported names row = both_reported names row.number (take MAX_ENTRIES row.held) (drop MAX_ENTRIES row.held) ∙ ap (map (on_storage (name_of names row.number))) (take-append-drop MAX_ENTRIES row.held)
 
 at_end : (front : List Text) (x : Text) (rest : List Text) → slice_index_or (front ++ x ∷ rest) (length front) [] ≡ x
 at_end [] x rest = refl

@@ -8,7 +8,7 @@ use Rattle.fsck_text.specs.Cuts.{Text}
 use Rattle.fsck_cluster.specs.declared.rows.Held.{Held}
 use Rattle.fsck_cluster.specs.declared.rows.Row.{Row}
 use Rattle.fsck_import.specs.CallsFor.{entry, received, reports}
-use Rattle.fsck_import.specs.Writing.{Written}
+use Rattle.fsck_import.specs.WrittenCalls.{Written}
 use Rattle.fsck_import.proofs.WriteLemmas.{written_more}
 
 pub reports_written : (row : Row) (entries : List Entry) (first rest held : List Held) (a b c : Option Text)

@@ -43,11 +43,11 @@ module _ (P : Row → Type 0) where
 
 -- Storages with their replicas.
 
-abbrev pub told_of : Held → ReportedBlock
-told_of h = record { id = h.id; stamp = h.stamp }
+abbrev pub reported_of : Held → ReportedBlock
+reported_of h = record { id = h.id; stamp = h.stamp }
 
 abbrev pub on_storage : Text → Held → Replica
-on_storage name h = replica name (told_of h)
+on_storage name h = replica name (reported_of h)
 
 -- the replicas on a storage of this name
 abbrev pub on_row : Text → Row → List Replica
@@ -113,7 +113,7 @@ held_at rows at row h e = ap (λ o. option_map_or (λ r. slice_set rows at (hold
 
 -- one more replica on the storage of a name, which is among the names
 pub record Added (n : ℕ) (rows more : List Row) (names : List Text) (r : Replica) : Type 0 where
-  pub told : IsPermutation (on_rows rows names ++ r ∷ []) (on_rows more names)
+  pub reordered : IsPermutation (on_rows rows names ++ r ∷ []) (on_rows more names)
   pub fits : Fit n more names
 
 added_first : (n : ℕ) (row : Row) (rows : List Row) (x : Text) (names : List Text) (h : Held) → Fit n (row ∷ rows) (x ∷ names)
@@ -125,7 +125,7 @@ added_first n row rows x names h fits =
     let more : on_row x (holding row h) ≡ here ++ r ∷ [] = map-push (on_storage x) row.held h in
     let moved : IsPermutation (here ++ (others ++ r ∷ [])) (here ++ (r ∷ [] ++ others)) = IsPermutation-append_right here (others ++ r ∷ []) (r ∷ [] ++ others) (IsPermutation-append_comm others (r ∷ [])) in
     record {
-      told = subst (λ t. IsPermutation ((here ++ others) ++ r ∷ []) (t ++ others)) (sym more)
+      reordered = subst (λ t. IsPermutation ((here ++ others) ++ r ∷ []) (t ++ others)) (sym more)
           (subst (λ t. IsPermutation t ((here ++ r ∷ []) ++ others)) (sym (append_assoc here others (r ∷ [])))
           (subst (IsPermutation (here ++ (others ++ r ∷ []))) (sym (append_assoc here (r ∷ []) others)) moved));
       fits = (fits.0, fits.1);
@@ -133,8 +133,8 @@ added_first n row rows x names h fits =
 
 added_after : (n : ℕ) (row : Row) (rows more : List Row) (x : Text) (names : List Text) (r : Replica) → Fit n (row ∷ rows) (x ∷ names) → Added (n + 1) rows more names r → Added n (row ∷ rows) (row ∷ more) (x ∷ names) r
 added_after n row rows more x names r h added = record {
-  told = subst (λ t. IsPermutation t (on_row x row ++ on_rows more names)) (sym (append_assoc (on_row x row) (on_rows rows names) (r ∷ [])))
-      (IsPermutation-append_right (on_row x row) (on_rows rows names ++ r ∷ []) (on_rows more names) added.told);
+  reordered = subst (λ t. IsPermutation t (on_row x row ++ on_rows more names)) (sym (append_assoc (on_row x row) (on_rows rows names) (r ∷ [])))
+      (IsPermutation-append_right (on_row x row) (on_rows rows names ++ r ∷ []) (on_rows more names) added.reordered);
   fits = (h.0, added.fits);
 }
 
@@ -190,5 +190,5 @@ stored_replica rows names replicas name row h known here before =
     let added = added_at 1 rows names name row h before.fits known here in
     record {
       fits = added.fits;
-      all = IsPermutation-trans (replicas ++ r ∷ []) (on_rows rows names ++ r ∷ []) (on_rows more names) (IsPermutation-append_left (r ∷ []) replicas (on_rows rows names) before.all) added.told;
+      all = IsPermutation-trans (replicas ++ r ∷ []) (on_rows rows names ++ r ∷ []) (on_rows more names) (IsPermutation-append_left (r ∷ []) replicas (on_rows rows names) before.all) added.reordered;
     }

@@ -15,19 +15,19 @@ use Rattle.fsck_cluster.specs.declared.cluster.Cluster.{Cluster}
 use Rattle.fsck_cluster.specs.declared.node_list.NodeList.{NodeList}
 use Rattle.fsck_cluster.specs.declared.node_list.NodeRefusal.{NodeRefusal}
 use Rattle.fsck_import.specs.CallsFor.{calls_for}
-use Rattle.fsck_import.specs.Importing.{HasBlocks, TellsText, blocks_of, taken}
+use Rattle.fsck_import.specs.Imports.{HasBlocks, WritesText, blocks_of, taken}
 use Rattle.fsck_import.specs.Laws.{IsFresh, after_blocks}
 use Rattle.fsck_import.specs.Listings.{Listing, headed, with_listed}
 use Rattle.fsck_import.specs.Lines.{after_bytes, after_lines, after_text, at_line, without_end}
-use Rattle.fsck_import.specs.Reading.{after_line, after_node_line, at_end, cause_of, ended, ended_nodes, node_cause, nodes_of, reading_of, with_cluster, with_nodes, with_taken}
+use Rattle.fsck_import.specs.TextReading.{after_line, after_node_line, at_end, cause_of, ended, ended_nodes, node_cause, nodes_of, reading_of, with_cluster, with_nodes, with_taken}
 use Rattle.fsck_import.specs.Starts.{after_node_lines}
-use Rattle.fsck_import.specs.Writing.{Tells}
+use Rattle.fsck_import.specs.WrittenCalls.{WritesCalls}
 use Rattle.fsck_import.specs.declared.fault.Cause.{Cause}
 use Rattle.fsck_import.specs.declared.fault.Cause.TheVariants as cause
-use Rattle.fsck_import.specs.declared.reading.Reading.{Reading}
+use Rattle.fsck_import.specs.declared.text_reader.Reading.{Reading}
 use Rattle.fsck_import.proofs.NameLemmas.{came_of, err_is_not_ok, if_ok, same_ok}
 use Rattle.fsck_import.proofs.StartLemmas.{nodes_fresh}
-use Rattle.fsck_import.proofs.TellsLemmas.{tells_blocks}
+use Rattle.fsck_import.proofs.BlockCalls.{describes_blocks}
 
 -- a line that is not refused
 line_ok : {A : Type 0} (n : ℕ) (r : Result A Cause) (x : A) → at_line n r ≡ Ok x → r ≡ Ok x
@@ -70,21 +70,21 @@ end_taken s read e =
 
 -- what was read has the blocks of the text
 pub has_blocks : (text : Text) (start read : Reading) → reading_of start text ≡ Ok read → HasBlocks start text read
-has_blocks text start read told remaining fresh =
-    let all = came_of ended (after_text after_line start text) read told in
+has_blocks text start read read_is remaining fresh =
+    let all = came_of ended (after_text after_line start text) read read_is in
     let last = line_ok all.0.1 (at_end all.0.0) read all.2 in
-    tells_blocks start.cluster all.0.0.cluster read.cluster (blocks_of start.files (lines_of text)) remaining fresh
+    describes_blocks start.cluster all.0.0.cluster read.cluster (blocks_of start.files (lines_of text)) remaining fresh
     (lines_taken 1 start (lines_of text) all.0 all.1) (end_taken all.0.0 read last)
 
 pub known_blocks : (known : Option Text) (start read : Reading) → IfSome known (λ text. reading_of start text ≡ Ok read)
     → IfSome known (λ text. HasBlocks start text read)
-known_blocks None start read told = tt
-known_blocks (Some text) start read told = has_blocks text start read told
+known_blocks None start read read_is = tt
+known_blocks (Some text) start read read_is = has_blocks text start read read_is
 
-pub tells_text : (text : Text) (start read : Reading) (remaining : ℕ) (old new : Option Text) → reading_of start text ≡ Ok read
-    → Tells (calls_for read.cluster remaining) old new → TellsText text start remaining old new
-tells_text text start read remaining old new told tells =
-    record { read = read; told = told; tells = tells; blocks = λ fresh. has_blocks text start read told remaining fresh }
+pub writes_text : (text : Text) (start read : Reading) (remaining : ℕ) (old new : Option Text) → reading_of start text ≡ Ok read
+    → WritesCalls (calls_for read.cluster remaining) old new → WritesText text start remaining old new
+writes_text text start read remaining old new read_is writes =
+    record { read = read; read_is = read_is; writes = writes; blocks = λ fresh. has_blocks text start read read_is remaining fresh }
 
 -- The nodes of a report.
 
@@ -103,12 +103,12 @@ nodes_taken n s (line ∷ lines) p e =
     ap (after_ok (λ t. after_node_lines t (map (without_end 13) lines))) one ∙ nodes_taken (n + 1) u lines p first.2
 
 pub nodes_are_fresh : (text : Text) (c : Cluster) → nodes_of text ≡ Ok c → IsFresh c
-nodes_are_fresh text c told =
-    let all = came_of ended_nodes (after_text after_node_line nodes.no_list text) c told in
+nodes_are_fresh text c read_is =
+    let all = came_of ended_nodes (after_text after_node_line nodes.no_list text) c read_is in
     let last = nodes_ok [] (nodes.at_end all.0.0) c (line_ok all.0.1 (with_nodes [] (nodes.at_end all.0.0)) c all.2) in
     nodes_fresh (map (without_end 13) (lines_of text)) all.0.0 c (nodes_taken 1 nodes.no_list (lines_of text) all.0 all.1) last
 
 pub fresh_nodes : (known : Option Text) (list : NodeList) (n : ℕ) (c : Cluster) → IfSome known (λ text. after_text after_node_line nodes.no_list text ≡ Ok (list, n))
     → ended_nodes (list, n) ≡ Ok c → IfSome known (λ text. IsFresh c)
-fresh_nodes None list n c told e = tt
-fresh_nodes (Some text) list n c told e = nodes_are_fresh text c (ap (after_ok ended_nodes) told ∙ e)
+fresh_nodes None list n c read_is e = tt
+fresh_nodes (Some text) list n c read_is e = nodes_are_fresh text c (ap (after_ok ended_nodes) read_is ∙ e)

@@ -9,29 +9,29 @@ use Rattle.std.specs.Option.{option_map_or}
 use Rattle.std.proofs.lemmas.Grind.{flat_map-append}
 use Rattle.std.specs.Io.KnownBytes.{Appends, Keeps}
 use Rattle.bm_base.specs.declared.call.Call.{Call}
-use Rattle.bm_lines.specs.Asking.{line_text}
-use Rattle.bm_lines.specs.Reading.CallOf.{call_of}
+use Rattle.bm_lines.specs.CallText.{line_text}
+use Rattle.bm_lines.specs.Parser.CallOf.{call_of}
 use Rattle.bm_lines.specs.Lines.{IsPart, ended, lines_of}
 use Rattle.fsck_text.specs.Cuts.{Text}
-use Rattle.fsck_import.specs.Writing.{lines_for, IsLineOf, Written, Tells}
+use Rattle.fsck_import.specs.WrittenCalls.{lines_for, IsLineOf, Written, WritesCalls}
 
 lines_of-first : (l more : Text) → IsPart l → lines_of (ended l ++ more) ≡ l ∷ lines_of more
 unfolding lines_of
 lines_of-first [] more p = refl
 lines_of-first (b ∷ l) more p = rw (p.0, lines_of-first l more p.1) refl
 
-pub lines-told : (calls : List Call) → AllByRecursion (λ call. IsLineOf call (line_text call)) calls → lines_of (lines_for calls) ≡ map line_text calls
+pub lines-all : (calls : List Call) → AllByRecursion (λ call. IsLineOf call (line_text call)) calls → lines_of (lines_for calls) ≡ map line_text calls
 unfolding lines_of
-lines-told [] each = refl
-lines-told (k ∷ calls) each = lines_of-first (line_text k) (lines_for calls) each.0.whole ∙ ap (λ ls. line_text k ∷ ls) (lines-told calls each.1)
+lines-all [] each = refl
+lines-all (k ∷ calls) each = lines_of-first (line_text k) (lines_for calls) each.0.whole ∙ ap (λ ls. line_text k ∷ ls) (lines-all calls each.1)
 
-calls-told : (calls : List Call) → AllByRecursion (λ call. IsLineOf call (line_text call)) calls → map call_of (map line_text calls) ≡ map Some calls
-calls-told [] each = refl
-calls-told (k ∷ calls) each = rw (each.0.asks, calls-told calls each.1) refl
+calls-all : (calls : List Call) → AllByRecursion (λ call. IsLineOf call (line_text call)) calls → map call_of (map line_text calls) ≡ map Some calls
+calls-all [] each = refl
+calls-all (k ∷ calls) each = rw (each.0.asks, calls-all calls each.1) refl
 
-short-told : (calls : List Call) → AllByRecursion (λ call. IsLineOf call (line_text call)) calls → AllByRecursion (λ line. length line ≤ MAX_LINE) (map line_text calls)
-short-told [] each = tt
-short-told (k ∷ calls) each = (each.0.short, short-told calls each.1)
+short-all : (calls : List Call) → AllByRecursion (λ call. IsLineOf call (line_text call)) calls → AllByRecursion (λ line. length line ≤ MAX_LINE) (map line_text calls)
+short-all [] each = tt
+short-all (k ∷ calls) each = (each.0.short, short-all calls each.1)
 
 appended : (a b c : Option Text) (xs ys : Text) → Appends a b xs → Appends b c ys → Appends a c (xs ++ ys)
 appended None b c xs ys h k = tt
@@ -59,16 +59,16 @@ written_more calls more a b c first second = record {
 }
 
 pub one_written : (call : Call) (a b : Option Text) → Appends a b (ended (line_text call)) → IsLineOf call (line_text call) → Written (call ∷ []) a b
-one_written call a b told line = record {
-  written = subst (Appends a b) (sym (append-nil (ended (line_text call)))) told;
+one_written call a b all line = record {
+  written = subst (Appends a b) (sym (append-nil (ended (line_text call)))) all;
   each = (line, tt);
 }
 
-pub all_told : (calls : List Call) (a b : Option Text) → Written calls a b → Tells calls a b
-all_told calls a b told = record {
-  written = told.written;
-  read = ap (map call_of) (lines-told calls told.each) ∙ calls-told calls told.each;
-  short = subst (AllByRecursion (λ line. length line ≤ MAX_LINE)) (sym (lines-told calls told.each)) (short-told calls told.each);
+pub all_written : (calls : List Call) (a b : Option Text) → Written calls a b → WritesCalls calls a b
+all_written calls a b all = record {
+  written = all.written;
+  read = ap (map call_of) (lines-all calls all.each) ∙ calls-all calls all.each;
+  short = subst (AllByRecursion (λ line. length line ≤ MAX_LINE)) (sym (lines-all calls all.each)) (short-all calls all.each);
 }
 
 -- what stands written after a flush
@@ -78,12 +78,12 @@ flushed (Some a) None d xs h k = absurd h
 flushed (Some a) (Some b) None xs h k = k
 flushed (Some a) (Some b) (Some d) xs h k = k ∙ h
 
-pub still_tells : (calls : List Call) (a b d : Option Text) → Tells calls a b → Keeps b d → Tells calls a d
-still_tells calls a b d tells kept = record { written = flushed a b d _ tells.written kept; read = tells.read; short = tells.short }
+pub still_written : (calls : List Call) (a b d : Option Text) → WritesCalls calls a b → Keeps b d → WritesCalls calls a d
+still_written calls a b d writes kept = record { written = flushed a b d _ writes.written kept; read = writes.read; short = writes.short }
 
 -- these calls, then those, and a flush
-pub all_flushed : (calls more : List Call) (a b c d : Option Text) → Written calls a b → Written more b c → Keeps c d → Tells (calls ++ more) a d
-all_flushed calls more a b c d first second kept = still_tells (calls ++ more) a c d (all_told (calls ++ more) a c (written_more calls more a b c first second)) kept
+pub all_flushed : (calls more : List Call) (a b c d : Option Text) → Written calls a b → Written more b c → Keeps c d → WritesCalls (calls ++ more) a d
+all_flushed calls more a b c d first second kept = still_written (calls ++ more) a c d (all_written (calls ++ more) a c (written_more calls more a b c first second)) kept
 
 take_next : {A : Type 0} (xs : List A) (i : ℕ) → take (suc i) xs ≡ take i xs ++ option_to_list (slice_get xs i)
 take_next {A} [] zero = refl

@@ -1,4 +1,4 @@
--- The calls that make a manager know a cluster.
+-- The calls that build a cluster in a manager.
 use Rattle.std.specs.Prelude.{ℕ, ◌/◌, ◌==◌, max, Bool, List, ◌∷◌, ◌++◌, map, filter, length, take, drop, Option, Some, None}
 use Rattle.std.specs.List.{flat_map}
 use Rattle.bm_base.specs.declared.call.Call.{Call}
@@ -19,12 +19,11 @@ use Rattle.fsck_cluster.specs.declared.rows.Row.{Row}
 abbrev pub storages_of : List Row → ℕ → List ℕ
 storages_of rows node = map (λ row. row.number) (filter (λ row. row.node == node) rows)
 
--- a node comes with its storages
+-- registers a node with its storages
 abbrev pub register : List Row → NodeRow → Call
 register rows node = call.Apply (Register node.number node.rack (storages_of rows node.number))
 
--- the free bytes of each of a node's storages: those of the node parted evenly, or those of the
--- option
+-- the free bytes of each storage of a node: the node's bytes divided evenly, or the option's value
 abbrev pub free_on : ℕ → Option ℕ → ℕ → ℕ
 free_on remaining (Some bytes) storages = bytes / max 1 storages
 free_on remaining None storages = remaining
@@ -33,13 +32,13 @@ free_on remaining None storages = remaining
 abbrev pub remaining_on : ℕ → List ℕ → List Remaining
 remaining_on bytes storages = map (λ storage. record { storage = storage; remaining = bytes }) storages
 
--- what is free on the storages of a node
+-- the heartbeat with the free bytes of a node's storages
 abbrev pub heartbeat : List Row → ℕ → NodeRow → Call
 heartbeat rows remaining node =
     let storages = storages_of rows node.number in
     call.Apply (Heartbeat node.number (remaining_on (free_on remaining node.remaining (length storages)) storages))
 
--- a block is added
+-- adds a block
 abbrev pub add : ℕ × BlockInfo → Call
 add b = call.Apply (AddBlock b.0 b.1.stamp b.1.repl)
 
@@ -47,39 +46,39 @@ add b = call.Apply (AddBlock b.0 b.1.stamp b.1.repl)
 abbrev pub entry : Held → Entry
 entry h = record { from = h.id; to = h.id; stamp = h.stamp }
 
--- a replica is received
+-- the notice of a received replica
 abbrev pub received : ℕ → Held → Call
 received storage h = call.Apply (Received storage h.id h.stamp)
 
--- all replicas on a storage: as many as fit into a report, and then each of the others
+-- all replicas on a storage: as many as fit into a report, then a notice for each of the others
 abbrev pub reports : Row → List Call
 reports row =
     call.Apply (FullReport row.number (map entry (take MAX_ENTRIES row.held))) ∷ map (received row.number) (drop MAX_ENTRIES row.held)
 
--- a replica is found corrupt
+-- marks a replica as corrupt
 abbrev pub corrupt : Bad → Call
 corrupt b = call.Apply (Corrupt b.storage b.id)
 
--- a node is decommissioned
+-- decommissions a node
 abbrev pub drain : NodeRow → Call
 drain node = call.Apply (Drain node.number)
 
--- nodes with their storages, what is free there, and blocks
+-- the nodes with their storages, their free bytes, and the blocks
 abbrev pub calls_before : Cluster → ℕ → List Call
 calls_before c remaining =
     map (register c.rows) c.node_rows ++ map (heartbeat c.rows remaining) c.node_rows ++ map add c.blocks
 
--- whether a node is being decommissioned, or has been
+-- whether a node is being decommissioned or is decommissioned
 abbrev pub drains : Cluster → NodeRow → Bool
 drains c node = has_number c.draining node.number
 
 abbrev pub draining : Cluster → List NodeRow
 draining c = filter (drains c) c.node_rows
 
--- replicas, those of them that are corrupt, and nodes that are decommissioned
+-- the replicas, the corrupt ones among them, and the nodes that are decommissioned
 abbrev pub calls_after : Cluster → List Call
 calls_after c = flat_map reports c.rows ++ map corrupt c.bad ++ map drain (draining c)
 
--- no replica comes before its block, and none is called corrupt before it is reported
+-- each replica comes after its block, and is reported before it is marked as corrupt
 abbrev pub calls_for : Cluster → ℕ → List Call
 calls_for c remaining = calls_before c remaining ++ calls_after c

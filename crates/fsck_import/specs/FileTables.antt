@@ -1,5 +1,5 @@
--- The table of files: the path, the index in the file and the number of each block. Tabs are
--- between them, and a line ends with the byte 10.
+-- The table of files: the path, the index in the file and the number of each block, separated by
+-- tabs. A line ends with the byte 10.
 use Rattle.std.specs.Prelude.{ℕ, List, [], ◌++◌, codes, decimal, slice_get}
 use Rattle.std.specs.List.{flat_map}
 use Rattle.std.specs.Option.{option_map_or}
@@ -7,11 +7,11 @@ use Rattle.cluster_names.specs.FileTable.{FileTable}
 use Rattle.cluster_names.specs.declared.files.FilePlace.{FilePlace}
 use Rattle.fsck_text.specs.Cuts.{Text}
 
--- a block of the file of this path, and its index there
+-- the row of a block: its file's path, and its index in the file
 unfoldable pub row_text : ℕ → ℕ → Text → Text
 row_text block index path = path ++ (codes "\t" ++ (decimal index ++ (codes "\t" ++ (decimal block ++ codes "\n"))))
 
--- a block in its place
+-- the row of a block with its place
 abbrev pub place_line : List Text → ℕ × FilePlace → Text
 place_line paths p = option_map_or (row_text p.0 p.1.index) (slice_get paths p.1.file) []
 

@@ -1,7 +1,6 @@
--- What holds of the calls for the blocks of a text: each block is added once, before any replica;
--- each replica of it is reported once, and nothing else is; the corrupt ones are called corrupt,
--- and no other; and the nodes of the drained ones drain, with those that drained before, and no
--- other.
+-- Laws of the calls for the blocks of a text. Each block is added once, before any replica. Just
+-- its replicas are reported, each once, and just the corrupt ones are marked as corrupt. Just the
+-- nodes of drained replicas drain, with those that drained before.
 use Rattle.std.specs.Prelude.{◌≡◌, ◌≤◌, ◌&&◌, ℕ, Bool, true, false, nat_eq, List, [], ◌∷◌, ◌++◌, map, filter, length, count_by, Ok}
 use Rattle.std.specs.List.{flat_map, list_any}
 use Rattle.std.specs.List.Sorted.{IsPermutation}
@@ -21,7 +20,7 @@ use Rattle.fsck_cluster.specs.Names.{name_of}
 use Rattle.fsck_cluster.specs.declared.cluster.Cluster.{Cluster}
 use Rattle.fsck_import.specs.CallsFor.{calls_for}
 
--- with these blocks, one after another
+-- the cluster after these blocks, added one after another
 abbrev pub after_blocks : Cluster → List Block → After
 after_blocks c [] = Ok c
 after_blocks c (b ∷ blocks) = after_ok (λ d. after_blocks d blocks) (after_block c b)
@@ -38,13 +37,13 @@ pub record IsFresh (c : Cluster) : Type 0 where
 abbrev pub ids : List Block → List ℕ
 ids blocks = map (λ b. b.id) blocks
 
--- a replica: its storage by name, and its block with the stamp
+-- a replica: the name of its storage, and its block with the stamp
 pub record Replica : Type 0 where
   pub storage : Text
-  pub told : ReportedBlock
+  pub block : ReportedBlock
 
 abbrev pub replica : Text → ReportedBlock → Replica
-replica storage told = record { storage = storage; told = told }
+replica storage block = record { storage = storage; block = block }
 
 abbrev pub replica_at : Block → Listed → Replica
 replica_at b l = replica l.place.storage (record { id = b.id; stamp = b.stamp })
@@ -60,7 +59,7 @@ is_corrupt b l = replicas.is_corrupt l.mark b.is_corrupt
 abbrev pub corrupt_of : Block → List (Text × ℕ)
 corrupt_of b = map (λ l. (l.place.storage, b.id)) (filter (is_corrupt b) b.replicas)
 
--- whether the node of a replica drains, by the mark alone
+-- whether the node of a replica drains, by the replica's mark
 abbrev pub is_drained : Listed → Bool
 is_drained l = replicas.is_draining l.mark
 
@@ -76,7 +75,7 @@ drained_before c = map (name_of c.nodes) c.draining
 abbrev pub add_of : Block → Call
 add_of b = call.Apply (AddBlock b.id b.stamp b.wanted)
 
--- a call, if it adds a block
+-- the call itself, if it adds a block
 abbrev pub add_in : Call → List Call
 add_in (call.Apply (AddBlock id stamp repl)) = call.Apply (AddBlock id stamp repl) ∷ []
 add_in _ = []
@@ -84,7 +83,7 @@ add_in _ = []
 abbrev pub adds_in : List Call → List Call
 adds_in calls = flat_map add_in calls
 
--- the replicas that a call reports, by these names of storages
+-- the replicas that a call reports, with the names of their storages
 abbrev pub replicas_by : List Text → Call → List Replica
 replicas_by names (call.Apply (FullReport storage entries)) = map (replica (name_of names storage)) (expanded entries)
 replicas_by names (call.Apply (Received storage id stamp)) = replica (name_of names storage) (record { id = id; stamp = stamp }) ∷ []
@@ -93,7 +92,7 @@ replicas_by names _ = []
 abbrev pub replicas_reported : List Text → List Call → List Replica
 replicas_reported names calls = flat_map (replicas_by names) calls
 
--- the replica that a call calls corrupt
+-- the replica that a call marks as corrupt
 abbrev pub corrupt_by : List Text → Call → List (Text × ℕ)
 corrupt_by names (call.Apply (Corrupt storage id)) = (name_of names storage, id) ∷ []
 corrupt_by names _ = []
@@ -116,7 +115,7 @@ is_about_replicas (call.Apply (Received storage id stamp)) = true
 is_about_replicas (call.Apply (Corrupt storage id)) = true
 is_about_replicas _ = false
 
--- all adds come before the first call about a replica
+-- all blocks are added before the first call about a replica
 pub record AddsFirst (calls : List Call) : Type 0 where
   pub before : List Call
   pub behind : List Call
@@ -124,25 +123,25 @@ pub record AddsFirst (calls : List Call) : Type 0 where
   pub no_replica : list_any is_about_replicas before ≡ false
   pub no_add : adds_in behind ≡ []
 
--- whether it is a replica of this block on this storage
+-- whether this is the replica of a block on a storage
 abbrev pub is_replica : Text → ℕ → Replica → Bool
-is_replica storage id r = bytes_eq storage r.storage && nat_eq id r.told.id
+is_replica storage id r = bytes_eq storage r.storage && nat_eq id r.block.id
 
 -- no storage has two replicas of one block
 abbrev pub EachOnce : List Replica → Type 0
 EachOnce replicas = (storage : Text) (id : ℕ) → count_by (is_replica storage id) replicas ≤ 1
 
--- the calls for a cluster tell of these blocks, which were taken one after another from a start on
-pub record TellsBlocks (start : Cluster) (blocks : List Block) (c : Cluster) (remaining : ℕ) : Type 0 where
-  -- each is added with its number, its stamp and its wanted replicas, in this order, and once
+-- the calls for a cluster describe these blocks, which were added one after another to the start
+pub record DescribesBlocks (start : Cluster) (blocks : List Block) (c : Cluster) (remaining : ℕ) : Type 0 where
+  -- each is added once, in this order, with its number, its stamp and its wanted replicas
   pub added : adds_in (calls_for c remaining) ≡ map add_of blocks
   pub once : has_repeats (ids blocks) ≡ false
   pub adds_first : AddsFirst (calls_for c remaining)
-  -- the replicas that are reported are theirs, and none is reported twice
+  -- just their replicas are reported, each once
   pub reported : IsPermutation (flat_map replicas_of blocks) (replicas_reported c.storages (calls_for c remaining))
   pub reported_once : EachOnce (replicas_reported c.storages (calls_for c remaining))
-  -- those that are called corrupt are the corrupt ones
+  -- just the corrupt ones are marked as corrupt
   pub corrupt : called_corrupt c.storages (calls_for c remaining) ≡ flat_map corrupt_of blocks
-  -- a node is decommissioned just if it drained at the start, or has a drained replica
+  -- a node is decommissioned if and only if it drained at the start or has a drained replica
   pub drained : (address : Text) → list_any (bytes_eq address) (drained c.nodes (calls_for c remaining))
       ≡ list_any (bytes_eq address) (drained_before start ++ flat_map drained_of blocks)

@@ -1,14 +1,14 @@
--- What a text of fsck says, and the calls that tell it.
+-- The cluster in a text of fsck, and the calls for it.
 pub mod Quotes
 pub mod Causes
 pub mod Lines
 pub mod Listings
-pub mod Reading
+pub mod TextReading
 pub mod CallsFor
-pub mod Writing
+pub mod WrittenCalls
 pub mod NameTable
 pub mod FileTables
 pub mod Laws
 pub mod Starts
-pub mod Importing
+pub mod Imports
 pub mod Options

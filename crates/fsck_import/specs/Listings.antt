@@ -4,7 +4,7 @@ use Rattle.cluster_names.specs.FileTable.{FileTable, no_blocks, has_block, with_
 use Rattle.fsck_text.specs.Cuts.{Text}
 use Rattle.fsck_text.specs.Paths.{path_of}
 
--- the path of the file that is being read, and the files of the blocks so far, if they are kept
+-- the path of the current file, and the files of the blocks so far, if they are kept
 pub record Listing : Type 0 where
   pub is_kept : Bool
   pub path : Text

@@ -1,5 +1,5 @@
--- The table of names: which number stands for which rack, node and storage. Tabs are between the
--- words, and a line ends with the byte 10.
+-- The table of names: the number of each rack, node and storage. The words are separated by tabs,
+-- and a line ends with the byte 10.
 use Rattle.std.specs.Prelude.{◌++◌, codes, decimal}
 use Rattle.std.specs.List.{flat_map}
 use Rattle.fsck_text.specs.Cuts.{Text}

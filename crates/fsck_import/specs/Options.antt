@@ -1,6 +1,6 @@
--- What the words of the command line ask for. How the words are read (an option's name and its
--- value, by two words or by one with `=`) and when they are refused is said by the definitions of
--- the crate that reads them, clap: `matches_of` and `fault_of`.
+-- The options of the command line. The crate clap reads the words: its definitions `matches_of` and
+-- `fault_of` are their form (a name and a value, as two words or as one with `=`) and their
+-- refusals.
 use Rattle.std.specs.Prelude.{ℕ, ◌==◌, ◌&&◌, ◌||◌, Bool, not, List, [], ◌∷◌, Option, Some, None, unwrap_or, option_and_then, option_map, codes, if◌then◌else◌}
 use Rattle.std.specs.List.{list_any, list_all, slice_split}
 use Rattle.std.specs.Str.{bytes_eq}
@@ -29,7 +29,7 @@ options =
 abbrev pub program : App
 program = record { top = record (new_shape (codes "fsck_import")) { rules = options }; subs = [] }
 
--- the text that the words give an option, if they name it; the first word is the program's name
+-- the value of an option in the words, if it is there; the first word is the program's name
 abbrev pub given : Text → List Text → Option Text
 given name words = first_of name (matches_of program words)
 
@@ -38,7 +38,7 @@ abbrev pub remaining_for : Option Text → Option ℕ
 remaining_for None = Some 1099511627776
 remaining_for (Some text) = number_of text
 
--- the words of a list, with commas, 44, between them
+-- the words of a list, separated by commas, 44
 abbrev pub words_of : Text → List Text
 words_of list = slice_split (λ b. b == 44) list
 
@@ -69,20 +69,20 @@ skips_in list = if not (is_empty list) && not (are_kinds list) then None else So
 abbrev pub skips_for : Option Text → Option Skips
 skips_for text = skips_in (unwrap_or text [])
 
--- what is done with unclear blocks, by the option's text: they are refused without it
+-- the treatment of unclear blocks, by the option's text: they are refused without it
 abbrev pub unclear_for : Option Text → Option Unclear
 unclear_for None = Some unclear.Refuse
 unclear_for (Some text) =
     if bytes_eq text (codes "omit") then Some unclear.Omit
     else (if bytes_eq text (codes "good") then Some unclear.Good else None)
 
--- what the texts of these options say
+-- the values of these options
 abbrev pub values_of : Option Text → Option Text → Option Text → Option Values
 values_of remaining skip how =
     option_and_then (λ r. option_and_then (λ s. option_map (λ u. record { remaining = r; skips = s; unclear = u }) (unclear_for how))
     (skips_for skip)) (remaining_for remaining)
 
--- a text that is none of its option's values is refused
+-- the refusal of a text that is no value of its option
 abbrev pub value_kinds : Option Values → Kinds
 value_kinds None = ValueValidation ∷ []
 value_kinds (Some v) = []
@@ -90,6 +90,6 @@ value_kinds (Some v) = []
 abbrev pub values_given : List Text → Option Values
 values_given words = values_of (given (codes "remaining") words) (given (codes "skip") words) (given (codes "unclear") words)
 
--- why nothing is asked for: help is, or the words are refused; none if they are taken
+-- the reason for no run: a request for help, or refused words
 abbrev pub refusals_of : List Text → Kinds
 refusals_of words = or_else (fault_of program words) (value_kinds (values_given words))

@@ -1,10 +1,10 @@
--- A word that is not understood.
+-- A word that cannot be parsed.
 use Rattle.std.specs.Prelude.{ℕ}
 use Rattle.fsck_text.specs.Cuts.{Text, column_of}
 use Rattle.fsck_text.specs.declared.wrong.Reason.{Reason}
 use Rattle.fsck_text.specs.declared.wrong.Wrong.{Wrong}
 
--- a word that is not understood, the column in which it begins, and what is wrong with it
+-- a word that cannot be parsed, its first column, and what is wrong with it
 pub record Quoted : Type 0 where
   pub column : ℕ
   pub word : Text

@@ -1,5 +1,5 @@
--- The nodes of the report on DataNodes, line by line. A cluster begins with them, if there is such
--- a report.
+-- The nodes of the report on DataNodes, line by line. If there is such a report, the cluster starts
+-- with them.
 use Rattle.std.specs.Prelude.{List, [], ◌∷◌, Ok}
 use Rattle.fsck_text.specs.Cuts.{Text}
 use Rattle.fsck_text.specs.Wrongs.{after_ok}

@@ -1,25 +1,25 @@
-// Where a table goes: to a stream, into a file, or nowhere.
+// The destination of a table: a stream, a file, or none.
 ghost use Rattle.std.specs.Prelude.{List, Option, ℕ, OnOk, IfErr};
 ghost use Rattle.std.specs.Io.KnownBytes.{Appends};
-ghost use Rattle.fsck_import.specs.Writing.{IsTableFault};
+ghost use Rattle.fsck_import.specs.WrittenCalls.{IsTableFault};
 
 use crate::fault::Fault;
 use std::io::Write;
 use std::rt::Files;
 use std::{fs, io};
 
-/// What takes a table.
+/// A destination of a table.
 pub trait Destination {
-    /// The bytes that it holds, where they are known.
+    /// Its bytes, if they are known.
     ghost contents: { Self → Option (List ℕ) };
 
-    /// Takes a whole table.
+    /// Writes a whole table.
     fn put(&mut self, table: &str) -> Result<(), Fault>
         ensures held { OnOk result (Appends (contents self.old) (contents self.new) table.now) }
         ensures faults { IfErr result IsTableFault };
 }
 
-/// A writer, behind whose bytes the table comes.
+/// A writer; the table is appended to its bytes.
 #[derive(Drop)]
 pub struct Stream<W> {
     pub writer: W,
@@ -36,12 +36,11 @@ impl<W: Write> Destination for Stream<W> {
     }
 }
 
-/// A file of which the table is all: made where there is none, and opened only when the table
-/// comes.
+/// A file that will hold the table alone. It is created or emptied only when the table is written.
 #[derive(Drop)]
 pub struct TableFile<'f, 'p, F> {
     files: &'f F,
-    /// What is in the table.
+    /// The kind of the table, for messages.
     what: &'static str,
     path: &'p str,
     error: Option<io::Error>,
@@ -57,7 +56,7 @@ impl<'f, 'p, F: Files> TableFile<'f, 'p, F> {
         }
     }
 
-    /// Says why the table could not be written, where it could not.
+    /// Prints why the table could not be written, if that failed.
     pub fn say_error<R: Eprint>(&self, rt: &R) {
         if let Some(error) = &self.error {
             let (what, path) = (self.what, self.path);
@@ -84,7 +83,7 @@ impl<F: Files> Destination for TableFile<'_, '_, F> {
     }
 }
 
-/// Where there is no file, the table goes nowhere.
+/// Without a file, the table is dropped.
 impl<F: Files> Destination for Option<TableFile<'_, '_, F>> {
     ghost use Rattle.std.specs.Prelude.{None};
 

@@ -1,4 +1,4 @@
-// Why a run ends without all lines.
+// The faults that end a run.
 use fsck_cluster::NodeWhy;
 use fsck_text::{Reason, Wrong, column_of};
 use std::alloc::{AllocError, Global};
@@ -6,8 +6,8 @@ use std::fmt;
 use std::marker::Model;
 use thiserror::Error;
 
-/// A word that is not understood, and the column in which it begins, in bytes from 1; an empty word
-/// is the end of the line.
+/// A word that cannot be parsed, and its first column, in bytes from 1. An empty word is the end of
+/// the line.
 #[derive(Debug, Drop)]
 pub struct Quoted {
     column: usize,
@@ -71,7 +71,7 @@ pub enum Cause {
     Node(NodeWhy),
 }
 
-/// Why a line is not taken, or memory that was refused.
+/// Why a line is refused, or out of memory.
 #[derive(Drop)]
 pub enum LineFault {
     Memory,
@@ -89,7 +89,7 @@ impl From<AllocError> for LineFault {
     }
 }
 
-/// A line that is refused, counted from 1.
+/// A refused line; lines are numbered from 1.
 #[derive(Debug, Drop, Error)]
 #[error("line {line}: {why}")]
 pub struct Unread {
@@ -97,7 +97,7 @@ pub struct Unread {
     pub why: Cause,
 }
 
-/// Why a run ends with nothing written, or with an unknown part of it where a write failed.
+/// Why a run ends early. Nothing was written; after a failed write, an unknown part was.
 #[derive(Debug, Drop, Error)]
 pub enum Fault {
     #[error("memory fault")]

@@ -7,7 +7,7 @@ use bm_base::BlockId;
 use cluster_names::{FilePlace, Files};
 use std::alloc::{AllocError, Global};
 
-/// A row for each block, in the order of the text.
+/// One row for each block, in the order of the text.
 #[tactic(auto, unfolding(crate::specs::FileTables::files_text))]
 pub fn files_text(alloc: Global, files: &Files) -> Result<String, AllocError>
     ensures { IfOk result (λ s. string_bytes s ≡ files_text files.now) }
@@ -39,7 +39,7 @@ fn write_place(text: &mut String, files: &Files, index: usize) -> Result<(), All
     }
 }
 
-/// The row of a block in its place.
+/// The row of a block with its place.
 #[tactic(auto, using(crate::proofs::WriteLemmas::without_text))]
 fn write_block(
     text: &mut String,

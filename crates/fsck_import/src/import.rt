@@ -1,44 +1,44 @@
-// A whole run, from a reader to a writer.
+// One import, from a reader to a writer.
 ghost use Rattle.std.specs.Prelude.{◌≡◌, IfSome, IfErr, OnOk};
 ghost use Rattle.std.specs.Io.KnownBytes.{Appends};
 ghost use Rattle.fsck_import.specs.NameTable.{table_of};
 ghost use Rattle.fsck_import.specs.FileTables.{files_text};
 ghost use Rattle.fsck_import.specs.CallsFor.{calls_for};
-ghost use Rattle.fsck_import.specs.Writing.{Tells, IsOutputFault};
-ghost use Rattle.fsck_import.specs.Importing.{TellsText, TellsNames, TellsFiles, IsFaultOfRun, WritesNoLine, WritesNothing};
+ghost use Rattle.fsck_import.specs.WrittenCalls.{WritesCalls, IsOutputFault};
+ghost use Rattle.fsck_import.specs.Imports.{WritesText, WritesNames, WritesFiles, IsFaultOfRun, WritesNoLine, WritesNothing};
 
 use crate::destination::Destination;
 use crate::fault::Fault;
 use crate::file_table::files_text;
+use crate::line_writer::write_flushed;
 use crate::listing::Listing;
 use crate::name_table::table_of;
-use crate::reading::{Reading, read_cluster};
-use crate::writing::write_flushed;
+use crate::text_reader::{Reading, read_cluster};
 use bm_base::MAX_ENTRIES;
 use fsck_cluster::Cluster;
 use fsck_files::LeftOut;
 use std::alloc::Global;
 use std::io::{BufRead, Write};
 
-/// What the user has to know of an import.
+/// Facts of an import that the user should know.
 #[derive(Clone, Copy, Drop)]
 pub struct Notes {
     pub left_out: LeftOut,
-    /// How many blocks had more places without a mark than live replicas.
+    /// The number of blocks with more unmarked places than live replicas.
     pub unclear_blocks: u64,
-    /// How many replicas on nodes in maintenance were taken as live.
+    /// The number of replicas on nodes in maintenance that were taken as live.
     pub maintained: u64,
-    /// How many files are being written and are not in the text.
+    /// The number of files that are being written and are not in the text.
     pub unlisted: u64,
-    /// The text is of the path `/`.
+    /// Whether the text is about the path `/`.
     pub is_of_all: bool,
-    /// How many lines were written.
+    /// The number of lines written.
     pub lines: u64,
 }
 
-/// Reads a whole text of fsck, and then writes the tables of names and of files, and the lines for
-/// its cluster. `remaining` is the number of free bytes on each storage whose node's are not known.
-/// Nothing is written before all of the text was read, and no line before the whole tables.
+/// Reads a whole text of fsck; then writes the table of names, the table of files and the lines for
+/// the cluster. `remaining` is the free bytes of each storage whose node has no known number.
+/// Nothing is written before the whole text was read, and no line before both tables.
 #[tactic(auto, using(crate::proofs::ImportLemmas::reading_refuses, crate::proofs::ImportLemmas::output_refuses, crate::proofs::ImportLemmas::output_writes, crate::proofs::ImportLemmas::unwritten, crate::proofs::ImportLemmas::whole_text, crate::proofs::ImportLemmas::whole_names, crate::proofs::ImportLemmas::whole_files))]
 pub fn import<R: BufRead, W: Write, N: Destination, F: Destination>(
     alloc: Global,
@@ -49,15 +49,15 @@ pub fn import<R: BufRead, W: Write, N: Destination, F: Destination>(
     names: &mut N,
     files: &mut F,
 ) -> Result<Notes, Fault>
-    ensures tells { OnOk result (IfSome (R.remaining reader.old) (λ text.
-        TellsText text start remaining (W.contents writer.old) (W.contents writer.new))) }
+    ensures writes { OnOk result (IfSome (R.remaining reader.old) (λ text.
+        WritesText text start remaining (W.contents writer.old) (W.contents writer.new))) }
     ensures named { OnOk result (IfSome (R.remaining reader.old) (λ text.
-        TellsNames text start (N.contents names.old) (N.contents names.new))) }
+        WritesNames text start (N.contents names.old) (N.contents names.new))) }
     ensures filed { OnOk result (IfSome (R.remaining reader.old) (λ text.
-        TellsFiles text start (F.contents files.old) (F.contents files.new))) }
+        WritesFiles text start (F.contents files.old) (F.contents files.new))) }
     ensures refused { IfErr result (λ f. IsFaultOfRun start f (R.remaining reader.old)) }
-    // If a line is refused or a read fails, the writer is as it was, and so is what takes the
-    // tables. The writer is so too if a table cannot be written.
+    // After a refused line or a failed read, the writer and the destinations of the tables are
+    // unchanged. If a table cannot be written, the writer is unchanged.
     ensures nothing_written { IfErr result (λ f. WritesNoLine f writer.old writer.new) }
     ensures nothing_named { IfErr result (λ f. WritesNothing f names.old names.new) }
     ensures nothing_filed { IfErr result (λ f. WritesNothing f files.old files.new) }
@@ -82,7 +82,7 @@ fn write_all<W: Write, N: Destination, F: Destination>(
     names: &mut N,
     files: &mut F,
 ) -> Result<(), Fault>
-    ensures tells { OnOk result (Tells (calls_for read.now.cluster remaining)
+    ensures writes { OnOk result (WritesCalls (calls_for read.now.cluster remaining)
         (W.contents writer.old) (W.contents writer.new)) }
     ensures named { OnOk result
         (Appends (N.contents names.old) (N.contents names.new) (table_of read.now.cluster)) }
@@ -96,7 +96,7 @@ fn write_all<W: Write, N: Destination, F: Destination>(
     write_flushed(alloc, writer, &read.cluster, remaining)
 }
 
-/// Hands over the table of a cluster's names.
+/// Writes the table of a cluster's names.
 #[tactic(auto, using(crate::proofs::ImportLemmas::table_output))]
 fn put_names<N: Destination>(alloc: Global, cluster: &Cluster, names: &mut N) -> Result<(), Fault>
     ensures held { OnOk result
@@ -107,7 +107,7 @@ fn put_names<N: Destination>(alloc: Global, cluster: &Cluster, names: &mut N) ->
     names.put(table.as_str())
 }
 
-/// Hands over the table of the files.
+/// Writes the table of the files.
 #[tactic(auto, using(crate::proofs::ImportLemmas::table_output))]
 fn put_files<F: Destination>(alloc: Global, listing: &Listing, files: &mut F) -> Result<(), Fault>
     ensures held { OnOk result
@@ -129,7 +129,7 @@ pub fn notes_of(read: &Reading) -> Notes {
     }
 }
 
-/// How many lines a cluster has.
+/// The number of lines for a cluster.
 fn count_lines(cluster: &Cluster) -> u64 {
     let nodes = cluster.node_rows.len() as u64;
     let mut lines = nodes

@@ -1,18 +1,18 @@
-//! The import: reads what `hdfs fsck / -files -blocks -locations -replicaDetails -maintenance`
-//! printed, and writes the lines that make the line tool know that cluster. The table of names and
-//! their numbers goes to standard error, or into a file; that of the files goes into a file.
+//! The import: reads the output of `hdfs fsck / -files -blocks -locations -replicaDetails
+//! -maintenance`, and writes lines that build that cluster in the line tool. The table of names
+//! goes to standard error or into a file, the table of files into a file.
 #![tactic(auto)]
 
 mod destination;
 pub mod fault;
 mod file_table;
 pub mod import;
+pub mod line_writer;
 pub mod lines;
 pub mod listing;
 mod name_table;
 pub mod options;
-pub mod reading;
-pub mod writing;
+pub mod text_reader;
 
 use clap::Error;
 use clap::error::ErrorKind;
@@ -22,12 +22,12 @@ use fsck_cluster::Cluster;
 use fsck_files::{LeftOut, Unclear};
 use import::{Notes, import};
 use options::{Asked, asked_by};
-use reading::{Reading, read_nodes};
 use std::alloc::Global;
 use std::fs::File;
 use std::io;
 use std::io::{BufReader, BufWriter};
 use std::rt::Files;
+use text_reader::{Reading, read_nodes};
 
 const DONE: u8 = 0;
 
@@ -35,13 +35,12 @@ const FAULTED: u8 = 1;
 
 const MISUSED: u8 = 2;
 
-/// How many lines the line tool reads in a run.
+/// The number of lines that the line tool reads in a run.
 const MOST_LINES: u64 = 1_048_576;
 
-/// Makes the import that the words of a command line ask for, the program's name first, from
-/// standard input to standard output; what goes to standard error is written to `notes`, or said by
-/// `rt`. The result is the exit status: 0, 1 after a fault, or 2 if the words ask for nothing that
-/// there is.
+/// Runs the import for the words of a command line, the program's name first, from standard input
+/// to standard output. The table of names goes to `notes` unless the words name a file; messages
+/// are printed by `rt`. Returns the exit status: 0, 1 after a fault, or 2 if the words are refused.
 pub fn import_by_words<R: Input + Print + Eprint + Files + AllocGlobal, N: Print>(
     rt: &R,
     notes: &N,
@@ -53,7 +52,7 @@ pub fn import_by_words<R: Input + Print + Eprint + Files + AllocGlobal, N: Print
     }
 }
 
-/// Says why there is no run.
+/// Prints why there is no run.
 fn say_error<R: Print + Eprint>(rt: &R, error: &Error) -> u8 {
     if matches!(error.kind(), ErrorKind::OutOfMemory) {
         return say_fault(rt, Fault::Memory);
@@ -67,7 +66,7 @@ fn say_fault<R: Eprint>(rt: &R, fault: Fault) -> u8 {
     FAULTED
 }
 
-/// The run, with the nodes of the report if the words name one.
+/// Reads the nodes of the report, if the words name one, and runs the import.
 fn run_status<R: Input + Print + Eprint + Files + AllocGlobal, N: Print>(
     rt: &R,
     notes: &N,
@@ -98,7 +97,7 @@ fn nodes_in<R: Files + AllocGlobal>(rt: &R, path: &str) -> Result<Cluster, Fault
     read_nodes(alloc, &mut reader)
 }
 
-/// The run on these nodes, with the table of names where the words ask for it.
+/// Runs the import on these nodes, with the tables of names and files where the words ask for them.
 fn run_from<R: Input + Print + Eprint + Files + AllocGlobal, N: Print>(
     rt: &R,
     notes: &N,
@@ -129,7 +128,7 @@ fn run_from<R: Input + Print + Eprint + Files + AllocGlobal, N: Print>(
     said(rt, asked, ended)
 }
 
-/// Says what the user has to know, or the fault. Why a table cannot be written was said.
+/// Prints the notes, or the fault. The reason of a failed table was printed before.
 fn said<R: Eprint>(rt: &R, asked: &Asked<'_>, ended: Result<Notes, Fault>) -> u8 {
     match ended {
         Ok(notes) => {
@@ -152,7 +151,7 @@ fn say_notes<R: Eprint>(rt: &R, asked: &Asked<'_>, notes: &Notes) {
     }
 }
 
-/// Says what was left out of a text or taken with a doubt.
+/// Prints what was left out of a text or is uncertain.
 pub fn say_text_notes<R: Eprint>(rt: &R, unclear: Unclear, notes: &Notes) {
     say_left_out(rt, &notes.left_out);
     let (block, blocks) = match unclear {
@@ -175,7 +174,7 @@ pub fn say_text_notes<R: Eprint>(rt: &R, unclear: Unclear, notes: &Notes) {
     say_not_in_text(rt, notes);
 }
 
-/// Says what the text lacks: blocks of other files make stray replicas.
+/// Prints what the text lacks: the blocks of other files make stray replicas.
 fn say_not_in_text<R: Eprint>(rt: &R, notes: &Notes) {
     let files = notes.unlisted;
     if files > 0 {
@@ -220,7 +219,7 @@ fn say_left_out<R: Eprint>(rt: &R, left_out: &LeftOut) {
     );
 }
 
-/// Says how many there are, by the words for one and for several; nothing if there is none.
+/// Prints a count with the words for one or for several; prints nothing for 0.
 fn say_count<R: Eprint>(rt: &R, count: u64, one: &str, several: &str) {
     if count > 0 {
         let what = if count == 1 { one } else { several };
@@ -228,7 +227,7 @@ fn say_count<R: Eprint>(rt: &R, count: u64, one: &str, several: &str) {
     }
 }
 
-/// From standard input to standard output.
+/// Runs the import from standard input to standard output.
 fn run<R: Input + Print + AllocGlobal, N: Destination, F: Destination>(
     rt: &R,
     asked: &Asked<'_>,

@@ -9,9 +9,9 @@ use std::alloc::Global;
 use std::io;
 use std::io::{BufRead, ErrorKind};
 
-/// What takes the lines of a text.
+/// A reader of the lines of a text.
 pub trait TakesLines {
-    /// What one more line makes of it, or why the line is refused.
+    /// The state after one more line, or the cause if the line is refused.
     ghost after: { Self → List ℕ → Result Self TheCause };
 
     /// Takes one more line.
@@ -20,7 +20,7 @@ pub trait TakesLines {
         ensures refused { IfErr result (λ f. IsCause f (after self.old line.now)) };
 }
 
-/// Takes every line of a text, and says which number the line after the last would have.
+/// Takes every line of a text. Returns the number that the line after the last would have.
 pub fn take_lines<R: BufRead, T: TakesLines>(
     alloc: Global,
     reader: &mut R,
@@ -45,7 +45,7 @@ pub fn take_lines<R: BufRead, T: TakesLines>(
     Err(Fault::Read)
 }
 
-/// Takes a line, and says its number if it is refused.
+/// Takes a line. A refusal has its number.
 fn take_numbered<T: TakesLines>(
     taker: &mut T,
     alloc: Global,
@@ -63,7 +63,7 @@ fn take_numbered<T: TakesLines>(
     }
 }
 
-/// Takes a line by its bytes, with a carriage return at its end or without.
+/// Takes the bytes of a line, with or without a carriage return at its end.
 fn take_bytes<T: TakesLines>(taker: &mut T, alloc: Global, line: &[u8]) -> Result<(), LineFault>
     ensures ok { OnOk result (after_bytes T.after taker.old line.now ≡ Ok taker.new) }
     ensures refused { IfErr result (λ f. IsCause f (after_bytes T.after taker.old line.now)) }
@@ -88,7 +88,7 @@ fn without_return(line: &str) -> &str
     line.strip_suffix('\r').unwrap_or(line)
 }
 
-/// Memory that was refused to a read, or a read that failed.
+/// The fault of a failed read: out of memory, or a read error.
 fn read_fault(error: &io::Error) -> Fault
     ensures { (result ≡ Fault.Memory) ⊎ (result ≡ Fault.Read) }
 {

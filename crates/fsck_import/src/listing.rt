@@ -8,8 +8,8 @@ use fsck_text::path_of;
 use std::alloc::{AllocError, Global};
 use std::marker::Model;
 
-/// The path of the file that is being read, and the files of the blocks so far. Nothing is listed
-/// where that is not asked for.
+/// The path of the current file, and the files of the blocks so far. It stays empty unless a table
+/// of files is asked for.
 #[derive(Drop)]
 pub struct Listing {
     is_kept: bool,
@@ -31,7 +31,7 @@ impl Model for Listing {
 }
 
 impl Listing {
-    /// Nothing was read. Takes no memory.
+    /// An empty listing. Takes no memory.
     pub fn new(alloc: Global, is_kept: bool) -> Listing
         ensures { result ≡ no_listing is_kept }
     {

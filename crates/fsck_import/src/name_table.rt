@@ -1,4 +1,4 @@
-// The table of names: which number stands for which rack, node and storage.
+// The table of names: the number of each rack, node and storage.
 ghost use Rattle.std.specs.Prelude.{◌≡◌, ◌++◌, IfOk, OnOk, string_bytes};
 ghost use Rattle.std.specs.List.{flat_map};
 ghost use Rattle.fsck_import.specs.NameTable.{node_line, storage_line, table_of};
@@ -6,7 +6,7 @@ ghost use Rattle.fsck_import.specs.NameTable.{node_line, storage_line, table_of}
 use fsck_cluster::{Cluster, NodeRow, Row};
 use std::alloc::{AllocError, Global};
 
-/// A row for each node and each storage, in the order of their numbers.
+/// One row for each node and each storage, in the order of their numbers.
 #[tactic(auto, unfolding(crate::specs::NameTable::table_of))]
 pub fn table_of(alloc: Global, cluster: &Cluster) -> Result<String, AllocError>
     ensures { IfOk result (λ s. string_bytes s ≡ table_of cluster.now) }

@@ -11,17 +11,17 @@ use fsck_files::{Skips, Unclear};
 use fsck_text::number_of;
 use std::alloc::{AllocError, Global};
 
-/// What the values of three options say.
+/// The values of three options.
 #[derive(Clone, Copy, Drop)]
 pub struct Values {
-    /// The free bytes of each storage whose node's are not known.
+    /// The free bytes of each storage whose node has no known number.
     pub remaining: u64,
     /// The kinds of files that are left out.
     pub skips: Skips,
     pub unclear: Unclear,
 }
 
-/// What the words of a command line ask for.
+/// The command line.
 #[derive(Clone, Copy)]
 pub struct Asked<'a> {
     pub values: Values,
@@ -33,8 +33,8 @@ pub struct Asked<'a> {
     pub nodes: Option<&'a str>,
 }
 
-/// What the words of a command line ask for, the program's name first: each option at most once. An
-/// `Err` is a request for help, a command line that is refused, or out of memory.
+/// Parses the words of a command line, the program's name first. Each option may occur once. An
+/// `Err` is a request for help, a refused command line, or out of memory.
 pub fn asked_by<'a>(alloc: Global, words: &'a [String]) -> Result<Asked<'a>, Error>
     ensures values { IfOk result (λ a. Some a.values
         ≡ values_of (given (codes "remaining") (map string_bytes words.entry.now))
@@ -129,7 +129,7 @@ fn new_arg<'a>(alloc: Global, name: &'a str) -> Arg<'a>
     Arg::new(alloc, name)
 }
 
-/// What the texts of these options say; `None` if one of them is none of its values.
+/// Parses the texts of these options. `None` if a text is no value of its option.
 pub fn values_of(
     remaining: Option<&str>,
     skip: Option<&str>,
@@ -145,7 +145,7 @@ pub fn values_of(
     })
 }
 
-/// The free bytes of a storage, by the option's text. `None` if it is no number below 2^64.
+/// Parses the free bytes of a storage. `None` if the text is no number below 2^64.
 fn remaining_for(text: Option<&str>) -> Option<u64>
     ensures { result ≡ remaining_for (option_copied text.entry) }
 {
@@ -155,7 +155,7 @@ fn remaining_for(text: Option<&str>) -> Option<u64>
     }
 }
 
-/// What is left out, by the option's text. `None` if it is no list of kinds.
+/// Parses the kinds that are left out. `None` if the text is no list of kinds.
 fn skips_for(text: Option<&str>) -> Option<Skips>
     ensures { result ≡ skips_for (option_copied text.entry) }
 {
@@ -195,7 +195,7 @@ fn has_word(list: &str, word: &str) -> bool
     list.split(',').any(|one| word == one)
 }
 
-/// What is done with unclear blocks, by the option's text. `None` if it is none of the words.
+/// Parses the treatment of unclear blocks. `None` if the text is none of the words.
 fn unclear_for(text: Option<&str>) -> Option<Unclear>
     ensures { result ≡ unclear_for (option_copied text.entry) }
 {
@@ -207,7 +207,7 @@ fn unclear_for(text: Option<&str>) -> Option<Unclear>
     }
 }
 
-/// What is said of a value that is none of its option's.
+/// The message about a text that is no value of its option.
 fn wrong_value(alloc: Global) -> Result<Error, AllocError>
     ensures { IfOk result (λ e. kind_of e ≡ ValueValidation) }
 {

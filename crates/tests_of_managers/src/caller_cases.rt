@@ -10,7 +10,7 @@ use bm_crew::NoGate;
 use bm_manager::Manager;
 use bm_view::{Located, Locator, Publisher, open_view};
 use callers::{
-    Pieces, Seen, SideBySide, apply_beside_reader, apply_counted, apply_or_free, arrival, for_node,
+    Pieces, Seen, SideBySide, apply_counted, apply_or_free, apply_with_reader, arrival, for_node,
     missing_if_dead, publish_and_look, replica_lines, tidy_line, turn,
 };
 use std::alloc::Global;
@@ -138,15 +138,16 @@ fn nodes_arrive(rt: HostRuntime) {
 }
 
 /// Whether a node is to copy block 7 from storage 11 to storage 21, and nothing else.
-fn is_copy(told: Option<&NodeCommands>) -> bool {
+fn is_copy(commands: Option<&NodeCommands>) -> bool {
     let copy = Transfer {
         block: BlockId(7),
         stamp: stamp(),
         source: StorageId(11),
         target: StorageId(21),
     };
-    match told {
-        Some(told) => told.transfers.as_slice() == [copy].as_slice() && told.deletes.is_empty(),
+    match commands {
+        Some(commands) => commands.transfers.as_slice() == [copy].as_slice()
+            && commands.deletes.is_empty(),
         None => false,
     }
 }
@@ -156,8 +157,8 @@ fn check_first_turn<R: Abort + Threads + Wait + Sync>(
     alloc: Global,
     manager: &mut Manager,
 ) {
-    let told = cluster(rt, alloc);
-    let commands = turn(rt, manager, told.as_slice()).expect(rt, "memory");
+    let events = cluster(rt, alloc);
+    let commands = turn(rt, manager, events.as_slice()).expect(rt, "memory");
     assert_eq!(rt; commands.round, 1);
     assert!(rt; is_copy(for_node(&commands, NodeId(1))));
     assert!(rt; for_node(&commands, NodeId(2)).is_none());
@@ -181,8 +182,8 @@ fn a_turn_commands_the_copy_that_is_due(rt: HostRuntime) {
 }
 
 fn check_stop<R: Abort + Threads + Wait + Sync>(rt: &R, manager: &mut Manager) {
-    let told = [received_event(21, 7), dead(9), dead(1)];
-    assert!(rt; matches!(turn(rt, manager, &told), Err(Refusal::UnknownNode)));
+    let events = [received_event(21, 7), dead(9), dead(1)];
+    assert!(rt; matches!(turn(rt, manager, &events), Err(Refusal::UnknownNode)));
     assert_eq!(rt; (manager.calls(), manager.rounds()), (8, 0));
     assert!(rt; is_at(manager, 7, &[StorageId(11), StorageId(21)]));
 }
@@ -329,12 +330,12 @@ fn version(calls: u64) -> Option<Located> {
     }
 }
 
-/// Whether a reader that learned of the version after `told` calls may see this: block 7 as of that
+/// Whether a reader that learned of the version after `learnt` calls may see this: block 7 as of that
 /// version or a later one.
-fn may_be_seen(seen: &Seen, told: u64) -> bool {
+fn may_be_seen(seen: &Seen, learnt: u64) -> bool {
     match seen.found {
         Some(found) => {
-            seen.learnt == told && told <= found.calls && seen.found == version(found.calls)
+            seen.learnt == learnt && learnt <= found.calls && seen.found == version(found.calls)
         }
         None => false,
     }
@@ -349,7 +350,7 @@ fn are_seen(ended: &SideBySide, count: usize) -> bool {
                 && seen
                     .iter()
                     .zip(8u64..)
-                    .all(|(one, told)| may_be_seen(one, told))
+                    .all(|(one, learnt)| may_be_seen(one, learnt))
         }
         Err(_) => false,
     }
@@ -384,7 +385,7 @@ fn check_on_view<R: Abort + Threads + Wait + Sync>(
     match trial {
         Trial::IsSeen => check_seen(rt, manager, publisher, locator),
         Trial::IsSeenBeside => {
-            check_beside(
+            check_with_reader(
                 rt,
                 alloc,
                 manager,
@@ -396,12 +397,12 @@ fn check_on_view<R: Abort + Threads + Wait + Sync>(
             )
         }
         Trial::IsSeenBesideNothing => {
-            check_beside(rt, alloc, manager, publisher, locator, &[], Ok(()), 0)
+            check_with_reader(rt, alloc, manager, publisher, locator, &[], Ok(()), 0)
         }
         _ => {
             let events = [received_event(21, 7), dead(9), dead(1)];
             let want = Err(Refusal::UnknownNode);
-            check_beside(rt, alloc, manager, publisher, locator, &events, want, 1)
+            check_with_reader(rt, alloc, manager, publisher, locator, &events, want, 1)
         }
     }
 }
@@ -419,7 +420,7 @@ fn check_seen<R: Abort + Threads + Wait + Sync>(
     assert!(rt; seen == Ok(found_on(7, &[StorageId(11)])));
 }
 
-fn check_beside<R: Abort + Threads + Wait + Sync>(
+fn check_with_reader<R: Abort + Threads + Wait + Sync>(
     rt: &R,
     alloc: Global,
     manager: &mut Manager,
@@ -432,13 +433,13 @@ fn check_beside<R: Abort + Threads + Wait + Sync>(
     requires calls { (last_of publisher.old.list).calls ≤ manager.old.calls }
     requires home { locator.old.home ≡ publisher.old.home }
 {
-    let ended = apply_beside_reader(rt, alloc, manager, publisher, locator, events, BlockId(7));
+    let ended = apply_with_reader(rt, alloc, manager, publisher, locator, events, BlockId(7));
     assert!(rt; ended.changes == want);
     assert!(rt; are_seen(&ended, count));
 }
 
 #[test]
-fn a_reader_beside_changes_is_told_of_each(rt: HostRuntime) {
+fn a_concurrent_reader_learns_of_each_change(rt: HostRuntime) {
     for _ in 0..100 {
         try_on(&rt, rt.alloc(), Config::standard(), Trial::IsSeenBeside);
     }
@@ -451,7 +452,7 @@ fn a_reader_beside_changes_is_told_of_each(rt: HostRuntime) {
 }
 
 #[test]
-fn changes_beside_a_reader_stop_at_a_refusal(rt: HostRuntime) {
+fn changes_with_a_concurrent_reader_stop_at_a_refusal(rt: HostRuntime) {
     try_on(
         &rt,
         rt.alloc(),

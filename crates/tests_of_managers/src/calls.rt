@@ -48,8 +48,8 @@ fn stamp_of((generation, len): (u64, u64)) -> Stamp {
 }
 
 /// An event on nodes or storages, without a list.
-fn event_on_nodes(told: Case<'_>) -> Option<Event> {
-    Some(match told {
+fn event_on_nodes(case: Case<'_>) -> Option<Event> {
+    Some(match case {
         Case::Drain(node) => Event::Drain { node: NodeId(node) },
         Case::Undrain(node) => Event::Undrain { node: NodeId(node) },
         Case::Dead(node) => Event::Dead { node: NodeId(node) },
@@ -73,8 +73,8 @@ fn event_on_nodes(told: Case<'_>) -> Option<Event> {
     })
 }
 
-fn event_on_block(told: Case<'_>) -> Option<Event> {
-    Some(match told {
+fn event_on_block(case: Case<'_>) -> Option<Event> {
+    Some(match case {
         Case::Add(block, stamp, repl) => Event::AddBlock {
             id: BlockId(block),
             stamp: stamp_of(stamp),
@@ -94,8 +94,8 @@ fn event_on_block(told: Case<'_>) -> Option<Event> {
 }
 
 /// A call that is no event. Everything else becomes the question for the number of calls.
-fn question(told: Case<'_>) -> Call {
-    match told {
+fn question(case: Case<'_>) -> Call {
+    match case {
         Case::Round => Call::Round,
         Case::Replicas => Call::Replicas,
         Case::AllCorrupt => Call::Corrupt,
@@ -121,9 +121,9 @@ fn register(rt: &impl Abort, alloc: Global, node: u32, rack: u32, numbers: &[u32
     }
 }
 
-fn heartbeat(rt: &impl Abort, alloc: Global, node: u32, told: &[(u32, u64)]) -> Event {
+fn heartbeat(rt: &impl Abort, alloc: Global, node: u32, case: &[(u32, u64)]) -> Event {
     let mut rows = Vec::new(alloc);
-    for (storage, remaining) in told {
+    for (storage, remaining) in case {
         let row = Remaining {
             storage: StorageId(*storage),
             remaining: *remaining,
@@ -136,9 +136,9 @@ fn heartbeat(rt: &impl Abort, alloc: Global, node: u32, told: &[(u32, u64)]) -> 
     }
 }
 
-fn report(rt: &impl Abort, alloc: Global, storage: u32, told: &[(u64, u64, (u64, u64))]) -> Event {
+fn report(rt: &impl Abort, alloc: Global, storage: u32, case: &[(u64, u64, (u64, u64))]) -> Event {
     let mut entries = Vec::new(alloc);
-    for (from, to, stamp) in told {
+    for (from, to, stamp) in case {
         let entry = Entry {
             from: BlockId(*from),
             to: BlockId(*to),
@@ -152,21 +152,21 @@ fn report(rt: &impl Abort, alloc: Global, storage: u32, told: &[(u64, u64, (u64,
     }
 }
 
-fn event_of(rt: &impl Abort, alloc: Global, told: Case<'_>) -> Option<Event> {
-    match told {
+fn event_of(rt: &impl Abort, alloc: Global, case: Case<'_>) -> Option<Event> {
+    match case {
         Case::Register(node, rack, storages) => Some(register(rt, alloc, node, rack, storages)),
         Case::Heartbeat(node, remaining) => Some(heartbeat(rt, alloc, node, remaining)),
         Case::Report(storage, runs) => Some(report(rt, alloc, storage, runs)),
         Case::Add(..) | Case::Delete(_) | Case::SetReplication(..) | Case::Restamp(..) => {
-            event_on_block(told)
+            event_on_block(case)
         }
-        _ => event_on_nodes(told),
+        _ => event_on_nodes(case),
     }
 }
 
-pub(crate) fn call_of(rt: &impl Abort, alloc: Global, told: Case<'_>) -> Call {
-    match event_of(rt, alloc, told) {
+pub(crate) fn call_of(rt: &impl Abort, alloc: Global, case: Case<'_>) -> Call {
+    match event_of(rt, alloc, case) {
         Some(event) => Call::Apply(event),
-        None => question(told),
+        None => question(case),
     }
 }

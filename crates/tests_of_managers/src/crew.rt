@@ -301,15 +301,15 @@ fn a_bag_gives_what_was_put(rt: HostRuntime) -> Result<(), Fail> {
 }
 
 #[test]
-fn a_told_pass_takes_too(rt: HostRuntime) -> Result<(), Fail> {
+fn a_renewed_pass_takes_too(rt: HostRuntime) -> Result<(), Fail> {
     let (bag, mut passes) = Bag::<u64>::open(rt.alloc(), 2, 2)?;
     let mut mine = passes.remove(0);
     let other = passes.remove(0);
     bag.put(&rt, &mut mine, 4, 5);
-    let mut told = bag.tell(&rt, &mut mine, other);
-    let first = bag.take(&rt, &mut told);
-    let second = bag.take(&rt, &mut told);
-    bag.join(&rt, &mut mine, told);
+    let mut renewed = bag.renew_pass(&rt, &mut mine, other);
+    let first = bag.take(&rt, &mut renewed);
+    let second = bag.take(&rt, &mut renewed);
+    bag.join(&rt, &mut mine, renewed);
     let taken = [first, second, bag.take(&rt, &mut mine)];
     assert!(rt; taken == [Some((4, 5)), None, None]);
     Ok(())

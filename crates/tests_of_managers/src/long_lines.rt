@@ -1,10 +1,10 @@
 // Lines that ask for no call, and lines up to the limit of 4,194,304 bytes.
-use crate::rows::{NOTHING, Row, USUAL, is_answered};
+use crate::rows::{EXAMPLE_CONFIG, NOTHING, Row, is_answered};
 use std::alloc::AllocError;
 
 const ROW: Row = Row {
     name: "bad_and_long_lines",
-    config: USUAL,
+    config: EXAMPLE_CONFIG,
     before: NOTHING,
     script: "",
     answers: "refused 20 BadLine

@@ -272,8 +272,8 @@ static NINE_OF_TWELVE: [(Case<'static>, Must<'static>); 27] = [
 
 fn calls_of(rt: &impl Abort, alloc: Global, story: &[(Case<'_>, Must<'_>)]) -> Vec<Call> {
     let mut calls = Vec::new(alloc);
-    for (told, _) in story {
-        calls.push(call_of(rt, alloc, *told)).expect(rt, "memory");
+    for (case, _) in story {
+        calls.push(call_of(rt, alloc, *case)).expect(rt, "memory");
     }
     calls
 }
@@ -473,11 +473,11 @@ fn is_met<R: Abort + Threads + Wait + Sync>(
     alloc: Global,
     manager: &mut Manager,
     gate: &Meeting,
-    told: Case<'_>,
+    case: Case<'_>,
     must: Must<'_>,
     crewed: bool,
 ) -> bool {
-    let call = call_of(rt, alloc, told);
+    let call = call_of(rt, alloc, case);
     let answer = manager.answer(rt, gate, &call);
     let is_so = is_as(&answer, &must) && gate.has_met() == crewed;
     drop(answer);
@@ -493,9 +493,9 @@ fn check_meetings<R: Abort + Threads + Wait + Sync>(
     only: Option<u32>,
 ) {
     let mut manager = Manager::new(alloc, config(shards, workers)).expect(rt, "memory");
-    for (index, (told, must, crewed)) in MET.iter().enumerate() {
+    for (index, (case, must, crewed)) in MET.iter().enumerate() {
         let gate = Meeting::new(shards, only);
-        let is_so = is_met(rt, alloc, &mut manager, &gate, *told, *must, *crewed);
+        let is_so = is_met(rt, alloc, &mut manager, &gate, *case, *must, *crewed);
         assert!(rt; is_so, "call {index}, waits {only:?}");
         drop(gate);
     }

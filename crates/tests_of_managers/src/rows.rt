@@ -20,7 +20,7 @@ pub struct Row {
 const SHARDS_AND_WORKERS: [(u32, u32); 4] = [(1, 1), (3, 2), (5, 4), (2, 16)];
 
 /// The configuration of the worked examples.
-pub const USUAL: Config = Config {
+pub const EXAMPLE_CONFIG: Config = Config {
     shards: 3,
     workers: 2,
     work: 2,
@@ -33,33 +33,39 @@ pub const USUAL: Config = Config {
 /// With one round left.
 pub const LAST_ROUND: Config = Config {
     first_round: 18_446_744_073_709_551_614,
-    ..USUAL
+    ..EXAMPLE_CONFIG
 };
 
 /// With one call left.
 pub const LAST_CALL: Config = Config {
     first_call: 18_446_744_073_709_551_614,
-    ..USUAL
+    ..EXAMPLE_CONFIG
 };
 
 /// With no round and no call left.
 pub const ALL_SPENT: Config = Config {
     first_round: 18_446_744_073_709_551_615,
     first_call: 18_446_744_073_709_551_615,
-    ..USUAL
+    ..EXAMPLE_CONFIG
 };
 
 /// With one delete for each node and round.
 pub const ONE_DELETE: Config = Config {
     invalidate: 1,
-    ..USUAL
+    ..EXAMPLE_CONFIG
 };
 
 /// With one copy for each alive node and round.
-pub const ONE_COPY_A_NODE: Config = Config { work: 1, ..USUAL };
+pub const ONE_COPY_A_NODE: Config = Config {
+    work: 1,
+    ..EXAMPLE_CONFIG
+};
 
 /// With copies that expire after two rounds.
-pub const TWO_ROUNDS: Config = Config { pend: 2, ..USUAL };
+pub const TWO_ROUNDS: Config = Config {
+    pend: 2,
+    ..EXAMPLE_CONFIG
+};
 
 pub const NOTHING: &str = "";
 
@@ -99,7 +105,7 @@ pub fn run_with<H: Threads + Wait + RandomSource + Sync>(
 
 /// Checks that each script has the answers of its row, for each number of shards and workers, and
 /// that its lines are counted.
-pub fn go<H: Abort + Threads + Wait + RandomSource + Sync>(
+pub fn check_rows<H: Abort + Threads + Wait + RandomSource + Sync>(
     rt: &H,
     alloc: Global,
     rows: &[Row],

@@ -1,6 +1,8 @@
 // Rounds and accepted calls are numbered up to the greatest number of 64 bits. No option of the
 // tool sets the first number, so these scripts can only run here.
-use crate::rows::{ALL_SPENT, CLUSTER, FIRST_PATH, LAST_CALL, LAST_ROUND, NOTHING, Row, go};
+use crate::rows::{
+    ALL_SPENT, CLUSTER, FIRST_PATH, LAST_CALL, LAST_ROUND, NOTHING, Row, check_rows,
+};
 use std::alloc::AllocError;
 
 const SPENT: [Row; 6] = [
@@ -87,5 +89,5 @@ refused 6 BlockKnown
 
 #[test]
 fn rounds_and_calls_run_out(rt: HostRuntime) -> Result<(), AllocError> {
-    go(&rt, rt.alloc(), SPENT.as_slice())
+    check_rows(&rt, rt.alloc(), SPENT.as_slice())
 }

@@ -1,7 +1,7 @@
 // Readers and writers that fail, and answers that are flushed before the next read: no script on
 // standard streams can observe these. The input is always the first path.
 use crate::noting_streams::{Notes, Noting, NotingReader, Pieces};
-use crate::rows::{FIRST_PATH, FIRST_PATH_ANSWERS, USUAL};
+use crate::rows::{EXAMPLE_CONFIG, FIRST_PATH, FIRST_PATH_ANSWERS};
 use bm_base::Config;
 use bm_session::{Fault, FaultCounting, Summary, run};
 use std::alloc::Global;
@@ -42,7 +42,7 @@ fn run_noted<H: Threads + Wait + RandomSource + Sync>(
     cause: Cause,
     notes: &Notes,
 ) -> Result<Summary, Fault> {
-    let mut config: Config = USUAL;
+    let mut config: Config = EXAMPLE_CONFIG;
     let (mut failing_read, mut failing_call) = (None, None);
     match cause {
         Cause::Nothing => {}

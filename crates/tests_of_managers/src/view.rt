@@ -78,9 +78,9 @@ fn publish_and_learn<R: Abort + Wait>(
     ensures { locator.new.home ≡ publisher.new.home }
 {
     let receipt = publish(rt, alloc, publisher, calls, numbers);
-    let told = receipt.calls();
+    let published = receipt.calls();
     locator.learn(receipt);
-    told == calls
+    published == calls
 }
 
 fn has_found(
@@ -97,7 +97,7 @@ fn has_found(
 }
 
 /// Runs a step. Whether its answer is the expected one.
-fn go<R: Abort + Wait>(
+fn run_step<R: Abort + Wait>(
     rt: &R,
     alloc: Global,
     publisher: &mut Publisher,
@@ -120,7 +120,7 @@ fn go<R: Abort + Wait>(
     }
 }
 
-fn go_all<R: Abort + Wait>(
+fn run_steps<R: Abort + Wait>(
     rt: &R,
     alloc: Global,
     publisher: &mut Publisher,
@@ -131,7 +131,7 @@ fn go_all<R: Abort + Wait>(
 {
     for (place, step) in READERS_SEE_PUBLISHED_VERSIONS.iter().enumerate() {
         assert!(rt;
-            go(rt, alloc, publisher, &mut first, &mut second, *step),
+            run_step(rt, alloc, publisher, &mut first, &mut second, *step),
             "step {place}"
         );
     }
@@ -141,7 +141,7 @@ fn go_all<R: Abort + Wait>(
 fn readers_see_published_versions(rt: HostRuntime) {
     let (mut publisher, mut locators) = open_view(&rt, rt.alloc(), 2).expect(&rt, "memory");
     match (locators.pop(), locators.pop()) {
-        (Some(first), Some(second)) => go_all(&rt, rt.alloc(), &mut publisher, first, second),
+        (Some(first), Some(second)) => run_steps(&rt, rt.alloc(), &mut publisher, first, second),
         _ => assert!(rt; false),
     }
     publisher.end(&rt);

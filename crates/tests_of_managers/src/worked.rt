@@ -1,15 +1,15 @@
 // The worked examples: scripts of calls and their answers, worked out by hand from docs/RULES.md
 // and docs/FORMATS.md.
 use crate::rows::{
-    CLUSTER, FIRST_PATH, FIRST_PATH_ANSWERS, NOTHING, ONE_COPY_A_NODE, ONE_DELETE, Row, TWO_ROUNDS,
-    USUAL, go,
+    CLUSTER, EXAMPLE_CONFIG, FIRST_PATH, FIRST_PATH_ANSWERS, NOTHING, ONE_COPY_A_NODE, ONE_DELETE,
+    Row, TWO_ROUNDS, check_rows,
 };
 use std::alloc::AllocError;
 
 const WORKED: [Row; 21] = [
     Row {
         name: "empty_input",
-        config: USUAL,
+        config: EXAMPLE_CONFIG,
         before: NOTHING,
         script: "",
         answers: "",
@@ -17,7 +17,7 @@ const WORKED: [Row; 21] = [
     // A known block without replicas is missing, and a round does nothing for it yet.
     Row {
         name: "block_without_replicas_is_missing",
-        config: USUAL,
+        config: EXAMPLE_CONFIG,
         before: CLUSTER,
         script: r#"{"op":"add","id":7,"gen":1,"len":10,"repl":3}
 {"op":"list_missing"}
@@ -33,7 +33,7 @@ round 1
     // The second target is chosen as if the first already held the block.
     Row {
         name: "copies_span_two_racks",
-        config: USUAL,
+        config: EXAMPLE_CONFIG,
         before: CLUSTER,
         script: r#"{"op":"add","id":7,"gen":1,"len":10,"repl":3}
 {"op":"received","storage":11,"id":7,"gen":1,"len":10}
@@ -48,7 +48,7 @@ round 1; copy 1 7 1 10 11 31; copy 1 7 1 10 11 21
     },
     Row {
         name: "copies_arrive",
-        config: USUAL,
+        config: EXAMPLE_CONFIG,
         before: CLUSTER,
         script: r#"{"op":"add","id":7,"gen":1,"len":10,"repl":3}
 {"op":"received","storage":11,"id":7,"gen":1,"len":10}
@@ -74,7 +74,7 @@ replicas; 7 11 good; 7 21 good; 7 31 good
     // Another number of requested replicas changes the level, and nothing else.
     Row {
         name: "levels_follow_replication",
-        config: USUAL,
+        config: EXAMPLE_CONFIG,
         before: CLUSTER,
         script: r#"{"op":"add","id":7,"gen":1,"len":10,"repl":6}
 {"op":"received","storage":11,"id":7,"gen":1,"len":10}
@@ -104,7 +104,7 @@ refused 5 UnknownBlock
     // Block 3 has no source left.
     Row {
         name: "stream_limits",
-        config: USUAL,
+        config: EXAMPLE_CONFIG,
         before: CLUSTER,
         script: r#"{"op":"add","id":1,"gen":1,"len":10,"repl":4}
 {"op":"add","id":2,"gen":1,"len":10,"repl":4}
@@ -131,7 +131,7 @@ round 1; copy 1 1 1 10 11 31; copy 1 2 1 10 11 31; copy 2 1 1 10 21 41; copy 2 2
     },
     Row {
         name: "stream_limits_of_most_urgent_blocks",
-        config: USUAL,
+        config: EXAMPLE_CONFIG,
         before: CLUSTER,
         script: r#"{"op":"add","id":1,"gen":1,"len":10,"repl":2}
 {"op":"add","id":2,"gen":1,"len":10,"repl":2}
@@ -190,7 +190,7 @@ round 1; copy 1 1 1 10 11 31; copy 1 2 1 10 11 41; copy 1 3 1 10 11 31; copy 3 4
     // The last entry of a block counts, and the stray replica is commanded to be deleted once.
     Row {
         name: "wrong_stamp_in_report",
-        config: USUAL,
+        config: EXAMPLE_CONFIG,
         before: CLUSTER,
         script: r#"{"op":"add","id":7,"gen":1,"len":10,"repl":3}
 {"op":"add","id":9,"gen":1,"len":10,"repl":3}
@@ -216,7 +216,7 @@ round 2
     // A full report removes the replicas that it does not list.
     Row {
         name: "empty_report_clears_storage",
-        config: USUAL,
+        config: EXAMPLE_CONFIG,
         before: CLUSTER,
         script: r#"{"op":"add","id":7,"gen":1,"len":10,"repl":3}
 {"op":"add","id":9,"gen":1,"len":10,"repl":3}
@@ -252,7 +252,7 @@ refused 3 UnknownStorage
     // A node has at most one replica of a block, and a bad one stays bad until it is removed.
     Row {
         name: "block_moves_between_sister_storages",
-        config: USUAL,
+        config: EXAMPLE_CONFIG,
         before: NOTHING,
         script: r#"{"op":"register","node":1,"rack":1,"storages":[11,12]}
 {"op":"register","node":2,"rack":1,"storages":[21]}
@@ -296,7 +296,7 @@ replicas; 7 11 good
     // A new generation makes good replicas stale until they are received with it.
     Row {
         name: "restamp_makes_stale",
-        config: USUAL,
+        config: EXAMPLE_CONFIG,
         before: CLUSTER,
         script: r#"{"op":"add","id":7,"gen":1,"len":10,"repl":3}
 {"op":"received","storage":11,"id":7,"gen":1,"len":10}
@@ -321,7 +321,7 @@ refused 9 OldGeneration
     },
     Row {
         name: "corrupt_replica_waits_for_replacement",
-        config: USUAL,
+        config: EXAMPLE_CONFIG,
         before: CLUSTER,
         script: r#"{"op":"add","id":7,"gen":1,"len":10,"repl":3}
 {"op":"received","storage":11,"id":7,"gen":1,"len":10}
@@ -354,7 +354,7 @@ ok 0 0
     },
     Row {
         name: "surplus_keeps_two_racks",
-        config: USUAL,
+        config: EXAMPLE_CONFIG,
         before: CLUSTER,
         script: r#"{"op":"add","id":7,"gen":1,"len":10,"repl":2}
 {"op":"received","storage":11,"id":7,"gen":1,"len":10}
@@ -413,7 +413,7 @@ missing
     // The number of a deleted block may be used again once its replicas are gone.
     Row {
         name: "deleted_block_must_leave_storages",
-        config: USUAL,
+        config: EXAMPLE_CONFIG,
         before: CLUSTER,
         script: r#"{"op":"add","id":7,"gen":1,"len":10,"repl":1}
 {"op":"received","storage":11,"id":7,"gen":1,"len":10}
@@ -453,14 +453,14 @@ round 3; copy 1 7 1 10 11 31
     },
     Row {
         name: "four_lines",
-        config: USUAL,
+        config: EXAMPLE_CONFIG,
         before: NOTHING,
         script: FIRST_PATH,
         answers: FIRST_PATH_ANSWERS,
     },
     Row {
         name: "badly_distributed_block_gets_second_rack",
-        config: USUAL,
+        config: EXAMPLE_CONFIG,
         before: CLUSTER,
         script: r#"{"op":"add","id":7,"gen":1,"len":10,"repl":2}
 {"op":"received","storage":11,"id":7,"gen":1,"len":10}
@@ -482,7 +482,7 @@ round 2; delete 2 21 7
     // No target has enough free bytes for the second copy.
     Row {
         name: "targets_need_room",
-        config: USUAL,
+        config: EXAMPLE_CONFIG,
         before: CLUSTER,
         script: r#"{"op":"heartbeat","node":2,"remaining":[[21,10]]}
 {"op":"heartbeat","node":3,"remaining":[[31,9]]}
@@ -502,7 +502,7 @@ round 1; copy 1 7 1 10 11 21
     // Each refusal has its number and its name.
     Row {
         name: "refusals_are_named",
-        config: USUAL,
+        config: EXAMPLE_CONFIG,
         before: CLUSTER,
         script: r#"{"op":"register","node":1,"rack":9,"storages":[99]}
 {"op":"register","node":5,"rack":1,"storages":[51,51]}
@@ -530,5 +530,5 @@ refused 3 UnknownStorage
 /// Each worked example has its answers, byte for byte, with each number of shards and workers.
 #[test]
 fn same_bytes_for_any_shards_and_workers(rt: HostRuntime) -> Result<(), AllocError> {
-    go(&rt, rt.alloc(), WORKED.as_slice())
+    check_rows(&rt, rt.alloc(), WORKED.as_slice())
 }

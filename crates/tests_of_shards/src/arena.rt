@@ -362,7 +362,7 @@ fn before(arena: &Arena, storage: StorageId, slot: usize) -> Option<usize> {
     }
 }
 
-/// `usize::MAX`, which is no slot, stands for a question that is not allowed.
+/// `usize::MAX`, which is no slot, up_to_date for a question that is not allowed.
 fn slot_asked(rt: &impl Abort, arena: &mut Arena, slots: &Slots, place: Place) -> Option<usize> {
     match place {
         Place::Added(block) => Some(add(rt, arena, block)),
@@ -484,7 +484,7 @@ fn looked_up(arena: &Arena, slots: &Slots, step: Step) -> Answer {
 }
 
 /// Runs the steps in order, and checks each answer.
-fn go(
+fn run_steps(
     rt: &impl Abort,
     alloc: Global,
     arena: &mut Arena,
@@ -547,7 +547,7 @@ static SCENARIOS: [Scenario<'static>; 8] = [
         ],
     },
     Scenario {
-        name: "look ups answer what stands",
+        name: "look ups answer what up_to_date",
         setup: &THREE_BLOCKS,
         steps: &[
             (Step::Where(Place::Find(7)), Answer::SlotOf(7)),
@@ -644,8 +644,8 @@ fn check(rt: &impl Abort, alloc: Global, scenario: &Scenario<'_>) {
         eight: usize::MAX,
         nine: usize::MAX,
     };
-    go(rt, alloc, &mut arena, &mut slots, "setup", scenario.setup);
-    go(
+    run_steps(rt, alloc, &mut arena, &mut slots, "setup", scenario.setup);
+    run_steps(
         rt,
         alloc,
         &mut arena,

@@ -21,7 +21,7 @@ enum Step {
     Add(u64),
     /// Makes the block of an entry unknown.
     Forget(u64),
-    DropIfBare(u64),
+    DropIfUnused(u64),
     Delete(u64),
     /// Removes a replica, and asks whether there was one.
     RemoveReplica(u32, u64),
@@ -109,7 +109,7 @@ fn level(blocks: &LeveledBlocks, block: u64) -> Answer {
 fn answer_of(alloc: Global, topology: &Topology, blocks: &mut LeveledBlocks, step: Step) -> Answer {
     match step {
         Step::Ready(block) => ready(blocks, block),
-        Step::Know(block) | Step::Add(block) | Step::Forget(block) | Step::DropIfBare(block) => {
+        Step::Know(block) | Step::Add(block) | Step::Forget(block) | Step::DropIfUnused(block) => {
             change_entry(topology, blocks, block, step)
         }
         Step::Delete(block) => {
@@ -126,7 +126,7 @@ fn answer_of(alloc: Global, topology: &Topology, blocks: &mut LeveledBlocks, ste
 }
 
 /// Runs the steps in order, and checks each answer.
-fn go(
+fn run_steps(
     rt: &impl Abort,
     alloc: Global,
     topology: &Topology,
@@ -144,7 +144,7 @@ fn go(
 fn check(rt: &impl Abort, alloc: Global, name: &str, steps: &[(Step, Answer)]) {
     let topology = Topology::new(alloc).expect(rt, "memory");
     let mut blocks = LeveledBlocks::new(alloc, HashSecret::none()).expect(rt, "memory");
-    go(rt, alloc, &topology, &mut blocks, name, steps);
+    run_steps(rt, alloc, &topology, &mut blocks, name, steps);
     drop(blocks);
     drop(topology);
 }
@@ -158,7 +158,7 @@ static COMES_AND_GOES: [(Step, Answer); 10] = [
     (Step::Level(8), Answer::Nothing),
     (Step::Forget(7), Answer::Fine),
     (Step::Level(7), Answer::Nothing),
-    (Step::DropIfBare(7), Answer::Fine),
+    (Step::DropIfUnused(7), Answer::Fine),
     (Step::HasEntry(7), Answer::No),
 ];
 

@@ -140,7 +140,7 @@ fn answer_of(rt: &impl Abort, alloc: Global, pending: &mut PendingTransfers, ste
 }
 
 /// Runs the steps in order, and checks each answer.
-fn go(
+fn run_steps(
     rt: &impl Abort,
     alloc: Global,
     pending: &mut PendingTransfers,
@@ -156,7 +156,7 @@ fn go(
 /// Runs the steps on an empty set of transfers.
 fn check(rt: &impl Abort, alloc: Global, name: &str, steps: &[(Step, Answer)]) {
     let mut pending = PendingTransfers::new(alloc, HashSecret::none());
-    go(rt, alloc, &mut pending, name, steps);
+    run_steps(rt, alloc, &mut pending, name, steps);
     drop(pending);
 }
 

@@ -185,13 +185,13 @@ static TWELVE: [(u32, u32, u64); 12] = [
 
 static MANY: [Choice<'static>; 4] = [
     // 12 goes, which leaves 11 alone on the third rack. Then 4, 3 and 2 of the first rack and 7 and
-    // 8 of the second go, in the order of their bytes.
+    // 8 of the second run_steps, in the order of their bytes.
     Choice {
         live: &[1, 2, 3, 4, 5, 6, 7, 8, 9, 10, 11, 12],
         repl: 6,
         chosen: &[12, 4, 7, 8, 3, 2],
     },
-    // Then 11 is alone on its rack and has to wait. 6 and 1 of the first rack go, which leaves 5
+    // Then 11 is alone on its rack and has to wait. 6 and 1 of the first rack run_steps, which leaves 5
     // alone, and 10 of the second, which leaves 9 alone. Of these three 11 has the fewest bytes,
     // then 9.
     Choice {
@@ -463,7 +463,7 @@ struct Target<'a> {
     draining: &'a [u32],
     filled: &'a [(u32, u64)],
     held: &'a [u32],
-    barred: &'a [u32],
+    excluded: &'a [u32],
     len: u64,
     level: Level,
     chosen: Option<u32>,
@@ -476,7 +476,7 @@ static TARGETS: [Target<'static>; 18] = [
         draining: &[],
         filled: &[],
         held: &[11],
-        barred: &[11],
+        excluded: &[11],
         len: 10,
         level: Level::Highest,
         chosen: Some(31),
@@ -486,7 +486,7 @@ static TARGETS: [Target<'static>; 18] = [
         draining: &[],
         filled: &[],
         held: &[11],
-        barred: &[11],
+        excluded: &[11],
         len: 1001,
         level: Level::Highest,
         chosen: None,
@@ -496,7 +496,7 @@ static TARGETS: [Target<'static>; 18] = [
         draining: &[],
         filled: &[],
         held: &[11, 21, 31, 41],
-        barred: &[11, 21, 31, 41],
+        excluded: &[11, 21, 31, 41],
         len: 10,
         level: Level::Highest,
         chosen: None,
@@ -506,7 +506,7 @@ static TARGETS: [Target<'static>; 18] = [
         draining: &[],
         filled: &[(31, 10)],
         held: &[11],
-        barred: &[11],
+        excluded: &[11],
         len: 10,
         level: Level::Highest,
         chosen: Some(41),
@@ -517,7 +517,7 @@ static TARGETS: [Target<'static>; 18] = [
         draining: &[],
         filled: &[],
         held: &[11],
-        barred: &[11],
+        excluded: &[11],
         len: 1000,
         level: Level::Highest,
         chosen: Some(31),
@@ -527,7 +527,7 @@ static TARGETS: [Target<'static>; 18] = [
         draining: &[],
         filled: &[(31, 1), (41, 1)],
         held: &[11],
-        barred: &[11],
+        excluded: &[11],
         len: 1000,
         level: Level::Highest,
         chosen: Some(21),
@@ -537,18 +537,18 @@ static TARGETS: [Target<'static>; 18] = [
         draining: &[],
         filled: &[(31, 1), (41, 1)],
         held: &[11],
-        barred: &[11],
+        excluded: &[11],
         len: 999,
         level: Level::Highest,
         chosen: Some(31),
     },
-    // The copy of a badly distributed block can only go to another rack.
+    // The copy of a badly distributed block can only run_steps to another rack.
     Target {
         free: FOUR_NODES,
         draining: &[],
         filled: &[],
         held: &[11],
-        barred: &[11, 31, 41],
+        excluded: &[11, 31, 41],
         len: 10,
         level: Level::BadlyDistributed,
         chosen: None,
@@ -558,7 +558,7 @@ static TARGETS: [Target<'static>; 18] = [
         draining: &[],
         filled: &[],
         held: &[11],
-        barred: &[11, 31, 41],
+        excluded: &[11, 31, 41],
         len: 10,
         level: Level::UnderReplicated,
         chosen: Some(21),
@@ -569,7 +569,7 @@ static TARGETS: [Target<'static>; 18] = [
         draining: &[],
         filled: &[],
         held: &[11, 31],
-        barred: &[11, 31],
+        excluded: &[11, 31],
         len: 10,
         level: Level::UnderReplicated,
         chosen: Some(21),
@@ -579,7 +579,7 @@ static TARGETS: [Target<'static>; 18] = [
         draining: &[],
         filled: &[],
         held: &[11, 21, 31],
-        barred: &[11, 21, 31],
+        excluded: &[11, 21, 31],
         len: 10,
         level: Level::UnderReplicated,
         chosen: Some(5),
@@ -589,7 +589,7 @@ static TARGETS: [Target<'static>; 18] = [
         draining: &[],
         filled: &[],
         held: &[11, 21, 31],
-        barred: &[6],
+        excluded: &[6],
         len: 10,
         level: Level::UnderReplicated,
         chosen: Some(11),
@@ -600,7 +600,7 @@ static TARGETS: [Target<'static>; 18] = [
         draining: &[],
         filled: &[(5, 10)],
         held: &[11],
-        barred: &[11],
+        excluded: &[11],
         len: 10,
         level: Level::Highest,
         chosen: Some(6),
@@ -611,7 +611,7 @@ static TARGETS: [Target<'static>; 18] = [
         draining: &[],
         filled: &[(5, 8500), (6, 8600)],
         held: &[11],
-        barred: &[11],
+        excluded: &[11],
         len: 10,
         level: Level::Highest,
         chosen: Some(31),
@@ -622,7 +622,7 @@ static TARGETS: [Target<'static>; 18] = [
         draining: &[],
         filled: &[],
         held: &[11, 31],
-        barred: &[11, 31],
+        excluded: &[11, 31],
         len: 2000,
         level: Level::UnderReplicated,
         chosen: Some(5),
@@ -633,7 +633,7 @@ static TARGETS: [Target<'static>; 18] = [
         draining: &[3],
         filled: &[],
         held: &[11],
-        barred: &[11],
+        excluded: &[11],
         len: 10,
         level: Level::Highest,
         chosen: Some(41),
@@ -643,7 +643,7 @@ static TARGETS: [Target<'static>; 18] = [
         draining: &[2, 3, 4],
         filled: &[],
         held: &[11],
-        barred: &[11],
+        excluded: &[11],
         len: 10,
         level: Level::Highest,
         chosen: None,
@@ -653,7 +653,7 @@ static TARGETS: [Target<'static>; 18] = [
         draining: &[3, 4],
         filled: &[],
         held: &[11],
-        barred: &[11],
+        excluded: &[11],
         len: 10,
         level: Level::BadlyDistributed,
         chosen: None,
@@ -682,10 +682,10 @@ fn fill(
     requires { (sent : ℕ → ℕ) × (scheduled.old ≡ target_table topology.now.cluster sent) }
     ensures { (sent : ℕ → ℕ) × (scheduled.new ≡ target_table topology.now.cluster sent) }
 {
-    let barred = storages_numbered(rt, alloc, on_other_nodes(target));
+    let excluded = storages_numbered(rt, alloc, on_other_nodes(target));
     let found = least_target(
         NO_STORAGE.as_slice(),
-        barred.as_slice(),
+        excluded.as_slice(),
         len,
         Level::Highest,
         topology,
@@ -695,7 +695,7 @@ fn fill(
     if let Some(found) = found {
         scheduled.add(found, len);
     }
-    drop(barred);
+    drop(excluded);
 }
 
 fn target_after(
@@ -705,21 +705,21 @@ fn target_after(
     case: &Target<'_>,
 ) -> Option<u32> {
     let held = storages_numbered(rt, alloc, case.held);
-    let barred = storages_numbered(rt, alloc, case.barred);
+    let excluded = storages_numbered(rt, alloc, case.excluded);
     let mut scheduled = Scheduled::new(alloc, topology).expect(rt, "memory");
     for (target, len) in case.filled {
         fill(rt, alloc, topology, &mut scheduled, *target, *len);
     }
     let found = least_target(
         held.as_slice(),
-        barred.as_slice(),
+        excluded.as_slice(),
         case.len,
         case.level,
         topology,
         &scheduled,
     );
     drop(scheduled);
-    drop(barred);
+    drop(excluded);
     drop(held);
     number_of(found)
 }

@@ -135,7 +135,7 @@ fn of_levels(lists: &mut LevelLists, step: LevelStep) -> Answer {
 }
 
 /// Runs the steps in order on new lists, and checks each answer.
-fn go_levels(rt: &impl Abort, alloc: Global, steps: &[(LevelStep, Answer)]) {
+fn run_level_steps(rt: &impl Abort, alloc: Global, steps: &[(LevelStep, Answer)]) {
     let mut lists = LevelLists::new(alloc).expect(rt, "memory");
     for (index, (step, must)) in steps.iter().enumerate() {
         let is_correct = of_levels(&mut lists, *step) == *must;
@@ -195,8 +195,8 @@ static REFUSED_WHERE_NO_LINK_REACHES: [(LevelStep, Answer); 3] = [
 /// The second table asks for a capacity that links cannot address, which is refused.
 #[test]
 fn levels_of_slots(rt: HostRuntime) {
-    go_levels(&rt, rt.alloc(), LEVELS_OF_THREE_SLOTS.as_slice());
-    go_levels(&rt, rt.alloc(), REFUSED_WHERE_NO_LINK_REACHES.as_slice());
+    run_level_steps(&rt, rt.alloc(), LEVELS_OF_THREE_SLOTS.as_slice());
+    run_level_steps(&rt, rt.alloc(), REFUSED_WHERE_NO_LINK_REACHES.as_slice());
 }
 
 fn insert(slots: &mut SlotSet, slot: usize) -> Answer {

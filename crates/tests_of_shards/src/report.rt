@@ -391,7 +391,7 @@ fn report(
     }
 }
 
-fn tell(rt: &impl Abort, world: &mut World, step: Step<'_>) -> Answer {
+fn run_step(rt: &impl Abort, world: &mut World, step: Step<'_>) -> Answer {
     match step {
         Step::Known(id) => add_known(rt, &mut world.arena, id),
         Step::Linked(id, storage, is_excess) => {
@@ -444,9 +444,9 @@ fn can_be_asked(form: Form, step: Step<'_>) -> bool {
 }
 
 /// Runs the steps in order, and checks each answer.
-fn go(rt: &impl Abort, world: &mut World, name: &str, steps: &[(Step<'_>, Answer)]) {
+fn run_steps(rt: &impl Abort, world: &mut World, name: &str, steps: &[(Step<'_>, Answer)]) {
     for (index, (step, must)) in steps.iter().enumerate() {
-        let is_correct = !can_be_asked(world.form, *step) || tell(rt, world, *step) == *must;
+        let is_correct = !can_be_asked(world.form, *step) || run_step(rt, world, *step) == *must;
         check_step(rt, name, index, is_correct);
     }
 }
@@ -637,7 +637,7 @@ static SCENARIOS: [Scenario<'static>; 10] = [
 
 fn check(rt: &impl Abort, alloc: Global, form: Form, scenario: &Scenario<'_>) {
     let mut world = one_node(rt, alloc, form);
-    go(rt, &mut world, scenario.name, scenario.steps);
+    run_steps(rt, &mut world, scenario.name, scenario.steps);
     drop(world);
 }
 

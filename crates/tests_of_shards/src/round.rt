@@ -120,7 +120,7 @@ fn wishes_of_two_parts_in_one_order(rt: HostRuntime) {
     drop(merged);
 }
 
-fn lists_as_told(rt: &impl Abort, alloc: Global, numbers: &[u32]) -> bool {
+fn lists_each_storage(rt: &impl Abort, alloc: Global, numbers: &[u32]) -> bool {
     let listed = ids(rt, alloc, numbers);
     let wanted = storages_numbered(rt, alloc, numbers);
     listed.as_slice() == wanted.as_slice()
@@ -129,8 +129,8 @@ fn lists_as_told(rt: &impl Abort, alloc: Global, numbers: &[u32]) -> bool {
 /// Lists of four storages, which a wish holds inline, and of six, which it does not.
 #[test]
 fn lists_of_more_than_four(rt: HostRuntime) {
-    assert!(rt; lists_as_told(&rt, rt.alloc(), [1, 2, 3, 4].as_slice()));
-    assert!(rt; lists_as_told(&rt, rt.alloc(), [9, 8, 7, 6, 5, 4].as_slice()));
+    assert!(rt; lists_each_storage(&rt, rt.alloc(), [1, 2, 3, 4].as_slice()));
+    assert!(rt; lists_each_storage(&rt, rt.alloc(), [9, 8, 7, 6, 5, 4].as_slice()));
 }
 
 /// Chooses from one part that has this wish alone.
@@ -159,8 +159,8 @@ fn is_chosen(chosen: &Chosen, transfers: &[Transfer], deletes: &[Delete]) -> boo
 }
 
 /// Whether the commands are of round 1, for this node alone, and are just these.
-fn is_told(told: &Commands, node: NodeId, transfers: &[Transfer], deletes: &[Delete]) -> bool {
-    let nodes = told.nodes.as_slice();
+fn are_issued(issued: &Commands, node: NodeId, transfers: &[Transfer], deletes: &[Delete]) -> bool {
+    let nodes = issued.nodes.as_slice();
     for commands in nodes {
         if commands.node != node
             || commands.transfers.as_slice() != transfers
@@ -169,7 +169,7 @@ fn is_told(told: &Commands, node: NodeId, transfers: &[Transfer], deletes: &[Del
             return false;
         }
     }
-    told.round == 1 && nodes.len() == 1
+    issued.round == 1 && nodes.len() == 1
 }
 
 const NO_TRANSFERS: [Transfer; 0] = [];
@@ -197,10 +197,10 @@ fn check_chosen(
     deletes: &[Delete],
 ) {
     assert!(rt; is_chosen(chosen, transfers, deletes));
-    let told = commands(alloc, 1, chosen, topology).expect(rt, "memory");
+    let issued = commands(alloc, 1, chosen, topology).expect(rt, "memory");
     match node {
-        Some(node) => assert!(rt; is_told(&told, node, transfers, deletes)),
-        None => assert!(rt; told.nodes.as_slice().is_empty()),
+        Some(node) => assert!(rt; are_issued(&issued, node, transfers, deletes)),
+        None => assert!(rt; issued.nodes.as_slice().is_empty()),
     }
 }
 

@@ -2,7 +2,7 @@
 ghost use Rattle.std.specs.Prelude.{◌≡◌, IsSome, IsTrue};
 ghost use Rattle.bm_base.specs.declared.replica.ReplicaId.{ReplicaId};
 ghost use Rattle.bm_base.specs.Words.{get, contains_key, node_of};
-ghost use Rattle.bm_arena.specs.Holding.{replicas_of};
+ghost use Rattle.bm_arena.specs.HeldMaps.{replicas_of};
 ghost use Rattle.bm_levels.specs.Leveled.{AreLevels};
 
 use crate::support::{STAMP, four_nodes};

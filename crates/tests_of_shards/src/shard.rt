@@ -22,8 +22,8 @@ const NO_REPLICA: [ReplicaId; 0] = [];
 
 /// Checks, prepares and commits an event that nothing refuses.
 fn apply(rt: &impl Abort, topology: &mut Topology, shard: &mut Shard, event: &Event) -> Done
-    requires standing { IsUpToDate topology.old.cluster shard.old }
-    ensures standing { IsUpToDate topology.new.cluster shard.new }
+    requires up_to_date { IsUpToDate topology.old.cluster shard.old }
+    ensures up_to_date { IsUpToDate topology.new.cluster shard.new }
     ensures round { shard.new.round ≡ shard.old.round }
 {
     topology.check(event).expect(rt, "a check on the cluster");
@@ -38,8 +38,8 @@ fn apply(rt: &impl Abort, topology: &mut Topology, shard: &mut Shard, event: &Ev
 
 /// Checks and prepares an event that nothing refuses, and aborts it.
 fn give_up(rt: &impl Abort, topology: &Topology, shard: &mut Shard, event: &Event)
-    requires standing { IsUpToDate topology.now.cluster shard.old }
-    ensures standing { IsUpToDate topology.now.cluster shard.new }
+    requires up_to_date { IsUpToDate topology.now.cluster shard.old }
+    ensures up_to_date { IsUpToDate topology.now.cluster shard.new }
     ensures round { shard.new.round ≡ shard.old.round }
 {
     topology.check(event).expect(rt, "a check on the cluster");
@@ -58,8 +58,8 @@ fn join(
     rack: u32,
     storage: u32,
 )
-    requires standing { IsUpToDate topology.old.cluster shard.old }
-    ensures standing { IsUpToDate topology.new.cluster shard.new }
+    requires up_to_date { IsUpToDate topology.old.cluster shard.old }
+    ensures up_to_date { IsUpToDate topology.new.cluster shard.new }
     ensures round { shard.new.round ≡ shard.old.round }
 {
     let storages = vec![in alloc; StorageId(storage)].expect(rt, "memory");
@@ -93,7 +93,7 @@ fn received_event(storage: u32, block: BlockId) -> Event {
 
 /// An empty shard for all block numbers, next to a cluster.
 fn fresh(rt: &impl Abort, alloc: Global, topology: &Topology) -> Shard
-    ensures standing { IsUpToDate topology.now.cluster result }
+    ensures up_to_date { IsUpToDate topology.now.cluster result }
     ensures round { result.round ≡ 0 }
 {
     let _ = topology;
@@ -103,8 +103,8 @@ fn fresh(rt: &impl Abort, alloc: Global, topology: &Topology) -> Shard
 /// Four nodes with a storage each, two on each of two racks. Block 7 has one of three requested
 /// replicas.
 fn begin(rt: &impl Abort, alloc: Global, topology: &mut Topology, shard: &mut Shard)
-    requires standing { IsUpToDate topology.old.cluster shard.old }
-    ensures standing { IsUpToDate topology.new.cluster shard.new }
+    requires up_to_date { IsUpToDate topology.old.cluster shard.old }
+    ensures up_to_date { IsUpToDate topology.new.cluster shard.new }
     ensures round { shard.new.round ≡ shard.old.round }
 {
     join(rt, alloc, topology, shard, 1, 1, 11);
@@ -133,7 +133,7 @@ fn holds<T: PartialEq + Drop>(listed: Result<Items<T>, Refusal>, must: &[T]) -> 
 }
 
 /// Checks the shard's answers about block 7.
-fn look(rt: &impl Abort, shard: &Shard) {
+fn check_queries(rt: &impl Abort, shard: &Shard) {
     let replica = Replica {
         block: SEVEN,
         storage: StorageId(11),
@@ -143,10 +143,10 @@ fn look(rt: &impl Abort, shard: &Shard) {
     assert!(rt; holds(shard.corrupt(), NO_REPLICA.as_slice()));
     assert!(rt; holds(shard.missing(), NO_BLOCK.as_slice()));
     assert!(rt; holds(shard.excess(), NO_REPLICA.as_slice()));
-    look_further(rt, shard);
+    check_more_queries(rt, shard);
 }
 
-fn look_further(rt: &impl Abort, shard: &Shard) {
+fn check_more_queries(rt: &impl Abort, shard: &Shard) {
     assert!(rt; holds(shard.blocks_on(StorageId(11)), [SEVEN].as_slice()));
     assert!(rt; holds(shard.places(SEVEN), [StorageId(11)].as_slice()));
     assert!(rt; matches!(shard.places(BlockId(8)), Err(Refusal::UnknownBlock)));
@@ -193,8 +193,8 @@ fn one_copy(rt: &impl Abort, alloc: Global) -> Chosen {
 
 /// Gives up the notice of a replica of an unknown block, and one of block 7 on the copy's target.
 fn give_up_notices(rt: &impl Abort, topology: &Topology, shard: &mut Shard)
-    requires standing { IsUpToDate topology.now.cluster shard.old }
-    ensures standing { IsUpToDate topology.now.cluster shard.new }
+    requires up_to_date { IsUpToDate topology.now.cluster shard.old }
+    ensures up_to_date { IsUpToDate topology.now.cluster shard.new }
     ensures round { shard.new.round ≡ shard.old.round }
 {
     give_up(rt, topology, shard, &received_event(21, BlockId(8)));
@@ -204,7 +204,7 @@ fn give_up_notices(rt: &impl Abort, topology: &Topology, shard: &mut Shard)
 /// The next round finds a wish for two copies. One is commanded, so the round after it finds a wish
 /// for the other. Notices that are given up in between change nothing.
 fn copy(rt: &impl Abort, alloc: Global, topology: &Topology, shard: &mut Shard)
-    requires standing { IsUpToDate topology.now.cluster shard.old }
+    requires up_to_date { IsUpToDate topology.now.cluster shard.old }
     requires round { shard.old.round ≡ 0 }
 {
     let part = shard.round_part(1, topology).expect(rt, "memory");
@@ -215,9 +215,9 @@ fn copy(rt: &impl Abort, alloc: Global, topology: &Topology, shard: &mut Shard)
         .expect(rt, "memory");
     shard.round_commit(&part, &chosen, topology);
     drop(part);
-    look(rt, shard);
+    check_queries(rt, shard);
     give_up_notices(rt, topology, shard);
-    look(rt, shard);
+    check_queries(rt, shard);
     let part = shard.round_part(2, topology).expect(rt, "memory");
     wishes(rt, &part, 1, [StorageId(31)].as_slice());
     drop(part);
@@ -229,9 +229,9 @@ fn a_block_with_one_replica_is_copied_and_what_is_given_up_changes_nothing(rt: H
     let mut topology = Topology::new(alloc).expect(&rt, "memory");
     let mut shard = fresh(&rt, alloc, &topology);
     begin(&rt, alloc, &mut topology, &mut shard);
-    look(&rt, &shard);
+    check_queries(&rt, &shard);
     give_up_notices(&rt, &topology, &mut shard);
-    look(&rt, &shard);
+    check_queries(&rt, &shard);
     copy(&rt, alloc, &topology, &mut shard);
     drop(shard);
     drop(topology);

@@ -102,10 +102,10 @@ fn entries(rt: &impl Abort, alloc: Global, from: u64, to: u64, count: usize) -> 
     Items::from_vec(entries)
 }
 
-fn heartbeat(rt: &impl Abort, alloc: Global, node: u32, told: &[Remaining]) -> Event {
+fn heartbeat(rt: &impl Abort, alloc: Global, node: u32, case: &[Remaining]) -> Event {
     Event::Heartbeat {
         node: NodeId(node),
-        remaining: Items::from_vec(Vec::from_slice(alloc, told).expect(rt, "memory")),
+        remaining: Items::from_vec(Vec::from_slice(alloc, case).expect(rt, "memory")),
     }
 }
 
@@ -121,8 +121,8 @@ fn two(rt: &impl Abort, alloc: Global, first: u32, second: u32) -> Items<Storage
     Items::from_vec(Vec::from_slice(alloc, both.as_slice()).expect(rt, "memory"))
 }
 
-fn event_of(rt: &impl Abort, alloc: Global, told: Case) -> Event {
-    match told {
+fn event_of(rt: &impl Abort, alloc: Global, case: Case) -> Event {
+    match case {
         Case::Comes(node, rack, first, count) => Event::Register {
             node: NodeId(node),
             rack: Rack(rack),
@@ -211,7 +211,7 @@ fn done_with(topology: &mut Topology, deed: Deed, event: &Event) -> Answer {
 }
 
 /// Registers a node without storages, on a rack of its own.
-fn take_bare(topology: &mut Topology, alloc: Global, node: u32) -> Answer {
+fn take_without_storages(topology: &mut Topology, alloc: Global, node: u32) -> Answer {
     let event = Event::Register {
         node: NodeId(node),
         rack: Rack(node),
@@ -223,7 +223,7 @@ fn take_bare(topology: &mut Topology, alloc: Global, node: u32) -> Answer {
 /// `Fine` if each of the 256 nodes is accepted.
 fn crowd(topology: &mut Topology, alloc: Global) -> Answer {
     for node in 0..256 {
-        if take_bare(topology, alloc, node) != Answer::Fine {
+        if take_without_storages(topology, alloc, node) != Answer::Fine {
             return Answer::No;
         }
     }
@@ -232,7 +232,7 @@ fn crowd(topology: &mut Topology, alloc: Global) -> Answer {
 
 fn answer_of(rt: &impl Abort, alloc: Global, topology: &mut Topology, step: Step) -> Answer {
     match step {
-        Step::Do(deed, told) => done_with(topology, deed, &event_of(rt, alloc, told)),
+        Step::Do(deed, case) => done_with(topology, deed, &event_of(rt, alloc, case)),
         Step::Crowd => crowd(topology, alloc),
         Step::HasRacks => yes(topology.multi_rack()),
         Step::OnDraining(storage) => yes(topology.is_draining(StorageId(storage))),
@@ -258,7 +258,7 @@ fn looked_up(topology: &Topology, step: Step) -> Option<u64> {
 }
 
 /// Runs the steps in order, and checks each answer.
-fn go(
+fn run_steps(
     rt: &impl Abort,
     alloc: Global,
     topology: &mut Topology,
@@ -603,8 +603,8 @@ static SCENARIOS: [Scenario<'static>; 13] = [
 
 fn check(rt: &impl Abort, alloc: Global, scenario: &Scenario<'_>) {
     let mut topology = Topology::new(alloc).expect(rt, "memory");
-    go(rt, alloc, &mut topology, "setup", scenario.setup);
-    go(rt, alloc, &mut topology, scenario.name, scenario.steps);
+    run_steps(rt, alloc, &mut topology, "setup", scenario.setup);
+    run_steps(rt, alloc, &mut topology, scenario.name, scenario.steps);
     drop(topology);
 }
 

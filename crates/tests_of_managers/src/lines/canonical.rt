@@ -4,7 +4,7 @@ use bm_lines::{call_of, canonical_call};
 use std::alloc::Global;
 use std::process::Abort;
 
-static USUAL: [&'static str; 13] = [
+static CANONICAL: [&'static str; 13] = [
     "{\"op\":\"add\",\"id\":0,\"gen\":1,\"len\":64,\"repl\":2}",
     "{\"op\":\"received\",\"storage\":4294967295,\"id\":7,\"gen\":1,\"len\":64}",
     "{\"op\":\"deleted\",\"storage\":11,\"id\":18446744073709551615}",
@@ -32,7 +32,7 @@ static IN_ANOTHER_FORM: [&'static str; 9] = [
     "{\"op\":\"delete\",\"id\":7,\"x\":[{\"id\":[8,-1,1e308,\"\\n\"]},true,false,null]}",
 ];
 
-static NEARLY_USUAL: [&'static str; 15] = [
+static NEARLY_CANONICAL: [&'static str; 15] = [
     "{\"op\":\"delete\",\"id\":07}",
     "{\"op\":\"delete\",\"id\":}",
     "{\"op\":\"delete\",\"id\":18446744073709551616}",
@@ -65,10 +65,10 @@ fn is_read(rt: &impl Abort, alloc: Global, line: &str) -> (bool, bool) {
     let read = call_of(alloc, line.as_bytes())
         .expect(rt, "memory")
         .is_some();
-    let usual = canonical_call(alloc, line.as_bytes())
+    let canonical = canonical_call(alloc, line.as_bytes())
         .expect(rt, "memory")
         .is_some();
-    (read, usual)
+    (read, canonical)
 }
 
 fn check(rt: &impl Abort, alloc: Global, lines: &[&str], must: (bool, bool)) {
@@ -79,8 +79,8 @@ fn check(rt: &impl Abort, alloc: Global, lines: &[&str], must: (bool, bool)) {
 
 #[test]
 fn lines_are_read_in_their_form(rt: HostRuntime) {
-    check(&rt, rt.alloc(), USUAL.as_slice(), (true, true));
+    check(&rt, rt.alloc(), CANONICAL.as_slice(), (true, true));
     check(&rt, rt.alloc(), IN_ANOTHER_FORM.as_slice(), (true, false));
-    check(&rt, rt.alloc(), NEARLY_USUAL.as_slice(), (false, false));
+    check(&rt, rt.alloc(), NEARLY_CANONICAL.as_slice(), (false, false));
     check(&rt, rt.alloc(), NO_CALL.as_slice(), (false, false));
 }

@@ -1,6 +1,6 @@
 // Each call that a line can ask for, with that line. Each field has a number of its own.
 ghost use Rattle.std.specs.Prelude.{◌≡◌, true};
-ghost use Rattle.bm_lines.specs.Asking.{has_op};
+ghost use Rattle.bm_lines.specs.CallText.{has_op};
 
 use crate::calls::{Case, call_of};
 use bm_base::Call;
@@ -110,8 +110,8 @@ fn is_read(rt: &impl Abort, alloc: Global, line: &str) {
     }
 }
 
-fn check(rt: &impl Abort, alloc: Global, told: Case<'_>, line: &str) {
-    let call = call_of(rt, alloc, told);
+fn check(rt: &impl Abort, alloc: Global, case: Case<'_>, line: &str) {
+    let call = call_of(rt, alloc, case);
     assert!(rt; has_op(&call), "at {line}");
     is_written(rt, alloc, &call, line);
     is_read(rt, alloc, line);
@@ -119,8 +119,8 @@ fn check(rt: &impl Abort, alloc: Global, told: Case<'_>, line: &str) {
 
 #[test]
 fn calls_are_written_and_read(rt: HostRuntime) {
-    for (told, line) in &LINES {
-        check(&rt, rt.alloc(), *told, line);
+    for (case, line) in &LINES {
+        check(&rt, rt.alloc(), *case, line);
     }
 }
 

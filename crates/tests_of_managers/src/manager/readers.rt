@@ -35,9 +35,9 @@ fn make<R: Abort + Threads + Wait + Sync>(
     rt: &R,
     alloc: Global,
     manager: &mut Manager,
-    told: Case<'_>,
+    case: Case<'_>,
 ) {
-    let call = call_of(rt, alloc, told);
+    let call = call_of(rt, alloc, case);
     let answer = manager.answer(rt, &NoGate, &call);
     assert!(rt; !matches!(answer, Answer::Refused(_)));
     drop(answer);
@@ -45,8 +45,8 @@ fn make<R: Abort + Threads + Wait + Sync>(
 }
 
 fn make_cluster<R: Abort + Threads + Wait + Sync>(rt: &R, alloc: Global, manager: &mut Manager) {
-    for told in &CLUSTER {
-        make(rt, alloc, manager, *told);
+    for case in &CLUSTER {
+        make(rt, alloc, manager, *case);
     }
 }
 
@@ -120,7 +120,7 @@ static READERS_SEE_PUBLISHED_VERSIONS: [Step<'static>; 14] = [
 ];
 
 /// Runs a step. Whether its answer is the expected one.
-fn go<R: Abort + Threads + Wait + Sync>(
+fn run_step<R: Abort + Threads + Wait + Sync>(
     rt: &R,
     alloc: Global,
     manager: &mut Manager,
@@ -137,8 +137,8 @@ fn go<R: Abort + Threads + Wait + Sync>(
             make_cluster(rt, alloc, manager);
             true
         }
-        Step::Make(told) => {
-            make(rt, alloc, manager, told);
+        Step::Make(case) => {
+            make(rt, alloc, manager, case);
             true
         }
         Step::Publish(calls) => publish_and_learn(rt, manager, publisher, first) == calls,
@@ -151,7 +151,7 @@ fn go<R: Abort + Threads + Wait + Sync>(
     }
 }
 
-fn go_all<R: Abort + Threads + Wait + Sync>(
+fn run_steps<R: Abort + Threads + Wait + Sync>(
     rt: &R,
     alloc: Global,
     manager: &mut Manager,
@@ -163,7 +163,7 @@ fn go_all<R: Abort + Threads + Wait + Sync>(
 {
     for (place, step) in READERS_SEE_PUBLISHED_VERSIONS.iter().enumerate() {
         assert!(rt;
-            go(
+            run_step(
                 rt,
                 alloc,
                 manager,
@@ -187,7 +187,7 @@ fn check_readers<R: Abort + Threads + Wait + Sync>(
     let (mut publisher, mut locators) = open_view(rt, alloc, 2).expect(rt, "memory");
     match (locators.pop(), locators.pop()) {
         (Some(first), Some(second)) => {
-            go_all(rt, alloc, &mut manager, &mut publisher, first, second)
+            run_steps(rt, alloc, &mut manager, &mut publisher, first, second)
         }
         _ => assert!(rt; false),
     }
@@ -202,7 +202,7 @@ fn readers_see_published_versions(rt: HostRuntime) {
 }
 
 /// Calls after those of the cluster, with the storages of block 7 after each.
-static BESIDE: [(Case<'static>, &'static [u32]); 6] = [
+static CONCURRENT_CALLS: [(Case<'static>, &'static [u32]); 6] = [
     (Case::Received(11, 7, STAMP), &[11]),
     (Case::Received(31, 7, STAMP), &[11, 31]),
     (Case::Report(21, &[(1, 200, STAMP)]), &[11, 21, 31]),
@@ -219,7 +219,7 @@ fn is_published(rt: &impl Abort, alloc: Global, seen: Located) -> bool {
         return calls == 0 && is_found_on(rt, alloc, Some(seen), 0, &[]);
     }
     let made = (calls - CLUSTER.len() as u64) as usize;
-    match BESIDE.get(made - 1) {
+    match CONCURRENT_CALLS.get(made - 1) {
         Some(one) => {
             let numbers = one.1;
             is_found_on(rt, alloc, Some(seen), calls, numbers)
@@ -258,8 +258,8 @@ fn publish_all<J: Home, R: Abort + Threads + Wait + Sync>(
 )
     requires { publisher.old.home ≡ J.home }
 {
-    for (told, _) in &BESIDE {
-        make(rt, alloc, manager, *told);
+    for (case, _) in &CONCURRENT_CALLS {
+        make(rt, alloc, manager, *case);
         let receipt = publish(rt, manager, publisher);
         let _ = to.send(rt, make_notice::<J>(receipt));
     }
@@ -267,7 +267,7 @@ fn publish_all<J: Home, R: Abort + Threads + Wait + Sync>(
 
 /// Reads, and reads again after each receipt. Counts the wrong answers. After a receipt an older
 /// answer is wrong too.
-fn read_what_is_told<J: Home, R: Abort + Wait>(
+fn read_what_is_published<J: Home, R: Abort + Wait>(
     rt: &R,
     alloc: Global,
     mut locator: Locator,
@@ -278,15 +278,15 @@ fn read_what_is_told<J: Home, R: Abort + Wait>(
     let mut wrong = read_many(rt, alloc, &mut locator, 0);
     for notice in from.iter(rt) {
         let Notice { receipt, of: _ } = notice;
-        let told = receipt.calls();
+        let case = receipt.calls();
         locator.learn(receipt);
-        wrong = wrong.wrapping_add(read_many(rt, alloc, &mut locator, told));
+        wrong = wrong.wrapping_add(read_many(rt, alloc, &mut locator, case));
     }
     wrong
 }
 
 /// Makes the calls and publishes in one thread, and reads in another. The number of wrong answers.
-fn beside<J: Home + Send + Sync, R: Abort + Threads + Wait + Sync>(
+fn publish_with_reader<J: Home + Send + Sync, R: Abort + Threads + Wait + Sync>(
     rt: &R,
     alloc: Global,
     manager: &mut Manager,
@@ -303,12 +303,12 @@ fn beside<J: Home + Send + Sync, R: Abort + Threads + Wait + Sync>(
         { publish_all::<J, R>(rt, alloc, manager, publisher, to) },
         move || -> u32
             requires { locator.home ≡ J.home }
-        { read_what_is_told::<J, R>(rt, alloc, locator, from) },
+        { read_what_is_published::<J, R>(rt, alloc, locator, from) },
     );
     wrong
 }
 
-fn told_beside<R: Abort + Threads + Wait + Sync>(
+fn count_wrong_with_reader<R: Abort + Threads + Wait + Sync>(
     rt: &R,
     alloc: Global,
     manager: &mut Manager,
@@ -317,10 +317,10 @@ fn told_beside<R: Abort + Threads + Wait + Sync>(
 ) -> u32
     requires { locator.home ≡ publisher.old.home }
 {
-    beside::<Brand, R>(rt, alloc, manager, publisher, locator)
+    publish_with_reader::<Brand, R>(rt, alloc, manager, publisher, locator)
 }
 
-fn check_beside<R: Abort + Threads + Wait + Sync>(
+fn check_with_reader<R: Abort + Threads + Wait + Sync>(
     rt: &R,
     alloc: Global,
     shards: u32,
@@ -332,7 +332,7 @@ fn check_beside<R: Abort + Threads + Wait + Sync>(
     match locators.pop() {
         Some(locator) => {
             assert_eq!(rt;
-                told_beside(rt, alloc, &mut manager, &mut publisher, locator),
+                count_wrong_with_reader(rt, alloc, &mut manager, &mut publisher, locator),
                 0
             );
         }
@@ -343,7 +343,7 @@ fn check_beside<R: Abort + Threads + Wait + Sync>(
 }
 
 #[test]
-fn readers_beside_calls_and_rounds_never_go_back(rt: HostRuntime) {
-    check_beside(&rt, rt.alloc(), 3, 2);
-    check_beside(&rt, rt.alloc(), 64, 4);
+fn concurrent_readers_never_go_back(rt: HostRuntime) {
+    check_with_reader(&rt, rt.alloc(), 3, 2);
+    check_with_reader(&rt, rt.alloc(), 64, 4);
 }

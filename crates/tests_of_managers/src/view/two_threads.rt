@@ -59,7 +59,7 @@ fn publish_two<J: Home, R: Abort + Wait>(
 
 // Reads, and reads again after each receipt. Counts the missing and the wrong answers. The prover
 // shows that no answer is older than the receipt.
-fn read_what_is_told<J: Home, R: Wait>(
+fn read_what_is_published<J: Home, R: Wait>(
     rt: &R,
     mut locator: Locator,
     from: Receiver<Notice<J>>,
@@ -69,19 +69,19 @@ fn read_what_is_told<J: Home, R: Wait>(
     let mut wrong = is_wrong(locator.locate(BlockId(7)));
     for notice in from.iter(rt) {
         let Notice { receipt, of: _ } = notice;
-        let told = receipt.calls();
+        let published = receipt.calls();
         locator.learn(receipt);
         let seen = locator.locate(BlockId(7));
         if let Some(located) = &seen {
             let calls = located.calls;
-            prove!(told <= calls);
+            prove!(published <= calls);
         }
         wrong = wrong.wrapping_add(is_wrong(seen));
     }
     wrong
 }
 
-fn tell_beside<J: Home + Send + Sync, R: Abort + Threads + Wait + Sync>(
+fn publish_with_reader<J: Home + Send + Sync, R: Abort + Threads + Wait + Sync>(
     rt: &R,
     alloc: Global,
     publisher: &mut Publisher,
@@ -98,12 +98,12 @@ fn tell_beside<J: Home + Send + Sync, R: Abort + Threads + Wait + Sync>(
         { publish_two::<J, R>(rt, alloc, publisher, to) },
         move || -> u32
             requires { locator.home ≡ J.home }
-        { read_what_is_told::<J, R>(rt, locator, from) },
+        { read_what_is_published::<J, R>(rt, locator, from) },
     );
     wrong
 }
 
-fn told_beside<R: Abort + Threads + Wait + Sync>(
+fn count_wrong_with_reader<R: Abort + Threads + Wait + Sync>(
     rt: &R,
     alloc: Global,
     publisher: &mut Publisher,
@@ -112,14 +112,14 @@ fn told_beside<R: Abort + Threads + Wait + Sync>(
     requires calls { (last_of publisher.old.list).calls ≡ 0 }
     requires home { locator.home ≡ publisher.old.home }
 {
-    tell_beside::<Brand, R>(rt, alloc, publisher, locator)
+    publish_with_reader::<Brand, R>(rt, alloc, publisher, locator)
 }
 
 // The number of wrong answers, and the last answer of a locator that learned nothing.
 fn one_round<R: Abort + Threads + Wait + Sync>(rt: &R, alloc: Global) -> (u32, Option<Located>) {
     let (mut publisher, mut locators) = open_view(rt, alloc, 2).expect(rt, "memory");
     let wrong = match locators.pop() {
-        Some(locator) => told_beside(rt, alloc, &mut publisher, locator),
+        Some(locator) => count_wrong_with_reader(rt, alloc, &mut publisher, locator),
         None => 1,
     };
     let seen = match locators.pop() {
@@ -177,7 +177,7 @@ fn read_after(mut locator: Locator, receipt: Receipt) -> Option<Located>
 }
 
 // Publishes in one thread and reads in another. Then the reader learns the last receipt.
-fn beside<R: Abort + Threads + Wait + Sync>(
+fn read_with_publisher<R: Abort + Threads + Wait + Sync>(
     rt: &R,
     alloc: Global,
     publisher: &mut Publisher,
@@ -200,10 +200,10 @@ fn beside<R: Abort + Threads + Wait + Sync>(
 }
 
 #[test]
-fn reads_beside_a_publisher_never_go_back(rt: HostRuntime) {
+fn concurrent_reads_never_go_back(rt: HostRuntime) {
     let (mut publisher, mut locators) = open_view(&rt, rt.alloc(), 1).expect(&rt, "memory");
     let seen = match locators.pop() {
-        Some(locator) => beside(&rt, rt.alloc(), &mut publisher, locator),
+        Some(locator) => read_with_publisher(&rt, rt.alloc(), &mut publisher, locator),
         None => (1, None),
     };
     publisher.end(&rt);

@@ -1,7 +1,7 @@
 use Rattle.std.proofs.Common.{refl, subst, sym, ap, ◌∙◌, arith}
 use Rattle.std.specs.Prelude.{length}
 use Rattle.bm_arena.specs.Contents.{Contents, block_at, known_of, KeepsAllBut}
-use Rattle.bm_arena.specs.Holding.{replicas_at}
+use Rattle.bm_arena.specs.HeldMaps.{replicas_at}
 use Rattle.bm_levels.specs.Changes.{excess_on}
 use Rattle.bm_levels.proofs.GroupedReplicas.{listed_marks, other_marks}
 use Rattle.bm_levels.proofs.Slots.{none_at}

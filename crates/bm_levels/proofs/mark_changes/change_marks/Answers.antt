@@ -3,7 +3,7 @@ use Rattle.std.specs.Prelude.{ℕ, length}
 use Rattle.bm_base.specs.declared.replica.Marks.{Marks}
 use Rattle.std.proofs.lemmas.Bool.{true≢false}
 use Rattle.bm_arena.specs.Contents.{Contents, block_at, known_of, KeepsAllBut}
-use Rattle.bm_arena.specs.Holding.{replicas_at}
+use Rattle.bm_arena.specs.HeldMaps.{replicas_at}
 use Rattle.bm_levels.specs.Changes.{changed}
 use Rattle.bm_levels.proofs.Slots.{none_at}
 use Rattle.bm_levels.proofs.AllMarks.{keeps_itself, keeps_then, changed_step, unchanged_step, change_end, change_count, count_at}

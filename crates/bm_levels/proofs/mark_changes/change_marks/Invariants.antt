@@ -1,6 +1,6 @@
 use Rattle.std.proofs.Common.{◌≡◌, false}
 use Rattle.bm_arena.specs.Contents.{block_at, known_of, KeepsAllBut}
-use Rattle.bm_arena.specs.Holding.{replicas_at}
+use Rattle.bm_arena.specs.HeldMaps.{replicas_at}
 use Rattle.bm_levels.specs.Changes.{changed}
 use Rattle.bm_levels.proofs.AllMarks.{changed_first}
 use Rattle.bm_levels.proofs.mark_changes.change_marks.Given as goal

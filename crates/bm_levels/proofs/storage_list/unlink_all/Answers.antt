@@ -1,6 +1,6 @@
 use Rattle.std.proofs.Common.{◌≡◌, ◌≤◌, ◌<◌, ◌+◌, ℕ, refl, List, ◌∷◌, ◌++◌, length, get_or, drop, drop-cons, drop_of_length-le, add-one, arith, ap, subst, ◌∙◌}
 use Rattle.std.specs.Prelude.{◌==◌}
-use Rattle.bm_levels.specs.Leaving.{IsLeaving}
+use Rattle.bm_levels.specs.LeavingReplicas.{IsLeaving}
 use Rattle.bm_levels.proofs.StatusUpdates.{among_next}
 use Rattle.bm_levels.proofs.UnlinkedReplicas.{AreUnlinked, unlinked_none, next_there, unlinked_more}
 use Rattle.bm_levels.proofs.storage_list.unlink_all.Goals as goal

@@ -22,4 +22,4 @@ returns-clause-items c =
     let ks : List ℕ = c.in_ok-numbers.numbers.items in
     c.loop-block.invariant
     ∙ ap (flat_map f) (take_all c.loop-block.block-index c.deref-block-items.result.now (omega (arith, c.loop-block-test.false, c.deref-block-items.ensures.len)) ∙ c.deref-block-items.ensures.value)
-    ∙ all-entries c.args.blocks.now.entries c.requires ks (ascending_from ks c.in_ok-numbers.ensures.rising c.in_ok-numbers.ensures.distinct) c.in_ok-numbers.ensures.absent
+    ∙ all-entries c.args.blocks.now.entries c.requires ks (ascending_from ks c.in_ok-numbers.ensures.ascending c.in_ok-numbers.ensures.distinct) c.in_ok-numbers.ensures.absent

@@ -41,8 +41,8 @@ numbers_are c =
     let end = YieldsList-end (YieldsList-from_rest c.args.blocks.now.entries (c.into_iter-block-iterator.ensures.into_iter_gives ∙ c.iter-block-items.ensures.rest)) c.loop-block.yielded _ c.loop-block.yielded_by _ _ c.in-None.is c.next.ensures.steps in
     c.loop-block.invariant ∙ ap (λ es. keys_of (filter (has_old c.args.pend c.args.round) es)) end.0
 
-pub returns-clause-rising : goal.returns-clause-rising
-returns-clause-rising c = IsNonDecreasingBy-from_sort (λ x. x) c.sort.new.self.items c.in_ok-sort.ensures.sorted
+pub returns-clause-ascending : goal.returns-clause-ascending
+returns-clause-ascending c = IsNonDecreasingBy-from_sort (λ x. x) c.sort.new.self.items c.in_ok-sort.ensures.sorted
 
 pub returns-clause-distinct : goal.returns-clause-distinct
 returns-clause-distinct c =

@@ -2,7 +2,7 @@ use Rattle.std.proofs.Common.{◌≡◌, ◌+◌, true, false, ◌||◌, drop, a
 use Rattle.std.specs.List.{list_any}
 use Rattle.bm_base.specs.Machine.Replicas.{is_stray}
 use Rattle.bm_arena.specs.Contents.{block_at}
-use Rattle.bm_arena.specs.Holding.{replicas_at}
+use Rattle.bm_arena.specs.HeldMaps.{replicas_at}
 use Rattle.bm_levels.proofs.Slots.{next_at, none_at, end_at}
 use Rattle.bm_queries.proofs.block_queries.has_stray.Goals as goal
 use Rattle.bm_queries.proofs.block_queries.has_stray.Goals.{in-Some+else-is_stray, in_default}

@@ -2,7 +2,7 @@ use Rattle.std.proofs.Common.{◌+◌, ◌++◌, drop, ap, sym, ◌∙◌, arith
 use Rattle.std.proofs.lemmas.List.{append-nil}
 use Rattle.bm_base.specs.Machine.Replicas.{is_good}
 use Rattle.bm_arena.specs.Contents.{block_at}
-use Rattle.bm_arena.specs.Holding.{replicas_at}
+use Rattle.bm_arena.specs.HeldMaps.{replicas_at}
 use Rattle.bm_levels.specs.Status.{storages_at}
 use Rattle.bm_levels.proofs.Slots.{next_at, none_at, end_at}
 use Rattle.bm_queries.proofs.AtSlot.{storage_put, storage_left}

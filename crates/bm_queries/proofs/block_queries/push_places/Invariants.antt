@@ -1,6 +1,6 @@
 use Rattle.std.proofs.Common.{◌≡◌, ◌++◌, drop}
 use Rattle.bm_base.specs.Machine.Replicas.{is_good}
-use Rattle.bm_arena.specs.Holding.{replicas_at}
+use Rattle.bm_arena.specs.HeldMaps.{replicas_at}
 use Rattle.bm_levels.specs.Status.{storages_at}
 use Rattle.bm_queries.proofs.block_queries.push_places.Given as goal
 

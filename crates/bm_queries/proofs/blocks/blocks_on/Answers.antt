@@ -3,7 +3,7 @@ use Rattle.std.specs.List.Sorted.{IsPermutation}
 use Rattle.std.proofs.lemmas.Iterator.Consumers.{YieldsList-from_first, YieldsList-turn, YieldsList-end}
 use Rattle.std.proofs.lemmas.List.{map-append}
 use Rattle.bm_arena.specs.Contents.{Contents, list_of, IsLawful}
-use Rattle.bm_arena.specs.Holding.{id_at}
+use Rattle.bm_arena.specs.HeldMaps.{id_at}
 use Rattle.bm_queries.proofs.IndexedSlots.{IsOwn}
 use Rattle.bm_queries.proofs.OwnBlocks.{among_turn, same_map, own_listed, answered_id}
 use Rattle.bm_queries.proofs.OnStorage.{on_storage}

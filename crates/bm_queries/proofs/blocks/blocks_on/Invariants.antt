@@ -1,5 +1,5 @@
 use Rattle.std.proofs.Common.{◌≡◌, map}
-use Rattle.bm_arena.specs.Holding.{id_at}
+use Rattle.bm_arena.specs.HeldMaps.{id_at}
 use Rattle.bm_queries.proofs.blocks.blocks_on.Given as goal
 
 abbrev pub invariant-loop-slot : goal.invariant-loop-slot

@@ -5,7 +5,7 @@ use Rattle.std.proofs.lemmas.List.{map_more, take_all}
 use Rattle.bm_base.specs.declared.level.Level.TheVariants.{NoUsableReplica}
 use Rattle.bm_maps.specs.SlotLists.{IsMember}
 use Rattle.bm_arena.specs.Contents.{Contents, IsLawful}
-use Rattle.bm_arena.specs.Holding.{id_at}
+use Rattle.bm_arena.specs.HeldMaps.{id_at}
 use Rattle.bm_levels.specs.IndexedLevels.{IndexedLevels, level_of_slot}
 use Rattle.bm_queries.proofs.IndexedSlots.{IsOwn}
 use Rattle.bm_queries.proofs.OwnBlocks.{among_at, own_leveled, answered_id}

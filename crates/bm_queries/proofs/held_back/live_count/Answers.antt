@@ -1,7 +1,7 @@
 use Rattle.std.proofs.Common.{◌+◌, drop, sym, ◌∙◌, arith}
 use Rattle.bm_base.specs.Machine.Replicas.{is_live_on}
 use Rattle.bm_arena.specs.Contents.{block_at}
-use Rattle.bm_arena.specs.Holding.{replicas_at}
+use Rattle.bm_arena.specs.HeldMaps.{replicas_at}
 use Rattle.bm_levels.proofs.Slots.{next_at, none_at}
 use Rattle.bm_queries.proofs.AtSlot.{counted_more, counted_same}
 use Rattle.bm_queries.proofs.held_back.live_count.Goals as goal

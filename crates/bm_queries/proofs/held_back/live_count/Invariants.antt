@@ -1,6 +1,6 @@
 use Rattle.std.proofs.Common.{◌≡◌, ◌≤◌, ◌+◌, length, drop}
 use Rattle.bm_base.specs.Machine.Replicas.{is_live_on}
-use Rattle.bm_arena.specs.Holding.{replicas_at}
+use Rattle.bm_arena.specs.HeldMaps.{replicas_at}
 use Rattle.bm_levels.specs.Status.{storages_at}
 use Rattle.bm_queries.proofs.held_back.live_count.Given as goal
 

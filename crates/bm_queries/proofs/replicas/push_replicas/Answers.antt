@@ -1,7 +1,7 @@
 use Rattle.std.proofs.Common.{◌+◌, ◌++◌, drop, ap, sym, ◌∙◌, arith}
 use Rattle.std.proofs.lemmas.List.{append-nil}
 use Rattle.bm_arena.specs.Contents.{block_at}
-use Rattle.bm_arena.specs.Holding.{replicas_at}
+use Rattle.bm_arena.specs.HeldMaps.{replicas_at}
 use Rattle.bm_levels.proofs.Slots.{next_at, none_at, end_at}
 use Rattle.bm_queries.specs.Listed.{wants}
 use Rattle.bm_queries.proofs.GatheredReplicas.{those, put_in, left_out, all_at}

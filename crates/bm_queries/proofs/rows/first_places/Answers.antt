@@ -2,7 +2,7 @@ use Rattle.std.proofs.Common.{◌≡◌, ◌++◌, ℕ, [], Option, ap, sym, ◌
 use Rattle.std.specs.Option.{option_map_or}
 use Rattle.bm_base.specs.declared.limits.TheConstants.{MAX_PLACES}
 use Rattle.bm_base.specs.Machine.Replicas.{is_good}
-use Rattle.bm_arena.specs.Holding.{replicas_at}
+use Rattle.bm_arena.specs.HeldMaps.{replicas_at}
 use Rattle.bm_levels.specs.Status.{storages_at}
 use Rattle.bm_queries.proofs.AtSlot.{sorted_places, good_storages}
 use Rattle.bm_queries.proofs.rows.first_places.Goals as goal

@@ -1,7 +1,7 @@
 use Rattle.std.proofs.Common.{Some, subst, sym, ap, ◌∙◌}
 use Rattle.bm_base.specs.Machine.State.{replica_at}
 use Rattle.bm_arena.specs.Contents.{Contents}
-use Rattle.bm_arena.specs.Holding.{replicas_of}
+use Rattle.bm_arena.specs.HeldMaps.{replicas_of}
 use Rattle.bm_report.specs.DuringReport.{behind, KeepsRest}
 use Rattle.bm_report.proofs.Maps.{get-here, insert-same}
 use Rattle.bm_report.proofs.Steps.{known-frame, known-behind, known-replicas, set-replicas, set-frame}

@@ -5,7 +5,7 @@ use Rattle.bm_report.specs.declared.types.ReportedSlot.{ReportedSlot}
 use Rattle.bm_maps.specs.SlotLists.{IsMember}
 use Rattle.bm_report.specs.DuringReport.{slot_in}
 use Rattle.bm_report.proofs.ListedSlots.{slot-listed}
-use Rattle.bm_report.proofs.UnchangedReport.{stands_same, one_of}
+use Rattle.bm_report.proofs.UnchangedReport.{already_same, one_of}
 use Rattle.bm_report.proofs.PartialReport.{IsUnderway, listed-chain, underway-next, underway-last, drop_next, drop_all}
 use Rattle.bm_report.proofs.reported_chunks.add_chunk.Goals as goal
 
@@ -35,8 +35,8 @@ loop-place-preserved c = record {
   quiet = λ all.
       let so_far = c.loop-place.invariant.quiet all in
       let at = slice_get_read c.args.chunk.now (length c.args.chunk.now) c.loop-place.place c.index-chunk-place.result refl c.loop-place-test.true c.index-chunk-place.is in
-      let stands = stands_same c.args.arena.now c.loop-place.arena c.args.storage c.index-chunk-place.result so_far.0 (one_of c.args.arena.now c.args.storage c.args.chunk.now c.loop-place.place c.index-chunk-place.result at all) in
-      let q = c.add_and_list-now_changed.ensures.quiet stands in
+      let was_there = already_same c.args.arena.now c.loop-place.arena c.args.storage c.index-chunk-place.result so_far.0 (one_of c.args.arena.now c.args.storage c.args.chunk.now c.loop-place.place c.index-chunk-place.result at all) in
+      let q = c.add_and_list-now_changed.ensures.quiet was_there in
       (c.add_and_list-now_changed.ensures.same q.0 ∙ so_far.0, q.1 ∙ so_far.1);
   listed = listed-chain c.args.arena.now c.loop-place.arena c.add_and_list-now_changed.new.arena c.args.changed.now.items c.loop-place.changed.items c.add_and_list-now_changed.new.changed.items c.loop-place.invariant.listed c.add_and_list-now_changed.ensures.listed;
   came = λ slot m.

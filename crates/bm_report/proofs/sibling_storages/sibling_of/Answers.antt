@@ -11,7 +11,7 @@ use Rattle.bm_report.proofs.Siblings.{has_node}
 use Rattle.bm_report.proofs.sibling_storages.sibling_of.Goals as goal
 
 pub returns-in_default-node_of-clause-none : goal.returns-in_default-node_of-clause-none
-returns-in_default-node_of-clause-none c t sister = absurd (has_node c.args.topology.now.cluster c.args.storage t (sym c.node_of.ensures ∙ c.in_default-node_of.is) sister)
+returns-in_default-node_of-clause-none c t sibling = absurd (has_node c.args.topology.now.cluster c.args.storage t (sym c.node_of.ensures ∙ c.in_default-node_of.is) sibling)
 
 pub returns-then-is_sibling-clause-found : goal.returns-then-is_sibling-clause-found
 returns-then-is_sibling-clause-found c =

@@ -1,4 +1,4 @@
-use Rattle.bm_arena.specs.Holding.{replicas_of}
+use Rattle.bm_arena.specs.HeldMaps.{replicas_of}
 use Rattle.bm_report.proofs.InvalidExcess.{drops-same, kept_all}
 use Rattle.bm_report.proofs.sweep.drop_invalid_excess.Goals as goal
 

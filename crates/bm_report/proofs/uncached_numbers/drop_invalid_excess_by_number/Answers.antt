@@ -1,4 +1,4 @@
-use Rattle.bm_arena.specs.Holding.{replicas_of}
+use Rattle.bm_arena.specs.HeldMaps.{replicas_of}
 use Rattle.bm_report.specs.Expanded.{reported_to_part}
 use Rattle.bm_report.specs.Ready.{named_of}
 use Rattle.bm_report.proofs.InvalidExcess.{drops-same, kept_all}

@@ -4,14 +4,14 @@ use Rattle.bm_base.specs.declared.limits.TheConstants.{MAX_NUMBERS}
 use Rattle.bm_base.specs.Machine.Events.{report}
 use Rattle.bm_report.specs.declared.types.ReportedSlot.{ReportedSlot}
 use Rattle.bm_report.specs.declared.report_counts.ReportCounts.{ReportCounts}
-use Rattle.bm_arena.specs.Holding.{holdings_of}
+use Rattle.bm_arena.specs.HeldMaps.{holdings_of}
 use Rattle.bm_report.specs.DuringReport.{AreAtSlots, HaveCapacity, IsExcessGood, IsOncePerNode}
 use Rattle.bm_report.specs.Expanded.{reported_to_part}
 use Rattle.bm_report.specs.Ready.{named_in, named_of, HasGoodExcess}
 use Rattle.bm_report.proofs.Maps.{Held}
 use Rattle.bm_report.proofs.Places.{list_within}
 use Rattle.bm_report.proofs.SingleReplicas.{good_excess}
-use Rattle.bm_report.proofs.LastingInvariants.{once-told, good-told}
+use Rattle.bm_report.proofs.LastingInvariants.{once-reported, good-reported}
 use Rattle.bm_report.proofs.ByNumber.{named-ids, here_of, room_of, reported_back, entered_as, counted_as, drops_as, few_reported, reported_slot}
 use Rattle.bm_report.proofs.Stages.{behind-fits, replicas1, here1, room1, once1, here4, good4, replicas5, blocks5, entries5, free5, others5, added5, removed5}
 use Rattle.bm_report.proofs.uncached_report.apply_full.Goals as goal
@@ -104,10 +104,10 @@ pub returns-clause-once : goal.returns-clause-once
 unfolding holdings_of
 returns-clause-once c =
     let P : Held → Type 0 = λ K. IsOncePerNode c.args.topology.now.cluster K in
-    subst P (sym (returns-clause-replicas c)) (once-told c.args.topology.now.cluster (holdings_of c.args.arena.now) c.args.storage (reported_to_part c.args.part c.args.entries.now) c.requires.once)
+    subst P (sym (returns-clause-replicas c)) (once-reported c.args.topology.now.cluster (holdings_of c.args.arena.now) c.args.storage (reported_to_part c.args.part c.args.entries.now) c.requires.once)
 
 pub returns-clause-good : goal.returns-clause-good
 unfolding holdings_of
 returns-clause-good c =
     let P : Held → Type 0 = λ K. HasGoodExcess K in
-    subst P (sym (returns-clause-replicas c)) (good-told c.args.topology.now.cluster (holdings_of c.args.arena.now) c.args.storage (reported_to_part c.args.part c.args.entries.now) c.requires.good)
+    subst P (sym (returns-clause-replicas c)) (good-reported c.args.topology.now.cluster (holdings_of c.args.arena.now) c.args.storage (reported_to_part c.args.part c.args.entries.now) c.requires.good)

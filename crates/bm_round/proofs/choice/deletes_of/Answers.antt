@@ -2,7 +2,7 @@ use Rattle.std.proofs.Common.{get_or, ap, ◌∙◌}
 use Rattle.bm_base.specs.Machine.State.{limits_of}
 use Rattle.bm_base.specs.Choices.{first_of_each_node, chosen_deletes}
 use Rattle.bm_parts.proofs.MergedLists.{first_of}
-use Rattle.bm_round.specs.Merging.{keyed_deletes}
+use Rattle.bm_round.specs.KeyedParts.{keyed_deletes}
 use Rattle.bm_round.proofs.KeyedLists.{deletes_alone_are}
 use Rattle.bm_round.proofs.choice.deletes_of.Goals as goal
 

@@ -1,5 +1,5 @@
 use Rattle.std.proofs.Common.{◌≡◌, map, take}
-use Rattle.bm_round.specs.Merging.{keyed_deletes}
+use Rattle.bm_round.specs.KeyedParts.{keyed_deletes}
 use Rattle.bm_round.proofs.merge.deletes_of_parts.Given as goal
 
 abbrev pub invariant-loop-part : goal.invariant-loop-part

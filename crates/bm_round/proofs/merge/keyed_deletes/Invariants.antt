@@ -1,5 +1,5 @@
 use Rattle.std.proofs.Common.{◌≡◌, map, take}
-use Rattle.bm_round.specs.Merging.{keyed_delete}
+use Rattle.bm_round.specs.KeyedParts.{keyed_delete}
 use Rattle.bm_round.proofs.merge.keyed_deletes.Given as goal
 
 abbrev pub invariant-loop-delete : goal.invariant-loop-delete

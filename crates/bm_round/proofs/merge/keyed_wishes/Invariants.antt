@@ -1,5 +1,5 @@
 use Rattle.std.proofs.Common.{◌≡◌, map, take}
-use Rattle.bm_round.specs.Merging.{keyed_wish}
+use Rattle.bm_round.specs.KeyedParts.{keyed_wish}
 use Rattle.bm_round.proofs.merge.keyed_wishes.Given as goal
 
 abbrev pub invariant-loop-wish : goal.invariant-loop-wish

@@ -5,7 +5,7 @@ use Rattle.bm_base.specs.RoundParts.{wish_key}
 use Rattle.bm_base.specs.Choices.{merged_wishes}
 use Rattle.bm_parts.specs.Merging.{put_all, AreSorted}
 use Rattle.bm_parts.proofs.MergedLists.{first_of}
-use Rattle.bm_round.specs.Merging.{keyed_wish, keyed_wishes}
+use Rattle.bm_round.specs.KeyedParts.{keyed_wish, keyed_wishes}
 use Rattle.bm_round.proofs.KeyedLists.{gathered_on, sorted_alike, merged_wishes_ascend, wishes_alone_are}
 use Rattle.bm_round.proofs.merge.merge_wishes.Goals as goal
 
@@ -22,8 +22,8 @@ returns-clause-wishes c =
     ∙ ap (map (λ e. e.1)) (c.as_slice-3.ensures.value ∙ c.in_ok-merged.ensures.merged ∙ ap (λ ls. put_all [] (flat_map (λ l. l.items) ls)) c.as_slice-2.ensures.value))
     ∙ gathered_on (λ w. w.now) (λ l. l.items) (λ p. p.wishes) wish_key c.in_ok-lists.lists.items c.args.parts.now c.in_ok-lists.ensures
 
-pub returns-clause-rising : goal.returns-clause-rising
-returns-clause-rising c = subst (λ ws. T (is_sorted pair_cmp (map keyed_wish ws))) (sym (returns-clause-wishes c)) (merged_wishes_ascend c.args.parts.now)
+pub returns-clause-ascending : goal.returns-clause-ascending
+returns-clause-ascending c = subst (λ ws. T (is_sorted pair_cmp (map keyed_wish ws))) (sym (returns-clause-wishes c)) (merged_wishes_ascend c.args.parts.now)
 
 pub returns-then-parts-eq1-clause-wishes : goal.returns-then-parts-eq1-clause-wishes
 returns-then-parts-eq1-clause-wishes c =
@@ -33,6 +33,6 @@ returns-then-parts-eq1-clause-wishes c =
     ∙ c.as_slice.ensures
     ∙ wishes_alone_are parts (get_or parts 0 only) (first_of keyed_wishes parts only c.if-parts-eq1.true c.requires.sorted)
 
-pub returns-then-parts-eq1-clause-rising : goal.returns-then-parts-eq1-clause-rising
-returns-then-parts-eq1-clause-rising c =
+pub returns-then-parts-eq1-clause-ascending : goal.returns-then-parts-eq1-clause-ascending
+returns-then-parts-eq1-clause-ascending c =
     subst (λ ws. T (is_sorted pair_cmp (map keyed_wish ws))) (sym (returns-then-parts-eq1-clause-wishes c)) (merged_wishes_ascend c.args.parts.now)

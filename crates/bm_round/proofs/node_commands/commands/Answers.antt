@@ -15,8 +15,8 @@ returns-clause-commands c =
     ∙ (λ i. filter has_commands (map (node_commands C (c.as_slice-transfers.ensures i) (c.as_slice-deletes.ensures i)) (keys C.nodes))) in
     λ i. record { round = c.args.round; nodes = nodes i }
 
-pub returns-clause-rising : goal.returns-clause-rising
-returns-clause-rising c =
+pub returns-clause-ascending : goal.returns-clause-ascending
+returns-clause-ascending c =
     subst (λ ks. T (is_sorted nat_cmp (map (λ k. (k.node, k)) ks.nodes))) (sym (returns-clause-commands c)) (nodes_ascend c.args.topology.now.cluster c.args.round c.args.chosen.now.transfers c.args.chosen.now.deletes)
 
 pub returns-clause-some_command : goal.returns-clause-some_command

@@ -6,13 +6,13 @@ use Rattle.bm_base.specs.Machine.State.{by_replica}
 use Rattle.bm_base.specs.Ordered.{by_pair}
 use Rattle.bm_base.specs.RoundParts.{wish_key, delete_key}
 use Rattle.bm_arena.specs.Contents.{Contents, slot_of, IsLawful}
-use Rattle.bm_arena.specs.Holding.{id_at}
+use Rattle.bm_arena.specs.HeldMaps.{id_at}
 use Rattle.bm_levels.specs.Held.{holdings_with}
 use Rattle.bm_levels.specs.IndexedLevels.{IndexedLevels}
 use Rattle.bm_round_scan.specs.ScannedSlots.{scanned_slots, keyed_at, has_enough_pending, AreMarked}
-use Rattle.bm_round_scan.specs.Gathering.{HasFound, IsInOrder}
+use Rattle.bm_round_scan.specs.BlockFindings.{HasFound, IsInOrder}
 use Rattle.bm_round_scan.proofs.ScannedSlots.{AreListed}
-use Rattle.bm_round_scan.proofs.AllFindings.{told_known, all_found}
+use Rattle.bm_round_scan.proofs.AllFindings.{scanned_known, all_found}
 use Rattle.bm_round_scan.proofs.findings.find_round.Goals as goal
 
 pub scan_all-requires-clause-known : goal.scan_all-requires-clause-known
@@ -23,12 +23,12 @@ scan_all-requires-clause-known c slot there =
     let lawful : IsLawful v.arena = subst IsLawful c.arena.ensures c.show_invariant-2.ensures in
     let listed : AreListed v.kept = subst AreListed c.level_index.ensures (record { unsettled = c.show_invariant-3.ensures.unsettled; wishing = c.show_invariant-3.ensures.wishing; once = c.show_invariant-3.ensures.needing_copies_once }) in
     let slots = scanned_slots v.kept v.arena c.args.bound (has_enough_pending C c.args.pend c.args.round v.arena way) in
-    let told : IndexedLevels → Contents → List ((ℕ × ℕ) × ℕ) = λ K a. map (keyed_at K a) (scanned_slots K a c.args.bound (has_enough_pending C c.args.pend c.args.round a way)) in
-    let keyed : c.in_ok-slots.slots.items ≡ map (keyed_at v.kept v.arena) slots = c.in_ok-slots.ensures ∙ (λ j. told (c.level_index-2.ensures j) (c.arena-2.ensures j)) in
+    let keyed_slots : IndexedLevels → Contents → List ((ℕ × ℕ) × ℕ) = λ K a. map (keyed_at K a) (scanned_slots K a c.args.bound (has_enough_pending C c.args.pend c.args.round a way)) in
+    let keyed : c.in_ok-slots.slots.items ≡ map (keyed_at v.kept v.arena) slots = c.in_ok-slots.ensures ∙ (λ j. keyed_slots (c.level_index-2.ensures j) (c.arena-2.ensures j)) in
     let moved : IsPermutation (map (keyed_at v.kept v.arena) slots) c.deref.result.now =
     subst (IsPermutation (map (keyed_at v.kept v.arena) slots)) (sym c.deref.ensures.value)
     (subst (λ (xs : List ((ℕ × ℕ) × ℕ)). IsPermutation xs c.sort_slots.new.slots.items) keyed c.sort_slots.ensures) in
-    let known = told_known v lawful c.show_invariant.ensures listed C c.requires.levels c.args.pend c.args.round way c.args.bound c.deref.result.now moved slot there in
+    let known = scanned_known v lawful c.show_invariant.ensures listed C c.requires.levels c.args.pend c.args.round way c.args.bound c.deref.result.now moved slot there in
     (id_at v.arena slot, ap (λ (b : Contents). slot_of b (id_at v.arena slot)) c.arena-2.ensures ∙ known)
 
 pub scan_all-requires-clause-settled : goal.scan_all-requires-clause-settled
@@ -43,8 +43,8 @@ returns-clause-part c =
     let lawful : IsLawful v.arena = subst IsLawful c.arena.ensures c.show_invariant-2.ensures in
     let listed : AreListed v.kept = subst AreListed c.level_index.ensures (record { unsettled = c.show_invariant-3.ensures.unsettled; wishing = c.show_invariant-3.ensures.wishing; once = c.show_invariant-3.ensures.needing_copies_once }) in
     let slots = scanned_slots v.kept v.arena c.args.bound (has_enough_pending C c.args.pend c.args.round v.arena way) in
-    let told : IndexedLevels → Contents → List ((ℕ × ℕ) × ℕ) = λ K a. map (keyed_at K a) (scanned_slots K a c.args.bound (has_enough_pending C c.args.pend c.args.round a way)) in
-    let keyed : c.in_ok-slots.slots.items ≡ map (keyed_at v.kept v.arena) slots = c.in_ok-slots.ensures ∙ (λ j. told (c.level_index-2.ensures j) (c.arena-2.ensures j)) in
+    let keyed_slots : IndexedLevels → Contents → List ((ℕ × ℕ) × ℕ) = λ K a. map (keyed_at K a) (scanned_slots K a c.args.bound (has_enough_pending C c.args.pend c.args.round a way)) in
+    let keyed : c.in_ok-slots.slots.items ≡ map (keyed_at v.kept v.arena) slots = c.in_ok-slots.ensures ∙ (λ j. keyed_slots (c.level_index-2.ensures j) (c.arena-2.ensures j)) in
     let moved : IsPermutation (map (keyed_at v.kept v.arena) slots) c.deref.result.now =
     subst (IsPermutation (map (keyed_at v.kept v.arena) slots)) (sym c.deref.ensures.value)
     (subst (λ (xs : List ((ℕ × ℕ) × ℕ)). IsPermutation xs c.sort_slots.new.slots.items) keyed c.sort_slots.ensures) in

@@ -6,7 +6,7 @@ use Rattle.bm_base.specs.declared.replica.Marks.{Marks}
 use Rattle.bm_base.specs.Words.{with_excess_reset}
 use Rattle.bm_arena.specs.Contents.{block_at}
 use Rattle.bm_levels.proofs.Slots.{next_at, none_at, end_at}
-use Rattle.bm_round_scan.specs.Marking.{excess_reset}
+use Rattle.bm_round_scan.specs.BlockMarks.{excess_reset}
 use Rattle.bm_round_scan.proofs.replicas.fill_at_round_start.Goals as goal
 use Rattle.bm_round_scan.proofs.replicas.fill_at_round_start.Goals.{in-Some+in_ok-push, in_default}
 

@@ -1,6 +1,6 @@
 use Rattle.std.proofs.Common.{◌≡◌, ◌++◌, drop}
-use Rattle.bm_arena.specs.Holding.{replicas_at}
-use Rattle.bm_round_scan.specs.Marking.{excess_reset}
+use Rattle.bm_arena.specs.HeldMaps.{replicas_at}
+use Rattle.bm_round_scan.specs.BlockMarks.{excess_reset}
 use Rattle.bm_round_scan.proofs.replicas.fill_at_round_start.Given as goal
 
 -- those so far and the rest are all

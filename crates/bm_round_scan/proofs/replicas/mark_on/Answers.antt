@@ -3,7 +3,7 @@ use Rattle.std.proofs.Common.{◌≤◌, ◌<◌, ◌++◌, ℕ, length, take_al
 use Rattle.std.proofs.lemmas.List.Edits.{map_over_more}
 use Rattle.bm_base.specs.declared.replica.Marks.{Marks}
 use Rattle.bm_base.specs.Words.{has}
-use Rattle.bm_round_scan.specs.Marking.{marked_if, marked_on}
+use Rattle.bm_round_scan.specs.BlockMarks.{marked_if, marked_on}
 use Rattle.bm_round_scan.proofs.replicas.mark_on.Goals as goal
 
 pub loop-place-preserved : goal.loop-place-preserved

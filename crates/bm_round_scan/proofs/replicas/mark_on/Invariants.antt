@@ -1,5 +1,5 @@
 use Rattle.std.proofs.Common.{◌≡◌, ◌++◌, take, drop}
-use Rattle.bm_round_scan.specs.Marking.{marked_on}
+use Rattle.bm_round_scan.specs.BlockMarks.{marked_on}
 use Rattle.bm_round_scan.proofs.replicas.mark_on.Given as goal
 
 -- the replicas before this index are marked, and the others are unchanged

@@ -7,6 +7,6 @@ use Rattle.bm_round_scan.proofs.scanned_slots.push_settled.Given as goal
 abbrev pub invariant-loop-member : goal.invariant-loop-member
 invariant-loop-member l =
     let s = l.start in
-    let told = is_settled_to_scan l.start.kept.now s.arena.now s.bound (has_enough_pending s.topology.now.cluster s.pend s.round s.arena.now s.pending.now) in
-    l.into.items ++ map (keyed_at l.start.kept.now s.arena.now) (filter told (drop l.member-index l.members))
-    ≡ l.initial.into.items ++ map (keyed_at l.start.kept.now s.arena.now) (filter told (slots_at l.start.kept.now l.level))
+    let to_scan = is_settled_to_scan l.start.kept.now s.arena.now s.bound (has_enough_pending s.topology.now.cluster s.pend s.round s.arena.now s.pending.now) in
+    l.into.items ++ map (keyed_at l.start.kept.now s.arena.now) (filter to_scan (drop l.member-index l.members))
+    ≡ l.initial.into.items ++ map (keyed_at l.start.kept.now s.arena.now) (filter to_scan (slots_at l.start.kept.now l.level))

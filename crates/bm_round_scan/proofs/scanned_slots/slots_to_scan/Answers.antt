@@ -4,7 +4,7 @@ use Rattle.std.proofs.lemmas.List.{append-nil}
 use Rattle.bm_base.specs.declared.level.Level.TheVariants.{Highest, VeryUnderReplicated, UnderReplicated, BadlyDistributed}
 use Rattle.bm_levels.specs.IndexedLevels.{slots_at}
 use Rattle.bm_round_scan.specs.ScannedSlots.{keyed_at, is_settled_to_scan, has_enough_pending}
-use Rattle.bm_round_scan.proofs.ScannedSlots.{told_by_level}
+use Rattle.bm_round_scan.proofs.ScannedSlots.{scanned_by_level}
 use Rattle.bm_round_scan.proofs.scanned_slots.slots_to_scan.Goals as goal
 
 pub returns : goal.returns
@@ -19,4 +19,4 @@ returns c =
     ∙ ap (λ xs. xs ++ map f (filter p (slots_at K UnderReplicated))) (c.in_ok-push_settled-2.ensures
     ∙ ap (λ xs. xs ++ map f (filter p (slots_at K VeryUnderReplicated))) (c.in_ok-push_settled.ensures
     ∙ ap (λ xs. xs ++ map f (filter p (slots_at K Highest))) start)))
-    ∙ told_by_level f p K.unsettled.slots (slots_at K Highest) (slots_at K VeryUnderReplicated) (slots_at K UnderReplicated) (slots_at K BadlyDistributed)
+    ∙ scanned_by_level f p K.unsettled.slots (slots_at K Highest) (slots_at K VeryUnderReplicated) (slots_at K UnderReplicated) (slots_at K BadlyDistributed)

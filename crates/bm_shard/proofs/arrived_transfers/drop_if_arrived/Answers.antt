@@ -1,6 +1,6 @@
 use Rattle.std.proofs.Common.{sym, ◌∙◌}
 use Rattle.bm_base.specs.Words.{contains_key, replica_at}
-use Rattle.bm_arena.specs.Holding.{replicas_of}
+use Rattle.bm_arena.specs.HeldMaps.{replicas_of}
 use Rattle.bm_arena.proofs.Words.{not_and}
 use Rattle.bm_shard.proofs.Arrivals.{dropped-one, dropped-none, none_to_drop}
 use Rattle.bm_shard.proofs.arrived_transfers.drop_if_arrived.Goals.{else-contains-via-then-contains+else-has_replica, else-contains-via-else-contains}

@@ -17,7 +17,7 @@ loop-index-preserved c =
             part = c.in_ok-shard.ensures.part;
             round = c.in_ok-shard.ensures.round;
             pend = c.in_ok-shard.ensures.pend;
-            stands = c.in_ok-shard.ensures.standing;
+            up_to_date = c.in_ok-shard.ensures.up_to_date;
           }));
       len = ap length c.in_ok-push.ensures.items ∙ length-append c.loop-index.shards.items (one ∷ []) ∙ omega (arith, inv.len);
     }

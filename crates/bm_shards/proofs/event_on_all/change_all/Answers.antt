@@ -1,7 +1,7 @@
 use Rattle.std.proofs.Common.{◌∙◌, ap}
 use Rattle.bm_base.specs.Words.{change_holdings, done}
 use Rattle.bm_shards.specs.Whole.{held_by}
-use Rattle.bm_shards.proofs.SameShards.{all_same_again, still_shards, same_held, same_took, same_stands}
+use Rattle.bm_shards.proofs.SameShards.{all_same_again, still_shards, same_held, same_took, same_up_to_date}
 use Rattle.bm_shards.proofs.event_on_all.change_all.Goals as goal
 
 pub commit_and_gather-requires-clause-shards : goal.commit_and_gather-requires-clause-shards
@@ -26,4 +26,4 @@ pub returns-in-Err-clause-unchanged : goal.returns-in-Err-clause-unchanged
 returns-in-Err-clause-unchanged g c = same_held _ _ (all_same_again _ _ _ c.prepare_for_event.ensures.same c.abort_all.ensures.each)
 
 pub returns-in-Err-clause-still : goal.returns-in-Err-clause-still
-returns-in-Err-clause-still g c = same_stands c.args.topology.now.cluster _ _ (all_same_again _ _ _ c.prepare_for_event.ensures.same c.abort_all.ensures.each) c.requires.standing
+returns-in-Err-clause-still g c = same_up_to_date c.args.topology.now.cluster _ _ (all_same_again _ _ _ c.prepare_for_event.ensures.same c.abort_all.ensures.each) c.requires.up_to_date

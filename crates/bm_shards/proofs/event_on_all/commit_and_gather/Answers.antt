@@ -1,7 +1,7 @@
 use Rattle.std.proofs.Common.{ap, subst, sym}
 use Rattle.bm_shards.specs.Whole.{AreUpToDate, HaveTaken}
 use Rattle.bm_shards.specs.Worked.{IsCommitted}
-use Rattle.bm_shards.proofs.ShardLists.{all_few, up_to_64, now_shards, now_held, now_done, stand_again, took_again}
+use Rattle.bm_shards.proofs.ShardLists.{all_few, up_to_64, now_shards, now_held, now_done, changed_up_to_date, took_again}
 use Rattle.bm_shards.proofs.SameShards.{still_taken}
 use Rattle.bm_shards.proofs.event_on_all.commit_and_gather.Goals as goal
 
@@ -21,7 +21,7 @@ returns g c =
     record {
       done = now_done _ _ _ _ _ _ each c.gather_done.ensures.shards c.gather_done.ensures.done c.requires.shards;
       changed = now_held _ _ _ _ _ each c.gather_done.ensures.shards c.requires.shards;
-      standing = subst (AreUpToDate _) (sym c.gather_done.ensures.shards) (stand_again _ _ _ _ each);
+      up_to_date = subst (AreUpToDate _) (sym c.gather_done.ensures.shards) (changed_up_to_date _ _ _ _ each);
       shards = now_shards _ _ _ _ _ each c.gather_done.ensures.shards c.requires.shards;
       rounds = λ round pend took. subst (HaveTaken round pend) (sym c.gather_done.ensures.shards) (took_again _ _ round pend _ _ each took);
     }

@@ -22,7 +22,7 @@ returns-in-Ok-clause-ready g c =
     let each = still_taken P _ _ _ (ap (λ v. v.items) c.replace-items.ensures.value) c.prepare_all-made.ensures.each in
     on_ok _ _
     (subst (All (λ s. CanCommit c.args.topology.now.cluster c.args.event.now s.1)) (sym c.gather_prepared.ensures.shards)
-    (all_ready c.args.topology.now.cluster c.args.event.now _ _ each c.requires.standing (sym c.gather_prepared.ensures.outcome ∙ c.in-Ok.is)))
+    (all_ready c.args.topology.now.cluster c.args.event.now _ _ each c.requires.up_to_date (sym c.gather_prepared.ensures.outcome ∙ c.in-Ok.is)))
 
 pub returns-in-Err-clause-same : goal.returns-in-Err-clause-same
 returns-in-Err-clause-same g c =

@@ -3,8 +3,8 @@ use Rattle.bm_shards.specs.OneShard.{IsChanged}
 use Rattle.bm_shards.proofs.OneOf.{item_there, made_ok, made_err}
 use Rattle.bm_shards.proofs.event_on_one.change_at.Goals as goal
 
-pub change_shard-requires-clause-standing : goal.change_shard-requires-clause-standing
-change_shard-requires-clause-standing c = c.requires.standing c.in-Some.one.now (item_there _ _ _ c.requires.place c.in-Some.ensures.value)
+pub change_shard-requires-clause-up_to_date : goal.change_shard-requires-clause-up_to_date
+change_shard-requires-clause-up_to_date c = c.requires.up_to_date c.in-Some.one.now (item_there _ _ _ c.requires.place c.in-Some.ensures.value)
 
 pub returns-clause-changed : goal.returns-clause-changed
 returns-clause-changed c =

@@ -1,10 +1,10 @@
 use Rattle.std.proofs.Common.{arith, ◌∙◌, ap}
 use Rattle.bm_base.specs.Shards.{shard_of}
-use Rattle.bm_shards.proofs.OneOf.{at_end, stands_at}
+use Rattle.bm_shards.proofs.OneOf.{at_end, up_to_date_at}
 use Rattle.bm_shards.proofs.event_on_one.change_own.Goals as goal
 
-pub change_at-requires-clause-standing : goal.change_at-requires-clause-standing
-change_at-requires-clause-standing c = λ s there. stands_at _ _ _ s c.requires.standing there
+pub change_at-requires-clause-up_to_date : goal.change_at-requires-clause-up_to_date
+change_at-requires-clause-up_to_date c = λ s there. up_to_date_at _ _ _ s c.requires.up_to_date there
 
 pub returns-clause-done : goal.returns-clause-done
 returns-clause-done c =
@@ -14,9 +14,9 @@ pub returns-clause-changed : goal.returns-clause-changed
 returns-clause-changed c =
     (at_end c.args.topology.now.cluster c.args.event.now c.args.id _ _ _ c.change_at.result c.requires.shards c.requires.one (c.index_of_shard-place.ensures ∙ ap (shard_of c.args.id) (omega (arith, c.len.ensures, c.args.shards.now.ok.0))) c.change_at.ensures.changed c.change_at.ensures.same).1
 
-pub returns-clause-standing : goal.returns-clause-standing
-returns-clause-standing c =
-    (at_end c.args.topology.now.cluster c.args.event.now c.args.id _ _ _ c.change_at.result c.requires.shards c.requires.one (c.index_of_shard-place.ensures ∙ ap (shard_of c.args.id) (omega (arith, c.len.ensures, c.args.shards.now.ok.0))) c.change_at.ensures.changed c.change_at.ensures.same).2 c.requires.standing
+pub returns-clause-up_to_date : goal.returns-clause-up_to_date
+returns-clause-up_to_date c =
+    (at_end c.args.topology.now.cluster c.args.event.now c.args.id _ _ _ c.change_at.result c.requires.shards c.requires.one (c.index_of_shard-place.ensures ∙ ap (shard_of c.args.id) (omega (arith, c.len.ensures, c.args.shards.now.ok.0))) c.change_at.ensures.changed c.change_at.ensures.same).2 c.requires.up_to_date
 
 pub returns-clause-shards : goal.returns-clause-shards
 returns-clause-shards c =
@@ -32,4 +32,4 @@ returns-clause-unchanged c =
 
 pub returns-clause-still : goal.returns-clause-still
 returns-clause-still c =
-    (at_end c.args.topology.now.cluster c.args.event.now c.args.id _ _ _ c.change_at.result c.requires.shards c.requires.one (c.index_of_shard-place.ensures ∙ ap (shard_of c.args.id) (omega (arith, c.len.ensures, c.args.shards.now.ok.0))) c.change_at.ensures.changed c.change_at.ensures.same).6 c.requires.standing
+    (at_end c.args.topology.now.cluster c.args.event.now c.args.id _ _ _ c.change_at.result c.requires.shards c.requires.one (c.index_of_shard-place.ensures ∙ ap (shard_of c.args.id) (omega (arith, c.len.ensures, c.args.shards.now.ok.0))) c.change_at.ensures.changed c.change_at.ensures.same).6 c.requires.up_to_date

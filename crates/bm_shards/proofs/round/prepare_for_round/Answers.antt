@@ -23,7 +23,7 @@ returns-in-Ok-clause-ready g c =
     let each = still_taken P _ _ _ (ap (λ v. v.items) c.replace-items.ensures.value) c.prepare_round_all-made.ensures.each in
     on_ok _ _
     (subst (All (CanCommitRound c.args.topology.now.cluster c.args.parts.now c.args.chosen.now)) (sym c.gather_prepared.ensures.shards)
-    (all_ready_for_round c.args.topology.now.cluster c.args.chosen.now c.args.parts.now _ _ each c.requires.parts c.requires.standing c.requires.counted (sym c.gather_prepared.ensures.outcome ∙ c.in-Ok.is)))
+    (all_ready_for_round c.args.topology.now.cluster c.args.chosen.now c.args.parts.now _ _ each c.requires.parts c.requires.up_to_date c.requires.counted (sym c.gather_prepared.ensures.outcome ∙ c.in-Ok.is)))
 
 pub returns-in-Err-clause-same : goal.returns-in-Err-clause-same
 returns-in-Err-clause-same g c =

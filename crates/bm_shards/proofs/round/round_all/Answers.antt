@@ -9,11 +9,11 @@ use Rattle.bm_shards.proofs.Findings.{can_find, have_parts}
 use Rattle.bm_shards.proofs.Choices.{wished_once, transfers_of_all, deletes_of_all}
 use Rattle.bm_shards.proofs.Gathered.{on_err}
 use Rattle.bm_shards.proofs.RoundsTaken.{all_counted}
-use Rattle.bm_shards.proofs.RoundEnd.{end_shards, end_stands, end_took, end_held, still_are, still_held, still_stand, still_took, all_commands}
+use Rattle.bm_shards.proofs.RoundEnd.{end_shards, end_up_to_date, end_took, end_held, still_are, still_held, all_still_up_to_date, still_took, all_commands}
 use Rattle.bm_shards.proofs.round.round_all.Goals as goal
 
 pub find_round-requires-clause-shards : goal.find_round-requires-clause-shards
-find_round-requires-clause-shards g c = can_find c.args.topology.now.cluster c.args.last c.args.config.now.pend _ c.requires.standing c.requires.rounds
+find_round-requires-clause-shards g c = can_find c.args.topology.now.cluster c.args.last c.args.config.now.pend _ c.requires.up_to_date c.requires.rounds
 
 pub find_round-requires-clause-one_wish : goal.find_round-requires-clause-one_wish
 find_round-requires-clause-one_wish g c =
@@ -56,9 +56,9 @@ returns-clause-shards g c =
     end_shards c.args.topology.now.cluster (limits_of c.args.config.now) c.args.last c.args.shards.now.items c.requires.shards c.requires.rounds c.in_ok-found.found.choice.chosen _ _ _ _
     c.find_round.ensures.shards c.take_round.ensures.taken c.in_ok-take_round.was
 
-pub returns-clause-standing : goal.returns-clause-standing
-returns-clause-standing g c =
-    end_stands c.args.topology.now.cluster (limits_of c.args.config.now) c.args.last c.args.shards.now.items c.requires.shards c.requires.rounds c.in_ok-found.found.choice.chosen _ _ _ _
+pub returns-clause-up_to_date : goal.returns-clause-up_to_date
+returns-clause-up_to_date g c =
+    end_up_to_date c.args.topology.now.cluster (limits_of c.args.config.now) c.args.last c.args.shards.now.items c.requires.shards c.requires.rounds c.in_ok-found.found.choice.chosen _ _ _ _
     c.find_round.ensures.shards c.take_round.ensures.taken c.in_ok-take_round.was
 
 pub returns-clause-rounds : goal.returns-clause-rounds
@@ -71,10 +71,10 @@ returns-in_err-take_round-clause-shards g c =
     still_are c.args.topology.now.cluster (limits_of c.args.config.now) c.args.last c.args.shards.now.items c.requires.shards c.requires.rounds _ _ _ _
     c.find_round.ensures.shards c.take_round.ensures.same c.in_err-take_round.was
 
-pub returns-in_err-take_round-clause-standing : goal.returns-in_err-take_round-clause-standing
-returns-in_err-take_round-clause-standing g c =
-    still_stand c.args.topology.now.cluster (limits_of c.args.config.now) c.args.last c.args.shards.now.items c.requires.shards c.requires.rounds _ _ _ _
-    c.find_round.ensures.shards c.take_round.ensures.same c.in_err-take_round.was c.requires.standing
+pub returns-in_err-take_round-clause-up_to_date : goal.returns-in_err-take_round-clause-up_to_date
+returns-in_err-take_round-clause-up_to_date g c =
+    all_still_up_to_date c.args.topology.now.cluster (limits_of c.args.config.now) c.args.last c.args.shards.now.items c.requires.shards c.requires.rounds _ _ _ _
+    c.find_round.ensures.shards c.take_round.ensures.same c.in_err-take_round.was c.requires.up_to_date
 
 pub returns-in_err-take_round-clause-unchanged : goal.returns-in_err-take_round-clause-unchanged
 returns-in_err-take_round-clause-unchanged g c =

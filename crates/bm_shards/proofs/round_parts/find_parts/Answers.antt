@@ -9,11 +9,11 @@ use Rattle.bm_shards.specs.Answers.{HasAnswered}
 use Rattle.bm_shards.proofs.SameShards.{still_taken}
 use Rattle.bm_shards.proofs.round_parts.find_parts.Goals as goal
 
-abbrev told : Cluster → Option (ℕ × ℕ) → Seen → RoundPart
-told C bound S = part_before bound (next_part C S)
+abbrev part_of : Cluster → Option (ℕ × ℕ) → Seen → RoundPart
+part_of C bound S = part_before bound (next_part C S)
 
 pub returns : goal.returns
 returns g c =
-    let f = told c.args.topology.now.cluster c.args.bound in
+    let f = part_of c.args.topology.now.cluster c.args.bound in
     let all = c.gather_answers.ensures f c.args.shards.now.items (still_taken (HasAnswered f) _ _ _ (ap (λ v. v.items) c.replace-items.ensures.value) c.find_all-found.ensures.each) in
     record { shards = all.shards; parts = all.answers; refused = all.refused }

@@ -10,5 +10,5 @@ invariant-loop l = record {
   count : vec_len l.locators ≡ l.counter;
   seen : HasSeen (sight l.writer.desk.place) l.journal.home (opening ∷ []);
   shown : l.writer.desk.shown.value ≡ l.fn.writer.desk.shown.value;
-  each : All (λ (k : Learnt). k ≡ record { home = l.journal.home; list = opening ∷ []; told = [] }) l.locators.items;
+  each : All (λ (k : Learnt). k ≡ record { home = l.journal.home; list = opening ∷ []; learnt = [] }) l.locators.items;
 }

@@ -14,5 +14,5 @@ returns-clause-no_older g c =
     if_some c.locate.result _ _ c.locate.ensures.no_older
     (λ (seen : Located) h.
     subst (λ n. n ≤ seen.calls) is
-    (last_learnt c.args.locator.now.told c.in_ok-receipt.receipt.list seen.calls
-    (subst (λ told. All (λ known. (last_of known).calls ≤ seen.calls) told) c.learn.ensures.told h)))
+    (last_learnt c.args.locator.now.learnt c.in_ok-receipt.receipt.list seen.calls
+    (subst (λ learnt. All (λ known. (last_of known).calls ≤ seen.calls) learnt) c.learn.ensures.learnt h)))

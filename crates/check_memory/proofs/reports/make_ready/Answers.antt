@@ -6,7 +6,7 @@ use Rattle.bm_base.specs.declared.replica.Marks.{Marks}
 use Rattle.bm_base.specs.Words.{Map, empty, get, Cluster, by_replica}
 use Rattle.bm_base.proofs.MapLaws.{get-empty}
 use Rattle.bm_arena.specs.Contents.{Contents}
-use Rattle.bm_arena.specs.Holding.{replicas_of, replicas_among}
+use Rattle.bm_arena.specs.HeldMaps.{replicas_of, replicas_among}
 use Rattle.bm_report.specs.DuringReport.{IsOncePerNode}
 use Rattle.bm_report.specs.Ready.{HasGoodExcess}
 use Rattle.check_memory.proofs.reports.make_ready.Goals as goal

@@ -1,6 +1,6 @@
 use Rattle.std.proofs.Common.{◌∙◌}
 use Rattle.cluster_report.specs.Catalogues.{len_of}
-use Rattle.cluster_report.specs.Counting.{tag_bytes}
+use Rattle.cluster_report.specs.TagTotals.{tag_bytes}
 use Rattle.cluster_report.proofs.LengthLemmas.{tag_bytes_are}
 use Rattle.cluster_report.proofs.report.held_tag_bytes.Goals as goal
 

@@ -1,7 +1,7 @@
 use Rattle.std.proofs.Common.{◌≡◌, ◌≤◌, ◌*◌, take}
 use Rattle.bm_base.specs.Machine.Replicas.{is_bad}
 use Rattle.cluster_report.specs.Catalogues.{len_in}
-use Rattle.cluster_report.specs.Counting.{bytes_where}
+use Rattle.cluster_report.specs.TagTotals.{bytes_where}
 use Rattle.cluster_report.proofs.tag_counts.bad_bytes.Given as goal
 
 abbrev pub invariant-loop-replica : goal.invariant-loop-replica

@@ -1,14 +1,14 @@
 use Rattle.std.proofs.Common.{◌<◌, length, subst, sym, ◌∙◌, arith}
 use Rattle.std.specs.Io.BufRead.{drop_through}
 use Rattle.fsck_import.specs.Lines.{IsReadFault}
-use Rattle.fsck_import.proofs.ReadLemmas.{Reads, each_some, end_told, reads_line, told_more, refused_more}
+use Rattle.fsck_import.proofs.ReadLemmas.{Reads, each_some, end_read, reads_line, read_more, refused_more}
 use Rattle.fsck_import.proofs.lines.take_lines.Goals as goal
 
 pub returns-in-Ok-eq0-clause-text : goal.returns-in-Ok-eq0-clause-text
 returns-in-Ok-eq0-clause-text g c =
     each_some _ (λ text e.
     let left = c.loop-number.invariant text e in
-    left.2 ∙ end_told g.T.TakesLines.after _ left.0 c.loop-number.number c.loop-number.taker left.1 (c.in-Ok-eq0.ensures.end c.in-Ok-eq0.field-0-test))
+    left.2 ∙ end_read g.T.TakesLines.after _ left.0 c.loop-number.number c.loop-number.taker left.1 (c.in-Ok-eq0.ensures.end c.in-Ok-eq0.field-0-test))
 
 pub returns-in-Err-take_numbered-clause-refused : goal.returns-in-Err-take_numbered-clause-refused
 returns-in-Err-take_numbered-clause-refused g c =
@@ -27,6 +27,6 @@ loop-number-preserved g c = λ text e.
     let reads : Reads left.0 c.read_until.new.buf.items (g.R.Read.remaining c.read_until.new.self) = reads_line _ _ left.0 c.clear.new.self.items c.read_until.new.buf.items left.1 c.in-Ok.ensures.bytes c.in-Ok.ensures.rest c.clear.ensures.items some in (
       drop_through 10 left.0,
       reads.left_is,
-      left.2 ∙ told_more g.T.TakesLines.after c.loop-number.number c.loop-number.taker c.take_numbered.new.taker left.0 c.without_end-text.result.now c.read_until.new.buf.items _ reads
+      left.2 ∙ read_more g.T.TakesLines.after c.loop-number.number c.loop-number.taker c.take_numbered.new.taker left.0 c.without_end-text.result.now c.read_until.new.buf.items _ reads
           (rw c.as_slice.ensures.value at c.without_end-text.ensures) c.in_default.ensures.ok,
     )

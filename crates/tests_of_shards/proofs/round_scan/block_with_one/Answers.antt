@@ -11,7 +11,7 @@ use Rattle.bm_base.proofs.MapLaws.{get-empty, get-insert}
 use Rattle.bm_base.proofs.MapEntries.{same_key, get_kept}
 use Rattle.bm_base.proofs.Options.{there, is_there}
 use Rattle.bm_arena.specs.Contents.{Contents}
-use Rattle.bm_arena.specs.Holding.{replicas_of, holdings_of}
+use Rattle.bm_arena.specs.HeldMaps.{replicas_of, holdings_of}
 use Rattle.bm_levels.specs.Leveled.{AreLevels}
 use Rattle.tests_of_shards.proofs.round_scan.block_with_one.Goals as goal
 
@@ -45,10 +45,10 @@ held : (a : Contents) → (holdings_of a).replicas ≡ replicas_of a
 unfolding holdings_of
 held a = refl
 
-pub receive-requires-clause-told : goal.receive-requires-clause-told
-receive-requires-clause-told g c =
+pub receive-requires-clause-reported : goal.receive-requires-clause-reported
+receive-requires-clause-reported g c =
     let same : c.stamp-2.result ≡ c.stamp-3.result = c.stamp-2.ensures ∙ sym c.stamp-3.ensures in
-    on_ok c.ready_notice.result _ _ c.expect-2.ensures c.ready_notice.ensures.told ∙ ap (λ (s : Stamp). record { id = 7; stamp = s } ∷ []) same
+    on_ok c.ready_notice.result _ _ c.expect-2.ensures c.ready_notice.ensures.reported ∙ ap (λ (s : Stamp). record { id = 7; stamp = s } ∷ []) same
 
 pub receive-requires-clause-once : goal.receive-requires-clause-once
 receive-requires-clause-once g c p q here also same =

@@ -4,7 +4,7 @@ use Rattle.std.specs.Option.{option_map}
 use Rattle.bm_arena.proofs.KeptLinks.{set_info-arena, set_info-lists, set_info-blocks}
 use Rattle.bm_arena.proofs.Bounds.{below-changed}
 use Rattle.bm_arena.specs.Contents.{Contents, block_at, marks_at, with_info, IsLawful, KeepsAllBut}
-use Rattle.bm_arena.specs.Holding.{replicas_of, blocks_of}
+use Rattle.bm_arena.specs.HeldMaps.{replicas_of, blocks_of}
 use Rattle.bm_arena.proofs.ChangedBlock.{changed-here, keeps-changed}
 use Rattle.bm_arena.proofs.SetInfo.{info-marks, info-replicas, info-blocks}
 use Rattle.bm_arena.proofs.arena.Arena.set_info.Goals as goal

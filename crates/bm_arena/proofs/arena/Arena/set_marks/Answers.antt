@@ -29,8 +29,8 @@ lawful_before c = rw (← c.self.view_is) (IsLawful-arena c.self.inside.slots _ 
 pub returns-clause-marks : goal.returns-clause-marks
 returns-clause-marks c = (marks_set c.args.self.now _ c.args.slot c.args.storage c.args.marks (lawful_before c) (returns-clause-after c)).marks
 
-pub returns-clause-beside : goal.returns-clause-beside
-returns-clause-beside c = (marks_set c.args.self.now _ c.args.slot c.args.storage c.args.marks (lawful_before c) (returns-clause-after c)).beside
+pub returns-clause-other_storages : goal.returns-clause-other_storages
+returns-clause-other_storages c = (marks_set c.args.self.now _ c.args.slot c.args.storage c.args.marks (lawful_before c) (returns-clause-after c)).other_storages
 
 pub returns-clause-others : goal.returns-clause-others
 returns-clause-others c = (marks_set c.args.self.now _ c.args.slot c.args.storage c.args.marks (lawful_before c) (returns-clause-after c)).others

@@ -7,7 +7,7 @@ use Rattle.bm_levels.proofs.StatusUpdates.{IsUnderway}
 use Rattle.bm_levels.proofs.level_index.LevelIndex.classify_all.Given as goal
 
 -- the slots so far are classified, and there is capacity for all
-pub record AreJudgedSoFar (l : goal.Live-loop-chunk) : Type 0 where
+pub record AreClassifiedSoFar (l : goal.Live-loop-chunk) : Type 0 where
   pub finite : goal.iterator-loop-chunk.is_finite l.chunk-iterator
   pub size : chunks_size l.chunk-iterator ≡ 64
   pub underway : IsUnderway (rack_after l.cluster_after) (drains_after l.cluster_after) l.cluster_after.multi l.arena l.slots (chunks_rest l.chunk-iterator) l.initial.self l.self
@@ -15,4 +15,4 @@ pub record AreJudgedSoFar (l : goal.Live-loop-chunk) : Type 0 where
   pub room : (bound : ℕ) → HasCapacityFor l.initial.self bound → HasCapacityFor l.self bound
 
 abbrev pub invariant-loop-chunk : goal.invariant-loop-chunk
-invariant-loop-chunk l = AreJudgedSoFar l
+invariant-loop-chunk l = AreClassifiedSoFar l

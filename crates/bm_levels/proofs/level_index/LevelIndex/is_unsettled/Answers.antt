@@ -14,12 +14,12 @@ absent xs x none = by (cases_Bool (has xs x))
     by (inl h) = absurd (none (has_among xs x h))
     by (inr h) = h
 
-told : (b : Bool) (xs : List ℕ) (x : ℕ) → (IsTrue b ↔ IsMember x xs) → b ≡ has xs x
-told true xs x h = sym (among_has xs x (h.0 refl))
-told false xs x h = sym (absent xs x (λ there. true≢false (sym (h.1 there))))
+decided : (b : Bool) (xs : List ℕ) (x : ℕ) → (IsTrue b ↔ IsMember x xs) → b ≡ has xs x
+decided true xs x h = sym (among_has xs x (h.0 refl))
+decided false xs x h = sym (absent xs x (λ there. true≢false (sym (h.1 there))))
 
 pub returns-then-slot-room : goal.returns-then-slot-room
-returns-then-slot-room c = told c.contains.result c.args.self.now.unsettled.slots c.args.slot (rw (← c.self.view_is) c.contains.ensures)
+returns-then-slot-room c = decided c.contains.result c.args.self.now.unsettled.slots c.args.slot (rw (← c.self.view_is) c.contains.ensures)
 
 pub returns-else-slot-room : goal.returns-else-slot-room
 returns-else-slot-room c =

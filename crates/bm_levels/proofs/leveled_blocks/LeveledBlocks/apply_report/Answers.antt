@@ -6,7 +6,7 @@ use Rattle.bm_base.specs.Machine.Replicas.{rack_of, is_draining, is_multi_rack}
 use Rattle.bm_arena.specs.Contents.{block_at}
 use Rattle.bm_levels.specs.IndexedLevels.{IsClassified, IsSameAt}
 use Rattle.bm_levels.specs.Leveled.{Leveled, AreLevels}
-use Rattle.bm_report.specs.Ready.{IsReportedAt, reported_blocks as told_by}
+use Rattle.bm_report.specs.Ready.{IsReportedAt, reported_blocks as blocks_of_report}
 use Rattle.bm_levels.proofs.OneSlot.{held_by}
 use Rattle.bm_levels.proofs.ManySlots.{leveled_reported, levels_reported}
 use Rattle.bm_levels.proofs.leveled_blocks.LeveledBlocks.apply_report.Goals as goal
@@ -61,5 +61,5 @@ pub returns-clause-came : goal.returns-clause-came
 returns-clause-came c slot m =
     elim (c.apply_full-applied.ensures.came slot m) [
       | inl old ↦ let P : List ℕ → Type 0 = λ l. IsMember slot l in absurd (subst P c.requires.fresh old)
-      | inr reported_blocks ↦ let P : Leveled → Type 0 = λ v. IsReportedAt v.arena (told_by c.args.report.now) slot in subst P c.self.view_is reported_blocks
+      | inr reported_blocks ↦ let P : Leveled → Type 0 = λ v. IsReportedAt v.arena (blocks_of_report c.args.report.now) slot in subst P c.self.view_is reported_blocks
     ]

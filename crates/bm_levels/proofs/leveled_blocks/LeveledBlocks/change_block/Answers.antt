@@ -3,7 +3,7 @@ use Rattle.std.specs.Prelude.{◌==◌, if◌then◌else◌, nat_eq}
 use Rattle.std.specs.Map.{lookup}
 use Rattle.bm_base.specs.Maps.Map.{revise}
 use Rattle.bm_arena.specs.Contents.{slot_of, KeepsAllBut}
-use Rattle.bm_arena.specs.Holding.{blocks_of, replicas_of, with_known}
+use Rattle.bm_arena.specs.HeldMaps.{blocks_of, replicas_of, with_known}
 use Rattle.bm_levels.specs.Changes.{changed}
 use Rattle.bm_levels.specs.Leveled.{Leveled, AreLevels}
 use Rattle.bm_levels.proofs.AllMarks.{keeps_then, block_replicas, block_known}

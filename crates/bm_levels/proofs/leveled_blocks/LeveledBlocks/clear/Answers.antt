@@ -9,4 +9,4 @@ loop-self-init c =
     let a = c.args.self.now.arena in
     let P : Contents → Type 0 = λ x. (slot : ℕ) → IsSome (block_at x slot) → slot < c.slot_bound-bound.result in
     let few = few_on a (subst IsLawful c.arena.ensures c.show_invariant.ensures) c.args.storage c.slot_bound-bound.result (subst P c.arena-2.ensures c.slot_bound-bound.ensures.above) in
-    record { left = leaving_none (λ s. s == c.args.storage) a; few = omega (arith, few); bare = λ b h. h; fewer = λ s h. h; levels = λ h. h }
+    record { left = leaving_none (λ s. s == c.args.storage) a; few = omega (arith, few); unused = λ b h. h; fewer = λ s h. h; levels = λ h. h }

@@ -1,6 +1,6 @@
 use Rattle.std.proofs.Common.{◌≤◌, ◌<◌, ◌+◌, ◌*◌, ◌^◌}
 use Rattle.bm_levels.specs.Unused.{MakesNoUnused}
-use Rattle.bm_levels.specs.Leaving.{IsLeaving, MakesNoHead}
+use Rattle.bm_levels.specs.LeavingReplicas.{IsLeaving, MakesNoHead}
 use Rattle.bm_levels.specs.ClusterAfter.{is_on_node, KeepsLevelsAfter}
 use Rattle.bm_levels.proofs.leveled_blocks.LeveledBlocks.clear_four_at_a_time.Given as goal
 
@@ -9,7 +9,7 @@ pub record AreLeaving (l : goal.Live-loop-storage) : Type 0 where
   pub left : IsLeaving (is_on_node l.cluster_after l.node) l.initial.self.arena l.self.arena l.removed
   pub few : l.removed ≤ l.storage-index * (2 ^ 66 + 256)
   pub next : l.count < 4
-  pub bare : MakesNoUnused l.initial.self.arena l.self.arena
+  pub unused : MakesNoUnused l.initial.self.arena l.self.arena
   pub fewer : MakesNoHead l.initial.self.arena l.self.arena
   pub levels : KeepsLevelsAfter l.cluster_after l.initial.self l.self
 

@@ -1,6 +1,6 @@
 use Rattle.std.proofs.Common.{◌≡◌, ◌+◌, subst, sym, arith}
 use Rattle.bm_base.specs.Machine.Excess.{with_excess_reset}
-use Rattle.bm_arena.specs.Holding.{replicas_at}
+use Rattle.bm_arena.specs.HeldMaps.{replicas_at}
 use Rattle.bm_levels.specs.IndexedLevels.{IsUnsettled}
 use Rattle.bm_levels.specs.Changes.{changed, all_changed}
 use Rattle.bm_levels.specs.Leveled.{Leveled, AreLevels}

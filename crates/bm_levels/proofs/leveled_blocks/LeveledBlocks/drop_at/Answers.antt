@@ -22,10 +22,10 @@ returns-then-not-is_delimiter-clause-left c =
     unused_gone c.args.self.now.arena c.drop_if_unused.new.self.arena c.args.slot d.blocks d.replicas d.numbers d.gone
 
 pub returns-else-has_no_replicas-clause-left : goal.returns-else-has_no_replicas-clause-left
-returns-else-has_no_replicas-clause-left c b at bare =
+returns-else-has_no_replicas-clause-left c b at unused =
     let P : Leveled → Type 0 = λ v. slot_of v.arena b ≡ Some c.args.slot in
     let Q : Leveled → Type 0 = λ v. IsUnused v.arena b in
-    let some = unused_there c.self.inside.arena b c.args.slot c.show_invariant.ensures (subst P (sym c.self.view_is) at) (subst Q (sym c.self.view_is) bare) in
+    let some = unused_there c.self.inside.arena b c.args.slot c.show_invariant.ensures (subst P (sym c.self.view_is) at) (subst Q (sym c.self.view_is) unused) in
     elim c.else-has_no_replicas.branch [
       | else-has_no_replicas-via-then-has_no_replicas+else-not-is_delimiter w ↦ absurd ((c.show_invariant.ensures.found b c.args.slot (subst P (sym c.self.view_is) at)).0 (w.is_delimiter.ensures.0 w.if-not-is_delimiter.false))
       | else-has_no_replicas-via-else-has_no_replicas w ↦ false≢true (sym w.if-has_no_replicas.false ∙ c.has_no_replicas.ensures.1 some)

@@ -18,11 +18,11 @@ loop-slot-preserved c =
       blocks = d.blocks ∙ h.blocks;
       replicas = d.replicas ∙ h.replicas;
       slots = λ b some. d.slots b some ∙ h.slots b (some_before (d.slots b some) some);
-      left = λ b slot there at bare.
-          let was : IsUnused now b = unused_held now new b (some_before (d.slots b bare.entry) bare.entry) d.blocks d.replicas bare in
+      left = λ b slot there at unused.
+          let was : IsUnused now b = unused_held now new b (some_before (d.slots b unused.entry) unused.entry) d.blocks d.replicas unused in
           let P : List ℕ → Type 0 = λ l. IsMember slot l in
           elim (subst P next (h.left b slot there at was)) [
-            | inl same ↦ absurd (d.left b (h.slots b was.entry ∙ at ∙ ap (λ x. Some x) same) bare)
+            | inl same ↦ absurd (d.left b (h.slots b was.entry ∙ at ∙ ap (λ x. Some x) same) unused)
             | inr later ↦ later
           ];
       lists = d.lists ∙ h.lists;

@@ -2,7 +2,7 @@ use Rattle.std.proofs.Common.{◌≡◌, ℕ, Bool, Option, Some, None, not, sub
 use Rattle.std.specs.Prelude.{◌≢◌, IsSome}
 use Rattle.bm_base.specs.Words.{Cluster, rack_of, is_draining, is_multi_rack}
 use Rattle.bm_arena.specs.Contents.{slot_of}
-use Rattle.bm_arena.specs.Holding.{blocks_of, replicas_of}
+use Rattle.bm_arena.specs.HeldMaps.{blocks_of, replicas_of}
 use Rattle.bm_base.proofs.Options.{not_there}
 use Rattle.bm_levels.specs.Leveled.{Leveled, AreLevels}
 use Rattle.bm_levels.specs.LevelsBy.{AreLevelsBy}

@@ -2,7 +2,7 @@ use Rattle.std.proofs.Common.{◌≡◌, ℕ, Bool, subst}
 use Rattle.bm_base.specs.Machine.Replicas.{rack_of, is_draining, has_storage}
 use Rattle.bm_arena.specs.Contents.{Contents, IsLawful}
 use Rattle.bm_levels.specs.Status.{drains_after_change}
-use Rattle.bm_levels.specs.Leaving.{IsLeaving}
+use Rattle.bm_levels.specs.LeavingReplicas.{IsLeaving}
 use Rattle.bm_levels.specs.LevelsBy.{AreLevelsBy}
 use Rattle.bm_levels.proofs.LeavingReplicas.{kept_others, count_is}
 use Rattle.bm_levels.proofs.UpToDate.{levels_dead}

@@ -1,7 +1,7 @@
 use Rattle.std.proofs.Common.{◌∙◌, sym}
 use Rattle.bm_base.specs.Words.{replica_at, as_bad}
 use Rattle.bm_maps.proofs.ReplaceLaws.{no_change}
-use Rattle.bm_arena.specs.Holding.{replicas_of}
+use Rattle.bm_arena.specs.HeldMaps.{replicas_of}
 use Rattle.bm_report.proofs.Maps.{get-here}
 use Rattle.bm_levels.proofs.RevisedHoldings.{put_changed, replica_absent}
 use Rattle.bm_levels.proofs.leveled_blocks.LeveledBlocks.make_bad.Goals as goal

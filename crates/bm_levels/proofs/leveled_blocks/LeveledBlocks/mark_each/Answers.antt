@@ -4,7 +4,7 @@ use Rattle.std.specs.Map.{lookup}
 use Rattle.std.proofs.lemmas.Grind.{common_steps}
 use Rattle.std.proofs.lemmas.Bool.{true≢false}
 use Rattle.bm_base.specs.Maps.Map.{revise}
-use Rattle.bm_arena.specs.Holding.{replicas_of}
+use Rattle.bm_arena.specs.HeldMaps.{replicas_of}
 use Rattle.bm_arena.proofs.StableEntries.{entries-none, entries-chain}
 use Rattle.bm_levels.proofs.ListedMarks.{excess_by, excess_next, excess_end}
 use Rattle.bm_levels.proofs.DroppedMarks.{block_listed}

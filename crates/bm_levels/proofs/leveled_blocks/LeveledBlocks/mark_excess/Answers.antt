@@ -1,7 +1,7 @@
 use Rattle.std.proofs.Common.{◌∙◌, sym, ap}
 use Rattle.bm_base.specs.Maps.Map.{insert}
 use Rattle.bm_maps.proofs.ReplaceLaws.{no_change}
-use Rattle.bm_arena.specs.Holding.{replicas_of}
+use Rattle.bm_arena.specs.HeldMaps.{replicas_of}
 use Rattle.bm_report.proofs.Maps.{get-here}
 use Rattle.bm_levels.specs.Changes.{as_excess}
 use Rattle.bm_levels.proofs.RevisedHoldings.{put_changed, replica_absent}

@@ -4,7 +4,7 @@ use Rattle.std.specs.Map.{lookup}
 use Rattle.std.proofs.lemmas.List.Sums.{prefix_len-le-length}
 use Rattle.bm_base.specs.declared.replica.ReplicaId.{ReplicaId}
 use Rattle.bm_base.specs.Maps.Map.{revise}
-use Rattle.bm_arena.specs.Holding.{replicas_of}
+use Rattle.bm_arena.specs.HeldMaps.{replicas_of}
 use Rattle.bm_arena.proofs.StableEntries.{entries-chain}
 use Rattle.bm_levels.specs.Changes.{has_block, AreOfBlock, AreInOrder}
 use Rattle.bm_levels.proofs.ListedMarks.{excess_by, excess_end}

@@ -2,7 +2,7 @@ use Rattle.std.proofs.Common.{◌≡◌, ℕ, Some, false, subst, sym, ap, ◌�
 use Rattle.std.proofs.lemmas.Bool.{cases_eq, true≢false}
 use Rattle.bm_base.specs.Maps.Map.{revise}
 use Rattle.bm_arena.specs.Contents.{block_at, slot_of}
-use Rattle.bm_arena.specs.Holding.{replicas_of}
+use Rattle.bm_arena.specs.HeldMaps.{replicas_of}
 use Rattle.bm_levels.specs.Changes.{excess_on, has_block}
 use Rattle.bm_levels.specs.Leveled.{Leveled, AreLevels}
 use Rattle.bm_levels.proofs.AllMarks.{block_replicas}

@@ -1,7 +1,7 @@
 use Rattle.std.proofs.Common.{◌≢◌, ◌≡◌, ℕ, Some, not, subst, sym, ap, ◌∙◌}
 use Rattle.bm_base.specs.Machine.State.{Cluster}
 use Rattle.bm_arena.specs.Contents.{Contents, block_at, slot_of, empty_block, IsAdded}
-use Rattle.bm_arena.specs.Holding.{blocks_of, replicas_of}
+use Rattle.bm_arena.specs.HeldMaps.{blocks_of, replicas_of}
 use Rattle.bm_base.proofs.Options.{not_there}
 use Rattle.bm_levels.specs.Leveled.{Leveled, AreLevels}
 use Rattle.bm_report.proofs.SingleReplicas.{ok_then}
@@ -69,4 +69,4 @@ returns-then-is_err-clause-others c =
 pub returns-then-is_err-clause-given_up : goal.returns-then-is_err-clause-given_up
 returns-then-is_err-clause-given_up c =
     let P : Leveled → Type 0 = λ v. MakesNoUnused v.arena c.drop_entry.new.self in
-    subst P c.self.view_is (λ b bare. unused_held c.self.inside.arena c.drop_entry.new.self b (some_before (numbers c b) bare.entry) (blocks_again c.self.inside.arena c.drop_entry.new.self (again c) (numbers c)) (replicas_again c.self.inside.arena c.drop_entry.new.self (again c) (numbers c)) bare)
+    subst P c.self.view_is (λ b unused. unused_held c.self.inside.arena c.drop_entry.new.self b (some_before (numbers c b) unused.entry) (blocks_again c.self.inside.arena c.drop_entry.new.self (again c) (numbers c)) (replicas_again c.self.inside.arena c.drop_entry.new.self (again c) (numbers c)) unused)

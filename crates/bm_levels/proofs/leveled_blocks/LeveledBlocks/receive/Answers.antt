@@ -21,7 +21,7 @@ led a (n ∷ ns) t slot e at h =
     ap (λ (x : ReportedBlock). slot_of a x.id) (sym same) ∙ h.0 ∙ ap (λ x. Some x) here
 
 pub slot_of_one-slot-requires : goal.slot_of_one-slot-requires
-slot_of_one-slot-requires c = one c.args.report.now.named c.requires.told
+slot_of_one-slot-requires c = one c.args.report.now.named c.requires.reported
   where
     one : (ns : List ReportedSlot) {t : ReportedBlock} → map reported_of ns ≡ t ∷ [] → length ns ≡ 1
     one ns e = sym (length-map ns reported_of) ∙ ap length e
@@ -35,15 +35,15 @@ room_at : (v w : Leveled) (r : LookedUpReport) (id slot : ℕ) (stamp : Stamp) �
 room_at v w r id slot stamp same is at here lawful h = (slot + 1, omega arith, h.room slot (held_by v.arena slot (lawful.found id slot (found v w r id slot stamp same is at here))))
 
 pub status_at-was-requires : goal.status_at-was-requires
-status_at-was-requires c = record { room = room_at (record { arena = c.self.inside.arena; kept = c.self.inside.kept }) c.args.self.now c.args.report.now c.args.id c.slot_of_one-slot.result c.args.stamp c.self.view_is c.requires.told c.slot_of_one-slot.ensures c.requires.looked_up.here c.show_invariant.ensures c.self.invariant }
+status_at-was-requires c = record { room = room_at (record { arena = c.self.inside.arena; kept = c.self.inside.kept }) c.args.self.now c.args.report.now c.args.id c.slot_of_one-slot.result c.args.stamp c.self.view_is c.requires.reported c.slot_of_one-slot.ensures c.requires.looked_up.here c.show_invariant.ensures c.self.invariant }
 
 pub update_from-requires-clause-room : goal.update_from-requires-clause-room
-update_from-requires-clause-room c = room_at (record { arena = c.self.inside.arena; kept = c.self.inside.kept }) c.args.self.now c.args.report.now c.args.id c.slot_of_one-slot.result c.args.stamp c.self.view_is c.requires.told c.slot_of_one-slot.ensures c.requires.looked_up.here c.show_invariant.ensures c.self.invariant
+update_from-requires-clause-room c = room_at (record { arena = c.self.inside.arena; kept = c.self.inside.kept }) c.args.self.now c.args.report.now c.args.id c.slot_of_one-slot.result c.args.stamp c.self.view_is c.requires.reported c.slot_of_one-slot.ensures c.requires.looked_up.here c.show_invariant.ensures c.self.invariant
 
 changed : (c : goal.After-update_from) → IsChangedAt c.self.inside.arena c.apply_received-applied.new.arena c.slot_of_one-slot.result
 changed c =
     let r = c.apply_received-applied.ensures in
-    let at = found (record { arena = c.self.inside.arena; kept = c.self.inside.kept }) c.args.self.now c.args.report.now c.args.id c.slot_of_one-slot.result c.args.stamp c.self.view_is c.requires.told c.slot_of_one-slot.ensures c.requires.looked_up.here in
+    let at = found (record { arena = c.self.inside.arena; kept = c.self.inside.kept }) c.args.self.now c.args.report.now c.args.id c.slot_of_one-slot.result c.args.stamp c.self.view_is c.requires.reported c.slot_of_one-slot.ensures c.requires.looked_up.here in
     let entry = c.show_invariant.ensures.found c.args.id c.slot_of_one-slot.result at in
     record {
       blocks = λ other ne. r.others other (λ e. ne (same_Some _ _ (sym e ∙ at)));

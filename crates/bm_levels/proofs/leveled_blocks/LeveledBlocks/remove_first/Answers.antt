@@ -2,7 +2,7 @@ use Rattle.std.proofs.Common.{◌≡◌, ℕ, length, arith, subst, ap, ◌∙�
 use Rattle.std.specs.Prelude.{nat_eq, unwrap_or, [], ◌+◌}
 use Rattle.std.specs.Map.{lookup}
 use Rattle.bm_arena.specs.Contents.{list_of}
-use Rattle.bm_levels.specs.Leaving.{IsLeaving}
+use Rattle.bm_levels.specs.LeavingReplicas.{IsLeaving}
 use Rattle.bm_levels.specs.ClusterAfter.{rack_after, drains_after}
 use Rattle.bm_levels.proofs.LeavingReplicas.{leaving_same, leaving_more}
 use Rattle.bm_levels.proofs.Unused.{heads_same}
@@ -31,8 +31,8 @@ pub returns-clause-levels : goal.returns-clause-levels
 returns-clause-levels c h =
     c.drop_each.ensures.levels_by (rack_after c.args.cluster_after.now) (drains_after c.args.cluster_after.now) c.args.cluster_after.now.multi (c.remove_listed.ensures.levels h)
 
-pub returns-clause-bare : goal.returns-clause-bare
-returns-clause-bare c =
+pub returns-clause-unused : goal.returns-clause-unused
+returns-clause-unused c =
     let d = c.drop_each.ensures in
     let t = c.remove_listed.ensures in
     unused_taken c.args.self.now.arena c.remove_listed.new.self.arena c.drop_each.new.self.arena c.args.slots.now t.numbers t.others d.slots d.blocks d.replicas d.left

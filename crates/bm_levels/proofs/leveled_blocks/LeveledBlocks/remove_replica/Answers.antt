@@ -3,7 +3,7 @@ use Rattle.std.specs.Prelude.{is_some, nat_eq}
 use Rattle.std.specs.Map.{lookup}
 use Rattle.bm_base.specs.Words.{get, replica_at}
 use Rattle.bm_arena.specs.Contents.{slot_of}
-use Rattle.bm_arena.specs.Holding.{replicas_of, blocks_of, info_at}
+use Rattle.bm_arena.specs.HeldMaps.{replicas_of, blocks_of, info_at}
 use Rattle.bm_base.proofs.Options.{not_there}
 use Rattle.bm_report.proofs.Maps.{get-here}
 use Rattle.bm_levels.proofs.RevisedHoldings.{remove_absent, replica_absent, known_at, entry_left}
@@ -46,7 +46,7 @@ returns-clause-entry c =
     let unknown : info_at b slot ≡ None = sym (known_at b id slot still) ∙ ap (λ m. get m id) c.remove.ensures.blocks ∙ not_there (get (blocks_of a) id) absent in
     entry_left b c.drop_if_unused.new.self.arena id slot still c.drop_if_unused.ensures.replicas (λ none. c.drop_if_unused.ensures.gone id still none unknown)
 
-pub returns-clause-bare : goal.returns-clause-bare
-returns-clause-bare c =
+pub returns-clause-unused : goal.returns-clause-unused
+returns-clause-unused c =
     let d = c.drop_if_unused.ensures in
     unused_changed c.args.self.now.arena c.remove.new.self.arena c.drop_if_unused.new.self.arena c.in-Some.slot c.remove.ensures.rest.ids c.remove.ensures.rest.blocks d.blocks d.replicas d.numbers d.gone

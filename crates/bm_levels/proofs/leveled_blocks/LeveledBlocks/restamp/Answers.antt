@@ -2,7 +2,7 @@ use Rattle.std.proofs.Common.{◌∙◌, sym, ap}
 use Rattle.std.specs.Prelude.{option_map}
 use Rattle.bm_base.specs.Machine.Events.{as_restamped}
 use Rattle.bm_maps.proofs.ReplaceLaws.{no_change}
-use Rattle.bm_arena.specs.Holding.{blocks_of, with_known}
+use Rattle.bm_arena.specs.HeldMaps.{blocks_of, with_known}
 use Rattle.bm_levels.specs.Changes.{with_stamp}
 use Rattle.bm_levels.proofs.RevisedHoldings.{known_revised, known_at, block_absent, replicas_absent}
 use Rattle.bm_levels.proofs.leveled_blocks.LeveledBlocks.restamp.Goals as goal

@@ -4,7 +4,7 @@ use Rattle.bm_base.specs.Words.{rack_of, drain, undrain}
 use Rattle.bm_levels.specs.Status.{drains_after_change}
 use Rattle.bm_levels.specs.Leveled.{Leveled, AreLevels}
 use Rattle.bm_levels.proofs.LeavingReplicas.{held_on}
-use Rattle.bm_levels.proofs.Reclassified.{leveled_anew}
+use Rattle.bm_levels.proofs.Reclassified.{leveled_again}
 use Rattle.bm_levels.proofs.DrainChange.{drain_change, turned_all}
 use Rattle.bm_levels.proofs.leveled_blocks.LeveledBlocks.set_draining.Goals as goal
 
@@ -14,7 +14,7 @@ reclassify_node-requires c = λ slot storage there. c.self.invariant.room slot (
 pub invariant_of-self : goal.invariant_of-self
 invariant_of-self c =
     let C = c.args.topology.now.cluster in
-    leveled_anew (rack_of C) (drains_after_change C (Some (drain_change c.args.node c.args.drains))) c.multi_rack.result (record { arena = c.self.inside.arena; kept = c.self.inside.kept }) c.reclassify_node.new.self
+    leveled_again (rack_of C) (drains_after_change C (Some (drain_change c.args.node c.args.drains))) c.multi_rack.result (record { arena = c.self.inside.arena; kept = c.self.inside.kept }) c.reclassify_node.new.self
     (λ slot. elim (c.reclassify_node.ensures.each slot) [ inl status ↦ inl status | inr same ↦ inr same.0 ]) c.self.invariant c.reclassify_node.ensures.room
 
 pub returns-clause-levels : goal.returns-clause-levels

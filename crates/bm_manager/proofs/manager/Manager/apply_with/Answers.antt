@@ -10,5 +10,5 @@ invariant_of-self-in-Ok g c =
     let none = ap (λ N. refusal_of N c.args.event.now) c.self.view_is ∙ nothing_refused _ _ (sym c.check.ensures.refusal ∙ c.in_ok-check.was) in
     changed_manager m.config m.topology.cluster m.shards m.round m.calls c.self.invariant
     c.args.event.now c.prepare.new.self.cluster c.commit.new.self.cluster c.change.new.self c.fits.ensures none
-    c.prepare.ensures.same c.commit.ensures.after c.in-Ok.ensures.changed c.in-Ok.ensures.standing
+    c.prepare.ensures.same c.commit.ensures.after c.in-Ok.ensures.changed c.in-Ok.ensures.up_to_date
     (c.change.ensures.rounds _ _ c.self.invariant.taken)

@@ -19,4 +19,4 @@ invariant_of-self-2 g c =
     let rounds_left = subst (λ N. N.round < last_number) (sym c.self.view_is) c.requires.round in
     let calls_left = subst (λ N. N.calls < last_number) (sym c.self.view_is) c.requires.calls in
     next_manager m.config m.topology.cluster m.shards m.round m.calls c.self.invariant c.round.new.self rounds_left calls_left
-    c.in_ok-commands.ensures.changed c.round.ensures.standing c.in_ok-commands.ensures.rounds
+    c.in_ok-commands.ensures.changed c.round.ensures.up_to_date c.in_ok-commands.ensures.rounds

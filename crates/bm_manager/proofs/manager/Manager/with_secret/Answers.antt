@@ -8,4 +8,4 @@ invariant_of-result c =
     let C = c.in_ok-new.field-0.cluster in
     let allowed = nothing_refused _ _ (sym c.check.ensures ∙ c.in_ok-check.was) in
     new_manager c.args.config C c.in_ok-new-2.field-0 allowed (omega arith, omega arith) c.in_ok-new.ensures.empty c.in_ok-new-2.ensures.empty
-    (c.in_ok-new-2.ensures.standing C) c.in_ok-new-2.ensures.rounds
+    (c.in_ok-new-2.ensures.up_to_date C) c.in_ok-new-2.ensures.rounds

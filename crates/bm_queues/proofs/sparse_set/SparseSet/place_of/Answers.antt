@@ -18,8 +18,8 @@ returns-else-place-len-clause-absent c none there =
       | else-place-len-via-then-place-len+else-index-slot w ↦
           let at : get_or order c.index.result.now 0 ≡ c.args.slot = ap (λ i. get_or order i 0) (sym read) ∙ same in
           let below = w.if-place-len.true in
-          let stands = w.index-then-place-len.ensures ∙ get_or_default order c.index.result.now w.index-then-place-len.result.now 0 (omega (arith, below, c.len.ensures)) in
-          w.if-index-slot.false (stands ∙ at)
+          let slot_there = w.index-then-place-len.ensures ∙ get_or_default order c.index.result.now w.index-then-place-len.result.now 0 (omega (arith, below, c.len.ensures)) in
+          w.if-index-slot.false (slot_there ∙ at)
       | else-place-len-via-else-place-len w ↦ absurd (omega (arith, low, read, w.if-place-len.false, c.len.ensures))
     ])
     (subst P (sym c.self.view_is) there)

@@ -1,6 +1,6 @@
 use Rattle.std.proofs.Common.{◌≡◌, [], length, map-id, ap, sym, ◌∙◌, eqb-true}
 use Rattle.std.proofs.lemmas.List.{nil_from_length}
-use Rattle.bm_round_scan.specs.Marking.{marked_on}
+use Rattle.bm_round_scan.specs.BlockMarks.{marked_on}
 use Rattle.bm_round_scan.proofs.block_scan.BlockScan.mark.Goals as goal
 
 pub returns-then-is_empty-clause-marked : goal.returns-then-is_empty-clause-marked

@@ -1,5 +1,5 @@
 use Rattle.std.proofs.Common.{◌≡◌, ◌++◌, map, drop}
-use Rattle.bm_round_scan.specs.Marking.{of_block}
+use Rattle.bm_round_scan.specs.BlockMarks.{of_block}
 use Rattle.bm_round_scan.specs.BlockScans.{deletes_of}
 use Rattle.bm_round_scan.proofs.block_scan.BlockScan.push_deletes.Given as goal
 

@@ -11,7 +11,7 @@ use Rattle.bm_arena.specs.Triplets.{Block, triplet_view}
 use Rattle.bm_arena.specs.Contents.{block_at}
 use Rattle.bm_levels.specs.Status.{storages_at}
 use Rattle.bm_parts.specs.Before.{wishes_before}
-use Rattle.bm_pending.specs.Remaining.{remaining_targets}
+use Rattle.bm_pending.specs.RemainingTargets.{remaining_targets}
 use Rattle.bm_round_scan.specs.Requests.{wish_by}
 use Rattle.bm_round_scan.proofs.SettledBlocks.{wish_is}
 use Rattle.bm_round_scan.proofs.scan.RoundScan.push_settled_wish.Goals as goal

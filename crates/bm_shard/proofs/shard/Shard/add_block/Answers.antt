@@ -32,10 +32,10 @@ returns-clause-changed c =
     (λ i. record { added = sym none i; removed = sym none i })
 
 none : (c : goal.After-show_invariant-3) → HasNoUnused c.drop_prepared.new.blocks.arena
-none c = λ b bare. c.drop_prepared.ensures.left b (c.self.invariant.bare b (unused_by c.self.inside.blocks.arena c.add_block.new.self.arena c.add_block.ensures.numbers (none_put _ _ c.args.id _ c.add_block.ensures.blocks) (same_none _ _ c.add_block.ensures.replicas) b (c.drop_prepared.ensures.bare b bare))) bare
+none c = λ b unused. c.drop_prepared.ensures.left b (c.self.invariant.unused b (unused_by c.self.inside.blocks.arena c.add_block.new.self.arena c.add_block.ensures.numbers (none_put _ _ c.args.id _ c.add_block.ensures.blocks) (same_none _ _ c.add_block.ensures.replicas) b (c.drop_prepared.ensures.unused b unused))) unused
 
 pub invariant_of-self : goal.invariant_of-self
-invariant_of-self c = record { index = c.self.invariant.index; ready = tt; bare = λ b h. absurd (none c b h) }
+invariant_of-self c = record { index = c.self.invariant.index; ready = tt; unused = λ b h. absurd (none c b h) }
 
-pub returns-clause-bare : goal.returns-clause-bare
-returns-clause-bare c = none_outside c.drop_prepared.new.blocks c.self.inside.pending.map c.self.inside.part c.self.inside.round c.self.inside.pend _ _ (none c)
+pub returns-clause-unused : goal.returns-clause-unused
+returns-clause-unused c = none_outside c.drop_prepared.new.blocks c.self.inside.pending.map c.self.inside.part c.self.inside.round c.self.inside.pend _ _ (none c)

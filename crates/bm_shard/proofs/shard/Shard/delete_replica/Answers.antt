@@ -25,10 +25,10 @@ returns-clause-changed c =
     (λ i. record { added = sym none.0 i; removed = removed i })
 
 none : (c : goal.After-count_if) → HasNoUnused c.remove_replica-is_removed.new.self.arena
-none c = none_kept c.self.inside.blocks c.self.inside.pending.map c.self.inside.part c.self.inside.round c.self.inside.pend _ _ c.remove_replica-is_removed.new.self c.args.self.now c.self.view_is c.requires.none (c.remove_replica-is_removed.ensures.bare)
+none c = none_kept c.self.inside.blocks c.self.inside.pending.map c.self.inside.part c.self.inside.round c.self.inside.pend _ _ c.remove_replica-is_removed.new.self c.args.self.now c.self.view_is c.requires.none (c.remove_replica-is_removed.ensures.unused)
 
 pub invariant_of-self : goal.invariant_of-self
-invariant_of-self c = record { index = c.self.invariant.index; ready = tt; bare = λ b h. absurd (none c b h) }
+invariant_of-self c = record { index = c.self.invariant.index; ready = tt; unused = λ b h. absurd (none c b h) }
 
-pub returns-clause-bare : goal.returns-clause-bare
-returns-clause-bare c = none_outside c.remove_replica-is_removed.new.self c.self.inside.pending.map c.self.inside.part c.self.inside.round c.self.inside.pend _ _ (none c)
+pub returns-clause-unused : goal.returns-clause-unused
+returns-clause-unused c = none_outside c.remove_replica-is_removed.new.self c.self.inside.pending.map c.self.inside.part c.self.inside.round c.self.inside.pend _ _ (none c)

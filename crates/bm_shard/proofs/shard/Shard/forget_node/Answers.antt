@@ -1,7 +1,7 @@
 use Rattle.std.proofs.Common.{not, ap, subst, sym, ◌∙◌}
 use Rattle.bm_base.specs.Words.{has_storage, without_node, without_storages, done, new_replicas}
 use Rattle.bm_arena.specs.Contents.{IsLawful}
-use Rattle.bm_arena.specs.Holding.{replicas_of}
+use Rattle.bm_arena.specs.HeldMaps.{replicas_of}
 use Rattle.bm_levels.specs.Held.{holdings_with}
 use Rattle.bm_shard.proofs.ChangedBlocks.{changed_seen}
 use Rattle.bm_shard.proofs.Counts.{gone_by_keep}
@@ -26,13 +26,13 @@ returns-clause-changed c =
     (λ i. record { added = sym none i; removed = went i })
 
 none : (c : goal.After-drop_transfers_to) → HasNoUnused c.forget_node-removed.new.self.arena
-none c = none_kept c.self.inside.blocks c.self.inside.pending.map c.self.inside.part c.self.inside.round c.self.inside.pend _ _ c.forget_node-removed.new.self c.args.self.now c.self.view_is c.requires.none (c.forget_node-removed.ensures.bare)
+none c = none_kept c.self.inside.blocks c.self.inside.pending.map c.self.inside.part c.self.inside.round c.self.inside.pend _ _ c.forget_node-removed.new.self c.args.self.now c.self.view_is c.requires.none (c.forget_node-removed.ensures.unused)
 
 pub invariant_of-self : goal.invariant_of-self
-invariant_of-self c = record { index = c.self.invariant.index; ready = tt; bare = λ b h. absurd (none c b h) }
+invariant_of-self c = record { index = c.self.invariant.index; ready = tt; unused = λ b h. absurd (none c b h) }
 
-pub returns-clause-bare : goal.returns-clause-bare
-returns-clause-bare c = none_outside c.forget_node-removed.new.self c.drop_transfers_to.new.pending.map c.self.inside.part c.self.inside.round c.self.inside.pend _ _ (none c)
+pub returns-clause-unused : goal.returns-clause-unused
+returns-clause-unused c = none_outside c.forget_node-removed.new.self c.drop_transfers_to.new.pending.map c.self.inside.part c.self.inside.round c.self.inside.pend _ _ (none c)
 
 pub returns-clause-lists : goal.returns-clause-lists
 returns-clause-lists c = none_listed c.forget_node-removed.new.self.arena (has_storage c.args.topology.now.cluster c.args.node) c.forget_node-removed.ensures.heads

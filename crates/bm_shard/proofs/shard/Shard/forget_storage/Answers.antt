@@ -2,7 +2,7 @@ use Rattle.std.proofs.Common.{ℕ, not, ap, subst, sym, ◌∙◌}
 use Rattle.std.specs.Prelude.{◌==◌}
 use Rattle.bm_base.specs.Words.{without_storage, without_storages, done, new_replicas}
 use Rattle.bm_arena.specs.Contents.{HasHead, IsLawful}
-use Rattle.bm_arena.specs.Holding.{replicas_of}
+use Rattle.bm_arena.specs.HeldMaps.{replicas_of}
 use Rattle.bm_levels.specs.Held.{holdings_with}
 use Rattle.bm_shard.proofs.ChangedBlocks.{changed_seen}
 use Rattle.bm_shard.proofs.Counts.{gone_by_keep}
@@ -28,13 +28,13 @@ returns-clause-changed c =
     (λ i. record { added = sym none i; removed = went i })
 
 none : (c : goal.After-drop_transfers_on) → HasNoUnused c.forget_storage-removed.new.self.arena
-none c = none_kept c.self.inside.blocks c.self.inside.pending.map c.self.inside.part c.self.inside.round c.self.inside.pend _ _ c.forget_storage-removed.new.self c.args.self.now c.self.view_is c.requires.none (c.forget_storage-removed.ensures.bare)
+none c = none_kept c.self.inside.blocks c.self.inside.pending.map c.self.inside.part c.self.inside.round c.self.inside.pend _ _ c.forget_storage-removed.new.self c.args.self.now c.self.view_is c.requires.none (c.forget_storage-removed.ensures.unused)
 
 pub invariant_of-self : goal.invariant_of-self
-invariant_of-self c = record { index = c.self.invariant.index; ready = tt; bare = λ b h. absurd (none c b h) }
+invariant_of-self c = record { index = c.self.invariant.index; ready = tt; unused = λ b h. absurd (none c b h) }
 
-pub returns-clause-bare : goal.returns-clause-bare
-returns-clause-bare c = none_outside c.forget_storage-removed.new.self c.drop_transfers_on.new.pending.map c.self.inside.part c.self.inside.round c.self.inside.pend _ _ (none c)
+pub returns-clause-unused : goal.returns-clause-unused
+returns-clause-unused c = none_outside c.forget_storage-removed.new.self c.drop_transfers_on.new.pending.map c.self.inside.part c.self.inside.round c.self.inside.pend _ _ (none c)
 
 pub returns-clause-lists : goal.returns-clause-lists
 returns-clause-lists c =

@@ -3,7 +3,7 @@ use Rattle.std.specs.Prelude.{option_and_then}
 use Rattle.bm_base.specs.declared.replica.BlockInfo.{BlockInfo}
 use Rattle.bm_base.specs.Maps.Map.{get}
 use Rattle.bm_arena.specs.Contents.{Contents}
-use Rattle.bm_arena.specs.Holding.{blocks_of, info_at}
+use Rattle.bm_arena.specs.HeldMaps.{blocks_of, info_at}
 use Rattle.bm_arena.proofs.HeldReplicas.{get-blocks_of}
 use Rattle.bm_levels.specs.Held.{holdings_with}
 use Rattle.bm_shard.specs.Seen.{Seen}

@@ -26,7 +26,7 @@ none : (c : goal.After-show_invariant-3) → HasNoUnused c.make_bad.new.self.are
 none c = none_kept c.self.inside.blocks c.self.inside.pending.map c.self.inside.part c.self.inside.round c.self.inside.pend _ _ c.make_bad.new.self c.args.self.now c.self.view_is c.requires.none (unused_by c.self.inside.blocks.arena c.make_bad.new.self.arena c.make_bad.ensures.numbers (same_none _ _ c.make_bad.ensures.blocks) (none_revised_at _ _ _ _ c.make_bad.ensures.replicas))
 
 pub invariant_of-self : goal.invariant_of-self
-invariant_of-self c = record { index = c.self.invariant.index; ready = tt; bare = λ b h. absurd (none c b h) }
+invariant_of-self c = record { index = c.self.invariant.index; ready = tt; unused = λ b h. absurd (none c b h) }
 
-pub returns-clause-bare : goal.returns-clause-bare
-returns-clause-bare c = none_outside c.make_bad.new.self c.self.inside.pending.map c.self.inside.part c.self.inside.round c.self.inside.pend _ _ (none c)
+pub returns-clause-unused : goal.returns-clause-unused
+returns-clause-unused c = none_outside c.make_bad.new.self c.self.inside.pending.map c.self.inside.part c.self.inside.round c.self.inside.pend _ _ (none c)

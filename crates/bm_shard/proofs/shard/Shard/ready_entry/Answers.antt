@@ -7,7 +7,7 @@ use Rattle.bm_shard.proofs.Unused.{unused_inside, none_inside, none_outside, non
 use Rattle.std.specs.Prelude.{nat_eq}
 use Rattle.std.proofs.Common.{sym}
 use Rattle.std.proofs.lemmas.Bool.{eqb-false}
-use Rattle.bm_levels.proofs.Unused.{unused_beside}
+use Rattle.bm_levels.proofs.Unused.{unused_apart}
 use Rattle.bm_shard.proofs.shard.Shard.ready_entry.Goals as goal
 
 pub returns-in_err-made-clause-same : goal.returns-in_err-made-clause-same
@@ -26,16 +26,16 @@ returns-clause-same c =
 pub invariant_of-self : goal.invariant_of-self
 invariant_of-self c =
     let none : HasNoUnused c.ready_block-made.new.self.arena = none_more c.self.inside.blocks.arena c.ready_block-made.new.self.arena (none_inside c.self.inside.blocks c.self.inside.pending.map c.self.inside.part c.self.inside.round c.self.inside.pend _ _ c.args.self.now c.self.view_is c.requires.none) c.in_err-made.ensures.given_up in
-    record { index = c.self.invariant.index; ready = tt; bare = λ b h. absurd (none b h) }
+    record { index = c.self.invariant.index; ready = tt; unused = λ b h. absurd (none b h) }
 
-pub returns-in_err-made-clause-bare : goal.returns-in_err-made-clause-bare
-returns-in_err-made-clause-bare c = none_prepared _ (λ b. nat_eq c.args.id b) (none_outside c.ready_block-made.new.self c.self.inside.pending.map c.self.inside.part c.self.inside.round c.self.inside.pend _ _ (none_more c.self.inside.blocks.arena c.ready_block-made.new.self.arena (none_inside c.self.inside.blocks c.self.inside.pending.map c.self.inside.part c.self.inside.round c.self.inside.pend _ _ c.args.self.now c.self.view_is c.requires.none) c.in_err-made.ensures.given_up))
+pub returns-in_err-made-clause-unused : goal.returns-in_err-made-clause-unused
+returns-in_err-made-clause-unused c = none_prepared _ (λ b. nat_eq c.args.id b) (none_outside c.ready_block-made.new.self c.self.inside.pending.map c.self.inside.part c.self.inside.round c.self.inside.pend _ _ (none_more c.self.inside.blocks.arena c.ready_block-made.new.self.arena (none_inside c.self.inside.blocks c.self.inside.pending.map c.self.inside.part c.self.inside.round c.self.inside.pend _ _ c.args.self.now c.self.view_is c.requires.none) c.in_err-made.ensures.given_up))
 
 pub returns-in_err-made-clause-given_up : goal.returns-in_err-made-clause-given_up
 returns-in_err-made-clause-given_up c = on_err c.from_residual.result (none_outside c.ready_block-made.new.self c.self.inside.pending.map c.self.inside.part c.self.inside.round c.self.inside.pend _ _ (none_more c.self.inside.blocks.arena c.ready_block-made.new.self.arena (none_inside c.self.inside.blocks c.self.inside.pending.map c.self.inside.part c.self.inside.round c.self.inside.pend _ _ c.args.self.now c.self.view_is c.requires.none) c.in_err-made.ensures.given_up))
 
-pub returns-clause-bare : goal.returns-clause-bare
-returns-clause-bare c b bare = only_these c.self.inside.blocks.arena c.ready_block-made.new.self.arena (λ b. nat_eq c.args.id b) (none_inside c.self.inside.blocks c.self.inside.pending.map c.self.inside.part c.self.inside.round c.self.inside.pend _ _ c.args.self.now c.self.view_is c.requires.none) (unused_beside c.self.inside.blocks.arena c.ready_block-made.new.self.arena (λ b. nat_eq c.args.id b) c.ready_block-made.ensures.blocks c.ready_block-made.ensures.replicas (λ b e. c.ready_block-made.ensures.others b (λ same. eqb-false c.args.id b e (sym same)))) b (unused_inside c.ready_block-made.new.self c.self.inside.pending.map c.self.inside.part c.self.inside.round c.self.inside.pend _ _ b bare)
+pub returns-clause-unused : goal.returns-clause-unused
+returns-clause-unused c b unused = only_these c.self.inside.blocks.arena c.ready_block-made.new.self.arena (λ b. nat_eq c.args.id b) (none_inside c.self.inside.blocks c.self.inside.pending.map c.self.inside.part c.self.inside.round c.self.inside.pend _ _ c.args.self.now c.self.view_is c.requires.none) (unused_apart c.self.inside.blocks.arena c.ready_block-made.new.self.arena (λ b. nat_eq c.args.id b) c.ready_block-made.ensures.blocks c.ready_block-made.ensures.replicas (λ b e. c.ready_block-made.ensures.others b (λ same. eqb-false c.args.id b e (sym same)))) b (unused_inside c.ready_block-made.new.self c.self.inside.pending.map c.self.inside.part c.self.inside.round c.self.inside.pend _ _ b unused)
 
 pub invariant_of-self-2 : goal.invariant_of-self-2
-invariant_of-self-2 c = record { index = c.self.invariant.index; ready = tt; bare = only_these c.self.inside.blocks.arena c.ready_block-made.new.self.arena (λ b. nat_eq c.args.id b) (none_inside c.self.inside.blocks c.self.inside.pending.map c.self.inside.part c.self.inside.round c.self.inside.pend _ _ c.args.self.now c.self.view_is c.requires.none) (unused_beside c.self.inside.blocks.arena c.ready_block-made.new.self.arena (λ b. nat_eq c.args.id b) c.ready_block-made.ensures.blocks c.ready_block-made.ensures.replicas (λ b e. c.ready_block-made.ensures.others b (λ same. eqb-false c.args.id b e (sym same)))) }
+invariant_of-self-2 c = record { index = c.self.invariant.index; ready = tt; unused = only_these c.self.inside.blocks.arena c.ready_block-made.new.self.arena (λ b. nat_eq c.args.id b) (none_inside c.self.inside.blocks c.self.inside.pending.map c.self.inside.part c.self.inside.round c.self.inside.pend _ _ c.args.self.now c.self.view_is c.requires.none) (unused_apart c.self.inside.blocks.arena c.ready_block-made.new.self.arena (λ b. nat_eq c.args.id b) c.ready_block-made.ensures.blocks c.ready_block-made.ensures.replicas (λ b e. c.ready_block-made.ensures.others b (λ same. eqb-false c.args.id b e (sym same)))) }

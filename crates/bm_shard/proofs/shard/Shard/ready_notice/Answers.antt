@@ -19,22 +19,22 @@ returns-clause-same c =
 pub invariant_of-self : goal.invariant_of-self
 invariant_of-self c =
     let none : HasNoUnused c.ready_notice-made.new.self.arena = none_more c.self.inside.blocks.arena c.ready_notice-made.new.self.arena (none_inside c.self.inside.blocks c.self.inside.pending.map c.self.inside.part c.self.inside.round c.self.inside.pend _ _ c.args.self.now c.self.view_is c.requires.none) c.in_err-made.ensures.given_up in
-    record { index = c.self.invariant.index; ready = tt; bare = λ b h. absurd (none b h) }
+    record { index = c.self.invariant.index; ready = tt; unused = λ b h. absurd (none b h) }
 
-pub returns-in_err-made-clause-bare : goal.returns-in_err-made-clause-bare
-returns-in_err-made-clause-bare c = none_prepared _ (λ b. nat_eq c.args.id b) (none_outside c.ready_notice-made.new.self c.self.inside.pending.map c.self.inside.part c.self.inside.round c.self.inside.pend _ _ (none_more c.self.inside.blocks.arena c.ready_notice-made.new.self.arena (none_inside c.self.inside.blocks c.self.inside.pending.map c.self.inside.part c.self.inside.round c.self.inside.pend _ _ c.args.self.now c.self.view_is c.requires.none) c.in_err-made.ensures.given_up))
+pub returns-in_err-made-clause-unused : goal.returns-in_err-made-clause-unused
+returns-in_err-made-clause-unused c = none_prepared _ (λ b. nat_eq c.args.id b) (none_outside c.ready_notice-made.new.self c.self.inside.pending.map c.self.inside.part c.self.inside.round c.self.inside.pend _ _ (none_more c.self.inside.blocks.arena c.ready_notice-made.new.self.arena (none_inside c.self.inside.blocks c.self.inside.pending.map c.self.inside.part c.self.inside.round c.self.inside.pend _ _ c.args.self.now c.self.view_is c.requires.none) c.in_err-made.ensures.given_up))
 
 pub returns-in_err-made-clause-given_up : goal.returns-in_err-made-clause-given_up
 returns-in_err-made-clause-given_up c = on_err c.from_residual.result (none_outside c.ready_notice-made.new.self c.self.inside.pending.map c.self.inside.part c.self.inside.round c.self.inside.pend _ _ (none_more c.self.inside.blocks.arena c.ready_notice-made.new.self.arena (none_inside c.self.inside.blocks c.self.inside.pending.map c.self.inside.part c.self.inside.round c.self.inside.pend _ _ c.args.self.now c.self.view_is c.requires.none) c.in_err-made.ensures.given_up))
 
-pub returns-clause-bare : goal.returns-clause-bare
-returns-clause-bare c b bare = only_these c.self.inside.blocks.arena c.ready_notice-made.new.self.arena (λ b. nat_eq c.args.id b) (none_inside c.self.inside.blocks c.self.inside.pending.map c.self.inside.part c.self.inside.round c.self.inside.pend _ _ c.args.self.now c.self.view_is c.requires.none) (c.ready_notice-made.ensures.bare) b (unused_inside c.ready_notice-made.new.self c.self.inside.pending.map c.self.inside.part c.self.inside.round c.self.inside.pend _ _ b bare)
+pub returns-clause-unused : goal.returns-clause-unused
+returns-clause-unused c b unused = only_these c.self.inside.blocks.arena c.ready_notice-made.new.self.arena (λ b. nat_eq c.args.id b) (none_inside c.self.inside.blocks c.self.inside.pending.map c.self.inside.part c.self.inside.round c.self.inside.pend _ _ c.args.self.now c.self.view_is c.requires.none) (c.ready_notice-made.ensures.unused) b (unused_inside c.ready_notice-made.new.self c.self.inside.pending.map c.self.inside.part c.self.inside.round c.self.inside.pend _ _ b unused)
 
 pub invariant_of-self-2 : goal.invariant_of-self-2
 invariant_of-self-2 c =
-    let told_is = c.in_ok-made.ensures.told in
+    let reported_is = c.in_ok-made.ensures.reported in
     record {
       index = c.self.invariant.index;
       ready = c.in_ok-made.ensures.looked_up;
-      bare = λ b h. named_alone c.ready_notice-made.new.report c.args.id c.args.stamp b told_is (only_these c.self.inside.blocks.arena c.ready_notice-made.new.self.arena (λ b. nat_eq c.args.id b) (none_inside c.self.inside.blocks c.self.inside.pending.map c.self.inside.part c.self.inside.round c.self.inside.pend _ _ c.args.self.now c.self.view_is c.requires.none) (c.ready_notice-made.ensures.bare) b h);
+      unused = λ b h. named_alone c.ready_notice-made.new.report c.args.id c.args.stamp b reported_is (only_these c.self.inside.blocks.arena c.ready_notice-made.new.self.arena (λ b. nat_eq c.args.id b) (none_inside c.self.inside.blocks c.self.inside.pending.map c.self.inside.part c.self.inside.round c.self.inside.pend _ _ c.args.self.now c.self.view_is c.requires.none) (c.ready_notice-made.ensures.unused) b h);
     }

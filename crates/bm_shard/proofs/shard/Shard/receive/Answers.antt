@@ -1,7 +1,7 @@
 use Rattle.std.proofs.Common.{subst, sym, ap, ◌∙◌}
 use Rattle.bm_base.specs.Words.{replica_at, enter, entered_marks, entered_tag, was_bad, was_excess, done, new_replicas}
 use Rattle.bm_arena.specs.Contents.{IsLawful}
-use Rattle.bm_arena.specs.Holding.{replicas_of, holdings_of}
+use Rattle.bm_arena.specs.HeldMaps.{replicas_of, holdings_of}
 use Rattle.bm_report.specs.DuringReport.{IsOncePerNode}
 use Rattle.bm_levels.specs.Held.{holdings_with}
 use Rattle.bm_shard.specs.Seen.{Seen}
@@ -41,10 +41,10 @@ returns-clause-changed c =
 none : (c : goal.After-done_from) → HasNoUnused c.receive-applied.new.self.arena
 none c =
     let notice = noticed c.self.inside.report c.self.inside.prepared c.args.storage _ (ap (λ (S : Seen). S.room.report) c.self.view_is ∙ c.requires.ready) in
-    none_received c.args.topology.now.cluster (holdings_of c.self.inside.blocks.arena) c.self.inside.blocks.arena c.receive-applied.new.self.arena c.args.storage c.args.id c.args.stamp (subst (λ a. IsLawful a) c.arena.ensures c.show_invariant-2.ensures) c.receive-applied.ensures.received.entries.ids c.receive-applied.ensures.received.others c.receive-applied.ensures.received.replicas (λ n h. prepared_one c.self.inside.prepared c.self.inside.report c.args.storage c.args.id c.args.stamp n notice.0 notice.1 (c.self.invariant.bare n h))
+    none_received c.args.topology.now.cluster (holdings_of c.self.inside.blocks.arena) c.self.inside.blocks.arena c.receive-applied.new.self.arena c.args.storage c.args.id c.args.stamp (subst (λ a. IsLawful a) c.arena.ensures c.show_invariant-2.ensures) c.receive-applied.ensures.received.entries.ids c.receive-applied.ensures.received.others c.receive-applied.ensures.received.replicas (λ n h. prepared_one c.self.inside.prepared c.self.inside.report c.args.storage c.args.id c.args.stamp n notice.0 notice.1 (c.self.invariant.unused n h))
 
 pub invariant_of-self : goal.invariant_of-self
-invariant_of-self c = record { index = c.self.invariant.index; ready = tt; bare = λ b h. absurd (none c b h) }
+invariant_of-self c = record { index = c.self.invariant.index; ready = tt; unused = λ b h. absurd (none c b h) }
 
-pub returns-clause-bare : goal.returns-clause-bare
-returns-clause-bare c = none_outside c.receive-applied.new.self c.remove.new.self.map c.self.inside.part c.self.inside.round c.self.inside.pend _ _ (none c)
+pub returns-clause-unused : goal.returns-clause-unused
+returns-clause-unused c = none_outside c.receive-applied.new.self c.remove.new.self.map c.self.inside.part c.self.inside.round c.self.inside.pend _ _ (none c)

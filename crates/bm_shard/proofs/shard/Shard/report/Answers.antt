@@ -1,7 +1,7 @@
 use Rattle.std.proofs.Common.{ℕ, List, None, subst, sym, ap, ◌∙◌}
 use Rattle.bm_base.specs.Words.{ReportedBlock, report, entered_marks, entered_tag, was_bad, was_excess, done, new_replicas}
 use Rattle.bm_arena.specs.Contents.{Contents, IsLawful}
-use Rattle.bm_arena.specs.Holding.{replicas_of, holdings_of}
+use Rattle.bm_arena.specs.HeldMaps.{replicas_of, holdings_of}
 use Rattle.bm_report.specs.DuringReport.{IsOncePerNode}
 use Rattle.bm_report.specs.Ready.{HasGoodExcess, reported_blocks}
 use Rattle.bm_levels.specs.Held.{holdings_with}
@@ -71,10 +71,10 @@ none c =
     let P : List ℕ → Type 0 = λ l. levels.HasNoUnusedAt l m c.drop_unused.new.self.arena in
     none_reported c.args.topology.now.cluster (holdings_of a) c.args.storage c.self.inside.report.named a m c.drop_unused.new.self.arena c.apply_report-applied.new.report.changed c.apply_report-applied.new.report.came
     (subst (λ x. IsLawful x) c.arena.ensures c.show_invariant-2.ensures) made.entries.ids made.changed made.came made.replicas
-    (λ n h. prepared_report c.self.inside.prepared c.self.inside.report c.args.storage n (looked_up c.self.inside.report c.self.inside.prepared c.args.storage c.requires.ready.0 (ap (λ (S : Seen). S.room.report) c.self.view_is ∙ c.requires.ready.1)).0 (c.self.invariant.bare n h)) c.drop_unused.ensures.bare (subst P c.swept_slots.ensures c.drop_unused.ensures.left)
+    (λ n h. prepared_report c.self.inside.prepared c.self.inside.report c.args.storage n (looked_up c.self.inside.report c.self.inside.prepared c.args.storage c.requires.ready.0 (ap (λ (S : Seen). S.room.report) c.self.view_is ∙ c.requires.ready.1)).0 (c.self.invariant.unused n h)) c.drop_unused.ensures.unused (subst P c.swept_slots.ensures c.drop_unused.ensures.left)
 
 pub invariant_of-self : goal.invariant_of-self
-invariant_of-self c = record { index = c.self.invariant.index; ready = tt; bare = λ b h. absurd (none c b h) }
+invariant_of-self c = record { index = c.self.invariant.index; ready = tt; unused = λ b h. absurd (none c b h) }
 
-pub returns-clause-bare : goal.returns-clause-bare
-returns-clause-bare c = none_outside c.drop_unused.new.self c.drop_arrived.new.pending.map c.self.inside.part c.self.inside.round c.self.inside.pend _ _ (none c)
+pub returns-clause-unused : goal.returns-clause-unused
+returns-clause-unused c = none_outside c.drop_unused.new.self c.drop_arrived.new.pending.map c.self.inside.part c.self.inside.round c.self.inside.pend _ _ (none c)

@@ -3,7 +3,7 @@ use Rattle.bm_base.specs.Machine.State.{Holdings}
 use Rattle.bm_base.specs.RoundParts.{round_on_part}
 use Rattle.bm_shard.specs.Seen.{Seen}
 use Rattle.bm_shard.specs.UpToDate.{next_part}
-use Rattle.bm_shard.proofs.ChangedBlocks.{stands_still}
+use Rattle.bm_shard.proofs.ChangedBlocks.{stays_up_to_date}
 use Rattle.bm_shard.proofs.Reservations.{ready_still}
 use Rattle.bm_shard.proofs.shard.Shard.round_commit.Goals as goal
 
@@ -14,11 +14,11 @@ take_round-requires c =
     let P : Seen → Type 0 = λ S. c.args.part.now.excess ≡ (next_part C S).excess in
     let Q : Seen → Type 0 = λ S. S.round + 1 < 2 ^ 64 in
     record {
-      standing = stands_still C c.args.self.now c.abort.new.self c.requires.standing same;
+      up_to_date = stays_up_to_date C c.args.self.now c.abort.new.self c.requires.up_to_date same;
       part = subst P (sym same.rest) c.requires.part;
       ready = ready_still c.args.chosen.now c.args.self.now c.abort.new.self same c.abort.ensures.transfers c.requires.ready;
       counted = subst Q (sym same.rest) c.requires.counted;
-      none = c.abort.ensures.bare;
+      none = c.abort.ensures.unused;
     }
 
 pub returns-clause-holdings : goal.returns-clause-holdings

@@ -27,7 +27,7 @@ none : (c : goal.After-drop_drained_transfers) → HasNoUnused c.set_draining.ne
 none c = none_kept c.self.inside.blocks c.self.inside.pending.map c.self.inside.part c.self.inside.round c.self.inside.pend _ _ c.set_draining.new.self c.args.self.now c.self.view_is c.requires.none (same_unused c.self.inside.blocks.arena c.set_draining.new.self.arena c.set_draining.ensures.arena)
 
 pub invariant_of-self : goal.invariant_of-self
-invariant_of-self c = record { index = c.self.invariant.index; ready = tt; bare = λ b h. absurd (none c b h) }
+invariant_of-self c = record { index = c.self.invariant.index; ready = tt; unused = λ b h. absurd (none c b h) }
 
-pub returns-clause-bare : goal.returns-clause-bare
-returns-clause-bare c = none_outside c.set_draining.new.self c.drop_drained_transfers.new.pending.map c.self.inside.part c.self.inside.round c.self.inside.pend _ _ (none c)
+pub returns-clause-unused : goal.returns-clause-unused
+returns-clause-unused c = none_outside c.set_draining.new.self c.drop_drained_transfers.new.pending.map c.self.inside.part c.self.inside.round c.self.inside.pend _ _ (none c)

@@ -12,7 +12,7 @@ use Rattle.bm_shard.specs.UpToDate.{IsUpToDate, next_part}
 use Rattle.bm_shard.proofs.Levels.{right_by_number, right_by_slot}
 use Rattle.bm_shard.proofs.AfterRound.{same_surplus, on_part}
 use Rattle.bm_levels.specs.Unused.{HasNoUnused}
-use Rattle.bm_arena.specs.Holding.{holdings_of}
+use Rattle.bm_arena.specs.HeldMaps.{holdings_of}
 use Rattle.bm_shard.proofs.Unused.{unused_by, same_none, none_revised, none_marked, none_kept, none_outside}
 use Rattle.bm_shard.proofs.shard.Shard.take_round.Goals as goal
 
@@ -52,25 +52,25 @@ holdings_left c =
 pub returns-clause-holdings : goal.returns-clause-holdings
 returns-clause-holdings c = holdings_left c
 
-pub returns-clause-standing : goal.returns-clause-standing
-returns-clause-standing c =
+pub returns-clause-up_to_date : goal.returns-clause-up_to_date
+returns-clause-up_to_date c =
     let v = c.self.inside in
     let C = c.args.topology.now.cluster in
     let P : Seen → Type 0 = λ s. IsUpToDate C s in
     let S = c.args.self.now in
-    let before = right_by_slot C v.blocks v.pending.map (subst (λ a. IsLawful a) c.arena.ensures c.show_invariant-2.ensures) c.show_invariant.ensures (subst P (sym c.self.view_is) c.requires.standing).levels in
+    let before = right_by_slot C v.blocks v.pending.map (subst (λ a. IsLawful a) c.arena.ensures c.show_invariant-2.ensures) c.show_invariant.ensures (subst P (sym c.self.view_is) c.requires.up_to_date).levels in
     record {
       levels = right_by_number C c.mark_ordered.new.self c.release_unused.new.self.map (subst (λ a. IsLawful a) c.arena-2.ensures c.show_invariant-3.ensures) (c.mark_ordered.ensures.levels (c.remark_excess.ensures.levels before));
       placed = subst (λ H. IsPlaced C H) (sym (holdings_left c))
-          (round_keeps_placed C S.pend (S.round + 1) S.holdings S.part.index S.part.shards c.args.chosen.now.transfers c.args.chosen.now.deletes c.requires.standing.placed);
+          (round_keeps_placed C S.pend (S.round + 1) S.holdings S.part.index S.part.shards c.args.chosen.now.transfers c.args.chosen.now.deletes c.requires.up_to_date.placed);
     }
 
 none : (c : goal.After-self-2-1) → HasNoUnused c.mark_ordered.new.self.arena
 unfolding holdings_of
-none c = none_kept c.self.inside.blocks c.self.inside.pending.map c.self.inside.part c.self.inside.round c.self.inside.pend _ _ c.mark_ordered.new.self c.args.self.now c.self.view_is c.requires.none (λ b bare. unused_by c.self.inside.blocks.arena c.remark_excess.new.self.arena c.remark_excess.ensures.numbers (same_none _ _ c.remark_excess.ensures.blocks) (none_marked c.args.topology.now.cluster (holdings_of c.self.inside.blocks.arena) _ c.remark_excess.ensures.replicas) b (unused_by c.remark_excess.new.self.arena c.mark_ordered.new.self.arena c.mark_ordered.ensures.numbers (same_none _ _ c.mark_ordered.ensures.blocks) (none_revised _ _ _ c.mark_ordered.ensures.replicas) b bare))
+none c = none_kept c.self.inside.blocks c.self.inside.pending.map c.self.inside.part c.self.inside.round c.self.inside.pend _ _ c.mark_ordered.new.self c.args.self.now c.self.view_is c.requires.none (λ b unused. unused_by c.self.inside.blocks.arena c.remark_excess.new.self.arena c.remark_excess.ensures.numbers (same_none _ _ c.remark_excess.ensures.blocks) (none_marked c.args.topology.now.cluster (holdings_of c.self.inside.blocks.arena) _ c.remark_excess.ensures.replicas) b (unused_by c.remark_excess.new.self.arena c.mark_ordered.new.self.arena c.mark_ordered.ensures.numbers (same_none _ _ c.mark_ordered.ensures.blocks) (none_revised _ _ _ c.mark_ordered.ensures.replicas) b unused))
 
 pub invariant_of-self : goal.invariant_of-self
-invariant_of-self c = record { index = c.self.invariant.index; ready = tt; bare = λ b h. absurd (none c b h) }
+invariant_of-self c = record { index = c.self.invariant.index; ready = tt; unused = λ b h. absurd (none c b h) }
 
-pub returns-clause-bare : goal.returns-clause-bare
-returns-clause-bare c = none_outside c.mark_ordered.new.self c.release_unused.new.self.map c.self.inside.part _ c.self.inside.pend _ _ (none c)
+pub returns-clause-unused : goal.returns-clause-unused
+returns-clause-unused c = none_outside c.mark_ordered.new.self c.release_unused.new.self.map c.self.inside.part _ c.self.inside.pend _ _ (none c)

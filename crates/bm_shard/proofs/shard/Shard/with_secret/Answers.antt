@@ -11,12 +11,12 @@ pub returns-clause-empty : goal.returns-clause-empty
 unfolding holdings_with empty_holdings
 returns-clause-empty c = λ i. record { blocks = c.in_ok-blocks.ensures.blocks i; replicas = c.in_ok-blocks.ensures.replicas i; pending = c.new-2.ensures.map i }
 
-pub returns-clause-standing : goal.returns-clause-standing
+pub returns-clause-up_to_date : goal.returns-clause-up_to_date
 unfolding holdings_with
-returns-clause-standing c C = record {
+returns-clause-up_to_date c C = record {
   levels = right_by_number C c.in_ok-blocks.blocks c.new-2.result.map (subst (λ a. IsLawful a) c.arena.ensures c.show_invariant.ensures) (c.in_ok-blocks.ensures.levels C);
   placed = none_placed C (holdings_with c.in_ok-blocks.blocks.arena c.new-2.result.map) c.in_ok-blocks.ensures.replicas;
 }
 
-pub returns-clause-bare : goal.returns-clause-bare
-returns-clause-bare c = none_outside c.in_ok-blocks.blocks c.new-2.result.map _ _ _ _ _ c.in_ok-blocks.ensures.bare
+pub returns-clause-unused : goal.returns-clause-unused
+returns-clause-unused c = none_outside c.in_ok-blocks.blocks c.new-2.result.map _ _ _ _ _ c.in_ok-blocks.ensures.unused

@@ -1,5 +1,5 @@
 use Rattle.bm_shards.specs.Whole.{IsUpToDate, HasTaken}
-use Rattle.bm_shards.proofs.NewShards.{new_shards, new_empty, new_stand, new_took, shards_allowed}
+use Rattle.bm_shards.proofs.NewShards.{new_shards, new_empty, new_up_to_date, new_took, shards_allowed}
 use Rattle.bm_shards.proofs.all_shards.AllShards.new.Goals as goal
 
 pub invariant_of-result : goal.invariant_of-result
@@ -10,9 +10,9 @@ invariant_of-result c =
 pub returns-clause-empty : goal.returns-clause-empty
 returns-clause-empty c = new_empty c.args.config.now 0 _ c.in_ok-shards.ensures.each
 
-pub returns-clause-standing : goal.returns-clause-standing
+pub returns-clause-up_to_date : goal.returns-clause-up_to_date
 unfolding IsUpToDate
-returns-clause-standing c = λ C. new_stand c.args.config.now C 0 _ c.in_ok-shards.ensures.each
+returns-clause-up_to_date c = λ C. new_up_to_date c.args.config.now C 0 _ c.in_ok-shards.ensures.each
 
 pub returns-clause-rounds : goal.returns-clause-rounds
 unfolding HasTaken

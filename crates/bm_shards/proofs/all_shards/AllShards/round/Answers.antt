@@ -2,9 +2,9 @@ use Rattle.std.proofs.Common.{subst, sym}
 use Rattle.bm_shards.specs.Whole.{Whole, AreUpToDate, HaveTaken, IsUpToDate, HasTaken}
 use Rattle.bm_shards.proofs.all_shards.AllShards.round.Goals as goal
 
-pub round_all-requires-clause-standing : goal.round_all-requires-clause-standing
+pub round_all-requires-clause-up_to_date : goal.round_all-requires-clause-up_to_date
 unfolding IsUpToDate
-round_all-requires-clause-standing g c = subst (λ (F : Whole). AreUpToDate c.args.topology.now.cluster F.shards) (sym c.self.view_is) c.requires.standing
+round_all-requires-clause-up_to_date g c = subst (λ (F : Whole). AreUpToDate c.args.topology.now.cluster F.shards) (sym c.self.view_is) c.requires.up_to_date
 
 pub round_all-requires-clause-rounds : goal.round_all-requires-clause-rounds
 unfolding HasTaken

@@ -5,7 +5,7 @@ use Rattle.bm_view.specs.History.{versions}
 use Rattle.bm_view.specs.Holders.{Learnt}
 use Rattle.bm_view.proofs.Prefixes.{prefix_self, prefix_shorter}
 use Rattle.bm_view.proofs.Histories.{versions_prefix}
-use Rattle.bm_view.proofs.ReaderKnowledge.{all_told}
+use Rattle.bm_view.proofs.ReaderKnowledge.{all_learnt}
 use Rattle.bm_view.proofs.locator.Locator.learn.Goals as goal
 
 pub invariant_of-self : goal.invariant_of-self
@@ -22,7 +22,7 @@ invariant_of-self c =
       seen.settled,
       c.self.invariant.3,
       seen.history,
-      subst (λ told. All (λ known. IsPrefix known (versions theirs)) told) (sym c.add.ensures) (all_told c.self.inside.told (versions mine) (versions theirs) (versions theirs) c.self.invariant.5 begins (prefix_self (versions theirs))),
+      subst (λ learnt. All (λ known. IsPrefix known (versions theirs)) learnt) (sym c.add.ensures) (all_learnt c.self.inside.learnt (versions mine) (versions theirs) (versions theirs) c.self.invariant.5 begins (prefix_self (versions theirs))),
     )
 
 pub invariant_of-self-else-is_below : goal.invariant_of-self-else-is_below
@@ -38,5 +38,5 @@ invariant_of-self-else-is_below c =
       c.self.invariant.2,
       c.self.invariant.3,
       c.self.invariant.4,
-      subst (λ told. All (λ known. IsPrefix known (versions mine)) told) (sym c.add.ensures) (all_told c.self.inside.told (versions mine) (versions mine) (versions theirs) c.self.invariant.5 (prefix_self (versions mine)) begins),
+      subst (λ learnt. All (λ known. IsPrefix known (versions mine)) learnt) (sym c.add.ensures) (all_learnt c.self.inside.learnt (versions mine) (versions mine) (versions theirs) c.self.invariant.5 (prefix_self (versions mine)) begins),
     )

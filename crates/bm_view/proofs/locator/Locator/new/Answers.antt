@@ -13,5 +13,5 @@ invariant_of-result c = (
   subst IsSettled (sym c.requires.log) opening_is_settled,
   rw (c.again.ensures, c.requires.log) c.requires.seen,
   subst (λ l. IsHistory (versions l)) (sym c.requires.log) opening_is_history,
-  subst (λ told. All (λ known. IsPrefix known (versions c.args.first.log)) told) (sym c.nothing.ensures) (All-nil (λ known. IsPrefix known (versions c.args.first.log))),
+  subst (λ learnt. All (λ known. IsPrefix known (versions c.args.first.log)) learnt) (sym c.nothing.ensures) (All-nil (λ known. IsPrefix known (versions c.args.first.log))),
 )

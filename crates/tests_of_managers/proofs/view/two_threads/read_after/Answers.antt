@@ -7,5 +7,5 @@ use Rattle.tests_of_managers.proofs.view.two_threads.read_after.Goals as goal
 pub returns : goal.returns
 returns c = record {
   no_older = if_some c.locate.result _ _ c.locate.ensures.no_older
-      (λ (seen : Located) h. latest c.args.locator.told c.args.receipt.list seen.calls (subst (λ told. All (λ known. (last_of known).calls ≤ seen.calls) told) c.learn.ensures.told h));
+      (λ (seen : Located) h. latest c.args.locator.learnt c.args.receipt.list seen.calls (subst (λ learnt. All (λ known. (last_of known).calls ≤ seen.calls) learnt) c.learn.ensures.learnt h));
 }

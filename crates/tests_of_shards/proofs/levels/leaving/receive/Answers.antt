@@ -6,9 +6,9 @@ use Rattle.bm_base.proofs.Clusters.{no_siblings}
 use Rattle.bm_report.proofs.SingleReplicas.{ok_then}
 use Rattle.tests_of_shards.proofs.levels.leaving.receive.Goals as goal
 
-pub receive-requires-clause-told : goal.receive-requires-clause-told
-receive-requires-clause-told g c =
-    ok_then c.ready_notice-ready.result _ (sym c.is_ok.ensures.value ∙ search rules) c.ready_notice-ready.ensures.told
+pub receive-requires-clause-reported : goal.receive-requires-clause-reported
+receive-requires-clause-reported g c =
+    ok_then c.ready_notice-ready.result _ (sym c.is_ok.ensures.value ∙ search rules) c.ready_notice-ready.ensures.reported
 
 -- no two storages are on the same node if the cluster is empty
 apart : (C : Cluster) → C ≡ empty_cluster → (s t : ℕ) → are_siblings C s t ≡ false

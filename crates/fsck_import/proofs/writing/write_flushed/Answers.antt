@@ -1,6 +1,0 @@
-use Rattle.fsck_import.proofs.WriteLemmas.{all_flushed}
-use Rattle.fsck_import.proofs.writing.write_flushed.Goals as goal
-
-pub returns-in-Ok-clause-tells : goal.returns-in-Ok-clause-tells
-returns-in-Ok-clause-tells g c =
-    all_flushed _ _ _ _ _ _ c.in_ok-write_before.ensures.written c.in_ok-write_after.ensures.written c.in-Ok.ensures.bytes

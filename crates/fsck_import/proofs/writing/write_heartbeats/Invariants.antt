@@ -1,8 +1,0 @@
-use Rattle.std.proofs.Common.{map, take}
-use Rattle.fsck_import.specs.CallsFor.{heartbeat}
-use Rattle.fsck_import.specs.Writing.{Written}
-use Rattle.fsck_import.proofs.writing.write_heartbeats.Given as goal
-
--- the lines so far
-abbrev pub invariant-loop-node : goal.invariant-loop-node
-invariant-loop-node g l = Written (map (heartbeat l.cluster.rows l.remaining) (take l.node-index l.cluster.node_rows)) (g.W.Write.contents l.fn.writer) (g.W.Write.contents l.writer)
