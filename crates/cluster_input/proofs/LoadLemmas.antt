@@ -12,7 +12,7 @@ use Rattle.fsck_import.specs.declared.text_reader.Reading.{Reading}
 use Rattle.cluster_input.specs.ClusterNames.{names_of}
 use Rattle.cluster_input.specs.Inputs.{AreTaken, IsAfter, IsRead, accepts, accepts_as, notes_as, notes_on}
 use Rattle.cluster_input.specs.Kinds.{are_lines, IsHeadOf}
-use Rattle.cluster_input.specs.Making.{Makes}
+use Rattle.cluster_input.specs.MadeCalls.{Makes}
 use Rattle.cluster_input.specs.declared.loaded.Loaded.{Loaded}
 
 -- what holds of the head and the rest, read as one, holds of the text

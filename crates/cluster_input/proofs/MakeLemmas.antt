@@ -17,7 +17,7 @@ use Rattle.cluster_report.specs.LineNotes.{refusal_text_of}
 use Rattle.fsck_cluster.specs.declared.rows.Held.{Held}
 use Rattle.fsck_cluster.specs.declared.rows.Row.{Row}
 use Rattle.fsck_import.specs.CallsFor.{entry, received, reports}
-use Rattle.cluster_input.specs.Making.{Makes}
+use Rattle.cluster_input.specs.MadeCalls.{Makes}
 
 state_after-append : (M : State) (calls more : List Call) → state_after M (calls ++ more) ≡ state_after (state_after M calls) more
 state_after-append M [] more = refl

@@ -3,7 +3,7 @@ ghost use Rattle.std.specs.Prelude.{◌≡◌, ◌∷◌, [], map, filter, optio
 ghost use Rattle.std.specs.List.{flat_map};
 ghost use Rattle.fsck_import.specs.CallsFor.{register, heartbeat, add, received, reports, corrupt, drain, drains, draining, calls_before, calls_after, calls_for};
 ghost use Rattle.cluster_report.specs.Sessions.{IsInStep};
-ghost use Rattle.cluster_input.specs.Making.{Makes};
+ghost use Rattle.cluster_input.specs.MadeCalls.{Makes};
 
 use crate::fault::Fault;
 use bm_base::{Call, Event, Items, NodeId, StorageId};

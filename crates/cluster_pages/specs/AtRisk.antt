@@ -1,4 +1,4 @@
--- The files of blocks that are missing, or one failure away from that.
+-- The files with blocks that are missing, or would be after one more failure.
 use Rattle.std.specs.Prelude.{◌≡◌, ℕ, ◌+◌, ◌-◌, ◌^◌, ◌<◌, ◌==◌, min, set, Bool, false, if◌then◌else◌, nat_eq, nat_lt, Option, Some, None, List, map, filter, length, get_or, count_by}
 use Rattle.std.specs.Option.{option_map_or}
 use Rattle.std.specs.List.{enumerate_from}
@@ -10,11 +10,11 @@ use Rattle.cluster_report.specs.declared.levels.Leveled.{Leveled}
 use Rattle.cluster_pages.specs.declared.at_risk.AtRisk.{AtRisk}
 use Rattle.cluster_pages.specs.declared.at_risk.FileRow.{FileRow}
 
--- one more is counted at an index, if there is such an index
+-- adds 1 to the count at an index, if there is one
 abbrev pub with_one : List ℕ → ℕ → List ℕ
 with_one counts i = if nat_lt i (length counts) then set counts i (min (get_or counts i 0 + 1) (2 ^ 64 - 1)) else counts
 
--- a block is counted of which this is the place
+-- counts the block with this place
 abbrev pub with_place : Option FilePlace → List ℕ → List ℕ
 with_place None counts = counts
 with_place (Some p) counts = with_one counts p.file
@@ -23,7 +23,7 @@ with_place (Some p) counts = with_one counts p.file
 abbrev pub is_in : FileTable → ℕ → ℕ → Bool
 is_in f file block = option_map_or (λ p. p.file == file) (place_of f block) false
 
--- for each file how many of these blocks are in it
+-- the number of these blocks in each file
 pub record AreCounts (f : FileTable) (blocks counts : List ℕ) : Type 0 where
   pub all : length counts ≡ length f.paths
   pub each : (file : ℕ) → file < length f.paths → get_or counts file 0 ≡ count_by (is_in f file) blocks
@@ -31,11 +31,11 @@ pub record AreCounts (f : FileTable) (blocks counts : List ℕ) : Type 0 where
 abbrev pub file_row : ℕ × ℕ → FileRow
 file_row p = record { file = p.0; blocks = p.1 }
 
--- the files with such a block, in the order in which they were read
+-- the files with such a block, in the order of the input
 abbrev pub rows_of : List ℕ → List FileRow
 rows_of counts = filter (λ r. nat_lt 0 r.blocks) (map file_row (enumerate_from 0 counts))
 
--- those of these files that have none of the blocks that are counted
+-- the files among these that have none of the counted blocks
 abbrev pub rows_without : List ℕ → List FileRow → List FileRow
 rows_without counts rows = filter (λ r. nat_eq (get_or counts r.file 0) 0) rows
 
@@ -43,8 +43,8 @@ rows_without counts rows = filter (λ r. nat_eq (get_or counts r.file 0) 0) rows
 abbrev pub highest_of : List Leveled → List ℕ
 highest_of urgent = map (λ l. l.block) (all_at Highest urgent)
 
--- The lost files have a missing block. The endangered ones have a block at the highest level, and
--- are not lost.
+-- A lost file has a missing block. An endangered file has a block at the highest level and is not
+-- lost.
 pub record AreAtRisk (f : FileTable) (missing : List ℕ) (urgent : List Leveled) (risk : AtRisk) : Type 0 where
   pub missing_counts : List ℕ
   pub missing_counted : AreCounts f missing missing_counts

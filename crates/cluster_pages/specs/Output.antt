@@ -10,24 +10,24 @@ use Rattle.cluster_pages.specs.declared.output.PrintFault.{PrintFault}
 use Rattle.cluster_pages.specs.declared.output.PrintFault.TheVariants as fault
 use Rattle.cluster_pages.specs.declared.output.Standing.{Standing}
 
--- what is counted of the manager's state, and the files of its missing and its most urgent blocks
+-- the report on the manager's state, and the files of its missing and its most urgent blocks
 pub record StandsAs (loaded : Loaded) (s : Standing) : Type 0 where
   pub report : s.report ≡ report_of loaded.session.manager
   pub risk : AreAtRisk loaded.files s.report.missing s.report.urgent s.risk
 
--- the text of the report on that
+-- the text is that of the report
 pub record IsReportOn (loaded : Loaded) (most : ℕ) (text : List ℕ) : Type 0 where
   pub standing : Standing
   pub stands : StandsAs loaded standing
   pub text_is : text ≡ report_text loaded.names loaded.files most standing.report standing.risk
 
--- the text of the report comes behind what was written before
+-- the text of the report is appended to the earlier output
 pub record PrintsReport (loaded : Loaded) (most : ℕ) (old new : Option (List ℕ)) : Type 0 where
   pub text : List ℕ
   pub is_report : IsReportOn loaded most text
   pub appends : Appends old new text
 
--- nothing is written where the text could not be made
+-- nothing is written if the text cannot be made
 abbrev pub WritesNothing : {W : Type 0} → PrintFault → W → W → Type 0
 WritesNothing fault.Memory old new = new ≡ old
 WritesNothing (fault.Write error) old new = ⊤

@@ -21,19 +21,19 @@ use Rattle.cluster_report.specs.declared.report.Report.{Report}
 use Rattle.cluster_pages.specs.declared.at_risk.AtRisk.{AtRisk}
 use Rattle.cluster_pages.specs.declared.at_risk.FileRow.{FileRow}
 
--- a sum of bytes, as far as 128 bits hold it
+-- a sum of bytes, at most 2^128 - 1
 abbrev pub capped : ℕ → ℕ → ℕ
 capped a b = min (a + b) (2 ^ 128 - 1)
 
--- the bytes that these storages hold
+-- the bytes on these storages
 abbrev pub bytes_on : List StorageRow → ℕ
 bytes_on ss = fold (λ total s. capped total s.bytes) 0 ss
 
--- how many thousandths of a total a part is, rounded down; 0 of nothing
+-- a part of a total in thousandths, rounded down; 0 if the total is 0
 abbrev pub thousandths : ℕ → ℕ → ℕ
 thousandths n total = min (n * 1000) (2 ^ 128 - 1) / max 1 total
 
--- a part in per cent, to a tenth
+-- a part in per cent, with one decimal
 abbrev pub share : ℕ → ℕ → Text
 share n total = decimal (thousandths n total / 10) ++ (codes "." ++ (decimal (thousandths n total % 10) ++ codes "%"))
 
@@ -50,7 +50,7 @@ state_word Live = codes "live"
 state_word Draining = codes "draining"
 state_word Retired = codes "retired"
 
--- what is held: replicas, their bytes and their part of all replicas, and the bytes that are left
+-- the replicas, their bytes and their part of all replicas, and the free bytes
 unfoldable pub held_text : ℕ → ℕ → ℕ → ℕ → Text
 held_text all replicas bytes remaining =
     codes " replicas " ++ (decimal replicas
@@ -62,11 +62,11 @@ held_text all replicas bytes remaining =
 unfoldable pub place_text : Names → NodeRow → Text
 place_text names row = codes "node " ++ (name_or_number [] names.nodes row.node ++ (codes " rack " ++ name_or_number [] names.racks row.rack))
 
--- whether it is in use, and how many storages it has
+-- the state of a node, and its number of storages
 unfoldable pub use_text : NodeRow → Text
 use_text row = codes " " ++ (state_word row.state ++ (codes " storages " ++ decimal (length row.storages)))
 
--- a node: its rack and state, and what it holds
+-- a node: its rack, its state and its replicas
 unfoldable pub node_line : Names → ℕ → NodeRow → Text
 node_line names all row =
     place_text names row
@@ -87,7 +87,7 @@ abbrev pub all_block_bytes : LevelBytes → ℕ
 all_block_bytes ls =
     capped (capped (capped (capped (capped ls.highest ls.very_under_replicated) ls.under_replicated) ls.badly_distributed) ls.missing) ls.none
 
--- how many blocks there are, and how many lack replicas
+-- the number of blocks, and of those that lack replicas
 unfoldable pub lacking_text : LevelCounts → LevelBytes → Text
 lacking_text ls bytes =
     total_line (codes "blocks") (all_blocks ls) (all_block_bytes bytes)
@@ -101,7 +101,7 @@ other_text ls bytes =
     ++ (amount_line (codes "level missing") ls.missing bytes.missing (all_blocks ls)
     ++ amount_line (codes "level none") ls.none bytes.none (all_blocks ls))
 
--- how many blocks there are, and how many at each level
+-- the number of blocks, and of those at each level
 unfoldable pub levels_text : LevelCounts → LevelBytes → Text
 levels_text ls bytes = lacking_text ls bytes ++ other_text ls bytes
 
@@ -111,7 +111,7 @@ all_replicas ts = ts.good + ts.stale + ts.bad + ts.stray
 abbrev pub all_replica_bytes : TagBytes → ℕ
 all_replica_bytes ts = capped (capped ts.good ts.stale) ts.bad
 
--- how many replicas there are, and how many of each tag; the length of a stray one is not known
+-- the number of replicas, and of those of each tag; the length of a stray one is unknown
 unfoldable pub tags_text : TagCounts → TagBytes → Text
 tags_text ts bytes =
     total_line (codes "replicas") (all_replicas ts) (all_replica_bytes bytes)
@@ -144,12 +144,12 @@ urgent_text f b (Some urgency) =
 unfoldable pub urgent_line : FileTable → Leveled → Text
 urgent_line f l = urgent_text f l.block l.level
 
--- a file at risk: how many blocks, and its path
+-- a file at risk: its number of such blocks, and its path
 unfoldable pub file_line : Text → FileTable → FileRow → Text
 file_line what f r =
     what ++ (codes " blocks " ++ (decimal r.blocks ++ (codes " file " ++ (option_map_or (λ path. path) (slice_get f.paths r.file) [] ++ codes "\n"))))
 
--- how many calls were accepted and rounds taken, and the nodes
+-- the numbers of accepted calls and of rounds, and the nodes
 unfoldable pub cluster_text : Names → Report → Text
 cluster_text names r =
     count_line (codes "calls") r.calls
@@ -157,8 +157,8 @@ cluster_text names r =
     ++ (count_line (codes "nodes") (length r.nodes)
     ++ flat_map (node_text names (all_replicas r.tags)) r.nodes))
 
--- how many replicas are in excess and how many copies on their way, and the first of the blocks
--- that want copies
+-- the numbers of excess replicas and of pending copies, and the first of the blocks that need
+-- copies
 unfoldable pub work_text : FileTable → ℕ → Report → Text
 work_text f most r =
     count_line (codes "excess") r.excess
@@ -166,7 +166,7 @@ work_text f most r =
     ++ (flat_map (missing_line f) (take most r.missing)
     ++ flat_map (urgent_line f) (take most r.urgent)))
 
--- how many files are lost and endangered, and the first of them
+-- the numbers of lost and of endangered files, and the first of them
 unfoldable pub risk_text : FileTable → ℕ → AtRisk → Text
 risk_text f most risk =
     count_line (codes "lost files") (length risk.lost)
@@ -174,11 +174,11 @@ risk_text f most risk =
     ++ (count_line (codes "endangered files") (length risk.endangered)
     ++ flat_map (file_line (codes "endangered") f) (take most risk.endangered)))
 
--- nothing is said of files where none is known
+-- no line about files if no file is known
 abbrev pub files_text : FileTable → ℕ → AtRisk → Text
 files_text f most risk = if nat_eq (length f.paths) 0 then [] else risk_text f most risk
 
--- the lines of a report, with so many of each list at most
+-- the lines of a report, with at most `most` entries of each list
 unfoldable pub report_text : Names → FileTable → ℕ → Report → AtRisk → Text
 report_text names f most r risk =
     cluster_text names r ++ (levels_text r.levels r.level_bytes ++ (tags_text r.tags r.tag_bytes ++ (work_text f most r ++ files_text f most risk)))

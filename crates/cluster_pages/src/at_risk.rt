@@ -1,4 +1,4 @@
-// The files of blocks that are missing, or one failure away from that.
+// The files with blocks that are missing, or would be after one more failure.
 ghost use Rattle.std.specs.Prelude.{◌≡◌, get_or, replicate, IfOk};
 ghost use Rattle.bm_base.specs.Machine.Levels.{is_at};
 ghost use Rattle.cluster_pages.specs.AtRisk.{AreAtRisk, AreCounts, highest_of, rows_of, rows_without, with_one, with_place};
@@ -8,23 +8,23 @@ use cluster_names::{FilePlace, Files};
 use cluster_report::levels::Leveled;
 use std::alloc::{AllocError, Global};
 
-/// A file by its index, and how many of its blocks are at risk.
+/// The index of a file, and the number of its blocks at risk.
 #[derive(Clone, Copy)]
 pub struct FileRow {
     pub file: usize,
     pub blocks: usize,
 }
 
-/// The files at risk, in the order in which they were read.
+/// The files at risk, in the order of the input.
 #[derive(Drop)]
 pub struct AtRisk {
-    /// Those with a missing block.
+    /// The files with a missing block.
     pub lost: Items<FileRow>,
-    /// Those with a block at the highest level that are not lost.
+    /// The files with a block at the highest level that are not lost.
     pub endangered: Items<FileRow>,
 }
 
-/// The files of these missing blocks, and of the urgent ones at the highest level.
+/// The files at risk by these missing blocks, and by the urgent ones at the highest level.
 pub fn files_at_risk(
     alloc: Global,
     files: &Files,
@@ -71,7 +71,7 @@ fn is_highest(found: &Leveled) -> bool
     }
 }
 
-/// How many of these blocks are in each file.
+/// The number of these blocks in each file.
 fn count_by_file(alloc: Global, files: &Files, blocks: &[BlockId]) -> Result<Vec<usize>, AllocError>
     ensures { IfOk result (λ counts. AreCounts files.now blocks.now counts.items) }
 {
@@ -88,7 +88,7 @@ fn no_counts(alloc: Global, files: usize) -> Result<Vec<usize>, AllocError>
     vec![in alloc; 0usize; files]
 }
 
-/// Counts a block of which this is the place; nothing where it has none.
+/// Counts the block with this place, if it has one.
 fn count_place(counts: &mut Vec<usize>, place: Option<FilePlace>)
     ensures { counts.new.items ≡ with_place place counts.old.items }
 {
@@ -97,7 +97,7 @@ fn count_place(counts: &mut Vec<usize>, place: Option<FilePlace>)
     }
 }
 
-/// Counts one more at an index; nothing where there is none.
+/// Adds 1 to the count at an index, if there is one.
 fn add_one(counts: &mut [usize], index: usize)
     ensures { counts.new ≡ with_one counts.old index }
 {
@@ -121,7 +121,7 @@ fn rows_of(alloc: Global, counts: &[usize]) -> Result<Vec<FileRow>, AllocError>
         .collect(alloc)
 }
 
-/// Those of these files that have none of the counted blocks.
+/// The files among these that have none of the counted blocks.
 fn rows_without(
     alloc: Global,
     counts: &[usize],

@@ -5,13 +5,13 @@ use cluster_names::Names;
 use cluster_report::nodes::NodeRow;
 use std::alloc::AllocError;
 
-/// The width of a column and the gap behind it, in the units of the drawing.
+/// The width of a column, and the gap after it, in units of the drawing.
 const STEP: usize = 10;
 
-/// A drawing is as wide as this many columns at least.
+/// The least width of a drawing, in columns.
 const FEWEST_COLUMNS: usize = 24;
 
-/// The drawing is this high, and so is the column of the greatest node.
+/// The height of the drawing, and of the column of the greatest node.
 const HEIGHT: u128 = 1000;
 
 pub fn write_chart(text: &mut String, names: &Names, nodes: &[NodeRow]) -> Result<(), AllocError> {
@@ -31,7 +31,7 @@ pub fn write_chart(text: &mut String, names: &Names, nodes: &[NodeRow]) -> Resul
     text.push_str("</svg>\n")
 }
 
-/// The bytes that the greatest of these nodes holds or has free.
+/// The greatest number of bytes, held and free, of a node.
 fn greatest_of(nodes: &[NodeRow]) -> u128 {
     let mut most = 0u128;
     for row in nodes {
@@ -45,7 +45,7 @@ fn size_of(row: &NodeRow) -> u128 {
     bytes_on(storages).saturating_add(remaining_on(storages))
 }
 
-/// The column of a node: its free bytes above those that it holds, and a text that a pointer shows.
+/// The column of a node: its free bytes above its held ones, with a tooltip.
 fn write_column(
     text: &mut String,
     names: &Names,
@@ -66,7 +66,7 @@ fn write_column(
     text.push_str("</g>\n")
 }
 
-/// A bar that stands on the ground.
+/// A bar from the base line up.
 fn write_bar(text: &mut String, class: &str, left: usize, height: u128) -> Result<(), AllocError> {
     let top = HEIGHT.saturating_sub(height);
     write!(

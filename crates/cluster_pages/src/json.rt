@@ -115,7 +115,7 @@ struct FileJson<'a> {
     blocks: usize,
 }
 
-/// The report as one JSON value on one line, with at most so many blocks and files of each list.
+/// The report as one JSON value on one line, with at most `most` blocks and files of each list.
 pub fn standing_json(
     alloc: Global,
     loaded: &Loaded,
@@ -280,7 +280,7 @@ fn urgent_of<'a>(
     Ok(found)
 }
 
-/// The lost and the endangered files; nothing where no file is known.
+/// The lost and the endangered files; nothing if no file is known.
 fn files_of<'a>(
     alloc: Global,
     files: &'a Files,

@@ -1,41 +1,40 @@
-//! The report on a cluster: reads lines of the line tool or a text of `hdfs fsck`, and prints how
-//! the cluster stands.
+//! The report on a cluster: reads lines of the line tool or a text of `hdfs fsck`, and prints the
+//! state of the cluster.
 //!
 //! ```text
 //! puljemrod_cluster report cluster.jsonl
 //! puljemrod_cluster report --nodes nodes.txt fsck.txt
 //! ```
 //!
-//! The report has a line for each fact (docs/CLUSTERS.md). A line of the input that asks for no
-//! call, or whose call is refused, is noted on standard error with its number, and the report still
-//! comes.
+//! The report has a line for each fact (docs/CLUSTERS.md). An input line that asks for no call, or
+//! whose call is refused, gets a note with its number on standard error. The report is printed all
+//! the same.
 //!
-//! The numbers of the stored run of `puljemrod_cluster` follow from the rules. Nodes 1, 2 and 5
-//! stand on rack 1, nodes 3 and 4 on rack 2; nodes 2 and 5 drain, and node 5 has nothing, so it is
-//! retired. Replicas that were found bad or are of another version count for nothing. Of the blocks
-//! - 1 wants three replicas and has live ones on storages 11 and 31, not all but a third or more:
+//! The numbers of the stored run of `puljemrod_cluster` follow from the rules. Nodes 1, 2 and 5 are
+//! on rack 1, nodes 3 and 4 on rack 2. Nodes 2 and 5 drain; node 5 has no replica, so it is
+//! retired. Corrupt and stale replicas do not count. The blocks:
+//! - 1 wants three replicas and has live ones on storages 11 and 31, at least a third, but not all:
 //!   under_replicated;
-//! - 2 wants two and has one on storage 21, which drains, and none live: highest; the one on
+//! - 2 wants two and has none live, only one on storage 21, which drains: highest; the one on
 //!   storage 41 is stale;
-//! - 3 wants one and has none: it is missing;
-//! - 4 wants two; the replica on storage 11 was found bad, the one on storage 31 is live: highest;
+//! - 3 wants one and has none: missing;
+//! - 4 wants two and has one live, on storage 31; the one on storage 11 is corrupt: highest;
 //! - 5 wants one and has it on storage 41: no level;
 //! - 6 wants two and has them on storages 31 and 41, both on rack 2: badly_distributed;
 //! - 7 wants seven and has live ones on storages 11 and 41, fewer than a third:
 //!   very_under_replicated;
-//! - 8 wants one and has live ones on storages 11 and 31, so the round marks one as being in
-//!   excess: no level;
-//! - 9 is not known, so its replica on storage 12 is stray.
+//! - 8 wants one and has live ones on storages 11 and 31, so the round marks one as excess: no
+//!   level;
+//! - 9 is unknown, so its replica on storage 12 is stray.
 //!
-//! Copies can go to storages 11, 12 and 31 alone: nothing is free on storage 41, and nothing is
-//! copied to a node that drains or that has a replica of the block already, of whatever tag. So the
-//! round commands four copies: of block 2 to storages 12 and 31, of block 7 to storage 31 and of
-//! block 6 to storage 12; blocks 1 and 4 stand on nodes 1 and 3 already. One of them has come:
-//! three are on their way, and block 2 has one live replica now, which is the highest level still.
+//! Copies can go to storages 11, 12 and 31 alone. Storage 41 has no free bytes, and a node gets no
+//! copy if it drains or has a replica of the block, of any tag. So the round commands four copies:
+//! of block 2 to storages 12 and 31, of block 7 to storage 31, of block 6 to storage 12. Blocks 1
+//! and 4 have replicas on nodes 1 and 3 already. One copy has arrived and three are pending; block
+//! 2 has one live replica now, so its level is still the highest.
 //!
-//! Ends with status 0 where every line asked for a call that was accepted; with status 1 where one
-//! did not, or where a read, a write or memory was refused; and with status 2 where the words ask
-//! for nothing that there is.
+//! The exit status is 0 if every line asked for a call that was accepted. It is 1 if a line did
+//! not, if a read or a write failed, or if out of memory; and 2 if the words are refused.
 #![tactic(auto)]
 
 pub mod at_risk;
@@ -72,11 +71,11 @@ const FAULTED: u8 = 1;
 
 const MISUSED: u8 = 2;
 
-/// The program's name, in what it says.
+/// The program's name, in its messages.
 const PROGRAM: &str = "report";
 
-/// Makes the report that the words of a command line ask for, the program's name first, with
-/// refused lines on `notes`. The result is the exit status.
+/// Makes the report for the words of a command line, the program's name first. Notes on refused
+/// lines go to `notes`. Returns the exit status.
 pub fn report_by_words<
     R: Input + Print + Eprint + Files + AllocGlobal + Threads + Wait + Sync,
     N: Print,
@@ -101,7 +100,7 @@ pub fn report_by_words<
     }
 }
 
-/// Says why there is no report.
+/// Prints why there is no report.
 fn say_error<R: Print + Eprint>(rt: &R, error: &Error) -> u8 {
     if matches!(error.kind(), ErrorKind::OutOfMemory) {
         return say_memory(rt);
@@ -115,8 +114,7 @@ fn say_memory<R: Eprint>(rt: &R) -> u8 {
     FAULTED
 }
 
-/// The report on a cluster: the page, if one is asked for, and then the lines or the JSON value on
-/// standard output.
+/// Writes the page, if one is asked for, and then prints the lines or the JSON value.
 fn report_on<R: Print + Eprint + Files + AllocGlobal>(
     rt: &R,
     loaded: &Loaded,
@@ -147,7 +145,7 @@ fn report_on<R: Print + Eprint + Files + AllocGlobal>(
     }
 }
 
-/// Says why the report was not printed; nothing where its reader went away.
+/// Prints why the report was not printed; nothing if its reader closed the pipe.
 fn say_print_fault<R: Eprint>(rt: &R, fault: &PrintFault) -> u8 {
     let is_unread = match fault {
         PrintFault::Write(error) => error.kind() == io::ErrorKind::BrokenPipe,
@@ -177,7 +175,7 @@ fn print_json<W: Write>(
     }
 }
 
-/// Writes the page to a file, and says why it could not.
+/// Writes the page to a file. Prints the reason if that fails.
 fn write_page<R: Eprint + Files + AllocGlobal>(
     rt: &R,
     loaded: &Loaded,

@@ -5,7 +5,7 @@ use cluster_input::options::{WRONG_VALUE, with_input};
 use cluster_report::options::with;
 use std::alloc::{AllocError, Global};
 
-/// How many blocks and files of a list are named, if not all.
+/// The standard number of blocks and files of each list.
 pub const MOST_NAMED: usize = 10;
 
 const EXAMPLES: &str = "Examples:\n  \
@@ -17,12 +17,12 @@ A FILE holds lines of the line tool, or is a text of hdfs fsck. Several are read
 another,\n\
 and a text of fsck only as the first. Without FILE standard input is read.";
 
-/// What the words ask for beside the cluster.
+/// The options of a report; those for loading the cluster are apart.
 #[derive(Clone, Copy)]
 pub struct Form<'a> {
-    /// How many of each list are named at most.
+    /// The greatest number of entries of each list.
     pub most: usize,
-    /// One JSON value in place of lines.
+    /// Whether the report is one JSON value instead of lines.
     pub is_json: bool,
     /// The file for the page, if one is asked for.
     pub page: Option<&'a str>,
@@ -78,7 +78,7 @@ fn page<'a>(alloc: Global) -> Arg<'a> {
         .help("writes the report to FILE too, as one page that stands alone")
 }
 
-/// What is said of a value that is none of its option's.
+/// The message about a text that is no value of its option.
 pub fn wrong_value(alloc: Global) -> Result<Error, AllocError> {
     let mut command = command(alloc)?;
     command.error(ErrorKind::ValueValidation, WRONG_VALUE)

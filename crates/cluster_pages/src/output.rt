@@ -1,4 +1,4 @@
-// A report, written.
+// Writes a report.
 ghost use Rattle.std.specs.Prelude.{◌≡◌, IfOk, IfErr, OnOk, string_bytes};
 ghost use Rattle.std.specs.Io.KnownBytes.{Appends};
 ghost use Rattle.cluster_report.specs.Sessions.{IsInStep};
@@ -13,14 +13,14 @@ use std::io;
 use std::io::Write;
 use thiserror::Error;
 
-/// How a cluster stands, and its files at risk.
+/// The report on a cluster, and its files at risk.
 #[derive(Drop)]
 pub struct Standing {
     pub report: Report,
     pub risk: AtRisk,
 }
 
-/// How a loaded cluster stands. The manager refuses only what is out of memory here.
+/// The report on a loaded cluster. Here the manager refuses only when out of memory.
 pub fn standing_of(alloc: Global, loaded: &Loaded) -> Result<Standing, AllocError>
     requires { IsInStep loaded.now.session }
     ensures { IfOk result (λ s. StandsAs loaded.now s) }
@@ -58,7 +58,7 @@ pub fn standing_text(
     )
 }
 
-/// Why a report is not printed, or an unknown part of it where a write failed.
+/// Why a report was not printed. After a failed write, an unknown part was printed.
 #[derive(Clone, Copy, Debug, Error)]
 pub enum PrintFault {
     #[error("memory fault")]
@@ -80,7 +80,7 @@ impl From<AllocError> for PrintFault {
 }
 
 /// Prints the lines of a report, with at most this number of blocks and files of each list. Nothing
-/// is written before all of the text was made.
+/// is written before the whole text is made.
 #[tactic(auto, using(crate::proofs::OutputLemmas::printed))]
 pub fn print_report<W: Write>(
     alloc: Global,
@@ -101,7 +101,7 @@ pub fn print_report<W: Write>(
     }
 }
 
-/// Writes all of a text, and flushes.
+/// Writes a whole text, and flushes.
 pub fn write_flushed<W: Write>(writer: &mut W, text: &[u8]) -> io::Result<()>
     ensures { OnOk result (Appends (W.contents writer.old) (W.contents writer.new) text.now) }
 {

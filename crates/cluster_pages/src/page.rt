@@ -1,4 +1,4 @@
-// The report as one page that stands alone: tables, bars and a chart, all within it.
+// The report as one self-contained HTML page with tables, bars and a chart.
 use crate::at_risk::FileRow;
 use crate::chart::write_chart;
 use crate::output::Standing;
@@ -16,7 +16,7 @@ use cluster_report::nodes::{NodeRow, StorageRow};
 use cluster_report::report::Report;
 use std::alloc::{AllocError, Global};
 
-/// What stands before the first table.
+/// The page up to the first table.
 const HEAD: &str = "<!DOCTYPE html>\n<html lang=\"en\">\n<head>\n<meta charset=\"utf-8\">\n\
 <meta name=\"viewport\" content=\"width=device-width, initial-scale=1\">\n\
 <title>How the cluster stands</title>\n<style>\n\
@@ -50,7 +50,7 @@ p.none { opacity: .75; }\n\
 
 const FOOT: &str = "</body>\n</html>\n";
 
-/// The page of a report, with at most so many blocks and files of each list.
+/// The page of a report, with at most `most` blocks and files of each list.
 pub fn standing_page(
     alloc: Global,
     loaded: &Loaded,
@@ -72,7 +72,7 @@ pub fn standing_page(
     Ok(text)
 }
 
-/// The numbers that are looked at first.
+/// The most important numbers.
 fn write_summary(text: &mut String, files: &Files, standing: &Standing) -> Result<(), AllocError> {
     let report = &standing.report;
     text.push_str("<dl>\n")?;
@@ -204,7 +204,7 @@ fn write_node(text: &mut String, names: &Names, row: &NodeRow) -> Result<(), All
 const STORAGE_HEADS: &str = "<th>node</th><th>storage</th><th class=\"n\">replicas</th>\
 <th class=\"n\">bytes</th><th class=\"n\">free</th><th class=\"n\">filled</th><th></th>";
 
-/// The storages, in a part of the page that opens when it is asked for.
+/// The storages, in a part of the page that opens by a click.
 fn write_storages(text: &mut String, names: &Names, nodes: &[NodeRow]) -> Result<(), AllocError> {
     text.push_str("<details><summary>Storages of the nodes</summary>\n")?;
     begin_table(text, "Storages", STORAGE_HEADS)?;
@@ -226,7 +226,7 @@ fn write_storages_of(text: &mut String, names: &Names, node: &NodeRow) -> Result
     Ok(())
 }
 
-/// The cells of a storage behind that of its node.
+/// The cells of a storage after that of its node.
 fn write_storage(text: &mut String, names: &Names, row: &StorageRow) -> Result<(), AllocError> {
     text.push_str("<td class=\"path\">")?;
     match names.storage(row.storage) {
@@ -247,7 +247,7 @@ fn write_storage(text: &mut String, names: &Names, row: &StorageRow) -> Result<(
     write_share_cells(text, row.bytes, row.bytes.saturating_add(remaining), false)
 }
 
-/// The files at risk; nothing where no file is known.
+/// The files at risk; nothing if no file is known.
 fn write_files(
     text: &mut String,
     files: &Files,
@@ -292,7 +292,7 @@ fn write_file_table(
     write_rest(text, rows.len(), most)
 }
 
-/// How many of a list are named.
+/// Writes `none` after an empty list, or how many entries are shown of a longer one.
 fn write_rest(text: &mut String, count: usize, most: usize) -> Result<(), AllocError> {
     if count == 0 {
         return text.push_str("<p class=\"none\">none</p>\n");

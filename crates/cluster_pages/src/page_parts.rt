@@ -4,7 +4,7 @@ use bm_base::{NodeId, Rack};
 use cluster_names::Names;
 use std::alloc::AllocError;
 
-/// A text, with the five characters that HTML gives a meaning written by their names.
+/// A text with the five special characters of HTML escaped.
 pub fn write_escaped(text: &mut String, plain: &str) -> Result<(), AllocError> {
     for letter in plain.chars() {
         match letter {
@@ -30,7 +30,7 @@ pub fn write_number_cell(text: &mut String, number: u128) -> Result<(), AllocErr
 /// The binary units above the byte, each 1,024 of the one before.
 static UNITS: [&str; 8] = ["KiB", "MiB", "GiB", "TiB", "PiB", "EiB", "ZiB", "YiB"];
 
-/// Bytes in the greatest unit of which there is one, to a tenth, rounded down.
+/// Bytes in the greatest unit that gives at least 1, with one decimal, rounded down.
 pub fn write_bytes(text: &mut String, bytes: u128) -> Result<(), AllocError> {
     let mut below = bytes;
     for unit in &UNITS {
@@ -42,7 +42,7 @@ pub fn write_bytes(text: &mut String, bytes: u128) -> Result<(), AllocError> {
     write!(text, "{bytes} B")
 }
 
-/// So many of the unit below this one.
+/// Writes an amount in a unit, given in the next smaller unit, or in bytes if it is below 1 KiB.
 fn write_in_unit(text: &mut String, below: u128, unit: &str) -> Result<(), AllocError> {
     if below < 1024 && unit == "KiB" {
         return write!(text, "{below} B");
@@ -52,7 +52,7 @@ fn write_in_unit(text: &mut String, below: u128, unit: &str) -> Result<(), Alloc
     write!(text, "{whole}.{tenth} {unit}")
 }
 
-/// The name of a rack, or its number where it has none.
+/// The name of a rack, or its number if it has none.
 pub fn write_rack(text: &mut String, names: &Names, rack: Rack) -> Result<(), AllocError> {
     match names.rack(rack) {
         Some(name) => write_escaped(text, name),
@@ -63,7 +63,7 @@ pub fn write_rack(text: &mut String, names: &Names, rack: Rack) -> Result<(), Al
     }
 }
 
-/// The name of a node, or its number where it has none.
+/// The name of a node, or its number if it has none.
 pub fn write_host(text: &mut String, names: &Names, node: NodeId) -> Result<(), AllocError> {
     match names.host(node) {
         Some(name) => write_escaped(text, name),
@@ -107,7 +107,7 @@ pub fn write_share_cells(
     text.push_str("</td>")
 }
 
-/// A bar of so many thousandths of its width.
+/// A bar, filled to a number of thousandths.
 fn write_bar(text: &mut String, thousandths: u128, is_bad: bool) -> Result<(), AllocError> {
     let class = if is_bad { "bad" } else { "part" };
     write!(

@@ -13,8 +13,7 @@ use cluster_report::tag_counts::{TagBytes, TagCounts};
 use cluster_report::text_parts::write_count;
 use std::alloc::{AllocError, Global};
 
-/// The text of a report: a line for each fact. Of each list of blocks or files at most so many are
-/// named.
+/// The text of a report: a line for each fact, with at most `most` blocks and files of each list.
 #[tactic(auto, unfolding(crate::specs::Text::report_text))]
 pub fn report_text(
     alloc: Global,
@@ -36,7 +35,7 @@ pub fn report_text(
     Ok(text)
 }
 
-/// How many calls were accepted and rounds taken, and the nodes.
+/// The numbers of accepted calls and of rounds, and the nodes.
 #[tactic(auto, unfolding(crate::specs::Text::cluster_text))]
 fn write_cluster(text: &mut String, names: &Names, report: &Report) -> Result<(), AllocError>
     ensures { OnOk result (string_bytes text.new ≡ string_bytes text.old
@@ -49,7 +48,7 @@ fn write_cluster(text: &mut String, names: &Names, report: &Report) -> Result<()
     write_nodes(text, names, all_replicas(&report.tags), nodes)
 }
 
-/// How many blocks there are, and how many at each level.
+/// The number of blocks, and of those at each level.
 #[tactic(auto, unfolding(crate::specs::Text::levels_text))]
 fn write_levels(
     text: &mut String,
@@ -63,7 +62,7 @@ fn write_levels(
     write_other(text, levels, bytes)
 }
 
-/// How many blocks there are, and how many lack replicas.
+/// The number of blocks, and of those that lack replicas.
 #[tactic(auto, unfolding(crate::specs::Text::lacking_text))]
 fn write_lacking(
     text: &mut String,
@@ -113,7 +112,7 @@ fn write_other(
     write_amount(text, "level none", levels.none, bytes.none, all)
 }
 
-/// How many replicas there are, and how many of each tag.
+/// The number of replicas, and of those of each tag.
 #[tactic(auto, unfolding(crate::specs::Text::tags_text))]
 fn write_tags(text: &mut String, tags: &TagCounts, bytes: &TagBytes) -> Result<(), AllocError>
     ensures { OnOk result (string_bytes text.new ≡ string_bytes text.old
@@ -127,7 +126,7 @@ fn write_tags(text: &mut String, tags: &TagCounts, bytes: &TagBytes) -> Result<(
     write_amount(text, "stray", tags.stray, 0, all)
 }
 
-/// How many replicas are in excess and how many copies on their way, and the blocks that are named.
+/// The numbers of excess replicas and of pending copies, and the first blocks that need copies.
 #[tactic(auto, unfolding(crate::specs::Text::work_text))]
 fn write_work(
     text: &mut String,
@@ -144,7 +143,7 @@ fn write_work(
     write_urgent(text, files, first_of(report.urgent.as_slice(), most))
 }
 
-/// The files at risk; nothing where no file is known.
+/// The files at risk; nothing if no file is known.
 fn write_known_files(
     text: &mut String,
     files: &Files,
@@ -178,7 +177,7 @@ fn write_risk(
     write_files(text, "endangered", files, first_of(endangered, most))
 }
 
-/// The first of these, at most so many.
+/// The first entries of a list, at most `most`.
 pub fn first_of<T>(items: &[T], most: usize) -> &[T]
     ensures { result.now ≡ take most items.now }
 {

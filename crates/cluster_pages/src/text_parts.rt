@@ -43,7 +43,7 @@ pub fn write_total(
     write!(text, "{what} {count} bytes {bytes}\n")
 }
 
-/// A part of a total in per cent, to a tenth.
+/// A part of a total in per cent, with one decimal.
 pub fn write_share(text: &mut String, count: u128, total: u128) -> Result<(), AllocError>
     ensures { OnOk result (string_bytes text.new ≡ string_bytes text.old ++ share count total) }
 {
@@ -53,7 +53,7 @@ pub fn write_share(text: &mut String, count: u128, total: u128) -> Result<(), Al
     write!(text, "{whole}.{tenth}%")
 }
 
-/// How many thousandths of a total a part is, rounded down; 0 of nothing.
+/// A part of a total in thousandths, rounded down; 0 if the total is 0.
 pub fn thousandths(count: u128, total: u128) -> u128
     ensures { result ≡ thousandths count total }
 {
@@ -119,7 +119,7 @@ fn write_place(text: &mut String, names: &Names, row: &NodeRow) -> Result<(), Al
     write_name(text, names.rack(row.rack), row.rack.0)
 }
 
-/// Whether a node is in use, and how many storages it has.
+/// The state of a node, and its number of storages.
 #[tactic(auto, unfolding(crate::specs::Text::use_text))]
 fn write_use(text: &mut String, row: &NodeRow) -> Result<(), AllocError>
     ensures { OnOk result (string_bytes text.new ≡ string_bytes text.old ++ use_text row.now) }
@@ -129,7 +129,7 @@ fn write_use(text: &mut String, row: &NodeRow) -> Result<(), AllocError>
     write!(text, " {state} storages {count}")
 }
 
-/// A name, or the number of what has none.
+/// A name, or the number if there is none.
 fn write_name(text: &mut String, name: Option<&str>, number: u32) -> Result<(), AllocError>
     ensures { OnOk result (string_bytes text.new ≡ string_bytes text.old
         ++ shown (option_copied name.entry) [] number) }
@@ -140,7 +140,7 @@ fn write_name(text: &mut String, name: Option<&str>, number: u32) -> Result<(), 
     }
 }
 
-/// Replicas, their bytes and their part of all replicas, and the bytes that are left.
+/// The replicas, their bytes and their part of all replicas, and the free bytes.
 #[tactic(auto, unfolding(crate::specs::Text::held_text))]
 fn write_held(
     text: &mut String,
@@ -167,7 +167,7 @@ pub fn state_word(state: NodeState) -> &'static str
     }
 }
 
-/// The replicas that these storages hold.
+/// The number of replicas on these storages.
 pub fn replicas_on(rows: &[StorageRow]) -> u128
     ensures { result ≡ sum_by (λ s. s.replicas) rows.now }
 {

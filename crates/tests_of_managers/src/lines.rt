@@ -1,5 +1,5 @@
 // What no clause promises: a line is written and read if there is enough memory, and the
 // definitions agree with docs/FORMATS.md. Each line is written by hand from the table there.
 mod canonical;
-mod reading;
-mod written;
+mod parser;
+mod writer;

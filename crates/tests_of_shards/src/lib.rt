@@ -8,7 +8,7 @@ mod arena;
 #[cfg(test)]
 mod levels;
 #[cfg(test)]
-mod pending;
+mod pending_transfers;
 #[cfg(test)]
 mod placement;
 #[cfg(test)]

@@ -1,7 +1,7 @@
 use Rattle.std.proofs.Common.{map, take}
 use Rattle.fsck_import.specs.CallsFor.{heartbeat}
 use Rattle.cluster_report.specs.Sessions.{IsInStep}
-use Rattle.cluster_input.specs.Making.{Makes}
+use Rattle.cluster_input.specs.MadeCalls.{Makes}
 use Rattle.cluster_input.proofs.calls.make_heartbeats.Given as goal
 
 -- the calls so far

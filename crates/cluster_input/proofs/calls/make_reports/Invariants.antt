@@ -2,7 +2,7 @@ use Rattle.std.proofs.Common.{take}
 use Rattle.std.specs.List.{flat_map}
 use Rattle.fsck_import.specs.CallsFor.{reports}
 use Rattle.cluster_report.specs.Sessions.{IsInStep}
-use Rattle.cluster_input.specs.Making.{Makes}
+use Rattle.cluster_input.specs.MadeCalls.{Makes}
 use Rattle.cluster_input.proofs.calls.make_reports.Given as goal
 
 -- the calls so far
