@@ -15,8 +15,8 @@ use bm_base::{Level, StorageId};
 use bm_topo::Topology;
 
 /// The storage to which a block of `len` bytes is copied at this level. `held` are the storages
-/// that hold a live replica of the block or will, `excluded` those on whose nodes no copy may be put;
-/// an unknown one has no rack, and excludes nothing.
+/// that hold a live replica of the block or will. No copy goes to a node of the storages in
+/// `excluded`; an unknown storage has no rack, and excludes nothing.
 ///
 /// A storage is eligible if `len` fits with the bytes scheduled to it, and its node does not drain
 /// and is not excluded. If `held` is on one rack, another rack goes first, and for a badly

@@ -4,9 +4,9 @@
 //! answer. One has one shard and one worker; the other has random numbers of both. The calls come
 //! in lists of 2,000, each on two new managers. Prints how many calls were answered alike.
 //!
-//! `check_random concurrent [TIMES [SEED]]` makes TIMES lists of 100 calls; the other manager has five
-//! shards and four workers. It publishes after each call, and two threads read in parallel: each
-//! read must be of a state that the manager with one shard and one worker had.
+//! `check_random concurrent [TIMES [SEED]]` makes TIMES lists of 100 calls; the other manager has
+//! five shards and four workers. It publishes after each call, and two threads read in parallel:
+//! each read must be of a state that the manager with one shard and one worker had.
 //!
 //! The exit status is 1 in five cases:
 //! - two answers differ;

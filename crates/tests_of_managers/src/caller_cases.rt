@@ -330,8 +330,8 @@ fn version(calls: u64) -> Option<Located> {
     }
 }
 
-/// Whether a reader that learned of the version after `learnt` calls may see this: block 7 as of that
-/// version or a later one.
+/// Whether a reader that learned of the version after `learnt` calls may see this: block 7 as of
+/// that version or a later one.
 fn may_be_seen(seen: &Seen, learnt: u64) -> bool {
     match seen.found {
         Some(found) => {

@@ -185,13 +185,13 @@ static TWELVE: [(u32, u32, u64); 12] = [
 
 static MANY: [Choice<'static>; 4] = [
     // 12 goes, which leaves 11 alone on the third rack. Then 4, 3 and 2 of the first rack and 7 and
-    // 8 of the second run_steps, in the order of their bytes.
+    // 8 of the second go, in the order of their bytes.
     Choice {
         live: &[1, 2, 3, 4, 5, 6, 7, 8, 9, 10, 11, 12],
         repl: 6,
         chosen: &[12, 4, 7, 8, 3, 2],
     },
-    // Then 11 is alone on its rack and has to wait. 6 and 1 of the first rack run_steps, which leaves 5
+    // Then 11 is alone on its rack and has to wait. 6 and 1 of the first rack go, which leaves 5
     // alone, and 10 of the second, which leaves 9 alone. Of these three 11 has the fewest bytes,
     // then 9.
     Choice {
@@ -542,7 +542,7 @@ static TARGETS: [Target<'static>; 18] = [
         level: Level::Highest,
         chosen: Some(31),
     },
-    // The copy of a badly distributed block can only run_steps to another rack.
+    // The copy of a badly distributed block can only go to another rack.
     Target {
         free: FOUR_NODES,
         draining: &[],
