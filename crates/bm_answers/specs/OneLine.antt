@@ -16,7 +16,7 @@ abbrev pub asked_by : Option Call → Asked
 asked_by None = Bad
 asked_by (Some k) = Asks k
 
--- what a line asks, where it is not too long
+-- the call that a line asks for, if it is not too long
 unfoldable pub asked : List ℕ → Asked
 asked line = if nat_lt MAX_LINE (length line) then Long else asked_by (call_of line)
 

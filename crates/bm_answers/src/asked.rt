@@ -28,7 +28,8 @@ pub fn asked_by(alloc: Global, line: &Line) -> Result<Asked, AllocError>
     asked_of(alloc, line.bytes.as_slice())
 }
 
-/// What the bytes of a line ask. `Err` where memory was refused, and the line is not too long.
+/// The call that the bytes of a line ask for. `Err` if out of memory; the line is then not too
+/// long.
 pub fn asked_of(alloc: Global, line: &[u8]) -> Result<Asked, AllocError>
     ensures asked { IfOk result (λ a. a ≡ asked line.now) }
     ensures not_long { OnErr result (asked line.now ≡ Long → ⊥) }

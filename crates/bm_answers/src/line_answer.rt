@@ -46,7 +46,7 @@ impl LineAnswer {
         }
     }
 
-    /// The number of the refusal, as in the text; 0 where nothing was refused.
+    /// The number of the refusal, as in the text; 0 if nothing was refused.
     pub fn number(&self) -> u32
         ensures { result ≡ number_of self.now }
     {

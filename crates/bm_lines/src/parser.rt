@@ -1,5 +1,5 @@
-// A line as a call: read by its bytes where it is in canonical form, else by the value that
-// `serde_json` reads of it.
+// Parses a line as a call: a canonical line by its bytes, any other by the value that `serde_json`
+// reads.
 
 mod call;
 mod canonical;

@@ -55,7 +55,7 @@ given name words = first_of name (rows_given words)
 abbrev pub number_of : Text → ℕ
 number_of text = digits_value 10 (without_leading_plus text)
 
--- n is the number that an option's text writes, where that is a number of 32 bits
+-- n is the number in an option's text, if it fits into 32 bits
 abbrev pub IsNumberOf : Found → Text → ℕ → Type 0
 IsNumberOf found name n = (text : Text) → one_text found name ≡ Some text → IsNumeral 10 (without_leading_plus text) → number_of text < 2 ^ 32
     → n ≡ number_of text

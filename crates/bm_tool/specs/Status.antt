@@ -20,7 +20,7 @@ status_of Helped = 0
 status_of (Faulted fault) = 1
 status_of Misused = 2
 
--- how the program ends where the options gave no configuration, by the kind of the error
+-- the end of the program if the options give no configuration, by the kind of the error
 abbrev pub end_of : ErrorKind → End
 end_of kind.OutOfMemory = Faulted Memory
 end_of kind.DisplayHelp = Helped

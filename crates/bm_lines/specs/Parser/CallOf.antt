@@ -14,7 +14,7 @@ use Rattle.bm_lines.specs.declared.parser.op.Op.TheVariants as op
 use Rattle.bm_lines.specs.Parser.Op.{op_of}
 use Rattle.bm_lines.specs.Parser.Fields.{number_field, small_field, small_list_field, stamp_from, entries_field, remaining_field}
 
--- the call that applies an event of these fields, or None where one is missing
+-- the call that applies an event with these fields; None if one is missing
 
 abbrev pub apply_one : {A : Type 0} → (A → Event) → Option A → Option Call
 apply_one event (Some a) = Some (call.Apply (event a))

@@ -23,7 +23,7 @@ small_in d = option_and_then below_32 (number_in d)
 abbrev pub small_field : List ℕ → Data → Option ℕ
 small_field name d = option_and_then below_32 (number_field name d)
 
--- f of each, or None where one has none
+-- f of each; None if one of them has none
 abbrev pub each : {A B : Type 0} → (A → Option B) → List A → Option (List B)
 each f [] = Some []
 each f (x ∷ xs) = option_and_then (λ y. option_map (λ ys. y ∷ ys) (each f xs)) (f x)

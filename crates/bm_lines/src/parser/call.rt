@@ -14,7 +14,7 @@ use bm_base::{Call, Entry, Event, Items, Remaining, StorageId};
 use serde_json::Value;
 use std::alloc::{AllocError, Global};
 
-/// The call that a line asks for, or `None` where it asks for none.
+/// The call that a line asks for; `None` if it asks for none.
 pub fn call_of(alloc: Global, line: &[u8]) -> Result<Option<Call>, AllocError>
     ensures call { IfOk result (λ o. o ≡ call_of line.now) }
     // It can be written again: `line_of` asks for no more.
@@ -63,7 +63,7 @@ fn call_in(alloc: Global, value: &Value) -> Result<Option<Call>, AllocError>
     }
 }
 
-/// The call of this name with the fields of the object, or `None` where one is missing.
+/// The call of this name with the fields of the object; `None` if one is missing.
 fn call_for(alloc: Global, op: Op, value: &Value) -> Result<Option<Call>, AllocError>
     ensures { IfOk result (λ o. o ≡ call_for op (view value.now)) }
 {

@@ -1,5 +1,4 @@
-// The fields of a line's object that are numbers: `None` where there is no such field, or where it
-// is no such number.
+// The numbers in a line's object. `None` if the field is missing, or is no such number.
 ghost use Rattle.std.specs.Prelude.{◌≡◌, option_and_then, codes};
 ghost use Rattle.serde_json.specs.View.{view};
 ghost use Rattle.bm_lines.specs.Parser.Fields.{number_field, below_32, small_in, small_field, stamp_from};
@@ -66,7 +65,7 @@ pub fn small_in(value: &Value) -> Option<u32>
     small(value.as_u64())
 }
 
-/// The number, where it is below 2^32.
+/// The number, if it is below 2^32.
 fn small(number: Option<u64>) -> Option<u32>
     ensures { result ≡ option_and_then below_32 number }
 {

@@ -30,7 +30,7 @@ pub enum Op {
     Retired,
 }
 
-/// The call of this name, where there is one.
+/// The call of this name, if there is one.
 pub fn op_of(name: &str) -> Option<Op>
     ensures { result ≡ op_of name.now }
 {
