@@ -1,4 +1,4 @@
--- The first lines of a text.
+-- The head of a text ends with the first line that is not blank, or is the whole text.
 use Rattle.std.proofs.Common.{◌≡◌, ℕ, zero, suc, Bool, true, false, cond, not, ◌||◌, List, [], ◌∷◌, ◌++◌, drop, length, Option, Some, None, IfSome, refl, sym, ap, subst, ◌∙◌, append_assoc, append-nil}
 use Rattle.std.specs.List.{find, list_any}
 use Rattle.std.specs.Io.{StartsWith, appended_bytes}
@@ -6,7 +6,7 @@ use Rattle.std.specs.Io.KnownBytes.{Consumes, IsAtEnd}
 use Rattle.std.proofs.lemmas.List.{take-append-drop}
 use Rattle.cluster_input.specs.Kinds.{is_blank, is_brace, are_lines, IsHead, IsHeadOf}
 
--- what is not blank in the front is the first in the whole
+-- the first byte that is not blank in the front is the first in the whole
 find_in : (p : ℕ → Bool) (xs ys : List ℕ) → list_any p xs ≡ true → find p (xs ++ ys) ≡ find p xs
 find_in p [] ys h = cc
 find_in p (x ∷ xs) ys h = by (p x) h (λ k. find_in p xs ys k)
@@ -32,7 +32,7 @@ more_read (Some a) None c xs ys h k = absurd h
 more_read (Some a) (Some b) None xs ys h k = k
 more_read (Some a) (Some b) (Some c) xs ys h k = h ∙ ap (λ t. xs ++ t) k ∙ sym (append_assoc xs ys c)
 
--- one more line is behind the head
+-- one more line is appended to the head
 pub head_more : (known a b : Option (List ℕ)) (old new : List ℕ) → Consumes known a old → Consumes a b (appended_bytes old new) → StartsWith new old
     → Consumes known b new
 head_more known a b old new h k starts =
@@ -50,7 +50,7 @@ head_found (Some text) (Some rest) head h found = record {
   begins = record { parts = h; alike = alike_here head rest found ∙ ap are_lines (sym h) };
 }
 
--- or it is all of the text
+-- or the head is the whole text
 pub head_whole : (known left : Option (List ℕ)) (head : List ℕ) → Consumes known left head → IsAtEnd left
     → IfSome known (λ text. IsHeadOf text head left)
 head_whole None left head h done = tt

@@ -1,4 +1,4 @@
--- What is known after a text was read, where the bytes of its reader are known.
+-- After a text was read, the loaded cluster is that of the text, if the reader's bytes are known.
 use Rattle.std.proofs.Common.{◌≡◌, ℕ, Bool, true, List, [], Option, Some, None, IfSome, Ok, refl, sym, ap, subst, ◌∙◌, append-nil}
 use Rattle.std.specs.Fmt.{option_append}
 use Rattle.std.specs.Io.KnownBytes.{Appends}

@@ -1,4 +1,4 @@
--- A report that is made and printed.
+-- The printed text is that of the report on the loaded cluster.
 use Rattle.std.proofs.Common.{◌≡◌, ℕ, List, Option}
 use Rattle.std.specs.Io.KnownBytes.{Appends}
 use Rattle.cluster_input.specs.declared.loaded.Loaded.{Loaded}
@@ -6,7 +6,7 @@ use Rattle.cluster_pages.specs.Output.{IsReportOn, PrintsReport, StandsAs}
 use Rattle.cluster_pages.specs.Text.{report_text}
 use Rattle.cluster_pages.specs.declared.output.Standing.{Standing}
 
--- the text of what is counted is a report
+-- the text of the counts is a report
 pub reported : (loaded : Loaded) (most : ℕ) (text : List ℕ) (standing : Standing)
     → StandsAs loaded standing
     → text ≡ report_text loaded.names loaded.files most standing.report standing.risk

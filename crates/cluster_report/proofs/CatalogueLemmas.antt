@@ -1,4 +1,4 @@
--- What a catalogue has after an event.
+-- A catalogue holds the known blocks after each event.
 use Rattle.std.proofs.Common.{◌≡◌, ℕ, Bool, true, false, cond, ◌==◌, if◌then◌else◌, [], Option, Some, None, option_map, arith, refl, sym, ap, subst, ◌∙◌}
 use Rattle.std.specs.Prelude.{nat_eq}
 use Rattle.std.specs.Map.{lookup}

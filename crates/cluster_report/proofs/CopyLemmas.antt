@@ -1,4 +1,4 @@
--- The copies on their way, after a round.
+-- After a round the book has the pending copies of the state.
 use Rattle.std.proofs.Common.{◌≡◌, ℕ, ◌+◌, ◌-◌, ◌<◌, Bool, true, false, cond, not, ◌&&◌, ◌||◌, Option, Some, List, [], ◌∷◌, ◌++◌, map, filter, length, take, get_or, refl, ap, sym, ◌∙◌, append-nil, arith}
 use Rattle.std.specs.Prelude.{nat_lt, nat_le}
 use Rattle.std.specs.Ordering.{eq_by_cmp}
@@ -37,7 +37,7 @@ module _ {K X : Type 0} {o : Order K} where
       ∙ ap (insert_all m) (map-append f (take i ys) (y ∷ []))
       ∙ insert_all-append m (map f (take i ys)) (f y ∷ [])
 
-  -- all of one more are put
+  -- all entries of one more element are inserted
   pub insert_more_all : {Y : Type 0} (m : Map o X) (f : Y → List (K × X)) (ys : List Y) (i : ℕ) (y : Y) → i < length ys → get_or ys i y ≡ y
       → insert_all m (flat_map f (take (i + 1) ys)) ≡ insert_all (insert_all m (flat_map f (take i ys))) (f y)
   insert_more_all m f ys i y low is =
@@ -47,7 +47,7 @@ module _ {K X : Type 0} {o : Order K} where
       ∙ insert_all-append m (flat_map f (take i ys)) (f y ++ [])
       ∙ ap (insert_all (insert_all m (flat_map f (take i ys)))) (append-nil (f y))
 
-  -- where all values that are put are one
+  -- if all inserted values are equal
   get_insert_all : (m : Map o X) (v : X) (es : List (K × X)) (q : K) → Each (λ e. e.1 ≡ v) es → get (insert_all m es) q ≡ cond (list_any (λ e. eq_by_cmp o.cmp q e.0) es) (Some v) (get m q)
   get_insert_all m v [] q h = refl
   get_insert_all m v (e ∷ es) q h =
@@ -55,14 +55,14 @@ module _ {K X : Type 0} {o : Order K} where
       ∙ ap (cond (list_any (λ d. eq_by_cmp o.cmp q d.0) es) (Some v)) (get-insert m e.0 e.1 q ∙ ap (λ x. cond (eq_by_cmp o.cmp q e.0) (Some x) (get m q)) h.0)
       ∙ first_or_later (eq_by_cmp o.cmp q e.0) (list_any (λ d. eq_by_cmp o.cmp q d.0) es) v (get m q)
 
-  -- one value is put at keys of which the lists have the same
+  -- one value is inserted at the keys of two lists with the same keys
   insert_alike : (m : Map o X) (v : X) (xs ys : List (K × X)) → Each (λ e. e.1 ≡ v) xs → Each (λ e. e.1 ≡ v) ys
       → ((p : K × X → Bool) → list_any p xs ≡ list_any p ys) → insert_all m xs ≡ insert_all m ys
   insert_alike m v xs ys all_xs all_ys same =
       same_map (insert_all m xs) (insert_all m ys) (λ q.
       get_insert_all m v xs q all_xs ∙ ap (λ b. cond b (Some v) (get m q)) (same (λ e. eq_by_cmp o.cmp q e.0)) ∙ sym (get_insert_all m v ys q all_ys))
 
--- ---- what the nodes are all_sent, all together
+-- ---- the commands of all nodes
 
 same_truth : (a b : Bool) → (a ≡ true → b ≡ true) → (b ≡ true → a ≡ true) → a ≡ b
 same_truth true b f g = sym (f refl)
@@ -139,7 +139,7 @@ module _ (C : Cluster) (r : ℕ) (ts : List Transfer) (ds : List Delete) where
       (each_mapped (λ e. e.1 ≡ r) sent ts (each_of _ ts (λ t. refl)))
       (λ p. all_commanded p ns each)
 
--- the copies that a round leaves on their way, from what it commands
+-- the pending copies after a round, by its commands
 pub round_copies : (M : State) → IsLawful M
     → insert_all (keep M.holdings.pending (λ _ r. not (nat_le M.limits.pend ((whole_round M).0.round - r)))) (flat_map (commanded_to (whole_round M).0.round) (whole_round M).0.nodes)
     ≡ (whole_round M).1.holdings.pending

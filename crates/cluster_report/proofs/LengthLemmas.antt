@@ -1,4 +1,4 @@
--- The lengths of blocks by a catalogue.
+-- The lengths in a catalogue are those of the known blocks.
 use Rattle.std.proofs.Common.{◌≡◌, ℕ, List, sum_by, ap}
 use Rattle.std.specs.Option.{option_map_or}
 use Rattle.bm_base.specs.declared.replica.BlockInfo.{BlockInfo}

@@ -1,4 +1,4 @@
--- The first line of an input.
+-- The lines of an input are its first line and the lines of the rest.
 use Rattle.std.proofs.Common.{◌≡◌, ◌≢◌, ℕ, ◌<◌, Bool, true, false, List, [], ◌∷◌, ◌++◌, Option, Some, None, MatchOption, unwrap_or, ◌==◌, if◌then◌else◌, length, arith, refl, sym, ap, ◌∙◌, inl, inr}
 use Rattle.std.proofs.lemmas.Bool.{ne_eqb}
 use Rattle.std.proofs.lemmas.Bool.Decides.{eqb_tells}
@@ -17,7 +17,7 @@ without_end-none [] none = refl
 without_end-none (x ∷ []) none = rw (ne_eqb x 10 (λ e. none [] (ap (λ b. b ∷ []) e))) refl
 without_end-none (x ∷ y ∷ xs) none = ap (λ ys. x ∷ ys) (without_end-none (y ∷ xs) (λ front e. none (x ∷ front) (ap (λ ys. x ∷ ys) e)))
 
--- what a call of strip_suffix gives
+-- the result of strip_suffix
 pub without_end-from : (line : Bor (List ℕ)) (r : Option (Bor (List ℕ))) → MatchOption r ((front : List ℕ) → line.now ≢ front ++ 10 ∷ []) (λ x. line.now ≡ x.now ++ 10 ∷ []) → (unwrap_or r line).now ≡ without_end line.now
 without_end-from line None h = sym (without_end-none line.now h)
 without_end-from line (Some x) h = sym (ap without_end h ∙ without_end-push x.now)

@@ -1,4 +1,4 @@
--- Which numbers the entries of a report name, by the ends of their runs.
+-- A report names a number if and only if the number is within one of its runs.
 use Rattle.std.proofs.Common.{◌≡◌, ℕ, Bool, ◌&&◌, ◌||◌, List, [], ◌∷◌, map, refl, sym, ap, ◌∙◌}
 use Rattle.std.specs.Prelude.{◌==◌, nat_le, flat_map}
 use Rattle.std.specs.List.{list_any}

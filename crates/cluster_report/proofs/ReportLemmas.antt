@@ -1,4 +1,4 @@
--- A report, field by field.
+-- A report with the right fields is the report on the state.
 use Rattle.std.proofs.Common.{◌≡◌}
 use Rattle.bm_base.specs.Machine.State.{State}
 use Rattle.cluster_report.specs.Reports.{report_of}

@@ -1,4 +1,4 @@
--- What a book has after a call.
+-- The book follows the manager after each call.
 use Rattle.std.proofs.Common.{◌≡◌, Bool, true, false, cond, not, ◌-◌, Option, Some, None, Result, Ok, Err, OnOk, inl, inr, refl, sym, ap, subst, ◌∙◌}
 use Rattle.std.specs.Prelude.{nat_le}
 use Rattle.std.specs.List.{flat_map}

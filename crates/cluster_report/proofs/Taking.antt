@@ -1,4 +1,4 @@
--- The keys of a map, taken by their place.
+-- Taking the keys of a map by index gives all keys.
 use Rattle.std.proofs.Common.{◌≡◌, ℕ, ◌+◌, ◌≤◌, List, [], ◌∷◌, ◌++◌, Some, take, slice_get, arith, ap, ◌∙◌}
 use Rattle.std.proofs.lemmas.List.{take_more, take_all, length-map}
 use Rattle.std.proofs.lemmas.Option.{slice_get_within, get_or_from_slice_get}

@@ -1,4 +1,4 @@
--- The corrupt replicas, and the nodes that drain.
+-- Each step keeps the lists of corrupt replicas and of draining nodes right.
 use Rattle.std.proofs.Common.{◌≡◌, ℕ, zero, suc, ◌+◌, ◌-◌, ◌<◌, ◌≤◌, ◌==◌, ◌||◌, Bool, true, false, List, [], ◌∷◌, ◌++◌, map, length, length-append, refl, sym, ap, subst, ◌∙◌, arith, true≢false, if◌then◌else◌}
 use Rattle.std.specs.List.{list_any, AllByRecursion}
 use Rattle.std.proofs.lemmas.Bool.Decides.{nat_tests}
@@ -18,7 +18,7 @@ use Rattle.fsck_import.proofs.NameLemmas.{map-push, name_of-more, same_name, sam
 abbrev pub by_name : List Text → Bad → Text × ℕ
 by_name names b = (name_of names b.storage, b.id)
 
--- the storage of a replica has one of so many names
+-- the storage of a replica has one of the first n names
 abbrev pub HasName : ℕ → Bad → Type 0
 HasName n b = b.storage - 1 < n
 

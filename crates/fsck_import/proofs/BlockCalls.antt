@@ -1,4 +1,4 @@
--- The calls for a cluster tell of the blocks that it took.
+-- The calls for a cluster describe the blocks that were added to it.
 use Rattle.std.proofs.Common.{◌≡◌, ℕ, Bool, true, false, List, [], ◌∷◌, ◌++◌, Ok, map, length, refl, sym, ap, subst, ◌∙◌, arith}
 use Rattle.std.specs.List.{flat_map, list_any, AllByRecursion}
 use Rattle.std.specs.List.Sorted.{IsPermutation}
@@ -25,7 +25,7 @@ use Rattle.fsck_import.proofs.BlockLemmas.{numbered, with_blocks, blocks_sound, 
 use Rattle.fsck_import.proofs.ReportLemmas.{rows_reported, empty_reported, calls_report, calls_corrupt, calls_drain, drained_from, node_drains}
 use Rattle.fsck_import.proofs.SpareLemmas.{Spared, all_spared}
 
--- nothing was taken; these nodes drain
+-- no block was added; these nodes drain
 abbrev pub nothing_taken : List Text → Taken
 nothing_taken addresses = record { blocks = []; numbers = []; last = 0; replicas = []; bad = []; addresses = addresses }
 
@@ -57,7 +57,7 @@ reported_are c d remaining spared fits =
     ∙ append-nil (replicas_reported d.storages (flat_map reports c.rows))
     ∙ rows_reported d.storages [] c.storages spared.more_names c.rows 1 spared.storages (omega arith) fits
 
--- and call corrupt what is corrupt in c
+-- the calls mark just the corrupt replicas of c as corrupt
 corrupt_are : (c d : Cluster) → Spared c d → AllByRecursion (HasName (length c.storages)) c.bad → map (by_name d.storages) d.bad ≡ map (by_name c.storages) c.bad
 corrupt_are c d spared within =
     ap (map (by_name d.storages)) spared.bad ∙ ap (λ names. map (by_name names) c.bad) spared.storages ∙ bad-more c.storages spared.more_names c.bad within

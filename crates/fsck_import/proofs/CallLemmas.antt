@@ -1,4 +1,4 @@
--- The calls for a cluster: what they add, and in which order.
+-- The calls for a cluster add its blocks in order, before any call about a replica.
 use Rattle.std.proofs.Common.{◌≡◌, ℕ, false, ◌||◌, List, [], ◌∷◌, ◌++◌, map, drop, refl, ap, ◌∙◌}
 use Rattle.std.specs.List.{flat_map, list_any}
 use Rattle.std.proofs.lemmas.Grind.{flat_map-append}
@@ -34,7 +34,7 @@ module _ {A : Type 0} (f : A → Call) where
 no_replica-append : (xs ys : List Call) → list_any is_about_replicas xs ≡ false → list_any is_about_replicas ys ≡ false → list_any is_about_replicas (xs ++ ys) ≡ false
 no_replica-append xs ys h k = list_any-append is_about_replicas xs ys ∙ ap (λ b. b || list_any is_about_replicas ys) h ∙ k
 
--- the calls before the blocks and their replicas say nothing of a kind
+-- the calls about nodes have nothing of some kind
 pub none-nodes : {X : Type 0} (g : Call → List X) (c : Cluster) (remaining : ℕ) → ((x : _) → g (register c.rows x) ≡ []) → ((x : _) → g (heartbeat c.rows remaining x) ≡ [])
     → flat_map g (map (register c.rows) c.node_rows ++ map (heartbeat c.rows remaining) c.node_rows) ≡ []
 none-nodes g c remaining h k = none-append g (map (register c.rows) c.node_rows) (map (heartbeat c.rows remaining) c.node_rows) (none-map g (register c.rows) h c.node_rows) (none-map g (heartbeat c.rows remaining) k c.node_rows)

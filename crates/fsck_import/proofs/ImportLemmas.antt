@@ -1,4 +1,4 @@
--- A whole run.
+-- A whole run writes the lines and tables of its text, or ends with a fault of it.
 use Rattle.std.proofs.Common.{◌≡◌, ℕ, Option, Some, None, IfSome, Result, Ok, Err, refl, sym, subst}
 use Rattle.std.specs.Prelude.{IsOk}
 use Rattle.fsck_text.specs.Cuts.{Text}
@@ -63,7 +63,7 @@ is_taken outcome read e = subst IsOk (sym e) refl
 pub output_refuses : (f : Fault) (start read : Reading) (known : Option Text) → IfSome known (λ text. reading_of start text ≡ Ok read) → IsOutputFault f → IsFaultOfRun start f known
 output_refuses f start read known read_is h = each_known known (λ text e. output_run f (reading_of start text) (is_taken (reading_of start text) read e) h) read_is
 
--- nothing is written by what is left alone
+-- an unchanged writer was not written to
 pub unwritten : {W : Type 0} (f : Fault) (w : W) → WritesNoLine f w w
 unwritten (fault.Refused unread) w = refl
 unwritten fault.Read w = refl
@@ -88,7 +88,7 @@ output_writes fault.Table old new h = tt
 output_writes fault.Memory old new h = tt
 output_writes fault.LongReport old new h = tt
 
--- what a run that ends well wrote
+-- the output of a run that succeeds
 pub whole_text : (known : Option Text) (start read : Reading) (remaining : ℕ) (old new : Option Text) → IfSome known (λ text. reading_of start text ≡ Ok read)
     → WritesCalls (calls_for read.cluster remaining) old new → IfSome known (λ text. WritesText text start remaining old new)
 whole_text known start read remaining old new read_is writes =

@@ -1,4 +1,4 @@
--- What is found for an option is the text that the words give, and why words are refused.
+-- The value of an option is its text in the words, and words are refused for the defined reasons.
 use Rattle.std.proofs.Common.{◌≡◌, ◌∙◌, ap, sym, subst, true, List, [], ◌∷◌, Option, Some, None, refl, inl, inr}
 use Rattle.clap.specs.Walk.{first_of}
 use Rattle.clap.specs.Words.{first_value, found_of, kind_of}
@@ -32,13 +32,13 @@ first_kinds [] next e (inl memory) = inl memory
 first_kinds [] next e (inr among) = absurd among
 first_kinds (k ∷ ks) next e h = h
 
--- where the parse refuses the words, they are refused
+-- words that the parser refuses are refused
 pub refused : (words : List Text) (cmd : Command) (e : Error) → app_of cmd ≡ program
     → (is_simple_and_free (app_of cmd) ≡ true → HasKind (fault_of (app_of cmd) words) e) → (next : Kinds) → HasKind (or_else (fault_of program words) next) e
 refused words cmd e is h next =
     first_kinds (fault_of program words) next e (subst (λ (a : App). HasKind (fault_of a words) e) is (h (ap is_simple_and_free is)))
 
--- a value that is none of its option is refused as such
+-- a text that is no value of its option is refused
 pub wrong_value : (n : Option Values) (e : Error) → None ≡ n → kind_of e ≡ ValueValidation → HasKind (value_kinds n) e
 wrong_value None e none kind = inr (inl kind)
 wrong_value (Some n) e none kind = cc

@@ -1,4 +1,4 @@
--- One more line of a text that is known.
+-- Reading a known text line by line gives the state after all its lines, or its first refused line.
 use Rattle.std.proofs.Common.{◌≡◌, ℕ, ◌+◌, ◌<◌, [], ◌∷◌, ◌++◌, Option, Some, None, IfSome, Result, Ok, length, arith, refl, sym, ap, subst, ◌∙◌}
 use Rattle.std.specs.Io.BufRead.{take_through, drop_through}
 use Rattle.std.specs.Io.KnownBytes.{IsAtEnd}
@@ -51,13 +51,13 @@ still_refused fault.Table g r h = h
 still_refused fault.LongReport g r h = h
 
 module _ {T : Type 0} (after : T → Text → Result T Cause) where
-  -- at the end of the text nothing is left to take
+  -- at the end of the text no line is left
   pub end_read : (o : Option Text) (rest : Text) (n : ℕ) (s : T) → o ≡ Some rest → IsAtEnd o → after_lines after n s (lines_of rest) ≡ Ok (s, n)
   end_read o rest n s e h =
       let empty : rest ≡ [] = subst IsAtEnd e h in
       ap (λ t. after_lines after n s (lines_of t)) empty ∙ ap (after_lines after n s) lines_of-none
 
-  -- the lines that are left, after one that was taken
+  -- the remaining lines after one was taken
   pub read_more : (n : ℕ) (s d : T) (rest line read : Text) (left : Option Text) → Reads rest read left → line ≡ without_end 10 read → at_line n (after_bytes after s line) ≡ Ok d
       → after_lines after n s (lines_of rest) ≡ after_lines after (n + 1) d (lines_of (drop_through 10 rest))
   read_more n s d rest line read left reads line_is taken =
@@ -65,7 +65,7 @@ module _ {T : Type 0} (after : T → Text → Result T Cause) where
       ∙ ap (λ t. after_ok (λ e. after_lines after (n + 1) e (lines_of (drop_through 10 rest))) (at_line n (after_bytes after s t))) (sym line_is)
       ∙ ap (after_ok (λ e. after_lines after (n + 1) e (lines_of (drop_through 10 rest)))) taken
 
-  -- where a line is refused, all of them are
+  -- if a line is refused, the text is
   pub refused_more : (f : Fault) (n : ℕ) (s : T) (rest line read : Text) (left : Option Text) → Reads rest read left → line ≡ without_end 10 read → IsReadFault f (at_line n (after_bytes after s line))
       → IsReadFault f (after_lines after n s (lines_of rest))
   refused_more f n s rest line read left reads line_is refused =

@@ -1,4 +1,4 @@
--- A replica that a cluster takes.
+-- A cluster stays right as replicas of a block are added.
 use Rattle.std.proofs.Common.{◌≡◌, ℕ, ◌-◌, ◌<◌, ◌≤◌, Bool, true, false, cond, nat_eq, List, [], ◌∷◌, ◌++◌, Ok, map, filter, length, refl, sym, ap, subst, ◌∙◌, append_assoc, arith, if◌then◌else◌}
 use Rattle.std.specs.Prelude.{slice_get, slice_set, slice_index_or}
 use Rattle.std.specs.List.{list_any, position_or_len, AllByRecursion}
@@ -36,7 +36,7 @@ address_of l = l.place.address
 abbrev pub with_one : Taken → Block → Listed → Taken
 with_one t b l = record t { replicas = t.replicas ++ replica_at b l ∷ [] }
 
--- with a replica that is corrupt, if it is
+-- with a replica in the list of corrupt ones, if it is corrupt
 abbrev pub with_one_bad : Taken → Block → Listed → Bool → Taken
 with_one_bad t b l corrupt = record t { bad = t.bad ++ map (bad_name b) (cond corrupt (l ∷ []) []) }
 
@@ -84,7 +84,7 @@ named c l ready =
     let name : name_of c.storages ready.row.number ≡ l.place.storage = ap (λ n. slice_index_or c.storages n []) at ∙ name-at c.storages l.place.storage ready.known in
     (omega (arith, ready.number, known_below (bytes_eq l.place.storage) c.storages ready.known), name)
 
--- with a replica that is corrupt, if it is
+-- with a replica in the list of corrupt ones, if it is corrupt
 bad_sound : (c : Cluster) (t : Taken) (b : Block) (l : Listed) (row : Row) → IsNamed c row l.place.storage → Sound c t → (corrupt : Bool)
     → Sound (with_bad c (record { storage = row.number; id = b.id }) corrupt) (with_one_bad t b l corrupt)
 bad_sound c t b l row is_named before corrupt = record {

@@ -1,5 +1,5 @@
--- What the calls for a cluster say: the replicas that they report, the corrupt ones, and the nodes
--- that they decommission.
+-- The calls for a cluster report just its replicas, mark its corrupt ones, and decommission its
+-- draining nodes.
 use Rattle.std.proofs.Common.{◌≡◌, ℕ, ◌+◌, ◌-◌, ◌==◌, ◌||◌, Bool, true, false, cond, List, [], ◌∷◌, ◌++◌, map, filter, take, drop, length, length-append, refl, sym, ap, ◌∙◌, append_assoc, arith, true≢false}
 use Rattle.std.specs.Prelude.{slice_index_or}
 use Rattle.std.specs.List.{flat_map, list_any, AllByRecursion}
@@ -133,7 +133,7 @@ calls_drain c remaining names =
     ∙ ap (λ t. (t ++ drained names (map corrupt c.bad)) ++ drained names (map drain (draining c))) (none-flat (drained_by names) reports (no_drain-reports names) c.rows)
     ∙ ap (λ t. t ++ drained names (map drain (draining c))) (none-map (drained_by names) corrupt (λ x. refl) c.bad)
 
--- a node that the calls decommission drains
+-- each node that the calls decommission drains
 pub drained_from : (names : List Text) (numbers : List ℕ) (rows : List NodeRow) (address : Text)
     → list_any (bytes_eq address) (drained names (map drain (filter (λ node. has_number numbers node.number) rows))) ≡ true → DrainsAs names numbers address
 drained_from names numbers [] address h = absurd (true≢false (sym h))
@@ -158,7 +158,7 @@ or_known : (a b : Bool) → b ≡ true → (a || b) ≡ true
 or_known true b h = refl
 or_known false b h = h
 
--- a node that drains is among those that the calls decommission
+-- the calls decommission each node that drains
 pub node_drains : (names : List Text) (numbers : List ℕ) (rows : List NodeRow) (number : ℕ) (address : Text) → has_number (map node_number rows) number ≡ true → has_number numbers number ≡ true
     → name_of names number ≡ address → list_any (bytes_eq address) (drained names (map drain (filter (λ node. has_number numbers node.number) rows))) ≡ true
 node_drains names numbers [] number address known drains e = absurd (true≢false (sym known))

@@ -1,4 +1,4 @@
--- The report of a storage, and what follows it.
+-- The report of a storage and the notices after it are the calls for its replicas.
 use Rattle.std.proofs.Common.{◌≡◌, List, [], ◌∷◌, Option, map, take, drop, ap, subst, ◌∙◌}
 use Rattle.bm_base.specs.declared.call.Call.TheVariants as call
 use Rattle.bm_base.specs.declared.event.Entry.{Entry}

@@ -1,4 +1,4 @@
--- A cluster and what it took so far: the node and the storage of a replica.
+-- A cluster agrees with the replicas added so far, also after a new node or a new storage.
 use Rattle.std.proofs.Common.{◌≡◌, ℕ, suc, ◌+◌, ◌≤◌, Bool, true, false, nat_lt, List, [], ◌∷◌, ◌++◌, Some, None, Ok, Err, map, length, length-append, refl, sym, ap, subst, ◌∙◌, arith, if◌then◌else◌}
 use Rattle.std.specs.Prelude.{slice_get}
 use Rattle.std.specs.List.{list_any, position_or_len, AllByRecursion}
@@ -24,7 +24,7 @@ use Rattle.fsck_import.proofs.BadLemmas.{Corrupted, corrupted_name, Drains, drai
 abbrev pub numbers_of : Cluster → List ℕ
 numbers_of c = map (λ b. b.0) c.blocks
 
--- the node of a storage is one of so many
+-- the node of a storage is one of the first n
 abbrev pub OnNode : ℕ → Row → Type 0
 OnNode n row = (1 ≤ row.node) × (row.node ≤ n)
 

@@ -1,4 +1,4 @@
--- The clusters with which an import begins have no block and no storage, and number their nodes.
+-- A cluster from the report on DataNodes has no block and no storage, and numbers its nodes from 1.
 use Rattle.std.proofs.Common.{◌≡◌, ℕ, ◌+◌, ◌<◌, ◌≤◌, ◌==◌, Bool, true, false, not, nat_lt, List, [], ◌∷◌, ◌++◌, Option, Some, None, Result, Ok, Err, map, length, length-append, refl, sym, ap, subst, ◌∙◌, ◌||◌, arith, true≢false, if◌then◌else◌}
 use Rattle.std.specs.Prelude.{is_none, codes}
 use Rattle.std.specs.List.{list_any}
@@ -74,7 +74,7 @@ row_done s t row false e before =
     let same : after ≡ t = same_ok after t e in
     (subst (λ x. Nodes x.cluster None) same (row_ended s row before after row refl refl refl refl refl refl refl refl), subst (λ x. x.row ≡ None) same refl)
 
--- and none is being read then
+-- after that no node is being read
 ended : (s t : NodeList) → ended_row s ≡ Ok t → Nodes s.cluster s.row → Nodes t.cluster None × (t.row ≡ None)
 ended s t = by s.row refl
   where
@@ -87,7 +87,7 @@ ended s t = by s.row refl
         let known = if_not (is_none row.remaining) (if not s.has_status then Err (refusal.Why why.NoStatus) else done) (refusal.Why why.NoRemaining) t e in
         row_done s t row (row.rack == 0) (if_not (not s.has_status) done (refusal.Why why.NoStatus) t known.1).1 before
 
--- as many were read as are announced
+-- the number of nodes read is the announced one
 counted_same : (s t : NodeList) → counted s ≡ Ok t → s ≡ t
 counted_same s t = by s.is_live
   where
@@ -214,7 +214,7 @@ remaining_nodes s bytes before = by s.row refl
 at_ok : (s t : NodeList) → ◌≡◌ {A = Result NodeList NodeRefusal} (Ok s) (Ok t) → Nodes s.cluster s.row → Nodes t.cluster t.row
 at_ok s t e before = subst (λ x. Nodes x.cluster x.row) (same_ok s t e) before
 
--- a line that is of live nodes alone
+-- a line that counts only in the section of live nodes
 live_nodes : (s t : NodeList) (after : Result NodeList NodeRefusal) → (if s.is_live then after else Ok s) ≡ Ok t → Nodes s.cluster s.row → (after ≡ Ok t → Nodes t.cluster t.row) → Nodes t.cluster t.row
 live_nodes s t after e before then_nodes = by s.is_live e
   where

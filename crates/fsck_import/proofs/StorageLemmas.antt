@@ -1,4 +1,4 @@
--- The replicas on the storages.
+-- The storages hold just the replicas that were added, also after one more storage or replica.
 use Rattle.std.proofs.Common.{◌≡◌, ℕ, zero, suc, ◌+◌, ◌||◌, Bool, true, false, not, cond, List, [], ◌∷◌, ◌++◌, Option, Some, None, map, length, refl, sym, ap, subst, ◌∙◌, append_assoc, arith, true≢false}
 use Rattle.std.specs.Prelude.{⊤, slice_get, slice_set}
 use Rattle.std.specs.List.{list_any, position_or_len, AllByRecursion}

@@ -1,4 +1,4 @@
--- The blocks of a text, and what the calls for its cluster tell of them.
+-- The calls for the cluster of a text describe the blocks of the text.
 use Rattle.std.proofs.Common.{◌≡◌, ℕ, ◌+◌, ◌-◌, List, [], ◌∷◌, Option, Some, None, IfSome, map, Result, Ok, Err, sym, ap, subst, ◌∙◌}
 use Rattle.std.specs.Str.{is_utf8}
 use Rattle.bm_lines.specs.Lines.{lines_of}
@@ -68,7 +68,7 @@ end_taken : (s read : Reading) → at_end s ≡ Ok read → with_spares s.cluste
 end_taken s read e =
     at_spares s.files s.listing (with_spares s.cluster) read (if_ok (files.is_whole s.files.part) (with_cluster s.files s.listing (with_spares s.cluster)) (cause.File why.CutOff) read e).1
 
--- what was read has the blocks of the text
+-- the calls for what was read describe the blocks of the text
 pub has_blocks : (text : Text) (start read : Reading) → reading_of start text ≡ Ok read → HasBlocks start text read
 has_blocks text start read read_is remaining fresh =
     let all = came_of ended (after_text after_line start text) read read_is in

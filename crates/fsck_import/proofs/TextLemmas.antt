@@ -1,4 +1,4 @@
--- The first line of a text.
+-- The lines of a text are its first line and the lines of the rest.
 use Rattle.std.proofs.Common.{◌≡◌, ◌≢◌, ℕ, ◌<◌, Bool, true, false, [], ◌∷◌, ◌++◌, Option, Some, None, MatchOption, unwrap_or, ◌==◌, if◌then◌else◌, length, arith, refl, sym, ap, ◌∙◌, inl, inr}
 use Rattle.std.proofs.lemmas.Bool.{ne_eqb, eq-eqb}
 use Rattle.std.proofs.lemmas.Bool.Decides.{eqb_tells}
@@ -19,7 +19,7 @@ module _ (mark : ℕ) where
   without_end-none (x ∷ []) none = rw (ne_eqb x mark (λ e. none [] (ap (λ b. b ∷ []) e))) refl
   without_end-none (x ∷ y ∷ xs) none = ap (λ ys. x ∷ ys) (without_end-none (y ∷ xs) (λ front e. none (x ∷ front) (ap (λ ys. x ∷ ys) e)))
 
-  -- what a call of strip_suffix gives
+  -- the result of strip_suffix
   pub without_end-from : (line : Bor Text) (r : Option (Bor Text)) → MatchOption r ((front : Text) → line.now ≢ front ++ mark ∷ []) (λ x. line.now ≡ x.now ++ mark ∷ []) → (unwrap_or r line).now ≡ without_end mark line.now
   without_end-from line None h = sym (without_end-none line.now h)
   without_end-from line (Some x) h = sym (ap (without_end mark) h ∙ without_end-push x.now)

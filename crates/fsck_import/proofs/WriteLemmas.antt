@@ -1,4 +1,4 @@
--- Lines that were written, and how they are read.
+-- The lines written for calls are read as those calls.
 use Rattle.std.proofs.Common.{drop, length-drop, ◌<◌, get_or, arith, ◌≡◌, ◌≤◌, List, [], ◌∷◌, ◌++◌, Option, Some, None, map, length, refl, sym, ap, ◌∙◌, subst, append_assoc, append-nil, ℕ, zero, suc, ◌+◌, Bool, true, false, cond, take, filter, option_to_list, slice_get}
 use Rattle.bm_lines.specs.declared.limits.TheConstants.{MAX_LINE}
 use Rattle.std.proofs.lemmas.Option.{slice_get_past}
@@ -71,7 +71,7 @@ all_written calls a b all = record {
   short = subst (AllByRecursion (λ line. length line ≤ MAX_LINE)) (sym (lines-all calls all.each)) (short-all calls all.each);
 }
 
--- what stands written after a flush
+-- the bytes after a flush
 flushed : (a b d : Option Text) (xs : Text) → Appends a b xs → Keeps b d → Appends a d xs
 flushed None b d xs h k = tt
 flushed (Some a) None d xs h k = absurd h
@@ -146,7 +146,7 @@ texts_more f xs i start old new so_far one =
     ∙ append_assoc start (flat_map f (take i xs)) (flat_map f (option_to_list (slice_get xs i)))
     ∙ ap (λ t. start ++ t) (sym more)
 
--- a text with the part of what is there, and the same text where nothing is
+-- a text with the part for an element, if there is one; else the same text
 pub with_part : {A : Type 0} (f : A → Text) (o : Option A) (x : A) (old new : Text) → Some x ≡ o → new ≡ old ++ f x → new ≡ old ++ flat_map f (option_to_list o)
 with_part f o x old new is e = subst (λ p. new ≡ old ++ flat_map f (option_to_list p)) is (e ∙ ap (λ t. old ++ t) (sym (append-nil (f x))))
 
