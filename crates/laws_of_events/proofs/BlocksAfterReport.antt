@@ -14,7 +14,7 @@ use Rattle.bm_base.proofs.MapLaws.{get-insert, get-empty}
 use Rattle.bm_base.proofs.Ties.{number_tie, replica_tie}
 use Rattle.bm_base.proofs.Clusters.{eqb_turned}
 use Rattle.laws_of_events.proofs.EventCounts.{same_unit}
-use Rattle.laws_of_events.proofs.ReportLaws.{tells_all}
+use Rattle.laws_of_events.proofs.ReportLaws.{is_exact}
 use Rattle.laws_of_events.specs.Reports as law
 
 abbrev marked_all : List ℕ → List (ℕ × Unit {0})
@@ -106,13 +106,13 @@ or_false false = refl
 -- the answer of the query, if exactly the blocks in xs have a replica on the storage
 blocks_are : (H : Holdings) (s : ℕ) (xs : List ℕ) → ((b : ℕ) → contains_key H.replicas (replica_at b s) ≡ has xs b) → blocks_on H s ≡ distinct xs
 unfolding blocks_on distinct keys entries get
-blocks_are H s xs told =
+blocks_are H s xs reported =
     let all : Map by_number (Unit {0}) = insert_all empty (marked_all xs) in
     let lists : marked_all (blocks_in s H.replicas.list) ≡ all.list =
     same_entries by_number.cmp by_number.total by_number.same (marked_all (blocks_in s H.replicas.list)) all.list (sorted_blocks s H.replicas.list H.replicas.sorted) all.sorted
     (λ b. same_unit (find nat_cmp b (marked_all (blocks_in s H.replicas.list))) (find nat_cmp b all.list)
-    (found_blocks s b H.replicas.list ∙ told b ∙ sym (known_marked xs empty b ∙ ap (λ z. has xs b || is_some z) (get-empty by_number b) ∙ or_false (has xs b)))) in
+    (found_blocks s b H.replicas.list ∙ reported b ∙ sym (known_marked xs empty b ∙ ap (λ z. has xs b || is_some z) (get-empty by_number b) ∙ or_false (has xs b)))) in
     sym (firsts (blocks_in s H.replicas.list)) ∙ ap (map (λ e. e.0)) lists
 
 pub asked_after : law.report_is_what_is_asked
-asked_after M s es = blocks_are (law.held_after M (FullReport s es)) s (law.numbers_of es) (tells_all M s es)
+asked_after M s es = blocks_are (law.held_after M (FullReport s es)) s (law.numbers_of es) (is_exact M s es)

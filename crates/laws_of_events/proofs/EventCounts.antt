@@ -14,25 +14,25 @@ use Rattle.laws_of_events.specs.Changes as law
 use Rattle.laws_of_events.specs.Reports.{held_after}
 
 module _ {K X : Type 0} where
-  abbrev bare : List (K × X) → List (K × Unit {0})
-  bare es = map (λ e. (e.0, tt)) es
+  abbrev keys_only : List (K × X) → List (K × Unit {0})
+  keys_only es = map (λ e. (e.0, tt)) es
 
 module _ {K X : Type 0} (R : K → K → Ordering) where
-  below_bare : (k : K) (es : List (K × X)) → below_all R k (bare es) ≡ below_all R k es
-  below_bare k [] = refl
-  below_bare k (e ∷ es) = ap (λ b. is_lt (R k e.0) && b) (below_bare k es)
+  below_keys : (k : K) (es : List (K × X)) → below_all R k (keys_only es) ≡ below_all R k es
+  below_keys k [] = refl
+  below_keys k (e ∷ es) = ap (λ b. is_lt (R k e.0) && b) (below_keys k es)
 
-  sorted_bare : (es : List (K × X)) → is_sorted R (bare es) ≡ is_sorted R es
-  sorted_bare [] = refl
-  sorted_bare (e ∷ es) = λ i. below_bare e.0 es i && sorted_bare es i
+  sorted_keys : (es : List (K × X)) → is_sorted R (keys_only es) ≡ is_sorted R es
+  sorted_keys [] = refl
+  sorted_keys (e ∷ es) = λ i. below_keys e.0 es i && sorted_keys es i
 
-  some_bare : (b : Bool) (x : X) (u : Option (Unit {0})) (z : Option X) → is_some u ≡ is_some z → is_some (cond b (Some tt) u) ≡ is_some (cond b (Some x) z)
-  some_bare true x u z e = refl
-  some_bare false x u z e = e
+  some_key : (b : Bool) (x : X) (u : Option (Unit {0})) (z : Option X) → is_some u ≡ is_some z → is_some (cond b (Some tt) u) ≡ is_some (cond b (Some x) z)
+  some_key true x u z e = refl
+  some_key false x u z e = e
 
-  find_bare : (q : K) (es : List (K × X)) → is_some (find R q (bare es)) ≡ is_some (find R q es)
-  find_bare q [] = refl
-  find_bare q (e ∷ es) = some_bare (eq_by_cmp R q e.0) e.1 (find R q (bare es)) (find R q es) (find_bare q es)
+  find_key : (q : K) (es : List (K × X)) → is_some (find R q (keys_only es)) ≡ is_some (find R q es)
+  find_key q [] = refl
+  find_key q (e ∷ es) = some_key (eq_by_cmp R q e.0) e.1 (find R q (keys_only es)) (find R q es) (find_key q es)
 
 pub same_unit : (x y : Option (Unit {0})) → is_some x ≡ is_some y → x ≡ y
 same_unit None None e = refl
@@ -45,9 +45,9 @@ module _ {K X Y : Type 0} {o : Order K} where
   pub same_len : (m : Map o X) (n : Map o Y) → ((q : K) → contains_key m q ≡ contains_key n q) → len m ≡ len n
   unfolding len entries get
   same_len m n same =
-      let lists : bare m.list ≡ bare n.list =
-      same_entries o.cmp o.total o.same (bare m.list) (bare n.list) (subst T (sym (sorted_bare o.cmp m.list)) m.sorted) (subst T (sym (sorted_bare o.cmp n.list)) n.sorted)
-      (λ q. same_unit (find o.cmp q (bare m.list)) (find o.cmp q (bare n.list)) (find_bare o.cmp q m.list ∙ same q ∙ sym (find_bare o.cmp q n.list))) in
+      let lists : keys_only m.list ≡ keys_only n.list =
+      same_entries o.cmp o.total o.same (keys_only m.list) (keys_only n.list) (subst T (sym (sorted_keys o.cmp m.list)) m.sorted) (subst T (sym (sorted_keys o.cmp n.list)) n.sorted)
+      (λ q. same_unit (find o.cmp q (keys_only m.list)) (find o.cmp q (keys_only n.list)) (find_key o.cmp q m.list ∙ same q ∙ sym (find_key o.cmp q n.list))) in
       sym (length-map m.list (λ e. (e.0, tt))) ∙ ap length lists ∙ length-map n.list (λ e. (e.0, tt))
 
 abbrev Replicas : Type 0

@@ -9,7 +9,7 @@ pub mod ReportedMarks
 -- for the lemmas of PendingTargets, BlockChanges, ReportLaws, RunLaws
 pub mod ReportedReplicas
 -- for last_entry_decides, received_is_there, received_leaves_bad_bad, received_leaves_other_nodes,
--- report_leaves_bad_bad, report_leaves_other_nodes, report_tells_all, second_report_changes_nothing
+-- report_leaves_bad_bad, report_leaves_other_nodes, full_report_is_exact, second_report_changes_nothing
 pub mod ReportLaws
 -- for report_in_parts
 pub mod ReportParts
@@ -40,7 +40,7 @@ pub mod AscendingLists
 -- for other_answer_is_the_steps, refused_answer_leaves_state
 pub mod LimitedMemory
 -- for backward_run_names_none, numbers_are_counted, run_may_be_cut, runs_are_alike_one_by_one,
--- runs_name_their_numbers, same_told_is_alike, what_is_told_last_counts
+-- runs_name_their_numbers, same_blocks_are_alike, last_stamp_counts
 pub mod RunLaws
 -- for dead_node_does_not_drain, drain_takes_transfers, idle_undrain_changes_nothing,
 -- node_begins_to_drain, node_ceases_to_drain, other_events_leave_draining,

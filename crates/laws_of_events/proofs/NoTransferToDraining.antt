@@ -79,9 +79,9 @@ failed_still C t s off =
     let was = get_removed C.storages t s i.0 i.1 in
     node_off C s m off (node_is C s i.0 was.1 ∙ ap Some i.2))
 
-told_still : (C : Cluster) (rs : List Remaining) (s : ℕ) → is_draining C s ≡ false → is_draining (heartbeat C rs) s ≡ false
+still_not_draining : (C : Cluster) (rs : List Remaining) (s : ℕ) → is_draining C s ≡ false → is_draining (heartbeat C rs) s ≡ false
 unfolding heartbeat drains node_of
-told_still C rs s off = off_where (heartbeat C rs) s (λ m e. node_off C s m off (sym (same_nodes C.storages rs s) ∙ e))
+still_not_draining C rs s off = off_where (heartbeat C rs) s (λ m e. node_off C s m off (sym (same_nodes C.storages rs s) ∙ e))
 
 undrained_still : (C : Cluster) (n s : ℕ) → is_draining C s ≡ false → is_draining (undrain C n) s ≡ false
 unfolding undrain drains node_of
@@ -122,7 +122,7 @@ unfolding change_cluster change_holdings
 event_spares C H (Register n rack ss) S p is = registered_still C n rack ss p.storage (S p (sent_before C H (Register n rack ss) p is))
 event_spares C H (Dead n) S p is = dead_still C n p.storage (S p (sent_before C H (Dead n) p is))
 event_spares C H (StorageFailed s) S p is = failed_still C s p.storage (S p (sent_before C H (StorageFailed s) p is))
-event_spares C H (Heartbeat n rs) S p is = told_still C rs p.storage (S p (sent_before C H (Heartbeat n rs) p is))
+event_spares C H (Heartbeat n rs) S p is = still_not_draining C rs p.storage (S p (sent_before C H (Heartbeat n rs) p is))
 event_spares C H (Undrain n) S p is = undrained_still C n p.storage (S p (sent_before C H (Undrain n) p is))
 event_spares C H (Drain n) S p is = drain_spares C H n S p is
 event_spares C H e S p is = S p (sent_before C H e p is)

@@ -106,39 +106,39 @@ storage_left M s =
 
 -- Heartbeats.
 
-abbrev told : ℕ → Bool → StorageInfo → StorageInfo
-told r b i = if b then record i { remaining = r } else i
+abbrev with_free_bytes : ℕ → Bool → StorageInfo → StorageInfo
+with_free_bytes r b i = if b then record i { remaining = r } else i
 
-told_at : (m : Map by_number StorageInfo) (r : Remaining) (s : ℕ) → get (revise_at m r.storage (λ i. record i { remaining = r.remaining })) s ≡ option_map (told r.remaining (s == r.storage)) (get m s)
+free_bytes_at : (m : Map by_number StorageInfo) (r : Remaining) (s : ℕ) → get (revise_at m r.storage (λ i. record i { remaining = r.remaining })) s ≡ option_map (with_free_bytes r.remaining (s == r.storage)) (get m s)
 unfolding revise_at
-told_at m r s =
+free_bytes_at m r s =
     get-revise m (λ q x. if eq_by_cmp nat_cmp q r.storage then record x { remaining = r.remaining } else x) s
-    ∙ ap (λ b. option_map (told r.remaining b) (get m s)) (number_tie s r.storage)
+    ∙ ap (λ b. option_map (with_free_bytes r.remaining b) (get m s)) (number_tie s r.storage)
 
-untold : (r : ℕ) (b : Bool) (z : Option StorageInfo) → b ≡ false → option_map (told r b) z ≡ z
-untold r true z e = cc
-untold r false None e = refl
-untold r false (Some i) e = refl
+not_listed : (r : ℕ) (b : Bool) (z : Option StorageInfo) → b ≡ false → option_map (with_free_bytes r b) z ≡ z
+not_listed r true z e = cc
+not_listed r false None e = refl
+not_listed r false (Some i) e = refl
 
 -- storages that the heartbeat does not name stay
 others_left : (m : Map by_number StorageInfo) (rs : List Remaining) (s : ℕ) → has (map (λ q. q.storage) rs) s ≡ false → get (set_remaining m rs) s ≡ get m s
 others_left m [] s h = refl
 others_left m (r ∷ rs) s h =
     let parts = or_parts (r.storage == s) (has (map (λ q. q.storage) rs) s) h in
-    others_left (revise_at m r.storage (λ i. record i { remaining = r.remaining })) rs s parts.1 ∙ told_at m r s ∙ untold r.remaining (s == r.storage) (get m s) (eqb_turned s r.storage ∙ parts.0)
+    others_left (revise_at m r.storage (λ i. record i { remaining = r.remaining })) rs s parts.1 ∙ free_bytes_at m r s ∙ not_listed r.remaining (s == r.storage) (get m s) (eqb_turned s r.storage ∙ parts.0)
 
-still_on : (r : ℕ) (b : Bool) (z : Option StorageInfo) (i : StorageInfo) → z ≡ Some i → (j : StorageInfo) × (option_map (told r b) z ≡ Some j) × (j.node ≡ i.node)
-still_on r true z i e = (record i { remaining = r }, ap (option_map (told r true)) e, refl)
-still_on r false z i e = (i, ap (option_map (told r false)) e, refl)
+still_on : (r : ℕ) (b : Bool) (z : Option StorageInfo) (i : StorageInfo) → z ≡ Some i → (j : StorageInfo) × (option_map (with_free_bytes r b) z ≡ Some j) × (j.node ≡ i.node)
+still_on r true z i e = (record i { remaining = r }, ap (option_map (with_free_bytes r true)) e, refl)
+still_on r false z i e = (i, ap (option_map (with_free_bytes r false)) e, refl)
 
 last_counts : (m : Map by_number StorageInfo) (front : List Remaining) (r : Remaining) (behind : List Remaining) (i : StorageInfo) → get m r.storage ≡ Some i → has (map (λ q. q.storage) behind) r.storage ≡ false
     → get (set_remaining m (front ++ (r ∷ behind))) r.storage ≡ Some (record { node = i.node; remaining = r.remaining })
 last_counts m [] r behind i e h =
-    others_left (revise_at m r.storage (λ j. record j { remaining = r.remaining })) behind r.storage h ∙ told_at m r r.storage
-    ∙ (λ k. option_map (told r.remaining (eq-eqb r.storage r.storage refl k)) (e k))
+    others_left (revise_at m r.storage (λ j. record j { remaining = r.remaining })) behind r.storage h ∙ free_bytes_at m r r.storage
+    ∙ (λ k. option_map (with_free_bytes r.remaining (eq-eqb r.storage r.storage refl k)) (e k))
 last_counts m (q ∷ front) r behind i e h =
     let now = still_on q.remaining (r.storage == q.storage) (get m r.storage) i e in
-    last_counts (revise_at m q.storage (λ j. record j { remaining = q.remaining })) front r behind now.0 (told_at m q r.storage ∙ now.1) h
+    last_counts (revise_at m q.storage (λ j. record j { remaining = q.remaining })) front r behind now.0 (free_bytes_at m q r.storage ∙ now.1) h
     ∙ ap (λ n. Some (record { node = n; remaining = r.remaining })) now.2
 
 pub heartbeat_counts : law.last_heartbeat_counts

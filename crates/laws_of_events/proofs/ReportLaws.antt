@@ -26,7 +26,7 @@ use Rattle.bm_base.proofs.ForEach.{Each, each_then}
 use Rattle.bm_base.proofs.MapEntries.{each_entry, get_here}
 use Rattle.bm_base.proofs.Clusters.{no_siblings}
 use Rattle.bm_parts.proofs.ReportedReplicas.{IsKept, IsPut, enter_origin, report_origin, stays_by}
-use Rattle.laws_of_events.proofs.ReportedMarks.{tag_where, told_marks}
+use Rattle.laws_of_events.proofs.ReportedMarks.{tag_where, reported_marks}
 use Rattle.laws_of_events.proofs.ReportedReplicas.{named_since, named_numbers, last_is, put_or, reported_here, reported_elsewhere}
 use Rattle.laws_of_events.specs.Reports as law
 use Rattle.laws_of_events.specs.Runs.{last_stamp}
@@ -59,8 +59,8 @@ module _ (C : Cluster) (H : Holdings) (s : ℕ) (ts : List ReportedBlock) where
   has_named : (b : ℕ) → contains_key (report C H s ts).replicas (replica_at b s) ≡ is_named ts b
   has_named b = ap is_some (reported_here C H s ts b) ∙ there_by b (last_stamp ts b) refl ∙ named_since ts b
 
-pub tells_all : (M : State) (s : ℕ) (es : List Entry) (b : ℕ) → contains_key (law.held_after M (FullReport s es)).replicas (replica_at b s) ≡ has (law.numbers_of es) b
-tells_all M s es b = ap (λ G. contains_key G.replicas (replica_at b s)) (held_report M s es) ∙ has_named M.cluster M.holdings s (expanded es) b ∙ named_numbers (expanded es) b
+pub is_exact : (M : State) (s : ℕ) (es : List Entry) (b : ℕ) → contains_key (law.held_after M (FullReport s es)).replicas (replica_at b s) ≡ has (law.numbers_of es) b
+is_exact M s es b = ap (λ G. contains_key G.replicas (replica_at b s)) (held_report M s es) ∙ has_named M.cluster M.holdings s (expanded es) b ∙ named_numbers (expanded es) b
 
 not_past : (b n : ℕ) → (nat_le (b + 1) b && nat_lt b n) ≡ false
 not_past b n = grind (arith, nat_tests)
@@ -89,7 +89,7 @@ last_decides M s front e behind b low high h =
     let z = get (keep M.holdings.replicas (λ q _. stays_by M.cluster M.holdings s ts q)) (replica_at b s) in (
       entered_marks M.holdings (replica_at b s) e.stamp,
       ap (λ G. get G.replicas (replica_at b s)) (held_report M s (front ++ (e ∷ behind))) ∙ reported_here M.cluster M.holdings s ts b ∙ ap (λ o. put_or M.cluster M.holdings s b o z) (around front e behind b low high h),
-      told_marks M.holdings (replica_at b s) e.stamp,
+      reported_marks M.holdings (replica_at b s) e.stamp,
     )
 
 -- The same report again.
@@ -138,45 +138,45 @@ keep_twice m p =
     get-keep (keep m (λ q _. p q)) (λ q _. p q) q ∙ ap (staying (p q)) (get-keep m (λ q _. p q) q) ∙ stays_twice (p q) (get m q) ∙ sym (get-keep m (λ q _. p q) q))
 
 module _ (C : Cluster) (H : Holdings) (s : ℕ) (ts : List ReportedBlock) where
-  abbrev told : Holdings
-  told = report C H s ts
+  abbrev afterwards : Holdings
+  afterwards = report C H s ts
 
-  told_blocks : told.blocks ≡ H.blocks
+  afterwards_blocks : afterwards.blocks ≡ H.blocks
   unfolding report
-  told_blocks = refl
+  afterwards_blocks = refl
 
-  again_here : (b : ℕ) (o : Option Stamp) → last_stamp ts b ≡ o → get (report C told s ts).replicas (replica_at b s) ≡ get told.replicas (replica_at b s)
+  again_here : (b : ℕ) (o : Option Stamp) → last_stamp ts b ≡ o → get (report C afterwards s ts).replicas (replica_at b s) ≡ get afterwards.replicas (replica_at b s)
   again_here b None e =
-      let gone : get told.replicas (replica_at b s) ≡ None = reported_here C H s ts b ∙ ap (λ o. put_or C H s b o (get (keep H.replicas (λ q _. stays_by C H s ts q)) (replica_at b s))) e ∙ unnamed_leaves C H s ts b e in
-      reported_here C told s ts b ∙ ap (λ o. put_or C told s b o (get (keep told.replicas (λ q _. stays_by C told s ts q)) (replica_at b s))) e ∙ unnamed_leaves C told s ts b e ∙ sym gone
+      let gone : get afterwards.replicas (replica_at b s) ≡ None = reported_here C H s ts b ∙ ap (λ o. put_or C H s b o (get (keep H.replicas (λ q _. stays_by C H s ts q)) (replica_at b s))) e ∙ unnamed_leaves C H s ts b e in
+      reported_here C afterwards s ts b ∙ ap (λ o. put_or C afterwards s b o (get (keep afterwards.replicas (λ q _. stays_by C afterwards s ts q)) (replica_at b s))) e ∙ unnamed_leaves C afterwards s ts b e ∙ sym gone
   again_here b (Some t) e =
-      let now : get told.replicas (replica_at b s) ≡ Some (entered_marks H (replica_at b s) t) = reported_here C H s ts b ∙ ap (λ o. put_or C H s b o (get (keep H.replicas (λ q _. stays_by C H s ts q)) (replica_at b s))) e in
-      reported_here C told s ts b ∙ ap (λ o. put_or C told s b o (get (keep told.replicas (λ q _. stays_by C told s ts q)) (replica_at b s))) e
-      ∙ ap Some (entered_again H told (replica_at b s) t told_blocks now) ∙ sym now
+      let now : get afterwards.replicas (replica_at b s) ≡ Some (entered_marks H (replica_at b s) t) = reported_here C H s ts b ∙ ap (λ o. put_or C H s b o (get (keep H.replicas (λ q _. stays_by C H s ts q)) (replica_at b s))) e in
+      reported_here C afterwards s ts b ∙ ap (λ o. put_or C afterwards s b o (get (keep afterwards.replicas (λ q _. stays_by C afterwards s ts q)) (replica_at b s))) e
+      ∙ ap Some (entered_again H afterwards (replica_at b s) t afterwards_blocks now) ∙ sym now
 
-  again_elsewhere : (q : ReplicaId) → q.storage ≢ s → get (report C told s ts).replicas q ≡ get told.replicas q
+  again_elsewhere : (q : ReplicaId) → q.storage ≢ s → get (report C afterwards s ts).replicas q ≡ get afterwards.replicas q
   again_elsewhere q other =
-      let once : get told.replicas q ≡ staying (stays_by C H s ts q) (get H.replicas q) = reported_elsewhere C H s ts q other ∙ get-keep H.replicas (λ q _. stays_by C H s ts q) q in
-      reported_elsewhere C told s ts q other ∙ get-keep told.replicas (λ q _. stays_by C told s ts q) q ∙ ap (staying (stays_by C H s ts q)) once ∙ stays_twice (stays_by C H s ts q) (get H.replicas q) ∙ sym once
+      let once : get afterwards.replicas q ≡ staying (stays_by C H s ts q) (get H.replicas q) = reported_elsewhere C H s ts q other ∙ get-keep H.replicas (λ q _. stays_by C H s ts q) q in
+      reported_elsewhere C afterwards s ts q other ∙ get-keep afterwards.replicas (λ q _. stays_by C afterwards s ts q) q ∙ ap (staying (stays_by C H s ts q)) once ∙ stays_twice (stays_by C H s ts q) (get H.replicas q) ∙ sym once
 
-  again_at : (q : ReplicaId) → get (report C told s ts).replicas q ≡ get told.replicas q
+  again_at : (q : ReplicaId) → get (report C afterwards s ts).replicas q ≡ get afterwards.replicas q
   again_at q =
-      elim (q.storage == s) as (λ t. (q.storage == s) ≡ t → get (report C told s ts).replicas q ≡ get told.replicas q) [
-        | true ↦ λ t. subst (λ c. get (report C told s ts).replicas (replica_at q.block c) ≡ get told.replicas (replica_at q.block c)) (sym (eqb-true q.storage s t)) (again_here q.block (last_stamp ts q.block) refl)
+      elim (q.storage == s) as (λ t. (q.storage == s) ≡ t → get (report C afterwards s ts).replicas q ≡ get afterwards.replicas q) [
+        | true ↦ λ t. subst (λ c. get (report C afterwards s ts).replicas (replica_at q.block c) ≡ get afterwards.replicas (replica_at q.block c)) (sym (eqb-true q.storage s t)) (again_here q.block (last_stamp ts q.block) refl)
         | false ↦ λ t. again_elsewhere q (eqb-false q.storage s t)
       ] refl
 
-  again_pending : (report C told s ts).pending ≡ told.pending
+  again_pending : (report C afterwards s ts).pending ≡ afterwards.pending
   unfolding report
   again_pending = keep_twice H.pending (λ q. not ((q.storage == s) && is_named ts q.block))
 
-  again_blocks : (report C told s ts).blocks ≡ told.blocks
+  again_blocks : (report C afterwards s ts).blocks ≡ afterwards.blocks
   unfolding report
   again_blocks = refl
 
-  pub report_again : report C told s ts ≡ told
+  pub report_again : report C afterwards s ts ≡ afterwards
   report_again =
-      let replicas : (report C told s ts).replicas ≡ told.replicas = same_map _ _ again_at in
+      let replicas : (report C afterwards s ts).replicas ≡ afterwards.replicas = same_map _ _ again_at in
       λ i. record { blocks = again_blocks i; replicas = replicas i; pending = again_pending i }
 
 none_left : {X : Type 0} (p : X → Bool) (xs : List X) → Each (λ x. p x ≡ false) xs → length (filter p xs) ≡ 0
@@ -245,7 +245,7 @@ entered_there C H p stamp = get_here (keep H.replicas (λ q _. not (replaces C p
 
 pub received_there : law.received_is_there
 received_there M s b stamp =
-    (entered_marks M.holdings (replica_at b s) stamp, ap (λ G. get G.replicas (replica_at b s)) (held_received M s b stamp) ∙ entered_there M.cluster M.holdings (replica_at b s) stamp, told_marks M.holdings (replica_at b s) stamp)
+    (entered_marks M.holdings (replica_at b s) stamp, ap (λ G. get G.replicas (replica_at b s)) (held_received M s b stamp) ∙ entered_there M.cluster M.holdings (replica_at b s) stamp, reported_marks M.holdings (replica_at b s) stamp)
 
 -- Bad replicas.
 
@@ -258,15 +258,15 @@ known_since_bad C H L p bad =
     undo true e = refl
     undo false e = cc
 
-bad_told : (C : Cluster) (H : Holdings) (s : ℕ) (named : ℕ → Bool) (stays : ReplicaId → Bool) → IsLawfulHoldings C H → (p : ReplicaId) (m : Marks) → law.IsBadIn H p → IsKept H stays p m ⊎ IsPut H s named p m → m.tag ≡ Bad
-bad_told C H s named stays L p m bad (inl was) = let same : Some m ≡ Some bad.0 = sym was.0 ∙ bad.1 in let is : m ≡ bad.0 = (cc) in ap (λ n. n.tag) is ∙ bad.2
-bad_told C H s named stays L p m bad (inr put) = let i = known_since_bad C H L p bad in ap (λ n. n.tag) put.3 ∙ (told_marks H p put.2).bad i.0 i.1 bad
+bad_reported : (C : Cluster) (H : Holdings) (s : ℕ) (named : ℕ → Bool) (stays : ReplicaId → Bool) → IsLawfulHoldings C H → (p : ReplicaId) (m : Marks) → law.IsBadIn H p → IsKept H stays p m ⊎ IsPut H s named p m → m.tag ≡ Bad
+bad_reported C H s named stays L p m bad (inl was) = let same : Some m ≡ Some bad.0 = sym was.0 ∙ bad.1 in let is : m ≡ bad.0 = (cc) in ap (λ n. n.tag) is ∙ bad.2
+bad_reported C H s named stays L p m bad (inr put) = let i = known_since_bad C H L p bad in ap (λ n. n.tag) put.3 ∙ (reported_marks H p put.2).bad i.0 i.1 bad
 
 pub report_leaves_bad : (M : State) → IsOrderly M → law.report_leaves_bad_bad M
 report_leaves_bad M L s es p bad is =
     let G = report M.cluster M.holdings s (expanded es) in
     let m = there (get G.replicas p) (sym (ap (λ G. is_some (get G.replicas p)) (held_report M s es)) ∙ is) in
-    (m.0, ap (λ G. get G.replicas p) (held_report M s es) ∙ m.1, bad_told M.cluster M.holdings s (is_named (expanded es)) (stays_by M.cluster M.holdings s (expanded es)) L.holdings p m.0 bad (report_origin M.cluster M.holdings s (expanded es) p m.0 m.1))
+    (m.0, ap (λ G. get G.replicas p) (held_report M s es) ∙ m.1, bad_reported M.cluster M.holdings s (is_named (expanded es)) (stays_by M.cluster M.holdings s (expanded es)) L.holdings p m.0 bad (report_origin M.cluster M.holdings s (expanded es) p m.0 m.1))
 
 pub received_leaves_bad : (M : State) → IsOrderly M → law.received_leaves_bad_bad M
 received_leaves_bad M L s b stamp p bad is =
@@ -274,5 +274,5 @@ received_leaves_bad M L s b stamp p bad is =
     let m = there (get G.replicas p) (sym (ap (λ G. is_some (get G.replicas p)) (held_received M s b stamp)) ∙ is) in (
       m.0,
       ap (λ G. get G.replicas p) (held_received M s b stamp) ∙ m.1,
-      bad_told M.cluster M.holdings s (λ c. c == b) (λ q. not (replaces M.cluster (replica_at b s) q)) L.holdings p m.0 bad (enter_origin M.cluster M.holdings (replica_at b s) stamp p m.0 m.1),
+      bad_reported M.cluster M.holdings s (λ c. c == b) (λ q. not (replaces M.cluster (replica_at b s) q)) L.holdings p m.0 bad (enter_origin M.cluster M.holdings (replica_at b s) stamp p m.0 m.1),
     )

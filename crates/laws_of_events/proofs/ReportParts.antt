@@ -71,8 +71,8 @@ entered_alike G H p stamp blocks bad excess =
 
 -- Which replicas on other storages stay, and which transfers: two tests in turn are one.
 
-stay_apart : {X : Type 0} (named this sisters : Bool) (z : Option X) → staying (not ((named || this) && sisters)) z ≡ staying (not (this && sisters)) (staying (not (named && sisters)) z)
-stay_apart named this sisters None = refl
+stay_apart : {X : Type 0} (named this siblings : Bool) (z : Option X) → staying (not ((named || this) && siblings)) z ≡ staying (not (this && siblings)) (staying (not (named && siblings)) z)
+stay_apart named this siblings None = refl
 stay_apart true true true (Some x) = refl
 stay_apart true true false (Some x) = refl
 stay_apart true false true (Some x) = refl
@@ -106,8 +106,8 @@ found_entered C G p stamp q tied e =
 -- A report with one more replica leaves what the report and a notice of that replica leave.
 
 module _ (C : Cluster) (H : Holdings) (s : ℕ) (ts : List ReportedBlock) (t : ReportedBlock) (none : get H.replicas (replica_at t.id s) ≡ None) where
-  abbrev told : Holdings
-  told = report C H s ts
+  abbrev afterwards : Holdings
+  afterwards = report C H s ts
 
   abbrev more : List ReportedBlock
   more = ts ++ (t ∷ [])
@@ -115,13 +115,13 @@ module _ (C : Cluster) (H : Holdings) (s : ℕ) (ts : List ReportedBlock) (t : R
   abbrev this : ReplicaId
   this = replica_at t.id s
 
-  told_blocks : told.blocks ≡ H.blocks
+  afterwards_blocks : afterwards.blocks ≡ H.blocks
   unfolding report
-  told_blocks = refl
+  afterwards_blocks = refl
 
   -- the replica as the report leaves it
-  told_this : get told.replicas this ≡ put_or C H s t.id (last_stamp ts t.id) None
-  told_this =
+  afterwards_this : get afterwards.replicas this ≡ put_or C H s t.id (last_stamp ts t.id) None
+  afterwards_this =
       reported_here C H s ts t.id
       ∙ ap (put_or C H s t.id (last_stamp ts t.id)) (get-keep H.replicas (λ q _. stays_by C H s ts q) this ∙ ap (staying (stays_by C H s ts this)) none)
 
@@ -133,24 +133,24 @@ module _ (C : Cluster) (H : Holdings) (s : ℕ) (ts : List ReportedBlock) (t : R
   put_not_excess None = refl
   put_not_excess (Some x) = enters_not_excess H this none x
 
-  still_not_bad : was_bad told this ≡ was_bad H this
+  still_not_bad : was_bad afterwards this ≡ was_bad H this
   unfolding was_bad
-  still_not_bad = ap (λ o. option_map_or (λ m. is_bad m.tag) o false) told_this ∙ put_not_bad (last_stamp ts t.id) ∙ sym (first_not_bad H this none)
+  still_not_bad = ap (λ o. option_map_or (λ m. is_bad m.tag) o false) afterwards_this ∙ put_not_bad (last_stamp ts t.id) ∙ sym (first_not_bad H this none)
 
-  still_not_excess : was_excess told this ≡ was_excess H this
+  still_not_excess : was_excess afterwards this ≡ was_excess H this
   unfolding was_excess
-  still_not_excess = ap (λ o. option_map_or (λ m. m.excess) o false) told_this ∙ put_not_excess (last_stamp ts t.id) ∙ sym (first_not_excess H this none)
+  still_not_excess = ap (λ o. option_map_or (λ m. m.excess) o false) afterwards_this ∙ put_not_excess (last_stamp ts t.id) ∙ sym (first_not_excess H this none)
 
-  same_entered : entered_marks told this t.stamp ≡ entered_marks H this t.stamp
-  same_entered = entered_alike told H this t.stamp told_blocks still_not_bad still_not_excess
+  same_entered : entered_marks afterwards this t.stamp ≡ entered_marks H this t.stamp
+  same_entered = entered_alike afterwards H this t.stamp afterwards_blocks still_not_bad still_not_excess
 
   -- the replica itself
-  more_this : get (report C H s more).replicas this ≡ get (enter C told this t.stamp).replicas this
+  more_this : get (report C H s more).replicas this ≡ get (enter C afterwards this t.stamp).replicas this
   more_this =
       reported_here C H s more t.id
       ∙ ap (λ o. put_or C H s t.id o (get (keep H.replicas (λ q _. stays_by C H s more q)) this)) (last_is ts t [] refl)
       ∙ ap Some (sym same_entered)
-      ∙ sym (found_entered C told this t.stamp this true (replica_tie this this ∙ (λ i. eq-eqb t.id t.id refl i && eq-eqb s s refl i)))
+      ∙ sym (found_entered C afterwards this t.stamp this true (replica_tie this this ∙ (λ i. eq-eqb t.id t.id refl i && eq-eqb s s refl i)))
 
   -- others on the storage
   same_stays : (b : ℕ) → (t.id == b) ≡ false → stays_by C H s more (replica_at b s) ≡ stays_by C H s ts (replica_at b s)
@@ -161,14 +161,14 @@ module _ (C : Cluster) (H : Holdings) (s : ℕ) (ts : List ReportedBlock) (t : R
   unfolding replaces
   other_stays q e = ap (λ x. not (x && are_siblings C s q.storage)) e
 
-  more_here : (b : ℕ) → (t.id == b) ≡ false → get (report C H s more).replicas (replica_at b s) ≡ get (enter C told this t.stamp).replicas (replica_at b s)
+  more_here : (b : ℕ) → (t.id == b) ≡ false → get (report C H s more).replicas (replica_at b s) ≡ get (enter C afterwards this t.stamp).replicas (replica_at b s)
   more_here b e =
       let f : (b == t.id) ≡ false = eqb_turned b t.id ∙ e in
       reported_here C H s more b
       ∙ (λ i. put_or C H s b (last_other ts t b e i) ((get-keep H.replicas (λ q _. stays_by C H s more q) (replica_at b s) ∙ ap (λ x. staying x (get H.replicas (replica_at b s))) (same_stays b e) ∙ sym (get-keep H.replicas (λ q _. stays_by C H s ts q) (replica_at b s))) i))
       ∙ sym (reported_here C H s ts b)
-      ∙ sym (all_stays (not (replaces C this (replica_at b s))) (get told.replicas (replica_at b s)) (other_stays (replica_at b s) f))
-      ∙ sym (found_entered C told this t.stamp (replica_at b s) false (replica_tie (replica_at b s) this ∙ ap (λ x. x && (s == s)) f))
+      ∙ sym (all_stays (not (replaces C this (replica_at b s))) (get afterwards.replicas (replica_at b s)) (other_stays (replica_at b s) f))
+      ∙ sym (found_entered C afterwards this t.stamp (replica_at b s) false (replica_tie (replica_at b s) this ∙ ap (λ x. x && (s == s)) f))
 
   -- replicas on other storages
   elsewhere_stays : (us : List ReportedBlock) (q : ReplicaId) → q.storage ≢ s → stays_by C H s us q ≡ not (is_named us q.block && are_siblings C s q.storage)
@@ -183,25 +183,25 @@ module _ (C : Cluster) (H : Holdings) (s : ℕ) (ts : List ReportedBlock) (t : R
   found_elsewhere us q other =
       reported_elsewhere C H s us q other ∙ get-keep H.replicas (λ q _. stays_by C H s us q) q ∙ ap (λ x. staying x (get H.replicas q)) (elsewhere_stays us q other)
 
-  more_elsewhere : (q : ReplicaId) → q.storage ≢ s → get (report C H s more).replicas q ≡ get (enter C told this t.stamp).replicas q
+  more_elsewhere : (q : ReplicaId) → q.storage ≢ s → get (report C H s more).replicas q ≡ get (enter C afterwards this t.stamp).replicas q
   more_elsewhere q other =
       found_elsewhere more q other
       ∙ ap (λ n. staying (not (n && are_siblings C s q.storage)) (get H.replicas q)) (named_more ts t q.block)
       ∙ stay_apart (is_named ts q.block) (t.id == q.block) (are_siblings C s q.storage) (get H.replicas q)
       ∙ (λ i. staying (not (sym (replaces_is q) i)) (sym (found_elsewhere ts q other) i))
-      ∙ sym (found_entered C told this t.stamp q false (replica_tie q this ∙ ap (λ x. (q.block == t.id) && x) (ne_eqb q.storage s other) ∙ and_right (q.block == t.id) false refl))
+      ∙ sym (found_entered C afterwards this t.stamp q false (replica_tie q this ∙ ap (λ x. (q.block == t.id) && x) (ne_eqb q.storage s other) ∙ and_right (q.block == t.id) false refl))
 
-  more_on : (b : ℕ) → get (report C H s more).replicas (replica_at b s) ≡ get (enter C told this t.stamp).replicas (replica_at b s)
+  more_on : (b : ℕ) → get (report C H s more).replicas (replica_at b s) ≡ get (enter C afterwards this t.stamp).replicas (replica_at b s)
   more_on b =
-      elim (t.id == b) as (λ x. (t.id == b) ≡ x → get (report C H s more).replicas (replica_at b s) ≡ get (enter C told this t.stamp).replicas (replica_at b s)) [
-        | true ↦ λ x. subst (λ c. get (report C H s more).replicas (replica_at c s) ≡ get (enter C told this t.stamp).replicas (replica_at c s)) (eqb-true t.id b x) more_this
+      elim (t.id == b) as (λ x. (t.id == b) ≡ x → get (report C H s more).replicas (replica_at b s) ≡ get (enter C afterwards this t.stamp).replicas (replica_at b s)) [
+        | true ↦ λ x. subst (λ c. get (report C H s more).replicas (replica_at c s) ≡ get (enter C afterwards this t.stamp).replicas (replica_at c s)) (eqb-true t.id b x) more_this
         | false ↦ λ x. more_here b x
       ] refl
 
-  more_at : (q : ReplicaId) → get (report C H s more).replicas q ≡ get (enter C told this t.stamp).replicas q
+  more_at : (q : ReplicaId) → get (report C H s more).replicas q ≡ get (enter C afterwards this t.stamp).replicas q
   more_at q =
-      elim (q.storage == s) as (λ x. (q.storage == s) ≡ x → get (report C H s more).replicas q ≡ get (enter C told this t.stamp).replicas q) [
-        | true ↦ λ x. subst (λ c. get (report C H s more).replicas (replica_at q.block c) ≡ get (enter C told this t.stamp).replicas (replica_at q.block c)) (sym (eqb-true q.storage s x)) (more_on q.block)
+      elim (q.storage == s) as (λ x. (q.storage == s) ≡ x → get (report C H s more).replicas q ≡ get (enter C afterwards this t.stamp).replicas q) [
+        | true ↦ λ x. subst (λ c. get (report C H s more).replicas (replica_at q.block c) ≡ get (enter C afterwards this t.stamp).replicas (replica_at q.block c)) (sym (eqb-true q.storage s x)) (more_on q.block)
         | false ↦ λ x. more_elsewhere q (eqb-false q.storage s x)
       ] refl
 
@@ -210,11 +210,11 @@ module _ (C : Cluster) (H : Holdings) (s : ℕ) (ts : List ReportedBlock) (t : R
   unfolding report
   on_way us q = get-keep H.pending (λ q _. not ((q.storage == s) && is_named us q.block)) q
 
-  on_way_entered : (q : ReplicaId) → get (enter C told this t.stamp).pending q ≡ cond ((t.id == q.block) && (q.storage == s)) None (get told.pending q)
+  on_way_entered : (q : ReplicaId) → get (enter C afterwards this t.stamp).pending q ≡ cond ((t.id == q.block) && (q.storage == s)) None (get afterwards.pending q)
   unfolding enter
-  on_way_entered q = get-remove told.pending this q ∙ ap (λ x. cond x None (get told.pending q)) (replica_tie q this ∙ ap (λ x. x && (q.storage == s)) (eqb_turned q.block t.id))
+  on_way_entered q = get-remove afterwards.pending this q ∙ ap (λ x. cond x None (get afterwards.pending q)) (replica_tie q this ∙ ap (λ x. x && (q.storage == s)) (eqb_turned q.block t.id))
 
-  more_on_way : (q : ReplicaId) → get (report C H s more).pending q ≡ get (enter C told this t.stamp).pending q
+  more_on_way : (q : ReplicaId) → get (report C H s more).pending q ≡ get (enter C afterwards this t.stamp).pending q
   more_on_way q =
       on_way more q
       ∙ ap (λ n. staying (not ((q.storage == s) && n)) (get H.pending q)) (named_more ts t q.block)
@@ -222,14 +222,14 @@ module _ (C : Cluster) (H : Holdings) (s : ℕ) (ts : List ReportedBlock) (t : R
       ∙ ap (cond ((t.id == q.block) && (q.storage == s)) None) (sym (on_way ts q))
       ∙ sym (on_way_entered q)
 
-  more_blocks : (report C H s more).blocks ≡ (enter C told this t.stamp).blocks
+  more_blocks : (report C H s more).blocks ≡ (enter C afterwards this t.stamp).blocks
   unfolding report enter
   more_blocks = refl
 
-  one_more : report C H s more ≡ enter C told this t.stamp
+  one_more : report C H s more ≡ enter C afterwards this t.stamp
   one_more =
-      let replicas : (report C H s more).replicas ≡ (enter C told this t.stamp).replicas = same_map _ _ more_at in
-      let pending : (report C H s more).pending ≡ (enter C told this t.stamp).pending = same_map _ _ more_on_way in
+      let replicas : (report C H s more).replicas ≡ (enter C afterwards this t.stamp).replicas = same_map _ _ more_at in
+      let pending : (report C H s more).pending ≡ (enter C afterwards this t.stamp).pending = same_map _ _ more_on_way in
       λ i. record { blocks = more_blocks i; replicas = replicas i; pending = pending i }
 
 -- The states.

@@ -10,7 +10,7 @@ use Rattle.bm_base.specs.declared.replica.Marks.{Marks}
 use Rattle.bm_base.specs.declared.replica.Stamp.{Stamp}
 use Rattle.bm_base.specs.declared.replica.BlockInfo.{BlockInfo}
 use Rattle.bm_base.specs.Words.{get, Holdings, is_good, is_bad, was_bad, was_excess, same_stamp, entered_tag, entered_marks}
-use Rattle.laws_of_events.specs.Reports.{IsBadIn, IsExcessIn, HasToldMarks}
+use Rattle.laws_of_events.specs.Reports.{IsBadIn, IsExcessIn, HasReportedMarks}
 
 found_bad : (t : Tag) → is_bad t ≡ true → t ≡ Bad
 found_bad Good e = cc
@@ -83,8 +83,8 @@ not_ordered : (H : Holdings) (p : ReplicaId) (stamp : Stamp) → (entered_marks 
 unfolding entered_marks
 not_ordered H p stamp = refl
 
-pub told_marks : (H : Holdings) (p : ReplicaId) (stamp : Stamp) → HasToldMarks H p stamp (entered_marks H p stamp)
-told_marks H p stamp = record {
+pub reported_marks : (H : Holdings) (p : ReplicaId) (stamp : Stamp) → HasReportedMarks H p stamp (entered_marks H p stamp)
+reported_marks H p stamp = record {
   stray = λ none. tag_with H p stamp (was_bad H p) None refl none;
   bad = λ i e h. tag_with H p stamp true (Some i) (bad_so H p h) e;
   good = λ i e never is. tag_with H p stamp false (Some i) (not_bad H p never) e ∙ chosen_tag (same_stamp stamp i.stamp) (stamps_same stamp i.stamp is);

@@ -94,21 +94,21 @@ alike M s ds es e = (
   answer_is M s ds ∙ ap (done M.holdings) e ∙ sym (answer_is M s es),
 )
 
-pub last_counts : law.what_is_told_last_counts
+pub last_counts : law.last_stamp_counts
 last_counts M s ds es same = alike M s ds es (same_report M.cluster M.holdings s (expanded ds) (expanded es) same)
 
-pub same_told : law.same_told_is_alike
-same_told M s ds es same = alike M s ds es (ap (report M.cluster M.holdings s) same)
+pub same_expansion : law.same_blocks_are_alike
+same_expansion M s ds es same = alike M s ds es (ap (report M.cluster M.holdings s) same)
 
 pub one_by_one : law.runs_are_alike_one_by_one
-one_by_one M s es = same_told M s es (map law.one_of (expanded es)) (sym (expanded-one_by_one (expanded es)))
+one_by_one M s es = same_expansion M s es (map law.one_of (expanded es)) (sym (expanded-one_by_one (expanded es)))
 
 -- Runs in pieces.
 
 pub cut_in_two : law.run_may_be_cut
 unfolding expanded
 cut_in_two M s front e behind m low high =
-    same_told M s (front ++ (e ∷ behind)) (front ++ (record e { to = m } ∷ record e { from = m + 1 } ∷ behind))
+    same_expansion M s (front ++ (e ∷ behind)) (front ++ (record e { to = m } ∷ record e { from = m + 1 } ∷ behind))
     (expanded-++ front (e ∷ behind)
     ∙ ap (λ xs. expanded front ++ xs) (ap (λ xs. xs ++ expanded behind) (told_by-cut e m low high) ∙ append_assoc (blocks_of_entry (record e { to = m })) (blocks_of_entry (record e { from = m + 1 })) (expanded behind))
     ∙ sym (expanded-++ front (record e { to = m } ∷ record e { from = m + 1 } ∷ behind)))
@@ -116,5 +116,5 @@ cut_in_two M s front e behind m low high =
 pub backward : law.backward_run_names_none
 unfolding expanded
 backward M s front e behind h =
-    same_told M s (front ++ (e ∷ behind)) (front ++ behind)
+    same_expansion M s (front ++ (e ∷ behind)) (front ++ behind)
     (expanded-++ front (e ∷ behind) ∙ ap (λ xs. expanded front ++ (xs ++ expanded behind)) (told_by-backwards e h) ∙ sym (expanded-++ front behind))

@@ -26,7 +26,7 @@ abbrev pub IsExcessIn : Holdings → ReplicaId → Type 0
 IsExcessIn H p = (m : Marks) × (get H.replicas p ≡ Some m) × IsTrue m.excess
 
 -- The marks of a replica that is reported or received with this stamp. H is what was held before.
-pub record HasToldMarks (H : Holdings) (p : ReplicaId) (stamp : Stamp) (m : Marks) : Type 0 where
+pub record HasReportedMarks (H : Holdings) (p : ReplicaId) (stamp : Stamp) (m : Marks) : Type 0 where
   pub stray : get H.blocks p.block ≡ None → m.tag ≡ Stray
   pub bad : (i : BlockInfo) → get H.blocks p.block ≡ Some i → IsBadIn H p → m.tag ≡ Bad
   pub good : (i : BlockInfo) → get H.blocks p.block ≡ Some i → (IsBadIn H p → ⊥) → stamp ≡ i.stamp → m.tag ≡ Good
@@ -37,8 +37,8 @@ pub record HasToldMarks (H : Holdings) (p : ReplicaId) (stamp : Stamp) (m : Mark
   pub not_ordered : m.ordered ≡ false
 
 -- after a full report a storage has exactly the replicas that the report names
-abbrev pub report_tells_all : Type 0
-report_tells_all = (M : State) (s : ℕ) (es : List Entry) (b : ℕ) → contains_key (held_after M (FullReport s es)).replicas (replica_at b s) ≡ has (numbers_of es) b
+abbrev pub full_report_is_exact : Type 0
+full_report_is_exact = (M : State) (s : ℕ) (es : List Entry) (b : ℕ) → contains_key (held_after M (FullReport s es)).replicas (replica_at b s) ≡ has (numbers_of es) b
 
 -- a query for the storage's blocks answers each of these numbers once, ascending
 abbrev pub report_is_what_is_asked : Type 0
@@ -48,7 +48,7 @@ report_is_what_is_asked = (M : State) (s : ℕ) (es : List Entry) → blocks_on 
 abbrev pub last_entry_decides : Type 0
 last_entry_decides =
     (M : State) (s : ℕ) (front : List Entry) (e : Entry) (behind : List Entry) (b : ℕ) → e.from ≤ b → b ≤ e.to → has (numbers_of behind) b ≡ false
-    → (m : Marks) × (get (held_after M (FullReport s (front ++ (e ∷ behind)))).replicas (replica_at b s) ≡ Some m) × HasToldMarks M.holdings (replica_at b s) e.stamp m
+    → (m : Marks) × (get (held_after M (FullReport s (front ++ (e ∷ behind)))).replicas (replica_at b s) ≡ Some m) × HasReportedMarks M.holdings (replica_at b s) e.stamp m
 
 -- the same report again changes no holdings, and answers that no replica came or went
 abbrev pub second_report_changes_nothing : Type 0
@@ -90,7 +90,7 @@ received_leaves_other_nodes =
 abbrev pub received_is_there : Type 0
 received_is_there =
     (M : State) (s b : ℕ) (stamp : Stamp)
-    → (m : Marks) × (get (held_after M (Received s b stamp)).replicas (replica_at b s) ≡ Some m) × HasToldMarks M.holdings (replica_at b s) stamp m
+    → (m : Marks) × (get (held_after M (Received s b stamp)).replicas (replica_at b s) ≡ Some m) × HasReportedMarks M.holdings (replica_at b s) stamp m
 
 -- a bad replica that is still there is bad
 abbrev pub LeavesBadBad : State → Event → Type 0

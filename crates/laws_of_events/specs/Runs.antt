@@ -25,12 +25,12 @@ last_stamp [] b = None
 last_stamp (t ∷ ts) b = option_or (last_stamp ts b) (if t.id == b then Some t.stamp else None)
 
 -- only the last stamp of each number counts
-abbrev pub what_is_told_last_counts : Type 0
-what_is_told_last_counts = (M : State) (s : ℕ) (ds es : List Entry) → ((b : ℕ) → last_stamp (expanded ds) b ≡ last_stamp (expanded es) b) → AreAlike M s ds es
+abbrev pub last_stamp_counts : Type 0
+last_stamp_counts = (M : State) (s : ℕ) (ds es : List Entry) → ((b : ℕ) → last_stamp (expanded ds) b ≡ last_stamp (expanded es) b) → AreAlike M s ds es
 
 -- so the runs may be cut in any way that gives the same numbers and stamps in the same order
-abbrev pub same_told_is_alike : Type 0
-same_told_is_alike = (M : State) (s : ℕ) (ds es : List Entry) → expanded ds ≡ expanded es → AreAlike M s ds es
+abbrev pub same_blocks_are_alike : Type 0
+same_blocks_are_alike = (M : State) (s : ℕ) (ds es : List Entry) → expanded ds ≡ expanded es → AreAlike M s ds es
 
 -- the entry of one number
 abbrev pub one_of : ReportedBlock → Entry

@@ -5,8 +5,8 @@ ghost use Rattle.bm_base.specs.Promises.AllStates.{InLawfulStates, AfterAllCalls
 ghost use Rattle.laws_of_events.specs.Reports as law;
 
 /// After a full report a storage has exactly the replicas that the report names, each once.
-pub fn report_tells_all()
-    ensures { law.report_tells_all }
+pub fn full_report_is_exact()
+    ensures { law.full_report_is_exact }
 {}
 
 /// After a full report a query for the storage's blocks answers the named numbers, each once,

@@ -16,13 +16,13 @@ pub fn numbers_are_counted()
 
 /// Two reports that agree on the last stamp of each number have the same next state and answer,
 /// whatever their runs.
-pub fn what_is_told_last_counts()
-    ensures { law.what_is_told_last_counts }
+pub fn last_stamp_counts()
+    ensures { law.last_stamp_counts }
 {}
 
 /// So do two reports with the same numbers and stamps in the same order, in whatever runs.
-pub fn same_told_is_alike()
-    ensures { law.same_told_is_alike }
+pub fn same_blocks_are_alike()
+    ensures { law.same_blocks_are_alike }
 {}
 
 /// A report in runs has the same next state and answer as the report with an entry for each number.

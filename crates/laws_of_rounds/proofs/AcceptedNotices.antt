@@ -14,7 +14,7 @@ use Rattle.laws_of_rounds.specs.Obedience.{copied, erased, Obeys, OnlyObeys, aft
 use Rattle.laws_of_rounds.proofs.NodeGroups.{each_on_node}
 use Rattle.laws_of_rounds.proofs.TransferLaws.{fresh_node, node_is}
 use Rattle.laws_of_rounds.proofs.NextRounds.{commanded_chosen, each_is}
-use Rattle.laws_of_rounds.proofs.DuringObedience.{obeyed_beside}
+use Rattle.laws_of_rounds.proofs.DuringObedience.{same_after_obedience}
 
 abbrev IsKnown : Cluster → ℕ → Type 0
 IsKnown C s = knows_storage C s ≡ true
@@ -55,7 +55,7 @@ erasure_accepted N d known = ap (λ b. first_of ((UnknownStorage when not b) ∷
 pub not_refused : (M : State) (es : List Event) (e : Event) → OnlyObeys M es → Obeys M e → refusal_of (after_obeying M es) e ≡ calls_spent (after_obeying M es)
 not_refused M es e only (inl c) =
     ap (refusal_of (after_obeying M es)) c.2
-    ∙ copy_accepted (after_obeying M es) c.0 (ap (λ C. knows_storage C c.0.target) (obeyed_beside M es (each_all (Obeys M) es only)).cluster ∙ target_known M c.0 c.1)
+    ∙ copy_accepted (after_obeying M es) c.0 (ap (λ C. knows_storage C c.0.target) (same_after_obedience M es (each_all (Obeys M) es only)).cluster ∙ target_known M c.0 c.1)
 not_refused M es e only (inr c) =
     ap (refusal_of (after_obeying M es)) c.2
-    ∙ erasure_accepted (after_obeying M es) c.0 (ap (λ C. knows_storage C c.0.storage) (obeyed_beside M es (each_all (Obeys M) es only)).cluster ∙ delete_known M c.0 c.1)
+    ∙ erasure_accepted (after_obeying M es) c.0 (ap (λ C. knows_storage C c.0.storage) (same_after_obedience M es (each_all (Obeys M) es only)).cluster ∙ delete_known M c.0 c.1)

@@ -141,7 +141,7 @@ source_is C front urgency ss s e =
     let is = least_passing (source_cmp C (streams_from C front)) (λ z. nat_lt (streams_from C front z) (stream_limit urgency (is_draining C z))) ss s e in
     (ltb-true (streams_from C front s) (stream_limit urgency (is_draining C s)) is.0, is.1)
 
-pub target_is : (C : Cluster) (front : List Transfer) (urgency : Level) (holders barred : List ℕ) (n u : ℕ) → least_target C front urgency holders barred n ≡ Some u
-    → (is_target C (scheduled_to front) urgency holders barred n u ≡ true) × (has (keys C.storages) u ≡ true)
+pub target_is : (C : Cluster) (front : List Transfer) (urgency : Level) (holders excluded : List ℕ) (n u : ℕ) → least_target C front urgency holders excluded n ≡ Some u
+    → (is_target C (scheduled_to front) urgency holders excluded n u ≡ true) × (has (keys C.storages) u ≡ true)
 unfolding least_target least_target_by
-target_is C front urgency holders barred n u e = least_passing (target_cmp C (scheduled_to front) holders) (is_target C (scheduled_to front) urgency holders barred n) (keys C.storages) u e
+target_is C front urgency holders excluded n u e = least_passing (target_cmp C (scheduled_to front) holders) (is_target C (scheduled_to front) urgency holders excluded n) (keys C.storages) u e

@@ -24,7 +24,7 @@ use Rattle.bm_base.proofs.Sets.{has_keys}
 use Rattle.laws_of_states.proofs.RoundCommands.{chosen_deletes_of}
 use Rattle.laws_of_states.proofs.LiveAfterRound.{marks_before}
 use Rattle.laws_of_rounds.proofs.TransferLaws.{storage_is}
-use Rattle.laws_of_rounds.proofs.NodeCommands.{no_cons, cons_head, cons_tail, among_cons, among_flat, among_map, among_filter, among_numbers, told_delete}
+use Rattle.laws_of_rounds.proofs.NodeCommands.{no_cons, cons_head, cons_tail, among_cons, among_flat, among_map, among_filter, among_numbers, commanded_delete}
 use Rattle.bm_base.proofs.Options.{there}
 
 -- Positions in lists.
@@ -148,5 +148,5 @@ only_limit M q m n lawful some found unordered why on =
         → IsAmong (deletes_of M.limits M.cluster (state_at_choice M).holdings n) (delete_of q) ⊎ (M.limits.invalidate ≤ length (deletes_of M.limits M.cluster (state_at_choice M).holdings n))
         → IsDeleteCommanded M q ⊎ ((k : NodeCommands) × IsAmong (whole_round M).0.nodes k × (k.node ≡ n) × (M.limits.invalidate ≤ length k.deletes))
     of_case alive here (inl at) =
-        inl (told_delete M.cluster (state_at_choice M).round (transfers_chosen M) (chosen_deletes_of M) n (delete_of q) alive here (among_deletes M.limits M.cluster (state_at_choice M).holdings n (delete_of q) alive at))
+        inl (commanded_delete M.cluster (state_at_choice M).round (transfers_chosen M) (chosen_deletes_of M) n (delete_of q) alive here (among_deletes M.limits M.cluster (state_at_choice M).holdings n (delete_of q) alive at))
     of_case alive here (inr long) = inr (full_node M.limits M.cluster (state_at_choice M).holdings (state_at_choice M).round (transfers_chosen M) n some alive long)

@@ -82,13 +82,13 @@ one_copy M t u h k same node =
 -- The commands of nodes.
 
 module _ (C : Cluster) (ts : List Transfer) (ds : List Delete) (apart : OfTwo (GoApart C) ts) where
-  abbrev told : List ℕ → List Transfer
-  told ns = flat_map (λ (k : NodeCommands). k.transfers) (filter has_commands (map (node_commands C ts ds) ns))
+  abbrev commanded : List ℕ → List Transfer
+  commanded ns = flat_map (λ (k : NodeCommands). k.transfers) (filter has_commands (map (node_commands C ts ds) ns))
 
   abbrev IsOf : List ℕ → Transfer → Type 0
   IsOf ns t = IsAmong ts t × (n : ℕ) × (has ns n ≡ true) × (has_storage C n t.source ≡ true)
 
-  each_of_nodes : (ns : List ℕ) → Each (IsOf ns) (told ns)
+  each_of_nodes : (ns : List ℕ) → Each (IsOf ns) (commanded ns)
   unfolding node_commands
   each_of_nodes ns =
       each_flat_map (λ (k : NodeCommands). Each (IsOf ns) k.transfers) (IsOf ns) (λ k. k.transfers) (λ k each. each) (filter has_commands (map (node_commands C ts ds) ns))
@@ -107,21 +107,21 @@ module _ (C : Cluster) (ts : List Transfer) (ds : List Delete) (apart : OfTwo (G
           absurd (true≢false (sym is.2 ∙ ap (has ns) (sym node) ∙ none))
       by_two (inr two) = two
 
-  told_apart : (ns : List ℕ) → has_repeats ns ≡ false → OfTwo (GoApart C) (told ns)
+  apart_commanded : (ns : List ℕ) → has_repeats ns ≡ false → OfTwo (GoApart C) (commanded ns)
   unfolding node_commands
-  told_apart [] once = tt
-  told_apart (n ∷ ns) once =
+  apart_commanded [] once = tt
+  apart_commanded (n ∷ ns) once =
       let parts = or_parts (has ns n) (has_repeats ns) once in
-      let rest = told_apart ns parts.1 in
+      let rest = apart_commanded ns parts.1 in
       elim (has_commands (node_commands C ts ds n)) as (λ b. OfTwo (GoApart C) (flat_map (λ (k : NodeCommands). k.transfers)
       (cond b (node_commands C ts ds n ∷ filter has_commands (map (node_commands C ts ds) ns)) (filter has_commands (map (node_commands C ts ds) ns))))) [
-        | true ↦ of_two_append (GoApart C) (filter (λ (t : Transfer). has_storage C n t.source) ts) (told ns)
+        | true ↦ of_two_append (GoApart C) (filter (λ (t : Transfer). has_storage C n t.source) ts) (commanded ns)
             (of_two_filter (GoApart C) (λ (t : Transfer). has_storage C n t.source) ts apart) rest
-            (each_filter_by (IsAmong ts) (λ (t : Transfer). has_storage C n t.source) (λ t. Each (GoApart C t) (told ns))
-            (λ t there on. each_then (IsOf ns) (GoApart C t) (told ns) (each_of_nodes ns) (λ u is. across n ns parts.0 t u there on is)) ts (each_among ts))
+            (each_filter_by (IsAmong ts) (λ (t : Transfer). has_storage C n t.source) (λ t. Each (GoApart C t) (commanded ns))
+            (λ t there on. each_then (IsOf ns) (GoApart C t) (commanded ns) (each_of_nodes ns) (λ u is. across n ns parts.0 t u there on is)) ts (each_among ts))
         | false ↦ rest
       ]
 
 pub commanded_apart : (M : State) → OfTwo (GoApart M.cluster) (transfers_commanded M)
 unfolding whole_round commands_of state_at_choice state_after_expiry
-commanded_apart M = told_apart M.cluster (transfers_chosen M) (chosen_deletes_of M) (targets_apart M) (keys M.cluster.nodes) (once_keys M.cluster.nodes)
+commanded_apart M = apart_commanded M.cluster (transfers_chosen M) (chosen_deletes_of M) (targets_apart M) (keys M.cluster.nodes) (once_keys M.cluster.nodes)

@@ -122,7 +122,7 @@ emptied false o e = e
 
 -- Steps of a state with the nodes and blocks from before the round.
 
-pub record IsBeside (M N : State) : Type 0 where
+pub record HasSameBlocks (M N : State) : Type 0 where
   pub cluster : N.cluster ≡ M.cluster
   pub blocks : N.holdings.blocks ≡ M.holdings.blocks
 
@@ -134,14 +134,14 @@ pub record IsSafe (M : State) (q : ReplicaId) : Type 0 where
 stamp_known : (M : State) (t : Transfer) → IsTransferCommanded M t → (i : BlockInfo) × (get M.holdings.blocks t.block ≡ Some i) × (t.stamp ≡ i.stamp)
 stamp_known M t h = let at = commanded_chosen M t h in (source_usable M at.0 at.1 t at.2).1
 
-module _ (M N : State) (beside : IsBeside M N) where
-  pub beside_copy : (t : Transfer) → IsBeside M (after_event N (copied t))
+module _ (M N : State) (unchanged : HasSameBlocks M N) where
+  pub same_after_copy : (t : Transfer) → HasSameBlocks M (after_event N (copied t))
   unfolding after_event change_cluster change_holdings enter
-  beside_copy t = record { cluster = beside.cluster; blocks = beside.blocks }
+  same_after_copy t = record { cluster = unchanged.cluster; blocks = unchanged.blocks }
 
-  pub beside_erasure : (d : Delete) → IsBeside M (after_event N (erased d))
+  pub same_after_erasure : (d : Delete) → HasSameBlocks M (after_event N (erased d))
   unfolding after_event change_cluster change_holdings remove_replica
-  beside_erasure d = record { cluster = beside.cluster; blocks = beside.blocks }
+  same_after_erasure d = record { cluster = unchanged.cluster; blocks = unchanged.blocks }
 
   module _ (t : Transfer) (h : IsTransferCommanded M t) where
     abbrev key : ReplicaId
@@ -150,7 +150,7 @@ module _ (M N : State) (beside : IsBeside M N) where
     copy_usable : IsUnspoilt N.holdings key → is_usable (entered_marks N.holdings key t.stamp) ≡ true
     copy_usable clean =
         let is = stamp_known M t h in
-        entered_usable N.holdings key t.stamp is.0 (ap (λ m. get m t.block) beside.blocks ∙ is.1) is.2 clean
+        entered_usable N.holdings key t.stamp is.0 (ap (λ m. get m t.block) unchanged.blocks ∙ is.1) is.2 clean
 
     pub get_copied : (q : ReplicaId) → get (after_event N (copied t)).holdings.replicas q
         ≡ cond (eq_by_cmp replica_cmp q key) (Some (entered_marks N.holdings key t.stamp)) (staying (not (replaces N.cluster key q)) (get N.holdings.replicas q))
@@ -172,7 +172,7 @@ module _ (M N : State) (beside : IsBeside M N) where
         by_tie true tie = copy_usable (subst (IsUnspoilt N.holdings) (same_key by_replica q key tie) (unspoilt (get N.holdings.replicas q) there))
         by_tie false tie =
             ap (λ o. option_map_or is_usable o false) (all_stays (not (replaces N.cluster key q)) (get N.holdings.replicas q)
-            (not_failed (replaces N.cluster key q) (ap (λ C. replaces C key q) beside.cluster ∙ safe.not_replaced t h))) ∙ there
+            (not_failed (replaces N.cluster key q) (ap (λ C. replaces C key q) unchanged.cluster ∙ safe.not_replaced t h))) ∙ there
 
     pub copy_arrives : IsUnspoilt N.holdings key → IsUsable (after_event N (copied t)).holdings key
     copy_arrives clean =
@@ -198,33 +198,33 @@ module _ (M N : State) (beside : IsBeside M N) where
 -- Events.
 
 abbrev pub UnspoiltBeside : State → ReplicaId → State → Type 0
-UnspoiltBeside M q N = IsBeside M N × IsUnspoilt N.holdings q
+UnspoiltBeside M q N = HasSameBlocks M N × IsUnspoilt N.holdings q
 
 abbrev pub UsableBeside : State → ReplicaId → State → Type 0
-UsableBeside M q N = IsBeside M N × IsUsable N.holdings q
+UsableBeside M q N = HasSameBlocks M N × IsUsable N.holdings q
 
 pub step_unspoilt : (M : State) (q : ReplicaId) (N : State) (e : Event) → UnspoiltBeside M q N → Obeys M e → UnspoiltBeside M q (after_event N e)
-step_unspoilt M q N e h (inl c) = subst (λ x. UnspoiltBeside M q (after_event N x)) (sym c.2) (beside_copy M N h.0 c.0, copy_unspoilt M N h.0 c.0 c.1 q h.1)
-step_unspoilt M q N e h (inr c) = subst (λ x. UnspoiltBeside M q (after_event N x)) (sym c.2) (beside_erasure M N h.0 c.0, erasure_unspoilt M N h.0 c.0 c.1 q h.1)
+step_unspoilt M q N e h (inl c) = subst (λ x. UnspoiltBeside M q (after_event N x)) (sym c.2) (same_after_copy M N h.0 c.0, copy_unspoilt M N h.0 c.0 c.1 q h.1)
+step_unspoilt M q N e h (inr c) = subst (λ x. UnspoiltBeside M q (after_event N x)) (sym c.2) (same_after_erasure M N h.0 c.0, erasure_unspoilt M N h.0 c.0 c.1 q h.1)
 
 pub step_usable : (M : State) (q : ReplicaId) → IsSafe M q → (N : State) (e : Event) → UsableBeside M q N → Obeys M e → UsableBeside M q (after_event N e)
-step_usable M q safe N e h (inl c) = subst (λ x. UsableBeside M q (after_event N x)) (sym c.2) (beside_copy M N h.0 c.0, copy_keeps M N h.0 c.0 c.1 q safe h.1)
-step_usable M q safe N e h (inr c) = subst (λ x. UsableBeside M q (after_event N x)) (sym c.2) (beside_erasure M N h.0 c.0, erasure_keeps M N h.0 c.0 c.1 q safe h.1)
+step_usable M q safe N e h (inl c) = subst (λ x. UsableBeside M q (after_event N x)) (sym c.2) (same_after_copy M N h.0 c.0, copy_keeps M N h.0 c.0 c.1 q safe h.1)
+step_usable M q safe N e h (inr c) = subst (λ x. UsableBeside M q (after_event N x)) (sym c.2) (same_after_erasure M N h.0 c.0, erasure_keeps M N h.0 c.0 c.1 q safe h.1)
 
 -- all events together keep what each event that obeys keeps
 pub through : (M : State) (P : State → Type 0) → ((N : State) (e : Event) → P N → Obeys M e → P (after_event N e)) → (N : State) → P N → (es : List Event) → Each (Obeys M) es → P (after_events N es)
 through M P step N h [] each = h
 through M P step N h (e ∷ es) each = through M P step (after_event N e) (step N e h each.0) es each.1
 
-pub beside_round : (M : State) → IsBeside M (after_round M)
-beside_round M = record { cluster = (same_rest M).0; blocks = (same_rest M).1 }
+pub same_after_round : (M : State) → HasSameBlocks M (after_round M)
+same_after_round M = record { cluster = (same_rest M).0; blocks = (same_rest M).1 }
 
-step_beside : (M N : State) (e : Event) → IsBeside M N → Obeys M e → IsBeside M (after_event N e)
-step_beside M N e h (inl c) = subst (λ x. IsBeside M (after_event N x)) (sym c.2) (beside_copy M N h c.0)
-step_beside M N e h (inr c) = subst (λ x. IsBeside M (after_event N x)) (sym c.2) (beside_erasure M N h c.0)
+same_after_step : (M N : State) (e : Event) → HasSameBlocks M N → Obeys M e → HasSameBlocks M (after_event N e)
+same_after_step M N e h (inl c) = subst (λ x. HasSameBlocks M (after_event N x)) (sym c.2) (same_after_copy M N h c.0)
+same_after_step M N e h (inr c) = subst (λ x. HasSameBlocks M (after_event N x)) (sym c.2) (same_after_erasure M N h c.0)
 
-pub obeyed_beside : (M : State) (es : List Event) → Each (Obeys M) es → IsBeside M (after_obeying M es)
-obeyed_beside M es each = through M (IsBeside M) (step_beside M) (after_round M) (beside_round M) es each
+pub same_after_obedience : (M : State) (es : List Event) → Each (Obeys M) es → HasSameBlocks M (after_obeying M es)
+same_after_obedience M es each = through M (HasSameBlocks M) (same_after_step M) (after_round M) (same_after_round M) es each
 
 -- Live replicas.
 
@@ -265,5 +265,5 @@ module _ (M : State) (b s : ℕ) (live_there : has (live_after M b) s ≡ true) 
   pub stays_live : (es : List Event) → Each (Obeys M) es → has (live_obeying M es b) s ≡ true
   stays_live es each =
       let here = live_usable M.cluster (after_round M).holdings b s live_there in
-      let end = through M (UsableBeside M (replica_at b s)) (step_usable M (replica_at b s) live_safe) (after_round M) (beside_round M, here.0) es each in
+      let end = through M (UsableBeside M (replica_at b s)) (step_usable M (replica_at b s) live_safe) (after_round M) (same_after_round M, here.0) es each in
       live_now (after_obeying M es).cluster (after_obeying M es).holdings b s end.1 (ap (λ C. is_draining C s) end.0.cluster ∙ here.1)

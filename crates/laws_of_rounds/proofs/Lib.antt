@@ -37,7 +37,7 @@ pub mod TestedDeletes
 pub mod DeferredDeletes
 -- for level_three_is_one_rack
 pub mod OneRack
--- for drained_stands_once, live_stands_once, sources_are_usable, usable_is_live_or_drained
+-- for drained_is_distinct, live_is_distinct, sources_are_usable, usable_is_live_or_drained
 pub mod UsableReplicas
 -- for drained_replica_is_not_deleted, drained_source_goes_first, drained_stay_drained,
 -- no_draining_node_is_a_target, none_on_a_draining_node_is_marked

@@ -26,7 +26,7 @@ use Rattle.laws_of_rounds.proofs.NodeGroups.{all_of_each}
 use Rattle.laws_of_rounds.proofs.NextRounds.{each_among, any_chosen}
 use Rattle.laws_of_rounds.proofs.NodeCommands.{among_map}
 use Rattle.laws_of_rounds.proofs.UsableReplicas.{live_once}
-use Rattle.laws_of_rounds.proofs.DuringObedience.{IsUsable, IsBeside, get_copied, get_without, beside_copy, beside_erasure, beside_round, live_now, live_usable, stays_live, target_elsewhere, through}
+use Rattle.laws_of_rounds.proofs.DuringObedience.{IsUsable, HasSameBlocks, get_copied, get_without, same_after_copy, same_after_erasure, same_after_round, live_now, live_usable, stays_live, target_elsewhere, through}
 use Rattle.laws_of_rounds.proofs.LiveTargets.{target_live}
 use Rattle.laws_of_rounds.proofs.DistinctTargets.{OfTwo, GoApart, commanded_apart}
 
@@ -95,7 +95,7 @@ IsCopy M q = (t : Transfer) × IsTransferCommanded M t × (q ≡ replica_at t.bl
 
 -- each usable replica was usable after the round, or is a copy that the round commands
 abbrev AddsCopies : State → State → Type 0
-AddsCopies M N = IsBeside M N × ((q : ReplicaId) → IsUsable N.holdings q → IsUsable (after_round M).holdings q ⊎ IsCopy M q)
+AddsCopies M N = HasSameBlocks M N × ((q : ReplicaId) → IsUsable N.holdings q → IsUsable (after_round M).holdings q ⊎ IsCopy M q)
 
 stayed : (b : Bool) (o : Option Marks) → option_map_or is_usable (staying b o) false ≡ true → option_map_or is_usable o false ≡ true
 stayed b None e = e
@@ -109,7 +109,7 @@ left false o e = e
 step_copies : (M N : State) (e : Event) → AddsCopies M N → Obeys M e → AddsCopies M (after_event N e)
 step_copies M N e h (inl c) =
     subst (λ x. AddsCopies M (after_event N x)) (sym c.2)
-    (beside_copy M N h.0 c.0, λ q there. by_tie q (eq_by_cmp replica_cmp q (replica_at c.0.block c.0.target)) refl (sym (ap (λ o. option_map_or is_usable o false) (get_copied M N h.0 c.0 c.1 q)) ∙ there))
+    (same_after_copy M N h.0 c.0, λ q there. by_tie q (eq_by_cmp replica_cmp q (replica_at c.0.block c.0.target)) refl (sym (ap (λ o. option_map_or is_usable o false) (get_copied M N h.0 c.0 c.1 q)) ∙ there))
   where
     by_tie : (q : ReplicaId) (b : Bool) → eq_by_cmp replica_cmp q (replica_at c.0.block c.0.target) ≡ b
         → option_map_or is_usable (cond b (Some (entered_marks N.holdings (replica_at c.0.block c.0.target) c.0.stamp)) (staying (not (replaces N.cluster (replica_at c.0.block c.0.target) q)) (get N.holdings.replicas q))) false ≡ true
@@ -118,7 +118,7 @@ step_copies M N e h (inl c) =
     by_tie q false tie there = h.1 q (stayed (not (replaces N.cluster (replica_at c.0.block c.0.target) q)) (get N.holdings.replicas q) there)
 step_copies M N e h (inr c) =
     subst (λ x. AddsCopies M (after_event N x)) (sym c.2) (
-      beside_erasure M N h.0 c.0,
+      same_after_erasure M N h.0 c.0,
       λ q there.
           h.1 q (left (eq_by_cmp replica_cmp q (replica_at c.0.block c.0.storage)) (get N.holdings.replicas q) (sym (ap (λ o. option_map_or is_usable o false) (get_without M N h.0 c.0 c.1 q)) ∙ there)),
     )
@@ -149,7 +149,7 @@ module _ (M : State) (es : List Event) (b : ℕ) (obeyed : ObeysAll M es) where
           subst (λ (x : ℕ × ℕ). has (live_obeying M es x.0) x.1 ≡ true) (λ i. (t.2 i, t.3 i)) (target_live M t.0 t.1 es each_obeys (obeyed.each_copied t.0 t.1))
 
   only_copies_added : AddsCopies M (after_obeying M es)
-  only_copies_added = through M (AddsCopies M) (step_copies M) (after_round M) (beside_round M, λ p there. inl there) es each_obeys
+  only_copies_added = through M (AddsCopies M) (step_copies M) (after_round M) (same_after_round M, λ p there. inl there) es each_obeys
 
   live_expected : (q : ℕ) → has (live_obeying M es b) q ≡ true → has expected q ≡ true
   live_expected q h =

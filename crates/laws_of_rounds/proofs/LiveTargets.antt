@@ -19,7 +19,7 @@ use Rattle.laws_of_rounds.proofs.DeleteReasons.{not_ordered}
 use Rattle.laws_of_rounds.proofs.TransferLaws.{fresh_node}
 use Rattle.laws_of_rounds.proofs.NextRounds.{commanded_chosen}
 use Rattle.laws_of_rounds.proofs.DistinctTargets.{one_copy}
-use Rattle.laws_of_rounds.proofs.DuringObedience.{IsUnspoilt, IsSafe, UnspoiltBeside, UsableBeside, copy_arrives, beside_copy, beside_round, replaced_is, live_now, step_unspoilt, step_usable, there_before, through}
+use Rattle.laws_of_rounds.proofs.DuringObedience.{IsUnspoilt, IsSafe, UnspoiltBeside, UsableBeside, copy_arrives, same_after_copy, same_after_round, replaced_is, live_now, step_unspoilt, step_usable, there_before, through}
 
 -- Events.
 
@@ -67,9 +67,9 @@ module _ (M : State) (t : Transfer) (h : IsTransferCommanded M t) where
   arrives_and_stays front back each =
       let N : State = after_obeying M front in
       let before : UnspoiltBeside M at_target N = through M (UnspoiltBeside M at_target) (step_unspoilt M at_target) (after_round M)
-      (beside_round M, target_unspoilt) front (each_front (Obeys M) front back (copied t) each) in
+      (same_after_round M, target_unspoilt) front (each_front (Obeys M) front back (copied t) each) in
       subst (UsableBeside M at_target) (sym (split_events (after_round M) front back (copied t)))
-      (through M (UsableBeside M at_target) (step_usable M at_target target_safe) (after_event N (copied t)) (beside_copy M N before.0 t, copy_arrives M N before.0 t h before.1) back
+      (through M (UsableBeside M at_target) (step_usable M at_target target_safe) (after_event N (copied t)) (same_after_copy M N before.0 t, copy_arrives M N before.0 t h before.1) back
       (each_back (Obeys M) front back (copied t) each))
 
   pub target_live : (es : List Event) → Each (Obeys M) es → IsAmong es (copied t) → has (live_obeying M es t.block) t.target ≡ true

@@ -168,18 +168,18 @@ long_of : {X : Type 0} (xs : List X) (x : X) → IsAmong xs x → 1 ≤ length x
 long_of xs x h = subst (λ zs. 1 ≤ length zs) (sym h.2) (some_long h.0 h.1 x)
 
 module _ (C : Cluster) (r : ℕ) (ts : List Transfer) (ds : List Delete) where
-  told_transfer : (n : ℕ) (t : Transfer) → has (keys C.nodes) n ≡ true → has_storage C n t.source ≡ true → IsAmong ts t → IsAmong (flat_map (λ (k : NodeCommands). k.transfers) (commands_of C r ts ds).nodes) t
+  commanded_transfer : (n : ℕ) (t : Transfer) → has (keys C.nodes) n ≡ true → has_storage C n t.source ≡ true → IsAmong ts t → IsAmong (flat_map (λ (k : NodeCommands). k.transfers) (commands_of C r ts ds).nodes) t
   unfolding commands_of node_commands
-  told_transfer n t alive on at =
+  commanded_transfer n t alive on at =
       let own : IsAmong (node_commands C ts ds n).transfers t = among_filter (λ (u : Transfer). has_storage C n u.source) ts t at on in
       let long = long_of (node_commands C ts ds n).transfers t own in
       among_flat (λ (k : NodeCommands). k.transfers) (filter has_commands (map (node_commands C ts ds) (keys C.nodes))) (node_commands C ts ds n) t
       (among_filter has_commands (map (node_commands C ts ds) (keys C.nodes)) (node_commands C ts ds n) (among_map (node_commands C ts ds) (keys C.nodes) n (among_numbers (keys C.nodes) n alive))
       (lt-ltb 0 (length (node_commands C ts ds n).transfers + length (node_commands C ts ds n).deletes) (omega (arith, long)))) own
 
-  pub told_delete : (n : ℕ) (d : Delete) → has (keys C.nodes) n ≡ true → has_storage C n d.storage ≡ true → IsAmong ds d → IsAmong (flat_map (λ (k : NodeCommands). k.deletes) (commands_of C r ts ds).nodes) d
+  pub commanded_delete : (n : ℕ) (d : Delete) → has (keys C.nodes) n ≡ true → has_storage C n d.storage ≡ true → IsAmong ds d → IsAmong (flat_map (λ (k : NodeCommands). k.deletes) (commands_of C r ts ds).nodes) d
   unfolding commands_of node_commands
-  told_delete n d alive on at =
+  commanded_delete n d alive on at =
       let own : IsAmong (node_commands C ts ds n).deletes d = among_filter (λ (e : Delete). has_storage C n e.storage) ds d at on in
       let long = long_of (node_commands C ts ds n).deletes d own in
       among_flat (λ (k : NodeCommands). k.deletes) (filter has_commands (map (node_commands C ts ds) (keys C.nodes))) (node_commands C ts ds n) d
@@ -202,11 +202,11 @@ source_alive M b s lawful h =
     let storage = there (get M.cluster.storages s) (lawful.holdings.stored (replica_at b s) known) in
     (storage.0.node, has_keys M.cluster.nodes storage.0.node ∙ lawful.cluster.alive s storage.0 storage.1, storage_is M.cluster storage.0.node s (ap (option_map (λ i. i.node)) storage.1))
 
-pub chosen_told : (M : State) (t : Transfer) → IsOrderly M → IsAmong (transfers_chosen M) t → IsTransferCommanded M t
+pub chosen_commanded : (M : State) (t : Transfer) → IsOrderly M → IsAmong (transfers_chosen M) t → IsTransferCommanded M t
 unfolding whole_round state_at_choice state_after_expiry
-chosen_told M t lawful at =
+chosen_commanded M t lawful at =
     let alive = source_alive M t.block t.source lawful (source_usable M at.0 at.1 t at.2).0 in
-    told_transfer M.cluster (state_at_choice M).round (transfers_chosen M) (chosen_deletes_of M) alive.0 t alive.1 alive.2 at
+    commanded_transfer M.cluster (state_at_choice M).round (transfers_chosen M) (chosen_deletes_of M) alive.0 t alive.1 alive.2 at
 
 -- Deletes, and the state.
 
@@ -227,12 +227,12 @@ deletes_alive limits C H =
     (λ n at. each_then (λ (d : Delete). has_storage C n d.storage ≡ true) (IsOnAlive C) (deletes_of limits C H n) (each_on_node limits C H n) (λ d on. (n, has_among (keys C.nodes) n at, on)))
     (keys C.nodes) (each_among (keys C.nodes))
 
-delete_told : (M : State) (q : ReplicaId) → is_commanded (chosen_deletes_of M) q ≡ true → IsTested M q
+delete_commanded : (M : State) (q : ReplicaId) → is_commanded (chosen_deletes_of M) q ≡ true → IsTested M q
 unfolding is_commanded whole_round state_at_choice state_after_expiry
-delete_told M q h =
+delete_commanded M q h =
     let one = each_any (IsAmong (chosen_deletes_of M)) (λ (d : Delete). (d.storage == q.storage) && (d.block == q.block)) (chosen_deletes_of M) (each_among (chosen_deletes_of M)) h in
     let alive = each_is (IsOnAlive M.cluster) (chosen_deletes_of M) one.0 (deletes_alive M.limits M.cluster (state_at_choice M).holdings) one.1 in
-    commanded_among q one.0 (deletes_commanded M) (told_delete M.cluster (state_at_choice M).round (transfers_chosen M) (chosen_deletes_of M) alive.0 one.0 alive.1 alive.2 one.1) one.2
+    commanded_among q one.0 (deletes_commanded M) (commanded_delete M.cluster (state_at_choice M).round (transfers_chosen M) (chosen_deletes_of M) alive.0 one.0 alive.1 alive.2 one.1) one.2
 
 pub ordered_after : (M : State) (q : ReplicaId) → IsTested M q → (m : Marks) × (get (after_round M).holdings.replicas q ≡ Some m) × (m.ordered ≡ true)
 ordered_after M q h =
@@ -244,17 +244,17 @@ newly : (t : Bool) (m : Marks) → m.ordered ≡ false → (if t then record m {
 newly true m e f = refl
 newly false m e f = absurd (false≢true (sym e ∙ f))
 
-pub ordered_told : (M : State) (q : ReplicaId) (m n : Marks) → get M.holdings.replicas q ≡ Some m → m.ordered ≡ false → get (after_round M).holdings.replicas q ≡ Some n → n.ordered ≡ true → IsTested M q
-ordered_told M q m n before unordered after ordered =
+pub ordered_commanded : (M : State) (q : ReplicaId) (m n : Marks) → get M.holdings.replicas q ≡ Some m → m.ordered ≡ false → get (after_round M).holdings.replicas q ≡ Some n → n.ordered ≡ true → IsTested M q
+ordered_commanded M q m n before unordered after ordered =
     let was = revised (ordered_by (chosen_deletes_of M) q) (get (state_at_choice M).holdings.replicas q) n (sym (marks_after M q) ∙ after) in
     let first = marks_before M q was.0 was.1 in
     let same : first.0 ≡ m = same_Some first.0 m (sym first.1 ∙ before) in
-    delete_told M q (newly (is_commanded (chosen_deletes_of M) q) was.0
+    delete_commanded M q (newly (is_commanded (chosen_deletes_of M) q) was.0
     (ap (λ x. x.ordered) (sym first.2) ∙ remarked_ordered (surplus_of M q.block) q.storage first.0 ∙ ap (λ x. x.ordered) same ∙ unordered)
     (ap (λ x. x.ordered) was.2 ∙ ordered))
 
-pub pending_told : (M : State) (t : Transfer) → IsTransferCommanded M t → get (after_round M).holdings.pending (replica_at t.block t.target) ≡ Some (M.round + 1)
-pending_told M t h = pending_now M t (commanded_chosen M t h)
+pub pending_commanded : (M : State) (t : Transfer) → IsTransferCommanded M t → get (after_round M).holdings.pending (replica_at t.block t.target) ≡ Some (M.round + 1)
+pending_commanded M t h = pending_now M t (commanded_chosen M t h)
 
 -- What a round keeps.
 

@@ -97,10 +97,10 @@ done_entered : (H : Holdings) (p : ReplicaId) (stamp : Stamp) → IsDone (entere
 unfolding entered_marks
 done_entered H p stamp e = absurd (false≢true e)
 
-done_told : (H : Holdings) (s : ℕ) (ts : List ReportedBlock) (r : Map by_replica Marks) → AreDone r → AreDone (insert_all r (map (λ t. (replica_at t.id s, entered_marks H (replica_at t.id s) t.stamp)) ts))
-done_told H s [] r h = h
-done_told H s (t ∷ ts) r h =
-    done_told H s ts (insert r (replica_at t.id s) (entered_marks H (replica_at t.id s) t.stamp)) (done_inserted r (replica_at t.id s) (entered_marks H (replica_at t.id s) t.stamp) (done_entered H (replica_at t.id s) t.stamp) h)
+done_reported : (H : Holdings) (s : ℕ) (ts : List ReportedBlock) (r : Map by_replica Marks) → AreDone r → AreDone (insert_all r (map (λ t. (replica_at t.id s, entered_marks H (replica_at t.id s) t.stamp)) ts))
+done_reported H s [] r h = h
+done_reported H s (t ∷ ts) r h =
+    done_reported H s ts (insert r (replica_at t.id s) (entered_marks H (replica_at t.id s) t.stamp)) (done_inserted r (replica_at t.id s) (entered_marks H (replica_at t.id s) t.stamp) (done_entered H (replica_at t.id s) t.stamp) h)
 
 -- a change of the pending transfers keeps the marks
 done_drained : (C : Cluster) (H : Holdings) (n : ℕ) → AreDone H.replicas → AreDone (begin_drain C H n).replicas
@@ -128,7 +128,7 @@ done_event C H (Deleted s b) h = done_removed H.replicas (replica_at b s) h
 done_event C H (Corrupt s b) h =
     done_revised H.replicas (λ q m. if eq_by_cmp replica_cmp q (replica_at b s) then as_bad m else m)
     (λ q m old. done_if (eq_by_cmp replica_cmp q (replica_at b s)) as_bad m (not_good (as_bad m) refl) old) h
-done_event C H (FullReport s es) h = done_told H s (expanded es) _ (done_kept H.replicas _ h)
+done_event C H (FullReport s es) h = done_reported H s (expanded es) _ (done_kept H.replicas _ h)
 
 -- Rounds.
 

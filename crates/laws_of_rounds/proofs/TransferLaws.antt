@@ -229,30 +229,30 @@ few_commanded M =
 -- Targets.
 
 -- why a storage may be the target of a block of n bytes
-pub record IsFit (C : Cluster) (front : List Transfer) (urgency : Level) (holders barred : List ℕ) (n u : ℕ) : Type 0 where
+pub record IsFit (C : Cluster) (front : List Transfer) (urgency : Level) (holders excluded : List ℕ) (n u : ℕ) : Type 0 where
   pub fits : n + scheduled_to front u ≤ remaining C u
   pub staying : is_draining C u ≡ false
-  pub free : is_excluded C barred u ≡ false
+  pub free : is_excluded C excluded u ≡ false
   pub apart : (is_at BadlyDistributed (Some urgency) && (length (racks C holders) == 1) && (class_of C holders u == 1)) ≡ false
 
 not_true : (b : Bool) → not b ≡ true → b ≡ false
 not_true true e = absurd (false≢true e)
 not_true false e = refl
 
-pub target_parts : (C : Cluster) (front : List Transfer) (urgency : Level) (holders barred : List ℕ) (n u : ℕ) → is_target C (scheduled_to front) urgency holders barred n u ≡ true
-    → IsFit C front urgency holders barred n u
+pub target_parts : (C : Cluster) (front : List Transfer) (urgency : Level) (holders excluded : List ℕ) (n u : ℕ) → is_target C (scheduled_to front) urgency holders excluded n u ≡ true
+    → IsFit C front urgency holders excluded n u
 unfolding is_target
-target_parts C front urgency holders barred n u e =
+target_parts C front urgency holders excluded n u e =
     let badly = is_at BadlyDistributed (Some urgency) && (length (racks C holders) == 1) && (class_of C holders u == 1) in
     let fits = nat_le (n + scheduled_to front u) (remaining C u) in
     let staying = not (is_draining C u) in
-    let free = not (is_excluded C barred u) in
+    let free = not (is_excluded C excluded u) in
     let three = and_first (fits && staying && free) (not badly) e in
     let two = and_first (fits && staying) free three in
     record {
       fits = leb-true (n + scheduled_to front u) (remaining C u) (and_first fits staying two);
       staying = not_true (is_draining C u) (and_second fits staying two);
-      free = not_true (is_excluded C barred u) (and_second (fits && staying) free three);
+      free = not_true (is_excluded C excluded u) (and_second (fits && staying) free three);
       apart = not_true badly (and_second (fits && staying && free) (not badly) e);
     }
 
@@ -267,10 +267,10 @@ storage_known C u h =
     (found.0.node, ap (option_map (λ i. i.node)) found.1)
 
 -- no excluded storage is on the node of a storage that is not excluded
-pub not_excluded : (C : Cluster) (barred : List ℕ) (u s n : ℕ) → is_excluded C barred u ≡ false → node_of C u ≡ Some n → has barred s ≡ true → node_of C s ≡ node_of C u → ⊥
+pub not_excluded : (C : Cluster) (excluded : List ℕ) (u s n : ℕ) → is_excluded C excluded u ≡ false → node_of C u ≡ Some n → has excluded s ≡ true → node_of C s ≡ node_of C u → ⊥
 unfolding is_excluded
-not_excluded C barred u s n free at there same =
-    true≢false (sym (passing_some (λ t. option_map_or (λ m. has_storage C m u) (node_of C t) false) barred s there
+not_excluded C excluded u s n free at there same =
+    true≢false (sym (passing_some (λ t. option_map_or (λ m. has_storage C m u) (node_of C t) false) excluded s there
     (ap (λ o. option_map_or (λ m. has_storage C m u) o false) (same ∙ at) ∙ storage_is C n u at)) ∙ free)
 
 excluded_replica : (H : Holdings) (front : List Transfer) (b s : ℕ) → is_some (get H.replicas (replica_at b s)) ≡ true → has (excluded_for H front b) s ≡ true

@@ -24,11 +24,11 @@ pub fn sources_are_usable()
 {}
 
 /// A storage occurs once among a block's live ones.
-pub fn live_stands_once()
+pub fn live_is_distinct()
     ensures { law.LiveStandsOnce }
 {}
 
 /// A storage occurs once among a block's drained ones.
-pub fn drained_stands_once()
+pub fn drained_is_distinct()
     ensures { law.DrainedStandsOnce }
 {}

@@ -13,7 +13,7 @@ use Rattle.bm_base.specs.declared.event.Event.{Event}
 use Rattle.bm_base.specs.declared.event.Event.TheVariants.{Register}
 use Rattle.bm_base.specs.Words.{len, State, first_state, has, has_repeats, last_number, knows_node, knows_storage, refusal_of, cluster_checks, block_checks, calls_spent, answers, done_by, after_event, refused_or, step, state_after}
 use Rattle.worked_examples.specs.Runs.{run_of}
-use Rattle.worked_examples.specs.Script.{usual, registrations, heartbeats, ok}
+use Rattle.worked_examples.specs.Script.{example_config, registrations, heartbeats, ok}
 use Rattle.worked_examples.specs.Limits.{numbers_down, as_many_as_may_be, past_the_limit, storages_at_the_limit}
 
 -- Descending numbers do not repeat.
@@ -55,12 +55,12 @@ answers_of script = map (λ l. l.1) script
 
 -- the state with the four nodes
 abbrev four : State
-four = state_after (first_state usual) (calls_of begin)
+four = state_after (first_state example_config) (calls_of begin)
 
 abbrev fifth : Event
 fifth = Register 5 1 as_many_as_may_be
 
-after_begin : (ks : List Call) → run_of usual (calls_of begin ++ ks) ≡ answers_of begin ++ answers four ks
+after_begin : (ks : List Call) → run_of example_config (calls_of begin ++ ks) ≡ answers_of begin ++ answers four ks
 unfolding run_of
 after_begin ks = refl
 

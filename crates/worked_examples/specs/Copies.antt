@@ -4,7 +4,7 @@ use Rattle.bm_base.specs.declared.call.Call.{Call}
 use Rattle.bm_base.specs.declared.call.Answer.{Answer}
 use Rattle.bm_base.specs.declared.replica.Tag.TheVariants.{Good}
 use Rattle.bm_base.specs.declared.level.Level.TheVariants.{Highest}
-use Rattle.worked_examples.specs.Script.{◌gives◌, HoldsOnCluster, usual, heartbeat, remaining, add_block, received, level, round, list_replicas, ok, at_level, at_no_level, commands, copies_by, copy, replicas, replica}
+use Rattle.worked_examples.specs.Script.{◌gives◌, HoldsOnCluster, example_config, heartbeat, remaining, add_block, received, level, round, list_replicas, ok, at_level, at_no_level, commands, copies_by, copy, replicas, replica}
 
 -- one of three wanted replicas exists, and two copies are commanded
 abbrev pub two_copies : List (Call × Answer)
@@ -16,10 +16,10 @@ two_copies =
     ∷ []
 
 abbrev pub copies_span_two_racks : Type 0
-copies_span_two_racks = HoldsOnCluster usual two_copies
+copies_span_two_racks = HoldsOnCluster example_config two_copies
 
 abbrev pub copies_arrive : Type 0
-copies_arrive = HoldsOnCluster usual (two_copies ++ (
+copies_arrive = HoldsOnCluster example_config (two_copies ++ (
     received 31 7 gives ok 1 0
     ∷ received 21 7 gives ok 1 0
     ∷ level 7 gives at_no_level
@@ -28,7 +28,7 @@ copies_arrive = HoldsOnCluster usual (two_copies ++ (
     ∷ []))
 
 abbrev pub two_streams_from_each_node : Type 0
-two_streams_from_each_node = HoldsOnCluster usual (
+two_streams_from_each_node = HoldsOnCluster example_config (
     add_block 1 4 gives ok 0 0
     ∷ received 11 1 gives ok 1 0
     ∷ received 21 1 gives ok 1 0
@@ -42,7 +42,7 @@ two_streams_from_each_node = HoldsOnCluster usual (
     ∷ [])
 
 abbrev pub four_streams_for_the_most_urgent : Type 0
-four_streams_for_the_most_urgent = HoldsOnCluster usual (
+four_streams_for_the_most_urgent = HoldsOnCluster example_config (
     add_block 1 2 gives ok 0 0
     ∷ add_block 2 2 gives ok 0 0
     ∷ add_block 3 2 gives ok 0 0
@@ -57,7 +57,7 @@ four_streams_for_the_most_urgent = HoldsOnCluster usual (
     ∷ [])
 
 abbrev pub work_limits_a_round : Type 0
-work_limits_a_round = HoldsOnCluster (record usual { work = 1 }) (
+work_limits_a_round = HoldsOnCluster (record example_config { work = 1 }) (
     add_block 1 2 gives ok 0 0
     ∷ add_block 2 2 gives ok 0 0
     ∷ add_block 3 2 gives ok 0 0
@@ -72,7 +72,7 @@ work_limits_a_round = HoldsOnCluster (record usual { work = 1 }) (
     ∷ [])
 
 abbrev pub pending_transfer_expires : Type 0
-pending_transfer_expires = HoldsOnCluster (record usual { pend = 2 }) (
+pending_transfer_expires = HoldsOnCluster (record example_config { pend = 2 }) (
     add_block 7 2 gives ok 0 0
     ∷ received 11 7 gives ok 1 0
     ∷ round gives commands 1 (copies_by 1 (copy 7 11 31 ∷ []) ∷ [])
@@ -81,7 +81,7 @@ pending_transfer_expires = HoldsOnCluster (record usual { pend = 2 }) (
     ∷ [])
 
 abbrev pub targets_need_room : Type 0
-targets_need_room = HoldsOnCluster usual (
+targets_need_room = HoldsOnCluster example_config (
     heartbeat 2 (remaining 21 10 ∷ []) gives ok 0 0
     ∷ heartbeat 3 (remaining 31 9 ∷ []) gives ok 0 0
     ∷ heartbeat 4 (remaining 41 5 ∷ []) gives ok 0 0

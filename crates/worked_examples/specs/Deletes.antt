@@ -4,7 +4,7 @@ use Rattle.bm_base.specs.declared.call.Call.{Call}
 use Rattle.bm_base.specs.declared.call.Answer.{Answer}
 use Rattle.bm_base.specs.declared.level.Level.TheVariants.{NoUsableReplica}
 use Rattle.bm_base.specs.declared.refusal.Refusal.TheVariants.{BlockKnown, StillStored, OldGeneration}
-use Rattle.worked_examples.specs.Script.{◌gives◌, HoldsOnCluster, usual, dead, add_block, delete_block, restamp, received, received_version, deleted, corrupt, report, level, round, places, list_corrupt, list_missing, list_excess, ok, at_level, commands, copies_by, copy, deletes_by, delete, blocks, storages, replica_ids, entry, refused}
+use Rattle.worked_examples.specs.Script.{◌gives◌, HoldsOnCluster, example_config, dead, add_block, delete_block, restamp, received, received_version, deleted, corrupt, report, level, round, places, list_corrupt, list_missing, list_excess, ok, at_level, commands, copies_by, copy, deletes_by, delete, blocks, storages, replica_ids, entry, refused}
 
 -- a block has one replica more than are wanted
 abbrev pub one_in_excess : List (Call × Answer)
@@ -19,10 +19,10 @@ one_in_excess =
     ∷ []
 
 abbrev pub surplus_keeps_two_racks : Type 0
-surplus_keeps_two_racks = HoldsOnCluster usual one_in_excess
+surplus_keeps_two_racks = HoldsOnCluster example_config one_in_excess
 
 abbrev pub delete_limit_per_node : Type 0
-delete_limit_per_node = HoldsOnCluster (record usual { invalidate = 1 }) (
+delete_limit_per_node = HoldsOnCluster (record example_config { invalidate = 1 }) (
     add_block 1 1 gives ok 0 0
     ∷ add_block 2 1 gives ok 0 0
     ∷ received 11 1 gives ok 1 0
@@ -41,7 +41,7 @@ delete_limit_per_node = HoldsOnCluster (record usual { invalidate = 1 }) (
     ∷ [])
 
 abbrev pub deleted_block_must_leave_storages : Type 0
-deleted_block_must_leave_storages = HoldsOnCluster usual (
+deleted_block_must_leave_storages = HoldsOnCluster example_config (
     add_block 7 1 gives ok 0 0
     ∷ received 11 7 gives ok 1 0
     ∷ delete_block 7 gives ok 0 0
@@ -53,7 +53,7 @@ deleted_block_must_leave_storages = HoldsOnCluster usual (
     ∷ [])
 
 abbrev pub restamp_makes_stale : Type 0
-restamp_makes_stale = HoldsOnCluster usual (
+restamp_makes_stale = HoldsOnCluster example_config (
     add_block 7 3 gives ok 0 0
     ∷ received 11 7 gives ok 1 0
     ∷ received 31 7 gives ok 1 0
@@ -67,7 +67,7 @@ restamp_makes_stale = HoldsOnCluster usual (
     ∷ [])
 
 abbrev pub corrupt_replica_waits_for_replacement : Type 0
-corrupt_replica_waits_for_replacement = HoldsOnCluster usual (
+corrupt_replica_waits_for_replacement = HoldsOnCluster example_config (
     add_block 7 3 gives ok 0 0
     ∷ received 11 7 gives ok 1 0
     ∷ received 21 7 gives ok 1 0

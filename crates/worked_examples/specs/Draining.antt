@@ -3,10 +3,10 @@
 use Rattle.std.specs.Prelude.{[], ◌∷◌}
 use Rattle.bm_base.specs.declared.level.Level.TheVariants.{Highest}
 use Rattle.bm_base.specs.declared.refusal.Refusal.TheVariants.{UnknownNode}
-use Rattle.worked_examples.specs.Script.{◌gives◌, HoldsOnCluster, usual, drain, undrain, add_block, received, level, round, retired, list_missing, ok, at_level, at_no_level, commands, copies_by, copy, deletes_by, delete, blocks, is_retired, is_not_retired, refused}
+use Rattle.worked_examples.specs.Script.{◌gives◌, HoldsOnCluster, example_config, drain, undrain, add_block, received, level, round, retired, list_missing, ok, at_level, at_no_level, commands, copies_by, copy, deletes_by, delete, blocks, is_retired, is_not_retired, refused}
 
 abbrev pub draining_block_is_copied_and_retired : Type 0
-draining_block_is_copied_and_retired = HoldsOnCluster usual (
+draining_block_is_copied_and_retired = HoldsOnCluster example_config (
     add_block 7 1 gives ok 0 0
     ∷ received 11 7 gives ok 1 0
     ∷ drain 1 gives ok 0 0
@@ -26,7 +26,7 @@ draining_block_is_copied_and_retired = HoldsOnCluster usual (
 
 -- Five blocks, each on three nodes. With `work` 2 and four nodes, a round may command eight copies.
 abbrev pub draining_node_sends_four : Type 0
-draining_node_sends_four = HoldsOnCluster usual (
+draining_node_sends_four = HoldsOnCluster example_config (
     add_block 1 4 gives ok 0 0
     ∷ add_block 2 4 gives ok 0 0
     ∷ add_block 3 4 gives ok 0 0
@@ -52,7 +52,7 @@ draining_node_sends_four = HoldsOnCluster usual (
     ∷ [])
 
 abbrev pub no_copy_to_a_draining_node : Type 0
-no_copy_to_a_draining_node = HoldsOnCluster usual (
+no_copy_to_a_draining_node = HoldsOnCluster example_config (
     add_block 7 2 gives ok 0 0
     ∷ received 11 7 gives ok 1 0
     ∷ round gives commands 1 (copies_by 1 (copy 7 11 31 ∷ []) ∷ [])

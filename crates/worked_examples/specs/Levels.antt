@@ -5,10 +5,10 @@ use Rattle.bm_base.specs.declared.call.Answer.{Answer}
 use Rattle.bm_base.specs.declared.level.Level.TheVariants.{Highest, VeryUnderReplicated, UnderReplicated, BadlyDistributed, NoUsableReplica}
 use Rattle.bm_base.specs.declared.refusal.Refusal.TheVariants.{UnknownBlock, BadReplication}
 use Rattle.bm_base.specs.Machine.Levels.{level_of}
-use Rattle.worked_examples.specs.Script.{◌gives◌, HoldsOnCluster, usual, register, dead, drain, add_block, set_replication, received, level, round, list_missing, list_excess, ok, at_level, at_no_level, commands, copies_by, copy, deletes_by, delete, blocks, replica_ids, refused}
+use Rattle.worked_examples.specs.Script.{◌gives◌, HoldsOnCluster, example_config, register, dead, drain, add_block, set_replication, received, level, round, list_missing, list_excess, ok, at_level, at_no_level, commands, copies_by, copy, deletes_by, delete, blocks, replica_ids, refused}
 
 abbrev pub block_without_replicas_is_missing : Type 0
-block_without_replicas_is_missing = HoldsOnCluster usual (
+block_without_replicas_is_missing = HoldsOnCluster example_config (
     add_block 7 3 gives ok 0 0
     ∷ list_missing gives blocks (7 ∷ [])
     ∷ level 7 gives at_level NoUsableReplica
@@ -16,7 +16,7 @@ block_without_replicas_is_missing = HoldsOnCluster usual (
     ∷ [])
 
 abbrev pub levels_follow_replication : Type 0
-levels_follow_replication = HoldsOnCluster usual (
+levels_follow_replication = HoldsOnCluster example_config (
     add_block 7 6 gives ok 0 0
     ∷ received 11 7 gives ok 1 0
     ∷ received 31 7 gives ok 1 0
@@ -41,14 +41,14 @@ on_one_rack =
     ∷ []
 
 abbrev pub badly_distributed_block_gets_second_rack : Type 0
-badly_distributed_block_gets_second_rack = HoldsOnCluster usual (on_one_rack ++ (
+badly_distributed_block_gets_second_rack = HoldsOnCluster example_config (on_one_rack ++ (
     round gives commands 1 (copies_by 1 (copy 7 11 31 ∷ []) ∷ [])
     ∷ received 31 7 gives ok 1 0
     ∷ round gives commands 2 (deletes_by 2 (delete 21 7 ∷ []) ∷ [])
     ∷ []))
 
 abbrev pub one_rack_is_enough_where_no_other_is_alive : Type 0
-one_rack_is_enough_where_no_other_is_alive = HoldsOnCluster usual (on_one_rack ++ (
+one_rack_is_enough_where_no_other_is_alive = HoldsOnCluster example_config (on_one_rack ++ (
     dead 3 gives ok 0 0
     ∷ dead 4 gives ok 0 0
     ∷ level 7 gives at_no_level
@@ -59,7 +59,7 @@ one_rack_is_enough_where_no_other_is_alive = HoldsOnCluster usual (on_one_rack +
     ∷ []))
 
 abbrev pub drained_replica_is_on_no_rack : Type 0
-drained_replica_is_on_no_rack = HoldsOnCluster usual (on_one_rack ++ (
+drained_replica_is_on_no_rack = HoldsOnCluster example_config (on_one_rack ++ (
     received 31 7 gives ok 1 0
     ∷ level 7 gives at_no_level
     ∷ drain 3 gives ok 0 0
@@ -67,7 +67,7 @@ drained_replica_is_on_no_rack = HoldsOnCluster usual (on_one_rack ++ (
     ∷ []))
 
 abbrev pub queue_follows_death : Type 0
-queue_follows_death = HoldsOnCluster (record usual { invalidate = 1 }) (
+queue_follows_death = HoldsOnCluster (record example_config { invalidate = 1 }) (
     add_block 1 2 gives ok 0 0
     ∷ add_block 2 2 gives ok 0 0
     ∷ received 11 1 gives ok 1 0

@@ -5,11 +5,11 @@ use Rattle.bm_base.specs.declared.replica.Tag.TheVariants.{Good}
 use Rattle.bm_base.specs.declared.refusal.Refusal.TheVariants.{UnknownNode, NodeKnown, UnknownStorage, StorageKnown, TooMany, CallsSpent}
 use Rattle.bm_base.specs.declared.call.Call.{Call}
 use Rattle.bm_base.specs.declared.call.Answer.{Answer}
-use Rattle.worked_examples.specs.Script.{◌gives◌, Holds, HoldsOnCluster, usual, register, dead, storage_failed, report, entry, run, list_replicas, add_block, ok, replicas, replica, refused}
+use Rattle.worked_examples.specs.Script.{◌gives◌, Holds, HoldsOnCluster, example_config, register, dead, storage_failed, report, entry, run, list_replicas, add_block, ok, replicas, replica, refused}
 
 -- the 258 accepted calls are the last that can be counted
 abbrev pub no_257th_node : Type 0
-no_257th_node = Holds (record usual { first_call = 18446744073709551357 }) (map (λ n. register n 1 [] gives ok 0 0) (range_with_len 1 256) ++ (
+no_257th_node = Holds (record example_config { first_call = 18446744073709551357 }) (map (λ n. register n 1 [] gives ok 0 0) (range_with_len 1 256) ++ (
     register 257 1 [] gives refused TooMany
     ∷ register 257 1 (7 ∷ 7 ∷ []) gives refused StorageKnown
     ∷ register 256 1 (7 ∷ 7 ∷ []) gives refused NodeKnown
@@ -22,7 +22,7 @@ no_257th_node = Holds (record usual { first_call = 18446744073709551357 }) (map 
 
 -- the two accepted calls are the last that can be counted
 abbrev pub no_report_of_65537_entries : Type 0
-no_report_of_65537_entries = Holds (record usual { first_call = 18446744073709551613 }) (
+no_report_of_65537_entries = Holds (record example_config { first_call = 18446744073709551613 }) (
     register 1 1 (11 ∷ []) gives ok 0 0
     ∷ report 11 (replicate 65537 (entry 7 1)) gives refused TooMany
     ∷ add_block 7 3 gives ok 0 0
@@ -33,7 +33,7 @@ no_report_of_65537_entries = Holds (record usual { first_call = 1844674407370955
     ∷ [])
 
 abbrev pub report_of_65536_entries : Type 0
-report_of_65536_entries = Holds usual (
+report_of_65536_entries = Holds example_config (
     register 1 1 (11 ∷ []) gives ok 0 0
     ∷ add_block 7 3 gives ok 0 0
     ∷ report 11 (replicate 65536 (entry 7 1)) gives ok 1 0
@@ -43,7 +43,7 @@ report_of_65536_entries = Holds usual (
 -- The first report names one number more than allowed, the second exactly the allowed number. The
 -- accepted call is the last that can be counted, so no number is entered.
 abbrev pub too_many_numbers_in_a_report : Type 0
-too_many_numbers_in_a_report = Holds (record usual { first_call = 18446744073709551614 }) (
+too_many_numbers_in_a_report = Holds (record example_config { first_call = 18446744073709551614 }) (
     register 1 1 (11 ∷ []) gives ok 0 0
     ∷ report 11 (run 0 1048576 1 ∷ []) gives refused TooMany
     ∷ report 11 (run 1 1048576 1 ∷ []) gives refused CallsSpent
@@ -70,4 +70,4 @@ past_the_limit =
     ∷ []
 
 abbrev pub storages_at_the_limit : Type 0
-storages_at_the_limit = HoldsOnCluster usual (register 5 1 as_many_as_may_be gives ok 0 0 ∷ past_the_limit)
+storages_at_the_limit = HoldsOnCluster example_config (register 5 1 as_many_as_may_be gives ok 0 0 ∷ past_the_limit)

@@ -4,10 +4,10 @@ use Rattle.bm_base.specs.declared.replica.Tag.TheVariants.{Stray}
 use Rattle.bm_base.specs.declared.refusal.Refusal.TheVariants.{UnknownNode, NodeKnown, UnknownStorage, StorageKnown, UnknownBlock, BlockKnown, StillStored, BadReplication, OldGeneration, NotItsStorage, RoundsSpent, CallsSpent, BadConfig}
 use Rattle.bm_base.specs.declared.config.Config.{Config}
 use Rattle.bm_base.specs.Machine.Configuration.{config_refusal}
-use Rattle.worked_examples.specs.Script.{◌gives◌, Holds, HoldsOnCluster, usual, register, dead, storage_failed, heartbeat, remaining, drain, undrain, add_block, delete_block, set_replication, restamp, received, deleted, corrupt, report, round, list_replicas, list_storage, places, level, retired, count_calls, count_rounds, ok, commands, replicas, replica, storages, is_not_retired, number, refused}
+use Rattle.worked_examples.specs.Script.{◌gives◌, Holds, HoldsOnCluster, example_config, register, dead, storage_failed, heartbeat, remaining, drain, undrain, add_block, delete_block, set_replication, restamp, received, deleted, corrupt, report, round, list_replicas, list_storage, places, level, retired, count_calls, count_rounds, ok, commands, replicas, replica, storages, is_not_retired, number, refused}
 
 abbrev pub refusals_are_named : Type 0
-refusals_are_named = HoldsOnCluster usual (
+refusals_are_named = HoldsOnCluster example_config (
     register 1 9 (99 ∷ []) gives refused NodeKnown
     ∷ register 5 1 (51 ∷ 51 ∷ []) gives refused StorageKnown
     ∷ register 5 1 (11 ∷ []) gives refused StorageKnown
@@ -22,7 +22,7 @@ refusals_are_named = HoldsOnCluster usual (
 -- Block 7 is known. Block 8 is unknown, but has a stray replica. Of two checks that fail the first
 -- counts.
 abbrev pub first_failing_check_counts : Type 0
-first_failing_check_counts = HoldsOnCluster usual (
+first_failing_check_counts = HoldsOnCluster example_config (
     add_block 7 3 gives ok 0 0
     ∷ received 11 8 gives ok 1 0
     ∷ register 1 1 (11 ∷ []) gives refused NodeKnown
@@ -46,7 +46,7 @@ first_failing_check_counts = HoldsOnCluster usual (
 -- The first ten accepted calls are the last that can be counted. After them an event or round whose
 -- other checks pass is refused with `CallsSpent`, others as before, and queries are answered.
 abbrev pub spent_calls_are_checked_last : Type 0
-spent_calls_are_checked_last = HoldsOnCluster (record usual { first_call = 18446744073709551605 }) (
+spent_calls_are_checked_last = HoldsOnCluster (record example_config { first_call = 18446744073709551605 }) (
     add_block 7 3 gives ok 0 0
     ∷ received 11 8 gives ok 1 0
     ∷ count_calls gives number 18446744073709551615
@@ -100,13 +100,13 @@ spent_calls_are_checked_last = HoldsOnCluster (record usual { first_call = 18446
     ∷ [])
 
 abbrev pub rounds_run_out : Type 0
-rounds_run_out = HoldsOnCluster (record usual { first_round = 18446744073709551614 }) (
+rounds_run_out = HoldsOnCluster (record example_config { first_round = 18446744073709551614 }) (
     round gives commands 18446744073709551615 []
     ∷ round gives refused RoundsSpent
     ∷ [])
 
 abbrev pub calls_run_out : Type 0
-calls_run_out = Holds (record usual { first_call = 18446744073709551614 }) (
+calls_run_out = Holds (record example_config { first_call = 18446744073709551614 }) (
     add_block 7 3 gives ok 0 0
     ∷ add_block 8 3 gives refused CallsSpent
     ∷ round gives refused CallsSpent
@@ -115,21 +115,21 @@ calls_run_out = Holds (record usual { first_call = 18446744073709551614 }) (
 
 abbrev pub spent_rounds_come_before_spent_calls : Type 0
 spent_rounds_come_before_spent_calls =
-    Holds (record usual { first_round = 18446744073709551615; first_call = 18446744073709551615 }) (round gives refused RoundsSpent ∷ [])
+    Holds (record example_config { first_round = 18446744073709551615; first_call = 18446744073709551615 }) (round gives refused RoundsSpent ∷ [])
 
 -- each field of a configuration just below its range, and just above it
 abbrev pub outside_ranges : List Config
 outside_ranges =
-    record usual { shards = 0 }
-    ∷ record usual { shards = 65 }
-    ∷ record usual { workers = 0 }
-    ∷ record usual { workers = 17 }
-    ∷ record usual { work = 0 }
-    ∷ record usual { work = 1001 }
-    ∷ record usual { invalidate = 0 }
-    ∷ record usual { invalidate = 1000001 }
-    ∷ record usual { pend = 0 }
-    ∷ record usual { pend = 1000001 }
+    record example_config { shards = 0 }
+    ∷ record example_config { shards = 65 }
+    ∷ record example_config { workers = 0 }
+    ∷ record example_config { workers = 17 }
+    ∷ record example_config { work = 0 }
+    ∷ record example_config { work = 1001 }
+    ∷ record example_config { invalidate = 0 }
+    ∷ record example_config { invalidate = 1000001 }
+    ∷ record example_config { pend = 0 }
+    ∷ record example_config { pend = 1000001 }
     ∷ []
 
 -- the least and the greatest value of each field

@@ -187,8 +187,8 @@ refused r = answer.Refused r
 -- How scripts begin.
 
 -- three shards and two workers, the rest standard
-abbrev pub usual : Config
-usual = record standard { shards = 3; workers = 2 }
+abbrev pub example_config : Config
+example_config = record standard { shards = 3; workers = 2 }
 
 -- four nodes, the first two on rack 1 and the others on rack 2, each with one storage
 abbrev pub registrations : List (Call × Answer)

@@ -2,12 +2,12 @@ use Rattle.bm_base.specs.Promises.Lawful.{IsOrderly}
 use Rattle.bm_base.specs.Machine.State.{State}
 use Rattle.laws_of_states.proofs.OrderlyStates.{calls_orderly}
 use Rattle.laws_of_states.proofs.LawfulRounds.{orderly}
-use Rattle.laws_of_rounds.proofs.NodeCommands.{chosen_told}
+use Rattle.laws_of_rounds.proofs.NodeCommands.{chosen_commanded}
 use Rattle.laws_of_rounds.specs.Commands.{ChosenTransferIsCommanded}
 use Rattle.laws_of_rounds.proofs.commands.chosen_transfer_is_commanded.Goals as goal
 
 in_orderly : (M : State) → IsOrderly M → ChosenTransferIsCommanded M
-in_orderly M O = λ t. chosen_told M t O
+in_orderly M O = λ t. chosen_commanded M t O
 
 pub returns-clause-lawful : goal.returns-clause-lawful
 returns-clause-lawful c = λ M L. in_orderly M (orderly M L)
