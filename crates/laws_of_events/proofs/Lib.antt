@@ -9,7 +9,8 @@ pub mod ReportedMarks
 -- for the lemmas of PendingTargets, BlockChanges, ReportLaws, RunLaws
 pub mod ReportedReplicas
 -- for last_entry_decides, received_is_there, received_leaves_bad_bad, received_leaves_other_nodes,
--- report_leaves_bad_bad, report_leaves_other_nodes, full_report_is_exact, second_report_changes_nothing
+-- report_leaves_bad_bad, report_leaves_other_nodes, full_report_is_exact,
+-- second_report_changes_nothing
 pub mod ReportLaws
 -- for report_in_parts
 pub mod ReportParts
