@@ -122,12 +122,12 @@ class Replica:
                 position = (index + 1, 0)
         return values, position
 
-    def confirm(self, lines, told):
+    def confirm(self, lines, reported):
         """Compares a leader's hash, of lines that this replica has applied, with its own."""
         with self.changed:
             own = self.unconfirmed.pop(lines, None)
             for old in [it for it in self.unconfirmed if it < lines]:
                 del self.unconfirmed[old]
-        if own != told:
+        if own != reported:
             raise Stop(f"another hash than the leader's at line {lines}: this replica and the "
-                       f"leader read or answered differently ({own} here, {told} there)")
+                       f"leader read or answered differently ({own} here, {reported} there)")

@@ -167,8 +167,8 @@ def chosen_numbers(*words):
         path = os.path.join(folder, "chosen_numbers")
         source = Path(__file__).with_name("chosen_numbers.c")
         subprocess.run(["cc", "-O2", "-o", path, str(source)], check=True)
-        told = subprocess.run([path, *map(str, words)], capture_output=True, check=True)
-    return [int(line) for line in told.stdout.split()]
+        ended = subprocess.run([path, *map(str, words)], capture_output=True, check=True)
+    return [int(line) for line in ended.stdout.split()]
 
 
 def cluster_command(word):

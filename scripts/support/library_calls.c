@@ -313,27 +313,27 @@ static void counts_of_events(void) {
 
 static void questions(void) {
     puljemrod h = PULJEMROD_CLOSED_HANDLE;
-    uint64_t told = 99;
-    check(puljemrod_level(&h, 7, &told) == PULJEMROD_CLOSED && told == 99, "level of a closed handle");
-    check(puljemrod_calls(&h, &told) == PULJEMROD_CLOSED && told == 99, "calls of a closed handle");
+    uint64_t value = 99;
+    check(puljemrod_level(&h, 7, &value) == PULJEMROD_CLOSED && value == 99, "level of a closed handle");
+    check(puljemrod_calls(&h, &value) == PULJEMROD_CLOSED && value == 99, "calls of a closed handle");
     puljemrod_open(&h, &standard);
     make_small_cluster(&h);
-    check(puljemrod_level(&h, 7, &told) == 0 && told == 0, "level");
-    check(is_event(&h, puljemrod_level(&h, 7, &told), 0, "level 7; 0"), "the text of a level");
-    told = 99;
-    check(is_event(&h, puljemrod_level(&h, 8, &told), 5, "refused 5 UnknownBlock") && told == 99, "level of no block");
-    check(puljemrod_calls(&h, &told) == 0 && told == 6, "calls");
-    check(puljemrod_rounds(&h, &told) == 0 && told == 0, "rounds");
-    told = 99;
-    check(puljemrod_retired(&h, 2, &told) == 0 && told == 0, "a node that is in use");
-    check(puljemrod_retired(&h, 3, &told) == 1 && told == 0, "a node that is not known");
+    check(puljemrod_level(&h, 7, &value) == 0 && value == 0, "level");
+    check(is_event(&h, puljemrod_level(&h, 7, &value), 0, "level 7; 0"), "the text of a level");
+    value = 99;
+    check(is_event(&h, puljemrod_level(&h, 8, &value), 5, "refused 5 UnknownBlock") && value == 99, "level of no block");
+    check(puljemrod_calls(&h, &value) == 0 && value == 6, "calls");
+    check(puljemrod_rounds(&h, &value) == 0 && value == 0, "rounds");
+    value = 99;
+    check(puljemrod_retired(&h, 2, &value) == 0 && value == 0, "a node that is in use");
+    check(puljemrod_retired(&h, 3, &value) == 1 && value == 0, "a node that is not known");
     puljemrod_received(&h, 21, 7, 1, 64);
-    check(puljemrod_level(&h, 7, &told) == 0 && told == PULJEMROD_NO_LEVEL, "level of a block with enough replicas");
+    check(puljemrod_level(&h, 7, &value) == 0 && value == PULJEMROD_NO_LEVEL, "level of a block with enough replicas");
     puljemrod_drain(&h, 1);
     puljemrod_set_replication(&h, 7, 1);
-    check(puljemrod_retired(&h, 1, &told) == 0 && told == 1, "a node that can be taken away");
+    check(puljemrod_retired(&h, 1, &value) == 0 && value == 1, "a node that can be taken away");
     left = 0;
-    check(puljemrod_level(&h, 7, &told) == 0 && told == PULJEMROD_NO_LEVEL, "level without memory");
+    check(puljemrod_level(&h, 7, &value) == 0 && value == PULJEMROD_NO_LEVEL, "level without memory");
     left = -1;
     puljemrod_close(&h);
 }

@@ -88,12 +88,12 @@ class Process:
     def __init__(self, command, path, stdin=subprocess.DEVNULL, stdout=None):
         self.path = path
         want(not ENDED.is_set(), "the scratch folder is no more")
-        with open(path, "ab") as told:
+        with open(path, "ab") as printed:
             self.child = subprocess.Popen(
-                [str(word) for word in command], stdin=stdin, stdout=stdout or told, stderr=told
+                [str(word) for word in command], stdin=stdin, stdout=stdout or printed, stderr=printed
             )
 
-    def told(self):
+    def printed(self):
         return self.path.read_text(errors="replace")
 
     def send(self, number):
@@ -115,7 +115,7 @@ class Process:
         try:
             return self.child.wait(seconds)
         except subprocess.TimeoutExpired:
-            raise Failed(f"{self.path.name} did not end; it told: {self.told()[-300:]}") from None
+            raise Failed(f"{self.path.name} did not end; it printed: {self.printed()[-300:]}") from None
 
 
 class Servers:
@@ -208,7 +208,7 @@ class Manager:
     def write(self, lines, *options, seconds=20):
         """The answers to some lines."""
         writer = self.writer(f"writer{len(self.processes)}", lines, *options)
-        want(writer.ended(seconds) == 0, f"a writer failed: {writer.told()[-300:]}")
+        want(writer.ended(seconds) == 0, f"a writer failed: {writer.printed()[-300:]}")
         return writer.output.read_bytes().splitlines(keepends=True)
 
     def leader(self):
@@ -220,9 +220,9 @@ class Manager:
         return json.loads(found.value)["name"] if found else None
 
     def status(self):
-        told = subprocess.run(self.words("status") + ["--json"], capture_output=True, timeout=20)
-        want(told.returncode == 0, f"no status: {told.stderr.decode()}")
-        return json.loads(told.stdout)
+        printed = subprocess.run(self.words("status") + ["--json"], capture_output=True, timeout=20)
+        want(printed.returncode == 0, f"no status: {printed.stderr.decode()}")
+        return json.loads(printed.stdout)
 
     def all_is_answered(self):
         status = self.status()
@@ -232,7 +232,7 @@ class Manager:
         """The replica has ended with status 1 and a reason that has these words."""
         process = self.processes[name]
         want(process.ended() == 1, f"status {process.child.returncode}")
-        want(why in process.told(), f"it told: {process.told()[-300:]}")
+        want(why in process.printed(), f"it printed: {process.printed()[-300:]}")
 
     def end_in_order(self):
         """Ends the rounds and waits until all of the log is answered."""
@@ -242,9 +242,9 @@ class Manager:
             process.ended()
         last = self.replica("last", "--interval", "0")
         wait_for("all is answered", self.all_is_answered, 60)
-        wait_for("the last replica reads", lambda: "reads the log" in last.told())
+        wait_for("the last replica reads", lambda: "reads the log" in last.printed())
         last.send(signal.SIGTERM)
-        want(last.ended() == 0, f"the last replica failed: {last.told()[-300:]}")
+        want(last.ended() == 0, f"the last replica failed: {last.printed()[-300:]}")
 
     def end(self):
         for process in self.processes.values():
@@ -301,11 +301,11 @@ class Manager:
 
         at, of_writers, hash_, hashes, commands = 0, {}, hashlib.sha256(), {}, {}
         for writer, batch in taken:
-            told = answers[at : at + len(batch)]
-            of_writers.setdefault(writer, []).extend(told)
+            printed = answers[at : at + len(batch)]
+            of_writers.setdefault(writer, []).extend(printed)
             hash_.update(b"".join(batch))
-            hash_.update(b"".join(told))
-            for number, answer in enumerate(told, at + 1):
+            hash_.update(b"".join(printed))
+            for number, answer in enumerate(printed, at + 1):
                 words = answer.decode().rstrip("\n").split("; ")
                 if words[0].startswith("round "):
                     for command in words[1:]:
@@ -322,7 +322,7 @@ class Manager:
             want(entry.version == 1, f"{entry.key} was written {entry.version} times")
             key = (int(node), int(number[:16]))
             found[key] = found.get(key, "") + entry.value.partition(b"\n")[2].decode()
-        want(found == {key: "".join(told) for key, told in commands.items()},
+        want(found == {key: "".join(printed) for key, printed in commands.items()},
              "the commands are not those of the rounds")
         stored = {int(entry.key.rsplit("/", 1)[1]): entry.value.decode()
                   for entry in self.all(self.keys.hashes)}
@@ -339,10 +339,10 @@ class Manager:
             want(header["part"] == len(pieces), f"{entry.key} is out of order")
             pieces.append(text)
             if len(pieces) == header["parts"]:
-                told = b"".join(pieces).splitlines(keepends=True)
+                printed = b"".join(pieces).splitlines(keepends=True)
                 pieces = []
-                want(told == answers[at : at + len(told)], f"other answers behind line {at}")
-                at += len(told)
+                want(printed == answers[at : at + len(printed)], f"other answers behind line {at}")
+                at += len(printed)
         want(at == len(answers), f"{at} of {len(answers)} lines are answered")
 
 
@@ -392,7 +392,7 @@ def feed(writer, lines, seconds):
 
 def session_of(writer):
     """The number of a writer's session."""
-    return int(writer.told().split("session ")[1].split()[0])
+    return int(writer.printed().split("session ")[1].split()[0])
 
 
 def etcd_is_there():

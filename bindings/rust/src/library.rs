@@ -300,11 +300,11 @@ impl Manager {
         rows
     }
 
-    /// What a question tells.
-    fn told(&mut self, ask: impl FnOnce(*mut Handle, *mut u64) -> u32) -> Result<u64, Error> {
-        let mut told = 0;
-        checked(ask(&mut *self.handle, &mut told))?;
-        Ok(told)
+    /// The number that a query answers.
+    fn query(&mut self, ask: impl FnOnce(*mut Handle, *mut u64) -> u32) -> Result<u64, Error> {
+        let mut answer = 0;
+        checked(ask(&mut *self.handle, &mut answer))?;
+        Ok(answer)
     }
 
     fn pairs(&mut self, count: u64) -> Vec<(u64, u32)> {
@@ -314,60 +314,60 @@ impl Manager {
     /// All replicas, by block and storage.
     pub fn replicas(&mut self) -> Result<Vec<Replica>, Error> {
         // SAFETY: the handle is open, here and in each question below.
-        let count = self.told(|handle, told| unsafe { puljemrod_replicas(handle, told) })?;
+        let count = self.query(|handle, answer| unsafe { puljemrod_replicas(handle, answer) })?;
         let replica = |row: &ReplicaRow| Replica { block: row.block, storage: row.storage, tag: tag(row.tag) };
         Ok(self.rows(puljemrod_replica_rows, count).iter().map(replica).collect())
     }
 
     /// The stale and bad replicas, as pairs of block and storage.
     pub fn corrupt(&mut self) -> Result<Vec<(u64, u32)>, Error> {
-        let count = self.told(|handle, told| unsafe { puljemrod_corrupt_replicas(handle, told) })?;
+        let count = self.query(|handle, answer| unsafe { puljemrod_corrupt_replicas(handle, answer) })?;
         Ok(self.pairs(count))
     }
 
     /// The replicas in excess, as pairs of block and storage.
     pub fn excess(&mut self) -> Result<Vec<(u64, u32)>, Error> {
-        let count = self.told(|handle, told| unsafe { puljemrod_excess_replicas(handle, told) })?;
+        let count = self.query(|handle, answer| unsafe { puljemrod_excess_replicas(handle, answer) })?;
         Ok(self.pairs(count))
     }
 
     /// The known blocks of which no replica is live or drained.
     pub fn missing(&mut self) -> Result<Vec<u64>, Error> {
-        let count = self.told(|handle, told| unsafe { puljemrod_missing_blocks(handle, told) })?;
+        let count = self.query(|handle, answer| unsafe { puljemrod_missing_blocks(handle, answer) })?;
         Ok(self.rows(puljemrod_number_rows, count))
     }
 
     /// The blocks of all replicas on a storage.
     pub fn blocks_on(&mut self, storage: u32) -> Result<Vec<u64>, Error> {
-        let count = self.told(|handle, told| unsafe { puljemrod_blocks_on(handle, storage, told) })?;
+        let count = self.query(|handle, answer| unsafe { puljemrod_blocks_on(handle, storage, answer) })?;
         Ok(self.rows(puljemrod_number_rows, count))
     }
 
     /// The storages of a block's good replicas.
     pub fn places(&mut self, id: u64) -> Result<Vec<u32>, Error> {
-        let count = self.told(|handle, told| unsafe { puljemrod_places(handle, id, told) })?;
+        let count = self.query(|handle, answer| unsafe { puljemrod_places(handle, id, answer) })?;
         Ok(self.rows(puljemrod_number_rows, count).iter().map(|storage| *storage as u32).collect())
     }
 
     /// How urgently a block wants replicas: 0 (most) to 4, or none.
     pub fn level(&mut self, id: u64) -> Result<Option<u32>, Error> {
-        let told = self.told(|handle, told| unsafe { puljemrod_level(handle, id, told) })?;
-        Ok((told != NO_LEVEL).then_some(told as u32))
+        let answer = self.query(|handle, answer| unsafe { puljemrod_level(handle, id, answer) })?;
+        Ok((answer != NO_LEVEL).then_some(answer as u32))
     }
 
     /// Whether a draining node can be taken away.
     pub fn retired(&mut self, node: u32) -> Result<bool, Error> {
-        Ok(self.told(|handle, told| unsafe { puljemrod_retired(handle, node, told) })? == 1)
+        Ok(self.query(|handle, answer| unsafe { puljemrod_retired(handle, node, answer) })? == 1)
     }
 
     /// The number of accepted events and rounds.
     pub fn calls(&mut self) -> Result<u64, Error> {
-        self.told(|handle, told| unsafe { puljemrod_calls(handle, told) })
+        self.query(|handle, answer| unsafe { puljemrod_calls(handle, answer) })
     }
 
     /// The number of the last round.
     pub fn rounds(&mut self) -> Result<u64, Error> {
-        self.told(|handle, told| unsafe { puljemrod_rounds(handle, told) })
+        self.query(|handle, answer| unsafe { puljemrod_rounds(handle, answer) })
     }
 }
 
