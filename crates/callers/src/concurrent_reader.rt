@@ -133,7 +133,7 @@ fn in_two_threads<J: Home + Send + Sync, R: Threads + Wait + Sync>(
             ensures home { locator.exit.now.home ≡ J.home }
             ensures learnt { IfOk result (λ seen. All (IsLearntAfter J.before) seen.items) }
             ensures no_older { IfOk result (λ seen. All IsNoOlder seen.items) }
-        { look_at_each::<J, R>(rt, alloc, locator, &from, id) },
+        { locate_after_each::<J, R>(rt, alloc, locator, &from, id) },
         &mut || -> Result<(), Refusal>
             requires { ((last_of publisher.now.list).calls ≤ manager.now.calls)
                 × (publisher.now.home ≡ J.home) × (manager.now.calls ≡ J.before)
@@ -199,7 +199,7 @@ fn publish_and_tell<J: Home, R: Threads + Wait + Sync>(
     }
 }
 
-fn look_at_each<J: Home, R: Wait>(
+fn locate_after_each<J: Home, R: Wait>(
     rt: &R,
     alloc: Global,
     locator: &mut Locator,
@@ -214,12 +214,12 @@ fn look_at_each<J: Home, R: Wait>(
     let mut seen = Vec::new(alloc);
     for notice in from.iter(rt) {
         let Notice { receipt, of: _ } = notice;
-        seen.push(look_after(locator, receipt, id))?;
+        seen.push(locate_after(locator, receipt, id))?;
     }
     Ok(seen)
 }
 
-fn look_after(locator: &mut Locator, receipt: Receipt, id: BlockId) -> Seen
+fn locate_after(locator: &mut Locator, receipt: Receipt, id: BlockId) -> Seen
     requires { locator.old.home ≡ receipt.home }
     ensures home { locator.new.home ≡ locator.old.home }
     ensures learnt { result.learnt ≡ (last_of receipt.list).calls }

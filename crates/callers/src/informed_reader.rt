@@ -11,7 +11,7 @@ use std::thread::Threads;
 
 /// Publishes the manager's state, lets the locator learn of it, and has it look a block up. The
 /// answer is of this state or of a later one.
-pub fn publish_and_look<R: Threads + Wait + Sync>(
+pub fn publish_and_locate<R: Threads + Wait + Sync>(
     rt: &R,
     manager: &mut Manager,
     publisher: &mut Publisher,

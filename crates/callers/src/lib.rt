@@ -12,7 +12,7 @@
 //! - going on when out of memory: `apply_or_free` (`memory.rt`)
 //!
 //! `bm_view`:
-//! - a reader that learns of a published version: `publish_and_look` (`informed_reader.rt`)
+//! - a reader that learns of a published version: `publish_and_locate` (`informed_reader.rt`)
 //! - changes, with a reader in a thread of its own: `apply_with_reader` (`concurrent_reader.rt`)
 //!
 //! `bm_lines`:
@@ -53,7 +53,7 @@ pub use copy_choice::first_copy;
 pub use counting_gate::{Pieces, apply_counted};
 pub use events::arrival;
 pub use full_report::take_report;
-pub use informed_reader::publish_and_look;
+pub use informed_reader::publish_and_locate;
 pub use lines::tidy_line;
 pub use memory::apply_or_free;
 pub use name_node::{for_node, turn};

@@ -169,7 +169,7 @@ macro_rules! taking {
     };
 }
 
-macro_rules! bare {
+macro_rules! takes_none {
     ($name:expr, $call:expr, $answer:expr) => {
         Case { name: $name, before: OF_ALL_KINDS, call: $call, answer: $answer, takes_memory: false }
     };
@@ -270,31 +270,31 @@ pub static CASES: [Case; 35] = [
         BLOCKS_1_AND_2
     ),
     taking!("places", OF_ALL_KINDS, ShortCall::Places(1), BOTH_PLACES),
-    bare!("heartbeat", ShortCall::Heartbeat(1, 11), NONE_CHANGED),
-    bare!("delete", ShortCall::Delete(4), NONE_CHANGED),
-    bare!(
+    takes_none!("heartbeat", ShortCall::Heartbeat(1, 11), NONE_CHANGED),
+    takes_none!("delete", ShortCall::Delete(4), NONE_CHANGED),
+    takes_none!(
         "set_replication",
         ShortCall::Replication(2, 5),
         NONE_CHANGED
     ),
-    bare!("restamp", ShortCall::Restamp(1, 2), NONE_CHANGED),
-    bare!("deleted", ShortCall::Deleted(31, 1), ONE_REMOVED),
-    bare!("corrupt", ShortCall::Spoilt(11, 1), NONE_CHANGED),
-    bare!("level", ShortCall::Level(2), "LevelIs(Some(Highest))"),
-    bare!("retired", ShortCall::Retired(2), "IsRetired(false)"),
-    bare!("calls", ShortCall::Calls, "Number(24)"),
-    bare!("rounds", ShortCall::Rounds, "Number(1)"),
-    bare!(
+    takes_none!("restamp", ShortCall::Restamp(1, 2), NONE_CHANGED),
+    takes_none!("deleted", ShortCall::Deleted(31, 1), ONE_REMOVED),
+    takes_none!("corrupt", ShortCall::Spoilt(11, 1), NONE_CHANGED),
+    takes_none!("level", ShortCall::Level(2), "LevelIs(Some(Highest))"),
+    takes_none!("retired", ShortCall::Retired(2), "IsRetired(false)"),
+    takes_none!("calls", ShortCall::Calls, "Number(24)"),
+    takes_none!("rounds", ShortCall::Rounds, "Number(1)"),
+    takes_none!(
         "unknown_block",
         ShortCall::Places(99),
         "Refused(UnknownBlock)"
     ),
-    bare!(
+    takes_none!(
         "unknown_storage",
         ShortCall::BlocksOn(99),
         "Refused(UnknownStorage)"
     ),
-    bare!(
+    takes_none!(
         "known_node",
         ShortCall::Register(1, 1, 61, 1),
         "Refused(NodeKnown)"

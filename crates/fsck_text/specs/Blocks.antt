@@ -66,15 +66,15 @@ replicas_of text =
     if bytes_eq p.0 (codes "MISSING!") then no_replicas p.1 else after_ok (with_list p.1) (live_of p.0 text)
 
 abbrev pub block_line : Named → ℕ → Replicas → BlockLine
-block_line named len told =
-    record { id = named.id; stamp = record { generation = named.generation; len = len }; live = told.live; list = told.list }
+block_line named len counted =
+    record { id = named.id; stamp = record { generation = named.generation; len = len }; live = counted.live; list = counted.list }
 
 -- the parsed line of a block, after its index: its name, its length, and its replicas
 abbrev pub block_of : Text → Result BlockLine Wrong
 block_of text =
     let name = word_and_rest text in
     let len = word_and_rest name.1 in
-    after_ok (λ named. after_ok (λ n. after_ok (λ told. Ok (block_line named n told)) (replicas_of len.1)) (length_of len.0 name.1)) (block_named name.0 text)
+    after_ok (λ named. after_ok (λ n. after_ok (λ counted. Ok (block_line named n counted)) (replicas_of len.1)) (length_of len.0 name.1)) (block_named name.0 text)
 
 -- the word after a block's length
 abbrev pub after_length : Text → Text

@@ -41,15 +41,15 @@ pub fn block_of(text: &str) -> Result<BlockLine<'_>, Wrong<'_>>
     let (len, replicas) = word_and_rest(rest);
     let named = block_named(name, text)?;
     let len = length_of(len, rest)?;
-    let told = replicas_of(replicas)?;
+    let counted = replicas_of(replicas)?;
     Ok(BlockLine {
         id: named.id,
         stamp: Stamp {
             generation: named.generation,
             len,
         },
-        live: told.live,
-        list: told.list,
+        live: counted.live,
+        list: counted.list,
     })
 }
 

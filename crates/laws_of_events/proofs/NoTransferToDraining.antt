@@ -129,10 +129,10 @@ event_spares C H e S p is = S p (sent_before C H e p is)
 
 -- Rounds.
 
-target_off : (C : Cluster) (chosen : List Transfer) (urgency : Level) (holders barred : List ℕ) (l t : ℕ) → least_target C chosen urgency holders barred l ≡ Some t → is_draining C t ≡ false
+target_off : (C : Cluster) (chosen : List Transfer) (urgency : Level) (holders excluded : List ℕ) (l t : ℕ) → least_target C chosen urgency holders excluded l ≡ Some t → is_draining C t ≡ false
 unfolding least_target least_target_by is_target
-target_off C chosen urgency holders barred l t e =
-    let test : ℕ → Bool = is_target C (scheduled_to chosen) urgency holders barred l in
+target_off C chosen urgency holders excluded l t e =
+    let test : ℕ → Bool = is_target C (scheduled_to chosen) urgency holders excluded l in
     let found : test t ≡ true = least_is_one (λ s. test s ≡ true) (target_cmp C (scheduled_to chosen) holders) (filter test (keys C.storages)) (each_passing test (keys C.storages)) t e in
     not_passed (is_draining C t) (and_parts _ _ (and_parts _ _ (and_parts _ _ found).0).0).1
 

@@ -80,9 +80,9 @@ held_is_excluded C H chosen b s known m e =
 abbrev IsAbsent : Holdings → Transfer → Type 0
 IsAbsent H t = get H.replicas (replica_at t.block t.target) ≡ None
 
-not_excluded : (C : Cluster) (sent : ℕ → ℕ) (urgency : Level) (holders barred : List ℕ) (l s : ℕ) → is_target C sent urgency holders barred l s ≡ true → is_excluded C barred s ≡ false
+not_excluded : (C : Cluster) (sent : ℕ → ℕ) (urgency : Level) (holders excluded : List ℕ) (l s : ℕ) → is_target C sent urgency holders excluded l s ≡ true → is_excluded C excluded s ≡ false
 unfolding is_target
-not_excluded C sent urgency holders barred l s h = undone (is_excluded C barred s) (and_parts _ _ (and_parts _ _ h).0).1
+not_excluded C sent urgency holders excluded l s h = undone (is_excluded C excluded s) (and_parts _ _ (and_parts _ _ h).0).1
   where
     undone : (b : Bool) → not b ≡ true → b ≡ false
     undone true e = cc

@@ -89,8 +89,8 @@ pub replaced_is : (C : Cluster) (p q : ReplicaId) → replaces C p q ≡ true �
 unfolding replaces are_siblings
 replaced_is C p q e =
     let is = and_parts (q.block == p.block) (are_siblings C p.storage q.storage) e in
-    let sisters = and_parts (not (q.storage == p.storage)) (option_map_or (λ n. has_storage C n q.storage) (node_of C p.storage) false) is.1 in
-    (is.0, on_one_node C p.storage q.storage (node_of C p.storage) refl sisters.1, not_passed (q.storage == p.storage) sisters.0)
+    let siblings = and_parts (not (q.storage == p.storage)) (option_map_or (λ n. has_storage C n q.storage) (node_of C p.storage) false) is.1 in
+    (is.0, on_one_node C p.storage q.storage (node_of C p.storage) refl siblings.1, not_passed (q.storage == p.storage) siblings.0)
 
 -- Steps.
 

@@ -55,13 +55,13 @@ below_each : {X : Type 0} (k : ℕ) (es : List (ℕ × X)) → T (below_all nat_
 below_each k [] h = tt
 below_each k (e ∷ es) h = (lt_of k e.0 (first _ _ h), below_each k es (second _ _ h))
 
-rising : {X : Type 0} (es : List (ℕ × X)) → T (is_sorted nat_cmp es) → Rises (λ k n. k < n) (map (λ e. e.0) es)
-rising [] h = tt
-rising (e ∷ es) h = (below_each e.0 es (first _ _ h), rising es (second _ _ h))
+ascending : {X : Type 0} (es : List (ℕ × X)) → T (is_sorted nat_cmp es) → Rises (λ k n. k < n) (map (λ e. e.0) es)
+ascending [] h = tt
+ascending (e ∷ es) h = (below_each e.0 es (first _ _ h), ascending es (second _ _ h))
 
 keys_ascend : {X : Type 0} (m : Map by_number X) → Rises (λ k n. k < n) (keys m)
 unfolding keys entries
-keys_ascend m = rising m.list m.sorted
+keys_ascend m = ascending m.list m.sorted
 
 -- Requested copies are ascending.
 

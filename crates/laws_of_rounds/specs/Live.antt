@@ -27,8 +27,8 @@ abbrev pub SourcesAreUsable : Type 0
 SourcesAreUsable = (C : Cluster) (H : Holdings) (b s : ℕ) → has (sources_of C H b) s ≡ has (usable H b) s
 
 -- a storage occurs once among the live ones, and once among the drained ones
-abbrev pub LiveStandsOnce : Type 0
-LiveStandsOnce = (C : Cluster) (H : Holdings) (b : ℕ) → has_repeats (live C H b) ≡ false
+abbrev pub LiveIsDistinct : Type 0
+LiveIsDistinct = (C : Cluster) (H : Holdings) (b : ℕ) → has_repeats (live C H b) ≡ false
 
-abbrev pub DrainedStandsOnce : Type 0
-DrainedStandsOnce = (C : Cluster) (H : Holdings) (b : ℕ) → has_repeats (drained C H b) ≡ false
+abbrev pub DrainedIsDistinct : Type 0
+DrainedIsDistinct = (C : Cluster) (H : Holdings) (b : ℕ) → has_repeats (drained C H b) ≡ false

@@ -25,10 +25,10 @@ pub fn sources_are_usable()
 
 /// A storage occurs once among a block's live ones.
 pub fn live_is_distinct()
-    ensures { law.LiveStandsOnce }
+    ensures { law.LiveIsDistinct }
 {}
 
 /// A storage occurs once among a block's drained ones.
 pub fn drained_is_distinct()
-    ensures { law.DrainedStandsOnce }
+    ensures { law.DrainedIsDistinct }
 {}

@@ -11,7 +11,7 @@ use bm_manager::Manager;
 use bm_view::{Located, Locator, Publisher, open_view};
 use callers::{
     Pieces, Seen, SideBySide, apply_counted, apply_or_free, apply_with_reader, arrival, for_node,
-    missing_if_dead, publish_and_look, replica_lines, tidy_line, turn,
+    missing_if_dead, publish_and_locate, replica_lines, tidy_line, turn,
 };
 use std::alloc::Global;
 use std::process::Abort;
@@ -416,7 +416,7 @@ fn check_seen<R: Abort + Threads + Wait + Sync>(
     requires calls { (last_of publisher.old.list).calls ≤ manager.old.calls }
     requires home { locator.old.home ≡ publisher.old.home }
 {
-    let seen = publish_and_look(rt, manager, publisher, locator, BlockId(7));
+    let seen = publish_and_locate(rt, manager, publisher, locator, BlockId(7));
     assert!(rt; seen == Ok(found_on(7, &[StorageId(11)])));
 }
 

@@ -297,7 +297,7 @@ const FOUR_NODES: [(Step, Answer); 12] = [
 
 static SCENARIOS: [Scenario<'static>; 13] = [
     Scenario {
-        name: "four nodes in rising order on two racks",
+        name: "four nodes in ascending order on two racks",
         setup: &FOUR_NODES,
         steps: &[
             (Step::Nodes, Answer::Number(4)),

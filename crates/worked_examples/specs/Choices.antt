@@ -164,8 +164,8 @@ WishesInOrder =
 -- Holders of a block are its live replicas, pending transfers and chosen targets. Excluded are, in
 -- addition, its replicas of any tag. A pending copy counts as a holder: if a block is on racks 1
 -- and 2, one of them pending, its third copy goes to rack 1 or 2.
-abbrev pub HeldAndBarred : Type 0
-HeldAndBarred =
+abbrev pub HeldAndExcluded : Type 0
+HeldAndExcluded =
     (holders_of three_racks wanting (sent 6 11 51 10 ∷ sent 2 11 41 10 ∷ []) 6 ≡ 11 ∷ 31 ∷ 51 ∷ [])
     × (excluded_for (holdings [] (held 6 11 live_mark ∷ held 6 21 (marks Stale false false) ∷ held 6 41 (marks Good true true) ∷ []) (since 6 31 1 ∷ [])) (sent 6 11 51 10 ∷ []) 6 ≡ 11 ∷ 21 ∷ 41 ∷ 31 ∷ 51 ∷ [])
 

@@ -63,8 +63,8 @@ pub fn wishes_in_order()
 {}
 
 /// The storages that hold a block, and those whose nodes get no copy of it.
-pub fn held_and_barred()
-    ensures { row.HeldAndBarred }
+pub fn held_and_excluded()
+    ensures { row.HeldAndExcluded }
 {}
 
 /// The limit of transfers is one for the whole round.

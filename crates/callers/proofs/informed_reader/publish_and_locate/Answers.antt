@@ -4,7 +4,7 @@ use Rattle.bm_view.specs.History.{last_of}
 use Rattle.bm_view.specs.Holders.{Listed}
 use Rattle.bm_view.specs.declared.locator.Located.{Located}
 use Rattle.callers.proofs.LearntLists.{last_learnt, if_some, calls_of-version}
-use Rattle.callers.proofs.informed_reader.publish_and_look.Goals as goal
+use Rattle.callers.proofs.informed_reader.publish_and_locate.Goals as goal
 
 pub returns-clause-no_older : goal.returns-clause-no_older
 returns-clause-no_older g c =
