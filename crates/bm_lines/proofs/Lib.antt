@@ -5,10 +5,10 @@ pub mod OpLemmas
 pub mod TextLemmas
 pub mod Plain
 pub mod Sound
-pub mod AskingData
-pub mod AskingText
-pub mod AskingSound
-pub mod AskingRead
-pub mod AskingBack
+pub mod CallTextData
+pub mod CallTextLemmas
+pub mod CallTextSound
+pub mod CallTextRead
+pub mod CallTextBack
 pub mod ReadOps
 pub mod CanonicalLemmas

@@ -1,7 +1,7 @@
 -- Lemmas.
-pub mod Taking
+pub mod TakenKeys
 -- Lines.
-pub mod Naming
+pub mod NamedNumbers
 pub mod LineLemmas
 pub mod ReadLemmas
 -- The copies on their way, and all of the state after a call.

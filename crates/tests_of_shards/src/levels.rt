@@ -8,7 +8,7 @@ use bm_topo::Topology;
 use std::alloc::Global;
 use std::process::Abort;
 
-mod leaving;
+mod lost_nodes;
 
 /// A change of blocks on a cluster without nodes, or a question to them.
 #[derive(Clone, Copy)]

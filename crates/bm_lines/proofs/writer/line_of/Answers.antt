@@ -1,7 +1,7 @@
 use Rattle.std.proofs.Common.{◌∙◌, ap, sym, subst}
 use Rattle.bm_lines.specs.Lines.{IsPart}
 use Rattle.bm_lines.specs.Parser.CallOf.{call_of}
-use Rattle.bm_lines.proofs.AskingBack.{call_of-line_text, IsPart-line_text}
+use Rattle.bm_lines.proofs.CallTextBack.{call_of-line_text, IsPart-line_text}
 use Rattle.bm_lines.proofs.writer.line_of.Goals as goal
 
 pub returns-clause-asks : goal.returns-clause-asks

@@ -1,6 +1,6 @@
 use Rattle.std.proofs.Common.{◌∙◌, ap, sym}
 use Rattle.bm_lines.specs.Parser.CallOf.{call_of}
-use Rattle.bm_lines.proofs.AskingBack.{call_of-line_text}
+use Rattle.bm_lines.proofs.CallTextBack.{call_of-line_text}
 use Rattle.bm_lines.proofs.parser.call.call_of.Goals as goal
 
 pub returns-in-Some-clause-call : goal.returns-in-Some-clause-call

@@ -4,7 +4,7 @@ use Rattle.std.specs.List.{list_any}
 use Rattle.std.proofs.lemmas.Fn.{filter_same}
 use Rattle.bm_base.specs.Words.{keep, by_replica}
 use Rattle.bm_base.proofs.MapLaws.{keep-filter}
-use Rattle.cluster_report.proofs.Naming.{named_in}
+use Rattle.cluster_report.proofs.NamedNumbers.{named_in}
 use Rattle.cluster_report.proofs.transfers.Transfers.arrive_all.Goals as goal
 
 pub returns-clause-copies : goal.returns-clause-copies

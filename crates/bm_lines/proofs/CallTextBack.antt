@@ -10,10 +10,10 @@ use Rattle.bm_lines.specs.CallText.{has_op, line_text}
 use Rattle.bm_lines.specs.FittingNumbers.{FitsWhole}
 use Rattle.bm_lines.proofs.Plain.{is_plain, IsPart-plain, IsUtf8-plain}
 use Rattle.bm_lines.proofs.Sound.{plain_text, read-compact_text}
-use Rattle.bm_lines.proofs.AskingData.{asking_data}
-use Rattle.bm_lines.proofs.AskingText.{line_text-data}
-use Rattle.bm_lines.proofs.AskingSound.{IsSound-asking_data, depth-asking_data}
-use Rattle.bm_lines.proofs.AskingRead.{call_in-asking_data}
+use Rattle.bm_lines.proofs.CallTextData.{asking_data}
+use Rattle.bm_lines.proofs.CallTextLemmas.{line_text-data}
+use Rattle.bm_lines.proofs.CallTextSound.{IsSound-asking_data, depth-asking_data}
+use Rattle.bm_lines.proofs.CallTextRead.{call_in-asking_data}
 
 plain_line : (k : Call) → FitsWhole k → is_plain (line_text k) ≡ true
 plain_line k h = ap is_plain (line_text-data k) ∙ plain_text (asking_data k) (IsSound-asking_data k h)

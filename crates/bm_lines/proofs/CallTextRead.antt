@@ -13,7 +13,7 @@ use Rattle.bm_lines.specs.Parser.Fields.{listed, each, below_32, small_in, entry
 use Rattle.bm_lines.specs.Parser.CallOf.{call_in}
 use Rattle.bm_lines.specs.FittingNumbers.{FitsEntry, FitsRemaining, FitsWholeEvent, FitsWhole}
 use Rattle.bm_lines.proofs.Sound.{in_order, items_in_order}
-use Rattle.bm_lines.proofs.AskingData.{whole, items_by, remaining_data, run_items, stamp_items, entry_data, asking_data}
+use Rattle.bm_lines.proofs.CallTextData.{whole, items_by, remaining_data, run_items, stamp_items, entry_data, asking_data}
 
 small : (n : ℕ) → n < 2 ^ 32 → below_32 n ≡ Some n
 small n h = rw (lt-ltb n (2 ^ 32) h) refl

@@ -4,7 +4,7 @@ use Rattle.bm_base.specs.Words.{by_number, get, Cluster, empty_cluster, are_sibl
 use Rattle.bm_base.proofs.MapLaws.{get-empty}
 use Rattle.bm_base.proofs.Clusters.{no_siblings}
 use Rattle.bm_report.proofs.SingleReplicas.{ok_then}
-use Rattle.tests_of_shards.proofs.levels.leaving.receive.Goals as goal
+use Rattle.tests_of_shards.proofs.levels.lost_nodes.receive.Goals as goal
 
 pub receive-requires-clause-reported : goal.receive-requires-clause-reported
 receive-requires-clause-reported g c =

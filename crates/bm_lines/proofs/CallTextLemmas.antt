@@ -12,7 +12,7 @@ use Rattle.bm_base.specs.declared.event.Event.TheVariants.{Register, Heartbeat, 
 use Rattle.bm_base.specs.declared.call.Call.{Call}
 use Rattle.bm_base.specs.declared.call.Call.TheVariants as call
 use Rattle.bm_lines.specs.CallText.{event_op, call_op, number_text, with_commas, list_text, stamp_text, remaining_text, run_text, entry_text, event_fields, call_fields, line_text}
-use Rattle.bm_lines.proofs.AskingData.{whole, items_by, remaining_data, run_items, stamp_items, entry_data, numbered, stamped, event_members, call_members, asking_data}
+use Rattle.bm_lines.proofs.CallTextData.{whole, items_by, remaining_data, run_items, stamp_items, entry_data, numbered, stamped, event_members, call_members, asking_data}
 
 module _ {A : Type 0} (f : A → Data) (text : A → List ℕ) (same : (x : A) → compact_text (f x) ≡ text x) where
   later_items : (xs : List A) → items_text true (items_by f xs) ≡ flat_map (λ y. codes "," ++ text y) xs ++ 93 ∷ []

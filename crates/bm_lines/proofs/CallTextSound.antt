@@ -15,7 +15,7 @@ use Rattle.bm_lines.specs.CallText.{event_op, call_op}
 use Rattle.bm_lines.specs.FittingNumbers.{FitsEntry, FitsRemaining, FitsWholeEvent, FitsWhole}
 use Rattle.bm_lines.proofs.Plain.{is_plain}
 use Rattle.bm_lines.proofs.Sound.{IsSound, AreSound, HasSound}
-use Rattle.bm_lines.proofs.AskingData.{whole, items_by, remaining_data, run_items, stamp_items, entry_data, event_members, call_members, asking_data}
+use Rattle.bm_lines.proofs.CallTextData.{whole, items_by, remaining_data, run_items, stamp_items, entry_data, event_members, call_members, asking_data}
 
 wide : (n : ℕ) → n < 2 ^ 32 → n < 2 ^ 64
 wide n h = omega arith
