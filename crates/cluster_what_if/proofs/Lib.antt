@@ -1,1 +1,3 @@
 -- Lemmas.
+pub mod Found
+pub mod ShownRows

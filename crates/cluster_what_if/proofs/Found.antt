@@ -1,0 +1,39 @@
+-- What is found about losses, put together.
+use Rattle.std.proofs.Common.{◌≡◌, ℕ, Bool, false, List, [], Option}
+use Rattle.std.specs.Prelude.{string_bytes}
+use Rattle.std.specs.Io.KnownBytes.{Appends}
+use Rattle.bm_base.specs.declared.event.Event.{Event}
+use Rattle.bm_base.specs.Words.{State}
+use Rattle.cluster_input.specs.declared.loaded.Loaded.{Loaded}
+use Rattle.cluster_lost.specs.Losses.{after_losses}
+use Rattle.cluster_losses.specs.Events.{events_of}
+use Rattle.cluster_losses.specs.Outcomes.{StandsAs, IsOutcome}
+use Rattle.cluster_losses.specs.declared.loss_events.Lost.{Lost}
+use Rattle.cluster_names.specs.FileTable.{FileTable}
+use Rattle.cluster_names.specs.declared.names.Names.{Names}
+use Rattle.cluster_pages.specs.AtRisk.{AreAtRisk}
+use Rattle.cluster_repair.specs.Rows.{IsDone, AreUnmended}
+use Rattle.cluster_what_if.specs.Answers.{IsAnswer}
+use Rattle.cluster_what_if.specs.Found.{AreFound, AreFoundOfSome, IsMended, IsMendedIf}
+use Rattle.cluster_what_if.specs.Output.{found_text, PrintsText}
+use Rattle.cluster_what_if.specs.Text.{lost_text}
+use Rattle.cluster_what_if.specs.declared.answers.Answer.{Answer}
+use Rattle.cluster_what_if.specs.declared.found.Found.{Found}
+use Rattle.cluster_what_if.specs.declared.found.Losses.{Losses}
+use Rattle.cluster_what_if.specs.declared.found.Mended.{Mended}
+
+pub answered : (f : FileTable) (M : State) (es : List Event) (a : Answer)
+    → StandsAs M a.before
+    → IsOutcome M es a.without
+    → AreAtRisk f a.without.lost [] a.risk
+    → IsAnswer f M es a
+answered f M es a before without files = record { before = before; without = without; files = files }
+
+pub mended_at_pace : (M N : State) (m : Mended) → IsDone M N m.repair → AreUnmended N m.unmended.items → IsMended M N m
+mended_at_pace M N m done unmended = record { done = done; unmended = unmended }
+
+pub printed : (names : Names) (f : FileTable) (most : ℕ) (is_picture : Bool) (it : Found) (old new : Option (List ℕ)) (text : List ℕ)
+    → (is_picture ≡ false → text ≡ found_text names f most it)
+    → Appends old new text
+    → PrintsText names f most is_picture it old new
+printed names f most is_picture it old new text lines appends = record { text = text; lines = lines; appends = appends }
