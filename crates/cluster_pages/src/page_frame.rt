@@ -14,6 +14,7 @@ margin: 0; }\n\
 dl div { border: 1px solid #8885; border-radius: .4rem; padding: .5rem .7rem; }\n\
 dt { font-size: .85rem; opacity: .75; }\n\
 dd { font-size: 1.3rem; margin: 0; overflow-wrap: anywhere; }\n\
+small { display: block; font-size: .85rem; opacity: .75; }\n\
 ul { columns: 22rem; margin: 0; overflow-wrap: anywhere; padding-left: 1.2rem; }\n\
 .table, .picture { overflow-x: auto; }\n\
 table { border-collapse: collapse; width: 100%; }\n\

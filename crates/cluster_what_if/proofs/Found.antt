@@ -37,3 +37,16 @@ pub printed : (names : Names) (f : FileTable) (most : ℕ) (is_picture : Bool) (
     → Appends old new text
     → PrintsText names f most is_picture it old new
 printed names f most is_picture it old new text lines appends = record { text = text; lines = lines; appends = appends }
+
+pub found_at_once : (before after : Loaded) (lost : Lost) (it : Losses)
+    → string_bytes it.named ≡ lost_text before.names before.session.book.topology.cluster lost
+    → IsAnswer before.files before.session.manager (events_of lost) it.answer
+    → IsMendedIf (after_losses before.session.manager (events_of lost)) after.session.manager it.mended
+    → after.names ≡ before.names
+    → after.files ≡ before.files
+    → AreFound before after lost it
+found_at_once before after lost it named answer mended names files =
+    record { named = named; answer = answer; mended = mended; names = names; files = files }
+
+pub found_of_some : (before after : Loaded) (lost : Lost) (it : Losses) → AreFound before after lost it → AreFoundOfSome before after it
+found_of_some before after lost it found = record { lost = lost; found = found }

@@ -1,5 +1,5 @@
 -- The text of what is copied again: a table of rounds, and a line for each fact.
-use Rattle.std.specs.Prelude.{ℕ, ◌-◌, ◌*◌, ◌^◌, min, nat_eq, Bool, true, false, if◌then◌else◌, List, [], ◌++◌, Option, Some, None, codes, decimal, filter, length, take}
+use Rattle.std.specs.Prelude.{ℕ, ◌-◌, ◌*◌, ◌^◌, min, nat_eq, Bool, true, false, if◌then◌else◌, List, [], ◌++◌, Option, Some, None, codes, count_by, decimal, length, take}
 use Rattle.std.specs.List.{flat_map}
 use Rattle.std.specs.Int.{div_ceil}
 use Rattle.cluster_names.specs.FileTable.{FileTable, path_of}
@@ -81,16 +81,16 @@ same_reason NoTarget NoTarget = true
 same_reason NoSpace NoSpace = true
 same_reason _ _ = false
 
-abbrev pub has_reason : Reason → Unmended → Bool
-has_reason reason u = same_reason u.reason reason
+abbrev pub count_with : Reason → List Unmended → ℕ
+count_with reason us = count_by (λ u. same_reason u.reason reason) us
 
 -- how many blocks stay as they are, and how many of them for each reason
 unfoldable pub reasons_text : List Unmended → List ℕ
 reasons_text us =
     count_line (codes "unmended blocks") (length us)
-    ++ (count_line (codes "no source") (length (filter (has_reason NoSource) us))
-    ++ (count_line (codes "no target") (length (filter (has_reason NoTarget) us))
-    ++ count_line (codes "no space") (length (filter (has_reason NoSpace) us))))
+    ++ (count_line (codes "no source") (count_with NoSource us)
+    ++ (count_line (codes "no target") (count_with NoTarget us)
+    ++ count_line (codes "no space") (count_with NoSpace us)))
 
 -- a block that stays as it is
 unfoldable pub unmended_line : FileTable → Unmended → List ℕ

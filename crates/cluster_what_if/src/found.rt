@@ -1,7 +1,7 @@
 // What is found about the losses that a command line asks for.
-ghost use Rattle.std.specs.Prelude.{◌≡◌, IfOk};
+ghost use Rattle.std.specs.Prelude.{IfOk};
 ghost use Rattle.cluster_report.specs.Sessions.{IsInStep};
-ghost use Rattle.cluster_what_if.specs.Found.{AreFound, IsFound, IsMended};
+ghost use Rattle.cluster_what_if.specs.Found.{AreFound, IsFound, IsMended, IsMendedIf};
 
 use crate::answers::{Answer, answer_to_losses};
 use crate::options::Asked;
@@ -54,6 +54,7 @@ pub struct Table {
 }
 
 /// Finds what is asked for. The losses stay made; after a table the cluster is as before.
+#[tactic(auto, using(crate::proofs::Found::found_of_some))]
 pub fn find<R: Eprint + Threads + Wait + Sync>(
     rt: &R,
     alloc: Global,
@@ -103,18 +104,31 @@ fn find_losses<R: Eprint + Threads + Wait + Sync>(
     let events = lost.events(alloc)?;
     let session = &mut loaded.session;
     let answer = answer_to_losses(rt, alloc, session, &loaded.files, events.as_slice())?;
-    let mended = match pace {
-        Some(pace) => {
-            let drained = lost.drained.as_slice();
-            Some(mend(rt, alloc, &mut loaded.session, pace, drained, progress)?)
-        }
-        None => None,
-    };
+    let drained = lost.drained.as_slice();
+    let mended = mend_at(rt, alloc, &mut loaded.session, pace, drained, progress)?;
     Ok(Losses {
         named,
         answer,
         mended,
     })
+}
+
+/// Mends at this pace, if there is one.
+fn mend_at<R: Eprint + Threads + Wait + Sync>(
+    rt: &R,
+    alloc: Global,
+    session: &mut Session,
+    pace: Option<Pace>,
+    drained: &[NodeId],
+    progress: &mut Progress,
+) -> Result<Option<Mended>, Refusal>
+    requires { IsInStep session.old }
+    ensures { IfOk result (λ m. IsMendedIf session.old.manager session.new.manager m) }
+{
+    match pace {
+        Some(pace) => Ok(Some(mend(rt, alloc, session, pace, drained, progress)?)),
+        None => Ok(None),
+    }
 }
 
 /// Takes rounds until nothing more is copied, and asks why blocks stay as they are.

@@ -94,7 +94,7 @@ fn write_needs(text: &mut String, after: &Standing) -> Result<(), AllocError> {
 pub fn write_bytes_fact(text: &mut String, what: &str, bytes: u128) -> Result<(), AllocError> {
     write!(text, "<div><dt>{what}</dt><dd>")?;
     write_bytes(text, bytes)?;
-    write!(text, "</dd><dt>{bytes}</dt></div>\n")
+    write!(text, "<small>{bytes}</small></dd></div>\n")
 }
 
 const LEVEL_HEADS: &str = "<th></th><th class=\"n\">before</th><th class=\"n\">part</th><th></th>\

@@ -1,9 +1,7 @@
 // What is copied again, as text.
-ghost use Rattle.std.specs.Prelude.{◌≡◌, ◌++◌, ◌-◌, ◌*◌, OnOk, length, filter, string_bytes};
+ghost use Rattle.std.specs.Prelude.{◌≡◌, ◌++◌, OnOk, count_by, string_bytes};
 ghost use Rattle.std.specs.List.{flat_map};
-ghost use Rattle.std.specs.Int.{div_ceil};
-ghost use Rattle.cluster_repair.specs.Rows.{rounds_of};
-ghost use Rattle.cluster_what_if.specs.RepairText.{has_reason, same_reason, reason_word, seconds_before, model_line, rounds_heading, round_line, rounds_text, copies_text, left_line, retirement_text, retirement_line, reasons_text, unmended_line, unmended_text, repair_text};
+ghost use Rattle.cluster_what_if.specs.RepairText.{same_reason, reason_word, seconds_before, model_line, rounds_heading, round_line, rounds_text, copies_text, left_line, retirement_text, retirement_line, reasons_text, unmended_line, unmended_text, repair_text};
 
 use crate::columns::{write_level_heads, write_level_numbers};
 use crate::found::Mended;
@@ -215,7 +213,7 @@ fn write_reasons(text: &mut String, unmended: &[Unmended]) -> Result<(), AllocEr
 
 /// How many of these blocks stay as they are for this reason.
 pub fn count_with(unmended: &[Unmended], reason: Reason) -> usize
-    ensures { result ≡ length (filter (has_reason reason) unmended.now) }
+    ensures { result ≡ count_by (λ u. same_reason u.reason reason) unmended.now }
 {
     unmended
         .iter()
@@ -224,7 +222,7 @@ pub fn count_with(unmended: &[Unmended], reason: Reason) -> usize
 }
 
 fn has_reason(unmended: &Unmended, reason: Reason) -> bool
-    ensures { result ≡ has_reason reason unmended.now }
+    ensures { result ≡ same_reason unmended.now.reason reason }
 {
     is_same(unmended.reason, reason)
 }
