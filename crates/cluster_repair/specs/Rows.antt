@@ -1,6 +1,6 @@
 -- What rounds leave, and how a manager came there.
-use Rattle.std.specs.Prelude.{◌≡◌, ℕ, Bool, true, ◌+◌, ◌-◌, ◌%◌, ◌==◌, max, List, [], ◌∷◌, ◌++◌, map, filter, length, nat_eq, Option, Some, is_some, option_map}
-use Rattle.std.specs.List.{All, find}
+use Rattle.std.specs.Prelude.{◌≡◌, ℕ, Bool, true, ◌+◌, ◌-◌, ◌%◌, ◌==◌, max, List, [], ◌∷◌, ◌++◌, map, filter, length, Some, is_some}
+use Rattle.std.specs.List.{All}
 use Rattle.std.specs.List.Sorted.{IsStrictlyIncreasing}
 use Rattle.bm_base.specs.declared.call.Call.{Call}
 use Rattle.bm_base.specs.declared.level.Level.TheVariants.{Highest, VeryUnderReplicated, UnderReplicated, BadlyDistributed}
@@ -53,10 +53,6 @@ pub record IsRetiredAfter (M : State) (t : Retirement) : Type 0 where
 
 pub record AreRetired (M : State) (ts : List Retirement) : Type 0 where
   pub all : All (IsRetiredAfter M) ts
-
--- after how many rounds a node is retired, by the first note about it
-abbrev pub rounds_of : List Retirement → ℕ → Option ℕ
-rounds_of ts n = option_map (λ t. t.rounds) (find (λ t. nat_eq t.node n) ts)
 
 -- Rounds led from one state to another, and what was noted is what the manager answered on the way.
 pub record IsUnderWay (M N : State) (r : Repair) : Type 0 where

@@ -1,6 +1,5 @@
 -- What is printed.
-use Rattle.std.specs.Prelude.{◌≡◌, ℕ, Bool, false, List, [], ◌++◌, Option, Some, None, string_bytes}
-use Rattle.std.specs.Io.KnownBytes.{Appends}
+use Rattle.std.specs.Prelude.{ℕ, List, [], ◌++◌, Option, Some, None, string_bytes}
 use Rattle.cluster_names.specs.FileTable.{FileTable}
 use Rattle.cluster_names.specs.declared.names.Names.{Names}
 use Rattle.cluster_what_if.specs.RepairText.{repair_text}
@@ -24,9 +23,3 @@ losses_text names f most it = string_bytes it.named ++ (answer_text f most it.an
 abbrev pub found_text : Names → FileTable → ℕ → Found → List ℕ
 found_text names f most (found.Losses it) = losses_text names f most it
 found_text names f most (found.Table it) = table_text names f it
-
--- some text comes behind what was written before: the lines, unless a picture is asked for
-pub record PrintsText (names : Names) (f : FileTable) (most : ℕ) (is_picture : Bool) (it : Found) (old new : Option (List ℕ)) : Type 0 where
-  pub text : List ℕ
-  pub lines : is_picture ≡ false → text ≡ found_text names f most it
-  pub appends : Appends old new text

@@ -7,7 +7,7 @@ use Rattle.cluster_names.specs.Rows.{name_or_number}
 use Rattle.cluster_names.specs.declared.names.Names.{Names}
 use Rattle.cluster_report.specs.Text.{count_line}
 use Rattle.cluster_pages.specs.Text.{level_word}
-use Rattle.cluster_repair.specs.Rows.{rounds_of}
+use Rattle.cluster_repair.specs.Retirements.{rounds_of}
 use Rattle.cluster_repair.specs.declared.reasons.Reason.{Reason}
 use Rattle.cluster_repair.specs.declared.reasons.Reason.TheVariants.{NoSource, NoTarget, NoSpace}
 use Rattle.cluster_repair.specs.declared.reasons.Unmended.{Unmended}

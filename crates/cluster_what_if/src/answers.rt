@@ -35,7 +35,7 @@ pub fn answer_to_losses<H: Threads + Wait + Sync>(
 ) -> Result<Answer, Refusal>
     requires in_step { IsInStep session.old }
     requires losses { are_losses losses.now ≡ true }
-    ensures answer { IfOk result (λ a. IsAnswer files.now session.old.manager losses.now a) }
+    ensures answer { IfOk result (IsAnswer files.now session.old.manager losses.now) }
     ensures state { OnOk result (session.new.manager
         ≡ after_losses session.old.manager losses.now) }
     ensures in_step { OnOk result (IsInStep session.new) }

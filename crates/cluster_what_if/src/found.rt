@@ -1,7 +1,7 @@
 // What is found about the losses that a command line asks for.
-ghost use Rattle.std.specs.Prelude.{IfOk};
+ghost use Rattle.std.specs.Prelude.{◌≡◌, IfOk, OnOk};
 ghost use Rattle.cluster_report.specs.Sessions.{IsInStep};
-ghost use Rattle.cluster_what_if.specs.Found.{AreFound, IsFound, IsMended, IsMendedIf};
+ghost use Rattle.cluster_what_if.specs.Found.{Answers, AreFound, IsMended, IsMendedAt};
 
 use crate::answers::{Answer, answer_to_losses};
 use crate::options::Asked;
@@ -54,7 +54,7 @@ pub struct Table {
 }
 
 /// Finds what is asked for. The losses stay made; after a table the cluster is as before.
-#[tactic(auto, using(crate::proofs::Found::found_of_some))]
+#[tactic(auto, using(crate::proofs::Found::found_of, crate::proofs::Found::racks_found, crate::proofs::Found::nodes_found))]
 pub fn find<R: Eprint + Threads + Wait + Sync>(
     rt: &R,
     alloc: Global,
@@ -63,7 +63,10 @@ pub fn find<R: Eprint + Threads + Wait + Sync>(
     progress: &mut Progress,
 ) -> Result<Found, Fault>
     requires { IsInStep loaded.old.session }
-    ensures { IfOk result (λ found. IsFound loaded.old loaded.new found) }
+    ensures answers { IfOk result (Answers asked.now.question asked.now.pace
+        loaded.old loaded.new) }
+    ensures names { OnOk result (loaded.new.names ≡ loaded.old.names) }
+    ensures files { OnOk result (loaded.new.files ≡ loaded.old.files) }
 {
     match &asked.question {
         Question::Losses(losses) => {
@@ -97,7 +100,9 @@ fn find_losses<R: Eprint + Threads + Wait + Sync>(
     progress: &mut Progress,
 ) -> Result<Losses, Fault>
     requires { IsInStep loaded.old.session }
-    ensures { IfOk result (λ it. AreFound loaded.old loaded.new lost.now it) }
+    ensures found { IfOk result (AreFound loaded.old loaded.new pace lost.now) }
+    ensures names { OnOk result (loaded.new.names ≡ loaded.old.names) }
+    ensures files { OnOk result (loaded.new.files ≡ loaded.old.files) }
 {
     let mut named = String::new(alloc);
     write_lost(&mut named, loaded, lost)?;
@@ -123,7 +128,7 @@ fn mend_at<R: Eprint + Threads + Wait + Sync>(
     progress: &mut Progress,
 ) -> Result<Option<Mended>, Refusal>
     requires { IsInStep session.old }
-    ensures { IfOk result (λ m. IsMendedIf session.old.manager session.new.manager m) }
+    ensures { IfOk result (IsMendedAt pace session.old.manager session.new.manager) }
 {
     match pace {
         Some(pace) => Ok(Some(mend(rt, alloc, session, pace, drained, progress)?)),
@@ -142,7 +147,7 @@ fn mend<R: Eprint + Threads + Wait + Sync>(
     progress: &mut Progress,
 ) -> Result<Mended, Refusal>
     requires { IsInStep session.old }
-    ensures { IfOk result (λ m. IsMended session.old.manager session.new.manager m) }
+    ensures { IfOk result (IsMended pace session.old.manager session.new.manager) }
 {
     let repair = repair_cluster(rt, alloc, session, pace, drained, progress)?;
     let blocks = repair.watch.blocks.as_slice();

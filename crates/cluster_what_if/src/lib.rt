@@ -42,7 +42,7 @@ use cluster_pages::page_file::write_page;
 use cluster_progress::Progress;
 use found::{Found, find};
 use options::{Asked, asked_of, matches_of};
-use output::print_found;
+use output::{print_lines, print_picture};
 use page::found_page;
 use std::alloc::Global;
 use std::io;
@@ -131,15 +131,12 @@ fn write_found<R: Print + Eprint + Files + AllocGlobal>(
         }
     }
     let mut writer = io::writer(rt);
-    match print_found(
-        alloc,
-        &mut writer,
-        names,
-        files,
-        most,
-        asked.is_picture,
-        found,
-    ) {
+    let printed = if asked.is_picture {
+        print_picture(alloc, &mut writer, found)
+    } else {
+        print_lines(alloc, &mut writer, names, files, most, found)
+    };
+    match printed {
         Ok(()) => DONE,
         Err(fault) => {
             say_print_fault(rt, PROGRAM, &fault);

@@ -1,6 +1,7 @@
 // What is found, printed.
-ghost use Rattle.std.specs.Prelude.{◌≡◌, ◌++◌, false, IfOk, OnOk, string_bytes};
-ghost use Rattle.cluster_what_if.specs.Output.{losses_text, mended_text, found_text, IsPrintedText, PrintsText};
+ghost use Rattle.std.specs.Prelude.{◌≡◌, ◌++◌, IfOk, OnOk, string_bytes};
+ghost use Rattle.std.specs.Io.KnownBytes.{Appends};
+ghost use Rattle.cluster_what_if.specs.Output.{losses_text, mended_text, found_text};
 
 use crate::found::{Found, Losses, Mended};
 use crate::repair_picture::picture_of;
@@ -12,43 +13,40 @@ use cluster_pages::output::{PrintFault, write_flushed};
 use std::alloc::{AllocError, Global};
 use std::io::Write;
 
-/// Prints what is found: lines, with at most `most` blocks and files of each list, or the picture
-/// of the rounds. Nothing is written before all of it was made.
-#[tactic(auto, using(crate::proofs::Found::printed))]
-pub fn print_found<W: Write>(
+/// Prints the lines of what is found, with at most `most` blocks and files of each list. Nothing is
+/// written before all of the text was made.
+pub fn print_lines<W: Write>(
     alloc: Global,
     writer: &mut W,
     names: &Names,
     files: &Files,
     most: usize,
-    is_picture: bool,
     found: &Found,
 ) -> Result<(), PrintFault>
-    ensures { OnOk result (PrintsText names.now files.now most is_picture found.now
-        (W.contents writer.old) (W.contents writer.new)) }
+    ensures { OnOk result (Appends (W.contents writer.old) (W.contents writer.new)
+        (found_text names.now files.now most found.now)) }
 {
-    let text = printed_text(alloc, names, files, most, is_picture, found)?;
+    let text = found_text(alloc, names, files, most, found)?;
+    print_text(writer, &text)
+}
+
+/// Prints the picture of the rounds.
+pub fn print_picture<W: Write>(
+    alloc: Global,
+    writer: &mut W,
+    found: &Found,
+) -> Result<(), PrintFault> {
+    let text = picture_text(alloc, found)?;
+    print_text(writer, &text)
+}
+
+fn print_text<W: Write>(writer: &mut W, text: &String) -> Result<(), PrintFault>
+    ensures { OnOk result (Appends (W.contents writer.old) (W.contents writer.new)
+        (string_bytes text.now)) }
+{
     match write_flushed(writer, text.as_bytes()) {
         Ok(()) => Ok(()),
         Err(error) => Err(PrintFault::Write(error)),
-    }
-}
-
-fn printed_text(
-    alloc: Global,
-    names: &Names,
-    files: &Files,
-    most: usize,
-    is_picture: bool,
-    found: &Found,
-) -> Result<String, AllocError>
-    ensures { IfOk result (λ s. is_picture ≡ false
-        → string_bytes s ≡ found_text names.now files.now most found.now) }
-{
-    if is_picture {
-        picture_text(alloc, found)
-    } else {
-        found_text(alloc, names, files, most, found)
     }
 }
 
