@@ -9,8 +9,8 @@ const STYLE: &str = "<style>\n\
 body { font: 15px/1.45 system-ui, sans-serif; margin: 0 auto; max-width: 72rem; padding: 1rem; }\n\
 h1 { font-size: 1.5rem; margin: .2rem 0 1rem; }\n\
 h2 { font-size: 1.15rem; margin: 2rem 0 .5rem; }\n\
-dl { display: grid; gap: .6rem; grid-template-columns: repeat(auto-fit, minmax(8rem, 1fr)); \
-margin: 0; }\n\
+dl { display: grid; gap: .6rem; grid-template-columns: repeat(auto-fit, minmax(9rem, 1fr)); \
+margin: .6rem 0 0; }\n\
 dl div { border: 1px solid #8885; border-radius: .4rem; padding: .5rem .7rem; }\n\
 dt { font-size: .85rem; opacity: .75; }\n\
 dd { font-size: 1.3rem; margin: 0; overflow-wrap: anywhere; }\n\
@@ -20,7 +20,8 @@ ul { columns: 22rem; margin: 0; overflow-wrap: anywhere; padding-left: 1.2rem; }
 table { border-collapse: collapse; width: 100%; }\n\
 th, td { border-bottom: 1px solid #8884; padding: .3rem .6rem .3rem 0; text-align: left; \
 vertical-align: top; }\n\
-td.n, th.n { font-variant-numeric: tabular-nums; text-align: right; white-space: nowrap; }\n\
+td.n, th.n { font-variant-numeric: tabular-nums; text-align: right; }\n\
+td.n { white-space: nowrap; }\n\
 td.path { overflow-wrap: anywhere; min-width: 12rem; width: 60%; }\n\
 td.bar { min-width: 2.5rem; width: 30%; }\n\
 svg { display: block; }\n\

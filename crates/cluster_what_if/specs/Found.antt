@@ -62,8 +62,8 @@ pub record IsTableOfNodes (before : Loaded) (t : Table) : Type 0 where
   pub kind_is : t.kind ≡ kind.Node
 
 -- what a question asks for
-abbrev pub Answers : Question → Option Pace → Loaded → Loaded → Found → Type 0
-Answers (question.Losses ls) pace before after (found.Losses it) = AreFoundOf before after pace ls.items it
-Answers question.EachRack pace before after (found.Table t) = IsTableOfRacks before t
-Answers question.EachNode pace before after (found.Table t) = IsTableOfNodes before t
-Answers _ pace before after _ = ⊥
+abbrev pub IsFoundFor : Question → Option Pace → Loaded → Loaded → Found → Type 0
+IsFoundFor (question.Losses ls) pace before after (found.Losses it) = AreFoundOf before after pace ls.items it
+IsFoundFor question.EachRack pace before after (found.Table t) = IsTableOfRacks before t
+IsFoundFor question.EachNode pace before after (found.Table t) = IsTableOfNodes before t
+IsFoundFor _ pace before after _ = ⊥

@@ -1,7 +1,7 @@
 // What is found about the losses that a command line asks for.
 ghost use Rattle.std.specs.Prelude.{◌≡◌, IfOk, OnOk};
 ghost use Rattle.cluster_report.specs.Sessions.{IsInStep};
-ghost use Rattle.cluster_what_if.specs.Found.{Answers, AreFound, IsMended, IsMendedAt};
+ghost use Rattle.cluster_what_if.specs.Found.{IsFoundFor, AreFound, IsMended, IsMendedAt};
 
 use crate::answers::{Answer, answer_to_losses};
 use crate::options::Asked;
@@ -63,7 +63,7 @@ pub fn find<R: Eprint + Threads + Wait + Sync>(
     progress: &mut Progress,
 ) -> Result<Found, Fault>
     requires { IsInStep loaded.old.session }
-    ensures answers { IfOk result (Answers asked.now.question asked.now.pace
+    ensures answers { IfOk result (IsFoundFor asked.now.question asked.now.pace
         loaded.old loaded.new) }
     ensures names { OnOk result (loaded.new.names ≡ loaded.old.names) }
     ensures files { OnOk result (loaded.new.files ≡ loaded.old.files) }

@@ -9,10 +9,11 @@ use cluster_losses::standing::Standing;
 use cluster_names::{Files, Names};
 use cluster_pages::page_frame::{write_foot, write_head};
 use cluster_pages::page_parts::{
-    begin_table, end_table, write_bytes, write_escaped, write_fact, write_file_table,
-    write_number_cell, write_place, write_rest, write_share_cells,
+    begin_table, end_table, write_bar_cell, write_bytes, write_escaped, write_fact,
+    write_file_table, write_number_cell, write_place, write_rest,
 };
 use cluster_pages::text::{all_blocks, first_of};
+use cluster_pages::text_parts::thousandths;
 use cluster_report::levels::LevelCounts;
 use std::alloc::{AllocError, Global};
 
@@ -97,10 +98,10 @@ pub fn write_bytes_fact(text: &mut String, what: &str, bytes: u128) -> Result<()
     write!(text, "<small>{bytes}</small></dd></div>\n")
 }
 
-const LEVEL_HEADS: &str = "<th></th><th class=\"n\">before</th><th class=\"n\">part</th><th></th>\
-<th class=\"n\">after</th><th class=\"n\">part</th><th></th>";
+const LEVEL_HEADS: &str = "<th></th><th class=\"n\">before</th><th></th>\
+<th class=\"n\">after</th><th></th>";
 
-/// The blocks at each level before and after, with their parts of all blocks.
+/// The blocks at each level before and after. Bars are parts of all blocks.
 fn write_levels(
     text: &mut String,
     before: &LevelCounts,
@@ -149,23 +150,23 @@ fn begin_level(
     is_bad: bool,
 ) -> Result<(), AllocError> {
     write!(text, "<tr><td>{what}</td>")?;
-    write_amount_cells(text, before, all, is_bad)
+    write_part(text, before as u128, all, is_bad)
 }
 
 fn end_level(text: &mut String, after: usize, all: u128, is_bad: bool) -> Result<(), AllocError> {
-    write_amount_cells(text, after, all, is_bad)?;
+    write_part(text, after as u128, all, is_bad)?;
     text.push_str("</tr>\n")
 }
 
-/// A count, and its part of a total as a number and a bar.
-pub fn write_amount_cells(
+/// A number, and its part of a total as a bar.
+pub fn write_part(
     text: &mut String,
-    count: usize,
+    part: u128,
     total: u128,
     is_bad: bool,
 ) -> Result<(), AllocError> {
-    write_number_cell(text, count as u128)?;
-    write_share_cells(text, count as u128, total, is_bad)
+    write_number_cell(text, part)?;
+    write_bar_cell(text, thousandths(part, total), is_bad)
 }
 
 /// The lost files, if files are known, and the lost blocks.

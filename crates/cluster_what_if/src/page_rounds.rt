@@ -45,7 +45,7 @@ pub fn write_mended(
     text.push_str("<div class=\"picture\">\n")?;
     text.push_str(picture_of(alloc, mended)?.as_str())?;
     text.push_str("</div>\n")?;
-    write_left(text, repair.datanodes.on_way.len())?;
+    write_left(text, repair.datanodes.on_way.sent.len())?;
     write_rounds(alloc, text, mended.pace, repair.rows.rows.as_slice())?;
     write_retirements(text, names, mended.pace, repair)?;
     write_unmended(text, files, most, mended.unmended.as_slice())

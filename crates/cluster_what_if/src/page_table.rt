@@ -1,12 +1,12 @@
 // The page of a table: a row for each rack or node that is lost alone.
 use crate::found::Table;
+use crate::page::write_part;
 use crate::table::kind_word;
 use crate::text::fits_word;
 use bm_base::{NodeId, Rack};
 use cluster_losses::each::Row;
 use cluster_losses::loss::Kind;
 use cluster_losses::standing::Standing;
-use cluster_losses::without::Outcome;
 use cluster_names::{Files, Names};
 use cluster_pages::page_frame::write_head;
 use cluster_pages::page_parts::{
@@ -84,20 +84,13 @@ fn write_row(
     }
     text.push_str("</td>")?;
     write_number_cell(text, row.nodes as u128)?;
-    write_lost(text, &row.without, greatest.lost)?;
+    write_part(text, row.without.lost.len() as u128, greatest.lost, true)?;
     if has_files {
         write_number_cell(text, row.lost_files as u128)?;
     }
     write_level_cells(text, &row.without.after.levels)?;
     write_needs(text, &row.without.after, greatest.lacking)?;
     text.push_str("</tr>\n")
-}
-
-/// The lost blocks, and a bar of them.
-fn write_lost(text: &mut String, without: &Outcome, most: u128) -> Result<(), AllocError> {
-    let lost = without.lost.len() as u128;
-    write_number_cell(text, lost)?;
-    write_bar_cell(text, thousandths(lost, most), true)
 }
 
 /// The blocks at each of the first four levels.

@@ -118,7 +118,7 @@ fn write_copies(text: &mut String, repair: &Repair) -> Result<(), AllocError>
         ++ copies_text repair.now) }
 {
     write_count(text, "rounds", u128::from(repair.rounds))?;
-    write_left(text, repair.datanodes.on_way.len())?;
+    write_left(text, repair.datanodes.on_way.sent.len())?;
     let seconds = repair.datanodes.last_arrival.div_ceil(MICROS);
     write_count(text, "seconds", u128::from(seconds))?;
     write_count(text, "copies", u128::from(repair.datanodes.copies))?;
