@@ -1,3 +1,3 @@
 -- Lemmas.
-pub mod Found
+pub mod Findings
 pub mod ShownRows

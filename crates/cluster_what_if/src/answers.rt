@@ -25,7 +25,7 @@ pub struct Answer {
 
 /// Makes these losses, one after another. The manager is asked twice for all replicas, those in
 /// excess, the missing blocks, and the level of each block that has a replica.
-#[tactic(auto, using(crate::proofs::Found::answered))]
+#[tactic(auto, using(crate::proofs::Findings::answered))]
 pub fn answer_to_losses<H: Threads + Wait + Sync>(
     rt: &H,
     alloc: Global,

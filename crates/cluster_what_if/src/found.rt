@@ -54,7 +54,7 @@ pub struct Table {
 }
 
 /// Finds what is asked for. The losses stay made; after a table the cluster is as before.
-#[tactic(auto, using(crate::proofs::Found::found_of, crate::proofs::Found::racks_found, crate::proofs::Found::nodes_found))]
+#[tactic(auto, using(crate::proofs::Findings::found_of, crate::proofs::Findings::racks_found, crate::proofs::Findings::nodes_found))]
 pub fn find<R: Eprint + Threads + Wait + Sync>(
     rt: &R,
     alloc: Global,
@@ -90,7 +90,7 @@ pub fn find<R: Eprint + Threads + Wait + Sync>(
 }
 
 /// Makes the losses, and then mends at this pace, if there is one.
-#[tactic(auto, using(crate::proofs::Found::found_at_once))]
+#[tactic(auto, using(crate::proofs::Findings::found_at_once))]
 fn find_losses<R: Eprint + Threads + Wait + Sync>(
     rt: &R,
     alloc: Global,
@@ -137,7 +137,7 @@ fn mend_at<R: Eprint + Threads + Wait + Sync>(
 }
 
 /// Takes rounds until nothing more is copied, and asks why blocks stay as they are.
-#[tactic(auto, using(crate::proofs::Found::mended_at_pace))]
+#[tactic(auto, using(crate::proofs::Findings::mended_at_pace))]
 fn mend<R: Eprint + Threads + Wait + Sync>(
     rt: &R,
     alloc: Global,
