@@ -43,7 +43,9 @@ pub mod json;
 pub mod options;
 pub mod output;
 pub mod page;
-mod page_parts;
+pub mod page_file;
+pub mod page_frame;
+pub mod page_parts;
 pub mod text;
 pub mod text_parts;
 
@@ -56,14 +58,15 @@ use cluster_input::options::{asked_of, files_of};
 use cluster_input::sources::load;
 use json::standing_json;
 use options::{Form, form_of, matches_of, wrong_value};
-use output::{PrintFault, Standing, print_report, standing_of, write_flushed};
+use output::{PrintFault, Standing, print_report, say_print_fault, standing_of, write_flushed};
 use page::standing_page;
+use page_file::write_page;
 use std::alloc::Global;
+use std::io;
 use std::io::Write;
 use std::rt::Files;
 use std::sync::Wait;
 use std::thread::Threads;
-use std::{fs, io};
 
 const DONE: u8 = 0;
 
@@ -126,12 +129,13 @@ fn report_on<R: Print + Eprint + Files + AllocGlobal>(
     let Ok(standing) = standing_of(alloc, loaded) else {
         return say_memory(rt);
     };
-    let is_page_written = match form.page {
-        Some(path) => write_page(rt, loaded, form.most, &standing, path),
-        None => true,
-    };
-    if !is_page_written {
-        return FAULTED;
+    if let Some(path) = form.page {
+        let Ok(page) = standing_page(alloc, loaded, form.most, &standing) else {
+            return say_memory(rt);
+        };
+        if !write_page(rt, PROGRAM, path, page) {
+            return FAULTED;
+        }
     }
     let mut writer = io::writer(rt);
     let printed = if form.is_json {
@@ -141,20 +145,11 @@ fn report_on<R: Print + Eprint + Files + AllocGlobal>(
     };
     match printed {
         Ok(()) => DONE,
-        Err(fault) => say_print_fault(rt, &fault),
+        Err(fault) => {
+            say_print_fault(rt, PROGRAM, &fault);
+            FAULTED
+        }
     }
-}
-
-/// Prints why the report was not printed; nothing if its reader closed the pipe.
-fn say_print_fault<R: Eprint>(rt: &R, fault: &PrintFault) -> u8 {
-    let is_unread = match fault {
-        PrintFault::Write(error) => error.kind() == io::ErrorKind::BrokenPipe,
-        PrintFault::Memory => false,
-    };
-    if !is_unread {
-        let _ = rt.eprintln(format_args!("{PROGRAM}: {fault}"));
-    }
-    FAULTED
 }
 
 /// Prints the report as one JSON value on a line.
@@ -172,28 +167,5 @@ fn print_json<W: Write>(
     match write_flushed(writer, text.as_bytes()) {
         Ok(()) => Ok(()),
         Err(error) => Err(PrintFault::Write(error)),
-    }
-}
-
-/// Writes the page to a file. Prints the reason if that fails.
-fn write_page<R: Eprint + Files + AllocGlobal>(
-    rt: &R,
-    loaded: &Loaded,
-    most: usize,
-    standing: &Standing,
-    path: &str,
-) -> bool {
-    let Ok(page) = standing_page(rt.alloc(), loaded, most, standing) else {
-        let _ = say_memory(rt);
-        return false;
-    };
-    match fs::write(rt, path, page) {
-        Ok(()) => true,
-        Err(error) => {
-            let _ = rt.eprintln(format_args!(
-                "{PROGRAM}: the page cannot be written to {path}: {error}"
-            ));
-            false
-        }
     }
 }

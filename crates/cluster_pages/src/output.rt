@@ -79,6 +79,17 @@ impl From<AllocError> for PrintFault {
     }
 }
 
+/// Says why a text was not printed; nothing if its reader went away.
+pub fn say_print_fault<R: Eprint>(rt: &R, program: &str, fault: &PrintFault) {
+    let is_unread = match fault {
+        PrintFault::Write(error) => error.kind() == io::ErrorKind::BrokenPipe,
+        PrintFault::Memory => false,
+    };
+    if !is_unread {
+        let _ = rt.eprintln(format_args!("{program}: {fault}"));
+    }
+}
+
 /// Prints the lines of a report, with at most this number of blocks and files of each list. Nothing
 /// is written before the whole text is made.
 #[tactic(auto, using(crate::proofs::OutputLemmas::printed))]

@@ -1,13 +1,14 @@
 // The report as one self-contained HTML page with tables, bars and a chart.
-use crate::at_risk::FileRow;
 use crate::chart::write_chart;
 use crate::output::Standing;
+use crate::page_frame::{write_foot, write_head};
 use crate::page_parts::{
-    write_amount_row, write_bytes, write_cell, write_escaped, write_host, write_number_cell,
-    write_rack, write_share_cells,
+    begin_table, end_table, write_amount_row, write_bytes, write_cell, write_escaped, write_fact,
+    write_file_table, write_host, write_number_cell, write_place, write_rack, write_rest,
+    write_share_cells,
 };
 use crate::text::{all_blocks, all_replicas, first_of};
-use crate::text_parts::{bytes_on, level_word, path_at, remaining_on, replicas_on, state_word};
+use crate::text_parts::{bytes_on, level_word, remaining_on, replicas_on, state_word};
 use bm_base::BlockId;
 use cluster_input::loaded::Loaded;
 use cluster_names::{Files, Names};
@@ -16,41 +17,7 @@ use cluster_report::nodes::{NodeRow, StorageRow};
 use cluster_report::report::Report;
 use std::alloc::{AllocError, Global};
 
-/// The page up to the first table.
-const HEAD: &str = "<!DOCTYPE html>\n<html lang=\"en\">\n<head>\n<meta charset=\"utf-8\">\n\
-<meta name=\"viewport\" content=\"width=device-width, initial-scale=1\">\n\
-<title>How the cluster stands</title>\n<style>\n\
-:root { color-scheme: light dark; }\n\
-body { font: 15px/1.45 system-ui, sans-serif; margin: 0 auto; max-width: 72rem; padding: 1rem; }\n\
-h1 { font-size: 1.5rem; margin: .2rem 0 1rem; }\n\
-h2 { font-size: 1.15rem; margin: 2rem 0 .5rem; }\n\
-dl { display: grid; gap: .6rem; grid-template-columns: repeat(auto-fit, minmax(8rem, 1fr)); \
-margin: 0; }\n\
-dl div { border: 1px solid #8885; border-radius: .4rem; padding: .5rem .7rem; }\n\
-dt { font-size: .85rem; opacity: .75; }\n\
-dd { font-size: 1.3rem; margin: 0; overflow-wrap: anywhere; }\n\
-.table { overflow-x: auto; }\n\
-table { border-collapse: collapse; width: 100%; }\n\
-th, td { border-bottom: 1px solid #8884; padding: .3rem .6rem .3rem 0; text-align: left; \
-vertical-align: top; }\n\
-td.n, th.n { font-variant-numeric: tabular-nums; text-align: right; white-space: nowrap; }\n\
-td.path { overflow-wrap: anywhere; min-width: 12rem; width: 60%; }\n\
-td.bar { min-width: 2.5rem; width: 30%; }\n\
-svg { display: block; height: .9rem; margin-top: .2rem; width: 100%; }\n\
-svg.chart { border-bottom: 1px solid #8888; height: 12rem; }\n\
-svg rect { fill: #3b7dd8; }\n\
-svg rect.all { fill: #8883; }\n\
-svg rect.bad { fill: #c8452f; }\n\
-i { background: #3b7dd8; display: inline-block; height: .8em; width: .8em; }\n\
-i.all { background: #8885; }\n\
-details { margin: 1rem 0; }\n\
-summary { cursor: pointer; }\n\
-p.none { opacity: .75; }\n\
-</style>\n</head>\n<body>\n<h1>How the cluster stands</h1>\n";
-
-const FOOT: &str = "</body>\n</html>\n";
-
-/// The page of a report, with at most `most` blocks and files of each list.
+/// The page of a report, with at most so many blocks and files of each list.
 pub fn standing_page(
     alloc: Global,
     loaded: &Loaded,
@@ -59,7 +26,7 @@ pub fn standing_page(
 ) -> Result<String, AllocError> {
     let report = &standing.report;
     let mut text = String::new(alloc);
-    text.push_str(HEAD)?;
+    write_head(&mut text, "How the cluster stands")?;
     write_summary(&mut text, &loaded.files, standing)?;
     write_levels(&mut text, report)?;
     write_tags(&mut text, report)?;
@@ -68,7 +35,7 @@ pub fn standing_page(
     write_files(&mut text, &loaded.files, most, standing)?;
     write_missing(&mut text, &loaded.files, most, report.missing.as_slice())?;
     write_urgent(&mut text, &loaded.files, most, report.urgent.as_slice())?;
-    text.push_str(FOOT)?;
+    write_foot(&mut text)?;
     Ok(text)
 }
 
@@ -96,21 +63,6 @@ fn write_summary(text: &mut String, files: &Files, standing: &Standing) -> Resul
     write_fact(text, "accepted calls", u128::from(report.calls))?;
     write_fact(text, "rounds", u128::from(report.round))?;
     text.push_str("</dl>\n")
-}
-
-fn write_fact(text: &mut String, what: &str, count: u128) -> Result<(), AllocError> {
-    write!(text, "<div><dt>{what}</dt><dd>{count}</dd></div>\n")
-}
-
-fn begin_table(text: &mut String, title: &str, heads: &str) -> Result<(), AllocError> {
-    write!(
-        text,
-        "<h2>{title}</h2>\n<div class=\"table\"><table>\n<thead><tr>{heads}</tr></thead>\n<tbody>\n"
-    )
-}
-
-fn end_table(text: &mut String) -> Result<(), AllocError> {
-    text.push_str("</tbody></table></div>\n")
 }
 
 const AMOUNT_HEADS: &str = "<th></th><th class=\"n\">count</th><th class=\"n\">bytes</th>\
@@ -273,36 +225,6 @@ fn write_files(
     )
 }
 
-fn write_file_table(
-    text: &mut String,
-    title: &str,
-    files: &Files,
-    most: usize,
-    rows: &[FileRow],
-) -> Result<(), AllocError> {
-    begin_table(text, title, "<th>file</th><th class=\"n\">blocks</th>")?;
-    for row in first_of(rows, most) {
-        text.push_str("<tr><td class=\"path\">")?;
-        write_escaped(text, path_at(files, row.file))?;
-        text.push_str("</td>")?;
-        write_number_cell(text, row.blocks as u128)?;
-        text.push_str("</tr>\n")?;
-    }
-    end_table(text)?;
-    write_rest(text, rows.len(), most)
-}
-
-/// Writes `none` after an empty list, or how many entries are shown of a longer one.
-fn write_rest(text: &mut String, count: usize, most: usize) -> Result<(), AllocError> {
-    if count == 0 {
-        return text.push_str("<p class=\"none\">none</p>\n");
-    }
-    if count > most {
-        return write!(text, "<p class=\"none\">the first {most} of {count}</p>\n");
-    }
-    Ok(())
-}
-
 fn write_missing(
     text: &mut String,
     files: &Files,
@@ -348,14 +270,4 @@ fn write_urgent(
     }
     end_table(text)?;
     write_rest(text, blocks.len(), most)
-}
-
-/// The file of a block and the index of the block there, as a cell.
-fn write_place(text: &mut String, files: &Files, block: BlockId) -> Result<(), AllocError> {
-    text.push_str("<td class=\"path\">")?;
-    if let Some((path, index)) = files.path_of(block) {
-        write_escaped(text, path)?;
-        write!(text, ", block {index}")?;
-    }
-    text.push_str("</td>")
 }

@@ -1,7 +1,9 @@
-// Cells and bars of a page.
-use crate::text_parts::{thousandths, write_share};
-use bm_base::{NodeId, Rack};
-use cluster_names::Names;
+// Facts, tables, cells and bars of a page.
+use crate::at_risk::FileRow;
+use crate::text::first_of;
+use crate::text_parts::{path_at, thousandths, write_share};
+use bm_base::{BlockId, NodeId, Rack};
+use cluster_names::{Files, Names};
 use std::alloc::AllocError;
 
 /// A text with the five special characters of HTML escaped.
@@ -17,6 +19,23 @@ pub fn write_escaped(text: &mut String, plain: &str) -> Result<(), AllocError> {
         }
     }
     Ok(())
+}
+
+/// A number within a list of facts.
+pub fn write_fact(text: &mut String, what: &str, count: u128) -> Result<(), AllocError> {
+    write!(text, "<div><dt>{what}</dt><dd>{count}</dd></div>\n")
+}
+
+/// Begins a table with its title. `heads` are the cells of its heading.
+pub fn begin_table(text: &mut String, title: &str, heads: &str) -> Result<(), AllocError> {
+    write!(
+        text,
+        "<h2>{title}</h2>\n<div class=\"table\"><table>\n<thead><tr>{heads}</tr></thead>\n<tbody>\n"
+    )
+}
+
+pub fn end_table(text: &mut String) -> Result<(), AllocError> {
+    text.push_str("</tbody></table></div>\n")
 }
 
 pub fn write_cell(text: &mut String, word: &str) -> Result<(), AllocError> {
@@ -102,8 +121,18 @@ pub fn write_share_cells(
 ) -> Result<(), AllocError> {
     text.push_str("<td class=\"n\">")?;
     write_share(text, part, total)?;
-    text.push_str("</td><td class=\"bar\">")?;
-    write_bar(text, thousandths(part, total), is_bad)?;
+    text.push_str("</td>")?;
+    write_bar_cell(text, thousandths(part, total), is_bad)
+}
+
+/// A cell with a bar of so many thousandths of its width.
+pub fn write_bar_cell(
+    text: &mut String,
+    thousandths: u128,
+    is_bad: bool,
+) -> Result<(), AllocError> {
+    text.push_str("<td class=\"bar\">")?;
+    write_bar(text, thousandths, is_bad)?;
     text.push_str("</td>")
 }
 
@@ -116,4 +145,45 @@ fn write_bar(text: &mut String, thousandths: u128, is_bad: bool) -> Result<(), A
          <rect class=\"all\" width=\"1000\" height=\"10\"/>\
          <rect class=\"{class}\" width=\"{thousandths}\" height=\"10\"/></svg>"
     )
+}
+
+/// A table of files, with at most `most` of them.
+pub fn write_file_table(
+    text: &mut String,
+    title: &str,
+    files: &Files,
+    most: usize,
+    rows: &[FileRow],
+) -> Result<(), AllocError> {
+    begin_table(text, title, "<th>file</th><th class=\"n\">blocks</th>")?;
+    for row in first_of(rows, most) {
+        text.push_str("<tr><td class=\"path\">")?;
+        write_escaped(text, path_at(files, row.file))?;
+        text.push_str("</td>")?;
+        write_number_cell(text, row.blocks as u128)?;
+        text.push_str("</tr>\n")?;
+    }
+    end_table(text)?;
+    write_rest(text, rows.len(), most)
+}
+
+/// How many of a list are named.
+pub fn write_rest(text: &mut String, count: usize, most: usize) -> Result<(), AllocError> {
+    if count == 0 {
+        return text.push_str("<p class=\"none\">none</p>\n");
+    }
+    if count > most {
+        return write!(text, "<p class=\"none\">the first {most} of {count}</p>\n");
+    }
+    Ok(())
+}
+
+/// The file of a block and the index of the block there, as a cell.
+pub fn write_place(text: &mut String, files: &Files, block: BlockId) -> Result<(), AllocError> {
+    text.push_str("<td class=\"path\">")?;
+    if let Some((path, index)) = files.path_of(block) {
+        write_escaped(text, path)?;
+        write!(text, ", block {index}")?;
+    }
+    text.push_str("</td>")
 }

@@ -4,6 +4,7 @@ ghost use Rattle.bm_base.specs.Machine.State.{State};
 ghost use Rattle.cluster_report.specs.Sessions.{IsInStep};
 ghost use Rattle.laws_of_repairs.specs.Repairs.{Covers};
 ghost use Rattle.cluster_repair.specs.Rows.{IsReached, AreRetired, IsUnderWay, IsDone};
+ghost use Rattle.cluster_repair.specs.Retirements.{rounds_of};
 
 use crate::datanodes::DataNodes;
 use crate::links::MICROS;
@@ -273,7 +274,9 @@ fn note_if_retired(
 }
 
 /// After how many rounds a node was retired.
-pub fn rounds_of(retired: &[Retirement], node: NodeId) -> Option<u32> {
+pub fn rounds_of(retired: &[Retirement], node: NodeId) -> Option<u32>
+    ensures { result ≡ rounds_of retired.now node }
+{
     for retirement in retired {
         if retirement.node == node {
             return Some(retirement.rounds);

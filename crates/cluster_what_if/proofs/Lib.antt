@@ -1,1 +1,3 @@
 -- Lemmas.
+pub mod Findings
+pub mod ShownRows

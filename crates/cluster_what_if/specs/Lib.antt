@@ -1,3 +1,10 @@
 -- What is answered about losses, and its text.
 pub mod Text
 pub mod Answers
+pub mod Found
+pub mod Columns
+pub mod Table
+pub mod ShownRows
+pub mod RepairText
+pub mod Picture
+pub mod Output

@@ -11,6 +11,7 @@ use Rattle.cluster_pages.specs.Text.{file_line}
 use Rattle.cluster_pages.specs.declared.at_risk.FileRow.{FileRow}
 use Rattle.cluster_losses.specs.declared.loss_events.Lost.{Lost}
 use Rattle.cluster_losses.specs.declared.standing.Standing.{Standing}
+use Rattle.cluster_what_if.specs.declared.answers.Answer.{Answer}
 
 -- a node that is lost or drained, with its rack
 unfoldable pub node_words : List ℕ → Names → ℕ → ℕ → List ℕ
@@ -30,7 +31,7 @@ unfoldable pub lost_text : Names → Cluster → Lost → List ℕ
 lost_text names C lost =
     flat_map (node_line (codes "drain") names C) lost.drained.items
     ++ (flat_map (storage_line names) lost.storages.items
-    ++ flat_map (node_line (codes "lose") names C) lost.nodes)
+    ++ flat_map (node_line (codes "lose") names C) lost.nodes.items)
 
 -- what is counted, before the losses and after them
 unfoldable pub change_line : List ℕ → ℕ → ℕ → List ℕ
@@ -81,10 +82,10 @@ copies_text after =
     ++ (count_line (codes "free bytes") after.free
     ++ fits_line after)
 
--- the answer, by how the cluster stands before and after, the blocks that are lost, and their files
-unfoldable pub answer_text : FileTable → ℕ → Standing → Standing → List ℕ → List FileRow → List ℕ
-answer_text f most before after lost rows =
-    levels_text before.levels after.levels
-    ++ (files_text f most rows
-    ++ (blocks_text f most lost
-    ++ copies_text after))
+-- the answer: how the cluster stands before and after, the lost blocks, and their files
+unfoldable pub answer_text : FileTable → ℕ → Answer → List ℕ
+answer_text f most a =
+    levels_text a.before.levels a.without.after.levels
+    ++ (files_text f most a.risk.lost
+    ++ (blocks_text f most a.without.lost
+    ++ copies_text a.without.after))

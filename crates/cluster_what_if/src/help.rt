@@ -14,6 +14,7 @@ Examples:
   what-if --lose rack:1 cluster.jsonl                         the same of lines
   what-if --lose node:10.1.1.11 --lose node:10.1.1.12 FILE    two nodes die at once
   what-if --lose each-rack FILE                               a table: each rack alone, the worst first
+  what-if --lose rack:1 --mend --html rack.html FILE          the answer as a page too
   what-if --drain 10.1.1.11 --mend FILE                       when the node can be switched off";
 
 /// What is said of words that ask no question.

@@ -15,40 +15,40 @@
 #![tactic(auto)]
 
 mod answers;
+mod columns;
+mod found;
 mod help;
 mod options;
+mod output;
+mod page;
+mod page_rounds;
+mod page_table;
 mod repair_picture;
 mod repair_text;
+mod shown_rows;
 mod table;
 mod text;
 
 ghost use Rattle.cluster_report.specs.Sessions.{IsInStep};
 
-use answers::answer_to_losses;
-use bm_base::NodeId;
 use clap::Error;
 use clap::error::ErrorKind;
 use cluster_input::loaded::Loaded;
 use cluster_input::options::files_of;
 use cluster_input::sources::load;
-use cluster_losses::each::{nodes_of, racks_of, rows_of};
 use cluster_losses::fault::Fault;
-use cluster_losses::loss::{Kind, Loss, Question};
-use cluster_losses::loss_events::Lost;
+use cluster_pages::output::say_print_fault;
+use cluster_pages::page_file::write_page;
 use cluster_progress::Progress;
-use cluster_repair::reasons::unmended_of;
-use cluster_repair::repair::{Pace, repair_cluster};
+use found::{Found, find};
 use options::{Asked, asked_of, matches_of};
-use repair_picture::picture_of;
-use repair_text::write_repair;
+use output::{print_lines, print_picture};
+use page::found_page;
 use std::alloc::Global;
 use std::io;
-use std::io::Write;
 use std::rt::Files;
 use std::sync::Wait;
 use std::thread::Threads;
-use table::table_text;
-use text::write_lost;
 
 const DONE: u8 = 0;
 
@@ -97,8 +97,8 @@ fn say_fault<R: Eprint>(rt: &R, fault: Fault) -> u8 {
     FAULTED
 }
 
-/// The answer about a cluster, to standard output. A closed pipe is not said.
-fn answer<R: Print + Eprint + AllocGlobal + Threads + Wait + Sync>(
+/// The answer about a cluster: the page, if one is asked for, and then standard output.
+fn answer<R: Print + Eprint + Files + AllocGlobal + Threads + Wait + Sync>(
     rt: &R,
     loaded: &mut Loaded,
     asked: &Asked<'_>,
@@ -106,116 +106,41 @@ fn answer<R: Print + Eprint + AllocGlobal + Threads + Wait + Sync>(
     requires { IsInStep loaded.old.session }
 {
     let mut progress = Progress::new(asked.shows_progress);
-    let text = text_for(rt, rt.alloc(), loaded, asked, &mut progress);
+    let found = find(rt, rt.alloc(), loaded, asked, &mut progress);
     progress.end(rt);
-    match text {
-        Ok(text) => write_answer(rt, &text),
+    match found {
+        Ok(found) => write_found(rt, loaded, asked, &found),
         Err(fault) => say_fault(rt, fault),
     }
 }
 
-fn write_answer<R: Print + Eprint>(rt: &R, text: &String) -> u8 {
-    match write_flushed(&mut io::writer(rt), text.as_bytes()) {
+fn write_found<R: Print + Eprint + Files + AllocGlobal>(
+    rt: &R,
+    loaded: &Loaded,
+    asked: &Asked<'_>,
+    found: &Found,
+) -> u8 {
+    let alloc: Global = rt.alloc();
+    let (names, files, most) = (&loaded.names, &loaded.files, asked.most);
+    if let Some(path) = asked.page {
+        let Ok(page) = found_page(alloc, names, files, most, found) else {
+            return say_fault(rt, Fault::Memory);
+        };
+        if !write_page(rt, PROGRAM, path, page) {
+            return FAULTED;
+        }
+    }
+    let mut writer = io::writer(rt);
+    let printed = if asked.is_picture {
+        print_picture(alloc, &mut writer, found)
+    } else {
+        print_lines(alloc, &mut writer, names, files, most, found)
+    };
+    match printed {
         Ok(()) => DONE,
-        Err(error) if error.kind() == io::ErrorKind::BrokenPipe => FAULTED,
-        Err(error) => {
-            let _ = rt.eprintln(format_args!("{PROGRAM}: write fault: {error}"));
+        Err(fault) => {
+            say_print_fault(rt, PROGRAM, &fault);
             FAULTED
         }
     }
-}
-
-fn write_flushed<W: Write>(writer: &mut W, text: &[u8]) -> io::Result<()> {
-    writer.write_all(text)?;
-    writer.flush()
-}
-
-fn text_for<R: Eprint + Threads + Wait + Sync>(
-    rt: &R,
-    alloc: Global,
-    loaded: &mut Loaded,
-    asked: &Asked<'_>,
-    progress: &mut Progress,
-) -> Result<String, Fault>
-    requires { IsInStep loaded.old.session }
-{
-    match &asked.question {
-        Question::Losses(losses) => {
-            losses_text(rt, alloc, loaded, asked, losses.as_slice(), progress)
-        }
-        Question::EachRack => {
-            let parts = racks_of(alloc, &loaded.session.book)?;
-            let rows = rows_of(rt, alloc, loaded, parts.as_slice())?;
-            Ok(table_text(alloc, loaded, Kind::Rack, rows.as_slice())?)
-        }
-        Question::EachNode => {
-            let parts = nodes_of(alloc, &loaded.session.book)?;
-            let rows = rows_of(rt, alloc, loaded, parts.as_slice())?;
-            Ok(table_text(alloc, loaded, Kind::Node, rows.as_slice())?)
-        }
-    }
-}
-
-/// What is lost with all of these.
-fn losses_text<R: Eprint + Threads + Wait + Sync>(
-    rt: &R,
-    alloc: Global,
-    loaded: &mut Loaded,
-    asked: &Asked<'_>,
-    losses: &[Loss<'_>],
-    progress: &mut Progress,
-) -> Result<String, Fault>
-    requires { IsInStep loaded.old.session }
-{
-    let lost = Lost::named(alloc, loaded, losses)?;
-    let mut text = String::new(alloc);
-    write_lost(&mut text, loaded, &lost)?;
-    let events = lost.events(alloc)?;
-    let answer = answer_to_losses(rt, alloc, loaded, events.as_slice(), asked.most)?;
-    text.push_str(answer.as_str())?;
-    let Some(pace) = asked.pace else {
-        return Ok(text);
-    };
-    let drained = lost.drained.as_slice();
-    if asked.is_picture {
-        return picture_for(rt, alloc, loaded, pace, drained, progress);
-    }
-    let repair = lines_for(rt, alloc, loaded, pace, drained, asked.most, progress)?;
-    text.push_str(repair.as_str())?;
-    Ok(text)
-}
-
-/// What is copied again, as lines.
-fn lines_for<R: Eprint + Threads + Wait + Sync>(
-    rt: &R,
-    alloc: Global,
-    loaded: &mut Loaded,
-    pace: Pace,
-    drained: &[NodeId],
-    most: usize,
-    progress: &mut Progress,
-) -> Result<String, Fault>
-    requires { IsInStep loaded.old.session }
-{
-    let done = repair_cluster(rt, alloc, &mut loaded.session, pace, drained, progress)?;
-    let free = &done.datanodes.free;
-    let unmended = unmended_of(alloc, &loaded.session, free, done.watch.blocks.as_slice())?;
-    let mut text = String::new(alloc);
-    write_repair(&mut text, loaded, pace, &done, unmended.as_slice(), most)?;
-    Ok(text)
-}
-
-/// What is copied again, as a picture.
-fn picture_for<R: Eprint + Threads + Wait + Sync>(
-    rt: &R,
-    alloc: Global,
-    loaded: &mut Loaded,
-    pace: Pace,
-    drained: &[NodeId],
-    progress: &mut Progress,
-) -> Result<String, Fault>
-    requires { IsInStep loaded.old.session }
-{
-    let done = repair_cluster(rt, alloc, &mut loaded.session, pace, drained, progress)?;
-    Ok(picture_of(alloc, pace, done.rows.rows.as_slice())?)
 }

@@ -20,6 +20,8 @@ pub struct Asked<'a> {
     pub pace: Option<Pace>,
     /// Whether the answer is a picture.
     pub is_picture: bool,
+    /// The file for the page, if one is asked for.
+    pub page: Option<&'a str>,
     /// How many of each list are named at most.
     pub most: usize,
     pub shows_progress: bool,
@@ -57,6 +59,7 @@ pub fn asked_of<'a>(alloc: Global, matches: &ArgMatches<'a>) -> Result<Asked<'a>
         question,
         pace,
         is_picture,
+        page: matches.get_str("html"),
         most,
         shows_progress: input.input_bytes.is_some(),
     })
@@ -100,7 +103,16 @@ fn with_losses<'a>(alloc: Global, command: Command<'a>) -> Result<Command<'a>, A
     let all = flag(alloc, "all").help("names all lost files and blocks, not the first ten");
     let command = with(command, lose)?;
     let command = with(command, drain)?;
-    with(command, all)
+    let command = with(command, all)?;
+    with(command, page(alloc))
+}
+
+fn page<'a>(alloc: Global) -> Arg<'a> {
+    new_arg(alloc, "html")
+        .action(ArgAction::Set)
+        .long("html")
+        .value_name("FILE")
+        .help("writes the answer to FILE too, as one page that stands alone")
 }
 
 /// The command with how it is repaired.

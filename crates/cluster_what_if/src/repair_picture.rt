@@ -1,21 +1,27 @@
 // What is copied again, as a picture.
-use cluster_repair::repair::Pace;
+ghost use Rattle.std.specs.Prelude.{◌≡◌, map, IfOk};
+ghost use Rattle.cluster_what_if.specs.Picture.{counts_in};
+
+use crate::found::Mended;
 use cluster_repair::rows::Row;
 use cluster_simulation::counts::Counts;
 use cluster_simulation::svg::picture_text;
 use std::alloc::{AllocError, Global};
 
-/// The picture of these rows.
-pub fn picture_of(alloc: Global, pace: Pace, rows: &[Row]) -> Result<String, AllocError> {
-    let interval = pace.interval;
-    let bandwidth = pace.bandwidth;
+/// The picture of the rounds.
+pub fn picture_of(alloc: Global, mended: &Mended) -> Result<String, AllocError> {
+    let interval = mended.pace.interval;
+    let bandwidth = mended.pace.bandwidth;
     let below = format!(in alloc; "a round every {interval} s, {bandwidth} bytes a second")?;
-    let counts = counts_of(alloc, rows)?;
+    let counts = counts_of(alloc, mended.repair.rows.rows.as_slice())?;
     let heading = "What is lost is copied again";
     picture_text(alloc, heading, below.as_str(), None, counts.as_slice())
 }
 
-fn counts_of(alloc: Global, rows: &[Row]) -> Result<Vec<Counts>, AllocError> {
+/// The points of the picture: one for each row.
+fn counts_of(alloc: Global, rows: &[Row]) -> Result<Vec<Counts>, AllocError>
+    ensures { IfOk result (λ v. v.items ≡ map counts_in rows.now) }
+{
     let mut counts = Vec::new(alloc);
     for row in rows {
         counts.push(counts_in(row))?;
@@ -23,14 +29,21 @@ fn counts_of(alloc: Global, rows: &[Row]) -> Result<Vec<Counts>, AllocError> {
     Ok(counts)
 }
 
-fn counts_in(row: &Row) -> Counts {
-    let mut counts = Counts::new(row.round);
-    counts.highest = row.levels.highest as u64;
-    counts.very_under_replicated = row.levels.very_under_replicated as u64;
-    counts.under_replicated = row.levels.under_replicated as u64;
-    counts.badly_distributed = row.levels.badly_distributed as u64;
-    counts.missing = row.levels.missing as u64;
-    counts.pending = row.on_way as u64;
-    counts.copies = row.commanded as u64;
-    counts
+fn counts_in(row: &Row) -> Counts
+    ensures { result ≡ counts_in row.now }
+{
+    Counts {
+        round: row.round,
+        highest: row.levels.highest as u64,
+        very_under_replicated: row.levels.very_under_replicated as u64,
+        under_replicated: row.levels.under_replicated as u64,
+        badly_distributed: row.levels.badly_distributed as u64,
+        missing: row.levels.missing as u64,
+        pending: row.on_way as u64,
+        excess: 0,
+        corrupt: 0,
+        copies: row.commanded as u64,
+        deletes: 0,
+        refused: 0,
+    }
 }

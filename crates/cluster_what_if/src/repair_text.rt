@@ -1,157 +1,276 @@
 // What is copied again, as text.
-ghost use Rattle.std.specs.Prelude.{◌<◌};
+ghost use Rattle.std.specs.Prelude.{◌≡◌, ◌++◌, OnOk, count_by, string_bytes};
+ghost use Rattle.std.specs.List.{flat_map};
+ghost use Rattle.cluster_what_if.specs.RepairText.{same_reason, reason_word, seconds_before, model_line, rounds_heading, round_line, rounds_text, copies_text, left_line, retirement_text, retirement_line, reasons_text, unmended_line, unmended_text, repair_text};
 
+use crate::columns::{write_level_heads, write_level_numbers};
+use crate::found::Mended;
+use crate::shown_rows::shown_rows;
 use crate::text::{write_end, write_node};
-use cluster_input::loaded::Loaded;
+use bm_base::NodeId;
+use cluster_names::{Files, Names};
 use cluster_pages::text::first_of;
 use cluster_pages::text_parts::level_word;
 use cluster_repair::links::MICROS;
 use cluster_repair::reasons::{Reason, Unmended};
-use cluster_repair::repair::{Pace, Repair, rounds_of};
+use cluster_repair::repair::{Pace, Repair, Retirement, rounds_of};
 use cluster_repair::rows::Row;
 use cluster_report::text_parts::write_count;
-use std::alloc::AllocError;
-
-/// At most this number of rows of the table is written before the last.
-const MOST_ROWS: usize = 40;
+use std::alloc::{AllocError, Global};
 
 /// The table of rounds, and what comes out, with at most `most` of the blocks that stay as they
 /// are.
+#[tactic(auto, unfolding(crate::specs::RepairText::repair_text))]
 pub fn write_repair(
+    alloc: Global,
     text: &mut String,
-    loaded: &Loaded,
-    pace: Pace,
-    repair: &Repair,
-    unmended: &[Unmended],
+    names: &Names,
+    files: &Files,
     most: usize,
-) -> Result<(), AllocError> {
+    mended: &Mended,
+) -> Result<(), AllocError>
+    ensures { OnOk result (string_bytes text.new ≡ string_bytes text.old
+        ++ repair_text names.now files.now most mended.now) }
+{
+    write_model(text, mended.pace)?;
+    write_rounds(alloc, text, mended.pace, mended.repair.rows.rows.as_slice())?;
+    write_copies(text, &mended.repair)?;
+    write_retirements(text, names, mended.pace, &mended.repair)?;
+    write_unmended(text, files, most, mended.unmended.as_slice())
+}
+
+/// How fast DataNodes are, and how often rounds come.
+#[tactic(auto, unfolding(crate::specs::RepairText::model_line))]
+fn write_model(text: &mut String, pace: Pace) -> Result<(), AllocError>
+    ensures { OnOk result (string_bytes text.new ≡ string_bytes text.old ++ model_line pace) }
+{
     let interval = pace.interval;
     let bandwidth = pace.bandwidth;
     write!(text, "model: a round every {interval} s; ")?;
-    writeln!(
+    write!(
         text,
-        "each node sends and receives {bandwidth} bytes a second"
-    )?;
-    write_table(text, pace, repair.rows.rows.as_slice())?;
-    write_count(text, "rounds", u128::from(repair.rounds))?;
-    let left = repair.datanodes.on_way.len();
-    if left > 0 {
-        write_count(text, "stopped with copies on way", left as u128)?;
+        "each node sends and receives {bandwidth} bytes a second\n"
+    )
+}
+
+/// The table of rounds: its heading, and a line for each row that is shown.
+#[tactic(auto, unfolding(crate::specs::RepairText::rounds_text))]
+fn write_rounds(
+    alloc: Global,
+    text: &mut String,
+    pace: Pace,
+    rows: &[Row],
+) -> Result<(), AllocError>
+    ensures { OnOk result (string_bytes text.new ≡ string_bytes text.old
+        ++ rounds_text pace rows.now) }
+{
+    write_rounds_heading(text)?;
+    let shown = shown_rows(alloc, rows)?;
+    write_round_lines(text, pace, shown.as_slice())
+}
+
+#[tactic(auto, unfolding(crate::specs::RepairText::rounds_heading))]
+fn write_rounds_heading(text: &mut String) -> Result<(), AllocError>
+    ensures { OnOk result (string_bytes text.new ≡ string_bytes text.old ++ rounds_heading) }
+{
+    text.push_str("   round    seconds ")?;
+    write_level_heads(text)?;
+    text.push_str("  missing commanded    on_way\n")
+}
+
+fn write_round_lines(text: &mut String, pace: Pace, rows: &[Row]) -> Result<(), AllocError>
+    ensures { OnOk result (string_bytes text.new ≡ string_bytes text.old
+        ++ flat_map (round_line pace) rows.now) }
+{
+    for row in rows {
+        write_round_line(text, pace, row)?;
     }
-    let seconds = seconds(repair.datanodes.last_arrival);
+    Ok(())
+}
+
+/// A round, when it was, and what it leaves.
+#[tactic(auto, unfolding(crate::specs::RepairText::round_line))]
+fn write_round_line(text: &mut String, pace: Pace, row: &Row) -> Result<(), AllocError>
+    ensures { OnOk result (string_bytes text.new ≡ string_bytes text.old
+        ++ round_line pace row.now) }
+{
+    let round = row.round;
+    let at = seconds_before(pace, round.saturating_sub(1));
+    write!(text, "{round:>8} {at:>10} ")?;
+    write_level_numbers(text, &row.levels)?;
+    let missing = row.levels.missing;
+    let commanded = row.commanded;
+    let on_way = row.on_way;
+    write!(text, "{missing:>9} {commanded:>9} {on_way:>9}\n")
+}
+
+/// How many seconds a number of rounds takes.
+pub fn seconds_before(pace: Pace, rounds: u32) -> u64
+    ensures { result ≡ seconds_before pace rounds }
+{
+    u64::from(rounds).saturating_mul(u64::from(pace.interval))
+}
+
+/// The rounds, and all copies.
+#[tactic(auto, unfolding(crate::specs::RepairText::copies_text))]
+fn write_copies(text: &mut String, repair: &Repair) -> Result<(), AllocError>
+    ensures { OnOk result (string_bytes text.new ≡ string_bytes text.old
+        ++ copies_text repair.now) }
+{
+    write_count(text, "rounds", u128::from(repair.rounds))?;
+    write_left(text, repair.datanodes.on_way.sent.len())?;
+    let seconds = repair.datanodes.last_arrival.div_ceil(MICROS);
     write_count(text, "seconds", u128::from(seconds))?;
     write_count(text, "copies", u128::from(repair.datanodes.copies))?;
-    write_count(text, "bytes copied", repair.datanodes.bytes)?;
-    write_retirements(text, loaded, pace, repair)?;
-    write_unmended(text, loaded, unmended, most)
+    write_count(text, "bytes copied", repair.datanodes.bytes)
 }
 
-/// Rounded up.
-fn seconds(micros: u64) -> u64 {
-    micros.div_ceil(MICROS)
-}
-
-fn write_table(text: &mut String, pace: Pace, rows: &[Row]) -> Result<(), AllocError> {
-    write!(text, "{:>8} {:>10} ", "round", "seconds")?;
-    write!(
-        text,
-        "{:>9} {:>21} {:>16} {:>17} {:>9} ",
-        "highest", "very_under_replicated", "under_replicated", "badly_distributed", "missing"
-    )?;
-    writeln!(text, "{:>9} {:>9}", "commanded", "on_way")?;
-    let step = step_for(rows.len());
-    let last = rows.len().saturating_sub(1);
-    for (at, row) in rows.iter().enumerate() {
-        if at % step == 0 || at == last {
-            write_row(text, pace, row)?;
-        }
-    }
-    Ok(())
-}
-
-/// The least power of two by which at most `MOST_ROWS` rows come before the last; at most 8.
-fn step_for(rows: usize) -> usize
-    ensures { 0 < result }
+/// The copies on their way when the rounds were stopped, if any.
+fn write_left(text: &mut String, left: usize) -> Result<(), AllocError>
+    ensures { OnOk result (string_bytes text.new ≡ string_bytes text.old ++ left_line left) }
 {
-    let others = rows.saturating_sub(1);
-    if others <= MOST_ROWS {
-        1
-    } else if others <= 2 * MOST_ROWS {
-        2
-    } else if others <= 4 * MOST_ROWS {
-        4
-    } else {
-        8
+    if left == 0 {
+        return Ok(());
     }
+    write_count(text, "stopped with copies on way", left as u128)
 }
 
-fn write_row(text: &mut String, pace: Pace, row: &Row) -> Result<(), AllocError> {
-    let round = row.round;
-    let at = u64::from(round.saturating_sub(1)).saturating_mul(u64::from(pace.interval));
-    write!(text, "{round:>8} {at:>10} ")?;
-    write!(
-        text,
-        "{:>9} {:>21} {:>16} {:>17} {:>9} ",
-        row.levels.highest,
-        row.levels.very_under_replicated,
-        row.levels.under_replicated,
-        row.levels.badly_distributed,
-        row.levels.missing
-    )?;
-    writeln!(text, "{:>9} {:>9}", row.commanded, row.on_way)
-}
-
+/// When each drained node can be switched off.
 fn write_retirements(
     text: &mut String,
-    loaded: &Loaded,
+    names: &Names,
     pace: Pace,
     repair: &Repair,
-) -> Result<(), AllocError> {
+) -> Result<(), AllocError>
+    ensures { OnOk result (string_bytes text.new ≡ string_bytes text.old
+        ++ flat_map (retirement_line names.now pace repair.now.retired.items)
+        repair.now.drained.items) }
+{
     for node in &repair.drained {
-        text.push_str("node ")?;
-        write_node(text, &loaded.names, *node)?;
-        match rounds_of(repair.retired.as_slice(), *node) {
-            Some(past) => {
-                let at = u64::from(past).saturating_mul(u64::from(pace.interval));
-                write!(text, " retired after {past} rounds, {at} seconds\n")?;
-            }
-            None => text.push_str(" not retired\n")?,
-        }
+        write_retirement(text, names, pace, repair.retired.as_slice(), *node)?;
     }
     Ok(())
 }
 
+#[tactic(auto, unfolding(crate::specs::RepairText::retirement_line))]
+fn write_retirement(
+    text: &mut String,
+    names: &Names,
+    pace: Pace,
+    retired: &[Retirement],
+    node: NodeId,
+) -> Result<(), AllocError>
+    ensures { OnOk result (string_bytes text.new ≡ string_bytes text.old
+        ++ retirement_line names.now pace retired.now node) }
+{
+    text.push_str("node ")?;
+    write_node(text, names, node)?;
+    write_when(text, pace, rounds_of(retired, node))
+}
+
+/// After how many rounds a node can be switched off.
+fn write_when(text: &mut String, pace: Pace, rounds: Option<u32>) -> Result<(), AllocError>
+    ensures { OnOk result (string_bytes text.new ≡ string_bytes text.old
+        ++ retirement_text pace rounds) }
+{
+    match rounds {
+        Some(rounds) => {
+            let at = seconds_before(pace, rounds);
+            write!(text, " retired after {rounds} rounds, {at} seconds\n")
+        }
+        None => text.push_str(" not retired\n"),
+    }
+}
+
+/// The blocks that stay as they are: how many for each reason, and the first of them.
+#[tactic(auto, unfolding(crate::specs::RepairText::unmended_text))]
 fn write_unmended(
     text: &mut String,
-    loaded: &Loaded,
-    unmended: &[Unmended],
+    files: &Files,
     most: usize,
-) -> Result<(), AllocError> {
+    unmended: &[Unmended],
+) -> Result<(), AllocError>
+    ensures { OnOk result (string_bytes text.new ≡ string_bytes text.old
+        ++ unmended_text files.now most unmended.now) }
+{
+    write_reasons(text, unmended)?;
+    write_unmended_lines(text, files, first_of(unmended, most))
+}
+
+#[tactic(auto, unfolding(crate::specs::RepairText::reasons_text))]
+fn write_reasons(text: &mut String, unmended: &[Unmended]) -> Result<(), AllocError>
+    ensures { OnOk result (string_bytes text.new ≡ string_bytes text.old
+        ++ reasons_text unmended.now) }
+{
+    let no_source = count_with(unmended, Reason::NoSource);
+    let no_target = count_with(unmended, Reason::NoTarget);
+    let no_space = count_with(unmended, Reason::NoSpace);
     write_count(text, "unmended blocks", unmended.len() as u128)?;
-    write_count(text, "no source", count(unmended, "no source"))?;
-    write_count(text, "no target", count(unmended, "no target"))?;
-    write_count(text, "no space", count(unmended, "no space"))?;
-    for one in first_of(unmended, most) {
-        let block = one.block.0;
-        let level = level_word(one.level);
-        let reason = reason_word(one.reason);
-        write!(text, "unmended block {block} level {level} {reason}")?;
-        write_end(text, loaded.files.path_of(one.block))?;
+    write_count(text, "no source", no_source as u128)?;
+    write_count(text, "no target", no_target as u128)?;
+    write_count(text, "no space", no_space as u128)
+}
+
+/// How many of these blocks stay as they are for this reason.
+pub fn count_with(unmended: &[Unmended], reason: Reason) -> usize
+    ensures { result ≡ count_by (λ u. same_reason u.reason reason) unmended.now }
+{
+    unmended
+        .iter()
+        .filter(|one| has_reason(one, reason))
+        .count()
+}
+
+fn has_reason(unmended: &Unmended, reason: Reason) -> bool
+    ensures { result ≡ same_reason unmended.now.reason reason }
+{
+    is_same(unmended.reason, reason)
+}
+
+fn is_same(reason: Reason, other: Reason) -> bool
+    ensures { result ≡ same_reason reason other }
+{
+    match reason {
+        Reason::NoSource => matches!(other, Reason::NoSource),
+        Reason::NoTarget => matches!(other, Reason::NoTarget),
+        Reason::NoSpace => matches!(other, Reason::NoSpace),
+    }
+}
+
+fn write_unmended_lines(
+    text: &mut String,
+    files: &Files,
+    unmended: &[Unmended],
+) -> Result<(), AllocError>
+    ensures { OnOk result (string_bytes text.new ≡ string_bytes text.old
+        ++ flat_map (unmended_line files.now) unmended.now) }
+{
+    for one in unmended {
+        write_unmended_line(text, files, one)?;
     }
     Ok(())
 }
 
-fn count(unmended: &[Unmended], reason: &str) -> u128 {
-    let mut count = 0u128;
-    for one in unmended {
-        if reason_word(one.reason) == reason {
-            count = count.saturating_add(1);
-        }
-    }
-    count
+/// A block with its level, why it stays as it is, and its file.
+#[tactic(auto, unfolding(crate::specs::RepairText::unmended_line))]
+fn write_unmended_line(
+    text: &mut String,
+    files: &Files,
+    unmended: &Unmended,
+) -> Result<(), AllocError>
+    ensures { OnOk result (string_bytes text.new ≡ string_bytes text.old
+        ++ unmended_line files.now unmended.now) }
+{
+    let block = unmended.block.0;
+    let level = level_word(unmended.level);
+    let reason = reason_word(unmended.reason);
+    write!(text, "unmended block {block} level {level} {reason}")?;
+    write_end(text, files.path_of(unmended.block))
 }
 
-fn reason_word(reason: Reason) -> &'static str {
+pub fn reason_word(reason: Reason) -> &'static str
+    ensures { result.now ≡ reason_word reason }
+{
     match reason {
         Reason::NoSource => "no source",
         Reason::NoTarget => "no target",

@@ -1,21 +1,21 @@
 // The answer as text: a line for each fact.
-ghost use Rattle.std.specs.Prelude.{◌≡◌, ◌++◌, [], IfOk, OnOk, nat_le, codes, option_map, option_copied, string_bytes};
+ghost use Rattle.std.specs.Prelude.{◌≡◌, ◌++◌, [], OnOk, nat_le, codes, option_map, option_copied, string_bytes};
 ghost use Rattle.std.specs.List.{flat_map};
 ghost use Rattle.cluster_names.specs.Rows.{shown, name_or_number};
 ghost use Rattle.cluster_what_if.specs.Text.{node_words, node_line, storage_line, lost_text, change_line, levels_text, end_with, block_line, blocks_text, files_text, yes_or_no, fits_line, copies_text, answer_text};
 
+use crate::answers::Answer;
 use bm_base::{BlockId, NodeId, Rack, StorageId};
 use cluster_input::loaded::Loaded;
 use cluster_losses::loss_events::Lost;
 use cluster_losses::standing::Standing;
-use cluster_losses::without::Outcome;
 use cluster_names::{Files, Names};
-use cluster_pages::at_risk::{AtRisk, FileRow};
+use cluster_pages::at_risk::FileRow;
 use cluster_pages::text::first_of;
 use cluster_pages::text_parts::write_files;
 use cluster_report::levels::LevelCounts;
 use cluster_report::text_parts::write_count;
-use std::alloc::{AllocError, Global};
+use std::alloc::AllocError;
 
 /// What is lost, as the cluster is before.
 #[tactic(auto, unfolding(crate::specs::Text::lost_text))]
@@ -120,23 +120,20 @@ fn write_name(text: &mut String, name: Option<&str>, number: u32) -> Result<(), 
 
 /// The blocks before and after, what is lost, and what is to be copied.
 #[tactic(auto, unfolding(crate::specs::Text::answer_text))]
-pub fn answer_text(
-    alloc: Global,
+pub fn write_answer(
+    text: &mut String,
     files: &Files,
     most: usize,
-    before: &Standing,
-    without: &Outcome,
-    risk: &AtRisk,
-) -> Result<String, AllocError>
-    ensures { IfOk result (λ text. string_bytes text ≡ answer_text files.now most
-        before.now without.now.after without.now.lost risk.now.lost) }
+    answer: &Answer,
+) -> Result<(), AllocError>
+    ensures { OnOk result (string_bytes text.new ≡ string_bytes text.old
+        ++ answer_text files.now most answer.now) }
 {
-    let mut text = String::new(alloc);
-    write_levels(&mut text, &before.levels, &without.after.levels)?;
-    write_lost_files(&mut text, files, most, risk.lost.as_slice())?;
-    write_lost_blocks(&mut text, files, most, without.lost.as_slice())?;
-    write_copies(&mut text, &without.after)?;
-    Ok(text)
+    let after = &answer.without.after;
+    write_levels(text, &answer.before.levels, &after.levels)?;
+    write_lost_files(text, files, most, answer.risk.lost.as_slice())?;
+    write_lost_blocks(text, files, most, answer.without.lost.as_slice())?;
+    write_copies(text, after)
 }
 
 #[tactic(auto, unfolding(crate::specs::Text::levels_text))]

@@ -1,0 +1,65 @@
+-- What is found about losses, put together.
+use Rattle.std.proofs.Common.{◌≡◌, List, [], Option, map, subst}
+use Rattle.std.specs.Prelude.{string_bytes}
+use Rattle.bm_base.specs.declared.event.Event.{Event}
+use Rattle.bm_base.specs.Words.{State, keys}
+use Rattle.cluster_input.specs.declared.loaded.Loaded.{Loaded}
+use Rattle.cluster_lost.specs.Losses.{after_losses}
+use Rattle.cluster_losses.specs.Events.{events_of}
+use Rattle.cluster_losses.specs.Named.{AreNamed}
+use Rattle.cluster_losses.specs.Parts.{AreRacks, node_part}
+use Rattle.cluster_losses.specs.Tables.{AreRows}
+use Rattle.cluster_losses.specs.declared.loss.Kind.TheVariants as kind
+use Rattle.cluster_losses.specs.declared.loss.Loss.{Loss}
+use Rattle.cluster_losses.specs.declared.parts.Part.{Part}
+use Rattle.cluster_losses.specs.Outcomes.{StandsAs, IsOutcome}
+use Rattle.cluster_losses.specs.declared.loss_events.Lost.{Lost}
+use Rattle.cluster_names.specs.FileTable.{FileTable}
+use Rattle.cluster_pages.specs.AtRisk.{AreAtRisk}
+use Rattle.cluster_repair.specs.Rows.{IsDone, AreUnmended}
+use Rattle.cluster_repair.specs.declared.repair.Pace.{Pace}
+use Rattle.cluster_what_if.specs.Answers.{IsAnswer}
+use Rattle.cluster_what_if.specs.Found.{AreFound, AreFoundOf, IsMended, IsMendedAt, IsTableOfNodes, IsTableOfRacks}
+use Rattle.cluster_what_if.specs.Text.{lost_text}
+use Rattle.cluster_what_if.specs.declared.answers.Answer.{Answer}
+use Rattle.cluster_what_if.specs.declared.found.Losses.{Losses}
+use Rattle.cluster_what_if.specs.declared.found.Mended.{Mended}
+use Rattle.cluster_what_if.specs.declared.found.Table.{Table}
+
+pub answered : (f : FileTable) (M : State) (es : List Event) (a : Answer)
+    → StandsAs M a.before
+    → IsOutcome M es a.without
+    → AreAtRisk f a.without.lost [] a.risk
+    → IsAnswer f M es a
+answered f M es a before without files = record { before = before; without = without; files = files }
+
+pub mended_at_pace : (pace : Pace) (M N : State) (m : Mended) → m.pace ≡ pace → IsDone M N m.repair → AreUnmended N m.unmended.items → IsMended pace M N m
+mended_at_pace pace M N m paced done unmended = record { paced = paced; done = done; unmended = unmended }
+
+pub found_at_once : (before after : Loaded) (pace : Option Pace) (lost : Lost) (it : Losses)
+    → string_bytes it.named ≡ lost_text before.names before.session.book.topology.cluster lost
+    → IsAnswer before.files before.session.manager (events_of lost) it.answer
+    → IsMendedAt pace (after_losses before.session.manager (events_of lost)) after.session.manager it.mended
+    → AreFound before after pace lost it
+found_at_once before after pace lost it named answer mended = record { named = named; answer = answer; mended = mended }
+
+pub found_of : (before after : Loaded) (pace : Option Pace) (ls : List Loss) (lost : Lost) (it : Losses)
+    → AreNamed before.session.book.topology.cluster before.names ls lost
+    → AreFound before after pace lost it
+    → AreFoundOf before after pace ls it
+found_of before after pace ls lost it named found = record { lost = lost; named = named; found = found }
+
+pub racks_found : (before : Loaded) (parts : List Part) (t : Table)
+    → AreRacks before.session.book.topology.cluster parts
+    → AreRows before.files before.session.manager parts t.rows.items
+    → t.kind ≡ kind.Rack
+    → IsTableOfRacks before t
+racks_found before parts t racks rows kind_is = record { parts = parts; racks = racks; rows = rows; kind_is = kind_is }
+
+pub nodes_found : (before : Loaded) (parts : List Part) (t : Table)
+    → parts ≡ map node_part (keys before.session.book.topology.cluster.nodes)
+    → AreRows before.files before.session.manager parts t.rows.items
+    → t.kind ≡ kind.Node
+    → IsTableOfNodes before t
+nodes_found before parts t is rows kind_is =
+    record { rows = subst (λ ps. AreRows before.files before.session.manager ps t.rows.items) is rows; kind_is = kind_is }

@@ -1,0 +1,69 @@
+-- What is found about losses.
+use Rattle.std.specs.Prelude.{◌≡◌, ⊥, List, Option, Some, None, map, string_bytes}
+use Rattle.bm_base.specs.Words.{State, keys}
+use Rattle.cluster_input.specs.declared.loaded.Loaded.{Loaded}
+use Rattle.cluster_lost.specs.Losses.{after_losses}
+use Rattle.cluster_losses.specs.Events.{events_of}
+use Rattle.cluster_losses.specs.Named.{AreNamed}
+use Rattle.cluster_losses.specs.Parts.{AreRacks, node_part}
+use Rattle.cluster_losses.specs.Tables.{AreRows}
+use Rattle.cluster_losses.specs.declared.loss.Kind.{Kind}
+use Rattle.cluster_losses.specs.declared.loss.Kind.TheVariants as kind
+use Rattle.cluster_losses.specs.declared.loss.Loss.{Loss}
+use Rattle.cluster_losses.specs.declared.loss.Question.{Question}
+use Rattle.cluster_losses.specs.declared.loss.Question.TheVariants as question
+use Rattle.cluster_losses.specs.declared.loss_events.Lost.{Lost}
+use Rattle.cluster_losses.specs.declared.parts.Part.{Part}
+use Rattle.cluster_repair.specs.Rows.{IsDone, AreUnmended}
+use Rattle.cluster_repair.specs.declared.repair.Pace.{Pace}
+use Rattle.cluster_what_if.specs.Answers.{IsAnswer}
+use Rattle.cluster_what_if.specs.Text.{lost_text}
+use Rattle.cluster_what_if.specs.declared.found.Found.{Found}
+use Rattle.cluster_what_if.specs.declared.found.Found.TheVariants as found
+use Rattle.cluster_what_if.specs.declared.found.Losses.{Losses}
+use Rattle.cluster_what_if.specs.declared.found.Mended.{Mended}
+use Rattle.cluster_what_if.specs.declared.found.Table.{Table}
+
+-- Rounds led from one state to another, and nothing more is copied there; all blocks that still
+-- have a level are listed.
+pub record IsMended (pace : Pace) (M N : State) (m : Mended) : Type 0 where
+  pub paced : m.pace ≡ pace
+  pub done : IsDone M N m.repair
+  pub unmended : AreUnmended N m.unmended.items
+
+-- the same if there is a pace; else no round is taken
+abbrev pub IsMendedAt : Option Pace → State → State → Option Mended → Type 0
+IsMendedAt None M N None = N ≡ M
+IsMendedAt (Some pace) M N (Some m) = IsMended pace M N m
+IsMendedAt _ M N _ = ⊥
+
+-- What is lost by name, the answer about these losses, and what is copied again after them.
+pub record AreFound (before after : Loaded) (pace : Option Pace) (lost : Lost) (it : Losses) : Type 0 where
+  pub named : string_bytes it.named ≡ lost_text before.names before.session.book.topology.cluster lost
+  pub answer : IsAnswer before.files before.session.manager (events_of lost) it.answer
+  pub mended : IsMendedAt pace (after_losses before.session.manager (events_of lost)) after.session.manager it.mended
+
+-- the same of all that some words name
+pub record AreFoundOf (before after : Loaded) (pace : Option Pace) (ls : List Loss) (it : Losses) : Type 0 where
+  pub lost : Lost
+  pub named : AreNamed before.session.book.topology.cluster before.names ls lost
+  pub found : AreFound before after pace lost it
+
+-- a row for each rack, which is lost alone
+pub record IsTableOfRacks (before : Loaded) (t : Table) : Type 0 where
+  pub parts : List Part
+  pub racks : AreRacks before.session.book.topology.cluster parts
+  pub rows : AreRows before.files before.session.manager parts t.rows.items
+  pub kind_is : t.kind ≡ kind.Rack
+
+-- a row for each node
+pub record IsTableOfNodes (before : Loaded) (t : Table) : Type 0 where
+  pub rows : AreRows before.files before.session.manager (map node_part (keys before.session.book.topology.cluster.nodes)) t.rows.items
+  pub kind_is : t.kind ≡ kind.Node
+
+-- what a question asks for
+abbrev pub IsFoundFor : Question → Option Pace → Loaded → Loaded → Found → Type 0
+IsFoundFor (question.Losses ls) pace before after (found.Losses it) = AreFoundOf before after pace ls.items it
+IsFoundFor question.EachRack pace before after (found.Table t) = IsTableOfRacks before t
+IsFoundFor question.EachNode pace before after (found.Table t) = IsTableOfNodes before t
+IsFoundFor _ pace before after _ = ⊥

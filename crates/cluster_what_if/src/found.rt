@@ -1,0 +1,160 @@
+// What is found about the losses that a command line asks for.
+ghost use Rattle.std.specs.Prelude.{◌≡◌, IfOk, OnOk};
+ghost use Rattle.cluster_report.specs.Sessions.{IsInStep};
+ghost use Rattle.cluster_what_if.specs.Found.{IsFoundFor, AreFound, IsMended, IsMendedAt};
+
+use crate::answers::{Answer, answer_to_losses};
+use crate::options::Asked;
+use crate::text::write_lost;
+use bm_base::{NodeId, Refusal};
+use cluster_input::loaded::Loaded;
+use cluster_losses::each::{Row, nodes_of, racks_of, rows_of};
+use cluster_losses::fault::Fault;
+use cluster_losses::loss::{Kind, Question};
+use cluster_losses::loss_events::Lost;
+use cluster_progress::Progress;
+use cluster_repair::reasons::{Unmended, unmended_of};
+use cluster_repair::repair::{Pace, Repair, repair_cluster};
+use cluster_report::session::Session;
+use std::alloc::Global;
+use std::sync::Wait;
+use std::thread::Threads;
+
+/// What is found.
+#[derive(Drop)]
+pub enum Found {
+    Losses(Losses),
+    Table(Table),
+}
+
+/// What is found about losses that come at once.
+#[derive(Drop)]
+pub struct Losses {
+    /// A line for each node and storage that is lost or drained, with its rack before.
+    pub named: String,
+    pub answer: Answer,
+    /// What is copied again, if that is asked for.
+    pub mended: Option<Mended>,
+}
+
+/// What is copied again, and what stays as it is.
+#[derive(Drop)]
+pub struct Mended {
+    pub pace: Pace,
+    pub repair: Repair,
+    pub unmended: Vec<Unmended>,
+}
+
+/// What is found about each rack or each node, lost alone.
+#[derive(Drop)]
+pub struct Table {
+    pub kind: Kind,
+    /// The worst first.
+    pub rows: Vec<Row>,
+}
+
+/// Finds what is asked for. The losses stay made; after a table the cluster is as before.
+#[tactic(auto, using(crate::proofs::Findings::found_of, crate::proofs::Findings::racks_found, crate::proofs::Findings::nodes_found))]
+pub fn find<R: Eprint + Threads + Wait + Sync>(
+    rt: &R,
+    alloc: Global,
+    loaded: &mut Loaded,
+    asked: &Asked<'_>,
+    progress: &mut Progress,
+) -> Result<Found, Fault>
+    requires { IsInStep loaded.old.session }
+    ensures answers { IfOk result (IsFoundFor asked.now.question asked.now.pace
+        loaded.old loaded.new) }
+    ensures names { OnOk result (loaded.new.names ≡ loaded.old.names) }
+    ensures files { OnOk result (loaded.new.files ≡ loaded.old.files) }
+{
+    match &asked.question {
+        Question::Losses(losses) => {
+            let lost = Lost::named(alloc, loaded, losses.as_slice())?;
+            let losses = find_losses(rt, alloc, loaded, &lost, asked.pace, progress)?;
+            Ok(Found::Losses(losses))
+        }
+        Question::EachRack => {
+            let parts = racks_of(alloc, &loaded.session.book)?;
+            let rows = rows_of(rt, alloc, loaded, parts.as_slice())?;
+            let kind = Kind::Rack;
+            Ok(Found::Table(Table { kind, rows }))
+        }
+        Question::EachNode => {
+            let parts = nodes_of(alloc, &loaded.session.book)?;
+            let rows = rows_of(rt, alloc, loaded, parts.as_slice())?;
+            let kind = Kind::Node;
+            Ok(Found::Table(Table { kind, rows }))
+        }
+    }
+}
+
+/// Makes the losses, and then mends at this pace, if there is one.
+#[tactic(auto, using(crate::proofs::Findings::found_at_once))]
+fn find_losses<R: Eprint + Threads + Wait + Sync>(
+    rt: &R,
+    alloc: Global,
+    loaded: &mut Loaded,
+    lost: &Lost,
+    pace: Option<Pace>,
+    progress: &mut Progress,
+) -> Result<Losses, Fault>
+    requires { IsInStep loaded.old.session }
+    ensures found { IfOk result (AreFound loaded.old loaded.new pace lost.now) }
+    ensures names { OnOk result (loaded.new.names ≡ loaded.old.names) }
+    ensures files { OnOk result (loaded.new.files ≡ loaded.old.files) }
+{
+    let mut named = String::new(alloc);
+    write_lost(&mut named, loaded, lost)?;
+    let events = lost.events(alloc)?;
+    let session = &mut loaded.session;
+    let answer = answer_to_losses(rt, alloc, session, &loaded.files, events.as_slice())?;
+    let drained = lost.drained.as_slice();
+    let mended = mend_at(rt, alloc, &mut loaded.session, pace, drained, progress)?;
+    Ok(Losses {
+        named,
+        answer,
+        mended,
+    })
+}
+
+/// Mends at this pace, if there is one.
+fn mend_at<R: Eprint + Threads + Wait + Sync>(
+    rt: &R,
+    alloc: Global,
+    session: &mut Session,
+    pace: Option<Pace>,
+    drained: &[NodeId],
+    progress: &mut Progress,
+) -> Result<Option<Mended>, Refusal>
+    requires { IsInStep session.old }
+    ensures { IfOk result (IsMendedAt pace session.old.manager session.new.manager) }
+{
+    match pace {
+        Some(pace) => Ok(Some(mend(rt, alloc, session, pace, drained, progress)?)),
+        None => Ok(None),
+    }
+}
+
+/// Takes rounds until nothing more is copied, and asks why blocks stay as they are.
+#[tactic(auto, using(crate::proofs::Findings::mended_at_pace))]
+fn mend<R: Eprint + Threads + Wait + Sync>(
+    rt: &R,
+    alloc: Global,
+    session: &mut Session,
+    pace: Pace,
+    drained: &[NodeId],
+    progress: &mut Progress,
+) -> Result<Mended, Refusal>
+    requires { IsInStep session.old }
+    ensures { IfOk result (IsMended pace session.old.manager session.new.manager) }
+{
+    let repair = repair_cluster(rt, alloc, session, pace, drained, progress)?;
+    let blocks = repair.watch.blocks.as_slice();
+    let unmended = unmended_of(alloc, session, &repair.datanodes.free, blocks)?;
+    Ok(Mended {
+        pace,
+        repair,
+        unmended,
+    })
+}
