@@ -1,3 +1,7 @@
 -- Lemmas.
 pub mod Steps
 pub mod Outcomes
+pub mod LackingLemmas
+pub mod NamedLemmas
+pub mod PartLemmas
+pub mod Tables

@@ -8,14 +8,18 @@ use Rattle.cluster_report.specs.Levels.{levels_counted}
 use Rattle.cluster_report.specs.Reports.{levels_held}
 use Rattle.cluster_pages.specs.AtRisk.{AreAtRisk}
 use Rattle.cluster_pages.specs.declared.at_risk.AtRisk.{AtRisk}
+use Rattle.cluster_losses.specs.Lacking.{lacking_bytes, in_128_bits, free_for_copies}
 use Rattle.cluster_losses.specs.declared.standing.Standing.{Standing}
 use Rattle.cluster_losses.specs.declared.without.Outcome.{Outcome}
 use Rattle.cluster_losses.specs.declared.each.Row.{Row}
 
--- the blocks at each level and the missing blocks are those of a state
+-- A cluster stands as a state says: the blocks at each level, the missing blocks, the bytes of the
+-- copies that blocks lack, and the free bytes on nodes that do not drain.
 pub record StandsAs (M : State) (s : Standing) : Type 0 where
   pub levels : s.levels ≡ levels_counted (levels_held M) (length (missing_blocks M.cluster M.holdings))
   pub missing : s.missing ≡ missing_blocks M.cluster M.holdings
+  pub lacking : s.lacking ≡ in_128_bits (lacking_bytes M)
+  pub free : s.free ≡ free_for_copies M.cluster
 
 -- What is found without what is lost: the blocks that are lost, and how the cluster stands.
 pub record IsOutcome (M : State) (es : List Event) (w : Outcome) : Type 0 where

@@ -1,6 +1,7 @@
 // What makes a node be as it was, after it died.
 ghost use Rattle.std.specs.Prelude.{OnOk};
 ghost use Rattle.cluster_report.specs.Sessions.{IsInStep};
+ghost use Rattle.cluster_losses.specs.Tables.{IsReached};
 
 use crate::events::apply_all;
 use bm_base::{
@@ -31,11 +32,13 @@ impl Return {
         nodes: &[NodeId],
     ) -> Result<(), Refusal>
         requires { IsInStep session.old }
-        ensures { OnOk result (IsInStep session.new) }
+        ensures reached { OnOk result (IsReached session.old.manager session.new.manager) }
+        ensures in_step { OnOk result (IsInStep session.new) }
     {
-        if nodes.contains(&self.node) {
-            apply_all(rt, session, self.events.as_slice())?;
+        if !nodes.contains(&self.node) {
+            return Ok(());
         }
+        apply_all(rt, session, self.events.as_slice())?;
         Ok(())
     }
 }
