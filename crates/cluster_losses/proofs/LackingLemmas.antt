@@ -441,3 +441,23 @@ replicas_are H = refl
 pub excess_is : (H : Holdings) → excess_replicas H ≡ excess_in (entries H.replicas)
 unfolding replicas_where
 excess_is H = refl
+
+-- what is counted of a block is no more where the next one begins
+turned_no_more : (f : Summed → ℕ) (info : Option BlockInfo) (next : ℕ) (s : Summed) → ((b n : ℕ) → f (record s { bytes = n; block = b; usable = 0; live = 0 }) ≤ f s)
+    → f (turned info next s) ≤ f s
+turned_no_more f info next s less = by (s.block == next)
+  where
+    by : (b : Bool) → f (cond b s (record s {
+      bytes = in_128_bits (s.bytes + in_128_bits (option_map_or (λ i. bytes_to_copy i s.live s.usable) info 0));
+      block = next;
+      usable = 0;
+      live = 0;
+    })) ≤ f s
+    by true = omega arith
+    by false = less next (in_128_bits (s.bytes + in_128_bits (option_map_or (λ i. bytes_to_copy i s.live s.usable) info 0)))
+
+pub turned_usable : (info : Option BlockInfo) (next : ℕ) (s : Summed) → (turned info next s).usable ≤ s.usable
+turned_usable info next s = turned_no_more (λ z. z.usable) info next s (λ b n. omega arith)
+
+pub turned_live : (info : Option BlockInfo) (next : ℕ) (s : Summed) → (turned info next s).live ≤ s.live
+turned_live info next s = turned_no_more (λ z. z.live) info next s (λ b n. omega arith)

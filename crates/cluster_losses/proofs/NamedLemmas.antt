@@ -1,6 +1,6 @@
 -- What words name, one after another.
-use Rattle.std.proofs.Common.{◌≡◌, ◌∙◌, ℕ, Bool, true, false, cond, List, [], ◌∷◌, ◌++◌, Option, Some, None, refl, sym, ap, subst, drop, length, option_map}
-use Rattle.std.specs.Prelude.{◌==◌, ◌||◌, fold, if◌then◌else◌}
+use Rattle.std.proofs.Common.{◌≡◌, ◌∙◌, ℕ, Bool, true, false, cond, List, [], ◌∷◌, ◌++◌, Option, Some, None, refl, sym, ap, subst, drop, length, option_map, arith}
+use Rattle.std.specs.Prelude.{◌==◌, ◌||◌, ◌+◌, zero, suc, fold, slice_get, if◌then◌else◌}
 use Rattle.std.specs.List.{find, flat_map, list_any}
 use Rattle.std.proofs.lemmas.Bool.{false≢true}
 use Rattle.std.proofs.lemmas.List.Folds.{list_any-append}
@@ -88,3 +88,15 @@ module _ (C : Cluster) (names : Names) where
   fault_stays ls rest l faults.Excess same is = is
   fault_stays ls rest l faults.NotSetBack same is = is
   fault_stays ls rest l (faults.Refused r) same is = is
+
+pub next_word : {X : Type 0} (xs : List X) (i : ℕ) (x : X) → slice_get xs i ≡ Some x → drop i xs ≡ x ∷ drop (i + 1) xs
+next_word xs i x h = by xs i h ∙ ap (λ n. x ∷ drop n xs) (one i)
+  where
+    one : (i : ℕ) → suc i ≡ i + 1
+    one i = omega arith
+
+    by : (xs : List _) (i : ℕ) → slice_get xs i ≡ Some x → drop i xs ≡ x ∷ drop (suc i) xs
+    by [] zero h = cc
+    by [] (suc i) h = cc
+    by (y ∷ xs) zero h = cc
+    by (y ∷ xs) (suc i) h = by xs i h

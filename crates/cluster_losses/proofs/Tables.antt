@@ -1,31 +1,22 @@
 -- Rows of a table, and the states on the way.
 use Rattle.std.proofs.Common.{◌≡◌, ◌∙◌, ℕ, ◌+◌, ◌<◌, List, [], ◌∷◌, ◌++◌, refl, sym, ap, subst, take, length, get_or, map}
-use Rattle.std.specs.Prelude.{fold}
 use Rattle.std.specs.Ordering.{is_lt}
 use Rattle.std.specs.List.{AllZip}
 use Rattle.std.specs.Cmp.{IsTotalOrder, IsStrictWeakOrder, nat_cmp_total}
 use Rattle.std.proofs.lemmas.Cmp.{on_total, then_total, back_total}
 use Rattle.std.proofs.lemmas.List.MinMax.{ranks_by}
-use Rattle.std.proofs.lemmas.List.Sums.{fold-append}
 use Rattle.bm_base.specs.declared.event.Event.{Event}
-use Rattle.bm_base.specs.Words.{State, after_event}
+use Rattle.bm_base.specs.Words.{State}
 use Rattle.cluster_names.specs.FileTable.{FileTable}
 use Rattle.cluster_report.specs.declared.levels.LevelCounts.{LevelCounts}
+use Rattle.cluster_pages.specs.AtRisk.{AreAtRisk}
+use Rattle.cluster_pages.specs.declared.at_risk.AtRisk.{AtRisk}
+use Rattle.cluster_losses.specs.Events.{death}
+use Rattle.cluster_losses.specs.Outcomes.{IsOutcome}
 use Rattle.cluster_losses.specs.declared.parts.Part.{Part}
 use Rattle.cluster_losses.specs.declared.each.Row.{Row}
-use Rattle.cluster_losses.specs.Tables.{IsReached, IsRowAt, IsRowFrom, levels_cmp, row_cmp}
-
-pub no_way : (M : State) → IsReached M M
-no_way M = record { events = []; leads = refl }
-
-pub way_by : (M N : State) (es : List Event) → N ≡ fold after_event M es → IsReached M N
-way_by M N es is = record { events = es; leads = is }
-
-pub way_and : (M N O : State) → IsReached M N → IsReached N O → IsReached M O
-way_and M N O f g = record {
-  events = f.events ++ g.events;
-  leads = g.leads ∙ ap (λ S. fold after_event S g.events) f.leads ∙ sym (fold-append after_event M f.events g.events);
-}
+use Rattle.cluster_losses.specs.Reached.{IsReached}
+use Rattle.cluster_losses.specs.Tables.{IsRowAt, IsRowFrom, levels_cmp, row_cmp}
 
 pub row_from : (f : FileTable) (M N : State) (part : Part) (row : Row) → IsReached M N → IsRowAt f N part row → IsRowFrom f M part row
 row_from f M N part row way at = record { state = N; reached = way; row = at }
@@ -51,3 +42,14 @@ rows_rank =
     (then_total (on_total (λ (r : Row). length r.without.lost) (back_total nat_cmp_total))
     (then_total (on_total (λ (r : Row). r.without.after.levels) levels_total) (on_total (λ (r : Row). r.number) nat_cmp_total)))
     (λ (r : Row). r)
+
+-- a row, by the lists that the code has
+pub row_at : (f : FileTable) (M : State) (part : Part) (row : Row) (es : List Event) (blocks : List ℕ) (risk : AtRisk) → row.number ≡ part.number → row.nodes ≡ length part.nodes
+    → es ≡ map death part.nodes → IsOutcome M es row.without → blocks ≡ row.without.lost → AreAtRisk f blocks [] risk → row.lost_files ≡ length risk.lost
+    → IsRowAt f M part row
+row_at f M part row es blocks risk number nodes deaths outcome same files count = record {
+  number = number;
+  nodes = nodes;
+  outcome = subst (λ fs. IsOutcome M fs row.without) deaths outcome;
+  files = record { risk = risk; files = subst (λ bs. AreAtRisk f bs [] risk) same files; count = count };
+}

@@ -4,5 +4,6 @@ pub mod Lacking
 pub mod Named
 pub mod Outcomes
 pub mod Parts
+pub mod Reached
 pub mod Summing
 pub mod Tables

@@ -1,22 +1,25 @@
 -- A table of what is lost with each of some racks or nodes alone.
-use Rattle.std.specs.Prelude.{◌≡◌, ℕ, List, map, fold, length}
+use Rattle.std.specs.Prelude.{◌≡◌, List, [], map, length}
 use Rattle.std.specs.declared.cmp.Ordering.{Ordering}
 use Rattle.std.specs.Ordering.{nat_cmp, ordering_then}
 use Rattle.std.specs.List.{AllZip}
 use Rattle.std.specs.List.Sorted.{IsPermutation, IsSorted}
-use Rattle.bm_base.specs.declared.event.Event.{Event}
-use Rattle.bm_base.specs.Words.{State, after_event}
+use Rattle.bm_base.specs.Words.{State}
 use Rattle.cluster_names.specs.FileTable.{FileTable}
 use Rattle.cluster_report.specs.declared.levels.LevelCounts.{LevelCounts}
+use Rattle.cluster_pages.specs.AtRisk.{AreAtRisk}
+use Rattle.cluster_pages.specs.declared.at_risk.AtRisk.{AtRisk}
 use Rattle.cluster_losses.specs.Events.{death}
-use Rattle.cluster_losses.specs.Outcomes.{IsOutcome, HasLostFiles}
+use Rattle.cluster_losses.specs.Outcomes.{IsOutcome}
+use Rattle.cluster_losses.specs.Reached.{IsReached}
 use Rattle.cluster_losses.specs.declared.parts.Part.{Part}
 use Rattle.cluster_losses.specs.declared.each.Row.{Row}
 
--- some events lead from one state to another
-pub record IsReached (M N : State) : Type 0 where
-  pub events : List Event
-  pub leads : N ≡ fold after_event M events
+-- a row has the number of files of its lost blocks
+pub record HasLostFiles (f : FileTable) (row : Row) : Type 0 where
+  pub risk : AtRisk
+  pub files : AreAtRisk f row.without.lost [] risk
+  pub count : row.lost_files ≡ length risk.lost
 
 -- a row has what is lost if the nodes of a part die in this state
 pub record IsRowAt (f : FileTable) (M : State) (part : Part) (row : Row) : Type 0 where

@@ -1,10 +1,11 @@
 // A table: each rack or each node is lost alone, and comes back.
-ghost use Rattle.std.specs.Prelude.{◌≡◌, map, true, length, IfOk, OnOk, OnTrue};
+ghost use Rattle.std.specs.Prelude.{◌≡◌, IfOk, OnOk, OnTrue};
 ghost use Rattle.std.specs.List.{AllZip};
 ghost use Rattle.std.specs.List.Sorted.{IsPermutation, IsSorted};
 ghost use Rattle.bm_base.specs.Machine.Queries.{all_replicas};
 ghost use Rattle.cluster_report.specs.Sessions.{IsInStep};
-ghost use Rattle.cluster_losses.specs.Tables.{AreRows, IsReached, IsRowAt, IsRowFrom, levels_cmp, row_cmp};
+ghost use Rattle.cluster_losses.specs.Reached.{IsReached};
+ghost use Rattle.cluster_losses.specs.Tables.{AreRows, IsRowAt, IsRowFrom, levels_cmp, row_cmp};
 
 pub use crate::parts::{nodes_of, racks_of};
 
@@ -89,15 +90,14 @@ fn lose_each<H: Threads + Wait + Sync>(
     let mut rows = Vec::new(alloc);
     for part in parts {
         let row = row_of(rt, alloc, session, files, part)?;
-        if rows.push(row).is_err() {
-            return Err(Fault::Memory);
-        }
+        rows.push(row)?;
         set_back(rt, session, returns, part)?;
     }
     Ok(rows)
 }
 
 /// Loses one of them.
+#[tactic(auto, using(crate::proofs::Tables::row_at))]
 fn row_of<H: Threads + Wait + Sync>(
     rt: &H,
     alloc: Global,
@@ -124,6 +124,7 @@ fn row_of<H: Threads + Wait + Sync>(
 }
 
 /// Makes its nodes come back.
+#[tactic(auto, using(crate::proofs::Reached::no_way, crate::proofs::Reached::way_and))]
 fn set_back<H: Threads + Wait + Sync>(
     rt: &H,
     session: &mut Session,

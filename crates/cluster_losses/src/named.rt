@@ -90,8 +90,5 @@ fn number_named(names: &NameTable, name: &str) -> Option<u32>
 fn number_written(text: &str) -> Option<u32>
     ensures { result ≡ number_written text.now }
 {
-    match text.parse::<u32>() {
-        Ok(number) => Some(number),
-        Err(_) => None,
-    }
+    text.parse::<u32>().ok()
 }

@@ -1,7 +1,7 @@
 // What makes a node be as it was, after it died.
 ghost use Rattle.std.specs.Prelude.{OnOk};
 ghost use Rattle.cluster_report.specs.Sessions.{IsInStep};
-ghost use Rattle.cluster_losses.specs.Tables.{IsReached};
+ghost use Rattle.cluster_losses.specs.Reached.{IsReached};
 
 use crate::events::apply_all;
 use bm_base::{
@@ -25,6 +25,7 @@ pub struct Return {
 
 impl Return {
     /// Makes the node come back, if it is one of these.
+    #[tactic(auto, using(crate::proofs::Reached::no_way, crate::proofs::Reached::way_by))]
     pub fn make<H: Threads + Wait + Sync>(
         &self,
         rt: &H,

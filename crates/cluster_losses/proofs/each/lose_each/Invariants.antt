@@ -1,7 +1,8 @@
 use Rattle.std.proofs.Common.{take}
 use Rattle.std.specs.List.{AllZip}
 use Rattle.cluster_report.specs.Sessions.{IsInStep}
-use Rattle.cluster_losses.specs.Tables.{IsReached, IsRowFrom}
+use Rattle.cluster_losses.specs.Reached.{IsReached}
+use Rattle.cluster_losses.specs.Tables.{IsRowFrom}
 use Rattle.cluster_losses.proofs.each.lose_each.Given as goal
 
 abbrev pub invariant-loop-part : goal.invariant-loop-part

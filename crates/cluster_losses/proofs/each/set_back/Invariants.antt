@@ -1,5 +1,5 @@
 use Rattle.cluster_report.specs.Sessions.{IsInStep}
-use Rattle.cluster_losses.specs.Tables.{IsReached}
+use Rattle.cluster_losses.specs.Reached.{IsReached}
 use Rattle.cluster_losses.proofs.each.set_back.Given as goal
 
 abbrev pub invariant-loop-node : goal.invariant-loop-node
