@@ -1,3 +1,8 @@
 -- Lemmas.
 pub mod Steps
-pub mod Outcomes
+pub mod LackingLemmas
+pub mod NamedLemmas
+pub mod NumberLemmas
+pub mod PartLemmas
+pub mod Reached
+pub mod Tables

@@ -1,29 +1,23 @@
 -- How a cluster stands after losses, and what is lost.
-use Rattle.std.specs.Prelude.{◌≡◌, List, [], length}
+use Rattle.std.specs.Prelude.{◌≡◌, List, length}
 use Rattle.bm_base.specs.declared.event.Event.{Event}
 use Rattle.bm_base.specs.Words.{State, missing_blocks}
-use Rattle.cluster_names.specs.FileTable.{FileTable}
 use Rattle.cluster_lost.specs.Losses.{after_losses, lost_blocks}
 use Rattle.cluster_report.specs.Levels.{levels_counted}
 use Rattle.cluster_report.specs.Reports.{levels_held}
-use Rattle.cluster_pages.specs.AtRisk.{AreAtRisk}
-use Rattle.cluster_pages.specs.declared.at_risk.AtRisk.{AtRisk}
+use Rattle.cluster_losses.specs.Lacking.{lacking_bytes, in_128_bits, free_for_copies}
 use Rattle.cluster_losses.specs.declared.standing.Standing.{Standing}
 use Rattle.cluster_losses.specs.declared.without.Outcome.{Outcome}
-use Rattle.cluster_losses.specs.declared.each.Row.{Row}
 
--- the blocks at each level and the missing blocks are those of a state
+-- A cluster stands as a state says: the blocks at each level, the missing blocks, the bytes of the
+-- copies that blocks lack, and the free bytes on nodes that do not drain.
 pub record StandsAs (M : State) (s : Standing) : Type 0 where
   pub levels : s.levels ≡ levels_counted (levels_held M) (length (missing_blocks M.cluster M.holdings))
   pub missing : s.missing ≡ missing_blocks M.cluster M.holdings
+  pub lacking : s.lacking ≡ in_128_bits (lacking_bytes M)
+  pub free : s.free ≡ free_for_copies M.cluster
 
 -- What is found without what is lost: the blocks that are lost, and how the cluster stands.
 pub record IsOutcome (M : State) (es : List Event) (w : Outcome) : Type 0 where
   pub lost : w.lost ≡ lost_blocks M es
   pub stands : StandsAs (after_losses M es) w.after
-
--- A row of a table has the number of files of its lost blocks.
-pub record HasLostFiles (f : FileTable) (row : Row) : Type 0 where
-  pub risk : AtRisk
-  pub files : AreAtRisk f row.without.lost [] risk
-  pub count : row.lost_files ≡ length risk.lost

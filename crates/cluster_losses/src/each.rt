@@ -1,63 +1,29 @@
 // A table: each rack or each node is lost alone, and comes back.
-ghost use Rattle.std.specs.Prelude.{map, IfOk, OnOk};
+ghost use Rattle.std.specs.Prelude.{◌≡◌, IfOk, OnOk, OnTrue};
+ghost use Rattle.std.specs.List.{AllZip};
+ghost use Rattle.std.specs.List.Sorted.{IsPermutation, IsSorted};
+ghost use Rattle.bm_base.specs.Machine.Queries.{all_replicas};
 ghost use Rattle.cluster_report.specs.Sessions.{IsInStep};
-ghost use Rattle.cluster_losses.specs.Events.{death};
-ghost use Rattle.cluster_losses.specs.Outcomes.{IsOutcome, HasLostFiles};
+ghost use Rattle.cluster_losses.specs.Reached.{IsReached};
+ghost use Rattle.cluster_losses.specs.Tables.{AreRows, IsRowAt, IsRowFrom, levels_cmp, row_cmp};
+
+pub use crate::parts::{nodes_of, racks_of};
 
 use crate::fault::Fault;
-use crate::loss_events::{Lost, nodes_on};
+use crate::loss_events::Lost;
+use crate::parts::Part;
 use crate::set_back::{Return, returns_of};
 use crate::without::{Outcome, without};
-use bm_base::{NodeId, Rack, Refusal};
+use bm_base::{Refusal, Replica};
 use cluster_input::loaded::Loaded;
 use cluster_names::Files;
 use cluster_pages::at_risk::files_at_risk;
-use cluster_report::book::Book;
-use cluster_report::nodes::all_nodes;
+use cluster_report::levels::LevelCounts;
 use cluster_report::session::Session;
 use std::alloc::{AllocError, Global};
+use std::cmp::Ordering;
 use std::sync::Wait;
 use std::thread::Threads;
-
-/// What is lost alone: a rack or a node, by its number, with its nodes.
-#[derive(Drop)]
-pub struct Part {
-    number: u32,
-    nodes: Vec<NodeId>,
-}
-
-/// Each rack with its alive nodes, ascending.
-pub fn racks_of(alloc: Global, book: &Book) -> Result<Vec<Part>, AllocError> {
-    let nodes = all_nodes(alloc, &book.topology)?;
-    let mut numbers = Vec::new(alloc);
-    for node in &nodes {
-        numbers.push(book.rack_of(*node).0)?;
-    }
-    numbers.sort()?;
-    numbers.dedup();
-    let mut parts = Vec::new(alloc);
-    for number in &numbers {
-        let number = *number;
-        let nodes = nodes_on(alloc, book, Rack(number))?;
-        parts.push(Part { number, nodes })?;
-    }
-    Ok(parts)
-}
-
-/// Each alive node, ascending.
-pub fn nodes_of(alloc: Global, book: &Book) -> Result<Vec<Part>, AllocError> {
-    let all = all_nodes(alloc, &book.topology)?;
-    let mut parts = Vec::new(alloc);
-    for node in &all {
-        let mut nodes = Vec::new(alloc);
-        nodes.push(*node)?;
-        parts.push(Part {
-            number: node.0,
-            nodes,
-        })?;
-    }
-    Ok(parts)
-}
 
 /// What is lost with one of them.
 #[derive(Drop)]
@@ -71,7 +37,8 @@ pub struct Row {
 }
 
 /// What is lost with each of these alone, the worst first: by lost blocks, then by the blocks at the
-/// first three levels, then by number.
+/// first three levels, then by number. Each comes back before the next is lost. At the end the
+/// manager lists the same replicas as before.
 pub fn rows_of<H: Threads + Wait + Sync>(
     rt: &H,
     alloc: Global,
@@ -79,6 +46,14 @@ pub fn rows_of<H: Threads + Wait + Sync>(
     parts: &[Part],
 ) -> Result<Vec<Row>, Fault>
     requires { IsInStep loaded.old.session }
+    ensures rows { IfOk result (λ v.
+        AreRows loaded.old.files loaded.old.session.manager parts.now v.items) }
+    ensures replicas { OnOk result (all_replicas loaded.new.session.manager.holdings
+        ≡ all_replicas loaded.old.session.manager.holdings) }
+    ensures reached { OnOk result
+        (IsReached loaded.old.session.manager loaded.new.session.manager) }
+    ensures in_step { OnOk result (IsInStep loaded.new.session) }
+    ensures same { loaded.new ≡ record loaded.old { session = loaded.new.session } }
 {
     let excess = loaded.session.manager.excess()?;
     if !excess.is_empty() {
@@ -86,25 +61,43 @@ pub fn rows_of<H: Threads + Wait + Sync>(
     }
     let replicas = loaded.session.manager.replicas()?;
     let returns = returns_of(alloc, &loaded.session.book, replicas.as_slice())?;
-    let mut rows = Vec::new(alloc);
-    for part in parts {
-        let row = row_of(rt, alloc, &mut loaded.session, &loaded.files, part)?;
-        if rows.push(row).is_err() {
-            return Err(Fault::Memory);
-        }
-        set_back(rt, &mut loaded.session, returns.as_slice(), part)?;
-    }
+    let returns = returns.as_slice();
+    let mut rows = lose_each(rt, alloc, &mut loaded.session, &loaded.files, parts, returns)?;
     // Each node came back once, so what did not come back then is missing now.
     let now = loaded.session.manager.replicas()?;
-    if now.as_slice() != replicas.as_slice() {
+    if !are_same(now.as_slice(), replicas.as_slice()) {
         return Err(Fault::NotSetBack);
     }
-    rows.sort_by_key(|row| badness(row))?;
+    sort_worst_first(&mut rows)?;
+    Ok(rows)
+}
+
+/// Loses each of these, and makes it come back.
+fn lose_each<H: Threads + Wait + Sync>(
+    rt: &H,
+    alloc: Global,
+    session: &mut Session,
+    files: &Files,
+    parts: &[Part],
+    returns: &[Return],
+) -> Result<Vec<Row>, Fault>
+    requires { IsInStep session.old }
+    ensures rows { IfOk result (λ v.
+        AllZip (IsRowFrom files.now session.old.manager) parts.now v.items) }
+    ensures reached { OnOk result (IsReached session.old.manager session.new.manager) }
+    ensures in_step { OnOk result (IsInStep session.new) }
+{
+    let mut rows = Vec::new(alloc);
+    for part in parts {
+        let row = row_of(rt, alloc, session, files, part)?;
+        rows.push(row)?;
+        set_back(rt, session, returns, part)?;
+    }
     Ok(rows)
 }
 
 /// Loses one of them.
-#[tactic(auto, using(crate::proofs::Outcomes::outcome_of, crate::proofs::Outcomes::lost_files_of))]
+#[tactic(auto, using(crate::proofs::Tables::row_at))]
 fn row_of<H: Threads + Wait + Sync>(
     rt: &H,
     alloc: Global,
@@ -113,9 +106,8 @@ fn row_of<H: Threads + Wait + Sync>(
     part: &Part,
 ) -> Result<Row, Fault>
     requires { IsInStep session.old }
-    ensures outcome { IfOk result (λ r.
-        IsOutcome session.old.manager (map death part.now.nodes.items) r.without) }
-    ensures files { IfOk result (λ r. HasLostFiles files.now r) }
+    ensures row { IfOk result (λ r. IsRowAt files.now session.old.manager part.now r) }
+    ensures reached { OnOk result (IsReached session.old.manager session.new.manager) }
     ensures in_step { OnOk result (IsInStep session.new) }
 {
     let lost = Lost::of_nodes(alloc, part.nodes.as_slice())?;
@@ -132,6 +124,7 @@ fn row_of<H: Threads + Wait + Sync>(
 }
 
 /// Makes its nodes come back.
+#[tactic(auto, using(crate::proofs::Reached::no_way, crate::proofs::Reached::way_and))]
 fn set_back<H: Threads + Wait + Sync>(
     rt: &H,
     session: &mut Session,
@@ -139,7 +132,8 @@ fn set_back<H: Threads + Wait + Sync>(
     part: &Part,
 ) -> Result<(), Refusal>
     requires { IsInStep session.old }
-    ensures { OnOk result (IsInStep session.new) }
+    ensures reached { OnOk result (IsReached session.old.manager session.new.manager) }
+    ensures in_step { OnOk result (IsInStep session.new) }
 {
     for node in returns {
         node.make(rt, session, part.nodes.as_slice())?;
@@ -147,14 +141,32 @@ fn set_back<H: Threads + Wait + Sync>(
     Ok(())
 }
 
-/// The worst has the least.
-fn badness(row: &Row) -> (usize, usize, usize, usize, u32) {
-    let levels = row.without.after.levels;
-    (
-        usize::MAX - row.without.lost.len(),
-        usize::MAX - levels.highest,
-        usize::MAX - levels.very_under_replicated,
-        usize::MAX - levels.under_replicated,
-        row.number,
-    )
+fn are_same(some: &[Replica], others: &[Replica]) -> bool
+    ensures { OnTrue result (some.now ≡ others.now) }
+{
+    some == others
+}
+
+fn sort_worst_first(rows: &mut Vec<Row>) -> Result<(), AllocError>
+    ensures moved { IsPermutation rows.old.items rows.new.items }
+    ensures in_order { OnOk result (IsSorted row_cmp rows.new.items) }
+{
+    rows.sort_by(|one, other| compare(one, other))
+}
+
+/// The worse one comes first.
+fn compare(one: &Row, other: &Row) -> Ordering
+    ensures { result ≡ row_cmp one.now other.now }
+{
+    let lost = other.without.lost.len().cmp(&one.without.lost.len());
+    let levels = compare_levels(&one.without.after.levels, &other.without.after.levels);
+    lost.then(levels.then(one.number.cmp(&other.number)))
+}
+
+fn compare_levels(one: &LevelCounts, other: &LevelCounts) -> Ordering
+    ensures { result ≡ levels_cmp one.now other.now }
+{
+    let highest = other.highest.cmp(&one.highest);
+    let very = other.very_under_replicated.cmp(&one.very_under_replicated);
+    highest.then(very.then(other.under_replicated.cmp(&one.under_replicated)))
 }

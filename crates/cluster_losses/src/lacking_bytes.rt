@@ -1,66 +1,158 @@
 // The bytes of the copies that blocks lack.
-use bm_base::{BlockId, Replica, ReplicaId};
-use cluster_report::book::Book;
-use cluster_report::catalogue::Catalogue;
+ghost use Rattle.std.specs.Prelude.{◌≡◌, ◌+◌, ◌<◌, ◌≤◌, ◌^◌, ◌&&◌, List, ◌∷◌, not, if◌then◌else◌};
+ghost use Rattle.std.specs.Option.{option_map_or};
+ghost use Rattle.bm_base.specs.Machine.Replicas.{is_good};
+ghost use Rattle.bm_base.specs.Machine.Queries.{all_replicas, excess_replicas};
+ghost use Rattle.cluster_report.specs.Sessions.{IsInStep};
+ghost use Rattle.cluster_losses.specs.Lacking.{bytes_to_copy, lacking_bytes, in_128_bits};
+ghost use Rattle.cluster_losses.specs.Summing.{Marked, IsSummed, replica_of, turned, is_next};
 
-/// The usable replicas of one block, counted.
+use bm_base::{BlockId, BlockInfo, Replica, ReplicaId, Tag};
+use cluster_report::session::Session;
+
+/// The sum while it is made, block by block.
 #[derive(Clone, Copy)]
-struct Tally {
+struct Summed {
+    /// Of the blocks before the present one.
+    bytes: u128,
     block: BlockId,
-    live: u32,
-    drained: u32,
+    /// The usable replicas of this block so far.
+    usable: u64,
+    /// Those of them that are live.
+    live: u64,
+    /// How many replicas in excess have come.
+    passed: usize,
 }
 
-impl Tally {
-    fn new(block: BlockId) -> Tally {
-        Tally {
-            block,
+impl Summed {
+    fn new() -> Summed
+        ensures { result ≡ record { bytes = 0; block = 0; usable = 0; live = 0; passed = 0 } }
+    {
+        Summed {
+            bytes: 0,
+            block: BlockId(0),
+            usable: 0,
             live: 0,
-            drained: 0,
+            passed: 0,
         }
     }
 
-    /// The bytes of the copies that the block lacks; 0 if it has no replica to copy from.
-    fn bytes_lacking(&self, blocks: &Catalogue) -> u128 {
-        if self.live == 0 && self.drained == 0 {
-            return 0;
-        }
-        match blocks.get(self.block) {
-            Some(info) => {
-                let copies = info.repl.saturating_sub(self.live);
-                u128::from(copies).saturating_mul(u128::from(info.stamp.len))
-            }
+    /// The sum, with what the present block lacks.
+    fn whole(&self, info: Option<BlockInfo>) -> u128
+        ensures { result ≡ in_128_bits (self.now.bytes + in_128_bits
+            (option_map_or (λ i. bytes_to_copy i self.now.live self.now.usable) info 0)) }
+    {
+        let lacking = match info {
+            Some(info) => bytes_to_copy(info, self.live, self.usable),
             None => 0,
+        };
+        self.bytes.saturating_add(lacking)
+    }
+
+    /// Takes the next replica. All come by block and storage.
+    fn take(&mut self, session: &Session, excess: &[ReplicaId], replica: &Replica)
+        requires in_step { IsInStep session.now }
+        requires usable { self.old.usable < 2 ^ 63 }
+        requires live { self.old.live < 2 ^ 63 }
+        ensures summed { (e : Marked) (left : List Marked) → replica.now ≡ replica_of e
+            → IsSummed session.now.manager excess.now (e ∷ left) self.old
+            → IsSummed session.now.manager excess.now left self.new }
+        ensures usable { self.new.usable ≤ self.old.usable + 1 }
+        ensures live { self.new.live ≤ self.old.live + 1 }
+    {
+        let book = &session.book;
+        let info = book.blocks.get(self.block);
+        self.turn_to(info, replica.block);
+        let id = ReplicaId {
+            block: replica.block,
+            storage: replica.storage,
+        };
+        let is_excess = self.passes_excess(excess, id);
+        let is_live = !book.topology.is_draining(replica.storage);
+        let is_usable = is_usable(replica.tag, is_excess);
+        self.count(is_usable, is_live);
+    }
+
+    /// Goes on with this block, which may be the present one.
+    fn turn_to(&mut self, info: Option<BlockInfo>, block: BlockId)
+        ensures { self.new ≡ turned info block self.old }
+    {
+        if self.block != block {
+            self.bytes = self.whole(info);
+            self.block = block;
+            self.usable = 0;
+            self.live = 0;
         }
     }
-}
 
-/// The bytes of all copies that blocks lack, of which some replica can be copied: for each block
-/// its length times the wanted replicas that are not live. All replicas come by block.
-pub fn bytes_lacking(book: &Book, replicas: &[Replica], excess: &[ReplicaId]) -> u128 {
-    let mut bytes = 0u128;
-    let mut tally = Tally::new(BlockId(0));
-    for replica in replicas {
-        if replica.block != tally.block {
-            bytes = bytes.saturating_add(tally.bytes_lacking(&book.blocks));
-            tally = Tally::new(replica.block);
+    /// Whether a replica is the next one in excess, which is then passed.
+    fn passes_excess(&mut self, excess: &[ReplicaId], id: ReplicaId) -> bool
+        ensures is { result ≡ is_next excess.now self.old.passed id }
+        ensures passed { self.new ≡ record self.old {
+            passed = if result then self.old.passed + 1 else self.old.passed } }
+    {
+        let is_it = is_next(excess, self.passed, id);
+        if is_it {
+            self.passed += 1;
         }
-        if is_usable(replica, excess) {
-            if book.topology.is_draining(replica.storage) {
-                tally.drained = tally.drained.saturating_add(1);
-            } else {
-                tally.live = tally.live.saturating_add(1);
+        is_it
+    }
+
+    /// Counts a replica of the present block.
+    fn count(&mut self, is_usable: bool, is_live: bool)
+        requires usable { self.old.usable < 2 ^ 63 }
+        requires live { self.old.live < 2 ^ 63 }
+        ensures { self.new ≡ record self.old {
+            usable = self.old.usable + (if is_usable then 1 else 0);
+            live = self.old.live + (if is_usable && is_live then 1 else 0) } }
+    {
+        if is_usable {
+            self.usable += 1;
+            if is_live {
+                self.live += 1;
             }
         }
     }
-    bytes.saturating_add(tally.bytes_lacking(&book.blocks))
 }
 
-/// Whether a replica is good and not in excess.
-fn is_usable(replica: &Replica, excess: &[ReplicaId]) -> bool {
-    let id = ReplicaId {
-        block: replica.block,
-        storage: replica.storage,
-    };
-    replica.tag.is_good() && (excess.is_empty() || excess.binary_search(&id).is_err())
+/// The bytes of the copies that blocks lack if some replica can be copied: for each block its
+/// length, times the wanted replicas that are not live. These are all replicas of the session's
+/// manager, and those of them in excess. One pass over both.
+pub(crate) fn bytes_lacking(session: &Session, replicas: &[Replica], excess: &[ReplicaId]) -> u128
+    requires in_step { IsInStep session.now }
+    requires replicas { replicas.now ≡ all_replicas session.now.manager.holdings }
+    requires excess { excess.now ≡ excess_replicas session.now.manager.holdings }
+    ensures { result ≡ in_128_bits (lacking_bytes session.now.manager) }
+{
+    let mut summed = Summed::new();
+    for replica in replicas {
+        summed.take(session, excess, replica);
+    }
+    summed.whole(session.book.blocks.get(summed.block))
+}
+
+fn bytes_to_copy(info: BlockInfo, live: u64, usable: u64) -> u128
+    ensures { result ≡ in_128_bits (bytes_to_copy info live usable) }
+{
+    if usable == 0 {
+        return 0;
+    }
+    let copies = u64::from(info.repl).saturating_sub(live);
+    u128::from(copies).saturating_mul(u128::from(info.stamp.len))
+}
+
+fn is_next(excess: &[ReplicaId], passed: usize, id: ReplicaId) -> bool
+    ensures { result ≡ is_next excess.now passed id }
+{
+    match excess.get(passed) {
+        Some(next) => next.block == id.block && next.storage == id.storage,
+        None => false,
+    }
+}
+
+/// Whether a replica with this tag is usable.
+fn is_usable(tag: Tag, is_excess: bool) -> bool
+    ensures { result ≡ (is_good tag && not is_excess) }
+{
+    tag.is_good() && !is_excess
 }

@@ -10,6 +10,7 @@ mod lacking_bytes;
 pub mod loss;
 pub mod loss_events;
 mod named;
+mod parts;
 mod set_back;
 pub mod standing;
 pub mod without;

@@ -1,15 +1,16 @@
 // The events by which racks, nodes and storages are lost.
-ghost use Rattle.std.specs.Prelude.{◌≡◌, ◌++◌, [], true, map, IfOk, OnOk};
+ghost use Rattle.std.specs.Prelude.{◌≡◌, ◌==◌, ◌++◌, ◌∷◌, [], true, false, Some, None, is_some, is_none, length, map, option_to_list, IfOk, IfErr, OnOk, if◌then◌else◌};
+ghost use Rattle.bm_base.specs.Maps.Lists.{has, has_repeats};
 ghost use Rattle.cluster_lost.specs.Losses.{are_losses};
+ghost use Rattle.cluster_losses.specs.declared.loss.Kind.TheVariants as kind_of;
 ghost use Rattle.cluster_losses.specs.Events.{death, failure, drain, events_of};
+ghost use Rattle.cluster_losses.specs.Named.{AreNamed, AreAdded, IsFaultOf, named_by, storages_named, is_unknown, first_unknown, with_all, with_one};
 
 use crate::fault::Fault;
 use crate::loss::{Kind, Loss};
-use crate::named::{nodes_named, rack_named, storage_named};
-use bm_base::{Event, NodeId, Rack, StorageId};
+use crate::named::{nodes_in, nodes_named, storage_named};
+use bm_base::{Event, NodeId, StorageId};
 use cluster_input::loaded::Loaded;
-use cluster_report::book::Book;
-use cluster_report::nodes::all_nodes;
 use std::alloc::{AllocError, Global};
 
 /// What is lost: each node and storage once.
@@ -33,8 +34,18 @@ impl Lost {
         }
     }
 
-    /// What these losses name.
-    pub fn named(alloc: Global, loaded: &Loaded, losses: &[Loss<'_>]) -> Result<Lost, Fault> {
+    /// What these losses name. `Unknown` with the kind of the first one that names nothing.
+    pub fn named(alloc: Global, loaded: &Loaded, losses: &[Loss<'_>]) -> Result<Lost, Fault>
+        ensures lost { IfOk result (AreNamed loaded.now.session.book.topology.cluster
+            loaded.now.names losses.now) }
+        ensures nodes_once { IfOk result (λ it. has_repeats it.nodes.items ≡ false) }
+        ensures drained_once { IfOk result (λ it. has_repeats it.drained.items ≡ false) }
+        ensures storages_once { IfOk result (λ it. has_repeats it.storages.items ≡ false) }
+        ensures known { OnOk result (first_unknown loaded.now.session.book.topology.cluster
+            loaded.now.names losses.now ≡ None) }
+        ensures fault { IfErr result (IsFaultOf (first_unknown
+            loaded.now.session.book.topology.cluster loaded.now.names losses.now)) }
+    {
         let mut lost = Lost::new(alloc);
         for loss in losses {
             lost.add(alloc, loaded, *loss)?;
@@ -51,31 +62,32 @@ impl Lost {
         Ok(lost)
     }
 
-    fn add(&mut self, alloc: Global, loaded: &Loaded, loss: Loss<'_>) -> Result<(), Fault> {
+    /// Adds what a loss names.
+    fn add(&mut self, alloc: Global, loaded: &Loaded, loss: Loss<'_>) -> Result<(), Fault>
+        ensures lost { OnOk result (AreAdded (named_by loaded.now.session.book.topology.cluster
+            loaded.now.names loss.kind loss.name.now) loss.kind self.old self.new) }
+        ensures known { OnOk result (is_unknown loaded.now.session.book.topology.cluster
+            loaded.now.names loss ≡ false) }
+        ensures fault { IfErr result (IsFaultOf (first_unknown
+            loaded.now.session.book.topology.cluster loaded.now.names (loss ∷ []))) }
+    {
         match loss.kind {
             Kind::Rack => {
                 let nodes = nodes_in(alloc, loaded, loss.name)?;
-                add_all(&mut self.nodes, nodes.as_slice(), loss.kind)
+                add_nodes(&mut self.nodes, nodes.as_slice(), loss.kind)
             }
             Kind::Node => {
                 let nodes = nodes_named(alloc, loaded, loss.name)?;
-                add_all(&mut self.nodes, nodes.as_slice(), loss.kind)
+                add_nodes(&mut self.nodes, nodes.as_slice(), loss.kind)
             }
             Kind::Drain => {
                 let nodes = nodes_named(alloc, loaded, loss.name)?;
-                add_all(&mut self.drained, nodes.as_slice(), loss.kind)
+                add_nodes(&mut self.drained, nodes.as_slice(), loss.kind)
             }
-            Kind::Storage => self.add_storage(loaded, loss.name),
-        }
-    }
-
-    fn add_storage(&mut self, loaded: &Loaded, name: &str) -> Result<(), Fault> {
-        match storage_named(loaded, name) {
-            Some(storage) if loaded.session.book.topology.knows_storage(storage) => {
-                push_once(&mut self.storages, storage)?;
-                Ok(())
+            Kind::Storage => {
+                let storage = known_storage(loaded, loss.name);
+                add_storage(&mut self.storages, storage)
             }
-            _ => Err(Fault::Unknown(Kind::Storage)),
         }
     }
 
@@ -93,41 +105,78 @@ impl Lost {
     }
 }
 
-/// The alive nodes of a rack, ascending.
-pub fn nodes_on(alloc: Global, book: &Book, rack: Rack) -> Result<Vec<NodeId>, AllocError> {
-    let nodes = all_nodes(alloc, &book.topology)?;
-    nodes
-        .iter()
-        .filter(|node| book.rack_of(**node) == rack)
-        .copied()
-        .collect(alloc)
-}
-
-/// The alive nodes of the rack of this name.
-fn nodes_in(alloc: Global, loaded: &Loaded, name: &str) -> Result<Vec<NodeId>, AllocError> {
-    match rack_named(loaded, name) {
-        Some(rack) => nodes_on(alloc, &loaded.session.book, rack),
-        None => Ok(Vec::new(alloc)),
+/// The storage of this name, if the cluster has it.
+fn known_storage(loaded: &Loaded, name: &str) -> Option<StorageId>
+    ensures { option_to_list result ≡ storages_named loaded.now.session.book.topology.cluster
+        loaded.now.names name.now }
+{
+    match storage_named(loaded, name) {
+        Some(storage) if loaded.session.book.topology.knows_storage(storage) => Some(storage),
+        _ => None,
     }
 }
 
+/// Adds a storage, which a name has to name.
+fn add_storage(storages: &mut Vec<StorageId>, named: Option<StorageId>) -> Result<(), Fault>
+    ensures added { OnOk result (storages.new.items
+        ≡ with_all storages.old.items (option_to_list named)) }
+    ensures known { OnOk result (is_some named ≡ true) }
+    ensures fault { IfErr result (IsFaultOf
+        (if is_none named then Some kind_of.Storage else None)) }
+{
+    let Some(storage) = named else {
+        return Err(Fault::Unknown(Kind::Storage));
+    };
+    push_storage(storages, storage)?;
+    Ok(())
+}
+
 /// Adds these nodes, of which a name has to name at least one.
-fn add_all(nodes: &mut Vec<NodeId>, named: &[NodeId], kind: Kind) -> Result<(), Fault> {
+fn add_nodes(nodes: &mut Vec<NodeId>, named: &[NodeId], kind: Kind) -> Result<(), Fault>
+    ensures added { OnOk result (nodes.new.items ≡ with_all nodes.old.items named.now) }
+    ensures known { OnOk result ((length named.now == 0) ≡ false) }
+    ensures fault { IfErr result (IsFaultOf
+        (if length named.now == 0 then Some kind else None)) }
+{
     if named.is_empty() {
         return Err(Fault::Unknown(kind));
     }
     for node in named {
-        push_once(nodes, *node)?;
+        push_node(nodes, *node)?;
     }
     Ok(())
 }
 
-fn push_once<T: Copy + PartialEq>(items: &mut Vec<T>, item: T) -> Result<(), AllocError> {
-    if items.as_slice().contains(&item) {
+fn push_node(nodes: &mut Vec<NodeId>, node: NodeId) -> Result<(), AllocError>
+    ensures { OnOk result (nodes.new.items ≡ with_one nodes.old.items node) }
+{
+    if has_node(nodes.as_slice(), node) {
         return Ok(());
     }
-    items.push(item)?;
+    nodes.push(node)?;
     Ok(())
+}
+
+fn has_node(nodes: &[NodeId], node: NodeId) -> bool
+    ensures { result ≡ has nodes.now node }
+{
+    nodes.iter().any(|other| *other == node)
+}
+
+fn push_storage(storages: &mut Vec<StorageId>, storage: StorageId) -> Result<(), AllocError>
+    ensures { OnOk result (storages.new.items ≡ with_one storages.old.items storage) }
+{
+    if has_storage(storages.as_slice(), storage) {
+        return Ok(());
+    }
+    storages.push(storage)?;
+    Ok(())
+}
+
+fn has_storage(storages: &[StorageId], storage: StorageId) -> bool
+    ensures { result ≡ has storages.now storage }
+{
+    storages.iter().any(|other| *other == storage)
 }
 
 #[tactic(auto, using(crate::proofs::Steps::losses_and))]

@@ -1,65 +1,94 @@
 // What the names of a command line name: by the names of the cluster, or by number if it has none.
-ghost use Rattle.std.specs.Prelude.{◌≡◌, ◌<◌, length};
-ghost use Rattle.cluster_names.specs.Rows.{number_of};
+ghost use Rattle.std.specs.Prelude.{◌≡◌, ◌==◌, IfOk, nat_eq, slice_index};
+ghost use Rattle.std.specs.List.{starts_with};
+ghost use Rattle.cluster_losses.specs.Named.{number_written, number_named, is_on_host, is_node_named, nodes_named, nodes_in};
 
+use crate::parts::nodes_on;
 use bm_base::{NodeId, Rack, StorageId};
 use cluster_input::loaded::Loaded;
-use cluster_names::NameTable;
+use cluster_names::{NameTable, Names};
 use cluster_report::nodes::all_nodes;
 use std::alloc::{AllocError, Global};
 
-pub fn rack_named(loaded: &Loaded, name: &str) -> Option<Rack>
-    ensures { 0 < length loaded.now.names.racks
-        → result ≡ number_of loaded.now.names.racks name.now }
+/// The alive nodes of the rack of this name, ascending.
+pub fn nodes_in(alloc: Global, loaded: &Loaded, name: &str) -> Result<Vec<NodeId>, AllocError>
+    ensures { IfOk result (λ v. v.items
+        ≡ nodes_in loaded.now.session.book.topology.cluster loaded.now.names name.now) }
 {
-    Some(Rack(number_named(&loaded.names.racks, name)?))
+    match number_named(&loaded.names.racks, name) {
+        Some(rack) => nodes_on(alloc, &loaded.session.book, Rack(rack)),
+        None => Ok(Vec::new(alloc)),
+    }
 }
 
 pub fn storage_named(loaded: &Loaded, name: &str) -> Option<StorageId>
-    ensures { 0 < length loaded.now.names.storages
-        → result ≡ number_of loaded.now.names.storages name.now }
+    ensures { result ≡ number_named loaded.now.names.storages name.now }
 {
     Some(StorageId(number_named(&loaded.names.storages, name)?))
 }
 
-/// The alive nodes of this name: the one that has it, or else those on the host, whatever their
-/// ports.
-pub fn nodes_named(alloc: Global, loaded: &Loaded, name: &str) -> Result<Vec<NodeId>, AllocError> {
+/// The alive nodes of this name, ascending: the one that has it, or else those on the host,
+/// whatever their ports.
+pub fn nodes_named(alloc: Global, loaded: &Loaded, name: &str) -> Result<Vec<NodeId>, AllocError>
+    ensures { IfOk result (λ v. v.items
+        ≡ nodes_named loaded.now.session.book.topology.cluster loaded.now.names name.now) }
+{
     let number = number_named(&loaded.names.nodes, name);
     let all = all_nodes(alloc, &loaded.session.book.topology)?;
-    let mut nodes = Vec::new(alloc);
-    for node in &all {
-        let is_it = match number {
-            Some(number) => node.0 == number,
-            None => is_on_host(loaded, *node, name),
-        };
-        if is_it {
-            nodes.push(*node)?;
-        }
-    }
-    Ok(nodes)
+    all.iter()
+        .filter(|node| is_node_named(&loaded.names, number, name, **node))
+        .copied()
+        .collect(alloc)
 }
 
-/// Whether the name of a node is this host and a port.
-fn is_on_host(loaded: &Loaded, node: NodeId, host: &str) -> bool {
-    match loaded.names.host(node) {
-        Some(name) => match name.strip_prefix(host) {
-            Some(port) => port.starts_with(':'),
+/// Whether a node has this name, of which this is the number.
+fn is_node_named(names: &Names, number: Option<u32>, name: &str, node: NodeId) -> bool
+    requires { number ≡ number_named names.now.nodes name.now }
+    ensures { result ≡ is_node_named names.now name.now node }
+{
+    match number {
+        Some(number) => node.0 == number,
+        None => match names.host(node) {
+            Some(own) => is_on_host(own, name),
             None => false,
         },
+    }
+}
+
+/// Whether the name of a node is this host, a colon, and a port.
+fn is_on_host(name: &str, host: &str) -> bool
+    ensures { result ≡ is_on_host name.now host.now }
+{
+    begins(name, host) && is_colon_at(name.as_bytes(), host.len())
+}
+
+fn begins(text: &str, start: &str) -> bool
+    ensures { result ≡ starts_with nat_eq text.now start.now }
+{
+    text.starts_with(start)
+}
+
+fn is_colon_at(text: &[u8], index: usize) -> bool
+    ensures { result ≡ (slice_index text.now index == 58) }
+{
+    match text.get(index) {
+        Some(byte) => *byte == b':',
         None => false,
     }
 }
 
 /// The number that has this name. If nothing of the kind is named, the number is the name.
 fn number_named(names: &NameTable, name: &str) -> Option<u32>
-    ensures { 0 < length names.now → result ≡ number_of names.now name.now }
+    ensures { result ≡ number_named names.now name.now }
 {
     if 0 < names.len() {
         return names.number(name);
     }
-    match name.parse::<u32>() {
-        Ok(number) => Some(number),
-        Err(_) => None,
-    }
+    number_written(name)
+}
+
+fn number_written(text: &str) -> Option<u32>
+    ensures { result ≡ number_written text.now }
+{
+    text.parse::<u32>().ok()
 }

@@ -1,6 +1,7 @@
 // What makes a node be as it was, after it died.
 ghost use Rattle.std.specs.Prelude.{OnOk};
 ghost use Rattle.cluster_report.specs.Sessions.{IsInStep};
+ghost use Rattle.cluster_losses.specs.Reached.{IsReached};
 
 use crate::events::apply_all;
 use bm_base::{
@@ -24,6 +25,7 @@ pub struct Return {
 
 impl Return {
     /// Makes the node come back, if it is one of these.
+    #[tactic(auto, using(crate::proofs::Reached::no_way, crate::proofs::Reached::way_by))]
     pub fn make<H: Threads + Wait + Sync>(
         &self,
         rt: &H,
@@ -31,11 +33,13 @@ impl Return {
         nodes: &[NodeId],
     ) -> Result<(), Refusal>
         requires { IsInStep session.old }
-        ensures { OnOk result (IsInStep session.new) }
+        ensures reached { OnOk result (IsReached session.old.manager session.new.manager) }
+        ensures in_step { OnOk result (IsInStep session.new) }
     {
-        if nodes.contains(&self.node) {
-            apply_all(rt, session, self.events.as_slice())?;
+        if !nodes.contains(&self.node) {
+            return Ok(());
         }
+        apply_all(rt, session, self.events.as_slice())?;
         Ok(())
     }
 }

@@ -1,10 +1,9 @@
 // The cluster without what is lost.
-ghost use Rattle.std.specs.Prelude.{◌≡◌, true, IfOk, OnOk, length};
+ghost use Rattle.std.specs.Prelude.{◌≡◌, true, IfOk, OnOk};
 ghost use Rattle.bm_base.specs.Machine.Queries.{missing_blocks};
-ghost use Rattle.cluster_lost.specs.Losses.{are_losses, after_losses, lost_blocks};
-ghost use Rattle.cluster_report.specs.Levels.{levels_counted};
-ghost use Rattle.cluster_report.specs.Reports.{levels_held};
+ghost use Rattle.cluster_lost.specs.Losses.{are_losses, after_losses};
 ghost use Rattle.cluster_report.specs.Sessions.{IsInStep};
+ghost use Rattle.cluster_losses.specs.Outcomes.{IsOutcome};
 
 use crate::events::apply_all;
 use crate::standing::{Standing, standing_of};
@@ -37,14 +36,7 @@ pub fn without<H: Threads + Wait + Sync>(
     requires missing { let M = session.old.manager in
         missing.now ≡ missing_blocks M.cluster M.holdings }
     // The lost blocks are those whose usable replicas were all on what is lost.
-    ensures lost { IfOk result (λ w. w.lost ≡ lost_blocks session.old.manager losses.now) }
-    ensures levels { IfOk result (λ w.
-        let M = after_losses session.old.manager losses.now in
-        w.after.levels ≡ levels_counted (levels_held M)
-        (length (missing_blocks M.cluster M.holdings))) }
-    ensures missing { IfOk result (λ w.
-        let M = after_losses session.old.manager losses.now in
-        w.after.missing ≡ missing_blocks M.cluster M.holdings) }
+    ensures outcome { IfOk result (IsOutcome session.old.manager losses.now) }
     ensures state { OnOk result (session.new.manager
         ≡ after_losses session.old.manager losses.now) }
     ensures in_step { OnOk result (IsInStep session.new) }

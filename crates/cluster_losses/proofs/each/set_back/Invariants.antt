@@ -1,5 +1,9 @@
 use Rattle.cluster_report.specs.Sessions.{IsInStep}
+use Rattle.cluster_losses.specs.Reached.{IsReached}
 use Rattle.cluster_losses.proofs.each.set_back.Given as goal
 
 abbrev pub invariant-loop-node : goal.invariant-loop-node
-invariant-loop-node g l = IsInStep l.session
+invariant-loop-node g l = record {
+  reached : IsReached l.fn.session.manager l.session.manager;
+  in_step : IsInStep l.session;
+}

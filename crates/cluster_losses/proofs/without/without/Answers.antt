@@ -1,8 +1,12 @@
-use Rattle.std.proofs.Common.{◌∙◌}
+use Rattle.std.proofs.Common.{◌∙◌, subst}
+use Rattle.cluster_losses.specs.Outcomes.{StandsAs}
 use Rattle.cluster_losses.proofs.Steps.{missing_both}
 use Rattle.cluster_losses.proofs.without.without.Goals as goal
 
-pub returns-clause-lost : goal.returns-clause-lost
-returns-clause-lost g c =
-    c.in_ok-lost.ensures c.args.session.now.manager c.args.losses.now
-    (missing_both _ _ _ _ _ c.show_invariant.ensures c.requires.losses c.requires.missing c.in_ok-apply_all.ensures.state (c.as_slice.ensures ∙ c.in_ok-after.ensures.missing))
+pub returns-clause-outcome : goal.returns-clause-outcome
+returns-clause-outcome g c = record {
+  lost =
+      c.in_ok-lost.ensures c.args.session.now.manager c.args.losses.now
+      (missing_both _ _ _ _ _ c.show_invariant.ensures c.requires.losses c.requires.missing c.in_ok-apply_all.ensures.state (c.as_slice.ensures ∙ c.in_ok-after.ensures.missing));
+  stands = subst (λ M. StandsAs M c.in_ok-after.after) c.in_ok-apply_all.ensures.state c.in_ok-after.ensures;
+}

@@ -1,0 +1,33 @@
+use Rattle.std.proofs.Common.{◌∙◌, ◌++◌, ◌+◌, ◌∷◌, [], take, ap, sym}
+use Rattle.std.proofs.lemmas.List.{take_more}
+use Rattle.cluster_losses.specs.declared.parts.Part.{Part}
+use Rattle.cluster_losses.specs.Tables.{IsRowFrom}
+use Rattle.cluster_losses.proofs.Reached.{no_way, way_and}
+use Rattle.cluster_losses.proofs.Tables.{row_from, zip_and}
+use Rattle.cluster_losses.proofs.each.lose_each.Goals as goal
+
+pub loop-part-init : goal.loop-part-init
+loop-part-init g c = record {
+  rows = tt;
+  reached = no_way c.args.session.now.manager;
+  in_step = c.requires;
+}
+
+pub loop-part-preserved : goal.loop-part-preserved
+loop-part-preserved g c =
+    let f = c.args.files.now in
+    let M = c.args.session.now.manager in
+    let parts = c.args.parts.now in
+    let i = c.loop-part.part-index in
+    let part = c.part-item.result in
+    record {
+      rows =
+          zip_and (IsRowFrom f M) (take i parts) (take (i + 1) parts) c.loop-part.rows.items _ part c.in_ok-row.row
+          (take_more parts i part c.loop-part-test.true ∙ ap (λ (p : Part). take i parts ++ p ∷ []) (sym c.part-item.is)) c.in_ok-push.ensures.items
+          c.loop-part.invariant.rows (row_from f M c.loop-part.session.manager part c.in_ok-row.row c.loop-part.invariant.reached c.in_ok-row.ensures.row);
+      reached = way_and _ _ _ (way_and _ _ _ c.loop-part.invariant.reached c.in_ok-row.ensures.reached) c.in_ok-set_back.ensures.reached;
+      in_step = c.in_ok-set_back.ensures.in_step;
+    }
+
+pub returns-clause-rows : goal.returns-clause-rows
+returns-clause-rows g c = ?
