@@ -1,3 +1,6 @@
 -- How what is lost is copied again.
 pub mod Sending
+pub mod Copies
+pub mod Sent
 pub mod Rows
+pub mod Reasons
