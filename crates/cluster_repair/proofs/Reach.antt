@@ -1,23 +1,25 @@
 -- How reports and rounds lead from one state to another, and what is noted on the way.
-use Rattle.std.proofs.Common.{◌≡◌, ◌∙◌, ◌++◌, ℕ, ◌+◌, Bool, true, false, not, List, [], ◌∷◌, Option, Some, None, refl, sym, ap, subst, arith}
-use Rattle.std.specs.Prelude.{◌==◌}
-use Rattle.std.specs.List.{filter}
-use Rattle.std.proofs.lemmas.List.Elements.{All-nil, All-same, All-push, All-filter}
+use Rattle.std.proofs.Common.{◌≡◌, ◌∙◌, ◌++◌, ℕ, ◌+◌, true, not, List, [], ◌∷◌, None, refl, sym, ap, subst, length, arith}
+use Rattle.std.specs.Prelude.{◌<◌}
+use Rattle.std.specs.List.{filter, Contains}
+use Rattle.std.proofs.lemmas.List.Elements.{All-nil, All-same, All-push, All-append, All-weaker, All-filter}
+use Rattle.bm_base.specs.declared.commands.Commands.{Commands}
 use Rattle.bm_base.specs.declared.event.Event.{Event}
 use Rattle.bm_base.specs.declared.event.Event.TheVariants.{Heartbeat, Received, Deleted}
 use Rattle.bm_base.specs.declared.event.Remaining.{Remaining}
 use Rattle.bm_base.specs.declared.replica.Stamp.{Stamp}
-use Rattle.bm_base.specs.declared.refusal.Refusal.{Refusal}
 use Rattle.bm_base.specs.declared.call.Call.{Call}
 use Rattle.bm_base.specs.declared.call.Call.TheVariants as call
 use Rattle.bm_base.specs.declared.call.Answer.TheVariants as answer
 use Rattle.bm_base.specs.Words.{State, whole_round, refusal_of, round_refusal, step, refused_or, count_call, done_by, after_event, state_after, is_retired}
-use Rattle.laws_of_repairs.specs.Repairs.{Covers}
 use Rattle.laws_of_repairs.proofs.Watching.{round_is_next, covers_heard, covers_told}
 use Rattle.cluster_repair.specs.declared.rows.Row.{Row}
 use Rattle.cluster_repair.specs.declared.repair.Repair.{Repair}
 use Rattle.cluster_repair.specs.declared.repair.Retirement.{Retirement}
-use Rattle.cluster_repair.specs.Rows.{IsReached, AreReported, AreCounts, IsRowAfter, AreRowsAfter, EndsWith, IsRetiredAfter, AreRetired, IsUnderWay, AreLeveled, IsDone, is_on_stride}
+use Rattle.cluster_repair.specs.declared.on_way.Sent.{Sent}
+use Rattle.cluster_repair.specs.declared.datanodes.DataNodes.{DataNodes}
+use Rattle.cluster_repair.specs.Sent.{AreCounted, AreBegun, copies_in, transfers_in}
+use Rattle.cluster_repair.specs.Rows.{IsReached, AreReported, AreCounts, IsAfterRound, IsCommandedAfter, AreSentAfter, IsRowAfter, AreRowsAfter, EndsWith, IsRetiredAfter, AreRetired, IsUnderWay, AreLeveled, IsDone, is_on_stride}
 
 state_after-append : (M : State) (calls more : List Call) → state_after M (calls ++ more) ≡ state_after (state_after M calls) more
 state_after-append M [] more = refl
@@ -107,40 +109,72 @@ retired_and M N ts new t is retired reached before = record {
   all = All-same (IsRetiredAfter M) new _ is (All-push (IsRetiredAfter M) ts t before.all (record { state = N; reached = reached; retired = retired }));
 }
 
+-- Copies that were sent.
+
+none_sent : (M : State) (d : DataNodes) → AreCounted [] d → AreSentAfter M d
+none_sent M d counted = record { copies = []; commanded = All-nil (IsCommandedAfter M); counted = counted }
+
+-- those of one more round
+sent_and : (M L : State) (rounds : ℕ) (old mid new : DataNodes) → IsReached rounds M L → ((ss : List Sent) → AreCounted ss old → AreCounted ss mid)
+    → AreBegun (transfers_in (whole_round L).0) mid new → AreSentAfter M old → AreSentAfter M new
+sent_and M L rounds old mid new reached same begun before = record {
+  copies = before.copies ++ begun.copies;
+  commanded = All-append (IsCommandedAfter M) before.copies begun.copies before.commanded
+      (All-weaker (λ s. Contains (transfers_in (whole_round L).0) s.transfer) (IsCommandedAfter M)
+      (λ s there. record { rounds = rounds; state = L; reached = reached; commanded = there }) begun.copies begun.commanded);
+  counted = begun.counted before.copies (same before.copies before.counted);
+}
+
 -- Rounds.
 
-pub under_way_at_once : (M : State) (r : Repair) → r.rows.rows.items ≡ [] → r.retired.items ≡ [] → r.rounds ≡ 0 → IsUnderWay M M r
-under_way_at_once M r rows retired rounds = record {
+zero_not_above : (n : ℕ) → n ≡ 0 → 0 < n → ⊥
+zero_not_above n none above = omega (arith, none, above)
+
+pub under_way_at_once : (M : State) (r : Repair) → r.rows.rows.items ≡ [] → r.retired.items ≡ [] → r.rounds ≡ 0 → AreCounted [] r.datanodes → IsUnderWay M M r
+under_way_at_once M r rows retired rounds counted = record {
+  commanded = λ taken. absurd (zero_not_above r.rounds rounds taken);
+  sent = none_sent M r.datanodes counted;
   reached = subst (λ n. IsReached n M M) (sym rounds) (reached_at_once M);
   rows = subst (AreRowsAfter M) (sym rows) (no_rows M);
   retired = subst (AreRetired M) (sym retired) (none_retired M);
 }
 
 -- reports and a round
-pub under_way_by_round : (M K L N : State) (old new : Repair) → IsReached 0 K L → round_refusal L ≡ None → N ≡ count_call (whole_round L).1 → new.rounds ≡ old.rounds + 1
-    → new.rows.rows.items ≡ old.rows.rows.items → (IsReached old.rounds M L → AreRetired M old.retired.items → AreRetired M new.retired.items)
-    → IsUnderWay M K old → IsUnderWay M N new
-under_way_by_round M K L N old new reported accepted after rounds rows noted on =
+pub under_way_by_round : (M K L N : State) (old new : Repair) (mid : DataNodes) (k : Commands) → IsReached 0 K L → round_refusal L ≡ None → N ≡ count_call (whole_round L).1
+    → k ≡ (whole_round L).0 → new.rounds ≡ old.rounds + 1 → new.rows.rows.items ≡ old.rows.rows.items → new.commanded ≡ copies_in k
+    → ((ss : List Sent) → AreCounted ss old.datanodes → AreCounted ss mid) → AreBegun (transfers_in k) mid new.datanodes
+    → (IsReached old.rounds M L → AreRetired M old.retired.items → AreRetired M new.retired.items) → IsUnderWay M K old → IsUnderWay M N new
+under_way_by_round M K L N old new mid k reported accepted after is rounds rows commanded same begun noted on =
     let now : IsReached old.rounds M L = subst (λ n. IsReached n M L) (sym (none_more old.rounds)) (reached_on M K L old.rounds 0 on.reached reported) in
     record {
       reached = subst (λ n. IsReached n M N) (sym rounds) (reached_on M L N old.rounds 1 now (reached_by_round L N accepted after));
       rows = subst (AreRowsAfter M) (sym rows) on.rows;
       retired = noted now on.retired;
+      commanded = λ taken. record { before = L; after = after; copies = commanded ∙ ap copies_in is };
+      sent = sent_and M L old.rounds old.datanodes mid new.datanodes now same (subst (λ k. AreBegun (transfers_in k) mid new.datanodes) is begun) on.sent;
     }
 
 -- a row
-pub noted : (M N : State) (old new : Repair) (row : Row) → AreCounts N row.levels → row.round ≡ old.rounds → AreLeveled N new.watch.blocks.items
+pub noted : (M N : State) (old new : Repair) (row : Row) → AreCounts N row.levels → row.round ≡ old.rounds → row.commanded ≡ old.commanded
+    → row.on_way ≡ length old.datanodes.on_way.sent.items → 0 < old.rounds → AreLeveled N new.watch.blocks.items
     → (AreRowsAfter M old.rows.rows.items → IsRowAfter M row → AreRowsAfter M new.rows.rows.items) → EndsWith new.rows.rows.items row
-    → new.rounds ≡ old.rounds → new.retired.items ≡ old.retired.items → IsUnderWay M N old → IsDone M N new
-noted M N old new row counts round blocks rows ends rounds retired on = record {
-  under_way = record {
-    reached = subst (λ n. IsReached n M N) (sym rounds) on.reached;
-    rows = rows on.rows (record { state = N; reached = subst (λ n. IsReached n M N) (sym round) on.reached; counts = counts });
-    retired = subst (AreRetired M) (sym retired) on.retired;
-  };
-  last = row;
-  ends = ends;
-  round = round ∙ sym rounds;
-  counts = counts;
-  blocks = blocks;
-}
+    → new.rounds ≡ old.rounds → new.commanded ≡ old.commanded → new.datanodes ≡ old.datanodes → new.retired.items ≡ old.retired.items
+    → IsUnderWay M N old → IsDone M N new
+noted M N old new row counts round commanded on_way taken blocks rows ends rounds same_commanded same retired on =
+    let last : IsAfterRound N row.commanded = subst (IsAfterRound N) (sym commanded) (on.commanded taken) in
+    record {
+      under_way = record {
+        reached = subst (λ n. IsReached n M N) (sym rounds) on.reached;
+        rows = rows on.rows (record { state = N; reached = subst (λ n. IsReached n M N) (sym round) on.reached; counts = counts; commanded = last });
+        retired = subst (AreRetired M) (sym retired) on.retired;
+        commanded = λ _. subst (IsAfterRound N) (sym same_commanded) (on.commanded taken);
+        sent = subst (AreSentAfter M) (sym same) on.sent;
+      };
+      last = row;
+      ends = ends;
+      round = round ∙ sym rounds;
+      counts = counts;
+      commanded = last;
+      on_way = on_way ∙ ap (λ (d : DataNodes). length d.on_way.sent.items) (sym same);
+      blocks = blocks;
+    }

@@ -1,6 +1,6 @@
 -- What a watch has, and counts.
-use Rattle.std.proofs.Common.{◌≡◌, ◌∙◌, ℕ, ◌+◌, Bool, true, false, List, [], ◌∷◌, Option, Some, None, refl, sym, ap, subst, map, length, filter, cond, is_some, arith}
-use Rattle.std.specs.Prelude.{◌==◌, nat_eq, count_by}
+use Rattle.std.proofs.Common.{◌≡◌, ◌∙◌, ℕ, true, false, List, [], ◌∷◌, None, refl, sym, ap, subst, map, length, filter, cond, is_some, arith}
+use Rattle.std.specs.Prelude.{◌==◌, nat_eq}
 use Rattle.std.specs.List.{dedup, list_any}
 use Rattle.std.specs.Map.{lookup, keys_of}
 use Rattle.std.specs.Ordering.{nat_cmp}
@@ -11,8 +11,7 @@ use Rattle.std.proofs.lemmas.Map.Keys.{IsStrictlyIncreasing-dedup}
 use Rattle.std.proofs.lemmas.Map.Made.{is_some-lookup}
 use Rattle.bm_base.specs.declared.level.Level.{Level}
 use Rattle.bm_base.specs.declared.level.Level.TheVariants.{Highest, VeryUnderReplicated, UnderReplicated, BadlyDistributed}
-use Rattle.bm_base.specs.declared.replica.BlockInfo.{BlockInfo}
-use Rattle.bm_base.specs.Words.{State, get, has, keys, is_at, level, missing_blocks}
+use Rattle.bm_base.specs.Words.{State, has, keys, is_at, level, missing_blocks}
 use Rattle.bm_base.proofs.Clusters.{eqb_turned}
 use Rattle.bm_base.proofs.ListTests.{any_agree}
 use Rattle.bm_base.proofs.Options.{not_there}
@@ -23,7 +22,7 @@ use Rattle.cluster_report.specs.declared.catalogue.Catalogue.{Catalogue}
 use Rattle.cluster_report.specs.declared.levels.Leveled.{Leveled}
 use Rattle.cluster_report.specs.declared.levels.LevelCounts.{LevelCounts}
 use Rattle.laws_of_repairs.specs.Repairs.{Covers, blocks_at}
-use Rattle.laws_of_repairs.proofs.Watching.{has_level, count_as_all, covers_sorted, covers_leveled, leveled_all, unknown_has_none, without_level}
+use Rattle.laws_of_repairs.proofs.Watching.{has_level, count_as_all, covers_sorted, covers_leveled, leveled_all, unknown_has_none}
 use Rattle.cluster_repair.specs.Rows.{AreCounts, AreLeveled}
 
 -- a block that is no key is not known
@@ -95,6 +94,3 @@ module _ (M : State) (old ys bs : List ℕ) (levels : List Leveled) (covers : Co
         ascending = subst IsStrictlyIncreasing (sym are) (IsStrictlyIncreasing-filter (has_level M) bs rising);
         all = λ b. ap (λ xs. has xs b) are ∙ leveled_all M bs covered b;
       }
-
-pub leveled_cover : (M : State) (bs : List ℕ) → AreLeveled M bs → Covers M bs
-leveled_cover M bs are b none = without_level (level M.cluster M.holdings b) (sym (are.all b) ∙ none)

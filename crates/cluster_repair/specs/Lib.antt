@@ -1,4 +1,7 @@
 -- How what is lost is copied again.
 pub mod Sending
+pub mod Copies
+pub mod Sent
 pub mod Rows
 pub mod Retirements
+pub mod Reasons

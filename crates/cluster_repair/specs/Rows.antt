@@ -1,16 +1,19 @@
 -- What rounds leave, and how a manager came there.
-use Rattle.std.specs.Prelude.{◌≡◌, ℕ, Bool, true, ◌+◌, ◌-◌, ◌%◌, ◌==◌, max, List, [], ◌∷◌, ◌++◌, map, filter, length, Some, is_some}
-use Rattle.std.specs.List.{All}
+use Rattle.std.specs.Prelude.{◌≡◌, ℕ, ◌<◌, Bool, true, ◌+◌, ◌-◌, ◌%◌, ◌==◌, max, List, [], ◌∷◌, ◌++◌, map, filter, length, Some, is_some}
+use Rattle.std.specs.List.{All, Contains}
 use Rattle.std.specs.List.Sorted.{IsStrictlyIncreasing}
 use Rattle.bm_base.specs.declared.call.Call.{Call}
 use Rattle.bm_base.specs.declared.level.Level.TheVariants.{Highest, VeryUnderReplicated, UnderReplicated, BadlyDistributed}
-use Rattle.bm_base.specs.Words.{State, has, keys, level, missing_blocks, is_retired, state_after}
+use Rattle.bm_base.specs.Words.{State, has, keys, level, missing_blocks, is_retired, state_after, count_call, whole_round}
 use Rattle.cluster_report.specs.declared.levels.LevelCounts.{LevelCounts}
 use Rattle.laws_of_repairs.specs.Repairs.{Covers, blocks_at}
+use Rattle.cluster_repair.specs.declared.on_way.Sent.{Sent}
+use Rattle.cluster_repair.specs.declared.datanodes.DataNodes.{DataNodes}
 use Rattle.cluster_repair.specs.declared.rows.Row.{Row}
 use Rattle.cluster_repair.specs.declared.reasons.Unmended.{Unmended}
 use Rattle.cluster_repair.specs.declared.repair.Repair.{Repair}
 use Rattle.cluster_repair.specs.declared.repair.Retirement.{Retirement}
+use Rattle.cluster_repair.specs.Sent.{transfers_in, copies_in, AreCounted}
 
 -- some calls lead from one state to another, and this number of rounds is among them
 pub record IsReached (rounds : ℕ) (M N : State) : Type 0 where
@@ -31,11 +34,19 @@ pub record AreCounts (M : State) (c : LevelCounts) : Type 0 where
   pub badly_distributed : c.badly_distributed ≡ blocks_at M BadlyDistributed (keys M.holdings.blocks)
   pub missing : c.missing ≡ length (missing_blocks M.cluster M.holdings)
 
--- a row has the counts of a state that its number of rounds led to
+-- a round that commands this number of copies led to a state
+pub record IsAfterRound (N : State) (commanded : ℕ) : Type 0 where
+  pub before : State
+  pub after : N ≡ count_call (whole_round before).1
+  pub copies : commanded ≡ copies_in (whole_round before).0
+
+-- A row has the counts of a state that its number of rounds led to, and the number of copies that
+-- the last of them commanded.
 pub record IsRowAfter (M : State) (row : Row) : Type 0 where
   pub state : State
   pub reached : IsReached row.round M state
   pub counts : AreCounts state row.levels
+  pub commanded : IsAfterRound state row.commanded
 
 pub record AreRowsAfter (M : State) (rows : List Row) : Type 0 where
   pub all : All (IsRowAfter M) rows
@@ -54,11 +65,26 @@ pub record IsRetiredAfter (M : State) (t : Retirement) : Type 0 where
 pub record AreRetired (M : State) (ts : List Retirement) : Type 0 where
   pub all : All (IsRetiredAfter M) ts
 
+-- a round commanded this copy, after some calls
+pub record IsCommandedAfter (M : State) (s : Sent) : Type 0 where
+  pub rounds : ℕ
+  pub state : State
+  pub reached : IsReached rounds M state
+  pub commanded : Contains (transfers_in (whole_round state).0) s.transfer
+
+-- rounds commanded these copies, and DataNodes count them
+pub record AreSentAfter (M : State) (d : DataNodes) : Type 0 where
+  pub copies : List Sent
+  pub commanded : All (IsCommandedAfter M) copies
+  pub counted : AreCounted copies d
+
 -- Rounds led from one state to another, and what was noted is what the manager answered on the way.
 pub record IsUnderWay (M N : State) (r : Repair) : Type 0 where
   pub reached : IsReached r.rounds M N
   pub rows : AreRowsAfter M r.rows.rows.items
   pub retired : AreRetired M r.retired.items
+  pub commanded : 0 < r.rounds → IsAfterRound N r.commanded
+  pub sent : AreSentAfter M r.datanodes
 
 -- these are the blocks with a level, ascending
 pub record AreLeveled (M : State) (bs : List ℕ) : Type 0 where
@@ -73,6 +99,8 @@ pub record IsDone (M N : State) (r : Repair) : Type 0 where
   pub ends : EndsWith r.rows.rows.items last
   pub round : last.round ≡ r.rounds
   pub counts : AreCounts N last.levels
+  pub commanded : IsAfterRound N last.commanded
+  pub on_way : last.on_way ≡ length r.datanodes.on_way.sent.items
   pub blocks : AreLeveled N r.watch.blocks.items
 
 -- of these blocks those with a level, and the level that the manager answers

@@ -1,7 +1,9 @@
 // What DataNodes do with the commands of rounds, and what they report: a model.
-ghost use Rattle.std.specs.Prelude.{◌≡◌, None, OnOk};
+ghost use Rattle.std.specs.Prelude.{◌≡◌, ◌++◌, ◌∷◌, [], nat_lt, filter, List, None, IfOk, OnOk};
 ghost use Rattle.bm_base.specs.Words.{after_event, refusal_of};
+ghost use Rattle.cluster_repair.specs.declared.on_way.Sent.{Sent};
 ghost use Rattle.cluster_repair.specs.Rows.{AreReported};
+ghost use Rattle.cluster_repair.specs.Sent.{AreBegun, AreCounted, transfers_in};
 
 use crate::free::FreeBytes;
 use crate::links::Links;
@@ -25,18 +27,16 @@ pub struct DataNodes {
     pub free: FreeBytes,
     /// When the last copy arrives, in microseconds.
     pub last_arrival: u64,
-    /// All copies sent, and their bytes.
+    /// The number of copies sent, and their bytes.
     pub copies: u64,
     pub bytes: u128,
 }
 
 impl DataNodes {
     /// Nothing is on its way.
-    pub fn new(
-        alloc: Global,
-        topology: &Topology,
-        bandwidth: u64,
-    ) -> Result<DataNodes, AllocError> {
+    pub fn new(alloc: Global, topology: &Topology, bandwidth: u64) -> Result<DataNodes, AllocError>
+        ensures { IfOk result (AreCounted []) }
+    {
         let free = FreeBytes::new(alloc, topology)?;
         Ok(DataNodes {
             links: Links::new(alloc, bandwidth),
@@ -64,23 +64,18 @@ impl DataNodes {
         blocks: &Catalogue,
         now: u64,
     ) -> Result<(), Refusal>
-        ensures { OnOk result (AreReported manager.old manager.new
+        ensures reported { OnOk result (AreReported manager.old manager.new
             watch.old.blocks.items watch.new.blocks.items) }
+        ensures on_way { OnOk result (self.new.on_way.sent.items
+            ≡ filter (λ s. nat_lt now s.arrival) self.old.on_way.sent.items) }
+        ensures counts { OnOk result ((ss : List Sent) → AreCounted ss self.old
+            → AreCounted ss self.new) }
     {
         report_copies(rt, alloc, manager, watch, &mut self.on_way, now)?;
         report_deletes(rt, manager, watch, self.deletes.as_slice())?;
-        self.free_deleted(blocks)?;
-        report_free(rt, alloc, manager, &self.free)?;
-        Ok(())
-    }
-
-    /// The bytes of deleted replicas are free again.
-    fn free_deleted(&mut self, blocks: &Catalogue) -> Result<(), AllocError> {
-        for delete in &self.deletes {
-            self.free
-                .give_back(delete.storage, blocks.len_of(delete.block))?;
-        }
+        give_back_deleted(&mut self.free, self.deletes.as_slice(), blocks)?;
         self.deletes.clear();
+        report_free(rt, alloc, manager, &self.free)?;
         Ok(())
     }
 
@@ -90,25 +85,36 @@ impl DataNodes {
         topology: &Topology,
         commands: &Commands,
         now: u64,
-    ) -> Result<(), AllocError> {
+    ) -> Result<(), AllocError>
+        ensures { OnOk result (AreBegun (transfers_in commands.now) self.old self.new) }
+    {
         for node in commands.nodes.as_slice() {
-            for transfer in node.transfers.as_slice() {
-                self.send(topology, *transfer, now)?;
-            }
-            for delete in node.deletes.as_slice() {
-                self.deletes.push(*delete)?;
-            }
+            self.send_all(topology, node.transfers.as_slice(), now)?;
+            add_deletes(&mut self.deletes, node.deletes.as_slice())?;
+        }
+        Ok(())
+    }
+
+    #[tactic(auto, using(crate::proofs::SentLemmas::begun_none))]
+    fn send_all(
+        &mut self,
+        topology: &Topology,
+        transfers: &[Transfer],
+        now: u64,
+    ) -> Result<(), AllocError>
+        ensures { OnOk result (AreBegun transfers.now self.old self.new) }
+    {
+        for transfer in transfers {
+            self.send(topology, *transfer, now)?;
         }
         Ok(())
     }
 
     /// Sends a copy, unless it is on its way already: then the target refuses the second.
-    fn send(
-        &mut self,
-        topology: &Topology,
-        transfer: Transfer,
-        now: u64,
-    ) -> Result<(), AllocError> {
+    #[tactic(auto, using(crate::proofs::SentLemmas::begun_already))]
+    fn send(&mut self, topology: &Topology, transfer: Transfer, now: u64) -> Result<(), AllocError>
+        ensures { OnOk result (AreBegun (transfer ∷ []) self.old self.new) }
+    {
         if self.on_way.has(&transfer) {
             return Ok(());
         }
@@ -123,6 +129,27 @@ impl DataNodes {
         self.bytes = self.bytes.saturating_add(u128::from(bytes));
         Ok(())
     }
+}
+
+fn add_deletes(deletes: &mut Vec<Delete>, new: &[Delete]) -> Result<(), AllocError>
+    ensures { OnOk result (deletes.new.items ≡ deletes.old.items ++ new.now) }
+{
+    for delete in new {
+        deletes.push(*delete)?;
+    }
+    Ok(())
+}
+
+/// The bytes of deleted replicas are free again.
+fn give_back_deleted(
+    free: &mut FreeBytes,
+    deletes: &[Delete],
+    blocks: &Catalogue,
+) -> Result<(), AllocError> {
+    for delete in deletes {
+        free.give_back(delete.storage, blocks.len_of(delete.block))?;
+    }
+    Ok(())
 }
 
 /// The node of a storage; each storage of a command is known.
@@ -152,8 +179,10 @@ fn report_copies<H: Threads + Wait + Sync>(
     on_way: &mut OnWay,
     now: u64,
 ) -> Result<(), Refusal>
-    ensures { OnOk result (AreReported manager.old manager.new
+    ensures reported { OnOk result (AreReported manager.old manager.new
         watch.old.blocks.items watch.new.blocks.items) }
+    ensures on_way { OnOk result (on_way.new.sent.items
+        ≡ filter (λ s. nat_lt now s.arrival) on_way.old.sent.items) }
 {
     let due = on_way.take_due(alloc, now)?;
     for sent in &due {

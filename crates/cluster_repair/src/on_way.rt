@@ -1,5 +1,9 @@
 // Copies on their way, by when they arrive.
-ghost use Rattle.std.specs.Prelude.{◌≡◌, nat_lt, filter, IfOk, OnOk};
+ghost use Rattle.std.specs.Prelude.{◌≡◌, ◌++◌, ◌∷◌, ◌==◌, ◌&&◌, not, [], ℕ, false, nat_lt, length, count_by, filter, IfOk, OnOk, if◌then◌else◌};
+ghost use Rattle.std.specs.List.{list_any};
+ghost use Rattle.std.specs.List.Sorted.{IsPermutation, IsSortedByKey};
+ghost use Rattle.bm_base.specs.Ordered.{by_pair};
+ghost use Rattle.cluster_repair.specs.Copies.{is_copy_of, is_among, has_place, has_arrived, when};
 
 use bm_base::Transfer;
 use std::alloc::{AllocError, Global};
@@ -22,10 +26,14 @@ pub struct OnWay {
     /// Their blocks and targets.
     pub places: HashSet<(u64, u32)>,
     pub next: u64,
+    pub ghost once: { (b t : ℕ) → count_by (is_copy_of b t) sent.items
+        ≡ (if has_place places b t then 1 else 0) },
 }
 
 impl OnWay {
-    pub fn new(alloc: Global) -> OnWay {
+    pub fn new(alloc: Global) -> OnWay
+        ensures { result.sent.items ≡ [] }
+    {
         OnWay {
             sent: Vec::new(alloc),
             places: HashSet::new(alloc),
@@ -33,65 +41,96 @@ impl OnWay {
         }
     }
 
-    pub fn len(&self) -> usize {
+    pub fn len(&self) -> usize
+        ensures { result ≡ length self.now.sent.items }
+    {
         self.sent.len()
     }
 
-    pub fn is_empty(&self) -> bool {
+    pub fn is_empty(&self) -> bool
+        ensures { result ≡ (length self.now.sent.items == 0) }
+    {
         self.sent.is_empty()
     }
 
     /// Whether a copy of the block is on its way to this target.
-    pub fn has(&self, transfer: &Transfer) -> bool {
+    pub fn has(&self, transfer: &Transfer) -> bool
+        ensures { result ≡ is_among self.now.sent.items transfer.now }
+    {
         self.places.contains(&place_of(transfer))
     }
 
-    pub fn add(&mut self, arrival: u64, transfer: Transfer) -> Result<(), AllocError> {
-        if self.places.insert(place_of(&transfer)).is_err() {
-            return Err(AllocError);
-        }
+    /// Adds a copy, which is not on its way yet.
+    pub fn add(&mut self, arrival: u64, transfer: Transfer) -> Result<(), AllocError>
+        requires { is_among self.old.sent.items transfer ≡ false }
+        ensures { OnOk result (self.new.sent.items ≡ self.old.sent.items
+            ++ record { arrival = arrival; order = self.old.next; transfer = transfer } ∷ []) }
+    {
         let order = self.next;
         self.sent.push(Sent {
             arrival,
             order,
             transfer,
         })?;
-        self.next = order.saturating_add(1);
-        Ok(())
+        match self.places.insert(place_of(&transfer)) {
+            Ok(_) => {
+                self.next = order.saturating_add(1);
+                Ok(())
+            }
+            Err(_) => {
+                let _ = self.sent.pop();
+                Err(AllocError)
+            }
+        }
     }
 
     /// Takes out what has arrived by now, by arrival and then by command.
     pub fn take_due(&mut self, alloc: Global, now: u64) -> Result<Vec<Sent>, AllocError>
-        ensures { OnOk result (self.new.sent.items
+        ensures due { IfOk result (λ v.
+            IsPermutation (filter (has_arrived now) self.old.sent.items) v.items) }
+        ensures sorted { IfOk result (λ v. IsSortedByKey when by_pair.cmp v.items) }
+        ensures left { OnOk result (self.new.sent.items
             ≡ filter (λ s. nat_lt now s.arrival) self.old.sent.items) }
     {
         let mut due = due_by(alloc, self.sent.as_slice(), now)?;
-        due.sort_by_key(|sent| (sent.arrival, sent.order))?;
+        due.sort_by_key(|sent| when(sent))?;
+        let left = left_by(alloc, self.sent.as_slice(), now)?;
         forget(&mut self.places, due.as_slice());
-        self.sent = left_by(alloc, self.sent.as_slice(), now)?;
+        self.sent = left;
         Ok(due)
     }
 }
 
-fn forget(places: &mut HashSet<(u64, u32)>, sent: &[Sent]) {
+/// When it arrives, and which it is of all copies.
+fn when(sent: &Sent) -> (u64, u64)
+    ensures { result ≡ when sent.now }
+{
+    (sent.arrival, sent.order)
+}
+
+fn forget(places: &mut HashSet<(u64, u32)>, sent: &[Sent])
+    ensures { (b t : ℕ) → has_place places.new b t
+        ≡ (has_place places.old b t && not (list_any (is_copy_of b t) sent.now)) }
+{
     for one in sent {
         let _ = places.remove(&place_of(&one.transfer));
     }
 }
 
 /// The block and the target of a copy.
-fn place_of(transfer: &Transfer) -> (u64, u32) {
+fn place_of(transfer: &Transfer) -> (u64, u32)
+    ensures { result ≡ (transfer.now.block, transfer.now.target) }
+{
     (transfer.block.0, transfer.target.0)
 }
 
-fn due_by(alloc: Global, sent: &[Sent], now: u64) -> Result<Vec<Sent>, AllocError> {
-    let mut due = Vec::new(alloc);
-    for one in sent {
-        if one.arrival <= now {
-            due.push(*one)?;
-        }
-    }
-    Ok(due)
+fn due_by(alloc: Global, sent: &[Sent], now: u64) -> Result<Vec<Sent>, AllocError>
+    ensures { IfOk result (λ v. v.items ≡ filter (has_arrived now) sent.now) }
+{
+    sent.iter()
+        .filter(|one| arrives_by(one, now))
+        .copied()
+        .collect(alloc)
 }
 
 fn left_by(alloc: Global, sent: &[Sent], now: u64) -> Result<Vec<Sent>, AllocError>
@@ -101,6 +140,12 @@ fn left_by(alloc: Global, sent: &[Sent], now: u64) -> Result<Vec<Sent>, AllocErr
         .filter(|one| arrives_after(one, now))
         .copied()
         .collect(alloc)
+}
+
+fn arrives_by(sent: &Sent, now: u64) -> bool
+    ensures { result ≡ has_arrived now sent.now }
+{
+    sent.arrival <= now
 }
 
 fn arrives_after(sent: &Sent, now: u64) -> bool

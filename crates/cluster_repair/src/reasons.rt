@@ -1,11 +1,18 @@
 // Why blocks stay as they are.
-ghost use Rattle.std.specs.Prelude.{◌++◌, ◌∷◌, [], IfOk, OnOk};
+ghost use Rattle.std.specs.Prelude.{◌≡◌, ◌==◌, ◌++◌, ◌∷◌, [], filter, is_some, nat_le, IfOk, OnOk};
+ghost use Rattle.std.specs.List.{list_any};
+ghost use Rattle.std.specs.List.Sorted.{IsNonDecreasingBy};
+ghost use Rattle.bm_base.specs.Words.{all_replicas, share_rack};
+ghost use Rattle.bm_base.specs.Machine.Replicas.{share_node};
+ghost use Rattle.cluster_report.specs.Catalogues.{len_in};
 ghost use Rattle.cluster_repair.specs.Rows.{AreFound, AreLeveled, AreUnmended};
+ghost use Rattle.cluster_repair.specs.Reasons.{HaveReasons, reason_for, would_count, would_fit, is_on_their_node, is_on_their_rack, is_missing, is_badly_distributed};
 
 use crate::free::FreeBytes;
-use bm_base::{BlockId, Level, NodeId, Rack, Refusal, Replica, StorageId};
+use bm_base::{BlockId, Level, Refusal, Replica, StorageId};
 use bm_topo::Topology;
 use cluster_report::session::Session;
+use laws_of_events::queries::lists_ascend;
 use std::alloc::Global;
 
 /// Why a block is copied no further.
@@ -13,10 +20,10 @@ use std::alloc::Global;
 pub enum Reason {
     /// No replica can be copied.
     NoSource,
-    /// Each node that does not drain holds a replica; or, if all live replicas are on one rack,
-    /// each on other racks.
+    /// Each node that does not drain holds a replica; or, if the block is badly distributed, each
+    /// of the others is on its rack. Or else a storage with enough free bytes was given no copy.
     NoTarget,
-    /// No storage of such a node has as many free bytes as the block is long.
+    /// There is a node where a copy would count, but no storage of one has enough free bytes.
     NoSpace,
 }
 
@@ -29,7 +36,7 @@ pub struct Unmended {
 }
 
 /// Why each of these blocks stays as it is, which are all that have a level.
-#[tactic(auto, using(crate::proofs::UnmendedLemmas::none_found, crate::proofs::UnmendedLemmas::all_found))]
+#[tactic(auto, using(crate::proofs::UnmendedLemmas::none_found, crate::proofs::UnmendedLemmas::all_found, crate::proofs::ReasonLemmas::no_reasons))]
 pub fn unmended_of(
     alloc: Global,
     session: &Session,
@@ -37,7 +44,9 @@ pub fn unmended_of(
     blocks: &[u64],
 ) -> Result<Vec<Unmended>, Refusal>
     requires { AreLeveled session.now.manager blocks.now }
-    ensures { IfOk result (λ v. AreUnmended session.now.manager v.items) }
+    ensures levels { IfOk result (λ v. AreUnmended session.now.manager v.items) }
+    ensures reasons { IfOk result
+        (λ v. HaveReasons session.now.book session.now.manager.holdings free.now v.items) }
 {
     let replicas = session.manager.replicas()?;
     let mut found = Vec::new(alloc);
@@ -61,8 +70,12 @@ fn add_unmended(
     replicas: &[Replica],
     block: BlockId,
 ) -> Result<(), Refusal>
-    ensures { OnOk result ((bs : _) → AreFound session.now.manager bs found.old.items
+    requires { replicas.now ≡ all_replicas session.now.manager.holdings }
+    ensures levels { OnOk result ((bs : _) → AreFound session.now.manager bs found.old.items
         → AreFound session.now.manager (bs ++ block ∷ []) found.new.items) }
+    ensures reasons { OnOk result (HaveReasons session.now.book session.now.manager.holdings
+        free.now found.old.items → HaveReasons session.now.book session.now.manager.holdings
+        free.now found.new.items) }
 {
     let Some(level) = session.manager.level(block)? else {
         return Ok(());
@@ -76,13 +89,20 @@ fn add_unmended(
     Ok(())
 }
 
+/// Why a block at this level is copied no further.
 fn reason_of(
     session: &Session,
     free: &FreeBytes,
     replicas: &[Replica],
     block: BlockId,
     level: Level,
-) -> Reason {
+) -> Reason
+    requires { replicas.now ≡ all_replicas session.now.manager.holdings }
+    ensures { result ≡ reason_for session.now.book.topology.cluster
+        (filter (λ r. r.block == block) replicas.now) level
+        (len_in session.now.book.blocks block) free.now }
+{
+    lists_ascend();
     let place = Place {
         topology: &session.book.topology,
         replicas: replicas_of(replicas, block),
@@ -93,11 +113,14 @@ fn reason_of(
 }
 
 /// The replicas of a block among all, which come by block.
-fn replicas_of(replicas: &[Replica], block: BlockId) -> &[Replica] {
+fn replicas_of(replicas: &[Replica], block: BlockId) -> &[Replica]
+    requires { IsNonDecreasingBy (λ r. r.block) replicas.now }
+    ensures { result.now ≡ filter (λ r. r.block == block) replicas.now }
+{
     let from = replicas.partition_point(|replica| replica.block < block);
-    let behind = replicas.get(from..).unwrap_or(&[]);
-    let count = behind.partition_point(|replica| replica.block == block);
-    behind.get(..count).unwrap_or(&[])
+    let rest = &replicas[from..];
+    let count = rest.partition_point(|replica| replica.block <= block);
+    &rest[..count]
 }
 
 /// A block, and where its replicas are.
@@ -110,47 +133,122 @@ struct Place<'a> {
 }
 
 impl Place<'_> {
-    fn reason(&self, free: &FreeBytes) -> Reason {
-        if matches!(self.level, Level::NoUsableReplica) {
-            return Reason::NoSource;
+    fn reason(&self, free: &FreeBytes) -> Reason
+        ensures { result ≡ reason_for self.now.topology.now.cluster self.now.replicas.now
+            self.now.level self.now.length free.now }
+    {
+        if is_missing(self.level) {
+            Reason::NoSource
+        } else if self.has_target(free) && !self.has_space(free) {
+            Reason::NoSpace
+        } else {
+            Reason::NoTarget
         }
-        let mut reason = Reason::NoTarget;
+    }
+
+    /// Whether a copy would count on a storage.
+    fn has_target(&self, free: &FreeBytes) -> bool
+        ensures { result ≡ list_any (would_count self.now.topology.now.cluster
+            self.now.replicas.now self.now.level) free.now.storages.items }
+    {
         for storage in &free.storages {
-            if self.may_take(*storage) {
-                if self.length <= free.of(*storage) {
-                    return Reason::NoTarget;
-                }
-                reason = Reason::NoSpace;
+            if self.would_count(*storage) {
+                return true;
             }
         }
-        reason
+        false
+    }
+
+    /// Whether such a storage has enough free bytes.
+    fn has_space(&self, free: &FreeBytes) -> bool
+        ensures { result ≡ list_any (would_fit self.now.topology.now.cluster
+            self.now.replicas.now self.now.level self.now.length free.now)
+            free.now.storages.items }
+    {
+        for storage in &free.storages {
+            if self.would_fit(free, *storage) {
+                return true;
+            }
+        }
+        false
+    }
+
+    fn would_fit(&self, free: &FreeBytes, storage: StorageId) -> bool
+        ensures { result ≡ would_fit self.now.topology.now.cluster self.now.replicas.now
+            self.now.level self.now.length free.now storage }
+    {
+        self.would_count(storage) && self.length <= free.of(storage)
     }
 
     /// Whether a copy on the storage would count, free bytes aside.
-    fn may_take(&self, storage: StorageId) -> bool {
-        let Some(node) = self.topology.node_of(storage) else {
-            return false;
-        };
-        if self.topology.is_draining(storage) || self.is_held_by(node) {
-            return false;
-        }
-        !matches!(self.level, Level::BadlyDistributed)
-            || self.topology.rack_of(storage) != self.rack()
+    fn would_count(&self, storage: StorageId) -> bool
+        ensures { result ≡ would_count self.now.topology.now.cluster self.now.replicas.now
+            self.now.level storage }
+    {
+        self.topology.node_of(storage).is_some()
+            && (!self.topology.is_draining(storage)
+                && (!self.is_on_their_node(storage)
+                    && !(is_badly_distributed(self.level) && self.is_on_their_rack(storage))))
     }
 
-    fn is_held_by(&self, node: NodeId) -> bool {
-        self.replicas
-            .iter()
-            .any(|replica| self.topology.has_storage(node, replica.storage))
-    }
-
-    /// The rack of the first live replica.
-    fn rack(&self) -> Option<Rack> {
+    fn is_on_their_node(&self, storage: StorageId) -> bool
+        ensures { result ≡ is_on_their_node self.now.topology.now.cluster
+            self.now.replicas.now storage }
+    {
         for replica in self.replicas {
-            if replica.tag.is_good() && !self.topology.is_draining(replica.storage) {
-                return self.topology.rack_of(replica.storage);
+            if share_node(self.topology, storage, replica.storage) {
+                return true;
             }
         }
-        None
+        false
+    }
+
+    fn is_on_their_rack(&self, storage: StorageId) -> bool
+        ensures { result ≡ is_on_their_rack self.now.topology.now.cluster
+            self.now.replicas.now storage }
+    {
+        for replica in self.replicas {
+            if replica.tag.is_good()
+                && (!self.topology.is_draining(replica.storage)
+                    && share_rack(self.topology, storage, replica.storage))
+            {
+                return true;
+            }
+        }
+        false
+    }
+}
+
+fn is_missing(level: Level) -> bool
+    ensures { result ≡ is_missing level }
+{
+    matches!(level, Level::NoUsableReplica)
+}
+
+fn is_badly_distributed(level: Level) -> bool
+    ensures { result ≡ is_badly_distributed level }
+{
+    matches!(level, Level::BadlyDistributed)
+}
+
+fn share_node(topology: &Topology, one: StorageId, other: StorageId) -> bool
+    ensures { result ≡ share_node topology.now.cluster one other }
+{
+    match topology.node_of(one) {
+        Some(node) => topology.has_storage(node, other),
+        None => false,
+    }
+}
+
+#[tactic(auto, unfolding(bm_base::specs::Machine::Excess::share_rack))]
+fn share_rack(topology: &Topology, one: StorageId, other: StorageId) -> bool
+    ensures { result ≡ share_rack topology.now.cluster one other }
+{
+    match topology.rack_of(one) {
+        Some(rack) => match topology.rack_of(other) {
+            Some(its_rack) => its_rack == rack,
+            None => false,
+        },
+        None => false,
     }
 }

@@ -5,6 +5,7 @@ ghost use Rattle.cluster_report.specs.Sessions.{IsInStep};
 ghost use Rattle.laws_of_repairs.specs.Repairs.{Covers};
 ghost use Rattle.cluster_repair.specs.Rows.{IsReached, AreRetired, IsUnderWay, IsDone};
 ghost use Rattle.cluster_repair.specs.Retirements.{rounds_of};
+ghost use Rattle.cluster_repair.specs.Sent.{AreCounted, copies_in};
 
 use crate::datanodes::DataNodes;
 use crate::links::MICROS;
@@ -120,6 +121,7 @@ impl Repair {
         ensures rows { IfOk result (λ r. r.rows.rows.items ≡ []) }
         ensures retired { IfOk result (λ r. r.retired.items ≡ []) }
         ensures rounds { IfOk result (λ r. r.rounds ≡ 0) }
+        ensures sent { IfOk result (λ r. AreCounted [] r.datanodes) }
     {
         let topology = &session.book.topology;
         let watch = Watch::new(alloc, &session.manager, &session.book.blocks)?;
@@ -146,12 +148,13 @@ impl Repair {
         requires covers { Covers manager.old self.old.watch.blocks.items }
         requires none { self.old.rounds ≡ 0 }
         ensures covers { OnOk result (Covers manager.new self.new.watch.blocks.items) }
+        ensures taken { OnOk result (0 < self.new.rounds) }
         ensures under_way { OnOk result ((M : State) → IsUnderWay M manager.old self.old
             → IsUnderWay M manager.new self.new) }
     {
         for past in 0..MOST_ROUNDS {
             progress.show_made(rt, past);
-            if self.is_over(facts) {
+            if self.rounds > 0 && self.is_over(facts) {
                 return Ok(());
             }
             self.note_due(facts.alloc, manager)?;
@@ -162,7 +165,7 @@ impl Repair {
 
     /// Whether nothing more comes after the rounds that were taken.
     fn is_over(&self, facts: &Facts<'_>) -> bool {
-        self.rounds > 0 && self.rounds >= facts.awaited && self.datanodes.are_idle()
+        self.rounds >= facts.awaited && self.datanodes.are_idle()
     }
 
     /// One round: DataNodes report what they have done and what is free, and the manager commands.
@@ -183,7 +186,12 @@ impl Repair {
         let watch = &mut self.watch;
         self.datanodes
             .report(rt, facts.alloc, manager, watch, facts.blocks, now)?;
-        note_retired(manager, self.drained.as_slice(), &mut self.retired, self.rounds)?;
+        note_retired(
+            manager,
+            self.drained.as_slice(),
+            &mut self.retired,
+            self.rounds,
+        )?;
         manager.show_invariant();
         let commands = manager.round(rt, &NoGate)?;
         self.datanodes.obey(facts.topology, &commands, now)?;
@@ -208,7 +216,8 @@ impl Repair {
 
     /// Adds the row of the round that was taken last.
     fn note_row(&mut self, alloc: Global, manager: &Manager) -> Result<(), Refusal>
-        requires { Covers manager.now self.old.watch.blocks.items }
+        requires covers { Covers manager.now self.old.watch.blocks.items }
+        requires taken { 0 < self.old.rounds }
         ensures covers { OnOk result (Covers manager.now self.new.watch.blocks.items) }
         ensures rounds { OnOk result (self.new.rounds ≡ self.old.rounds) }
         ensures done { OnOk result ((M : State) → IsUnderWay M manager.now self.old
@@ -285,7 +294,9 @@ pub fn rounds_of(retired: &[Retirement], node: NodeId) -> Option<u32>
     None
 }
 
-fn copies_in(commands: &Commands) -> usize {
+fn copies_in(commands: &Commands) -> usize
+    ensures { result ≡ copies_in commands.now }
+{
     let mut copies = 0usize;
     for node in commands.nodes.as_slice() {
         copies = copies.saturating_add(node.transfers.as_slice().len());

@@ -20,11 +20,7 @@ pub struct Watch {
 
 impl Watch {
     /// The known blocks that have a level, by a question for each known block.
-    pub fn new(
-        alloc: Global,
-        manager: &Manager,
-        blocks: &Catalogue,
-    ) -> Result<Watch, AllocError>
+    pub fn new(alloc: Global, manager: &Manager, blocks: &Catalogue) -> Result<Watch, AllocError>
         requires { Lists blocks.now manager.now.holdings.blocks }
         ensures { IfOk result (λ w. Covers manager.now w.blocks.items) }
     {

@@ -1,4 +1,4 @@
-use Rattle.std.specs.Prelude.{◌≤◌}
+use Rattle.std.specs.Prelude.{◌≡◌}
 use Rattle.bm_base.specs.Machine.State.{State}
 use Rattle.laws_of_repairs.specs.Repairs.{Covers}
 use Rattle.cluster_repair.specs.Rows.{IsUnderWay}
@@ -6,7 +6,7 @@ use Rattle.cluster_repair.proofs.repair.Repair.take_rounds.Given as goal
 
 abbrev pub invariant-loop-past : goal.invariant-loop-past
 invariant-loop-past g l = record {
-  few : l.self.rounds ≤ l.past;
+  few : l.self.rounds ≡ l.past;
   covers : Covers l.manager l.self.watch.blocks.items;
   under_way : (M : State) → IsUnderWay M l.fn.manager l.fn.self → IsUnderWay M l.manager l.self;
 }

@@ -1,4 +1,4 @@
-use Rattle.std.proofs.Common.{◌≡◌, rules, map, nat_eq, length}
+use Rattle.std.proofs.Common.{◌≡◌, rules, map, nat_eq}
 use Rattle.std.specs.List.{dedup}
 use Rattle.std.proofs.lemmas.List.Filters.{dedup_is}
 use Rattle.cluster_report.specs.Levels.{leveled}

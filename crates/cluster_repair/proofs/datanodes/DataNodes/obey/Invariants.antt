@@ -1,0 +1,7 @@
+use Rattle.std.specs.Prelude.{take}
+use Rattle.std.specs.List.{flat_map}
+use Rattle.cluster_repair.specs.Sent.{AreBegun}
+use Rattle.cluster_repair.proofs.datanodes.DataNodes.obey.Given as goal
+
+abbrev pub invariant-loop-node : goal.invariant-loop-node
+invariant-loop-node l = AreBegun (flat_map (λ n. n.transfers) (take l.node-index l.commands.nodes)) l.fn.self l.self
