@@ -1,5 +1,5 @@
 -- What is found about losses.
-use Rattle.std.specs.Prelude.{◌≡◌, ⊥, List, Option, Some, None, map, string_bytes}
+use Rattle.std.specs.Prelude.{◌≡◌, List, Option, Some, None, map, string_bytes}
 use Rattle.bm_base.specs.Words.{State, keys}
 use Rattle.cluster_input.specs.declared.loaded.Loaded.{Loaded}
 use Rattle.cluster_lost.specs.Losses.{after_losses}

@@ -24,13 +24,13 @@ use Rattle.cluster_what_if.specs.declared.found.Mended.{Mended}
 unfoldable pub model_line : Pace → List ℕ
 model_line pace =
     codes "model: a round every " ++ (decimal pace.interval
-    ++ (codes " s; each node sends and receives " ++ (decimal pace.bandwidth ++ codes " bytes a second\n")))
+    ++ (codes " s; " ++ (codes "each node sends and receives " ++ (decimal pace.bandwidth ++ codes " bytes a second\n"))))
 
 unfoldable pub rounds_heading : List ℕ
 rounds_heading = codes "   round    seconds " ++ (level_heads ++ codes "  missing commanded    on_way\n")
 
 -- how many seconds a number of rounds takes, up to 64 bits
-abbrev pub seconds_before : Pace → ℕ → ℕ
+unfoldable pub seconds_before : Pace → ℕ → ℕ
 seconds_before pace rounds = min (rounds * pace.interval) (2 ^ 64 - 1)
 
 -- a round, when it was, and what it leaves
@@ -60,10 +60,14 @@ copies_text r =
     ++ (count_line (codes "copies") r.datanodes.copies
     ++ count_line (codes "bytes copied") r.datanodes.bytes)))
 
+-- a node can be switched off after this number of rounds, at this second
+unfoldable pub retired_text : ℕ → ℕ → List ℕ
+retired_text rounds at = codes " retired after " ++ (decimal rounds ++ (codes " rounds, " ++ (decimal at ++ codes " seconds\n")))
+
 -- after how many rounds a node can be switched off
 abbrev pub retirement_text : Pace → Option ℕ → List ℕ
 retirement_text pace None = codes " not retired\n"
-retirement_text pace (Some rounds) = codes " retired after " ++ (decimal rounds ++ (codes " rounds, " ++ (decimal (seconds_before pace rounds) ++ codes " seconds\n")))
+retirement_text pace (Some rounds) = retired_text rounds (seconds_before pace rounds)
 
 -- a drained node
 unfoldable pub retirement_line : Names → Pace → List Retirement → ℕ → List ℕ
@@ -81,7 +85,8 @@ same_reason NoTarget NoTarget = true
 same_reason NoSpace NoSpace = true
 same_reason _ _ = false
 
-abbrev pub count_with : Reason → List Unmended → ℕ
+-- how many of these blocks stay as they are for a reason
+unfoldable pub count_with : Reason → List Unmended → ℕ
 count_with reason us = count_by (λ u. same_reason u.reason reason) us
 
 -- how many blocks stay as they are, and how many of them for each reason

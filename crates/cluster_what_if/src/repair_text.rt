@@ -1,7 +1,7 @@
 // What is copied again, as text.
-ghost use Rattle.std.specs.Prelude.{◌≡◌, ◌++◌, OnOk, count_by, string_bytes};
+ghost use Rattle.std.specs.Prelude.{◌≡◌, ◌++◌, OnOk, string_bytes};
 ghost use Rattle.std.specs.List.{flat_map};
-ghost use Rattle.cluster_what_if.specs.RepairText.{same_reason, reason_word, seconds_before, model_line, rounds_heading, round_line, rounds_text, copies_text, left_line, retirement_text, retirement_line, reasons_text, unmended_line, unmended_text, repair_text};
+ghost use Rattle.cluster_what_if.specs.RepairText.{count_with, retired_text, same_reason, reason_word, seconds_before, model_line, rounds_heading, round_line, rounds_text, copies_text, left_line, retirement_text, retirement_line, reasons_text, unmended_line, unmended_text, repair_text};
 
 use crate::columns::{write_level_heads, write_level_numbers};
 use crate::found::Mended;
@@ -105,6 +105,7 @@ fn write_round_line(text: &mut String, pace: Pace, row: &Row) -> Result<(), Allo
 }
 
 /// How many seconds a number of rounds takes.
+#[tactic(auto, unfolding(crate::specs::RepairText::seconds_before))]
 pub fn seconds_before(pace: Pace, rounds: u32) -> u64
     ensures { result ≡ seconds_before pace rounds }
 {
@@ -174,12 +175,17 @@ fn write_when(text: &mut String, pace: Pace, rounds: Option<u32>) -> Result<(), 
         ++ retirement_text pace rounds) }
 {
     match rounds {
-        Some(rounds) => {
-            let at = seconds_before(pace, rounds);
-            write!(text, " retired after {rounds} rounds, {at} seconds\n")
-        }
+        Some(rounds) => write_retired(text, rounds, seconds_before(pace, rounds)),
         None => text.push_str(" not retired\n"),
     }
+}
+
+#[tactic(auto, unfolding(crate::specs::RepairText::retired_text))]
+fn write_retired(text: &mut String, rounds: u32, seconds: u64) -> Result<(), AllocError>
+    ensures { OnOk result (string_bytes text.new ≡ string_bytes text.old
+        ++ retired_text rounds seconds) }
+{
+    write!(text, " retired after {rounds} rounds, {seconds} seconds\n")
 }
 
 /// The blocks that stay as they are: how many for each reason, and the first of them.
@@ -212,8 +218,9 @@ fn write_reasons(text: &mut String, unmended: &[Unmended]) -> Result<(), AllocEr
 }
 
 /// How many of these blocks stay as they are for this reason.
+#[tactic(auto, unfolding(crate::specs::RepairText::count_with))]
 pub fn count_with(unmended: &[Unmended], reason: Reason) -> usize
-    ensures { result ≡ count_by (λ u. same_reason u.reason reason) unmended.now }
+    ensures { result ≡ count_with reason unmended.now }
 {
     unmended
         .iter()

@@ -52,7 +52,7 @@ fn write_storage_line(
         ++ storage_line names.now storage) }
 {
     text.push_str("lose storage ")?;
-    write_name(text, names.storage(storage), storage.0)?;
+    write_storage(text, names, storage)?;
     text.push_str("\n")
 }
 
@@ -105,6 +105,14 @@ pub fn write_rack(text: &mut String, names: &Names, rack: Rack) -> Result<(), Al
         ++ name_or_number [] names.now.racks rack) }
 {
     write_name(text, names.rack(rack), rack.0)
+}
+
+/// The name of a storage, or its number.
+fn write_storage(text: &mut String, names: &Names, storage: StorageId) -> Result<(), AllocError>
+    ensures { OnOk result (string_bytes text.new ≡ string_bytes text.old
+        ++ name_or_number [] names.now.storages storage) }
+{
+    write_name(text, names.storage(storage), storage.0)
 }
 
 /// A name, or the number of what has none.
