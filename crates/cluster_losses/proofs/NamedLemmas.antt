@@ -100,3 +100,11 @@ next_word xs i x h = by xs i h ∙ ap (λ n. x ∷ drop n xs) (one i)
     by [] (suc i) h = cc
     by (y ∷ xs) zero h = cc
     by (y ∷ xs) (suc i) h = by xs i h
+
+pub none_left : (C : Cluster) (names : Names) (ls : List Loss) (lost : Lost) → lost.nodes.items ≡ [] → lost.drained.items ≡ [] → lost.storages.items ≡ [] → AreLeft C names ls ls lost
+none_left C names ls lost nodes drained storages = record {
+  nodes = ap (λ xs. with_all xs (all_named C names dies ls)) nodes;
+  drained = ap (λ xs. with_all xs (all_named C names drains ls)) drained;
+  storages = ap (λ xs. with_all xs (all_named C names fails ls)) storages;
+  unknown = refl;
+}

@@ -19,7 +19,7 @@ use Rattle.cluster_losses.specs.Reached.{IsReached}
 use Rattle.cluster_losses.specs.Tables.{IsRowAt, IsRowFrom, levels_cmp, row_cmp}
 
 pub row_from : (f : FileTable) (M N : State) (part : Part) (row : Row) → IsReached M N → IsRowAt f N part row → IsRowFrom f M part row
-row_from f M N part row way at = record { state = N; reached = way; row = at }
+row_from f M N part row way at = record { state = N; reached = way; has = at }
 
 module _ {A B : Type 0} (R : A → B → Type 0) where
   zip_push : (xs : List A) (ys : List B) (x : A) (y : B) → AllZip R xs ys → R x y → AllZip R (xs ++ x ∷ []) (ys ++ y ∷ [])

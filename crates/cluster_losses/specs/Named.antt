@@ -1,5 +1,5 @@
 -- What the words of a command line name.
-use Rattle.std.specs.Prelude.{◌≡◌, ⊤, ⊥, ℕ, Bool, true, false, ◌^◌, ◌==◌, ◌&&◌, nat_eq, nat_lt, List, [], ◌∷◌, ◌++◌, filter, fold, length, slice_index, if◌then◌else◌, Option, Some, None, option_map}
+use Rattle.std.specs.Prelude.{◌≡◌, ⊤, ℕ, Bool, true, false, ◌^◌, ◌==◌, ◌&&◌, nat_eq, nat_lt, List, [], ◌∷◌, ◌++◌, filter, fold, length, slice_index, if◌then◌else◌, Option, Some, None, option_map}
 use Rattle.std.specs.Option.{option_map_or}
 use Rattle.std.specs.List.{find, flat_map, starts_with}
 use Rattle.std.specs.Str.{all_ascii_digits}

@@ -32,7 +32,7 @@ pub record IsRowAt (f : FileTable) (M : State) (part : Part) (row : Row) : Type 
 pub record IsRowFrom (f : FileTable) (M : State) (part : Part) (row : Row) : Type 0 where
   pub state : State
   pub reached : IsReached M state
-  pub row : IsRowAt f state part row
+  pub has : IsRowAt f state part row
 
 -- more blocks at the highest level come first; then more very under-replicated ones; then more
 -- under-replicated ones

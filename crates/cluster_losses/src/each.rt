@@ -1,5 +1,6 @@
 // A table: each rack or each node is lost alone, and comes back.
-ghost use Rattle.std.specs.Prelude.{◌≡◌, IfOk, OnOk, OnTrue};
+ghost use Rattle.std.specs.Prelude.{◌≡◌, IfOk, OnOk};
+ghost use Rattle.std.specs.Bool.{OnTrue};
 ghost use Rattle.std.specs.List.{AllZip};
 ghost use Rattle.std.specs.List.Sorted.{IsPermutation, IsSorted};
 ghost use Rattle.bm_base.specs.Machine.Queries.{all_replicas};

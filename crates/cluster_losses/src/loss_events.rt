@@ -65,11 +65,12 @@ impl Lost {
     /// Adds what a loss names.
     fn add(&mut self, alloc: Global, loaded: &Loaded, loss: Loss<'_>) -> Result<(), Fault>
         ensures lost { OnOk result (AreAdded (named_by loaded.now.session.book.topology.cluster
-            loaded.now.names loss.kind loss.name.now) loss.kind self.old self.new) }
+            loaded.now.names loss.entry.kind loss.entry.name.now) loss.entry.kind
+            self.old self.new) }
         ensures known { OnOk result (is_unknown loaded.now.session.book.topology.cluster
-            loaded.now.names loss ≡ false) }
+            loaded.now.names loss.entry ≡ false) }
         ensures fault { IfErr result (IsFaultOf (first_unknown
-            loaded.now.session.book.topology.cluster loaded.now.names (loss ∷ []))) }
+            loaded.now.session.book.topology.cluster loaded.now.names (loss.entry ∷ []))) }
     {
         match loss.kind {
             Kind::Rack => {

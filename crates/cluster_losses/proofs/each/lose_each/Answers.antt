@@ -1,4 +1,5 @@
-use Rattle.std.proofs.Common.{◌∙◌, ◌++◌, ◌+◌, ◌∷◌, [], take, ap, sym}
+use Rattle.std.proofs.Common.{◌∙◌, ◌++◌, ◌+◌, ◌∷◌, [], take, take_all, ap, sym, subst, arith}
+use Rattle.std.specs.List.{AllZip}
 use Rattle.std.proofs.lemmas.List.{take_more}
 use Rattle.cluster_losses.specs.declared.parts.Part.{Part}
 use Rattle.cluster_losses.specs.Tables.{IsRowFrom}
@@ -30,4 +31,6 @@ loop-part-preserved g c =
     }
 
 pub returns-clause-rows : goal.returns-clause-rows
-returns-clause-rows g c = ?
+returns-clause-rows g c =
+    subst (λ ps. AllZip (IsRowFrom c.args.files.now c.args.session.now.manager) ps c.loop-part.rows.items) (take_all c.loop-part.part-index c.args.parts.now (omega (arith, c.loop-part-test.false)))
+    c.loop-part.invariant.rows

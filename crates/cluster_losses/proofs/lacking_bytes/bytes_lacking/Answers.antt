@@ -10,11 +10,11 @@ use Rattle.cluster_losses.proofs.lacking_bytes.bytes_lacking.Goals as goal
 pub loop-replica-init : goal.loop-replica-init
 loop-replica-init c =
     let M = c.args.session.now.manager in
-    let usable = ap (λ (s : Summed). s.usable) c.new.ensures in
-    let live = ap (λ (s : Summed). s.live) c.new.ensures in
+    let usable = ap (λ (s : Summed). s.usable) c.new-summed.ensures in
+    let live = ap (λ (s : Summed). s.live) c.new-summed.ensures in
     record {
       summed =
-          subst (IsSummed M c.args.excess.now (entries M.holdings.replicas)) (sym c.new.ensures)
+          subst (IsSummed M c.args.excess.now (entries M.holdings.replicas)) (sym c.new-summed.ensures)
           (none_summed M c.args.excess.now (c.requires.excess ∙ excess_is M.holdings));
       usable = omega (arith, usable);
       live = omega (arith, live);

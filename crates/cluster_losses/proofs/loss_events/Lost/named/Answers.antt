@@ -1,8 +1,13 @@
 use Rattle.std.proofs.Common.{◌≡◌, ◌∙◌, ◌+◌, ◌≤◌, [], ◌∷◌, drop, length, refl, sym, ap, subst, arith}
 use Rattle.std.proofs.lemmas.List.{drop_all}
 use Rattle.std.proofs.lemmas.Option.{slice_get_read}
-use Rattle.cluster_losses.proofs.NamedLemmas.{AreLeft, added, all_added, fault_stays, once, next_word}
+use Rattle.std.proofs.lemmas.Result.{err_from_is_err_and}
+use Rattle.cluster_losses.specs.Named.{IsFaultOf, first_unknown}
+use Rattle.cluster_losses.proofs.NamedLemmas.{AreLeft, none_left, added, all_added, fault_stays, once, next_word}
 use Rattle.cluster_losses.proofs.loss_events.Lost.named.Goals as goal
+
+pub loop-loss-init : goal.loop-loss-init
+loop-loss-init c = none_left c.args.loaded.now.session.book.topology.cluster c.args.loaded.now.names c.args.losses.now c.new-lost.result c.new-lost.ensures.nodes c.new-lost.ensures.drained c.new-lost.ensures.storages
 
 pub loop-loss-preserved : goal.loop-loss-preserved
 loop-loss-preserved c =
@@ -13,3 +18,41 @@ loop-loss-preserved c =
     let next = next_word ls i c.loss-item.result (slice_get_read ls _ i _ refl c.loop-loss-test.true c.loss-item.is) in
     added C names ls (drop (i + 1) ls) c.loss-item.result c.loop-loss.lost _ c.in_ok-add.ensures.lost c.in_ok-add.ensures.known
     (subst (λ rest. AreLeft C names rest ls c.loop-loss.lost) next c.loop-loss.invariant)
+
+pub returns-clause-lost : goal.returns-clause-lost
+returns-clause-lost c =
+    let ls = c.args.losses.now in
+    all_added c.args.loaded.now.session.book.topology.cluster c.args.loaded.now.names ls c.loop-loss.lost
+    (subst (λ rest. AreLeft c.args.loaded.now.session.book.topology.cluster c.args.loaded.now.names rest ls c.loop-loss.lost) (drop_all c.loop-loss.loss-index ls (omega (arith, c.loop-loss-test.false))) c.loop-loss.invariant)
+
+pub returns-clause-nodes_once : goal.returns-clause-nodes_once
+returns-clause-nodes_once c =
+    let ls = c.args.losses.now in
+    once _ _ (subst (λ rest. AreLeft c.args.loaded.now.session.book.topology.cluster c.args.loaded.now.names rest ls c.loop-loss.lost) (drop_all c.loop-loss.loss-index ls (omega (arith, c.loop-loss-test.false))) c.loop-loss.invariant).nodes
+
+pub returns-clause-drained_once : goal.returns-clause-drained_once
+returns-clause-drained_once c =
+    let ls = c.args.losses.now in
+    once _ _ (subst (λ rest. AreLeft c.args.loaded.now.session.book.topology.cluster c.args.loaded.now.names rest ls c.loop-loss.lost) (drop_all c.loop-loss.loss-index ls (omega (arith, c.loop-loss-test.false))) c.loop-loss.invariant).drained
+
+pub returns-clause-storages_once : goal.returns-clause-storages_once
+returns-clause-storages_once c =
+    let ls = c.args.losses.now in
+    once _ _ (subst (λ rest. AreLeft c.args.loaded.now.session.book.topology.cluster c.args.loaded.now.names rest ls c.loop-loss.lost) (drop_all c.loop-loss.loss-index ls (omega (arith, c.loop-loss-test.false))) c.loop-loss.invariant).storages
+
+pub returns-clause-known : goal.returns-clause-known
+returns-clause-known c =
+    let ls = c.args.losses.now in
+    sym (subst (λ rest. AreLeft c.args.loaded.now.session.book.topology.cluster c.args.loaded.now.names rest ls c.loop-loss.lost) (drop_all c.loop-loss.loss-index ls (omega (arith, c.loop-loss-test.false))) c.loop-loss.invariant).unknown
+
+pub returns-in_err-add-clause-fault : goal.returns-in_err-add-clause-fault
+returns-in_err-add-clause-fault c =
+    let C = c.args.loaded.now.session.book.topology.cluster in
+    let names = c.args.loaded.now.names in
+    let ls = c.args.losses.now in
+    let i = c.loop-loss.loss-index in
+    let next = next_word ls i c.loss-item.result (slice_get_read ls _ i _ refl c.loop-loss-test.true c.loss-item.is) in
+    let left = subst (λ rest. AreLeft C names rest ls c.loop-loss.lost) next c.loop-loss.invariant in
+    let stays = fault_stays C names ls (drop (i + 1) ls) c.loss-item.result _ left.unknown c.in_err-add.ensures.fault in
+    let e = err_from_is_err_and c.from_residual.result c.from_residual.ensures.1 in
+    rw (e.1, e.2) stays
