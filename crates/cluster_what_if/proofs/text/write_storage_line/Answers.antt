@@ -1,0 +1,14 @@
+use Rattle.std.proofs.Common.{append_assoc}
+use Rattle.cluster_what_if.specs.Text.{storage_line}
+use Rattle.cluster_what_if.proofs.text.write_storage_line.Goals as goal
+
+pub returns : goal.returns
+unfolding storage_line
+returns c =
+    rw (
+      ← append_assoc,
+      ← c.in_ok-push_str.ensures.bytes,
+      ← append_assoc,
+      ← c.in_ok-write_storage.ensures,
+    )
+    c.push_str-2.ensures.bytes
