@@ -1,3 +1,4 @@
 -- Lemmas.
 pub mod Findings
 pub mod ShownRows
+pub mod Pushed

@@ -1,5 +1,6 @@
 use Rattle.std.proofs.Common.{append_assoc}
 use Rattle.cluster_what_if.specs.Text.{storage_line}
+use Rattle.cluster_what_if.proofs.Pushed.{pushed}
 use Rattle.cluster_what_if.proofs.text.write_storage_line.Goals as goal
 
 pub returns : goal.returns
@@ -11,4 +12,4 @@ returns c =
       ← append_assoc,
       ← c.in_ok-write_storage.ensures,
     )
-    c.push_str-2.ensures.bytes
+    (pushed c.push_str-2.result _ _ _ c.push_str-2.ensures.bytes)
