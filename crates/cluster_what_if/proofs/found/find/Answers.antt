@@ -13,5 +13,5 @@ returns-in_ok-losses-in-Losses-clause-answers g c =
     let it = c.in_ok-losses-in-Losses.losses in
     let P : Question → Type 0 = λ q. IsFoundFor q pace before after (found.Losses it) in
     subst P (sym c.in-Losses.is) (found_of before after pace c.in-Losses.losses.items c.in_ok-lost-in-Losses.lost it
-      (rw c.as_slice.ensures.value at c.in_ok-lost-in-Losses.ensures.lost)
-      c.in_ok-losses-in-Losses.ensures.found)
+    (rw c.as_slice.ensures.value at c.in_ok-lost-in-Losses.ensures.lost)
+    c.in_ok-losses-in-Losses.ensures.found)

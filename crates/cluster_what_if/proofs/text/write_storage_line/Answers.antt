@@ -1,4 +1,4 @@
-use Rattle.std.proofs.Common.{append_assoc}
+use Rattle.std.proofs.Common.{append_assoc, codes, string_bytes}
 use Rattle.cluster_what_if.specs.Text.{storage_line}
 use Rattle.cluster_what_if.proofs.Pushed.{pushed}
 use Rattle.cluster_what_if.proofs.text.write_storage_line.Goals as goal
@@ -12,4 +12,4 @@ returns c =
       ← append_assoc,
       ← c.in_ok-write_storage.ensures,
     )
-    (pushed c.push_str-2.result _ _ _ c.push_str-2.ensures.bytes)
+    (pushed c.push_str-2.result (string_bytes c.push_str-2.new.self) (string_bytes c.write_storage.new.text) (codes "\n") c.push_str-2.ensures.bytes)
