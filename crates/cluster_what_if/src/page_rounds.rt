@@ -57,8 +57,8 @@ fn write_model(text: &mut String, pace: Pace) -> Result<(), AllocError> {
     text.push_str("<h2>How it is repaired</h2>\n")?;
     write!(
         text,
-        "<p>By a model: a round every {interval} s; each node sends and receives one copy at a time, \
-         {bandwidth} bytes a second.</p>\n"
+        "<p>By a model: a round every {interval} s; each node sends and receives one copy at a \
+         time, {bandwidth} bytes a second.</p>\n"
     )
 }
 
