@@ -67,9 +67,9 @@ module _ (C : Cluster) (names : Names) where
   pub added : (ls rest : List Loss) (l : Loss) (old new : Lost) → AreAdded (named_by C names l.kind l.name.now) l.kind old new → is_unknown C names l ≡ false
       → AreLeft C names (l ∷ rest) ls old → AreLeft C names rest ls new
   added ls rest l old new adds known was = record {
-    nodes = with_more old.nodes.items new.nodes.items _ _ _ adds.nodes was.nodes;
-    drained = with_more old.drained.items new.drained.items _ _ _ adds.drained was.drained;
-    storages = with_more old.storages.items new.storages.items _ _ _ adds.storages was.storages;
+    nodes = with_more old.nodes.items new.nodes.items (if dies l.kind then named_by C names l.kind l.name.now else []) (all_named C names dies rest) (with_all [] (all_named C names dies ls)) adds.nodes was.nodes;
+    drained = with_more old.drained.items new.drained.items (if drains l.kind then named_by C names l.kind l.name.now else []) (all_named C names drains rest) (with_all [] (all_named C names drains ls)) adds.drained was.drained;
+    storages = with_more old.storages.items new.storages.items (if fails l.kind then named_by C names l.kind l.name.now else []) (all_named C names fails rest) (with_all [] (all_named C names fails ls)) adds.storages was.storages;
     unknown = ap (λ t. option_map (λ (k : Loss). k.kind) (cond t (Some l) (find (is_unknown C names) rest))) (sym known) ∙ was.unknown;
   }
 

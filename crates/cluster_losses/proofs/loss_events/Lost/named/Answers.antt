@@ -2,7 +2,7 @@ use Rattle.std.proofs.Common.{◌≡◌, ◌∙◌, ◌+◌, ◌≤◌, [], ◌�
 use Rattle.std.proofs.lemmas.List.{drop_all}
 use Rattle.std.proofs.lemmas.Option.{slice_get_read}
 use Rattle.std.proofs.lemmas.Result.{err_from_is_err_and}
-use Rattle.cluster_losses.specs.Named.{IsFaultOf, first_unknown}
+use Rattle.cluster_losses.specs.Named.{all_named, dies, drains, fails}
 use Rattle.cluster_losses.proofs.NamedLemmas.{AreLeft, none_left, added, all_added, fault_stays, once, next_word}
 use Rattle.cluster_losses.proofs.loss_events.Lost.named.Goals as goal
 
@@ -28,17 +28,17 @@ returns-clause-lost c =
 pub returns-clause-nodes_once : goal.returns-clause-nodes_once
 returns-clause-nodes_once c =
     let ls = c.args.losses.now in
-    once _ _ (subst (λ rest. AreLeft c.args.loaded.now.session.book.topology.cluster c.args.loaded.now.names rest ls c.loop-loss.lost) (drop_all c.loop-loss.loss-index ls (omega (arith, c.loop-loss-test.false))) c.loop-loss.invariant).nodes
+    once c.loop-loss.lost.nodes.items (all_named c.args.loaded.now.session.book.topology.cluster c.args.loaded.now.names dies ls) (subst (λ rest. AreLeft c.args.loaded.now.session.book.topology.cluster c.args.loaded.now.names rest ls c.loop-loss.lost) (drop_all c.loop-loss.loss-index ls (omega (arith, c.loop-loss-test.false))) c.loop-loss.invariant).nodes
 
 pub returns-clause-drained_once : goal.returns-clause-drained_once
 returns-clause-drained_once c =
     let ls = c.args.losses.now in
-    once _ _ (subst (λ rest. AreLeft c.args.loaded.now.session.book.topology.cluster c.args.loaded.now.names rest ls c.loop-loss.lost) (drop_all c.loop-loss.loss-index ls (omega (arith, c.loop-loss-test.false))) c.loop-loss.invariant).drained
+    once c.loop-loss.lost.drained.items (all_named c.args.loaded.now.session.book.topology.cluster c.args.loaded.now.names drains ls) (subst (λ rest. AreLeft c.args.loaded.now.session.book.topology.cluster c.args.loaded.now.names rest ls c.loop-loss.lost) (drop_all c.loop-loss.loss-index ls (omega (arith, c.loop-loss-test.false))) c.loop-loss.invariant).drained
 
 pub returns-clause-storages_once : goal.returns-clause-storages_once
 returns-clause-storages_once c =
     let ls = c.args.losses.now in
-    once _ _ (subst (λ rest. AreLeft c.args.loaded.now.session.book.topology.cluster c.args.loaded.now.names rest ls c.loop-loss.lost) (drop_all c.loop-loss.loss-index ls (omega (arith, c.loop-loss-test.false))) c.loop-loss.invariant).storages
+    once c.loop-loss.lost.storages.items (all_named c.args.loaded.now.session.book.topology.cluster c.args.loaded.now.names fails ls) (subst (λ rest. AreLeft c.args.loaded.now.session.book.topology.cluster c.args.loaded.now.names rest ls c.loop-loss.lost) (drop_all c.loop-loss.loss-index ls (omega (arith, c.loop-loss-test.false))) c.loop-loss.invariant).storages
 
 pub returns-clause-known : goal.returns-clause-known
 returns-clause-known c =
