@@ -160,12 +160,12 @@ module _ (C : Cluster) (m : Map by_number BlockInfo) where
   end_of t l u b = ⊎_elim
       (λ less. earlier t l u [] b less ∙ sym (only_below t (value m t l u) b less))
       (λ le. ⊎_elim
-        (λ later. not_earlier t l u [] b 0 0 le (omega (arith, only_above t l b later)) (omega (arith, only_above t u b later)) ∙ none_usable b 0 ∙ sym (only_above t (value m t l u) b later))
-        (λ ge.
-          let is : t ≡ b = omega arith in
-          subst (λ c. rest_of C m t l u [] c ≡ only t (value m t l u) c) is
-          (not_earlier t l u [] t l u (omega arith) (omega (arith, only_here t l)) (omega (arith, only_here t u)) ∙ sym (only_here t (value m t l u))))
-        (cases_lt t b))
+      (λ later. not_earlier t l u [] b 0 0 le (omega (arith, only_above t l b later)) (omega (arith, only_above t u b later)) ∙ none_usable b 0 ∙ sym (only_above t (value m t l u) b later))
+      (λ ge.
+      let is : t ≡ b = omega arith in
+      subst (λ c. rest_of C m t l u [] c ≡ only t (value m t l u) c) is
+      (not_earlier t l u [] t l u (omega arith) (omega (arith, only_here t l)) (omega (arith, only_here t u)) ∙ sym (only_here t (value m t l u))))
+      (cases_lt t b))
       (cases_lt b t)
 
   pub end : (t l u : ℕ) → rest_bytes C m t l u [] ≡ value m t l u
@@ -177,20 +177,20 @@ module _ (C : Cluster) (m : Map by_number BlockInfo) where
   next_of t l u e es b less up = ⊎_elim
       (λ before. joined (earlier t l u (e ∷ es) b before) (only_below t _ b before) (earlier e.0.block 0 0 (e ∷ es) b (omega arith)))
       (λ le. ⊎_elim
-        (λ later. ⊎_elim
-          (λ between. joined (not_earlier t l u (e ∷ es) b 0 0 le (no (is_live C) l later between) (no counts u later between) ∙ none_usable b 0)
-            (only_above t _ b later) (earlier e.0.block 0 0 (e ∷ es) b between))
-          (λ at.
-            let ones = not_earlier t l u (e ∷ es) b (count_of (is_live C) (e ∷ es) b) (count_of counts (e ∷ es) b) le (omega (arith, only_above t l b later)) (omega (arith, only_above t u b later)) in
-            let others = not_earlier e.0.block 0 0 (e ∷ es) b (count_of (is_live C) (e ∷ es) b) (count_of counts (e ∷ es) b) at (omega (arith, only_zero e.0.block b)) (omega (arith, only_zero e.0.block b)) in
-            omega (arith, ones, others, only_above t (value m t l u) b later))
-          (cases_lt b e.0.block))
-        (λ ge.
-          let is : t ≡ b = omega arith in
-          subst (λ c. rest_of C m t l u (e ∷ es) c ≡ only t (value m t l u) c + rest_of C m e.0.block 0 0 (e ∷ es) c) is
-          (let first = not_earlier t l u (e ∷ es) t l u (omega arith) (last (is_live C) l) (last counts u) in
-           omega (arith, first, only_here t (value m t l u), earlier e.0.block 0 0 (e ∷ es) t less)))
-        (cases_lt t b))
+      (λ later. ⊎_elim
+      (λ between. joined (not_earlier t l u (e ∷ es) b 0 0 le (no (is_live C) l later between) (no counts u later between) ∙ none_usable b 0)
+      (only_above t _ b later) (earlier e.0.block 0 0 (e ∷ es) b between))
+      (λ at.
+      let ones = not_earlier t l u (e ∷ es) b (count_of (is_live C) (e ∷ es) b) (count_of counts (e ∷ es) b) le (omega (arith, only_above t l b later)) (omega (arith, only_above t u b later)) in
+      let others = not_earlier e.0.block 0 0 (e ∷ es) b (count_of (is_live C) (e ∷ es) b) (count_of counts (e ∷ es) b) at (omega (arith, only_zero e.0.block b)) (omega (arith, only_zero e.0.block b)) in
+      omega (arith, ones, others, only_above t (value m t l u) b later))
+      (cases_lt b e.0.block))
+      (λ ge.
+      let is : t ≡ b = omega arith in
+      subst (λ c. rest_of C m t l u (e ∷ es) c ≡ only t (value m t l u) c + rest_of C m e.0.block 0 0 (e ∷ es) c) is
+      (let first = not_earlier t l u (e ∷ es) t l u (omega arith) (last (is_live C) l) (last counts u) in
+      omega (arith, first, only_here t (value m t l u), earlier e.0.block 0 0 (e ∷ es) t less)))
+      (cases_lt t b))
       (cases_lt b t)
     where
       joined : {x y z : ℕ} → x ≡ 0 → y ≡ 0 → z ≡ 0 → x ≡ y + z
@@ -410,9 +410,9 @@ taken_summed M excess e es r info s s1 s2 s3 x u l one known turns asks passes l
     let now : IsSummed M excess (e ∷ es) t = turned_summed M excess e es info s known was in
     let first_is : s1 ≡ t = turns ∙ ap (λ (q : Replica). turned info q.block s) one in
     let excess_is : x ≡ e.1.excess =
-        asks ∙ ap (λ (z : Summed). is_next excess z.passed (record { block = r.block; storage = r.storage })) first_is
-        ∙ ap (λ (q : Replica). is_next excess t.passed (record { block = q.block; storage = q.storage })) one
-        ∙ next_excess excess t.passed e es was.sorted now.excess_left in
+    asks ∙ ap (λ (z : Summed). is_next excess z.passed (record { block = r.block; storage = r.storage })) first_is
+    ∙ ap (λ (q : Replica). is_next excess t.passed (record { block = q.block; storage = q.storage })) one
+    ∙ next_excess excess t.passed e es was.sorted now.excess_left in
     let usable_is : u ≡ counts e = uses ∙ (λ i. is_good (one i).tag && not (excess_is i)) in
     let live_is : l ≡ not (is_draining M.cluster e.0.storage) = lives ∙ ap (λ (q : Replica). not (is_draining M.cluster q.storage)) one in
     let made : s3 ≡ with_counts x u (u && l) s1 = counted ∙ ap (λ (z : Summed). record z { usable = z.usable + cond u 1 0; live = z.live + cond (u && l) 1 0 }) passes in

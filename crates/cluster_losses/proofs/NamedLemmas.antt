@@ -1,8 +1,9 @@
 -- What words name, one after another.
-use Rattle.std.proofs.Common.{◌≡◌, ◌∙◌, ℕ, Bool, true, false, cond, List, [], ◌∷◌, ◌++◌, Option, Some, None, refl, sym, ap, subst, drop, length, option_map, arith}
-use Rattle.std.specs.Prelude.{◌==◌, ◌||◌, ◌+◌, zero, suc, fold, slice_get, if◌then◌else◌}
+use Rattle.std.proofs.Common.{◌≡◌, ◌∙◌, ℕ, Bool, true, false, cond, List, [], ◌∷◌, ◌++◌, Option, Some, None, refl, sym, ap, subst, drop, length, get_or, option_map, arith}
+use Rattle.std.specs.Prelude.{◌==◌, ◌||◌, ◌+◌, ◌<◌, zero, suc, fold, slice_get, if◌then◌else◌}
 use Rattle.std.specs.List.{find, flat_map, list_any}
 use Rattle.std.proofs.lemmas.Bool.{false≢true}
+use Rattle.std.proofs.lemmas.Option.{slice_get-get_or}
 use Rattle.std.proofs.lemmas.List.Folds.{list_any-append}
 use Rattle.std.proofs.lemmas.List.Sums.{fold-append}
 use Rattle.bm_base.specs.Words.{Cluster, has, has_repeats}
@@ -67,9 +68,9 @@ module _ (C : Cluster) (names : Names) where
   pub added : (ls rest : List Loss) (l : Loss) (old new : Lost) → AreAdded (named_by C names l.kind l.name.now) l.kind old new → is_unknown C names l ≡ false
       → AreLeft C names (l ∷ rest) ls old → AreLeft C names rest ls new
   added ls rest l old new adds known was = record {
-    nodes = with_more old.nodes.items new.nodes.items _ _ _ adds.nodes was.nodes;
-    drained = with_more old.drained.items new.drained.items _ _ _ adds.drained was.drained;
-    storages = with_more old.storages.items new.storages.items _ _ _ adds.storages was.storages;
+    nodes = with_more old.nodes.items new.nodes.items (if dies l.kind then named_by C names l.kind l.name.now else []) (all_named C names dies rest) (with_all [] (all_named C names dies ls)) adds.nodes was.nodes;
+    drained = with_more old.drained.items new.drained.items (if drains l.kind then named_by C names l.kind l.name.now else []) (all_named C names drains rest) (with_all [] (all_named C names drains ls)) adds.drained was.drained;
+    storages = with_more old.storages.items new.storages.items (if fails l.kind then named_by C names l.kind l.name.now else []) (all_named C names fails rest) (with_all [] (all_named C names fails ls)) adds.storages was.storages;
     unknown = ap (λ t. option_map (λ (k : Loss). k.kind) (cond t (Some l) (find (is_unknown C names) rest))) (sym known) ∙ was.unknown;
   }
 
@@ -89,7 +90,7 @@ module _ (C : Cluster) (names : Names) where
   fault_stays ls rest l faults.NotSetBack same is = is
   fault_stays ls rest l (faults.Refused r) same is = is
 
-pub next_word : {X : Type 0} (xs : List X) (i : ℕ) (x : X) → slice_get xs i ≡ Some x → drop i xs ≡ x ∷ drop (i + 1) xs
+next_word : {X : Type 0} (xs : List X) (i : ℕ) (x : X) → slice_get xs i ≡ Some x → drop i xs ≡ x ∷ drop (i + 1) xs
 next_word xs i x h = by xs i h ∙ ap (λ n. x ∷ drop n xs) (one i)
   where
     one : (i : ℕ) → suc i ≡ i + 1
@@ -108,3 +109,6 @@ none_left C names ls lost nodes drained storages = record {
   storages = ap (λ xs. with_all xs (all_named C names fails ls)) storages;
   unknown = refl;
 }
+
+pub next_at : {X : Type 0} (xs : List X) (i : ℕ) (d : X) → i < length xs → drop i xs ≡ get_or xs i d ∷ drop (i + 1) xs
+next_at xs i d less = next_word xs i (get_or xs i d) (slice_get-get_or xs i d less)

@@ -13,10 +13,10 @@ own : IsNumeralModel (λ ds. all_ascii_digits ds ≡ true) (digits_value 10)
 own = numerals_by_value (λ ds. all_ascii_digits ds ≡ true) tells_all_ascii_digits
 
 abbrev passes : List ℕ → Bool
-passes ds = nat_lt 0 (length ds) && all_ascii_digits ds && nat_lt (digits_value 10 ds) (2 ^ 32)
+passes ds = nat_lt 0 (length ds) && (all_ascii_digits ds && nat_lt (digits_value 10 ds) (2 ^ 32))
 
 passed : (ds : List ℕ) → IsNumeral 10 ds → digits_value 10 ds < 2 ^ 32 → passes ds ≡ true
-passed ds numeral small = λ i. lt-ltb 0 (length ds) numeral.0 i && own.from ds numeral.1 i && lt-ltb (digits_value 10 ds) (2 ^ 32) small i
+passed ds numeral small = λ i. lt-ltb 0 (length ds) numeral.0 i && (own.from ds numeral.1 i && lt-ltb (digits_value 10 ds) (2 ^ 32) small i)
 
 pub parsed : {E : Type 0} (text : List ℕ) (r : Result ℕ E) → ParsesUnsigned 32 10 text r → result_ok r ≡ number_written text
 parsed text (Ok n) h =
@@ -30,5 +30,8 @@ parsed text (Err e) h = by (passes ds) refl
     by : (b : Bool) → passes ds ≡ b → None ≡ cond b (Some (digits_value 10 ds)) None
     by false is = refl
     by true is =
-        let rest = and_second (nat_lt 0 (length ds)) _ is in
-        absurd (h ((ltb-true 0 (length ds) (and_first (nat_lt 0 (length ds)) _ is), own.to ds (and_first (all_ascii_digits ds) _ rest)), ltb-true (digits_value 10 ds) (2 ^ 32) (and_second (all_ascii_digits ds) _ rest)))
+        let some : nat_lt 0 (length ds) ≡ true = and_first (nat_lt 0 (length ds)) (all_ascii_digits ds && nat_lt (digits_value 10 ds) (2 ^ 32)) is in
+        let rest = and_second (nat_lt 0 (length ds)) (all_ascii_digits ds && nat_lt (digits_value 10 ds) (2 ^ 32)) is in
+        let digits : all_ascii_digits ds ≡ true = and_first (all_ascii_digits ds) (nat_lt (digits_value 10 ds) (2 ^ 32)) rest in
+        let small : nat_lt (digits_value 10 ds) (2 ^ 32) ≡ true = and_second (all_ascii_digits ds) (nat_lt (digits_value 10 ds) (2 ^ 32)) rest in
+        absurd (h ((ltb-true 0 (length ds) some, own.to ds digits), ltb-true (digits_value 10 ds) (2 ^ 32) small))

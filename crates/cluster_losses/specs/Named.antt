@@ -19,7 +19,7 @@ use Rattle.cluster_losses.specs.Parts.{nodes_on}
 abbrev pub number_written : Text → Option ℕ
 number_written text =
     let digits = without_leading_plus text in
-    if nat_lt 0 (length digits) && all_ascii_digits digits && nat_lt (digits_value 10 digits) (2 ^ 32) then Some (digits_value 10 digits) else None
+    if nat_lt 0 (length digits) && (all_ascii_digits digits && nat_lt (digits_value 10 digits) (2 ^ 32)) then Some (digits_value 10 digits) else None
 
 -- the number that has this name; if nothing of the kind has a name, the number is the name
 abbrev pub number_named : Rows → Text → Option ℕ

@@ -8,11 +8,10 @@ ghost use Rattle.cluster_report.specs.Sessions.{IsInStep};
 ghost use Rattle.cluster_losses.specs.Reached.{IsReached};
 ghost use Rattle.cluster_losses.specs.Tables.{AreRows, IsRowAt, IsRowFrom, levels_cmp, row_cmp};
 
-pub use crate::parts::{nodes_of, racks_of};
-
 use crate::fault::Fault;
 use crate::loss_events::Lost;
 use crate::parts::Part;
+pub use crate::parts::{nodes_of, racks_of};
 use crate::set_back::{Return, returns_of};
 use crate::without::{Outcome, without};
 use bm_base::{Refusal, Replica};
@@ -63,7 +62,14 @@ pub fn rows_of<H: Threads + Wait + Sync>(
     let replicas = loaded.session.manager.replicas()?;
     let returns = returns_of(alloc, &loaded.session.book, replicas.as_slice())?;
     let returns = returns.as_slice();
-    let mut rows = lose_each(rt, alloc, &mut loaded.session, &loaded.files, parts, returns)?;
+    let mut rows = lose_each(
+        rt,
+        alloc,
+        &mut loaded.session,
+        &loaded.files,
+        parts,
+        returns,
+    )?;
     // Each node came back once, so what did not come back then is missing now.
     let now = loaded.session.manager.replicas()?;
     if !are_same(now.as_slice(), replicas.as_slice()) {

@@ -89,7 +89,8 @@ impl Summed {
     fn passes_excess(&mut self, excess: &[ReplicaId], id: ReplicaId) -> bool
         ensures is { result ≡ is_next excess.now self.old.passed id }
         ensures passed { self.new ≡ record self.old {
-            passed = if result then self.old.passed + 1 else self.old.passed } }
+          passed = if result then self.old.passed + 1 else self.old.passed;
+        } }
     {
         let is_it = is_next(excess, self.passed, id);
         if is_it {
@@ -103,8 +104,9 @@ impl Summed {
         requires usable { self.old.usable < 2 ^ 63 }
         requires live { self.old.live < 2 ^ 63 }
         ensures { self.new ≡ record self.old {
-            usable = self.old.usable + (if is_usable then 1 else 0);
-            live = self.old.live + (if is_usable && is_live then 1 else 0) } }
+          usable = self.old.usable + (if is_usable then 1 else 0);
+          live = self.old.live + (if is_usable && is_live then 1 else 0);
+        } }
     {
         if is_usable {
             self.usable += 1;

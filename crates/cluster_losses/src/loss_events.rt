@@ -48,7 +48,7 @@ impl Lost {
     {
         let mut lost = Lost::new(alloc);
         for loss in losses {
-            lost.add(alloc, loaded, *loss)?;
+            lost.add(alloc, loaded, loss)?;
         }
         Ok(lost)
     }
@@ -63,14 +63,14 @@ impl Lost {
     }
 
     /// Adds what a loss names.
-    fn add(&mut self, alloc: Global, loaded: &Loaded, loss: Loss<'_>) -> Result<(), Fault>
+    fn add(&mut self, alloc: Global, loaded: &Loaded, loss: &Loss<'_>) -> Result<(), Fault>
         ensures lost { OnOk result (AreAdded (named_by loaded.now.session.book.topology.cluster
-            loaded.now.names loss.entry.kind loss.entry.name.now) loss.entry.kind
+            loaded.now.names loss.now.kind loss.now.name.now) loss.now.kind
             self.old self.new) }
         ensures known { OnOk result (is_unknown loaded.now.session.book.topology.cluster
-            loaded.now.names loss.entry ≡ false) }
+            loaded.now.names loss.now ≡ false) }
         ensures fault { IfErr result (IsFaultOf (first_unknown
-            loaded.now.session.book.topology.cluster loaded.now.names (loss.entry ∷ []))) }
+            loaded.now.session.book.topology.cluster loaded.now.names (loss.now ∷ []))) }
     {
         match loss.kind {
             Kind::Rack => {

@@ -9,7 +9,7 @@ use Rattle.cluster_losses.proofs.each.lose_each.Goals as goal
 
 pub loop-part-init : goal.loop-part-init
 loop-part-init g c = record {
-  rows = tt;
+  rows = subst (λ vs. AllZip (IsRowFrom c.args.files.now c.args.session.now.manager) [] vs) (sym c.new-rows.ensures.items) tt;
   reached = no_way c.args.session.now.manager;
   in_step = c.requires;
 }

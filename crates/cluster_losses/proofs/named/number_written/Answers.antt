@@ -3,4 +3,4 @@ use Rattle.cluster_losses.proofs.NumberLemmas.{parsed}
 use Rattle.cluster_losses.proofs.named.number_written.Goals as goal
 
 pub returns : goal.returns
-returns c = c.ok.ensures ∙ parsed c.args.text.now c.parse.result c.parse.ensures.value.0
+returns c = c.ok.ensures.value ∙ parsed c.args.text.now c.parse.result c.parse.ensures.value.0

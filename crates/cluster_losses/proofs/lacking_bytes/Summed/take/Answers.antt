@@ -1,4 +1,5 @@
 use Rattle.std.proofs.Common.{◌≡◌, ◌≤◌, ◌+◌, ℕ, Bool, true, false, cond, not, ap, ◌∙◌, arith}
+use Rattle.std.specs.Prelude.{◌&&◌}
 use Rattle.bm_base.specs.Words.{Cluster, is_draining}
 use Rattle.cluster_losses.specs.declared.lacking_bytes.Summed.{Summed}
 use Rattle.cluster_losses.proofs.LackingLemmas.{taken_summed, turned_usable, turned_live}
@@ -45,5 +46,5 @@ returns-clause-live c =
     let after = ap (λ (s : Summed). s.live) c.turn_to.ensures in
     let same = ap (λ (s : Summed). s.live) c.passes_excess-is_excess.ensures.passed in
     let counted = ap (λ (s : Summed). s.live) c.count.ensures in
-    let one = at_most_one _ in
-    omega (arith, counted, one)
+    let one = at_most_one (c.is_usable-is_usable.result && not c.is_draining-is_live.result) in
+    omega arith

@@ -1,9 +1,9 @@
-use Rattle.std.proofs.Common.{◌≡◌, ◌∙◌, ◌+◌, ◌≤◌, [], ◌∷◌, drop, length, refl, sym, ap, subst, arith}
+use Rattle.std.proofs.Common.{◌≡◌, ◌∙◌, ◌+◌, ◌≤◌, [], ◌∷◌, drop, length, List, sym, subst, arith}
 use Rattle.std.proofs.lemmas.List.{drop_all}
-use Rattle.std.proofs.lemmas.Option.{slice_get_read}
 use Rattle.std.proofs.lemmas.Result.{err_from_is_err_and}
-use Rattle.cluster_losses.specs.Named.{IsFaultOf, first_unknown}
-use Rattle.cluster_losses.proofs.NamedLemmas.{AreLeft, none_left, added, all_added, fault_stays, once, next_word}
+use Rattle.cluster_losses.specs.declared.loss.Loss.{Loss}
+use Rattle.cluster_losses.specs.Named.{all_named, dies, drains, fails, first_unknown}
+use Rattle.cluster_losses.proofs.NamedLemmas.{AreLeft, none_left, added, all_added, fault_stays, once, next_at}
 use Rattle.cluster_losses.proofs.loss_events.Lost.named.Goals as goal
 
 pub loop-loss-init : goal.loop-loss-init
@@ -15,9 +15,8 @@ loop-loss-preserved c =
     let names = c.args.loaded.now.names in
     let ls = c.args.losses.now in
     let i = c.loop-loss.loss-index in
-    let next = next_word ls i c.loss-item.result (slice_get_read ls _ i _ refl c.loop-loss-test.true c.loss-item.is) in
-    added C names ls (drop (i + 1) ls) c.loss-item.result c.loop-loss.lost _ c.in_ok-add.ensures.lost c.in_ok-add.ensures.known
-    (subst (λ rest. AreLeft C names rest ls c.loop-loss.lost) next c.loop-loss.invariant)
+    added C names ls (drop (i + 1) ls) _ c.loop-loss.lost _ c.in_ok-add.ensures.lost c.in_ok-add.ensures.known
+    (subst (λ (rest : List Loss). AreLeft C names rest ls c.loop-loss.lost) (next_at ls i _ c.loop-loss-test.true) c.loop-loss.invariant)
 
 pub returns-clause-lost : goal.returns-clause-lost
 returns-clause-lost c =
@@ -28,17 +27,17 @@ returns-clause-lost c =
 pub returns-clause-nodes_once : goal.returns-clause-nodes_once
 returns-clause-nodes_once c =
     let ls = c.args.losses.now in
-    once _ _ (subst (λ rest. AreLeft c.args.loaded.now.session.book.topology.cluster c.args.loaded.now.names rest ls c.loop-loss.lost) (drop_all c.loop-loss.loss-index ls (omega (arith, c.loop-loss-test.false))) c.loop-loss.invariant).nodes
+    once c.loop-loss.lost.nodes.items (all_named c.args.loaded.now.session.book.topology.cluster c.args.loaded.now.names dies ls) (subst (λ rest. AreLeft c.args.loaded.now.session.book.topology.cluster c.args.loaded.now.names rest ls c.loop-loss.lost) (drop_all c.loop-loss.loss-index ls (omega (arith, c.loop-loss-test.false))) c.loop-loss.invariant).nodes
 
 pub returns-clause-drained_once : goal.returns-clause-drained_once
 returns-clause-drained_once c =
     let ls = c.args.losses.now in
-    once _ _ (subst (λ rest. AreLeft c.args.loaded.now.session.book.topology.cluster c.args.loaded.now.names rest ls c.loop-loss.lost) (drop_all c.loop-loss.loss-index ls (omega (arith, c.loop-loss-test.false))) c.loop-loss.invariant).drained
+    once c.loop-loss.lost.drained.items (all_named c.args.loaded.now.session.book.topology.cluster c.args.loaded.now.names drains ls) (subst (λ rest. AreLeft c.args.loaded.now.session.book.topology.cluster c.args.loaded.now.names rest ls c.loop-loss.lost) (drop_all c.loop-loss.loss-index ls (omega (arith, c.loop-loss-test.false))) c.loop-loss.invariant).drained
 
 pub returns-clause-storages_once : goal.returns-clause-storages_once
 returns-clause-storages_once c =
     let ls = c.args.losses.now in
-    once _ _ (subst (λ rest. AreLeft c.args.loaded.now.session.book.topology.cluster c.args.loaded.now.names rest ls c.loop-loss.lost) (drop_all c.loop-loss.loss-index ls (omega (arith, c.loop-loss-test.false))) c.loop-loss.invariant).storages
+    once c.loop-loss.lost.storages.items (all_named c.args.loaded.now.session.book.topology.cluster c.args.loaded.now.names fails ls) (subst (λ rest. AreLeft c.args.loaded.now.session.book.topology.cluster c.args.loaded.now.names rest ls c.loop-loss.lost) (drop_all c.loop-loss.loss-index ls (omega (arith, c.loop-loss-test.false))) c.loop-loss.invariant).storages
 
 pub returns-clause-known : goal.returns-clause-known
 returns-clause-known c =
@@ -51,8 +50,7 @@ returns-in_err-add-clause-fault c =
     let names = c.args.loaded.now.names in
     let ls = c.args.losses.now in
     let i = c.loop-loss.loss-index in
-    let next = next_word ls i c.loss-item.result (slice_get_read ls _ i _ refl c.loop-loss-test.true c.loss-item.is) in
-    let left = subst (λ rest. AreLeft C names rest ls c.loop-loss.lost) next c.loop-loss.invariant in
-    let stays = fault_stays C names ls (drop (i + 1) ls) c.loss-item.result _ left.unknown c.in_err-add.ensures.fault in
     let e = err_from_is_err_and c.from_residual.result c.from_residual.ensures.1 in
-    rw (e.1, e.2) stays
+    rw (e.1, e.2)
+    (fault_stays C names ls (drop (i + 1) ls) _ _
+    (subst (λ (rest : List Loss). first_unknown C names rest ≡ first_unknown C names ls) (next_at ls i _ c.loop-loss-test.true) c.loop-loss.invariant.unknown) c.in_err-add.ensures.fault)
