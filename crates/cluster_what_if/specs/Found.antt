@@ -7,7 +7,6 @@ use Rattle.cluster_losses.specs.Events.{events_of}
 use Rattle.cluster_losses.specs.Named.{AreNamed}
 use Rattle.cluster_losses.specs.Parts.{AreRacks, node_part}
 use Rattle.cluster_losses.specs.Tables.{AreRows}
-use Rattle.cluster_losses.specs.declared.loss.Kind.{Kind}
 use Rattle.cluster_losses.specs.declared.loss.Kind.TheVariants as kind
 use Rattle.cluster_losses.specs.declared.loss.Loss.{Loss}
 use Rattle.cluster_losses.specs.declared.loss.Question.{Question}
