@@ -1,6 +1,6 @@
 -- Sums over blocks, while their replicas are counted.
-use Rattle.std.proofs.Common.{◌≡◌, ◌∙◌, ℕ, ◌+◌, ◌*◌, ◌<◌, ◌≤◌, Bool, true, false, cond, not, List, [], ◌∷◌, Option, Some, None, refl, sym, ap, subst, map, filter, length, drop, arith, T, ⊎_elim}
-use Rattle.std.specs.Prelude.{◌==◌, ◌&&◌, ◌||◌, ◌-◌, ◌^◌, zero, suc, nat_lt, min, count_by, sum_by, slice_get, if◌then◌else◌}
+use Rattle.std.proofs.Common.{◌≡◌, ◌∙◌, ℕ, ◌+◌, ◌<◌, ◌≤◌, Bool, true, false, cond, not, List, [], ◌∷◌, Option, Some, None, refl, sym, ap, subst, map, filter, length, drop, arith, T, ⊎_elim}
+use Rattle.std.specs.Prelude.{◌==◌, ◌&&◌, ◌||◌, ◌-◌, ◌^◌, zero, suc, nat_lt, min, sum_by, slice_get, if◌then◌else◌}
 use Rattle.std.specs.Option.{option_map_or}
 use Rattle.std.specs.Ordering.{is_lt, nat_cmp, ordering_then, eq_by_cmp}
 use Rattle.std.specs.declared.cmp.Ordering.TheVariants.{Less, Equal, Greater}
@@ -15,7 +15,7 @@ use Rattle.bm_base.specs.declared.replica.ReplicaId.{ReplicaId}
 use Rattle.bm_base.specs.declared.replica.Marks.{Marks}
 use Rattle.bm_base.specs.declared.replica.Replica.{Replica}
 use Rattle.bm_base.specs.declared.replica.BlockInfo.{BlockInfo}
-use Rattle.bm_base.specs.Words.{Map, by_number, State, Cluster, Holdings, get, keys, entries, contains_key, has, has_repeats, by_replica, replica_cmp, storages_where, live, usable, is_good, is_usable, is_live_on, is_draining, all_replicas, excess_replicas, replicas_where}
+use Rattle.bm_base.specs.Words.{Map, by_number, State, Cluster, Holdings, get, keys, entries, has, has_repeats, by_replica, replica_cmp, storages_where, is_good, is_usable, is_live_on, is_draining, all_replicas, excess_replicas, replicas_where}
 use Rattle.bm_base.proofs.OneWish.{once_keys}
 use Rattle.bm_base.proofs.Sets.{has_keys}
 use Rattle.bm_base.proofs.Options.{not_there}

@@ -1,7 +1,7 @@
 -- What words name, one after another.
-use Rattle.std.proofs.Common.{◌≡◌, ◌∙◌, ℕ, Bool, true, false, cond, List, [], ◌∷◌, ◌++◌, Option, Some, None, refl, sym, ap, subst, drop, length, get_or, option_map, arith}
-use Rattle.std.specs.Prelude.{◌==◌, ◌||◌, ◌+◌, ◌<◌, zero, suc, fold, slice_get, if◌then◌else◌}
-use Rattle.std.specs.List.{find, flat_map, list_any}
+use Rattle.std.proofs.Common.{◌≡◌, ◌∙◌, ℕ, Bool, true, false, cond, List, [], ◌∷◌, ◌++◌, Some, None, refl, sym, ap, drop, length, get_or, option_map, arith}
+use Rattle.std.specs.Prelude.{◌==◌, ◌||◌, ◌+◌, ◌<◌, zero, suc, slice_get, if◌then◌else◌}
+use Rattle.std.specs.List.{find}
 use Rattle.std.proofs.lemmas.Bool.{false≢true}
 use Rattle.std.proofs.lemmas.Option.{slice_get-get_or}
 use Rattle.std.proofs.lemmas.List.Folds.{list_any-append}
@@ -11,7 +11,6 @@ use Rattle.bm_base.proofs.Clusters.{eqb_turned}
 use Rattle.cluster_names.specs.declared.names.Names.{Names}
 use Rattle.cluster_losses.specs.declared.fault.Fault.{Fault}
 use Rattle.cluster_losses.specs.declared.fault.Fault.TheVariants as faults
-use Rattle.cluster_losses.specs.declared.loss.Kind.{Kind}
 use Rattle.cluster_losses.specs.declared.loss.Loss.{Loss}
 use Rattle.cluster_losses.specs.declared.loss_events.Lost.{Lost}
 use Rattle.cluster_losses.specs.Named.{IsFaultOf, AreNamed, AreAdded, all_named, named_by, dies, drains, fails, is_unknown, first_unknown, with_one, with_all}

@@ -1,5 +1,5 @@
 -- The bytes that are still to be copied, and the bytes that are free for them.
-use Rattle.std.specs.Prelude.{ℕ, ◌+◌, ◌-◌, ◌*◌, ◌^◌, ◌==◌, min, if◌then◌else◌, length, sum_by}
+use Rattle.std.specs.Prelude.{ℕ, ◌-◌, ◌*◌, ◌^◌, ◌==◌, min, if◌then◌else◌, length, sum_by}
 use Rattle.std.specs.Option.{option_map_or}
 use Rattle.bm_base.specs.declared.replica.BlockInfo.{BlockInfo}
 use Rattle.bm_base.specs.Words.{State, Cluster, get, keys, live, usable, is_draining, remaining}

@@ -1,4 +1,4 @@
-use Rattle.std.proofs.Common.{◌≡◌, ◌≤◌, ◌+◌, ℕ, Bool, true, false, cond, not, ap, ◌∙◌, arith}
+use Rattle.std.proofs.Common.{◌≤◌, Bool, true, false, cond, not, ap, ◌∙◌, arith}
 use Rattle.std.specs.Prelude.{◌&&◌}
 use Rattle.bm_base.specs.Words.{Cluster, is_draining}
 use Rattle.cluster_losses.specs.declared.lacking_bytes.Summed.{Summed}

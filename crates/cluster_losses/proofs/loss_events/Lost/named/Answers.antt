@@ -1,4 +1,4 @@
-use Rattle.std.proofs.Common.{◌≡◌, ◌∙◌, ◌+◌, ◌≤◌, [], ◌∷◌, drop, length, List, sym, subst, arith}
+use Rattle.std.proofs.Common.{◌≡◌, ◌+◌, drop, List, sym, subst, arith}
 use Rattle.std.proofs.lemmas.List.{drop_all}
 use Rattle.std.proofs.lemmas.Result.{err_from_is_err_and}
 use Rattle.cluster_losses.specs.declared.loss.Loss.{Loss}
