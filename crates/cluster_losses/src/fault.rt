@@ -10,7 +10,7 @@ pub enum Fault {
     #[error("memory fault")]
     Memory,
     /// A word of the command line names nothing of the cluster.
-    #[error("the cluster has no such {0}")]
+    #[error("the cluster has no such {0}; `report` lists the names")]
     Unknown(Kind),
     /// Replicas in excess are no longer so after their node has come back.
     #[error("replicas are in excess, so racks and nodes can be lost one at a time only")]
