@@ -1,2 +1,4 @@
 -- Lemmas.
 pub mod Numbers
+pub mod Calls
+pub mod Rounds
