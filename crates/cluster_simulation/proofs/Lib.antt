@@ -2,3 +2,4 @@
 pub mod Numbers
 pub mod Calls
 pub mod Rounds
+pub mod Storages

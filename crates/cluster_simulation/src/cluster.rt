@@ -1,13 +1,13 @@
 // The manager of a made-up cluster with its book, and the calls that it refuses.
-ghost use Rattle.std.specs.Prelude.{◌≡◌, ◌+◌, ◌-◌, ◌^◌, min, IfOk, OnOk, if◌then◌else◌};
+ghost use Rattle.std.specs.Prelude.{◌≡◌, ◌+◌, ◌-◌, ◌^◌, min, is_some, IfOk, OnOk, if◌then◌else◌};
 ghost use Rattle.bm_base.specs.Words.{step, state_after, is_refused, whole_round, count_call};
 ghost use Rattle.cluster_report.specs.Sessions.{IsInStep};
 ghost use Rattle.laws_of_repairs.specs.Repairs.{Covers};
 
-use bm_base::{Call, Commands, Config, Refusal};
+use bm_base::{Call, Commands, Refusal};
 use bm_crew::NoGate;
 use cluster_report::session::Session;
-use std::alloc::{AllocError, Global};
+use std::alloc::AllocError;
 use std::sync::Wait;
 use std::thread::Threads;
 
@@ -19,18 +19,7 @@ pub struct Cluster {
 }
 
 impl Cluster {
-    /// No node.
-    pub fn new(alloc: Global) -> Result<Cluster, Refusal>
-        ensures { IfOk result (λ c. IsInStep c.session) }
-    {
-        Ok(Cluster {
-            session: Session::new(alloc, &Config::standard())?,
-            refused: 0,
-        })
-    }
-
     /// Makes a call, and counts it if it is refused.
-    #[tactic(auto, using(crate::proofs::Calls::refused_is_told))]
     pub fn make<R: Threads + Wait + Sync>(&mut self, rt: &R, call: &Call) -> Result<(), AllocError>
         requires { IsInStep self.old.session }
         ensures state { OnOk result (self.new.session.manager
@@ -40,10 +29,9 @@ impl Cluster {
             then min (self.old.refused + 1) (2 ^ 64 - 1) else self.old.refused)) }
         ensures in_step { OnOk result (IsInStep self.new.session) }
     {
-        let refused = self.session.take_call(rt, call)?;
-        if refused.is_some() {
-            self.refused = self.refused.saturating_add(1);
-        }
+        let message = self.session.take_call(rt, call)?;
+        let refused = counted(self.refused, &message);
+        self.refused = refused;
         Ok(())
     }
 
@@ -78,5 +66,16 @@ impl Cluster {
         let commands = session.manager.round(rt, &NoGate)?;
         session.book.transfers.take_round(&commands)?;
         Ok(commands)
+    }
+}
+
+/// One more where there is a message about a refused call.
+fn counted(refused: u64, message: &Option<String>) -> u64
+    ensures { result ≡ (if is_some message.now then min (refused + 1) (2 ^ 64 - 1) else refused) }
+{
+    if message.is_some() {
+        refused.saturating_add(1)
+    } else {
+        refused
     }
 }

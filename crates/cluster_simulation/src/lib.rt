@@ -50,6 +50,7 @@ mod nodes;
 mod options;
 mod placement;
 mod plan;
+mod rounds;
 mod scale;
 mod shape;
 mod simulation;
@@ -59,13 +60,12 @@ use bm_base::Refusal;
 use clap::Error;
 use clap::error::ErrorKind;
 use cluster_progress::Progress;
-use cluster_repair::links::MICROS;
 use counts::Counts;
 use csv::csv_text;
-use dice::Dice;
 use fault::Fault;
 use options::{Asked, Form, Options, asked_by};
 use plan::Plan;
+use rounds::take_all_rounds;
 use simulation::Simulation;
 use std::alloc::Global;
 use std::io;
@@ -148,7 +148,7 @@ fn text_of<R: Eprint + Threads + Wait + Sync>(
     Ok(text)
 }
 
-/// The counts of each round, first of those before something goes wrong.
+/// The counts of each round.
 fn all_rounds<R: Eprint + Threads + Wait + Sync>(
     rt: &R,
     alloc: Global,
@@ -156,20 +156,8 @@ fn all_rounds<R: Eprint + Threads + Wait + Sync>(
     plan: &Plan,
     progress: &mut Progress,
 ) -> Result<Vec<Counts>, Refusal> {
-    let mut dice = Dice::new(options.seed);
-    let mut simulation = Simulation::new(rt, alloc, options, &mut dice)?;
+    let mut simulation = Simulation::new(alloc)?;
     let mut rows = Vec::new(alloc);
-    for round in 1..plan.round {
-        progress.show_rounds(rt, round - 1, options.rounds);
-        rows.push(simulation.take_quiet_round(rt, round)?)?;
-    }
-    let mut datanodes = simulation.go_wrong(rt, options, plan, &mut dice)?;
-    let interval = u64::from(options.pace.interval).saturating_mul(MICROS);
-    for past in 0..options.rounds.saturating_sub(plan.round).saturating_add(1) {
-        let round = plan.round.saturating_add(past);
-        progress.show_rounds(rt, round.saturating_sub(1), options.rounds);
-        let now = u64::from(past).saturating_mul(interval);
-        rows.push(simulation.take_round(rt, &mut datanodes, round, now)?)?;
-    }
+    take_all_rounds(rt, &mut simulation, options, plan, &mut rows, progress)?;
     Ok(rows)
 }

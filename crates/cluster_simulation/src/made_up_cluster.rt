@@ -15,19 +15,19 @@ use std::sync::Wait;
 use std::thread::Threads;
 
 /// Registers all nodes, places all blocks, and reports what is free.
-pub fn made_up_cluster<R: Threads + Wait + Sync>(
+pub fn make_up_cluster<R: Threads + Wait + Sync>(
     rt: &R,
     alloc: Global,
+    cluster: &mut Cluster,
     options: &Options,
     dice: &mut Dice,
-) -> Result<Cluster, Refusal>
-    ensures { IfOk result (λ c. IsInStep c.session) }
+) -> Result<(), Refusal>
+    requires { IsInStep cluster.old.session }
+    ensures { OnOk result (IsInStep cluster.new.session) }
 {
-    let mut cluster = Cluster::new(alloc)?;
-    register_nodes(rt, alloc, &mut cluster, options.shape)?;
-    place_blocks(rt, alloc, &mut cluster, options, dice)?;
-    report_free(rt, alloc, &mut cluster, options)?;
-    Ok(cluster)
+    register_nodes(rt, alloc, cluster, options.shape)?;
+    place_blocks(rt, alloc, cluster, options, dice)?;
+    report_free(rt, alloc, cluster, options)
 }
 
 fn register_nodes<R: Threads + Wait + Sync>(

@@ -12,12 +12,13 @@ use crate::corrupt::corrupt_calls;
 use crate::counts::Counts;
 use crate::dice::Dice;
 use crate::losses::calls_of;
-use crate::made_up_cluster::made_up_cluster;
+use crate::made_up_cluster::make_up_cluster;
 use crate::options::Options;
 use crate::plan::Plan;
-use bm_base::Refusal;
+use bm_base::{Config, Refusal};
 use cluster_repair::datanodes::DataNodes;
 use cluster_repair::watch::Watch;
+use cluster_report::session::Session;
 use std::alloc::Global;
 use std::sync::Wait;
 use std::thread::Threads;
@@ -31,25 +32,39 @@ pub struct Simulation {
 }
 
 impl Simulation {
-    /// Registers all nodes, and places all blocks.
-    pub fn new<R: Threads + Wait + Sync>(
-        rt: &R,
-        alloc: Global,
-        options: &Options,
-        dice: &mut Dice,
-    ) -> Result<Simulation, Refusal>
-        ensures in_step { IfOk result (λ s. IsInStep s.cluster.session) }
-        ensures covers { IfOk result (λ s.
-            Covers s.cluster.session.manager s.watch.blocks.items) }
+    /// No node.
+    pub fn new(alloc: Global) -> Result<Simulation, Refusal>
+        ensures { IfOk result (λ s. IsInStep s.cluster.session) }
     {
-        let cluster = made_up_cluster(rt, alloc, options, dice)?;
-        let session = &cluster.session;
-        let watch = Watch::new(alloc, &session.manager, &session.book.blocks)?;
         Ok(Simulation {
             alloc,
-            cluster,
-            watch,
+            cluster: Cluster {
+                session: Session::new(alloc, &Config::standard())?,
+                refused: 0,
+            },
+            watch: Watch {
+                blocks: Vec::new(alloc),
+            },
         })
+    }
+
+    /// Registers all nodes, and places all blocks. The session stays where it is: it is too large
+    /// to be moved from frame to frame.
+    pub fn begin<R: Threads + Wait + Sync>(
+        &mut self,
+        rt: &R,
+        options: &Options,
+        dice: &mut Dice,
+    ) -> Result<(), Refusal>
+        requires { IsInStep self.old.cluster.session }
+        ensures in_step { OnOk result (IsInStep self.new.cluster.session) }
+        ensures covers { OnOk result
+            (Covers self.new.cluster.session.manager self.new.watch.blocks.items) }
+    {
+        make_up_cluster(rt, self.alloc, &mut self.cluster, options, dice)?;
+        let session = &self.cluster.session;
+        self.watch = Watch::new(self.alloc, &session.manager, &session.book.blocks)?;
+        Ok(())
     }
 
     /// Takes a round before something goes wrong, and returns the counts after it. DataNodes have
