@@ -1,5 +1,5 @@
 -- Lemmas.
 pub mod Numbers
 pub mod Calls
-pub mod Rounds
+pub mod RoundLemmas
 pub mod Storages

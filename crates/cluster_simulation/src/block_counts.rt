@@ -12,7 +12,7 @@ use std::alloc::Global;
 
 /// Counts the known blocks at each level, and the excess and corrupt replicas. Each watched block
 /// that has no level is watched no longer.
-#[tactic(auto, using(crate::proofs::Rounds::leveled_cover))]
+#[tactic(auto, using(crate::proofs::RoundLemmas::leveled_cover))]
 pub fn count_blocks(
     alloc: Global,
     manager: &Manager,

@@ -1,6 +1,6 @@
 use Rattle.std.proofs.Common.{refl}
 use Rattle.laws_of_repairs.proofs.Watching.{covers_round}
-use Rattle.cluster_simulation.proofs.Rounds.{follows_round}
+use Rattle.cluster_simulation.proofs.RoundLemmas.{follows_round}
 use Rattle.cluster_simulation.proofs.cluster.Cluster.take_round.Goals as goal
 
 pub returns-clause-covers : goal.returns-clause-covers
