@@ -1,2 +1,5 @@
 -- Lemmas.
 pub mod Numbers
+pub mod Calls
+pub mod RoundLemmas
+pub mod Storages

@@ -1,7 +1,8 @@
--- What a cluster loses by incidents, and the events that report it to the manager.
-use Rattle.std.specs.Prelude.{ℕ, Bool, false, List, ◌==◌, ◌/◌, ◌%◌, ◌*◌, ◌&&◌, ◌||◌, not, map, filter, ◌++◌}
+-- What a cluster loses by incidents, and the calls that report it to the manager.
+use Rattle.std.specs.Prelude.{ℕ, Bool, false, List, ◌==◌, ◌/◌, ◌%◌, ◌*◌, ◌&&◌, not, map, filter, ◌++◌}
 use Rattle.std.specs.List.{list_any, range_with_len}
-use Rattle.bm_base.specs.declared.event.Event.{Event}
+use Rattle.bm_base.specs.declared.call.Call.{Call}
+use Rattle.bm_base.specs.declared.call.Call.TheVariants.{Apply}
 use Rattle.bm_base.specs.declared.event.Event.TheVariants.{Dead, StorageFailed, Drain}
 use Rattle.cluster_simulation.specs.declared.shape.Shape.{Shape}
 use Rattle.cluster_simulation.specs.declared.incident.Incident.{Incident}
@@ -32,10 +33,6 @@ any_kills incidents shape s = list_any (λ i. kills i shape s) incidents
 abbrev pub any_drains : List Incident → ℕ → Bool
 any_drains incidents k = list_any (λ i. drains i k) incidents
 
--- no copy can reach the disk any more
-abbrev pub any_bars : List Incident → Shape → ℕ → Bool
-any_bars incidents shape s = any_kills incidents shape s || any_drains incidents (s / shape.storages)
-
 -- the disk is lost, and its node is not
 abbrev pub fails_alone : List Incident → Shape → ℕ → Bool
 fails_alone incidents shape s = any_kills incidents shape s && not (any_kills_node incidents shape (s / shape.storages))
@@ -44,22 +41,22 @@ fails_alone incidents shape s = any_kills incidents shape s && not (any_kills_no
 abbrev pub drains_alive : List Incident → Shape → ℕ → Bool
 drains_alive incidents shape k = any_drains incidents k && not (any_kills_node incidents shape k)
 
-abbrev pub death : ℕ → Event
-death n = Dead n
+abbrev pub death : ℕ → Call
+death n = Apply (Dead n)
 
-abbrev pub failure : ℕ → Event
-failure s = StorageFailed s
+abbrev pub failure : ℕ → Call
+failure s = Apply (StorageFailed s)
 
-abbrev pub drain : ℕ → Event
-drain n = Drain n
+abbrev pub drain : ℕ → Call
+drain n = Apply (Drain n)
 
 -- the numbers below n that pass a test, ascending
 abbrev pub numbers_where : (ℕ → Bool) → ℕ → List ℕ
 numbers_where test n = filter test (range_with_len 0 n)
 
--- the events, one each: a death for each lost node, a failure for each disk lost without its node,
+-- the calls, one each: a death for each lost node, a failure for each disk lost without its node,
 -- a drain for each node that drains and is not lost
-abbrev pub reported : List Incident → Shape → List Event
+abbrev pub reported : List Incident → Shape → List Call
 reported incidents shape =
     map death (numbers_where (any_kills_node incidents shape) shape.nodes)
     ++ map failure (numbers_where (fails_alone incidents shape) (shape.nodes * shape.storages))

@@ -1,6 +1,5 @@
 -- Definitions of the parts of a simulation.
-pub mod Orders
+pub mod Nodes
+pub mod Placing
 pub mod Incidents
-pub mod Awaited
-pub mod Disks
 pub mod Counting

@@ -1,29 +1,30 @@
 // Replicas that are found corrupt.
 
 use crate::dice::Dice;
-use crate::disks::Disks;
-use bm_base::{BlockId, Event, StorageId};
-use std::alloc::{AllocError, Global};
+use bm_base::{BlockId, Call, Event, Refusal, StorageId};
+use bm_manager::Manager;
+use std::alloc::Global;
 
-/// Reports one replica on an alive disk as corrupt for each of `count` blocks, which are at equal
-/// distances among all `blocks`. The first block and the replicas are drawn.
-pub fn corrupt_events(
+/// Reports one good replica as corrupt for each of `count` blocks, which are at equal distances
+/// among all `blocks`. The first block and the replicas are drawn. A block without a good replica
+/// is passed over.
+pub fn corrupt_calls(
     alloc: Global,
     dice: &mut Dice,
-    disks: &Disks,
+    manager: &Manager,
     count: u32,
     blocks: u32,
-) -> Result<Vec<Event>, AllocError> {
-    let mut events = Vec::new(alloc);
+) -> Result<Vec<Call>, Refusal> {
+    let mut calls = Vec::new(alloc);
     let first = dice.below(blocks.max(1));
     for number in 0..count {
         let id = block_at(first, number, count, blocks);
-        let alive = alive_holders(alloc, disks, id)?;
-        if let Some(storage) = drawn(dice, alive.as_slice()) {
-            events.push(Event::Corrupt { storage, id })?;
+        let places = manager.places(id)?;
+        if let Some(storage) = drawn(dice, places.as_slice()) {
+            calls.push(Call::Apply(Event::Corrupt { storage, id }))?;
         }
     }
-    Ok(events)
+    Ok(calls)
 }
 
 /// Returns block `number` of `count` blocks at equal distances among all `blocks`, from `first` on,
@@ -40,18 +41,7 @@ fn block_at(first: u32, number: u32, count: u32, blocks: u32) -> BlockId {
     )
 }
 
-/// The alive disks that hold the block.
-fn alive_holders(alloc: Global, disks: &Disks, id: BlockId) -> Result<Vec<StorageId>, AllocError> {
-    let mut alive = Vec::new(alloc);
-    for storage in disks.holders(id) {
-        if disks.is_alive(*storage) {
-            alive.push(*storage)?;
-        }
-    }
-    Ok(alive)
-}
-
-/// Draws one of the disks, if there are any.
+/// Draws one of the storages, if there are any.
 fn drawn(dice: &mut Dice, storages: &[StorageId]) -> Option<StorageId> {
     let count = u32::try_from(storages.len()).unwrap_or(u32::MAX);
     if count == 0 {

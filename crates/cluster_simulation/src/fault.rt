@@ -1,5 +1,6 @@
 // Why a run ends early.
 
+use bm_base::Refusal;
 use std::alloc::AllocError;
 use std::io::ErrorKind;
 use std::{fmt, io};
@@ -8,6 +9,8 @@ use std::{fmt, io};
 pub enum Fault {
     Memory,
     Write(io::Error),
+    /// The manager refused a report or a round.
+    Refused(Refusal),
 }
 
 impl Fault {
@@ -22,6 +25,7 @@ impl fmt::Display for Fault {
         match self {
             Fault::Memory => f.write_str("memory fault"),
             Fault::Write(error) => write!(f, "write fault: {error}"),
+            Fault::Refused(refusal) => write!(f, "refused: {refusal}"),
         }
     }
 }
@@ -29,5 +33,14 @@ impl fmt::Display for Fault {
 impl From<AllocError> for Fault {
     fn from(_: AllocError) -> Fault {
         Fault::Memory
+    }
+}
+
+impl From<Refusal> for Fault {
+    fn from(refusal: Refusal) -> Fault {
+        match refusal {
+            Refusal::Memory => Fault::Memory,
+            refusal => Fault::Refused(refusal),
+        }
     }
 }

@@ -1,6 +1,6 @@
 // Incidents: what a cluster can lose.
 ghost use Rattle.std.specs.Prelude.{◌≡◌};
-ghost use Rattle.cluster_simulation.specs.Incidents.{kills_node, kills, drains, any_kills_node, any_kills, any_bars, any_drains};
+ghost use Rattle.cluster_simulation.specs.Incidents.{kills_node, kills, drains, any_kills_node, any_kills, any_drains};
 
 use crate::shape::Shape;
 use std::fmt;
@@ -70,13 +70,6 @@ pub fn any_drains(incidents: &[Incident], node: u32) -> bool
     ensures { result ≡ any_drains incidents.now node }
 {
     incidents.iter().any(|incident| incident.drains(node))
-}
-
-/// Whether no copy can reach the disk any more: it is lost, or its node drains.
-pub fn any_bars(incidents: &[Incident], shape: Shape, storage: u32) -> bool
-    ensures { result ≡ any_bars incidents.now shape storage }
-{
-    any_kills(incidents, shape, storage) || any_drains(incidents, shape.node_of(storage))
 }
 
 impl fmt::Display for Incident {

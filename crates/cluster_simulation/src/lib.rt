@@ -1,59 +1,62 @@
-//! A simulated cluster: its nodes, the blocks placed on them, and DataNodes that carry out the
-//! commands of each round with a delay. In one round racks, nodes and disks are lost, nodes drain,
-//! or replicas are found corrupt. The block manager's answers are counted after each round, and
-//! written as a table (CSV) or as a picture (SVG). The same options give the same bytes.
+//! A made-up cluster, round by round: its nodes, the blocks placed on them, and what is copied again
+//! once something goes wrong. In one round racks, nodes and disks are lost, nodes drain, or replicas
+//! are found corrupt. The block manager's answers are counted after each round, and written as a
+//! table (CSV) or as a picture (SVG). The same options give the same bytes.
 //!
 //! ```text
 //! puljemrod_cluster simulate --lose rack:1 --rounds 100 --svg > rack.svg
 //! ```
 //!
-//! At the start of each round DataNodes report what they have done: a command is carried out
-//! `delay` rounds after it was given, if the disks that it needs are still alive. The incidents
-//! happen in round `--at`. Then DataNodes report the free bytes of their disks, each of which has
-//! capacity for twice its share of the replicas, and the manager takes its round. After that the
-//! blocks at each level are counted (`missing` are those without a usable replica), the copies that
-//! the manager awaits, the replicas in excess and the corrupt ones. The other counts are the copies
-//! and deletes that the round commands, and the calls that the manager refused since the previous
-//! round. Dead nodes report nothing, so the manager has nothing to refuse.
+//! The incidents happen as round `--at` begins. From then on DataNodes do what `what-if --mend` has
+//! them do (`cluster_repair`): at the start of a round they report the copies that have arrived, the
+//! deletes of the round before and their free bytes; the manager takes its round, and they obey.
+//! Each sends one copy at a time and receives one at a time. Each disk has capacity for twice its
+//! share of the replicas.
+//!
+//! After each round the known blocks at each level are counted (`missing` are those without a usable
+//! replica), the copies that the manager awaits, the replicas in excess and the corrupt ones. The
+//! other counts are the copies and deletes that the round commands, and the calls that the manager
+//! refused since the previous round. Dead nodes report nothing, so it has nothing to refuse.
 //!
 //! The numbers of `examples/stories/one_of_two_racks_dies.csv` follow from the rules, whatever is
 //! drawn. There are four nodes, two on each of two racks, and six blocks, each with one replica on
-//! each rack. In round 5 the nodes of one rack die:
+//! each rack. In round 5 the nodes of one rack die. At 1,000 megabytes a second all copies that a
+//! round commands arrive before the next:
 //! - Round 5: each block has one live replica, and wants two, so all six are of the highest
 //!   urgency, and one copy of each is requested. A round commands two copies for each of the two
 //!   nodes that are left: four. A node may send four of the highest urgency, and the other node of
 //!   the rack, which has no replica of the block, is the target.
-//! - Round 6: no copy has arrived yet. Pending copies count like replicas, so the two blocks
-//!   without one get theirs, and six are pending.
-//! - Round 7: the first four copies have arrived. Their blocks have two live replicas; both are on
-//!   one rack, but it is the only one.
-//! - Round 8: the other two have arrived, and nothing more is requested.
+//! - Round 6: the four copies have arrived. Their blocks have two live replicas; both are on one
+//!   rack, but it is the only one. The two other blocks get their copies.
+//! - Round 7: these two have arrived, and nothing more is requested.
 //!
 //! The exit status is 1 when out of memory or when a write fails, and 2 for invalid options.
 #![tactic(auto)]
 
-mod awaited_copies;
+mod arrivals;
 mod block_counts;
+mod cluster;
 mod corrupt;
 pub mod counts;
 mod csv;
-mod datanodes;
 mod dice;
-mod disks;
 mod fault;
 mod help;
 mod incident;
 mod losses;
+mod made_up_cluster;
 mod misuse;
+mod nodes;
 mod options;
-mod orders;
 mod placement;
 mod plan;
+mod rounds;
 mod scale;
 mod shape;
 mod simulation;
 pub mod svg;
 
+use bm_base::Refusal;
 use clap::Error;
 use clap::error::ErrorKind;
 use cluster_progress::Progress;
@@ -61,8 +64,10 @@ use counts::Counts;
 use csv::csv_text;
 use fault::Fault;
 use options::{Asked, Form, Options, asked_by};
+use plan::Plan;
+use rounds::take_all_rounds;
 use simulation::Simulation;
-use std::alloc::{AllocError, Global};
+use std::alloc::Global;
 use std::io;
 use std::io::Write;
 use std::sync::Wait;
@@ -126,34 +131,33 @@ fn text_of<R: Eprint + Threads + Wait + Sync>(
     rt: &R,
     alloc: Global,
     asked: Asked,
-) -> Result<String, AllocError> {
+) -> Result<String, Fault> {
     let Asked {
         options,
         plan,
         shows_progress,
     } = asked;
     let mut progress = Progress::new(shows_progress);
-    let mut simulation = Simulation::new(rt, alloc, options, plan)?;
-    let rows = all_rounds(rt, alloc, &mut simulation, options.rounds, &mut progress);
+    let rows = all_rounds(rt, alloc, &options, &plan, &mut progress);
     progress.end(rt);
     let rows = rows?;
-    match options.form {
-        Form::Csv => csv_text(alloc, rows.as_slice()),
-        Form::Svg => svg_text(alloc, &options, simulation.plan(), rows.as_slice()),
-    }
+    let text = match options.form {
+        Form::Csv => csv_text(alloc, rows.as_slice())?,
+        Form::Svg => svg_text(alloc, &options, &plan, rows.as_slice())?,
+    };
+    Ok(text)
 }
 
+/// The counts of each round.
 fn all_rounds<R: Eprint + Threads + Wait + Sync>(
     rt: &R,
     alloc: Global,
-    simulation: &mut Simulation,
-    rounds: u32,
+    options: &Options,
+    plan: &Plan,
     progress: &mut Progress,
-) -> Result<Vec<Counts>, AllocError> {
+) -> Result<Vec<Counts>, Refusal> {
+    let mut simulation = Simulation::new(alloc)?;
     let mut rows = Vec::new(alloc);
-    for past in 0..rounds {
-        progress.show_rounds(rt, past, rounds);
-        rows.push(simulation.next_round(rt, past.saturating_add(1))?)?;
-    }
+    take_all_rounds(rt, &mut simulation, options, plan, &mut rows, progress)?;
     Ok(rows)
 }

@@ -1,73 +1,73 @@
-// The events that report the incidents to the manager.
+// The calls that report the incidents to the manager.
 ghost use Rattle.std.specs.Prelude.{◌≡◌, ◌*◌, ◌++◌, OnOk, IfOk, map};
 ghost use Rattle.cluster_simulation.specs.Incidents.{numbers_where, any_kills_node, fails_alone, drains_alive, death, failure, drain, reported};
 
 use crate::incident::{Incident, any_drains, any_kills, any_kills_node};
 use crate::shape::Shape;
-use bm_base::{Event, NodeId, StorageId};
+use bm_base::{Call, Event, NodeId, StorageId};
 use std::alloc::{AllocError, Global};
 
 /// Returns a death for each lost node, a failure for each disk lost without its node, and a drain
 /// for each node that drains and is not lost. Each comes once, however many incidents name it.
-pub fn events_of(
+pub fn calls_of(
     alloc: Global,
     shape: Shape,
     incidents: &[Incident],
-) -> Result<Vec<Event>, AllocError>
-    ensures { IfOk result (λ events. events.items ≡ reported incidents.now shape) }
+) -> Result<Vec<Call>, AllocError>
+    ensures { IfOk result (λ calls. calls.items ≡ reported incidents.now shape) }
 {
-    let mut events = Vec::new(alloc);
-    push_deaths(&mut events, shape, incidents)?;
-    push_failures(&mut events, shape, incidents)?;
-    push_drains(&mut events, shape, incidents)?;
-    Ok(events)
+    let mut calls = Vec::new(alloc);
+    push_deaths(&mut calls, shape, incidents)?;
+    push_failures(&mut calls, shape, incidents)?;
+    push_drains(&mut calls, shape, incidents)?;
+    Ok(calls)
 }
 
 fn push_deaths(
-    events: &mut Vec<Event>,
+    calls: &mut Vec<Call>,
     shape: Shape,
     incidents: &[Incident],
 ) -> Result<(), AllocError>
-    ensures { OnOk result (events.new.items ≡ events.old.items
+    ensures { OnOk result (calls.new.items ≡ calls.old.items
         ++ map death (numbers_where (any_kills_node incidents.now shape) shape.nodes)) }
 {
     for node in 0..shape.nodes {
         if any_kills_node(incidents, shape, node) {
-            events.push(Event::Dead { node: NodeId(node) })?;
+            calls.push(Call::Apply(Event::Dead { node: NodeId(node) }))?;
         }
     }
     Ok(())
 }
 
 fn push_failures(
-    events: &mut Vec<Event>,
+    calls: &mut Vec<Call>,
     shape: Shape,
     incidents: &[Incident],
 ) -> Result<(), AllocError>
-    ensures { OnOk result (events.new.items ≡ events.old.items
+    ensures { OnOk result (calls.new.items ≡ calls.old.items
         ++ map failure (numbers_where (fails_alone incidents.now shape) (shape.nodes * shape.storages))) }
 {
     for storage in 0..shape.all_storages() {
         if fails_alone(incidents, shape, storage) {
-            events.push(Event::StorageFailed {
+            calls.push(Call::Apply(Event::StorageFailed {
                 storage: StorageId(storage),
-            })?;
+            }))?;
         }
     }
     Ok(())
 }
 
 fn push_drains(
-    events: &mut Vec<Event>,
+    calls: &mut Vec<Call>,
     shape: Shape,
     incidents: &[Incident],
 ) -> Result<(), AllocError>
-    ensures { OnOk result (events.new.items ≡ events.old.items
+    ensures { OnOk result (calls.new.items ≡ calls.old.items
         ++ map drain (numbers_where (drains_alive incidents.now shape) shape.nodes)) }
 {
     for node in 0..shape.nodes {
         if drains_alive(incidents, shape, node) {
-            events.push(Event::Drain { node: NodeId(node) })?;
+            calls.push(Call::Apply(Event::Drain { node: NodeId(node) }))?;
         }
     }
     Ok(())

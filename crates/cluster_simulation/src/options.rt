@@ -8,6 +8,7 @@ use crate::shape::{MOST_NODES, MOST_RACKS, MOST_STORAGES, Shape};
 use bm_base::MAX_REPLICATION;
 use clap::error::ErrorKind;
 use clap::{Arg, ArgAction, ArgMatches, Command, Error, value_parser};
+use cluster_repair::repair::Pace;
 use std::alloc::{AllocError, Global};
 
 const MOST_BLOCKS: u32 = 1_000_000;
@@ -43,8 +44,8 @@ pub struct Options {
     /// The number of wanted replicas of each block.
     pub replication: u32,
     pub seed: u64,
-    /// The number of rounds between a command and its execution.
-    pub delay: u32,
+    /// How fast DataNodes are, and how often rounds come.
+    pub pace: Pace,
     pub rounds: u32,
     pub form: Form,
     ghost blocks_fit: { (1 ≤ blocks) × (blocks ≤ 1000000) },
@@ -126,13 +127,20 @@ static CLUSTER: [Number; 5] = [
 ];
 
 /// The options that describe the course.
-static COURSE: [Number; 2] = [
+static COURSE: [Number; 3] = [
     Number {
-        name: "delay",
-        standard: "2",
+        name: "bandwidth",
+        standard: "50",
         least: 1,
-        most: MOST_ROUNDS,
-        help: "rounds between a command and its being done, 1 to 1,000",
+        most: 100_000,
+        help: "megabytes a second that a node sends, and receives, 1 to 100,000",
+    },
+    Number {
+        name: "interval",
+        standard: "3",
+        least: 1,
+        most: 3_600,
+        help: "seconds from round to round, 1 to 3,600",
     },
     Number {
         name: "rounds",
@@ -284,7 +292,10 @@ fn options_in(matches: &ArgMatches<'_>) -> Options {
         blocks: number_in(matches, "blocks").clamp(1, MOST_BLOCKS),
         replication: number_in(matches, "replication"),
         seed: matches.get_one::<u64>("seed").unwrap_or(0),
-        delay: number_in(matches, "delay"),
+        pace: Pace {
+            bandwidth: u64::from(number_in(matches, "bandwidth")) * 1_000_000,
+            interval: number_in(matches, "interval"),
+        },
         rounds: number_in(matches, "rounds").clamp(LEAST_ROUNDS, MOST_ROUNDS),
         form: if matches.get_flag("svg") {
             Form::Svg

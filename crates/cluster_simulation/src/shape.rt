@@ -1,5 +1,5 @@
 // The size of the cluster, and the node and rack of each storage.
-ghost use Rattle.std.specs.Prelude.{◌≡◌, ◌*◌, ◌/◌, ◌%◌, ◌<◌, ◌≤◌};
+ghost use Rattle.std.specs.Prelude.{◌≡◌, ◌+◌, ◌*◌, ◌/◌, ◌%◌, ◌<◌, ◌≤◌};
 
 /// Nodes, racks, storages and blocks are numbered from 0. Node `n` is on rack `n % racks`, and its
 /// storages begin with `n * storages`.
@@ -47,7 +47,8 @@ impl Shape {
     pub fn storage_at(&self, node: u32, place: u32) -> u32
         requires node { node < self.now.nodes }
         requires place { place < self.now.storages }
-        ensures { result < self.now.nodes * self.now.storages }
+        ensures storage { result ≡ node * self.now.storages + place }
+        ensures known { result < self.now.nodes * self.now.storages }
     {
         node * self.storages + place
     }

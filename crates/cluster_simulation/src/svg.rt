@@ -10,6 +10,7 @@ use crate::options::Options;
 use crate::plan::Plan;
 use crate::scale::Scale;
 use crate::shape::Shape;
+use cluster_repair::repair::Pace;
 use std::alloc::{AllocError, Global};
 
 pub(crate) fn svg_text(
@@ -22,7 +23,7 @@ pub(crate) fn svg_text(
     let mut below = String::new(alloc);
     write_shape(&mut below, &options.shape)?;
     write_blocks(&mut below, options.blocks, options.replication)?;
-    write_course(&mut below, options.delay, options.seed)?;
+    write_course(&mut below, options.pace, options.seed)?;
     let marked = if plan.is_empty() {
         None
     } else {
@@ -78,6 +79,11 @@ fn write_blocks(text: &mut String, blocks: u32, replication: u32) -> Result<(), 
     )
 }
 
-fn write_course(text: &mut String, delay: u32, seed: u64) -> Result<(), AllocError> {
-    write!(text, "delay in rounds {delay}, seed {seed}")
+fn write_course(text: &mut String, pace: Pace, seed: u64) -> Result<(), AllocError> {
+    let megabytes = pace.bandwidth / 1_000_000;
+    let interval = pace.interval;
+    write!(
+        text,
+        "{megabytes} MB a second, a round every {interval} s, seed {seed}"
+    )
 }

@@ -3,4 +3,4 @@ use Rattle.cluster_simulation.specs.Incidents.{numbers_where, any_kills_node, de
 use Rattle.cluster_simulation.proofs.losses.push_deaths.Given as goal
 
 abbrev pub invariant-loop-node : goal.invariant-loop-node
-invariant-loop-node l = l.events.items ≡ l.fn.events.items ++ map death (numbers_where (any_kills_node l.incidents l.shape) l.node)
+invariant-loop-node l = l.calls.items ≡ l.fn.calls.items ++ map death (numbers_where (any_kills_node l.incidents l.shape) l.node)

@@ -3,4 +3,4 @@ use Rattle.cluster_simulation.specs.Incidents.{numbers_where, drains_alive, drai
 use Rattle.cluster_simulation.proofs.losses.push_drains.Given as goal
 
 abbrev pub invariant-loop-node : goal.invariant-loop-node
-invariant-loop-node l = l.events.items ≡ l.fn.events.items ++ map drain (numbers_where (drains_alive l.incidents l.shape) l.node)
+invariant-loop-node l = l.calls.items ≡ l.fn.calls.items ++ map drain (numbers_where (drains_alive l.incidents l.shape) l.node)
