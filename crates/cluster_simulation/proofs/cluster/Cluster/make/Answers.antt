@@ -8,4 +8,4 @@ pub returns-clause-refused : goal.returns-clause-refused
 returns-clause-refused g c =
     c.counted-refused.ensures
     ∙ ap (λ b. if b then min (c.args.self.now.refused + 1) (2 ^ 64 - 1) else c.args.self.now.refused)
-    (some_if string_bytes _ (is_refused (step c.args.self.now.session.manager c.args.call.now).0) _ c.in_ok-message.ensures.told)
+    (some_if string_bytes _ (is_refused (step c.args.self.now.session.manager c.args.call.now).0) _ c.in_ok-message.ensures.refusal_text)
