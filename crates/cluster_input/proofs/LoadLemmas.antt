@@ -3,14 +3,12 @@ use Rattle.std.proofs.Common.{◌≡◌, ℕ, Bool, true, List, [], Option, Some
 use Rattle.std.specs.Fmt.{option_append}
 use Rattle.std.specs.Io.KnownBytes.{Appends}
 use Rattle.bm_base.specs.Machine.State.{State}
-use Rattle.bm_lines.specs.Lines.{lines_of}
-use Rattle.cluster_report.specs.LineNotes.{after_lines}
 use Rattle.fsck_import.specs.CallsFor.{calls_for}
 use Rattle.fsck_import.specs.Imports.{HasBlocks}
 use Rattle.fsck_import.specs.TextReading.{reading_of}
 use Rattle.fsck_import.specs.declared.text_reader.Reading.{Reading}
 use Rattle.cluster_input.specs.ClusterNames.{names_of}
-use Rattle.cluster_input.specs.Inputs.{AreTaken, IsAfter, IsRead, accepts, accepts_as, notes_as, notes_on}
+use Rattle.cluster_input.specs.Inputs.{IsAfter, IsRead, accepts, accepts_as, notes_as, notes_on}
 use Rattle.cluster_input.specs.Kinds.{are_lines, IsHeadOf}
 use Rattle.cluster_input.specs.MadeCalls.{Makes}
 use Rattle.cluster_input.specs.declared.loaded.Loaded.{Loaded}
@@ -61,12 +59,6 @@ pub is_read : (known : Option (List ℕ)) (start read : Reading) (remaining : �
 is_read None start read remaining old new read_is blocks makes names files = tt
 is_read (Some text) start read remaining old new read_is blocks makes names files =
     record { read = read; read_is = read_is; makes = makes; blocks = blocks; names = names; files = files }
-
--- lines were read, and nothing but the session changed
-pub are_taken : (known : Option (List ℕ)) (old new : Loaded) → IfSome known (λ text. new.session.manager ≡ after_lines old.session.manager (lines_of text))
-    → new.names ≡ old.names → new.files ≡ old.files → IfSome known (λ text. AreTaken text old new)
-are_taken None old new state names files = tt
-are_taken (Some text) old new state names files = record { state = state; names = names; files = files }
 
 -- each call for a text of fsck is accepted, and it has no notes
 pub all_accepted_of : (known : Option (List ℕ)) → IfSome known (λ text. true ≡ true)

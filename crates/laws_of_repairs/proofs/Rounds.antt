@@ -105,8 +105,8 @@ module _ (M : State) (O : IsOrderly M) (b : ℕ) (i : BlockInfo) (known : get M.
       let wanted = h.0 in
       let two = two_of (live_marked M b) (once_where (is_live_on M.cluster) (state_at_choice M).holdings b) (omega (arith, count, wanted, enough_after)) in
       let rack_as : (s : ℕ) → has (live M.cluster M.holdings b) s ≡ true → rack_of M.cluster s ≡ rack_of M.cluster two.0 = λ s at.
-          let v = last_stays M b s two.0 two.1 O (still_live M b s at) two.2 two.3 two.4 (one two.0 two.1 two.2 two.3) in
-          sym v.2 ∙ one v.0 two.0 v.1 two.2 in
+      let v = last_stays M b s two.0 two.1 O (still_live M b s at) two.2 two.3 two.4 (one two.0 two.1 two.2 two.3) in
+      sym v.2 ∙ one v.0 two.0 v.1 two.2 in
       let before = (level_three M b i O known).1 (wanted, enough, (λ s t at_s at_t. rack_as s at_s ∙ sym (rack_as t at_t)), subst HasTwoRacks (same_rest M).0 h.3) in
       false≢true (ap is_some (sym none ∙ before))
 
