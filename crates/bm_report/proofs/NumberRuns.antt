@@ -4,7 +4,9 @@ use Rattle.std.specs.Prelude.{slice_get, length}
 use Rattle.std.proofs.lemmas.Bool.{ne_eqb, eq-eqb, cases_lt}
 use Rattle.std.proofs.lemmas.Nat.{div-add-mod'}
 use Rattle.std.proofs.Math.Nat.{mul-add-mod_self_right, mod-eq_of_lt}
+use Rattle.std.specs.List.{flat_map}
 use Rattle.std.proofs.lemmas.List.Elements.{filter-append}
+use Rattle.std.proofs.lemmas.Grind.{flat_map-append}
 use Rattle.bm_base.specs.declared.event.Entry.{Entry}
 use Rattle.bm_base.specs.declared.ids.Part.{Part}
 use Rattle.bm_base.specs.declared.replica.Stamp.{Stamp}
@@ -122,6 +124,21 @@ reported_on p es i e xs ys all at so_far is =
 pub reported_end : (p : Part) (es : List Entry) (i : ℕ) (xs all : List ReportedBlock) → length es ≤ i → xs ++ of_part p (expanded (drop i es)) ≡ all → xs ≡ all
 unfolding expanded
 reported_end p es i xs all past so_far = sym (nothing xs) ∙ sym (ap (λ l. xs ++ of_part p (expanded l)) (drop_all es i past)) ∙ so_far
+
+-- the reported numbers of two lists of entries are those of the one and those of the other
+pub reported_both : (p : Part) (es fs : List Entry) → reported_to_part p (es ++ fs) ≡ reported_to_part p es ++ reported_to_part p fs
+unfolding expanded
+reported_both p es fs = ap (of_part p) (flat_map-append blocks_of_entry es fs) ∙ filter-append _ (flat_map blocks_of_entry es) (flat_map blocks_of_entry fs)
+
+-- one more chunk is looked up
+pub chunk_on : (p : Part) (es fs : List Entry) (xs ys all : List ReportedBlock) → xs ++ reported_to_part p (es ++ fs) ≡ all → ys ≡ xs ++ reported_to_part p es
+    → ys ++ reported_to_part p fs ≡ all
+chunk_on p es fs xs ys all so_far is =
+    ap (λ l. l ++ reported_to_part p fs) is ∙ append_assoc xs (reported_to_part p es) (reported_to_part p fs) ∙ sym (ap (λ l. xs ++ l) (reported_both p es fs)) ∙ so_far
+
+pub chunks_end : (p : Part) (xs all : List ReportedBlock) → xs ++ reported_to_part p [] ≡ all → xs ≡ all
+unfolding expanded
+chunks_end p xs all so_far = sym (nothing xs) ∙ so_far
 
 -- an entry of one number reports this number to its part
 pub reported_one : (p : Part) (b : ℕ) (t : Stamp) → shard_of b p.shards ≡ p.index → reported_to_part p (record { from = b; to = b; stamp = t } ∷ []) ≡ record { id = b; stamp = t } ∷ []

@@ -14,7 +14,7 @@ use crate::types::ReportedSlot;
 use bm_arena::{Arena, Slot};
 use bm_base::{BlockId, Entry, Part, Refusal, Stamp, StorageId};
 
-/// How many entries of a report are read together.
+/// The number of entries in a chunk.
 const CHUNK: usize = 64;
 
 /// The slot of a number, which has an entry from now on.
@@ -119,34 +119,59 @@ fn look_up_all(
     ensures refused { IfErr result (λ e. e ≡ Memory) }
 {
     named.clear();
-    for (place, entry) in entries.iter().enumerate() {
-        read_ahead(arena, entries, place, part, named)?;
-        look_up_run(arena, storage, entry, part, named)?;
+    for chunk in entries.chunks(CHUNK) {
+        read_ahead(arena, chunk, part, named)?;
+        look_up_chunk(arena, storage, chunk, part, named)?;
     }
     Ok(())
 }
 
-/// At the first of each chunk of entries of a report, with a single shard: reads the arena's
-/// entries of the chunk's numbers, of a run only the first, and reserves capacity to name those
-/// that are known with the reported stamp. A read is so short that many cache misses overlap; a
-/// look-up is too long for that. With several shards each number would cost one more division.
+/// With a single shard: reads the arena's entries of a chunk's numbers, of a run only the first,
+/// and reserves capacity to name those that are known with the reported stamp. A read is so short
+/// that many cache misses overlap; a look-up is too long for that. With several shards each number
+/// would cost one more division.
 fn read_ahead(
     arena: &Arena,
-    entries: &[Entry],
-    place: usize,
+    chunk: &[Entry],
     part: Part,
     named: &mut Vec<ReportedSlot>,
 ) -> Result<(), Refusal>
-    requires { place < length entries.now }
     ensures named { named.new.items ≡ named.old.items }
     ensures refused { IfErr result (λ e. e ≡ Memory) }
 {
-    if part.shards != 1 || place % CHUNK != 0 {
-        return Ok(());
+    if part.shards == 1 {
+        named.reserve(count_known(arena, chunk))?;
     }
-    let rest = &entries[place..];
-    let (chunk, _) = rest.split_at(rest.len().min(CHUNK));
-    named.reserve(count_known(arena, chunk))?;
+    Ok(())
+}
+
+/// Looks up the numbers of a chunk of entries that are of the part, and reserves capacity.
+fn look_up_chunk(
+    arena: &mut Arena,
+    storage: StorageId,
+    chunk: &[Entry],
+    part: Part,
+    named: &mut Vec<ReportedSlot>,
+) -> Result<(), Refusal>
+    requires shards { 0 < part.shards }
+    requires index { part.index < part.shards }
+    requires here { AreAtSlots arena.old named.old.items }
+    requires room { HaveCapacity arena.old storage named.old.items }
+    ensures kept { IsPrepared arena.old arena.new }
+    ensures others { (b : ℕ) → is_named (reported_to_part part chunk.now) b ≡ false
+        → slot_of arena.new b ≡ slot_of arena.old b }
+    ensures here { OnOk result (AreAtSlots arena.new named.new.items) }
+    ensures room { OnOk result (HaveCapacity arena.new storage named.new.items) }
+    ensures named { OnOk result (map reported_of named.new.items ≡ map reported_of named.old.items
+        ++ reported_to_part part chunk.now) }
+    ensures fresh { NamesNew arena.old arena.new named.old.items named.new.items }
+    ensures there { HaveReplicas arena.old storage (reported_to_part part chunk.now)
+        → arena.new ≡ arena.old }
+    ensures refused { IfErr result (λ e. e ≡ Memory) }
+{
+    for entry in chunk {
+        look_up_run(arena, storage, entry, part, named)?;
+    }
     Ok(())
 }
 

@@ -1,48 +1,60 @@
-use Rattle.std.proofs.Common.{[], ◌++◌, List, map, length, refl, sym, subst, ap, ◌∙◌}
+use Rattle.std.proofs.Common.{[], ◌++◌, List, map, sym, subst, ap, ◌∙◌}
+use Rattle.std.specs.Slice.Iter.{chunks_rest}
+use Rattle.std.proofs.lemmas.List.{nil_from_length}
 use Rattle.bm_report.specs.declared.types.ReportedSlot.{ReportedSlot}
 use Rattle.bm_report.specs.Aborted.{NamesNew}
-use Rattle.std.proofs.lemmas.Option.{slice_get_read}
 use Rattle.bm_arena.specs.Contents.{Contents}
-use Rattle.bm_base.specs.Machine.Entries.{blocks_of_entry}
-use Rattle.bm_report.specs.Expanded.{of_part}
+use Rattle.bm_report.specs.Expanded.{reported_to_part}
 use Rattle.bm_report.specs.DuringReport.{reported_of}
 use Rattle.bm_report.specs.Ready.{HaveReplicas}
 use Rattle.bm_report.proofs.Aborts.{naming-chain}
 use Rattle.bm_report.proofs.Preparation.{prepared-chain}
-use Rattle.bm_report.proofs.NumberRuns.{reported_on, reported_end}
-use Rattle.bm_report.proofs.NamedNumbers.{named_apart, not_named, entry_named, rest_named}
+use Rattle.bm_report.proofs.NumberRuns.{chunk_on, chunks_end}
+use Rattle.bm_report.proofs.NamedNumbers.{named_apart, not_named, chunk_named, left_named}
 use Rattle.bm_report.proofs.look_up.look_up_all.Goals as goal
 
-pub loop-place-preserved : goal.loop-place-preserved
-loop-place-preserved c =
-    let at = slice_get_read c.args.entries.now (length c.args.entries.now) c.loop-place.place c.index-entries-place.result refl c.loop-place-test.true c.index-entries-place.is in record {
-      fresh = naming-chain c.args.arena.now c.loop-place.arena c.look_up_run.new.arena [] c.loop-place.named.items c.look_up_run.new.named.items c.loop-place.invariant.fresh
-          (subst (λ (l : List ReportedSlot). NamesNew c.loop-place.arena c.look_up_run.new.arena l c.look_up_run.new.named.items) c.read_ahead.ensures.named c.look_up_run.ensures.fresh);
-      kept = prepared-chain c.args.arena.now c.loop-place.arena c.look_up_run.new.arena c.loop-place.invariant.kept c.look_up_run.ensures.kept;
-      here = c.in_ok-look_up_run.ensures.here;
-      room = c.in_ok-look_up_run.ensures.room;
-      others = λ b out.
-          c.look_up_run.ensures.others b (not_named _ (λ in_it. named_apart _ b out (c.loop-place.invariant.rest b (entry_named c.args.part c.args.entries.now c.loop-place.place c.index-entries-place.result b at in_it)))) ∙ c.loop-place.invariant.others b out;
-      rest = λ b in_it. c.loop-place.invariant.rest b (rest_named c.args.part c.args.entries.now c.loop-place.place c.index-entries-place.result b at in_it);
+pub loop-chunk-preserved : goal.loop-chunk-preserved
+loop-chunk-preserved c =
+    let part = c.args.part in
+    let chunk = c.in-Some.chunk.now in
+    let left = chunks_rest c.next.new.self in
+    let whole = c.in-Some.ensures.steps.1.0 in
+    let inv = c.loop-chunk.invariant in
+    record {
+      finite = tt;
+      fresh = naming-chain c.args.arena.now c.loop-chunk.arena c.look_up_chunk.new.arena [] c.loop-chunk.named.items c.look_up_chunk.new.named.items inv.fresh
+          (subst (λ (l : List ReportedSlot). NamesNew c.loop-chunk.arena c.look_up_chunk.new.arena l c.look_up_chunk.new.named.items) c.read_ahead.ensures.named c.look_up_chunk.ensures.fresh);
+      kept = prepared-chain c.args.arena.now c.loop-chunk.arena c.look_up_chunk.new.arena inv.kept c.look_up_chunk.ensures.kept;
+      here = c.in_ok-look_up_chunk.ensures.here;
+      room = c.in_ok-look_up_chunk.ensures.room;
+      others = λ b out. c.look_up_chunk.ensures.others b (not_named _ (λ in_it. named_apart _ b out (chunk_named part c.args.entries.now _ chunk left whole inv.rest b in_it))) ∙ inv.others b out;
+      rest = left_named part c.args.entries.now _ chunk left whole inv.rest;
       there = λ h.
-          let same = c.loop-place.invariant.there h in
-          c.look_up_run.ensures.there (subst (λ (a : Contents). HaveReplicas a c.args.storage (of_part c.args.part (blocks_of_entry c.index-entries-place.result))) (sym same) (λ b in_it. h b (c.loop-place.invariant.rest b (entry_named c.args.part c.args.entries.now c.loop-place.place c.index-entries-place.result b at in_it)))) ∙ same;
+          let same = inv.there h in
+          c.look_up_chunk.ensures.there (subst (λ (a : Contents). HaveReplicas a c.args.storage (reported_to_part part chunk)) (sym same) (λ b in_it. h b (chunk_named part c.args.entries.now _ chunk left whole inv.rest b in_it))) ∙ same;
       named =
-          reported_on c.args.part c.args.entries.now c.loop-place.place c.index-entries-place.result (map reported_of c.loop-place.named.items) (map reported_of c.look_up_run.new.named.items) _ at c.loop-place.invariant.named
-          (c.in_ok-look_up_run.ensures.named ∙ ap (λ l. map reported_of l ++ of_part c.args.part (blocks_of_entry c.index-entries-place.result)) c.read_ahead.ensures.named);
+          chunk_on part chunk left (map reported_of c.loop-chunk.named.items) (map reported_of c.look_up_chunk.new.named.items) _
+          (ap (λ es. map reported_of c.loop-chunk.named.items ++ reported_to_part part es) (sym whole) ∙ inv.named)
+          (c.in_ok-look_up_chunk.ensures.named ∙ ap (λ l. map reported_of l ++ reported_to_part part chunk) c.read_ahead.ensures.named);
     }
 
 pub returns-clause-named : goal.returns-clause-named
 returns-clause-named c =
-    reported_end c.args.part c.args.entries.now c.loop-place.place (map reported_of c.loop-place.named.items) _ c.loop-place-test.false c.loop-place.invariant.named
+    chunks_end c.args.part (map reported_of c.loop-chunk.named.items) _
+    (ap (λ es. map reported_of c.loop-chunk.named.items ++ reported_to_part c.args.part es) (sym (nil_from_length _ c.in-None.ensures.steps.1.0)) ∙ c.loop-chunk.invariant.named)
 
-pub returns-in_err-look_up_run-clause-others : goal.returns-in_err-look_up_run-clause-others
-returns-in_err-look_up_run-clause-others c b out =
-    let at = slice_get_read c.args.entries.now (length c.args.entries.now) c.loop-place.place c.index-entries-place.result refl c.loop-place-test.true c.index-entries-place.is in
-    c.look_up_run.ensures.others b (not_named _ (λ in_it. named_apart _ b out (c.loop-place.invariant.rest b (entry_named c.args.part c.args.entries.now c.loop-place.place c.index-entries-place.result b at in_it)))) ∙ c.loop-place.invariant.others b out
+pub returns-in_err-look_up_chunk-clause-kept : goal.returns-in_err-look_up_chunk-clause-kept
+returns-in_err-look_up_chunk-clause-kept c = prepared-chain c.args.arena.now c.loop-chunk.arena c.look_up_chunk.new.arena c.loop-chunk.invariant.kept c.look_up_chunk.ensures.kept
 
-pub returns-in_err-look_up_run-clause-there : goal.returns-in_err-look_up_run-clause-there
-returns-in_err-look_up_run-clause-there c h =
-    let at = slice_get_read c.args.entries.now (length c.args.entries.now) c.loop-place.place c.index-entries-place.result refl c.loop-place-test.true c.index-entries-place.is in
-    let same = c.loop-place.invariant.there h in
-    c.look_up_run.ensures.there (subst (λ (a : Contents). HaveReplicas a c.args.storage (of_part c.args.part (blocks_of_entry c.index-entries-place.result))) (sym same) (λ b in_it. h b (c.loop-place.invariant.rest b (entry_named c.args.part c.args.entries.now c.loop-place.place c.index-entries-place.result b at in_it)))) ∙ same
+pub returns-in_err-look_up_chunk-clause-others : goal.returns-in_err-look_up_chunk-clause-others
+returns-in_err-look_up_chunk-clause-others c b out =
+    let inv = c.loop-chunk.invariant in
+    c.look_up_chunk.ensures.others b (not_named _ (λ in_it. named_apart _ b out (chunk_named c.args.part c.args.entries.now _ c.in-Some.chunk.now (chunks_rest c.next.new.self) c.in-Some.ensures.steps.1.0 inv.rest b in_it))) ∙ inv.others b out
+
+pub returns-in_err-look_up_chunk-clause-there : goal.returns-in_err-look_up_chunk-clause-there
+returns-in_err-look_up_chunk-clause-there c h =
+    let inv = c.loop-chunk.invariant in
+    let same = inv.there h in
+    c.look_up_chunk.ensures.there
+    (subst (λ (a : Contents). HaveReplicas a c.args.storage (reported_to_part c.args.part c.in-Some.chunk.now)) (sym same) (λ b in_it. h b (chunk_named c.args.part c.args.entries.now _ c.in-Some.chunk.now (chunks_rest c.next.new.self) c.in-Some.ensures.steps.1.0 inv.rest b in_it)))
+    ∙ same
