@@ -263,102 +263,43 @@ option_number words cmd m is p h name d most w n read =
 abbrev filled_options : List Rule
 filled_options = (built tool).top.rules
 
-pub shards_place : Place (codes "shards") (codes "1") 64
-shards_place = record {
-  place = 0;
-  before = take 0 options;
-  after = drop 1 options;
-  rules = refl;
-  count = refl;
-  below = omega arith;
-  alone = refl;
-  filled_before = take 0 filled_options;
-  filled = slice_index_or filled_options 0 blank;
-  filled_after = drop 1 filled_options;
-  filled_rules = refl;
-  filled_alone = refl;
-  filled_name = refl;
-  filled_default = refl;
-  other_names = refl;
-  fits = omega arith;
+-- the place of an option by its index: the options before it, and those after it
+place_at : (name d : Text) (most i : ℕ) → options ≡ take i options ++ option_rule name d most ∷ drop (suc i) options → length (take i options) ≡ i → i < 5
+    → (list_any (has_name name) (take i options) || list_any (has_name name) (drop (suc i) options)) ≡ false
+    → (built tool).top.rules ≡ take i filled_options ++ slice_index_or filled_options i blank ∷ drop (suc i) filled_options
+    → (list_any (has_name name) (take i filled_options) || list_any (has_name name) (drop (suc i) filled_options)) ≡ false
+    → (slice_index_or filled_options i blank).id ≡ name → (slice_index_or filled_options i blank).defaults ≡ d ∷ []
+    → (bytes_eq name [] || (bytes_eq name (codes "help") || bytes_eq name (codes "version"))) ≡ false → most < 2 ^ 32 → Place name d most
+place_at name d most i rules count below alone filled_rules filled_alone filled_name filled_default other_names fits = record {
+  place = i;
+  before = take i options;
+  after = drop (suc i) options;
+  rules = rules;
+  count = count;
+  below = below;
+  alone = alone;
+  filled_before = take i filled_options;
+  filled = slice_index_or filled_options i blank;
+  filled_after = drop (suc i) filled_options;
+  filled_rules = filled_rules;
+  filled_alone = filled_alone;
+  filled_name = filled_name;
+  filled_default = filled_default;
+  other_names = other_names;
+  fits = fits;
 }
+
+pub shards_place : Place (codes "shards") (codes "1") 64
+shards_place = place_at _ _ _ 0 refl refl (omega arith) refl refl refl refl refl refl (omega arith)
 
 pub workers_place : Place (codes "workers") (codes "1") 16
-workers_place = record {
-  place = 1;
-  before = take 1 options;
-  after = drop 2 options;
-  rules = refl;
-  count = refl;
-  below = omega arith;
-  alone = refl;
-  filled_before = take 1 filled_options;
-  filled = slice_index_or filled_options 1 blank;
-  filled_after = drop 2 filled_options;
-  filled_rules = refl;
-  filled_alone = refl;
-  filled_name = refl;
-  filled_default = refl;
-  other_names = refl;
-  fits = omega arith;
-}
+workers_place = place_at _ _ _ 1 refl refl (omega arith) refl refl refl refl refl refl (omega arith)
 
 pub work_place : Place (codes "work") (codes "2") 1000
-work_place = record {
-  place = 2;
-  before = take 2 options;
-  after = drop 3 options;
-  rules = refl;
-  count = refl;
-  below = omega arith;
-  alone = refl;
-  filled_before = take 2 filled_options;
-  filled = slice_index_or filled_options 2 blank;
-  filled_after = drop 3 filled_options;
-  filled_rules = refl;
-  filled_alone = refl;
-  filled_name = refl;
-  filled_default = refl;
-  other_names = refl;
-  fits = omega arith;
-}
+work_place = place_at _ _ _ 2 refl refl (omega arith) refl refl refl refl refl refl (omega arith)
 
 pub invalidate_place : Place (codes "invalidate") (codes "1000") 1000000
-invalidate_place = record {
-  place = 3;
-  before = take 3 options;
-  after = drop 4 options;
-  rules = refl;
-  count = refl;
-  below = omega arith;
-  alone = refl;
-  filled_before = take 3 filled_options;
-  filled = slice_index_or filled_options 3 blank;
-  filled_after = drop 4 filled_options;
-  filled_rules = refl;
-  filled_alone = refl;
-  filled_name = refl;
-  filled_default = refl;
-  other_names = refl;
-  fits = omega arith;
-}
+invalidate_place = place_at _ _ _ 3 refl refl (omega arith) refl refl refl refl refl refl (omega arith)
 
 pub pend_place : Place (codes "pend") (codes "100") 1000000
-pend_place = record {
-  place = 4;
-  before = take 4 options;
-  after = drop 5 options;
-  rules = refl;
-  count = refl;
-  below = omega arith;
-  alone = refl;
-  filled_before = take 4 filled_options;
-  filled = slice_index_or filled_options 4 blank;
-  filled_after = drop 5 filled_options;
-  filled_rules = refl;
-  filled_alone = refl;
-  filled_name = refl;
-  filled_default = refl;
-  other_names = refl;
-  fits = omega arith;
-}
+pend_place = place_at _ _ _ 4 refl refl (omega arith) refl refl refl refl refl refl (omega arith)
