@@ -3,11 +3,9 @@
 
 mod number_map;
 mod number_search;
-mod replica_map;
 mod slot_link;
 pub mod sorted;
 
 pub use arrayvec::ArrayVec;
 pub use number_map::NumberMap;
-pub use replica_map::ReplicaMap;
 pub use slot_link::{END_OF_LINKS, NO_LINK, SlotLink, fits_link};

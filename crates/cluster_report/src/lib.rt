@@ -7,6 +7,7 @@
 
 pub mod book;
 pub mod catalogue;
+pub mod copy_map;
 pub mod fault;
 pub mod levels;
 pub mod line_reader;

@@ -6,15 +6,15 @@ ghost use Rattle.bm_base.specs.Maps.Map as map_of;
 ghost use Rattle.bm_base.specs.Words.{Holdings, replica_at, expanded, change_holdings, is_named, first_of, cluster_checks, knows_node, drains, has_storage};
 ghost use Rattle.cluster_report.specs.Copies.{commanded_to};
 
+use crate::copy_map::CopyMap;
 use bm_base::{BlockId, Commands, Entry, Event, NodeCommands, NodeId, ReplicaId, StorageId};
-use bm_maps::ReplicaMap;
 use bm_topo::Topology;
 use std::alloc::{AllocError, Global};
 
 /// For each pending copy, by block and target, the round that commanded it.
 #[derive(Drop)]
 pub struct Transfers {
-    pub copies: ReplicaMap<u64>,
+    pub copies: CopyMap,
     /// The number of rounds after which a copy expires.
     pub pend: u32,
 }
@@ -26,7 +26,7 @@ impl Transfers {
         ensures pend { result.pend ≡ pend }
     {
         Transfers {
-            copies: ReplicaMap::new(alloc),
+            copies: CopyMap::new(alloc),
             pend,
         }
     }

@@ -1,7 +1,7 @@
 use Rattle.bm_maps.proofs.SortedLaws.{sorted_by-filtered, filtered_shown}
 use Rattle.bm_base.specs.Machine.State.{by_replica}
 use Rattle.std.specs.Fn.{CalledAt}
-use Rattle.bm_maps.proofs.replica_map.ReplicaMap.retain.Goals as goal
+use Rattle.cluster_report.proofs.copy_map.CopyMap.retain.Goals as goal
 
 pub invariant_of-self : goal.invariant_of-self
 invariant_of-self g c =
