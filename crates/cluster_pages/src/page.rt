@@ -17,7 +17,7 @@ use cluster_report::nodes::{NodeRow, StorageRow};
 use cluster_report::report::Report;
 use std::alloc::{AllocError, Global};
 
-/// The page of a report, with at most so many blocks and files of each list.
+/// The page of a report, with at most `most` blocks and files of each list.
 pub fn standing_page(
     alloc: Global,
     loaded: &Loaded,

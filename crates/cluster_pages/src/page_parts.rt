@@ -125,7 +125,7 @@ pub fn write_share_cells(
     write_bar_cell(text, thousandths(part, total), is_bad)
 }
 
-/// A cell with a bar of so many thousandths of its width.
+/// A cell with a bar; its length is in thousandths of its width.
 pub fn write_bar_cell(
     text: &mut String,
     thousandths: u128,
