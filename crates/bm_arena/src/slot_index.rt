@@ -67,6 +67,16 @@ impl SlotIndex {
         self.index.get(&id).copied()
     }
 
+    /// The number at index `i`, with its slot.
+    pub(crate) fn entry_at(&self, i: usize) -> Option<(u64, usize)>
+        ensures { result ≡ slice_get self.now i }
+    {
+        match self.index.get_index(i) {
+            Some((id, slot)) => Some((*id, *slot)),
+            None => None,
+        }
+    }
+
     /// The slot at index `i`.
     pub(crate) fn slot_at(&self, i: usize) -> Option<usize>
         ensures { result ≡ option_map (λ p. p.1) (slice_get self.now i) }

@@ -74,12 +74,9 @@ fn push_key(
     slot: Slot,
     into: &mut Vec<Key>,
 ) -> Result<(), AllocError> {
-    let arena = blocks.arena();
-    if arena.has_entry(slot) {
-        let id = arena.id_of(slot);
-        if pending.count_of(id) == 0 {
-            into.push((level.number() as u64, id.0))?;
-        }
+    let id = blocks.arena().number_of(slot);
+    if pending.count_of(id) == 0 {
+        into.push((level.number() as u64, id.0))?;
     }
     Ok(())
 }

@@ -1,7 +1,6 @@
 // The keys of slots: the level of the block, and its number.
 ghost use Rattle.std.specs.Prelude.{◌≡◌, Some};
 ghost use Rattle.bm_parts.specs.Before as before;
-ghost use Rattle.bm_arena.specs.HeldMaps as holding;
 ghost use Rattle.bm_levels.specs.IndexedLevels as level_index;
 ghost use Rattle.bm_round_scan.specs.ScannedSlots as scanned;
 
@@ -21,7 +20,7 @@ pub(crate) fn key_of(kept: &LevelIndex, arena: &Arena, slot: Slot) -> Key
         Some(level) => level.number(),
         None => NO_LEVEL,
     };
-    (level as u64, number_of(arena, slot))
+    (level as u64, arena.number_of(slot).0)
 }
 
 /// The same for a known level, so that only the number is read.
@@ -29,18 +28,7 @@ pub(crate) fn key_at_level(_kept: &LevelIndex, arena: &Arena, slot: Slot, level:
     requires { level_index.level_of_slot _kept.now slot ≡ Some level }
     ensures { result ≡ scanned.key_at _kept.now arena.now slot }
 {
-    (level.number() as u64, number_of(arena, slot))
-}
-
-/// The number of the block at a slot; 0 for a slot without a block.
-fn number_of(arena: &Arena, slot: Slot) -> u64
-    ensures { result ≡ holding.id_at arena.now slot }
-{
-    if arena.has_entry(slot) {
-        arena.id_of(slot).0
-    } else {
-        0
-    }
+    (level.number() as u64, arena.number_of(slot).0)
 }
 
 /// Whether a key comes before a bound, if there is one.
