@@ -54,11 +54,9 @@ impl<'a> ChosenSoFar<'a> {
         is_full_count(self.transfers.len(), config, topology)
     }
 
-    /// Begins a wish, for whose block nothing has been chosen yet.
-    pub fn begin_wish(&mut self, wish: &Wish) -> Result<(), Refusal>
+    /// Begins a wish: the storages that may be the source.
+    pub fn begin_sources(&mut self, wish: &Wish) -> Result<(), Refusal>
         ensures sources { OnOk result (self.new.sources.items ≡ choices.sources_by wish.now) }
-        ensures held { OnOk result (self.new.held.items ≡ wish.now.live ++ wish.now.pending) }
-        ensures excluded { OnOk result (self.new.excluded.items ≡ wish.now.pairs ++ wish.now.pending) }
         ensures transfers { self.new.transfers ≡ self.old.transfers }
         ensures streams { self.new.streams ≡ self.old.streams }
         ensures scheduled { self.new.scheduled ≡ self.old.scheduled }
@@ -67,6 +65,20 @@ impl<'a> ChosenSoFar<'a> {
         self.sources.clear();
         self.sources.extend_from_slice(wish.live.as_slice())?;
         self.sources.extend_from_slice(wish.drained.as_slice())?;
+        Ok(())
+    }
+
+    /// Goes on with a wish, for whose block nothing has been chosen yet: the storages that hold a
+    /// live replica, and those on whose nodes no copy may be put.
+    pub fn begin_targets(&mut self, wish: &Wish) -> Result<(), Refusal>
+        ensures held { OnOk result (self.new.held.items ≡ wish.now.live ++ wish.now.pending) }
+        ensures excluded { OnOk result (self.new.excluded.items ≡ wish.now.pairs ++ wish.now.pending) }
+        ensures sources { self.new.sources ≡ self.old.sources }
+        ensures transfers { self.new.transfers ≡ self.old.transfers }
+        ensures streams { self.new.streams ≡ self.old.streams }
+        ensures scheduled { self.new.scheduled ≡ self.old.scheduled }
+        ensures refused { IfErr result (λ e. e ≡ Memory) }
+    {
         self.held.clear();
         self.held.extend_from_slice(wish.live.as_slice())?;
         self.held.extend_from_slice(wish.pending.as_slice())?;

@@ -1,8 +1,8 @@
 // Which blocks are copied, from where and to where.
-ghost use Rattle.std.specs.Prelude.{◌≡◌, [], map, false, IfOk, IfErr, OnOk};
+ghost use Rattle.std.specs.Prelude.{◌≡◌, [], map, false, None, IfOk, IfErr, OnOk};
 ghost use Rattle.std.specs.Option.{IfSome};
 ghost use Rattle.bm_base.specs.declared.refusal.Refusal.TheVariants.{Memory};
-ghost use Rattle.bm_base.specs.Words.{limits_of, has_repeats, targets_of};
+ghost use Rattle.bm_base.specs.Words.{RoundLimits, limits_of, has_repeats, targets_of};
 ghost use Rattle.bm_base.specs.Choices as choices;
 ghost use Rattle.bm_place.specs.Found.{IsCountable, HasFreeBytesFor};
 ghost use Rattle.bm_round.specs.Commanded.{with_copies};
@@ -44,7 +44,8 @@ pub(crate) fn choose_transfers(
 }
 
 /// Chooses the transfers for one wish, for whose block nothing has been chosen yet. Where one
-/// copy has no source or no target, no later one does.
+/// copy has no source or no target, no later one does. Late in a round most wishes have no source,
+/// and then nothing else of them is read.
 fn choose_copies(
     wish: &Wish,
     topology: &Topology,
@@ -59,7 +60,11 @@ fn choose_copies(
     ensures counted { OnOk result (IsCounted topology.now.cluster choice.new) }
     ensures refused { IfErr result (λ e. e ≡ Memory) }
 {
-    choice.begin_wish(wish)?;
+    choice.begin_sources(wish)?;
+    if !has_source(wish, topology, choice) {
+        return Ok(());
+    }
+    choice.begin_targets(wish)?;
     for _copy in 0..wish.count {
         let Some(transfer) = next_copy(wish, topology, config, choice) else {
             return Ok(());
@@ -67,6 +72,19 @@ fn choose_copies(
         choice.add(transfer)?;
     }
     Ok(())
+}
+
+/// Whether one of the sources may send one more copy.
+#[tactic(auto, unfolding(bm_base::specs::Choices::transfer_by))]
+fn has_source(wish: &Wish, topology: &Topology, choice: &ChosenSoFar<'_>) -> bool
+    requires counted { IsCounted topology.now.cluster choice.now }
+    requires sources { choice.now.sources.items ≡ choices.sources_by wish.now }
+    ensures { (limits : RoundLimits) → result ≡ false
+        → choices.transfer_by limits topology.now.cluster choice.now.transfers.items wish.now
+        ≡ None }
+{
+    let sources = choice.sources.as_slice();
+    least_source(sources, wish.level, topology, &choice.streams).is_some()
 }
 
 /// The transfer for one more copy. A target is searched for only where there is a source.

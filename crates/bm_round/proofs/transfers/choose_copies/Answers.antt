@@ -1,8 +1,20 @@
+use Rattle.std.specs.Global.{Vec}
+use Rattle.bm_base.specs.declared.commands.Transfer.{Transfer}
 use Rattle.std.proofs.Common.{◌-◌, replicate, ◌+◌, ◌++◌, ap, sym, ◌∙◌}
 use Rattle.bm_base.specs.Machine.State.{limits_of}
 use Rattle.bm_base.specs.Choices.{transfers_over, holders_by, excluded_by}
+use Rattle.bm_round.specs.Commanded.{with_copies}
 use Rattle.bm_round.proofs.WishCopies.{none_left, one_less, joined_more}
 use Rattle.bm_round.proofs.transfers.choose_copies.Goals as goal
+
+pub returns-then-not-has_source-clause-transfers : goal.returns-then-not-has_source-clause-transfers
+returns-then-not-has_source-clause-transfers c =
+    let C = c.args.topology.now.cluster in
+    let limits = limits_of c.args.config.now in
+    let w = c.args.wish.now in
+    let chosen = c.begin_sources.new.self.transfers.items in
+    sym (none_left limits C chosen w w.count (c.has_source.ensures limits c.if-not-has_source.true))
+    ∙ ap (λ (ts : Vec Transfer). with_copies limits C ts.items w) c.begin_sources.ensures.transfers
 
 pub returns-in_default-clause-transfers : goal.returns-in_default-clause-transfers
 returns-in_default-clause-transfers c =
