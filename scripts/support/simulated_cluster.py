@@ -13,12 +13,28 @@ STAMP = (1, LENGTH)
 
 
 class Dice:
+    """The generator PCG-XSH-RR 64/32 of https://www.pcg-random.org. A number below a count is drawn
+    by Stephen Canon's method, https://github.com/apple/swift/pull/39143."""
+
+    STREAM = 54
+
     def __init__(self, seed):
-        self.state = seed
+        self.state = 0
+        self.word()
+        self.state += seed
+        self.word()
+
+    def word(self):
+        old = self.state
+        self.state = (old * 6364136223846793005 + 2 * self.STREAM + 1) % 2**64
+        mixed, turn = (old ^ old >> 18) >> 27 & 0xFFFFFFFF, old >> 59
+        return mixed >> turn | mixed << 32 - turn & 0xFFFFFFFF
 
     def below(self, count):
-        self.state = (self.state * 6364136223846793005 + 1442695040888963407) % 2**64
-        return (self.state >> 33) % count
+        """The upper half of a word's product with the count, and a carry from the next word's."""
+        number, rest = divmod(self.word() * count, 2**32)
+        carries = rest > 2**32 - count and rest + (self.word() * count >> 32) >= 2**32
+        return number + carries
 
 
 @dataclass

@@ -16,7 +16,7 @@ less Less h = refl
 less Equal h = absurd h
 less Greater h = absurd h
 
-pub greater : (r : Ordering) → is_gt r ≡ true → r ≡ Greater
+greater : (r : Ordering) → is_gt r ≡ true → r ≡ Greater
 greater Less h = cc
 greater Equal h = cc
 greater Greater h = refl

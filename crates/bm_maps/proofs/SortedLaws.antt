@@ -1,11 +1,9 @@
 -- A change of a sorted vector is a change of the map that it represents.
-use Rattle.std.specs.Prelude.{◌≡◌, ℕ, zero, suc, Bool, List, [], ◌∷◌, Some, slice_get, set, get_or, T}
-use Rattle.std.specs.declared.cmp.Ordering.{Ordering}
+use Rattle.std.specs.Prelude.{◌≡◌, Bool, List, T}
 use Rattle.std.specs.FinMap.{put, is_sorted}
-use Rattle.std.specs.FinMap.Entries.{is_sorted-put, below_all}
+use Rattle.std.specs.FinMap.Entries.{is_sorted-put}
 use Rattle.std.specs.List.Retain.{IsFiltered}
 use Rattle.std.proofs.Common.{sym, ap, subst, ◌∙◌}
-use Rattle.bm_base.specs.Maps.Conjunction.{both, first, second}
 use Rattle.bm_base.specs.Maps.Map.{Map, Order, entries, insert}
 use Rattle.bm_base.specs.Maps.MapCode.{same_entries_map}
 use Rattle.bm_base.specs.Maps.OfSorted.{of_sorted}
@@ -36,31 +34,3 @@ module _ {K X : Type 0} (o : Order K) where
       let from : es ≡ entries m = sym (entries_shown es m h is) in
       let to : fs ≡ entries (of_sorted {o = o} fs) = sym (entries-of_sorted o fs (sorted_by-filtered R f es fs told h)) in
       subst (λ xs. IsFiltered R f xs (entries (of_sorted {o = o} fs))) from (subst (λ ys. IsFiltered R f es ys) to told)
-
--- Setting a value at an index keeps the order.
-
-set_below : {K X : Type 0} (R : K → K → Ordering) (k : K) (es : List (K × X)) (i : ℕ) (d : K × X) (v : X) → T (below_all R k es) → T (below_all R k (set es i ((get_or es i d).0, v)))
-set_below R k [] i d v h = tt
-set_below R k (e ∷ es) zero d v h = h
-set_below R k (e ∷ es) (suc i) d v h = both _ _ (first _ _ h) (set_below R k es i d v (second _ _ h))
-
-pub is_sorted-set : {K X : Type 0} (R : K → K → Ordering) (es : List (K × X)) (i : ℕ) (d : K × X) (v : X) → T (is_sorted R es) → T (is_sorted R (set es i ((get_or es i d).0, v)))
-is_sorted-set R [] i d v h = tt
-is_sorted-set R (e ∷ es) zero d v h = h
-is_sorted-set R (e ∷ es) (suc i) d v h = both _ _ (set_below R e.0 es i d v (first _ _ h)) (is_sorted-set R es i d v (second _ _ h))
-
--- a read that succeeds gives the same with any default
-got : {X : Type 0} (es : List X) (i : ℕ) (d e : X) → slice_get es i ≡ Some e → get_or es i d ≡ e
-got [] i d e h = cc
-got (x ∷ es) zero d e h = cc
-got (x ∷ es) (suc i) d e h = got es i d e h
-
-module _ {K X : Type 0} (o : Order K) (es : List (K × X)) (i : ℕ) (x : K × X) (v : X) (h : T (is_sorted o.cmp es)) (read : x ≡ get_or es i x) where
-  pub is_sorted-set_read : T (is_sorted o.cmp (set es i (x.0, v)))
-  is_sorted-set_read = subst (λ k. T (is_sorted o.cmp (set es i (k, v)))) (sym (ap (λ z. z.0) read)) (is_sorted-set o.cmp es i x v h)
-
-  pub entries-set_read : (m : Map o X) → of_sorted es ≡ m → (e : K × X) → slice_get (entries m) i ≡ Some e → entries (of_sorted {o = o} (set es i (x.0, v))) ≡ set (entries m) i (e.0, v)
-  entries-set_read m is e at =
-      let shown : entries m ≡ es = entries_shown o es m h is in
-      let same : x ≡ e = read ∙ got es i x e (ap (λ xs. slice_get xs i) (sym shown) ∙ at) in
-      entries-of_sorted o (set es i (x.0, v)) is_sorted-set_read ∙ (λ j. set (sym shown j) i ((same j).0, v))

@@ -1,13 +1,11 @@
-//! Sorted maps, links between slots, and vectors of a fixed capacity.
+//! A sorted map from numbers, links between slots, and vectors of a fixed capacity.
 #![tactic(auto)]
 
 mod number_map;
 mod number_search;
-mod replica_map;
 mod slot_link;
 pub mod sorted;
 
 pub use arrayvec::ArrayVec;
 pub use number_map::NumberMap;
-pub use replica_map::ReplicaMap;
 pub use slot_link::{END_OF_LINKS, NO_LINK, SlotLink, fits_link};

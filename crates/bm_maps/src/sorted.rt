@@ -15,18 +15,6 @@ pub fn place<K: Ord + Copy, V: Copy>(entries: &[(K, V)], key: &K) -> usize
     index_between(entries, key, 0, entries.len())
 }
 
-/// The same, for a key that is mostly greater than all others: the last entry is compared first.
-pub(crate) fn insertion_index<K: Ord + Copy, V: Copy>(entries: &[(K, V)], key: &K) -> usize
-    requires { T (list.is_sorted K.cmp entries.now) }
-    ensures { result ≡ place K.cmp key.now entries.now }
-{
-    let count = entries.len();
-    if count > 0 && key.cmp(&entries[count - 1].0).is_gt() {
-        return count;
-    }
-    place(entries, key)
-}
-
 /// The number of entries before the key's index, which is at least `least` and at most `most`.
 pub(crate) fn index_between<K: Ord + Copy, V: Copy>(
     entries: &[(K, V)],

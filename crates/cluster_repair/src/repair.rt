@@ -104,7 +104,7 @@ fn awaited_rounds(transfers: &Transfers) -> u32 {
     if transfers.count() == 0 {
         0
     } else {
-        transfers.pend
+        transfers.pend()
     }
 }
 

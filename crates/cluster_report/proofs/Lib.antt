@@ -5,6 +5,7 @@ pub mod NamedNumbers
 pub mod LineLemmas
 pub mod ReadLemmas
 -- The copies on their way, and all of the state after a call.
+pub mod TreeMaps
 pub mod SentLemmas
 pub mod CopyLemmas
 pub mod StepLemmas

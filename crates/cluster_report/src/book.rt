@@ -59,8 +59,8 @@ impl Book {
         }
     }
 
-    /// Notes an event that the manager accepted. An event that removes copies scans all pending
-    /// copies; the rest scans at most the nodes and the storages.
+    /// Notes an event that the manager accepted. An event that may remove several pending copies
+    /// scans all of them; the rest scans at most the nodes and the storages.
     pub fn take_event(&mut self, event: &Event) -> Result<(), AllocError>
         requires { first_of (cluster_checks self.old.topology.cluster event.now) ≡ None }
         ensures cluster { OnOk result (self.new.topology.cluster

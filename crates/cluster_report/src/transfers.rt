@@ -7,16 +7,31 @@ ghost use Rattle.bm_base.specs.Words.{Holdings, replica_at, expanded, change_hol
 ghost use Rattle.cluster_report.specs.Copies.{commanded_to};
 
 use bm_base::{BlockId, Commands, Entry, Event, NodeCommands, NodeId, ReplicaId, StorageId};
-use bm_maps::ReplicaMap;
 use bm_topo::Topology;
 use std::alloc::{AllocError, Global};
+use std::collections::BTreeMap;
+use std::marker::Model;
 
-/// For each pending copy, by block and target, the round that commanded it.
+/// The pending copies. A copy is found, added or removed in logarithmic time.
 #[derive(Drop)]
 pub struct Transfers {
-    pub copies: ReplicaMap<u64>,
+    /// For each copy, by block and target, the round that commanded it.
+    rounds: BTreeMap<ReplicaId, u64>,
     /// The number of rounds after which a copy expires.
-    pub pend: u32,
+    pend: u32,
+}
+
+impl Model for Transfers {
+    ghost use Rattle.std.specs.BTreeMap.{IsOrdered};
+    ghost use Rattle.bm_base.specs.Words.{replica_cmp};
+    ghost use Rattle.bm_base.specs.Maps.OfSorted.{of_sorted};
+    ghost use Rattle.cluster_report.specs.Copies.{PendingCopies};
+
+    ghost Value = { PendingCopies };
+
+    ghost view = { λ t. record { copies = of_sorted t.rounds.entries; pend = t.pend } };
+
+    ghost invariant = { λ t. IsOrdered replica_cmp t.rounds };
 }
 
 impl Transfers {
@@ -26,7 +41,7 @@ impl Transfers {
         ensures pend { result.pend ≡ pend }
     {
         Transfers {
-            copies: ReplicaMap::new(alloc),
+            rounds: BTreeMap::new(alloc),
             pend,
         }
     }
@@ -34,11 +49,18 @@ impl Transfers {
     pub fn count(&self) -> usize
         ensures { result ≡ map_of.len self.now.copies }
     {
-        self.copies.len()
+        self.rounds.len()
+    }
+
+    /// The number of rounds after which a copy expires.
+    pub fn pend(&self) -> u32
+        ensures { result ≡ self.now.pend }
+    {
+        self.pend
     }
 
     /// Forgets the copies that an accepted event removes; `topology` is the cluster before it. An
-    /// event that removes copies scans all of them.
+    /// event that may remove several copies scans all of them.
     #[tactic(auto, unfolding(bm_base::specs::Machine::Events::change_holdings, bm_base::specs::Machine::Events::without_storages, bm_base::specs::Machine::Events::begin_drain, bm_base::specs::Machine::Events::add_block, bm_base::specs::Machine::Events::delete_block, bm_base::specs::Machine::Events::without_pending, bm_base::specs::Machine::Events::change_marks_of_block, bm_base::specs::Machine::Events::set_replication, bm_base::specs::Machine::Events::restamp, bm_base::specs::Machine::Events::enter, bm_base::specs::Machine::Events::remove_replica, bm_base::specs::Machine::Events::make_bad, bm_base::specs::Machine::Events::report, bm_base::specs::Machine::Refusals::cluster_checks))]
     pub fn take_event(&mut self, topology: &Topology, event: &Event)
         requires { first_of (cluster_checks topology.now.cluster event.now) ≡ None }
@@ -82,8 +104,8 @@ impl Transfers {
             (λ q _. not (has_storage topology.now.cluster node q.storage)) }
         ensures pend { self.new.pend ≡ self.old.pend }
     {
-        self.copies
-            .retain(|copy| !topology.has_storage(node, copy.0.storage));
+        self.rounds
+            .retain(|copy, _| !topology.has_storage(node, copy.storage));
     }
 
     fn forget_storage(&mut self, storage: StorageId)
@@ -91,7 +113,7 @@ impl Transfers {
             (λ q _. not (q.storage == storage)) }
         ensures pend { self.new.pend ≡ self.old.pend }
     {
-        self.copies.retain(|copy| copy.0.storage != storage);
+        self.rounds.retain(|copy, _| copy.storage != storage);
     }
 
     fn forget_block(&mut self, block: BlockId)
@@ -99,7 +121,7 @@ impl Transfers {
             (λ q _. not (q.block == block)) }
         ensures pend { self.new.pend ≡ self.old.pend }
     {
-        self.copies.retain(|copy| copy.0.block != block);
+        self.rounds.retain(|copy, _| copy.block != block);
     }
 
     fn arrive(&mut self, storage: StorageId, block: BlockId)
@@ -107,7 +129,7 @@ impl Transfers {
             ≡ map_of.remove self.old.copies (replica_at block storage) }
         ensures pend { self.new.pend ≡ self.old.pend }
     {
-        self.copies.remove(ReplicaId { block, storage });
+        self.rounds.remove(&ReplicaId { block, storage });
     }
 
     /// All blocks that a report names have arrived on the storage.
@@ -116,7 +138,7 @@ impl Transfers {
             (λ q _. not ((q.storage == storage) && is_named (expanded entries.now) q.block)) }
         ensures pend { self.new.pend ≡ self.old.pend }
     {
-        self.copies.retain(|copy| !(copy.0.storage == storage && is_named(entries, copy.0.block)));
+        self.rounds.retain(|copy, _| !(copy.storage == storage && is_named(entries, copy.block)));
     }
 
     /// Notes a round: drops expired copies, and adds those that the round commands.
@@ -142,8 +164,8 @@ impl Transfers {
         ensures pend { self.new.pend ≡ self.old.pend }
     {
         let pend = u64::from(self.pend);
-        self.copies
-            .retain(|copy| !(pend <= round.saturating_sub(copy.1)));
+        self.rounds
+            .retain(|_, commanded| !(pend <= round.saturating_sub(*commanded)));
     }
 
     fn add_node(&mut self, round: u64, commands: &NodeCommands) -> Result<(), AllocError>
@@ -156,8 +178,17 @@ impl Transfers {
                 block: transfer.block,
                 storage: transfer.target,
             };
-            self.copies.insert(copy, round)?;
+            self.insert(copy, round)?;
         }
+        Ok(())
+    }
+
+    fn insert(&mut self, copy: ReplicaId, round: u64) -> Result<(), AllocError>
+        ensures copies { OnOk result
+            (self.new.copies ≡ map_of.insert self.old.copies copy round) }
+        ensures pend { self.new.pend ≡ self.old.pend }
+    {
+        self.rounds.insert(copy, round)?;
         Ok(())
     }
 }

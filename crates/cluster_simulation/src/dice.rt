@@ -1,15 +1,23 @@
 // Pseudorandom numbers, the same in each run of one seed.
 ghost use Rattle.std.specs.Prelude.{◌<◌};
 
-/// A linear congruential generator; its upper bits are used.
-#[derive(Clone, Copy)]
+use rand::RngExt;
+use rand_pcg::Pcg32;
+
+/// That of the demonstration program of PCG, whose seed is 42.
+const STREAM: u64 = 54;
+
+/// The generator PCG-XSH-RR 64/32.
+#[derive(Drop)]
 pub struct Dice {
-    state: u64,
+    words: Pcg32,
 }
 
 impl Dice {
     pub fn new(seed: u64) -> Dice {
-        Dice { state: seed }
+        Dice {
+            words: Pcg32::new(seed, STREAM),
+        }
     }
 
     /// A number below `count`.
@@ -17,10 +25,6 @@ impl Dice {
         requires { 0 < count }
         ensures { result < count }
     {
-        self.state = self
-            .state
-            .wrapping_mul(6_364_136_223_846_793_005)
-            .wrapping_add(1_442_695_040_888_963_407);
-        ((self.state >> 33) % u64::from(count)) as u32
+        self.words.random_range(0..count)
     }
 }

@@ -1,10 +1,9 @@
-use Rattle.std.proofs.Common.{rules, ◌==◌, not}
-use Rattle.std.proofs.lemmas.Fn.{filter_same}
-use Rattle.bm_base.proofs.MapLaws.{keep-filter}
-use Rattle.bm_base.specs.Machine.State.{by_replica}
+use Rattle.std.proofs.Common.{ap, rules, ◌==◌, not}
+use Rattle.bm_base.specs.Words.{by_replica}
+use Rattle.cluster_report.proofs.TreeMaps.{kept}
 use Rattle.cluster_report.proofs.transfers.Transfers.forget_storage.Goals as goal
 
 pub returns-clause-copies : goal.returns-clause-copies
 returns-clause-copies c =
-    keep-filter by_replica c.args.self.now.copies _ (λ q r. not (q.storage == c.args.storage))
-    (filter_same _ (λ e. not (e.0.storage == c.args.storage)) _ (λ x b f' k. search rules) _ _ c.retain.ensures)
+    kept by_replica c.self.inside.rounds _ (ap (λ t. t.copies) c.self.view_is) c.self.invariant c.retain.new.self c.retain.ensures.ordered
+    (λ q _. not (q.storage == c.args.storage)) _ _ (λ k v b w f' t. search rules) c.retain.ensures.filtered
