@@ -28,8 +28,8 @@ has-keys (e ∷ es) b = ap (λ t. t || has (keys_of es) b) (eqb_turned e.0 b) �
     by false rest = rest
 
 -- a block with a transfer has an index
-pub place-had : (es : List (ℕ × PendingTargets)) (q : ReplicaId) → IsSome (get (map_of es) q) → has (keys_of es) q.block ≡ true
-place-had es q some = has-keys es q.block ∙ by (lookup (nat_eq q.block) es) (sym (ap is_some (get-map_of es q)) ∙ some)
+pub index-had : (es : List (ℕ × PendingTargets)) (q : ReplicaId) → IsSome (get (map_of es) q) → has (keys_of es) q.block ≡ true
+index-had es q some = has-keys es q.block ∙ by (lookup (nat_eq q.block) es) (sym (ap is_some (get-map_of es q)) ∙ some)
   where
     by : (o : Option PendingTargets) → is_some (find nat_cmp q.storage (option_map_or (λ (v : PendingTargets). v.items) o [])) ≡ true → is_some o ≡ true
     by None e = absurd (false≢true e)
@@ -40,6 +40,6 @@ pub keys-seen : (es : List (ℕ × PendingTargets)) (p : PendingMap) → record 
 keys-seen es p view = sym (places-seen es) ∙ ap (λ (p : PendingMap). blocks_in p) view
 
 -- so is the one at an index
-pub place-seen : (es : List (ℕ × PendingTargets)) (p : PendingMap) → record { map = map_of es; rooms = capacities_of es } ≡ p → (o : Option (ℕ × PendingTargets)) (i : ℕ) → o ≡ slice_get es i
+pub index-seen : (es : List (ℕ × PendingTargets)) (p : PendingMap) → record { map = map_of es; rooms = capacities_of es } ≡ p → (o : Option (ℕ × PendingTargets)) (i : ℕ) → o ≡ slice_get es i
     → option_map (λ (e : ℕ × PendingTargets). e.0) o ≡ slice_get (blocks_in p) i
-place-seen es p view o i e = ap (option_map (λ (e : ℕ × PendingTargets). e.0)) e ∙ sym (slice_get-map (λ (e : ℕ × PendingTargets). e.0) es i) ∙ ap (λ ks. slice_get ks i) (keys-seen es p view)
+index-seen es p view o i e = ap (option_map (λ (e : ℕ × PendingTargets). e.0)) e ∙ sym (slice_get-map (λ (e : ℕ × PendingTargets). e.0) es i) ∙ ap (λ ks. slice_get ks i) (keys-seen es p view)

@@ -158,10 +158,10 @@ impl PendingTransfers {
 
     /// The block at an index, from 0 on; `None` from `count()` on. `remove` changes no index, so a
     /// caller can remove transfers while it iterates.
-    pub fn block_at(&self, place: usize) -> Option<BlockId>
-        ensures { result ≡ slice_get (blocks_in self.now) place }
+    pub fn block_at(&self, index: usize) -> Option<BlockId>
+        ensures { result ≡ slice_get (blocks_in self.now) index }
     {
-        match self.by_block.get_index(place) {
+        match self.by_block.get_index(index) {
             Some((block, _)) => Some(BlockId(*block)),
             None => None,
         }

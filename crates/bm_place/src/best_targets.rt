@@ -109,12 +109,12 @@ pub fn index_of_storage(best_targets: &[TargetRow], storage: StorageId) -> Optio
         .position(|other| other.storage == storage)
 }
 
-/// Replaces the target at `place` and moves it back to its sorted position.
-pub fn reposition(best_targets: &mut Vec<TargetRow>, place: usize, target: &TargetRow)
-    requires { place < length best_targets.old.items }
-    ensures { best_targets.new.items ≡ nodes.reposition target.now place best_targets.old.items }
+/// Replaces the target at `index` and moves it back to its sorted position.
+pub fn reposition(best_targets: &mut Vec<TargetRow>, index: usize, target: &TargetRow)
+    requires { index < length best_targets.old.items }
+    ensures { best_targets.new.items ≡ nodes.reposition target.now index best_targets.old.items }
 {
-    let mut at = place;
+    let mut at = index;
     while at + 1 < best_targets.len() && is_better_than(&best_targets[at + 1], target) {
         best_targets[at] = best_targets[at + 1];
         at += 1;

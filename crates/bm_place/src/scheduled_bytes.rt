@@ -118,8 +118,8 @@ fn rows_of(alloc: Global, topology: &Topology) -> Result<NumberMap<TargetRow>, A
 {
     let mut rows = NumberMap::new(alloc);
     rows.reserve(topology.storage_count() as usize)?;
-    for place in 0..topology.storage_count() {
-        let Some(storage) = topology.storage_at(place) else {
+    for index in 0..topology.storage_count() {
+        let Some(storage) = topology.storage_at(index) else {
             return Ok(rows);
         };
         rows.insert(u64::from(storage.0), target_at(topology, storage))?;
@@ -152,12 +152,12 @@ fn update_best(
         → AreOf topology.now.cluster rows.now.map
         → IsKept rows.now.map best_targets.new.items }
 {
-    let Some(place) = index_of_storage(best_targets, target) else {
+    let Some(index) = index_of_storage(best_targets, target) else {
         return;
     };
     if let Some(row) = rows.get(u64::from(target.0)) {
         let best = best_on_node(row, rows, storages_near(row.node, topology));
-        reposition(best_targets, place, &best);
+        reposition(best_targets, index, &best);
     }
 }
 

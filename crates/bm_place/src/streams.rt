@@ -52,8 +52,8 @@ impl<'a> Streams<'a> {
     {
         let mut counts = NumberMap::new(alloc);
         let mut last = None;
-        for place in 0..topology.storage_count() {
-            let Some(storage) = topology.storage_at(place) else {
+        for index in 0..topology.storage_count() {
+            let Some(storage) = topology.storage_at(index) else {
                 return Ok(Streams { topology, counts });
             };
             let node = node_number(topology, storage);

@@ -25,8 +25,8 @@ pub(crate) fn reserve_each(arrays: &mut Vec<Vec<u32>>, room: usize) -> Result<()
     ensures kept { (bound : ℕ) → HaveRoom arrays.old.items bound → HaveRoom arrays.new.items bound }
     ensures room { OnOk result (HaveRoom arrays.new.items room) }
 {
-    for place in 0..arrays.len() {
-        let array = &mut arrays[place];
+    for index in 0..arrays.len() {
+        let array = &mut arrays[index];
         array.reserve(room - array.len())?;
     }
     Ok(())

@@ -113,10 +113,10 @@ impl SparseSet {
             → (IsMember other self.new.slots ↔ IsMember other self.old.slots) }
         ensures room { self.new.room ≡ self.old.room }
     {
-        if let Some(place) = self.place_of(slot) {
+        if let Some(index) = self.index_of(slot) {
             let last = self.order[self.order.len() - 1];
-            self.places[last as usize] = place as u32;
-            self.order.swap_remove(place);
+            self.places[last as usize] = index as u32;
+            self.order.swap_remove(index);
         }
     }
 
@@ -125,7 +125,7 @@ impl SparseSet {
         requires { slot < self.now.room }
         ensures { IsTrue result ↔ IsMember slot self.now.slots }
     {
-        self.place_of(slot).is_some()
+        self.index_of(slot).is_some()
     }
 
     /// The members, by index.
@@ -137,15 +137,15 @@ impl SparseSet {
     }
 
     /// The index of a slot among the members; none if it is no member.
-    fn place_of(&self, slot: usize) -> Option<usize>
+    fn index_of(&self, slot: usize) -> Option<usize>
         requires { slot < self.now.room }
-        ensures found { IfSome result (λ place. (place < length self.now.slots)
-            × (slice_index_or self.now.slots place 0 ≡ slot)) }
+        ensures found { IfSome result (λ index. (index < length self.now.slots)
+            × (slice_index_or self.now.slots index 0 ≡ slot)) }
         ensures absent { result ≡ None → IsMember slot self.now.slots → ⊥ }
     {
-        let place = self.places[slot] as usize;
-        if place < self.order.len() && self.order[place] as usize == slot {
-            Some(place)
+        let index = self.places[slot] as usize;
+        if index < self.order.len() && self.order[index] as usize == slot {
+            Some(index)
         } else {
             None
         }

@@ -32,8 +32,8 @@ fn read_marks_ahead(
         → slice_index_or result i None ≡ marks_at arena.now n.slot storage }
 {
     let mut ahead = [None; CHUNK];
-    for (place, named) in chunk.iter().enumerate() {
-        ahead[place] = arena.marks(named.slot, storage);
+    for (index, named) in chunk.iter().enumerate() {
+        ahead[index] = arena.marks(named.slot, storage);
     }
     ahead
 }
@@ -122,8 +122,8 @@ fn add_chunk(
 {
     let ahead = read_marks_ahead(arena, storage, chunk);
     let mut is_changed = false;
-    for (place, named) in chunk.iter().enumerate() {
-        let was = marks_now(arena, storage, named.slot, ahead[place], is_changed);
+    for (index, named) in chunk.iter().enumerate() {
+        let was = marks_now(arena, storage, named.slot, ahead[index], is_changed);
         let now_changed = add_and_list(arena, topology, storage, named, was, tally, changed);
         is_changed |= now_changed;
     }

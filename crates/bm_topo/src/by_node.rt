@@ -26,8 +26,8 @@ pub(crate) fn sort_by_node(
 {
     sorted.clear();
     for (number, info) in storages.entries() {
-        let place = index_for(sorted.as_slice(), info.node, storages, places);
-        sorted.insert(place, StorageId(*number as u32));
+        let index = index_for(sorted.as_slice(), info.node, storages, places);
+        sorted.insert(index, StorageId(*number as u32));
     }
 }
 

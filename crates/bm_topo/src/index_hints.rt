@@ -128,15 +128,15 @@ fn record_indices<V: Copy, W: Copy>(
     numbers: &[(u64, V)],
     table: &[(u64, W)],
 ) {
-    let mut place = 0u16;
+    let mut index = 0u16;
     for (number, _) in numbers {
-        if let Some((other, _)) = table.get(place as usize) {
+        if let Some((other, _)) = table.get(index as usize) {
             if *other < *number {
-                place = place.wrapping_add(1);
+                index = index.wrapping_add(1);
             }
         }
         if let Some(note) = notes.get_mut(hash.hint_slot(*number)) {
-            *note = place;
+            *note = index;
         }
     }
 }
@@ -158,7 +158,7 @@ fn count_hits<V: Copy>(notes: &[u16], hash: Hash, entries: &[(u64, V)]) -> usize
 #[inline]
 fn hint_for(notes: &[u16], hash: Hash, number: u64) -> usize {
     match notes.get(hash.hint_slot(number)) {
-        Some(place) => *place as usize,
+        Some(index) => *index as usize,
         None => 0,
     }
 }

@@ -83,8 +83,8 @@ pub(crate) fn set_spots(
         spots.new (map.len storages.now.map) }
     ensures len { length spots.new ≡ length spots.old }
 {
-    for (place, entry) in storages.entries().iter().enumerate() {
+    for (index, entry) in storages.entries().iter().enumerate() {
         let storage = StorageId(entry.0 as u32);
-        spots[place] = spot_on(storage, entry.1.node, nodes, draining, places);
+        spots[index] = spot_on(storage, entry.1.node, nodes, draining, places);
     }
 }

@@ -161,8 +161,8 @@ impl Topology {
         ensures { result ≡ replicas.drains self.now.cluster node }
     {
         let number = u64::from(node.0);
-        let place = self.places.of_draining(number);
-        self.draining.get_near(number, place).is_some()
+        let index = self.places.of_draining(number);
+        self.draining.get_near(number, index).is_some()
     }
 
     /// Where a storage is; `None` where it is not known.
@@ -174,9 +174,9 @@ impl Topology {
         ensures drains { option_map_or (λ p. p.drains) result false
             ≡ replicas.is_draining self.now.cluster storage }
     {
-        let place = self.places.of_storage(u64::from(storage.0));
-        if place < self.spot_count && self.spots[place].storage == storage {
-            return Some(self.spots[place]);
+        let index = self.places.of_storage(u64::from(storage.0));
+        if index < self.spot_count && self.spots[index].storage == storage {
+            return Some(self.spots[index]);
         }
         self.find_spot(storage)
     }
@@ -343,10 +343,10 @@ impl Topology {
 
     /// The storage at an index, in ascending order of numbers, from 0 on; `None` past the last.
     #[tactic(auto, unfolding(bm_base::specs::Maps::Map::keys))]
-    pub fn storage_at(&self, place: u32) -> Option<StorageId>
-        ensures { result ≡ slice_get (map.keys self.now.cluster.storages) place }
+    pub fn storage_at(&self, index: u32) -> Option<StorageId>
+        ensures { result ≡ slice_get (map.keys self.now.cluster.storages) index }
     {
-        match self.storages.entries().get(place as usize) {
+        match self.storages.entries().get(index as usize) {
             Some((number, _)) => Some(StorageId(*number as u32)),
             None => None,
         }
@@ -354,10 +354,10 @@ impl Topology {
 
     /// The node at an index, in ascending order of numbers, from 0 on; `None` past the last.
     #[tactic(auto, unfolding(bm_base::specs::Maps::Map::keys))]
-    pub fn node_at(&self, place: u32) -> Option<NodeId>
-        ensures { result ≡ slice_get (map.keys self.now.cluster.nodes) place }
+    pub fn node_at(&self, index: u32) -> Option<NodeId>
+        ensures { result ≡ slice_get (map.keys self.now.cluster.nodes) index }
     {
-        match self.nodes.entries().get(place as usize) {
+        match self.nodes.entries().get(index as usize) {
             Some((number, _)) => Some(NodeId(*number as u32)),
             None => None,
         }

@@ -57,7 +57,7 @@ pub fn load<R: Input + Eprint + Files + AllocGlobal + Threads + Wait + Sync, N: 
     let all_accepted = take_all(&console, &mut loaded, start, asked, files, &mut writer)?;
     meter.clear(rt);
     if let Some(notes) = &loaded.notes {
-        say_text_notes(rt, asked.values.unclear, notes);
+        say_text_notes(rt, program, asked.values.unclear, notes);
     }
     Some((loaded, all_accepted))
 }
@@ -266,7 +266,10 @@ fn take_other<R: Eprint + Files + AllocGlobal + Threads + Wait + Sync, W: Write>
         Ok(false) => {
             let (rt, program) = (console.rt, console.program);
             console.meter.clear(rt);
-            let _ = rt.eprintln(format_args!("{program}: the lines above are of {path}"));
+            let _ = rt.eprintln(format_args!(
+                "{program}: the lines above are of {path}; a text of fsck comes first, and one of \
+                 dfsadmin by --nodes"
+            ));
             Some(false)
         }
         Err(fault) => said(console, Some(path), &fault, reader.get_ref().error()),

@@ -52,13 +52,13 @@ pub struct Cluster {
 /// Why a block is refused.
 #[derive(Clone, Copy, Debug, Drop, Error)]
 pub enum Why {
-    #[error("the block was read before")]
+    #[error("the block was read before: give the output of one fsck")]
     BlockTwice,
     #[error("two places of the block have one storage")]
     StorageTwice,
-    #[error("a storage on another node than before, or a node on another rack")]
+    #[error("a storage on another node than before, or a node on another rack: take new texts of fsck and of dfsadmin")]
     Elsewhere,
-    #[error("a node that is not among the live ones of --nodes")]
+    #[error("a node that is not among the live ones of --nodes: take new texts of fsck and of dfsadmin")]
     UnknownNode,
     #[error("more than 256 nodes")]
     TooManyNodes,

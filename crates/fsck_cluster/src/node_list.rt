@@ -28,7 +28,7 @@ pub struct NodeList {
 /// Why a line of the report is refused though its words are understood.
 #[derive(Clone, Copy, Debug, Drop, Error)]
 pub enum NodeWhy {
-    #[error("the node was read before")]
+    #[error("the node was read before: give the output of one hdfs dfsadmin -report")]
     NodeTwice,
     #[error("more than 256 live nodes")]
     TooManyNodes,
@@ -36,9 +36,9 @@ pub enum NodeWhy {
     NoRemaining,
     #[error("the node before has no line 'Decommission Status'")]
     NoStatus,
-    #[error("the report says {live} live DataNodes, and {read} were read")]
+    #[error("the report says {live} live DataNodes, and {read} were read: give the whole output of hdfs dfsadmin -report")]
     OtherNumber { live: u64, read: usize },
-    #[error("the report has no live DataNodes")]
+    #[error("the report has no live DataNodes: --nodes reads the output of hdfs dfsadmin -report, and no text of fsck")]
     NoLiveNodes,
 }
 

@@ -3,6 +3,7 @@ ghost use Rattle.std.specs.Prelude.{List, Option, ℕ, OnOk, IfErr};
 ghost use Rattle.std.specs.Io.KnownBytes.{Appends};
 ghost use Rattle.fsck_import.specs.WrittenCalls.{IsTableFault};
 
+use crate::PROGRAM;
 use crate::fault::Fault;
 use std::io::Write;
 use std::rt::Files;
@@ -61,7 +62,7 @@ impl<'f, 'p, F: Files> TableFile<'f, 'p, F> {
         if let Some(error) = &self.error {
             let (what, path) = (self.what, self.path);
             let _ = rt.eprintln(format_args!(
-                "fsck_import: the table of {what} cannot be written to {path}: {error}"
+                "{PROGRAM}: the table of {what} cannot be written to {path}: {error}"
             ));
         }
     }

@@ -113,7 +113,7 @@ pub enum Fault {
     #[error("{0}")]
     Refused(Unread),
     /// A report is longer than a line of the tool may be.
-    #[error("a storage has too many replicas for one report")]
+    #[error("a storage has too many replicas for one report: ./puljemrod report has no such limit")]
     LongReport,
 }
 

@@ -35,6 +35,9 @@ const FAULTED: u8 = 1;
 
 const MISUSED: u8 = 2;
 
+/// The program's name, in its messages.
+const PROGRAM: &str = "import";
+
 /// The number of lines that the line tool reads in a run.
 const MOST_LINES: u64 = 1_048_576;
 
@@ -62,7 +65,7 @@ fn say_error<R: Print + Eprint>(rt: &R, error: &Error) -> u8 {
 }
 
 fn say_fault<R: Eprint>(rt: &R, fault: Fault) -> u8 {
-    let _ = rt.eprintln(format_args!("fsck_import: {fault}"));
+    let _ = rt.eprintln(format_args!("{PROGRAM}: {fault}"));
     FAULTED
 }
 
@@ -79,7 +82,7 @@ fn run_status<R: Input + Print + Eprint + Files + AllocGlobal, N: Print>(
     match nodes_in(rt, path) {
         Ok(nodes) => run_from(rt, notes, asked, nodes),
         Err(fault) => {
-            let _ = rt.eprintln(format_args!("fsck_import: {path}: {fault}"));
+            let _ = rt.eprintln(format_args!("{PROGRAM}: {path}: {fault}"));
             FAULTED
         }
     }
@@ -141,19 +144,19 @@ fn said<R: Eprint>(rt: &R, asked: &Asked<'_>, ended: Result<Notes, Fault>) -> u8
 }
 
 fn say_notes<R: Eprint>(rt: &R, asked: &Asked<'_>, notes: &Notes) {
-    say_text_notes(rt, asked.values.unclear, notes);
+    say_text_notes(rt, PROGRAM, asked.values.unclear, notes);
     if notes.lines > MOST_LINES {
         let lines = notes.lines;
         let _ = rt.eprintln(format_args!(
-            "fsck_import: warning: {lines} lines are more than the line tool reads in a run \
+            "{PROGRAM}: warning: {lines} lines are more than the line tool reads in a run \
              ({MOST_LINES}); ./puljemrod report has no such limit"
         ));
     }
 }
 
-/// Prints what was left out of a text or is uncertain.
-pub fn say_text_notes<R: Eprint>(rt: &R, unclear: Unclear, notes: &Notes) {
-    say_left_out(rt, &notes.left_out);
+/// Prints what was left out of a text or is uncertain, each line after the program's name.
+pub fn say_text_notes<R: Eprint>(rt: &R, program: &str, unclear: Unclear, notes: &Notes) {
+    say_left_out(rt, program, &notes.left_out);
     let (block, blocks) = match unclear {
         Unclear::Good => (
             "block with more places than live replicas taken with each place as good",
@@ -164,18 +167,19 @@ pub fn say_text_notes<R: Eprint>(rt: &R, unclear: Unclear, notes: &Notes) {
             "blocks with more places than live replicas left out",
         ),
     };
-    say_count(rt, notes.unclear_blocks, block, blocks);
+    say_count(rt, program, notes.unclear_blocks, block, blocks);
     say_count(
         rt,
+        program,
         notes.maintained,
         "replica on a node in maintenance taken as live",
         "replicas on nodes in maintenance taken as live",
     );
-    say_not_in_text(rt, notes);
+    say_not_in_text(rt, program, notes);
 }
 
 /// Prints what the text lacks: the blocks of other files make stray replicas.
-fn say_not_in_text<R: Eprint>(rt: &R, notes: &Notes) {
+fn say_not_in_text<R: Eprint>(rt: &R, program: &str, notes: &Notes) {
     let files = notes.unlisted;
     if files > 0 {
         let are = if files == 1 {
@@ -183,36 +187,40 @@ fn say_not_in_text<R: Eprint>(rt: &R, notes: &Notes) {
         } else {
             "files being written are"
         };
-        let _ = rt.eprintln(format_args!("fsck_import: {files} {are} not in the text"));
+        let _ = rt.eprintln(format_args!("{program}: {files} {are} not in the text"));
     }
     if !notes.is_of_all {
         let _ = rt.eprintln(format_args!(
-            "fsck_import: the text is of one path alone, and not of /"
+            "{program}: the text is of one path alone, and not of /"
         ));
     }
 }
 
-fn say_left_out<R: Eprint>(rt: &R, left_out: &LeftOut) {
+fn say_left_out<R: Eprint>(rt: &R, program: &str, left_out: &LeftOut) {
     say_count(
         rt,
+        program,
         left_out.erasure_coded,
         "erasure coded file left out",
         "erasure coded files left out",
     );
     say_count(
         rt,
+        program,
         left_out.over_replicated,
         "file with more than 16 replicas left out",
         "files with more than 16 replicas left out",
     );
     say_count(
         rt,
+        program,
         left_out.open_files,
         "file that is being written left out",
         "files that are being written left out",
     );
     say_count(
         rt,
+        program,
         left_out.snapshots,
         "file in a snapshot left out",
         "files in snapshots left out",
@@ -220,10 +228,10 @@ fn say_left_out<R: Eprint>(rt: &R, left_out: &LeftOut) {
 }
 
 /// Prints a count with the words for one or for several; prints nothing for 0.
-fn say_count<R: Eprint>(rt: &R, count: u64, one: &str, several: &str) {
+fn say_count<R: Eprint>(rt: &R, program: &str, count: u64, one: &str, several: &str) {
     if count > 0 {
         let what = if count == 1 { one } else { several };
-        let _ = rt.eprintln(format_args!("fsck_import: {count} {what}"));
+        let _ = rt.eprintln(format_args!("{program}: {count} {what}"));
     }
 }
 

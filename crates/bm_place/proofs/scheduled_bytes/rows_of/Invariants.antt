@@ -5,7 +5,7 @@ use Rattle.bm_place.specs.Targets.{target_at, target_table}
 use Rattle.bm_place.proofs.scheduled_bytes.rows_of.Given as goal
 
 -- the table so far and the rows of the rest are the whole table
-abbrev pub invariant-loop-place : goal.invariant-loop-place
-invariant-loop-place l =
+abbrev pub invariant-loop-index : goal.invariant-loop-index
+invariant-loop-index l =
     let C = l.topology.cluster in
-    insert_all l.rows.map (listed (target_at C (λ _. 0)) (drop l.place (keys C.storages))) ≡ target_table C (λ _. 0)
+    insert_all l.rows.map (listed (target_at C (λ _. 0)) (drop l.index (keys C.storages))) ≡ target_table C (λ _. 0)

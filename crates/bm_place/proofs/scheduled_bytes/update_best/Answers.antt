@@ -12,10 +12,10 @@ returns-in_default c old len kept fits is of_cluster =
 pub returns-in-Some-get : goal.returns-in-Some-get
 returns-in-Some-get c old len kept fits is of_cluster =
     let row = c.in-Some-get.row in
-    let place : position (λ (t : TargetRow). t.storage == c.args.target) c.args.best_targets.now.items ≡ Some c.in-Some.place = sym (c.in-Some.ensures ∙ ap (position (λ (t : TargetRow). t.storage == c.args.target)) c.deref.ensures.value) in
+    let index : position (λ (t : TargetRow). t.storage == c.args.target) c.args.best_targets.now.items ≡ Some c.in-Some.index = sym (c.in-Some.ensures ∙ ap (position (λ (t : TargetRow). t.storage == c.args.target)) c.deref.ensures.value) in
     let there = sym (c.get.ensures ∙ ap (get c.args.rows.now.map) (c.from.ensures ∙ c.target.view_is)) ∙ c.in-Some-get.is in
-    kept_renewed c.args.topology.now.cluster old c.args.rows.now.map c.args.target len c.args.best_targets.now.items c.reposition.new.best_targets.items c.storages_near.result.now row c.best_on_node-best.result c.in-Some.place kept fits is
-    there place of_cluster c.storages_near.ensures c.best_on_node-best.ensures c.reposition.ensures
+    kept_renewed c.args.topology.now.cluster old c.args.rows.now.map c.args.target len c.args.best_targets.now.items c.reposition.new.best_targets.items c.storages_near.result.now row c.best_on_node-best.result c.in-Some.index kept fits is
+    there index of_cluster c.storages_near.ensures c.best_on_node-best.ensures c.reposition.ensures
 
 pub returns-in_default-get : goal.returns-in_default-get
 returns-in_default-get c old len kept fits is of_cluster =

@@ -14,47 +14,47 @@ both_false true b e = cc
 both_false false b e = (refl, e)
 
 underway_here : (c : goal.After-add_and_list-now_changed)
-    → IsUnderway c.args.topology.now.cluster c.args.storage c.args.chunk.now (c.index-chunk-place.result ∷ drop (suc c.loop-place.place) c.args.chunk.now) c.args.arena.now c.loop-place.arena c.args.tally.now c.loop-place.tally
+    → IsUnderway c.args.topology.now.cluster c.args.storage c.args.chunk.now (c.index-chunk-index.result ∷ drop (suc c.loop-index.index) c.args.chunk.now) c.args.arena.now c.loop-index.arena c.args.tally.now c.loop-index.tally
 underway_here c =
     let P : List ReportedSlot → Type 0 = λ r.
-    IsUnderway c.args.topology.now.cluster c.args.storage c.args.chunk.now r c.args.arena.now c.loop-place.arena c.args.tally.now c.loop-place.tally in
-    subst P (drop_next c.args.chunk.now c.loop-place.place c.index-chunk-place.result (slice_get_read c.args.chunk.now (length c.args.chunk.now) c.loop-place.place c.index-chunk-place.result refl c.loop-place-test.true c.index-chunk-place.is))
-    c.loop-place.invariant.underway
+    IsUnderway c.args.topology.now.cluster c.args.storage c.args.chunk.now r c.args.arena.now c.loop-index.arena c.args.tally.now c.loop-index.tally in
+    subst P (drop_next c.args.chunk.now c.loop-index.index c.index-chunk-index.result (slice_get_read c.args.chunk.now (length c.args.chunk.now) c.loop-index.index c.index-chunk-index.result refl c.loop-index-test.true c.index-chunk-index.is))
+    c.loop-index.invariant.underway
 
-pub loop-place-preserved : goal.loop-place-preserved
-loop-place-preserved c = record {
+pub loop-index-preserved : goal.loop-index-preserved
+loop-index-preserved c = record {
   underway =
       rw add-one
-      (underway-next c.args.topology.now.cluster c.args.storage c.args.chunk.now (c.index-chunk-place.result ∷ []) (drop (suc c.loop-place.place) c.args.chunk.now) c.args.arena.now c.loop-place.arena
-      c.add_and_list-now_changed.new.arena c.args.tally.now c.loop-place.tally c.add_and_list-now_changed.new.tally
+      (underway-next c.args.topology.now.cluster c.args.storage c.args.chunk.now (c.index-chunk-index.result ∷ []) (drop (suc c.loop-index.index) c.args.chunk.now) c.args.arena.now c.loop-index.arena
+      c.add_and_list-now_changed.new.arena c.args.tally.now c.loop-index.tally c.add_and_list-now_changed.new.tally
       (underway_here c) c.add_and_list-now_changed.ensures.entered c.add_and_list-now_changed.ensures.counted);
   same = λ e.
-      let both = both_false c.loop-place.is_changed c.add_and_list-now_changed.result e in
-      c.add_and_list-now_changed.ensures.same both.1 ∙ c.loop-place.invariant.same both.0;
-  space = omega (arith, c.add_and_list-now_changed.ensures.grown, c.loop-place.invariant.space);
+      let both = both_false c.loop-index.is_changed c.add_and_list-now_changed.result e in
+      c.add_and_list-now_changed.ensures.same both.1 ∙ c.loop-index.invariant.same both.0;
+  space = omega (arith, c.add_and_list-now_changed.ensures.grown, c.loop-index.invariant.space);
   quiet = λ all.
-      let so_far = c.loop-place.invariant.quiet all in
-      let at = slice_get_read c.args.chunk.now (length c.args.chunk.now) c.loop-place.place c.index-chunk-place.result refl c.loop-place-test.true c.index-chunk-place.is in
-      let was_there = already_same c.args.arena.now c.loop-place.arena c.args.storage c.index-chunk-place.result so_far.0 (one_of c.args.arena.now c.args.storage c.args.chunk.now c.loop-place.place c.index-chunk-place.result at all) in
+      let so_far = c.loop-index.invariant.quiet all in
+      let at = slice_get_read c.args.chunk.now (length c.args.chunk.now) c.loop-index.index c.index-chunk-index.result refl c.loop-index-test.true c.index-chunk-index.is in
+      let was_there = already_same c.args.arena.now c.loop-index.arena c.args.storage c.index-chunk-index.result so_far.0 (one_of c.args.arena.now c.args.storage c.args.chunk.now c.loop-index.index c.index-chunk-index.result at all) in
       let q = c.add_and_list-now_changed.ensures.quiet was_there in
       (c.add_and_list-now_changed.ensures.same q.0 ∙ so_far.0, q.1 ∙ so_far.1);
-  listed = listed-chain c.args.arena.now c.loop-place.arena c.add_and_list-now_changed.new.arena c.args.changed.now.items c.loop-place.changed.items c.add_and_list-now_changed.new.changed.items c.loop-place.invariant.listed c.add_and_list-now_changed.ensures.listed;
+  listed = listed-chain c.args.arena.now c.loop-index.arena c.add_and_list-now_changed.new.arena c.args.changed.now.items c.loop-index.changed.items c.add_and_list-now_changed.new.changed.items c.loop-index.invariant.listed c.add_and_list-now_changed.ensures.listed;
   came = λ slot m.
-      let at = slice_get_read c.args.chunk.now (length c.args.chunk.now) c.loop-place.place c.index-chunk-place.result refl c.loop-place-test.true c.index-chunk-place.is in
+      let at = slice_get_read c.args.chunk.now (length c.args.chunk.now) c.loop-index.index c.index-chunk-index.result refl c.loop-index-test.true c.index-chunk-index.is in
       let P : ℕ → Type 0 = λ k. IsMember k (map slot_in c.args.chunk.now) in
       elim (c.add_and_list-now_changed.ensures.came slot m) [
-        | inl was ↦ c.loop-place.invariant.came slot was
-        | inr same ↦ inr (subst P (sym same) (slot-listed c.args.chunk.now c.loop-place.place c.index-chunk-place.result at))
+        | inl was ↦ c.loop-index.invariant.came slot was
+        | inr same ↦ inr (subst P (sym same) (slot-listed c.args.chunk.now c.loop-index.index c.index-chunk-index.result at))
       ];
-  capacity = c.add_and_list-now_changed.ensures.capacity ∙ c.loop-place.invariant.capacity;
+  capacity = c.add_and_list-now_changed.ensures.capacity ∙ c.loop-index.invariant.capacity;
 }
 
 pub returns-clause-entered : goal.returns-clause-entered
 returns-clause-entered c =
-    (underway-last c.args.topology.now.cluster c.args.storage c.args.chunk.now (drop c.loop-place.place c.args.chunk.now) c.args.arena.now c.loop-place.arena c.args.tally.now c.loop-place.tally
-    (drop_all c.args.chunk.now c.loop-place.place c.loop-place-test.false) c.loop-place.invariant.underway).0
+    (underway-last c.args.topology.now.cluster c.args.storage c.args.chunk.now (drop c.loop-index.index c.args.chunk.now) c.args.arena.now c.loop-index.arena c.args.tally.now c.loop-index.tally
+    (drop_all c.args.chunk.now c.loop-index.index c.loop-index-test.false) c.loop-index.invariant.underway).0
 
 pub returns-clause-counted : goal.returns-clause-counted
 returns-clause-counted c =
-    (underway-last c.args.topology.now.cluster c.args.storage c.args.chunk.now (drop c.loop-place.place c.args.chunk.now) c.args.arena.now c.loop-place.arena c.args.tally.now c.loop-place.tally
-    (drop_all c.args.chunk.now c.loop-place.place c.loop-place-test.false) c.loop-place.invariant.underway).1
+    (underway-last c.args.topology.now.cluster c.args.storage c.args.chunk.now (drop c.loop-index.index c.args.chunk.now) c.args.arena.now c.loop-index.arena c.args.tally.now c.loop-index.tally
+    (drop_all c.args.chunk.now c.loop-index.index c.loop-index-test.false) c.loop-index.invariant.underway).1

@@ -5,14 +5,14 @@ use Rattle.bm_report.proofs.ListedSlots.{Came}
 use Rattle.bm_report.proofs.PartialReport.{IsUnderway}
 use Rattle.bm_report.proofs.reported_chunks.add_chunk.Given as goal
 
-abbrev pub invariant-loop-place : goal.invariant-loop-place
-invariant-loop-place l =
+abbrev pub invariant-loop-index : goal.invariant-loop-index
+invariant-loop-index l =
     record {
-      underway : IsUnderway l.topology.cluster l.storage l.chunk (drop l.place l.chunk) l.initial.arena l.arena l.initial.tally l.tally;
+      underway : IsUnderway l.topology.cluster l.storage l.chunk (drop l.index l.chunk) l.initial.arena l.arena l.initial.tally l.tally;
       quiet : AllAlreadyThere l.initial.arena l.storage l.chunk → (l.arena.blocks ≡ l.initial.arena.blocks) × (l.changed.items ≡ l.initial.changed.items);
       listed : IsListed l.initial.arena l.arena l.initial.changed.items l.changed.items;
       same : l.is_changed ≡ false → l.arena.blocks ≡ l.initial.arena.blocks;
-      space : vec_len l.changed ≤ vec_len l.initial.changed + l.place;
+      space : vec_len l.changed ≤ vec_len l.initial.changed + l.index;
       came : Came l.chunk l.initial.changed.items l.changed.items;
       capacity : vec_capacity l.changed ≡ vec_capacity l.initial.changed;
     }

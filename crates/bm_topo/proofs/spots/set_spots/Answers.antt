@@ -7,29 +7,29 @@ use Rattle.bm_topo.proofs.spots.set_spots.Goals as goal
 
 pub spot_on-requires : goal.spot_on-requires
 spot_on-requires c =
-    c.requires.lawful.alive _ _ (entry_there c.args.storages.now.map c.entries-entry-items.result.now c.loop-place.place c.entry-item.result c.entries-entry-items.ensures c.loop-place-test.true c.entry-item.is)
+    c.requires.lawful.alive _ _ (entry_there c.args.storages.now.map c.entries-entry-items.result.now c.loop-index.index c.entry-item.result c.entries-entry-items.ensures c.loop-index-test.true c.entry-item.is)
 
-pub bounds-spots-place : goal.bounds-spots-place
-bounds-spots-place c =
+pub bounds-spots-index : goal.bounds-spots-index
+bounds-spots-index c =
     let count = same_count c.args.storages.now.map c.entries-entry-items.result.now c.entries-entry-items.ensures in
-    omega (arith, count, c.loop-place-test.true, c.loop-place.invariant.len, c.requires.enough)
+    omega (arith, count, c.loop-index-test.true, c.loop-index.invariant.len, c.requires.enough)
 
-pub loop-place-preserved : goal.loop-place-preserved
-loop-place-preserved c =
+pub loop-index-preserved : goal.loop-index-preserved
+loop-index-preserved c =
     let count = same_count c.args.storages.now.map c.entries-entry-items.result.now c.entries-entry-items.ensures in
-    let there = entry_there c.args.storages.now.map c.entries-entry-items.result.now c.loop-place.place c.entry-item.result c.entries-entry-items.ensures c.loop-place-test.true c.entry-item.is in
+    let there = entry_there c.args.storages.now.map c.entries-entry-items.result.now c.loop-index.index c.entry-item.result c.entries-entry-items.ensures c.loop-index-test.true c.entry-item.is in
     let is = c.spot_on.ensures in
     let rack = ap (get c.args.nodes.now.map) is.node ∙ is.rack in
     record {
       set =
-          set_next (cluster_of c.args.nodes.now.map c.args.draining.now.map c.args.storages.now.map) c.loop-place.spots c.loop-place.place c.spot_on.result
-          (omega (arith, count, c.loop-place-test.true, c.loop-place.invariant.len, c.requires.enough)) c.loop-place.invariant.set
+          set_next (cluster_of c.args.nodes.now.map c.args.draining.now.map c.args.storages.now.map) c.loop-index.spots c.loop-index.index c.spot_on.result
+          (omega (arith, count, c.loop-index-test.true, c.loop-index.invariant.len, c.requires.enough)) c.loop-index.invariant.set
           (spot_is c.args.nodes.now.map c.args.draining.now.map c.args.storages.now.map c.spot_on.result c.entry-item.result.1 (ap (get c.args.storages.now.map) is.storage ∙ there) is.node rack
           (is.drains ∙ ap (λ n. contains_key c.args.draining.now.map n) (sym is.node)));
-      len = length-set c.loop-place.spots c.loop-place.place c.spot_on.result ∙ c.loop-place.invariant.len;
+      len = length-set c.loop-index.spots c.loop-index.index c.spot_on.result ∙ c.loop-index.invariant.len;
     }
 
 pub returns-clause-each : goal.returns-clause-each
 returns-clause-each c k p below at =
     let count = same_count c.args.storages.now.map c.entries-entry-items.result.now c.entries-entry-items.ensures in
-    c.loop-place.invariant.set k p (omega (arith, below, count, c.loop-place-test.false)) at
+    c.loop-index.invariant.set k p (omega (arith, below, count, c.loop-index-test.false)) at
