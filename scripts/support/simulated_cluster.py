@@ -52,7 +52,7 @@ class SimulatedCluster:
         self.asked, self.dice, self.state = asked, Dice(asked.seed), State()
         self.sends, self.receives = {}, {}
         self.on_way, self.deletes = [], []
-        self.order, self.now = 0, 0
+        self.order, self.times = 0, [0]
         for node in range(asked.nodes):
             self.state = events.register(self.state, node, node % asked.racks, self.storages_of(node))
         for block in range(asked.blocks):
@@ -124,7 +124,7 @@ class SimulatedCluster:
         """When the next round comes: after as many intervals as are needed for fewer copies to be on
         their way than a round may command, at least one."""
         interval, most = self.asked.interval * 10**6, max(self.state.limits.work * len(self.state.nodes), 1)
-        time = self.now + interval
+        time = self.times[-1] + interval
         while sum(end > time for end, _, _ in self.on_way) >= most:
             time += interval
         return time
@@ -133,8 +133,8 @@ class SimulatedCluster:
         if number == self.asked.at:
             self.go_wrong()
         if number > self.asked.at:
-            self.now = self.next_time()
-        now = self.now
+            self.times.append(self.next_time())
+        now = self.times[-1]
         for due in sorted(it for it in self.on_way if it[0] <= now):
             self.on_way.remove(due)
             self.state = events.received(self.state, due[2].target, due[2].block, *due[2].stamp)
