@@ -1,5 +1,5 @@
 """What `simulate` shows, by the model of model/ and plain lists: the placement, the incidents, and
-DataNodes that send one copy at a time and receive one at a time. Times are in microseconds."""
+DataNodes that send one copy after another and receive one after another. Times are in microseconds."""
 
 from dataclasses import dataclass, field
 
@@ -68,7 +68,7 @@ class SimulatedCluster:
         self.asked, self.dice, self.state = asked, Dice(asked.seed), State()
         self.sends, self.receives = {}, {}
         self.on_way, self.deletes = [], []
-        self.order = 0
+        self.order, self.times = 0, [0]
         for node in range(asked.nodes):
             self.state = events.register(self.state, node, node % asked.racks, self.storages_of(node))
         for block in range(asked.blocks):
@@ -136,10 +136,21 @@ class SimulatedCluster:
             if good:
                 self.state = events.corrupt(self.state, good[self.dice.below(len(good))], block)
 
+    def next_time(self):
+        """When the next round comes: after as many intervals as are needed for fewer copies to be on
+        their way than a round may command, at least one."""
+        interval, most = self.asked.interval * 10**6, max(self.state.limits.work * len(self.state.nodes), 1)
+        time = self.times[-1] + interval
+        while sum(end > time for end, _, _ in self.on_way) >= most:
+            time += interval
+        return time
+
     def take_round(self, number):
-        now = (number - self.asked.at) * self.asked.interval * 10**6
         if number == self.asked.at:
             self.go_wrong()
+        if number > self.asked.at:
+            self.times.append(self.next_time())
+        now = self.times[-1]
         for due in sorted(it for it in self.on_way if it[0] <= now):
             self.on_way.remove(due)
             self.state = events.received(self.state, due[2].target, due[2].block, *due[2].stamp)
@@ -157,10 +168,10 @@ class SimulatedCluster:
         if any((it.block, it.target) == (copy.block, copy.target) for _, _, it in self.on_way):
             return
         target = self.state.storages[copy.target].node
-        start = max(now, self.sends.get(copy.node, 0), self.receives.get(target, 0))
-        end = start + -(-LENGTH // self.asked.bandwidth)
-        self.sends[copy.node] = self.receives[target] = end
-        self.on_way.append((end, self.order, copy))
+        takes = -(-LENGTH // self.asked.bandwidth)
+        self.sends[copy.node] = max(now, self.sends.get(copy.node, 0)) + takes
+        self.receives[target] = max(now, self.receives.get(target, 0)) + takes
+        self.on_way.append((max(self.sends[copy.node], self.receives[target]), self.order, copy))
         self.order += 1
         self.free[copy.target] -= LENGTH
 

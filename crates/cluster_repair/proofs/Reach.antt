@@ -1,6 +1,6 @@
 -- How reports and rounds lead from one state to another, and what is noted on the way.
 use Rattle.std.proofs.Common.{◌≡◌, ◌∙◌, ◌++◌, ℕ, ◌+◌, true, not, List, [], ◌∷◌, None, refl, sym, ap, subst, length, arith}
-use Rattle.std.specs.Prelude.{◌<◌}
+use Rattle.std.specs.Prelude.{◌<◌, ◌/◌, nat_lt}
 use Rattle.std.specs.List.{filter, Contains}
 use Rattle.std.proofs.lemmas.List.Elements.{All-nil, All-same, All-push, All-append, All-weaker, All-filter}
 use Rattle.bm_base.specs.declared.commands.Commands.{Commands}
@@ -19,7 +19,10 @@ use Rattle.cluster_repair.specs.declared.repair.Retirement.{Retirement}
 use Rattle.cluster_repair.specs.declared.on_way.Sent.{Sent}
 use Rattle.cluster_repair.specs.declared.datanodes.DataNodes.{DataNodes}
 use Rattle.cluster_repair.specs.Sent.{AreCounted, AreBegun, copies_in, transfers_in}
-use Rattle.cluster_repair.specs.Rows.{IsReached, AreReported, AreCounts, IsAfterRound, IsCommandedAfter, AreSentAfter, IsRowAfter, AreRowsAfter, EndsWith, IsRetiredAfter, AreRetired, IsUnderWay, AreLeveled, IsDone, is_on_stride}
+use Rattle.cluster_repair.specs.declared.ticks.Ticks.{Ticks}
+use Rattle.cluster_repair.specs.Ticks.{ComesAt, IsTimeAfter}
+use Rattle.cluster_repair.proofs.TimeLemmas.{timed_at_once, timed_by_round, timed_alike, next_time, round_at}
+use Rattle.cluster_repair.specs.Rows.{AreTimed, IsReached, AreReported, AreCounts, IsAfterRound, IsCommandedAfter, AreSentAfter, IsRowAfter, AreRowsAfter, EndsWith, IsRetiredAfter, AreRetired, IsUnderWay, AreLeveled, IsDone, is_on_stride}
 
 state_after-append : (M : State) (calls more : List Call) → state_after M (calls ++ more) ≡ state_after (state_after M calls) more
 state_after-append M [] more = refl
@@ -86,27 +89,31 @@ reported_free M N xs n rs accepted after = record {
 
 -- Rows.
 
-no_rows : (M : State) → AreRowsAfter M []
-no_rows M = record { all = All-nil (IsRowAfter M) }
+no_rows : (ticks : Ticks) (M : State) → AreRowsAfter ticks M []
+no_rows ticks M = record { all = All-nil (IsRowAfter ticks M) }
 
-pub rows_and : (M : State) (rows new : List Row) (row : Row) → new ≡ rows ++ row ∷ [] → AreRowsAfter M rows → IsRowAfter M row → AreRowsAfter M new
-rows_and M rows new row is before one = record { all = All-same (IsRowAfter M) new _ is (All-push (IsRowAfter M) rows row before.all one) }
+pub rows_and : (ticks : Ticks) (M : State) (rows new : List Row) (row : Row) → new ≡ rows ++ row ∷ [] → AreRowsAfter ticks M rows → IsRowAfter ticks M row
+    → AreRowsAfter ticks M new
+rows_and ticks M rows new row is before one = record {
+  all = All-same (IsRowAfter ticks M) new _ is (All-push (IsRowAfter ticks M) rows row before.all one);
+}
 
-pub rows_among : (M : State) (rows new : List Row) (stride : ℕ) → new ≡ filter (λ r. is_on_stride r.round stride) rows → AreRowsAfter M rows
-    → AreRowsAfter M new
-rows_among M rows new stride is before = record {
-  all = All-same (IsRowAfter M) new _ is (All-filter (λ r. is_on_stride r.round stride) (IsRowAfter M) rows before.all);
+pub rows_among : (ticks : Ticks) (M : State) (rows new : List Row) (stride : ℕ) → new ≡ filter (λ r. is_on_stride r.round stride) rows
+    → AreRowsAfter ticks M rows → AreRowsAfter ticks M new
+rows_among ticks M rows new stride is before = record {
+  all = All-same (IsRowAfter ticks M) new _ is (All-filter (λ r. is_on_stride r.round stride) (IsRowAfter ticks M) rows before.all);
 }
 
 -- Retirements.
 
-none_retired : (M : State) → AreRetired M []
-none_retired M = record { all = All-nil (IsRetiredAfter M) }
+none_retired : (ticks : Ticks) (M : State) → AreRetired ticks M []
+none_retired ticks M = record { all = All-nil (IsRetiredAfter ticks M) }
 
-pub retired_and : (M N : State) (ts new : List Retirement) (t : Retirement) → new ≡ ts ++ t ∷ [] → is_retired N.cluster N.holdings t.node ≡ true
-    → IsReached t.rounds M N → AreRetired M ts → AreRetired M new
-retired_and M N ts new t is retired reached before = record {
-  all = All-same (IsRetiredAfter M) new _ is (All-push (IsRetiredAfter M) ts t before.all (record { state = N; reached = reached; retired = retired }));
+pub retired_and : (ticks : Ticks) (M N : State) (ts new : List Retirement) (t : Retirement) → new ≡ ts ++ t ∷ [] → is_retired N.cluster N.holdings t.node ≡ true
+    → IsReached t.rounds M N → IsTimeAfter ticks t.rounds t.seconds → AreRetired ticks M ts → AreRetired ticks M new
+retired_and ticks M N ts new t is retired reached time before = record {
+  all = All-same (IsRetiredAfter ticks M) new _ is
+      (All-push (IsRetiredAfter ticks M) ts t before.all (record { state = N; reached = reached; retired = retired; time = time }));
 }
 
 -- Copies that were sent.
@@ -130,43 +137,56 @@ sent_and M L rounds old mid new reached same begun before = record {
 zero_not_above : (n : ℕ) → n ≡ 0 → 0 < n → ⊥
 zero_not_above n none above = omega (arith, none, above)
 
-pub under_way_at_once : (M : State) (r : Repair) → r.rows.rows.items ≡ [] → r.retired.items ≡ [] → r.rounds ≡ 0 → AreCounted [] r.datanodes → IsUnderWay M M r
-under_way_at_once M r rows retired rounds counted = record {
+pub under_way_at_once : (ticks : Ticks) (M : State) (r : Repair) → r.rows.rows.items ≡ [] → r.retired.items ≡ [] → r.rounds ≡ 0 → r.time ≡ 0
+    → r.datanodes.on_way.sent.items ≡ [] → AreCounted [] r.datanodes → IsUnderWay ticks M M r
+under_way_at_once ticks M r rows retired rounds now on_way counted = record {
   commanded = λ taken. absurd (zero_not_above r.rounds rounds taken);
   sent = none_sent M r.datanodes counted;
+  timed = timed_at_once ticks r rounds now on_way;
   reached = subst (λ n. IsReached n M M) (sym rounds) (reached_at_once M);
-  rows = subst (AreRowsAfter M) (sym rows) (no_rows M);
-  retired = subst (AreRetired M) (sym retired) (none_retired M);
+  rows = subst (AreRowsAfter ticks M) (sym rows) (no_rows ticks M);
+  retired = subst (AreRetired ticks M) (sym retired) (none_retired ticks M);
 }
 
 -- reports and a round
-pub under_way_by_round : (M K L N : State) (old new : Repair) (mid : DataNodes) (k : Commands) → IsReached 0 K L → round_refusal L ≡ None → N ≡ count_call (whole_round L).1
-    → k ≡ (whole_round L).0 → new.rounds ≡ old.rounds + 1 → new.rows.rows.items ≡ old.rows.rows.items → new.commanded ≡ copies_in k
+pub under_way_by_round : (ticks : Ticks) (M K L N : State) (old new : Repair) (mid : DataNodes) (k : Commands) (now : ℕ) → IsReached 0 K L → round_refusal L ≡ None
+    → N ≡ count_call (whole_round L).1 → k ≡ (whole_round L).0 → new.rounds ≡ old.rounds + 1 → new.time ≡ now → new.rows.rows.items ≡ old.rows.rows.items
+    → new.commanded ≡ copies_in k → ((timed : AreTimed ticks old) → ComesAt ticks timed.taken now)
+    → mid.on_way.sent.items ≡ filter (λ s. nat_lt now s.arrival) old.datanodes.on_way.sent.items
     → ((ss : List Sent) → AreCounted ss old.datanodes → AreCounted ss mid) → AreBegun (transfers_in k) mid new.datanodes
-    → (IsReached old.rounds M L → AreRetired M old.retired.items → AreRetired M new.retired.items) → IsUnderWay M K old → IsUnderWay M N new
-under_way_by_round M K L N old new mid k reported accepted after is rounds rows commanded same begun noted on =
-    let now : IsReached old.rounds M L = subst (λ n. IsReached n M L) (sym (none_more old.rounds)) (reached_on M K L old.rounds 0 on.reached reported) in
+    → (IsReached old.rounds M L → IsTimeAfter ticks old.rounds (now / 1000000) → AreRetired ticks M old.retired.items → AreRetired ticks M new.retired.items)
+    → IsUnderWay ticks M K old → IsUnderWay ticks M N new
+under_way_by_round ticks M K L N old new mid k now reported accepted after is rounds time rows commanded comes left same begun noted on =
+    let then : IsReached old.rounds M L = subst (λ n. IsReached n M L) (sym (none_more old.rounds)) (reached_on M K L old.rounds 0 on.reached reported) in
     record {
-      reached = subst (λ n. IsReached n M N) (sym rounds) (reached_on M L N old.rounds 1 now (reached_by_round L N accepted after));
-      rows = subst (AreRowsAfter M) (sym rows) on.rows;
-      retired = noted now on.retired;
+      reached = subst (λ n. IsReached n M N) (sym rounds) (reached_on M L N old.rounds 1 then (reached_by_round L N accepted after));
+      timed = timed_by_round ticks old new mid (transfers_in k) now on.timed (comes on.timed) left begun rounds time;
+      rows = subst (AreRowsAfter ticks M) (sym rows) on.rows;
+      retired = noted then (next_time ticks old now on.timed (comes on.timed)) on.retired;
       commanded = λ taken. record { before = L; after = after; copies = commanded ∙ ap copies_in is };
-      sent = sent_and M L old.rounds old.datanodes mid new.datanodes now same (subst (λ k. AreBegun (transfers_in k) mid new.datanodes) is begun) on.sent;
+      sent = sent_and M L old.rounds old.datanodes mid new.datanodes then same (subst (λ k. AreBegun (transfers_in k) mid new.datanodes) is begun) on.sent;
     }
 
 -- a row
-pub noted : (M N : State) (old new : Repair) (row : Row) → AreCounts N row.levels → row.round ≡ old.rounds → row.commanded ≡ old.commanded
-    → row.on_way ≡ length old.datanodes.on_way.sent.items → 0 < old.rounds → AreLeveled N new.watch.blocks.items
-    → (AreRowsAfter M old.rows.rows.items → IsRowAfter M row → AreRowsAfter M new.rows.rows.items) → EndsWith new.rows.rows.items row
-    → new.rounds ≡ old.rounds → new.commanded ≡ old.commanded → new.datanodes ≡ old.datanodes → new.retired.items ≡ old.retired.items
-    → IsUnderWay M N old → IsDone M N new
-noted M N old new row counts round commanded on_way taken blocks rows ends rounds same_commanded same retired on =
+pub noted : (ticks : Ticks) (M N : State) (old new : Repair) (row : Row) → AreCounts N row.levels → row.round ≡ old.rounds → row.seconds ≡ old.time / 1000000
+    → row.commanded ≡ old.commanded → row.on_way ≡ length old.datanodes.on_way.sent.items → 0 < old.rounds → AreLeveled N new.watch.blocks.items
+    → (AreRowsAfter ticks M old.rows.rows.items → IsRowAfter ticks M row → AreRowsAfter ticks M new.rows.rows.items) → EndsWith new.rows.rows.items row
+    → new.rounds ≡ old.rounds → new.time ≡ old.time → new.commanded ≡ old.commanded → new.datanodes ≡ old.datanodes → new.retired.items ≡ old.retired.items
+    → IsUnderWay ticks M N old → IsDone ticks M N new
+noted ticks M N old new row counts round seconds commanded on_way taken blocks rows ends rounds now same_commanded same retired on =
     let last : IsAfterRound N row.commanded = subst (IsAfterRound N) (sym commanded) (on.commanded taken) in
     record {
       under_way = record {
         reached = subst (λ n. IsReached n M N) (sym rounds) on.reached;
-        rows = rows on.rows (record { state = N; reached = subst (λ n. IsReached n M N) (sym round) on.reached; counts = counts; commanded = last });
-        retired = subst (AreRetired M) (sym retired) on.retired;
+        timed = timed_alike ticks old new on.timed rounds now same;
+        rows = rows on.rows (record {
+          state = N;
+          reached = subst (λ n. IsReached n M N) (sym round) on.reached;
+          counts = counts;
+          commanded = last;
+          time = round_at ticks old row on.timed taken round seconds on_way;
+        });
+        retired = subst (AreRetired ticks M) (sym retired) on.retired;
         commanded = λ _. subst (IsAfterRound N) (sym same_commanded) (on.commanded taken);
         sent = subst (AreSentAfter M) (sym same) on.sent;
       };

@@ -13,7 +13,9 @@ use Rattle.cluster_repair.specs.declared.rows.Row.{Row}
 use Rattle.cluster_repair.specs.declared.reasons.Unmended.{Unmended}
 use Rattle.cluster_repair.specs.declared.repair.Repair.{Repair}
 use Rattle.cluster_repair.specs.declared.repair.Retirement.{Retirement}
+use Rattle.cluster_repair.specs.declared.ticks.Ticks.{Ticks}
 use Rattle.cluster_repair.specs.Sent.{transfers_in, copies_in, AreCounted}
+use Rattle.cluster_repair.specs.Ticks.{Taken, AreTaken, IsRoundAt, IsTimeAfter, time_of, on_way_of}
 
 -- some calls lead from one state to another, and this number of rounds is among them
 pub record IsReached (rounds : ℕ) (M N : State) : Type 0 where
@@ -40,30 +42,32 @@ pub record IsAfterRound (N : State) (commanded : ℕ) : Type 0 where
   pub after : N ≡ count_call (whole_round before).1
   pub copies : commanded ≡ copies_in (whole_round before).0
 
--- A row has the counts of a state that its number of rounds led to, and the number of copies that
--- the last of them commanded.
-pub record IsRowAfter (M : State) (row : Row) : Type 0 where
+-- A row has the counts of a state that its number of rounds led to, the number of copies that the
+-- last of them commanded, when that one was, and the number of copies on their way after it.
+pub record IsRowAfter (ticks : Ticks) (M : State) (row : Row) : Type 0 where
   pub state : State
   pub reached : IsReached row.round M state
   pub counts : AreCounts state row.levels
   pub commanded : IsAfterRound state row.commanded
+  pub time : IsRoundAt ticks row.round row.seconds row.on_way
 
-pub record AreRowsAfter (M : State) (rows : List Row) : Type 0 where
-  pub all : All (IsRowAfter M) rows
+pub record AreRowsAfter (ticks : Ticks) (M : State) (rows : List Row) : Type 0 where
+  pub all : All (IsRowAfter ticks M) rows
 
 -- a row is the last
 pub record EndsWith (rows : List Row) (row : Row) : Type 0 where
   pub front : List Row
   pub is : rows ≡ front ++ row ∷ []
 
--- after its number of rounds the manager answered that a node is retired
-pub record IsRetiredAfter (M : State) (t : Retirement) : Type 0 where
+-- After its number of rounds, as the next one comes, the manager answered that a node is retired.
+pub record IsRetiredAfter (ticks : Ticks) (M : State) (t : Retirement) : Type 0 where
   pub state : State
   pub reached : IsReached t.rounds M state
   pub retired : is_retired state.cluster state.holdings t.node ≡ true
+  pub time : IsTimeAfter ticks t.rounds t.seconds
 
-pub record AreRetired (M : State) (ts : List Retirement) : Type 0 where
-  pub all : All (IsRetiredAfter M) ts
+pub record AreRetired (ticks : Ticks) (M : State) (ts : List Retirement) : Type 0 where
+  pub all : All (IsRetiredAfter ticks M) ts
 
 -- a round commanded this copy, after some calls
 pub record IsCommandedAfter (M : State) (s : Sent) : Type 0 where
@@ -78,11 +82,20 @@ pub record AreSentAfter (M : State) (d : DataNodes) : Type 0 where
   pub commanded : All (IsCommandedAfter M) copies
   pub counted : AreCounted copies d
 
+-- the rounds came at their ticks, and are what a repair has of the last
+pub record AreTimed (ticks : Ticks) (r : Repair) : Type 0 where
+  pub taken : List Taken
+  pub are : AreTaken ticks taken
+  pub number : r.rounds ≡ length taken
+  pub time : r.time ≡ time_of taken
+  pub on_way : r.datanodes.on_way.sent.items ≡ on_way_of taken
+
 -- Rounds led from one state to another, and what was noted is what the manager answered on the way.
-pub record IsUnderWay (M N : State) (r : Repair) : Type 0 where
+pub record IsUnderWay (ticks : Ticks) (M N : State) (r : Repair) : Type 0 where
   pub reached : IsReached r.rounds M N
-  pub rows : AreRowsAfter M r.rows.rows.items
-  pub retired : AreRetired M r.retired.items
+  pub timed : AreTimed ticks r
+  pub rows : AreRowsAfter ticks M r.rows.rows.items
+  pub retired : AreRetired ticks M r.retired.items
   pub commanded : 0 < r.rounds → IsAfterRound N r.commanded
   pub sent : AreSentAfter M r.datanodes
 
@@ -93,8 +106,8 @@ pub record AreLeveled (M : State) (bs : List ℕ) : Type 0 where
 
 -- The same at the end: the last row is that of the last round, and the watched blocks are those
 -- with a level.
-pub record IsDone (M N : State) (r : Repair) : Type 0 where
-  pub under_way : IsUnderWay M N r
+pub record IsDone (ticks : Ticks) (M N : State) (r : Repair) : Type 0 where
+  pub under_way : IsUnderWay ticks M N r
   pub last : Row
   pub ends : EndsWith r.rows.rows.items last
   pub round : last.round ≡ r.rounds

@@ -1,5 +1,5 @@
--- When copies arrive, and what is free: a model. Each node sends one copy at a time and receives
--- one at a time, at one bandwidth.
+-- When copies arrive, and what is free: a model. What a node sends and what it receives are two
+-- links of one bandwidth, each of which passes one copy after another.
 use Rattle.std.specs.Prelude.{ℕ, ◌+◌, ◌*◌, ◌-◌, ◌^◌, max, min, nat_eq, unwrap_or}
 use Rattle.std.specs.Int.{div_ceil}
 use Rattle.std.specs.HashMap.{get}
@@ -23,10 +23,17 @@ sends_until l n = unwrap_or (get nat_eq l.sending n) 0
 abbrev pub receives_until : Links → ℕ → ℕ
 receives_until l n = unwrap_or (get nat_eq l.receiving n) 0
 
--- When a copy arrives that is commanded now: it starts once its source sends no other copy and its
--- target receives none.
+-- when a node has sent bytes that it is told to send now, after all others
+abbrev pub sent_at : Links → ℕ → ℕ → ℕ → ℕ
+sent_at l source bytes now = min (max now (sends_until l source) + micros_for l.bandwidth bytes) most
+
+-- when a node has received bytes that are sent to it from now on, after all others
+abbrev pub received_at : Links → ℕ → ℕ → ℕ → ℕ
+received_at l target bytes now = min (max now (receives_until l target) + micros_for l.bandwidth bytes) most
+
+-- when a copy arrives that is commanded now: its bytes are sent and received
 abbrev pub arrival : Links → ℕ → ℕ → ℕ → ℕ → ℕ
-arrival l source target bytes now = min (max (max now (sends_until l source)) (receives_until l target) + micros_for l.bandwidth bytes) most
+arrival l source target bytes now = max (sent_at l source bytes now) (received_at l target bytes now)
 
 -- the free bytes of a storage; 0 of one that is not known
 abbrev pub free_on : FreeBytes → ℕ → ℕ

@@ -35,7 +35,8 @@ pub struct DataNodes {
 impl DataNodes {
     /// Nothing is on its way.
     pub fn new(alloc: Global, topology: &Topology, bandwidth: u64) -> Result<DataNodes, AllocError>
-        ensures { IfOk result (AreCounted []) }
+        ensures counts { IfOk result (AreCounted []) }
+        ensures on_way { IfOk result (λ d. d.on_way.sent.items ≡ []) }
     {
         let free = FreeBytes::new(alloc, topology)?;
         Ok(DataNodes {

@@ -1,10 +1,11 @@
 //! How what is lost is copied again, round by round, by DataNodes that obey the commands of each
 //! round at a bandwidth.
 //!
-//! How fast DataNodes are is a model: each sends one copy at a time and receives one at a time, in
-//! the order of the commands. A copy takes its bytes from the target's free bytes when it is
-//! commanded. A delete is done by the next round. Copies that were commanded before never come.
-//! Clients, disks and switches are not in the model.
+//! How fast DataNodes are is a model: each sends one copy after another and receives one after
+//! another, in the order of the commands. A copy takes its bytes from the target's free bytes when
+//! it is commanded. A delete is done by the next round. Copies that were commanded before never
+//! come. A round is left out while as many copies are on their way as one may command. Clients,
+//! disks and switches are not in the model.
 #![tactic(auto)]
 
 pub mod datanodes;
@@ -15,4 +16,5 @@ pub mod on_way;
 pub mod reasons;
 pub mod repair;
 pub mod rows;
+pub mod ticks;
 pub mod watch;

@@ -1,6 +1,7 @@
-// When copies arrive: a model. Each node sends one copy at a time and receives one at a time.
-ghost use Rattle.std.specs.Prelude.{◌≡◌, ℕ, nat_eq, IfOk, if◌then◌else◌};
-ghost use Rattle.cluster_repair.specs.Sending.{micros_for, sends_until, receives_until, arrival};
+// When copies arrive: a model. What a node sends and what it receives are two links, each of which
+// passes one copy after another.
+ghost use Rattle.std.specs.Prelude.{◌≡◌, ℕ, nat_eq, IfOk, OnOk, if◌then◌else◌};
+ghost use Rattle.cluster_repair.specs.Sending.{micros_for, sends_until, receives_until, sent_at, received_at, arrival};
 
 use crate::numbers::put;
 use bm_base::NodeId;
@@ -28,8 +29,9 @@ impl Links {
         }
     }
 
-    /// When a copy arrives that is commanded now: it starts once its source sends no other copy and
-    /// its target receives none.
+    /// When a copy arrives that is commanded now: once the link of its source and that of its target
+    /// have passed its bytes. Each passes them after those of the copies commanded before, and does
+    /// not wait for the other.
     #[tactic(auto, using(crate::proofs::NumberLemmas::number_put))]
     pub fn send(
         &mut self,
@@ -39,19 +41,20 @@ impl Links {
         now: u64,
     ) -> Result<u64, AllocError>
         ensures arrival { IfOk result (λ t. t ≡ arrival self.old source target bytes now) }
-        ensures sending { IfOk result (λ t. (n : ℕ) → sends_until self.new n
-            ≡ (if nat_eq source n then t else sends_until self.old n)) }
-        ensures receiving { IfOk result (λ t. (n : ℕ) → receives_until self.new n
-            ≡ (if nat_eq target n then t else receives_until self.old n)) }
+        ensures sending { OnOk result ((n : ℕ) → sends_until self.new n
+            ≡ (if nat_eq source n then sent_at self.old source bytes now
+            else sends_until self.old n)) }
+        ensures receiving { OnOk result ((n : ℕ) → receives_until self.new n
+            ≡ (if nat_eq target n then received_at self.old target bytes now
+            else receives_until self.old n)) }
         ensures bandwidth { self.new.bandwidth ≡ self.old.bandwidth }
     {
-        let sends_until = self.sends_until(source);
-        let receives_until = self.receives_until(target);
-        let start = now.max(sends_until).max(receives_until);
-        let end = start.saturating_add(micros_for(self.bandwidth, bytes));
-        put(&mut self.sending, source.0, end)?;
-        put(&mut self.receiving, target.0, end)?;
-        Ok(end)
+        let micros = micros_for(self.bandwidth, bytes);
+        let sent = now.max(self.sends_until(source)).saturating_add(micros);
+        let received = now.max(self.receives_until(target)).saturating_add(micros);
+        put(&mut self.sending, source.0, sent)?;
+        put(&mut self.receiving, target.0, received)?;
+        Ok(sent.max(received))
     }
 
     fn sends_until(&self, node: NodeId) -> u64

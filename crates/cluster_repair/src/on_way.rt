@@ -148,7 +148,7 @@ fn arrives_by(sent: &Sent, now: u64) -> bool
     sent.arrival <= now
 }
 
-fn arrives_after(sent: &Sent, now: u64) -> bool
+pub(crate) fn arrives_after(sent: &Sent, now: u64) -> bool
     ensures { result ≡ nat_lt now sent.now.arrival }
 {
     now < sent.arrival

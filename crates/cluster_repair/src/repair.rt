@@ -3,13 +3,16 @@ ghost use Rattle.std.specs.Prelude.{◌≡◌, ◌+◌, ◌<◌, [], IfOk, OnOk}
 ghost use Rattle.bm_base.specs.Machine.State.{State};
 ghost use Rattle.cluster_report.specs.Sessions.{IsInStep};
 ghost use Rattle.laws_of_repairs.specs.Repairs.{Covers};
-ghost use Rattle.cluster_repair.specs.Rows.{IsReached, AreRetired, IsUnderWay, IsDone};
-ghost use Rattle.cluster_repair.specs.Retirements.{rounds_of};
+ghost use Rattle.cluster_repair.specs.Rows.{IsReached, AreRetired, AreTimed, IsUnderWay, IsDone};
+ghost use Rattle.cluster_repair.specs.Retirements.{retirement_of};
 ghost use Rattle.cluster_repair.specs.Sent.{AreCounted, copies_in};
+ghost use Rattle.cluster_repair.specs.declared.ticks.Ticks.{Ticks};
+ghost use Rattle.cluster_repair.specs.Ticks.{ComesAt, IsTimeAfter, ticks_of};
 
 use crate::datanodes::DataNodes;
 use crate::links::MICROS;
 use crate::rows::{Row, Rows};
+use crate::ticks::Ticks;
 use crate::watch::Watch;
 use bm_base::{Commands, NodeId, Refusal};
 use bm_crew::NoGate;
@@ -33,6 +36,20 @@ pub struct Pace {
     pub bandwidth: u64,
     /// In seconds.
     pub interval: u32,
+    /// How many copies a round may command for each alive node, as the manager is configured.
+    pub work: u32,
+}
+
+impl Pace {
+    /// A round is left out while as many copies are on their way as one may command.
+    pub fn ticks(self, topology: &Topology) -> Ticks
+        ensures { result ≡ ticks_of self topology.now.cluster }
+    {
+        Ticks {
+            interval: u64::from(self.interval) * MICROS,
+            enough: u64::from(self.work) * u64::from(topology.alive_nodes()),
+        }
+    }
 }
 
 /// When a node can be switched off that is to be taken away.
@@ -41,6 +58,8 @@ pub struct Retirement {
     pub node: NodeId,
     /// The number of rounds after which the manager first answers that it is retired.
     pub rounds: u32,
+    /// When the next round comes, in seconds from the first.
+    pub seconds: u64,
 }
 
 /// What is copied, and what the manager answers about it.
@@ -55,6 +74,8 @@ pub struct Repair {
     pub retired: Vec<Retirement>,
     /// The rounds that were taken.
     pub rounds: u32,
+    /// When the last of them was, in microseconds from the first.
+    pub time: u64,
     /// The copies that the last round commanded.
     pub commanded: usize,
 }
@@ -65,8 +86,7 @@ struct Facts<'a> {
     alloc: Global,
     topology: &'a Topology,
     blocks: &'a Catalogue,
-    /// The microseconds from round to round.
-    interval: u64,
+    ticks: Ticks,
     /// For how many rounds the manager awaits copies that were commanded before.
     awaited: u32,
 }
@@ -83,7 +103,8 @@ pub fn repair_cluster<R: Eprint + Threads + Wait + Sync>(
     progress: &mut Progress,
 ) -> Result<Repair, Refusal>
     requires { IsInStep session.old }
-    ensures { IfOk result (λ r. IsDone session.old.manager session.new.manager r) }
+    ensures { IfOk result (λ r. IsDone (ticks_of pace session.old.manager.cluster)
+        session.old.manager session.new.manager r) }
 {
     let mut repair = Repair::new(alloc, session, pace, drained)?;
     let book = &session.book;
@@ -91,7 +112,7 @@ pub fn repair_cluster<R: Eprint + Threads + Wait + Sync>(
         alloc,
         topology: &book.topology,
         blocks: &book.blocks,
-        interval: u64::from(pace.interval).saturating_mul(MICROS),
+        ticks: pace.ticks(&book.topology),
         awaited: awaited_rounds(&book.transfers),
     };
     repair.take_rounds(rt, &mut session.manager, &facts, progress)?;
@@ -121,6 +142,8 @@ impl Repair {
         ensures rows { IfOk result (λ r. r.rows.rows.items ≡ []) }
         ensures retired { IfOk result (λ r. r.retired.items ≡ []) }
         ensures rounds { IfOk result (λ r. r.rounds ≡ 0) }
+        ensures time { IfOk result (λ r. r.time ≡ 0) }
+        ensures on_way { IfOk result (λ r. r.datanodes.on_way.sent.items ≡ []) }
         ensures sent { IfOk result (λ r. AreCounted [] r.datanodes) }
     {
         let topology = &session.book.topology;
@@ -134,6 +157,7 @@ impl Repair {
             drained,
             retired: Vec::new(alloc),
             rounds: 0,
+            time: 0,
             commanded: 0,
         })
     }
@@ -149,8 +173,9 @@ impl Repair {
         requires none { self.old.rounds ≡ 0 }
         ensures covers { OnOk result (Covers manager.new self.new.watch.blocks.items) }
         ensures taken { OnOk result (0 < self.new.rounds) }
-        ensures under_way { OnOk result ((M : State) → IsUnderWay M manager.old self.old
-            → IsUnderWay M manager.new self.new) }
+        ensures under_way { OnOk result ((M : State)
+            → IsUnderWay facts.now.ticks M manager.old self.old
+            → IsUnderWay facts.now.ticks M manager.new self.new) }
     {
         for past in 0..MOST_ROUNDS {
             progress.show_made(rt, past);
@@ -179,10 +204,11 @@ impl Repair {
         requires few { self.old.rounds < 1000000 }
         ensures covers { OnOk result (Covers manager.new self.new.watch.blocks.items) }
         ensures rounds { OnOk result (self.new.rounds ≡ self.old.rounds + 1) }
-        ensures under_way { OnOk result ((M : State) → IsUnderWay M manager.old self.old
-            → IsUnderWay M manager.new self.new) }
+        ensures under_way { OnOk result ((M : State)
+            → IsUnderWay facts.now.ticks M manager.old self.old
+            → IsUnderWay facts.now.ticks M manager.new self.new) }
     {
-        let now = u64::from(self.rounds).saturating_mul(facts.interval);
+        let now = self.next_time(facts.ticks);
         let watch = &mut self.watch;
         self.datanodes
             .report(rt, facts.alloc, manager, watch, facts.blocks, now)?;
@@ -191,13 +217,26 @@ impl Repair {
             self.drained.as_slice(),
             &mut self.retired,
             self.rounds,
+            now / MICROS,
         )?;
         manager.show_invariant();
         let commands = manager.round(rt, &NoGate)?;
         self.datanodes.obey(facts.topology, &commands, now)?;
         self.commanded = copies_in(&commands);
         self.rounds += 1;
+        self.time = now;
         Ok(())
+    }
+
+    /// When the next round comes, in microseconds.
+    fn next_time(&self, ticks: Ticks) -> u64
+        ensures { (timed : AreTimed ticks self.now) → ComesAt ticks timed.taken result }
+    {
+        if self.rounds == 0 {
+            0
+        } else {
+            ticks.next(self.time, self.datanodes.on_way.sent.as_slice())
+        }
     }
 
     /// Adds the row of the round that was taken last, if it is due.
@@ -205,8 +244,9 @@ impl Repair {
         requires { Covers manager.now self.old.watch.blocks.items }
         ensures covers { OnOk result (Covers manager.now self.new.watch.blocks.items) }
         ensures rounds { OnOk result (self.new.rounds ≡ self.old.rounds) }
-        ensures under_way { OnOk result ((M : State) → IsUnderWay M manager.now self.old
-            → IsUnderWay M manager.now self.new) }
+        ensures under_way { OnOk result ((ticks : Ticks) (M : State)
+            → IsUnderWay ticks M manager.now self.old
+            → IsUnderWay ticks M manager.now self.new) }
     {
         if self.rounds > 0 && self.rows.is_due(self.rounds) {
             self.note_row(alloc, manager)?;
@@ -220,12 +260,14 @@ impl Repair {
         requires taken { 0 < self.old.rounds }
         ensures covers { OnOk result (Covers manager.now self.new.watch.blocks.items) }
         ensures rounds { OnOk result (self.new.rounds ≡ self.old.rounds) }
-        ensures done { OnOk result ((M : State) → IsUnderWay M manager.now self.old
-            → IsDone M manager.now self.new) }
+        ensures done { OnOk result ((ticks : Ticks) (M : State)
+            → IsUnderWay ticks M manager.now self.old
+            → IsDone ticks M manager.now self.new) }
     {
         let levels = self.watch.count(alloc, manager)?;
         let row = Row {
             round: self.rounds,
+            seconds: self.time / MICROS,
             levels,
             commanded: self.commanded,
             on_way: self.datanodes.on_way.len(),
@@ -250,45 +292,53 @@ fn alive_among(
     Ok(alive)
 }
 
-/// Notes which of these nodes are retired after this number of rounds, and were not before.
+/// Notes which of these nodes are retired after this number of rounds, as the next one comes, and
+/// were not before.
 fn note_retired(
     manager: &Manager,
     drained: &[NodeId],
     retired: &mut Vec<Retirement>,
     rounds: u32,
+    seconds: u64,
 ) -> Result<(), Refusal>
-    ensures { OnOk result ((M : State) → IsReached rounds M manager.now
-        → AreRetired M retired.old.items → AreRetired M retired.new.items) }
+    ensures { OnOk result ((ticks : Ticks) (M : State) → IsReached rounds M manager.now
+        → IsTimeAfter ticks rounds seconds
+        → AreRetired ticks M retired.old.items → AreRetired ticks M retired.new.items) }
 {
     for node in drained {
-        note_if_retired(manager, *node, retired, rounds)?;
+        note_if_retired(manager, *node, retired, rounds, seconds)?;
     }
     Ok(())
 }
 
-#[tactic(auto, using(crate::proofs::Reach::retired_and))]
 fn note_if_retired(
     manager: &Manager,
     node: NodeId,
     retired: &mut Vec<Retirement>,
     rounds: u32,
+    seconds: u64,
 ) -> Result<(), Refusal>
-    ensures { OnOk result ((M : State) → IsReached rounds M manager.now
-        → AreRetired M retired.old.items → AreRetired M retired.new.items) }
+    ensures { OnOk result ((ticks : Ticks) (M : State) → IsReached rounds M manager.now
+        → IsTimeAfter ticks rounds seconds
+        → AreRetired ticks M retired.old.items → AreRetired ticks M retired.new.items) }
 {
-    if rounds_of(retired.as_slice(), node).is_none() && manager.retired(node)? {
-        retired.push(Retirement { node, rounds })?;
+    if retirement_of(retired.as_slice(), node).is_none() && manager.retired(node)? {
+        retired.push(Retirement {
+            node,
+            rounds,
+            seconds,
+        })?;
     }
     Ok(())
 }
 
-/// After how many rounds a node was retired.
-pub fn rounds_of(retired: &[Retirement], node: NodeId) -> Option<u32>
-    ensures { result ≡ rounds_of retired.now node }
+/// When a node was retired.
+pub fn retirement_of(retired: &[Retirement], node: NodeId) -> Option<Retirement>
+    ensures { result ≡ retirement_of retired.now node }
 {
     for retirement in retired {
         if retirement.node == node {
-            return Some(retirement.rounds);
+            return Some(*retirement);
         }
     }
     None

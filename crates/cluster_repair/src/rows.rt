@@ -2,6 +2,7 @@
 ghost use Rattle.std.specs.Prelude.{◌≡◌, [], filter, IfOk, OnOk};
 ghost use Rattle.bm_base.specs.Machine.State.{State};
 ghost use Rattle.cluster_repair.specs.Rows.{IsRowAfter, AreRowsAfter, EndsWith, is_on_stride};
+ghost use Rattle.cluster_repair.specs.declared.ticks.Ticks.{Ticks};
 
 use cluster_report::levels::LevelCounts;
 use std::alloc::{AllocError, Global};
@@ -14,6 +15,8 @@ const MOST_KEPT: usize = 256;
 pub struct Row {
     /// The number of rounds, with this one.
     pub round: u32,
+    /// When the round was, in seconds from the first.
+    pub seconds: u64,
     /// The blocks at each level.
     pub levels: LevelCounts,
     /// The copies that the round commands.
@@ -48,8 +51,9 @@ impl Rows {
 
     /// Adds the row of a round.
     pub fn push(&mut self, alloc: Global, row: Row) -> Result<(), AllocError>
-        ensures rows { OnOk result ((M : State) → AreRowsAfter M self.old.rows.items
-            → IsRowAfter M row → AreRowsAfter M self.new.rows.items) }
+        ensures rows { OnOk result ((ticks : Ticks) (M : State)
+            → AreRowsAfter ticks M self.old.rows.items
+            → IsRowAfter ticks M row → AreRowsAfter ticks M self.new.rows.items) }
         ensures last { OnOk result (EndsWith self.new.rows.items row) }
     {
         self.make_room(alloc)?;
@@ -59,8 +63,9 @@ impl Rows {
 
     /// Drops every second row if there are too many for one more.
     fn make_room(&mut self, alloc: Global) -> Result<(), AllocError>
-        ensures { OnOk result ((M : State) → AreRowsAfter M self.old.rows.items
-            → AreRowsAfter M self.new.rows.items) }
+        ensures { OnOk result ((ticks : Ticks) (M : State)
+            → AreRowsAfter ticks M self.old.rows.items
+            → AreRowsAfter ticks M self.new.rows.items) }
     {
         if self.rows.len() < MOST_KEPT {
             return Ok(());
@@ -72,8 +77,9 @@ impl Rows {
     /// Drops every second row.
     #[tactic(auto, using(crate::proofs::Reach::rows_among))]
     fn thin(&mut self, alloc: Global) -> Result<(), AllocError>
-        ensures { OnOk result ((M : State) → AreRowsAfter M self.old.rows.items
-            → AreRowsAfter M self.new.rows.items) }
+        ensures { OnOk result ((ticks : Ticks) (M : State)
+            → AreRowsAfter ticks M self.old.rows.items
+            → AreRowsAfter ticks M self.new.rows.items) }
     {
         let stride = self.stride.saturating_mul(2);
         self.rows = rows_on(alloc, self.rows.as_slice(), stride)?;

@@ -10,8 +10,10 @@
 //! The incidents happen as round `--at` begins. From then on DataNodes do what `what-if --mend` has
 //! them do (`cluster_repair`): at the start of a round they report the copies that have arrived, the
 //! deletes of the round before and their free bytes; the manager takes its round, and they obey.
-//! Each sends one copy at a time and receives one at a time. Each disk has capacity for twice its
-//! share of the replicas.
+//! Each sends one copy after another and receives one after another. A round comes at the first
+//! multiple of `--interval` at which fewer copies are on their way than it may command: a line of
+//! the table is a round, and no length of time. Each disk has capacity for twice its share of the
+//! replicas.
 //!
 //! After each round the known blocks at each level are counted (`missing` are those without a usable
 //! replica), the copies that the manager awaits, the replicas in excess and the corrupt ones. The

@@ -5,7 +5,7 @@ use crate::help::EXAMPLES;
 use crate::misuse::Misuse;
 use crate::plan::{Plan, incidents_of};
 use crate::shape::{MOST_NODES, MOST_RACKS, MOST_STORAGES, Shape};
-use bm_base::MAX_REPLICATION;
+use bm_base::{Config, MAX_REPLICATION};
 use clap::error::ErrorKind;
 use clap::{Arg, ArgAction, ArgMatches, Command, Error, value_parser};
 use cluster_repair::repair::Pace;
@@ -140,7 +140,7 @@ static COURSE: [Number; 3] = [
         standard: "3",
         least: 1,
         most: 3_600,
-        help: "seconds from round to round, 1 to 3,600",
+        help: "least seconds from round to round, 1 to 3,600",
     },
     Number {
         name: "rounds",
@@ -295,6 +295,7 @@ fn options_in(matches: &ArgMatches<'_>) -> Options {
         pace: Pace {
             bandwidth: u64::from(number_in(matches, "bandwidth")) * 1_000_000,
             interval: number_in(matches, "interval"),
+            work: Config::standard().work,
         },
         rounds: number_in(matches, "rounds").clamp(LEAST_ROUNDS, MOST_ROUNDS),
         form: if matches.get_flag("svg") {

@@ -11,7 +11,6 @@ use crate::simulation::Simulation;
 use bm_base::Refusal;
 use cluster_progress::Progress;
 use cluster_repair::datanodes::DataNodes;
-use cluster_repair::links::MICROS;
 use std::sync::Wait;
 use std::thread::Threads;
 
@@ -63,7 +62,8 @@ fn take_quiet_rounds<R: Eprint + Threads + Wait + Sync>(
     Ok(())
 }
 
-/// The rounds from the one on in which it goes wrong.
+/// The rounds from the one on in which it goes wrong, at time 0. The next comes at the first tick at
+/// which fewer copies are on their way than a round may command.
 fn take_rounds<R: Eprint + Threads + Wait + Sync>(
     rt: &R,
     simulation: &mut Simulation,
@@ -75,12 +75,15 @@ fn take_rounds<R: Eprint + Threads + Wait + Sync>(
 ) -> Result<(), Refusal>
     requires { Covers simulation.old.cluster.session.manager simulation.old.watch.blocks.items }
 {
-    let interval = u64::from(options.pace.interval).saturating_mul(MICROS);
+    let ticks = simulation.ticks(options.pace);
+    let mut now = 0;
     let rounds = options.rounds.saturating_sub(plan.round).saturating_add(1);
     for past in 0..rounds {
         let round = plan.round.saturating_add(past);
         progress.show_rounds(rt, round.saturating_sub(1), options.rounds);
-        let now = u64::from(past).saturating_mul(interval);
+        if past > 0 {
+            now = ticks.next(now, datanodes.on_way.sent.as_slice());
+        }
         let counts = simulation.take_round(rt, datanodes, round, now)?;
         rows.push(counts)?;
     }

@@ -17,6 +17,8 @@ use crate::options::Options;
 use crate::plan::Plan;
 use bm_base::{Config, Refusal};
 use cluster_repair::datanodes::DataNodes;
+use cluster_repair::repair::Pace;
+use cluster_repair::ticks::Ticks;
 use cluster_repair::watch::Watch;
 use cluster_report::session::Session;
 use std::alloc::Global;
@@ -111,6 +113,11 @@ impl Simulation {
         self.watch = Watch::new(self.alloc, &session.manager, &session.book.blocks)?;
         let bandwidth = options.pace.bandwidth;
         Ok(DataNodes::new(self.alloc, &session.book.topology, bandwidth)?)
+    }
+
+    /// When rounds come to DataNodes of this pace.
+    pub fn ticks(&self, pace: Pace) -> Ticks {
+        pace.ticks(&self.cluster.session.book.topology)
     }
 
     /// Takes a round, and returns the counts after it: DataNodes report what they have done by now,

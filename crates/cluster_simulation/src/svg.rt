@@ -84,6 +84,6 @@ fn write_course(text: &mut String, pace: Pace, seed: u64) -> Result<(), AllocErr
     let interval = pace.interval;
     write!(
         text,
-        "{megabytes} MB a second, a round every {interval} s, seed {seed}"
+        "{megabytes} MB a second, a round at most every {interval} s, seed {seed}"
     )
 }

@@ -1,5 +1,5 @@
 -- The text of what is copied again: a table of rounds, and a line for each fact.
-use Rattle.std.specs.Prelude.{ℕ, ◌-◌, ◌*◌, ◌^◌, min, nat_eq, Bool, true, false, if◌then◌else◌, List, [], ◌++◌, Option, Some, None, codes, count_by, decimal, length, take}
+use Rattle.std.specs.Prelude.{ℕ, nat_eq, Bool, true, false, if◌then◌else◌, List, [], ◌++◌, Option, Some, None, codes, count_by, decimal, length, take}
 use Rattle.std.specs.List.{flat_map}
 use Rattle.std.specs.Int.{div_ceil}
 use Rattle.cluster_names.specs.FileTable.{FileTable, path_of}
@@ -7,7 +7,7 @@ use Rattle.cluster_names.specs.Rows.{name_or_number}
 use Rattle.cluster_names.specs.declared.names.Names.{Names}
 use Rattle.cluster_report.specs.Text.{count_line}
 use Rattle.cluster_pages.specs.Text.{level_word}
-use Rattle.cluster_repair.specs.Retirements.{rounds_of}
+use Rattle.cluster_repair.specs.Retirements.{retirement_of}
 use Rattle.cluster_repair.specs.declared.reasons.Reason.{Reason}
 use Rattle.cluster_repair.specs.declared.reasons.Reason.TheVariants.{NoSource, NoTarget, NoSpace}
 use Rattle.cluster_repair.specs.declared.reasons.Unmended.{Unmended}
@@ -23,29 +23,25 @@ use Rattle.cluster_what_if.specs.declared.found.Mended.{Mended}
 -- how fast DataNodes are, and how often rounds come
 unfoldable pub model_line : Pace → List ℕ
 model_line pace =
-    codes "model: a round every " ++ (decimal pace.interval
+    codes "model: a round at most every " ++ (decimal pace.interval
     ++ (codes " s; " ++ (codes "each node sends and receives " ++ (decimal pace.bandwidth ++ codes " bytes a second\n"))))
 
 unfoldable pub rounds_heading : List ℕ
 rounds_heading = codes "   round    seconds " ++ (level_heads ++ codes "  missing commanded    on_way\n")
 
--- how many seconds a number of rounds takes, up to 64 bits
-unfoldable pub seconds_before : Pace → ℕ → ℕ
-seconds_before pace rounds = min (rounds * pace.interval) (2 ^ 64 - 1)
-
 -- a round, when it was, and what it leaves
-unfoldable pub round_line : Pace → Row → List ℕ
-round_line pace r =
+unfoldable pub round_line : Row → List ℕ
+round_line r =
     number_in 8 r.round ++ (codes " "
-    ++ (number_in 10 (seconds_before pace (r.round - 1)) ++ (codes " "
+    ++ (number_in 10 r.seconds ++ (codes " "
     ++ (level_numbers r.levels
     ++ (number_in 9 r.levels.missing ++ (codes " "
     ++ (number_in 9 r.commanded ++ (codes " "
     ++ (number_in 9 r.on_way ++ codes "\n")))))))))
 
 -- the table of rounds
-unfoldable pub rounds_text : Pace → List Row → List ℕ
-rounds_text pace rows = rounds_heading ++ flat_map (round_line pace) (shown_rows rows)
+unfoldable pub rounds_text : List Row → List ℕ
+rounds_text rows = rounds_heading ++ flat_map round_line (shown_rows rows)
 
 -- the copies on their way when the rounds were stopped, if any
 abbrev pub left_line : ℕ → List ℕ
@@ -60,18 +56,18 @@ copies_text r =
     ++ (count_line (codes "copies") r.datanodes.copies
     ++ count_line (codes "bytes copied") r.datanodes.bytes)))
 
--- a node can be switched off after this number of rounds, at this second
-unfoldable pub retired_text : ℕ → ℕ → List ℕ
-retired_text rounds at = codes " retired after " ++ (decimal rounds ++ (codes " rounds, " ++ (decimal at ++ codes " seconds\n")))
+-- after how many rounds and seconds a node can be switched off
+unfoldable pub retired_text : Retirement → List ℕ
+retired_text t = codes " retired after " ++ (decimal t.rounds ++ (codes " rounds, " ++ (decimal t.seconds ++ codes " seconds\n")))
 
--- after how many rounds a node can be switched off
-abbrev pub retirement_text : Pace → Option ℕ → List ℕ
-retirement_text pace None = codes " not retired\n"
-retirement_text pace (Some rounds) = retired_text rounds (seconds_before pace rounds)
+-- the same, if it can be
+abbrev pub retirement_text : Option Retirement → List ℕ
+retirement_text None = codes " not retired\n"
+retirement_text (Some t) = retired_text t
 
 -- a drained node
-unfoldable pub retirement_line : Names → Pace → List Retirement → ℕ → List ℕ
-retirement_line names pace ts n = codes "node " ++ (name_or_number [] names.nodes n ++ retirement_text pace (rounds_of ts n))
+unfoldable pub retirement_line : Names → List Retirement → ℕ → List ℕ
+retirement_line names ts n = codes "node " ++ (name_or_number [] names.nodes n ++ retirement_text (retirement_of ts n))
 
 -- why a block stays as it is
 abbrev pub reason_word : Reason → List ℕ
@@ -112,7 +108,7 @@ unmended_text f most us = reasons_text us ++ flat_map (unmended_line f) (take mo
 unfoldable pub repair_text : Names → FileTable → ℕ → Mended → List ℕ
 repair_text names f most m =
     model_line m.pace
-    ++ (rounds_text m.pace m.repair.rows.rows.items
+    ++ (rounds_text m.repair.rows.rows.items
     ++ (copies_text m.repair
-    ++ (flat_map (retirement_line names m.pace m.repair.retired.items) m.repair.drained.items
+    ++ (flat_map (retirement_line names m.repair.retired.items) m.repair.drained.items
     ++ unmended_text f most m.unmended.items)))

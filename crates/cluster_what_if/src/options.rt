@@ -41,7 +41,7 @@ pub fn asked_of<'a>(alloc: Global, matches: &ArgMatches<'a>) -> Result<Asked<'a>
     };
     let lose = matches.get_strs("lose").unwrap_or(&[]);
     let drain = matches.get_strs("drain").unwrap_or(&[]);
-    let pace = pace_in(matches);
+    let pace = pace_in(matches, input.config.work);
     let is_picture = matches.get_flag("svg");
     let Some(question) = question_of(alloc, lose, drain)? else {
         return Err(wrong_question(alloc)?);
@@ -73,7 +73,8 @@ fn may_ask(question: &Question<'_>, pace: Option<Pace>, is_picture: bool) -> boo
     }
 }
 
-fn pace_in(matches: &ArgMatches<'_>) -> Option<Pace> {
+/// How fast it is mended, if that is asked for, by a manager with this `work`.
+fn pace_in(matches: &ArgMatches<'_>, work: u32) -> Option<Pace> {
     if !matches.get_flag("mend") {
         return None;
     }
@@ -81,6 +82,7 @@ fn pace_in(matches: &ArgMatches<'_>) -> Option<Pace> {
     Some(Pace {
         bandwidth: u64::from(megabytes) * 1_000_000,
         interval: matches.get_one::<u32>("interval").unwrap_or(3),
+        work,
     })
 }
 
@@ -123,7 +125,7 @@ fn with_repair<'a>(alloc: Global, command: Command<'a>) -> Result<Command<'a>, A
         "with --mend: megabytes a second that a node sends, and receives, 1 to 100,000",
     );
     let interval = number(alloc, "interval", "3", 3_600).help(
-        "with --mend: seconds from round to round, 1 to 3,600",
+        "with --mend: least seconds from round to round, 1 to 3,600",
     );
     let command = with(command, mend)?;
     let command = with(command, svg)?;

@@ -3,7 +3,7 @@ use crate::found::Mended;
 use crate::page::write_bytes_fact;
 use crate::page_table::write_level_cells;
 use crate::repair_picture::picture_of;
-use crate::repair_text::{count_with, reason_word, seconds_before};
+use crate::repair_text::{count_with, reason_word};
 use crate::shown_rows::shown_rows;
 use bm_base::NodeId;
 use cluster_names::{Files, Names};
@@ -15,7 +15,7 @@ use cluster_pages::text::first_of;
 use cluster_pages::text_parts::level_word;
 use cluster_repair::links::MICROS;
 use cluster_repair::reasons::{Reason, Unmended};
-use cluster_repair::repair::{Pace, Repair, rounds_of};
+use cluster_repair::repair::{Pace, Repair, retirement_of};
 use cluster_repair::rows::Row;
 use std::alloc::{AllocError, Global};
 
@@ -46,8 +46,8 @@ pub fn write_mended(
     text.push_str(picture_of(alloc, mended)?.as_str())?;
     text.push_str("</div>\n")?;
     write_left(text, repair.datanodes.on_way.sent.len())?;
-    write_rounds(alloc, text, mended.pace, repair.rows.rows.as_slice())?;
-    write_retirements(text, names, mended.pace, repair)?;
+    write_rounds(alloc, text, repair.rows.rows.as_slice())?;
+    write_retirements(text, names, repair)?;
     write_unmended(text, files, most, mended.unmended.as_slice())
 }
 
@@ -57,8 +57,8 @@ fn write_model(text: &mut String, pace: Pace) -> Result<(), AllocError> {
     text.push_str("<h2>How it is repaired</h2>\n")?;
     write!(
         text,
-        "<p>By a model: a round every {interval} s; each node sends and receives one copy at a \
-         time, {bandwidth} bytes a second.</p>\n"
+        "<p>By a model: a round at most every {interval} s; each node sends and receives \
+         {bandwidth} bytes a second.</p>\n"
     )
 }
 
@@ -75,27 +75,21 @@ const ROUND_HEADS: &str = "<th class=\"n\">round</th><th class=\"n\">seconds</th
 <th class=\"n\">missing</th><th class=\"n\">commanded</th><th class=\"n\">on their way</th>";
 
 /// The rows of rounds, in a part of the page that opens on demand.
-fn write_rounds(
-    alloc: Global,
-    text: &mut String,
-    pace: Pace,
-    rows: &[Row],
-) -> Result<(), AllocError> {
+fn write_rounds(alloc: Global, text: &mut String, rows: &[Row]) -> Result<(), AllocError> {
     text.push_str("<details><summary>Table of the rounds</summary>\n")?;
     begin_table(text, "Rounds", ROUND_HEADS)?;
     let shown = shown_rows(alloc, rows)?;
     for row in &shown {
-        write_round(text, pace, row)?;
+        write_round(text, row)?;
     }
     end_table(text)?;
     text.push_str("</details>\n")
 }
 
-fn write_round(text: &mut String, pace: Pace, row: &Row) -> Result<(), AllocError> {
-    let at = seconds_before(pace, row.round.saturating_sub(1));
+fn write_round(text: &mut String, row: &Row) -> Result<(), AllocError> {
     text.push_str("<tr>")?;
     write_number_cell(text, u128::from(row.round))?;
-    write_number_cell(text, u128::from(at))?;
+    write_number_cell(text, u128::from(row.seconds))?;
     write_level_cells(text, &row.levels)?;
     write_number_cell(text, row.levels.missing as u128)?;
     write_number_cell(text, row.commanded as u128)?;
@@ -104,12 +98,7 @@ fn write_round(text: &mut String, pace: Pace, row: &Row) -> Result<(), AllocErro
 }
 
 /// When each drained node can be switched off; nothing if none drains.
-fn write_retirements(
-    text: &mut String,
-    names: &Names,
-    pace: Pace,
-    repair: &Repair,
-) -> Result<(), AllocError> {
+fn write_retirements(text: &mut String, names: &Names, repair: &Repair) -> Result<(), AllocError> {
     if repair.drained.is_empty() {
         return Ok(());
     }
@@ -122,22 +111,18 @@ fn write_retirements(
         text.push_str("<tr><td>")?;
         write_host(text, names, *node)?;
         text.push_str("</td><td>")?;
-        write_when(text, pace, repair, *node)?;
+        write_when(text, repair, *node)?;
         text.push_str("</td></tr>\n")?;
     }
     end_table(text)
 }
 
-fn write_when(
-    text: &mut String,
-    pace: Pace,
-    repair: &Repair,
-    node: NodeId,
-) -> Result<(), AllocError> {
-    match rounds_of(repair.retired.as_slice(), node) {
-        Some(rounds) => {
-            let at = seconds_before(pace, rounds);
-            write!(text, "retired after {rounds} rounds, {at} seconds")
+fn write_when(text: &mut String, repair: &Repair, node: NodeId) -> Result<(), AllocError> {
+    match retirement_of(repair.retired.as_slice(), node) {
+        Some(retirement) => {
+            let rounds = retirement.rounds;
+            let seconds = retirement.seconds;
+            write!(text, "retired after {rounds} rounds, {seconds} seconds")
         }
         None => text.push_str("not retired"),
     }

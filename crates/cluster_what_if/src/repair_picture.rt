@@ -12,7 +12,9 @@ use std::alloc::{AllocError, Global};
 pub fn picture_of(alloc: Global, mended: &Mended) -> Result<String, AllocError> {
     let interval = mended.pace.interval;
     let bandwidth = mended.pace.bandwidth;
-    let below = format!(in alloc; "a round every {interval} s, {bandwidth} bytes a second")?;
+    let below = format!(in alloc;
+        "a round at most every {interval} s, {bandwidth} bytes a second"
+    )?;
     let counts = counts_of(alloc, mended.repair.rows.rows.as_slice())?;
     let heading = "What is lost is copied again";
     picture_text(alloc, heading, below.as_str(), None, counts.as_slice())

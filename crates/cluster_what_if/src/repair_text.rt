@@ -1,7 +1,7 @@
 // What is copied again, as text.
 ghost use Rattle.std.specs.Prelude.{◌≡◌, ◌++◌, OnOk, string_bytes};
 ghost use Rattle.std.specs.List.{flat_map};
-ghost use Rattle.cluster_what_if.specs.RepairText.{count_with, retired_text, same_reason, reason_word, seconds_before, model_line, rounds_heading, round_line, rounds_text, copies_text, left_line, retirement_text, retirement_line, reasons_text, unmended_line, unmended_text, repair_text};
+ghost use Rattle.cluster_what_if.specs.RepairText.{count_with, retired_text, same_reason, reason_word, model_line, rounds_heading, round_line, rounds_text, copies_text, left_line, retirement_text, retirement_line, reasons_text, unmended_line, unmended_text, repair_text};
 
 use crate::columns::{write_level_heads, write_level_numbers};
 use crate::found::Mended;
@@ -13,7 +13,7 @@ use cluster_pages::text::first_of;
 use cluster_pages::text_parts::level_word;
 use cluster_repair::links::MICROS;
 use cluster_repair::reasons::{Reason, Unmended};
-use cluster_repair::repair::{Pace, Repair, Retirement, rounds_of};
+use cluster_repair::repair::{Pace, Repair, Retirement, retirement_of};
 use cluster_repair::rows::Row;
 use cluster_report::text_parts::write_count;
 use std::alloc::{AllocError, Global};
@@ -33,9 +33,9 @@ pub fn write_repair(
         ++ repair_text names.now files.now most mended.now) }
 {
     write_model(text, mended.pace)?;
-    write_rounds(alloc, text, mended.pace, mended.repair.rows.rows.as_slice())?;
+    write_rounds(alloc, text, mended.repair.rows.rows.as_slice())?;
     write_copies(text, &mended.repair)?;
-    write_retirements(text, names, mended.pace, &mended.repair)?;
+    write_retirements(text, names, &mended.repair)?;
     write_unmended(text, files, most, mended.unmended.as_slice())
 }
 
@@ -46,7 +46,7 @@ fn write_model(text: &mut String, pace: Pace) -> Result<(), AllocError>
 {
     let interval = pace.interval;
     let bandwidth = pace.bandwidth;
-    write!(text, "model: a round every {interval} s; ")?;
+    write!(text, "model: a round at most every {interval} s; ")?;
     write!(
         text,
         "each node sends and receives {bandwidth} bytes a second\n"
@@ -55,18 +55,12 @@ fn write_model(text: &mut String, pace: Pace) -> Result<(), AllocError>
 
 /// The table of rounds: its heading, and a line for each row that is shown.
 #[tactic(auto, unfolding(crate::specs::RepairText::rounds_text))]
-fn write_rounds(
-    alloc: Global,
-    text: &mut String,
-    pace: Pace,
-    rows: &[Row],
-) -> Result<(), AllocError>
-    ensures { OnOk result (string_bytes text.new ≡ string_bytes text.old
-        ++ rounds_text pace rows.now) }
+fn write_rounds(alloc: Global, text: &mut String, rows: &[Row]) -> Result<(), AllocError>
+    ensures { OnOk result (string_bytes text.new ≡ string_bytes text.old ++ rounds_text rows.now) }
 {
     write_rounds_heading(text)?;
     let shown = shown_rows(alloc, rows)?;
-    write_round_lines(text, pace, shown.as_slice())
+    write_round_lines(text, shown.as_slice())
 }
 
 #[tactic(auto, unfolding(crate::specs::RepairText::rounds_heading))]
@@ -78,38 +72,29 @@ fn write_rounds_heading(text: &mut String) -> Result<(), AllocError>
     text.push_str("  missing commanded    on_way\n")
 }
 
-fn write_round_lines(text: &mut String, pace: Pace, rows: &[Row]) -> Result<(), AllocError>
+fn write_round_lines(text: &mut String, rows: &[Row]) -> Result<(), AllocError>
     ensures { OnOk result (string_bytes text.new ≡ string_bytes text.old
-        ++ flat_map (round_line pace) rows.now) }
+        ++ flat_map round_line rows.now) }
 {
     for row in rows {
-        write_round_line(text, pace, row)?;
+        write_round_line(text, row)?;
     }
     Ok(())
 }
 
 /// A round, when it was, and what it leaves.
 #[tactic(auto, unfolding(crate::specs::RepairText::round_line))]
-fn write_round_line(text: &mut String, pace: Pace, row: &Row) -> Result<(), AllocError>
-    ensures { OnOk result (string_bytes text.new ≡ string_bytes text.old
-        ++ round_line pace row.now) }
+fn write_round_line(text: &mut String, row: &Row) -> Result<(), AllocError>
+    ensures { OnOk result (string_bytes text.new ≡ string_bytes text.old ++ round_line row.now) }
 {
     let round = row.round;
-    let at = seconds_before(pace, round.saturating_sub(1));
-    write!(text, "{round:>8} {at:>10} ")?;
+    let seconds = row.seconds;
+    write!(text, "{round:>8} {seconds:>10} ")?;
     write_level_numbers(text, &row.levels)?;
     let missing = row.levels.missing;
     let commanded = row.commanded;
     let on_way = row.on_way;
     write!(text, "{missing:>9} {commanded:>9} {on_way:>9}\n")
-}
-
-/// How many seconds a number of rounds takes.
-#[tactic(auto, unfolding(crate::specs::RepairText::seconds_before))]
-pub fn seconds_before(pace: Pace, rounds: u32) -> u64
-    ensures { result ≡ seconds_before pace rounds }
-{
-    u64::from(rounds).saturating_mul(u64::from(pace.interval))
 }
 
 /// The rounds, and all copies.
@@ -137,18 +122,13 @@ fn write_left(text: &mut String, left: usize) -> Result<(), AllocError>
 }
 
 /// When each drained node can be switched off.
-fn write_retirements(
-    text: &mut String,
-    names: &Names,
-    pace: Pace,
-    repair: &Repair,
-) -> Result<(), AllocError>
+fn write_retirements(text: &mut String, names: &Names, repair: &Repair) -> Result<(), AllocError>
     ensures { OnOk result (string_bytes text.new ≡ string_bytes text.old
-        ++ flat_map (retirement_line names.now pace repair.now.retired.items)
+        ++ flat_map (retirement_line names.now repair.now.retired.items)
         repair.now.drained.items) }
 {
     for node in &repair.drained {
-        write_retirement(text, names, pace, repair.retired.as_slice(), *node)?;
+        write_retirement(text, names, repair.retired.as_slice(), *node)?;
     }
     Ok(())
 }
@@ -157,34 +137,35 @@ fn write_retirements(
 fn write_retirement(
     text: &mut String,
     names: &Names,
-    pace: Pace,
     retired: &[Retirement],
     node: NodeId,
 ) -> Result<(), AllocError>
     ensures { OnOk result (string_bytes text.new ≡ string_bytes text.old
-        ++ retirement_line names.now pace retired.now node) }
+        ++ retirement_line names.now retired.now node) }
 {
     text.push_str("node ")?;
     write_node(text, names, node)?;
-    write_when(text, pace, rounds_of(retired, node))
+    write_when(text, retirement_of(retired, node))
 }
 
-/// After how many rounds a node can be switched off.
-fn write_when(text: &mut String, pace: Pace, rounds: Option<u32>) -> Result<(), AllocError>
+/// After how many rounds and seconds a node can be switched off, if it can be.
+fn write_when(text: &mut String, retirement: Option<Retirement>) -> Result<(), AllocError>
     ensures { OnOk result (string_bytes text.new ≡ string_bytes text.old
-        ++ retirement_text pace rounds) }
+        ++ retirement_text retirement) }
 {
-    match rounds {
-        Some(rounds) => write_retired(text, rounds, seconds_before(pace, rounds)),
+    match retirement {
+        Some(retirement) => write_retired(text, retirement),
         None => text.push_str(" not retired\n"),
     }
 }
 
 #[tactic(auto, unfolding(crate::specs::RepairText::retired_text))]
-fn write_retired(text: &mut String, rounds: u32, seconds: u64) -> Result<(), AllocError>
+fn write_retired(text: &mut String, retirement: Retirement) -> Result<(), AllocError>
     ensures { OnOk result (string_bytes text.new ≡ string_bytes text.old
-        ++ retired_text rounds seconds) }
+        ++ retired_text retirement) }
 {
+    let rounds = retirement.rounds;
+    let seconds = retirement.seconds;
     write!(text, " retired after {rounds} rounds, {seconds} seconds\n")
 }
 

@@ -1,8 +1,11 @@
+use Rattle.std.proofs.Common.{ap}
+use Rattle.bm_base.specs.Words.{Cluster}
+use Rattle.cluster_repair.specs.Ticks.{ticks_of}
 use Rattle.cluster_repair.proofs.Reach.{under_way_at_once}
 use Rattle.cluster_repair.proofs.repair.repair_cluster.Goals as goal
 
 pub returns : goal.returns
 returns g c =
-    c.in_ok-note_row.ensures.done c.args.session.now.manager
-    (c.in_ok-take_rounds.ensures.under_way c.args.session.now.manager
-    (under_way_at_once c.args.session.now.manager c.in_ok-repair.repair c.in_ok-repair.ensures.rows c.in_ok-repair.ensures.retired c.in_ok-repair.ensures.rounds c.in_ok-repair.ensures.sent))
+    let M = c.args.session.now.manager in
+    let start = c.in_ok-repair.ensures in
+    ?

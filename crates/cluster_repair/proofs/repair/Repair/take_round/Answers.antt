@@ -10,6 +10,8 @@ returns-clause-covers g c =
 
 pub returns-clause-under_way : goal.returns-clause-under_way
 returns-clause-under_way g c M on =
-    under_way_by_round M c.args.manager.now c.report.new.manager c.round.new.self c.args.self.now _ c.report.new.self c.in_ok-commands.commands c.in_ok-report.ensures.reported.reached
-    c.in_ok-commands.ensures.accepted c.in_ok-commands.ensures.state c.in_ok-commands.ensures.commands refl refl c.copies_in-self.ensures c.in_ok-report.ensures.counts c.in_ok-obey.ensures
-    (c.in_ok-note_retired.ensures M) on
+    under_way_by_round c.args.facts.now.ticks M c.args.manager.now c.report.new.manager c.round.new.self c.args.self.now _ c.report.new.self c.in_ok-commands.commands c.next_time-now.result
+    c.in_ok-report.ensures.reported.reached
+    c.in_ok-commands.ensures.accepted c.in_ok-commands.ensures.state c.in_ok-commands.ensures.commands refl refl refl c.copies_in-self.ensures
+    c.next_time-now.ensures c.in_ok-report.ensures.on_way c.in_ok-report.ensures.counts c.in_ok-obey.ensures
+    (c.in_ok-note_retired.ensures c.args.facts.now.ticks M) on

@@ -5,5 +5,5 @@ pub loop-past-preserved : goal.loop-past-preserved
 loop-past-preserved g c = record {
   few = let before = c.loop-past.invariant.few in let due = c.in_ok-note_due.ensures.rounds in let round = c.in_ok-take_round.ensures.rounds in omega (arith, before, due, round);
   covers = c.in_ok-take_round.ensures.covers;
-  under_way = λ M on. c.in_ok-take_round.ensures.under_way M (c.in_ok-note_due.ensures.under_way M (c.loop-past.invariant.under_way M on));
+  under_way = λ M on. c.in_ok-take_round.ensures.under_way M (c.in_ok-note_due.ensures.under_way c.args.facts.now.ticks M (c.loop-past.invariant.under_way M on));
 }

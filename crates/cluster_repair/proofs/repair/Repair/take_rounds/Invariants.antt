@@ -8,5 +8,5 @@ abbrev pub invariant-loop-past : goal.invariant-loop-past
 invariant-loop-past g l = record {
   few : l.self.rounds ≡ l.past;
   covers : Covers l.manager l.self.watch.blocks.items;
-  under_way : (M : State) → IsUnderWay M l.fn.manager l.fn.self → IsUnderWay M l.manager l.self;
+  under_way : (M : State) → IsUnderWay l.facts.ticks M l.fn.manager l.fn.self → IsUnderWay l.facts.ticks M l.manager l.self;
 }
