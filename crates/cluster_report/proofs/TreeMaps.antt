@@ -1,4 +1,7 @@
--- The map that a `BTreeMap` represents, and its changes.
+-- The map that a `BTreeMap` represents, and what its changes do to the map.
+--     length-tree              the number of entries
+--     inserted, removed        a value was set at a key, or a key removed
+--     kept                     the entries that pass a test were kept
 use Rattle.std.proofs.Common.{◌≡◌, Bool, cond, List, [], ◌∷◌, filter, Option, Some, None, T, refl, sym, ap, subst, ◌∙◌, Ordering, Less}
 use Rattle.std.specs.Ordering.{eq_by_cmp, is_eq, is_lt}
 use Rattle.std.specs.Cmp.{eq_by_cmp_equiv}
