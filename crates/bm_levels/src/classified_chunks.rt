@@ -28,8 +28,8 @@ fn read_counts_ahead(arena: &Arena, chunk: &[Slot]) -> [usize; CHUNK]
         ≡ option_map_or (λ b. length b.replicas) (block_at arena.now slot) 0 }
 {
     let mut counts = [0; CHUNK];
-    for (place, slot) in chunk.iter().enumerate() {
-        counts[place] = arena.triplet_count(*slot);
+    for (index, slot) in chunk.iter().enumerate() {
+        counts[index] = arena.triplet_count(*slot);
     }
     counts
 }
@@ -45,8 +45,8 @@ fn classify_chunk(
 {
     let counts = read_counts_ahead(arena, chunk);
     let mut status = [NOT_CLASSIFIED; CHUNK];
-    for (place, slot) in chunk.iter().enumerate() {
-        status[place] = classify(arena, *slot, counts[place], cluster_after);
+    for (index, slot) in chunk.iter().enumerate() {
+        status[index] = classify(arena, *slot, counts[index], cluster_after);
     }
     status
 }
@@ -82,8 +82,8 @@ impl LevelIndex {
         if self.keeps_all(chunk, status.as_slice()) {
             return;
         }
-        for (place, slot) in chunk.iter().enumerate() {
-            self.set_status(*slot, status[place]);
+        for (index, slot) in chunk.iter().enumerate() {
+            self.set_status(*slot, status[index]);
         }
     }
 
@@ -95,8 +95,8 @@ impl LevelIndex {
         ensures { result ≡ true → HaveStatuses self.now chunk.now status.now }
     {
         let mut are_kept = true;
-        for (place, slot) in chunk.iter().enumerate() {
-            are_kept &= are_equal(self.status_at(*slot), status[place]);
+        for (index, slot) in chunk.iter().enumerate() {
+            are_kept &= are_equal(self.status_at(*slot), status[index]);
         }
         are_kept
     }

@@ -42,7 +42,7 @@ impl FirstSlots {
     {
         let mut walk = arena.walk(storage);
         let mut first = FirstSlots::none();
-        for _place in 0..CHUNK {
+        for _index in 0..CHUNK {
             first.push_next(&mut walk);
         }
         first

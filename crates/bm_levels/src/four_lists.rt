@@ -74,7 +74,7 @@ fn first_of_four(arena: &Arena, four: &FourStorages) -> FirstOfFour
     let mut second = arena.walk(four.second);
     let mut third = arena.walk(four.third);
     let mut fourth = arena.walk(four.fourth);
-    for _place in 0..CHUNK {
+    for _index in 0..CHUNK {
         lists.first.push_next(&mut first);
         lists.second.push_next(&mut second);
         lists.third.push_next(&mut third);

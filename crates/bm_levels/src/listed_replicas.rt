@@ -59,8 +59,8 @@ fn is_storage_at(listed: &[ReplicaId], storage: StorageId, at: usize) -> bool
 /// The index after the one that a binary search returns.
 fn index_after(found: &Result<usize, usize>) -> usize {
     match found {
-        Ok(place) => place.wrapping_add(1),
-        Err(place) => *place,
+        Ok(index) => index.wrapping_add(1),
+        Err(index) => *index,
     }
 }
 
@@ -77,10 +77,10 @@ pub(crate) fn mark_listed(arena: &mut Arena, slot: Slot, listed: &[ReplicaId])
 {
     arena.show_invariant();
     let mut near = 0;
-    for place in 0..arena.triplet_count(slot) {
-        if let Some((storage, marks)) = arena.triplet_at(slot, place) {
+    for index in 0..arena.triplet_count(slot) {
+        if let Some((storage, marks)) = arena.triplet_at(slot, index) {
             if is_listed(listed, storage, &mut near) {
-                arena.set_marks_near(slot, storage, with_excess(marks), place);
+                arena.set_marks_near(slot, storage, with_excess(marks), index);
             }
         }
     }

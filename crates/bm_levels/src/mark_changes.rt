@@ -64,11 +64,11 @@ pub(crate) fn change_marks(arena: &mut Arena, slot: Slot, change: MarkChange) ->
 {
     arena.show_invariant();
     let mut is_changed = false;
-    for place in 0..arena.triplet_count(slot) {
-        if let Some((storage, marks)) = arena.triplet_at(slot, place) {
+    for index in 0..arena.triplet_count(slot) {
+        if let Some((storage, marks)) = arena.triplet_at(slot, index) {
             let after = change.apply(marks);
             if !after.is_same(marks) {
-                arena.set_marks_near(slot, storage, after, place);
+                arena.set_marks_near(slot, storage, after, index);
                 is_changed = true;
             }
         }

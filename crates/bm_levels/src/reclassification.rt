@@ -95,8 +95,8 @@ impl LevelIndex {
         ensures others { IsSameOutside (indexed_slots arena.now) self.old self.new }
         ensures room { KeepsCapacity self.old self.new }
     {
-        for place in 0..arena.count() {
-            if let Some(slot) = arena.slot_at(place) {
+        for index in 0..arena.count() {
+            if let Some(slot) = arena.slot_at(index) {
                 self.classify(arena, slot, cluster_after);
             }
         }

@@ -106,28 +106,28 @@ fn index_of(arena: &Arena, slot: Slot, storage: StorageId, guess: usize) -> usiz
     if is_at(arena, slot, storage, guess) {
         return guess;
     }
-    for place in 0..arena.triplet_count(slot) {
-        if is_at(arena, slot, storage, place) {
-            return place;
+    for index in 0..arena.triplet_count(slot) {
+        if is_at(arena, slot, storage, index) {
+            return index;
         }
     }
     0
 }
 
 /// Whether the replica at an index of the block at a slot is on a storage.
-fn is_at(arena: &Arena, slot: Slot, storage: StorageId, place: usize) -> bool {
-    match arena.triplet_at(slot, place) {
+fn is_at(arena: &Arena, slot: Slot, storage: StorageId, index: usize) -> bool {
+    match arena.triplet_at(slot, index) {
         Some((found, _)) => found == storage,
         None => false,
     }
 }
 
 /// The marks of the replica on a storage of the block at a slot, most likely at this index.
-fn marks_near(arena: &Arena, slot: Slot, storage: StorageId, place: usize) -> Option<Marks>
+fn marks_near(arena: &Arena, slot: Slot, storage: StorageId, index: usize) -> Option<Marks>
     ensures { result ≡ marks_at arena.now slot storage }
 {
     arena.show_invariant();
-    if let Some((found, marks)) = arena.triplet_at(slot, place) {
+    if let Some((found, marks)) = arena.triplet_at(slot, index) {
         if found == storage {
             return Some(marks);
         }

@@ -25,8 +25,8 @@ pub(crate) fn push_places(
         ++ storages_at (λ _ m. replicas.is_good m.tag) (replicas_at arena.now slot)) }
     ensures refused { IfErr result (λ e. e ≡ Memory) }
 {
-    for place in 0..arena.triplet_count(slot) {
-        if let Some((storage, marks)) = arena.triplet_at(slot, place) {
+    for index in 0..arena.triplet_count(slot) {
+        if let Some((storage, marks)) = arena.triplet_at(slot, index) {
             if marks.tag.is_good() {
                 into.push(storage)?;
             }
@@ -71,8 +71,8 @@ pub fn knows_block(blocks: &LeveledBlocks, id: BlockId) -> bool
 fn has_stray(arena: &Arena, slot: Slot) -> bool
     ensures { result ≡ list_any (λ r. replicas.is_stray r.1.tag) (replicas_at arena.now slot) }
 {
-    for place in 0..arena.triplet_count(slot) {
-        if let Some((_, marks)) = arena.triplet_at(slot, place) {
+    for index in 0..arena.triplet_count(slot) {
+        if let Some((_, marks)) = arena.triplet_at(slot, index) {
             if marks.tag.is_stray() {
                 return true;
             }

@@ -28,8 +28,8 @@ fn live_count(topology: &Topology, arena: &Arena, slot: Slot) -> usize
         (storages_at (replicas.is_live_on topology.now.cluster) (replicas_at arena.now slot)) }
 {
     let mut count = 0;
-    for place in 0..arena.triplet_count(slot) {
-        if let Some((storage, marks)) = arena.triplet_at(slot, place) {
+    for index in 0..arena.triplet_count(slot) {
+        if let Some((storage, marks)) = arena.triplet_at(slot, index) {
             if is_live_on(topology, storage, marks) {
                 count += 1;
             }

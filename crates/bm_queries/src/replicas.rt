@@ -46,8 +46,8 @@ fn push_replicas(
     ensures refused { IfErr result (λ e. e ≡ Memory) }
 {
     let block = arena.id_of(slot);
-    for place in 0..arena.triplet_count(slot) {
-        if let Some((storage, marks)) = arena.triplet_at(slot, place) {
+    for index in 0..arena.triplet_count(slot) {
+        if let Some((storage, marks)) = arena.triplet_at(slot, index) {
             if wants(wanted, marks) {
                 into.push(Replica {
                     block,
@@ -68,8 +68,8 @@ fn gather(alloc: Global, arena: &Arena, wanted: ReplicaFilter) -> Result<Vec<Rep
 {
     arena.show_invariant();
     let mut all = Vec::new(alloc);
-    for place in 0..arena.count() {
-        if let Some(slot) = arena.slot_at(place) {
+    for index in 0..arena.count() {
+        if let Some(slot) = arena.slot_at(index) {
             push_replicas(arena, slot, wanted, &mut all)?;
         }
     }

@@ -38,8 +38,8 @@ fn gather_known_blocks(alloc: Global, arena: &Arena) -> Result<Vec<(BlockId, Slo
 {
     arena.show_invariant();
     let mut known = Vec::with_capacity(alloc, arena.count())?;
-    for place in 0..arena.count() {
-        if let Some(slot) = arena.slot_at(place) {
+    for index in 0..arena.count() {
+        if let Some(slot) = arena.slot_at(index) {
             push_known(arena, slot, &mut known)?;
         }
     }

@@ -22,7 +22,7 @@ pub struct SparseSet {
     // The members.
     order: Vec<u32>,
     // For each member its index; for any other slot some number.
-    places: Vec<u32>,
+    indices: Vec<u32>,
 }
 
 impl Model for SparseSet {
@@ -32,9 +32,9 @@ impl Model for SparseSet {
 
     ghost Value = { Members };
 
-    ghost view = { λ a. record { slots = a.order.items; room = length a.places.items } };
+    ghost view = { λ a. record { slots = a.order.items; room = length a.indices.items } };
 
-    ghost invariant = { λ a. AreSparse a.order.items a.places.items (vec_capacity a.order) };
+    ghost invariant = { λ a. AreSparse a.order.items a.indices.items (vec_capacity a.order) };
 }
 
 impl SparseSet {
@@ -45,7 +45,7 @@ impl SparseSet {
     {
         SparseSet {
             order: Vec::new(alloc),
-            places: Vec::new(alloc),
+            indices: Vec::new(alloc),
         }
     }
 
@@ -60,7 +60,7 @@ impl SparseSet {
     pub fn room(&self) -> usize
         ensures { result ≡ self.now.room }
     {
-        self.places.len()
+        self.indices.len()
     }
 
     /// Grows the capacity to the slots below `room`. If it is sufficient already, nothing changes.
@@ -73,14 +73,14 @@ impl SparseSet {
         ensures refused { IfErr result (λ e. e ≡ Memory) }
         ensures unchanged { OnErr result (self.new ≡ self.old) }
     {
-        if room <= self.places.len() {
+        if room <= self.indices.len() {
             return Ok(());
         }
         if !fits_link(room) {
             return Err(Refusal::Memory);
         }
         self.order.reserve(room - self.order.len())?;
-        self.places.resize(room, 0)?;
+        self.indices.resize(room, 0)?;
         Ok(())
     }
 
@@ -98,7 +98,7 @@ impl SparseSet {
         if self.contains(slot) {
             return;
         }
-        self.places[slot] = self.order.len() as u32;
+        self.indices[slot] = self.order.len() as u32;
         self.order.push_reserved(slot as u32);
     }
 
@@ -115,7 +115,7 @@ impl SparseSet {
     {
         if let Some(index) = self.index_of(slot) {
             let last = self.order[self.order.len() - 1];
-            self.places[last as usize] = index as u32;
+            self.indices[last as usize] = index as u32;
             self.order.swap_remove(index);
         }
     }
@@ -143,7 +143,7 @@ impl SparseSet {
             × (slice_index_or self.now.slots index 0 ≡ slot)) }
         ensures absent { result ≡ None → IsMember slot self.now.slots → ⊥ }
     {
-        let index = self.places[slot] as usize;
+        let index = self.indices[slot] as usize;
         if index < self.order.len() && self.order[index] as usize == slot {
             Some(index)
         } else {

@@ -18,7 +18,7 @@ pub(crate) type StoragesByNode = ArrayVec<StorageId, MAX_STORAGES>;
 pub(crate) fn sort_by_node(
     sorted: &mut StoragesByNode,
     storages: &NumberMap<StorageInfo>,
-    places: &IndexHints,
+    hints: &IndexHints,
 )
     requires few { map.len storages.now.map ≤ MAX_STORAGES }
     requires small { HasSmallKeys storages.now.map }
@@ -26,7 +26,7 @@ pub(crate) fn sort_by_node(
 {
     sorted.clear();
     for (number, info) in storages.entries() {
-        let index = index_for(sorted.as_slice(), info.node, storages, places);
+        let index = index_for(sorted.as_slice(), info.node, storages, hints);
         sorted.insert(index, StorageId(*number as u32));
     }
 }
@@ -36,15 +36,15 @@ pub(crate) fn storages_of<'a>(
     sorted: &'a [StorageId],
     node: NodeId,
     storages: &NumberMap<StorageInfo>,
-    places: &IndexHints,
+    hints: &IndexHints,
 ) -> &'a [StorageId]
     requires { AreAllByNode storages.now.map sorted.now }
     ensures { result.now ≡ filter
         (λ s. node_in storages.now.map s == node) (map.keys storages.now.map) }
 {
-    let first = sorted.partition_point(|storage| node_in(storages, places, *storage) < node.0);
+    let first = sorted.partition_point(|storage| node_in(storages, hints, *storage) < node.0);
     let rest = &sorted[first..];
-    let count = rest.partition_point(|storage| node_in(storages, places, *storage) <= node.0);
+    let count = rest.partition_point(|storage| node_in(storages, hints, *storage) <= node.0);
     &rest[..count]
 }
 
@@ -54,7 +54,7 @@ fn index_for(
     sorted: &[StorageId],
     node: NodeId,
     storages: &NumberMap<StorageInfo>,
-    places: &IndexHints,
+    hints: &IndexHints,
 ) -> usize
     ensures within { result ≤ length sorted.now }
     ensures parted { IsNonDecreasingBy (node_in storages.now.map) sorted.now → IsPartitionPoint
@@ -64,7 +64,7 @@ fn index_for(
     if is_after_all(sorted, node, storages) {
         return sorted.len();
     }
-    sorted.partition_point(|storage| node_in(storages, places, *storage) <= node.0)
+    sorted.partition_point(|storage| node_in(storages, hints, *storage) <= node.0)
 }
 
 /// Whether the last storage, if there is one, is of this node or a lesser one. One read where it
@@ -81,10 +81,10 @@ fn is_after_all(sorted: &[StorageId], node: NodeId, storages: &NumberMap<Storage
 }
 
 /// The node of a storage; 0 of one that the table does not have.
-fn node_in(storages: &NumberMap<StorageInfo>, places: &IndexHints, storage: StorageId) -> u32
+fn node_in(storages: &NumberMap<StorageInfo>, hints: &IndexHints, storage: StorageId) -> u32
     ensures { result ≡ node_in storages.now.map storage }
 {
-    node_near(storages, storage, places.of_storage(u64::from(storage.0)))
+    node_near(storages, storage, hints.of_storage(u64::from(storage.0)))
 }
 
 /// The same, with a guess of the storage's index in the table.

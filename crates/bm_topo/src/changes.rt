@@ -121,7 +121,7 @@ impl Topology {
         self.nodes.insert_reserved(u64::from(node.0), rack);
         self.draining.remove(u64::from(node.0));
         add_storages(&mut self.storages, node, storages);
-        sort_by_node(&mut self.by_node, &self.storages, &self.places);
+        sort_by_node(&mut self.by_node, &self.storages, &self.hints);
     }
 
     fn drop_node(&mut self, node: NodeId)
@@ -131,7 +131,7 @@ impl Topology {
     {
         self.spot_count = 0;
         drop_storages(&mut self.storages, node);
-        sort_by_node(&mut self.by_node, &self.storages, &self.places);
+        sort_by_node(&mut self.by_node, &self.storages, &self.hints);
         self.draining.remove(u64::from(node.0));
         self.forget_node(node);
     }
@@ -181,7 +181,7 @@ impl Topology {
     {
         self.spot_count = 0;
         self.storages.remove(u64::from(storage.0));
-        sort_by_node(&mut self.by_node, &self.storages, &self.places);
+        sort_by_node(&mut self.by_node, &self.storages, &self.hints);
     }
 
     /// Sets the remaining bytes of known storages, one after another.

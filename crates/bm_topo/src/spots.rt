@@ -44,7 +44,7 @@ pub(crate) fn spot_on(
     node: NodeId,
     nodes: &NumberMap<Rack>,
     draining: &NumberMap<()>,
-    places: &IndexHints,
+    hints: &IndexHints,
 ) -> Spot
     requires { map.contains_key nodes.now.map node ≡ true }
     ensures storage { result.storage ≡ storage }
@@ -53,7 +53,7 @@ pub(crate) fn spot_on(
     ensures drains { result.drains ≡ map.contains_key draining.now.map node }
 {
     let number = u64::from(node.0);
-    let rack = match nodes.get_near(number, places.of_node(number)) {
+    let rack = match nodes.get_near(number, hints.of_node(number)) {
         Some(rack) => rack,
         None => unreachable!(),
     };
@@ -62,7 +62,7 @@ pub(crate) fn spot_on(
         node,
         rack,
         drains: draining
-            .get_near(number, places.of_draining(number))
+            .get_near(number, hints.of_draining(number))
             .is_some(),
     }
 }
@@ -73,7 +73,7 @@ pub(crate) fn set_spots(
     storages: &NumberMap<StorageInfo>,
     nodes: &NumberMap<Rack>,
     draining: &NumberMap<()>,
-    places: &IndexHints,
+    hints: &IndexHints,
 )
     requires enough { map.len storages.now.map ≤ length spots.old }
     requires small { HasSmallKeys storages.now.map }
@@ -85,6 +85,6 @@ pub(crate) fn set_spots(
 {
     for (index, entry) in storages.entries().iter().enumerate() {
         let storage = StorageId(entry.0 as u32);
-        spots[index] = spot_on(storage, entry.1.node, nodes, draining, places);
+        spots[index] = spot_on(storage, entry.1.node, nodes, draining, hints);
     }
 }

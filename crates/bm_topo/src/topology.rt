@@ -48,7 +48,7 @@ pub struct Topology {
     pub(crate) racks: NumberMap<u32>,
     pub(crate) storages: NumberMap<StorageInfo>,
     // Hints for the indices in these tables.
-    pub(crate) places: IndexHints,
+    pub(crate) hints: IndexHints,
     // Where the storages are, each at its index in their table.
     pub(crate) spots: [Spot; MAX_STORAGES],
     // How many spots are set: 0 while the cluster changes.
@@ -99,7 +99,7 @@ impl Topology {
             draining: NumberMap::new(alloc),
             racks: NumberMap::new(alloc),
             storages: NumberMap::new(alloc),
-            places: IndexHints::new(),
+            hints: IndexHints::new(),
             spots: no_spots(),
             spot_count: 0,
             by_node: ArrayVec::new(),
@@ -120,7 +120,7 @@ impl Topology {
     {
         let number = u64::from(storage.0);
         let entries = self.storages.entries();
-        if let Some((found, info)) = entries.get(self.places.of_storage(number)) {
+        if let Some((found, info)) = entries.get(self.hints.of_storage(number)) {
             if *found == number {
                 return Some(*info);
             }
@@ -132,7 +132,7 @@ impl Topology {
     pub(crate) fn record_indices(&mut self)
         ensures { self.new ≡ self.old }
     {
-        self.places.fill(
+        self.hints.fill(
             self.storages.entries(),
             self.nodes.entries(),
             self.draining.entries(),
@@ -142,7 +142,7 @@ impl Topology {
             &self.storages,
             &self.nodes,
             &self.draining,
-            &self.places,
+            &self.hints,
         );
         self.spot_count = self.storages.len();
     }
@@ -152,7 +152,7 @@ impl Topology {
         ensures { result ≡ map.get self.now.cluster.nodes node }
     {
         let number = u64::from(node.0);
-        self.nodes.get_near(number, self.places.of_node(number))
+        self.nodes.get_near(number, self.hints.of_node(number))
     }
 
     /// Whether a node drains: two reads at the hint, and else a look-up.
@@ -161,7 +161,7 @@ impl Topology {
         ensures { result ≡ replicas.drains self.now.cluster node }
     {
         let number = u64::from(node.0);
-        let index = self.places.of_draining(number);
+        let index = self.hints.of_draining(number);
         self.draining.get_near(number, index).is_some()
     }
 
@@ -174,7 +174,7 @@ impl Topology {
         ensures drains { option_map_or (λ p. p.drains) result false
             ≡ replicas.is_draining self.now.cluster storage }
     {
-        let index = self.places.of_storage(u64::from(storage.0));
+        let index = self.hints.of_storage(u64::from(storage.0));
         if index < self.spot_count && self.spots[index].storage == storage {
             return Some(self.spots[index]);
         }
@@ -195,7 +195,7 @@ impl Topology {
                 info.node,
                 &self.nodes,
                 &self.draining,
-                &self.places,
+                &self.hints,
             )),
             None => None,
         }
@@ -239,7 +239,7 @@ impl Topology {
             → lists.has result.now s ≡ replicas.has_storage self.now.cluster node s }
         ensures few { length result.now ≤ MAX_STORAGES }
     {
-        storages_of(self.by_node.as_slice(), node, &self.storages, &self.places)
+        storages_of(self.by_node.as_slice(), node, &self.storages, &self.hints)
     }
 
     /// Whether two storages are different ones of one node; not where one of them is not known.

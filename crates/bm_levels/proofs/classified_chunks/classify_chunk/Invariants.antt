@@ -6,10 +6,10 @@ use Rattle.bm_levels.specs.ClusterAfter.{IsStatusAfter}
 use Rattle.bm_levels.proofs.classified_chunks.classify_chunk.Given as goal
 
 -- the status of each block that was scanned
-abbrev pub invariant-loop-place : goal.invariant-loop-place
-invariant-loop-place l =
+abbrev pub invariant-loop-index : goal.invariant-loop-index
+invariant-loop-index l =
     record {
       whole : length l.status ≡ 64;
-      read : (i : ℕ) → i < l.place → (slot : ℕ) (default : BlockStatus) → slice_get l.chunk i ≡ Some slot
+      read : (i : ℕ) → i < l.index → (slot : ℕ) (default : BlockStatus) → slice_get l.chunk i ≡ Some slot
           → IsStatusAfter l.cluster_after (block_at l.arena slot) (slice_index_or l.status i default);
     }

@@ -9,26 +9,26 @@ use Rattle.bm_arena.specs.Contents.{block_at}
 use Rattle.bm_arena.specs.Triplets.{Block}
 use Rattle.bm_levels.proofs.classified_chunks.read_counts_ahead.Goals as goal
 
-read_on : (c : goal.After-triplet_count) → (i : ℕ) → i < c.loop-place.place + 1 → (slot : ℕ) → slice_get c.args.chunk.now i ≡ Some slot
-    → slice_index_or (slice_set c.loop-place.counts c.loop-place.place c.triplet_count.result) i 0 ≡ option_map_or (λ (b : Block). length b.replicas) (block_at c.args.arena.now slot) 0
+read_on : (c : goal.After-triplet_count) → (i : ℕ) → i < c.loop-index.index + 1 → (slot : ℕ) → slice_get c.args.chunk.now i ≡ Some slot
+    → slice_index_or (slice_set c.loop-index.counts c.loop-index.index c.triplet_count.result) i 0 ≡ option_map_or (λ (b : Block). length b.replicas) (block_at c.args.arena.now slot) 0
 read_on c i below slot is =
-    elim (cases_eq i c.loop-place.place) [
+    elim (cases_eq i c.loop-index.index) [
       | inl here ↦
-          let room : c.loop-place.place < length c.loop-place.counts = omega (arith, c.loop-place.invariant.whole) in
-          let same : slice_index_or c.args.chunk.now c.loop-place.place 0 ≡ slot = get_or_from_slice_get c.args.chunk.now c.loop-place.place slot 0 (rw here at is) in
-          rw here (get_or-set_same c.loop-place.counts c.loop-place.place c.triplet_count.result 0 room ∙ c.triplet_count.ensures ∙ ap (λ z. option_map_or (λ (b : Block). length b.replicas) (block_at c.args.arena.now z) 0) same)
+          let room : c.loop-index.index < length c.loop-index.counts = omega (arith, c.loop-index.invariant.whole) in
+          let same : slice_index_or c.args.chunk.now c.loop-index.index 0 ≡ slot = get_or_from_slice_get c.args.chunk.now c.loop-index.index slot 0 (rw here at is) in
+          rw here (get_or-set_same c.loop-index.counts c.loop-index.index c.triplet_count.result 0 room ∙ c.triplet_count.ensures ∙ ap (λ z. option_map_or (λ (b : Block). length b.replicas) (block_at c.args.arena.now z) 0) same)
       | inr differs ↦
-          let less : i < c.loop-place.place = omega arith in
-          get_or-set_other c.loop-place.counts c.loop-place.place i c.triplet_count.result 0 differs ∙ c.loop-place.invariant.read i less slot is
+          let less : i < c.loop-index.index = omega arith in
+          get_or-set_other c.loop-index.counts c.loop-index.index i c.triplet_count.result 0 differs ∙ c.loop-index.invariant.read i less slot is
     ]
 
-pub loop-place-preserved : goal.loop-place-preserved
-loop-place-preserved c = record {
-  whole = length-set c.loop-place.counts c.loop-place.place c.triplet_count.result ∙ c.loop-place.invariant.whole;
+pub loop-index-preserved : goal.loop-index-preserved
+loop-index-preserved c = record {
+  whole = length-set c.loop-index.counts c.loop-index.index c.triplet_count.result ∙ c.loop-index.invariant.whole;
   read = read_on c;
 }
 
 pub returns : goal.returns
 returns c i slot is =
     let low = slice_get_within c.args.chunk.now i slot is in
-    c.loop-place.invariant.read i (omega arith) slot is
+    c.loop-index.invariant.read i (omega arith) slot is

@@ -5,5 +5,5 @@ use Rattle.bm_arena.specs.HeldMaps.{replicas_at}
 use Rattle.bm_queries.proofs.block_queries.has_stray.Given as goal
 
 -- a replica of the rest is stray exactly if one of all is
-abbrev pub invariant-loop-place : goal.invariant-loop-place
-invariant-loop-place l = list_any (λ r. is_stray r.1.tag) (drop l.place (replicas_at l.arena l.slot)) ≡ list_any (λ r. is_stray r.1.tag) (replicas_at l.arena l.slot)
+abbrev pub invariant-loop-index : goal.invariant-loop-index
+invariant-loop-index l = list_any (λ r. is_stray r.1.tag) (drop l.index (replicas_at l.arena l.slot)) ≡ list_any (λ r. is_stray r.1.tag) (replicas_at l.arena l.slot)

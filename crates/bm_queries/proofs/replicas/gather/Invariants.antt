@@ -4,5 +4,5 @@ use Rattle.bm_queries.specs.Listed.{wants, listed_on}
 use Rattle.bm_queries.proofs.replicas.gather.Given as goal
 
 -- those so far and those of the rest are all
-abbrev pub invariant-loop-place : goal.invariant-loop-place
-invariant-loop-place l = l.all.items ++ listed_on (wants l.wanted) l.arena (drop l.place (indexed_slots l.arena)) ≡ listed_on (wants l.wanted) l.arena (indexed_slots l.arena)
+abbrev pub invariant-loop-index : goal.invariant-loop-index
+invariant-loop-index l = l.all.items ++ listed_on (wants l.wanted) l.arena (drop l.index (indexed_slots l.arena)) ≡ listed_on (wants l.wanted) l.arena (indexed_slots l.arena)

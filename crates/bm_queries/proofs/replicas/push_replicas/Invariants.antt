@@ -5,6 +5,6 @@ use Rattle.bm_queries.proofs.GatheredReplicas.{those}
 use Rattle.bm_queries.proofs.replicas.push_replicas.Given as goal
 
 -- those so far and those of the rest are all
-abbrev pub invariant-loop-place : goal.invariant-loop-place
-invariant-loop-place l =
-    l.into.items ++ those (wants l.wanted) l.block (drop l.place (replicas_at l.arena l.slot)) ≡ l.fn.into.items ++ those (wants l.wanted) l.block (replicas_at l.arena l.slot)
+abbrev pub invariant-loop-index : goal.invariant-loop-index
+invariant-loop-index l =
+    l.into.items ++ those (wants l.wanted) l.block (drop l.index (replicas_at l.arena l.slot)) ≡ l.fn.into.items ++ those (wants l.wanted) l.block (replicas_at l.arena l.slot)

@@ -4,5 +4,5 @@ use Rattle.bm_queries.specs.Listed.{known_on}
 use Rattle.bm_queries.proofs.rows.gather_known_blocks.Given as goal
 
 -- those so far and those of the rest are all
-abbrev pub invariant-loop-place : goal.invariant-loop-place
-invariant-loop-place l = l.known.items ++ known_on l.arena (drop l.place (indexed_slots l.arena)) ≡ known_on l.arena (indexed_slots l.arena)
+abbrev pub invariant-loop-index : goal.invariant-loop-index
+invariant-loop-index l = l.known.items ++ known_on l.arena (drop l.index (indexed_slots l.arena)) ≡ known_on l.arena (indexed_slots l.arena)

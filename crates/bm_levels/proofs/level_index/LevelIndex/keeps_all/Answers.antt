@@ -19,22 +19,22 @@ kept_here K x slot k js p d default h same is low =
 
 pub status_at-requires : goal.status_at-requires
 status_at-requires c =
-    let x = slice_index_or c.args.chunk.now c.loop-place.place 0 in
-    let at = slice_get-get_or c.args.chunk.now c.loop-place.place 0 c.loop-place-test.true in
-    record { room = (x + 1, omega arith, c.requires.room x (among_in x c.args.chunk.now c.loop-place.place at)) }
+    let x = slice_index_or c.args.chunk.now c.loop-index.index 0 in
+    let at = slice_get-get_or c.args.chunk.now c.loop-index.index 0 c.loop-index-test.true in
+    record { room = (x + 1, omega arith, c.requires.room x (among_in x c.args.chunk.now c.loop-index.index at)) }
 
-pub loop-place-preserved : goal.loop-place-preserved
-loop-place-preserved c e i below slot default is =
-    let both = both_true c.loop-place.are_kept c.are_equal-are_kept.result e in
-    elim (cases_eq i c.loop-place.place) [
+pub loop-index-preserved : goal.loop-index-preserved
+loop-index-preserved c e i below slot default is =
+    let both = both_true c.loop-index.are_kept c.are_equal-are_kept.result e in
+    elim (cases_eq i c.loop-index.index) [
       | inl here ↦
-          let low : c.loop-place.place < length c.args.status.now = omega (arith, c.requires.few, c.loop-place-test.true) in
-          let same = get_or_from_slice_get c.args.chunk.now c.loop-place.place slot 0 (rw here at is) in
-          rw here (kept_here c.args.self.now _ slot c.status_at.result c.args.status.now c.loop-place.place _ default c.status_at.ensures same (c.are_equal-are_kept.ensures both.1) low)
-      | inr differs ↦ let less : i < c.loop-place.place = omega arith in c.loop-place.invariant both.0 i less slot default is
+          let low : c.loop-index.index < length c.args.status.now = omega (arith, c.requires.few, c.loop-index-test.true) in
+          let same = get_or_from_slice_get c.args.chunk.now c.loop-index.index slot 0 (rw here at is) in
+          rw here (kept_here c.args.self.now _ slot c.status_at.result c.args.status.now c.loop-index.index _ default c.status_at.ensures same (c.are_equal-are_kept.ensures both.1) low)
+      | inr differs ↦ let less : i < c.loop-index.index = omega arith in c.loop-index.invariant both.0 i less slot default is
     ]
 
 pub returns : goal.returns
 returns c e i slot default is =
     let low = slice_get_within c.args.chunk.now i slot is in
-    c.loop-place.invariant e i (omega arith) slot default is
+    c.loop-index.invariant e i (omega arith) slot default is

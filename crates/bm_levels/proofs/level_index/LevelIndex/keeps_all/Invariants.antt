@@ -4,6 +4,6 @@ use Rattle.bm_levels.specs.declared.classification.BlockStatus.{BlockStatus}
 use Rattle.bm_levels.specs.IndexedLevels.{HasStatus}
 use Rattle.bm_levels.proofs.level_index.LevelIndex.keeps_all.Given as goal
 
-abbrev pub invariant-loop-place : goal.invariant-loop-place
-invariant-loop-place l =
-    l.are_kept ≡ true → (i : ℕ) → i < l.place → (slot : ℕ) (default : BlockStatus) → slice_get l.chunk i ≡ Some slot → HasStatus l.self slot (slice_index_or l.status i default)
+abbrev pub invariant-loop-index : goal.invariant-loop-index
+invariant-loop-index l =
+    l.are_kept ≡ true → (i : ℕ) → i < l.index → (slot : ℕ) (default : BlockStatus) → slice_get l.chunk i ≡ Some slot → HasStatus l.self slot (slice_index_or l.status i default)

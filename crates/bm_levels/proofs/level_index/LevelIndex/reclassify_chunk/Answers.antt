@@ -20,45 +20,45 @@ returns-then-keeps_all-clause-status c slot there =
     let kept = subst P c.as_slice.ensures (c.keeps_all.ensures c.if-keeps_all.true at.0 slot default at.1) in
     classified_as (rack_of C) D c.args.cluster_after.now.multi (block_at c.args.arena.now slot) c.args.self.now slot (slice_index_or c.classify_chunk-status.result at.0 default) kept (c.classify_chunk-status.ensures at.0 slot default at.1)
 
-pub loop-place-init : goal.loop-place-init
-loop-place-init c =
+pub loop-index-init : goal.loop-index-init
+loop-index-init c =
     let C = c.args.cluster_after.now.topology.now.cluster in
     record { underway = underway_none (rack_of C) (drains_after_change C c.args.cluster_after.now.drain_change) c.args.cluster_after.now.multi c.args.arena.now c.args.chunk.now c.args.self.now; room = λ bound h. h }
 
 pub set_status-requires : goal.set_status-requires
 set_status-requires c =
-    let x = slice_index_or c.args.chunk.now c.loop-place.place 0 in
-    let at = slice_get-get_or c.args.chunk.now c.loop-place.place 0 c.loop-place-test.true in
-    record { room = (x + 1, omega arith, c.loop-place.invariant.room (x + 1) (c.requires.room x (among_in x c.args.chunk.now c.loop-place.place at))) }
+    let x = slice_index_or c.args.chunk.now c.loop-index.index 0 in
+    let at = slice_get-get_or c.args.chunk.now c.loop-index.index 0 c.loop-index-test.true in
+    record { room = (x + 1, omega arith, c.loop-index.invariant.room (x + 1) (c.requires.room x (among_in x c.args.chunk.now c.loop-index.index at))) }
 
-pub loop-place-preserved : goal.loop-place-preserved
-loop-place-preserved c =
+pub loop-index-preserved : goal.loop-index-preserved
+loop-index-preserved c =
     let C = c.args.cluster_after.now.topology.now.cluster in
     let D = drains_after_change C c.args.cluster_after.now.drain_change in
     let multi = c.args.cluster_after.now.multi in
-    let x = slice_index_or c.args.chunk.now c.loop-place.place 0 in
-    let rest = drop (c.loop-place.place + 1) c.args.chunk.now in
-    let at = slice_get-get_or c.args.chunk.now c.loop-place.place 0 c.loop-place-test.true in
-    let there = among_in x c.args.chunk.now c.loop-place.place at in
-    let next : drop c.loop-place.place c.args.chunk.now ≡ x ∷ rest = grind (arith, common_steps) in
-    let P : List ℕ → Type 0 = λ l. IsUnderway (rack_of C) D multi c.args.arena.now c.args.chunk.now l c.args.self.now c.loop-place.self in
+    let x = slice_index_or c.args.chunk.now c.loop-index.index 0 in
+    let rest = drop (c.loop-index.index + 1) c.args.chunk.now in
+    let at = slice_get-get_or c.args.chunk.now c.loop-index.index 0 c.loop-index-test.true in
+    let there = among_in x c.args.chunk.now c.loop-index.index at in
+    let next : drop c.loop-index.index c.args.chunk.now ≡ x ∷ rest = grind (arith, common_steps) in
+    let P : List ℕ → Type 0 = λ l. IsUnderway (rack_of C) D multi c.args.arena.now c.args.chunk.now l c.args.self.now c.loop-index.self in
     record {
-      underway = underway_more (rack_of C) D multi c.args.arena.now c.args.chunk.now rest x c.args.self.now c.loop-place.self c.set_status.new.self there (subst P next c.loop-place.invariant.underway)
-          (classified_as (rack_of C) D multi (block_at c.args.arena.now x) c.set_status.new.self x _ c.set_status.ensures.kept (c.classify_chunk-status.ensures c.loop-place.place x _ at))
+      underway = underway_more (rack_of C) D multi c.args.arena.now c.args.chunk.now rest x c.args.self.now c.loop-index.self c.set_status.new.self there (subst P next c.loop-index.invariant.underway)
+          (classified_as (rack_of C) D multi (block_at c.args.arena.now x) c.set_status.new.self x _ c.set_status.ensures.kept (c.classify_chunk-status.ensures c.loop-index.index x _ at))
           c.set_status.ensures.others;
-      room = λ bound h. c.set_status.ensures.room bound (c.loop-place.invariant.room bound h);
+      room = λ bound h. c.set_status.ensures.room bound (c.loop-index.invariant.room bound h);
     }
 
 pub returns-clause-status : goal.returns-clause-status
 returns-clause-status c =
     let C = c.args.cluster_after.now.topology.now.cluster in
     let D = drains_after_change C c.args.cluster_after.now.drain_change in
-    let past : length c.args.chunk.now ≤ c.loop-place.place = omega arith in
-    let none : drop c.loop-place.place c.args.chunk.now ≡ [] = drop_of_length-le _ past in
-    let P : List ℕ → Type 0 = λ l. IsUnderway (rack_of C) D c.args.cluster_after.now.multi c.args.arena.now c.args.chunk.now l c.args.self.now c.loop-place.self in
-    underway_classified (rack_of C) D c.args.cluster_after.now.multi c.args.arena.now c.args.chunk.now c.args.self.now c.loop-place.self (subst P none c.loop-place.invariant.underway)
+    let past : length c.args.chunk.now ≤ c.loop-index.index = omega arith in
+    let none : drop c.loop-index.index c.args.chunk.now ≡ [] = drop_of_length-le _ past in
+    let P : List ℕ → Type 0 = λ l. IsUnderway (rack_of C) D c.args.cluster_after.now.multi c.args.arena.now c.args.chunk.now l c.args.self.now c.loop-index.self in
+    underway_classified (rack_of C) D c.args.cluster_after.now.multi c.args.arena.now c.args.chunk.now c.args.self.now c.loop-index.self (subst P none c.loop-index.invariant.underway)
 
 pub returns-clause-others : goal.returns-clause-others
 returns-clause-others c =
     let C = c.args.cluster_after.now.topology.now.cluster in
-    underway_others (rack_of C) (drains_after_change C c.args.cluster_after.now.drain_change) c.args.cluster_after.now.multi c.args.arena.now c.args.chunk.now (drop c.loop-place.place c.args.chunk.now) c.args.self.now c.loop-place.self c.loop-place.invariant.underway
+    underway_others (rack_of C) (drains_after_change C c.args.cluster_after.now.drain_change) c.args.cluster_after.now.multi c.args.arena.now c.args.chunk.now (drop c.loop-index.index c.args.chunk.now) c.args.self.now c.loop-index.self c.loop-index.invariant.underway

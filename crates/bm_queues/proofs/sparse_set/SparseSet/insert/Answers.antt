@@ -7,7 +7,7 @@ use Rattle.bm_queues.proofs.sparse_set.SparseSet.insert.Goals as goal
 
 pub overflow_cast-len : goal.overflow_cast-len
 overflow_cast-len c =
-    let few = members_fit c.self.inside.order.items c.self.inside.places.items (vec_capacity c.self.inside.order) c.self.invariant in
+    let few = members_fit c.self.inside.order.items c.self.inside.indices.items (vec_capacity c.self.inside.order) c.self.invariant in
     let small = c.self.invariant.small in
     record { fits = omega (arith, few, small, c.len.ensures) }
 
@@ -17,7 +17,7 @@ push_reserved-requires c =
     let P : Members → Type 0 = λ v. IsMember c.args.slot v.slots in
     let absent = λ (there : IsMember c.args.slot c.self.inside.order.items). false≢true (sym c.if-contains.false ∙ c.contains.ensures.1 (subst P c.self.view_is there)) in
     let room = c.self.invariant.room in
-    let more = one_more_fits c.self.inside.order.items c.self.inside.places.items (vec_capacity c.self.inside.order) c.self.invariant c.args.slot inside absent in
+    let more = one_more_fits c.self.inside.order.items c.self.inside.indices.items (vec_capacity c.self.inside.order) c.self.invariant c.args.slot inside absent in
     omega (arith, room, more)
 
 pub invariant_of-self : goal.invariant_of-self
@@ -27,7 +27,7 @@ invariant_of-self c =
     let absent = λ (there : IsMember c.args.slot c.self.inside.order.items). false≢true (sym c.if-contains.false ∙ c.contains.ensures.1 (subst P c.self.view_is there)) in
     let count : c.len.result ≡ length c.self.inside.order.items = omega (arith, c.len.ensures) in
     rw (c.push_reserved.ensures.items, c.push_reserved.ensures.capacity, count)
-    (sparse_more c.self.inside.order.items c.self.inside.places.items (vec_capacity c.self.inside.order) c.self.invariant c.args.slot inside absent)
+    (sparse_more c.self.inside.order.items c.self.inside.indices.items (vec_capacity c.self.inside.order) c.self.invariant c.args.slot inside absent)
 
 pub returns-clause-held : goal.returns-clause-held
 returns-clause-held c = rw c.push_reserved.ensures.items (among_end c.args.slot c.self.inside.order.items)

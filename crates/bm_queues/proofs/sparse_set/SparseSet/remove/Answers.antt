@@ -8,7 +8,7 @@ use Rattle.bm_queues.proofs.sparse_set.SparseSet.remove.Goals as goal
 
 pub overflow_cast-index : goal.overflow_cast-index
 overflow_cast-index c =
-    let few = members_fit c.self.inside.order.items c.self.inside.places.items (vec_capacity c.self.inside.order) c.self.invariant in
+    let few = members_fit c.self.inside.order.items c.self.inside.indices.items (vec_capacity c.self.inside.order) c.self.invariant in
     let small = c.self.invariant.small in
     let low = rw (← c.self.view_is) at c.in-Some.ensures.found.0 in
     record { fits = omega (arith, few, small, low) }
@@ -34,9 +34,9 @@ returns-in-Some-clause-after c there =
 pub returns-in-Some-clause-gone : goal.returns-in-Some-clause-gone
 returns-in-Some-clause-gone c =
     let found = rw (← c.self.view_is) at c.in-Some.ensures.found in
-    rw (left c) (member_gone c.self.inside.order.items (one_place c.self.inside.order.items c.self.inside.places.items (vec_capacity c.self.inside.order) c.self.invariant) c.args.slot c.in-Some.index found.0 found.1)
+    rw (left c) (member_gone c.self.inside.order.items (one_place c.self.inside.order.items c.self.inside.indices.items (vec_capacity c.self.inside.order) c.self.invariant) c.args.slot c.in-Some.index found.0 found.1)
 
 pub returns-in-Some-clause-others : goal.returns-in-Some-clause-others
 returns-in-Some-clause-others c other differs =
     let found = rw (← c.self.view_is) at c.in-Some.ensures.found in
-    rw (← c.self.view_is, left c) (others_stay c.self.inside.order.items (one_place c.self.inside.order.items c.self.inside.places.items (vec_capacity c.self.inside.order) c.self.invariant) c.args.slot c.in-Some.index found.0 found.1 other differs)
+    rw (← c.self.view_is, left c) (others_stay c.self.inside.order.items (one_place c.self.inside.order.items c.self.inside.indices.items (vec_capacity c.self.inside.order) c.self.invariant) c.args.slot c.in-Some.index found.0 found.1 other differs)
