@@ -93,7 +93,6 @@ struct Facts<'a> {
 
 /// Takes rounds until nothing is on its way and a round commands nothing. Copies that were
 /// commanded before never come: the manager gives them up.
-#[tactic(auto, using(crate::proofs::Reach::under_way_at_once))]
 pub fn repair_cluster<R: Eprint + Threads + Wait + Sync>(
     rt: &R,
     alloc: Global,
