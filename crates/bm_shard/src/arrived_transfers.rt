@@ -16,19 +16,19 @@ pub(crate) fn drop_arrived(pending: &mut PendingTransfers, arena: &Arena, storag
         ≡ keep pending.old.map (λ q _. not (has_arrived arena.now storage q)) }
 {
     pending.show_invariant();
-    for place in 0..pending.count() {
-        drop_arrived_at(pending, arena, storage, place);
+    for index in 0..pending.count() {
+        drop_arrived_at(pending, arena, storage, index);
     }
 }
 
 /// Removes the transfer to a storage of the block at an index.
-fn drop_arrived_at(pending: &mut PendingTransfers, arena: &Arena, storage: StorageId, place: usize)
+fn drop_arrived_at(pending: &mut PendingTransfers, arena: &Arena, storage: StorageId, index: usize)
     ensures places { blocks_in pending.new ≡ blocks_in pending.old }
-    ensures map { (b : ℕ) → slice_get (blocks_in pending.old) place ≡ Some b
+    ensures map { (b : ℕ) → slice_get (blocks_in pending.old) index ≡ Some b
         → pending.new.map ≡ keep pending.old.map
         (λ q _. not ((b == q.block) && has_arrived arena.now storage q)) }
 {
-    if let Some(block) = pending.block_at(place) {
+    if let Some(block) = pending.block_at(index) {
         drop_if_arrived(pending, arena, storage, block);
     }
 }

@@ -4,9 +4,9 @@ use Rattle.bm_shard.proofs.Arrivals.{dropped}
 use Rattle.bm_shard.proofs.arrived_transfers.drop_arrived.Given as goal
 
 -- with those of the blocks from this index on removed too, all that have arrived are removed
-pub record AreDropped (l : goal.Live-loop-place) : Type 0 where
+pub record AreDropped (l : goal.Live-loop-index) : Type 0 where
   pub places : blocks_in l.pending ≡ blocks_in l.initial.pending
-  pub map : dropped l.arena l.storage (drop l.place (blocks_in l.initial.pending)) l.pending.map ≡ dropped l.arena l.storage (blocks_in l.initial.pending) l.initial.pending.map
+  pub map : dropped l.arena l.storage (drop l.index (blocks_in l.initial.pending)) l.pending.map ≡ dropped l.arena l.storage (blocks_in l.initial.pending) l.initial.pending.map
 
-abbrev pub invariant-loop-place : goal.invariant-loop-place
-invariant-loop-place l = AreDropped l
+abbrev pub invariant-loop-index : goal.invariant-loop-index
+invariant-loop-index l = AreDropped l
