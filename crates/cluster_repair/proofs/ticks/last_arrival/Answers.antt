@@ -1,7 +1,5 @@
-use Rattle.std.proofs.Common.{◌≡◌, ◌≤◌, ◌∙◌, ℕ, List, false, ap, subst, refl, sym, take, length, arith}
-use Rattle.std.specs.Prelude.{nat_lt}
+use Rattle.std.proofs.Common.{◌≡◌, subst, arith}
 use Rattle.std.proofs.lemmas.List.{take_all}
-use Rattle.cluster_repair.specs.declared.on_way.Sent.{Sent}
 use Rattle.cluster_repair.specs.Ticks.{on_way_after}
 use Rattle.cluster_repair.proofs.TickLemmas.{none_more}
 use Rattle.cluster_repair.proofs.ticks.last_arrival.Goals as goal

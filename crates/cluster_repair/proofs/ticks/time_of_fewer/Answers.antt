@@ -1,5 +1,4 @@
-use Rattle.std.proofs.Common.{rules, ◌≡◌, ◌≤◌, ◌<◌, ℕ, nat_lt, ◌+◌, ◌-◌, ◌*◌, ◌/◌, arith}
-use Rattle.cluster_repair.specs.Ticks.{on_way_after}
+use Rattle.std.proofs.Common.{◌≤◌, ◌<◌, ℕ, ◌+◌, ◌-◌, ◌/◌, arith}
 use Rattle.cluster_repair.proofs.TickLemmas.{fewer_later}
 use Rattle.cluster_repair.proofs.ticks.time_of_fewer.Goals as goal
 

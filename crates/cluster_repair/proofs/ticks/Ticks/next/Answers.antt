@@ -1,4 +1,4 @@
-use Rattle.std.proofs.Common.{◌≡◌, ◌∙◌, ◌+◌, ◌-◌, ap, arith}
+use Rattle.std.proofs.Common.{◌∙◌, ◌+◌, ap, arith}
 use Rattle.std.specs.Prelude.{min, max}
 use Rattle.std.specs.Int.{div_ceil}
 use Rattle.cluster_repair.specs.Sending.{most}
