@@ -190,9 +190,7 @@ fn say_not_in_text<R: Eprint>(rt: &R, program: &str, notes: &Notes) {
         let _ = rt.eprintln(format_args!("{program}: {files} {are} not in the text"));
     }
     if !notes.is_of_all {
-        let _ = rt.eprintln(format_args!(
-            "{program}: the text is of one path alone, and not of /"
-        ));
+        let _ = rt.eprintln(format_args!("{program}: the text is of one path alone, and not of /"));
     }
 }
 
