@@ -24,6 +24,7 @@ shown_next step count i rows d less all shown new is so_far e =
 no_row : Row
 no_row = record {
   round = 0;
+  seconds = 0;
   levels = record { highest = 0; very_under_replicated = 0; under_replicated = 0; badly_distributed = 0; missing = 0; none = 0 };
   commanded = 0;
   on_way = 0;
