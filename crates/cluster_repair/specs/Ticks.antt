@@ -56,7 +56,7 @@ abbrev pub AreTaken : Ticks → List Taken → Type 0
 AreTaken ticks [] = Unit {0}
 AreTaken ticks (round ∷ before) = ComesAt ticks before round.time × (GoesOn (on_way_of before) round × AreTaken ticks before)
 
--- the last of this number of rounds came in this second, and left this number of copies on their way
+-- the last of this number of rounds came in this second, and left this number of copies on the way
 pub record IsRoundAt (ticks : Ticks) (rounds seconds on_way : ℕ) : Type 0 where
   pub round : Taken
   pub before : List Taken

@@ -29,9 +29,9 @@ impl Links {
         }
     }
 
-    /// When a copy arrives that is commanded now: once the link of its source and that of its target
-    /// have passed its bytes. Each passes them after those of the copies commanded before, and does
-    /// not wait for the other.
+    /// When a copy arrives that is commanded now: once the link of its source and that of its
+    /// target have passed its bytes. Each passes them after those of the copies commanded before,
+    /// and does not wait for the other.
     #[tactic(auto, using(crate::proofs::NumberLemmas::number_put))]
     pub fn send(
         &mut self,
