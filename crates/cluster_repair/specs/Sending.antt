@@ -23,11 +23,11 @@ sends_until l n = unwrap_or (get nat_eq l.sending n) 0
 abbrev pub receives_until : Links → ℕ → ℕ
 receives_until l n = unwrap_or (get nat_eq l.receiving n) 0
 
--- when a node has sent bytes that it is told to send now, after all others
+-- when a node has sent the bytes of a copy that is commanded now, after those of all earlier ones
 abbrev pub sent_at : Links → ℕ → ℕ → ℕ → ℕ
 sent_at l source bytes now = min (max now (sends_until l source) + micros_for l.bandwidth bytes) most
 
--- when a node has received bytes that are sent to it from now on, after all others
+-- when a node has received the bytes of a copy that is commanded now, after those of all earlier ones
 abbrev pub received_at : Links → ℕ → ℕ → ℕ → ℕ
 received_at l target bytes now = min (max now (receives_until l target) + micros_for l.bandwidth bytes) most
 
