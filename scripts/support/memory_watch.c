@@ -1,8 +1,8 @@
-// Stands before a program's allocator (LD_PRELOAD): refuses the allocations that it is asked to, and
+// Comes before a program's allocator (LD_PRELOAD): refuses the allocations that it is asked to, and
 // counts the bytes that are held.
 // What it sees goes to the file that MEMORY_LOG names, a line each.
 //
-// The program tells it where it is by lines on standard error:
+// The program reports where it is by lines on standard error:
 //     begun NAME     from here on every allocation is refused
 //     refuse K NAME  from here on the K-th allocation is refused, and that one alone
 //     ended NAME     no longer; the log gets `window NAME` or, after `refuse`, `turn NAME`, and how many allocations were tried since;

@@ -1,4 +1,4 @@
-// Stands before a program's `pthread_create` (LD_PRELOAD): counts the threads that are asked for, and refuses them where it is told to.
+// Comes before a program's `pthread_create` (LD_PRELOAD): counts the threads that are asked for, and refuses some on request.
 //
 // With THREADS_FROM=k the k-th thread and all later ones are refused, as where the system has none left; THREADS_FROM=1 refuses
 // all. At the end the file that THREAD_LOG names gets a line `started N refused M`; the end is `exit` or `_exit`.
