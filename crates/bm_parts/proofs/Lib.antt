@@ -42,4 +42,3 @@ pub mod ReplicaRacks
 pub mod WellPlaced
 -- Sorted lists merged.
 pub mod MergedLists
-pub mod Before

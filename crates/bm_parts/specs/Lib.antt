@@ -12,5 +12,5 @@ pub mod LevelLaws
 pub mod PlacedLaws
 -- Sorted lists merged.
 pub mod Merging
--- The first wishes of a part.
-pub mod Before
+-- The wishes of a part that a round asks for.
+pub mod AskedWishes

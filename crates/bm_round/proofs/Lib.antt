@@ -8,4 +8,5 @@ pub mod Bounds
 pub mod WishedCopies
 pub mod NodeCommands
 pub mod EmptyChoice
-pub mod First
+pub mod LateWishes
+pub mod CountedStreams

@@ -17,7 +17,9 @@ mod replicas;
 mod scan;
 mod scanned_slots;
 mod settled;
+mod wish_filter;
 mod wishes;
 
 pub use findings::find_round;
 pub use guess::likely_bound;
+pub use wish_filter::WishFilter;

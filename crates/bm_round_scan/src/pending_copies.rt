@@ -35,6 +35,21 @@ impl<'a> RoundScan<'a> {
         }
     }
 
+    /// Whether a replica at a slot is on a storage that is not exhausted; no slot is read if the
+    /// filter has no table.
+    pub(crate) fn has_sender_at(&self, slot: Slot) -> bool
+        ensures { result ≡ has_sender (is_exhausted_in self.now.filter.now.exhausted)
+            (storages_at (λ _ _. true) (replicas_at self.now.arena.now slot)) }
+    {
+        if self.filter.exhausted.is_none() {
+            return false;
+        }
+        match self.arena.block(slot) {
+            Some((_, triplets)) => self.filter.has_sender_among(triplets),
+            None => false,
+        }
+    }
+
     /// The number of a block's transfers that stay pending in the round. The block is not looked up
     /// if no transfer is pending.
     fn count_remaining(&self, id: BlockId) -> usize

@@ -9,9 +9,11 @@ ghost use Rattle.bm_arena.specs.HeldMaps.{id_at};
 ghost use Rattle.bm_levels.specs.Held.{holdings_with};
 ghost use Rattle.bm_round_scan.specs.BlockFindings.{HasFound};
 ghost use Rattle.bm_round_scan.specs.ScannedSlots.{AreMarked};
+ghost use Rattle.bm_round_scan.specs.WishFilters.{asks};
 
 use crate::block_scan::BlockScan;
 use crate::replicas::storages_of;
+use crate::wish_filter::WishFilter;
 use bm_arena::{Arena, Slot};
 use bm_base::{BlockInfo, Delete, Refusal, ReplicaId, Wish};
 use bm_levels::LevelIndex;
@@ -42,8 +44,8 @@ pub(crate) struct RoundScan<'a> {
     pub topology: &'a Topology,
     pub pend: u32,
     pub round: u64,
-    /// If there is a bound, only the wishes before it are returned.
-    pub bound: Option<Key>,
+    /// Only the wishes that it asks for are returned.
+    pub filter: &'a WishFilter,
 }
 
 impl<'a> RoundScan<'a> {
@@ -54,7 +56,7 @@ impl<'a> RoundScan<'a> {
         requires settled { AreMarked self.now.kept.now self.now.arena.now }
         ensures found { IfOk result
             (HasFound self.now.topology.now.cluster self.now.pend self.now.round
-            (holdings_with self.now.arena.now self.now.pending.now.map) self.now.bound
+            (holdings_with self.now.arena.now self.now.pending.now.map) (asks self.now.filter.now)
             (map (λ e. id_at self.now.arena.now e.1) slots.now)) }
         ensures refused { IfErr result (λ e. e ≡ Memory) }
     {
@@ -89,9 +91,9 @@ impl<'a> RoundScan<'a> {
         requires settled { AreMarked self.now.kept.now self.now.arena.now }
         ensures more { (bs : List ℕ)
             → HasFound self.now.topology.now.cluster self.now.pend self.now.round
-            (holdings_with self.now.arena.now self.now.pending.now.map) self.now.bound bs found.old
+            (holdings_with self.now.arena.now self.now.pending.now.map) (asks self.now.filter.now) bs found.old
             → OnOk result (HasFound self.now.topology.now.cluster self.now.pend self.now.round
-            (holdings_with self.now.arena.now self.now.pending.now.map) self.now.bound (bs
+            (holdings_with self.now.arena.now self.now.pending.now.map) (asks self.now.filter.now) (bs
             ++ id_at self.now.arena.now slot ∷ []) found.new) }
         ensures refused { IfErr result (λ e. e ≡ Memory) }
     {

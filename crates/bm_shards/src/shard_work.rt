@@ -1,8 +1,9 @@
 // What the workers do with one shard.
 ghost use Rattle.std.specs.Prelude.{◌≡◌, None};
 ghost use Rattle.bm_base.specs.Words.{is_multi_rack, change_cluster, first_of, cluster_checks};
-ghost use Rattle.bm_parts.specs.Before.{part_before};
+ghost use Rattle.bm_parts.specs.AskedWishes.{part_where};
 ghost use Rattle.bm_parts.specs.Parts.{block_of};
+ghost use Rattle.bm_round_scan.specs.WishFilters.{asks};
 ghost use Rattle.bm_shard.specs.Seen.{IsReadyFor, IsReadyForRound};
 ghost use Rattle.bm_shard.specs.UpToDate.{next_part};
 ghost use Rattle.bm_shards.specs.Answers.{HasAnswered};
@@ -13,8 +14,7 @@ ghost use Rattle.bm_shards.specs.RoundWorked.{CanFind, HasPart, CanCommitRound, 
 use crate::answers::{Answered, Asked};
 use crate::table::Rows;
 use bm_base::{Chosen, Done, Event, RoundPart};
-use bm_parts::merge::Key;
-use bm_shard::Shard;
+use bm_shard::{Shard, WishFilter};
 use bm_topo::Topology;
 
 /// Takes the memory of an event in one shard.
@@ -42,17 +42,17 @@ pub(crate) fn commit_one(
     Answered { shard, answer }
 }
 
-/// Finds the part of one shard in its next round, with the wishes before a bound.
+/// Finds the part of one shard in its next round, with the wishes that are asked for.
 pub(crate) fn find_one(
     shard: Shard,
     round: u64,
     topology: &Topology,
-    bound: Option<Key>,
+    filter: &WishFilter,
 ) -> Asked<RoundPart>
     requires { CanFind topology.now.cluster round shard }
-    ensures { HasAnswered (λ S. part_before bound (next_part topology.now.cluster S)) shard result }
+    ensures { HasAnswered (λ S. part_where (asks filter.now) (next_part topology.now.cluster S)) shard result }
 {
-    let answer = shard.round_part_before(round, topology, bound);
+    let answer = shard.round_part_asked(round, topology, filter);
     Answered { shard, answer }
 }
 
