@@ -40,6 +40,4 @@ pub mod Drains
 pub mod ReplicaRacks
 -- Where replicas are.
 pub mod WellPlaced
--- Sorted lists merged.
-pub mod MergedLists
 pub mod Before

@@ -10,7 +10,7 @@ pub mod RoundLaws
 pub mod QueryLaws
 pub mod LevelLaws
 pub mod PlacedLaws
--- Sorted lists merged.
+-- Lists sorted by their keys.
 pub mod Merging
 -- The first wishes of a part.
 pub mod Before
