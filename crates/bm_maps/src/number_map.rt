@@ -1,5 +1,5 @@
 // A map from numbers over a sorted vector.
-ghost use Rattle.std.specs.Prelude.{◌≡◌, ◌≤◌, ◌+◌, IfOk, OnOk, OnErr, IsOk, IsTrue};
+ghost use Rattle.std.specs.Prelude.{◌≡◌, ◌≤◌, ◌+◌, OnOk, OnErr, IsOk, IsTrue};
 ghost use Rattle.bm_base.specs.Maps.Map as map;
 ghost use Rattle.bm_maps.specs.Table.{capacity};
 ghost use Rattle.std.specs.List.Retain.{IsFiltered};
@@ -143,14 +143,6 @@ impl<V: Copy> NumberMap<V> {
         ensures no_growth { capacity self.new ≡ capacity self.old }
     {
         self.entries.retain(f);
-    }
-
-    /// The same map in memory of its own.
-    pub fn try_clone(&self) -> Result<Self, AllocError>
-        ensures { IfOk result (λ m. m.map ≡ self.now.map) }
-    {
-        let entries = Vec::from_slice(*self.entries.allocator(), &self.entries)?;
-        Ok(NumberMap { entries })
     }
 
     /// Removes a key's entry, if there is one. Takes no memory.

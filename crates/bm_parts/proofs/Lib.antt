@@ -40,5 +40,3 @@ pub mod Drains
 pub mod ReplicaRacks
 -- Where replicas are.
 pub mod WellPlaced
--- Sorted lists merged.
-pub mod MergedLists

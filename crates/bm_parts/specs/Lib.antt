@@ -10,7 +10,7 @@ pub mod RoundLaws
 pub mod QueryLaws
 pub mod LevelLaws
 pub mod PlacedLaws
--- Sorted lists merged.
+-- Lists sorted by their keys.
 pub mod Merging
 -- The wishes of a part that a round asks for.
 pub mod AskedWishes

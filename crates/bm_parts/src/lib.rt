@@ -11,10 +11,9 @@
 //! - `settled`: blocks that a round need not scan
 //! - `levels`: events on the cluster after which a shard need not reclassify its blocks
 //! - `placed`: the storages of replicas, and which are in excess
-//! - `merge`: sorted lists merged into one
+//! - `merge`: what lists are merged by
 //!
-//! Only the functions of `merge` and `events::block_of` compute something; the contract of each
-//! other is a law.
+//! Only `events::block_of` computes something; the contract of each other function is a law.
 #![tactic(auto)]
 
 pub mod events;

@@ -147,9 +147,6 @@ module _ (es : List (ℕ × PendingTargets)) (unique : IsDistinct nat_eq (keys_o
   no_such : (ks : List ℕ) (fs : List (ℕ × PendingTargets)) → ks ≡ keys_of fs → (b : ℕ) → list_any (nat_eq b) ks ≡ false → lookup (nat_eq b) fs ≡ None
   no_such ks fs is b none = not_there (lookup (nat_eq b) fs) (is_some-lookup (nat_eq b) fs ∙ ap (list_any (nat_eq b)) (sym is) ∙ none)
 
-  pub no-targets : (ks : List ℕ) → ks ≡ keys_of es → (b : ℕ) → list_any (nat_eq b) ks ≡ false → targets_at es b ≡ []
-  no-targets ks is b none = ap items_or (no_such ks es is b none)
-
   module _ (p : ℕ × ℕ → Bool) where
     none_pass : (ts : List (ℕ × ℕ)) → list_any p ts ≡ false → filter p ts ≡ []
     none_pass [] h = refl

@@ -16,7 +16,6 @@ use Rattle.bm_base.specs.Words.{Map, entries, get, keep, by_replica, replica_at,
 use Rattle.bm_base.proofs.MapLaws.{same_map, entries-keep}
 use Rattle.bm_pending.specs.PendingMap.{expired_of}
 use Rattle.bm_pending.specs.Inside.{PendingTargets, map_of, targets_at}
-use Rattle.bm_pending.proofs.TargetViews.{get-map_of}
 use Rattle.bm_pending.proofs.Changes.{is_sorted-filter, get-kept}
 use Rattle.bm_pending.proofs.GroupedTransfers.{transfers_to, find-transfers_to, is_sorted-transfers_to}
 
@@ -120,10 +119,6 @@ abbrev pub named : ℕ → List (ℕ × ℕ) → List ReplicaId
 named b ts = map (λ t. replica_at b t.0) ts
 
 module _ (es : List (ℕ × PendingTargets)) (rise : (b : ℕ) → T (is_sorted nat_cmp (targets_at es b))) where
-  -- all transfers
-  pub all-entries : (ks : List ℕ) → Ascending ks → ((b : ℕ) → list_any (nat_eq b) ks ≡ false → targets_at es b ≡ []) → flat_map (λ b. transfers_to b (targets_at es b)) ks ≡ entries (map_of es)
-  all-entries ks ascending all = transfers_of-entries (targets_at es) rise ks ascending all (map_of es) (get-map_of es)
-
   -- the names of those that are given up
   module _ (pend r : ℕ) where
     abbrev old : ℕ → List (ℕ × ℕ)

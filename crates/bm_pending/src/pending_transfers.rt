@@ -13,7 +13,7 @@ use crate::by_block::{
     release_unused, reserve_in, targets_in,
 };
 use crate::remaining_targets::{count_remaining_among, remaining_among};
-use crate::transfer_lists::{entries_in, expired_in, push_storages};
+use crate::transfer_lists::{expired_in, push_storages};
 use bm_base::{BlockId, HashSecret, Refusal, ReplicaId, StorageId, StorageIds};
 use indexmap::IndexMap;
 use std::alloc::Global;
@@ -128,18 +128,11 @@ impl PendingTransfers {
         release_unused(&mut self.by_block);
     }
 
-    /// The round of a transfer, if it is there.
-    pub fn get(&self, block: BlockId, storage: StorageId) -> Option<u64>
-        ensures { result ≡ map.get self.now.map (replica_at block storage) }
-    {
-        find_in(&self.by_block, block.0, storage.0)
-    }
-
     /// Whether a transfer is on its way.
     pub fn contains(&self, block: BlockId, storage: StorageId) -> bool
         ensures { result ≡ map.contains_key self.now.map (replica_at block storage) }
     {
-        self.get(block, storage).is_some()
+        find_in(&self.by_block, block.0, storage.0).is_some()
     }
 
     /// How many transfers of a block are on their way.
@@ -210,14 +203,6 @@ impl PendingTransfers {
         ensures { result ≡ length (remaining.remaining_targets pend round self.now block) }
     {
         count_remaining_among(targets_in(&self.by_block, block.0), pend, round)
-    }
-
-    /// The transfers with their rounds, by block and then by target. May answer `Memory`.
-    pub fn entries(&self, alloc: Global) -> Result<Vec<(ReplicaId, u64)>, Refusal>
-        ensures items { IfOk result (λ v. v.items ≡ map.entries self.now.map) }
-        ensures refused { IfErr result (λ e. e ≡ Memory) }
-    {
-        entries_in(&self.by_block, alloc)
     }
 
     /// The transfers that `drop_expired` removes, by block and then by target. May answer `Memory`.

@@ -1,11 +1,11 @@
-// Transfers as lists: those of a block, and all of them, or all that are given up, in order.
+// Transfers as lists: those of a block, and all that are given up, in order.
 ghost use Rattle.std.specs.Prelude.{◌≡◌, ◌≤◌, ◌+◌, ℕ, [], false, nat_eq, map, length, ◌++◌, OnOk, OnErr, IfOk, IfErr, IsOk, T, vec_len, vec_capacity};
 ghost use Rattle.std.specs.Ordering.{nat_cmp};
 ghost use Rattle.std.specs.FinMap as list;
 ghost use Rattle.std.specs.List.{list_any, IsDistinct};
 ghost use Rattle.std.specs.List.Sorted.{IsNonDecreasing};
 ghost use Rattle.bm_base.specs.declared.refusal.Refusal.TheVariants.{Memory};
-ghost use Rattle.bm_base.specs.Words.{entries, replica_at, is_expired};
+ghost use Rattle.bm_base.specs.Words.{replica_at, is_expired};
 ghost use Rattle.bm_pending.specs.PendingMap.{expired_of};
 ghost use Rattle.bm_pending.specs.Inside.{targets_at, expired_among, map_of};
 
@@ -38,49 +38,6 @@ fn replica_id(block: u64, storage: u32) -> ReplicaId
         block: BlockId(block),
         storage: StorageId(storage),
     }
-}
-
-/// The numbers of the blocks, ascending.
-fn numbers_in(blocks: &Blocks, alloc: Global) -> Result<Vec<u64>, Refusal>
-    ensures ascending { IfOk result (λ v. IsNonDecreasing v.items) }
-    ensures distinct { IfOk result (λ v. IsDistinct nat_eq v.items) }
-    ensures absent { IfOk result (λ v. (b : ℕ) → list_any (nat_eq b) v.items ≡ false
-        → targets_at blocks.now.entries b ≡ []) }
-    ensures refused { IfErr result (λ e. e ≡ Memory) }
-{
-    let mut numbers: Vec<u64> = blocks.keys().copied().collect(alloc)?;
-    numbers.sort()?;
-    Ok(numbers)
-}
-
-/// Appends the transfers of a block.
-fn push_transfers(
-    targets: &[(u32, u64)],
-    block: u64,
-    into: &mut Vec<(ReplicaId, u64)>,
-) -> Result<(), Refusal>
-    ensures items { OnOk result (into.new.items ≡ into.old.items
-        ++ map (λ t. (replica_at block t.0, t.1)) targets.now) }
-    ensures refused { IfErr result (λ e. e ≡ Memory) }
-{
-    for target in targets {
-        into.push((replica_id(block, target.0), target.1))?;
-    }
-    Ok(())
-}
-
-/// All transfers with their rounds, by block and then by storage.
-pub(crate) fn entries_in(blocks: &Blocks, alloc: Global) -> Result<Vec<(ReplicaId, u64)>, Refusal>
-    requires { (q : ℕ) → T (list.is_sorted nat_cmp (targets_at blocks.now.entries q)) }
-    ensures items { IfOk result (λ v. v.items ≡ entries (map_of blocks.now.entries)) }
-    ensures refused { IfErr result (λ e. e ≡ Memory) }
-{
-    let numbers = numbers_in(blocks, alloc)?;
-    let mut all = Vec::new(alloc);
-    for block in &numbers {
-        push_transfers(targets_in(blocks, *block), *block, &mut all)?;
-    }
-    Ok(all)
 }
 
 /// Whether a target's transfer is given up.

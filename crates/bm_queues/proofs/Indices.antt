@@ -141,20 +141,6 @@ module _ (xs : List ℕ) (apart : AreApart xs) (slot place : ℕ) (low : place <
   pub rest-place : place < last → get_or rest place 0 ≡ get_or xs last 0
   rest-place below = grind (arith, common_steps)
 
-  pub member_gone : IsMember slot rest → ⊥
-  member_gone there =
-      let found = place_among slot rest there in
-      let below : found.0 < last = (let f = found.1 in omega (arith, f, rest-length)) in
-      elim (cases_eq found.0 place) [
-        | inl same ↦
-            let here : place < last = omega (arith, below, same) in
-            let e : last ≡ place = apart last place (omega (arith, low)) low (sym (rest-place here) ∙ ap (λ i. get_or rest i 0) (sym same) ∙ found.2 ∙ sym at) in
-            absurd (omega (arith, e, here))
-        | inr other ↦
-            let e : found.0 ≡ place = apart found.0 place (omega (arith, below)) low (sym (rest-at found.0 below other) ∙ found.2 ∙ sym at) in
-            other e
-      ]
-
   pub others_stay : (other : ℕ) → other ≢ slot → IsMember other rest ↔ IsMember other xs
   others_stay other differs = (
     λ there. let found = place_among other rest there in

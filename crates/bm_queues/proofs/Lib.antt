@@ -9,4 +9,3 @@ pub mod OneArray
 pub mod Indices
 pub mod LevelLaws
 pub mod CellLaws
-pub mod Sparse

@@ -5,4 +5,3 @@ pub mod LevelBytes
 pub mod Levels
 pub mod DenseLevels
 pub mod Members
-pub mod Sparse

@@ -1,6 +1,7 @@
 -- Lemmas on a round's choices: merged wishes, transfers, deletes and commands.
 pub mod WishCopies
 pub mod KeyedLists
+pub mod LastOfEach
 pub mod AddedCommands
 pub mod TakeAll
 pub mod FirstDeletes

@@ -1,132 +1,90 @@
-// What the parts of all shards hold, in one order.
-ghost use Rattle.std.specs.Prelude.{◌≡◌, map, IfOk, IfErr, T};
+// What the parts of all shards hold, in one order: gathered in one vector, and sorted once. The
+// sort keeps each part's run.
+ghost use Rattle.std.specs.Prelude.{◌≡◌, ◌++◌, map, IfOk, IfErr, OnOk, T};
+ghost use Rattle.std.specs.List.{flat_map};
 ghost use Rattle.std.specs.FinMap.{is_sorted};
 ghost use Rattle.bm_base.specs.declared.refusal.Refusal.TheVariants.{Memory};
-ghost use Rattle.bm_base.specs.Maps.Map.{values};
 ghost use Rattle.bm_base.specs.Choices as choices;
 ghost use Rattle.bm_base.specs.Ordered.{pair_cmp};
-ghost use Rattle.bm_parts.specs.Merging.{AreSorted, as_lists};
+ghost use Rattle.bm_base.specs.RoundParts as parts;
 ghost use Rattle.bm_round.specs.KeyedParts as merging;
 
 use bm_base::{Delete, Refusal, RoundPart, Wish};
-use bm_parts::merge::{Key, merge_all};
+use bm_parts::merge::Key;
 use std::alloc::{AllocError, Global};
 
-/// Merges the wishes of all parts, by level and then by block. Each part has them in that order;
-/// of two with one level and block the later part's counts. `Memory` where a list cannot grow;
-/// nothing else is refused. With n wishes in k parts each is compared about log k times, those of
-/// a single part once; none is copied.
+/// The wishes of all parts, by level and then by block; of two with one level and block the later
+/// part's. `Memory` where a list cannot grow; nothing else is refused. If each part has them in
+/// that order, each of n wishes in k parts is compared about log k times. None is copied.
 pub fn merge_wishes<'a>(alloc: Global, parts: &'a [RoundPart]) -> Result<Vec<&'a Wish>, Refusal>
-    requires sorted { AreSorted (map merging.keyed_wishes parts.now) }
     ensures wishes { IfOk result
         (λ v. merging.referenced_wishes v.items ≡ choices.merged_wishes parts.now) }
     ensures ascending { IfOk result
         (λ v. T (is_sorted pair_cmp (map merging.keyed_wish (merging.referenced_wishes v.items)))) }
     ensures refused { IfErr result (λ e. e ≡ Memory) }
 {
-    if parts.len() == 1 {
-        return Ok(wishes_of_one(alloc, parts[0].wishes.as_slice())?);
-    }
-    let lists = wishes_of_parts(alloc, parts)?;
-    let merged = merge_all(alloc, lists.as_slice())?;
-    Ok(wishes_without_keys(alloc, merged.as_slice())?)
+    let mut wishes = gather_wishes(alloc, parts)?;
+    // The later of two with one key comes first, and stays.
+    wishes.reverse();
+    wishes.sort_by_key(|wish| wish_key(*wish))?;
+    wishes.dedup_by_key(|wish| wish_key(*wish));
+    Ok(wishes)
 }
 
-/// The deletes of all parts, by storage and then by block. Each part has them in that order.
+/// The deletes of all parts, by storage and then by block, each once.
 pub(crate) fn merge_deletes(alloc: Global, parts: &[RoundPart]) -> Result<Vec<Delete>, Refusal>
-    requires sorted { AreSorted (map merging.keyed_deletes parts.now) }
     ensures deletes { IfOk result (λ v. v.items ≡ choices.merged_deletes parts.now) }
     ensures refused { IfErr result (λ e. e ≡ Memory) }
 {
-    let lists = deletes_of_parts(alloc, parts)?;
-    let merged = merge_all(alloc, lists.as_slice())?;
-    Ok(deletes_without_keys(alloc, merged.as_slice())?)
+    let mut deletes = gather_deletes(alloc, parts)?;
+    // The steps are those for wishes, so that one lemma proves both.
+    deletes.reverse();
+    deletes.sort_by_key(|delete| delete_key(delete))?;
+    deletes.dedup_by_key(|delete| delete_key(delete));
+    Ok(deletes)
 }
 
-/// References to the wishes of a single part, which are sorted already.
-fn wishes_of_one<'a>(alloc: Global, wishes: &'a [Wish]) -> Result<Vec<&'a Wish>, AllocError>
-    ensures { IfOk result (λ v. merging.referenced_wishes v.items ≡ wishes.now) }
+fn wish_key(wish: &Wish) -> Key
+    ensures { result ≡ parts.wish_key wish.now }
 {
-    let mut all = Vec::with_capacity(alloc, wishes.len())?;
-    for wish in wishes {
-        all.push(wish)?;
+    (wish.level.number() as u64, wish.block.0)
+}
+
+fn delete_key(delete: &Delete) -> Key
+    ensures { result ≡ parts.delete_key delete.now }
+{
+    (delete.storage.0 as u64, delete.block.0)
+}
+
+/// References to the wishes of all parts, one part after another.
+fn gather_wishes<'a>(alloc: Global, parts: &'a [RoundPart]) -> Result<Vec<&'a Wish>, AllocError>
+    ensures { IfOk result
+        (λ v. merging.referenced_wishes v.items ≡ flat_map (λ p. p.wishes) parts.now) }
+{
+    let mut all = Vec::new(alloc);
+    for part in parts {
+        push_wishes(part.wishes.as_slice(), &mut all)?;
     }
     Ok(all)
 }
 
-/// The wishes of each part with their keys.
-fn wishes_of_parts<'a>(
-    alloc: Global,
-    parts: &'a [RoundPart],
-) -> Result<Vec<Vec<(Key, &'a Wish)>>, AllocError>
-    ensures { IfOk result
-        (λ v. merging.referenced_lists v.items ≡ map merging.keyed_wishes parts.now) }
+fn push_wishes<'a>(wishes: &'a [Wish], all: &mut Vec<&'a Wish>) -> Result<(), AllocError>
+    ensures { OnOk result (merging.referenced_wishes all.new.items
+        ≡ merging.referenced_wishes all.old.items ++ wishes.now) }
 {
-    let mut lists = Vec::new(alloc);
-    for part in parts {
-        let list = keyed_wishes(alloc, part.wishes.as_slice())?;
-        lists.push(list)?;
-    }
-    Ok(lists)
-}
-
-fn keyed_wishes<'a>(alloc: Global, wishes: &'a [Wish]) -> Result<Vec<(Key, &'a Wish)>, AllocError>
-    ensures { IfOk result
-        (λ v. merging.referenced_pairs v.items ≡ map merging.keyed_wish wishes.now) }
-{
-    let mut keyed = Vec::new(alloc);
     for wish in wishes {
-        let key = (wish.level.number() as u64, wish.block.0);
-        keyed.push((key, wish))?;
+        all.push(wish)?;
     }
-    Ok(keyed)
+    Ok(())
 }
 
-fn wishes_without_keys<'a>(
-    alloc: Global,
-    keyed: &[(Key, &'a Wish)],
-) -> Result<Vec<&'a Wish>, AllocError>
-    ensures { IfOk result (λ v. v.items ≡ values keyed.now) }
+/// The deletes of all parts, one part after another.
+fn gather_deletes(alloc: Global, parts: &[RoundPart]) -> Result<Vec<Delete>, AllocError>
+    ensures { IfOk result (λ v. v.items ≡ flat_map (λ p. p.deletes) parts.now) }
 {
-    let mut wishes = Vec::new(alloc);
-    for entry in keyed {
-        wishes.push(entry.1)?;
-    }
-    Ok(wishes)
-}
-
-/// The deletes of each part with their keys.
-fn deletes_of_parts(
-    alloc: Global,
-    parts: &[RoundPart],
-) -> Result<Vec<Vec<(Key, Delete)>>, AllocError>
-    ensures { IfOk result (λ v. as_lists v.items ≡ map merging.keyed_deletes parts.now) }
-{
-    let mut lists = Vec::new(alloc);
+    let mut all = Vec::new(alloc);
     for part in parts {
-        let list = keyed_deletes(alloc, part.deletes.as_slice())?;
-        lists.push(list)?;
+        all.extend_from_slice(part.deletes.as_slice())?;
     }
-    Ok(lists)
-}
-
-fn keyed_deletes(alloc: Global, deletes: &[Delete]) -> Result<Vec<(Key, Delete)>, AllocError>
-    ensures { IfOk result (λ v. v.items ≡ map merging.keyed_delete deletes.now) }
-{
-    let mut keyed = Vec::new(alloc);
-    for delete in deletes {
-        let key = (delete.storage.0 as u64, delete.block.0);
-        keyed.push((key, *delete))?;
-    }
-    Ok(keyed)
-}
-
-fn deletes_without_keys(alloc: Global, keyed: &[(Key, Delete)]) -> Result<Vec<Delete>, AllocError>
-    ensures { IfOk result (λ v. v.items ≡ values keyed.now) }
-{
-    let mut deletes = Vec::new(alloc);
-    for entry in keyed {
-        deletes.push(entry.1)?;
-    }
-    Ok(deletes)
+    Ok(all)
 }

@@ -242,20 +242,6 @@ impl Topology {
         storages_of(self.by_node.as_slice(), node, &self.storages, &self.hints)
     }
 
-    /// Whether two storages are different ones of one node; not where one of them is not known.
-    #[tactic(auto, unfolding(bm_base::specs::Machine::Replicas::are_siblings))]
-    pub fn are_siblings(&self, a: StorageId, b: StorageId) -> bool
-        ensures { result ≡ replicas.are_siblings self.now.cluster a b }
-    {
-        if b == a {
-            return false;
-        }
-        match self.node_of(a) {
-            Some(node) => self.has_storage(node, b),
-            None => false,
-        }
-    }
-
     /// The rack of a storage's node; `None` for an unknown storage.
     pub fn rack_of(&self, storage: StorageId) -> Option<Rack>
         ensures { result ≡ replicas.rack_of self.now.cluster storage }

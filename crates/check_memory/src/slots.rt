@@ -1,9 +1,9 @@
-// Lists and sets of slots, filled to their capacity: a level for each slot, and two kinds of sets.
+// Lists and sets of slots, filled to their capacity.
 
 use crate::marks::say;
 use crate::tally::Tally;
 use bm_base::{Level, Refusal};
-use bm_queues::{LevelLists, SlotSet, SparseSet, Walk};
+use bm_queues::{LevelLists, SlotSet, Walk};
 use std::alloc::Global;
 
 pub fn watch_levels<R: Eprint>(
@@ -43,19 +43,6 @@ pub fn watch_set<R: Eprint>(
     say(rt, "ended", "control");
     drop(slots);
     Ok(())
-}
-
-pub fn watch_sparse_set<R: Eprint>(rt: &R, alloc: Global, size: usize, tally: &mut Tally) {
-    let mut slots = SparseSet::new(alloc);
-    tally.require(slots.grow_to(size));
-    say(rt, "begun", "sparse");
-    insert_members(&mut slots, size, tally);
-    remove_members(&mut slots, size, tally);
-    say(rt, "ended", "sparse");
-    say(rt, "begun", "control");
-    tally.refuse_if(slots.grow_to(size.saturating_add(1)).is_err());
-    say(rt, "ended", "control");
-    drop(slots);
 }
 
 fn level_of(slot: usize) -> Level {
@@ -135,33 +122,4 @@ fn remove_all(slots: &mut SlotSet, size: usize, tally: &mut Tally) {
         count = count.saturating_add(1);
     }
     tally.note(count == size && slots.len() == 0);
-}
-
-/// Inserts each slot, one after another. Each new one is the last member.
-fn insert_members(slots: &mut SparseSet, size: usize, tally: &mut Tally) {
-    for slot in 0..size {
-        if slot < slots.room() {
-            slots.insert(slot);
-            tally.note(slots.contains(slot) && last_of(slots) == Some(slot));
-        }
-    }
-    tally.note(slots.members().len() == size);
-}
-
-fn last_of(slots: &SparseSet) -> Option<usize> {
-    match slots.members().last() {
-        Some(slot) => Some(*slot as usize),
-        None => None,
-    }
-}
-
-/// Removes each slot. The last member takes its index.
-fn remove_members(slots: &mut SparseSet, size: usize, tally: &mut Tally) {
-    for slot in 0..size {
-        if slot < slots.room() {
-            slots.remove(slot);
-            tally.note(!slots.contains(slot));
-        }
-    }
-    tally.note(slots.members().is_empty());
 }

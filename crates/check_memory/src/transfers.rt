@@ -99,7 +99,7 @@ fn read_all(
 ) {
     for number in 0..size {
         tally.note(pending.count_of(block(number)) == 3);
-        tally.note(pending.get(block(number), StorageId(1)) == Some(4));
+        tally.note(pending.contains(block(number), StorageId(1)));
         tally.note(pending.contains(block(number), StorageId(2)));
         targets.clear();
         let is_pushed = pending.push_targets(block(number), targets).is_ok();

@@ -22,7 +22,6 @@ enum Group {
     Arenas,
     Levels,
     Sets,
-    SparseSets,
     Transfers,
     Reports,
     Clusters,
@@ -33,11 +32,10 @@ enum Group {
     Views,
 }
 
-static GROUPS: [(&str, Group); 12] = [
+static GROUPS: [(&str, Group); 11] = [
     ("arenas", Group::Arenas),
     ("levels", Group::Levels),
     ("sets", Group::Sets),
-    ("sparse sets", Group::SparseSets),
     ("transfers", Group::Transfers),
     ("reports", Group::Reports),
     ("clusters", Group::Clusters),
@@ -94,7 +92,6 @@ fn watch_owned<R: Eprint + Threads + Wait + Sync>(
     match group {
         Group::Levels => slots::watch_levels(rt, alloc, size as usize, tally),
         Group::Sets => slots::watch_set(rt, alloc, size as usize, tally),
-        Group::SparseSets => Ok(slots::watch_sparse_set(rt, alloc, size as usize, tally)),
         Group::Transfers => transfers::watch(rt, alloc, size, tally),
         Group::Choices => choices::watch(rt, alloc, topology, size, tally),
         Group::Bags => bags::watch(rt, alloc, size, tally),

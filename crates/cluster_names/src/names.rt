@@ -1,6 +1,6 @@
 // The names of a cluster: racks, nodes and storages.
 ghost use Rattle.std.specs.Prelude.{◌≡◌, ◌++◌, [], codes, option_map, option_copied, OnOk, string_bytes};
-ghost use Rattle.cluster_names.specs.Rows.{name_of, number_of, name_or_number, shown};
+ghost use Rattle.cluster_names.specs.Rows.{name_of, name_or_number, shown};
 
 use crate::name_table::NameTable;
 use bm_base::{NodeId, Rack, StorageId};
@@ -44,24 +44,6 @@ impl Names {
         ensures { option_map (λ t. t.now) result ≡ name_of self.now.storages storage }
     {
         self.storages.name(storage.0)
-    }
-
-    pub fn node_named(&self, host: &str) -> Option<NodeId>
-        ensures { result ≡ number_of self.now.nodes host.now }
-    {
-        Some(NodeId(self.nodes.number(host)?))
-    }
-
-    pub fn rack_named(&self, name: &str) -> Option<Rack>
-        ensures { result ≡ number_of self.now.racks name.now }
-    {
-        Some(Rack(self.racks.number(name)?))
-    }
-
-    pub fn storage_named(&self, name: &str) -> Option<StorageId>
-        ensures { result ≡ number_of self.now.storages name.now }
-    {
-        Some(StorageId(self.storages.number(name)?))
     }
 
     /// Appends the host of a node, or `node` and its number if it has no name.

@@ -16,11 +16,9 @@ enum Step {
     DropExpired(u32, u64),
     DropStorages(u32, u32),
     Shed,
-    Get(u64, u32),
     Contains(u64, u32),
     CountOf(u64),
     PushTargets(u64),
-    Entries,
     Expired(u32, u64),
 }
 
@@ -32,11 +30,9 @@ enum Answer {
     Yes,
     No,
     Nothing,
-    Round(u64),
     Number(usize),
     /// The storages in order, and their number, which is at most four.
     Storages([u32; 4], usize),
-    Entries([(u64, u32, u64); 4], usize),
     Replicas([(u64, u32); 4], usize),
     TooMany,
 }
@@ -64,18 +60,6 @@ fn targets(pending: &PendingTransfers, alloc: Global, block: u64) -> Result<Answ
         first[place] = storage.0;
     }
     Ok(Answer::Storages(first, storages.len()))
-}
-
-fn entries(pending: &PendingTransfers, alloc: Global) -> Result<Answer, Refusal> {
-    let all = pending.entries(alloc)?;
-    let mut first = [(0, 0, 0); 4];
-    if all.len() > 4 {
-        return Ok(Answer::TooMany);
-    }
-    for (place, (replica, round)) in all.iter().enumerate() {
-        first[place] = (replica.block.0, replica.storage.0, *round);
-    }
-    Ok(Answer::Entries(first, all.len()))
 }
 
 fn replicas(all: &[ReplicaId]) -> Answer {
@@ -113,16 +97,11 @@ fn change(pending: &mut PendingTransfers, step: Step) -> Option<Answer> {
 
 fn ask(pending: &PendingTransfers, alloc: Global, step: Step) -> Result<Answer, Refusal> {
     match step {
-        Step::Get(block, storage) => Ok(match pending.get(BlockId(block), StorageId(storage)) {
-            Some(round) => Answer::Round(round),
-            None => Answer::Nothing,
-        }),
         Step::Contains(block, storage) => {
             Ok(yes(pending.contains(BlockId(block), StorageId(storage))))
         }
         Step::CountOf(block) => Ok(Answer::Number(pending.count_of(BlockId(block)))),
         Step::PushTargets(block) => targets(pending, alloc, block),
-        Step::Entries => entries(pending, alloc),
         Step::Expired(pend, round) => {
             let all = pending.expired_transfers(alloc, pend, round)?;
             Ok(replicas(all.as_slice()))
@@ -160,8 +139,9 @@ fn check(rt: &impl Abort, alloc: Global, name: &str, steps: &[(Step, Answer)]) {
     drop(pending);
 }
 
-const SIX_TRANSFERS: [(Step, Answer); 28] = [
-    (Step::Entries, Answer::Entries([(0, 0, 0); 4], 0)),
+// With a limit of no rounds all transfers expire.
+const SIX_TRANSFERS: [(Step, Answer); 29] = [
+    (Step::Expired(0, 0), Answer::Replicas([(0, 0); 4], 0)),
     (Step::Insert(9, 31, 1), Answer::Fine),
     (Step::Insert(7, 21, 2), Answer::Fine),
     (Step::Insert(7, 11, 1), Answer::Fine),
@@ -170,13 +150,18 @@ const SIX_TRANSFERS: [(Step, Answer); 28] = [
     (Step::Insert(7, 31, 4), Answer::Fine),
     (Step::CountOf(7), Answer::Number(3)),
     (Step::CountOf(8), Answer::Number(0)),
-    (Step::Get(7, 31), Answer::Round(4)),
-    (Step::Get(7, 12), Answer::Nothing),
+    (Step::Contains(7, 31), Answer::Yes),
+    (Step::Contains(7, 12), Answer::No),
     (Step::PushTargets(7), Answer::Storages([99, 11, 21, 31], 4)),
     (Step::PushTargets(8), Answer::Storages([99, 0, 0, 0], 1)),
     (
-        Step::Entries,
-        Answer::Entries([(7, 11, 1), (7, 21, 2), (7, 31, 4), (9, 31, 1)], 4),
+        Step::Expired(0, 4),
+        Answer::Replicas([(7, 11), (7, 21), (7, 31), (9, 31)], 4),
+    ),
+    // The third target has its new round.
+    (
+        Step::Expired(1, 4),
+        Answer::Replicas([(7, 11), (7, 21), (9, 31), (0, 0)], 3),
     ),
     // In round 3 a limit of two rounds expires a transfer of round 1, but none of round 2 or later.
     (
@@ -191,22 +176,22 @@ const SIX_TRANSFERS: [(Step, Answer); 28] = [
     (Step::DropStorages(21, 22), Answer::Fine),
     (Step::Shed, Answer::Fine),
     (
-        Step::Entries,
-        Answer::Entries([(7, 31, 4), (0, 0, 0), (0, 0, 0), (0, 0, 0)], 1),
+        Step::Expired(0, 4),
+        Answer::Replicas([(7, 31), (0, 0), (0, 0), (0, 0)], 1),
     ),
     (Step::Insert(8, 31, 5), Answer::Fine),
     (Step::Remove(8, 30), Answer::Fine),
     (Step::Remove(7, 31), Answer::Fine),
     (Step::CountOf(7), Answer::Number(0)),
     (Step::RemoveBlock(8), Answer::Fine),
-    (Step::Entries, Answer::Entries([(0, 0, 0); 4], 0)),
+    (Step::Expired(0, 5), Answer::Replicas([(0, 0); 4], 0)),
 ];
 
 // The greatest numbers, and a limit that no transfer exceeds.
 const GREATEST_NUMBERS: [(Step, Answer); 7] = [
     (Step::Insert(u64::MAX, u32::MAX, u64::MAX), Answer::Fine),
     (Step::Insert(0, 0, 0), Answer::Fine),
-    (Step::Get(u64::MAX, u32::MAX), Answer::Round(u64::MAX)),
+    (Step::Contains(u64::MAX, u32::MAX), Answer::Yes),
     (
         Step::Expired(u32::MAX, u64::MAX),
         Answer::Replicas([(0, 0); 4], 1),

@@ -6,8 +6,6 @@ use bm_queues::{LevelLists, SlotSet, Walk};
 use std::alloc::Global;
 use std::process::Abort;
 
-mod sparse_sets;
-
 /// A change of level lists, or a question to them.
 #[derive(Clone, Copy)]
 enum LevelStep {

@@ -1,13 +1,23 @@
-use Rattle.std.proofs.Common.{map, flat_map, [], ap, ◌∙◌}
+use Rattle.std.proofs.Common.{rules, ap, sym, subst, ◌∙◌}
+use Rattle.std.specs.Prelude.{◌==◌, ◌&&◌}
+use Rattle.std.specs.List.Sorted.{IsStableByKey}
+use Rattle.std.proofs.lemmas.Fn.{dedup_same}
+use Rattle.std.proofs.lemmas.List.Sorted.{answers_always}
+use Rattle.bm_base.specs.Ordered.{pair_cmp, by_pair, ordered_by}
 use Rattle.bm_base.specs.RoundParts.{delete_key}
 use Rattle.bm_base.specs.Choices.{merged_deletes}
-use Rattle.bm_parts.specs.Merging.{put_all}
-use Rattle.bm_round.proofs.KeyedLists.{gathered}
+use Rattle.bm_round.proofs.LastOfEach.{pair_tie, last_of_each, map_itself}
 use Rattle.bm_round.proofs.merge.merge_deletes.Goals as goal
 
 pub returns-clause-deletes : goal.returns-clause-deletes
 unfolding merged_deletes
 returns-clause-deletes c =
-    c.in_ok-deletes_without_keys.ensures
-    ∙ ap (map (λ e. e.1)) (c.as_slice-2.ensures.value ∙ c.in_ok-merged.ensures.merged ∙ ap (λ ls. put_all [] (flat_map (λ l. l.items) ls)) c.as_slice.ensures.value)
-    ∙ gathered (λ l. l.items) (λ p. p.deletes) delete_key c.in_ok-lists.lists.items c.args.parts.now c.in_ok-lists.ensures
+    let once = dedup_same _ (λ x y. ((delete_key x).0 == (delete_key y).0) && ((delete_key x).1 == (delete_key y).1)) _ (λ x y b f' x' y' k. search rules) _ _ c.dedup_by_key.ensures.filtered in
+    let stable = c.sort_by_key.ensures.stable delete_key (answers_always _ _ _ (λ f a r g h. search rules)) in
+    let sorted = c.in_ok-sort_by_key.ensures.sorted delete_key (answers_always _ _ _ (λ f a r g h. search rules)) in
+    let from = c.in_ok-deletes.deletes.items in
+    once
+    ∙ sym (map_itself _)
+    ∙ last_of_each by_pair (λ d. d) delete_key (λ x y. ((delete_key x).0 == (delete_key y).0) && ((delete_key x).1 == (delete_key y).1)) (λ x y. pair_tie (delete_key x) (delete_key y)) from c.sort_by_key.new.self.items
+    (subst (λ xs. IsStableByKey delete_key pair_cmp xs c.sort_by_key.new.self.items) c.reverse.ensures.items stable) sorted
+    ∙ ap (ordered_by by_pair delete_key) (map_itself from ∙ c.in_ok-deletes.ensures)

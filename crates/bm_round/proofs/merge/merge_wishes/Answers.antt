@@ -1,38 +1,28 @@
-use Rattle.std.proofs.Common.{map, flat_map, [], get_or, ap, sym, subst, ◌∙◌, T}
+use Rattle.std.proofs.Common.{rules, map, ap, sym, subst, ◌∙◌, T}
 use Rattle.std.specs.FinMap.{is_sorted}
-use Rattle.bm_base.specs.Ordered.{pair_cmp}
+use Rattle.std.specs.Prelude.{◌==◌, ◌&&◌}
+use Rattle.std.specs.List.Sorted.{IsStableByKey}
+use Rattle.std.proofs.lemmas.Fn.{dedup_same}
+use Rattle.std.proofs.lemmas.List.Sorted.{answers_always}
+use Rattle.bm_base.specs.Ordered.{pair_cmp, by_pair, ordered_by}
 use Rattle.bm_base.specs.RoundParts.{wish_key}
 use Rattle.bm_base.specs.Choices.{merged_wishes}
-use Rattle.bm_parts.specs.Merging.{put_all, AreSorted}
-use Rattle.bm_parts.proofs.MergedLists.{first_of}
-use Rattle.bm_round.specs.KeyedParts.{keyed_wish, keyed_wishes}
-use Rattle.bm_round.proofs.KeyedLists.{gathered_on, sorted_alike, merged_wishes_ascend, wishes_alone_are}
+use Rattle.bm_round.specs.KeyedParts.{keyed_wish}
+use Rattle.bm_round.proofs.KeyedLists.{merged_wishes_ascend}
+use Rattle.bm_round.proofs.LastOfEach.{pair_tie, last_of_each}
 use Rattle.bm_round.proofs.merge.merge_wishes.Goals as goal
-
-pub merge_all-requires : goal.merge_all-requires
-merge_all-requires c =
-    subst (λ ls. AreSorted (map (λ l. l.items) ls)) (sym c.as_slice-2.ensures.value)
-    (sorted_alike (λ w. w.now) (λ l. l.items) (λ p. p.wishes) wish_key c.in_ok-lists.lists.items c.args.parts.now c.in_ok-lists.ensures c.requires.sorted)
 
 pub returns-clause-wishes : goal.returns-clause-wishes
 unfolding merged_wishes
 returns-clause-wishes c =
-    ap (map (λ w. w.now))
-    (c.in_ok-wishes_without_keys.ensures
-    ∙ ap (map (λ e. e.1)) (c.as_slice-3.ensures.value ∙ c.in_ok-merged.ensures.merged ∙ ap (λ ls. put_all [] (flat_map (λ l. l.items) ls)) c.as_slice-2.ensures.value))
-    ∙ gathered_on (λ w. w.now) (λ l. l.items) (λ p. p.wishes) wish_key c.in_ok-lists.lists.items c.args.parts.now c.in_ok-lists.ensures
+    let once = dedup_same _ (λ x y. ((wish_key x.now).0 == (wish_key y.now).0) && ((wish_key x.now).1 == (wish_key y.now).1)) _ (λ x y b f' x' y' k. search rules) _ _ c.dedup_by_key.ensures.filtered in
+    let stable = c.sort_by_key.ensures.stable (λ w. wish_key w.now) (answers_always _ _ _ (λ f a r g h. search rules)) in
+    let sorted = c.in_ok-sort_by_key.ensures.sorted (λ w. wish_key w.now) (answers_always _ _ _ (λ f a r g h. search rules)) in
+    let from = c.in_ok-wishes.wishes.items in
+    ap (map (λ w. w.now)) once
+    ∙ last_of_each by_pair (λ w. w.now) wish_key (λ x y. ((wish_key x.now).0 == (wish_key y.now).0) && ((wish_key x.now).1 == (wish_key y.now).1)) (λ x y. pair_tie (wish_key x.now) (wish_key y.now)) from c.sort_by_key.new.self.items
+    (subst (λ xs. IsStableByKey (λ w. wish_key w.now) pair_cmp xs c.sort_by_key.new.self.items) c.reverse.ensures.items stable) sorted
+    ∙ ap (ordered_by by_pair wish_key) c.in_ok-wishes.ensures
 
 pub returns-clause-ascending : goal.returns-clause-ascending
 returns-clause-ascending c = subst (λ ws. T (is_sorted pair_cmp (map keyed_wish ws))) (sym (returns-clause-wishes c)) (merged_wishes_ascend c.args.parts.now)
-
-pub returns-then-parts-eq1-clause-wishes : goal.returns-then-parts-eq1-clause-wishes
-returns-then-parts-eq1-clause-wishes c =
-    let parts = c.args.parts.now in
-    let only = c.index-parts-0.result in
-    c.in_ok-wishes_of_one.ensures
-    ∙ c.as_slice.ensures
-    ∙ wishes_alone_are parts (get_or parts 0 only) (first_of keyed_wishes parts only c.if-parts-eq1.true c.requires.sorted)
-
-pub returns-then-parts-eq1-clause-ascending : goal.returns-then-parts-eq1-clause-ascending
-returns-then-parts-eq1-clause-ascending c =
-    subst (λ ws. T (is_sorted pair_cmp (map keyed_wish ws))) (sym (returns-then-parts-eq1-clause-wishes c)) (merged_wishes_ascend c.args.parts.now)
