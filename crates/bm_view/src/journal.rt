@@ -149,7 +149,7 @@ impl Model for Evidence {
 
 impl Evidence {
     /// Copies the token.
-    pub fn again(&self) -> Evidence
+    pub fn copy(&self) -> Evidence
         ensures { result ≡ self.now }
     {
         Evidence {

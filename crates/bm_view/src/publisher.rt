@@ -107,8 +107,8 @@ impl Publisher {
         let calls = table.calls();
         // All that may be refused comes before the version is shown.
         let number = self.number.next()?;
-        let receipt = number.again()?;
-        let shown = number.again()?;
+        let receipt = number.copy()?;
+        let shown = number.copy()?;
         self.number = number;
         self.journal.enter(false, &table);
         let next = Shown::new(table, self.journal.evidence(), shown);

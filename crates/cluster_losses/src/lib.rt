@@ -3,6 +3,7 @@
 //! each node can be lost alone, and comes back before the next.
 #![tactic(auto)]
 
+pub mod counts;
 pub mod each;
 pub mod events;
 pub mod fault;
@@ -12,5 +13,4 @@ pub mod loss_events;
 mod named;
 mod parts;
 mod set_back;
-pub mod standing;
 pub mod without;

@@ -133,7 +133,7 @@ target_cmp C sent holders s t =
 
 -- whether a storage is on the node of one of these
 unfoldable pub is_excluded : Cluster → List ℕ → ℕ → Bool
-is_excluded C barred s = list_any (λ t. share_node C t s) barred
+is_excluded C excluded s = list_any (λ t. share_node C t s) excluded
 
 -- whether a badly distributed block that these hold on one rack would stay on one
 abbrev pub would_stay_on_one_rack : Cluster → Level → List ℕ → ℕ → Bool
@@ -143,20 +143,20 @@ would_stay_on_one_rack C urgency holders s = is_at BadlyDistributed (Some urgenc
 -- drain and is not excluded, and a badly distributed block that is held on one rack would get to
 -- another one.
 unfoldable pub is_target : Cluster → (ℕ → ℕ) → Level → List ℕ → List ℕ → ℕ → ℕ → Bool
-is_target C sent urgency holders barred len s =
+is_target C sent urgency holders excluded len s =
     nat_le (len + sent s) (remaining C s)
     && not (is_draining C s)
-    && not (is_excluded C barred s)
+    && not (is_excluded C excluded s)
     && not (would_stay_on_one_rack C urgency holders s)
 
 -- The target at this level of a block of this length. `sent` has for each storage the bytes that
 -- are scheduled to it.
 unfoldable pub least_target_by : Cluster → (ℕ → ℕ) → Level → List ℕ → List ℕ → ℕ → Option ℕ
-least_target_by C sent urgency holders barred len = least (target_cmp C sent holders) (filter (is_target C sent urgency holders barred len) (keys C.storages))
+least_target_by C sent urgency holders excluded len = least (target_cmp C sent holders) (filter (is_target C sent urgency holders excluded len) (keys C.storages))
 
 -- the same, by the transfers that were chosen
 unfoldable pub least_target : Cluster → List Transfer → Level → List ℕ → List ℕ → ℕ → Option ℕ
-least_target C chosen urgency holders barred len = least_target_by C (scheduled_to chosen) urgency holders barred len
+least_target C chosen urgency holders excluded len = least_target_by C (scheduled_to chosen) urgency holders excluded len
 
 -- whether a round is full: it has as many transfers as it may
 abbrev pub has_all_transfers : RoundLimits → Cluster → List Transfer → Bool
