@@ -36,7 +36,7 @@ impl LeveledBlocks {
     }
 
     /// Orders the delete of a replica, if it exists. `guess` is a guess of its index in its block,
-    /// and is then that index: the next delete is mostly of the same storage, and blocks of a
+    /// and is set to that index. The next delete is mostly of the same storage, and blocks of a
     /// storage mostly have their replicas in one order.
     fn mark_one_ordered(
         &mut self,

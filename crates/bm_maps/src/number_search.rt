@@ -10,7 +10,7 @@ use std::cmp::Ordering;
 /// The number of entries before a number's index. In strictly ascending numbers `a`, number `k` has
 /// an index of at most `k - a[0]`, and likewise from the end. So dense numbers need no search. With
 /// `n` numbers missing between the first and the last it is a binary search in `n + 1` indices at
-/// most, after two comparisons that leave few of them where the numbers are about even.
+/// most. Two comparisons come first, and leave few indices where the numbers are about even.
 pub(crate) fn index_of_number<V: Copy>(entries: &[(u64, V)], key: u64) -> usize
     requires { T (list.is_sorted nat_cmp entries.now) }
     ensures { result ≡ key_index nat_cmp key entries.now }

@@ -1,9 +1,9 @@
 //! The journal of proposals. It has no bytes that anyone reads; its entries exist in proofs alone.
 //!
-//! Each publish adds two entries: the version that is about to be published (proposed), and the
-//! outcome: the version again, as done, or an entry that is not done, if it could not be published.
-//! The versions of the done entries are the one list of which publisher, receipts and locators hold
-//! prefixes.
+//! Each publish adds two entries. The first is the version that is about to be published
+//! (proposed). The second is the outcome: the version again, as done, or an entry that is not done,
+//! if it could not be published. The versions of the done entries are the one list of which
+//! publisher, receipts and locators hold prefixes.
 //!
 //! An entry is written with a pen of the crate `logbook`, which has one owner and is used up by it.
 //! Each line names the pen of the next one. So all lines after a pen are written by one owner:

@@ -9,8 +9,8 @@ use Rattle.cluster_losses.specs.Lacking.{lacking_bytes, in_128_bits, free_for_co
 use Rattle.cluster_losses.specs.declared.counts.Standing.{Standing}
 use Rattle.cluster_losses.specs.declared.without.Outcome.{Outcome}
 
--- A cluster stands as a state says: the blocks at each level, the missing blocks, the bytes of the
--- copies that blocks lack, and the free bytes on nodes that do not drain.
+-- The counts of a state: blocks at each level, missing blocks, bytes of the copies that blocks
+-- lack, and free bytes on nodes that do not drain.
 pub record StandsAs (M : State) (s : Standing) : Type 0 where
   pub levels : s.levels ≡ levels_counted (levels_held M) (length (missing_blocks M.cluster M.holdings))
   pub missing : s.missing ≡ missing_blocks M.cluster M.holdings

@@ -1,6 +1,6 @@
-//! What is lost with racks, nodes and storages of a cluster that was read, with no round between:
-//! the events of the losses, the blocks that are lost, and how the cluster stands then. Each rack or
-//! each node can be lost alone, and comes back before the next.
+//! What is lost with racks, nodes and storages of a cluster that was read, with no round between.
+//! It makes the events of the losses, and then finds the lost blocks and the counts of the cluster.
+//! Each rack or each node can be lost alone, and comes back before the next.
 #![tactic(auto)]
 
 pub mod counts;
