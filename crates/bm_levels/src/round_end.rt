@@ -1,4 +1,4 @@
-// What a round changes in marks as it ends: the deletes that it commands are ordered.
+// The end of a round: marks the replicas whose deletes it commands as ordered.
 ghost use Rattle.std.specs.Prelude.{◌≡◌, ◌<◌, ℕ, Some};
 ghost use Rattle.bm_base.specs.Words.{insert, revise, revise_at, replica_at};
 ghost use Rattle.bm_base.specs.RoundParts as parts;

@@ -1,4 +1,5 @@
-// How a cluster stands before and after a loss.
+// The counts of a cluster before or after a loss: blocks by level, missing blocks, lacking bytes
+// and free bytes.
 ghost use Rattle.std.specs.Prelude.{◌≡◌, IfOk};
 ghost use Rattle.cluster_report.specs.Sessions.{IsInStep};
 ghost use Rattle.cluster_losses.specs.Lacking.{free_on, free_for_copies};

@@ -25,10 +25,10 @@ use std::cmp::Ordering;
 use std::sync::Wait;
 use std::thread::Threads;
 
-/// What is lost with one of them.
+/// What is lost with one rack or node alone.
 #[derive(Drop)]
 pub struct Row {
-    /// Of the rack or node.
+    /// The number of the rack or node.
     pub number: u32,
     /// How many nodes are lost.
     pub nodes: usize,
@@ -103,7 +103,7 @@ fn lose_each<H: Threads + Wait + Sync>(
     Ok(rows)
 }
 
-/// Loses one of them.
+/// Loses one rack or node alone.
 #[tactic(auto, using(crate::proofs::Tables::row_at))]
 fn row_of<H: Threads + Wait + Sync>(
     rt: &H,

@@ -1,4 +1,4 @@
-// Copies on their way, by when they arrive.
+// Copies on their way, ordered by the time of their arrival.
 ghost use Rattle.std.specs.Prelude.{◌≡◌, ◌++◌, ◌∷◌, ◌==◌, ◌&&◌, not, [], ℕ, false, nat_lt, length, count_by, filter, IfOk, OnOk, if◌then◌else◌};
 ghost use Rattle.std.specs.List.{list_any};
 ghost use Rattle.std.specs.List.Sorted.{IsPermutation, IsSortedByKey};

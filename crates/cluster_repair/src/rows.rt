@@ -1,4 +1,4 @@
-// What rounds leave: a row for every round, or for every second, fourth and so on of many.
+// A row of counts for every round; if there are many rounds, for every second, fourth and so on.
 ghost use Rattle.std.specs.Prelude.{◌≡◌, [], filter, IfOk, OnOk};
 ghost use Rattle.bm_base.specs.Machine.State.{State};
 ghost use Rattle.cluster_repair.specs.Rows.{IsRowAfter, AreRowsAfter, EndsWith, is_on_stride};

@@ -1,4 +1,4 @@
-// When rounds come: a model. A round is left out while DataNodes have enough to do. Times are in
+// The times of rounds: a model. A round is left out while DataNodes have enough to do. Times are in
 // microseconds.
 ghost use Rattle.std.specs.Prelude.{◌≡◌, ◌≤◌, ◌<◌, ℕ};
 ghost use Rattle.cluster_repair.specs.Ticks.{IsNextTick, on_way_after};

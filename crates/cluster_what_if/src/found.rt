@@ -1,4 +1,4 @@
-// What is found about the losses that a command line asks for.
+// Finds what the losses of a command line lead to: all of them together, or each alone.
 ghost use Rattle.std.specs.Prelude.{◌≡◌, IfOk, OnOk};
 ghost use Rattle.cluster_report.specs.Sessions.{IsInStep};
 ghost use Rattle.cluster_what_if.specs.Found.{IsFoundFor, AreFound, IsMended, IsMendedAt};

@@ -43,7 +43,7 @@ fn write_heading(text: &mut String, files: &Files, kind: Kind) -> Result<(), All
     write_end_of_heading(text)
 }
 
-/// What the names of the rows are of.
+/// The word above the names of the rows: rack or node.
 pub fn kind_word(kind: Kind) -> &'static str
     ensures { result.now ≡ kind_word kind }
 {
