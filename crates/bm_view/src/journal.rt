@@ -175,7 +175,7 @@ pub struct Journal {
     /// The word of the first pen: it names the journal.
     first: Word<JournalLine, u64, JournalRule>,
     seen: Seen<JournalLine, u64, JournalRule>,
-    /// What writes the next line.
+    /// The handle that writes the next entry.
     pen: Pen,
 }
 

@@ -11,8 +11,8 @@ use std::alloc::AllocError;
 use std::marker::Model;
 use std::sync::Arc;
 
-/// What readers find. `left_right` keeps two of them; both refer to one table. A contract sees the
-/// evidence.
+/// The value that readers find. `left_right` keeps two of them; both refer to one table. A contract
+/// sees the evidence.
 #[derive(Drop)]
 pub struct Shown {
     table: Arc<Table>,

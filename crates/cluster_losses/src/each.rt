@@ -36,9 +36,9 @@ pub struct Row {
     pub without: Outcome,
 }
 
-/// What is lost with each of these alone, the worst first: by lost blocks, then by the blocks at
-/// the first three levels, then by number. Each comes back before the next is lost. At the end the
-/// manager lists the same replicas as before.
+/// The losses with each of these racks or nodes alone, the worst first: by lost blocks, then by the
+/// blocks at the first three levels, then by number. Each comes back before the next is lost. At
+/// the end the manager lists the same replicas as before.
 pub fn rows_of<H: Threads + Wait + Sync>(
     rt: &H,
     alloc: Global,

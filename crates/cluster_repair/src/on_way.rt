@@ -14,7 +14,7 @@ use std::collections::HashSet;
 pub struct Sent {
     /// In microseconds.
     pub arrival: u64,
-    /// Which it is of all copies, in the order of their commands.
+    /// The index of the copy, in the order of the commands.
     pub order: u64,
     pub transfer: Transfer,
 }

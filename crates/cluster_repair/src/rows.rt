@@ -10,7 +10,7 @@ use std::alloc::{AllocError, Global};
 /// There are at most this number of rows: before one more comes, every second goes.
 const MOST_KEPT: usize = 256;
 
-/// What a round leaves.
+/// The counts after a round.
 #[derive(Clone, Copy)]
 pub struct Row {
     /// The number of rounds, with this one.

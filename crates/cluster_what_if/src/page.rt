@@ -1,4 +1,4 @@
-// What is found, as one page that stands alone: tables, bars and a picture, all within it.
+// The findings as one self-contained page with tables, bars and a picture.
 use crate::answers::Answer;
 use crate::found::{Found, Losses};
 use crate::page_rounds::{write_mended, write_mended_facts};
@@ -54,7 +54,7 @@ fn write_losses(
     Ok(())
 }
 
-/// What is lost or drained: an item for each line.
+/// The lost and drained nodes and storages: an item for each line.
 fn write_named(text: &mut String, named: &str) -> Result<(), AllocError> {
     text.push_str("<ul>\n")?;
     for line in named.lines() {

@@ -17,7 +17,7 @@ use cluster_report::levels::LevelCounts;
 use cluster_report::text_parts::write_count;
 use std::alloc::AllocError;
 
-/// What is lost, as the cluster is before.
+/// The lost nodes and storages, as they are before the loss.
 #[tactic(auto, unfolding(crate::specs::Text::lost_text))]
 pub fn write_lost(text: &mut String, loaded: &Loaded, lost: &Lost) -> Result<(), AllocError>
     ensures { OnOk result (string_bytes text.new ≡ string_bytes text.old
