@@ -42,7 +42,7 @@ gathered {Y = Y} items own key ls ps e =
     ap (λ es. map (λ (e : (ℕ × ℕ) × Y). e.1) (put_all [] es)) (flat_alike items (λ p. map (λ y. (key y, y)) (own p)) ls ps e ∙ sym (map_flat (λ y. (key y, y)) own ps))
     ∙ ordered_is key (flat_map own ps)
 
--- The same where each value stands for another.
+-- The same where each value represents another.
 
 module _ {X Y : Type 0} (f : X → Y) where
   abbrev on : (ℕ × ℕ) × X → (ℕ × ℕ) × Y

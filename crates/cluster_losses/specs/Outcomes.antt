@@ -1,4 +1,4 @@
--- How a cluster stands after losses, and what is lost.
+-- The counts of a cluster after losses, and the lost blocks.
 use Rattle.std.specs.Prelude.{◌≡◌, List, length}
 use Rattle.bm_base.specs.declared.event.Event.{Event}
 use Rattle.bm_base.specs.Words.{State, missing_blocks}
@@ -17,7 +17,7 @@ pub record StandsAs (M : State) (s : Standing) : Type 0 where
   pub lacking : s.lacking ≡ in_128_bits (lacking_bytes M)
   pub free : s.free ≡ free_for_copies M.cluster
 
--- What is found without what is lost: the blocks that are lost, and how the cluster stands.
+-- The outcome of losses: the lost blocks, and the counts of the cluster after them.
 pub record IsOutcome (M : State) (es : List Event) (w : Outcome) : Type 0 where
   pub lost : w.lost ≡ lost_blocks M es
   pub stands : StandsAs (after_losses M es) w.after

@@ -22,8 +22,8 @@ pub struct Outcome {
     pub lost: Items<BlockId>,
 }
 
-/// Makes these losses, one after another, and asks how the cluster stands then. `missing` are the
-/// missing blocks before.
+/// Makes these losses, one after another, and then counts the cluster. `missing` are the missing
+/// blocks before.
 pub fn without<H: Threads + Wait + Sync>(
     rt: &H,
     alloc: Global,

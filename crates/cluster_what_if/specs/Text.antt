@@ -82,7 +82,7 @@ copies_text after =
     ++ (count_line (codes "free bytes") after.free
     ++ fits_line after)
 
--- the answer: how the cluster stands before and after, the lost blocks, and their files
+-- the answer: the counts of the cluster before and after, the lost blocks, and their files
 unfoldable pub answer_text : FileTable → ℕ → Answer → List ℕ
 answer_text f most a =
     levels_text a.before.levels a.without.after.levels

@@ -14,7 +14,7 @@ use std::alloc::Global;
 use std::sync::Wait;
 use std::thread::Threads;
 
-/// How the cluster stands before losses and without what is lost, with no round between.
+/// The counts of the cluster before losses and after them, with no round between.
 #[derive(Drop)]
 pub struct Answer {
     pub before: Standing,

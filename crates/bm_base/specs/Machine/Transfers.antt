@@ -158,7 +158,7 @@ least_target_by C sent urgency holders excluded len = least (target_cmp C sent h
 unfoldable pub least_target : Cluster → List Transfer → Level → List ℕ → List ℕ → ℕ → Option ℕ
 least_target C chosen urgency holders excluded len = least_target_by C (scheduled_to chosen) urgency holders excluded len
 
--- whether a round is full: it has as many transfers as it may
+-- whether a round is full: it has the greatest number of transfers
 abbrev pub has_all_transfers : RoundLimits → Cluster → List Transfer → Bool
 has_all_transfers limits C chosen = nat_le (limits.work * len C.nodes) (length chosen)
 
