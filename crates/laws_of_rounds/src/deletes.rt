@@ -11,8 +11,8 @@ pub fn only_good_replica_is_not_deleted()
 {}
 
 /// More than that: if a round in a lawful state commands the delete of a replica of a known block,
-/// another replica is live after the round. Live is good and not in excess, on a node that does not
-/// drain. The round does not command its delete.
+/// another replica is live after the round. The round does not command the delete of that one. Live
+/// is good and not in excess, on a node that does not drain.
 pub fn last_good_replica_stays()
     ensures lawful { InLawfulStates law.LastGoodReplicaStays }
     ensures reached { AfterAllCalls law.LastGoodReplicaStays }
