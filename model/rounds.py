@@ -189,14 +189,14 @@ def least_target(state, chosen, wish):
     """First is the lower class; then more free bytes less sent; then the lesser storage number."""
     length = state.blocks[wish.block].stamp.length
     sent = bytes_sent(chosen)
-    barred = barred_nodes(state, chosen, wish.block)
+    excluded = excluded_nodes(state, chosen, wish.block)
     held = holders(state, chosen, wish.block)
     found = []
     for number, storage in state.storages.items():
         if (
             length + sent[number] <= storage.free
             and not state.nodes[storage.node].drains
-            and storage.node not in barred
+            and storage.node not in excluded
             and not (wish.level == 3 and would_not_spread(state, held, number))
         ):
             left = storage.free - sent[number]
@@ -218,7 +218,7 @@ def targets(state, chosen, block):
     return pending_targets(state, block) | in_chosen
 
 
-def barred_nodes(state, chosen, block):
+def excluded_nodes(state, chosen, block):
     """Those with a storage that holds a replica of the block, whatever tag and marks, or is the
     target of a transfer of the block."""
     storages = set(state.replicas_of(block)) | targets(state, chosen, block)

@@ -1,4 +1,4 @@
-// What a line asks.
+// The request of a line.
 ghost use Rattle.std.specs.Prelude.{◌≡◌, IfOk, OnErr, List, ℕ};
 ghost use Rattle.bm_lines.specs.Held.{Holds};
 ghost use Rattle.bm_answers.specs.declared.asked.Asked.TheVariants.{Long};
@@ -8,17 +8,17 @@ use bm_base::Call;
 use bm_lines::{Line, MAX_LINE, call_of};
 use std::alloc::{AllocError, Global};
 
-/// What a line asks.
+/// The request of a line.
 #[derive(Drop)]
 pub enum Asked {
-    /// It is too long to be read.
+    /// The line is too long to be read.
     Long,
-    /// It asks for no call.
+    /// The line asks for no call.
     Bad,
     Asks(Call),
 }
 
-/// What the line that is held asks.
+/// The request of the line that is held.
 pub fn asked_by(alloc: Global, line: &Line) -> Result<Asked, AllocError>
     ensures { IfOk result (λ a. (rest : List ℕ) → Holds line.now rest → a ≡ asked rest) }
 {

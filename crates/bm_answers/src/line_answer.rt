@@ -1,4 +1,4 @@
-// The answer to what a line asks.
+// Makes the call that a line asks for, and gives the answer as text.
 ghost use Rattle.std.specs.Prelude.{◌≡◌, IfOk, OnOk, OnErr, IsTrue, string_bytes, true, false};
 ghost use Rattle.bm_base.specs.Machine.Answering.{is_out_of_memory};
 ghost use Rattle.bm_answers.specs.declared.line_answer.LineAnswer.TheVariants.{Answered};

@@ -181,9 +181,9 @@ pub record IsLawful (a : Contents) : Type 0 where
 abbrev pub known_of : Option Block → Option (ℕ × Option BlockInfo)
 known_of o = option_map (λ (b : Block). (b.id, b.info)) o
 
--- What a list operation keeps: all lists but the storage's; all blocks but the slot's; and of that
--- block its number, its information, its replicas on other storages and its capacity. It counts one
--- more step.
+-- What a list operation keeps: all lists but the storage's, and all blocks but the slot's. Of that
+-- block it keeps the number, the information, the replicas on other storages and the capacity. It
+-- counts one more step.
 pub record KeepsOthers (old new : Contents) (slot storage : ℕ) : Type 0 where
   pub lists : (other : ℕ) → other ≢ storage → list_of new other ≡ list_of old other
   pub heads : (other : ℕ) → HasHead old other → HasHead new other

@@ -22,8 +22,8 @@ lists_from slots heads = map (λ h. (h.0, list_from slots h.0 h.1)) heads
 abbrev pub storages_of : Block → List ℕ
 storages_of b = map (λ r. r.0) b.replicas
 
--- the links of each storage with a head are a lawful list, each triplet's slot is in the list of
--- its storage, and a block has one triplet of a storage
+-- The links of each storage with a head are a lawful list. Each triplet's slot is in the list of
+-- its storage, and a block has one triplet of a storage.
 pub record IsSound (slots : Slab BlockEntry) (heads : List (ℕ × Option ℕ)) : Type 0 where
   pub lists : (storage : ℕ) (first : Option ℕ) → lookup (nat_eq storage) heads ≡ Some first → IsList (links_of slots storage) first (list_from slots storage first)
   pub complete : (slot storage : ℕ) (t : Triplet) → triplet_at slots slot storage ≡ Some t → (first : Option ℕ) × (lookup (nat_eq storage) heads ≡ Some first) × IsMember slot (list_from slots storage first)

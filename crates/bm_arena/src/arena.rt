@@ -22,14 +22,15 @@ pub type Slot = usize;
 /// The blocks of one shard with their replicas, and for each storage the list of the slots of its
 /// blocks.
 ///
-/// A contract sees it as `Contents`: the block in each slot, the slots of the block numbers, the
-/// list of each storage, the slot of the delimiter, the number of steps and a bound of the slots.
-/// Only `new`, `with_secret`, `reserve_heads`, `reserve_triplet` and `add_entry` take memory; every
-/// other call takes none and succeeds under its conditions. A refused call changes nothing that a
-/// contract sees, but a refused `reserve_heads` may leave heads with empty lists. A list operation
-/// takes a constant number of steps, and a scan of the few replicas of the blocks that it touches.
-/// A look-up, a list operation and `add_entry` hash a number once at most. A look-up does not hash
-/// a number whose slot is predicted right, or that is above all that were added.
+/// A contract sees it as `Contents`: the block in each slot, the slots of the block numbers, and
+/// the list of each storage. `Contents` also has the slot of the delimiter, the number of steps and
+/// a bound of the slots. Only `new`, `with_secret`, `reserve_heads`, `reserve_triplet` and
+/// `add_entry` take memory; every other call takes none and succeeds under its conditions. A
+/// refused call changes nothing that a contract sees, but a refused `reserve_heads` may leave heads
+/// with empty lists. A list operation takes a constant number of steps, and a scan of the few
+/// replicas of the blocks that it touches. A look-up, a list operation and `add_entry` hash a
+/// number once at most. A look-up does not hash a number whose slot is predicted right, or that is
+/// above all that were added.
 #[derive(Drop)]
 pub struct Arena {
     pub(crate) slots: Slab<BlockEntry>,

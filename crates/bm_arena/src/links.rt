@@ -72,9 +72,9 @@ fn first_index_of_many(triplets: &[Triplet], storage: u32) -> usize
     ensures { result ≡ position_or_len (λ t. t.storage == storage) triplets.now }
 {
     let mut first = triplets.len();
-    for place in (0..triplets.len()).rev() {
-        if triplets[place].storage == storage {
-            first = place;
+    for index in (0..triplets.len()).rev() {
+        if triplets[index].storage == storage {
+            first = index;
         }
     }
     first
@@ -97,7 +97,7 @@ fn find_in(triplets: &[Triplet], storage: u32) -> Option<Triplet>
     ensures { result ≡ find_triplet triplets.now storage }
 {
     match index_of(triplets, storage) {
-        Some(place) => Some(triplets[place]),
+        Some(index) => Some(triplets[index]),
         None => None,
     }
 }
@@ -105,24 +105,24 @@ fn find_in(triplets: &[Triplet], storage: u32) -> Option<Triplet>
 fn set_previous_in(triplets: &mut [Triplet], storage: u32, previous: SlotLink)
     ensures { triplets.new ≡ change_triplet (with_previous previous) triplets.old storage }
 {
-    if let Some(place) = index_of(triplets, storage) {
-        triplets[place].previous = previous;
+    if let Some(index) = index_of(triplets, storage) {
+        triplets[index].previous = previous;
     }
 }
 
 fn set_next_in(triplets: &mut [Triplet], storage: u32, next: SlotLink)
     ensures { triplets.new ≡ change_triplet (with_next next) triplets.old storage }
 {
-    if let Some(place) = index_of(triplets, storage) {
-        triplets[place].next = next;
+    if let Some(index) = index_of(triplets, storage) {
+        triplets[index].next = next;
     }
 }
 
 fn set_marks_in(triplets: &mut [Triplet], storage: u32, marks: Marks)
     ensures { triplets.new ≡ change_triplet (with_triplet_marks marks) triplets.old storage }
 {
-    if let Some(place) = index_of(triplets, storage) {
-        triplets[place].marks = marks;
+    if let Some(index) = index_of(triplets, storage) {
+        triplets[index].marks = marks;
     }
 }
 
@@ -130,8 +130,8 @@ fn set_marks_near_in(triplets: &mut [Triplet], storage: u32, marks: Marks, guess
     requires { Distinct (storages_in triplets.old) }
     ensures { triplets.new ≡ change_triplet (with_triplet_marks marks) triplets.old storage }
 {
-    if let Some(place) = index_near(triplets, storage, guess) {
-        triplets[place].marks = marks;
+    if let Some(index) = index_near(triplets, storage, guess) {
+        triplets[index].marks = marks;
     }
 }
 
@@ -182,9 +182,9 @@ fn put_first_in(triplets: &mut [Triplet], storage: u32, first: SlotLink) -> Opti
     ensures triplets { triplets.new ≡ change_triplet (as_first first) triplets.old storage }
 {
     match index_of(triplets, storage) {
-        Some(place) => {
-            let triplet = triplets[place];
-            triplets[place] = as_first(&triplet, first);
+        Some(index) => {
+            let triplet = triplets[index];
+            triplets[index] = as_first(&triplet, first);
             Some(triplet)
         }
         None => None,
@@ -294,7 +294,7 @@ fn remove_and_fill(
     ensures capacity { triplets.new.capacity ≡ triplets.old.capacity }
 {
     match index_of(triplets.as_slice(), storage) {
-        Some(place) => Some(triplets.swap_remove(place)),
+        Some(index) => Some(triplets.swap_remove(index)),
         None => None,
     }
 }

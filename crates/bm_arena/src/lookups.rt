@@ -1,4 +1,4 @@
-// What can be asked of an arena. No question changes anything, and none takes memory.
+// Look-ups in an arena. None changes anything or takes memory.
 ghost use Rattle.std.specs.Prelude.{◌≡◌, ◌<◌, ℕ, IsTrue, ◌↔◌, is_some, length, map, slice_get, IsSome, IfSome, IsSomeAnd, Some, []};
 ghost use Rattle.std.specs.Option.{option_map, option_map_or, option_and_then};
 ghost use Rattle.bm_arena.specs.Triplets.{Block, triplet_view};

@@ -8,12 +8,12 @@
 //! With one worker or one item, `run` works the items in turn, and uses no bag.
 //!
 //! Pieces are in a [`Bag`], and a free worker takes the next one, so no worker waits while there is
-//! a piece. It goes on until it finds the bag empty. Each worker has a [`BagPass`]: the right to
-//! take from the bag, and a note for proofs of the pieces put and taken through it, and of how
-//! often it found the bag empty. The rule of a bag (`specs/Rule.antt`): the pieces in it and those
-//! taken through all passes are the pieces put, in some order. Each call keeps the rule. So when
-//! every pass was joined into the caller's and the bag is empty, the caller's pass has taken
-//! exactly the pieces put.
+//! a piece. It goes on until it finds the bag empty. Each worker has a [`BagPass`], the right to
+//! take from the bag. For proofs, it notes the pieces put and taken through it, and how often it
+//! found the bag empty. The rule of a bag (`specs/Rule.antt`): the pieces in it and those taken
+//! through all passes are the pieces put, in some order. Each call keeps the rule. So when every
+//! pass was joined into the caller's and the bag is empty, the caller's pass has taken exactly the
+//! pieces put.
 //!
 //! A run is an induction over the workers: one is started in parallel with a run of the others, and
 //! then its pass is joined. With no worker left the calling thread takes alone. So one proof serves

@@ -47,7 +47,7 @@ gone_more ss P Q place s below is h still here i lt = elim (cases_eq i place) [
   | inr differs ↦ still (get_or ss i 0) (h i (omega (arith, lt, differs)))
 ]
 
--- the slots on one storage more are judged
+-- the slots on one more storage are classified
 pub classified_next : (rack : ℕ → Option ℕ) (draining : ℕ → Bool) (multi : Bool) (a : Contents) (ss : List ℕ) (place s slot : ℕ) (K L M : IndexedLevels) → place < length ss → s ≡ get_or ss place s
     → IsClassified rack draining multi (block_at a slot) L slot ⊎ (IsSameAt K L slot × HaveGone ss (λ t. IsMember slot (list_of a t) → ⊥) place)
     → IsClassified rack draining multi (block_at a slot) M slot ⊎ (IsSameAt L M slot × (IsMember slot (list_of a s) → ⊥))

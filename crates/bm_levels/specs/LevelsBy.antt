@@ -9,8 +9,8 @@ use Rattle.bm_levels.specs.Status.{level_by}
 use Rattle.bm_levels.specs.IndexedLevels.{level_of_slot}
 use Rattle.bm_levels.specs.Leveled.{Leveled}
 
--- the level of each slot is that of its block, given the racks of storages, the storages on nodes
--- that drain, and whether the alive nodes are on two racks or more
+-- the level of each slot is that of its block, for these racks of storages, these storages on
+-- draining nodes, and one rack or several
 abbrev pub AreLevelsBy : (ℕ → Option ℕ) → (ℕ → Bool) → Bool → Leveled → Type 0
 AreLevelsBy rack draining multi v = (slot : ℕ) → level_of_slot v.kept slot ≡ level_by rack draining multi (block_at v.arena slot)
 

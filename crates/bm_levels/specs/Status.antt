@@ -27,8 +27,8 @@ is_live_by draining s m = is_usable m && not (draining s)
 abbrev pub is_drained_by : (ℕ → Bool) → ℕ → Marks → Bool
 is_drained_by draining s m = is_usable m && draining s
 
--- The level of the block at a slot, given the racks of storages, the storages on nodes that drain,
--- and whether the alive nodes are on two racks or more; none without a known block.
+-- The level of the block at a slot, for these racks of storages, these storages on draining nodes,
+-- and one rack or several; none without a known block.
 unfoldable pub level_by : (ℕ → Option ℕ) → (ℕ → Bool) → Bool → Option Block → Option Level
 level_by rack draining multi o =
     option_and_then (λ (k : Block). option_and_then (λ (i : BlockInfo).

@@ -67,7 +67,7 @@ pub(crate) fn classify(
 }
 
 /// Counts the replicas of a block. If it has more than are wanted, it stops when the wanted number
-/// is live on two racks: the block has no level then and is unsettled, whatever the other replicas
+/// is live on two racks. The block has no level then and is unsettled, whatever the other replicas
 /// are.
 fn count(cluster_after: &ClusterAfter<'_>, triplets: &[Triplet], wanted: usize) -> Count
     ensures { IsCountOf (rack_after cluster_after.now) (drains_after cluster_after.now) wanted

@@ -1,4 +1,5 @@
-// The lists of a node's storages taken apart in step, so that their cache misses overlap.
+// Removes all replicas of a node, from the lists of four storages in step, so that their cache
+// misses overlap.
 ghost use Rattle.std.specs.Prelude.{◌≡◌, ◌==◌, ◌||◌, ◌≤◌, ◌+◌, ◌^◌, false};
 ghost use Rattle.bm_levels.specs.Unused.{MakesNoUnused};
 ghost use Rattle.bm_levels.specs.LeavingReplicas.{IsLeaving, IsLeavingStorage, HasFirstSlots, MakesNoHead};

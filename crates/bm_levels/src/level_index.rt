@@ -34,7 +34,7 @@ fn rounded_up(bound: usize) -> usize
 /// of an arena.
 ///
 /// A block is settled if all its replicas are good ones with no mark, and no more of them exist
-/// than are wanted: a round marks none of them and deletes none. Blocks that wait for an ordered
+/// than are wanted. A round marks none of them and deletes none. Blocks that wait for an ordered
 /// delete stay unsettled until it is reported.
 #[derive(Drop)]
 pub struct LevelIndex {
@@ -161,8 +161,8 @@ impl LevelIndex {
             + self.levels.slots(Level::BadlyDistributed).len()
     }
 
-    /// For proofs alone: the list of a level has exactly its slots, each once; no slot is unsettled
-    /// twice; and the slots that need copies are exactly those at a level at which copies are
+    /// For proofs alone: the list of a level has exactly its slots, each once, and no slot is
+    /// unsettled twice. The slots that need copies are exactly those at a level at which copies are
     /// wanted, each once.
     pub fn show_invariant(&self)
         ensures listed { (level : Level) → AreSlotsAt self.now level (slots_at self.now level) }

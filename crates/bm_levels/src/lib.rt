@@ -1,10 +1,10 @@
 //! How urgent the blocks of a shard are, and which of them a round has to scan.
 //!
 //! The blocks and replicas of a shard are in an arena. Parallel to it, by slots of the arena, are
-//! the level of each block, the blocks of each level, and the set of unsettled blocks: those of
-//! which a round may mark or delete a replica. When the replicas of a block change, the block is
-//! reclassified from its own replicas, with one read of each. Nothing here takes memory but `new`,
-//! `grow_to`, `ready_block` and `ready_report`.
+//! the level of each block, the blocks of each level, and the set of unsettled blocks. A block is
+//! unsettled if a round may mark or delete a replica of it. When the replicas of a block change,
+//! the block is reclassified from its own replicas, with one read of each. Nothing here takes
+//! memory but `new`, `grow_to`, `ready_block` and `ready_report`.
 #![tactic(auto)]
 
 mod block_events;

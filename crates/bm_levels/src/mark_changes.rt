@@ -1,4 +1,4 @@
-// The marks of all replicas of one block, changed alike.
+// Changes the marks of all replicas of one block in the same way.
 ghost use Rattle.std.specs.Prelude.{◌≡◌, false, if◌then◌else◌};
 ghost use Rattle.bm_base.specs.declared.replica.Tag.TheVariants.{Stale};
 ghost use Rattle.bm_base.specs.Machine.Replicas.{is_good};
@@ -9,7 +9,7 @@ ghost use Rattle.bm_levels.specs.Changes.{changed, all_changed};
 use bm_arena::{Arena, Slot};
 use bm_base::{Marks, Tag};
 
-/// What becomes of the marks of a block's replicas.
+/// A change of the marks of all replicas of a block.
 #[derive(Clone, Copy)]
 pub(crate) enum MarkChange {
     /// The block is deleted: they are stray, and none is in excess.
@@ -21,7 +21,7 @@ pub(crate) enum MarkChange {
 }
 
 impl MarkChange {
-    /// The marks of a replica after it.
+    /// The marks of a replica after the change.
     #[tactic(auto, unfolding(crate::specs::Changes::changed))]
     fn apply(self, marks: Marks) -> Marks
         ensures { result ≡ changed self marks }

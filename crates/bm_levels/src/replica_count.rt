@@ -1,4 +1,4 @@
-// The counts of one block's replicas, made one after another.
+// Counts one block's replicas, one after another.
 ghost use Rattle.std.specs.Prelude.{◌≡◌, ◌<◌, ◌-◌, ◌^◌};
 ghost use Rattle.bm_levels.specs.Status as status;
 ghost use Rattle.bm_levels.specs.ReplicaCounts as counted;

@@ -1,4 +1,4 @@
-// What a round changes in marks as it ends: the deletes that it commands are ordered.
+// The end of a round: marks the replicas whose deletes it commands as ordered.
 ghost use Rattle.std.specs.Prelude.{◌≡◌, ◌<◌, ℕ, Some};
 ghost use Rattle.bm_base.specs.Words.{insert, revise, revise_at, replica_at};
 ghost use Rattle.bm_base.specs.RoundParts as parts;
@@ -36,7 +36,7 @@ impl LeveledBlocks {
     }
 
     /// Orders the delete of a replica, if it exists. `guess` is a guess of its index in its block,
-    /// and is then that index: the next delete is mostly of the same storage, and blocks of a
+    /// and is set to that index. The next delete is mostly of the same storage, and blocks of a
     /// storage mostly have their replicas in one order.
     fn mark_one_ordered(
         &mut self,

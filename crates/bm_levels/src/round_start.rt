@@ -1,4 +1,4 @@
-// What a round changes in marks as it begins: those of replicas in excess.
+// The start of a round: changes the marks of replicas in excess.
 ghost use Rattle.std.specs.Prelude.{◌≡◌, ◌≢◌, ℕ, ◌<◌, length, false, Some, if◌then◌else◌};
 ghost use Rattle.bm_base.specs.Words.{revise, revise_at, with_excess_reset};
 ghost use Rattle.bm_base.specs.Machine.Excess as excess;

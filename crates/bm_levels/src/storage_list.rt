@@ -1,4 +1,5 @@
-// The list of a storage taken apart, some blocks at a time, so that cache misses overlap.
+// Removes all replicas of a storage, some blocks of its list at a time, so that cache misses
+// overlap.
 ghost use Rattle.std.specs.Prelude.{◌≡◌, ◌<◌, ◌≤◌, ◌+◌, ℕ, [], length, take, None};
 ghost use Rattle.bm_arena.specs.Contents.{block_at, known_of, list_of, marks_at, HasHead};
 ghost use Rattle.bm_arena.specs.HeldMaps.{replicas_of, blocks_of};

@@ -1,9 +1,8 @@
-//! The lines of the tool, for every program that reads or writes them: the bytes of an input cut
-//! into lines, a line read as a call, the line that asks for a call, and the line of an answer.
+//! The lines of the tool, for every program that reads or writes them. The crate cuts an input into
+//! lines, reads a line as a call, and writes the line of a call and the line of an answer.
 //!
-//! `specs/` defines the lines of an input (`Lines`), the call that a line asks for (`CallOf`), the
-//! line that asks for a call (`CallText`) and the text of an answer (`Print`). `CALLING.md` has a
-//! caller.
+//! `specs/` defines the lines of an input (`Lines`), a line's call (`CallOf`), the line that asks
+//! for a call (`CallText`) and the text of an answer (`Print`). `CALLING.md` has a caller.
 #![tactic(auto)]
 
 mod field_writer;

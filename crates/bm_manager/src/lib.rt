@@ -11,7 +11,7 @@
 //! manager.apply_alone(&Event::register(alloc, NodeId(1), Rack(1), storages)?)?;
 //! manager.apply_alone(&Event::AddBlock { id, stamp, repl: 2 })?;
 //! manager.apply_alone(&Event::Received { storage: StorageId(11), id, stamp })?;
-//! let storages = manager.places(id)?;
+//! let places = manager.places(id)?;
 //! let commands = manager.round_alone()?;
 //! ```
 //!
@@ -31,8 +31,8 @@
 //! - [`answers_alike`] makes the same calls on two managers with different numbers of shards and
 //!   workers; its contract says that the answers are alike.
 //!
-//! `CALLING.md` has a proved caller and the contracts. `docs/GUARANTEES.md` lists what is
-//! guaranteed, what that assumes, and what is not covered.
+//! `CALLING.md` has a whole program, a proved caller and the contracts. `docs/GUARANTEES.md` lists
+//! what is guaranteed, what that assumes, and what is not covered.
 #![tactic(auto)]
 
 mod calls;

@@ -16,8 +16,8 @@ use std::thread::Threads;
 ///
 /// A contract sees it as the state of the definitions: the limits of its configuration, the
 /// cluster, the blocks and their replicas, the round and the number of accepted calls. The blocks
-/// are cut into shards, and a call that concerns all of them is worked by a crew of threads, or by
-/// the calling thread alone; no answer depends on that.
+/// are cut into shards. A crew of threads, or the calling thread alone, works a call that concerns
+/// all shards; no answer depends on that.
 ///
 /// ```text
 /// let mut manager = Manager::new(alloc, Config::standard())?;
@@ -159,9 +159,9 @@ impl Manager {
 
     /// For proofs alone: the state is lawful at all times. Does nothing when it runs.
     ///
-    /// Replicas, and pending transfers, are on storages of alive nodes; only alive nodes drain; a
-    /// node has one replica of a block at most; a replica is stray exactly if its block is unknown;
-    /// only good ones are in excess; pending transfers are of known blocks. There are at most
+    /// Replicas and pending transfers are on storages of alive nodes, and only alive nodes drain. A
+    /// node has one replica of a block at most. A replica is stray exactly if its block is unknown,
+    /// and only good ones are in excess. Pending transfers are of known blocks. There are at most
     /// `MAX_NODES` nodes and `MAX_STORAGES` storages, and 1 to `MAX_REPLICATION` replicas of each
     /// block are wanted. The numbers fit their types.
     pub fn show_invariant(&self)

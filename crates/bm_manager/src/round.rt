@@ -20,8 +20,9 @@ impl Manager {
     /// `CallsSpent`; `Memory`; a refused round changes nothing.
     ///
     /// No round commands the delete of a known block's last good replica. If a round commands the
-    /// delete of a replica of a known block, then the block has as many live replicas after the
-    /// round as are wanted, at least one, and the delete of none of these is commanded.
+    /// delete of a replica of a known block, the block has at least the wanted number of live
+    /// replicas after the round. At least one is wanted, and the round commands the delete of no
+    /// live one.
     ///
     /// A round is worked by the crew, so the call may wait for other threads. All memory is taken
     /// before the first change.

@@ -8,7 +8,7 @@ use Rattle.std.specs.FinMap.Entries.{below_all}
 use Rattle.std.proofs.lemmas.Bool.{ltb-true, ltb-false}
 use Rattle.std.proofs.lemmas.List.{get_or-take, get_or-drop, length-drop, length-take-le}
 use Rattle.bm_base.specs.Maps.Conjunction.{both, first, second}
-use Rattle.bm_maps.specs.KeyIndex.{place, distance_to}
+use Rattle.bm_maps.specs.KeyIndex.{key_index, distance_to}
 use Rattle.bm_base.proofs.MapLaws.{find_below}
 
 less : (r : Ordering) → T (is_lt r) → r ≡ Less
@@ -42,37 +42,37 @@ module _ {K X : Type 0} (R : K → K → Ordering) (o : IsTotalOrder R) where
   below_there x (e ∷ es) (suc i) d h lt = below_there x es i d (second _ _ h) (omega (arith, lt))
 
   -- an entry that the key is greater than is before the key's index
-  pub place_behind : (k : K) (es : List (K × X)) (i : ℕ) (d : K × X) → T (is_sorted R es) → i < length es → R k (get_or es i d).0 ≡ Greater → i < place R k es
-  place_behind k [] i d h lt is = absurd (omega (arith, lt))
-  place_behind k (e ∷ es) zero d h lt is = rw is (omega arith)
-  place_behind k (e ∷ es) (suc i) d h lt is =
-      let rest : i < place R k es = place_behind k es i d (second _ _ h) (omega (arith, lt)) is in
+  pub index_behind : (k : K) (es : List (K × X)) (i : ℕ) (d : K × X) → T (is_sorted R es) → i < length es → R k (get_or es i d).0 ≡ Greater → i < key_index R k es
+  index_behind k [] i d h lt is = absurd (omega (arith, lt))
+  index_behind k (e ∷ es) zero d h lt is = rw is (omega arith)
+  index_behind k (e ∷ es) (suc i) d h lt is =
+      let rest : i < key_index R k es = index_behind k es i d (second _ _ h) (omega (arith, lt)) is in
       let here : R k e.0 ≡ Greater = above R o k e.0 (get_or es i d).0 (below_there e.0 es i d (first _ _ h) (omega (arith, lt))) is in
-      let more : suc i < suc (place R k es) = omega (arith, rest) in
+      let more : suc i < suc (key_index R k es) = omega (arith, rest) in
       rw here more
 
   -- the key's index is not past an entry that the key is not greater than
-  pub place_before : (k : K) (es : List (K × X)) (i : ℕ) (d : K × X) → i < length es → (R k (get_or es i d).0 ≡ Greater → ⊥) → place R k es ≤ i
-  place_before k [] i d lt is = omega arith
-  place_before k (e ∷ es) zero d lt is =
-      elim (R k e.0) as (λ r. R k e.0 ≡ r → distance_to r (place R k es) ≤ zero) [
+  pub index_before : (k : K) (es : List (K × X)) (i : ℕ) (d : K × X) → i < length es → (R k (get_or es i d).0 ≡ Greater → ⊥) → key_index R k es ≤ i
+  index_before k [] i d lt is = omega arith
+  index_before k (e ∷ es) zero d lt is =
+      elim (R k e.0) as (λ r. R k e.0 ≡ r → distance_to r (key_index R k es) ≤ zero) [
         | Less ↦ λ p. omega arith
         | Equal ↦ λ p. omega arith
         | Greater ↦ λ p. absurd (is p)
       ] refl
-  place_before k (e ∷ es) (suc i) d lt is =
-      let rest : place R k es ≤ i = place_before k es i d (omega (arith, lt)) is in
-      elim (R k e.0) as (λ r. distance_to r (place R k es) ≤ suc i) [
+  index_before k (e ∷ es) (suc i) d lt is =
+      let rest : key_index R k es ≤ i = index_before k es i d (omega (arith, lt)) is in
+      elim (R k e.0) as (λ r. distance_to r (key_index R k es) ≤ suc i) [
         | Less ↦ omega arith
         | Equal ↦ omega arith
         | Greater ↦ omega (arith, rest)
       ]
 
   -- the key is greater than each entry before its index
-  greater_before : (k : K) (es : List (K × X)) (i : ℕ) (d : K × X) → i < place R k es → R k (get_or es i d).0 ≡ Greater
+  greater_before : (k : K) (es : List (K × X)) (i : ℕ) (d : K × X) → i < key_index R k es → R k (get_or es i d).0 ≡ Greater
   greater_before k [] i d lt = absurd (omega (arith, lt))
-  greater_before k (e ∷ es) zero d lt = (passed (R k e.0) (place R k es) zero lt).0
-  greater_before k (e ∷ es) (suc i) d lt = greater_before k es i d (omega (arith, (passed (R k e.0) (place R k es) (suc i) lt).1))
+  greater_before k (e ∷ es) zero d lt = (passed (R k e.0) (key_index R k es) zero lt).0
+  greater_before k (e ∷ es) (suc i) d lt = greater_before k es i d (omega (arith, (passed (R k e.0) (key_index R k es) (suc i) lt).1))
 
   -- whether the key is greater than an entry's
   abbrev pub is_behind : K → K × X → Bool
@@ -89,45 +89,45 @@ module _ {K X : Type 0} (R : K → K → Ordering) (o : IsTotalOrder R) where
     those_read : (i : ℕ) (d : K × X) → i < length those → get_or those i d ≡ get_or es (least + i) d
     those_read i d lt = get_or-take (most - least) (drop least es) i d (omega (arith, lt, those_length)) ∙ get_or-drop least es i d
 
-    place_past : (i : ℕ) (d : K × X) → i < length those → is_behind k (get_or those i d) ≡ true → least + i < place R k es
-    place_past i d lt is = place_behind k es (least + i) d h (omega (arith, lt, those_length, inside)) (greater _ (sym (ap (is_behind k) (those_read i d lt)) ∙ is))
+    index_past : (i : ℕ) (d : K × X) → i < length those → is_behind k (get_or those i d) ≡ true → least + i < key_index R k es
+    index_past i d lt is = index_behind k es (least + i) d h (omega (arith, lt, those_length, inside)) (greater _ (sym (ap (is_behind k) (those_read i d lt)) ∙ is))
 
     pub those_parted : IsPartitionedBy (is_behind k) those
     those_parted i j d le lt is =
-        ap (is_behind k) (those_read i d (omega (arith, le, lt))) ∙ ap is_gt (greater_before k es (least + i) d (omega (arith, le, place_past j d lt is)))
+        ap (is_behind k) (those_read i d (omega (arith, le, lt))) ∙ ap is_gt (greater_before k es (least + i) d (omega (arith, le, index_past j d lt is)))
 
-    no_less : (i : ℕ) (d : K × X) → i ≤ length those → least ≤ place R k es → ((j : ℕ) → j < i → is_behind k (get_or those j d) ≡ true) → least + i ≤ place R k es
+    no_less : (i : ℕ) (d : K × X) → i ≤ length those → least ≤ key_index R k es → ((j : ℕ) → j < i → is_behind k (get_or those j d) ≡ true) → least + i ≤ key_index R k es
     no_less zero d le from pass = omega (arith, from)
-    no_less (suc i) d le from pass = omega (arith, place_past i d (omega (arith, le)) (pass i (omega arith)))
+    no_less (suc i) d le from pass = omega (arith, index_past i d (omega (arith, le)) (pass i (omega arith)))
 
-    no_more : (i : ℕ) (d : K × X) → i < length those → is_behind k (get_or those i d) ≡ false → place R k es ≤ least + i
+    no_more : (i : ℕ) (d : K × X) → i < length those → is_behind k (get_or those i d) ≡ false → key_index R k es ≤ least + i
     no_more i d lt is =
-        place_before k es (least + i) d (omega (arith, lt, those_length, inside)) (λ e. differ (sym (ap is_gt e) ∙ sym (ap (is_behind k) (those_read i d lt)) ∙ is))
+        index_before k es (least + i) d (omega (arith, lt, those_length, inside)) (λ e. differ (sym (ap is_gt e) ∙ sym (ap (is_behind k) (those_read i d lt)) ∙ is))
 
-    parted_place : (i : ℕ) (d : K × X) → i ≤ length those → least ≤ place R k es → place R k es ≤ most
-        → IsPartitionPoint (λ e. is_behind k e ≡ true) (λ e. is_behind k e ≡ false) those i → least + i ≡ place R k es
-    parted_place i d le from upto point =
-        let low : least + i ≤ place R k es = no_less i d le from (λ j lt. point.0 j d (omega arith) lt) in
-        let high : place R k es ≤ least + i = elim (ltb i (length those)) as (λ b. ltb i (length those) ≡ b → place R k es ≤ least + i) [
+    parted_index : (i : ℕ) (d : K × X) → i ≤ length those → least ≤ key_index R k es → key_index R k es ≤ most
+        → IsPartitionPoint (λ e. is_behind k e ≡ true) (λ e. is_behind k e ≡ false) those i → least + i ≡ key_index R k es
+    parted_index i d le from upto point =
+        let low : least + i ≤ key_index R k es = no_less i d le from (λ j lt. point.0 j d (omega arith) lt) in
+        let high : key_index R k es ≤ least + i = elim (ltb i (length those)) as (λ b. ltb i (length those) ≡ b → key_index R k es ≤ least + i) [
           | true ↦ λ e. let lt = ltb-true i (length those) e in no_more i d lt (point.1 i d (omega arith) lt)
           | false ↦ λ e. omega (arith, ltb-false i (length those) e, those_length, upto)
         ] refl in
         omega (arith, low, high)
 
   -- a partition point among those entries, counted from the first of all, is the key's index
-  pub place_parted : (k : K) (es : List (K × X)) (least most i : ℕ) → T (is_sorted R es) → least ≤ place R k es → place R k es ≤ most → most ≤ length es → i ≤ length (take (most - least) (drop least es))
-      → IsPartitionPoint (λ e. is_behind k e ≡ true) (λ e. is_behind k e ≡ false) (take (most - least) (drop least es)) i → least + i ≡ place R k es
-  place_parted k [] least most i h from upto inside le point =
+  pub index_parted : (k : K) (es : List (K × X)) (least most i : ℕ) → T (is_sorted R es) → least ≤ key_index R k es → key_index R k es ≤ most → most ≤ length es → i ≤ length (take (most - least) (drop least es))
+      → IsPartitionPoint (λ e. is_behind k e ≡ true) (λ e. is_behind k e ≡ false) (take (most - least) (drop least es)) i → least + i ≡ key_index R k es
+  index_parted k [] least most i h from upto inside le point =
       let none : List (K × X) = [] in
       omega (arith, from, upto, inside, le, length-take-le (most - least) (drop least none) (omega (arith, inside)))
-  place_parted k (e ∷ es) least most i h from upto inside le point = parted_place k (e ∷ es) least most h inside i e le from upto point
+  index_parted k (e ∷ es) least most i h from upto inside le point = parted_index k (e ∷ es) least most h inside i e le from upto point
 
   -- the index is within the entries
-  pub place_within : (k : K) (es : List (K × X)) → place R k es ≤ length es
-  place_within k [] = omega arith
-  place_within k (e ∷ es) =
-      let rest : place R k es ≤ length es = place_within k es in
-      elim (R k e.0) as (λ r. distance_to r (place R k es) ≤ suc (length es)) [
+  pub index_within : (k : K) (es : List (K × X)) → key_index R k es ≤ length es
+  index_within k [] = omega arith
+  index_within k (e ∷ es) =
+      let rest : key_index R k es ≤ length es = index_within k es in
+      elim (R k e.0) as (λ r. distance_to r (key_index R k es) ≤ suc (length es)) [
         | Less ↦ omega arith
         | Equal ↦ omega arith
         | Greater ↦ omega (arith, rest)
@@ -138,24 +138,24 @@ module _ {K X : Type 0} (R : K → K → Ordering) (o : IsTotalOrder R) where
   below_further k x (e ∷ es) p h =
       both _ _ (subst (λ r. T (is_lt r)) (sym (o.trans k x e.0 p (less _ (first _ _ h)))) tt) (below_further k x es p (second _ _ h))
 
-  pub find_place : (k : K) (es : List (K × X)) (d : K × X) → place R k es < length es → R k (get_or es (place R k es) d).0 ≡ Equal → find R k es ≡ Some (get_or es (place R k es) d).1
-  find_place k [] d lt is = absurd (omega (arith, lt))
-  find_place k (e ∷ es) d lt is =
-      elim (R k e.0) as (λ r. R k e.0 ≡ r → distance_to r (place R k es) < length (e ∷ es) → R k (get_or (e ∷ es) (distance_to r (place R k es)) d).0 ≡ Equal
-      → cond (is_eq r) (Some e.1) (find R k es) ≡ Some (get_or (e ∷ es) (distance_to r (place R k es)) d).1) [
+  pub find_index : (k : K) (es : List (K × X)) (d : K × X) → key_index R k es < length es → R k (get_or es (key_index R k es) d).0 ≡ Equal → find R k es ≡ Some (get_or es (key_index R k es) d).1
+  find_index k [] d lt is = absurd (omega (arith, lt))
+  find_index k (e ∷ es) d lt is =
+      elim (R k e.0) as (λ r. R k e.0 ≡ r → distance_to r (key_index R k es) < length (e ∷ es) → R k (get_or (e ∷ es) (distance_to r (key_index R k es)) d).0 ≡ Equal
+      → cond (is_eq r) (Some e.1) (find R k es) ≡ Some (get_or (e ∷ es) (distance_to r (key_index R k es)) d).1) [
         | Less ↦ λ p lt is. cc
         | Equal ↦ λ p lt is. refl
-        | Greater ↦ λ p lt is. find_place k es d (omega (arith, lt)) is
+        | Greater ↦ λ p lt is. find_index k es d (omega (arith, lt)) is
       ] refl lt is
 
-  pub find_no_place : (k : K) (es : List (K × X)) (d : K × X) → T (is_sorted R es) → (place R k es < length es → R k (get_or es (place R k es) d).0 ≡ Equal → ⊥) → find R k es ≡ None
-  find_no_place k [] d h is = refl
-  find_no_place k (e ∷ es) d h is =
-      elim (R k e.0) as (λ r. R k e.0 ≡ r → (distance_to r (place R k es) < length (e ∷ es) → R k (get_or (e ∷ es) (distance_to r (place R k es)) d).0 ≡ Equal → ⊥)
+  pub find_no_index : (k : K) (es : List (K × X)) (d : K × X) → T (is_sorted R es) → (key_index R k es < length es → R k (get_or es (key_index R k es) d).0 ≡ Equal → ⊥) → find R k es ≡ None
+  find_no_index k [] d h is = refl
+  find_no_index k (e ∷ es) d h is =
+      elim (R k e.0) as (λ r. R k e.0 ≡ r → (distance_to r (key_index R k es) < length (e ∷ es) → R k (get_or (e ∷ es) (distance_to r (key_index R k es)) d).0 ≡ Equal → ⊥)
       → cond (is_eq r) (Some e.1) (find R k es) ≡ None) [
         | Less ↦ λ p is. find_below R k es (below_further k e.0 es p (first _ _ h))
         | Equal ↦ λ p is. absurd (is (omega arith) p)
-        | Greater ↦ λ p is. find_no_place k es d (second _ _ h) (λ lt at. is (omega (arith, lt)) at)
+        | Greater ↦ λ p is. find_no_index k es d (second _ _ h) (λ lt at. is (omega (arith, lt)) at)
       ] refl is
 
   -- what is read within a list does not depend on the default
@@ -164,18 +164,18 @@ module _ {K X : Type 0} (R : K → K → Ordering) (o : IsTotalOrder R) where
   same_there (e ∷ es) zero d x lt = refl
   same_there (e ∷ es) (suc i) d x lt = same_there es i d x (omega (arith, lt))
 
-  pub find_read : (k : K) (es : List (K × X)) (i : ℕ) (d x : K × X) → i ≡ place R k es → i < length es → R k (get_or es i d).0 ≡ Equal → find R k es ≡ Some (get_or es i x).1
+  pub find_read : (k : K) (es : List (K × X)) (i : ℕ) (d x : K × X) → i ≡ key_index R k es → i < length es → R k (get_or es i d).0 ≡ Equal → find R k es ≡ Some (get_or es i x).1
   find_read k es i d x is lt tie =
       let Goal : ℕ → Type 0 = λ j. j < length es → R k (get_or es j d).0 ≡ Equal → find R k es ≡ Some (get_or es j x).1 in
-      subst Goal (sym is) (λ lt tie. find_place k es d lt tie ∙ ap (λ e. Some e.1) (same_there es (place R k es) d x lt)) lt tie
+      subst Goal (sym is) (λ lt tie. find_index k es d lt tie ∙ ap (λ e. Some e.1) (same_there es (key_index R k es) d x lt)) lt tie
 
-  pub find_none : (k : K) (es : List (K × X)) (i : ℕ) (d : K × X) → i ≡ place R k es → T (is_sorted R es) → (i < length es → R k (get_or es i d).0 ≡ Equal → ⊥) → find R k es ≡ None
+  pub find_none : (k : K) (es : List (K × X)) (i : ℕ) (d : K × X) → i ≡ key_index R k es → T (is_sorted R es) → (i < length es → R k (get_or es i d).0 ≡ Equal → ⊥) → find R k es ≡ None
   find_none k es i d is h apart =
       let Goal : ℕ → Type 0 = λ j. j < length es → R k (get_or es j d).0 ≡ Equal → ⊥ in
-      find_no_place k es d h (subst Goal is apart)
+      find_no_index k es d h (subst Goal is apart)
 
   -- a key whose index is past all entries is not in the list
-  pub find_past : (k : K) (es : List (K × X)) (i : ℕ) → i ≡ place R k es → T (is_sorted R es) → length es ≤ i → find R k es ≡ None
+  pub find_past : (k : K) (es : List (K × X)) (i : ℕ) → i ≡ key_index R k es → T (is_sorted R es) → length es ≤ i → find R k es ≡ None
   find_past k [] i is h past = refl
   find_past k (e ∷ es) i is h past = find_none k (e ∷ es) i e is h (λ lt _. absurd (omega (arith, lt, past)))
 

@@ -8,9 +8,9 @@ use Rattle.std.specs.FinMap.{is_sorted}
 use Rattle.std.proofs.lemmas.Bool.{eqb-true, ltb-true}
 use Rattle.std.proofs.lemmas.Bool.Decides.{nat_tests}
 use Rattle.bm_base.specs.Maps.Conjunction.{first, second}
-use Rattle.bm_maps.specs.KeyIndex.{place, distance_to}
-use Rattle.bm_maps.proofs.PutLaws.{place-le}
-use Rattle.bm_maps.proofs.BinarySearch.{place_behind, place_before}
+use Rattle.bm_maps.specs.KeyIndex.{key_index, distance_to}
+use Rattle.bm_maps.proofs.PutLaws.{key_index-le}
+use Rattle.bm_maps.proofs.BinarySearch.{index_behind, index_before}
 
 less_by : (a b : ℕ) (lt eq : Bool) → nat_lt a b ≡ lt → T (is_lt (cond lt Less (cond eq Equal Greater))) → a < b
 less_by a b true eq is h = ltb-true a b is
@@ -42,17 +42,17 @@ greater a b lt = elim (nat_cmp a b) as (λ r. OrderImplies a b r → r ≡ Great
 ] (order_implies a b)
 
 module _ {X : Type 0} where
-  pub place_upto : (k : ℕ) (e : ℕ × X) (es : List (ℕ × X)) → T (is_sorted nat_cmp (e ∷ es)) → place nat_cmp k (e ∷ es) ≤ k - e.0
-  place_upto k e [] h =
+  pub index_upto : (k : ℕ) (e : ℕ × X) (es : List (ℕ × X)) → T (is_sorted nat_cmp (e ∷ es)) → key_index nat_cmp k (e ∷ es) ≤ k - e.0
+  index_upto k e [] h =
       elim (nat_cmp k e.0) as (λ r. OrderImplies k e.0 r → distance_to r zero ≤ k - e.0) [
         | Less ↦ λ b. omega arith
         | Equal ↦ λ b. omega arith
         | Greater ↦ λ b. let lt : e.0 < k = b in omega (arith, lt)
       ] (order_implies k e.0)
-  place_upto k e (f ∷ fs) h =
-      let rest : place nat_cmp k (f ∷ fs) ≤ k - f.0 = place_upto k f fs (second _ _ h) in
+  index_upto k e (f ∷ fs) h =
+      let rest : key_index nat_cmp k (f ∷ fs) ≤ k - f.0 = index_upto k f fs (second _ _ h) in
       let rise : e.0 < f.0 = less e.0 f.0 (first _ _ (first _ _ h)) in
-      elim (nat_cmp k e.0) as (λ r. OrderImplies k e.0 r → distance_to r (place nat_cmp k (f ∷ fs)) ≤ k - e.0) [
+      elim (nat_cmp k e.0) as (λ r. OrderImplies k e.0 r → distance_to r (key_index nat_cmp k (f ∷ fs)) ≤ k - e.0) [
         | Less ↦ λ b. omega arith
         | Equal ↦ λ b. omega arith
         | Greater ↦ λ b. let lt : e.0 < k = b in omega (arith, lt, rest, rise)
@@ -65,39 +65,39 @@ module _ {X : Type 0} where
       let rise : e.0 < f.0 = less e.0 f.0 (first _ _ (first _ _ h)) in
       omega (arith, rest, rise)
 
-  pub place_from : (k : ℕ) (e : ℕ × X) (es : List (ℕ × X)) (d : ℕ × X) → T (is_sorted nat_cmp (e ∷ es)) → k ≤ (get_or (e ∷ es) (length es) d).0
-      → length es ≤ place nat_cmp k (e ∷ es) + ((get_or (e ∷ es) (length es) d).0 - k)
-  place_from k e [] d h le = omega arith
-  place_from k e (f ∷ fs) d h le =
-      let rest : length fs ≤ place nat_cmp k (f ∷ fs) + ((get_or (f ∷ fs) (length fs) d).0 - k) = place_from k f fs d (second _ _ h) le in
+  pub index_from : (k : ℕ) (e : ℕ × X) (es : List (ℕ × X)) (d : ℕ × X) → T (is_sorted nat_cmp (e ∷ es)) → k ≤ (get_or (e ∷ es) (length es) d).0
+      → length es ≤ key_index nat_cmp k (e ∷ es) + ((get_or (e ∷ es) (length es) d).0 - k)
+  index_from k e [] d h le = omega arith
+  index_from k e (f ∷ fs) d h le =
+      let rest : length fs ≤ key_index nat_cmp k (f ∷ fs) + ((get_or (f ∷ fs) (length fs) d).0 - k) = index_from k f fs d (second _ _ h) le in
       let wide : suc (length fs) + e.0 ≤ (get_or (f ∷ fs) (length fs) d).0 = spread e (f ∷ fs) d h in
-      elim (nat_cmp k e.0) as (λ r. OrderImplies k e.0 r → suc (length fs) ≤ distance_to r (place nat_cmp k (f ∷ fs)) + ((get_or (f ∷ fs) (length fs) d).0 - k)) [
+      elim (nat_cmp k e.0) as (λ r. OrderImplies k e.0 r → suc (length fs) ≤ distance_to r (key_index nat_cmp k (f ∷ fs)) + ((get_or (f ∷ fs) (length fs) d).0 - k)) [
         | Less ↦ λ b. let le : k ≤ e.0 = b in omega (arith, le, wide)
         | Equal ↦ λ b. let le : k ≤ e.0 = b in omega (arith, le, wide)
         | Greater ↦ λ b. omega (arith, rest)
       ] (order_implies k e.0)
 
   -- the same for reads of the first and of the last entry
-  pub upto_read : (k : ℕ) (es : List (ℕ × X)) (d : ℕ × X) → T (is_sorted nat_cmp es) → 0 < length es → place nat_cmp k es ≤ k - (get_or es 0 d).0
+  pub upto_read : (k : ℕ) (es : List (ℕ × X)) (d : ℕ × X) → T (is_sorted nat_cmp es) → 0 < length es → key_index nat_cmp k es ≤ k - (get_or es 0 d).0
   upto_read k [] d h some = absurd (omega (arith, some))
-  upto_read k (e ∷ es) d h some = place_upto k e es h
+  upto_read k (e ∷ es) d h some = index_upto k e es h
 
   pub from_read : (k : ℕ) (es : List (ℕ × X)) (i : ℕ) (d : ℕ × X) → T (is_sorted nat_cmp es) → i + 1 ≡ length es → k ≤ (get_or es i d).0
-      → i ≤ place nat_cmp k es + ((get_or es i d).0 - k)
+      → i ≤ key_index nat_cmp k es + ((get_or es i d).0 - k)
   from_read k [] i d h last le = absurd (omega (arith, last))
   from_read k (e ∷ es) i d h last le =
       let is : length es ≡ i = omega (arith, last) in
-      let Goal : ℕ → Type 0 = λ j. k ≤ (get_or (e ∷ es) j d).0 → j ≤ place nat_cmp k (e ∷ es) + ((get_or (e ∷ es) j d).0 - k) in
-      subst Goal is (place_from k e es d h) le
+      let Goal : ℕ → Type 0 = λ j. k ≤ (get_or (e ∷ es) j d).0 → j ≤ key_index nat_cmp k (e ∷ es) + ((get_or (e ∷ es) j d).0 - k) in
+      subst Goal is (index_from k e es d h) le
 
   -- the index of a key is past all entries if the key is greater than the last one, and not past it
   -- otherwise
-  pub past_read : (k : ℕ) (es : List (ℕ × X)) (i : ℕ) (d : ℕ × X) → T (is_sorted nat_cmp es) → i + 1 ≡ length es → (get_or es i d).0 < k → length es ≡ place nat_cmp k es
+  pub past_read : (k : ℕ) (es : List (ℕ × X)) (i : ℕ) (d : ℕ × X) → T (is_sorted nat_cmp es) → i + 1 ≡ length es → (get_or es i d).0 < k → length es ≡ key_index nat_cmp k es
   past_read k es i d h last lt =
-      let behind : i < place nat_cmp k es = place_behind nat_cmp nat_cmp_total k es i d h (omega (arith, last)) (greater k (get_or es i d).0 lt) in
-      let upto : place nat_cmp k es ≤ length es = place-le nat_cmp k es in
+      let behind : i < key_index nat_cmp k es = index_behind nat_cmp nat_cmp_total k es i d h (omega (arith, last)) (greater k (get_or es i d).0 lt) in
+      let upto : key_index nat_cmp k es ≤ length es = key_index-le nat_cmp k es in
       omega (arith, behind, upto, last)
 
-  pub before_read : (k : ℕ) (es : List (ℕ × X)) (i : ℕ) (d : ℕ × X) → i + 1 ≡ length es → k ≤ (get_or es i d).0 → place nat_cmp k es ≤ i
+  pub before_read : (k : ℕ) (es : List (ℕ × X)) (i : ℕ) (d : ℕ × X) → i + 1 ≡ length es → k ≤ (get_or es i d).0 → key_index nat_cmp k es ≤ i
   before_read k es i d last le =
-      place_before nat_cmp nat_cmp_total k es i d (omega (arith, last)) (λ gt. let lt : (get_or es i d).0 < k = subst (OrderImplies k (get_or es i d).0) gt (order_implies k (get_or es i d).0) in omega (arith, lt, le))
+      index_before nat_cmp nat_cmp_total k es i d (omega (arith, last)) (λ gt. let lt : (get_or es i d).0 < k = subst (OrderImplies k (get_or es i d).0) gt (order_implies k (get_or es i d).0) in omega (arith, lt, le))

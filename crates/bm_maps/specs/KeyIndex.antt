@@ -10,10 +10,10 @@ distance_to Equal n = zero
 distance_to Greater n = suc n
 
 -- the number of entries before the key's index
-abbrev pub place : {K X : Type 0} → (K → K → Ordering) → K → List (K × X) → ℕ
-place R k [] = zero
-place R k (e ∷ es) = distance_to (R k e.0) (place R k es)
+abbrev pub key_index : {K X : Type 0} → (K → K → Ordering) → K → List (K × X) → ℕ
+key_index R k [] = zero
+key_index R k (e ∷ es) = distance_to (R k e.0) (key_index R k es)
 
 -- the index of a number is between these bounds, which are within the entries
 abbrev pub IsWithin : {X : Type 0} → ℕ → ℕ → ℕ → List (ℕ × X) → Type 0
-IsWithin low high key es = (low ≤ place nat_cmp key es) × (place nat_cmp key es ≤ high) × (high ≤ length es)
+IsWithin low high key es = (low ≤ key_index nat_cmp key es) × (key_index nat_cmp key es ≤ high) × (high ≤ length es)

@@ -2,7 +2,7 @@
 ghost use Rattle.std.specs.Prelude.{◌≡◌, ◌<◌, ◌+◌, ◌-◌, ◌⊎◌, T};
 ghost use Rattle.std.specs.Ordering.{nat_cmp};
 ghost use Rattle.std.specs.FinMap as list;
-ghost use Rattle.bm_maps.specs.KeyIndex.{place, IsWithin};
+ghost use Rattle.bm_maps.specs.KeyIndex.{key_index, IsWithin};
 
 use crate::sorted::index_between;
 use std::cmp::Ordering;
@@ -10,10 +10,10 @@ use std::cmp::Ordering;
 /// The number of entries before a number's index. In strictly ascending numbers `a`, number `k` has
 /// an index of at most `k - a[0]`, and likewise from the end. So dense numbers need no search. With
 /// `n` numbers missing between the first and the last it is a binary search in `n + 1` indices at
-/// most, after two comparisons that leave few of them where the numbers are about even.
+/// most. Two comparisons come first, and leave few indices where the numbers are about even.
 pub(crate) fn index_of_number<V: Copy>(entries: &[(u64, V)], key: u64) -> usize
     requires { T (list.is_sorted nat_cmp entries.now) }
-    ensures { result ≡ place nat_cmp key entries.now }
+    ensures { result ≡ key_index nat_cmp key entries.now }
 {
     let count = entries.len();
     if count == 0 {
@@ -36,7 +36,7 @@ pub(crate) fn index_of_number<V: Copy>(entries: &[(u64, V)], key: u64) -> usize
 /// The same, trying an index first: two comparisons if it is right.
 pub(crate) fn index_by_guess<V: Copy>(entries: &[(u64, V)], key: u64, guess: usize) -> usize
     requires { T (list.is_sorted nat_cmp entries.now) }
-    ensures { result ≡ place nat_cmp key entries.now }
+    ensures { result ≡ key_index nat_cmp key entries.now }
 {
     let (low, high) = narrow(entries, key, 0, entries.len(), guess);
     let (low, high) = narrow(entries, key, low, high, guess.wrapping_sub(1));

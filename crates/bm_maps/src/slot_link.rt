@@ -1,4 +1,4 @@
-// A slot number of 32 bits, or none: what the lists over slots are linked by.
+// A slot number of 32 bits, or none: the link of the lists over slots.
 ghost use Rattle.std.specs.Prelude.{◌≡◌, ◌<◌, nat_lt, Some};
 ghost use Rattle.bm_maps.specs.SlotLinks.{end_of_links};
 

@@ -2,15 +2,15 @@
 // search.
 ghost use Rattle.std.specs.Prelude.{◌≡◌, ◌<◌, ◌≤◌, ◌+◌, if◌then◌else◌, is_some, OnOk, OnErr, IsOk, IsTrue, T, vec_len, vec_capacity, length, insert};
 ghost use Rattle.std.specs.FinMap as list;
-ghost use Rattle.bm_maps.specs.KeyIndex.{place};
+ghost use Rattle.bm_maps.specs.KeyIndex.{key_index};
 
 use std::alloc::AllocError;
 use std::cmp::Ordering;
 
 /// The number of entries before the key's index.
-pub fn place<K: Ord + Copy, V: Copy>(entries: &[(K, V)], key: &K) -> usize
+pub fn key_index<K: Ord + Copy, V: Copy>(entries: &[(K, V)], key: &K) -> usize
     requires { T (list.is_sorted K.cmp entries.now) }
-    ensures { result ≡ place K.cmp key.now entries.now }
+    ensures { result ≡ key_index K.cmp key.now entries.now }
 {
     index_between(entries, key, 0, entries.len())
 }
@@ -23,10 +23,10 @@ pub(crate) fn index_between<K: Ord + Copy, V: Copy>(
     most: usize,
 ) -> usize
     requires sorted { T (list.is_sorted K.cmp entries.now) }
-    requires from { least ≤ place K.cmp key.now entries.now }
-    requires upto { place K.cmp key.now entries.now ≤ most }
+    requires from { least ≤ key_index K.cmp key.now entries.now }
+    requires upto { key_index K.cmp key.now entries.now ≤ most }
     requires inside { most ≤ length entries.now }
-    ensures { result ≡ place K.cmp key.now entries.now }
+    ensures { result ≡ key_index K.cmp key.now entries.now }
 {
     let behind = entries[least..most].partition_point(|entry| key.cmp(&entry.0).is_gt());
     least + behind
@@ -37,13 +37,13 @@ pub fn find<K: Ord + Copy, V: Copy>(entries: &[(K, V)], key: &K) -> Option<V>
     requires { T (list.is_sorted K.cmp entries.now) }
     ensures { result ≡ list.find K.cmp key.now entries.now }
 {
-    find_at(entries, key, place(entries, key))
+    find_at(entries, key, key_index(entries, key))
 }
 
 /// The value at a key with this index.
 pub(crate) fn find_at<K: Ord + Copy, V: Copy>(entries: &[(K, V)], key: &K, at: usize) -> Option<V>
     requires sorted { T (list.is_sorted K.cmp entries.now) }
-    requires at { at ≡ place K.cmp key.now entries.now }
+    requires at { at ≡ key_index K.cmp key.now entries.now }
     ensures { result ≡ list.find K.cmp key.now entries.now }
 {
     if at < entries.len() {
@@ -85,7 +85,7 @@ pub(crate) fn put<K: Ord + Copy, V: Copy>(
     value: V,
 ) -> Result<(), AllocError>
     requires sorted { T (list.is_sorted K.cmp entries.old.items) }
-    requires at { at ≡ place K.cmp key entries.old.items }
+    requires at { at ≡ key_index K.cmp key entries.old.items }
     ensures ok { OnOk result (entries.new.items ≡ list.put K.cmp key value entries.old.items) }
     ensures err { OnErr result (entries.new.items ≡ entries.old.items) }
     ensures succeeds { vec_len entries.old < vec_capacity entries.old → IsOk result }
@@ -140,7 +140,7 @@ pub(crate) fn replace<K: Ord + Copy, V: Copy>(
     value: V,
 )
     requires sorted { T (list.is_sorted K.cmp entries.old.items) }
-    requires at { at ≡ place K.cmp key.now entries.old.items }
+    requires at { at ≡ key_index K.cmp key.now entries.old.items }
     ensures after { entries.new.items
         ≡ (if is_some (list.find K.cmp key.now entries.old.items)
         then list.put K.cmp key.now value entries.old.items else entries.old.items) }

@@ -61,11 +61,11 @@ pub unless : {X : Type 0} (b : Bool) (o : Option X) (x : X) → (if b then None 
 unless true o x e = cc
 unless false o x e = e
 
-pub target_known : (C : Cluster) (chosen : List Transfer) (urgency : Level) (holders barred : List ℕ) (l t : ℕ) → least_target C chosen urgency holders barred l ≡ Some t → contains_key C.storages t ≡ true
+pub target_known : (C : Cluster) (chosen : List Transfer) (urgency : Level) (holders excluded : List ℕ) (l t : ℕ) → least_target C chosen urgency holders excluded l ≡ Some t → contains_key C.storages t ≡ true
 unfolding least_target least_target_by
-target_known C chosen urgency holders barred l t e =
-    least_is_one (λ s. contains_key C.storages s ≡ true) (target_cmp C (scheduled_to chosen) holders) (filter (is_target C (scheduled_to chosen) urgency holders barred l) (keys C.storages))
-    (each_filtered (λ s. contains_key C.storages s ≡ true) (is_target C (scheduled_to chosen) urgency holders barred l) (keys C.storages) (each_key C.storages)) t e
+target_known C chosen urgency holders excluded l t e =
+    least_is_one (λ s. contains_key C.storages s ≡ true) (target_cmp C (scheduled_to chosen) holders) (filter (is_target C (scheduled_to chosen) urgency holders excluded l) (keys C.storages))
+    (each_filtered (λ s. contains_key C.storages s ≡ true) (is_target C (scheduled_to chosen) urgency holders excluded l) (keys C.storages) (each_key C.storages)) t e
 
 -- the transfer of a block with this information, from this source to this target
 abbrev pub made : ℕ → BlockInfo → ℕ → ℕ → Transfer

@@ -19,8 +19,8 @@ use Rattle.bm_parts.specs.LevelLaws.{IsRacked}
 use Rattle.bm_parts.proofs.Storages.{storages_left, none_leaves, each_where, usable_fails}
 use Rattle.bm_parts.proofs.Deaths.{draining_elsewhere, rack_elsewhere, rack_left, draining_left}
 
--- A level depends on the cluster only by the racks of the block's usable replicas, by which of them
--- are on nodes that drain, and by whether there are several racks.
+-- Of the cluster, a level depends only on the racks of the block's usable replicas, which of these
+-- are on nodes that drain, and whether there are several racks.
 
 filter_map_same : (f g : ℕ → Option ℕ) (ss : List ℕ) → Each (λ s. f s ≡ g s) ss → filter_map f ss ≡ filter_map g ss
 filter_map_same f g [] each = refl

@@ -21,7 +21,7 @@ use Rattle.bm_base.proofs.ClusterEvents.{IsRegistrable, fresh, same_nodes}
 
 -- G in D has only replicas and transfers that H has in C, marks aside, on storages that keep their
 -- nodes
-pub record IsAmong (C D : Cluster) (H G : Holdings) : Type 0 where
+pub record IsRemainder (C D : Cluster) (H G : Holdings) : Type 0 where
   pub replicas : (p : ReplicaId) → is_some (get G.replicas p) ≡ true → is_some (get H.replicas p) ≡ true
   pub pending : (p : ReplicaId) → is_some (get G.pending p) ≡ true → is_some (get H.pending p) ≡ true
   pub replica_nodes : (p : ReplicaId) → is_some (get G.replicas p) ≡ true → node_of D p.storage ≡ node_of C p.storage
@@ -37,7 +37,7 @@ pub record HasLawfulMarks (G : Holdings) : Type 0 where
 pub marks_of : (C : Cluster) (H : Holdings) → IsLawfulHoldings C H → HasLawfulMarks H
 marks_of C H L = record { strays = L.strays; excess_is_good = L.excess_is_good; pending_known = L.pending_known; replicated = L.replicated }
 
-pub lawful_among : (C D : Cluster) (H G : Holdings) → IsLawfulHoldings C H → IsAmong C D H G → HasLawfulMarks G → IsLawfulHoldings D G
+pub lawful_among : (C D : Cluster) (H G : Holdings) → IsLawfulHoldings C H → IsRemainder C D H G → HasLawfulMarks G → IsLawfulHoldings D G
 lawful_among C D H G L A S = record {
   stored = λ p e. as_known C D p.storage (A.replica_nodes p e) (L.stored p (A.replicas p e));
   pending_stored = λ p e. as_known C D p.storage (A.pending_nodes p e) (L.pending_stored p (A.pending p e));
@@ -50,7 +50,7 @@ lawful_among C D H G L A S = record {
 
 -- the same if the cluster does not change
 pub among_here : (C : Cluster) (H G : Holdings) → ((p : ReplicaId) → is_some (get G.replicas p) ≡ true → is_some (get H.replicas p) ≡ true)
-    → ((p : ReplicaId) → is_some (get G.pending p) ≡ true → is_some (get H.pending p) ≡ true) → IsAmong C C H G
+    → ((p : ReplicaId) → is_some (get G.pending p) ≡ true → is_some (get H.pending p) ≡ true) → IsRemainder C C H G
 among_here C H G r t = record { replicas = r; pending = t; replica_nodes = λ _ _. refl; pending_nodes = λ _ _. refl }
 
 was_there : {X : Type 0} (m : Map by_replica X) (p : ReplicaId → X → Bool) (q : ReplicaId) → is_some (get (keep m p) q) ≡ true → (is_some (get m q) ≡ true) × (x : X) × (p q x ≡ true)

@@ -1,4 +1,4 @@
-// Events, made on parts.
+// Events applied to parts.
 #![tactic(auto)]
 
 ghost use Rattle.std.specs.Prelude.{◌≡◌};

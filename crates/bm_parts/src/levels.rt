@@ -1,4 +1,5 @@
-// What events and rounds leave of levels, and that replicas stay on storages of alive nodes.
+// Events and rounds that change no level or only that of one block, and replicas that stay on
+// storages of alive nodes.
 #![tactic(auto)]
 
 ghost use Rattle.bm_parts.specs.LevelLaws as law;

@@ -7,7 +7,7 @@ ghost use Rattle.smallvec.specs.SmallVec.{HasRoomFor};
 ghost use Rattle.bm_base.specs.Words.{has, is_expired};
 
 use bm_base::StorageId;
-use bm_maps::sorted::place;
+use bm_maps::sorted::key_index;
 use smallvec::SmallVec;
 use std::cmp::Ordering;
 
@@ -21,7 +21,7 @@ pub(crate) fn put(targets: &mut PendingTargets, storage: u32, round: u64)
     ensures items { targets.new.items ≡ list.put nat_cmp storage round targets.old.items }
     ensures capacity { targets.new.capacity ≡ targets.old.capacity }
 {
-    let at = place(targets.as_slice(), &storage);
+    let at = key_index(targets.as_slice(), &storage);
     if at < targets.len() {
         match storage.cmp(&targets.as_slice()[at].0) {
             Ordering::Equal => {

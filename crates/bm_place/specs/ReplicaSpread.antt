@@ -21,11 +21,11 @@ abbrev pub with_storages : Cluster → ReplicaSpread → List ℕ → ReplicaSpr
 with_storages C w [] = w
 with_storages C w (s ∷ ss) = with_storages C (with_storage C w s) ss
 
--- of no storage
+-- the spread of no storage
 abbrev pub no_spread : ReplicaSpread
 no_spread = record { racks = Nothing; storages = Nothing }
 
--- of these storages
+-- the spread of these storages
 unfoldable pub replica_spread_of : Cluster → List ℕ → ReplicaSpread
 replica_spread_of C held = with_storages C no_spread held
 

@@ -21,7 +21,7 @@ target_at C sent s = record { storage = s; node = node_of C s; rack = rack_of C 
 abbrev pub target_table : Cluster → (ℕ → ℕ) → Map by_number TargetRow
 target_table C sent = table (target_at C sent) (keys C.storages)
 
--- the remaining bytes less those scheduled to it: the same on rows as `room`
+-- the remaining bytes less those scheduled to it: the same on rows as `free_bytes`
 abbrev pub free_bytes_on : TargetRow → ℕ
 free_bytes_on t = t.remaining - t.scheduled
 

@@ -140,7 +140,7 @@ fn is_better_than(one: &TargetRow, other: &TargetRow) -> bool
         .is_lt()
 }
 
-/// Its remaining bytes less those scheduled to it.
+/// The remaining bytes of a target less those scheduled to it.
 pub fn free_bytes_on(target: &TargetRow) -> u64
     ensures { result ≡ targets.free_bytes_on target.now }
 {

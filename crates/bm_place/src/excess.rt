@@ -53,20 +53,20 @@ pub fn excess_of(
     ensures refused { IfErr result (λ e. e ≡ Memory) }
 {
     let mut chosen = Vec::new(alloc);
-    let mut room = ExcessScratch::new(alloc);
-    fill_excess(&mut chosen, &mut room, live, repl, topology)?;
+    let mut scratch = ExcessScratch::new(alloc);
+    fill_excess(&mut chosen, &mut scratch, live, repl, topology)?;
     Ok(chosen)
 }
 
-/// Replaces the contents of `into` by what [`excess_of`] returns, in the same steps. `room` is
-/// scratch space and may have been used for any block before.
+/// Replaces the contents of `into` by what [`excess_of`] returns, in the same steps. `scratch` may
+/// have been used for any block before.
 ///
-/// It takes memory only if some are in excess, and then only if `into` or a list of `room` grows
+/// It takes memory only if some are in excess, and then only if `into` or a list of `scratch` grows
 /// past its capacity. `Memory` if such a growth is refused; then the contents of `into` are
 /// unspecified.
 pub fn fill_excess(
     into: &mut Vec<StorageId>,
-    room: &mut ExcessScratch,
+    scratch: &mut ExcessScratch,
     live: &[StorageId],
     repl: u32,
     topology: &Topology,
@@ -81,14 +81,14 @@ pub fn fill_excess(
     if surplus == 0 {
         return Ok(());
     }
-    Ok(push_by_sorting(into, room, live, surplus, topology)?)
+    Ok(push_by_sorting(into, scratch, live, surplus, topology)?)
 }
 
 /// Appends the `surplus` first of these storages in the order of choice: sorts them and iterates
 /// once.
 fn push_by_sorting(
     into: &mut Vec<StorageId>,
-    room: &mut ExcessScratch,
+    scratch: &mut ExcessScratch,
     live: &[StorageId],
     surplus: usize,
     topology: &Topology,
@@ -96,14 +96,14 @@ fn push_by_sorting(
     ensures { OnOk result (has_repeats live.now ≡ false → into.new.items ≡ into.old.items
         ++ excess.excess_among topology.now.cluster surplus live.now) }
 {
-    fill_holders(&mut room.holders, live, topology)?;
-    sort_holders(&mut room.holders);
-    count_racks(&mut room.racks, &room.holders)?;
+    fill_holders(&mut scratch.holders, live, topology)?;
+    sort_holders(&mut scratch.holders);
+    count_racks(&mut scratch.racks, &scratch.holders)?;
     push_in_order(
         into,
-        &mut room.kept,
-        &mut room.racks,
-        &room.holders,
+        &mut scratch.kept,
+        &mut scratch.racks,
+        &scratch.holders,
         surplus,
     )
 }

@@ -43,8 +43,8 @@ impl ReplicaSpread {
     }
 
     /// The class of a target on this rack, 0 before 1. If the block is held on one rack, another
-    /// rack is better; if two storages on two racks hold it, one of these racks is; else every rack
-    /// is as good.
+    /// rack is better. If two storages on two racks hold it, one of these racks is better. Else all
+    /// racks are equally good.
     pub fn class_of(&self, rack: Option<Rack>) -> u32
         ensures { result ≡ places.class_on self.now.racks (places.are_two self.now.storages) rack }
     {

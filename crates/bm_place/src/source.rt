@@ -23,11 +23,11 @@ pub struct SourceRow {
     pub storage: StorageId,
 }
 
-/// The source of a copy of a block at this level, among the storages of its usable replicas: one
-/// whose node drains, since it is to be emptied; then one whose node sends the fewest transfers,
-/// then of the lesser node, then the lesser storage. `None` only if no node of these may send one
-/// more: at the highest level a node may send 4 transfers in a round, at others 2, and one that
-/// drains 4 at each.
+/// The source of a copy of a block at this level, among the storages of its usable replicas. A
+/// storage whose node drains comes first, since the node is to be emptied. Then the node with the
+/// fewest outgoing transfers comes first, then the lesser node, then the lesser storage. `None`
+/// only if no node of these may send one more. A node may send 4 transfers in a round at the
+/// highest level and 2 at the others; one that drains may send 4 at each.
 ///
 /// `streams` was made from the same cluster; else the answer is unspecified. Scans each usable
 /// replica once, with four look-ups. Takes no memory.

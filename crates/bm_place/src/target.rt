@@ -20,7 +20,7 @@ use bm_topo::Topology;
 ///
 /// A storage is eligible if `len` fits with the bytes scheduled to it, and its node does not drain
 /// and is not excluded. If `held` is on one rack, another rack goes first, and for a badly
-/// distributed block no other is eligible; if `held` is just two storages on two racks, these racks
+/// distributed block no other is eligible. If `held` is just two storages on two racks, these racks
 /// go first. Then more free bytes, then the lesser storage. `None` only if none is eligible.
 ///
 /// `scheduled` was made from the same cluster; else the answer is unspecified. It iterates over

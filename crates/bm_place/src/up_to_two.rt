@@ -35,7 +35,7 @@ impl UpToTwo {
         }
     }
 
-    /// Whether it is just one.
+    /// Whether there is exactly one number.
     pub fn is_one(&self) -> bool
         ensures { result ≡ numbers.is_one self.now }
     {

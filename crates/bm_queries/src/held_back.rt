@@ -1,4 +1,4 @@
-// Whether a block holds a node back.
+// Whether a block keeps a draining node from being retired.
 ghost use Rattle.std.specs.Prelude.{◌≡◌, ℕ, length};
 ghost use Rattle.std.specs.List.{list_any};
 ghost use Rattle.bm_base.specs.Words.{Map, by_replica};
@@ -62,7 +62,7 @@ fn holds_back_at(topology: &Topology, arena: &Arena, storage: StorageId, slot: S
     }
 }
 
-/// Whether such a block is in the list of a storage.
+/// Whether a block in the list of a storage has a usable replica there, and lacks live ones.
 fn holds_back_on(topology: &Topology, arena: &Arena, storage: StorageId) -> bool
     ensures { result ≡ holds_back_on topology.now.cluster arena.now storage }
 {
@@ -74,7 +74,7 @@ fn holds_back_on(topology: &Topology, arena: &Arena, storage: StorageId) -> bool
     false
 }
 
-/// Whether a block of a storage does, and the node of the storage drains.
+/// Whether a block of a storage keeps its node from being retired. Only a draining node is kept.
 fn holds_back_node(topology: &Topology, arena: &Arena, storage: StorageId) -> bool
     ensures { result ≡ holds_back_node topology.now.cluster arena.now storage }
 {
@@ -82,7 +82,7 @@ fn holds_back_node(topology: &Topology, arena: &Arena, storage: StorageId) -> bo
     is_draining && holds_back_on(topology, arena, storage)
 }
 
-/// Whether a block of one of these storages does.
+/// Whether a block of one of these storages keeps the node from being retired.
 fn any_waits(topology: &Topology, arena: &Arena, storages: &[StorageId]) -> bool
     ensures { result ≡ list_any (holds_back_node topology.now.cluster arena.now) storages.now }
 {

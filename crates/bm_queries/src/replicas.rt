@@ -17,9 +17,9 @@ use std::alloc::{AllocError, Global};
 #[derive(Clone, Copy, Debug)]
 pub enum ReplicaFilter {
     All,
-    /// The stale and the bad ones.
+    /// Stale and bad replicas.
     Corrupt,
-    /// Those in excess.
+    /// Replicas in excess.
     Excess,
 }
 

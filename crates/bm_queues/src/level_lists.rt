@@ -63,9 +63,9 @@ impl LevelLists {
         })
     }
 
-    /// For proofs alone: the invariant of level lists, the content of `slots`, and that following
-    /// `next` from the first slot of a level visits its slots, each once and in order. It does
-    /// nothing when it runs.
+    /// For proofs alone: the invariant of level lists, and the content of `slots`. Following `next`
+    /// from the first slot of a level gives its slots, each once and in order. It does nothing when
+    /// it runs.
     pub fn show_invariant(&self)
         ensures lawful { IsLawful self.now }
         ensures exact { (l : Level) (slot : ℕ)

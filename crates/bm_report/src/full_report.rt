@@ -1,4 +1,4 @@
-// A full report is applied by the delimiter.
+// Applies a full report by the delimiter.
 ghost use Rattle.std.specs.Prelude.{◌≡◌, ◌≢◌, ◌≤◌, ◌<◌, ◌+◌, ◌^◌, ℕ, length, map, take, vec_len, vec_capacity, None, ◌⊎◌};
 ghost use Rattle.bm_base.specs.Machine.Events as events;
 ghost use Rattle.bm_base.specs.Machine.Calls as calls;

@@ -2,10 +2,10 @@
 //! single replicas.
 //!
 //! A report is taken in two steps. `ready`, or `ready_one` for a notice, finds or makes the entries
-//! of its numbers and reserves all memory, and may be refused it; then `apply_full`,
-//! `apply_received` or `abort` takes none and succeeds. A `Report` keeps the slots in between, so
-//! that a known number is hashed at most twice, reads 64 numbers ahead, and lists the slots that
-//! change; a shard holds one. The free functions keep nothing and look each number up again.
+//! of its numbers and reserves all memory, which can be refused. Then `apply_full`,
+//! `apply_received` or `abort` takes none and succeeds. In between, a `Report` keeps the slots, so
+//! that a known number is hashed at most twice. It reads 64 numbers ahead and lists the slots that
+//! change. A shard holds one. The free functions keep nothing and look each number up again.
 //!
 //! Contracts describe the blocks and replicas of an arena by two finite maps.
 #![tactic(auto)]

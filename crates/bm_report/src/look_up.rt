@@ -126,10 +126,10 @@ fn look_up_all(
     Ok(())
 }
 
-/// With a single shard: reads the arena's entries of a chunk's numbers, of a run only the first,
-/// and reserves capacity to name those that are known with the reported stamp. A read is so short
-/// that many cache misses overlap; a look-up is too long for that. With several shards each number
-/// would cost one more division.
+/// With a single shard: reads the arena's entries of a chunk's numbers, of a run only the first. It
+/// reserves capacity to name those that are known with the reported stamp. A read is so short that
+/// many cache misses overlap; a look-up is too long for that. With several shards each number would
+/// cost one more division.
 fn read_ahead(
     arena: &Arena,
     chunk: &[Entry],

@@ -23,10 +23,10 @@ use bm_topo::Topology;
 use std::alloc::Global;
 use std::marker::Model;
 
-/// What a shard keeps of a report between `ready` and its end: the slots of its numbers, so that a
-/// known number is hashed at most twice, and a list of the slots that change, with its capacity. A
-/// contract sees both as lists. Only `ready` takes memory; a shard keeps one `Report` for all its
-/// reports, so that its capacity is allocated once.
+/// What a shard keeps of a report between `ready` and its end. It has the slots of the numbers, so
+/// that a known number is hashed at most twice. It also has a list of the slots that change, with
+/// its capacity. A contract sees both as lists. Only `ready` takes memory; a shard keeps one
+/// `Report` for all its reports, so that its capacity is allocated once.
 #[derive(Drop)]
 pub struct Report {
     named: Vec<ReportedSlot>,
@@ -64,8 +64,8 @@ impl Report {
         }
     }
 
-    /// Finds the slot of each number of the part that the entries name, in order, repeats included;
-    /// gives an entry to a new number; and reserves all that the end of the report needs. The
+    /// Finds the slot of each number of the part that the entries name, in order, repeats included.
+    /// Gives an entry to a new number, and reserves all that the end of the report needs. The
     /// numbers of other shards are skipped without a step each. All blocks and replicas stay, and
     /// an earlier look-up is forgotten. `Memory`: then `abort` drops the new entries.
     pub fn ready(

@@ -1,8 +1,8 @@
-// What a report did so far, counted.
+// Counts of what a report has done so far.
 ghost use Rattle.std.specs.Prelude.{◌≡◌, ◌<◌, ◌^◌};
 ghost use Rattle.bm_report.specs.DuringReport.{FitsCounters, counts_after_move, counts_after_link, counts_after_sweep};
 
-/// What a report did so far.
+/// The counts of a report so far.
 #[derive(Clone, Copy)]
 pub(crate) struct ReportCounts {
     pub(crate) added: u128,

@@ -11,4 +11,4 @@ index_where p (n ∷ ns) = if p n then Some 0 else option_map suc (index_where p
 
 -- a storage was looked up, with the index of its node among these
 abbrev pub IsLookedUp : Cluster → List ℕ → Option LookedUp → Type 0
-IsLookedUp C ids o = IfSome o (λ l. l.place ≡ index_where (λ n. has_storage C n l.storage) ids)
+IsLookedUp C ids o = IfSome o (λ l. l.index ≡ index_where (λ n. has_storage C n l.storage) ids)

@@ -18,9 +18,9 @@ pub(crate) struct ChosenSoFar<'a> {
     pub transfers: Vec<Transfer>,
     pub streams: Streams<'a>,
     pub scheduled: Scheduled<'a>,
-    /// For the current wish: the storages that may be the source; those that hold a live replica
-    /// of the block or will; and those on whose nodes no copy may be put. The three lists are
-    /// cleared and filled again for each wish, so they allocate only where one grows past its
+    /// For the current wish: the storages that may be the source, and those that hold a live
+    /// replica of the block or will. Also those on whose nodes no copy may be put. The three lists
+    /// are cleared and filled again for each wish, so they allocate only where one grows past its
     /// capacity.
     pub sources: Vec<StorageId>,
     pub held: Vec<StorageId>,

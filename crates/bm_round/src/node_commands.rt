@@ -1,4 +1,4 @@
-// What each DataNode is commanded.
+// The commands for each DataNode.
 ghost use Rattle.std.specs.Prelude.{◌≡◌, filter, IfOk, IfErr};
 ghost use Rattle.std.specs.List.{All};
 ghost use Rattle.bm_base.specs.declared.refusal.Refusal.TheVariants.{Memory};

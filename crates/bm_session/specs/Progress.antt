@@ -24,8 +24,8 @@ pub record Progress (M : State) (start now : Option (List ℕ)) (s : Session) (b
   pub refused : s.refused ≡ refusals M lines
   pub begun : 0 < length rest → length lines < MAX_LINES
 
--- The first n lines are answered, each by a whole line, and no more is written: all lines that
--- ended before the piece, and of those that end in it some first ones.
+-- The first n lines are answered, each by a whole line, and no more is written. They are all lines
+-- that ended before the piece, and a prefix of those that end in it.
 pub record Answered (M : State) (start now : Option (List ℕ)) (done piece : List ℕ) (n : ℕ) : Type 0 where
   pub no_fewer : length (whole_lines done) ≤ n
   pub no_more : n ≤ length (whole_lines (done ++ piece))

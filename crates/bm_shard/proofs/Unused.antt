@@ -124,8 +124,8 @@ none_received C H a c s b stamp lawful ids others is only n unused =
           differs (sym (only n (unused_elsewhere a c n led.0 here led.1 (others led.0 apart) unused)))
     ]
 
--- After a report no entry is unused, if at most those of its numbers were before, and none at the
--- slots that it swept is: the other slots that it changed are those of its numbers.
+-- After a report no entry is unused, if at most those of its numbers were before, and none is at
+-- the slots that it swept. The other slots that it changed are those of its numbers.
 pub none_reported : (C : Cluster) (H : Holdings) (s : ℕ) (ns : List ReportedSlot) (a m c : Contents) (changed : List ℕ) (came : ℕ) → IsLawful a → m.ids ≡ a.ids
     → levels.IsSameButDelimiter changed a m → ((slot : ℕ) → IsMember slot (take came changed) → IsReportedAt a (map reported_of ns) slot) → replicas_of m ≡ (report C H s (map reported_of ns)).replicas
     → ((n : ℕ) → levels.IsUnused a n → IsTrue (is_named (map reported_of ns) n)) → levels.MakesNoUnused m c

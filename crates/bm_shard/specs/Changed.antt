@@ -17,8 +17,8 @@ HasLevels C S = (b : ℕ) → get S.levels b ≡ level C S.holdings b
 unfoldable pub owns : Part → Event → Bool
 owns part e = option_map_or (λ b. shard_of b part.shards == part.index) (block_of e) true
 
--- The holdings are now these, the given numbers of replicas came and went, and levels that were
--- right in one cluster are right in the other; all else but capacity stays.
+-- The holdings are now these, and the given numbers of replicas came and went. Levels that were
+-- right in one cluster are right in the other. All else but capacity stays.
 pub record HasChanged (C D : Cluster) (old new : Seen) (to : Holdings) (answer : Done) : Type 0 where
   pub holdings : new.holdings ≡ to
   pub done : answer ≡ done old.holdings to

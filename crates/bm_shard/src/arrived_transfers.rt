@@ -1,4 +1,4 @@
-// Transfers that end as the replicas for which they were commanded are reported.
+// Ends pending transfers whose replicas were reported.
 ghost use Rattle.std.specs.Prelude.{◌≡◌, ◌==◌, ◌&&◌, ℕ, not, slice_get, Some};
 ghost use Rattle.bm_base.specs.Words.{contains_key, keep, replica_at};
 ghost use Rattle.bm_arena.specs.HeldMaps.{replicas_of};

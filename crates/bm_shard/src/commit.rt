@@ -1,4 +1,4 @@
-// Events as they change a shard.
+// Commits an event: changes a prepared shard, and takes no memory.
 ghost use Rattle.std.specs.Prelude.{◌≡◌, ◌<◌, ◌^◌, None, true, false};
 ghost use Rattle.bm_base.specs.Words.{is_multi_rack, change_cluster, first_of, cluster_checks, done};
 ghost use Rattle.bm_parts.specs.Parts.{block_of, change_part};

@@ -1,4 +1,4 @@
-// The memory of an event, and giving it up.
+// Takes the memory that an event needs, or gives it up.
 ghost use Rattle.std.specs.Prelude.{◌≡◌, ◌==◌, ◌<◌, ◌∷◌, [], ℕ, None, Some, IfErr, OnOk, OnErr};
 ghost use Rattle.bm_base.specs.declared.refusal.Refusal.TheVariants.{Memory};
 ghost use Rattle.bm_base.specs.Words.{Refuses, Cluster, is_named};

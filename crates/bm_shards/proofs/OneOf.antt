@@ -80,43 +80,43 @@ own_at shards Ps k P own e =
     ∙ same_Some _ _ (sym (number_at (λ i. cut (whole_of Ps) i shards) 0 (length Ps) k (slice_get_within Ps k P e)) ∙ ap (λ Qs. slice_get Qs k) (parts_again shards Ps 0 own) ∙ e)
 
 -- the shard of a block holds what all shards hold of the shard's numbers
-pub own_holdings : (b place : ℕ) (ss : List (ℕ × Seen)) (s : ℕ × Seen) → AreShards (length ss) ss → place ≡ shard_of b (length ss) → slice_get ss place ≡ Some s
+pub own_holdings : (b index : ℕ) (ss : List (ℕ × Seen)) (s : ℕ × Seen) → AreShards (length ss) ss → index ≡ shard_of b (length ss) → slice_get ss index ≡ Some s
     → s.1.holdings ≡ cut (held_by ss) (shard_of b (length ss)) (length ss)
-own_holdings b place ss s h at there =
-    sym (own_at (length ss) (parts_of ss) place s.1.holdings h.own (get_part ss place s there)) ∙ ap (λ k. cut (held_by ss) k (length ss)) at
+own_holdings b index ss s h at there =
+    sym (own_at (length ss) (parts_of ss) index s.1.holdings h.own (get_part ss index s there)) ∙ ap (λ k. cut (held_by ss) k (length ss)) at
 
 pub has_shard : (b : ℕ) (ss : List (ℕ × Seen)) → AreShards (length ss) ss → shard_of b (length ss) < length ss
 has_shard b ss h = omega (arith, h.some)
 
 module _ (C : Cluster) (e : Event) (b : ℕ) (ss ts : List (ℕ × Seen)) (h : AreShards (length ss) ss) (is : block_of e ≡ Some b) where
-  abbrev place : ℕ
-  place = shard_of b (length ss)
+  abbrev index : ℕ
+  index = shard_of b (length ss)
 
-  module _ (d : Done) (made : IsMadeAt (λ S T. IsChanged C e S T d) place ss ts) where
+  module _ (d : Done) (made : IsMadeAt (λ S T. IsChanged C e S T d) index ss ts) where
     abbrev S : ℕ × Seen
     S = made.shard
 
     changed_part : made.made.holdings ≡ change_holdings C S.1.holdings e
     changed_part =
-        let at = indexed_at (length ss) 0 ss place S h.indexed made.there in
-        let zero_more : place + 0 ≡ place = omega arith in
+        let at = indexed_at (length ss) 0 ss index S h.indexed made.there in
+        let zero_more : index + 0 ≡ index = omega arith in
         made.holds.holdings ∙ ap (λ p. change_part C S.1.holdings p.index p.shards e) at ∙ ap (λ n. change_part C S.1.holdings n (length ss) e) zero_more
-        ∙ one_block_changes_one_part C S.1.holdings e b place (length ss) is ∙ ap (λ t. if t then change_holdings C S.1.holdings e else S.1.holdings) (eq-eqb place place refl)
+        ∙ one_block_changes_one_part C S.1.holdings e b index (length ss) is ∙ ap (λ t. if t then change_holdings C S.1.holdings e else S.1.holdings) (eq-eqb index index refl)
 
-    parts_now : parts_of ts ≡ slice_set (parts_of ss) place (change_holdings C S.1.holdings e)
-    parts_now = ap parts_of made.now ∙ set_part ss place (S.0, made.made) ∙ ap (slice_set (parts_of ss) place) changed_part
+    parts_now : parts_of ts ≡ slice_set (parts_of ss) index (change_holdings C S.1.holdings e)
+    parts_now = ap parts_of made.now ∙ set_part ss index (S.0, made.made) ∙ ap (slice_set (parts_of ss) index) changed_part
 
     abbrev enough : Type 0
     enough = (held_by ts ≡ change_holdings C (held_by ss) e) × AreShards (length ts) ts × (d ≡ done (held_by ss) (held_by ts))
 
     pub one_is_enough : enough
     one_is_enough =
-        let all = one_shard_is_enough C e b (length ss) (parts_of ss) S.1.holdings h.some (sym (count_of ss)) h.own is (get_part ss place S made.there) in (
+        let all = one_shard_is_enough C e b (length ss) (parts_of ss) S.1.holdings h.some (sym (count_of ss)) h.own is (get_part ss index S made.there) in (
           ap whole_of parts_now ∙ all.0.0,
           are_shards (length ss) ts (record {
-            indexed = subst (AreIndexed (length ss) 0) (sym made.now) (indexed_set (length ss) 0 ss place S (S.0, made.made) h.indexed made.there refl made.holds.part);
+            indexed = subst (AreIndexed (length ss) 0) (sym made.now) (indexed_set (length ss) 0 ss index S (S.0, made.made) h.indexed made.there refl made.holds.part);
             own = subst (AreOwn (length ss) 0) (sym parts_now) all.0.1;
-            long = sym (ap length made.now ∙ set_long ss place (S.0, made.made));
+            long = sym (ap length made.now ∙ set_long ss index (S.0, made.made));
             some = h.some;
             few = h.few;
           }),
@@ -127,18 +127,18 @@ module _ (C : Cluster) (e : Event) (b : ℕ) (ss ts : List (ℕ × Seen)) (h : A
     one_up_to_date was_up_to_date =
         let same : change_cluster C e ≡ C = same_cluster C e b is in
         subst (λ D. AreUpToDate D ts) (sym same)
-        (subst (AreUpToDate C) (sym made.now) (up_to_date_set C ss place (S.0, made.made) was_up_to_date (subst (λ D. IsUpToDate D made.made) same made.holds.up_to_date)))
+        (subst (AreUpToDate C) (sym made.now) (up_to_date_set C ss index (S.0, made.made) was_up_to_date (subst (λ D. IsUpToDate D made.made) same made.holds.up_to_date)))
 
     pub one_took : (round pend : ℕ) → HaveTaken round pend ss → HaveTaken round pend ts
-    one_took round pend took = subst (HaveTaken round pend) (sym made.now) (took_set round pend ss place S (S.0, made.made) took made.there made.holds.round made.holds.pend)
+    one_took round pend took = subst (HaveTaken round pend) (sym made.now) (took_set round pend ss index S (S.0, made.made) took made.there made.holds.round made.holds.pend)
 
   -- if it changed only its capacity
-  module _ (made : IsMadeAt IsSameButCapacity place ss ts) where
+  module _ (made : IsMadeAt IsSameButCapacity index ss ts) where
     abbrev O : ℕ × Seen
     O = made.shard
 
     parts_still : parts_of ts ≡ parts_of ss
-    parts_still = ap parts_of made.now ∙ set_part ss place (O.0, made.made) ∙ ap (slice_set (parts_of ss) place) (ap (λ s. s.holdings) made.holds.rest) ∙ set_same (parts_of ss) place O.1.holdings (get_part ss place O made.there)
+    parts_still = ap parts_of made.now ∙ set_part ss index (O.0, made.made) ∙ ap (slice_set (parts_of ss) index) (ap (λ s. s.holdings) made.holds.rest) ∙ set_same (parts_of ss) index O.1.holdings (get_part ss index O made.there)
       where
         set_same : (Ps : List Holdings) (k : ℕ) (P : Holdings) → slice_get Ps k ≡ Some P → slice_set Ps k P ≡ Ps
         set_same [] k P e = refl
@@ -150,20 +150,20 @@ module _ (C : Cluster) (e : Event) (b : ℕ) (ss ts : List (ℕ × Seen)) (h : A
 
     pub still_are : AreShards (length ts) ts
     still_are = are_shards (length ss) ts (record {
-      indexed = subst (AreIndexed (length ss) 0) (sym made.now) (indexed_set (length ss) 0 ss place O (O.0, made.made) h.indexed made.there refl (ap (λ s. s.part) made.holds.rest));
+      indexed = subst (AreIndexed (length ss) 0) (sym made.now) (indexed_set (length ss) 0 ss index O (O.0, made.made) h.indexed made.there refl (ap (λ s. s.part) made.holds.rest));
       own = subst (AreOwn (length ss) 0) (sym parts_still) h.own;
-      long = sym (ap length made.now ∙ set_long ss place (O.0, made.made));
+      long = sym (ap length made.now ∙ set_long ss index (O.0, made.made));
       some = h.some;
       few = h.few;
     })
 
     pub still_up_to_date : AreUpToDate C ss → AreUpToDate C ts
     still_up_to_date was_up_to_date =
-        subst (AreUpToDate C) (sym made.now) (up_to_date_set C ss place (O.0, made.made) was_up_to_date (stays_up_to_date C O.1 made.made made.holds (up_to_date_at C ss place O was_up_to_date made.there)))
+        subst (AreUpToDate C) (sym made.now) (up_to_date_set C ss index (O.0, made.made) was_up_to_date (stays_up_to_date C O.1 made.made made.holds (up_to_date_at C ss index O was_up_to_date made.there)))
 
     pub still_took : (round pend : ℕ) → HaveTaken round pend ss → HaveTaken round pend ts
     still_took round pend took =
-        subst (HaveTaken round pend) (sym made.now) (took_set round pend ss place O (O.0, made.made) took made.there (ap (λ s. s.round) made.holds.rest) (ap (λ s. s.pend) made.holds.rest))
+        subst (HaveTaken round pend) (sym made.now) (took_set round pend ss index O (O.0, made.made) took made.there (ap (λ s. s.round) made.holds.rest) (ap (λ s. s.pend) made.holds.rest))
 
 -- an element that was borrowed at an index is at that index
 pub item_there : {X : Type 0} (xs : List X) (k : ℕ) (x : X) → k < length xs → x ≡ slice_index_or xs k x → slice_get xs k ≡ Some x
@@ -182,8 +182,8 @@ made_err R (Ok d) k ss s T there h = h
 made_err R (Err x) k ss s T there h = record { shard = s; made = T; there = there; now = refl; holds = h }
 
 -- The outcome of an event, in the form of a function's goals.
-module _ (C : Cluster) (e : Event) (b place : ℕ) (ss ts : List (ℕ × Seen)) (o : Result Done Refusal) (h : AreShards (length ss) ss) (is : block_of e ≡ Some b) (at : place ≡ shard_of b (length ss))
-    (changed : IfOk o (λ d. IsMadeAt (λ S T. IsChanged C e S T d) place ss ts)) (same : OnErr o (IsMadeAt IsSameButCapacity place ss ts)) where
+module _ (C : Cluster) (e : Event) (b index : ℕ) (ss ts : List (ℕ × Seen)) (o : Result Done Refusal) (h : AreShards (length ss) ss) (is : block_of e ≡ Some b) (at : index ≡ shard_of b (length ss))
+    (changed : IfOk o (λ d. IsMadeAt (λ S T. IsChanged C e S T d) index ss ts)) (same : OnErr o (IsMadeAt IsSameButCapacity index ss ts)) where
   abbrev AtEnd : Result Done Refusal → Type 0
   AtEnd r =
       IfOk r (λ d. d ≡ done (held_by ss) (held_by ts)) × OnOk r (held_by ts ≡ change_holdings C (held_by ss) e)
@@ -194,7 +194,7 @@ module _ (C : Cluster) (e : Event) (b place : ℕ) (ss ts : List (ℕ × Seen)) 
   pub at_end : AtEnd o
   at_end = by o changed same
     where
-      by : (r : Result Done Refusal) → IfOk r (λ d. IsMadeAt (λ S T. IsChanged C e S T d) place ss ts) → OnErr r (IsMadeAt IsSameButCapacity place ss ts) → AtEnd r
+      by : (r : Result Done Refusal) → IfOk r (λ d. IsMadeAt (λ S T. IsChanged C e S T d) index ss ts) → OnErr r (IsMadeAt IsSameButCapacity index ss ts) → AtEnd r
       by (Ok d) made still =
           let here = subst (λ k. IsMadeAt (λ S T. IsChanged C e S T d) k ss ts) at made in
           let all = one_is_enough C e b ss ts h is d here in

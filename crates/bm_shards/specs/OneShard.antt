@@ -17,13 +17,13 @@ pub record IsChanged (C : Cluster) (e : Event) (S T : Seen) (d : Done) : Type 0 
   pub pend : T.pend ≡ S.pend
 
 -- the shard at this index became another one, in this relation to it; all others stay
-pub record IsMadeAt (R : Seen → Seen → Type 0) (place : ℕ) (old new : List (ℕ × Seen)) : Type 0 where
+pub record IsMadeAt (R : Seen → Seen → Type 0) (index : ℕ) (old new : List (ℕ × Seen)) : Type 0 where
   pub shard : ℕ × Seen
   pub made : Seen
-  pub there : slice_get old place ≡ Some shard
-  pub now : new ≡ slice_set old place (shard.0, made)
+  pub there : slice_get old index ≡ Some shard
+  pub now : new ≡ slice_set old index (shard.0, made)
   pub holds : R shard.1 made
 
 -- the shard at this index changed as the event changes it, with this answer
 abbrev pub IsChangedAt : Cluster → Event → ℕ → List (ℕ × Seen) → List (ℕ × Seen) → Done → Type 0
-IsChangedAt C e place old new d = IsMadeAt (λ S T. IsChanged C e S T d) place old new
+IsChangedAt C e index old new d = IsMadeAt (λ S T. IsChanged C e S T d) index old new

@@ -1,4 +1,4 @@
-// Giving up what the shards reserved for an event or a round.
+// Gives up what the shards reserved for an event or a round.
 ghost use Rattle.std.specs.List.{All, AllZip};
 ghost use Rattle.bm_shard.specs.UpToDate.{IsSameButCapacity};
 ghost use Rattle.bm_shards.specs.Worked.{IsSame, HasGivenUp};

@@ -48,7 +48,7 @@ pub(crate) fn change_all<W: Workers>(
     ensures refused { IfErr result (λ e. e ≡ Memory) }
 {
     match prepare_for_event(alloc, workers, shards, event, topology) {
-        Ok(room) => Ok(commit_and_gather(workers, room, shards, event, topology, multi)),
+        Ok(buffers) => Ok(commit_and_gather(workers, buffers, shards, event, topology, multi)),
         Err(refusal) => {
             abort_all(shards);
             Err(refusal)
@@ -86,14 +86,14 @@ fn prepare_for_event<W: Workers>(
 /// Changes all shards, each of which is ready, and adds up what they answer.
 fn commit_and_gather<W: Workers>(
     workers: &W,
-    room: PassBuffers<Answered<Done>>,
+    buffers: PassBuffers<Answered<Done>>,
     shards: &mut Vec<(u32, Shard)>,
     event: &Event,
     topology: &Topology,
     multi: bool,
 ) -> Done
-    requires room { vec_len shards.old ≤ room.0.room }
-    requires back { (room.1.items ≡ []) × (vec_len shards.old ≤ vec_capacity room.1) }
+    requires room { vec_len shards.old ≤ buffers.0.room }
+    requires back { (buffers.1.items ≡ []) × (vec_len shards.old ≤ vec_capacity buffers.1) }
     requires cluster { first_of (cluster_checks topology.now.cluster event.now) ≡ None }
     requires every { block_of event.now ≡ None }
     requires multi { multi ≡ is_multi_rack (change_cluster topology.now.cluster event.now) }
@@ -107,7 +107,7 @@ fn commit_and_gather<W: Workers>(
     ensures rounds { (round pend : ℕ) → HaveTaken round pend shards.old.items
         → HaveTaken round pend shards.new.items }
 {
-    let (committing, back) = room;
+    let (committing, back) = buffers;
     let items = mem::replace(shards, back);
     let made = workers.commit_all(committing, items, event, topology, multi);
     gather_done(made, shards)

@@ -40,8 +40,8 @@ pub(crate) fn change_own(
     ensures still { OnErr result (AreUpToDate topology.now.cluster shards.new.items) }
     ensures refused { IfErr result (Refuses None (takes_memory event.now)) }
 {
-    let place = index_of_shard(id, shards.len());
-    change_at(shards, place, event, topology, multi)
+    let index = index_of_shard(id, shards.len());
+    change_at(shards, index, event, topology, multi)
 }
 
 /// The index of a block's shard among `count` shards.
@@ -56,22 +56,22 @@ pub(crate) fn index_of_shard(id: BlockId, count: usize) -> usize
 /// Changes the shard at an index by an event, or changes only its capacity.
 fn change_at(
     shards: &mut Vec<(u32, Shard)>,
-    place: usize,
+    index: usize,
     event: &Event,
     topology: &Topology,
     multi: bool,
 ) -> Result<Done, Refusal>
-    requires place { place < length shards.old.items }
+    requires index { index < length shards.old.items }
     requires cluster { first_of (cluster_checks topology.now.cluster event.now) ≡ None }
     requires multi { multi ≡ is_multi_rack (change_cluster topology.now.cluster event.now) }
-    requires up_to_date { (s : ℕ × Seen) → slice_get shards.old.items place ≡ Some s
+    requires up_to_date { (s : ℕ × Seen) → slice_get shards.old.items index ≡ Some s
         → IsUpToDate topology.now.cluster s.1 }
     ensures changed { IfOk result
-        (IsChangedAt topology.now.cluster event.now place shards.old.items shards.new.items) }
-    ensures same { OnErr result (IsMadeAt IsSameButCapacity place shards.old.items shards.new.items) }
+        (IsChangedAt topology.now.cluster event.now index shards.old.items shards.new.items) }
+    ensures same { OnErr result (IsMadeAt IsSameButCapacity index shards.old.items shards.new.items) }
     ensures refused { IfErr result (Refuses None (takes_memory event.now)) }
 {
-    match shards.get_mut(place) {
+    match shards.get_mut(index) {
         Some(one) => change_shard(&mut one.1, event, topology, multi),
         None => unreachable!(),
     }

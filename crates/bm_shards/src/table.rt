@@ -1,4 +1,4 @@
-// The table that readers see, of all shards.
+// The table that readers see: the rows of all shards, by block.
 ghost use Rattle.std.specs.Prelude.{◌≡◌, length, IfOk, IfErr};
 ghost use Rattle.std.specs.List.{flat_map};
 ghost use Rattle.bm_base.specs.declared.refusal.Refusal.TheVariants.{Memory};

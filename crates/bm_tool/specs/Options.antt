@@ -1,6 +1,6 @@
--- The configuration by the words of a command line. The definitions of the crate clap, which reads
--- them, state how the words are read (an option's name and its value, by two words or by one with
--- `=`) and when they are refused: `walk` and `fault_of`.
+-- The configuration by the words of a command line, which the crate clap reads. Its definition
+-- `walk` states how: an option's name and its value, by two words or by one with `=`. Its
+-- `fault_of` states when words are refused.
 use Rattle.std.specs.Prelude.{◌≡◌, ◌⊎◌, ⊤, ◌<◌, ◌^◌, ℕ, List, [], ◌∷◌, Option, Some, codes, pos}
 use Rattle.std.specs.Option.{option_map_or}
 use Rattle.std.specs.Str.Parse.{IsNumeral, digits_value, without_leading_plus}
@@ -86,7 +86,7 @@ IsOfRun (Faulted fault) = ⊤
 IsOfRun Helped = ⊥
 IsOfRun Misused = ⊥
 
--- the end of the program on words that are refused for these reasons: it runs only if there is
--- none, and else the end has a reason, or out of memory
+-- The end of the program on words that are refused for these reasons. It runs only if there is
+-- none; else the end has a reason, or out of memory.
 abbrev pub EndsBy : Kinds → End → Type 0
 EndsBy reasons end = ((reasons ≡ []) × IsOfRun end) ⊎ ((k : ErrorKind) × IsAmong k (OutOfMemory ∷ reasons) × (end ≡ end_of k))

@@ -26,7 +26,9 @@ fn command<'a>(alloc: Global) -> Result<Command<'a>, AllocError>
 {
     Command::new(alloc, "bm_tool")
         .about(
-            "Answers calls on a block manager: one JSON object a line in, one line of text for each out",
+            "Answers calls on a block manager: one JSON object a line in, one line of text for each out\n\n\
+             There is no safe mode: a replica that is reported before its block is added is stray, and the next\n\
+             round orders its delete. Add all blocks before the first report, and start rounds after it.",
         )
         .arg(option(
             alloc,

@@ -219,13 +219,13 @@ keys-revised : (m : Map by_number StorageInfo) (f : ℕ → StorageInfo → Stor
 unfolding keys
 keys-revised m f = ap (map (λ (e : ℕ × StorageInfo). e.0)) (entries-revise by_number m f) ∙ same_firsts f (entries m)
 
-keys-told : (rs : List Remaining) (m : Map by_number StorageInfo) → keys (set_remaining m rs) ≡ keys m
+keys-reported : (rs : List Remaining) (m : Map by_number StorageInfo) → keys (set_remaining m rs) ≡ keys m
 unfolding revise_at
-keys-told [] m = refl
-keys-told (r ∷ rs) m = keys-told rs (revise_at m r.storage (λ i. record i { remaining = r.remaining })) ∙ keys-revised m _
+keys-reported [] m = refl
+keys-reported (r ∷ rs) m = keys-reported rs (revise_at m r.storage (λ i. record i { remaining = r.remaining })) ∙ keys-revised m _
 
 pub by_node_told : (old new : Map by_number StorageInfo) (rs : List Remaining) (ss : List ℕ) → new ≡ set_remaining old rs → AreAllByNode old ss → AreAllByNode new ss
 unfolding node_in
 by_node_told old new rs ss is h =
     let nodes : (s : ℕ) → node_in old s ≡ node_in new s = λ s. ap (λ o. unwrap_or o 0) (sym (same_nodes old rs s)) ∙ ap (λ m. node_in m s) (sym is) in
-    subst (λ (x : (ℕ → ℕ) × List ℕ). AreByNode x.0 x.1 ss) (λ i. (λ s. nodes s i, (sym (keys-told rs old) ∙ ap keys (sym is)) i)) h
+    subst (λ (x : (ℕ → ℕ) × List ℕ). AreByNode x.0 x.1 ss) (λ i. (λ s. nodes s i, (sym (keys-reported rs old) ∙ ap keys (sym is)) i)) h

@@ -200,9 +200,9 @@ same_test : (n : ℕ) (v : Option StorageInfo) → option_and_then (λ x. cond (
 same_test n None = refl
 same_test n (Some i) = refl
 
-pub sound-told : (nodes racks : Map by_number ℕ) (draining : Set by_number) (old new : Map by_number StorageInfo) (rs : List Remaining) → new ≡ set_remaining old rs → IsSound nodes racks draining old → IsSound nodes racks draining new
+pub sound-reported : (nodes racks : Map by_number ℕ) (draining : Set by_number) (old new : Map by_number StorageInfo) (rs : List Remaining) → new ≡ set_remaining old rs → IsSound nodes racks draining old → IsSound nodes racks draining new
 unfolding heartbeat
-sound-told nodes racks draining old new rs is h =
+sound-reported nodes racks draining old new rs is h =
     sound-storages nodes racks draining old new h (λ small. subst (λ m. HasSmallKeys m) (sym is) (small-set_remaining rs old small))
     (subst (λ m. IsLawfulCluster (cluster_of nodes draining m)) (sym is) (heartbeat_reported (cluster_of nodes draining old) rs h.lawful))
 

@@ -49,7 +49,7 @@ pub(crate) struct IndexHints {
 }
 
 impl IndexHints {
-    /// Of no storage and no node.
+    /// Hints for no storage and no node.
     pub(crate) fn new() -> IndexHints {
         IndexHints {
             storage_hash: hash_for(0, FACTORS[0]),

@@ -49,7 +49,7 @@ impl Topology {
         self.others_on(node, rack) < self.others(node)
     }
 
-    /// Whether the other nodes do.
+    /// Whether the other nodes, without this one, are on two racks or more.
     fn spans_racks_without(&self, node: NodeId) -> bool
         ensures { result ≡ is_multi (map.remove self.now.cluster.nodes node) }
     {

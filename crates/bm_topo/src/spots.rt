@@ -11,7 +11,7 @@ use crate::index_hints::IndexHints;
 use bm_base::{MAX_STORAGES, NodeId, Rack, StorageId, StorageInfo};
 use bm_maps::NumberMap;
 
-/// Where a known storage is: what only a change of the cluster changes, and no heartbeat.
+/// Where a known storage is. A heartbeat changes nothing of it.
 #[derive(Clone, Copy)]
 pub struct Spot {
     pub storage: StorageId,

@@ -54,8 +54,8 @@ pub(crate) fn set_remaining(storages: &mut NumberMap<StorageInfo>, remaining: &[
     ensures after { storages.new.map ≡ events.set_remaining storages.old.map remaining.now }
     ensures no_growth { capacity storages.new ≡ capacity storages.old }
 {
-    for told in remaining {
-        set_remaining_of(storages, told.storage, told.remaining);
+    for reported in remaining {
+        set_remaining_of(storages, reported.storage, reported.remaining);
     }
 }
 
@@ -66,10 +66,10 @@ fn set_remaining_of(storages: &mut NumberMap<StorageInfo>, storage: StorageId, r
     ensures no_growth { capacity storages.new ≡ capacity storages.old }
 {
     if let Some(info) = storages.get(u64::from(storage.0)) {
-        let told = StorageInfo {
+        let updated = StorageInfo {
             node: info.node,
             remaining,
         };
-        storages.replace(u64::from(storage.0), told);
+        storages.replace(u64::from(storage.0), updated);
     }
 }

@@ -1,4 +1,4 @@
-// The tables of the cluster, and what they answer.
+// The tables of the cluster, and look-ups in them.
 ghost use Rattle.std.specs.Prelude.{◌≡◌, ◌≤◌, ℕ, IfOk, IsOk, Some, None, false, length, filter, option_map, slice_get, if◌then◌else◌};
 ghost use Rattle.std.specs.Option.{option_map_or};
 ghost use Rattle.bm_base.specs.Maps.Map as map;

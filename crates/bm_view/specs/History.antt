@@ -35,8 +35,8 @@ shown_in [] = []
 shown_in (e ∷ []) = e.table ∷ []
 shown_in (e ∷ f ∷ es) = put_if e.done e.table (shown_in (f ∷ es))
 
--- A journal that a locator may learn: its versions are a prefix of the list of each reader that
--- finds the value of this journal, or of the journal just before its last entry. A journal that
--- ends with a settlement is one.
+-- A journal that a locator may learn: its versions are a prefix of the list of certain readers.
+-- These find the value of this journal, or of the journal just before its last entry. A journal
+-- that ends with a settlement is one.
 abbrev pub IsSettled : List JournalEntry → Type 0
 IsSettled heard = (shown : List JournalEntry) → IsPrefix shown heard → length heard ≤ length shown + 1 → 0 < length shown → IsPrefix (versions heard) (shown_in shown)

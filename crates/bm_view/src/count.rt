@@ -31,7 +31,7 @@ impl Count {
         }
     }
 
-    pub fn again(&self) -> Result<Count, AllocError>
+    pub fn copy(&self) -> Result<Count, AllocError>
         ensures { IfOk result (λ c. c ≡ self.now) }
     {
         Ok(Count {

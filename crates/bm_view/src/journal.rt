@@ -1,9 +1,9 @@
 //! The journal of proposals. It has no bytes that anyone reads; its entries exist in proofs alone.
 //!
-//! Each publish adds two entries: the version that is about to be published (proposed), and the
-//! outcome: the version again, as done, or an entry that is not done, if it could not be published.
-//! The versions of the done entries are the one list of which publisher, receipts and locators hold
-//! prefixes.
+//! Each publish adds two entries. The first is the version that is about to be published
+//! (proposed). The second is the outcome: the version again, as done, or an entry that is not done,
+//! if it could not be published. The versions of the done entries are the one list of which
+//! publisher, receipts and locators hold prefixes.
 //!
 //! An entry is written with a pen of the crate `logbook`, which has one owner and is used up by it.
 //! Each line names the pen of the next one. So all lines after a pen are written by one owner:
@@ -149,7 +149,7 @@ impl Model for Evidence {
 
 impl Evidence {
     /// Copies the token.
-    pub fn again(&self) -> Evidence
+    pub fn copy(&self) -> Evidence
         ensures { result ≡ self.now }
     {
         Evidence {
@@ -175,7 +175,7 @@ pub struct Journal {
     /// The word of the first pen: it names the journal.
     first: Word<JournalLine, u64, JournalRule>,
     seen: Seen<JournalLine, u64, JournalRule>,
-    /// What writes the next line.
+    /// The handle that writes the next entry.
     pen: Pen,
 }
 

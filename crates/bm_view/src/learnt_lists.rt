@@ -43,6 +43,6 @@ impl LearntLists {
         ensures { self.new ≡ self.old ++ versions evidence.now.log ∷ [] }
     {
         let before = Snapshot::of(&*self);
-        self.last = Some((before, evidence.again()));
+        self.last = Some((before, evidence.copy()));
     }
 }

@@ -37,7 +37,7 @@ pub struct Locator {
     /// The journal of the version that it answered from last. It has no bytes.
     answered: Evidence,
     /// The longest journal that it learnt. It has no bytes.
-    heard: Evidence,
+    longest: Evidence,
     learnt: LearntLists,
 }
 
@@ -58,12 +58,12 @@ impl Model for Locator {
     } };
 
     ghost invariant = { λ l.
-        (l.heard.home ≡ l.answered.home)
-        × (length l.heard.log ≡ 2 * l.seat.learnt_number)
-        × IsSettled l.heard.log
+        (l.longest.home ≡ l.answered.home)
+        × (length l.longest.log ≡ 2 * l.seat.learnt_number)
+        × IsSettled l.longest.log
         × HasSeen (sight l.seat.reader.place) l.answered.home (shown_in l.answered.log)
-        × IsHistory (versions l.heard.log)
-        × All (λ known. IsPrefix known (versions l.heard.log)) l.learnt };
+        × IsHistory (versions l.longest.log)
+        × All (λ known. IsPrefix known (versions l.longest.log)) l.learnt };
 }
 
 // A reader, and the number of proposals in the longest journal that it learnt.
@@ -140,8 +140,8 @@ impl Locator {
                 reader,
                 learnt_number: Count::one(alloc),
             },
-            answered: first.again(),
-            heard: first,
+            answered: first.copy(),
+            longest: first,
             learnt: LearntLists::nothing(),
         }
     }
@@ -154,10 +154,10 @@ impl Locator {
         ensures learnt { self.new.learnt ≡ self.old.learnt ++ receipt.list ∷ [] }
     {
         let (evidence, number) = receipt.into_parts();
-        self.heard.show_one_journal(&evidence);
+        self.longest.show_one_journal(&evidence);
         self.learnt.add(&evidence);
         if self.seat.learnt_number.is_below(&number) {
-            self.heard = evidence;
+            self.longest = evidence;
             self.seat.learnt_number = number;
         }
     }
@@ -192,7 +192,7 @@ impl Locator {
         if is_older {
             return None;
         }
-        self.heard.show_one_journal(&evidence);
+        self.longest.show_one_journal(&evidence);
         self.answered = evidence;
         Some(found)
     }

@@ -46,8 +46,8 @@ fn open_writer<R: Wait>(
     ensures seen { IfOk result (λ w. HasSeen (sight w.desk.place) journal.now.home (opening ∷ [])) }
 {
     let first = Shown::new(table, journal.evidence(), Count::one(alloc));
-    let second = first.again()?;
-    let third = first.again()?;
+    let second = first.copy()?;
+    let third = first.copy()?;
     let writer = VersionWriter::new(alloc, first, second, readers)?;
     let (writer, shown) = show(writer, (rt, third));
     match shown {

@@ -1,4 +1,4 @@
-//! The one that publishes versions.
+//! The publisher of versions.
 ghost use Rattle.std.specs.Prelude.{◌≡◌, ◌≤◌, [], ◌∷◌, ◌++◌, IfOk, IfErr, OnOk, OnErr, MatchResult, Some};
 ghost use Rattle.std.specs.Arc.{arc_value};
 ghost use Rattle.left_right.specs.Sides.{view as sight};
@@ -107,8 +107,8 @@ impl Publisher {
         let calls = table.calls();
         // All that may be refused comes before the version is shown.
         let number = self.number.next()?;
-        let receipt = number.again()?;
-        let shown = number.again()?;
+        let receipt = number.copy()?;
+        let shown = number.copy()?;
         self.number = number;
         self.journal.enter(false, &table);
         let next = Shown::new(table, self.journal.evidence(), shown);

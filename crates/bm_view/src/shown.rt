@@ -11,8 +11,8 @@ use std::alloc::AllocError;
 use std::marker::Model;
 use std::sync::Arc;
 
-/// What readers find. `left_right` keeps two of them; both refer to one table. A contract sees the
-/// evidence.
+/// The value that readers find. `left_right` keeps two of them; both refer to one table. A contract
+/// sees the evidence.
 #[derive(Drop)]
 pub struct Shown {
     table: Arc<Table>,
@@ -54,13 +54,13 @@ impl Shown {
     }
 
     // One more reference to the same table.
-    pub fn again(&self) -> Result<Shown, AllocError>
+    pub fn copy(&self) -> Result<Shown, AllocError>
         ensures { IfOk result (λ s. s ≡ self.now) }
     {
         Ok(Shown {
             table: Arc::try_clone(&self.table)?,
-            evidence: self.evidence.again(),
-            number: self.number.again()?,
+            evidence: self.evidence.copy(),
+            number: self.number.copy()?,
         })
     }
 
@@ -74,7 +74,7 @@ impl Shown {
         ensures same { result ≡ self.now }
         ensures history { IsHistory (shown_in self.now.log) }
     {
-        self.evidence.again()
+        self.evidence.copy()
     }
 
     pub fn number(&self) -> &Count
@@ -93,7 +93,7 @@ impl Absorb<Shown> for Shown {
     ghost applied = { λ _ next. next };
 
     fn absorb_first(&mut self, operation: &Shown, _other: &Shown) -> Result<(), AllocError> {
-        *self = operation.again()?;
+        *self = operation.copy()?;
         Ok(())
     }
 

@@ -1,4 +1,4 @@
-// The same calls over and over, with a mark after each tenth of them.
+// Makes the same calls over and over, with a mark after each tenth of them.
 
 use crate::answers::make_all;
 use crate::bench::Bench;

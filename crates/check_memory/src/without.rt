@@ -16,7 +16,7 @@ use std::thread::Threads;
 /// The number of entries of the greatest tables.
 const MOST: u32 = 130;
 
-/// What the calls are made on.
+/// A group of calls: the kind of value on which they are made.
 #[derive(Clone, Copy)]
 enum Group {
     Arenas,

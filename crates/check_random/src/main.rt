@@ -14,8 +14,9 @@
 //! - memory is refused;
 //! - an argument is no number;
 //! - too little happened: too few accepted events of some kind, rounds with a command, lists that
-//!   are not empty, or refusals; or, with readers, no reader went from one version to a later one,
-//!   as when no thread can be started. This is not asked of fewer calls than a list has.
+//!   are not empty, or refusals. With readers, it is also too little if no reader went from one
+//!   version to a later one, as when no thread can be started. This is not asked of fewer calls
+//!   than a list has.
 #![tactic(auto)]
 
 mod concurrent_calls;

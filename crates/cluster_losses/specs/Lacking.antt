@@ -4,8 +4,8 @@ use Rattle.std.specs.Option.{option_map_or}
 use Rattle.bm_base.specs.declared.replica.BlockInfo.{BlockInfo}
 use Rattle.bm_base.specs.Words.{State, Cluster, get, keys, live, usable, is_draining, remaining}
 
--- the bytes of the copies that a block lacks: its length, times the wanted replicas that are not
--- live; 0 if no replica is usable, so that there is none to copy from
+-- The bytes of the copies that a block lacks: its length, times the wanted replicas that are not
+-- live. It is 0 if no replica is usable, so that there is none to copy from.
 abbrev pub bytes_to_copy : BlockInfo → ℕ → ℕ → ℕ
 bytes_to_copy i live usable = if usable == 0 then 0 else (i.repl - live) * i.stamp.len
 

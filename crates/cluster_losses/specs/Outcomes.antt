@@ -1,4 +1,4 @@
--- How a cluster stands after losses, and what is lost.
+-- The counts of a cluster after losses, and the lost blocks.
 use Rattle.std.specs.Prelude.{◌≡◌, List, length}
 use Rattle.bm_base.specs.declared.event.Event.{Event}
 use Rattle.bm_base.specs.Words.{State, missing_blocks}
@@ -6,18 +6,18 @@ use Rattle.cluster_lost.specs.Losses.{after_losses, lost_blocks}
 use Rattle.cluster_report.specs.Levels.{levels_counted}
 use Rattle.cluster_report.specs.Reports.{levels_held}
 use Rattle.cluster_losses.specs.Lacking.{lacking_bytes, in_128_bits, free_for_copies}
-use Rattle.cluster_losses.specs.declared.standing.Standing.{Standing}
+use Rattle.cluster_losses.specs.declared.counts.Standing.{Standing}
 use Rattle.cluster_losses.specs.declared.without.Outcome.{Outcome}
 
--- A cluster stands as a state says: the blocks at each level, the missing blocks, the bytes of the
--- copies that blocks lack, and the free bytes on nodes that do not drain.
+-- The counts of a state: blocks at each level, missing blocks, bytes of the copies that blocks
+-- lack, and free bytes on nodes that do not drain.
 pub record StandsAs (M : State) (s : Standing) : Type 0 where
   pub levels : s.levels ≡ levels_counted (levels_held M) (length (missing_blocks M.cluster M.holdings))
   pub missing : s.missing ≡ missing_blocks M.cluster M.holdings
   pub lacking : s.lacking ≡ in_128_bits (lacking_bytes M)
   pub free : s.free ≡ free_for_copies M.cluster
 
--- What is found without what is lost: the blocks that are lost, and how the cluster stands.
+-- The outcome of losses: the lost blocks, and the counts of the cluster after them.
 pub record IsOutcome (M : State) (es : List Event) (w : Outcome) : Type 0 where
   pub lost : w.lost ≡ lost_blocks M es
   pub stands : StandsAs (after_losses M es) w.after

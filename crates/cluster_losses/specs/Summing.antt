@@ -43,7 +43,8 @@ only t n b = if b == t then n else 0
 abbrev pub value : Map by_number BlockInfo → ℕ → ℕ → ℕ → ℕ
 value blocks b live usable = option_map_or (λ i. bytes_to_copy i live usable) (get blocks b) 0
 
--- what block b adds, by the numbers of live and of usable replicas that block t has before these ones
+-- what block b adds, by the numbers of live and of usable replicas that block t has before these
+-- ones
 abbrev pub rest_of : Cluster → Map by_number BlockInfo → ℕ → ℕ → ℕ → List Marked → ℕ → ℕ
 rest_of C blocks t l u es b = if nat_lt b t then 0 else value blocks b (only t l b + count_of (is_live C) es b) (only t u b + count_of counts es b)
 

@@ -25,10 +25,10 @@ use std::cmp::Ordering;
 use std::sync::Wait;
 use std::thread::Threads;
 
-/// What is lost with one of them.
+/// What is lost with one rack or node alone.
 #[derive(Drop)]
 pub struct Row {
-    /// Of the rack or node.
+    /// The number of the rack or node.
     pub number: u32,
     /// How many nodes are lost.
     pub nodes: usize,
@@ -36,9 +36,9 @@ pub struct Row {
     pub without: Outcome,
 }
 
-/// What is lost with each of these alone, the worst first: by lost blocks, then by the blocks at the
-/// first three levels, then by number. Each comes back before the next is lost. At the end the
-/// manager lists the same replicas as before.
+/// The losses with each of these racks or nodes alone, the worst first: by lost blocks, then by the
+/// blocks at the first three levels, then by number. Each comes back before the next is lost. At
+/// the end the manager lists the same replicas as before.
 pub fn rows_of<H: Threads + Wait + Sync>(
     rt: &H,
     alloc: Global,
@@ -103,7 +103,7 @@ fn lose_each<H: Threads + Wait + Sync>(
     Ok(rows)
 }
 
-/// Loses one of them.
+/// Loses one rack or node alone.
 #[tactic(auto, using(crate::proofs::Tables::row_at))]
 fn row_of<H: Threads + Wait + Sync>(
     rt: &H,

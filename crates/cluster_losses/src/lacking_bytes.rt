@@ -13,7 +13,7 @@ use cluster_report::session::Session;
 /// The sum while it is made, block by block.
 #[derive(Clone, Copy)]
 struct Summed {
-    /// Of the blocks before the present one.
+    /// The bytes that the blocks before the current one lack.
     bytes: u128,
     block: BlockId,
     /// The usable replicas of this block so far.

@@ -1,8 +1,9 @@
-//! What is lost with racks, nodes and storages of a cluster that was read, with no round between:
-//! the events of the losses, the blocks that are lost, and how the cluster stands then. Each rack or
-//! each node can be lost alone, and comes back before the next.
+//! Losses of racks, nodes and storages of a cluster that was read, with no round between them.
+//! Makes the events of the losses, and then finds the lost blocks and the counts of the cluster.
+//! Each rack or each node can be lost alone, and comes back before the next.
 #![tactic(auto)]
 
+pub mod counts;
 pub mod each;
 pub mod events;
 pub mod fault;
@@ -12,5 +13,4 @@ pub mod loss_events;
 mod named;
 mod parts;
 mod set_back;
-pub mod standing;
 pub mod without;

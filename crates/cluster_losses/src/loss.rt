@@ -1,8 +1,8 @@
-// What is to be lost, as the words of a command line name it.
+// The losses that the words of a command line name.
 use std::alloc::{AllocError, Global};
 use std::fmt;
 
-/// What a name is of.
+/// The kind of a named thing.
 #[derive(Clone, Copy, Debug)]
 pub enum Kind {
     Rack,
@@ -29,7 +29,7 @@ pub struct Loss<'a> {
     pub name: &'a str,
 }
 
-/// What is asked for.
+/// The question of a command line.
 #[derive(Drop)]
 pub enum Question<'a> {
     /// What if all of these are lost?
@@ -88,7 +88,7 @@ fn losses_of<'a>(
     Ok(Some(Question::Losses(losses)))
 }
 
-/// What `rack:NAME`, `node:HOST` or `storage:ID` names.
+/// The loss that `rack:NAME`, `node:HOST` or `storage:ID` names.
 fn loss_of(word: &str) -> Option<Loss<'_>> {
     let (kind, name) = word.split_once(':')?;
     let kind = match kind {

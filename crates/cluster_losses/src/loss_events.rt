@@ -13,7 +13,7 @@ use bm_base::{Event, NodeId, StorageId};
 use cluster_input::loaded::Loaded;
 use std::alloc::{AllocError, Global};
 
-/// What is lost: each node and storage once.
+/// The lost nodes and storages, each once.
 #[derive(Drop)]
 pub struct Lost {
     pub drained: Vec<NodeId>,
@@ -34,7 +34,8 @@ impl Lost {
         }
     }
 
-    /// What these losses name. `Unknown` with the kind of the first one that names nothing.
+    /// The nodes and storages that these losses name. `Unknown` with the kind of the first one that
+    /// names nothing.
     pub fn named(alloc: Global, loaded: &Loaded, losses: &[Loss<'_>]) -> Result<Lost, Fault>
         ensures lost { IfOk result (AreNamed loaded.now.session.book.topology.cluster
             loaded.now.names losses.now) }

@@ -1,4 +1,4 @@
-// What the names of a command line name: by the names of the cluster, or by number if it has none.
+// Looks up the names of a command line: by the names of the cluster, or by number if it has none.
 ghost use Rattle.std.specs.Prelude.{◌≡◌, ◌==◌, IfOk, nat_eq, slice_index};
 ghost use Rattle.std.specs.List.{starts_with};
 ghost use Rattle.cluster_losses.specs.Named.{number_written, number_named, is_on_host, is_node_named, nodes_named, nodes_in};

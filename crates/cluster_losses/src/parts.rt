@@ -8,7 +8,7 @@ use cluster_report::book::Book;
 use cluster_report::nodes::all_nodes;
 use std::alloc::{AllocError, Global};
 
-/// What is lost alone: a rack or a node, by its number, with its nodes.
+/// A rack or a node that is lost alone: its number, and its nodes.
 #[derive(Drop)]
 pub struct Part {
     pub number: u32,

@@ -1,4 +1,4 @@
-// What makes a node be as it was, after it died.
+// Restores a dead node: the events by which it registers again and reports all that it had.
 ghost use Rattle.std.specs.Prelude.{OnOk};
 ghost use Rattle.cluster_report.specs.Sessions.{IsInStep};
 ghost use Rattle.cluster_losses.specs.Reached.{IsReached};
@@ -154,8 +154,8 @@ fn heartbeat(
     })
 }
 
-/// Adds the full report of a storage, a notice for each replica that the report has no room for,
-/// and one for each bad replica.
+/// Adds the full report of a storage, a notice for each replica above the limit of a report, and
+/// one for each bad replica.
 fn add_reports(
     alloc: Global,
     events: &mut Vec<Event>,

@@ -5,8 +5,8 @@ ghost use Rattle.cluster_lost.specs.Losses.{are_losses, after_losses};
 ghost use Rattle.cluster_report.specs.Sessions.{IsInStep};
 ghost use Rattle.cluster_losses.specs.Outcomes.{IsOutcome};
 
+use crate::counts::{Standing, standing_of};
 use crate::events::apply_all;
-use crate::standing::{Standing, standing_of};
 use bm_base::{BlockId, Event, Items, Refusal};
 use cluster_lost::lost_blocks;
 use cluster_report::session::Session;
@@ -22,8 +22,8 @@ pub struct Outcome {
     pub lost: Items<BlockId>,
 }
 
-/// Makes these losses, one after another, and asks how the cluster stands then. `missing` are the
-/// missing blocks before.
+/// Makes these losses, one after another, and then counts the cluster. `missing` are the missing
+/// blocks before.
 pub fn without<H: Threads + Wait + Sync>(
     rt: &H,
     alloc: Global,

@@ -1,4 +1,4 @@
-// What begins and ends a page.
+// The head and the end of a page.
 use std::alloc::AllocError;
 
 const BEFORE_TITLE: &str = "<!DOCTYPE html>\n<html lang=\"en\">\n<head>\n<meta charset=\"utf-8\">\n\

@@ -36,8 +36,8 @@ abbrev pub is_on_their_rack : Cluster → List Replica → ℕ → Bool
 is_on_their_rack C rs s = list_any (λ r. is_good r.tag && (not (is_draining C r.storage) && share_rack C s r.storage)) rs
 
 -- Whether one more copy of a block at this level, with these replicas, counts on storage s, free
--- bytes aside: the storage is known, its node does not drain and has none of the replicas, and a
--- badly distributed block gets to another rack.
+-- bytes aside. It counts if the storage is known, its node does not drain and has none of the
+-- replicas, and a badly distributed block gets to another rack.
 abbrev pub would_count : Cluster → List Replica → Level → ℕ → Bool
 would_count C rs urgency s =
     is_some (node_of C s) && (not (is_draining C s) && (not (is_on_their_node C rs s) && not (is_badly_distributed urgency && is_on_their_rack C rs s)))
@@ -46,9 +46,9 @@ would_count C rs urgency s =
 abbrev pub would_fit : Cluster → List Replica → Level → ℕ → FreeBytes → ℕ → Bool
 would_fit C rs urgency len f s = would_count C rs urgency s && nat_le len (free_on f s)
 
--- Why a block at this level, with these replicas and of this length, is copied no further: it is
--- missing; or a copy counts on some storages, none of which has enough free bytes; or else there is
--- no target: a copy counts on none, or one has enough free bytes and was given no copy.
+-- Why a block at this level, with these replicas and of this length, is copied no further. Either
+-- it is missing, or a copy counts on some storages, none of which has enough free bytes. Else it
+-- has no target: a copy counts on no storage, or one has enough free bytes and was given no copy.
 abbrev pub reason_for : Cluster → List Replica → Level → ℕ → FreeBytes → Reason
 reason_for C rs urgency len f =
     if is_missing urgency then NoSource

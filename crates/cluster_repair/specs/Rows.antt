@@ -42,8 +42,8 @@ pub record IsAfterRound (N : State) (commanded : ℕ) : Type 0 where
   pub after : N ≡ count_call (whole_round before).1
   pub copies : commanded ≡ copies_in (whole_round before).0
 
--- A row has the counts of a state that its number of rounds led to, the number of copies that the
--- last of them commanded, when that one was, and the number of copies on their way after it.
+-- A row has the counts of a state that its number of rounds led to. It also has the time of the
+-- last of them, the number of copies that this one commanded, and the number on their way after it.
 pub record IsRowAfter (ticks : Ticks) (M : State) (row : Row) : Type 0 where
   pub state : State
   pub reached : IsReached row.round M state

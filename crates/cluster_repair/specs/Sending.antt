@@ -27,7 +27,8 @@ receives_until l n = unwrap_or (get nat_eq l.receiving n) 0
 abbrev pub sent_at : Links → ℕ → ℕ → ℕ → ℕ
 sent_at l source bytes now = min (max now (sends_until l source) + micros_for l.bandwidth bytes) most
 
--- when a node has received the bytes of a copy that is commanded now, after those of all earlier ones
+-- when a node has received the bytes of a copy that is commanded now, after those of all earlier
+-- ones
 abbrev pub received_at : Links → ℕ → ℕ → ℕ → ℕ
 received_at l target bytes now = min (max now (receives_until l target) + micros_for l.bandwidth bytes) most
 

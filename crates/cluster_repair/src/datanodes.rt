@@ -1,4 +1,4 @@
-// What DataNodes do with the commands of rounds, and what they report: a model.
+// A model of DataNodes: how they obey the commands of rounds, and what they report.
 ghost use Rattle.std.specs.Prelude.{◌≡◌, ◌++◌, ◌∷◌, [], nat_lt, filter, List, None, IfOk, OnOk};
 ghost use Rattle.bm_base.specs.Words.{after_event, refusal_of};
 ghost use Rattle.cluster_repair.specs.declared.on_way.Sent.{Sent};
@@ -18,7 +18,7 @@ use std::alloc::{AllocError, Global};
 use std::sync::Wait;
 use std::thread::Threads;
 
-/// What DataNodes have to do, and what they have done.
+/// The pending and the finished work of DataNodes.
 #[derive(Drop)]
 pub struct DataNodes {
     pub links: Links,

@@ -26,7 +26,7 @@ pub struct FreeBytes {
 }
 
 impl FreeBytes {
-    /// As the last heartbeats reported them.
+    /// The free bytes of all storages, as the last heartbeats reported them.
     pub fn new(alloc: Global, topology: &Topology) -> Result<FreeBytes, AllocError> {
         let storages = all_storages(alloc, topology)?;
         let nodes = nodes_with(alloc, topology, storages.as_slice())?;

@@ -1,5 +1,5 @@
-//! How what is lost is copied again, round by round, by DataNodes that obey the commands of each
-//! round at a bandwidth.
+//! Re-replication after a loss, round by round: DataNodes obey the commands of each round at a
+//! given bandwidth.
 //!
 //! How fast DataNodes are is a model: each sends one copy after another and receives one after
 //! another, in the order of the commands. A copy takes its bytes from the target's free bytes when

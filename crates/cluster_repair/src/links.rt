@@ -1,5 +1,5 @@
-// When copies arrive: a model. What a node sends and what it receives are two links, each of which
-// passes one copy after another.
+// The times at which copies arrive: a model. What a node sends and what it receives are two links,
+// each of which passes one copy after another.
 ghost use Rattle.std.specs.Prelude.{◌≡◌, ℕ, nat_eq, IfOk, OnOk, if◌then◌else◌};
 ghost use Rattle.cluster_repair.specs.Sending.{micros_for, sends_until, receives_until, sent_at, received_at, arrival};
 

@@ -1,11 +1,11 @@
-// Numbers by number.
+// Sets entries of hash maps from numbers to numbers.
 ghost use Rattle.std.specs.Prelude.{◌≡◌, ℕ, nat_eq, Some, OnOk, if◌then◌else◌};
 ghost use Rattle.std.specs.HashMap.{get};
 
 use std::alloc::AllocError;
 use std::collections::HashMap;
 
-/// Notes the number of a key.
+/// Sets the number of a key.
 pub fn put(numbers: &mut HashMap<u32, u64>, key: u32, number: u64) -> Result<(), AllocError>
     ensures { OnOk result ((k : ℕ) → get nat_eq numbers.new k
         ≡ (if nat_eq key k then Some number else get nat_eq numbers.old k)) }

@@ -1,4 +1,4 @@
-// Copies on their way, by when they arrive.
+// Copies on their way, ordered by the time of their arrival.
 ghost use Rattle.std.specs.Prelude.{◌≡◌, ◌++◌, ◌∷◌, ◌==◌, ◌&&◌, not, [], ℕ, false, nat_lt, length, count_by, filter, IfOk, OnOk, if◌then◌else◌};
 ghost use Rattle.std.specs.List.{list_any};
 ghost use Rattle.std.specs.List.Sorted.{IsPermutation, IsSortedByKey};
@@ -14,7 +14,7 @@ use std::collections::HashSet;
 pub struct Sent {
     /// In microseconds.
     pub arrival: u64,
-    /// Which it is of all copies, in the order of their commands.
+    /// The index of the copy, in the order of the commands.
     pub order: u64,
     pub transfer: Transfer,
 }

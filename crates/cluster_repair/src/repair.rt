@@ -62,7 +62,7 @@ pub struct Retirement {
     pub seconds: u64,
 }
 
-/// What is copied, and what the manager answers about it.
+/// The copies of a repair, and the answers of the manager about it.
 #[derive(Drop)]
 pub struct Repair {
     pub datanodes: DataNodes,
@@ -80,7 +80,7 @@ pub struct Repair {
     pub commanded: usize,
 }
 
-/// What does not change while it is repaired.
+/// The settings of a repair, which do not change during it.
 #[derive(Clone, Copy)]
 struct Facts<'a> {
     alloc: Global,

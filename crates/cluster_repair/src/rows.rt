@@ -1,4 +1,4 @@
-// What rounds leave: a row for every round, or for every second, fourth and so on of many.
+// A row of counts for every round; if there are many rounds, for every second, fourth and so on.
 ghost use Rattle.std.specs.Prelude.{◌≡◌, [], filter, IfOk, OnOk};
 ghost use Rattle.bm_base.specs.Machine.State.{State};
 ghost use Rattle.cluster_repair.specs.Rows.{IsRowAfter, AreRowsAfter, EndsWith, is_on_stride};
@@ -10,7 +10,7 @@ use std::alloc::{AllocError, Global};
 /// There are at most this number of rows: before one more comes, every second goes.
 const MOST_KEPT: usize = 256;
 
-/// What a round leaves.
+/// The counts after a round.
 #[derive(Clone, Copy)]
 pub struct Row {
     /// The number of rounds, with this one.

@@ -1,4 +1,4 @@
-// When rounds come: a model. A round is left out while DataNodes have enough to do. Times are in
+// The times of rounds: a model. A round is left out while DataNodes have enough to do. Times are in
 // microseconds.
 ghost use Rattle.std.specs.Prelude.{◌≡◌, ◌≤◌, ◌<◌, ℕ};
 ghost use Rattle.cluster_repair.specs.Ticks.{IsNextTick, on_way_after};
@@ -16,7 +16,7 @@ pub struct Ticks {
 
 impl Ticks {
     /// When the next round comes after one at the time `last`, which left these copies on their
-    /// way: at the first tick at which fewer than `enough` of them still are.
+    /// way. It comes at the first tick at which fewer than `enough` of them still are.
     pub fn next(self, last: u64, sent: &[Sent]) -> u64
         ensures { IsNextTick self sent.now last result }
     {

@@ -14,9 +14,9 @@ use std::alloc::{AllocError, Global};
 #[derive(Clone, Copy)]
 pub enum NodeState {
     Live,
-    /// It drains, and some block still needs it.
+    /// The node drains, and some block still needs it.
     Draining,
-    /// It drains, and can be removed.
+    /// The node drains, and can be removed.
     Retired,
 }
 

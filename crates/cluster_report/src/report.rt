@@ -36,9 +36,9 @@ pub struct Report {
     pub urgent: Items<Leveled>,
 }
 
-/// The report on a manager's cluster, by its book. Asks the manager for three lists (all replicas,
-/// which takes the most memory, those in excess, and the missing blocks), for the level of each
-/// block with a replica, and for the nodes as `node_rows` does.
+/// The report on a manager's cluster, by its book. Asks the manager for three lists: all replicas,
+/// which takes the most memory, those in excess, and the missing blocks. Also asks for the level of
+/// each block with a replica, and for the nodes as `node_rows` does.
 pub fn report_of(alloc: Global, manager: &Manager, book: &Book) -> Result<Report, Refusal>
     requires { Follows book.now manager.now }
     ensures { IfOk result (λ r. r ≡ report_of manager.now) }

@@ -1,4 +1,4 @@
-// The copies that the manager awaits, as its book has them: those that arrive are awaited no more.
+// The copies that the manager awaits, which its book lists until they arrive.
 ghost use Rattle.std.specs.Prelude.{◌≡◌};
 
 use bm_base::{Event, Transfer};

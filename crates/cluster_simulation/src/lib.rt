@@ -1,24 +1,25 @@
-//! A made-up cluster, round by round: its nodes, the blocks placed on them, and what is copied again
-//! once something goes wrong. In one round racks, nodes and disks are lost, nodes drain, or replicas
-//! are found corrupt. The block manager's answers are counted after each round, and written as a
-//! table (CSV) or as a picture (SVG). The same options give the same bytes.
+//! A made-up cluster, round by round: its nodes, the blocks placed on them, and the copies that are
+//! made once something goes wrong. In one round racks, nodes and disks are lost, nodes drain, or
+//! replicas are found corrupt. The block manager's answers are counted after each round, and
+//! written as a table (CSV) or as a picture (SVG). The same options give the same bytes.
 //!
 //! ```text
 //! puljemrod_cluster simulate --lose rack:1 --rounds 100 --svg > rack.svg
 //! ```
 //!
 //! The incidents happen as round `--at` begins. From then on DataNodes do what `what-if --mend` has
-//! them do (`cluster_repair`): at the start of a round they report the copies that have arrived, the
-//! deletes of the round before and their free bytes; the manager takes its round, and they obey.
-//! Each sends one copy after another and receives one after another. A round comes at the first
-//! multiple of `--interval` at which fewer copies are on their way than it may command: a line of
-//! the table is a round, and no length of time. Each disk has capacity for twice its share of the
-//! replicas.
+//! them do (`cluster_repair`). At the start of a round they report the copies that have arrived,
+//! the deletes of the round before and their free bytes. Then the manager takes its round, and they
+//! obey. Each sends one copy after another and receives one after another. A round comes at the
+//! first multiple of `--interval` at which fewer copies are on their way than it may command. A
+//! line of the table is a round, and no length of time. Each disk has capacity for twice its share
+//! of the replicas.
 //!
-//! After each round the known blocks at each level are counted (`missing` are those without a usable
-//! replica), the copies that the manager awaits, the replicas in excess and the corrupt ones. The
-//! other counts are the copies and deletes that the round commands, and the calls that the manager
-//! refused since the previous round. Dead nodes report nothing, so it has nothing to refuse.
+//! After each round it counts the known blocks at each level (`missing` are those without a usable
+//! replica). It also counts the copies that the manager awaits, the replicas in excess and the
+//! corrupt ones. The other counts are the copies and deletes that the round commands, and the calls
+//! that the manager refused since the previous round. Dead nodes report nothing, so it has nothing
+//! to refuse.
 //!
 //! The numbers of `examples/stories/one_of_two_racks_dies.csv` follow from the rules, whatever is
 //! drawn. There are four nodes, two on each of two racks, and six blocks, each with one replica on

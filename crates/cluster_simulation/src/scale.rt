@@ -43,7 +43,7 @@ pub struct Scale {
 }
 
 impl Scale {
-    /// The scale on which all counts of these rounds have room. Rounds may be left out.
+    /// The scale on which all counts of these rounds fit. Rounds may be left out.
     pub fn new(rows: &[Counts]) -> Scale {
         let mut greatest = 1u64;
         for series in &ALL_SERIES {

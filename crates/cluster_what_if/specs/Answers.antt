@@ -7,8 +7,8 @@ use Rattle.cluster_pages.specs.AtRisk.{AreAtRisk}
 use Rattle.cluster_losses.specs.Outcomes.{StandsAs, IsOutcome}
 use Rattle.cluster_what_if.specs.declared.answers.Answer.{Answer}
 
--- How the cluster stands before losses and after them, with no round between; the blocks whose
--- usable replicas were all on what is lost; and the files of these blocks.
+-- The counts of the cluster before and after losses, with no round between; the blocks whose usable
+-- replicas were all on what is lost; and the files of these blocks.
 pub record IsAnswer (f : FileTable) (M : State) (es : List Event) (a : Answer) : Type 0 where
   pub before : StandsAs M a.before
   pub without : IsOutcome M es a.without

@@ -1,4 +1,4 @@
--- What is printed.
+-- The text that is printed.
 use Rattle.std.specs.Prelude.{ℕ, List, [], ◌++◌, Option, Some, None, string_bytes}
 use Rattle.cluster_names.specs.FileTable.{FileTable}
 use Rattle.cluster_names.specs.declared.names.Names.{Names}

@@ -10,7 +10,7 @@ use Rattle.cluster_report.specs.declared.levels.LevelCounts.{LevelCounts}
 use Rattle.cluster_pages.specs.Text.{file_line}
 use Rattle.cluster_pages.specs.declared.at_risk.FileRow.{FileRow}
 use Rattle.cluster_losses.specs.declared.loss_events.Lost.{Lost}
-use Rattle.cluster_losses.specs.declared.standing.Standing.{Standing}
+use Rattle.cluster_losses.specs.declared.counts.Standing.{Standing}
 use Rattle.cluster_what_if.specs.declared.answers.Answer.{Answer}
 
 -- a node that is lost or drained, with its rack
@@ -82,7 +82,7 @@ copies_text after =
     ++ (count_line (codes "free bytes") after.free
     ++ fits_line after)
 
--- the answer: how the cluster stands before and after, the lost blocks, and their files
+-- the answer: the counts of the cluster before and after, the lost blocks, and their files
 unfoldable pub answer_text : FileTable → ℕ → Answer → List ℕ
 answer_text f most a =
     levels_text a.before.levels a.without.after.levels

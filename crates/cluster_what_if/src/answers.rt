@@ -1,11 +1,11 @@
-// The answer about losses that come at once.
+// The answer about losses that happen together.
 ghost use Rattle.std.specs.Prelude.{◌≡◌, true, IfOk, OnOk};
 ghost use Rattle.cluster_lost.specs.Losses.{are_losses, after_losses};
 ghost use Rattle.cluster_report.specs.Sessions.{IsInStep};
 ghost use Rattle.cluster_what_if.specs.Answers.{IsAnswer};
 
 use bm_base::{Event, Refusal};
-use cluster_losses::standing::{Standing, standing_of};
+use cluster_losses::counts::{Standing, standing_of};
 use cluster_losses::without::{Outcome, without};
 use cluster_names::Files;
 use cluster_pages::at_risk::{AtRisk, files_at_risk};
@@ -14,7 +14,7 @@ use std::alloc::Global;
 use std::sync::Wait;
 use std::thread::Threads;
 
-/// How the cluster stands before losses and without what is lost, with no round between.
+/// The counts of the cluster before losses and after them, with no round between.
 #[derive(Drop)]
 pub struct Answer {
     pub before: Standing,

@@ -1,4 +1,4 @@
-// What is found about the losses that a command line asks for.
+// Finds what the losses of a command line lead to: all of them together, or each alone.
 ghost use Rattle.std.specs.Prelude.{◌≡◌, IfOk, OnOk};
 ghost use Rattle.cluster_report.specs.Sessions.{IsInStep};
 ghost use Rattle.cluster_what_if.specs.Found.{IsFoundFor, AreFound, IsMended, IsMendedAt};
@@ -20,24 +20,24 @@ use std::alloc::Global;
 use std::sync::Wait;
 use std::thread::Threads;
 
-/// What is found.
+/// The findings.
 #[derive(Drop)]
 pub enum Found {
     Losses(Losses),
     Table(Table),
 }
 
-/// What is found about losses that come at once.
+/// The findings about losses that happen together.
 #[derive(Drop)]
 pub struct Losses {
     /// A line for each node and storage that is lost or drained, with its rack before.
     pub named: String,
     pub answer: Answer,
-    /// What is copied again, if that is asked for.
+    /// The repair, if it is asked for.
     pub mended: Option<Mended>,
 }
 
-/// What is copied again, and what stays as it is.
+/// A repair: the copies, and the blocks that get none.
 #[derive(Drop)]
 pub struct Mended {
     pub pace: Pace,
@@ -45,7 +45,7 @@ pub struct Mended {
     pub unmended: Vec<Unmended>,
 }
 
-/// What is found about each rack or each node, lost alone.
+/// The findings about each rack or each node, lost alone.
 #[derive(Drop)]
 pub struct Table {
     pub kind: Kind,

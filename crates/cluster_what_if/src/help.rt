@@ -17,7 +17,7 @@ Examples:
   what-if --lose rack:1 --mend --html rack.html FILE          the answer as a page too
   what-if --drain 10.1.1.11 --mend FILE                       when the node can be switched off";
 
-/// What is said of words that ask no question.
+/// The error for words that ask no question.
 pub fn wrong_question(alloc: Global) -> Result<Error, AllocError> {
     let mut command = command(alloc)?;
     command.error(
@@ -27,7 +27,7 @@ pub fn wrong_question(alloc: Global) -> Result<Error, AllocError> {
     )
 }
 
-/// What is said of a value that is none of its option's.
+/// The error for a value that its option does not take.
 pub fn wrong_value(alloc: Global) -> Result<Error, AllocError> {
     let mut command = command(alloc)?;
     command.error(ErrorKind::ValueValidation, WRONG_VALUE)

@@ -1,6 +1,7 @@
-//! What is lost with racks, nodes and storages: reads lines of the line tool or a text of `hdfs
-//! fsck`, makes their calls on one manager, and writes how the cluster stands without what is lost,
-//! with no round between. It may go on with rounds until nothing more is copied.
+//! Answers what is lost with racks, nodes and storages. Reads lines of the line tool or a text of
+//! `hdfs fsck`, and makes their calls on one manager. Then it writes the state of the cluster
+//! without what is lost, with no round between. It may go on with rounds until nothing more is
+//! copied.
 //!
 //! ```text
 //! puljemrod_cluster what-if --lose rack:1 cluster.jsonl
@@ -10,8 +11,8 @@
 //! The answer has a line for each fact (docs/WHAT_IF.md). For `each-rack` and `each-node` it is a
 //! table: each is lost alone, and comes back before the next.
 //!
-//! Ends with status 0; with status 1 where a line was refused, a name is not of the cluster, or a
-//! read, a write or memory failed; and with status 2 where the words ask for nothing that there is.
+//! Ends with status 0. The status is 1 if a line was refused, a name is not of the cluster, or a
+//! read, a write or memory failed. It is 2 if the words ask for nothing that exists.
 #![tactic(auto)]
 
 mod answers;

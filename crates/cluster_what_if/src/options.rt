@@ -11,7 +11,7 @@ use std::alloc::{AllocError, Global};
 /// How many lost blocks and files are named, if not all.
 pub const MOST_NAMED: usize = 10;
 
-/// What the words of a command line ask for.
+/// The request of a command line.
 #[derive(Drop)]
 pub struct Asked<'a> {
     pub input: input::Asked<'a>,
@@ -34,7 +34,7 @@ pub fn matches_of<'a>(alloc: Global, words: &'a [String]) -> Result<ArgMatches<'
     command.try_get_matches_from(words)
 }
 
-/// What the words ask for.
+/// The request of these words.
 pub fn asked_of<'a>(alloc: Global, matches: &ArgMatches<'a>) -> Result<Asked<'a>, Error> {
     let Some(input) = input::asked_of(matches) else {
         return Err(wrong_value(alloc)?);

@@ -1,4 +1,4 @@
-// What is found, printed.
+// Prints the findings.
 ghost use Rattle.std.specs.Prelude.{◌≡◌, ◌++◌, IfOk, OnOk, string_bytes};
 ghost use Rattle.std.specs.Io.KnownBytes.{Appends};
 ghost use Rattle.cluster_what_if.specs.Output.{losses_text, mended_text, found_text};
@@ -96,7 +96,7 @@ fn write_losses(
     write_mended(alloc, text, names, files, most, &losses.mended)
 }
 
-/// What is copied again, if that was asked for.
+/// Writes the repair, if it was asked for.
 fn write_mended(
     alloc: Global,
     text: &mut String,

@@ -1,11 +1,11 @@
-// What is found, as one page that stands alone: tables, bars and a picture, all within it.
+// The findings as one self-contained page with tables, bars and a picture.
 use crate::answers::Answer;
 use crate::found::{Found, Losses};
 use crate::page_rounds::{write_mended, write_mended_facts};
 use crate::page_table::write_table_page;
 use crate::text::fits_word;
 use bm_base::BlockId;
-use cluster_losses::standing::Standing;
+use cluster_losses::counts::Standing;
 use cluster_names::{Files, Names};
 use cluster_pages::page_frame::{write_foot, write_head};
 use cluster_pages::page_parts::{
@@ -54,7 +54,7 @@ fn write_losses(
     Ok(())
 }
 
-/// What is lost or drained: an item for each line.
+/// The lost and drained nodes and storages: an item for each line.
 fn write_named(text: &mut String, named: &str) -> Result<(), AllocError> {
     text.push_str("<ul>\n")?;
     for line in named.lines() {

@@ -1,4 +1,4 @@
-// The part of a page about what is copied again.
+// The part of a page about the repair.
 use crate::found::Mended;
 use crate::page::write_bytes_fact;
 use crate::page_table::write_level_cells;

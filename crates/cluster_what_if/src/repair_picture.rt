@@ -1,4 +1,4 @@
-// What is copied again, as a picture.
+// The repair as a picture.
 ghost use Rattle.std.specs.Prelude.{◌≡◌, map, IfOk};
 ghost use Rattle.cluster_what_if.specs.Picture.{counts_in};
 

@@ -9,9 +9,9 @@ use crate::found::Table;
 use crate::text::{fits_word, write_node, write_rack};
 use bm_base::{NodeId, Rack};
 use cluster_input::loaded::Loaded;
+use cluster_losses::counts::Standing;
 use cluster_losses::each::Row;
 use cluster_losses::loss::Kind;
-use cluster_losses::standing::Standing;
 use cluster_losses::without::Outcome;
 use cluster_names::{Files, Names};
 use std::alloc::{AllocError, Global};
@@ -43,7 +43,7 @@ fn write_heading(text: &mut String, files: &Files, kind: Kind) -> Result<(), All
     write_end_of_heading(text)
 }
 
-/// What the names of the rows are of.
+/// The word above the names of the rows: rack or node.
 pub fn kind_word(kind: Kind) -> &'static str
     ensures { result.now ≡ kind_word kind }
 {

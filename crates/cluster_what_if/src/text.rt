@@ -7,8 +7,8 @@ ghost use Rattle.cluster_what_if.specs.Text.{node_words, node_line, storage_line
 use crate::answers::Answer;
 use bm_base::{BlockId, NodeId, Rack, StorageId};
 use cluster_input::loaded::Loaded;
+use cluster_losses::counts::Standing;
 use cluster_losses::loss_events::Lost;
-use cluster_losses::standing::Standing;
 use cluster_names::{Files, Names};
 use cluster_pages::at_risk::FileRow;
 use cluster_pages::text::first_of;
@@ -17,7 +17,7 @@ use cluster_report::levels::LevelCounts;
 use cluster_report::text_parts::write_count;
 use std::alloc::AllocError;
 
-/// What is lost, as the cluster is before.
+/// The lost nodes and storages, as they are before the loss.
 #[tactic(auto, unfolding(crate::specs::Text::lost_text))]
 pub fn write_lost(text: &mut String, loaded: &Loaded, lost: &Lost) -> Result<(), AllocError>
     ensures { OnOk result (string_bytes text.new ≡ string_bytes text.old

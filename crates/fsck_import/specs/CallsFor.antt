@@ -50,7 +50,8 @@ entry h = record { from = h.id; to = h.id; stamp = h.stamp }
 abbrev pub received : ℕ → Held → Call
 received storage h = call.Apply (Received storage h.id h.stamp)
 
--- all replicas on a storage: as many as fit into a report, then a notice for each of the others
+-- all replicas on a storage: a report of those that fit into it, then a notice for each of the
+-- others
 abbrev pub reports : Row → List Call
 reports row =
     call.Apply (FullReport row.number (map entry (take MAX_ENTRIES row.held))) ∷ map (received row.number) (drop MAX_ENTRIES row.held)

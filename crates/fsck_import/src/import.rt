@@ -11,7 +11,7 @@ use crate::destination::Destination;
 use crate::fault::Fault;
 use crate::file_table::files_text;
 use crate::line_writer::write_flushed;
-use crate::listing::Listing;
+use crate::listed_files::Listing;
 use crate::name_table::table_of;
 use crate::text_reader::{Reading, read_cluster};
 use bm_base::MAX_ENTRIES;

@@ -9,7 +9,7 @@ mod file_table;
 pub mod import;
 pub mod line_writer;
 pub mod lines;
-pub mod listing;
+pub mod listed_files;
 mod name_table;
 pub mod options;
 pub mod text_reader;

@@ -8,7 +8,7 @@ ghost use Rattle.fsck_import.specs.Lines.{IsReadFault};
 
 use crate::fault::{Cause, Fault, LineFault, Quoted, Unread};
 use crate::lines::{TakesLines, take_lines};
-use crate::listing::Listing;
+use crate::listed_files::Listing;
 use fsck_cluster::{Cluster, ClusterFault, NodeFault, NodeList, NodeRefusal};
 use fsck_files::{Block, Files, Refusal, Skips, Unclear, Why};
 use std::alloc::Global;

@@ -1,7 +1,8 @@
 //! Parses a line that `hdfs fsck` or `hdfs dfsadmin -report` prints, for Hadoop 2.6 to 3.4.
 //!
-//! The forms are those of Hadoop's `NamenodeFsck` and `DatanodeInfo`; where versions differ, all
-//! are read. No call depends on more than one line.
+//! The forms are those of Hadoop's `NamenodeFsck` and `DatanodeInfo`, as remembered: no text of a
+//! running cluster was tried. Where versions differ, all are read. No call depends on more than one
+//! line.
 #![tactic(auto)]
 
 mod block;

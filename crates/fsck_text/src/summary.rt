@@ -6,7 +6,7 @@ use crate::cuts::{cut_at, last_cut_at, number_of, word_and_rest};
 use crate::wrong::{Reason, Wrong};
 use thiserror::Error;
 
-/// What a line of the summary counts.
+/// The things that a line of the summary counts.
 #[derive(Clone, Copy, Debug, Drop, Error)]
 pub enum Count {
     /// Blocks of replicated files.

@@ -20,7 +20,7 @@ use Rattle.bm_base.specs.Words.{Map, get, keep, contains_key, entries, has, Clus
 use Rattle.bm_base.specs.Promises.Lawful.{IsLawfulHoldings, IsOrderly}
 use Rattle.bm_base.proofs.MapLaws.{same_map, get-keep, get-insert}
 use Rattle.bm_base.proofs.Ties.{replica_tie}
-use Rattle.bm_base.proofs.Entries.{expanded-++, told_by-around, ids_reported, has-count_up}
+use Rattle.bm_base.proofs.Entries.{expanded-++, reported_by-around, ids_reported, has-count_up}
 use Rattle.bm_base.proofs.Options.{there, staying, none_stays, all_stays, stays_twice}
 use Rattle.bm_base.proofs.ForEach.{Each, each_then}
 use Rattle.bm_base.proofs.MapEntries.{each_entry, get_here}
@@ -73,7 +73,7 @@ around front e behind b low high h =
     let before : List ReportedBlock = map tell (range_from e.from (b - e.from)) in
     let after : List ReportedBlock = map tell (range_from (b + 1) (e.to - b)) in
     let list : expanded (front ++ (e ∷ behind)) ≡ (expanded front ++ before) ++ (tell b ∷ (after ++ expanded behind)) =
-    expanded-++ front (e ∷ behind) ∙ ap (λ xs. expanded front ++ (xs ++ expanded behind)) (told_by-around e b low high)
+    expanded-++ front (e ∷ behind) ∙ ap (λ xs. expanded front ++ (xs ++ expanded behind)) (reported_by-around e b low high)
     ∙ ap (λ xs. expanded front ++ xs) (append_assoc before (tell b ∷ after) (expanded behind)) ∙ sym (append_assoc (expanded front) before (tell b ∷ (after ++ expanded behind))) in
     let none : has (map (λ (t : ReportedBlock). t.id) (after ++ expanded behind)) b ≡ false =
     ap (λ xs. has xs b) (map-append (λ (t : ReportedBlock). t.id) after (expanded behind)) ∙ list_any-append (λ c. c == b) (map (λ (t : ReportedBlock). t.id) after) (law.numbers_of behind)

@@ -10,7 +10,7 @@ use Rattle.bm_base.specs.declared.event.Entry.{Entry}
 use Rattle.bm_base.specs.declared.event.Event.TheVariants.{FullReport}
 use Rattle.bm_base.specs.Words.{get, keep, has, Cluster, Holdings, State, replica_at, are_siblings, ReportedBlock, blocks_of_entry, expanded, is_named, leaves_by_report, report, change_cluster, change_holdings, done, done_by, after_event, count_call}
 use Rattle.bm_base.proofs.MapLaws.{same_map}
-use Rattle.bm_base.proofs.Entries.{length-expanded, has-told_by, expanded-++, expanded-one_by_one, told_by-backwards, told_by-cut}
+use Rattle.bm_base.proofs.Entries.{length-expanded, has-reported_by, expanded-++, expanded-one_by_one, reported_by-backwards, reported_by-cut}
 use Rattle.bm_parts.proofs.ReportedReplicas.{stays_by}
 use Rattle.laws_of_events.proofs.ReportedReplicas.{named_since, put_or, reported_here, reported_elsewhere}
 use Rattle.laws_of_events.specs.Reports.{numbers_of}
@@ -27,7 +27,7 @@ named_by_runs [] b = refl
 named_by_runs (e ∷ es) b =
     ap (λ xs. has xs b) (map-append (λ (t : ReportedBlock). t.id) (blocks_of_entry e) (expanded es))
     ∙ list_any-append (λ c. c == b) (map (λ (t : ReportedBlock). t.id) (blocks_of_entry e)) (numbers_of es)
-    ∙ (λ i. has-told_by e b i || named_by_runs es b i)
+    ∙ (λ i. has-reported_by e b i || named_by_runs es b i)
 
 pub named : law.runs_name_their_numbers
 named es b = (
@@ -110,11 +110,11 @@ unfolding expanded
 cut_in_two M s front e behind m low high =
     same_expansion M s (front ++ (e ∷ behind)) (front ++ (record e { to = m } ∷ record e { from = m + 1 } ∷ behind))
     (expanded-++ front (e ∷ behind)
-    ∙ ap (λ xs. expanded front ++ xs) (ap (λ xs. xs ++ expanded behind) (told_by-cut e m low high) ∙ append_assoc (blocks_of_entry (record e { to = m })) (blocks_of_entry (record e { from = m + 1 })) (expanded behind))
+    ∙ ap (λ xs. expanded front ++ xs) (ap (λ xs. xs ++ expanded behind) (reported_by-cut e m low high) ∙ append_assoc (blocks_of_entry (record e { to = m })) (blocks_of_entry (record e { from = m + 1 })) (expanded behind))
     ∙ sym (expanded-++ front (record e { to = m } ∷ record e { from = m + 1 } ∷ behind)))
 
 pub backward : law.backward_run_names_none
 unfolding expanded
 backward M s front e behind h =
     same_expansion M s (front ++ (e ∷ behind)) (front ++ behind)
-    (expanded-++ front (e ∷ behind) ∙ ap (λ xs. expanded front ++ (xs ++ expanded behind)) (told_by-backwards e h) ∙ sym (expanded-++ front behind))
+    (expanded-++ front (e ∷ behind) ∙ ap (λ xs. expanded front ++ (xs ++ expanded behind)) (reported_by-backwards e h) ∙ sym (expanded-++ front behind))

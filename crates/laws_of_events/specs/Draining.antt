@@ -94,7 +94,7 @@ retired_is_said_plainly =
     ↔ (IsTrue (drains C n)
     × ((b s : ℕ) (i : BlockInfo) → get H.blocks b ≡ Some i → IsOn C n s → IsHeld H (replica_at b s) (λ m. (m.tag ≡ Good) × (m.excess ≡ false)) → i.repl ≤ length (live C H b)))
 
--- If the query answers yes, the node may die: each block keeps its live replicas, a block with too
+-- If the query answers yes, the node may die. Each block keeps its live replicas, a block with too
 -- few live ones keeps all its usable ones, and no further block is missing.
 pub record NothingIsMissed (M N : State) : Type 0 where
   pub live_stay : (b : ℕ) → live N.cluster N.holdings b ≡ live M.cluster M.holdings b

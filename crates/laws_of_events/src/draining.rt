@@ -57,8 +57,8 @@ pub fn no_transfer_to_draining()
     ensures { law.no_transfer_to_draining }
 {}
 
-/// A node is retired exactly if it drains and each known block that has a usable replica on it,
-/// good and not in excess, has at least the wanted number of live replicas.
+/// A node is retired exactly if it drains and each known block with a usable replica on it has at
+/// least the wanted number of live replicas. Usable is good and not in excess.
 pub fn retired_is_said_plainly()
     ensures { law.retired_is_said_plainly }
 {}

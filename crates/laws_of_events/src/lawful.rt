@@ -13,7 +13,7 @@ pub fn event_keeps_lawful()
     ensures { law.event_keeps_lawful }
 {}
 
-/// A round that nothing refuses keeps a lawful state lawful: each chosen copy goes to a known
+/// A round that nothing refuses keeps a lawful state lawful. Each chosen copy goes to a known
 /// storage and is of a known block, and only good replicas are put in excess.
 pub fn round_keeps_lawful()
     ensures { law.round_keeps_lawful }

@@ -29,7 +29,7 @@ pub fn second_report_changes_nothing()
 {}
 
 /// A full report of some entries, followed by a received notice for each number of the others,
-/// leaves the same state as one full report of all entries, but for the number of calls. The
+/// leads to the state after one full report of all entries. Only the number of calls differs. The
 /// condition is that the storage holds no replica that the other entries name.
 pub fn report_in_parts()
     ensures { law.report_in_parts }

@@ -23,7 +23,7 @@ use Rattle.bm_base.proofs.Sets.{has_keys}
 use Rattle.laws_of_states.proofs.LawfulRounds.{orderly}
 use Rattle.laws_of_rounds.proofs.Needs.{level_unknown}
 use Rattle.laws_of_rounds.proofs.NodeCommands.{same_rest}
-use Rattle.laws_of_repairs.specs.Repairs.{Covers, CoveringBlocksCountAsAll, is_report_beside}
+use Rattle.laws_of_repairs.specs.Repairs.{Covers, CoveringBlocksCountAsAll, is_report_not_naming}
 use Rattle.laws_of_repairs.proofs.Rounds.{round_gives_none}
 use Rattle.laws_of_repairs.proofs.Reports.{reports_keep}
 
@@ -131,11 +131,11 @@ leveled_all M xs covers b = has_filter (has_level M) xs b ∙ by_test (has xs b)
 -- States that change.
 
 -- a heartbeat
-pub covers_heard : (M N : State) (e : Event) (xs : List ℕ) → ((b : ℕ) → is_report_beside b e ≡ true) → N ≡ after_event M e → Covers M xs → Covers N xs
+pub covers_heard : (M N : State) (e : Event) (xs : List ℕ) → ((b : ℕ) → is_report_not_naming b e ≡ true) → N ≡ after_event M e → Covers M xs → Covers N xs
 covers_heard M N e xs beside is covers = subst (λ O. Covers O xs) (sym is) (λ b none. reports_keep M e b (beside b) ∙ covers b none)
 
 -- a notice of a block that is added
-pub covers_told : (M N : State) (e : Event) (xs ys : List ℕ) (c : ℕ) → ys ≡ xs ++ c ∷ [] → ((b : ℕ) → (c == b) ≡ false → is_report_beside b e ≡ true)
+pub covers_told : (M N : State) (e : Event) (xs ys : List ℕ) (c : ℕ) → ys ≡ xs ++ c ∷ [] → ((b : ℕ) → (c == b) ≡ false → is_report_not_naming b e ≡ true)
     → N ≡ after_event M e → Covers M xs → Covers N ys
 covers_told M N e xs ys c added beside is covers = subst (λ O. Covers O ys) (sym is) told
   where

@@ -11,16 +11,16 @@ abbrev pub RoundGivesNoLevel : State → Type 0
 RoundGivesNoLevel M = (b : ℕ) → level M.cluster M.holdings b ≡ None → level (after_round M).cluster (after_round M).holdings b ≡ None
 
 -- whether a report is a heartbeat, or the notice of a copy or a delete of another block than b
-abbrev pub is_report_beside : ℕ → Event → Bool
-is_report_beside b (Heartbeat n rs) = true
-is_report_beside b (Received s c stamp) = not (c == b)
-is_report_beside b (Deleted s c) = not (c == b)
-is_report_beside b _ = false
+abbrev pub is_report_not_naming : ℕ → Event → Bool
+is_report_not_naming b (Heartbeat n rs) = true
+is_report_not_naming b (Received s c stamp) = not (c == b)
+is_report_not_naming b (Deleted s c) = not (c == b)
+is_report_not_naming b _ = false
 
 -- such a report keeps the level of block b
 abbrev pub ReportsKeepLevels : Type 0
 ReportsKeepLevels =
-    (M : State) (e : Event) (b : ℕ) → is_report_beside b e ≡ true
+    (M : State) (e : Event) (b : ℕ) → is_report_not_naming b e ≡ true
     → level (after_event M e).cluster (after_event M e).holdings b ≡ level M.cluster M.holdings b
 
 -- all blocks with a level are among these

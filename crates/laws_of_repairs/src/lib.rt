@@ -1,7 +1,7 @@
 //! The levels of blocks while copies arrive and replicas are deleted, and no node or storage is
-//! lost: no block gets a level that had none, unless DataNodes report a replica of it. So a list
-//! that has all blocks with a level still has them if each block of a report is added, and its
-//! blocks at each level are all of them.
+//! lost. No block gets a level that had none, unless DataNodes report a replica of it. So a list
+//! that has all blocks with a level still has them if each block of a report is added. Its blocks
+//! at each level are all blocks at that level.
 #![tactic(auto)]
 
 ghost use Rattle.bm_base.specs.Promises.AllStates.{InLawfulStates};

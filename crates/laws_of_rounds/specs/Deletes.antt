@@ -21,7 +21,7 @@ OnlyGoodReplicaIsNotDeleted M =
     → IsDeleteCommanded M (replica_at b s) → ⊥
 
 -- If a round commands the delete of a replica of a known block, another replica of the block is
--- live after the round, and the round does not command its delete.
+-- live after the round. The round does not command the delete of that one.
 abbrev pub LastGoodReplicaStays : State → Type 0
 LastGoodReplicaStays M =
     (b s : ℕ) (i : BlockInfo) → get M.holdings.blocks b ≡ Some i → IsDeleteCommanded M (replica_at b s)
@@ -91,9 +91,9 @@ OrderedReplicaIsNotUsable =
     (config : Config) (ks : List Call) (q : ReplicaId) (m : Marks)
     → get (state_after (first_state config) ks).holdings.replicas q ≡ Some m → m.ordered ≡ true → is_usable m ≡ false
 
--- If a round commands the delete of a replica of a known block, a replica of the block remains that
--- is good and not in excess, on a node that does not drain, and whose delete no round has commanded
--- since its last report.
+-- If a round commands the delete of a replica of a known block, a replica of the block remains.
+-- That one is good and not in excess, on a node that does not drain, and no round has commanded its
+-- delete since its last report.
 abbrev pub GoodReplicaIsLeftByAllRounds : Type 0
 GoodReplicaIsLeftByAllRounds =
     (config : Config) (ks : List Call) (b s : ℕ) (i : BlockInfo)

@@ -29,9 +29,8 @@ SourceIsLiveOrDrained =
     ForEachTransfer (λ M _ t. ((has (live_marked M t.block) t.source ≡ true) ⊎ (has (drained_marked M t.block) t.source ≡ true))
     × ((i : BlockInfo) × (get M.holdings.blocks t.block ≡ Some i) × (t.stamp ≡ i.stamp)))
 
--- A drained replica is the source before every live one: if the source of a transfer is on a node
--- that does not drain, the node of each drained replica of the block is already the source of four
--- transfers of the round.
+-- A drained replica is the source before every live one. If the source's node does not drain, the
+-- node of each drained replica of the block is already the source of four transfers of the round.
 abbrev pub DrainedSourceGoesFirst : Type 0
 DrainedSourceGoesFirst =
     ForEachTransfer (λ M front t. (s n : ℕ) → has (drained_marked M t.block) s ≡ true → node_of M.cluster s ≡ Some n
@@ -43,8 +42,8 @@ AtMostFourFromANode = (M : State) → All (λ k. length k.transfers ≤ 4) (whol
 
 -- Targets.
 
--- the target's node does not drain, has no replica of the block of any tag and no pending transfer
--- of it, and is the target of no other transfer of the block in the round
+-- The target's node does not drain, and has no replica of the block of any tag and no pending
+-- transfer of it. No other transfer of the block in the round goes to it.
 pub record IsFreshNode (M : State) (front : List Transfer) (t : Transfer) : Type 0 where
   pub known : (n : ℕ) × (node_of M.cluster t.target ≡ Some n)
   pub not_draining : is_draining M.cluster t.target ≡ false

@@ -3,7 +3,7 @@
 ghost use Rattle.bm_base.specs.Promises.AllStates.{InLawfulStates, AfterAllCalls};
 ghost use Rattle.laws_of_rounds.specs.Deletes as law;
 
-/// No round commands the delete of a block's last good replica: in a lawful state a round does not
+/// No round commands the delete of a block's last good replica. In a lawful state a round does not
 /// command the delete of the only good replica of a known block, in excess or not.
 pub fn only_good_replica_is_not_deleted()
     ensures lawful { InLawfulStates law.OnlyGoodReplicaIsNotDeleted }
@@ -11,15 +11,15 @@ pub fn only_good_replica_is_not_deleted()
 {}
 
 /// More than that: if a round in a lawful state commands the delete of a replica of a known block,
-/// another replica of the block is live after the round: good and not in excess, on a node that
-/// does not drain. The round does not command its delete.
+/// another replica is live after the round. The round does not command the delete of that one. Live
+/// is good and not in excess, on a node that does not drain.
 pub fn last_good_replica_stays()
     ensures lawful { InLawfulStates law.LastGoodReplicaStays }
     ensures reached { AfterAllCalls law.LastGoodReplicaStays }
 {}
 
-/// And more: if a round in a lawful state commands the delete of a replica of a known block, at
-/// least the wanted number of its replicas are live after the round, and at least one is wanted.
+/// And more: after a round in a lawful state commands the delete of a replica of a known block, at
+/// least the wanted number of its replicas are live. At least one is wanted.
 pub fn enough_stay_live()
     ensures lawful { InLawfulStates law.EnoughStayLive }
     ensures reached { AfterAllCalls law.EnoughStayLive }
@@ -72,9 +72,9 @@ pub fn ordered_replica_is_not_usable()
 {}
 
 /// Whatever calls were made: if a round commands the delete of a replica of a known block, a
-/// replica of the block remains that is good and not in excess, on a node that does not drain, and
-/// whose delete no round has commanded since its last report. This law is stated for lawful states,
-/// as all states are that calls lead to.
+/// replica of the block remains. That one is good and not in excess, on a node that does not drain,
+/// and no round has commanded its delete since its last report. This law is stated for lawful
+/// states, as all states are that calls lead to.
 pub fn good_replica_is_left_by_all_rounds()
     ensures { law.GoodReplicaIsLeftByAllRounds }
 {}

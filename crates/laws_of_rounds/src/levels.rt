@@ -21,9 +21,9 @@ pub fn only_drained_is_level_zero()
     ensures reached { AfterAllCalls law.OnlyDrainedIsLevelZero }
 {}
 
-/// In a lawful state a known block has level 3 exactly if two or more replicas are wanted, at least
-/// that number is live, all live ones are on one rack, and the alive nodes are on two racks or
-/// more.
+/// In a lawful state a known block has level 3 exactly if four conditions hold. Two or more
+/// replicas are wanted, at least that number is live, all live ones are on one rack, and the alive
+/// nodes are on two racks or more.
 pub fn level_three_is_one_rack()
     ensures lawful { InLawfulStates law.LevelThreeIsOneRack }
     ensures reached { AfterAllCalls law.LevelThreeIsOneRack }

@@ -23,9 +23,9 @@ pub fn at_most_four_from_a_node()
     ensures { law.AtMostFourFromANode }
 {}
 
-/// A transfer's target is on an alive node that does not drain, that has no replica of the block of
-/// any tag and no pending transfer of it, and that is the target of no other transfer of the block
-/// in the round.
+/// A transfer's target is on an alive node that does not drain. That node has no replica of the
+/// block of any tag and no pending transfer of it, and no other transfer of the block in the round
+/// goes to it.
 pub fn target_is_on_fresh_node()
     ensures { law.TargetIsOnFreshNode }
 {}

@@ -60,8 +60,8 @@ pub record IsAnswered (M : State) (line : List ℕ) (k : HandleState) : Type 0 w
   pub text : last_text k ≡ line_text M line
   pub no_memory : k.number ≡ MEMORY → ⊥
 
--- The text can be copied out, and the code is the number of the answer; or memory was refused for
--- the text, and the text that can be copied out is as before.
+-- Either the text can be copied out, and the code is the number of the answer. Or memory was
+-- refused for the text, and the text that can be copied out is as before.
 abbrev pub IsTextStored : List ℕ → HandleState → ℕ → ℕ → Type 0
 IsTextStored before k code len = ((code ≡ k.number) × (k.answer ≡ None) × (len ≡ length k.text.items)) ⊎ ((code ≡ NO_TEXT) × (len ≡ 0) × (k.text.items ≡ before))
 
@@ -74,8 +74,8 @@ IsLine k line now code len = ((code ≡ MEMORY) × (now ≡ k) × (len ≡ 0) ×
 abbrev pub IsMade : HandleState → Call → HandleState → ℕ → Type 0
 IsMade k c now code = IsAsked k.manager (Asks c) now × (code ≡ now.number)
 
--- A call by its own function: memory was refused, which is possible only if the call takes memory
--- and nothing else refuses it, and nothing changed; or the call is made.
+-- A call by its own function. Either memory was refused and nothing changed, which is possible only
+-- if the call takes memory and nothing else refuses it; or the call is made.
 abbrev pub IsCall : HandleState → Call → HandleState → ℕ → Type 0
 IsCall k c now code = ((code ≡ MEMORY) × (now ≡ k) × IsTrue (may_run_out_of_memory step k.manager c)) ⊎ IsMade k c now code
 

@@ -29,7 +29,7 @@ impl Model for Spare {
 }
 
 impl Spare {
-    /// It takes no memory.
+    /// Two empty lists. Takes no memory.
     pub fn new(alloc: Global) -> Spare {
         Spare {
             first: Vec::new(alloc),

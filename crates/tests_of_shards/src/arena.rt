@@ -362,7 +362,7 @@ fn before(arena: &Arena, storage: StorageId, slot: usize) -> Option<usize> {
     }
 }
 
-/// `usize::MAX`, which is no slot, stands for a question that is not allowed.
+/// `usize::MAX`, which is no slot, means a question that is not allowed.
 fn slot_asked(rt: &impl Abort, arena: &mut Arena, slots: &Slots, place: Place) -> Option<usize> {
     match place {
         Place::Added(block) => Some(add(rt, arena, block)),

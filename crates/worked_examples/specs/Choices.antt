@@ -146,8 +146,8 @@ since block storage round = (replica_at block storage, round)
 abbrev pub holdings : List (ℕ × BlockInfo) → List (ReplicaId × Marks) → List (ReplicaId × ℕ) → Holdings
 holdings blocks replicas pending = record { blocks = insert_all empty blocks; replicas = insert_all empty replicas; pending = insert_all empty pending }
 
--- Levels: block 1 at 2, block 2 at 0, 3 at 1, 4 at 3, 5 at 4, 6 at 0 with a pending transfer, 7 at
--- 3 with a pending transfer.
+-- Levels: block 1 at 2, block 2 at 0, 3 at 1, 4 at 3, 5 at 4. Of those with a pending transfer, 6
+-- is at 0 and 7 at 3.
 abbrev pub wanting : Holdings
 wanting =
     holdings (block 1 3 ∷ block 2 3 ∷ block 3 7 ∷ block 4 2 ∷ block 5 2 ∷ block 6 3 ∷ block 7 2 ∷ [])
@@ -213,9 +213,9 @@ DrainedIsCopiedAndNotCounted =
 
 -- Deletes.
 
--- A node's deletes by storage and then by block, up to the limit: stray replicas, excess replicas,
--- and corrupt ones of a block with enough live replicas, but none that is ordered already. Block 1
--- has enough live replicas, block 2 has not.
+-- A node's deletes by storage and then by block, up to the limit. These are stray replicas, excess
+-- replicas, and corrupt ones of a block with enough live replicas, but none that is ordered
+-- already. Block 1 has enough live replicas, block 2 has not.
 abbrev pub DeletesInOrder : Type 0
 DeletesInOrder =
     map {B = ℕ × ℕ} (λ d. (d.storage, d.block))

@@ -3,8 +3,8 @@
 
 ghost use Rattle.worked_examples.specs.Copies as example;
 
-/// A block with one of three replicas is copied twice: first to the other rack, and then, since
-/// both racks will hold it, to the lesser of the two storages left.
+/// A block with one of three replicas is copied twice. The first copy goes to the other rack. Then
+/// both racks will hold it, and the second goes to the lesser of the two storages left.
 pub fn copies_span_two_racks()
     ensures { example.copies_span_two_racks }
 {}

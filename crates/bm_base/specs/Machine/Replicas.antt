@@ -25,7 +25,7 @@ abbrev pub is_stray : Tag → Bool
 is_stray Stray = true
 is_stray _ = false
 
--- stale or bad
+-- whether a tag is that of a corrupt replica: stale or bad
 abbrev pub is_corrupt : Tag → Bool
 is_corrupt Stale = true
 is_corrupt Bad = true
@@ -88,7 +88,7 @@ sources_of C H b = live C H b ++ drained C H b
 abbrev pub usable : Holdings → ℕ → List ℕ
 usable H b = storages_where (λ _ m. is_usable m) H b
 
--- whether a known block has as many live replicas as are wanted
+-- whether a known block has at least the wanted number of live replicas
 unfoldable pub has_enough_live : Cluster → Holdings → ℕ → Bool
 has_enough_live C H b = option_map_or (λ i. nat_le i.repl (length (live C H b))) (get H.blocks b) false
 

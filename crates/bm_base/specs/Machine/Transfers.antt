@@ -64,8 +64,8 @@ scheduled_to chosen s = sum_by (λ t. if t.target == s then t.stamp.len else 0) 
 unfoldable pub free_bytes : Cluster → (ℕ → ℕ) → ℕ → ℕ
 free_bytes C sent s = remaining C s - sent s
 
--- the most transfers of which a node may be the source in one round: Hadoop's hard limit for the
--- most urgent blocks and for a node that drains, else the soft one
+-- The most transfers of which a node may be the source in one round. It is Hadoop's hard limit for
+-- the most urgent blocks and for a node that drains, else the soft one.
 abbrev pub stream_limit : Level → Bool → ℕ
 stream_limit Highest is_drained = 4
 stream_limit _ is_drained = if is_drained then 4 else 2
@@ -133,32 +133,32 @@ target_cmp C sent holders s t =
 
 -- whether a storage is on the node of one of these
 unfoldable pub is_excluded : Cluster → List ℕ → ℕ → Bool
-is_excluded C barred s = list_any (λ t. share_node C t s) barred
+is_excluded C excluded s = list_any (λ t. share_node C t s) excluded
 
 -- whether a badly distributed block that these hold on one rack would stay on one
 abbrev pub would_stay_on_one_rack : Cluster → Level → List ℕ → ℕ → Bool
 would_stay_on_one_rack C urgency holders s = is_at BadlyDistributed (Some urgency) && are_on_one_rack C holders && (class_of C holders s == 1)
 
--- A storage may be the target if the length fits with what is scheduled to it, its node does not
--- drain and is not excluded, and a badly distributed block that is held on one rack would get to
--- another one.
+-- A storage may be the target if the length fits with what is scheduled to it, and its node neither
+-- drains nor is excluded. A badly distributed block that is held on one rack must get to another
+-- one.
 unfoldable pub is_target : Cluster → (ℕ → ℕ) → Level → List ℕ → List ℕ → ℕ → ℕ → Bool
-is_target C sent urgency holders barred len s =
+is_target C sent urgency holders excluded len s =
     nat_le (len + sent s) (remaining C s)
     && not (is_draining C s)
-    && not (is_excluded C barred s)
+    && not (is_excluded C excluded s)
     && not (would_stay_on_one_rack C urgency holders s)
 
 -- The target at this level of a block of this length. `sent` has for each storage the bytes that
 -- are scheduled to it.
 unfoldable pub least_target_by : Cluster → (ℕ → ℕ) → Level → List ℕ → List ℕ → ℕ → Option ℕ
-least_target_by C sent urgency holders barred len = least (target_cmp C sent holders) (filter (is_target C sent urgency holders barred len) (keys C.storages))
+least_target_by C sent urgency holders excluded len = least (target_cmp C sent holders) (filter (is_target C sent urgency holders excluded len) (keys C.storages))
 
 -- the same, by the transfers that were chosen
 unfoldable pub least_target : Cluster → List Transfer → Level → List ℕ → List ℕ → ℕ → Option ℕ
-least_target C chosen urgency holders barred len = least_target_by C (scheduled_to chosen) urgency holders barred len
+least_target C chosen urgency holders excluded len = least_target_by C (scheduled_to chosen) urgency holders excluded len
 
--- whether a round is full: it has as many transfers as it may
+-- whether a round is full: it has the greatest number of transfers
 abbrev pub has_all_transfers : RoundLimits → Cluster → List Transfer → Bool
 has_all_transfers limits C chosen = nat_le (limits.work * len C.nodes) (length chosen)
 

@@ -23,8 +23,9 @@ SparesLastGood M k =
     → ((t : ℕ) (m : Marks) → get M.holdings.replicas (replica_at b t) ≡ Some m → m.tag ≡ Good → t ≡ s)
     → CommandsDelete k (replica_at b s) → ⊥
 
--- If a replica of a block that is known in M is commanded to be deleted, then the block has as many
--- live replicas in N as are wanted, at least one, and none of these is commanded to be deleted.
+-- If k commands the delete of a replica of a block that is known in M, the block has at least the
+-- wanted number of live replicas in N. At least one is wanted, and k commands the delete of no live
+-- one.
 abbrev pub KeepsEnoughLive : State → Commands → State → Type 0
 KeepsEnoughLive M k N =
     (b s : ℕ) (i : BlockInfo) → get M.holdings.blocks b ≡ Some i → CommandsDelete k (replica_at b s)

@@ -38,7 +38,7 @@ fn read_call(alloc: Global, line: &[u8]) -> Result<Option<Call>, AllocError>
     }
 }
 
-/// What `serde_json` reads of a line.
+/// The value that `serde_json` reads from a line.
 fn value_of(alloc: Global, line: &[u8]) -> Result<Option<Value>, AllocError>
     ensures { IfOk result (λ o. option_map view o ≡ view_of line.now) }
 {

@@ -1,5 +1,5 @@
-// The fields of a line's object that are lists: `None` without such a field, if it is no array, or
-// if an element of it is no item of the list.
+// The fields of a line's object that are lists. The answer is `None` without such a field, if it is
+// no array, or if an element of it is no item of the list.
 ghost use Rattle.std.specs.Prelude.{◌≡◌, IfOk, option_map, option_and_then, map, vec_items};
 ghost use Rattle.serde_json.specs.Find.{as_array, get};
 ghost use Rattle.serde_json.specs.View.{view, items_view};

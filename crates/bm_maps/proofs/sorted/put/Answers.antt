@@ -1,7 +1,7 @@
 use Rattle.std.proofs.Common.{◌≡◌, None, ap, sym, ◌∙◌, arith}
 use Rattle.std.specs.Prelude.{insert, length}
 use Rattle.std.specs.FinMap.{find}
-use Rattle.bm_maps.proofs.PutLaws.{put-set_read, put-insert_read, place-le}
+use Rattle.bm_maps.proofs.PutLaws.{put-set_read, put-insert_read, key_index-le}
 use Rattle.bm_maps.proofs.BinarySearch.{find_none, find_past, not_there}
 use Rattle.bm_maps.proofs.sorted.put.Goals as goal
 use Rattle.bm_maps.proofs.sorted.put.Goals.{then-at-len+in_default, else-at-len}
@@ -15,7 +15,7 @@ returns-in-Equal-clause-ok g c =
 pub insert_reserved-requires-clause-at : goal.insert_reserved-requires-clause-at
 insert_reserved-requires-clause-at g c =
     let e = c.requires.at in
-    omega (arith, e, place-le g.K.Ord.cmp c.args.key c.args.entries.now.items, ap length c.in_ok-reserve.ensures.items)
+    omega (arith, e, key_index-le g.K.Ord.cmp c.args.key c.args.entries.now.items, ap length c.in_ok-reserve.ensures.items)
 
 pub insert_reserved-requires-clause-room : goal.insert_reserved-requires-clause-room
 insert_reserved-requires-clause-room g c = omega (arith, c.in_ok-reserve.ensures.ok)

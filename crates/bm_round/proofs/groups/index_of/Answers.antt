@@ -11,7 +11,7 @@ returns-in-Ok c =
     let of = sym c.node_of.ensures ∙ c.in-Some.is in
     let found = subst (λ r. MatchResult r (λ i. (i < length ids) × (get_or ids i 0 ≡ c.in-Some.node)) (λ i. (i ≤ length ids) × ((k : ℕ) → k < i → get_or ids k 0 < c.in-Some.node) × ((k : ℕ) → i ≤ k → k < length ids → c.in-Some.node < get_or ids k 0)))
     c.in-Ok.is (searched ids c.in-Some.node c.binary_search.result c.binary_search.ensures.position (ids_ascend C c.args.storage c.in-Some.node ids c.requires of)) in
-    place_of_node C c.args.storage c.in-Some.node ids c.requires of c.in-Ok.place found.0 found.1
+    place_of_node C c.args.storage c.in-Some.node ids c.requires of c.in-Ok.index found.0 found.1
 
 pub returns-in-Err : goal.returns-in-Err
 returns-in-Err c =

@@ -6,8 +6,8 @@ use Rattle.bm_topo.proofs.tables.set_remaining_of.Goals as goal
 
 pub returns-in-Some-clause-after : goal.returns-in-Some-clause-after
 returns-in-Some-clause-after c =
-    let told : StorageInfo = record { node = c.in-Some.info.node; remaining = c.args.remaining } in
-    set_there c.args.storages.now.map c.replace.new.self.map c.from-in-Some.result c.args.storage c.in-Some.info told (λ (i : StorageInfo). record i { remaining = c.args.remaining })
+    let updated : StorageInfo = record { node = c.in-Some.info.node; remaining = c.args.remaining } in
+    set_there c.args.storages.now.map c.replace.new.self.map c.from-in-Some.result c.args.storage c.in-Some.info updated (λ (i : StorageInfo). record i { remaining = c.args.remaining })
     (sym (c.get.ensures ∙ ap (get c.args.storages.now.map) (c.from.ensures ∙ c.storage.view_is)) ∙ c.in-Some.is) (c.from-in-Some.ensures ∙ c.storage.view_is) refl c.replace.ensures.after
 
 pub returns-in_default-clause-after : goal.returns-in_default-clause-after

@@ -12,14 +12,14 @@ returns-in_default-clause-nodes c ds is =
     let C = c.args.topology.now.cluster in
     let d = c.args.delete in
     let most = c.args.most in
-    let none = ap (λ ns. index_where (λ n. has_storage C n d.storage) ns) (sym c.requires.ids) ∙ sym c.look_up.ensures.place ∙ c.in_default.is in
+    let none = ap (λ ns. index_where (λ n. has_storage C n d.storage) ns) (sym c.requires.ids) ∙ sym c.look_up.ensures.index ∙ c.in_default.is in
     ap (λ ks. ks.items) c.look_up.ensures.nodes ∙ is
     ∙ unchanged (first_commands most C ds) (first_commands most C (ds ++ d ∷ [])) (with_first most C ds d) (λ n. has_storage C n d.storage) (other_first most C ds d) (own_first most C ds d) (keys C.nodes) none
 
 pub index_mut-commands-requires : goal.index_mut-commands-requires
 index_mut-commands-requires c =
     let C = c.args.topology.now.cluster in
-    let below = place_below (λ n. has_storage C n c.args.delete.storage) c.args.self.now.ids.items c.in-Some.place (sym c.look_up.ensures.place ∙ c.in-Some.is) in
+    let below = place_below (λ n. has_storage C n c.args.delete.storage) c.args.self.now.ids.items c.in-Some.index (sym c.look_up.ensures.index ∙ c.in-Some.is) in
     let count = c.requires.count in
     let same = ap (λ ks. length ks.items) c.look_up.ensures.nodes in
     omega (arith, below, count, same, c.look_up.new.self.nodes.ok.0)
@@ -31,8 +31,8 @@ returns-then-as_slice-most-clause-nodes c ds is =
     let most = c.args.most in
     let x = c.index_mut-commands.result.now in
     let still = ap (λ ks. ks.items) c.look_up.ensures.nodes ∙ is in
-    let i = c.in-Some.place in
-    let at = ap (λ ns. index_where (λ n. has_storage C n d.storage) ns) (sym c.requires.ids) ∙ sym c.look_up.ensures.place ∙ c.in-Some.is in
+    let i = c.in-Some.index in
+    let at = ap (λ ns. index_where (λ n. has_storage C n d.storage) ns) (sym c.requires.ids) ∙ sym c.look_up.ensures.index ∙ c.in-Some.is in
     let read = c.index_mut-commands.ensures.value ∙ ap (λ ks. get_or ks i x) still in
     let full : most ≤ length x.deletes = omega (arith, c.if-as_slice-most.true, ap length c.as_slice.ensures) in
     ap (λ ks. set ks i x) still
@@ -46,8 +46,8 @@ returns-clause-nodes c ds is =
     let most = c.args.most in
     let x = c.index_mut-commands.result.now in
     let still = ap (λ ks. ks.items) c.look_up.ensures.nodes ∙ is in
-    let i = c.in-Some.place in
-    let at = ap (λ ns. index_where (λ n. has_storage C n d.storage) ns) (sym c.requires.ids) ∙ sym c.look_up.ensures.place ∙ c.in-Some.is in
+    let i = c.in-Some.index in
+    let at = ap (λ ns. index_where (λ n. has_storage C n d.storage) ns) (sym c.requires.ids) ∙ sym c.look_up.ensures.index ∙ c.in-Some.is in
     let read = c.index_mut-commands.ensures.value ∙ ap (λ ks. get_or ks i x) still in
     let less : length x.deletes < most = omega (arith, c.if-as_slice-most.false, ap length c.as_slice.ensures) in
     let whole = ap (λ ks. set ks i (record x { deletes = x.deletes ++ d ∷ [] })) still

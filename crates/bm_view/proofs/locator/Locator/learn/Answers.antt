@@ -10,7 +10,7 @@ use Rattle.bm_view.proofs.locator.Locator.learn.Goals as goal
 
 pub invariant_of-self : goal.invariant_of-self
 invariant_of-self c =
-    let mine = c.self.inside.heard.log in
+    let mine = c.self.inside.longest.log in
     let theirs = c.into_parts-evidence.result.0.log in
     let seen = c.into_parts-evidence.ensures in
     let both = c.show_one_journal.ensures in
@@ -27,7 +27,7 @@ invariant_of-self c =
 
 pub invariant_of-self-else-is_below : goal.invariant_of-self-else-is_below
 invariant_of-self-else-is_below c =
-    let mine = c.self.inside.heard.log in
+    let mine = c.self.inside.longest.log in
     let theirs = c.into_parts-evidence.result.0.log in
     let seen = c.into_parts-evidence.ensures in
     let both = c.show_one_journal.ensures in

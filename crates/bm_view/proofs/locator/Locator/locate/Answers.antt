@@ -27,7 +27,7 @@ returns-clause-later c =
 
 pub returns-clause-learnt : goal.returns-clause-learnt
 returns-clause-learnt c =
-    let learnt = c.self.inside.heard.log in
+    let learnt = c.self.inside.longest.log in
     let shown = c.in-Some.seen.evidence.log in
     let both = c.show_one_journal.ensures in
     let some = c.in-Some.ensures.1.1.1.0 in
@@ -36,7 +36,7 @@ returns-clause-learnt c =
 
 pub returns-clause-no_older : goal.returns-clause-no_older
 returns-clause-no_older c =
-    let learnt = c.self.inside.heard.log in
+    let learnt = c.self.inside.longest.log in
     let shown = c.in-Some.seen.evidence.log in
     let both = c.show_one_journal.ensures in
     let some = c.in-Some.ensures.1.1.1.0 in

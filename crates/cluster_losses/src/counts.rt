@@ -1,4 +1,5 @@
-// How a cluster stands before and after a loss.
+// The counts of a cluster before or after a loss: blocks by level, missing blocks, lacking bytes
+// and free bytes.
 ghost use Rattle.std.specs.Prelude.{◌≡◌, IfOk};
 ghost use Rattle.cluster_report.specs.Sessions.{IsInStep};
 ghost use Rattle.cluster_losses.specs.Lacking.{free_on, free_for_copies};
@@ -13,7 +14,7 @@ use cluster_report::report::held_levels;
 use cluster_report::session::Session;
 use std::alloc::{AllocError, Global};
 
-/// How a cluster stands.
+/// The counts of a cluster.
 #[derive(Drop)]
 pub struct Standing {
     pub levels: LevelCounts,
@@ -25,8 +26,8 @@ pub struct Standing {
     pub free: u128,
 }
 
-/// How a cluster stands. The manager is asked for all replicas at once, for those in excess, for
-/// the missing blocks, and for the level of each block that has a replica.
+/// Counts the state of a cluster. Asks the manager for all replicas at once, for those in excess,
+/// for the missing blocks, and for the level of each block that has a replica.
 pub fn standing_of(alloc: Global, session: &Session) -> Result<Standing, Refusal>
     requires { IsInStep session.now }
     ensures { IfOk result (StandsAs session.now.manager) }
