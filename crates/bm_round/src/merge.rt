@@ -1,5 +1,5 @@
-// What the parts of all shards hold, in one order: gathered in one vector, and sorted once. The
-// sort keeps each part's run.
+// The wishes and deletes of all shards' parts, merged in one order: gathered in one vector, and
+// sorted once. The sort keeps each part's run.
 ghost use Rattle.std.specs.Prelude.{◌≡◌, ◌++◌, map, IfOk, IfErr, OnOk, T};
 ghost use Rattle.std.specs.List.{flat_map};
 ghost use Rattle.std.specs.FinMap.{is_sorted};

@@ -21,8 +21,8 @@ key_at K a slot = (option_map_or level_number (level_of_slot K slot) 5, id_at a 
 abbrev pub keyed_at : IndexedLevels → Contents → ℕ → (ℕ × ℕ) × ℕ
 keyed_at K a slot = (key_at K a slot, slot)
 
--- whether a transfer to the block at a slot stays pending, and with the pending ones as many
--- replicas are live as are wanted
+-- whether a transfer to the block at a slot stays pending, and with the pending ones at least the
+-- wanted number of replicas are live
 abbrev pub has_enough_pending : Cluster → ℕ → ℕ → Contents → PendingMap → ℕ → Bool
 has_enough_pending C pend r a p slot =
     let n = length (remaining_targets pend r p (id_at a slot)) in
@@ -33,6 +33,6 @@ abbrev pub is_settled_to_scan : IndexedLevels → (ℕ → Bool) → (ℕ → Bo
 is_settled_to_scan K is_asked has_enough slot = is_asked slot && (not (has K.unsettled.slots slot) && not (has_enough slot))
 
 -- the slots that a round scans: the unsettled ones, and of the settled ones at a level at which
--- copies are wanted those whose wish is asked for without enough pending transfers
+-- copies are wanted those whose wish is asked for, without enough pending transfers
 abbrev pub scanned_slots : IndexedLevels → (ℕ → Bool) → (ℕ → Bool) → List ℕ
 scanned_slots K is_asked has_enough = K.unsettled.slots ++ filter (is_settled_to_scan K is_asked has_enough) (slots_needing_copies K)

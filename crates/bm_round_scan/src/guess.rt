@@ -15,8 +15,8 @@ const REQUESTS_PER_UNSETTLED: usize = 4;
 const SAMPLES_BEFORE: usize = 128;
 
 /// A bound before which about `most` blocks have wishes; a block with a pending transfer counts as
-/// one without a wish. `None` if fewer blocks have wishes, and if unsettled blocks are more than a
-/// quarter of those at a level at which copies are wanted: a round scans all unsettled ones, bound
+/// one without a wish. `None` if fewer blocks have wishes, or if unsettled blocks are more than a
+/// quarter of those at a level at which copies are wanted. A round scans all unsettled ones, bound
 /// or no bound, and twice if the wishes before a bound do not fill it. Only a guess: nothing but
 /// the time of a round may depend on it. It takes about `samples` samples, evenly spread over the
 /// slots at such a level, and up to four times that number if few come before the bound. It costs

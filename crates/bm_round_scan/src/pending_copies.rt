@@ -1,7 +1,9 @@
 // Whether the pending transfers of a settled block make up for the replicas that it lacks.
-ghost use Rattle.std.specs.Prelude.{◌≡◌, length, map};
+ghost use Rattle.std.specs.Prelude.{◌≡◌, true, length, map};
 ghost use Rattle.bm_base.specs.Machine.Replicas as replicas;
-ghost use Rattle.bm_arena.specs.HeldMaps.{id_at};
+ghost use Rattle.bm_parts.specs.AskedWishes.{has_sender};
+ghost use Rattle.bm_place.specs.Exhausted.{is_exhausted_in};
+ghost use Rattle.bm_arena.specs.HeldMaps.{id_at, replicas_at};
 ghost use Rattle.bm_arena.specs.Triplets.{triplet_view};
 ghost use Rattle.bm_levels.specs.Status.{storages_at};
 ghost use Rattle.bm_pending.specs.RemainingTargets.{remaining_targets};
@@ -13,9 +15,9 @@ use bm_base::{BlockId, Marks, StorageId};
 use bm_topo::Topology;
 
 impl<'a> RoundScan<'a> {
-    /// Whether a transfer to the block at a slot stays pending, and with the pending ones as many
-    /// replicas are live as are wanted: a settled block has no wish then, at whichever level. Its
-    /// replicas are scanned only if a transfer is pending. Takes no memory.
+    /// Whether a transfer to the block at a slot stays pending, and with the pending ones at least
+    /// the wanted number of replicas are live. A settled block has no wish then, at whichever level.
+    /// Its replicas are scanned only if a transfer is pending. Takes no memory.
     pub(crate) fn has_enough_pending(&self, slot: Slot, id: BlockId) -> bool
         requires { id ≡ id_at self.now.arena.now slot }
         ensures { result

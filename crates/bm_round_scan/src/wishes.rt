@@ -18,7 +18,7 @@ use std::alloc::{AllocError, Global};
 
 impl<'a> RoundScan<'a> {
     /// Appends the wish of a block with these usable replicas, and replicas on these storages in
-    /// all: copies at its level, if it needs any, and only if they are asked for. The pending
+    /// all. It asks for copies at its level, if it needs any, and only if the filter asks for them. The pending
     /// transfers are counted only if they are.
     pub(crate) fn push_wish(
         &self,

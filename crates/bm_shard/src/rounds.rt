@@ -84,7 +84,7 @@ impl Shard {
             .reserve_own(chosen.transfers.as_slice(), self.part)
     }
 
-    /// Takes the shard's next round, in which all shards together chose this: expired transfers
+    /// Takes the shard's next round, in which all shards together chose this. Expired transfers
     /// leave, excess is marked again from scratch, the shard's own chosen deletes are ordered and
     /// its own chosen transfers become pending. Every shard takes every round, also one in which
     /// nothing was chosen. What was prepared for an event is given up. Takes no memory.
