@@ -1,11 +1,7 @@
 -- Lists that are filtered twice, and lists of elements that pass.
-use Rattle.std.proofs.Common.{◌≡◌, ◌≤◌, Bool, true, false, cond, ◌&&◌, List, [], ◌∷◌, map, filter, length, arith, refl, sym, ap, ◌∙◌, T}
-use Rattle.std.specs.FinMap.{is_sorted}
-use Rattle.std.specs.FinMap.Entries.{below_all}
+use Rattle.std.proofs.Common.{◌≡◌, ◌≤◌, Bool, true, false, cond, ◌&&◌, List, [], ◌∷◌, map, filter, length, arith, refl, sym, ap, ◌∙◌}
 use Rattle.std.specs.List.{All, list_any}
 use Rattle.std.proofs.lemmas.List.Elements.{All-nil, All-cons}
-use Rattle.bm_base.specs.Maps.Conjunction.{both, first, second}
-use Rattle.bm_base.specs.Maps.Map.{Order}
 use Rattle.bm_base.proofs.ListTests.{any_map, any_filter, filter_filter}
 use Rattle.bm_base.proofs.ForEach.{Each}
 
@@ -70,22 +66,3 @@ any_shown g f p xs = any_map g f (filter p xs) ∙ any_filter (λ x. g (f x)) p 
 pub all_each : {X : Type 0} (P : X → Type 0) (xs : List X) → Each P xs → All P xs
 all_each P [] h = All-nil P
 all_each P (x ∷ xs) h = All-cons P x xs h.0 (all_each P xs h.1)
-
--- A list that is ascending by keys stays so if some elements are left out.
-
-module _ {K X : Type 0} (o : Order K) (key : X → K) (p : X → Bool) where
-  below_still : (k : K) (xs : List X) → T (below_all o.cmp k (map (λ x. (key x, x)) xs)) → T (below_all o.cmp k (map (λ x. (key x, x)) (filter p xs)))
-  below_still k [] h = tt
-  below_still k (x ∷ xs) h = by (p x) (below_still k xs (second _ _ h))
-    where
-      by : (t : Bool) → T (below_all o.cmp k (map (λ x. (key x, x)) (filter p xs))) → T (below_all o.cmp k (map (λ x. (key x, x)) (cond t (x ∷ filter p xs) (filter p xs))))
-      by true rest = both _ _ (first _ _ h) rest
-      by false rest = rest
-
-  pub ascends_still : (xs : List X) → T (is_sorted o.cmp (map (λ x. (key x, x)) xs)) → T (is_sorted o.cmp (map (λ x. (key x, x)) (filter p xs)))
-  ascends_still [] h = tt
-  ascends_still (x ∷ xs) h = by (p x) (ascends_still xs (second _ _ h))
-    where
-      by : (t : Bool) → T (is_sorted o.cmp (map (λ x. (key x, x)) (filter p xs))) → T (is_sorted o.cmp (map (λ x. (key x, x)) (cond t (x ∷ filter p xs) (filter p xs))))
-      by true rest = both _ _ (below_still (key x) xs (first _ _ h)) rest
-      by false rest = rest

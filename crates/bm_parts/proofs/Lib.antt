@@ -40,3 +40,4 @@ pub mod Drains
 pub mod ReplicaRacks
 -- Where replicas are.
 pub mod WellPlaced
+pub mod Before

@@ -1,6 +1,5 @@
 -- The choice from the parts is the choice from the whole.
-use Rattle.std.proofs.Common.{◌≡◌, ℕ, ◌+◌, ◌≤◌, Bool, [], map, filter, refl, sym, ap, ◌∙◌, mod-lt}
-use Rattle.std.specs.Prelude.{◌==◌}
+use Rattle.std.proofs.Common.{◌≡◌, ℕ, ◌+◌, ◌≤◌, [], sym, ap, ◌∙◌, mod-lt}
 use Rattle.std.proofs.lemmas.List.Folds.{flat_map-map}
 use Rattle.bm_base.specs.declared.commands.Delete.{Delete}
 use Rattle.bm_base.specs.declared.round.Wish.{Wish}
@@ -14,8 +13,6 @@ use Rattle.bm_base.proofs.SortedParts.{wishes_ascend, deletes_ascend}
 use Rattle.bm_parts.proofs.WholeChoices.{flat_map_same, transfers_of_wishes, deletes_of_nodes}
 use Rattle.bm_parts.proofs.OnePart as one_part
 use Rattle.bm_parts.specs.Whole.{parts}
-use Rattle.bm_parts.specs.AskedWishes.{part_where}
-use Rattle.bm_parts.proofs.Filters.{filter_swap, ascends_still}
 use Rattle.bm_parts.specs.RoundLaws as law
 use Rattle.bm_parts.proofs.JoinedShares.{share, shares_in_order}
 use Rattle.bm_parts.proofs.CutParts.{started_cut}
@@ -41,17 +38,6 @@ module _ (C : Cluster) (pend r : ℕ) (H : Holdings) (shards : ℕ) where
       ∙ flat_map_same _ _ part_wishes (range_from 0 shards))
       ∙ shares_in_order by_pair wish_key (wishes_by_block C G) (wishes_ascend C G) (λ w. shard_of w.block shards) shards (λ w. mod-lt w.block some)
 
-  -- the passing wishes of the parts, merged, are the merged wishes that pass
-  merged_where_are : (p : Wish → Bool) → 1 ≤ shards → merged_wishes (map (part_where p) (law.round_parts C pend r H shards)) ≡ filter p (wishes_by_block C G)
-  unfolding merged_wishes
-  merged_where_are p some =
-      ap (ordered_by by_pair wish_key)
-      (flat_map-map (λ (q : RoundPart). q.wishes) (part_where p) (law.round_parts C pend r H shards)
-      ∙ flat_map-map (λ (q : RoundPart). filter p q.wishes) (round_part C pend r) (parts H shards)
-      ∙ flat_map-map (λ P. filter p (round_part C pend r P).wishes) (λ i. cut H i shards) (range_from 0 shards)
-      ∙ flat_map_same _ _ (λ i. ap (filter p) (part_wishes i) ∙ filter_swap (λ (w : Wish). shard_of w.block shards == i) p p (λ _ _. refl) (wishes_by_block C G)) (range_from 0 shards))
-      ∙ shares_in_order by_pair wish_key (filter p (wishes_by_block C G)) (ascends_still by_pair wish_key p (wishes_by_block C G) (wishes_ascend C G)) (λ w. shard_of w.block shards) shards (λ w. mod-lt w.block some)
-
   merged_deletes_are : 1 ≤ shards → merged_deletes (law.round_parts C pend r H shards) ≡ deletable C G
   unfolding merged_deletes
   merged_deletes_are some =
@@ -62,9 +48,6 @@ module _ (C : Cluster) (pend r : ℕ) (H : Holdings) (shards : ℕ) where
 
 pub wishes_join : law.wishes_join
 wishes_join C pend r H shards some = merged_wishes_are C pend r H shards some
-
-pub passing_wishes_join : law.passing_wishes_join
-passing_wishes_join C pend r H shards p some = merged_where_are C pend r H shards p some ∙ ap (filter p) (sym (merged_wishes_are C pend r H shards some))
 
 pub deletes_join : law.deletes_join
 deletes_join C pend r H shards some = merged_deletes_are C pend r H shards some

@@ -1,8 +1,9 @@
 -- If one part has all wishes and deletes of holdings, the choice from it is the choice from the
 -- holdings.
-use Rattle.std.proofs.Common.{◌≡◌, ℕ, ◌+◌, map, refl, T}
+use Rattle.std.proofs.Common.{◌≡◌, ℕ, ◌+◌, [], map, refl, T}
 use Rattle.std.specs.FinMap.{is_sorted}
-use Rattle.bm_base.specs.Words.{Cluster, Holdings, State, transfers, deletes, state_after_expiry, state_at_choice, commands_of, end_round, whole_round}
+use Rattle.bm_base.specs.declared.round.RoundPart.{RoundPart}
+use Rattle.bm_base.specs.Words.{RoundLimits, Cluster, Holdings, State, transfers, deletes, state_after_expiry, state_at_choice, commands_of, end_round, whole_round}
 use Rattle.bm_base.specs.Ordered.{pair_cmp}
 use Rattle.bm_base.specs.RoundParts.{wish_key, delete_key, round_part, holdings_at_choice}
 use Rattle.bm_base.proofs.SortedParts.{wishes_ascend, deletes_ascend}

@@ -12,5 +12,5 @@ pub mod LevelLaws
 pub mod PlacedLaws
 -- Lists sorted by their keys.
 pub mod Merging
--- The wishes of a part that a round asks for.
-pub mod AskedWishes
+-- The first wishes of a part.
+pub mod Before

@@ -1,15 +1,13 @@
 -- Rounds over parts: what each part finds, what is chosen from all of them, and each part after
 -- that.
-use Rattle.std.specs.Prelude.{◌≡◌, ℕ, ◌+◌, ◌≤◌, Bool, List, length, map}
+use Rattle.std.specs.Prelude.{◌≡◌, ℕ, ◌+◌, ◌≤◌, List, length, map}
 use Rattle.bm_base.specs.declared.commands.Transfer.{Transfer}
 use Rattle.bm_base.specs.declared.commands.Delete.{Delete}
 use Rattle.bm_base.specs.declared.round.RoundPart.{RoundPart}
-use Rattle.bm_base.specs.declared.round.Wish.{Wish}
 use Rattle.bm_base.specs.Words.{RoundLimits, Cluster, Holdings, State, transfers, deletes, end_round, commands_of, whole_round}
 use Rattle.bm_base.specs.Shards.{cut}
 use Rattle.bm_base.specs.RoundParts.{holdings_at_choice, wishes_by_block, deletable, round_part, round_on_part}
 use Rattle.bm_base.specs.Choices.{merged_wishes, merged_deletes, chosen_transfers, chosen_deletes}
-use Rattle.bm_parts.specs.AskedWishes.{MergeWhere}
 use Rattle.bm_parts.specs.Whole.{whole_of, parts, AreOwn, EachPart}
 use Rattle.bm_parts.specs.EventLaws.{IsWholeOf}
 
@@ -36,10 +34,6 @@ end_cuts_to_end =
 abbrev pub wishes_join : Type 0
 wishes_join =
     (C : Cluster) (pend r : ℕ) (H : Holdings) (shards : ℕ) → 1 ≤ shards → merged_wishes (round_parts C pend r H shards) ≡ wishes_by_block C (holdings_at_choice C pend r H)
-
--- so are those that pass a test
-abbrev pub passing_wishes_join : Type 0
-passing_wishes_join = (C : Cluster) (pend r : ℕ) (H : Holdings) (shards : ℕ) (p : Wish → Bool) → 1 ≤ shards → MergeWhere p (round_parts C pend r H shards)
 
 -- the deletable replicas of the parts, sorted, are those of the whole
 abbrev pub deletes_join : Type 0

@@ -7,7 +7,7 @@ use Rattle.bm_base.specs.declared.replica.ReplicaId.{ReplicaId}
 use Rattle.bm_base.specs.declared.replica.Marks.{Marks}
 use Rattle.bm_base.specs.declared.replica.Tag.TheVariants.{Good}
 use Rattle.bm_base.specs.declared.replica.BlockInfo.{BlockInfo}
-use Rattle.bm_base.specs.Words.{get, Cluster, Holdings, replica_at, live, drained, usable, level, excess_in, without_expired, without_unordered_excess, is_deletable, without_storages, begin_drain, end_round}
+use Rattle.bm_base.specs.Words.{get, Cluster, Holdings, replica_at, is_usable, live, drained, storages_where, usable, level, excess_in, without_expired, without_unordered_excess, is_deletable, without_storages, begin_drain, end_round}
 use Rattle.bm_base.specs.RoundParts.{holdings_at_choice}
 
 -- the marks of a replica that is good, not in excess and not ordered

@@ -32,11 +32,6 @@ pub fn wishes_join()
     ensures { law.wishes_join }
 {}
 
-/// So are those that pass a test, whichever it is.
-pub fn passing_wishes_join()
-    ensures { law.passing_wishes_join }
-{}
-
 /// The replicas of the parts to be deleted, by storage and then by block, are those of the whole.
 pub fn deletes_join()
     ensures { law.deletes_join }

@@ -4,7 +4,6 @@ pub mod Tables
 pub mod Sources
 pub mod Targets
 pub mod Found
-pub mod Exhausted
 -- Words of the bodies: the same as in bm_base, for rows and counts.
 pub mod Scan
 pub mod UpToTwo

@@ -9,5 +9,4 @@ pub mod Bounds
 pub mod WishedCopies
 pub mod NodeCommands
 pub mod EmptyChoice
-pub mod LateWishes
-pub mod CountedStreams
+pub mod First

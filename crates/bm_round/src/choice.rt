@@ -5,12 +5,11 @@ ghost use Rattle.bm_base.specs.declared.refusal.Refusal.TheVariants.{Memory};
 ghost use Rattle.bm_base.specs.Words.{limits_of, has_repeats, len};
 ghost use Rattle.bm_base.specs.Choices as choices;
 ghost use Rattle.bm_base.specs.declared.round.RoundPart.{RoundPart};
-ghost use Rattle.bm_parts.specs.AskedWishes.{is_asked, MergeWhere};
+ghost use Rattle.bm_parts.specs.Before.{part_before};
 ghost use Rattle.bm_parts.specs.Merging.{AreSorted};
 ghost use Rattle.bm_round.specs.Copies.{IsCopyOf};
 ghost use Rattle.bm_round.specs.Commanded.{IsChosenOf, HasFewDeletes, first_by_node, deletes_of_all};
 ghost use Rattle.bm_round.specs.KeyedParts as merging;
-ghost use Rattle.bm_round.specs.LateWishes.{asked_of};
 
 use crate::chosen_so_far::is_full_count;
 use crate::groups::Groups;
@@ -69,8 +68,8 @@ pub fn is_full(chosen: &Chosen, topology: &Topology, config: &Config) -> bool
     ensures exact { result
         ≡ nat_le (config.now.work * len topology.now.cluster.nodes) (length chosen.now.transfers) }
     ensures first { (bound : ℕ × ℕ) (whole : List RoundPart) → result ≡ true
-        → MergeWhere (is_asked (Some bound) (λ _. true)) whole
-        → IsChosenOf (limits_of config.now) topology.now.cluster (asked_of bound (λ _. true) whole)
+        → IsChosenOf (limits_of config.now) topology.now.cluster
+        (map (part_before (Some bound)) whole)
         chosen.now.transfers
         → IsChosenOf (limits_of config.now) topology.now.cluster whole chosen.now.transfers }
 {

@@ -1,5 +1,5 @@
 -- The findings of the scanned blocks are all findings.
-use Rattle.std.specs.Prelude.{◌≡◌, ◌≢◌, ℕ, Bool, true, false, ◌||◌, nat_lt, if◌then◌else◌, List, [], ◌∷◌, ◌++◌, filter, map, Option, Some, None, IsSome, is_some, IsTrue, option_and_then}
+use Rattle.std.specs.Prelude.{◌≡◌, ◌≢◌, ℕ, Bool, true, false, nat_lt, if◌then◌else◌, List, [], ◌∷◌, map, Option, Some, None, IsSome, is_some, IsTrue, option_and_then}
 use Rattle.std.specs.List.Sorted.{IsPermutation}
 use Rattle.std.proofs.Common.{◌⊎◌, inl, inr, refl, sym, ap, subst, ◌∙◌}
 use Rattle.std.proofs.lemmas.Bool.{cases_Bool, false≢true}
@@ -13,39 +13,35 @@ use Rattle.bm_base.specs.declared.replica.BlockInfo.{BlockInfo}
 use Rattle.bm_base.specs.declared.commands.Delete.{Delete}
 use Rattle.bm_base.specs.declared.round.Wish.{Wish}
 use Rattle.bm_base.specs.declared.round.RoundPart.{RoundPart}
-use Rattle.bm_base.specs.Words.{Map, get, contains_key, Cluster, Holdings, by_replica, replica_at, has, live, drained, level, level_number, is_at, without_expired, without_unordered_excess, with_surplus_marked, excess_in}
+use Rattle.bm_base.specs.Words.{Map, get, contains_key, Cluster, Holdings, by_replica, replica_at, has, level, level_number, is_at, without_expired, without_unordered_excess, with_surplus_marked, excess_in}
 use Rattle.bm_maps.specs.SlotLists.{IsMember, Distinct}
 use Rattle.bm_base.specs.Ordered.{by_pair}
 use Rattle.bm_base.specs.RoundParts.{holdings_at_choice, expired, round_part, wish_of, wish_at, wish_key, delete_key}
-use Rattle.bm_base.specs.Choices.{sources_by}
 use Rattle.bm_base.proofs.MapEntries.{get_revised}
 use Rattle.bm_base.proofs.Options.{there, is_there, chained}
 use Rattle.bm_base.proofs.SortedParts.{wish_is}
 use Rattle.bm_arena.specs.Triplets.{Block}
 use Rattle.bm_arena.specs.Contents.{Contents, block_at, slot_of, marks_at, IsLawful}
-use Rattle.bm_arena.specs.HeldMaps.{info_at, replicas_of, replicas_at, id_at}
+use Rattle.bm_arena.specs.HeldMaps.{info_at, replicas_of, id_at}
 use Rattle.bm_arena.proofs.HeldReplicas.{get-replicas_of, get-blocks_of}
 use Rattle.bm_parts.specs.Settled.{IsSettled}
-use Rattle.bm_parts.specs.AskedWishes.{is_before, has_sender, part_where}
+use Rattle.bm_parts.specs.Before.{is_before, wishes_before, part_before}
 use Rattle.bm_parts.specs.Found.{IsGathered, IsExpired, IsSurplus, IsRequested, IsDeletable}
 use Rattle.bm_parts.proofs.SettledBlocks.{settled_is_left, settled_is_kept}
 use Rattle.bm_parts.proofs.FoundLists.{one_wish, round_part_is_found, found_is_round_part}
 use Rattle.bm_parts.proofs.EqualLists.{gathered_alike}
 use Rattle.bm_pending.specs.PendingMap.{PendingMap, expired_of}
-use Rattle.bm_levels.specs.Status.{is_settled_at, level_in, storages_at}
+use Rattle.bm_levels.specs.Status.{is_settled_at, level_in}
 use Rattle.bm_levels.specs.Held.{holdings_with}
 use Rattle.bm_levels.specs.IndexedLevels.{level_of_slot}
 use Rattle.bm_levels.specs.Leveled.{Leveled, IsLeveled, AreLevels}
 use Rattle.bm_levels.proofs.Levels.{level_is_at_slot}
 use Rattle.bm_round_scan.specs.declared.scan.Findings.{Findings}
 use Rattle.bm_round_scan.specs.ScannedSlots.{scanned_slots, key_at, keyed_at, has_enough_pending}
-use Rattle.bm_round_scan.specs.WishFilters.{asks, asks_at}
-use Rattle.bm_round_scan.specs.declared.wish_filter.WishFilter.{WishFilter}
-use Rattle.bm_place.specs.Exhausted.{is_exhausted_in}
 use Rattle.bm_round_scan.specs.BlockFindings.{wishes_at, HasFound, IsInOrder}
 use Rattle.bm_round_scan.proofs.CollectedFindings.{gathered_of}
 use Rattle.bm_round_scan.proofs.EnoughPending.{none_wished}
-use Rattle.bm_round_scan.proofs.SettledBlocks.{settled_there, senders_there}
+use Rattle.bm_round_scan.proofs.SettledBlocks.{settled_there}
 use Rattle.bm_round_scan.proofs.BlockFindings.{excess_listed, wishes_listed, deletes_listed, wish_level}
 use Rattle.bm_round_scan.proofs.PassingElements.{Passing, passing_listed, passing_gathered}
 use Rattle.bm_round_scan.proofs.Permutations.{among_moved, among_before, distinct_moved}
@@ -124,12 +120,9 @@ module _ (v : Leveled) (lawful : IsLawful v.arena) (leveled : IsLeveled v) (is :
 
   -- The scanned slots, in any order.
 
-  module _ (f : WishFilter) (keyed : List ((ℕ × ℕ) × ℕ)) (moved : IsPermutation (map (keyed_at v.kept v.arena) (scanned_slots v.kept (asks_at f v.kept v.arena) has_enough)) keyed) where
-    abbrev asked : ℕ → Bool
-    asked = asks_at f v.kept a
-
+  module _ (bound : Option (ℕ × ℕ)) (keyed : List ((ℕ × ℕ) × ℕ)) (moved : IsPermutation (map (keyed_at v.kept v.arena) (scanned_slots v.kept v.arena bound has_enough)) keyed) where
     abbrev scanned : List ℕ
-    scanned = scanned_slots v.kept asked has_enough
+    scanned = scanned_slots v.kept a bound has_enough
 
     abbrev ids : List ℕ
     ids = map (λ (e : (ℕ × ℕ) × ℕ). id_at a e.1) keyed
@@ -150,10 +143,10 @@ module _ (v : Leveled) (lawful : IsLawful v.arena) (leveled : IsLeveled v) (is :
 
     -- each of these slots is that of its block's number
     pub scanned_known : (slot : ℕ) → IsMember slot (map (λ (e : (ℕ × ℕ) × ℕ). e.1) keyed) → slot_of a (id_at a slot) ≡ Some slot
-    scanned_known slot h = scanned_known_slot v lawful leveled is asked has_enough slot (among_before scanned (map (λ (e : (ℕ × ℕ) × ℕ). e.1) keyed) slots_moved slot h)
+    scanned_known slot h = scanned_known_slot v lawful leveled is bound has_enough slot (among_before scanned (map (λ (e : (ℕ × ℕ) × ℕ). e.1) keyed) slots_moved slot h)
 
     once : Distinct ids
-    once = distinct_moved (map (id_at a) scanned) ids ids_moved (ids_once v lawful leveled is asked has_enough)
+    once = distinct_moved (map (id_at a) scanned) ids ids_moved (ids_once v lawful leveled is bound has_enough)
 
     scanned_id : (b slot : ℕ) → slot_of a b ≡ Some slot → IsMember slot scanned → IsMember b ids
     scanned_id b slot here h =
@@ -166,7 +159,7 @@ module _ (v : Leveled) (lawful : IsLawful v.arena) (leveled : IsLeveled v) (is :
         elim (cases_Bool (is_settled_at (block_at a slot))) [
           | inl settled ↦ inl (settled_there a pending lawful b slot here settled)
           | inr loose ↦ (let there = (leveled.unsettled slot).1 loose in
-              inr (scanned_id b slot here (unsettled_scanned v.kept is asked has_enough slot there)))
+              inr (scanned_id b slot here (unsettled_scanned v.kept is a bound has_enough slot there)))
         ]
 
     covers_excess : (q : ReplicaId) → IsSurplus C U q → IsMember q.block ids
@@ -189,38 +182,23 @@ module _ (v : Leveled) (lawful : IsLawful v.arena) (leveled : IsLeveled v) (is :
           | inr visited ↦ visited
         ]
 
-    either : (b c d : Bool) → (c ≡ true → d ≡ true) → (b || c) ≡ true → (b || d) ≡ true
-    either true c d more e = refl
-    either false c d more e = more e
-
-    -- the wish of a settled block is asked for only if that of its slot is
-    asked_there : (w : Wish) (slot : ℕ) → slot_of a w.block ≡ Some slot → is_settled_at (block_at a slot) ≡ true → IsRequested C G w → key_at v.kept a slot ≡ wish_key w → asks f w ≡ true → asked slot ≡ true
-    asked_there w slot here settled wished key early =
-        let known = wish_is C G w.level w.block w wished in
-        let sources : sources_by w ≡ live C G w.block ++ drained C G w.block = ap (λ (u : Wish). sources_by u) (sym known.2) in
-        either (is_before f.bound (key_at v.kept a slot)) (has_sender (is_exhausted_in f.exhausted) (sources_by w)) (has_sender (is_exhausted_in f.exhausted) (storages_at (λ _ _. true) (replicas_at a slot)))
-        (λ some. senders_there C pend r a way lawful w.block slot here settled (is_exhausted_in f.exhausted) (sym (ap (has_sender (is_exhausted_in f.exhausted)) sources) ∙ some))
-        (ap (λ k. is_before f.bound k || has_sender (is_exhausted_in f.exhausted) (sources_by w)) key ∙ early)
-
-    covers_wishes : (w : Wish) → IsRequested C G w → asks f w ≡ true → IsMember w.block ids
+    covers_wishes : (w : Wish) → IsRequested C G w → is_before bound (wish_key w) ≡ true → IsMember w.block ids
     covers_wishes w wished early =
         let known = wish_is C G w.level w.block w wished in
         let slot = slot_of_block w.block known.0 known.1 in
-        elim (cases_Bool (is_settled_at (block_at a slot.0))) [
-          | inl plain ↦ (
-              let settled = settled_there a pending lawful w.block slot.0 slot.1 plain in
+        elim (settled_or w.block slot.0 slot.1) [
+          | inl settled ↦ (
               let at : level_of_slot v.kept slot.0 ≡ Some w.level =
               levels slot.0 ∙ sym (ap (option_and_then (λ s. level_in C (block_at a s))) slot.1) ∙ sym (level_is_at_slot C a pending w.block lawful) ∙ sym (settled_is_left C pend r H w.block settled).3 ∙ wish_level C pend r H w.level w.block w wished in
               let key : key_at v.kept a slot.0 ≡ wish_key w = (λ j. (option_map_or level_number (at j) 5, own_id w.block slot.0 slot.1 j)) in
-              scanned_id w.block slot.0 slot.1 (level_scanned v.kept is asked has_enough w.level slot.0 (wish_usable w.level w.block w wished) at (asked_there w slot.0 slot.1 plain wished key early) (wish_lacks w slot.0 slot.1 settled wished)))
-          | inr loose ↦ (let there = (leveled.unsettled slot.0).1 loose in
-              scanned_id w.block slot.0 slot.1 (unsettled_scanned v.kept is asked has_enough slot.0 there))
+              scanned_id w.block slot.0 slot.1 (level_scanned v.kept is a bound has_enough w.level slot.0 (wish_usable w.level w.block w wished) at (ap (is_before bound) key ∙ early) (wish_lacks w slot.0 slot.1 settled wished)))
+          | inr visited ↦ visited
         ]
 
-    pub all_found : ((q : ReplicaId) → IsSome (get (replicas_of a) q) → IsTrue (contains_key C.storages q.storage)) → (g : Findings) → HasFound C pend r H (asks f) ids g → (p : RoundPart) → p.expired ≡ expired_of pend r pending
-        → IsInOrder by_replica (λ (q : ReplicaId). q) g.excess.items p.excess → IsInOrder by_pair wish_key g.wishes.items p.wishes → IsInOrder by_pair delete_key g.deletes.items p.deletes
-        → p ≡ part_where (asks f) (round_part C pend r H)
-    all_found stored g has p old excess wishes deletes =
+    pub all_found : ((q : ReplicaId) → IsSome (get (replicas_of a) q) → IsTrue (contains_key C.storages q.storage)) → (f : Findings) → HasFound C pend r H bound ids f → (p : RoundPart) → p.expired ≡ expired_of pend r pending
+        → IsInOrder by_replica (λ (q : ReplicaId). q) f.excess.items p.excess → IsInOrder by_pair wish_key f.wishes.items p.wishes → IsInOrder by_pair delete_key f.deletes.items p.deletes
+        → p ≡ part_before bound (round_part C pend r H)
+    all_found stored f has p old excess wishes deletes =
         let full : RoundPart = round_part C pend r H in
         let found = round_part_is_found C pend r H in
         let P : Wish → Type 0 = IsRequested C G in
@@ -231,12 +209,11 @@ module _ (v : Leveled) (lawful : IsLawful v.arena) (leveled : IsLeveled v) (is :
           wishes = found.wishes;
           deletes = gathered_of by_pair delete_key (λ (d : Delete). d.block) (IsDeletable C G) _ (deletes_listed C pend r H (known_storage stored)) ids p.deletes once covers_deletes (subst (λ xs. IsInOrder by_pair delete_key xs p.deletes) has.deletes deletes);
         }) in
-        let alike : (u w : Wish) → P u → P w → wish_key u ≡ wish_key w → u ≡ w = λ u w pu pw same. one_wish C G u w pu pw same in
         let mine =
-        gathered_of by_pair wish_key (λ (w : Wish). w.block) (Passing by_pair wish_key (asks f) P) (λ b. filter (asks f) (wishes_at C pend r H b))
-        (passing_listed by_pair wish_key (asks f) P alike (λ (w : Wish). w.block) (wishes_at C pend r H) (wishes_listed C pend r H)) ids p.wishes once (λ w p. covers_wishes w p.0 p.1)
+        gathered_of by_pair wish_key (λ (w : Wish). w.block) (Passing by_pair wish_key (is_before bound) P) (λ b. wishes_before bound (wishes_at C pend r H b))
+        (passing_listed by_pair wish_key (is_before bound) (λ (w : Wish). w.block) P (wishes_at C pend r H) (wishes_listed C pend r H)) ids p.wishes once (λ w p. covers_wishes w p.0 p.1)
         (subst (λ xs. IsInOrder by_pair wish_key xs p.wishes) has.wishes wishes) in
-        let cut : p.wishes ≡ filter (asks f) full.wishes =
-        gathered_alike by_pair wish_key (Passing by_pair wish_key (asks f) P) (λ u w pu pw same. one_wish C G u w pu.0 pw.0 same) p.wishes (filter (asks f) full.wishes) mine
-        (passing_gathered by_pair wish_key (asks f) P alike full.wishes found.wishes) in
+        let cut : p.wishes ≡ wishes_before bound full.wishes =
+        gathered_alike by_pair wish_key (Passing by_pair wish_key (is_before bound) P) (λ u w pu pw alike. one_wish C G u w pu.0 pw.0 alike) p.wishes (wishes_before bound full.wishes) mine
+        (passing_gathered by_pair wish_key (is_before bound) P full.wishes found.wishes) in
         λ j. record { expired = (same j).expired; excess = (same j).excess; wishes = cut j; deletes = (same j).deletes }

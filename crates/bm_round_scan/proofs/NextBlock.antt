@@ -10,6 +10,7 @@ use Rattle.bm_base.specs.declared.replica.ReplicaId.{ReplicaId}
 use Rattle.bm_base.specs.declared.round.Wish.{Wish}
 use Rattle.bm_base.specs.Words.{get, Cluster, Holdings, is_live_on, is_drained_on, live, drained, storages_where, has_enough_live, without_expired, without_unordered_excess, with_surplus_marked, pending_targets}
 use Rattle.bm_base.specs.RoundParts.{holdings_at_choice}
+use Rattle.bm_parts.specs.Before.{wishes_before}
 use Rattle.bm_arena.specs.Contents.{Contents}
 use Rattle.bm_levels.specs.Held.{holdings_with}
 use Rattle.bm_levels.specs.Status.{storages_at}
@@ -34,9 +35,9 @@ abbrev wish_seen : Cluster → ℕ → ℕ → PendingMap → BlockScan → Usab
 wish_seen C pend r p l u = option_and_then (λ i. wish_by C l.id i u.live u.drained (storages_at (λ _ _. true) l.replicas.items) (remaining_targets pend r p l.id)) l.info
 
 -- the findings of the block are appended
-pub record IsPut (C : Cluster) (pend r : ℕ) (q : Wish → Bool) (p : PendingMap) (l : BlockScan) (u : UsableReplicas) (e : Bool) (f g : Findings) : Type 0 where
+pub record IsPut (C : Cluster) (pend r : ℕ) (bound : Option (ℕ × ℕ)) (p : PendingMap) (l : BlockScan) (u : UsableReplicas) (e : Bool) (f g : Findings) : Type 0 where
   pub excess : g.excess.items ≡ f.excess.items ++ replicas_on l.excess.items (scanned_replicas l)
-  pub wishes : g.wishes.items ≡ f.wishes.items ++ filter q (option_to_list (wish_seen C pend r p l u))
+  pub wishes : g.wishes.items ≡ f.wishes.items ++ wishes_before bound (option_to_list (wish_seen C pend r p l u))
   pub deletes : g.deletes.items ≡ f.deletes.items ++ deletes_of e (scanned_replicas l)
 
 module _ (C : Cluster) (pend r : ℕ) (a : Contents) (p : PendingMap) (l : BlockScan) (u : UsableReplicas) (e : Bool) (look : IsBlockScan C pend r (holdings_with a p.map) l) (seen : IsSeen C l u e) where
@@ -76,9 +77,9 @@ module _ (C : Cluster) (pend r : ℕ) (a : Contents) (p : PendingMap) (l : Block
   more : {X : Type 0} (f : ℕ → List X) (bs : List ℕ) (b : ℕ) → flat_map f bs ++ f b ≡ flat_map f (bs ++ b ∷ [])
   more f bs b = flat_map_more f [] bs b
 
-  pub found_more : (q : Wish → Bool) (f g : Findings) → IsPut C pend r q p l u e f g → (bs : List ℕ) → HasFound C pend r H q bs f → HasFound C pend r H q (bs ++ l.id ∷ []) g
-  found_more q f g put bs has = record {
+  pub found_more : (bound : Option (ℕ × ℕ)) (f g : Findings) → IsPut C pend r bound p l u e f g → (bs : List ℕ) → HasFound C pend r H bound bs f → HasFound C pend r H bound (bs ++ l.id ∷ []) g
+  found_more bound f g put bs has = record {
     excess = put.excess ∙ (λ j. has.excess j ++ map (λ (e : ReplicaId × Marks). e.0) (filter (λ e. look.excess e.0.storage j) (look.replicas j))) ∙ more (excess_at C pend r H) bs l.id;
-    wishes = put.wishes ∙ (λ j. has.wishes j ++ filter q (option_to_list (wish_is j))) ∙ more (λ b. filter q (wishes_at C pend r H b)) bs l.id;
+    wishes = put.wishes ∙ (λ j. has.wishes j ++ wishes_before bound (option_to_list (wish_is j))) ∙ more (λ b. wishes_before bound (wishes_at C pend r H b)) bs l.id;
     deletes = put.deletes ∙ (λ j. has.deletes j ++ deletes_of (enough_is j) (look.replicas j)) ∙ more (deletes_at C pend r H) bs l.id;
   }

@@ -18,7 +18,8 @@ use Rattle.bm_levels.specs.IndexedLevels.{IndexedLevels, level_of_slot, IsUnsett
 use Rattle.bm_levels.specs.Leveled.{Leveled, IsLeveled}
 use Rattle.bm_levels.proofs.EqualLists.{has_among, among_has}
 use Rattle.bm_levels.proofs.ManySlots.{marker_settled}
-use Rattle.bm_round_scan.specs.ScannedSlots.{scanned_slots, is_settled_to_scan}
+use Rattle.bm_parts.specs.Before.{is_before}
+use Rattle.bm_round_scan.specs.ScannedSlots.{scanned_slots, key_at, is_settled_to_scan}
 
 -- Lists with no slot in common.
 
@@ -111,18 +112,18 @@ module _ (K : IndexedLevels) (is : AreListed K) where
   abbrev u : List ℕ
   u = K.unsettled.slots
 
-  module _ (is_asked : ℕ → Bool) (has_enough : ℕ → Bool) where
+  module _ (a : Contents) (bound : Option (ℕ × ℕ)) (has_enough : ℕ → Bool) where
     abbrev to_scan : ℕ → Bool
-    to_scan = is_settled_to_scan K is_asked has_enough
+    to_scan = is_settled_to_scan K a bound has_enough
 
     abbrev slots : List ℕ
-    slots = scanned_slots K is_asked has_enough
+    slots = scanned_slots K a bound has_enough
 
     abbrev settled : List ℕ
     settled = filter to_scan (slots_needing_copies K)
 
     settled_apart : AreApart u settled
-    settled_apart z here there = true≢false (sym (among_has u z here) ∙ by (has u z) (former (not (has u z)) (not (has_enough z)) (latter (is_asked z) (not (has u z) && not (has_enough z)) (among_filtered to_scan z (slots_needing_copies K) there).1)))
+    settled_apart z here there = true≢false (sym (among_has u z here) ∙ by (has u z) (former (not (has u z)) (not (has_enough z)) (latter (is_before bound (key_at K a z)) (not (has u z) && not (has_enough z)) (among_filtered to_scan z (slots_needing_copies K) there).1)))
       where
         by : (t : Bool) → not t ≡ true → t ≡ false
         by true e = absurd (true≢false (sym e))
@@ -134,13 +135,13 @@ module _ (K : IndexedLevels) (is : AreListed K) where
     pub unsettled_scanned : (slot : ℕ) → IsUnsettled K slot → IsMember slot slots
     unsettled_scanned slot h = Among-left slot u settled h
 
-    pub level_scanned : (l : Level) (slot : ℕ) → l ≢ NoUsableReplica → level_of_slot K slot ≡ Some l → is_asked slot ≡ true → has_enough slot ≡ false → IsMember slot slots
+    pub level_scanned : (l : Level) (slot : ℕ) → l ≢ NoUsableReplica → level_of_slot K slot ≡ Some l → is_before bound (key_at K a slot) ≡ true → has_enough slot ≡ false → IsMember slot slots
     level_scanned l slot wanted at early lacks =
         elim (cases_Bool (has u slot)) [
           | inl there ↦ unsettled_scanned slot (has_among u slot there)
           | inr none ↦
               among_right slot u settled (among_passing to_scan slot (slots_needing_copies K) ((is.wishing slot).1 (ap needs_copies at ∙ wishing_at l wanted))
-              (and_from (is_asked slot) (not (has u slot) && not (has_enough slot)) early (and_from (not (has u slot)) (not (has_enough slot)) (ap not none) (ap not lacks))))
+              (and_from (is_before bound (key_at K a slot)) (not (has u slot) && not (has_enough slot)) early (and_from (not (has u slot)) (not (has_enough slot)) (ap not none) (ap not lacks))))
         ]
 
     -- each scanned slot is unsettled, or has a level
@@ -151,7 +152,7 @@ module _ (K : IndexedLevels) (is : AreListed K) where
           | inr wishing ↦ inr (level_wishing (level_of_slot K slot) ((is.wishing slot).0 (among_filtered to_scan slot (slots_needing_copies K) wishing).0))
         ]
 
-module _ (v : Leveled) (lawful : IsLawful v.arena) (leveled : IsLeveled v) (is : AreListed v.kept) (is_asked : ℕ → Bool) (has_enough : ℕ → Bool) where
+module _ (v : Leveled) (lawful : IsLawful v.arena) (leveled : IsLeveled v) (is : AreListed v.kept) (bound : Option (ℕ × ℕ)) (has_enough : ℕ → Bool) where
   abbrev a : Contents
   a = v.arena
 
@@ -174,17 +175,17 @@ module _ (v : Leveled) (lawful : IsLawful v.arena) (leveled : IsLeveled v) (is :
       never e = cc
 
   -- a scanned slot is the slot of its block's number
-  pub scanned_known_slot : (slot : ℕ) → IsMember slot (scanned_slots v.kept is_asked has_enough) → slot_of a (id_at a slot) ≡ Some slot
+  pub scanned_known_slot : (slot : ℕ) → IsMember slot (scanned_slots v.kept a bound has_enough) → slot_of a (id_at a slot) ≡ Some slot
   scanned_known_slot slot h =
-      elim (scanned_is v.kept is is_asked has_enough slot h) [
+      elim (scanned_is v.kept is a bound has_enough slot h) [
         | inl loose ↦ let e = (leveled.unsettled slot).0 loose in known_at slot (unsettled_known slot e) (block_at a slot) refl (unsettled_held slot e)
         | inr at ↦
             known_at slot (λ same. level_info slot at.0 at.1 (ap (info_at a) same ∙ leveled.blank)) (block_at a slot) refl
             (λ none. level_info slot at.0 at.1 (ap (λ (o : Option Block). option_and_then (λ (b : Block). b.info) o) none))
       ]
 
-  pub ids_once : Distinct (map (id_at a) (scanned_slots v.kept is_asked has_enough))
-  ids_once = distinct_mapped (id_at a) (slot_of a) (scanned_slots v.kept is_asked has_enough) (scanned_once v.kept is is_asked has_enough) scanned_known_slot
+  pub ids_once : Distinct (map (id_at a) (scanned_slots v.kept a bound has_enough))
+  ids_once = distinct_mapped (id_at a) (slot_of a) (scanned_slots v.kept a bound has_enough) (scanned_once v.kept is a bound has_enough) scanned_known_slot
 
 -- the slots of the four levels, appended level by level, are the list of all
 pub scanned_by_level : {Y : Type 0} (f : ℕ → Y) (p : ℕ → Bool) (u w x y z : List ℕ)

@@ -1,23 +1,20 @@
 -- The only finding of a settled block is its wish.
-use Rattle.std.specs.Prelude.{◌≡◌, ℕ, Bool, true, false, not, ◌&&◌, ◌||◌, ◌==◌, map, filter, List, [], ◌∷◌, ◌++◌, Option, Some, option_and_then, option_to_list}
+use Rattle.std.specs.Prelude.{◌≡◌, ℕ, Bool, true, false, not, ◌&&◌, ◌==◌, map, filter, List, [], ◌∷◌, ◌++◌, Option, Some, option_and_then, option_to_list}
 use Rattle.std.specs.Option.{option_map_or}
 use Rattle.std.specs.Ordering.{nat_cmp}
-use Rattle.std.specs.List.{flat_map, list_any}
+use Rattle.std.specs.List.{flat_map}
 use Rattle.std.specs.List.Sorted.{IsPermutation, IsSortedByKey}
 use Rattle.std.proofs.Common.{refl, sym, ap, subst, ◌∙◌, eqb-true, append-nil}
 use Rattle.std.proofs.lemmas.List.{flat_map_more}
-use Rattle.std.proofs.lemmas.List.Folds.{list_any-append}
-use Rattle.std.proofs.lemmas.Bool.{false≢true}
 use Rattle.bm_base.specs.declared.replica.BlockInfo.{BlockInfo}
-use Rattle.bm_base.specs.declared.round.Wish.{Wish}
 use Rattle.bm_base.specs.declared.replica.ReplicaId.{ReplicaId}
 use Rattle.bm_base.specs.declared.replica.Marks.{Marks}
-use Rattle.bm_base.specs.Words.{Map, get, entries, Cluster, Holdings, by_replica, replica_at, is_draining, has, is_live_on, is_drained_on, live, drained, storages_where, has_enough_live, without_expired, without_unordered_excess, with_surplus_marked, mark_if_surplus, with_excess_reset, is_deletable, pending_targets}
+use Rattle.bm_base.specs.Words.{Map, get, entries, Cluster, Holdings, by_replica, replica_at, is_draining, is_live_on, is_drained_on, live, drained, storages_where, has_enough_live, without_expired, without_unordered_excess, with_surplus_marked, mark_if_surplus, with_excess_reset, is_deletable, pending_targets}
 use Rattle.bm_base.specs.RoundParts.{holdings_at_choice}
 use Rattle.bm_base.proofs.ForEach.{each_then}
-use Rattle.bm_base.proofs.ListTests.{and_second, or_left, or_right, same_again, any_filter, any_weaker, filter_filter}
+use Rattle.bm_base.proofs.ListTests.{filter_filter}
 use Rattle.bm_base.proofs.MapEntries.{each_entry, get_kept}
-use Rattle.bm_parts.specs.AskedWishes.{has_sender}
+use Rattle.bm_parts.specs.Before.{wishes_before}
 use Rattle.bm_parts.specs.Settled.{IsSettled}
 use Rattle.bm_parts.proofs.Filters.{filtered_alike, filter_none, map_filter}
 use Rattle.bm_parts.proofs.SettledBlocks.{settled_is_left, settled_is_kept}
@@ -28,7 +25,6 @@ use Rattle.bm_arena.specs.HeldMaps.{info_at, replicas_at}
 use Rattle.bm_arena.proofs.HeldReplicas.{get-blocks_of}
 use Rattle.bm_levels.specs.Status.{is_settled_at, storages_at}
 use Rattle.bm_levels.specs.Held.{holdings_with}
-use Rattle.bm_levels.proofs.Levels.{alike}
 use Rattle.bm_levels.proofs.SettledBlocks.{all_plain_at, few_at}
 use Rattle.bm_pending.specs.PendingMap.{PendingMap}
 use Rattle.bm_pending.specs.RemainingTargets.{remaining_targets}
@@ -67,23 +63,6 @@ storages_passing q p H b same =
     passes : (e : ReplicaId × Marks) → get H.replicas e.0 ≡ Some e.1 → (t : Bool) → (e.0.block == b) ≡ t → ((t && true) && q e.0.storage) ≡ (t && p e.0.storage e.1)
     passes e there true is = sym (same e.0 e.1 (eqb-true e.0.block b is) there)
     passes e there false is = refl
-
--- if one of some numbers passes, one of each list that has them all does
-any_member : (p : ℕ → Bool) (x : ℕ) (ss : List ℕ) → p x ≡ true → has ss x ≡ true → list_any p ss ≡ true
-any_member p x [] h e = e
-any_member p x (s ∷ ss) h e = by (s == x) refl e (any_member p x ss h)
-  where
-    by : (t : Bool) → (s == x) ≡ t → (t || has ss x) ≡ true → (has ss x ≡ true → list_any p ss ≡ true) → (p s || list_any p ss) ≡ true
-    by true same g rest = or_left (p s) (list_any p ss) (ap p (eqb-true s x same) ∙ h)
-    by false other g rest = or_right (p s) (list_any p ss) (rest g)
-
-any_of_members : (p : ℕ → Bool) (xs ss : List ℕ) → ((x : ℕ) → has xs x ≡ true → has ss x ≡ true) → list_any p xs ≡ true → list_any p ss ≡ true
-any_of_members p [] ss within h = absurd (false≢true h)
-any_of_members p (x ∷ xs) ss within h = by (p x) refl h (any_of_members p xs ss (λ y e. within y (or_right (x == y) (has xs y) e)))
-  where
-    by : (t : Bool) → p x ≡ t → (t || list_any p xs) ≡ true → (list_any p xs ≡ true → list_any p ss ≡ true) → list_any p ss ≡ true
-    by true is g rest = any_member p x ss is (within x (or_left (x == x) (has xs x) (same_again x)))
-    by false is g rest = rest g
 
 -- as a round begins, the block's replicas are on the same storages
 all_left : (C : Cluster) (pend r : ℕ) (H : Holdings) (b : ℕ) → storages_where (λ _ _. true) (holdings_at_choice C pend r H) b ≡ storages_where (λ _ _. true) H b
@@ -125,11 +104,11 @@ module _ (C : Cluster) (pend r : ℕ) (a : Contents) (way : PendingMap) (lawful 
   more : {X : Type 0} (f : ℕ → List X) (bs : List ℕ) → flat_map f bs ++ f b ≡ flat_map f (bs ++ b ∷ [])
   more f bs = flat_map_more f [] bs b
 
-  pub settled_more : (q : Wish → Bool) (f g : Findings) → g.excess.items ≡ f.excess.items → g.deletes.items ≡ f.deletes.items → g.wishes.items ≡ f.wishes.items ++ filter q (wishes_at C pend r H b)
-      → (bs : List ℕ) → HasFound C pend r H q bs f → HasFound C pend r H q (bs ++ b ∷ []) g
-  settled_more q f g excess deletes wishes bs has = record {
+  pub settled_more : (bound : Option (ℕ × ℕ)) (f g : Findings) → g.excess.items ≡ f.excess.items → g.deletes.items ≡ f.deletes.items → g.wishes.items ≡ f.wishes.items ++ wishes_before bound (wishes_at C pend r H b)
+      → (bs : List ℕ) → HasFound C pend r H bound bs f → HasFound C pend r H bound (bs ++ b ∷ []) g
+  settled_more bound f g excess deletes wishes bs has = record {
     excess = excess ∙ has.excess ∙ sym (append-nil (flat_map (excess_at C pend r H) bs)) ∙ ap (λ xs. flat_map (excess_at C pend r H) bs ++ xs) (sym none_excess) ∙ more (excess_at C pend r H) bs;
-    wishes = wishes ∙ ap (λ xs. xs ++ filter q (wishes_at C pend r H b)) has.wishes ∙ more (λ b. filter q (wishes_at C pend r H b)) bs;
+    wishes = wishes ∙ ap (λ xs. xs ++ wishes_before bound (wishes_at C pend r H b)) has.wishes ∙ more (λ b. wishes_before bound (wishes_at C pend r H b)) bs;
     deletes = deletes ∙ has.deletes ∙ sym (append-nil (flat_map (deletes_at C pend r H) bs)) ∙ ap (λ xs. flat_map (deletes_at C pend r H) bs ++ xs) (sym none_deleted) ∙ more (deletes_at C pend r H) bs;
   }
 
@@ -170,32 +149,3 @@ module _ (C : Cluster) (pend r : ℕ) (a : Contents) (way : PendingMap) (lawful 
     wish_is info lives others is live_is drained_is =
         ap option_to_list
         ((λ j. option_and_then (λ (i : BlockInfo). wish_by C b i ((live_is ∙ lives_are) j) ((drained_is ∙ drained_are) j) (all_are j) (left_at_start j)) ((is ∙ known) j)) ∙ wish_known C G b)
-
-  -- Each source of its wish is on a storage at its slot.
-
-  module _ (gone : ℕ → Bool) where
-    abbrev sends : ℕ → Bool
-    sends s = not (gone s)
-
-    sends_among : (p : ℕ → Bool) (xs ss : List ℕ) → filter p ss ≡ xs → list_any sends xs ≡ true → list_any sends ss ≡ true
-    sends_among p xs ss are h =
-        any_weaker (λ s. p s && sends s) sends (λ s e. and_second (p s) (sends s) e) ss (sym (any_filter sends p ss) ∙ ap (list_any sends) are ∙ h)
-
-    either : (l d ss : List ℕ) → (list_any sends l ≡ true → list_any sends ss ≡ true) → (list_any sends d ≡ true → list_any sends ss ≡ true) → list_any sends (l ++ d) ≡ true → list_any sends ss ≡ true
-    either l d ss left right h = by (list_any sends l) refl (sym (list_any-append sends l d) ∙ h)
-      where
-        by : (t : Bool) → list_any sends l ≡ t → (t || list_any sends d) ≡ true → list_any sends ss ≡ true
-        by true is g = left is
-        by false is g = right g
-
-    pub senders_there : has_sender gone (live C G b ++ drained C G b) ≡ true → has_sender gone (storages_at (λ _ _. true) (replicas_at a slot)) ≡ true
-    senders_there some =
-        let found = lawful.found b slot here in
-        let ss = storages_where (λ _ _. true) H b in
-        let there : list_any sends ss ≡ true =
-        either (live C G b) (drained C G b) ss
-        (sends_among (λ s. not (is_draining C s)) (live C G b) ss (storages_passing (λ s. not (is_draining C s)) (is_live_on C) H b (λ q m at there. ap (is_live_on C q.storage) (settled.all_plain q m at there)) ∙ sym (settled_is_left C pend r H b settled).1))
-        (sends_among (is_draining C) (drained C G b) ss (storages_passing (is_draining C) (is_drained_on C) H b (λ q m at there. ap (is_drained_on C q.storage) (settled.all_plain q m at there)) ∙ sym (settled_is_left C pend r H b settled).2))
-        some in
-        ap (λ o. list_any sends (storages_at (λ _ _. true) (option_map_or (λ (k : Block). k.replicas) o []))) found.2
-        ∙ any_of_members sends ss (storages_at (λ _ _. true) found.1.replicas) (λ x e. sym (alike a way.map lawful b slot found.1 here found.2 (λ _ _. true) x) ∙ e) there

@@ -3,6 +3,5 @@ pub mod BlockMarks
 pub mod BlockScans
 pub mod Requests
 pub mod ScannedSlots
-pub mod WishFilters
 -- The findings of several blocks, in any order.
 pub mod BlockFindings

@@ -2,6 +2,7 @@
 use Rattle.std.specs.Prelude.{◌≡◌, ◌↔◌, ℕ, ◌-◌, Bool, false, not, ◌&&◌, nat_lt, nat_le, List, ◌++◌, filter, length, Option}
 use Rattle.std.specs.Option.{option_map_or}
 use Rattle.bm_base.specs.Words.{Cluster, has, is_live_on, level_number}
+use Rattle.bm_parts.specs.Before.{is_before}
 use Rattle.bm_arena.specs.Contents.{Contents, block_at}
 use Rattle.bm_arena.specs.HeldMaps.{id_at, info_at, replicas_at}
 use Rattle.bm_pending.specs.PendingMap.{PendingMap}
@@ -28,11 +29,12 @@ has_enough_pending C pend r a p slot =
     let n = length (remaining_targets pend r p (id_at a slot)) in
     nat_lt 0 n && option_map_or (λ i. nat_le (i.repl - length (storages_at (is_live_on C) (replicas_at a slot))) n) (info_at a slot) false
 
--- whether a slot is settled, its wish is asked for, and it lacks pending transfers
-abbrev pub is_settled_to_scan : IndexedLevels → (ℕ → Bool) → (ℕ → Bool) → ℕ → Bool
-is_settled_to_scan K is_asked has_enough slot = is_asked slot && (not (has K.unsettled.slots slot) && not (has_enough slot))
+-- whether a slot is settled, comes before a bound, and lacks pending transfers
+abbrev pub is_settled_to_scan : IndexedLevels → Contents → Option (ℕ × ℕ) → (ℕ → Bool) → ℕ → Bool
+is_settled_to_scan K a bound has_enough slot = is_before bound (key_at K a slot) && (not (has K.unsettled.slots slot) && not (has_enough slot))
 
--- the slots that a round scans: the unsettled ones, and of the settled ones at a level at which
--- copies are wanted those whose wish is asked for, without enough pending transfers
-abbrev pub scanned_slots : IndexedLevels → (ℕ → Bool) → (ℕ → Bool) → List ℕ
-scanned_slots K is_asked has_enough = K.unsettled.slots ++ filter (is_settled_to_scan K is_asked has_enough) (slots_needing_copies K)
+-- the slots that a round scans for the wishes before a bound: the unsettled ones, and of the
+-- settled ones at a level at which copies are wanted those before the bound without enough pending
+-- transfers
+abbrev pub scanned_slots : IndexedLevels → Contents → Option (ℕ × ℕ) → (ℕ → Bool) → List ℕ
+scanned_slots K a bound has_enough = K.unsettled.slots ++ filter (is_settled_to_scan K a bound has_enough) (slots_needing_copies K)

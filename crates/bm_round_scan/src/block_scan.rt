@@ -31,7 +31,7 @@ pub(crate) struct BlockScan {
     /// A scratch buffer for the storages of a settled block.
     pub storages: Vec<StorageId>,
     /// Scratch buffers for the choice of excess.
-    scratch: ExcessScratch,
+    room: ExcessScratch,
 }
 
 impl BlockScan {
@@ -45,7 +45,7 @@ impl BlockScan {
             excess: Vec::new(alloc),
             replicas: Vec::new(alloc),
             storages: Vec::new(alloc),
-            scratch: ExcessScratch::new(alloc),
+            room: ExcessScratch::new(alloc),
         }
     }
 
@@ -77,7 +77,7 @@ impl BlockScan {
         self.info = arena.info(slot);
         fill_surplus(
             &mut self.excess,
-            &mut self.scratch,
+            &mut self.room,
             topology,
             self.info,
             usable.live.as_slice(),
@@ -149,10 +149,10 @@ impl BlockScan {
 
 /// Replaces the contents of `into` by the surplus among these storages of one block's live
 /// replicas. It takes memory only if there is a surplus, and then only if `into` or a list of
-/// `scratch` grows past its capacity.
+/// `room` grows past its capacity.
 fn fill_surplus(
     into: &mut Vec<StorageId>,
-    scratch: &mut ExcessScratch,
+    room: &mut ExcessScratch,
     topology: &Topology,
     info: Option<BlockInfo>,
     live: &[StorageId],
@@ -163,7 +163,7 @@ fn fill_surplus(
     ensures refused { IfErr result (λ e. e ≡ Memory) }
 {
     match info {
-        Some(info) => fill_excess(into, scratch, live, info.repl, topology),
+        Some(info) => fill_excess(into, room, live, info.repl, topology),
         None => {
             into.clear();
             Ok(())

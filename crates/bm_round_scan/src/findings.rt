@@ -4,31 +4,29 @@ ghost use Rattle.bm_base.specs.declared.refusal.Refusal.TheVariants.{Memory};
 ghost use Rattle.bm_base.specs.declared.replica.ReplicaId.{ReplicaId};
 ghost use Rattle.bm_base.specs.Maps.Map.{get, contains_key};
 ghost use Rattle.bm_base.specs.RoundParts.{round_part};
-ghost use Rattle.bm_parts.specs.AskedWishes.{part_where};
+ghost use Rattle.bm_parts.specs.Before.{part_before};
 ghost use Rattle.bm_arena.specs.HeldMaps.{replicas_of};
 ghost use Rattle.bm_levels.specs.Leveled.{AreLevels};
 ghost use Rattle.bm_levels.specs.Held.{holdings_with};
-ghost use Rattle.bm_round_scan.specs.WishFilters.{asks};
 
 use crate::order::{sort_deletes, sort_excess, sort_wishes};
 use crate::scan::RoundScan;
 use crate::scanned_slots::{slots_to_scan, sort_slots};
-use crate::wish_filter::WishFilter;
 use bm_base::{Items, Refusal, RoundPart};
 use bm_levels::LeveledBlocks;
+use bm_parts::merge::Key;
 use bm_pending::PendingTransfers;
 use bm_topo::Topology;
 use std::alloc::Global;
 
 /// Finds a shard's part as round `round` begins. Transfers expire that were commanded `pend` rounds
 /// ago or earlier. The stored levels are those of the cluster, which knows each replica's storage.
-/// Only the wishes that the filter asks for are returned. An `Err` is out of memory.
+/// If there is a bound, only the wishes before it are returned. An `Err` is out of memory.
 ///
-/// It scans the unsettled blocks, and those at a level at which copies are wanted whose wishes are
-/// asked for, and iterates over the pending transfers once. So its cost does not grow with the
-/// number of the other blocks, but for those at such a level. Each of these costs one step of dense
-/// memory, and the comparison of a level and a number. If the filter has a table, each from the
-/// bound on costs a look-up of its storages too. Of a settled block with a pending transfer the live
+/// It scans the unsettled blocks, and those before the bound at a level at which copies are wanted,
+/// and iterates over the pending transfers once. So its cost does not grow with the number of the
+/// other blocks, but for those at such a level. Each of these costs one step of dense memory, and
+/// the comparison of a level and a number. Of a settled block with a pending transfer the live
 /// replicas are counted first: it is left out if the live replicas and the pending transfers reach
 /// the number wanted. A scanned block with n replicas costs O(n log n) steps: they are sorted, and
 /// each is searched for among those in excess. The result is sorted.
@@ -39,13 +37,13 @@ pub fn find_round(
     topology: &Topology,
     pend: u32,
     round: u64,
-    filter: &WishFilter,
+    bound: Option<Key>,
 ) -> Result<RoundPart, Refusal>
     requires levels { AreLevels topology.now.cluster blocks.now }
     requires stored { (q : ReplicaId) → IsSome (get (replicas_of blocks.now.arena) q)
         → IsTrue (contains_key topology.now.cluster.storages q.storage) }
     ensures part { IfOk result
-        (λ p. p ≡ part_where (asks filter.now)
+        (λ p. p ≡ part_before bound
         (round_part topology.now.cluster pend round
         (holdings_with blocks.now.arena pending.now.map))) }
     ensures refused { IfErr result (λ e. e ≡ Memory) }
@@ -60,7 +58,7 @@ pub fn find_round(
         topology,
         pend,
         round,
-        filter,
+        bound,
     };
     let mut slots = slots_to_scan(alloc, &start)?;
     sort_slots(&mut slots);

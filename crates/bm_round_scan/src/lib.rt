@@ -17,9 +17,7 @@ mod replicas;
 mod scan;
 mod scanned_slots;
 mod settled;
-mod wish_filter;
 mod wishes;
 
 pub use findings::find_round;
 pub use guess::likely_bound;
-pub use wish_filter::WishFilter;

@@ -1,9 +1,7 @@
 // Whether the pending transfers of a settled block make up for the replicas that it lacks.
-ghost use Rattle.std.specs.Prelude.{◌≡◌, true, length, map};
+ghost use Rattle.std.specs.Prelude.{◌≡◌, length, map};
 ghost use Rattle.bm_base.specs.Machine.Replicas as replicas;
-ghost use Rattle.bm_parts.specs.AskedWishes.{has_sender};
-ghost use Rattle.bm_place.specs.Exhausted.{is_exhausted_in};
-ghost use Rattle.bm_arena.specs.HeldMaps.{id_at, replicas_at};
+ghost use Rattle.bm_arena.specs.HeldMaps.{id_at};
 ghost use Rattle.bm_arena.specs.Triplets.{triplet_view};
 ghost use Rattle.bm_levels.specs.Status.{storages_at};
 ghost use Rattle.bm_pending.specs.RemainingTargets.{remaining_targets};
@@ -34,21 +32,6 @@ impl<'a> RoundScan<'a> {
                 (info.repl as usize).saturating_sub(live) <= pending
             }
             _ => false,
-        }
-    }
-
-    /// Whether a replica at a slot is on a storage that is not exhausted; no slot is read if the
-    /// filter has no table.
-    pub(crate) fn has_sender_at(&self, slot: Slot) -> bool
-        ensures { result ≡ has_sender (is_exhausted_in self.now.filter.now.exhausted)
-            (storages_at (λ _ _. true) (replicas_at self.now.arena.now slot)) }
-    {
-        if self.filter.exhausted.is_none() {
-            return false;
-        }
-        match self.arena.block(slot) {
-            Some((_, triplets)) => self.filter.has_sender_among(triplets),
-            None => false,
         }
     }
 

@@ -9,11 +9,9 @@ ghost use Rattle.bm_arena.specs.HeldMaps.{id_at};
 ghost use Rattle.bm_levels.specs.Held.{holdings_with};
 ghost use Rattle.bm_round_scan.specs.BlockFindings.{HasFound};
 ghost use Rattle.bm_round_scan.specs.ScannedSlots.{AreMarked};
-ghost use Rattle.bm_round_scan.specs.WishFilters.{asks};
 
 use crate::block_scan::BlockScan;
 use crate::replicas::storages_of;
-use crate::wish_filter::WishFilter;
 use bm_arena::{Arena, Slot};
 use bm_base::{BlockInfo, Delete, Refusal, ReplicaId, Wish};
 use bm_levels::LevelIndex;
@@ -44,8 +42,8 @@ pub(crate) struct RoundScan<'a> {
     pub topology: &'a Topology,
     pub pend: u32,
     pub round: u64,
-    /// Only the wishes that it asks for are returned.
-    pub filter: &'a WishFilter,
+    /// If there is a bound, only the wishes before it are returned.
+    pub bound: Option<Key>,
 }
 
 impl<'a> RoundScan<'a> {
@@ -56,7 +54,7 @@ impl<'a> RoundScan<'a> {
         requires settled { AreMarked self.now.kept.now self.now.arena.now }
         ensures found { IfOk result
             (HasFound self.now.topology.now.cluster self.now.pend self.now.round
-            (holdings_with self.now.arena.now self.now.pending.now.map) (asks self.now.filter.now)
+            (holdings_with self.now.arena.now self.now.pending.now.map) self.now.bound
             (map (λ e. id_at self.now.arena.now e.1) slots.now)) }
         ensures refused { IfErr result (λ e. e ≡ Memory) }
     {
@@ -91,9 +89,9 @@ impl<'a> RoundScan<'a> {
         requires settled { AreMarked self.now.kept.now self.now.arena.now }
         ensures more { (bs : List ℕ)
             → HasFound self.now.topology.now.cluster self.now.pend self.now.round
-            (holdings_with self.now.arena.now self.now.pending.now.map) (asks self.now.filter.now) bs found.old
+            (holdings_with self.now.arena.now self.now.pending.now.map) self.now.bound bs found.old
             → OnOk result (HasFound self.now.topology.now.cluster self.now.pend self.now.round
-            (holdings_with self.now.arena.now self.now.pending.now.map) (asks self.now.filter.now) (bs
+            (holdings_with self.now.arena.now self.now.pending.now.map) self.now.bound (bs
             ++ id_at self.now.arena.now slot ∷ []) found.new) }
         ensures refused { IfErr result (λ e. e ≡ Memory) }
     {

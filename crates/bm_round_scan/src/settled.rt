@@ -2,7 +2,7 @@
 ghost use Rattle.std.specs.Prelude.{◌≡◌, ◌++◌, true, not, filter, map, Some, IfOk, IfErr, OnOk};
 ghost use Rattle.bm_base.specs.declared.refusal.Refusal.TheVariants.{Memory};
 ghost use Rattle.bm_base.specs.Machine.Replicas as replicas;
-ghost use Rattle.bm_round_scan.specs.WishFilters.{asks};
+ghost use Rattle.bm_parts.specs.Before.{wishes_before};
 ghost use Rattle.bm_arena.specs.Contents.{block_at, slot_of};
 ghost use Rattle.bm_arena.specs.Triplets.{triplet_view};
 ghost use Rattle.bm_levels.specs.Held.{holdings_with};
@@ -30,7 +30,7 @@ impl<'a> RoundScan<'a> {
         requires slot { slot_of self.now.arena.now id ≡ Some slot }
         requires settled { is_settled_at (block_at self.now.arena.now slot) ≡ true }
         ensures wish { OnOk result (into.new.items ≡ into.old.items
-            ++ filter (asks self.now.filter.now)
+            ++ wishes_before self.now.bound
             (wishes_at self.now.topology.now.cluster self.now.pend self.now.round
             (holdings_with self.now.arena.now self.now.pending.now.map) id)) }
         ensures refused { IfErr result (λ e. e ≡ Memory) }

@@ -1,15 +1,13 @@
 // The wish of one block.
-ghost use Rattle.std.specs.Prelude.{◌≡◌, length, ◌++◌, ◌||◌, filter, option_and_then, option_to_list, OnOk, IfOk, IfErr};
+ghost use Rattle.std.specs.Prelude.{◌≡◌, length, ◌++◌, option_and_then, option_to_list, OnOk, IfOk, IfErr};
 ghost use Rattle.bm_base.specs.declared.refusal.Refusal.TheVariants.{Memory};
 ghost use Rattle.bm_base.specs.Machine.Replicas as replicas;
 ghost use Rattle.bm_base.specs.Machine.Levels as levels;
-ghost use Rattle.bm_base.specs.Words.{level_number};
-ghost use Rattle.bm_parts.specs.AskedWishes.{is_before, has_sender};
-ghost use Rattle.bm_place.specs.Exhausted.{is_exhausted_in};
+ghost use Rattle.bm_parts.specs.Before.{wishes_before};
 ghost use Rattle.bm_pending.specs.RemainingTargets.{remaining_targets};
 ghost use Rattle.bm_round_scan.specs.Requests.{count_at, wish_by};
-ghost use Rattle.bm_round_scan.specs.WishFilters.{asks};
 
+use crate::keys::is_before;
 use crate::replicas::{UsableReplicas, spread_of};
 use crate::scan::RoundScan;
 use bm_base::{BlockId, BlockInfo, Level, Refusal, StorageId, StorageIds, Wish, level_of};
@@ -18,8 +16,8 @@ use std::alloc::{AllocError, Global};
 
 impl<'a> RoundScan<'a> {
     /// Appends the wish of a block with these usable replicas, and replicas on these storages in
-    /// all. It asks for copies at its level, if it needs any, and only if the filter asks for them. The pending
-    /// transfers are counted only if they are.
+    /// all: copies at its level, if it needs any, and only if that comes before the bound. The
+    /// pending transfers are counted only if it does.
     pub(crate) fn push_wish(
         &self,
         alloc: Global,
@@ -30,7 +28,7 @@ impl<'a> RoundScan<'a> {
         into: &mut Vec<Wish>,
     ) -> Result<(), Refusal>
         ensures wish { OnOk result (into.new.items ≡ into.old.items
-            ++ filter (asks self.now.filter.now)
+            ++ wishes_before self.now.bound
             (option_to_list (option_and_then
             (λ i. wish_by self.now.topology.now.cluster id i usable.live usable.drained storages.now
             (remaining_targets self.now.pend self.now.round self.now.pending.now id))
@@ -46,7 +44,7 @@ impl<'a> RoundScan<'a> {
         let Some(level) = level_among(self.topology, repl, live.as_slice(), drained_count) else {
             return Ok(());
         };
-        if !self.asks(level, id, live.as_slice(), drained.as_slice()) {
+        if !is_before(self.bound, (level.number() as u64, id.0)) {
             return Ok(());
         }
         let live_count = live.as_slice().len();
@@ -68,17 +66,6 @@ impl<'a> RoundScan<'a> {
             pending,
         })?;
         Ok(())
-    }
-
-    /// Whether the wish of a block at this level, with these sources, is asked for.
-    fn asks(&self, level: Level, id: BlockId, live: &[StorageId], drained: &[StorageId]) -> bool
-        ensures { result ≡ (is_before self.now.filter.now.bound (level_number level, id)
-            || has_sender (is_exhausted_in self.now.filter.now.exhausted)
-            (live.now ++ drained.now)) }
-    {
-        self.filter.is_before((level.number() as u64, id.0))
-            || self.filter.has_sender(live)
-            || self.filter.has_sender(drained)
     }
 
     /// The targets of a block's transfers that stay pending in the round. The block is not looked

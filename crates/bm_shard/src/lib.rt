@@ -20,5 +20,4 @@ mod rounds;
 mod shard;
 
 pub use bm_base::{RoundPart, Wish};
-pub use bm_round_scan::WishFilter;
 pub use shard::Shard;

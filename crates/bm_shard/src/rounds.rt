@@ -2,8 +2,7 @@
 ghost use Rattle.std.specs.Prelude.{◌≡◌, ◌<◌, ◌+◌, ◌^◌, IfOk, IfErr, OnOk};
 ghost use Rattle.bm_base.specs.declared.refusal.Refusal.TheVariants.{Memory};
 ghost use Rattle.bm_base.specs.RoundParts.{round_on_part};
-ghost use Rattle.bm_parts.specs.AskedWishes.{part_where};
-ghost use Rattle.bm_round_scan.specs.WishFilters.{asks};
+ghost use Rattle.bm_parts.specs.Before.{part_before};
 ghost use Rattle.bm_shard.specs.Seen.{IsReadyForRound};
 ghost use Rattle.bm_shard.specs.Unused.{HasNoUnused, HasNoUnusedCapacity};
 ghost use Rattle.bm_shard.specs.UpToDate.{IsUpToDate, IsSameButCapacity, next_part};
@@ -12,7 +11,7 @@ use crate::own_transfers::insert_own;
 use crate::shard::{PreparedEvent, Shard};
 use bm_base::{Chosen, Refusal, RoundPart};
 use bm_parts::merge::Key;
-use bm_round_scan::{WishFilter, find_round, likely_bound};
+use bm_round_scan::{find_round, likely_bound};
 use bm_topo::Topology;
 
 impl Shard {
@@ -26,21 +25,21 @@ impl Shard {
         ensures part { IfOk result (λ p. p ≡ next_part topology.now.cluster self.now) }
         ensures refused { IfErr result (λ e. e ≡ Memory) }
     {
-        self.round_part_asked(round, topology, &WishFilter::before(None))
+        self.round_part_before(round, topology, None)
     }
 
-    /// The same, but only with the wishes that a filter asks for. Other settled blocks are not
-    /// scanned.
-    pub fn round_part_asked(
+    /// The same, but only with the wishes before a bound, if there is one, by level and block.
+    /// Other settled blocks are not scanned.
+    pub fn round_part_before(
         &self,
         round: u64,
         topology: &Topology,
-        filter: &WishFilter,
+        bound: Option<Key>,
     ) -> Result<RoundPart, Refusal>
         requires next { round ≡ self.now.round + 1 }
         requires up_to_date { IsUpToDate topology.now.cluster self.now }
         ensures part { IfOk result
-            (λ p. p ≡ part_where (asks filter.now) (next_part topology.now.cluster self.now)) }
+            (λ p. p ≡ part_before bound (next_part topology.now.cluster self.now)) }
         ensures refused { IfErr result (λ e. e ≡ Memory) }
     {
         self.blocks.show_invariant();
@@ -52,7 +51,7 @@ impl Shard {
             topology,
             self.pend,
             round,
-            filter,
+            bound,
         )
     }
 

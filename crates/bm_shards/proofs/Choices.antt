@@ -13,15 +13,16 @@ use Rattle.bm_base.proofs.OneWish.{one_wish}
 use Rattle.bm_parts.proofs.OnePart.{round_wishes_ascend, round_deletes_ascend}
 use Rattle.bm_parts.specs.RoundLaws.{round_parts}
 use Rattle.bm_parts.specs.Merging.{AreSorted}
-use Rattle.bm_parts.specs.AskedWishes.{is_asked, part_where, MergeWhere}
-use Rattle.bm_parts.proofs.Filters.{filter_all, ascends_still}
-use Rattle.bm_parts.proofs.MergedChoices.{wishes_join, passing_wishes_join, parts_choose_transfers, parts_choose_deletes}
+use Rattle.bm_parts.specs.Before.{is_before, part_before}
+use Rattle.bm_parts.proofs.Before.{ascends_still, merged_before}
+use Rattle.bm_parts.proofs.Filters.{filter_all}
+use Rattle.bm_parts.proofs.MergedChoices.{wishes_join, parts_choose_transfers, parts_choose_deletes}
 use Rattle.bm_parts.proofs.WholeParts.{whole_has_its_parts}
 use Rattle.bm_round.specs.KeyedParts.{keyed_wishes, keyed_delete, keyed_deletes}
 use Rattle.bm_round.proofs.WishCopies.{none_has}
 use Rattle.bm_shard.specs.Seen.{Seen}
 use Rattle.bm_shard.specs.UpToDate.{next_part}
-use Rattle.bm_shards.specs.RoundChosen.{next_parts, next_parts_where, next_excess, HasExcess, MergeAlways}
+use Rattle.bm_shards.specs.RoundChosen.{next_parts, next_excess, HasExcess}
 use Rattle.bm_shards.specs.Whole.{parts_of, held_by, AreShards, HaveTaken}
 use Rattle.bm_shards.proofs.SameShards.{count_of}
 
@@ -44,11 +45,10 @@ once_left number p (x ∷ xs) once =
     by true other rest = ap (λ u. u || has_repeats (map number (filter p xs))) other ∙ rest
     by false other rest = rest
 
--- parts whose wishes all pass are whole
-pub uncut : (bound : Option (ℕ × ℕ)) (gone : ℕ → Bool) (ps : List RoundPart) → bound ≡ None → map (part_where (is_asked bound gone)) ps ≡ ps
-uncut bound gone [] none = refl
-uncut bound gone (p ∷ ps) none =
-    λ j. record p { wishes = (ap (λ b. filter (is_asked b gone) p.wishes) none ∙ filter_all p.wishes) j } ∷ uncut bound gone ps none j
+-- parts that are cut by no bound are whole
+pub uncut : (ps : List RoundPart) → map (part_before None) ps ≡ ps
+uncut [] = refl
+uncut (p ∷ ps) = λ j. record p { wishes = filter_all p.wishes j } ∷ uncut ps j
 
 module _ (C : Cluster) where
   -- Each part is in order.
@@ -88,57 +88,49 @@ module _ (C : Cluster) where
     pub deletes_of_all : chosen_deletes limits C ps ≡ deletes limits C G
     deletes_of_all = ap (chosen_deletes limits C) (whole_parts last limits.pend ss ps is h took) ∙ parts_choose_deletes limits C (last + 1) (held_by ss) (length ss) h.some
 
-  -- However the wishes of the parts are chosen, those of all parts can be merged.
-  pub merge_always : (last pend : ℕ) (ss : List (ℕ × Seen)) → AreShards (length ss) ss → HaveTaken last pend ss → MergeAlways C ss
-  merge_always last pend ss h took p =
-      subst (MergeWhere p) (sym (whole_parts last pend ss (next_parts C ss) refl h took)) (passing_wishes_join C pend (last + 1) (held_by ss) (length ss) p h.some)
+  -- The parts, reduced to the wishes before a bound.
 
-  -- The parts, reduced to the wishes that pass.
+  cut_parts : (bound : Option (ℕ × ℕ)) (ss : List (ℕ × Seen)) → map (λ (s : ℕ × Seen). part_before bound (next_part C s.1)) ss ≡ map (part_before bound) (next_parts C ss)
+  cut_parts bound [] = refl
+  cut_parts bound (s ∷ ss) = ap (λ ps. part_before bound (next_part C s.1) ∷ ps) (cut_parts bound ss)
 
-  module _ (p : Wish → Bool) where
-    cut_parts : (ss : List (ℕ × Seen)) → next_parts_where p C ss ≡ map (part_where p) (next_parts C ss)
-    cut_parts [] = refl
-    cut_parts (s ∷ ss) = ap (λ ps. part_where p (next_part C s.1) ∷ ps) (cut_parts ss)
+  wishes_cut_sorted : (bound : Option (ℕ × ℕ)) (ps : List RoundPart) → AreSorted (map keyed_wishes ps) → AreSorted (map keyed_wishes (map (part_before bound) ps))
+  wishes_cut_sorted bound [] h = tt
+  wishes_cut_sorted bound (p ∷ ps) h = (ascends_still by_pair wish_key (is_before bound) p.wishes h.0, wishes_cut_sorted bound ps h.1)
 
-    wishes_cut_sorted : (ps : List RoundPart) → AreSorted (map keyed_wishes ps) → AreSorted (map keyed_wishes (map (part_where p) ps))
-    wishes_cut_sorted [] h = tt
-    wishes_cut_sorted (q ∷ ps) h = (ascends_still by_pair wish_key p q.wishes h.0, wishes_cut_sorted ps h.1)
+  same_deletes : {Y : Type 0} (f : List Delete → Y) (bound : Option (ℕ × ℕ)) (ps : List RoundPart) → map (λ (p : RoundPart). f p.deletes) (map (part_before bound) ps) ≡ map (λ (p : RoundPart). f p.deletes) ps
+  same_deletes f bound [] = refl
+  same_deletes f bound (p ∷ ps) = ap (λ ys. f p.deletes ∷ ys) (same_deletes f bound ps)
 
-    same_deletes : {Y : Type 0} (f : List Delete → Y) (ps : List RoundPart) → map (λ (q : RoundPart). f q.deletes) (map (part_where p) ps) ≡ map (λ (q : RoundPart). f q.deletes) ps
-    same_deletes f [] = refl
-    same_deletes f (q ∷ ps) = ap (λ ys. f q.deletes ∷ ys) (same_deletes f ps)
+  same_excess : (bound : Option (ℕ × ℕ)) (ss : List (ℕ × Seen)) → map (λ (p : RoundPart). p.excess) (map (part_before bound) (next_parts C ss)) ≡ next_excess C ss
+  same_excess bound [] = refl
+  same_excess bound (s ∷ ss) = ap (λ ys. (next_part C s.1).excess ∷ ys) (same_excess bound ss)
 
-    same_excess : (ss : List (ℕ × Seen)) → map (λ (q : RoundPart). q.excess) (map (part_where p) (next_parts C ss)) ≡ next_excess C ss
-    same_excess [] = refl
-    same_excess (s ∷ ss) = ap (λ ys. (next_part C s.1).excess ∷ ys) (same_excess ss)
+  all_deletes : (bound : Option (ℕ × ℕ)) (ps : List RoundPart) → flat_map (λ (p : RoundPart). p.deletes) (map (part_before bound) ps) ≡ flat_map (λ (p : RoundPart). p.deletes) ps
+  all_deletes bound [] = refl
+  all_deletes bound (p ∷ ps) = ap (λ ds. p.deletes ++ ds) (all_deletes bound ps)
 
-    all_deletes : (ps : List RoundPart) → flat_map (λ (q : RoundPart). q.deletes) (map (part_where p) ps) ≡ flat_map (λ (q : RoundPart). q.deletes) ps
-    all_deletes [] = refl
-    all_deletes (q ∷ ps) = ap (λ ds. q.deletes ++ ds) (all_deletes ps)
+  module _ (bound : Option (ℕ × ℕ)) (ss : List (ℕ × Seen)) (ps : List RoundPart) (is : ps ≡ map (λ (s : ℕ × Seen). part_before bound (next_part C s.1)) ss) where
+    pub cut : ps ≡ map (part_before bound) (next_parts C ss)
+    cut = is ∙ cut_parts bound ss
 
-    module _ (ss : List (ℕ × Seen)) (ps : List RoundPart) (is : ps ≡ next_parts_where p C ss) where
-      pub cut : ps ≡ map (part_where p) (next_parts C ss)
-      cut = is ∙ cut_parts ss
+    pub cut_wishes_sorted : AreSorted (map keyed_wishes ps)
+    cut_wishes_sorted = subst (λ (qs : List RoundPart). AreSorted (map keyed_wishes qs)) (sym cut) (wishes_cut_sorted bound (next_parts C ss) (wishes_sorted ss))
 
-      pub cut_wishes_sorted : AreSorted (map keyed_wishes ps)
-      cut_wishes_sorted = subst (λ (qs : List RoundPart). AreSorted (map keyed_wishes qs)) (sym cut) (wishes_cut_sorted (next_parts C ss) (wishes_sorted ss))
+    pub cut_deletes_sorted : AreSorted (map keyed_deletes ps)
+    cut_deletes_sorted =
+        subst (λ (qs : List RoundPart). AreSorted (map keyed_deletes qs)) (sym cut)
+        (subst AreSorted (sym (same_deletes (map keyed_delete) bound (next_parts C ss))) (deletes_sorted ss))
 
-      pub cut_deletes_sorted : AreSorted (map keyed_deletes ps)
-      cut_deletes_sorted =
-          subst (λ (qs : List RoundPart). AreSorted (map keyed_deletes qs)) (sym cut)
-          (subst AreSorted (sym (same_deletes (map keyed_delete) (next_parts C ss))) (deletes_sorted ss))
+    pub cut_once : has_repeats (map (λ (w : Wish). w.block) (merged_wishes (next_parts C ss))) ≡ false → has_repeats (map (λ (w : Wish). w.block) (merged_wishes ps)) ≡ false
+    cut_once once =
+        ap (λ (qs : List RoundPart). has_repeats (map (λ (w : Wish). w.block) (merged_wishes qs))) cut
+        ∙ ap (λ (ws : List Wish). has_repeats (map (λ (w : Wish). w.block) ws)) (merged_before bound (next_parts C ss))
+        ∙ once_left (λ (w : Wish). w.block) (λ (w : Wish). is_before bound (wish_key w)) (merged_wishes (next_parts C ss)) once
 
-      pub cut_once : MergeWhere p (next_parts C ss) → has_repeats (map (λ (w : Wish). w.block) (merged_wishes (next_parts C ss))) ≡ false → has_repeats (map (λ (w : Wish). w.block) (merged_wishes ps)) ≡ false
-      cut_once merge once =
-          ap (λ (qs : List RoundPart). has_repeats (map (λ (w : Wish). w.block) (merged_wishes qs))) cut
-          ∙ ap (λ (ws : List Wish). has_repeats (map (λ (w : Wish). w.block) ws)) merge
-          ∙ once_left (λ (w : Wish). w.block) p (merged_wishes (next_parts C ss)) once
+    pub cut_excess : HasExcess C ss ps
+    cut_excess = ap (map (λ (p : RoundPart). p.excess)) cut ∙ same_excess bound ss
 
-      pub cut_excess : HasExcess C ss ps
-      cut_excess = ap (map (λ (q : RoundPart). q.excess)) cut ∙ same_excess ss
-
-      pub cut_deletes : (limits : RoundLimits) → chosen_deletes limits C ps ≡ chosen_deletes limits C (next_parts C ss)
-      unfolding chosen_deletes merged_deletes
-      cut_deletes limits =
-          ap (λ (qs : List RoundPart). first_of_each_node limits C (ordered_by by_pair delete_key (flat_map (λ (q : RoundPart). q.deletes) qs))) cut
-          ∙ ap (λ ds. first_of_each_node limits C (ordered_by by_pair delete_key ds)) (all_deletes (next_parts C ss))
+    pub cut_deletes : (limits : RoundLimits) → chosen_deletes limits C ps ≡ chosen_deletes limits C (next_parts C ss)
+    unfolding chosen_deletes merged_deletes
+    cut_deletes limits = ap (λ (qs : List RoundPart). first_of_each_node limits C (ordered_by by_pair delete_key (flat_map (λ (p : RoundPart). p.deletes) qs))) cut ∙ ap (λ ds. first_of_each_node limits C (ordered_by by_pair delete_key ds)) (all_deletes bound (next_parts C ss))

@@ -1,11 +1,10 @@
 -- The parts and the choice of a round of all shards.
-use Rattle.std.specs.Prelude.{◌≡◌, ℕ, Bool, List, map}
+use Rattle.std.specs.Prelude.{◌≡◌, ℕ, List, map, Option}
 use Rattle.bm_base.specs.declared.replica.ReplicaId.{ReplicaId}
 use Rattle.bm_base.specs.declared.round.RoundPart.{RoundPart}
-use Rattle.bm_base.specs.declared.round.Wish.{Wish}
 use Rattle.bm_base.specs.Words.{RoundLimits, Cluster, commands_of}
 use Rattle.bm_base.specs.Choices.{chosen_transfers, chosen_deletes}
-use Rattle.bm_parts.specs.AskedWishes.{part_where, MergeWhere}
+use Rattle.bm_parts.specs.Before.{part_before}
 use Rattle.bm_shard.specs.Seen.{Seen}
 use Rattle.bm_shard.specs.UpToDate.{next_part}
 use Rattle.bm_shards.specs.declared.round_choice.ChosenCommands.{ChosenCommands}
@@ -17,13 +16,9 @@ next_parts C ss = map (λ (s : ℕ × Seen). next_part C s.1) ss
 abbrev pub next_excess : Cluster → List (ℕ × Seen) → List (List ReplicaId)
 next_excess C ss = map (λ (s : ℕ × Seen). (next_part C s.1).excess) ss
 
--- the parts with only the wishes that pass
-abbrev pub next_parts_where : (Wish → Bool) → Cluster → List (ℕ × Seen) → List RoundPart
-next_parts_where p C ss = map (λ (s : ℕ × Seen). part_where p (next_part C s.1)) ss
-
--- whichever wishes pass, those of all parts can be merged
-abbrev pub MergeAlways : Cluster → List (ℕ × Seen) → Type 0
-MergeAlways C ss = (p : Wish → Bool) → MergeWhere p (next_parts C ss)
+-- the parts with only the wishes before a bound
+abbrev pub next_parts_before : Option (ℕ × ℕ) → Cluster → List (ℕ × Seen) → List RoundPart
+next_parts_before bound C ss = map (λ (s : ℕ × Seen). part_before bound (next_part C s.1)) ss
 
 -- the lists of excess of these parts are those of the shards' parts
 abbrev pub HasExcess : Cluster → List (ℕ × Seen) → List RoundPart → Type 0

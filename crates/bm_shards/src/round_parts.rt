@@ -1,36 +1,36 @@
-// The parts of all shards for a round, with the wishes that it asks for.
-ghost use Rattle.std.specs.Prelude.{◌≡◌, None, map, false, IfOk, IfErr};
+// The parts of all shards for a round: with their first wishes, or with all.
+ghost use Rattle.std.specs.Prelude.{◌≡◌, None, List, map, true, false, IfOk, IfErr};
 ghost use Rattle.std.specs.List.{All};
 ghost use Rattle.bm_base.specs.declared.refusal.Refusal.TheVariants.{Memory};
 ghost use Rattle.bm_base.specs.Words.{limits_of, has_repeats, config_refusal};
 ghost use Rattle.bm_base.specs.Choices as choices;
-ghost use Rattle.bm_round_scan.specs.WishFilters.{asks};
+ghost use Rattle.bm_base.specs.declared.round.RoundPart.{RoundPart};
+ghost use Rattle.bm_parts.specs.Before.{part_before};
 ghost use Rattle.bm_shards.specs.RoundWorked.{CanFind};
-ghost use Rattle.bm_shards.specs.RoundChosen.{next_parts, next_parts_where, MergeAlways, HasExcess, IsChosen};
+ghost use Rattle.bm_shards.specs.RoundChosen.{next_parts, next_parts_before, HasExcess, IsChosen};
 
 use crate::answers::{Asked, gather_answers};
 use crate::pass_buffers::reserve_pass;
 use crate::round_choice::{ChosenCommands, choose_commands};
 use crate::workers::Workers;
-use bm_base::{Config, Refusal, RoundPart};
+use bm_base::{Chosen, Config, Refusal, RoundPart};
 use bm_parts::merge::Key;
-use bm_round::{exhausted_after, is_full};
-use bm_shard::{Shard, WishFilter};
+use bm_round::is_full;
+use bm_shard::Shard;
 use bm_topo::Topology;
 use std::alloc::Global;
 use std::mem;
 
-/// The parts of the shards for their next round, perhaps only with some wishes, and the choice from
-/// them.
+/// The parts of the shards for their next round, perhaps only with the first wishes, and the choice
+/// from them.
 #[derive(Drop)]
 pub(crate) struct FoundRound {
     pub parts: Vec<RoundPart>,
     pub choice: ChosenCommands,
 }
 
-/// Collects each shard's part and chooses from them. Asks first for the wishes up to a bound. If
-/// the round is not full after that, asks again for these, and for those with a source whose node
-/// may still send a copy: no other can change the choice. No shard changes.
+/// Collects each shard's part and chooses from them. Asks first for the wishes up to a bound; if
+/// the round is not full after that, asks for all. No shard changes.
 pub(crate) fn find_round<W: Workers>(
     alloc: Global,
     workers: &W,
@@ -41,7 +41,6 @@ pub(crate) fn find_round<W: Workers>(
 ) -> Result<FoundRound, Refusal>
     requires config { config_refusal config.now ≡ None }
     requires shards { All (λ s. CanFind topology.now.cluster round s.1) shards.old.items }
-    requires merge { MergeAlways topology.now.cluster shards.old.items }
     requires one_wish { has_repeats (map
         (λ w. w.block) (choices.merged_wishes (next_parts topology.now.cluster shards.old.items)))
         ≡ false }
@@ -54,46 +53,51 @@ pub(crate) fn find_round<W: Workers>(
     ensures refused { IfErr result (λ e. e ≡ Memory) }
 {
     let bound = bound_of_shards(shards.as_slice(), config, topology)?;
-    let first = WishFilter::before(bound);
-    let parts = find_parts(alloc, workers, shards, round, topology, &first)?;
+    let parts = find_parts(alloc, workers, shards, round, topology, bound)?;
     let choice = choose_commands(alloc, parts.as_slice(), config, round, topology)?;
-    let Some(bound) = bound else {
-        return Ok(FoundRound { parts, choice });
-    };
-    if is_full(&choice.chosen, topology, config) {
+    if is_of_all(&choice.chosen, bound, topology, config) {
         return Ok(FoundRound { parts, choice });
     }
-    let exhausted = exhausted_after(alloc, &choice.chosen, bound, topology)?;
     drop(choice);
     drop(parts);
-    let filter = WishFilter {
-        bound: Some(bound),
-        exhausted: Some(exhausted),
-    };
-    let parts = find_parts(alloc, workers, shards, round, topology, &filter)?;
+    let parts = find_parts(alloc, workers, shards, round, topology, None)?;
     let choice = choose_commands(alloc, parts.as_slice(), config, round, topology)?;
     Ok(FoundRound { parts, choice })
 }
 
-/// Collects each shard's part, with the wishes that are asked for. No shard changes.
+/// Whether the choice from the wishes before a bound is the choice from all wishes.
+fn is_of_all(chosen: &Chosen, bound: Option<Key>, topology: &Topology, config: &Config) -> bool
+    ensures { (whole : List RoundPart) → result ≡ true
+        → chosen.now.transfers ≡ choices.chosen_transfers (limits_of config.now)
+        topology.now.cluster (map (part_before bound) whole)
+        → chosen.now.transfers ≡ choices.chosen_transfers (limits_of config.now)
+        topology.now.cluster whole }
+{
+    match bound {
+        Some(_) => is_full(chosen, topology, config),
+        None => true,
+    }
+}
+
+/// Collects each shard's part, with the wishes before a bound. No shard changes.
 fn find_parts<W: Workers>(
     alloc: Global,
     workers: &W,
     shards: &mut Vec<(u32, Shard)>,
     round: u64,
     topology: &Topology,
-    filter: &WishFilter,
+    bound: Option<Key>,
 ) -> Result<Vec<RoundPart>, Refusal>
     requires shards { All (λ s. CanFind topology.now.cluster round s.1) shards.old.items }
     ensures shards { shards.new.items ≡ shards.old.items }
     ensures parts { IfOk result
-        (λ v. v.items ≡ next_parts_where (asks filter.now) topology.now.cluster shards.old.items) }
+        (λ v. v.items ≡ next_parts_before bound topology.now.cluster shards.old.items) }
     ensures refused { IfErr result (λ e. e ≡ Memory) }
 {
     let answers = Vec::with_capacity(alloc, shards.len())?;
     let (asking, back) = reserve_pass::<Asked<RoundPart>>(alloc, shards.len(), workers.count())?;
     let items = mem::replace(shards, back);
-    let found = workers.find_all(asking, items, round, topology, filter);
+    let found = workers.find_all(asking, items, round, topology, bound);
     gather_answers(found, shards, answers)
 }
 

@@ -1,9 +1,8 @@
 // What the workers do with one shard.
 ghost use Rattle.std.specs.Prelude.{◌≡◌, None};
 ghost use Rattle.bm_base.specs.Words.{is_multi_rack, change_cluster, first_of, cluster_checks};
-ghost use Rattle.bm_parts.specs.AskedWishes.{part_where};
+ghost use Rattle.bm_parts.specs.Before.{part_before};
 ghost use Rattle.bm_parts.specs.Parts.{block_of};
-ghost use Rattle.bm_round_scan.specs.WishFilters.{asks};
 ghost use Rattle.bm_shard.specs.Seen.{IsReadyFor, IsReadyForRound};
 ghost use Rattle.bm_shard.specs.UpToDate.{next_part};
 ghost use Rattle.bm_shards.specs.Answers.{HasAnswered};
@@ -14,7 +13,8 @@ ghost use Rattle.bm_shards.specs.RoundWorked.{CanFind, HasPart, CanCommitRound, 
 use crate::answers::{Answered, Asked};
 use crate::table::Rows;
 use bm_base::{Chosen, Done, Event, RoundPart};
-use bm_shard::{Shard, WishFilter};
+use bm_parts::merge::Key;
+use bm_shard::Shard;
 use bm_topo::Topology;
 
 /// Takes the memory of an event in one shard.
@@ -42,17 +42,17 @@ pub(crate) fn commit_one(
     Answered { shard, answer }
 }
 
-/// Finds the part of one shard in its next round, with the wishes that are asked for.
+/// Finds the part of one shard in its next round, with the wishes before a bound.
 pub(crate) fn find_one(
     shard: Shard,
     round: u64,
     topology: &Topology,
-    filter: &WishFilter,
+    bound: Option<Key>,
 ) -> Asked<RoundPart>
     requires { CanFind topology.now.cluster round shard }
-    ensures { HasAnswered (λ S. part_where (asks filter.now) (next_part topology.now.cluster S)) shard result }
+    ensures { HasAnswered (λ S. part_before bound (next_part topology.now.cluster S)) shard result }
 {
-    let answer = shard.round_part_asked(round, topology, filter);
+    let answer = shard.round_part_before(round, topology, bound);
     Answered { shard, answer }
 }
 

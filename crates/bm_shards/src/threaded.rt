@@ -1,9 +1,8 @@
 // A crew of threads.
 ghost use Rattle.std.specs.Prelude.{◌≡◌, None};
 ghost use Rattle.bm_base.specs.Words.{is_multi_rack, change_cluster, first_of, cluster_checks};
-ghost use Rattle.bm_parts.specs.AskedWishes.{part_where};
+ghost use Rattle.bm_parts.specs.Before.{part_before};
 ghost use Rattle.bm_parts.specs.Parts.{block_of};
-ghost use Rattle.bm_round_scan.specs.WishFilters.{asks};
 ghost use Rattle.bm_shard.specs.Seen.{IsReadyFor, IsReadyForRound};
 ghost use Rattle.bm_shard.specs.UpToDate.{next_part};
 ghost use Rattle.bm_shards.specs.Answers.{HasAnswered};
@@ -19,7 +18,8 @@ use crate::table::Rows;
 use crate::workers::Workers;
 use bm_base::{Chosen, Done, Event, RoundPart};
 use bm_crew::{Gate, Ready};
-use bm_shard::{Shard, WishFilter};
+use bm_parts::merge::Key;
+use bm_shard::Shard;
 use bm_topo::Topology;
 use std::marker::PhantomData;
 use std::sync::Wait;
@@ -109,14 +109,13 @@ impl<R: Threads + Wait> Workers for Threaded<R, &(dyn Gate + Sync)> {
         shards: Vec<(u32, Shard)>,
         round: u64,
         topology: &Topology,
-        filter: &WishFilter,
+        bound: Option<Key>,
     ) -> Vec<(u32, Asked<RoundPart>)> {
         let work = |_: u32, shard: Shard| -> Asked<RoundPart>
             requires { CanFind topology.now.cluster round shard }
             ensures { HasAnswered
-                (λ S. part_where (asks filter.entry.now) (next_part topology.entry.now.cluster S))
-                shard result }
-        { find_one(shard, round, topology, filter) };
+                (λ S. part_before bound (next_part topology.entry.now.cluster S)) shard result }
+        { find_one(shard, round, topology, bound) };
         ready.run(&self.rt, shards, &work, &self.gate)
     }
 

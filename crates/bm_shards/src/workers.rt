@@ -2,9 +2,8 @@
 ghost use Rattle.std.specs.Prelude.{◌≡◌, ◌<◌, ◌≤◌, None, vec_len};
 ghost use Rattle.std.specs.List.{All};
 ghost use Rattle.bm_base.specs.Words.{is_multi_rack, change_cluster, first_of, cluster_checks};
-ghost use Rattle.bm_parts.specs.AskedWishes.{part_where};
+ghost use Rattle.bm_parts.specs.Before.{part_before};
 ghost use Rattle.bm_parts.specs.Parts.{block_of};
-ghost use Rattle.bm_round_scan.specs.WishFilters.{asks};
 ghost use Rattle.bm_shard.specs.Seen.{IsReadyFor, IsReadyForRound};
 ghost use Rattle.bm_shard.specs.UpToDate.{next_part};
 ghost use Rattle.bm_shards.specs.Answers.{EachBecame, HasAnswered};
@@ -16,7 +15,8 @@ use crate::answers::{Answered, Asked};
 use crate::table::Rows;
 use bm_base::{Chosen, Done, Event, RoundPart};
 use bm_crew::Ready;
-use bm_shard::{Shard, WishFilter};
+use bm_parts::merge::Key;
+use bm_shard::Shard;
 use bm_topo::Topology;
 
 /// Works all shards, by a crew of threads or by the calling thread alone. No answer depends on
@@ -61,7 +61,7 @@ pub trait Workers {
         ensures each { EachBecame (IsCommitted topology.now.cluster event.now) shards.items
             result.items };
 
-    /// Finds the part of each shard for its next round, with the wishes that are asked for. No shard
+    /// Finds the part of each shard for its next round, with the wishes before a bound. No shard
     /// changes.
     fn find_all(
         &self,
@@ -69,13 +69,13 @@ pub trait Workers {
         shards: Vec<(u32, Shard)>,
         round: u64,
         topology: &Topology,
-        filter: &WishFilter,
+        bound: Option<Key>,
     ) -> Vec<(u32, Asked<RoundPart>)>
         requires room { vec_len shards ≤ ready.room }
         requires shards { All (λ s. CanFind topology.now.cluster round s.1) shards.items }
         ensures len { vec_len result ≡ vec_len shards }
         ensures each { EachBecame
-            (HasAnswered (λ S. part_where (asks filter.now) (next_part topology.now.cluster S)))
+            (HasAnswered (λ S. part_before bound (next_part topology.now.cluster S)))
             shards.items result.items };
 
     /// Prepares all shards for a round. Each changes only its capacity; it is ready for the round,

@@ -11,7 +11,6 @@ use Rattle.bm_levels.specs.Held.{holdings_with}
 use Rattle.bm_levels.specs.IndexedLevels.{IndexedLevels}
 use Rattle.bm_round_scan.specs.ScannedSlots.{scanned_slots, keyed_at, has_enough_pending, AreMarked}
 use Rattle.bm_round_scan.specs.BlockFindings.{HasFound, IsInOrder}
-use Rattle.bm_round_scan.specs.WishFilters.{asks, asks_at}
 use Rattle.bm_round_scan.proofs.ScannedSlots.{AreListed}
 use Rattle.bm_round_scan.proofs.AllFindings.{scanned_known, all_found}
 use Rattle.bm_round_scan.proofs.findings.find_round.Goals as goal
@@ -23,13 +22,13 @@ scan_all-requires-clause-known c slot there =
     let way = c.args.pending.now in
     let lawful : IsLawful v.arena = subst IsLawful c.arena.ensures c.show_invariant-2.ensures in
     let listed : AreListed v.kept = subst AreListed c.level_index.ensures (record { unsettled = c.show_invariant-3.ensures.unsettled; wishing = c.show_invariant-3.ensures.wishing; once = c.show_invariant-3.ensures.needing_copies_once }) in
-    let slots = scanned_slots v.kept (asks_at c.args.filter.now v.kept v.arena) (has_enough_pending C c.args.pend c.args.round v.arena way) in
-    let keyed_slots : IndexedLevels → Contents → List ((ℕ × ℕ) × ℕ) = λ K a. map (keyed_at K a) (scanned_slots K (asks_at c.args.filter.now K a) (has_enough_pending C c.args.pend c.args.round a way)) in
+    let slots = scanned_slots v.kept v.arena c.args.bound (has_enough_pending C c.args.pend c.args.round v.arena way) in
+    let keyed_slots : IndexedLevels → Contents → List ((ℕ × ℕ) × ℕ) = λ K a. map (keyed_at K a) (scanned_slots K a c.args.bound (has_enough_pending C c.args.pend c.args.round a way)) in
     let keyed : c.in_ok-slots.slots.items ≡ map (keyed_at v.kept v.arena) slots = c.in_ok-slots.ensures ∙ (λ j. keyed_slots (c.level_index-2.ensures j) (c.arena-2.ensures j)) in
     let moved : IsPermutation (map (keyed_at v.kept v.arena) slots) c.deref.result.now =
     subst (IsPermutation (map (keyed_at v.kept v.arena) slots)) (sym c.deref.ensures.value)
     (subst (λ (xs : List ((ℕ × ℕ) × ℕ)). IsPermutation xs c.sort_slots.new.slots.items) keyed c.sort_slots.ensures) in
-    let known = scanned_known v lawful c.show_invariant.ensures listed C c.requires.levels c.args.pend c.args.round way c.args.filter.now c.deref.result.now moved slot there in
+    let known = scanned_known v lawful c.show_invariant.ensures listed C c.requires.levels c.args.pend c.args.round way c.args.bound c.deref.result.now moved slot there in
     (id_at v.arena slot, ap (λ (b : Contents). slot_of b (id_at v.arena slot)) c.arena-2.ensures ∙ known)
 
 pub scan_all-requires-clause-settled : goal.scan_all-requires-clause-settled
@@ -43,17 +42,17 @@ returns-clause-part c =
     let way = c.args.pending.now in
     let lawful : IsLawful v.arena = subst IsLawful c.arena.ensures c.show_invariant-2.ensures in
     let listed : AreListed v.kept = subst AreListed c.level_index.ensures (record { unsettled = c.show_invariant-3.ensures.unsettled; wishing = c.show_invariant-3.ensures.wishing; once = c.show_invariant-3.ensures.needing_copies_once }) in
-    let slots = scanned_slots v.kept (asks_at c.args.filter.now v.kept v.arena) (has_enough_pending C c.args.pend c.args.round v.arena way) in
-    let keyed_slots : IndexedLevels → Contents → List ((ℕ × ℕ) × ℕ) = λ K a. map (keyed_at K a) (scanned_slots K (asks_at c.args.filter.now K a) (has_enough_pending C c.args.pend c.args.round a way)) in
+    let slots = scanned_slots v.kept v.arena c.args.bound (has_enough_pending C c.args.pend c.args.round v.arena way) in
+    let keyed_slots : IndexedLevels → Contents → List ((ℕ × ℕ) × ℕ) = λ K a. map (keyed_at K a) (scanned_slots K a c.args.bound (has_enough_pending C c.args.pend c.args.round a way)) in
     let keyed : c.in_ok-slots.slots.items ≡ map (keyed_at v.kept v.arena) slots = c.in_ok-slots.ensures ∙ (λ j. keyed_slots (c.level_index-2.ensures j) (c.arena-2.ensures j)) in
     let moved : IsPermutation (map (keyed_at v.kept v.arena) slots) c.deref.result.now =
     subst (IsPermutation (map (keyed_at v.kept v.arena) slots)) (sym c.deref.ensures.value)
     (subst (λ (xs : List ((ℕ × ℕ) × ℕ)). IsPermutation xs c.sort_slots.new.slots.items) keyed c.sort_slots.ensures) in
     let f = c.in_ok-found.found in
-    let found : HasFound C c.args.pend c.args.round (holdings_with v.arena way.map) (asks c.args.filter.now) (map (λ (e : (ℕ × ℕ) × ℕ). id_at v.arena e.1) c.deref.result.now) f =
-    subst (λ (b : Contents). HasFound C c.args.pend c.args.round (holdings_with b way.map) (asks c.args.filter.now) (map (λ (e : (ℕ × ℕ) × ℕ). id_at b e.1) c.deref.result.now) f) c.arena-2.ensures c.in_ok-found.ensures.found in
+    let found : HasFound C c.args.pend c.args.round (holdings_with v.arena way.map) c.args.bound (map (λ (e : (ℕ × ℕ) × ℕ). id_at v.arena e.1) c.deref.result.now) f =
+    subst (λ (b : Contents). HasFound C c.args.pend c.args.round (holdings_with b way.map) c.args.bound (map (λ (e : (ℕ × ℕ) × ℕ). id_at b e.1) c.deref.result.now) f) c.arena-2.ensures c.in_ok-found.ensures.found in
     let p : RoundPart = record { expired = c.from_vec.result; excess = c.from_vec-2.result; wishes = c.from_vec-3.result; deletes = c.from_vec-4.result } in
-    all_found v lawful c.show_invariant.ensures listed C c.requires.levels c.args.pend c.args.round way c.args.filter.now c.deref.result.now moved c.requires.stored f found p (c.from_vec.ensures ∙ c.in_ok-expired.ensures.items)
+    all_found v lawful c.show_invariant.ensures listed C c.requires.levels c.args.pend c.args.round way c.args.bound c.deref.result.now moved c.requires.stored f found p (c.from_vec.ensures ∙ c.in_ok-expired.ensures.items)
     (subst (IsInOrder by_replica (λ (q : ReplicaId). q) f.excess.items) (sym c.from_vec-2.ensures) c.in_ok-sort_excess.ensures)
     (subst (IsInOrder by_pair wish_key f.wishes.items) (sym c.from_vec-3.ensures) c.in_ok-sort_wishes.ensures)
     (subst (IsInOrder by_pair delete_key f.deletes.items) (sym c.from_vec-4.ensures) c.in_ok-sort_deletes.ensures)

@@ -1,11 +1,12 @@
-use Rattle.std.proofs.Common.{◌≡◌, ◌≤◌, ◌++◌, ℕ, Some, filter, length, map, slice_get, slice_index_or, IfOk, OnOk, ◌+◌, ◌-◌, ◌*◌, ◌<◌}
-use Rattle.std.specs.List.Sorted.{IsPermutation}
-use Rattle.bm_maps.specs.SlotLists.{IsMember}
-use Rattle.bm_arena.specs.HeldMaps.{id_at}
-use Rattle.bm_levels.specs.IndexedLevels.{level_of_slot, slots_at}
-use Rattle.bm_round_scan.specs.ScannedSlots as scanned
-use Rattle.bm_round_scan.specs.WishFilters.{asks_at}
+use Rattle.std.proofs.Common.{◌≡◌, ◌++◌, map, filter, drop}
+use Rattle.bm_levels.specs.IndexedLevels.{slots_at}
+use Rattle.bm_round_scan.specs.ScannedSlots.{keyed_at, is_settled_to_scan, has_enough_pending}
 use Rattle.bm_round_scan.proofs.scanned_slots.push_settled.Given as goal
 
-abbrev pub invariant-loop-chunk : goal.invariant-loop-chunk
-invariant-loop-chunk l = ?
+-- those so far and the passing ones of the rest are all
+abbrev pub invariant-loop-member : goal.invariant-loop-member
+invariant-loop-member l =
+    let s = l.start in
+    let to_scan = is_settled_to_scan l.start.kept.now s.arena.now s.bound (has_enough_pending s.topology.now.cluster s.pend s.round s.arena.now s.pending.now) in
+    l.into.items ++ map (keyed_at l.start.kept.now s.arena.now) (filter to_scan (drop l.member-index l.members))
+    ≡ l.initial.into.items ++ map (keyed_at l.start.kept.now s.arena.now) (filter to_scan (slots_at l.start.kept.now l.level))

@@ -4,7 +4,6 @@ use Rattle.std.proofs.lemmas.List.{append-nil}
 use Rattle.bm_base.specs.declared.level.Level.TheVariants.{Highest, VeryUnderReplicated, UnderReplicated, BadlyDistributed}
 use Rattle.bm_levels.specs.IndexedLevels.{slots_at}
 use Rattle.bm_round_scan.specs.ScannedSlots.{keyed_at, is_settled_to_scan, has_enough_pending}
-use Rattle.bm_round_scan.specs.WishFilters.{asks_at}
 use Rattle.bm_round_scan.proofs.ScannedSlots.{scanned_by_level}
 use Rattle.bm_round_scan.proofs.scanned_slots.slots_to_scan.Goals as goal
 
@@ -13,7 +12,7 @@ returns c =
     let s = c.args.start.now in
     let K = s.kept.now in
     let f = keyed_at K s.arena.now in
-    let p = is_settled_to_scan K (asks_at s.filter.now K s.arena.now) (has_enough_pending s.topology.now.cluster s.pend s.round s.arena.now s.pending.now) in
+    let p = is_settled_to_scan K s.arena.now s.bound (has_enough_pending s.topology.now.cluster s.pend s.round s.arena.now s.pending.now) in
     let start : c.loop-slot.keyed.items ≡ map (keyed_at c.args.start.now.kept.now c.args.start.now.arena.now) c.args.start.now.kept.now.unsettled.slots = grind (arith, common_steps, append-nil) in
     c.in_ok-push_settled-4.ensures
     ∙ ap (λ xs. xs ++ map f (filter p (slots_at K BadlyDistributed))) (c.in_ok-push_settled-3.ensures

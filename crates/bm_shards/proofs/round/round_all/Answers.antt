@@ -6,7 +6,7 @@ use Rattle.bm_shard.specs.Seen.{Seen}
 use Rattle.bm_shards.specs.RoundWorked.{HasPart}
 use Rattle.bm_shards.specs.RoundChosen.{next_parts, HasExcess}
 use Rattle.bm_shards.proofs.Findings.{can_find, have_parts}
-use Rattle.bm_shards.proofs.Choices.{merge_always, wished_once, transfers_of_all, deletes_of_all}
+use Rattle.bm_shards.proofs.Choices.{wished_once, transfers_of_all, deletes_of_all}
 use Rattle.bm_shards.proofs.Gathered.{on_err}
 use Rattle.bm_shards.proofs.RoundsTaken.{all_counted}
 use Rattle.bm_shards.proofs.RoundEnd.{end_shards, end_up_to_date, end_took, end_held, still_are, still_held, all_still_up_to_date, still_took, all_commands}
@@ -14,9 +14,6 @@ use Rattle.bm_shards.proofs.round.round_all.Goals as goal
 
 pub find_round-requires-clause-shards : goal.find_round-requires-clause-shards
 find_round-requires-clause-shards g c = can_find c.args.topology.now.cluster c.args.last c.args.config.now.pend _ c.requires.up_to_date c.requires.rounds
-
-pub find_round-requires-clause-merge : goal.find_round-requires-clause-merge
-find_round-requires-clause-merge g c = merge_always c.args.topology.now.cluster c.args.last c.args.config.now.pend c.args.shards.now.items c.requires.shards c.requires.rounds
 
 pub find_round-requires-clause-one_wish : goal.find_round-requires-clause-one_wish
 find_round-requires-clause-one_wish g c =

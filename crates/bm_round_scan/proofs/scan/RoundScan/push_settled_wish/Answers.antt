@@ -10,7 +10,7 @@ use Rattle.bm_base.specs.Machine.Replicas.{is_draining}
 use Rattle.bm_arena.specs.Triplets.{Block, triplet_view}
 use Rattle.bm_arena.specs.Contents.{block_at}
 use Rattle.bm_levels.specs.Status.{storages_at}
-use Rattle.bm_round_scan.specs.WishFilters.{asks}
+use Rattle.bm_parts.specs.Before.{wishes_before}
 use Rattle.bm_pending.specs.RemainingTargets.{remaining_targets}
 use Rattle.bm_round_scan.specs.Requests.{wish_by}
 use Rattle.bm_round_scan.proofs.SettledBlocks.{wish_is}
@@ -47,4 +47,4 @@ returns-clause-wish c =
     ap (λ xs. option_to_list (option_and_then (λ i. wish_by C c.args.id i u.live u.drained xs (remaining_targets s.pend s.round way c.args.id)) c.in-Some.info)) c.deref-2.ensures.value
     ∙ wish_is C s.pend s.round s.arena.now way c.show_invariant.ensures c.args.id c.args.slot c.requires.slot c.requires.settled ys moved c.sort_unstable.ensures.sorted c.in-Some.info u.live u.drained (info_there o c.in-Some.info c.in-Some.ensures.info)
     (c.in_ok-usable.ensures.live ∙ ap (filter (λ s. not (is_draining C s))) c.deref.ensures.value) (c.in_ok-usable.ensures.drained ∙ ap (filter (is_draining C)) c.deref.ensures.value) in
-    subst (λ (ws : List Wish). OnOk c.push_wish.result (c.push_wish.new.into.items ≡ c.args.into.now.items ++ filter (asks s.filter.now) ws)) wish c.push_wish.ensures.wish
+    subst (λ (ws : List Wish). OnOk c.push_wish.result (c.push_wish.new.into.items ≡ c.args.into.now.items ++ wishes_before s.bound ws)) wish c.push_wish.ensures.wish

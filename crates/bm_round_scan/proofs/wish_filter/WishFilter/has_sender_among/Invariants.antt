@@ -1,9 +1,0 @@
-use Rattle.std.proofs.Common.{◌≡◌, None, true, map, ℕ, ◌+◌, ◌-◌, ◌*◌, ◌<◌, ◌≤◌, length}
-use Rattle.bm_parts.specs.AskedWishes as asked
-use Rattle.bm_place.specs.Exhausted.{is_exhausted_in}
-use Rattle.bm_arena.specs.Triplets.{triplet_view}
-use Rattle.bm_levels.specs.Status.{storages_at}
-use Rattle.bm_round_scan.proofs.wish_filter.WishFilter.has_sender_among.Given as goal
-
-abbrev pub invariant-loop-triplet : goal.invariant-loop-triplet
-invariant-loop-triplet l = ?
