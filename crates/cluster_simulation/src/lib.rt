@@ -109,7 +109,7 @@ fn say_error<R: Print + Eprint>(rt: &R, error: &Error) -> u8 {
 
 fn say_fault<R: Eprint>(rt: &R, fault: Fault) -> u8 {
     if !fault.is_closed_pipe() {
-        let _ = rt.eprintln(format_args!("cluster_simulation: {fault}"));
+        let _ = rt.eprintln(format_args!("simulate: {fault}"));
     }
     FAULTED
 }
