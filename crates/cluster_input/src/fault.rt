@@ -35,7 +35,7 @@ impl From<fsck_import::fault::Fault> for Fault {
     fn from(fault: fsck_import::fault::Fault) -> Self {
         match fault {
             fsck_import::fault::Fault::Memory => Fault::Memory,
-            fsck_import::fault::Fault::Read => Fault::Read,
+            fsck_import::fault::Fault::Read(_) => Fault::Read,
             other => Fault::Text(other),
         }
     }

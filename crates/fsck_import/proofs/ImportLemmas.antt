@@ -18,16 +18,16 @@ use Rattle.fsck_import.proofs.TextBlocks.{writes_text}
 
 pub table_output : (f : Fault) → IsTableFault f → IsOutputFault f
 table_output (fault.Refused unread) h = h
-table_output fault.Read h = h
-table_output fault.Write h = tt
+table_output (fault.Read error) h = h
+table_output (fault.Write error) h = tt
 table_output fault.Table h = tt
 table_output fault.Memory h = tt
 table_output fault.LongReport h = tt
 
 pub write_output : (f : Fault) → IsWriteFault f → IsOutputFault f
 write_output (fault.Refused unread) h = h
-write_output fault.Read h = h
-write_output fault.Write h = tt
+write_output (fault.Read error) h = h
+write_output (fault.Write error) h = tt
 write_output fault.Table h = tt
 write_output fault.Memory h = tt
 write_output fault.LongReport h = tt
@@ -40,8 +40,8 @@ each_known (Some text) h p = h text p
 read_run : (f : Fault) (outcome : Result Reading Unread) → IsReadFault f outcome → IsRunFault f outcome
 read_run (fault.Refused unread) outcome h = h
 read_run fault.Memory outcome h = tt
-read_run fault.Read outcome h = tt
-read_run fault.Write outcome h = absurd h
+read_run (fault.Read error) outcome h = tt
+read_run (fault.Write error) outcome h = absurd h
 read_run fault.Table outcome h = absurd h
 read_run fault.LongReport outcome h = absurd h
 
@@ -51,9 +51,9 @@ reading_refuses f start known = each_known known (λ text h. read_run f (reading
 -- a fault of writing is one of a run on a text that is taken
 output_run : (f : Fault) (outcome : Result Reading Unread) → IsOk outcome → IsOutputFault f → IsRunFault f outcome
 output_run (fault.Refused unread) outcome taken h = absurd h
-output_run fault.Read outcome taken h = absurd h
+output_run (fault.Read error) outcome taken h = absurd h
 output_run fault.Memory outcome taken h = tt
-output_run fault.Write outcome taken h = taken
+output_run (fault.Write error) outcome taken h = taken
 output_run fault.Table outcome taken h = taken
 output_run fault.LongReport outcome taken h = taken
 
@@ -66,24 +66,24 @@ output_refuses f start read known read_is h = each_known known (λ text e. outpu
 -- an unchanged writer was not written to
 pub unwritten : {W : Type 0} (f : Fault) (w : W) → WritesNoLine f w w
 unwritten (fault.Refused unread) w = refl
-unwritten fault.Read w = refl
+unwritten (fault.Read error) w = refl
 unwritten fault.Table w = refl
-unwritten fault.Write w = tt
+unwritten (fault.Write error) w = tt
 unwritten fault.Memory w = tt
 unwritten fault.LongReport w = tt
 
 pub write_lines : {W : Type 0} (f : Fault) (old new : W) → IsWriteFault f → WritesNoLine f old new
 write_lines (fault.Refused unread) old new h = absurd h
-write_lines fault.Read old new h = absurd h
+write_lines (fault.Read error) old new h = absurd h
 write_lines fault.Table old new h = absurd h
-write_lines fault.Write old new h = tt
+write_lines (fault.Write error) old new h = tt
 write_lines fault.Memory old new h = tt
 write_lines fault.LongReport old new h = tt
 
 pub output_writes : {W : Type 0} (f : Fault) (old new : W) → IsOutputFault f → WritesNothing f old new
 output_writes (fault.Refused unread) old new h = absurd h
-output_writes fault.Read old new h = absurd h
-output_writes fault.Write old new h = tt
+output_writes (fault.Read error) old new h = absurd h
+output_writes (fault.Write error) old new h = tt
 output_writes fault.Table old new h = tt
 output_writes fault.Memory old new h = tt
 output_writes fault.LongReport old new h = tt

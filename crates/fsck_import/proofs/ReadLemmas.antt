@@ -45,8 +45,8 @@ reads_line o left rest old line e taken dropped empty some =
 pub still_refused : {A B : Type 0} (f : Fault) (g : A → Result B Unread) (r : Result A Unread) → IsReadFault f r → IsReadFault f (after_ok g r)
 still_refused (fault.Refused unread) g r h = ap (after_ok g) h
 still_refused fault.Memory g r h = h
-still_refused fault.Read g r h = h
-still_refused fault.Write g r h = h
+still_refused (fault.Read error) g r h = h
+still_refused (fault.Write error) g r h = h
 still_refused fault.Table g r h = h
 still_refused fault.LongReport g r h = h
 

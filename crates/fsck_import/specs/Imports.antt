@@ -57,7 +57,7 @@ pub record WritesFiles (text : Text) (start : Reading) (old new : Option Text) :
 -- a refusal is the one of the first refused line; a fault of writing needs an accepted text
 abbrev pub IsRunFault : Fault → Result Reading Unread → Type 0
 IsRunFault (fault.Refused unread) outcome = outcome ≡ Err unread
-IsRunFault fault.Write outcome = IsOk outcome
+IsRunFault (fault.Write error) outcome = IsOk outcome
 IsRunFault fault.Table outcome = IsOk outcome
 IsRunFault fault.LongReport outcome = IsOk outcome
 IsRunFault _ outcome = ⊤
@@ -69,12 +69,12 @@ IsFaultOfRun start f known = IfSome known (λ text. IsRunFault f (reading_of sta
 -- a run that ends while it reads leaves the destination of a table unchanged
 abbrev pub WritesNothing : {W : Type 0} → Fault → W → W → Type 0
 WritesNothing (fault.Refused unread) old new = new ≡ old
-WritesNothing fault.Read old new = new ≡ old
+WritesNothing (fault.Read error) old new = new ≡ old
 WritesNothing _ old new = ⊤
 
 -- it leaves the writer of lines unchanged, and so does a run that cannot write a table
 abbrev pub WritesNoLine : {W : Type 0} → Fault → W → W → Type 0
 WritesNoLine (fault.Refused unread) old new = new ≡ old
-WritesNoLine fault.Read old new = new ≡ old
+WritesNoLine (fault.Read error) old new = new ≡ old
 WritesNoLine fault.Table old new = new ≡ old
 WritesNoLine _ old new = ⊤

@@ -45,8 +45,8 @@ module _ {T : Type 0} (after : T → Text → Result T Cause) where
 abbrev pub IsReadFault : {A : Type 0} → Fault → Result A Unread → Type 0
 IsReadFault (fault.Refused unread) outcome = outcome ≡ Err unread
 IsReadFault fault.Memory outcome = ⊤
-IsReadFault fault.Read outcome = ⊤
-IsReadFault fault.Write outcome = ⊥
+IsReadFault (fault.Read error) outcome = ⊤
+IsReadFault (fault.Write error) outcome = ⊥
 IsReadFault fault.Table outcome = ⊥
 IsReadFault fault.LongReport outcome = ⊥
 

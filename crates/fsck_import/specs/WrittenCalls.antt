@@ -37,18 +37,18 @@ pub record WritesCalls (calls : List Call) (old new : Option Text) : Type 0 wher
 -- a fault of writing: out of memory, a failed write, or a line that would be too long
 abbrev pub IsWriteFault : Fault → Type 0
 IsWriteFault (fault.Refused unread) = ⊥
-IsWriteFault fault.Read = ⊥
+IsWriteFault (fault.Read error) = ⊥
 IsWriteFault fault.Table = ⊥
 IsWriteFault _ = ⊤
 
 -- a fault of a table: a failed write, or a file that cannot be opened or written
 abbrev pub IsTableFault : Fault → Type 0
-IsTableFault fault.Write = ⊤
+IsTableFault (fault.Write error) = ⊤
 IsTableFault fault.Table = ⊤
 IsTableFault _ = ⊥
 
 -- a fault of a table or of the lines
 abbrev pub IsOutputFault : Fault → Type 0
 IsOutputFault (fault.Refused unread) = ⊥
-IsOutputFault fault.Read = ⊥
+IsOutputFault (fault.Read error) = ⊥
 IsOutputFault _ = ⊤

@@ -32,7 +32,7 @@ impl<W: Write> Destination for Stream<W> {
     fn put(&mut self, table: &str) -> Result<(), Fault> {
         match self.writer.write_all(table.as_bytes()) {
             Ok(()) => Ok(()),
-            Err(_) => Err(Fault::Write),
+            Err(error) => Err(Fault::Write(error)),
         }
     }
 }

@@ -2,8 +2,9 @@
 use fsck_cluster::NodeWhy;
 use fsck_text::{Reason, Wrong, column_of};
 use std::alloc::{AllocError, Global};
-use std::fmt;
+use std::io::ErrorKind;
 use std::marker::Model;
+use std::{fmt, io};
 use thiserror::Error;
 
 /// A word that cannot be parsed, and its first column, in bytes from 1. An empty word is the end of
@@ -102,11 +103,11 @@ pub struct Unread {
 pub enum Fault {
     #[error("memory fault")]
     Memory,
-    #[error("read fault")]
-    Read,
+    #[error("read fault: {0}")]
+    Read(io::Error),
     /// A write or the flush failed.
-    #[error("write fault")]
-    Write,
+    #[error("write fault: {0}")]
+    Write(io::Error),
     /// The file for a table could not be opened or written.
     #[error("a table cannot be written")]
     Table,
@@ -115,6 +116,13 @@ pub enum Fault {
     /// A report is longer than a line of the tool may be.
     #[error("a storage has too many replicas for one report: ./puljemrod report has no such limit")]
     LongReport,
+}
+
+impl Fault {
+    /// Whether the reader of the output has closed it, so that no message is needed.
+    pub fn is_closed_pipe(&self) -> bool {
+        matches!(self, Fault::Write(error) if error.kind() == ErrorKind::BrokenPipe)
+    }
 }
 
 impl From<AllocError> for Fault {

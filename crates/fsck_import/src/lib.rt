@@ -24,9 +24,9 @@ use import::{Notes, import};
 use options::{Asked, asked_by};
 use std::alloc::Global;
 use std::fs::File;
-use std::io;
-use std::io::{BufReader, BufWriter};
+use std::io::{BufReader, BufWriter, Read};
 use std::rt::Files;
+use std::{fmt, io};
 use text_reader::{Reading, read_nodes};
 
 const DONE: u8 = 0;
@@ -58,14 +58,23 @@ pub fn import_by_words<R: Input + Print + Eprint + Files + AllocGlobal, N: Print
 /// Prints why there is no run.
 fn say_error<R: Print + Eprint>(rt: &R, error: &Error) -> u8 {
     if matches!(error.kind(), ErrorKind::OutOfMemory) {
-        return say_fault(rt, Fault::Memory);
+        return say_fault(rt, &Fault::Memory);
     }
     let _ = error.print(rt);
     if error.use_stderr() { MISUSED } else { DONE }
 }
 
-fn say_fault<R: Eprint>(rt: &R, fault: Fault) -> u8 {
-    let _ = rt.eprintln(format_args!("{PROGRAM}: {fault}"));
+/// Prints why a run ended early; nothing if the reader of the output went away.
+fn say_fault<R: Eprint>(rt: &R, fault: &Fault) -> u8 {
+    if !fault.is_closed_pipe() {
+        let _ = rt.eprintln(format_args!("{PROGRAM}: {fault}"));
+    }
+    FAULTED
+}
+
+/// Prints why a file was not read.
+fn say_file_fault<R: Eprint, E: fmt::Display>(rt: &R, path: &str, why: &E) -> u8 {
+    let _ = rt.eprintln(format_args!("{PROGRAM}: {path}: {why}"));
     FAULTED
 }
 
@@ -79,21 +88,18 @@ fn run_status<R: Input + Print + Eprint + Files + AllocGlobal, N: Print>(
     let Some(path) = asked.nodes else {
         return run_from(rt, notes, asked, Cluster::new(alloc));
     };
-    match nodes_in(rt, path) {
+    let file = match File::open(rt, path) {
+        Ok(file) => file,
+        Err(error) => return say_file_fault(rt, path, &error),
+    };
+    match nodes_in(alloc, file) {
         Ok(nodes) => run_from(rt, notes, asked, nodes),
-        Err(fault) => {
-            let _ = rt.eprintln(format_args!("{PROGRAM}: {path}: {fault}"));
-            FAULTED
-        }
+        Err(fault) => say_file_fault(rt, path, &fault),
     }
 }
 
 /// The nodes of a report in a file.
-fn nodes_in<R: Files + AllocGlobal>(rt: &R, path: &str) -> Result<Cluster, Fault> {
-    let alloc: Global = rt.alloc();
-    let Ok(file) = File::open(rt, path) else {
-        return Err(Fault::Read);
-    };
+fn nodes_in<F: Read + Drop>(alloc: Global, file: F) -> Result<Cluster, Fault> {
     let Ok(mut reader) = BufReader::new(alloc, file) else {
         return Err(Fault::Memory);
     };
@@ -139,7 +145,7 @@ fn said<R: Eprint>(rt: &R, asked: &Asked<'_>, ended: Result<Notes, Fault>) -> u8
             DONE
         }
         Err(Fault::Table) => FAULTED,
-        Err(fault) => say_fault(rt, fault),
+        Err(fault) => say_fault(rt, &fault),
     }
 }
 

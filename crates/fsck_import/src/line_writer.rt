@@ -32,7 +32,7 @@ pub fn write_flushed<W: Write>(
     write_after(alloc, writer, cluster)?;
     match writer.flush() {
         Ok(()) => Ok(()),
-        Err(_) => Err(Fault::Write),
+        Err(error) => Err(Fault::Write(error)),
     }
 }
 
@@ -333,7 +333,7 @@ fn write_call<W: Write>(alloc: Global, writer: &mut W, call: &Call) -> Result<()
     let line = make_line(alloc, call)?;
     match writer.write_all(line.as_bytes()) {
         Ok(()) => Ok(()),
-        Err(_) => Err(Fault::Write),
+        Err(error) => Err(Fault::Write(error)),
     }
 }
 

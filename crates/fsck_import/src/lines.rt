@@ -35,14 +35,14 @@ pub fn take_lines<R: BufRead, T: TakesLines>(
         match reader.read_until(b'\n', &mut line) {
             Ok(0) => return Ok(number),
             Ok(_) => {}
-            Err(error) => return Err(read_fault(&error)),
+            Err(error) => return Err(read_fault(error)),
         }
         let text = without_end(line.as_slice());
         if let Err(fault) = take_numbered(taker, alloc, number, text) {
             return Err(fault);
         }
     }
-    Err(Fault::Read)
+    Err(Fault::Read(io::Error::from(ErrorKind::FileTooLarge)))
 }
 
 /// Takes a line. A refusal has its number.
@@ -89,12 +89,12 @@ fn without_return(line: &str) -> &str
 }
 
 /// The fault of a failed read: out of memory, or a read error.
-fn read_fault(error: &io::Error) -> Fault
-    ensures { (result ≡ Fault.Memory) ⊎ (result ≡ Fault.Read) }
+fn read_fault(error: io::Error) -> Fault
+    ensures { (result ≡ Fault.Memory) ⊎ (result ≡ Fault.Read error) }
 {
     if error.kind() == ErrorKind::OutOfMemory {
         Fault::Memory
     } else {
-        Fault::Read
+        Fault::Read(error)
     }
 }
