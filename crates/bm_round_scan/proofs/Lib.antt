@@ -18,3 +18,4 @@ pub mod EnoughPending
 pub mod AllFindings
 pub mod AbsentNumbers
 pub mod TwoSorts
+pub mod Senders

@@ -1,18 +1,30 @@
-use Rattle.std.proofs.Common.{rules, ◌≡◌, None, true, map, ℕ, ◌+◌, ◌-◌, ◌*◌, ◌<◌, ◌≤◌, length, ◌/◌, ◌%◌, Bool, false, nat_eq, nat_lt, List, [], ◌∷◌, ◌++◌, slice_index_or, slice_set, bit_and, bit_or, Fits, w8, w32, w64, Bor, MutBor}
-use Rattle.bm_parts.specs.AskedWishes as asked
+use Rattle.std.proofs.Common.{◌≡◌, ◌+◌, ◌∷◌, drop, refl, sym, ap, ◌∙◌}
+use Rattle.std.proofs.lemmas.List.{at_drop_more, at_drop_all}
+use Rattle.bm_parts.specs.AskedWishes.{has_sender}
 use Rattle.bm_place.specs.Exhausted.{is_exhausted_in}
-use Rattle.bm_arena.specs.Triplets.{triplet_view}
-use Rattle.bm_levels.specs.Status.{storages_at}
+use Rattle.bm_round_scan.proofs.Senders.{one_sends, one_gone}
 use Rattle.bm_round_scan.proofs.wish_filter.WishFilter.has_sender.Goals as goal
 
--- src/wish_filter.rt:58:9
 pub loop-storage-init : goal.loop-storage-init
-loop-storage-init c = ?
+loop-storage-init c = refl
 
--- src/wish_filter.rt:58:9
+pub returns-then-not-is_exhausted : goal.returns-then-not-is_exhausted
+returns-then-not-is_exhausted c =
+    let gone = is_exhausted_in c.args.self.now.exhausted in
+    let xs = c.args.storages.now in
+    let i = c.loop-storage.storage-index in
+    let x = c.storage-item.result in
+    sym (c.loop-storage.invariant ∙ at_drop_more (has_sender gone) xs i x c.loop-storage-test.true ∙ ap (λ y. has_sender gone (y ∷ drop (i + 1) xs)) (sym c.storage-item.is) ∙ one_sends gone x (drop (i + 1) xs) (sym c.is_exhausted.ensures ∙ c.if-not-is_exhausted.true))
+
 pub loop-storage-preserved : goal.loop-storage-preserved
-loop-storage-preserved c = ?
+loop-storage-preserved c =
+    let gone = is_exhausted_in c.args.self.now.exhausted in
+    let xs = c.args.storages.now in
+    let i = c.loop-storage.storage-index in
+    let x = c.storage-item.result in
+    c.loop-storage.invariant ∙ at_drop_more (has_sender gone) xs i x c.loop-storage-test.true ∙ ap (λ y. has_sender gone (y ∷ drop (i + 1) xs)) (sym c.storage-item.is) ∙ one_gone gone x (drop (i + 1) xs) (sym c.is_exhausted.ensures ∙ c.if-not-is_exhausted.false)
 
--- src/wish_filter.rt:54:5
 pub returns : goal.returns
-returns c = ?
+returns c =
+    let gone = is_exhausted_in c.args.self.now.exhausted in
+    sym (c.loop-storage.invariant ∙ at_drop_all (has_sender gone) c.args.storages.now c.loop-storage.storage-index c.loop-storage-test.false)

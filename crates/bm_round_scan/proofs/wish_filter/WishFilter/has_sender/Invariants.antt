@@ -1,9 +1,8 @@
-use Rattle.std.proofs.Common.{◌≡◌, None, true, map, ℕ, ◌+◌, ◌-◌, ◌*◌, ◌<◌, ◌≤◌, length}
-use Rattle.bm_parts.specs.AskedWishes as asked
+use Rattle.std.proofs.Common.{◌≡◌, drop}
+use Rattle.bm_parts.specs.AskedWishes.{has_sender}
 use Rattle.bm_place.specs.Exhausted.{is_exhausted_in}
-use Rattle.bm_arena.specs.Triplets.{triplet_view}
-use Rattle.bm_levels.specs.Status.{storages_at}
 use Rattle.bm_round_scan.proofs.wish_filter.WishFilter.has_sender.Given as goal
 
+-- the rest decides
 abbrev pub invariant-loop-storage : goal.invariant-loop-storage
-invariant-loop-storage l = ?
+invariant-loop-storage l = has_sender (is_exhausted_in l.self.exhausted) l.storages ≡ has_sender (is_exhausted_in l.self.exhausted) (drop l.storage-index l.storages)
