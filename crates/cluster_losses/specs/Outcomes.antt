@@ -6,7 +6,7 @@ use Rattle.cluster_lost.specs.Losses.{after_losses, lost_blocks}
 use Rattle.cluster_report.specs.Levels.{levels_counted}
 use Rattle.cluster_report.specs.Reports.{levels_held}
 use Rattle.cluster_losses.specs.Lacking.{lacking_bytes, in_128_bits, free_for_copies}
-use Rattle.cluster_losses.specs.declared.counts.Standing.{Standing}
+use Rattle.cluster_losses.specs.declared.standing.Standing.{Standing}
 use Rattle.cluster_losses.specs.declared.without.Outcome.{Outcome}
 
 -- The counts of a state: blocks at each level, missing blocks, bytes of the copies that blocks

@@ -3,7 +3,6 @@
 //! Each rack or each node can be lost alone, and comes back before the next.
 #![tactic(auto)]
 
-pub mod counts;
 pub mod each;
 pub mod events;
 pub mod fault;
@@ -13,4 +12,5 @@ pub mod loss_events;
 mod named;
 mod parts;
 mod set_back;
+pub mod standing;
 pub mod without;

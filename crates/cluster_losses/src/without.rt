@@ -5,8 +5,8 @@ ghost use Rattle.cluster_lost.specs.Losses.{are_losses, after_losses};
 ghost use Rattle.cluster_report.specs.Sessions.{IsInStep};
 ghost use Rattle.cluster_losses.specs.Outcomes.{IsOutcome};
 
-use crate::counts::{Standing, standing_of};
 use crate::events::apply_all;
+use crate::standing::{Standing, standing_of};
 use bm_base::{BlockId, Event, Items, Refusal};
 use cluster_lost::lost_blocks;
 use cluster_report::session::Session;

@@ -7,7 +7,7 @@ use Rattle.cluster_names.specs.declared.names.Names.{Names}
 use Rattle.cluster_losses.specs.declared.each.Row.{Row}
 use Rattle.cluster_losses.specs.declared.loss.Kind.{Kind}
 use Rattle.cluster_losses.specs.declared.loss.Kind.TheVariants.{Rack}
-use Rattle.cluster_losses.specs.declared.counts.Standing.{Standing}
+use Rattle.cluster_losses.specs.declared.standing.Standing.{Standing}
 use Rattle.cluster_losses.specs.declared.without.Outcome.{Outcome}
 use Rattle.cluster_what_if.specs.Columns.{number_in, word_in, word_first, level_heads, level_numbers}
 use Rattle.cluster_what_if.specs.Text.{yes_or_no}

@@ -10,7 +10,7 @@ use Rattle.cluster_report.specs.declared.levels.LevelCounts.{LevelCounts}
 use Rattle.cluster_pages.specs.Text.{file_line}
 use Rattle.cluster_pages.specs.declared.at_risk.FileRow.{FileRow}
 use Rattle.cluster_losses.specs.declared.loss_events.Lost.{Lost}
-use Rattle.cluster_losses.specs.declared.counts.Standing.{Standing}
+use Rattle.cluster_losses.specs.declared.standing.Standing.{Standing}
 use Rattle.cluster_what_if.specs.declared.answers.Answer.{Answer}
 
 -- a node that is lost or drained, with its rack

@@ -5,7 +5,7 @@ ghost use Rattle.cluster_report.specs.Sessions.{IsInStep};
 ghost use Rattle.cluster_what_if.specs.Answers.{IsAnswer};
 
 use bm_base::{Event, Refusal};
-use cluster_losses::counts::{Standing, standing_of};
+use cluster_losses::standing::{Standing, standing_of};
 use cluster_losses::without::{Outcome, without};
 use cluster_names::Files;
 use cluster_pages::at_risk::{AtRisk, files_at_risk};

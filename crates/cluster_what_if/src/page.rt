@@ -5,7 +5,7 @@ use crate::page_rounds::{write_mended, write_mended_facts};
 use crate::page_table::write_table_page;
 use crate::text::fits_word;
 use bm_base::BlockId;
-use cluster_losses::counts::Standing;
+use cluster_losses::standing::Standing;
 use cluster_names::{Files, Names};
 use cluster_pages::page_frame::{write_foot, write_head};
 use cluster_pages::page_parts::{

@@ -1,6 +1,6 @@
 use Rattle.std.proofs.Common.{◌≡◌, ◌≤◌, ◌*◌, take, sum_by}
 use Rattle.cluster_losses.specs.Lacking.{free_on}
-use Rattle.cluster_losses.proofs.counts.free_bytes.Given as goal
+use Rattle.cluster_losses.proofs.standing.free_bytes.Given as goal
 
 abbrev pub invariant-loop-storage : goal.invariant-loop-storage
 invariant-loop-storage l = record {
