@@ -22,17 +22,17 @@ use std::alloc::{AllocError, Global};
 /// Chooses what a round commands from what the shards found.
 ///
 /// Transfers: wish by wish, by level and then by block, each once for each missing copy. Each goes
-/// from the least source to the least target where both exist; at most `work` times the number of alive
-/// nodes. Deletes: for each node the first `invalidate` on its storages, by storage and then by
-/// block. Deletes on storages outside the cluster are ignored.
+/// from the least source to the least target where both exist. There are at most `work` times the
+/// number of alive nodes. Deletes: for each node the first `invalidate` on its storages, by storage
+/// and then by block. Deletes on storages outside the cluster are ignored.
 ///
 /// Each part is sorted, and no block has two wishes in all parts together. `Memory` where a list
 /// cannot grow; nothing else is refused.
 ///
 /// Merging n wishes or deletes of k parts compares each about log k times. Each missing copy
 /// costs a scan of the block's live and drained replicas and, if one may be the source, of one
-/// storage of each node. It costs nothing once the round is full. Each delete is scanned once, with two
-/// binary searches where the one before it was on another storage. Without wishes, or without
+/// storage of each node. It costs nothing once the round is full. Each delete is scanned once, with
+/// two binary searches where the one before it was on another storage. Without wishes, or without
 /// deletes, no table of nodes or storages is made for them.
 pub fn choose(
     alloc: Global,

@@ -14,8 +14,8 @@ use bm_topo::Topology;
 
 impl<'a> RoundScan<'a> {
     /// Whether a transfer to the block at a slot stays pending, and with the pending ones at least
-    /// the wanted number of replicas are live. A settled block has no wish then, at whichever level.
-    /// Its replicas are scanned only if a transfer is pending. Takes no memory.
+    /// the wanted number of replicas are live. A settled block has no wish then, at any level. Its
+    /// replicas are scanned only if a transfer is pending. Takes no memory.
     pub(crate) fn has_enough_pending(&self, slot: Slot, id: BlockId) -> bool
         requires { id ≡ id_at self.now.arena.now slot }
         ensures { result
