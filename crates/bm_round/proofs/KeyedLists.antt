@@ -15,10 +15,6 @@ use Rattle.bm_parts.specs.Merging.{AreSorted}
 use Rattle.bm_parts.proofs.SortedLists.{sorted_is_ordered}
 use Rattle.bm_round.specs.KeyedParts.{keyed_wish, keyed_deletes}
 
-pub map_append : {X Y : Type 0} (g : X → Y) (xs ys : List X) → map g (xs ++ ys) ≡ map g xs ++ map g ys
-map_append g [] ys = refl
-map_append g (x ∷ xs) ys = ap (λ zs. g x ∷ zs) (map_append g xs ys)
-
 -- A list in the order of its keys is ascending in them.
 
 module _ {K X : Type 0} (o : Order K) (key : X → K) where

@@ -33,10 +33,6 @@ neither_less Less = refl
 neither_less Equal = refl
 neither_less Greater = refl
 
-pub map_itself : {X : Type 0} (xs : List X) → map (λ x. x) xs ≡ xs
-map_itself [] = refl
-map_itself (x ∷ xs) = ap (λ ys. x ∷ ys) (map_itself xs)
-
 or_none : {Y : Type 0} (a : Option Y) → option_or a None ≡ a
 or_none None = refl
 or_none (Some y) = refl
