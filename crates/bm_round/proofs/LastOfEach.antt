@@ -17,13 +17,8 @@ use Rattle.bm_base.specs.Maps.OfSorted.{of_sorted}
 use Rattle.bm_base.specs.Ordered.{pair_cmp, ordered_by}
 use Rattle.bm_base.proofs.MapEntries.{same_key}
 use Rattle.bm_base.proofs.MapLaws.{same_map, get-insert, get-empty}
-use Rattle.bm_base.proofs.Ties.{number_tie}
+use Rattle.bm_base.proofs.Ties.{number_tie, then_tie}
 use Rattle.bm_base.proofs.OfSorted.{entries-of_sorted, get-of_sorted}
-
-then_tie : (r s : Ordering) → is_eq (ordering_then r s) ≡ (is_eq r && is_eq s)
-then_tie Less s = refl
-then_tie Equal s = refl
-then_tie Greater s = refl
 
 pub pair_tie : (p q : ℕ × ℕ) → ((p.0 == q.0) && (p.1 == q.1)) ≡ eq_by_cmp pair_cmp p q
 pair_tie p q = (λ i. sym (number_tie p.0 q.0) i && sym (number_tie p.1 q.1) i) ∙ sym (then_tie (nat_cmp p.0 q.0) (nat_cmp p.1 q.1))
