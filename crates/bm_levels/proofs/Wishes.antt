@@ -33,9 +33,9 @@ module _ (K : IndexedLevels) (listed : (l : Level) → AreSlotsAt K l (slots_at 
       among_right slot (slots_at K Highest) first (among_right slot (slots_at K VeryUnderReplicated) second (among_right slot (slots_at K UnderReplicated) (slots_at K BadlyDistributed) ((listed BadlyDistributed slot).1 at)))
   in_list slot NoUsableReplica at wishes = absurd (true≢false (sym wishes))
 
-  wishing : (slot : ℕ) (o : Option Level) → level_of_slot K slot ≡ o → needs_copies o ≡ true → IsMember slot (slots_needing_copies K)
-  wishing slot None at wishes = absurd (true≢false (sym wishes))
-  wishing slot (Some l) at wishes = in_list slot l at wishes
+  needing_copies : (slot : ℕ) (o : Option Level) → level_of_slot K slot ≡ o → needs_copies o ≡ true → IsMember slot (slots_needing_copies K)
+  needing_copies slot None at wishes = absurd (true≢false (sym wishes))
+  needing_copies slot (Some l) at wishes = in_list slot l at wishes
 
   -- such a slot has one of the four levels
   level_in : (slot : ℕ) → IsMember slot (slots_needing_copies K)
@@ -58,7 +58,7 @@ module _ (K : IndexedLevels) (listed : (l : Level) → AreSlotsAt K l (slots_at 
       | inl a ↦ ap needs_copies a
       | inr g ↦ elim g [ inl b ↦ ap needs_copies b | inr f ↦ elim f [ inl d ↦ ap needs_copies d | inr e ↦ ap needs_copies e ] ]
     ],
-    wishing slot (level_of_slot K slot) refl,
+    needing_copies slot (level_of_slot K slot) refl,
   )
 
   -- a slot has one level

@@ -168,7 +168,7 @@ impl LevelIndex {
         ensures listed { (level : Level) → AreSlotsAt self.now level (slots_at self.now level) }
         ensures once { (level : Level) → Distinct (slots_at self.now level) }
         ensures unsettled { Distinct self.now.unsettled.slots }
-        ensures wishing { NeedCopies self.now (slots_needing_copies self.now) }
+        ensures needing_copies { NeedCopies self.now (slots_needing_copies self.now) }
         ensures needing_copies_once { Distinct (slots_needing_copies self.now) }
     {
         self.levels.show_invariant();

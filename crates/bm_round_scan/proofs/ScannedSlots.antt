@@ -83,16 +83,16 @@ module _ (f : ℕ → ℕ) where
 -- The slots that a round scans.
 
 -- a block of which copies are wished for has a level
-level_wishing : (o : Option Level) → needs_copies o ≡ true → (l : Level) × (o ≡ Some l)
-level_wishing None e = absurd (true≢false (sym e))
-level_wishing (Some l) e = (l, refl)
+level_needing_copies : (o : Option Level) → needs_copies o ≡ true → (l : Level) × (o ≡ Some l)
+level_needing_copies None e = absurd (true≢false (sym e))
+level_needing_copies (Some l) e = (l, refl)
 
-wishing_at : (l : Level) → l ≢ NoUsableReplica → needs_copies (Some l) ≡ true
-wishing_at Highest wanted = refl
-wishing_at VeryUnderReplicated wanted = refl
-wishing_at UnderReplicated wanted = refl
-wishing_at BadlyDistributed wanted = refl
-wishing_at NoUsableReplica wanted = absurd (wanted refl)
+needs_copies_at : (l : Level) → l ≢ NoUsableReplica → needs_copies (Some l) ≡ true
+needs_copies_at Highest wanted = refl
+needs_copies_at VeryUnderReplicated wanted = refl
+needs_copies_at UnderReplicated wanted = refl
+needs_copies_at BadlyDistributed wanted = refl
+needs_copies_at NoUsableReplica wanted = absurd (wanted refl)
 
 latter : (s t : Bool) → (s && t) ≡ true → t ≡ true
 latter true t e = e
@@ -105,7 +105,7 @@ former false t e = absurd (true≢false (sym e))
 -- the properties of the sets of slots
 pub record AreListed (K : IndexedLevels) : Type 0 where
   pub unsettled : Distinct K.unsettled.slots
-  pub wishing : NeedCopies K (slots_needing_copies K)
+  pub needing_copies : NeedCopies K (slots_needing_copies K)
   pub once : Distinct (slots_needing_copies K)
 
 module _ (K : IndexedLevels) (is : AreListed K) where
@@ -140,7 +140,7 @@ module _ (K : IndexedLevels) (is : AreListed K) where
         elim (cases_Bool (has u slot)) [
           | inl there ↦ unsettled_scanned slot (has_among u slot there)
           | inr none ↦
-              among_right slot u settled (among_passing to_scan slot (slots_needing_copies K) ((is.wishing slot).1 (ap needs_copies at ∙ wishing_at l wanted))
+              among_right slot u settled (among_passing to_scan slot (slots_needing_copies K) ((is.needing_copies slot).1 (ap needs_copies at ∙ needs_copies_at l wanted))
               (and_from (is_before bound (key_at K a slot)) (not (has u slot) && not (has_enough slot)) early (and_from (not (has u slot)) (not (has_enough slot)) (ap not none) (ap not lacks))))
         ]
 
@@ -149,7 +149,7 @@ module _ (K : IndexedLevels) (is : AreListed K) where
     scanned_is slot h =
         elim (Among-append slot u settled h) [
           | inl loose ↦ inl loose
-          | inr wishing ↦ inr (level_wishing (level_of_slot K slot) ((is.wishing slot).0 (among_filtered to_scan slot (slots_needing_copies K) wishing).0))
+          | inr needing_copies ↦ inr (level_needing_copies (level_of_slot K slot) ((is.needing_copies slot).0 (among_filtered to_scan slot (slots_needing_copies K) needing_copies).0))
         ]
 
 module _ (v : Leveled) (lawful : IsLawful v.arena) (leveled : IsLeveled v) (is : AreListed v.kept) (bound : Option (ℕ × ℕ)) (has_enough : ℕ → Bool) where

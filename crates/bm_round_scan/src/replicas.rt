@@ -33,8 +33,8 @@ pub(crate) fn fill_at_round_start(
         (excess_reset (replicas_at arena.now slot)) into.new.items) }
 {
     into.clear();
-    for place in 0..arena.triplet_count(slot) {
-        if let Some((storage, marks)) = arena.triplet_at(slot, place) {
+    for at in 0..arena.triplet_count(slot) {
+        if let Some((storage, marks)) = arena.triplet_at(slot, at) {
             into.push((storage, marks.with_excess_reset()))?;
         }
     }
@@ -49,10 +49,10 @@ pub(crate) fn mark_on(replicas: &mut Vec<(StorageId, Marks)>, excess: &[StorageI
     ensures { replicas.new.items ≡ marked_on excess.now replicas.old.items }
 {
     let mut near = 0;
-    for place in 0..replicas.len() {
-        let (storage, marks) = replicas[place];
+    for at in 0..replicas.len() {
+        let (storage, marks) = replicas[at];
         let is_excess = contains_near(excess, storage, &mut near);
-        replicas[place] = (storage, marked_if(is_excess, marks));
+        replicas[at] = (storage, marked_if(is_excess, marks));
     }
 }
 
@@ -168,7 +168,7 @@ fn is_missing_at(storages: &[StorageId], storage: StorageId, at: usize) -> bool
 /// The index that a binary search returns, found or not.
 fn index_found(found: &Result<usize, usize>) -> usize {
     match found {
-        Ok(place) => *place,
-        Err(place) => place.wrapping_sub(1),
+        Ok(index) => *index,
+        Err(index) => index.wrapping_sub(1),
     }
 }

@@ -21,7 +21,7 @@ scan_all-requires-clause-known c slot there =
     let C = c.args.topology.now.cluster in
     let way = c.args.pending.now in
     let lawful : IsLawful v.arena = subst IsLawful c.arena.ensures c.show_invariant-2.ensures in
-    let listed : AreListed v.kept = subst AreListed c.level_index.ensures (record { unsettled = c.show_invariant-3.ensures.unsettled; wishing = c.show_invariant-3.ensures.wishing; once = c.show_invariant-3.ensures.needing_copies_once }) in
+    let listed : AreListed v.kept = subst AreListed c.level_index.ensures (record { unsettled = c.show_invariant-3.ensures.unsettled; needing_copies = c.show_invariant-3.ensures.needing_copies; once = c.show_invariant-3.ensures.needing_copies_once }) in
     let slots = scanned_slots v.kept v.arena c.args.bound (has_enough_pending C c.args.pend c.args.round v.arena way) in
     let keyed_slots : IndexedLevels → Contents → List ((ℕ × ℕ) × ℕ) = λ K a. map (keyed_at K a) (scanned_slots K a c.args.bound (has_enough_pending C c.args.pend c.args.round a way)) in
     let keyed : c.in_ok-slots.slots.items ≡ map (keyed_at v.kept v.arena) slots = c.in_ok-slots.ensures ∙ (λ j. keyed_slots (c.level_index-2.ensures j) (c.arena-2.ensures j)) in
@@ -41,7 +41,7 @@ returns-clause-part c =
     let C = c.args.topology.now.cluster in
     let way = c.args.pending.now in
     let lawful : IsLawful v.arena = subst IsLawful c.arena.ensures c.show_invariant-2.ensures in
-    let listed : AreListed v.kept = subst AreListed c.level_index.ensures (record { unsettled = c.show_invariant-3.ensures.unsettled; wishing = c.show_invariant-3.ensures.wishing; once = c.show_invariant-3.ensures.needing_copies_once }) in
+    let listed : AreListed v.kept = subst AreListed c.level_index.ensures (record { unsettled = c.show_invariant-3.ensures.unsettled; needing_copies = c.show_invariant-3.ensures.needing_copies; once = c.show_invariant-3.ensures.needing_copies_once }) in
     let slots = scanned_slots v.kept v.arena c.args.bound (has_enough_pending C c.args.pend c.args.round v.arena way) in
     let keyed_slots : IndexedLevels → Contents → List ((ℕ × ℕ) × ℕ) = λ K a. map (keyed_at K a) (scanned_slots K a c.args.bound (has_enough_pending C c.args.pend c.args.round a way)) in
     let keyed : c.in_ok-slots.slots.items ≡ map (keyed_at v.kept v.arena) slots = c.in_ok-slots.ensures ∙ (λ j. keyed_slots (c.level_index-2.ensures j) (c.arena-2.ensures j)) in

@@ -15,19 +15,19 @@ one_put : (xs ys rs rest : List (ℕ × Marks)) (s : ℕ) (u m : Marks) → rs �
 one_put xs ys rs rest s u m here reset is =
     ap (λ zs. zs ++ excess_reset rest) (is ∙ ap (λ v. xs ++ (s, v) ∷ []) reset) ∙ append_assoc xs ((s, with_excess_reset m) ∷ []) (excess_reset rest) ∙ ap (λ zs. xs ++ excess_reset zs) (sym here)
 
-pub loop-place-preserved : goal.loop-place-preserved
-loop-place-preserved c =
+pub loop-at-preserved : goal.loop-at-preserved
+loop-at-preserved c =
     let o = block_at c.args.arena.now c.args.slot in
     elim c.match-triplet_at.branch [
       | in-Some+in_ok-push w ↦
-          one_put c.loop-place.into.items _ _ _ _ _ _ (next_at o c.loop-place.place _ (sym w.in-Some.ensures)) w.with_excess_reset.ensures (ap (λ v. v.items) w.into-is ∙ w.in_ok-push.ensures.items) ∙ c.loop-place.invariant
-      | in_default w ↦ absurd (none_at o c.loop-place.place (sym w.in_default.ensures) (omega (arith, c.loop-place-test.true, c.triplet_count-place-end.ensures)))
+          one_put c.loop-at.into.items _ _ _ _ _ _ (next_at o c.loop-at.at _ (sym w.in-Some.ensures)) w.with_excess_reset.ensures (ap (λ v. v.items) w.into-is ∙ w.in_ok-push.ensures.items) ∙ c.loop-at.invariant
+      | in_default w ↦ absurd (none_at o c.loop-at.at (sym w.in_default.ensures) (omega (arith, c.loop-at-test.true, c.triplet_count-at-end.ensures)))
     ]
 
 pub returns : goal.returns
 returns c =
-    let past = end_at (block_at c.args.arena.now c.args.slot) c.loop-place.place (omega (arith, c.loop-place-test.false, c.triplet_count-place-end.ensures)) in
-    let filled = sym (append-nil c.loop-place.into.items) ∙ ap (λ rs. c.loop-place.into.items ++ excess_reset rs) (sym past) ∙ c.loop-place.invariant in
+    let past = end_at (block_at c.args.arena.now c.args.slot) c.loop-at.at (omega (arith, c.loop-at-test.false, c.triplet_count-at-end.ensures)) in
+    let filled = sym (append-nil c.loop-at.into.items) ∙ ap (λ rs. c.loop-at.into.items ++ excess_reset rs) (sym past) ∙ c.loop-at.invariant in
     record {
       permutation = subst (λ rs. IsPermutation rs c.sort_unstable_by_key.new.self.items) filled c.sort_unstable_by_key.ensures.permutation;
       sorted = c.sort_unstable_by_key.ensures.sorted (λ (r : ℕ × Marks). r.0) (answers_always _ _ _ (λ f a r g h. search rules));
