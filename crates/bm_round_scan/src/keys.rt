@@ -1,11 +1,9 @@
 // The keys of slots: the level of the block, and its number.
-ghost use Rattle.std.specs.Prelude.{◌≡◌, Some};
+ghost use Rattle.std.specs.Prelude.{◌≡◌};
 ghost use Rattle.bm_parts.specs.Before as before;
-ghost use Rattle.bm_levels.specs.IndexedLevels as level_index;
 ghost use Rattle.bm_round_scan.specs.ScannedSlots as scanned;
 
 use bm_arena::{Arena, Slot};
-use bm_base::Level;
 use bm_levels::LevelIndex;
 use bm_parts::merge::Key;
 
@@ -21,14 +19,6 @@ pub(crate) fn key_of(kept: &LevelIndex, arena: &Arena, slot: Slot) -> Key
         None => NO_LEVEL,
     };
     (level as u64, arena.number_of(slot).0)
-}
-
-/// The same for a known level, so that only the number is read.
-pub(crate) fn key_at_level(_kept: &LevelIndex, arena: &Arena, slot: Slot, level: Level) -> Key
-    requires { level_index.level_of_slot _kept.now slot ≡ Some level }
-    ensures { result ≡ scanned.key_at _kept.now arena.now slot }
-{
-    (level.number() as u64, arena.number_of(slot).0)
 }
 
 /// Whether a key comes before a bound, if there is one.

@@ -1,15 +1,20 @@
 // The slots that a round scans.
-ghost use Rattle.std.specs.Prelude.{◌≡◌, ◌++◌, filter, map, IfOk, OnOk};
+ghost use Rattle.std.specs.Prelude.{◌≡◌, ◌≤◌, ◌++◌, ℕ, Some, filter, length, map, slice_get, slice_index_or, IfOk, OnOk};
 ghost use Rattle.std.specs.List.Sorted.{IsPermutation};
-ghost use Rattle.bm_levels.specs.IndexedLevels.{slots_at};
+ghost use Rattle.bm_maps.specs.SlotLists.{IsMember};
+ghost use Rattle.bm_arena.specs.HeldMaps.{id_at};
+ghost use Rattle.bm_levels.specs.IndexedLevels.{level_of_slot, slots_at};
 ghost use Rattle.bm_round_scan.specs.ScannedSlots as scanned;
 
-use crate::keys::{is_before, key_at_level, key_of};
+use crate::keys::{is_before, key_of};
 use crate::scan::RoundScan;
-use bm_arena::Slot;
+use bm_arena::{Arena, Slot};
 use bm_base::{BlockId, Level};
 use bm_parts::merge::Key;
 use std::alloc::{AllocError, Global};
+
+/// The number of slots in a chunk.
+const CHUNK: usize = 64;
 
 /// The unsettled slots, and the settled ones before the bound at a level at which copies are wanted
 /// that lack pending transfers; each of them once, with its key.
@@ -34,8 +39,7 @@ pub(crate) fn slots_to_scan(
     Ok(keyed)
 }
 
-/// Appends the settled slots of a level that come before the bound and lack pending transfers. The
-/// bound is compared first: mostly few slots come before it.
+/// Appends the settled slots of a level that come before the bound and lack pending transfers.
 fn push_settled(
     start: &RoundScan,
     level: Level,
@@ -48,18 +52,57 @@ fn push_settled(
         (scanned.has_enough_pending start.now.topology.now.cluster start.now.pend start.now.round
         start.now.arena.now start.now.pending.now)) (slots_at start.now.kept.now level))) }
 {
-    let members = start.kept.at_level(level);
-    for member in members {
+    for chunk in start.kept.at_level(level).chunks(CHUNK) {
+        push_settled_chunk(start, level, chunk, into)?;
+    }
+    Ok(())
+}
+
+/// The same for a chunk of the slots of a level. The bound is compared first: mostly few slots come
+/// before it.
+fn push_settled_chunk(
+    start: &RoundScan,
+    level: Level,
+    chunk: &[u32],
+    into: &mut Vec<(Key, Slot)>,
+) -> Result<(), AllocError>
+    requires few { length chunk.now ≤ 64 }
+    requires level { (slot : ℕ) → IsMember slot chunk.now
+        → level_of_slot start.now.kept.now slot ≡ Some level }
+    ensures { OnOk result (into.new.items ≡ into.old.items
+        ++ map (scanned.keyed_at start.now.kept.now start.now.arena.now)
+        (filter
+        (scanned.is_settled_to_scan start.now.kept.now start.now.arena.now start.now.bound
+        (scanned.has_enough_pending start.now.topology.now.cluster start.now.pend start.now.round
+        start.now.arena.now start.now.pending.now)) chunk.now)) }
+{
+    let numbers = read_numbers(start.arena, chunk);
+    for (index, member) in chunk.iter().enumerate() {
         let slot = *member as usize;
-        let key = key_at_level(start.kept, start.arena, slot, level);
+        let id = numbers[index];
+        let key = (level.number() as u64, id.0);
         if is_before(start.bound, key)
             && start.is_settled(slot)
-            && !start.has_enough_pending(slot, BlockId(key.1))
+            && !start.has_enough_pending(slot, id)
         {
             into.push((key, slot))?;
         }
     }
     Ok(())
+}
+
+/// The numbers of the blocks at the slots of a chunk. All are read before one is compared, so that
+/// the cache misses overlap.
+fn read_numbers(arena: &Arena, chunk: &[u32]) -> [BlockId; CHUNK]
+    requires { length chunk.now ≤ 64 }
+    ensures { (i slot : ℕ) → slice_get chunk.now i ≡ Some slot
+        → slice_index_or result i 0 ≡ id_at arena.now slot }
+{
+    let mut numbers = [BlockId(0); CHUNK];
+    for (index, slot) in chunk.iter().enumerate() {
+        numbers[index] = arena.number_of(*slot as usize);
+    }
+    numbers
 }
 
 /// Sorts slots by their keys, the order of the wishes.

@@ -29,8 +29,9 @@ pub(crate) struct FoundRound {
     pub choice: ChosenCommands,
 }
 
-/// Collects each shard's part and chooses from them. Asks first for the wishes up to a bound; if
-/// the round is not full after that, asks for all. No shard changes.
+/// Collects each shard's part and chooses from them. Asks first for the wishes up to a bound. While
+/// the round is not full after that, asks for those up to a later bound, and at last for all. No
+/// shard changes.
 pub(crate) fn find_round<W: Workers>(
     alloc: Global,
     workers: &W,
@@ -52,14 +53,14 @@ pub(crate) fn find_round<W: Workers>(
         f.choice) }
     ensures refused { IfErr result (λ e. e ≡ Memory) }
 {
-    let bound = bound_of_shards(shards.as_slice(), config, topology)?;
-    let parts = find_parts(alloc, workers, shards, round, topology, bound)?;
-    let choice = choose_commands(alloc, parts.as_slice(), config, round, topology)?;
-    if is_of_all(&choice.chosen, bound, topology, config) {
-        return Ok(FoundRound { parts, choice });
+    for wishes in WISHES_PER_TRANSFER {
+        let bound = bound_of_shards(shards.as_slice(), config, topology, wishes)?;
+        let parts = find_parts(alloc, workers, shards, round, topology, bound)?;
+        let choice = choose_commands(alloc, parts.as_slice(), config, round, topology)?;
+        if is_of_all(&choice.chosen, bound, topology, config) {
+            return Ok(FoundRound { parts, choice });
+        }
     }
-    drop(choice);
-    drop(parts);
     let parts = find_parts(alloc, workers, shards, round, topology, None)?;
     let choice = choose_commands(alloc, parts.as_slice(), config, round, topology)?;
     Ok(FoundRound { parts, choice })
@@ -101,25 +102,28 @@ fn find_parts<W: Workers>(
     gather_answers(found, shards, answers)
 }
 
-/// The number of wishes asked for first, for each transfer that a round may have. Some find no
+/// The numbers of wishes asked for in turn, for each transfer that a round may have. Some find no
 /// source, since in the end few nodes may still send a copy. With uniform nodes, a round uses 3 to
-/// 5 wishes for each of its last transfers.
-const WISHES_PER_TRANSFER: u64 = 7;
+/// 5 wishes for each of its last transfers. More are used if the most urgent blocks are on few
+/// nodes.
+const WISHES_PER_TRANSFER: [u64; 3] = [7, 56, 448];
 
 /// The number of blocks, of all shards together, that are sampled to guess the bound.
 const SAMPLES: usize = 1_024;
 
-/// A bound before which the shards are likely to have more wishes than a round may have transfers.
+/// A bound before which the shards are likely to have this number of wishes for each transfer that
+/// a round may have.
 fn bound_of_shards(
     shards: &[(u32, Shard)],
     config: &Config,
     topology: &Topology,
+    wishes: u64,
 ) -> Result<Option<Key>, Refusal>
     ensures refused { IfErr result (λ e. e ≡ Memory) }
 {
     let transfers = u64::from(config.work).saturating_mul(u64::from(topology.alive_nodes()));
     let shard_count = shards.len().max(1);
-    let of_each = transfers.saturating_mul(WISHES_PER_TRANSFER) / shard_count as u64;
+    let of_each = transfers.saturating_mul(wishes) / shard_count as u64;
     let samples = SAMPLES / shard_count;
     let mut bound = None;
     for shard in shards {

@@ -8,7 +8,7 @@ use cluster_report::levels::LevelCounts;
 use std::alloc::{AllocError, Global};
 
 /// There are at most this number of rows: before one more comes, every second goes.
-const MOST_KEPT: usize = 256;
+const MOST_KEPT: usize = 64;
 
 /// The counts after a round.
 #[derive(Clone, Copy)]
