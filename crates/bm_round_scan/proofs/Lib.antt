@@ -8,6 +8,7 @@ pub mod SortedElements
 pub mod CollectedFindings
 pub mod BlockFindings
 pub mod PassingElements
+pub mod PassingSlots
 pub mod Permutations
 pub mod NextBlock
 pub mod ScannedSlots

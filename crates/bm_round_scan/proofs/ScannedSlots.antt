@@ -31,7 +31,7 @@ distinct_appended [] ys d e apart = e
 distinct_appended (x ∷ xs) ys d e apart =
     (λ h. elim (Among-append x xs ys h) [ inl l ↦ d.0 l | inr r ↦ apart x (inl refl) r ], distinct_appended xs ys d.1 e (λ z h. apart z (inr h)))
 
-among_right : (x : ℕ) (xs ys : List ℕ) → IsMember x ys → IsMember x (xs ++ ys)
+pub among_right : (x : ℕ) (xs ys : List ℕ) → IsMember x ys → IsMember x (xs ++ ys)
 among_right x [] ys h = h
 among_right x (z ∷ zs) ys h = inr (among_right x zs ys h)
 

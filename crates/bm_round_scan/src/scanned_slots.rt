@@ -1,5 +1,5 @@
 // The slots that a round scans.
-ghost use Rattle.std.specs.Prelude.{◌≡◌, ◌≤◌, ◌++◌, ℕ, Some, filter, length, map, slice_get, slice_index_or, IfOk, OnOk};
+ghost use Rattle.std.specs.Prelude.{◌≡◌, ◌≤◌, ◌++◌, ◌∷◌, [], ℕ, Some, filter, length, map, slice_get, IfOk, OnOk};
 ghost use Rattle.std.specs.List.Sorted.{IsPermutation};
 ghost use Rattle.bm_maps.specs.SlotLists.{IsMember};
 ghost use Rattle.bm_arena.specs.HeldMaps.{id_at};
@@ -58,8 +58,7 @@ fn push_settled(
     Ok(())
 }
 
-/// The same for a chunk of the slots of a level. The bound is compared first: mostly few slots come
-/// before it.
+/// The same for a chunk of the slots of a level.
 fn push_settled_chunk(
     start: &RoundScan,
     level: Level,
@@ -77,16 +76,36 @@ fn push_settled_chunk(
         start.now.arena.now start.now.pending.now)) chunk.now)) }
 {
     let numbers = read_numbers(start.arena, chunk);
-    for (index, member) in chunk.iter().enumerate() {
-        let slot = *member as usize;
-        let id = numbers[index];
-        let key = (level.number() as u64, id.0);
-        if is_before(start.bound, key)
-            && start.is_settled(slot)
-            && !start.has_enough_pending(slot, id)
-        {
-            into.push((key, slot))?;
-        }
+    for (index, slot) in chunk.iter().enumerate() {
+        push_if_settled(start, level, *slot as usize, numbers[index], into)?;
+    }
+    Ok(())
+}
+
+/// The same for one slot, whose block has this number. The bound is compared first: mostly few
+/// slots come before it.
+fn push_if_settled(
+    start: &RoundScan,
+    level: Level,
+    slot: Slot,
+    id: BlockId,
+    into: &mut Vec<(Key, Slot)>,
+) -> Result<(), AllocError>
+    requires level { level_of_slot start.now.kept.now slot ≡ Some level }
+    requires id { id ≡ id_at start.now.arena.now slot }
+    ensures { OnOk result (into.new.items ≡ into.old.items
+        ++ map (scanned.keyed_at start.now.kept.now start.now.arena.now)
+        (filter
+        (scanned.is_settled_to_scan start.now.kept.now start.now.arena.now start.now.bound
+        (scanned.has_enough_pending start.now.topology.now.cluster start.now.pend start.now.round
+        start.now.arena.now start.now.pending.now)) (slot ∷ []))) }
+{
+    let key = (level.number() as u64, id.0);
+    if is_before(start.bound, key)
+        && start.is_settled(slot)
+        && !start.has_enough_pending(slot, id)
+    {
+        into.push((key, slot))?;
     }
     Ok(())
 }
@@ -96,7 +115,7 @@ fn push_settled_chunk(
 fn read_numbers(arena: &Arena, chunk: &[u32]) -> [BlockId; CHUNK]
     requires { length chunk.now ≤ 64 }
     ensures { (i slot : ℕ) → slice_get chunk.now i ≡ Some slot
-        → slice_index_or result i 0 ≡ id_at arena.now slot }
+        → slice_get result i ≡ Some (id_at arena.now slot) }
 {
     let mut numbers = [BlockId(0); CHUNK];
     for (index, slot) in chunk.iter().enumerate() {

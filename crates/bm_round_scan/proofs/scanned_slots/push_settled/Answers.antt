@@ -1,9 +1,22 @@
-use Rattle.std.proofs.Common.{get_or}
-use Rattle.bm_queues.proofs.Indices.{among_at}
+use Rattle.std.proofs.Common.{sym, subst, ◌∙◌}
+use Rattle.std.specs.Slice.Iter.{chunks_rest}
+use Rattle.bm_maps.specs.SlotLists.{IsMember}
+use Rattle.bm_arena.proofs.Replicas.{Among-left}
+use Rattle.bm_round_scan.proofs.PassingSlots.{passing_on}
+use Rattle.bm_round_scan.proofs.ScannedSlots.{among_right}
 use Rattle.bm_round_scan.proofs.scanned_slots.push_settled.Goals as goal
 
-pub key_at_level-key-requires : goal.key_at_level-key-requires
-key_at_level-key-requires c =
-    let members = c.at_level-members.result.now in
-    let i = c.loop-member.member-index in
-    (c.at_level-members.ensures.exact (get_or members i 0)).0 (among_at members i c.loop-member-test.true)
+pub push_settled_chunk-requires-clause-level : goal.push_settled_chunk-requires-clause-level
+push_settled_chunk-requires-clause-level c slot among =
+    c.loop-chunk.invariant.level slot (subst (IsMember slot) (sym c.in-Some.ensures.steps.1.0) (Among-left slot c.in-Some.chunk.now (chunks_rest c.next.new.self) among))
+
+pub loop-chunk-preserved : goal.loop-chunk-preserved
+loop-chunk-preserved c =
+    let chunk = c.in-Some.chunk.now in
+    let left = chunks_rest c.next.new.self in
+    let whole = c.in-Some.ensures.steps.1.0 in
+    record {
+      finite = tt;
+      level = λ slot among. c.loop-chunk.invariant.level slot (subst (IsMember slot) (sym whole) (among_right slot chunk left among));
+      all = passing_on _ _ c.loop-chunk.into.items _ chunk left _ c.in_ok-push_settled_chunk.ensures whole ∙ c.loop-chunk.invariant.all;
+    }
