@@ -53,8 +53,8 @@ pub(crate) fn find_round<W: Workers>(
         f.choice) }
     ensures refused { IfErr result (λ e. e ≡ Memory) }
 {
-    for wishes in WISHES_PER_TRANSFER {
-        let bound = bound_of_shards(shards.as_slice(), config, topology, wishes)?;
+    for wishes in &WISHES_PER_TRANSFER {
+        let bound = bound_of_shards(shards.as_slice(), config, topology, *wishes)?;
         let parts = find_parts(alloc, workers, shards, round, topology, bound)?;
         let choice = choose_commands(alloc, parts.as_slice(), config, round, topology)?;
         if is_of_all(&choice.chosen, bound, topology, config) {
