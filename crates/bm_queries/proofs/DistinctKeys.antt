@@ -14,6 +14,7 @@ use Rattle.bm_base.specs.Maps.Conjunction.{both}
 use Rattle.bm_base.specs.Maps.Map.{Order}
 use Rattle.bm_base.proofs.ForEach.{Each, each_appended}
 use Rattle.bm_parts.specs.Found.{IsGathered}
+use Rattle.bm_parts.proofs.EqualLists.{gathered_alike}
 use Rattle.bm_parts.proofs.Filters.{all_each}
 
 lesser : (r : Ordering) → is_eq r ≡ false → is_lt (ordering_reverse r) ≡ false → r ≡ Less
@@ -73,11 +74,11 @@ module _ {K X : Type 0} (o : Order K) (key : X → K) where
   sorted_ascends xs ys apart moved sorted =
       keyed_ascend ys (strictly ys sorted (IsDistinct-IsPermutation (eq_by_cmp o.cmp) (eq_by_cmp_equiv o.total).symm (map key xs) (map key ys) (IsPermutation-map key xs ys moved) (apart_distinct xs apart)))
 
-  -- a gathered list with different keys, sorted
-  pub gathered_sorted : (P : X → Type 0) (xs ys : List X) → AreApart xs → Each P xs → ((x : X) → P x → list_any (λ y. eq_by_cmp o.cmp (key x) (key y)) xs ≡ true) → IsPermutation xs ys → IsSortedByKey key o.cmp ys
-      → IsGathered o key P ys
-  gathered_sorted P xs ys apart only all moved sorted = record {
+  -- such a list of all elements with a property, of which a key determines one, sorted
+  pub sorted_alike : (P : X → Type 0) → ((x y : X) → P x → P y → key x ≡ key y → x ≡ y) → (xs ys zs : List X) → AreApart xs → Each P xs → ((x : X) → P x → list_any (λ y. eq_by_cmp o.cmp (key x) (key y)) xs ≡ true) → IsPermutation xs ys
+      → IsSortedByKey key o.cmp ys → IsGathered o key P zs → ys ≡ zs
+  sorted_alike P one xs ys zs apart only all moved sorted listed = gathered_alike o key P one ys zs (record {
     rises = sorted_ascends xs ys apart moved sorted;
     only = All-permutation P xs ys moved (all_each P xs only);
     all = λ x is. sym (list_any-IsPermutation (λ y. eq_by_cmp o.cmp (key x) (key y)) xs ys moved) ∙ all x is;
-  }
+  }) listed

@@ -23,10 +23,9 @@ use Rattle.bm_parts.specs.QueryLaws.{replica_key}
 use Rattle.bm_parts.proofs.Filters.{any_shown, all_each, filter_all}
 use Rattle.std.proofs.lemmas.Simd.{map-map}
 use Rattle.bm_parts.proofs.JoinedReplicas.{listed_ascends}
-use Rattle.bm_parts.proofs.EqualLists.{gathered_alike}
 use Rattle.bm_levels.specs.IndexedLevels.{indexed_slots}
 use Rattle.bm_queries.specs.Listed.{replica_view, listed_at, listed_on, replicas_passing}
-use Rattle.bm_queries.proofs.DistinctKeys.{AreApart, IsNew, apart_append, gathered_sorted}
+use Rattle.bm_queries.proofs.DistinctKeys.{AreApart, IsNew, apart_append, sorted_alike}
 use Rattle.bm_queries.proofs.GatheredReplicas.{those}
 use Rattle.bm_queries.proofs.IndexedSlots.{IsOwn, led_once, led_own, has_led}
 
@@ -164,10 +163,6 @@ module _ (p : Marks → Bool) (a : Contents) (lawful : IsLawful a) where
       ∙ marks_pass (λ (r : ℕ × Marks). p r.1 && test (replica_view b.id r)) b.replicas x.storage is.0 marks
       (and_from (p is.0) (test (replica_view b.id (x.storage, is.0))) is.2 (ap (λ k. eq_by_cmp replica_cmp (replica_key x) (replica_at k x.storage)) f.3 ∙ key_itself by_replica (replica_key x))))
 
-  pub gathered_replicas : (ys : List Replica) → IsPermutation (listed_on p a (indexed_slots a)) ys → IsSortedByKey replica_key replica_cmp ys → IsGathered by_replica replica_key IsIn ys
-  gathered_replicas ys moved sorted =
-      gathered_sorted by_replica replica_key IsIn (listed_on p a (indexed_slots a)) ys (apart_on (indexed_slots a) (led_once a lawful) (led_own a lawful)) (only_on (indexed_slots a) (led_own a lawful)) all_on moved sorted
-
 module _ (p : Marks → Bool) (m : Map by_replica Marks) where
   abbrev as_replica : ReplicaId × Marks → Replica
   as_replica e = record { block = e.0.block; storage = e.0.storage; tag = e.1.tag }
@@ -202,7 +197,10 @@ module _ (p : Marks → Bool) (m : Map by_replica Marks) where
 -- the replicas found at the slots, sorted
 pub sorted_replicas : (p : Marks → Bool) (a : Contents) → IsLawful a → (ys : List Replica) → IsPermutation (listed_on p a (indexed_slots a)) ys → IsSortedByKey replica_key replica_cmp ys → ys ≡ replicas_passing p (replicas_of a)
 sorted_replicas p a lawful ys moved sorted =
-    gathered_alike by_replica replica_key (IsListed p (replicas_of a)) (one_replica p (replicas_of a)) ys (replicas_passing p (replicas_of a)) (gathered_replicas p a lawful ys moved sorted) (passing_gathered p (replicas_of a))
+    let m = replicas_of a in
+    let slots = indexed_slots a in
+    let own = led_own a lawful in
+    sorted_alike by_replica replica_key (IsListed p m) (one_replica p m) (listed_on p a slots) ys (replicas_passing p m) (apart_on p a lawful slots (led_once a lawful) own) (only_on p a lawful slots own) (all_on p a lawful) moved sorted (passing_gathered p m)
 
 pub all_passing : (m : Map by_replica Marks) → replicas_passing (λ _. true) m ≡ map (λ (e : ReplicaId × Marks). record { block = e.0.block; storage = e.0.storage; tag = e.1.tag }) (entries m)
 all_passing m = ap (map (λ (e : ReplicaId × Marks). record { block = e.0.block; storage = e.0.storage; tag = e.1.tag })) (filter_all (entries m))

@@ -26,12 +26,11 @@ use Rattle.bm_arena.specs.HeldMaps.{info_at, blocks_of, id_at}
 use Rattle.bm_arena.proofs.HeldReplicas.{get-blocks_of}
 use Rattle.bm_parts.specs.Found.{IsGathered}
 use Rattle.bm_parts.proofs.Filters.{any_shown, all_each, filter_all}
-use Rattle.bm_parts.proofs.EqualLists.{gathered_alike}
 use Rattle.bm_parts.proofs.JoinedReplicas.{listed_ascends}
 use Rattle.bm_levels.specs.IndexedLevels.{indexed_slots}
 use Rattle.bm_levels.specs.Held.{holdings_with}
 use Rattle.bm_queries.specs.Listed.{known_on, with_slot}
-use Rattle.bm_queries.proofs.DistinctKeys.{AreApart, IsNew, gathered_sorted}
+use Rattle.bm_queries.proofs.DistinctKeys.{AreApart, IsNew, sorted_alike}
 use Rattle.bm_queries.proofs.IndexedSlots.{IsOwn, led_once, led_own, has_led}
 use Rattle.bm_queries.proofs.Numbers.{any_same}
 use Rattle.bm_queries.proofs.OwnBlocks.{led_to, id_found, one_slot}
@@ -139,8 +138,7 @@ module _ (a : Contents) (lawful : IsLawful a) where
   -- the blocks found at the slots, sorted
   pub sorted_blocks : (ys : List (ℕ × ℕ)) → IsPermutation (known_on a (indexed_slots a)) ys → IsSortedByKey number nat_cmp ys → ys ≡ map (with_slot a) (keys (blocks_of a))
   sorted_blocks ys moved sorted =
-      gathered_alike by_number number IsKnown one_known ys (map (with_slot a) (keys (blocks_of a)))
-      (gathered_sorted by_number number IsKnown (known_on a (indexed_slots a)) ys (known_apart (indexed_slots a) (led_once a lawful) (led_own a lawful)) only_known all_known moved sorted) listed_known
+      sorted_alike by_number number IsKnown one_known (known_on a (indexed_slots a)) ys (map (with_slot a) (keys (blocks_of a))) (known_apart (indexed_slots a) (led_once a lawful) (led_own a lawful)) only_known all_known moved sorted listed_known
 
   -- each slot is that of its number
   pub slots_found : All (λ (p : ℕ × ℕ). slot_of a p.0 ≡ Some p.1) (map (with_slot a) (keys (blocks_of a)))

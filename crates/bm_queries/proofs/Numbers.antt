@@ -18,9 +18,8 @@ use Rattle.bm_base.proofs.ListTests.{any_agree, same_again}
 use Rattle.bm_base.proofs.MapEntries.{not_tied}
 use Rattle.bm_base.proofs.Ties.{number_tie}
 use Rattle.bm_parts.proofs.Filters.{all_each}
-use Rattle.bm_parts.proofs.EqualLists.{gathered_alike}
 use Rattle.bm_levels.proofs.EqualLists.{among_has}
-use Rattle.bm_queries.proofs.DistinctKeys.{AreApart, gathered_sorted}
+use Rattle.bm_queries.proofs.DistinctKeys.{AreApart, sorted_alike}
 
 abbrev pub Rise : List ℕ → Type 0
 Rise xs = T (is_sorted nat_cmp (map (λ n. (n, n)) xs))
@@ -76,6 +75,5 @@ any_same x xs = any_agree (λ y. eq_by_cmp nat_cmp x y) (λ y. y == x) (λ y. nu
 pub same_numbers : (xs ys zs : List ℕ) → Distinct xs → ((x : ℕ) → IsMember x xs → has zs x ≡ true) → ((x : ℕ) → has zs x ≡ true → IsMember x xs) → IsPermutation xs ys → IsSortedByKey (λ (n : ℕ). n) nat_cmp ys → Rise zs → ys ≡ zs
 same_numbers xs ys zs once only all moved sorted rise =
     let P : ℕ → Type 0 = λ x. has zs x ≡ true in
-    gathered_alike by_number (λ (n : ℕ). n) P (λ _ _ _ _ same. same) ys zs
-    (gathered_sorted by_number (λ (n : ℕ). n) P xs ys (numbers_apart xs once) (each_of_them P xs only) (λ x is. any_same x xs ∙ among_has xs x (all x is)) moved sorted)
+    sorted_alike by_number (λ (n : ℕ). n) P (λ _ _ _ _ same. same) xs ys zs (numbers_apart xs once) (each_of_them P xs only) (λ x is. any_same x xs ∙ among_has xs x (all x is)) moved sorted
     (record { rises = rise; only = all_each P zs (each_has P zs (λ x t. t)); all = λ x is. any_same x zs ∙ is })

@@ -4,9 +4,8 @@ ghost use Rattle.bm_base.specs.declared.refusal.Refusal.TheVariants.{Memory};
 ghost use Rattle.bm_base.specs.Words.{Map, by_replica};
 ghost use Rattle.bm_arena.specs.Contents.{block_at};
 ghost use Rattle.bm_parts.specs.QueryLaws.{replica_key};
-ghost use Rattle.bm_levels.specs.IndexedLevels.{indexed_slots};
 ghost use Rattle.bm_levels.specs.Held.{holdings_with};
-ghost use Rattle.bm_queries.specs.Listed.{wants, listed_at, listed_on, replicas_passing};
+ghost use Rattle.bm_queries.specs.Listed.{wants, listed_at, replicas_passing};
 
 use bm_arena::{Arena, Slot};
 use bm_base::{Marks, Refusal, Replica, ReplicaId};
@@ -60,22 +59,6 @@ fn push_replicas(
     Ok(())
 }
 
-/// The replicas of the given kind, in the order of the arena.
-fn gather(alloc: Global, arena: &Arena, wanted: ReplicaFilter) -> Result<Vec<Replica>, Refusal>
-    ensures items { IfOk result
-        (λ v. v.items ≡ listed_on (wants wanted) arena.now (indexed_slots arena.now)) }
-    ensures refused { IfErr result (λ e. e ≡ Memory) }
-{
-    arena.show_invariant();
-    let mut all = Vec::new(alloc);
-    for index in 0..arena.count() {
-        if let Some(slot) = arena.slot_at(index) {
-            push_replicas(arena, slot, wanted, &mut all)?;
-        }
-    }
-    Ok(all)
-}
-
 /// The block and the storage of a replica.
 pub fn replica_key(replica: &Replica) -> ReplicaId
     ensures { result ≡ replica_key replica.now }
@@ -111,7 +94,12 @@ pub fn list_replicas(
 {
     let arena = blocks.arena();
     arena.show_invariant();
-    let mut all = gather(alloc, arena, wanted)?;
+    let mut all = Vec::new(alloc);
+    for index in 0..arena.count() {
+        if let Some(slot) = arena.slot_at(index) {
+            push_replicas(arena, slot, wanted, &mut all)?;
+        }
+    }
     all.sort_by_key(|replica| replica_key(replica))?;
     Ok(all)
 }

@@ -36,7 +36,7 @@ module _ {K X : Type 0} (o : Order K) (key : X → K) where
   unfolding entries
   list_sorted m = m.sorted
 
-  ordered_ascends : (xs : List X) → T (is_sorted o.cmp (map (λ x. (key x, x)) (ordered_by o key xs)))
+  pub ordered_ascends : (xs : List X) → T (is_sorted o.cmp (map (λ x. (key x, x)) (ordered_by o key xs)))
   unfolding ordered_by
   ordered_ascends xs =
       let m : Map o X = insert_all (empty {X = X} {o = o}) (map (λ x. (key x, x)) xs) in

@@ -1,12 +1,14 @@
 -- The sorted list of all shards' elements is the list of their joint holdings.
-use Rattle.std.proofs.Common.{◌≡◌, ℕ, suc, ◌≤◌, true, false, List, [], ◌∷◌, ◌++◌, map, flat_map, length, Ordering, Less, Equal, Greater, refl, sym, ap, subst, ◌∙◌, arith, eqb-true, T}
+use Rattle.std.proofs.Common.{◌≡◌, ℕ, suc, ◌≤◌, true, false, List, [], ◌∷◌, map, flat_map, length, take, Ordering, Less, Equal, Greater, refl, sym, ap, subst, ◌∙◌, arith, eqb-true, T}
 use Rattle.std.specs.Prelude.{◌==◌}
 use Rattle.std.specs.Ordering.{is_lt, is_eq, eq_by_cmp}
-use Rattle.std.specs.FinMap.{put, is_sorted}
-use Rattle.std.specs.FinMap.Entries.{below_all, by_order}
+use Rattle.std.specs.FinMap.{is_sorted}
+use Rattle.std.specs.FinMap.Entries.{below_all}
 use Rattle.std.specs.List.Sorted.{IsPermutation, IsSortedByKey}
+use Rattle.std.proofs.lemmas.List.{take_all}
+use Rattle.std.proofs.lemmas.List.Folds.{flat_map-map}
 use Rattle.bm_base.specs.Maps.Conjunction.{first, second}
-use Rattle.bm_base.specs.Words.{Map, Order, entries, empty, insert, insert_all, Holdings}
+use Rattle.bm_base.specs.Words.{Order, Holdings}
 use Rattle.bm_base.specs.Ordered.{ordered_by}
 use Rattle.bm_base.specs.Shards.{shard_of, cut}
 use Rattle.bm_base.proofs.ForEach.{Each, each_then, each_appended}
@@ -14,12 +16,13 @@ use Rattle.bm_base.proofs.MapEntries.{not_tied}
 use Rattle.bm_parts.specs.Whole.{parts, whole_of, AreOwn}
 use Rattle.bm_parts.proofs.WholeParts.{whole_has_its_parts}
 use Rattle.bm_parts.proofs.SortedLists.{sorted_is_ordered}
+use Rattle.bm_round.proofs.KeyedLists.{ordered_ascends}
 use Rattle.bm_queries.proofs.DistinctKeys.{IsNew, AreApart, apart_append, sorted_ascends}
 use Rattle.bm_shard.specs.Seen.{Seen}
-use Rattle.bm_shards.specs.Whole.{parts_of, held_by, AreShards}
+use Rattle.bm_shards.specs.Whole.{Whole, parts_of, held_by, AreShards}
 use Rattle.bm_shards.proofs.SameShards.{count_of}
 
--- A list that is ordered by keys has elements with different keys.
+-- A list with ascending keys has elements with different keys.
 
 untied : (r : Ordering) → T (is_lt r) → is_eq r ≡ false
 untied Less h = refl
@@ -27,35 +30,13 @@ untied Equal h = absurd h
 untied Greater h = absurd h
 
 module _ {K X : Type 0} (o : Order K) (key : X → K) where
-  abbrev HasItsKey : K × X → Type 0
-  HasItsKey e = key e.1 ≡ e.0
+  others : (k : K) (xs : List X) → T (below_all o.cmp k (map (λ x. (key x, x)) xs)) → Each (λ y. eq_by_cmp o.cmp k (key y) ≡ false) xs
+  others k [] h = tt
+  others k (x ∷ xs) h = (untied (o.cmp k (key x)) (first _ _ h), others k xs (second _ _ h))
 
-  keyed_by : (v : X) (e : K × X) (es : List (K × X)) (r : Ordering) → o.cmp (key v) e.0 ≡ r → HasItsKey e → Each HasItsKey es → Each HasItsKey (put o.cmp (key v) v es)
-      → Each HasItsKey (by_order r ((key v, v) ∷ e ∷ es) ((e.0, v) ∷ es) (e ∷ put o.cmp (key v) v es))
-  keyed_by v e es Less is at rest more = (refl, (at, rest))
-  keyed_by v e es Equal is at rest more = (o.same (key v) e.0 is, rest)
-  keyed_by v e es Greater is at rest more = (at, more)
-
-  keyed_put : (v : X) (es : List (K × X)) → Each HasItsKey es → Each HasItsKey (put o.cmp (key v) v es)
-  keyed_put v [] each = (refl, tt)
-  keyed_put v (e ∷ es) each = keyed_by v e es (o.cmp (key v) e.0) refl each.0 each.1 (keyed_put v es each.1)
-
-  keyed_all : (m : Map o X) (xs : List X) → Each HasItsKey m.list → Each HasItsKey (insert_all m (map (λ x. (key x, x)) xs)).list
-  unfolding insert
-  keyed_all m [] each = each
-  keyed_all m (x ∷ xs) each = keyed_all (insert m (key x) x) xs (keyed_put x m.list each)
-
-  others : (k : K) (es : List (K × X)) → Each HasItsKey es → T (below_all o.cmp k es) → Each (λ y. eq_by_cmp o.cmp k (key y) ≡ false) (map (λ (e : K × X). e.1) es)
-  others k [] each h = tt
-  others k (e ∷ es) each h = (untied (o.cmp k (key e.1)) (subst (λ q. T (is_lt (o.cmp k q))) (sym each.0) (first _ _ h)), others k es each.1 (second _ _ h))
-
-  values_apart : (es : List (K × X)) → Each HasItsKey es → T (is_sorted o.cmp es) → AreApart o key (map (λ (e : K × X). e.1) es)
-  values_apart [] each h = tt
-  values_apart (e ∷ es) each h = (others (key e.1) es each.1 (subst (λ k. T (below_all o.cmp k es)) (sym each.0) (first _ _ h)), values_apart es each.1 (second _ _ h))
-
-  ordered_apart : (xs : List X) → AreApart o key (ordered_by o key xs)
-  unfolding ordered_by entries empty
-  ordered_apart xs = let m : Map o X = insert_all empty (map (λ x. (key x, x)) xs) in values_apart m.list (keyed_all empty xs tt) m.sorted
+  ascending_apart : (xs : List X) → T (is_sorted o.cmp (map (λ x. (key x, x)) xs)) → AreApart o key xs
+  ascending_apart [] h = tt
+  ascending_apart (x ∷ xs) h = (others (key x) xs (first _ _ h), ascending_apart xs (second _ _ h))
 
 -- Lists of parts, one after another. `number` is the block of a key.
 
@@ -63,7 +44,7 @@ module _ {K Y : Type 0} (o : Order K) (key : Y → K) (number : K → ℕ) (list
     (joins : (H : Holdings) (shards : ℕ) → 1 ≤ shards → ordered_by o key (flat_map list (parts H shards)) ≡ list H)
     (own : (H : Holdings) (index shards : ℕ) → Each (λ y. (shard_of (number (key y)) shards == index) ≡ true) (list (cut H index shards))) where
   list_apart : (H : Holdings) → AreApart o key (list H)
-  list_apart H = subst (AreApart o key) (joins H 1 (omega arith)) (ordered_apart o key (flat_map list (parts H 1)))
+  list_apart H = ascending_apart o key (list H) (subst (λ ys. T (is_sorted o.cmp (map (λ y. (key y, y)) ys))) (joins H 1 (omega arith)) (ordered_ascends o key (flat_map list (parts H 1))))
 
   module _ (shards : ℕ) where
     abbrev index_of : Y → ℕ
@@ -97,10 +78,9 @@ module _ {K Y : Type 0} (o : Order K) (key : Y → K) (number : K → ℕ) (list
       ∙ ap (λ Qs. ordered_by o key (flat_map list Qs)) (sym (whole_has_its_parts Ps shards each long))
       ∙ joins (whole_of Ps) shards some
 
-  of_parts : (ss : List (ℕ × Seen)) → flat_map (λ (s : ℕ × Seen). list s.1.holdings) ss ≡ flat_map list (parts_of ss)
-  of_parts [] = refl
-  of_parts (s ∷ ss) = ap (λ ys. list s.1.holdings ++ ys) (of_parts ss)
-
-  pub sorted_lists : (ss : List (ℕ × Seen)) (ys : List Y) → AreShards (length ss) ss → IsPermutation (flat_map (λ (s : ℕ × Seen). list s.1.holdings) ss) ys → IsSortedByKey key o.cmp ys → ys ≡ list (held_by ss)
-  sorted_lists ss ys are moved sorted =
-      sorted_parts (parts_of ss) (length ss) ys are.own (sym (count_of ss)) are.some (subst (λ xs. IsPermutation xs ys) (of_parts ss) moved) sorted
+  -- what was gathered by a loop over the shards `now` that ended at n, once sorted
+  pub sorted_lists : (ss now : List (ℕ × Seen)) (n : ℕ) (F : Whole) → AreShards (length ss) ss → now ≡ ss → length now ≤ n → record { holdings = held_by ss; shards = ss } ≡ F
+      → (xs ys : List Y) → xs ≡ flat_map (λ (s : ℕ × Seen). list s.1.holdings) (take n now) → IsPermutation xs ys → IsSortedByKey key o.cmp ys → ys ≡ list F.holdings
+  sorted_lists ss now n F are is end seen xs ys all moved sorted =
+      sorted_parts (parts_of ss) (length ss) ys are.own (sym (count_of ss)) are.some (subst (λ zs. IsPermutation zs ys) (all ∙ ap (flat_map (λ (s : ℕ × Seen). list s.1.holdings)) (take_all n now end ∙ is) ∙ sym (flat_map-map list (λ (s : ℕ × Seen). s.1.holdings) ss)) moved) sorted
+      ∙ ap (λ (G : Whole). list G.holdings) seen

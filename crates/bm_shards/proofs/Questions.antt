@@ -1,9 +1,10 @@
 -- Questions to all shards, to one of them or to each.
-use Rattle.std.specs.Prelude.{◌≡◌, ℕ, ◌||◌, Bool, List, [], ◌∷◌, map, flat_map, length, Some, None}
+use Rattle.std.specs.Prelude.{◌≡◌, ℕ, ◌≤◌, ◌||◌, Bool, List, [], ◌∷◌, map, flat_map, length, Some, None}
 use Rattle.std.specs.List.{list_any}
 use Rattle.std.specs.List.Sorted.{IsPermutation, IsSortedByKey}
 use Rattle.std.specs.Ordering.{nat_cmp}
-use Rattle.std.proofs.Common.{refl, sym, ap, subst, ◌∙◌}
+use Rattle.std.proofs.Common.{refl, sym, ap, subst, ◌∙◌, take, arith}
+use Rattle.std.proofs.lemmas.List.{take_all}
 use Rattle.std.proofs.lemmas.List.Folds.{flat_map-map}
 use Rattle.bm_base.specs.declared.event.Event.{Event}
 use Rattle.bm_base.specs.declared.event.Event.TheVariants.{AddBlock, DeleteBlock, SetReplication, Restamp, Received, Deleted, Corrupt}
@@ -79,18 +80,20 @@ pub some_shard : (C : Cluster) (n : ℕ) (ss : List (ℕ × Seen)) → AreShards
 some_shard C n ss h =
     any_part C n ss ∙ ap (list_any (holds_back C n)) (sym (whole_has_its_parts (parts_of ss) (length ss) h.own (sym (count_of ss)))) ∙ held_back_by_some_part C n (held_by ss) (length ss) h.some
 
--- The lists of the shards, gathered and then sorted.
+-- The lists of the shards, gathered and then sorted. A loop over the shards `now` ended at n; they
+-- are seen as F.
 
-module _ (ss : List (ℕ × Seen)) (are : AreShards (length ss) ss) where
-  pub sorted_replicas : (p : Marks → Bool) (ys : List Replica) → IsPermutation (flat_map (λ (s : ℕ × Seen). passing p s.1.holdings) ss) ys → IsSortedByKey replica_key replica_cmp ys → ys ≡ passing p (held_by ss)
-  sorted_replicas p ys moved sorted = sorted_lists by_replica replica_key (λ (q : ReplicaId). q.block) (passing p) (passing_join p) (own_passing p) ss ys are moved sorted
+module _ (ss now : List (ℕ × Seen)) (n : ℕ) (F : Whole) (are : AreShards (length ss) ss) (is : now ≡ ss) (end : length now ≤ n) (seen : record { holdings = held_by ss; shards = ss } ≡ F) where
+  pub sorted_replicas : (p : Marks → Bool) (xs ys : List Replica) → xs ≡ flat_map (λ (s : ℕ × Seen). passing p s.1.holdings) (take n now) → IsPermutation xs ys → IsSortedByKey replica_key replica_cmp ys → ys ≡ passing p F.holdings
+  sorted_replicas p = sorted_lists by_replica replica_key (λ (q : ReplicaId). q.block) (passing p) (passing_join p) (own_passing p) ss now n F are is end seen
 
-  pub sorted_missing : (C : Cluster) (ys : List ℕ) → IsPermutation (flat_map (λ (s : ℕ × Seen). missing_blocks C s.1.holdings) ss) ys → IsSortedByKey (λ (b : ℕ). b) nat_cmp ys → ys ≡ missing_blocks C (held_by ss)
-  sorted_missing C ys moved sorted = sorted_lists by_number (λ (b : ℕ). b) (λ b. b) (missing_blocks C) (missing_join C) (own_missing C) ss ys are moved sorted
+  pub sorted_missing : (C : Cluster) (xs ys : List ℕ) → xs ≡ flat_map (λ (s : ℕ × Seen). missing_blocks C s.1.holdings) (take n now) → IsPermutation xs ys → IsSortedByKey (λ (b : ℕ). b) nat_cmp ys → ys ≡ missing_blocks C F.holdings
+  sorted_missing C = sorted_lists by_number (λ (b : ℕ). b) (λ b. b) (missing_blocks C) (missing_join C) (own_missing C) ss now n F are is end seen
 
-  pub sorted_blocks_on : (storage : ℕ) (ys : List ℕ) → IsPermutation (flat_map (λ (s : ℕ × Seen). blocks_on s.1.holdings storage) ss) ys → IsSortedByKey (λ (b : ℕ). b) nat_cmp ys → ys ≡ blocks_on (held_by ss) storage
-  sorted_blocks_on storage ys moved sorted = sorted_lists by_number (λ (b : ℕ). b) (λ b. b) (λ H. blocks_on H storage) (blocks_on_join storage) (own_blocks_on storage) ss ys are moved sorted
+  pub sorted_blocks_on : (storage : ℕ) (xs ys : List ℕ) → xs ≡ flat_map (λ (s : ℕ × Seen). blocks_on s.1.holdings storage) (take n now) → IsPermutation xs ys → IsSortedByKey (λ (b : ℕ). b) nat_cmp ys → ys ≡ blocks_on F.holdings storage
+  sorted_blocks_on storage = sorted_lists by_number (λ (b : ℕ). b) (λ b. b) (λ H. blocks_on H storage) (blocks_on_join storage) (own_blocks_on storage) ss now n F are is end seen
 
-  pub sorted_rows : (ts : List (List Row)) (ys : List Row) → ts ≡ map (λ (s : ℕ × Seen). rows_of s.1) ss → IsPermutation (flat_map (λ t. t) ts) ys → IsSortedByKey (λ (r : Row). r.0) nat_cmp ys → ys ≡ table (held_by ss)
-  sorted_rows ts ys is moved sorted =
-      sorted_lists by_number (λ (r : Row). r.0) (λ b. b) table tables_join own_rows ss ys are (subst (λ xs. IsPermutation xs ys) (ap (flat_map (λ t. t)) is ∙ flat_map-map (λ (t : List Row). t) (λ (s : ℕ × Seen). rows_of s.1) ss) moved) sorted
+pub sorted_rows : (ss : List (ℕ × Seen)) → AreShards (length ss) ss → (ts : List (List Row)) (ys : List Row) → ts ≡ map (λ (s : ℕ × Seen). rows_of s.1) ss → IsPermutation (flat_map (λ t. t) ts) ys → IsSortedByKey (λ (r : Row). r.0) nat_cmp ys → ys ≡ table (held_by ss)
+sorted_rows ss are ts ys is moved rises =
+    sorted_lists by_number (λ (r : Row). r.0) (λ b. b) table tables_join own_rows ss ss (length ss) (record { holdings = held_by ss; shards = ss }) are refl (omega arith) refl (flat_map (λ t. t) ts) ys
+    (ap (flat_map (λ t. t)) is ∙ flat_map-map (λ (t : List Row). t) (λ (s : ℕ × Seen). rows_of s.1) ss ∙ ap (flat_map (λ (s : ℕ × Seen). rows_of s.1)) (sym (take_all (length ss) ss (omega arith)))) moved rises

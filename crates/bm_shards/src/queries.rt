@@ -1,7 +1,6 @@
-// The queries of all shards, and the check of an event on its block. They change nothing.
+// The queries of one block or node, and the check of an event on its block. They change nothing.
 ghost use Rattle.std.specs.Prelude.{◌≡◌, true, false, None, length, IfOk, IfErr, OnOk};
 ghost use Rattle.std.specs.List.{list_any};
-ghost use Rattle.bm_base.specs.declared.refusal.Refusal.TheVariants.{Memory};
 ghost use Rattle.bm_base.specs.Words.{Cluster, first_of, block_checks, block_refusal, checked, Refuses};
 ghost use Rattle.bm_base.specs.Shards.{shard_of, cut};
 ghost use Rattle.bm_base.specs.Machine.Queries as queries;
@@ -12,10 +11,8 @@ ghost use Rattle.bm_shards.specs.Whole.{IsUpToDate, AreShards, AreUpToDate, held
 
 use crate::all_shards::AllShards;
 use crate::event_on_one::index_of_shard;
-use crate::lists::{blocks_on, missing_blocks, replicas};
-use bm_base::{BlockId, Event, Items, Level, NodeId, Refusal, Replica, ReplicaId, StorageId};
+use bm_base::{BlockId, Event, Items, Level, NodeId, Refusal, StorageId};
 use bm_parts::events::block_of;
-use bm_queries::{ReplicaFilter, replica_keys};
 use bm_shard::Shard;
 use bm_topo::Topology;
 
@@ -28,54 +25,6 @@ impl AllShards {
             Some(id) => own_shard(self.shards.as_slice(), id).check(event),
             None => Ok(()),
         }
-    }
-
-    /// All replicas with their tags, by block and storage. `Memory`.
-    pub fn replicas(&self) -> Result<Items<Replica>, Refusal>
-        ensures replicas { IfOk result (λ v. v ≡ queries.all_replicas self.now.holdings) }
-        ensures refused { IfErr result (λ e. e ≡ Memory) }
-    {
-        let all = replicas(self.alloc, self.shards.as_slice(), ReplicaFilter::All)?;
-        Ok(Items::from_vec(all))
-    }
-
-    /// The stale and bad replicas, by block and storage. `Memory`.
-    pub fn corrupt(&self) -> Result<Items<ReplicaId>, Refusal>
-        ensures corrupt { IfOk result (λ v. v ≡ queries.corrupt_replicas self.now.holdings) }
-        ensures refused { IfErr result (λ e. e ≡ Memory) }
-    {
-        let all = replicas(self.alloc, self.shards.as_slice(), ReplicaFilter::Corrupt)?;
-        Ok(Items::from_vec(replica_keys(self.alloc, all.as_slice())?))
-    }
-
-    /// The replicas in excess, by block and storage. `Memory`.
-    pub fn excess(&self) -> Result<Items<ReplicaId>, Refusal>
-        ensures excess { IfOk result (λ v. v ≡ queries.excess_replicas self.now.holdings) }
-        ensures refused { IfErr result (λ e. e ≡ Memory) }
-    {
-        let all = replicas(self.alloc, self.shards.as_slice(), ReplicaFilter::Excess)?;
-        Ok(Items::from_vec(replica_keys(self.alloc, all.as_slice())?))
-    }
-
-    /// The known blocks without a usable replica, ascending. `Memory`.
-    #[tactic(auto, unfolding(crate::specs::Whole::IsUpToDate))]
-    pub fn missing(&self, topology: &Topology) -> Result<Items<BlockId>, Refusal>
-        requires { IsUpToDate topology.now.cluster self.now }
-        ensures missing { IfOk result
-            (λ v. v ≡ queries.missing_blocks topology.now.cluster self.now.holdings) }
-        ensures refused { IfErr result (λ e. e ≡ Memory) }
-    {
-        let all = missing_blocks(self.alloc, self.shards.as_slice())?;
-        Ok(Items::from_vec(all))
-    }
-
-    /// The blocks of all replicas on a storage, whatever their tags, ascending. `Memory`.
-    pub fn blocks_on(&self, storage: StorageId) -> Result<Items<BlockId>, Refusal>
-        ensures blocks { IfOk result (λ v. v ≡ queries.blocks_on self.now.holdings storage) }
-        ensures refused { IfErr result (λ e. e ≡ Memory) }
-    {
-        let all = blocks_on(self.alloc, self.shards.as_slice(), storage)?;
-        Ok(Items::from_vec(all))
     }
 
     /// The storages of the block's good replicas, ascending. Asks the block's shard alone.

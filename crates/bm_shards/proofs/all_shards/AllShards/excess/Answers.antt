@@ -1,14 +1,12 @@
-use Rattle.std.proofs.Common.{◌∙◌, ap, map}
-use Rattle.bm_base.specs.Machine.Queries.{replicas_where, excess_replicas}
+use Rattle.std.proofs.Common.{◌∙◌, map, ap}
+use Rattle.bm_base.specs.Machine.Queries.{replicas_where}
 use Rattle.bm_parts.specs.QueryLaws.{replica_key}
 use Rattle.bm_queries.specs.declared.replicas.ReplicaFilter.TheVariants.{Excess}
 use Rattle.bm_queries.specs.Listed.{wants}
 use Rattle.bm_queries.proofs.FoundReplicas.{ids_passing}
-use Rattle.bm_shards.specs.Whole.{Whole, held_by}
 use Rattle.bm_shards.proofs.all_shards.AllShards.excess.Goals as goal
 
 pub returns-clause-excess : goal.returns-clause-excess
 unfolding replicas_where
 returns-clause-excess c =
-    c.from_vec.ensures ∙ c.in_ok-replica_keys.ensures ∙ ap (map replica_key) (c.as_slice-2.ensures.value ∙ c.in_ok-all.ensures.replicas) ∙ ids_passing (wants Excess) (held_by c.as_slice.result.now).replicas
-    ∙ ap (λ ss. excess_replicas (held_by ss)) c.as_slice.ensures.value ∙ ap (λ (F : Whole). excess_replicas F.holdings) c.self.view_is
+    c.from_vec.ensures ∙ c.in_ok-replica_keys.ensures ∙ ap (map replica_key) (c.as_slice.ensures.value ∙ c.in_ok-all.ensures.replicas) ∙ ids_passing (wants Excess) c.args.self.now.holdings.replicas

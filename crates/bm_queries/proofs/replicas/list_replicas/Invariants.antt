@@ -1,7 +1,7 @@
 use Rattle.std.proofs.Common.{◌≡◌, ◌++◌, drop}
 use Rattle.bm_levels.specs.IndexedLevels.{indexed_slots}
 use Rattle.bm_queries.specs.Listed.{wants, listed_on}
-use Rattle.bm_queries.proofs.replicas.gather.Given as goal
+use Rattle.bm_queries.proofs.replicas.list_replicas.Given as goal
 
 -- those so far and those of the rest are all
 abbrev pub invariant-loop-index : goal.invariant-loop-index
