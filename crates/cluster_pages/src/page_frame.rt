@@ -42,6 +42,7 @@ i.all { background: #8885; }\n\
 details { margin: 1rem 0; }\n\
 summary { cursor: pointer; }\n\
 p.none { opacity: .75; }\n\
+@media (max-width: 40rem) { table { font-size: .85rem; } td.bar { width: 15%; } }\n\
 </style>\n</head>\n<body>\n";
 
 /// Begins a page with its title.
