@@ -10,4 +10,3 @@ pub mod loaded;
 mod names;
 pub mod options;
 pub mod sources;
-mod watched;

@@ -2,7 +2,7 @@
 use bm_base::Config;
 use clap::{Arg, ArgAction, ArgMatches, Command, value_parser};
 use cluster_report::options::{NUMBERS, argument, config_from, with};
-use fsck_import::options::{Values, values_of};
+use fsck_import::options::{Values, input_bytes_of, values_of};
 use std::alloc::{AllocError, Global};
 
 /// The values of the options for loading a cluster.
@@ -13,7 +13,7 @@ pub struct Asked<'a> {
     pub values: Values,
     /// The report on DataNodes, if one is named.
     pub nodes: Option<&'a str>,
-    /// The length of the input in bytes, if its progress is shown.
+    /// The length of the input in bytes, if its progress is shown; 0 if it is unknown.
     pub input_bytes: Option<u64>,
 }
 
@@ -88,7 +88,7 @@ fn quiet<'a>(alloc: Global) -> Arg<'a> {
         .help("shows no progress on standard error")
 }
 
-/// For a caller that knows that standard error is a terminal, and the length of the input.
+/// For a caller that knows that standard error is a terminal; 0 for an unknown length of the input.
 fn progress<'a>(alloc: Global) -> Arg<'a> {
     new_arg(alloc, "progress")
         .action(ArgAction::Set)
@@ -115,13 +115,6 @@ pub fn asked_of<'a>(matches: &ArgMatches<'a>) -> Option<Asked<'a>> {
         nodes: matches.get_str("nodes"),
         input_bytes: input_bytes_of(matches),
     })
-}
-
-fn input_bytes_of(matches: &ArgMatches<'_>) -> Option<u64> {
-    if matches.get_flag("quiet") {
-        return None;
-    }
-    matches.get_one::<u64>("progress")
 }
 
 /// The files that the words name; `None` is standard input.

@@ -5,7 +5,7 @@ ghost use Rattle.cluster_report.specs.Sessions.{IsInStep};
 use crate::fault::Fault;
 use crate::loaded::Loaded;
 use crate::options::Asked;
-use crate::watched::{Meter, NoteWriter, WatchedReader};
+use cluster_progress::watched::{Meter, NoteWriter, WatchedReader};
 use fsck_cluster::Cluster;
 use fsck_import::say_text_notes;
 use fsck_import::text_reader::{Reading, read_nodes};

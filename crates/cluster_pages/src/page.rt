@@ -136,7 +136,7 @@ fn write_nodes(text: &mut String, names: &Names, report: &Report) -> Result<(), 
 fn write_node(text: &mut String, names: &Names, row: &NodeRow) -> Result<(), AllocError> {
     let storages = row.storages.as_slice();
     let (bytes, remaining) = (bytes_on(storages), remaining_on(storages));
-    text.push_str("<tr><td>")?;
+    text.push_str("<tr><td class=\"rack\">")?;
     write_rack(text, names, row.rack)?;
     text.push_str("</td><td>")?;
     write_host(text, names, row.node)?;

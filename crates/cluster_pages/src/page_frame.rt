@@ -17,12 +17,18 @@ dd { font-size: 1.3rem; margin: 0; overflow-wrap: anywhere; }\n\
 small { display: block; font-size: .85rem; opacity: .75; }\n\
 ul { columns: 22rem; margin: 0; overflow-wrap: anywhere; padding-left: 1.2rem; }\n\
 .table, .picture { overflow-x: auto; }\n\
+.table { background: linear-gradient(90deg, Canvas 1rem, #0000 2rem) local, \
+linear-gradient(270deg, Canvas 1rem, #0000 2rem) local, \
+linear-gradient(90deg, #8888, #0000 .8rem), linear-gradient(270deg, #8888, #0000 .8rem); }\n\
+.table:not(:has(td)) { display: none; }\n\
 table { border-collapse: collapse; width: 100%; }\n\
 th, td { border-bottom: 1px solid #8884; padding: .3rem .6rem .3rem 0; text-align: left; \
 vertical-align: top; }\n\
 td.n, th.n { font-variant-numeric: tabular-nums; text-align: right; }\n\
-td.n { white-space: nowrap; }\n\
+td.n, td.rack { white-space: nowrap; }\n\
+td.n:first-child { width: 1%; }\n\
 td.path { overflow-wrap: anywhere; min-width: 12rem; width: 60%; }\n\
+td.path:first-child { width: 99%; }\n\
 td.bar { min-width: 2.5rem; width: 30%; }\n\
 svg { display: block; }\n\
 .bar svg { height: .9rem; margin-top: .2rem; width: 100%; }\n\
@@ -36,6 +42,7 @@ i.all { background: #8885; }\n\
 details { margin: 1rem 0; }\n\
 summary { cursor: pointer; }\n\
 p.none { opacity: .75; }\n\
+@media (max-width: 40rem) { table { font-size: .85rem; } td.bar { width: 15%; } }\n\
 </style>\n</head>\n<body>\n";
 
 /// Begins a page with its title.

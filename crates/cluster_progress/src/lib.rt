@@ -2,6 +2,8 @@
 //! can ask whether standard error is a terminal, so its caller decides whether the line is shown.
 #![tactic(auto)]
 
+pub mod watched;
+
 ghost use Rattle.std.specs.Prelude.{◌≤◌, ◌≡◌, IsSome, false};
 
 /// Clears the line, so that another one can be written in its place.
@@ -38,11 +40,16 @@ impl Progress {
         }
     }
 
-    /// Shows `34 % of the input`, if the number changed.
+    /// Shows `34 % of the input`, if the number changed. An `all` of 0 is an unknown length: then it
+    /// shows `12 MB of the input`.
     pub fn show_input<R: Eprint>(&mut self, rt: &R, read: u64, all: u64) {
-        let percent = percent_of(read, all);
-        if self.is_new(percent) {
-            let _ = eprint!(rt; "{CLEARED}{percent} % of the input");
+        let (number, unit) = if all == 0 {
+            (read / 1_000_000, "MB")
+        } else {
+            (percent_of(read, all), "%")
+        };
+        if self.is_new(number) {
+            let _ = eprint!(rt; "{CLEARED}{number} {unit} of the input");
         }
     }
 

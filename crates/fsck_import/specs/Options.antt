@@ -8,7 +8,7 @@ use Rattle.clap.specs.Walk.{Rule, first_of}
 use Rattle.clap.specs.Simple.{App, matches_of, new_rule, new_shape}
 use Rattle.clap.specs.Faults.{fault_of}
 use Rattle.clap.specs.Kinds.{Kinds, or_else}
-use Rattle.clap.specs.declared.builder.action.ArgAction.TheVariants.{Set}
+use Rattle.clap.specs.declared.builder.action.ArgAction.TheVariants.{Set, SetTrue}
 use Rattle.clap.specs.declared.error.kind.ErrorKind.TheVariants.{ValueValidation}
 use Rattle.fsck_text.specs.Cuts.{Text, is_empty, number_of}
 use Rattle.fsck_files.specs.declared.skips.Skips.{Skips}
@@ -20,10 +20,14 @@ use Rattle.fsck_import.specs.declared.options.Values.{Values}
 abbrev pub option_rule : Text → Rule
 option_rule name = record (new_rule name) { long = Some name; action = Some Set; value_names = 1 }
 
+-- an option --name without a value
+abbrev pub flag_rule : Text → Rule
+flag_rule name = record (new_rule name) { long = Some name; action = Some SetTrue }
+
 abbrev pub options : List Rule
 options =
     option_rule (codes "remaining") ∷ option_rule (codes "names") ∷ option_rule (codes "files") ∷ option_rule (codes "nodes")
-    ∷ option_rule (codes "skip") ∷ option_rule (codes "unclear") ∷ []
+    ∷ option_rule (codes "skip") ∷ option_rule (codes "unclear") ∷ flag_rule (codes "quiet") ∷ option_rule (codes "progress") ∷ []
 
 -- the command line: the options, and --help, which the library adds
 abbrev pub program : App

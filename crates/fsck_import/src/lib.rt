@@ -16,6 +16,7 @@ pub mod text_reader;
 
 use clap::Error;
 use clap::error::ErrorKind;
+use cluster_progress::watched::{Meter, WatchedReader};
 use destination::{Destination, Stream, TableFile};
 use fault::Fault;
 use fsck_cluster::Cluster;
@@ -240,7 +241,7 @@ fn say_count<R: Eprint>(rt: &R, program: &str, count: u64, one: &str, several: &
 }
 
 /// Runs the import from standard input to standard output.
-fn run<R: Input + Print + AllocGlobal, N: Destination, F: Destination>(
+fn run<R: Input + Print + Eprint + AllocGlobal, N: Destination, F: Destination>(
     rt: &R,
     asked: &Asked<'_>,
     nodes: Cluster,
@@ -251,7 +252,9 @@ fn run<R: Input + Print + AllocGlobal, N: Destination, F: Destination>(
     let values = asked.values;
     let keeps_files = asked.files.is_some();
     let start = Reading::new(alloc, nodes, values.skips, values.unclear, keeps_files);
-    let Ok(mut reader) = BufReader::new(alloc, rt.reader()) else {
+    let meter = Meter::new(asked.input_bytes);
+    let input = WatchedReader::new(rt.reader(), rt, Some(&meter));
+    let Ok(mut reader) = BufReader::new(alloc, input) else {
         drop(start);
         return Err(Fault::Memory);
     };
@@ -259,7 +262,7 @@ fn run<R: Input + Print + AllocGlobal, N: Destination, F: Destination>(
         drop(start);
         return Err(Fault::Memory);
     };
-    import(
+    let ended = import(
         alloc,
         start,
         values.remaining,
@@ -267,5 +270,7 @@ fn run<R: Input + Print + AllocGlobal, N: Destination, F: Destination>(
         &mut writer,
         names,
         files,
-    )
+    );
+    meter.clear(rt);
+    ended
 }

@@ -3,10 +3,10 @@ ghost use Rattle.std.specs.Prelude.{◌≡◌, false, Some, IfOk, codes, map, op
 ghost use Rattle.clap.specs.Words.{FailsBy, app_of, kind_of, rule_of};
 ghost use Rattle.clap.specs.Simple.{new_rule};
 ghost use Rattle.clap.specs.declared.error.kind.ErrorKind.TheVariants.{ValueValidation};
-ghost use Rattle.fsck_import.specs.Options.{given, option_rule, program, refusals_of, remaining_for, skips_for, unclear_for, values_of, are_kinds, is_kind, has_word};
+ghost use Rattle.fsck_import.specs.Options.{given, flag_rule, option_rule, program, refusals_of, remaining_for, skips_for, unclear_for, values_of, are_kinds, is_kind, has_word};
 
 use clap::error::ErrorKind;
-use clap::{Arg, ArgAction, Command, Error};
+use clap::{Arg, ArgAction, ArgMatches, Command, Error};
 use fsck_files::{Skips, Unclear};
 use fsck_text::number_of;
 use std::alloc::{AllocError, Global};
@@ -31,6 +31,8 @@ pub struct Asked<'a> {
     pub files: Option<&'a str>,
     /// The path of the report on DataNodes, if one is named.
     pub nodes: Option<&'a str>,
+    /// The length of the input in bytes, if its progress is shown; 0 if it is unknown.
+    pub input_bytes: Option<u64>,
 }
 
 /// Parses the words of a command line, the program's name first. Each option may occur once. An
@@ -61,6 +63,7 @@ pub fn asked_by<'a>(alloc: Global, words: &'a [String]) -> Result<Asked<'a>, Err
             names: matches.get_str("names"),
             files: matches.get_str("files"),
             nodes: matches.get_str("nodes"),
+            input_bytes: input_bytes_of(&matches),
         }),
         None => Err(wrong_value(alloc)?),
     }
@@ -106,7 +109,9 @@ fn command<'a>(alloc: Global) -> Result<Command<'a>, AllocError>
             "unclear",
             "HOW",
             "blocks with more places than live replicas: omit, good; without it they are refused",
-        ))
+        ))?
+        .arg(quiet(alloc))?
+        .arg(progress(alloc))
 }
 
 /// An option with one value.
@@ -121,12 +126,42 @@ fn option<'a>(alloc: Global, name: &'a str, value: &'a str, help: &'a str) -> Ar
         .help(help)
 }
 
+fn quiet<'a>(alloc: Global) -> Arg<'a>
+    ensures rule { rule_of result ≡ flag_rule (codes "quiet") }
+    ensures local { result.global ≡ false }
+{
+    new_arg(alloc, "quiet")
+        .action(ArgAction::SetTrue)
+        .long("quiet")
+        .help("shows no progress on standard error")
+}
+
+/// For a caller that knows that standard error is a terminal; 0 for an unknown length of the input.
+fn progress<'a>(alloc: Global) -> Arg<'a>
+    ensures rule { rule_of result ≡ option_rule (codes "progress") }
+    ensures local { result.global ≡ false }
+{
+    new_arg(alloc, "progress")
+        .action(ArgAction::Set)
+        .long("progress")
+        .value_name("BYTES")
+        .hide(true)
+}
+
 /// An argument with a name and nothing else.
 fn new_arg<'a>(alloc: Global, name: &'a str) -> Arg<'a>
     ensures rule { rule_of result ≡ new_rule name.entry.now }
     ensures local { result.global ≡ false }
 {
     Arg::new(alloc, name)
+}
+
+/// The length of the input, if its progress is shown; 0 if it is unknown.
+pub fn input_bytes_of(matches: &ArgMatches<'_>) -> Option<u64> {
+    if matches.get_flag("quiet") {
+        return None;
+    }
+    number_of(matches.get_str("progress")?)
 }
 
 /// Parses the texts of these options. `None` if a text is no value of its option.

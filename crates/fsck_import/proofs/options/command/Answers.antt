@@ -20,4 +20,6 @@ returns c =
     let s3 = added _ _ _ _ _ c.in_ok-arg-3.ensures c.option-3.ensures.local s2 c.option-3.ensures.rule in
     let s4 = added _ _ _ _ _ c.in_ok-arg-4.ensures c.option-4.ensures.local s3 c.option-4.ensures.rule in
     let s5 = added _ _ _ _ _ c.in_ok-arg-5.ensures c.option-5.ensures.local s4 c.option-5.ensures.rule in
-    IfOk-weaker c.arg-6.result _ _ (λ r h. added _ _ _ _ _ h c.option-6.ensures.local s5 c.option-6.ensures.rule) c.arg-6.ensures
+    let s6 = added _ _ _ _ _ c.in_ok-arg-6.ensures c.option-6.ensures.local s5 c.option-6.ensures.rule in
+    let s7 = added _ _ _ _ _ c.in_ok-arg-7.ensures c.quiet.ensures.local s6 c.quiet.ensures.rule in
+    IfOk-weaker c.arg-8.result _ _ (λ r h. added _ _ _ _ _ h c.progress.ensures.local s7 c.progress.ensures.rule) c.arg-8.ensures

@@ -1,11 +1,11 @@
 // Readers and writers for use while progress is shown.
-use cluster_progress::Progress;
+use crate::Progress;
 use std::cell::Cell;
 use std::io;
 use std::io::{Read, Write};
 
-/// The number of bytes read. If the input's length is known, standard error shows the part that was
-/// read.
+/// The number of bytes read, or the part of the input that they are. Standard error shows it until
+/// the input ends.
 #[derive(Drop)]
 pub struct Meter {
     progress: Cell<Progress>,
@@ -14,7 +14,7 @@ pub struct Meter {
 }
 
 impl Meter {
-    /// The start of an input of this many bytes. Without a length, nothing is shown.
+    /// The start of an input of this many bytes, 0 if that is unknown. `None` shows nothing.
     pub fn new(all: Option<u64>) -> Meter {
         Meter {
             progress: Cell::new(Progress::new(all.is_some())),
@@ -23,8 +23,11 @@ impl Meter {
         }
     }
 
-    /// Adds to the number of bytes read.
+    /// Adds to the number of bytes read; 0 is the end of the input.
     fn take<R: Eprint>(&self, rt: &R, bytes: usize) {
+        if bytes == 0 {
+            return self.clear(rt);
+        }
         let read = self.read.get().saturating_add(bytes as u64);
         self.read.set(read);
         let mut progress = self.progress.get();
