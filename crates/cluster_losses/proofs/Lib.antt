@@ -1,8 +1,15 @@
 -- Lemmas.
-pub mod Steps
+pub mod Alike
+pub mod Clusters
+pub mod Faults
+pub mod Kept
 pub mod LackingLemmas
 pub mod NamedLemmas
 pub mod NumberLemmas
 pub mod PartLemmas
 pub mod Reached
+pub mod Returned
+pub mod Same
+pub mod Steps
 pub mod Tables
+pub mod Words

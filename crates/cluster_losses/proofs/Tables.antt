@@ -1,4 +1,4 @@
--- Rows of a table, and the states on the way.
+-- Rows of a table.
 use Rattle.std.proofs.Common.{◌≡◌, ℕ, List, [], ◌∷◌, ◌++◌, sym, subst, length, map}
 use Rattle.std.specs.Ordering.{is_lt}
 use Rattle.std.specs.List.{AllZip}
@@ -15,11 +15,7 @@ use Rattle.cluster_losses.specs.Events.{death}
 use Rattle.cluster_losses.specs.Outcomes.{IsOutcome}
 use Rattle.cluster_losses.specs.declared.parts.Part.{Part}
 use Rattle.cluster_losses.specs.declared.each.Row.{Row}
-use Rattle.cluster_losses.specs.Reached.{IsReached}
-use Rattle.cluster_losses.specs.Tables.{IsRowAt, IsRowFrom, levels_cmp, row_cmp}
-
-pub row_from : (f : FileTable) (M N : State) (part : Part) (row : Row) → IsReached M N → IsRowAt f N part row → IsRowFrom f M part row
-row_from f M N part row way at = record { state = N; reached = way; has = at }
+use Rattle.cluster_losses.specs.Tables.{IsRowAt, levels_cmp, row_cmp}
 
 module _ {A B : Type 0} (R : A → B → Type 0) where
   zip_push : (xs : List A) (ys : List B) (x : A) (y : B) → AllZip R xs ys → R x y → AllZip R (xs ++ x ∷ []) (ys ++ y ∷ [])

@@ -1,9 +1,14 @@
 -- Losses, and what they leave.
+pub mod Alike
 pub mod Events
+pub mod Faults
 pub mod Lacking
 pub mod Named
 pub mod Outcomes
 pub mod Parts
+pub mod Questions
 pub mod Reached
+pub mod Returned
+pub mod Returns
 pub mod Summing
 pub mod Tables

@@ -11,7 +11,6 @@ use Rattle.cluster_pages.specs.AtRisk.{AreAtRisk}
 use Rattle.cluster_pages.specs.declared.at_risk.AtRisk.{AtRisk}
 use Rattle.cluster_losses.specs.Events.{death}
 use Rattle.cluster_losses.specs.Outcomes.{IsOutcome}
-use Rattle.cluster_losses.specs.Reached.{IsReached}
 use Rattle.cluster_losses.specs.declared.parts.Part.{Part}
 use Rattle.cluster_losses.specs.declared.each.Row.{Row}
 
@@ -28,12 +27,6 @@ pub record IsRowAt (f : FileTable) (M : State) (part : Part) (row : Row) : Type 
   pub outcome : IsOutcome M (map death part.nodes) row.without
   pub files : HasLostFiles f row
 
--- the same in a state that some events led to
-pub record IsRowFrom (f : FileTable) (M : State) (part : Part) (row : Row) : Type 0 where
-  pub state : State
-  pub reached : IsReached M state
-  pub has : IsRowAt f state part row
-
 -- more blocks at the highest level come first; then more very under-replicated ones; then more
 -- under-replicated ones
 abbrev pub levels_cmp : LevelCounts → LevelCounts → Ordering
@@ -47,9 +40,9 @@ row_cmp a b =
     ordering_then (nat_cmp (length b.without.lost) (length a.without.lost))
     (ordering_then (levels_cmp a.without.after.levels b.without.after.levels) (nat_cmp a.number b.number))
 
--- A row for each part, the worst first.
+-- For each part a row of what is lost if it alone dies in this state, the worst first.
 pub record AreRows (f : FileTable) (M : State) (parts : List Part) (rows : List Row) : Type 0 where
   pub made : List Row
-  pub each : AllZip (IsRowFrom f M) parts made
+  pub each : AllZip (IsRowAt f M) parts made
   pub moved : IsPermutation made rows
   pub worst_first : IsSorted row_cmp rows

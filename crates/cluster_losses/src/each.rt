@@ -1,20 +1,23 @@
 // A table: each rack or each node is lost alone, and comes back.
-ghost use Rattle.std.specs.Prelude.{◌≡◌, IfOk, OnOk};
-ghost use Rattle.std.specs.Bool.{OnTrue};
+ghost use Rattle.std.specs.Prelude.{◌≡◌, [], IfOk, IfErr, OnOk};
 ghost use Rattle.std.specs.List.{AllZip};
 ghost use Rattle.std.specs.List.Sorted.{IsPermutation, IsSorted};
-ghost use Rattle.bm_base.specs.Machine.Queries.{all_replicas};
+ghost use Rattle.bm_base.specs.Machine.Queries.{excess_replicas};
 ghost use Rattle.cluster_report.specs.Sessions.{IsInStep};
+ghost use Rattle.cluster_losses.specs.Alike.{IsLike, IsSnapshot};
+ghost use Rattle.cluster_losses.specs.Faults.{IsRefusal, IsRowsFault};
 ghost use Rattle.cluster_losses.specs.Reached.{IsReached};
-ghost use Rattle.cluster_losses.specs.Tables.{AreRows, IsRowAt, IsRowFrom, levels_cmp, row_cmp};
+ghost use Rattle.cluster_losses.specs.Tables.{AreRows, IsRowAt, levels_cmp, row_cmp};
 
 use crate::fault::Fault;
 use crate::loss_events::Lost;
 use crate::parts::Part;
 pub use crate::parts::{nodes_of, racks_of};
-use crate::set_back::{Return, returns_of};
+use crate::returns::Return;
+use crate::set_back::returns_of;
+use crate::snapshot::Snapshot;
 use crate::without::{Outcome, without};
-use bm_base::{Refusal, Replica};
+use bm_base::Refusal;
 use cluster_input::loaded::Loaded;
 use cluster_names::Files;
 use cluster_pages::at_risk::files_at_risk;
@@ -37,8 +40,9 @@ pub struct Row {
 }
 
 /// The losses with each of these racks or nodes alone, the worst first: by lost blocks, then by the
-/// blocks at the first three levels, then by number. Each comes back before the next is lost. At
-/// the end the manager lists the same replicas as before.
+/// blocks at the first three levels, then by number. Each comes back before the next is lost, and
+/// the cluster is then compared with that before. `Excess` if a replica is in excess; `NotSetBack`
+/// if the cluster differs from that before.
 pub fn rows_of<H: Threads + Wait + Sync>(
     rt: &H,
     alloc: Global,
@@ -48,57 +52,58 @@ pub fn rows_of<H: Threads + Wait + Sync>(
     requires { IsInStep loaded.old.session }
     ensures rows { IfOk result (λ v.
         AreRows loaded.old.files loaded.old.session.manager parts.now v.items) }
-    ensures replicas { OnOk result (all_replicas loaded.new.session.manager.holdings
-        ≡ all_replicas loaded.old.session.manager.holdings) }
+    ensures like { OnOk result (IsLike loaded.old.session.manager loaded.new.session.manager) }
     ensures reached { OnOk result
         (IsReached loaded.old.session.manager loaded.new.session.manager) }
     ensures in_step { OnOk result (IsInStep loaded.new.session) }
+    ensures fault { IfErr result
+        (IsRowsFault loaded.old.session.manager loaded.new.session.manager) }
     ensures same { loaded.new ≡ record loaded.old { session = loaded.new.session } }
 {
-    let excess = loaded.session.manager.excess()?;
-    if !excess.is_empty() {
+    let first = Snapshot::of(alloc, &loaded.session)?;
+    if !first.excess.is_empty() {
         return Err(Fault::Excess);
     }
-    let replicas = loaded.session.manager.replicas()?;
-    let returns = returns_of(alloc, &loaded.session.book, replicas.as_slice())?;
-    let returns = returns.as_slice();
+    let returns = returns_of(alloc, &loaded.session.book, first.replicas.as_slice())?;
     let mut rows = lose_each(
         rt,
         alloc,
         &mut loaded.session,
         &loaded.files,
         parts,
-        returns,
+        &first,
+        returns.as_slice(),
     )?;
-    // Each node came back once, so what did not come back then is missing now.
-    let now = loaded.session.manager.replicas()?;
-    if !are_same(now.as_slice(), replicas.as_slice()) {
-        return Err(Fault::NotSetBack);
-    }
     sort_worst_first(&mut rows)?;
     Ok(rows)
 }
 
-/// Loses each of these, and makes it come back.
+/// Loses each of these, and makes it come back. `first` is what the session has before.
 fn lose_each<H: Threads + Wait + Sync>(
     rt: &H,
     alloc: Global,
     session: &mut Session,
     files: &Files,
     parts: &[Part],
+    first: &Snapshot,
     returns: &[Return],
 ) -> Result<Vec<Row>, Fault>
-    requires { IsInStep session.old }
+    requires in_step { IsInStep session.old }
+    requires first { IsSnapshot session.old.manager first.now }
+    requires none_in_excess { excess_replicas session.old.manager.holdings ≡ [] }
     ensures rows { IfOk result (λ v.
-        AllZip (IsRowFrom files.now session.old.manager) parts.now v.items) }
+        AllZip (IsRowAt files.now session.old.manager) parts.now v.items) }
+    ensures like { OnOk result (IsLike session.old.manager session.new.manager) }
     ensures reached { OnOk result (IsReached session.old.manager session.new.manager) }
     ensures in_step { OnOk result (IsInStep session.new) }
+    ensures fault { IfErr result (IsRowsFault session.old.manager session.new.manager) }
 {
     let mut rows = Vec::new(alloc);
     for part in parts {
         let row = row_of(rt, alloc, session, files, part)?;
         rows.push(row)?;
         set_back(rt, session, returns, part)?;
+        first.compare(alloc, session)?;
     }
     Ok(rows)
 }
@@ -114,8 +119,11 @@ fn row_of<H: Threads + Wait + Sync>(
 ) -> Result<Row, Fault>
     requires { IsInStep session.old }
     ensures row { IfOk result (λ r. IsRowAt files.now session.old.manager part.now r) }
+    ensures blocks { OnOk result (session.new.manager.holdings.blocks
+        ≡ session.old.manager.holdings.blocks) }
     ensures reached { OnOk result (IsReached session.old.manager session.new.manager) }
     ensures in_step { OnOk result (IsInStep session.new) }
+    ensures fault { IfErr result IsRefusal }
 {
     let lost = Lost::of_nodes(alloc, part.nodes.as_slice())?;
     let losses = lost.events(alloc)?;
@@ -139,6 +147,8 @@ fn set_back<H: Threads + Wait + Sync>(
     part: &Part,
 ) -> Result<(), Refusal>
     requires { IsInStep session.old }
+    ensures blocks { OnOk result (session.new.manager.holdings.blocks
+        ≡ session.old.manager.holdings.blocks) }
     ensures reached { OnOk result (IsReached session.old.manager session.new.manager) }
     ensures in_step { OnOk result (IsInStep session.new) }
 {
@@ -146,12 +156,6 @@ fn set_back<H: Threads + Wait + Sync>(
         node.make(rt, session, part.nodes.as_slice())?;
     }
     Ok(())
-}
-
-fn are_same(some: &[Replica], others: &[Replica]) -> bool
-    ensures { OnTrue result (some.now ≡ others.now) }
-{
-    some == others
 }
 
 fn sort_worst_first(rows: &mut Vec<Row>) -> Result<(), AllocError>

@@ -46,6 +46,10 @@ impl<T: Drop> From<AllocFailed<T>> for Fault {
 }
 
 impl From<Refusal> for Fault {
+    ghost use Rattle.cluster_losses.specs.Faults.{IsOfRefusal};
+
+    ghost from_gives = { IsOfRefusal };
+
     fn from(refusal: Refusal) -> Self {
         match refusal {
             Refusal::Memory => Fault::Memory,

@@ -11,6 +11,8 @@ pub mod loss;
 pub mod loss_events;
 mod named;
 mod parts;
+mod returns;
 mod set_back;
+mod snapshot;
 pub mod standing;
 pub mod without;

@@ -1,4 +1,7 @@
 // The losses that the words of a command line name.
+ghost use Rattle.std.specs.Prelude.{◌≡◌, map, IfOk, option_map};
+ghost use Rattle.cluster_losses.specs.Questions.{alone_named, asked_by, at_colon, drain_named, is_together, kind_of, loss_named, named_of, question_named, together_named};
+
 use std::alloc::{AllocError, Global};
 use std::fmt;
 
@@ -13,6 +16,11 @@ pub enum Kind {
 }
 
 impl fmt::Display for Kind {
+    ghost use Rattle.std.specs.Prelude.{Some};
+    ghost use Rattle.cluster_losses.specs.Questions.{kind_text};
+
+    ghost output = { λ kind. Some (kind_text kind) };
+
     fn fmt<W: fmt::Write>(&self, f: &mut fmt::Formatter<W>) -> fmt::Result {
         f.write_str(match self {
             Kind::Rack => "rack",
@@ -42,7 +50,9 @@ pub enum Question<'a> {
 
 impl Question<'_> {
     /// Whether all losses come at once.
-    pub fn is_one(&self) -> bool {
+    pub fn is_one(&self) -> bool
+        ensures { result ≡ is_together (asked_by self.now) }
+    {
         matches!(self, Question::Losses(_))
     }
 }
@@ -53,32 +63,39 @@ pub fn question_of<'a>(
     alloc: Global,
     lose: &[&'a str],
     drain: &[&'a str],
-) -> Result<Option<Question<'a>>, AllocError> {
-    if lose.is_empty() && drain.is_empty() {
-        return Ok(None);
+) -> Result<Option<Question<'a>>, AllocError>
+    ensures { IfOk result (λ o. option_map asked_by o
+        ≡ question_named (map (λ w. w.now) lose.now) (map (λ w. w.now) drain.now)) }
+{
+    if lose.len() > 1 || !drain.is_empty() {
+        return losses_of(alloc, lose, drain);
     }
-    if lose.len() == 1 && drain.is_empty() {
-        match lose[0] {
-            "each-rack" => return Ok(Some(Question::EachRack)),
-            "each-node" => return Ok(Some(Question::EachNode)),
-            _ => {}
-        }
+    match lose.first() {
+        Some(word) => alone_of(alloc, *word),
+        None => Ok(None),
     }
-    losses_of(alloc, lose, drain)
+}
+
+/// The question of one value of `--lose` alone.
+fn alone_of<'a>(alloc: Global, word: &'a str) -> Result<Option<Question<'a>>, AllocError>
+    ensures { IfOk result (λ o. option_map asked_by o ≡ alone_named word.entry.now) }
+{
+    match word {
+        "each-rack" => Ok(Some(Question::EachRack)),
+        "each-node" => Ok(Some(Question::EachNode)),
+        _ => losses_of(alloc, &[word], &[]),
+    }
 }
 
 fn losses_of<'a>(
     alloc: Global,
     lose: &[&'a str],
     drain: &[&'a str],
-) -> Result<Option<Question<'a>>, AllocError> {
-    let mut losses = Vec::new(alloc);
-    for name in drain {
-        losses.push(Loss {
-            kind: Kind::Drain,
-            name: *name,
-        })?;
-    }
+) -> Result<Option<Question<'a>>, AllocError>
+    ensures { IfOk result (λ o. option_map asked_by o
+        ≡ together_named (map (λ w. w.now) lose.now) (map (λ w. w.now) drain.now)) }
+{
+    let mut losses = drains_of(alloc, drain)?;
     for word in lose {
         let Some(loss) = loss_of(*word) else {
             return Ok(None);
@@ -88,14 +105,44 @@ fn losses_of<'a>(
     Ok(Some(Question::Losses(losses)))
 }
 
+/// A loss for each node that is to be taken away.
+fn drains_of<'a>(alloc: Global, drain: &[&'a str]) -> Result<Vec<Loss<'a>>, AllocError>
+    ensures { IfOk result (λ v. map named_of v.items
+        ≡ map drain_named (map (λ w. w.now) drain.now)) }
+{
+    let mut losses = Vec::new(alloc);
+    for name in drain {
+        losses.push(Loss {
+            kind: Kind::Drain,
+            name: *name,
+        })?;
+    }
+    Ok(losses)
+}
+
 /// The loss that `rack:NAME`, `node:HOST` or `storage:ID` names.
-fn loss_of(word: &str) -> Option<Loss<'_>> {
-    let (kind, name) = word.split_once(':')?;
-    let kind = match kind {
-        "rack" => Kind::Rack,
-        "node" => Kind::Node,
-        "storage" => Kind::Storage,
-        _ => return None,
-    };
+fn loss_of(word: &str) -> Option<Loss<'_>>
+    ensures { option_map named_of result ≡ loss_named word.now }
+{
+    let (kind, name) = at_colon(word)?;
+    let kind = kind_of(kind)?;
     Some(Loss { kind, name })
+}
+
+/// The parts of a text before and after its first colon.
+fn at_colon(text: &str) -> Option<(&str, &str)>
+    ensures { option_map (λ p. (p.0.now, p.1.now)) result ≡ at_colon text.now }
+{
+    text.split_once(':')
+}
+
+fn kind_of(text: &str) -> Option<Kind>
+    ensures { result ≡ kind_of text.now }
+{
+    match text {
+        "rack" => Some(Kind::Rack),
+        "node" => Some(Kind::Node),
+        "storage" => Some(Kind::Storage),
+        _ => None,
+    }
 }

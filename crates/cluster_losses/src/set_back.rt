@@ -1,62 +1,33 @@
 // Restores a dead node: the events by which it registers again and reports all that it had.
-ghost use Rattle.std.specs.Prelude.{OnOk};
-ghost use Rattle.cluster_report.specs.Sessions.{IsInStep};
-ghost use Rattle.cluster_losses.specs.Reached.{IsReached};
+ghost use Rattle.std.specs.Prelude.{◌≡◌, ◌++◌, true, map, IfOk, OnOk};
+ghost use Rattle.std.specs.List.{AllZip};
+ghost use Rattle.bm_base.specs.Maps.Map as map_of;
+ghost use Rattle.cluster_losses.specs.Returned.{IsReturn};
+ghost use Rattle.cluster_losses.specs.Returns.{AreReported, AreOfReturn, drained_again, free_of, heartbeat, is_report, registration};
 
-use crate::events::apply_all;
+use crate::returns::Return;
+use crate::snapshot::drains;
 use bm_base::{
-    Entry, Event, Gen, Items, MAX_ENTRIES, NodeId, Refusal, Remaining, Replica, Stamp, StorageId,
+    Entry, Event, Gen, Items, MAX_ENTRIES, NodeId, Remaining, Replica, Stamp, StorageId,
 };
 use bm_topo::Topology;
 use cluster_report::book::Book;
 use cluster_report::catalogue::Catalogue;
 use cluster_report::nodes::{all_nodes, all_storages};
-use cluster_report::session::Session;
 use std::alloc::{AllocError, Global};
-use std::sync::Wait;
-use std::thread::Threads;
-
-/// A node, and the events by which it comes with all that it has.
-#[derive(Drop)]
-pub struct Return {
-    node: NodeId,
-    events: Vec<Event>,
-}
-
-impl Return {
-    /// Makes the node come back, if it is one of these.
-    #[tactic(auto, using(crate::proofs::Reached::no_way, crate::proofs::Reached::way_by))]
-    pub fn make<H: Threads + Wait + Sync>(
-        &self,
-        rt: &H,
-        session: &mut Session,
-        nodes: &[NodeId],
-    ) -> Result<(), Refusal>
-        requires { IsInStep session.old }
-        ensures reached { OnOk result (IsReached session.old.manager session.new.manager) }
-        ensures in_step { OnOk result (IsInStep session.new) }
-    {
-        if !nodes.contains(&self.node) {
-            return Ok(());
-        }
-        apply_all(rt, session, self.events.as_slice())?;
-        Ok(())
-    }
-}
 
 /// The return of each node of a cluster with these replicas.
+#[tactic(auto, using(crate::proofs::Returned::return_keeps))]
 pub fn returns_of(
     alloc: Global,
     book: &Book,
     replicas: &[Replica],
-) -> Result<Vec<Return>, AllocError> {
+) -> Result<Vec<Return>, AllocError>
+    ensures { IfOk result (λ v. let C = book.now.topology.cluster in
+        AllZip (IsReturn C) (map_of.keys C.nodes) v.items) }
+{
     let storages = all_storages(alloc, &book.topology)?;
-    let mut stored = lists_for(alloc, storages.as_slice())?;
-    for replica in replicas {
-        if let Ok(at) = storages.as_slice().binary_search(&replica.storage) {
-            push_at(&mut stored, at, *replica)?;
-        }
-    }
+    let stored = stored_on_each(alloc, storages.as_slice(), replicas)?;
     let mut returns = Vec::new(alloc);
     let nodes = all_nodes(alloc, &book.topology)?;
     for node in &nodes {
@@ -67,6 +38,21 @@ pub fn returns_of(
         })?;
     }
     Ok(returns)
+}
+
+/// The replicas on each of these storages.
+fn stored_on_each(
+    alloc: Global,
+    storages: &[StorageId],
+    replicas: &[Replica],
+) -> Result<Vec<Vec<Replica>>, AllocError> {
+    let mut stored = lists_for(alloc, storages)?;
+    for replica in replicas {
+        if let Ok(at) = storages.binary_search(&replica.storage) {
+            push_at(&mut stored, at, *replica)?;
+        }
+    }
+    Ok(stored)
 }
 
 /// An empty list for each storage.
@@ -93,65 +79,91 @@ fn events_of(
     node: NodeId,
     storages: &[StorageId],
     stored: &[Vec<Replica>],
-) -> Result<Vec<Event>, AllocError> {
+) -> Result<Vec<Event>, AllocError>
+    ensures { IfOk result (λ v. AreOfReturn book.now.topology.cluster node v.items) }
+{
     let mut events = Vec::new(alloc);
-    events.push(registration(alloc, book, node, storages)?)?;
-    events.push(heartbeat(alloc, &book.topology, node, storages)?)?;
-    for (storage, replicas) in storages.iter().zip(stored.iter()) {
-        if book.topology.has_storage(node, *storage) {
-            add_reports(
-                alloc,
-                &mut events,
-                &book.blocks,
-                *storage,
-                replicas.as_slice(),
-            )?;
-        }
-    }
-    if book.topology.node_drains(node) == Some(true) {
-        events.push(Event::Drain { node })?;
-    }
+    events.push(registration(alloc, book, node)?)?;
+    events.push(heartbeat(alloc, &book.topology, node)?)?;
+    add_all_reports(alloc, &mut events, book, node, storages, stored)?;
+    add_drain(&mut events, &book.topology, node)?;
     Ok(events)
 }
 
-fn registration(
-    alloc: Global,
-    book: &Book,
-    node: NodeId,
-    storages: &[StorageId],
-) -> Result<Event, AllocError> {
-    let mut own = Vec::new(alloc);
-    for storage in storages {
-        if book.topology.has_storage(node, *storage) {
-            own.push(*storage)?;
-        }
+/// Adds that the node drains, if it does.
+fn add_drain(events: &mut Vec<Event>, topology: &Topology, node: NodeId) -> Result<(), AllocError>
+    ensures { OnOk result (events.new.items
+        ≡ events.old.items ++ drained_again topology.now.cluster node) }
+{
+    if drains(topology, node) {
+        events.push(Event::Drain { node })?;
     }
+    Ok(())
+}
+
+fn registration(alloc: Global, book: &Book, node: NodeId) -> Result<Event, AllocError>
+    ensures { IfOk result (λ e. e ≡ registration book.now.topology.cluster node) }
+{
     Ok(Event::Register {
         node,
         rack: book.rack_of(node),
-        storages: Items::from_vec(own),
+        storages: Items::from_slice(alloc, book.topology.storages_of(node))?,
     })
 }
 
-fn heartbeat(
-    alloc: Global,
-    topology: &Topology,
-    node: NodeId,
-    storages: &[StorageId],
-) -> Result<Event, AllocError> {
-    let mut free = Vec::new(alloc);
-    for storage in storages {
-        if topology.has_storage(node, *storage) {
-            free.push(Remaining {
-                storage: *storage,
-                remaining: topology.remaining(*storage).unwrap_or(0),
-            })?;
-        }
-    }
+fn heartbeat(alloc: Global, topology: &Topology, node: NodeId) -> Result<Event, AllocError>
+    ensures { IfOk result (λ e. e ≡ heartbeat topology.now.cluster node) }
+{
+    let free = free_on_each(alloc, topology, topology.storages_of(node))?;
     Ok(Event::Heartbeat {
         node,
         remaining: Items::from_vec(free),
     })
+}
+
+/// The free bytes of each of these storages.
+fn free_on_each(
+    alloc: Global,
+    topology: &Topology,
+    storages: &[StorageId],
+) -> Result<Vec<Remaining>, AllocError>
+    ensures { IfOk result (λ v. v.items ≡ map (free_of topology.now.cluster) storages.now) }
+{
+    storages
+        .iter()
+        .map(|storage| free_of(topology, *storage))
+        .collect(alloc)
+}
+
+/// The free bytes of a storage.
+#[tactic(auto, unfolding(bm_base::specs::Machine::Excess::remaining))]
+fn free_of(topology: &Topology, storage: StorageId) -> Remaining
+    ensures { result ≡ free_of topology.now.cluster storage }
+{
+    Remaining {
+        storage,
+        remaining: topology.remaining(storage).unwrap_or(0),
+    }
+}
+
+/// Adds the reports of all storages of a node.
+#[tactic(auto, using(crate::proofs::Returned::none_reported, crate::proofs::Returned::more_reported))]
+fn add_all_reports(
+    alloc: Global,
+    events: &mut Vec<Event>,
+    book: &Book,
+    node: NodeId,
+    storages: &[StorageId],
+    stored: &[Vec<Replica>],
+) -> Result<(), AllocError>
+    ensures { OnOk result (AreReported events.old.items events.new.items) }
+{
+    for (storage, replicas) in storages.iter().zip(stored.iter()) {
+        if book.topology.has_storage(node, *storage) {
+            add_reports(alloc, events, &book.blocks, *storage, replicas.as_slice())?;
+        }
+    }
+    Ok(())
 }
 
 /// Adds the full report of a storage, a notice for each replica above the limit of a report, and
@@ -162,15 +174,44 @@ fn add_reports(
     blocks: &Catalogue,
     storage: StorageId,
     replicas: &[Replica],
-) -> Result<(), AllocError> {
+) -> Result<(), AllocError>
+    ensures { OnOk result (AreReported events.old.items events.new.items) }
+{
+    events.push(full_report(alloc, blocks, storage, replicas)?)?;
+    add_received(events, blocks, storage, replicas)?;
+    add_corrupt(events, storage, replicas)?;
+    Ok(())
+}
+
+/// The full report of a storage, up to the limit of a report.
+fn full_report(
+    alloc: Global,
+    blocks: &Catalogue,
+    storage: StorageId,
+    replicas: &[Replica],
+) -> Result<Event, AllocError>
+    ensures { IfOk result (λ e. is_report e ≡ true) }
+{
     let mut entries = Vec::new(alloc);
     for replica in replicas.iter().take(MAX_ENTRIES) {
         entries.push(Entry::one(replica.block, stamp_of(blocks, replica)))?;
     }
-    events.push(Event::FullReport {
+    Ok(Event::FullReport {
         storage,
         entries: Items::from_vec(entries),
-    })?;
+    })
+}
+
+/// Adds a notice for each replica above the limit of a report.
+#[tactic(auto, using(crate::proofs::Returned::none_reported, crate::proofs::Returned::one_reported))]
+fn add_received(
+    events: &mut Vec<Event>,
+    blocks: &Catalogue,
+    storage: StorageId,
+    replicas: &[Replica],
+) -> Result<(), AllocError>
+    ensures { OnOk result (AreReported events.old.items events.new.items) }
+{
     for replica in replicas.iter().skip(MAX_ENTRIES) {
         events.push(Event::Received {
             storage,
@@ -178,6 +219,18 @@ fn add_reports(
             stamp: stamp_of(blocks, replica),
         })?;
     }
+    Ok(())
+}
+
+/// Adds a notice for each bad replica.
+#[tactic(auto, using(crate::proofs::Returned::none_reported, crate::proofs::Returned::one_reported))]
+fn add_corrupt(
+    events: &mut Vec<Event>,
+    storage: StorageId,
+    replicas: &[Replica],
+) -> Result<(), AllocError>
+    ensures { OnOk result (AreReported events.old.items events.new.items) }
+{
     for replica in replicas {
         if replica.tag.is_bad() {
             events.push(Event::Corrupt {

@@ -5,6 +5,7 @@ use Rattle.bm_base.specs.declared.event.Event.{Event}
 use Rattle.bm_base.specs.Words.{State, keys}
 use Rattle.cluster_input.specs.declared.loaded.Loaded.{Loaded}
 use Rattle.cluster_lost.specs.Losses.{after_losses}
+use Rattle.cluster_losses.specs.Alike.{IsLike}
 use Rattle.cluster_losses.specs.Events.{events_of}
 use Rattle.cluster_losses.specs.Named.{AreNamed}
 use Rattle.cluster_losses.specs.Parts.{AreRacks, node_part}
@@ -50,17 +51,19 @@ pub found_of : (before after : Loaded) (pace : Option Pace) (ls : List Loss) (lo
     → AreFoundOf before after pace ls it
 found_of before after pace ls lost it named found = record { lost = lost; named = named; found = found }
 
-pub racks_found : (before : Loaded) (parts : List Part) (t : Table)
+pub racks_found : (before after : Loaded) (parts : List Part) (t : Table)
     → AreRacks before.session.book.topology.cluster parts
     → AreRows before.files before.session.manager parts t.rows.items
     → t.kind ≡ kind.Rack
-    → IsTableOfRacks before t
-racks_found before parts t racks rows kind_is = record { parts = parts; racks = racks; rows = rows; kind_is = kind_is }
+    → IsLike before.session.manager after.session.manager
+    → IsTableOfRacks before after t
+racks_found before after parts t racks rows kind_is like = record { parts = parts; racks = racks; rows = rows; kind_is = kind_is; like = like }
 
-pub nodes_found : (before : Loaded) (parts : List Part) (t : Table)
+pub nodes_found : (before after : Loaded) (parts : List Part) (t : Table)
     → parts ≡ map node_part (keys before.session.book.topology.cluster.nodes)
     → AreRows before.files before.session.manager parts t.rows.items
     → t.kind ≡ kind.Node
-    → IsTableOfNodes before t
-nodes_found before parts t is rows kind_is =
-    record { rows = subst (λ ps. AreRows before.files before.session.manager ps t.rows.items) is rows; kind_is = kind_is }
+    → IsLike before.session.manager after.session.manager
+    → IsTableOfNodes before after t
+nodes_found before after parts t is rows kind_is like =
+    record { rows = subst (λ ps. AreRows before.files before.session.manager ps t.rows.items) is rows; kind_is = kind_is; like = like }

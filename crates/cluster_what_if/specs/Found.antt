@@ -3,6 +3,7 @@ use Rattle.std.specs.Prelude.{◌≡◌, List, Option, Some, None, map, string_b
 use Rattle.bm_base.specs.Words.{State, keys}
 use Rattle.cluster_input.specs.declared.loaded.Loaded.{Loaded}
 use Rattle.cluster_lost.specs.Losses.{after_losses}
+use Rattle.cluster_losses.specs.Alike.{IsLike}
 use Rattle.cluster_losses.specs.Events.{events_of}
 use Rattle.cluster_losses.specs.Named.{AreNamed}
 use Rattle.cluster_losses.specs.Parts.{AreRacks, node_part}
@@ -49,21 +50,23 @@ pub record AreFoundOf (before after : Loaded) (pace : Option Pace) (ls : List Lo
   pub named : AreNamed before.session.book.topology.cluster before.names ls lost
   pub found : AreFound before after pace lost it
 
--- a row for each rack, which is lost alone
-pub record IsTableOfRacks (before : Loaded) (t : Table) : Type 0 where
+-- a row for each rack, which is lost alone; the cluster is then as before
+pub record IsTableOfRacks (before after : Loaded) (t : Table) : Type 0 where
   pub parts : List Part
   pub racks : AreRacks before.session.book.topology.cluster parts
   pub rows : AreRows before.files before.session.manager parts t.rows.items
   pub kind_is : t.kind ≡ kind.Rack
+  pub like : IsLike before.session.manager after.session.manager
 
 -- a row for each node
-pub record IsTableOfNodes (before : Loaded) (t : Table) : Type 0 where
+pub record IsTableOfNodes (before after : Loaded) (t : Table) : Type 0 where
   pub rows : AreRows before.files before.session.manager (map node_part (keys before.session.book.topology.cluster.nodes)) t.rows.items
   pub kind_is : t.kind ≡ kind.Node
+  pub like : IsLike before.session.manager after.session.manager
 
 -- what a question asks for
 abbrev pub IsFoundFor : Question → Option Pace → Loaded → Loaded → Found → Type 0
 IsFoundFor (question.Losses ls) pace before after (found.Losses it) = AreFoundOf before after pace ls.items it
-IsFoundFor question.EachRack pace before after (found.Table t) = IsTableOfRacks before t
-IsFoundFor question.EachNode pace before after (found.Table t) = IsTableOfNodes before t
+IsFoundFor question.EachRack pace before after (found.Table t) = IsTableOfRacks before after t
+IsFoundFor question.EachNode pace before after (found.Table t) = IsTableOfNodes before after t
 IsFoundFor _ pace before after _ = ⊥

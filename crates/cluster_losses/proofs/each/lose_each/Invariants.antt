@@ -1,13 +1,15 @@
 use Rattle.std.proofs.Common.{take}
 use Rattle.std.specs.List.{AllZip}
 use Rattle.cluster_report.specs.Sessions.{IsInStep}
+use Rattle.cluster_losses.specs.Alike.{IsLike}
 use Rattle.cluster_losses.specs.Reached.{IsReached}
-use Rattle.cluster_losses.specs.Tables.{IsRowFrom}
+use Rattle.cluster_losses.specs.Tables.{IsRowAt}
 use Rattle.cluster_losses.proofs.each.lose_each.Given as goal
 
 abbrev pub invariant-loop-part : goal.invariant-loop-part
 invariant-loop-part g l = record {
-  rows : AllZip (IsRowFrom l.files l.fn.session.manager) (take l.part-index l.parts) l.rows.items;
+  rows : AllZip (IsRowAt l.files l.fn.session.manager) (take l.part-index l.parts) l.rows.items;
+  like : IsLike l.fn.session.manager l.session.manager;
   reached : IsReached l.fn.session.manager l.session.manager;
   in_step : IsInStep l.session;
 }
