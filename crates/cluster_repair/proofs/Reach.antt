@@ -1,28 +1,34 @@
 -- How reports and rounds lead from one state to another, and what is noted on the way.
-use Rattle.std.proofs.Common.{◌≡◌, ◌∙◌, ◌++◌, ℕ, ◌+◌, true, not, List, [], ◌∷◌, None, refl, sym, ap, subst, length, arith}
+use Rattle.std.proofs.Common.{◌≡◌, ◌∙◌, ◌++◌, ℕ, ◌+◌, ◌≤◌, true, not, List, [], ◌∷◌, None, refl, sym, ap, subst, length, map, take, take_all, get_or, arith}
 use Rattle.std.specs.Prelude.{◌<◌, ◌/◌, nat_lt}
-use Rattle.std.specs.List.{filter, Contains}
+use Rattle.std.specs.List.{filter, fold, Contains}
+use Rattle.std.proofs.lemmas.List.{map-append, take_more}
+use Rattle.std.proofs.lemmas.List.Sums.{fold-append}
 use Rattle.std.proofs.lemmas.List.Elements.{All-nil, All-same, All-push, All-append, All-weaker, All-filter}
 use Rattle.bm_base.specs.declared.commands.Commands.{Commands}
+use Rattle.bm_base.specs.declared.commands.Delete.{Delete}
 use Rattle.bm_base.specs.declared.event.Event.{Event}
-use Rattle.bm_base.specs.declared.event.Event.TheVariants.{Heartbeat, Received, Deleted}
+use Rattle.bm_base.specs.declared.event.Event.TheVariants.{Heartbeat}
 use Rattle.bm_base.specs.declared.event.Remaining.{Remaining}
-use Rattle.bm_base.specs.declared.replica.Stamp.{Stamp}
 use Rattle.bm_base.specs.declared.call.Call.{Call}
 use Rattle.bm_base.specs.declared.call.Call.TheVariants as call
 use Rattle.bm_base.specs.declared.call.Answer.TheVariants as answer
-use Rattle.bm_base.specs.Words.{State, whole_round, refusal_of, round_refusal, step, refused_or, count_call, done_by, after_event, state_after, is_retired}
+use Rattle.bm_base.specs.Words.{Cluster, State, whole_round, refusal_of, round_refusal, step, refused_or, count_call, done_by, after_event, state_after, is_retired}
 use Rattle.laws_of_repairs.proofs.Watching.{round_is_next, covers_heard, covers_told}
+use Rattle.cluster_repair.specs.declared.free.FreeBytes.{FreeBytes}
+use Rattle.cluster_repair.specs.declared.free.NodeStorages.{NodeStorages}
 use Rattle.cluster_repair.specs.declared.rows.Row.{Row}
 use Rattle.cluster_repair.specs.declared.repair.Repair.{Repair}
 use Rattle.cluster_repair.specs.declared.repair.Retirement.{Retirement}
 use Rattle.cluster_repair.specs.declared.on_way.Sent.{Sent}
 use Rattle.cluster_repair.specs.declared.datanodes.DataNodes.{DataNodes}
+use Rattle.cluster_repair.specs.Reports.{IsReached, after_events, deleted, heartbeat_of, received, reports_of}
+use Rattle.cluster_repair.specs.Sending.{remaining_in}
 use Rattle.cluster_repair.specs.Sent.{AreCounted, AreBegun, copies_in, transfers_in}
 use Rattle.cluster_repair.specs.declared.ticks.Ticks.{Ticks}
 use Rattle.cluster_repair.specs.Ticks.{ComesAt, IsTimeAfter}
 use Rattle.cluster_repair.proofs.TimeLemmas.{timed_at_once, timed_by_round, timed_alike, next_time, round_at}
-use Rattle.cluster_repair.specs.Rows.{AreTimed, IsReached, AreReported, AreCounts, IsAfterRound, IsCommandedAfter, AreSentAfter, IsRowAfter, AreRowsAfter, EndsWith, IsRetiredAfter, AreRetired, IsUnderWay, AreLeveled, IsDone, is_on_stride}
+use Rattle.cluster_repair.specs.Rows.{AreTimed, AreReported, AreCounts, IsAfterRound, IsCommandedAfter, AreSentAfter, IsRowAfter, AreRowsAfter, EndsWith, IsRetiredAfter, AreRetired, IsUnderWay, AreLeveled, IsDone, is_on_stride}
 
 state_after-append : (M : State) (calls more : List Call) → state_after M (calls ++ more) ≡ state_after (state_after M calls) more
 state_after-append M [] more = refl
@@ -59,33 +65,59 @@ reached_by_round M N accepted after = record {
 
 -- Reports.
 
-pub reported_at_once : (M : State) (bs : List ℕ) → AreReported M M bs bs
-reported_at_once M bs = record { reached = reached_at_once M; covers = λ c. c }
+pub reported_at_once : (M : State) (bs : List ℕ) → AreReported [] M M bs bs
+reported_at_once M bs = record { state = refl; reached = reached_at_once M; covers = λ c. c }
 
-pub reported_on : (L M N : State) (xs ys zs : List ℕ) → AreReported L M xs ys → AreReported M N ys zs → AreReported L N xs zs
-reported_on L M N xs ys zs first second = record {
+pub reported_on : (es fs gs : List Event) (L M N : State) (xs ys zs : List ℕ) → gs ≡ es ++ fs → AreReported es L M xs ys → AreReported fs M N ys zs → AreReported gs L N xs zs
+reported_on es fs gs L M N xs ys zs is first second = record {
+  state = second.state ∙ ap (λ S. after_events S fs) first.state ∙ sym (ap (after_events L) is ∙ fold-append after_event L es fs);
   reached = reached_on L M N 0 0 first.reached second.reached;
   covers = λ c. second.covers (first.covers c);
 }
 
-pub reported_copy : (M N : State) (xs ys : List ℕ) (s c : ℕ) (stamp : Stamp) → refusal_of M (Received s c stamp) ≡ None → N ≡ after_event M (Received s c stamp)
-    → ys ≡ xs ++ c ∷ [] → AreReported M N xs ys
-reported_copy M N xs ys s c stamp accepted after added = record {
-  reached = reached_by_event M N (Received s c stamp) accepted after;
-  covers = covers_told M N (Received s c stamp) xs ys c added (λ b apart. ap not apart) after;
+-- one more of a list that is reported in order
+pub reported_more : {X : Type 0} (f : X → Event) (items : List X) (i : ℕ) (x : X) (L M N : State) (xs ys zs : List ℕ) → i < length items → x ≡ get_or items i x
+    → AreReported (map f (take i items)) L M xs ys → AreReported (f x ∷ []) M N ys zs → AreReported (map f (take (i + 1) items)) L N xs zs
+reported_more {X} f items i x L M N xs ys zs below is first second =
+    reported_on (map f (take i items)) (f x ∷ []) (map f (take (i + 1) items)) L M N xs ys zs
+    (ap (map f) (take_more items i x below) ∙ map-append f (take i items) (get_or items i x ∷ []) ∙ ap (λ y. map f (take i items) ++ f y ∷ []) (sym is)) first second
+
+pub reported_all : {X : Type 0} (f : X → Event) (items : List X) (i : ℕ) (M N : State) (xs ys : List ℕ) → length items ≤ i → AreReported (map f (take i items)) M N xs ys
+    → AreReported (map f items) M N xs ys
+reported_all {X} f items i M N xs ys all reported = subst (λ (zs : List X). AreReported (map f zs) M N xs ys) (take_all i items all) reported
+
+pub reported_copy : (M N : State) (xs ys : List ℕ) (s : Sent) → refusal_of M (received s) ≡ None → N ≡ after_event M (received s)
+    → ys ≡ xs ++ s.transfer.block ∷ [] → AreReported (received s ∷ []) M N xs ys
+reported_copy M N xs ys s accepted after added = record {
+  state = after;
+  reached = reached_by_event M N (received s) accepted after;
+  covers = covers_told M N (received s) xs ys s.transfer.block added (λ b apart. ap not apart) after;
 }
 
-pub reported_delete : (M N : State) (xs ys : List ℕ) (s c : ℕ) → refusal_of M (Deleted s c) ≡ None → N ≡ after_event M (Deleted s c) → ys ≡ xs ++ c ∷ [] → AreReported M N xs ys
-reported_delete M N xs ys s c accepted after added = record {
-  reached = reached_by_event M N (Deleted s c) accepted after;
-  covers = covers_told M N (Deleted s c) xs ys c added (λ b apart. ap not apart) after;
+pub reported_delete : (M N : State) (xs ys : List ℕ) (d : Delete) → refusal_of M (deleted d) ≡ None → N ≡ after_event M (deleted d) → ys ≡ xs ++ d.block ∷ []
+    → AreReported (deleted d ∷ []) M N xs ys
+reported_delete M N xs ys d accepted after added = record {
+  state = after;
+  reached = reached_by_event M N (deleted d) accepted after;
+  covers = covers_told M N (deleted d) xs ys d.block added (λ b apart. ap not apart) after;
 }
 
-pub reported_free : (M N : State) (xs : List ℕ) (n : ℕ) (rs : List Remaining) → refusal_of M (Heartbeat n rs) ≡ None → N ≡ after_event M (Heartbeat n rs) → AreReported M N xs xs
-reported_free M N xs n rs accepted after = record {
-  reached = reached_by_event M N (Heartbeat n rs) accepted after;
-  covers = covers_heard M N (Heartbeat n rs) xs (λ b. refl) after;
+pub reported_free : (M N : State) (xs : List ℕ) (f : FreeBytes) (n : NodeStorages) (rs : List Remaining) → rs ≡ map (remaining_in f) n.storages.items
+    → refusal_of M (Heartbeat n.node rs) ≡ None → N ≡ after_event M (Heartbeat n.node rs) → AreReported (heartbeat_of f n ∷ []) M N xs xs
+reported_free M N xs f n rs are accepted after = record {
+  state = after ∙ ap (λ rs. after_event M (Heartbeat n.node rs)) are;
+  reached = reached_by_event M N (Heartbeat n.node rs) accepted after;
+  covers = covers_heard M N (Heartbeat n.node rs) xs (λ b. refl) after;
 }
+
+-- copies, deletes, and what is then free
+pub reported_in_turn : (due ss : List Sent) (ds es : List Delete) (f : FreeBytes) (K L M N : State) (xs ys zs : List ℕ) → ss ≡ due → es ≡ ds → AreReported (map received ss) K L xs ys
+    → AreReported (map deleted es) L M ys zs → ((bs : List ℕ) → AreReported (map (heartbeat_of f) f.nodes.items) M N bs bs) → AreReported (reports_of due ds f) K N xs zs
+reported_in_turn due ss ds es f K L M N xs ys zs copies deletes first second third =
+    let gone = map deleted ds in
+    let free = map (heartbeat_of f) f.nodes.items in
+    reported_on (map received due) (gone ++ free) (reports_of due ds f) K L N xs ys zs refl (subst (λ (ts : List Sent). AreReported (map received ts) K L xs ys) copies first)
+    (reported_on gone free (gone ++ free) L M N ys zs zs refl (subst (λ (gs : List Delete). AreReported (map deleted gs) L M ys zs) deletes second) (third zs))
 
 -- Rows.
 
@@ -122,9 +154,9 @@ none_sent : (M : State) (d : DataNodes) → AreCounted [] d → AreSentAfter M d
 none_sent M d counted = record { copies = []; commanded = All-nil (IsCommandedAfter M); counted = counted }
 
 -- those of one more round
-sent_and : (M L : State) (rounds : ℕ) (old mid new : DataNodes) → IsReached rounds M L → ((ss : List Sent) → AreCounted ss old → AreCounted ss mid)
-    → AreBegun (transfers_in (whole_round L).0) mid new → AreSentAfter M old → AreSentAfter M new
-sent_and M L rounds old mid new reached same begun before = record {
+sent_and : (C : Cluster) (now : ℕ) (M L : State) (rounds : ℕ) (old mid new : DataNodes) → IsReached rounds M L → ((ss : List Sent) → AreCounted ss old → AreCounted ss mid)
+    → AreBegun C now (transfers_in (whole_round L).0) mid new → AreSentAfter M old → AreSentAfter M new
+sent_and C now M L rounds old mid new reached same begun before = record {
   copies = before.copies ++ begun.copies;
   commanded = All-append (IsCommandedAfter M) before.copies begun.copies before.commanded
       (All-weaker (λ s. Contains (transfers_in (whole_round L).0) s.transfer) (IsCommandedAfter M)
@@ -149,22 +181,22 @@ under_way_at_once ticks M r rows retired rounds now on_way counted = record {
 }
 
 -- reports and a round
-pub under_way_by_round : (ticks : Ticks) (M K L N : State) (old new : Repair) (mid : DataNodes) (k : Commands) (now : ℕ) → IsReached 0 K L → round_refusal L ≡ None
+pub under_way_by_round : (C : Cluster) (ticks : Ticks) (M K L N : State) (old new : Repair) (mid : DataNodes) (k : Commands) (now : ℕ) → IsReached 0 K L → round_refusal L ≡ None
     → N ≡ count_call (whole_round L).1 → k ≡ (whole_round L).0 → new.rounds ≡ old.rounds + 1 → new.time ≡ now → new.rows.rows.items ≡ old.rows.rows.items
     → new.commanded ≡ copies_in k → ((timed : AreTimed ticks old) → ComesAt ticks timed.taken now)
     → mid.on_way.sent.items ≡ filter (λ s. nat_lt now s.arrival) old.datanodes.on_way.sent.items
-    → ((ss : List Sent) → AreCounted ss old.datanodes → AreCounted ss mid) → AreBegun (transfers_in k) mid new.datanodes
+    → ((ss : List Sent) → AreCounted ss old.datanodes → AreCounted ss mid) → AreBegun C now (transfers_in k) mid new.datanodes
     → (IsReached old.rounds M L → IsTimeAfter ticks old.rounds (now / 1000000) → AreRetired ticks M old.retired.items → AreRetired ticks M new.retired.items)
     → IsUnderWay ticks M K old → IsUnderWay ticks M N new
-under_way_by_round ticks M K L N old new mid k now reported accepted after is rounds time rows commanded comes left same begun noted on =
+under_way_by_round C ticks M K L N old new mid k now reported accepted after is rounds time rows commanded comes left same begun noted on =
     let then : IsReached old.rounds M L = subst (λ n. IsReached n M L) (sym (none_more old.rounds)) (reached_on M K L old.rounds 0 on.reached reported) in
     record {
       reached = subst (λ n. IsReached n M N) (sym rounds) (reached_on M L N old.rounds 1 then (reached_by_round L N accepted after));
-      timed = timed_by_round ticks old new mid (transfers_in k) now on.timed (comes on.timed) left begun rounds time;
+      timed = timed_by_round C ticks old new mid (transfers_in k) now on.timed (comes on.timed) left begun rounds time;
       rows = subst (AreRowsAfter ticks M) (sym rows) on.rows;
       retired = noted then (next_time ticks old now on.timed (comes on.timed)) on.retired;
       commanded = λ taken. record { before = L; after = after; copies = commanded ∙ ap copies_in is };
-      sent = sent_and M L old.rounds old.datanodes mid new.datanodes then same (subst (λ k. AreBegun (transfers_in k) mid new.datanodes) is begun) on.sent;
+      sent = sent_and C now M L old.rounds old.datanodes mid new.datanodes then same (subst (λ k. AreBegun C now (transfers_in k) mid new.datanodes) is begun) on.sent;
     }
 
 -- a row

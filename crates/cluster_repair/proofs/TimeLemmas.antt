@@ -2,6 +2,7 @@
 use Rattle.std.proofs.Common.{◌≡◌, ◌∙◌, ◌++◌, ℕ, ◌+◌, List, [], ◌∷◌, refl, sym, ap, subst, length, arith}
 use Rattle.std.specs.Prelude.{◌<◌, ◌/◌, nat_lt}
 use Rattle.std.specs.List.{filter}
+use Rattle.bm_base.specs.Words.{Cluster}
 use Rattle.bm_base.specs.declared.commands.Transfer.{Transfer}
 use Rattle.cluster_repair.specs.declared.datanodes.DataNodes.{DataNodes}
 use Rattle.cluster_repair.specs.declared.on_way.Sent.{Sent}
@@ -19,10 +20,10 @@ one_longer : (m n : ℕ) (round : Taken) (before : List Taken) → m ≡ n + 1 �
 one_longer m n round before is same = omega (arith, is, same)
 
 -- a round at its time
-pub timed_by_round : (ticks : Ticks) (old new : Repair) (mid : DataNodes) (ts : List Transfer) (now : ℕ) → (timed : AreTimed ticks old)
+pub timed_by_round : (C : Cluster) (ticks : Ticks) (old new : Repair) (mid : DataNodes) (ts : List Transfer) (now : ℕ) → (timed : AreTimed ticks old)
     → ComesAt ticks timed.taken now → mid.on_way.sent.items ≡ filter (λ s. nat_lt now s.arrival) old.datanodes.on_way.sent.items
-    → AreBegun ts mid new.datanodes → new.rounds ≡ old.rounds + 1 → new.time ≡ now → AreTimed ticks new
-timed_by_round ticks old new mid ts now timed comes left begun rounds time =
+    → AreBegun C now ts mid new.datanodes → new.rounds ≡ old.rounds + 1 → new.time ≡ now → AreTimed ticks new
+timed_by_round C ticks old new mid ts now timed comes left begun rounds time =
     let stays : List Sent → List Sent = filter (λ (s : Sent). nat_lt now s.arrival) in
     let round : Taken = record { time = now; on_way = new.datanodes.on_way.sent.items } in
     record {

@@ -2,6 +2,7 @@
 pub mod Sending
 pub mod Copies
 pub mod Sent
+pub mod Reports
 pub mod Ticks
 pub mod Rows
 pub mod Retirements

@@ -2,9 +2,9 @@
 use Rattle.std.specs.Prelude.{◌≡◌, ℕ, ◌<◌, Bool, true, ◌+◌, ◌-◌, ◌%◌, ◌==◌, max, List, [], ◌∷◌, ◌++◌, map, filter, length, Some, is_some}
 use Rattle.std.specs.List.{All, Contains}
 use Rattle.std.specs.List.Sorted.{IsStrictlyIncreasing}
-use Rattle.bm_base.specs.declared.call.Call.{Call}
+use Rattle.bm_base.specs.declared.event.Event.{Event}
 use Rattle.bm_base.specs.declared.level.Level.TheVariants.{Highest, VeryUnderReplicated, UnderReplicated, BadlyDistributed}
-use Rattle.bm_base.specs.Words.{State, has, keys, level, missing_blocks, is_retired, state_after, count_call, whole_round}
+use Rattle.bm_base.specs.Words.{State, has, keys, level, missing_blocks, is_retired, count_call, whole_round}
 use Rattle.cluster_report.specs.declared.levels.LevelCounts.{LevelCounts}
 use Rattle.laws_of_repairs.specs.Repairs.{Covers, blocks_at}
 use Rattle.cluster_repair.specs.declared.on_way.Sent.{Sent}
@@ -14,17 +14,14 @@ use Rattle.cluster_repair.specs.declared.reasons.Unmended.{Unmended}
 use Rattle.cluster_repair.specs.declared.repair.Repair.{Repair}
 use Rattle.cluster_repair.specs.declared.repair.Retirement.{Retirement}
 use Rattle.cluster_repair.specs.declared.ticks.Ticks.{Ticks}
+use Rattle.cluster_repair.specs.Reports.{IsReached, after_events}
 use Rattle.cluster_repair.specs.Sent.{transfers_in, copies_in, AreCounted}
 use Rattle.cluster_repair.specs.Ticks.{Taken, AreTaken, IsRoundAt, IsTimeAfter, time_of, on_way_of}
 
--- some calls lead from one state to another, and this number of rounds is among them
-pub record IsReached (rounds : ℕ) (M N : State) : Type 0 where
-  pub calls : List Call
-  pub leads : N ≡ state_after M calls
-  pub later : N.round ≡ M.round + rounds
-
--- reports of DataNodes lead from one state to another; blocks are added to those that are watched
-pub record AreReported (M N : State) (old new : List ℕ) : Type 0 where
+-- DataNodes report these events, which the manager accepts; blocks are added to those that are
+-- watched
+pub record AreReported (es : List Event) (M N : State) (old new : List ℕ) : Type 0 where
+  pub state : N ≡ after_events M es
   pub reached : IsReached 0 M N
   pub covers : Covers M old → Covers N new
 

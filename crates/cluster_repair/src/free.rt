@@ -49,18 +49,20 @@ impl FreeBytes {
     }
 
     pub fn take(&mut self, storage: StorageId, bytes: u64) -> Result<(), AllocError>
-        ensures { OnOk result ((s : ℕ) → free_on self.new s
+        ensures free { OnOk result ((s : ℕ) → free_on self.new s
             ≡ (if nat_eq storage s then free_on self.old storage - bytes
             else free_on self.old s)) }
+        ensures nodes { self.new.nodes ≡ self.old.nodes }
     {
         let left = self.of(storage).saturating_sub(bytes);
         self.put(storage, left)
     }
 
     pub fn give_back(&mut self, storage: StorageId, bytes: u64) -> Result<(), AllocError>
-        ensures { OnOk result ((s : ℕ) → free_on self.new s
+        ensures free { OnOk result ((s : ℕ) → free_on self.new s
             ≡ (if nat_eq storage s then min (free_on self.old storage + bytes) most
             else free_on self.old s)) }
+        ensures nodes { self.new.nodes ≡ self.old.nodes }
     {
         let left = self.of(storage).saturating_add(bytes);
         self.put(storage, left)
@@ -68,8 +70,9 @@ impl FreeBytes {
 
     #[tactic(auto, using(crate::proofs::NumberLemmas::number_put))]
     fn put(&mut self, storage: StorageId, bytes: u64) -> Result<(), AllocError>
-        ensures { OnOk result ((s : ℕ) → free_on self.new s
+        ensures free { OnOk result ((s : ℕ) → free_on self.new s
             ≡ (if nat_eq storage s then bytes else free_on self.old s)) }
+        ensures nodes { self.new.nodes ≡ self.old.nodes }
     {
         put(&mut self.free, storage.0, bytes)
     }

@@ -3,7 +3,8 @@ ghost use Rattle.std.specs.Prelude.{◌≡◌, ◌+◌, ◌<◌, [], IfOk, OnOk}
 ghost use Rattle.bm_base.specs.Machine.State.{State};
 ghost use Rattle.cluster_report.specs.Sessions.{IsInStep};
 ghost use Rattle.laws_of_repairs.specs.Repairs.{Covers};
-ghost use Rattle.cluster_repair.specs.Rows.{IsReached, AreRetired, AreTimed, IsUnderWay, IsDone};
+ghost use Rattle.cluster_repair.specs.Reports.{IsReached};
+ghost use Rattle.cluster_repair.specs.Rows.{AreRetired, AreTimed, IsUnderWay, IsDone};
 ghost use Rattle.cluster_repair.specs.Retirements.{retirement_of};
 ghost use Rattle.cluster_repair.specs.Sent.{AreCounted, copies_in};
 ghost use Rattle.cluster_repair.specs.declared.ticks.Ticks.{Ticks};

@@ -1,6 +1,7 @@
 use Rattle.bm_base.specs.Machine.State.{State}
 use Rattle.cluster_repair.specs.declared.ticks.Ticks.{Ticks}
-use Rattle.cluster_repair.specs.Rows.{IsReached, AreRetired}
+use Rattle.cluster_repair.specs.Reports.{IsReached}
+use Rattle.cluster_repair.specs.Rows.{AreRetired}
 use Rattle.cluster_repair.specs.Ticks.{IsTimeAfter}
 use Rattle.cluster_repair.proofs.repair.note_retired.Given as goal
 
