@@ -4,6 +4,7 @@ pub mod Copies
 pub mod Sent
 pub mod Reports
 pub mod Ticks
+pub mod History
 pub mod Rows
 pub mod Retirements
 pub mod Reasons

@@ -6,7 +6,8 @@ ghost use Rattle.cluster_report.specs.Catalogues.{len_in};
 ghost use Rattle.laws_of_repairs.specs.Repairs.{Covers};
 ghost use Rattle.cluster_repair.specs.declared.on_way.Sent.{Sent};
 ghost use Rattle.cluster_repair.specs.Reports.{HaveReported, received, deleted, heartbeat_of, free_after};
-ghost use Rattle.cluster_repair.specs.Rows.{AreReported};
+ghost use Rattle.cluster_repair.specs.History.{AreAtStart};
+ghost use Rattle.cluster_repair.specs.Rows.{AreReported, are_idle};
 ghost use Rattle.cluster_repair.specs.Sending.{free_on};
 ghost use Rattle.cluster_repair.specs.Sent.{AreBegun, AreCounted, node_with, transfers_in, deletes_in};
 
@@ -41,7 +42,8 @@ impl DataNodes {
     /// Nothing is on its way.
     pub fn new(alloc: Global, topology: &Topology, bandwidth: u64) -> Result<DataNodes, AllocError>
         ensures counts { IfOk result (AreCounted []) }
-        ensures on_way { IfOk result (λ d. d.on_way.sent.items ≡ []) }
+        ensures at_start { IfOk result (AreAtStart topology.now.cluster) }
+        ensures bandwidth { IfOk result (λ d. d.links.bandwidth ≡ bandwidth) }
     {
         let free = FreeBytes::new(alloc, topology)?;
         Ok(DataNodes {
@@ -56,7 +58,9 @@ impl DataNodes {
     }
 
     /// Whether nothing is left to be done.
-    pub fn are_idle(&self) -> bool {
+    pub fn are_idle(&self) -> bool
+        ensures { result ≡ are_idle self.now }
+    {
         self.on_way.is_empty() && self.deletes.is_empty()
     }
 
