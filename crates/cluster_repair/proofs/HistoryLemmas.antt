@@ -123,20 +123,6 @@ listed_if said new before t is = ap is_some is ∙ some_if said before t
 
 -- The end.
 
-or_true : (a b : Bool) → a ≡ true → (a || b) ≡ true
-or_true true b e = refl
-or_true false b e = ap (λ t. t || b) e
-
-or_last : (a b : Bool) → b ≡ true → (a || b) ≡ true
-or_last true b e = refl
-or_last false b e = e
-
-pub over_idle : (awaited : ℕ) (r : Repair) → (nat_le awaited r.rounds && are_idle r.datanodes) ≡ true → is_over awaited r ≡ true
-over_idle awaited r idle = or_true (nat_le awaited r.rounds && are_idle r.datanodes) (r.rounds == 1000000) idle
-
-pub over_last : (awaited : ℕ) (r : Repair) → r.rounds ≡ 1000000 → is_over awaited r ≡ true
-over_last awaited r last = or_last (nat_le awaited r.rounds && are_idle r.datanodes) (r.rounds == 1000000) (ap (λ n. n == 1000000) last)
-
 pub over_alike : (a b : ℕ) (old new : Repair) → a ≡ b → new.rounds ≡ old.rounds → new.datanodes ≡ old.datanodes → is_over a old ≡ true → is_over b new ≡ true
 over_alike a b old new same rounds datanodes over =
     ap (λ n. (nat_le b n && are_idle new.datanodes) || (n == 1000000)) rounds

@@ -1,7 +1,7 @@
 -- How reports and rounds lead from one state to another, and what is noted on the way.
 use Rattle.std.proofs.Common.{◌≡◌, ◌∙◌, ◌++◌, ℕ, ◌+◌, ◌≤◌, true, not, List, [], ◌∷◌, None, refl, sym, ap, subst, length, map, take, take_all, get_or, arith}
 use Rattle.std.specs.Prelude.{◌<◌, ◌/◌}
-use Rattle.std.specs.List.{filter, fold}
+use Rattle.std.specs.List.{filter}
 use Rattle.std.proofs.lemmas.List.{map-append, take_more}
 use Rattle.std.proofs.lemmas.List.Elements.{All-nil, All-same, All-push, All-filter}
 use Rattle.std.proofs.lemmas.List.Sums.{fold-append}

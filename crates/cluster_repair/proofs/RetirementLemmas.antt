@@ -1,7 +1,6 @@
 -- Notes about retired nodes.
 use Rattle.std.proofs.Common.{◌≡◌, ◌∙◌, ◌++◌, ◌+◌, ◌<◌, ◌≤◌, ℕ, Bool, true, false, not, cond, List, [], ◌∷◌, Option, Some, None, refl, sym, ap, eqb, length, take, take_all, get_or, filter}
 use Rattle.std.specs.Prelude.{◌==◌, ◌||◌, nat_eq, is_some, if◌then◌else◌}
-use Rattle.std.specs.List.{find, list_any}
 use Rattle.std.specs.Option.{option_or}
 use Rattle.std.proofs.lemmas.Bool.{eqb-true, true≢false}
 use Rattle.std.proofs.lemmas.List.Folds.{find-append, list_any_more}
@@ -35,28 +34,6 @@ note_dropped (t ∷ ts) node n = by_test (note_dropped ts node n) (eqb t.node no
         ∙ drop_later (eqb t.node n) (nat_eq node n) t (retirement_of ts n) (λ here. ap (λ k. eqb node k) (sym (eqb-true t.node n here)) ∙ eqb_turned node t.node ∙ e)
 
 -- One answer.
-
-no_noted : (same said : Bool) (new old : Option Retirement) (t : Retirement) → (same ≡ true → said ≡ false) → new ≡ (if same then None else old) → new ≡ (if same then noted said old t else old)
-no_noted true said new old t denied is = is ∙ sym (ap (λ b. noted b old t) (denied refl))
-no_noted false said new old t denied is = is
-
-pub answered_no : (M : State) (node n rounds seconds : ℕ) (ts new : List Retirement) → is_retired_in M node ≡ false
-    → retirement_of new n ≡ (if nat_eq node n then None else retirement_of ts n)
-    → retirement_of new n ≡ (if nat_eq node n then noted (is_retired_in M n) (retirement_of ts n) (note_at n rounds seconds) else retirement_of ts n)
-answered_no M node n rounds seconds ts new denied is =
-    no_noted (nat_eq node n) (is_retired_in M n) (retirement_of new n) (retirement_of ts n) (note_at n rounds seconds)
-    (λ e. ap (is_retired_in M) (sym (eqb-true node n e)) ∙ denied) is
-
-again_noted : (same said : Bool) (old : Option Retirement) (t : Retirement) → (same ≡ true → said ≡ true) → (same ≡ true → is_some old ≡ true) → old ≡ (if same then noted said old t else old)
-again_noted true said (Some u) t is there = sym (ap (λ b. noted b (Some u) t) (is refl))
-again_noted true said None t is there = absurd (true≢false (sym (there refl)))
-again_noted false said old t is there = refl
-
-pub answered_again : (M : State) (node n rounds seconds : ℕ) (ts : List Retirement) → is_retired_in M node ≡ true → is_some (retirement_of ts node) ≡ true
-    → retirement_of ts n ≡ (if nat_eq node n then noted (is_retired_in M n) (retirement_of ts n) (note_at n rounds seconds) else retirement_of ts n)
-answered_again M node n rounds seconds ts said there =
-    again_noted (nat_eq node n) (is_retired_in M n) (retirement_of ts n) (note_at n rounds seconds)
-    (λ e. ap (is_retired_in M) (sym (eqb-true node n e)) ∙ said) (λ e. ap (λ k. is_some (retirement_of ts k)) (sym (eqb-true node n e)) ∙ there)
 
 or_none : (o : Option Retirement) → option_or o None ≡ o
 or_none None = refl

@@ -1,5 +1,5 @@
 -- Copies that DataNodes send, one after another.
-use Rattle.std.proofs.Common.{◌≡◌, ◌∙◌, ◌++◌, ◌∷◌, [], ◌+◌, ◌-◌, ◌^◌, ◌≤◌, ℕ, Bool, true, false, cond, List, min, max, map, filter, refl, sym, ap, subst, arith, append_assoc, append-nil, length, length-append, take, get_or}
+use Rattle.std.proofs.Common.{◌≡◌, ◌∙◌, ◌++◌, ◌∷◌, [], ◌+◌, ◌-◌, ◌^◌, ◌≤◌, ℕ, Bool, true, false, cond, List, min, max, filter, refl, sym, ap, subst, arith, append_assoc, append-nil, length, length-append, take, get_or}
 use Rattle.std.specs.Prelude.{◌==◌, ◌&&◌, ◌||◌, ◌<◌, nat_eq, sum_by, if◌then◌else◌}
 use Rattle.std.specs.List.{All, Contains, flat_map, fold}
 use Rattle.std.proofs.lemmas.Bool.{eq-eqb, eqb-true}

@@ -1,5 +1,5 @@
 -- The rounds of a repair, one after another.
-use Rattle.std.specs.Prelude.{◌≡◌, ℕ, ◌<◌, ◌/◌, List, [], ◌∷◌, ◌++◌, filter, length, map}
+use Rattle.std.specs.Prelude.{◌≡◌, ℕ, List, [], ◌∷◌, ◌++◌, filter, length, map}
 use Rattle.bm_base.specs.Words.{Cluster, State, count_call, has_storage, keys, whole_round}
 use Rattle.cluster_report.specs.Catalogues.{Lists, len_of}
 use Rattle.cluster_report.specs.declared.catalogue.Catalogue.{Catalogue}
@@ -21,7 +21,8 @@ pub record Taken : Type 0 where
   pub copies : List Sent
   pub datanodes : DataNodes
 
--- The last of these rounds comes first in their list. Before them were the manager M and DataNodes d.
+-- The last of these rounds comes first in their list. Before them, M and d were the manager and
+-- DataNodes.
 
 -- the manager after these rounds
 abbrev pub state_of : State → List Taken → State

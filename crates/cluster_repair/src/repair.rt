@@ -1,5 +1,5 @@
 // Rounds until nothing more is copied.
-ghost use Rattle.std.specs.Prelude.{◌≡◌, ◌+◌, ◌<◌, ◌/◌, ◌&&◌, ℕ, true, nat_eq, nat_le, [], None, filter, IfOk, OnOk, if◌then◌else◌};
+ghost use Rattle.std.specs.Prelude.{◌≡◌, ◌+◌, ◌<◌, ◌&&◌, ℕ, true, nat_eq, nat_le, [], None, filter, IfOk, OnOk, if◌then◌else◌};
 ghost use Rattle.bm_base.specs.Machine.State.{State};
 ghost use Rattle.bm_base.specs.Words.{knows_node};
 ghost use Rattle.cluster_report.specs.Sessions.{IsInStep};

@@ -1,6 +1,5 @@
 use Rattle.std.proofs.Common.{◌≡◌, ◌∙◌, ◌++◌, ◌+◌, List, refl, sym, ap, subst, append-nil, take, take_all, length, ◌≤◌}
 use Rattle.std.specs.List.{flat_map}
-use Rattle.bm_base.specs.declared.commands.Delete.{Delete}
 use Rattle.bm_base.specs.declared.commands.NodeCommands.{NodeCommands}
 use Rattle.bm_base.specs.declared.commands.Transfer.{Transfer}
 use Rattle.cluster_repair.specs.Sent.{AreBegun}

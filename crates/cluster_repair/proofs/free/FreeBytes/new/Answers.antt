@@ -1,4 +1,3 @@
-use Rattle.std.proofs.Common.{◌∙◌}
 use Rattle.cluster_repair.proofs.NumberLemmas.{free_known}
 use Rattle.cluster_repair.proofs.free.FreeBytes.new.Goals as goal
 
