@@ -3,7 +3,8 @@ pub mod Reach
 pub mod NumberLemmas
 pub mod CopyLemmas
 pub mod TickLemmas
-pub mod TimeLemmas
+pub mod HistoryLemmas
+pub mod RetirementLemmas
 pub mod SentLemmas
 pub mod WatchLemmas
 pub mod UnmendedLemmas

@@ -1,30 +1,27 @@
 -- What rounds leave, and how a manager came there.
-use Rattle.std.specs.Prelude.{◌≡◌, ℕ, ◌<◌, Bool, true, ◌+◌, ◌-◌, ◌%◌, ◌==◌, max, List, [], ◌∷◌, ◌++◌, map, filter, length, Some, is_some}
-use Rattle.std.specs.List.{All, Contains}
+use Rattle.std.specs.Prelude.{◌≡◌, ℕ, ◌<◌, Bool, true, ◌+◌, ◌-◌, ◌/◌, ◌%◌, ◌==◌, ◌&&◌, ◌||◌, nat_le, if◌then◌else◌, max, List, [], ◌∷◌, ◌++◌, map, filter, length, Some, is_some}
+use Rattle.std.specs.List.{All}
 use Rattle.std.specs.List.Sorted.{IsStrictlyIncreasing}
-use Rattle.bm_base.specs.declared.call.Call.{Call}
+use Rattle.bm_base.specs.declared.event.Event.{Event}
 use Rattle.bm_base.specs.declared.level.Level.TheVariants.{Highest, VeryUnderReplicated, UnderReplicated, BadlyDistributed}
-use Rattle.bm_base.specs.Words.{State, has, keys, level, missing_blocks, is_retired, state_after, count_call, whole_round}
+use Rattle.bm_base.specs.Words.{Map, State, by_replica, has, keys, len, level, missing_blocks}
 use Rattle.cluster_report.specs.declared.levels.LevelCounts.{LevelCounts}
 use Rattle.laws_of_repairs.specs.Repairs.{Covers, blocks_at}
-use Rattle.cluster_repair.specs.declared.on_way.Sent.{Sent}
 use Rattle.cluster_repair.specs.declared.datanodes.DataNodes.{DataNodes}
 use Rattle.cluster_repair.specs.declared.rows.Row.{Row}
 use Rattle.cluster_repair.specs.declared.reasons.Unmended.{Unmended}
+use Rattle.cluster_repair.specs.declared.repair.Pace.{Pace}
 use Rattle.cluster_repair.specs.declared.repair.Repair.{Repair}
-use Rattle.cluster_repair.specs.declared.repair.Retirement.{Retirement}
 use Rattle.cluster_repair.specs.declared.ticks.Ticks.{Ticks}
-use Rattle.cluster_repair.specs.Sent.{transfers_in, copies_in, AreCounted}
-use Rattle.cluster_repair.specs.Ticks.{Taken, AreTaken, IsRoundAt, IsTimeAfter, time_of, on_way_of}
+use Rattle.cluster_repair.specs.Reports.{IsReached, after_events}
+use Rattle.cluster_repair.specs.History.{Taken, AreTaken, AreAtStart, HasTaken, commanded_of, datanodes_of, state_of, time_of}
+use Rattle.cluster_repair.specs.Retirements.{AreRetired, retired_since, retirement_of}
+use Rattle.cluster_repair.specs.Ticks.{ticks_of}
 
--- some calls lead from one state to another, and this number of rounds is among them
-pub record IsReached (rounds : ℕ) (M N : State) : Type 0 where
-  pub calls : List Call
-  pub leads : N ≡ state_after M calls
-  pub later : N.round ≡ M.round + rounds
-
--- reports of DataNodes lead from one state to another; blocks are added to those that are watched
-pub record AreReported (M N : State) (old new : List ℕ) : Type 0 where
+-- DataNodes report these events, which the manager accepts; blocks are added to those that are
+-- watched
+pub record AreReported (es : List Event) (M N : State) (old new : List ℕ) : Type 0 where
+  pub state : N ≡ after_events M es
   pub reached : IsReached 0 M N
   pub covers : Covers M old → Covers N new
 
@@ -36,20 +33,23 @@ pub record AreCounts (M : State) (c : LevelCounts) : Type 0 where
   pub badly_distributed : c.badly_distributed ≡ blocks_at M BadlyDistributed (keys M.holdings.blocks)
   pub missing : c.missing ≡ length (missing_blocks M.cluster M.holdings)
 
--- a round that commands this number of copies led to a state
-pub record IsAfterRound (N : State) (commanded : ℕ) : Type 0 where
-  pub before : State
-  pub after : N ≡ count_call (whole_round before).1
-  pub copies : commanded ≡ copies_in (whole_round before).0
+-- a row has what the last of some rounds left
+pub record IsRowOf (M : State) (d : DataNodes) (taken : List Taken) (row : Row) : Type 0 where
+  pub some : 0 < row.round
+  pub round : row.round ≡ length taken
+  pub seconds : row.seconds ≡ time_of taken / 1000000
+  pub levels : AreCounts (state_of M taken) row.levels
+  pub commanded : row.commanded ≡ commanded_of taken
+  pub on_way : row.on_way ≡ length (datanodes_of d taken).on_way.sent.items
 
--- A row has the counts of a state that its number of rounds led to. It also has the time of the
--- last of them, the number of copies that this one commanded, and the number on their way after it.
+-- the same of rounds from a state on
 pub record IsRowAfter (ticks : Ticks) (M : State) (row : Row) : Type 0 where
-  pub state : State
-  pub reached : IsReached row.round M state
-  pub counts : AreCounts state row.levels
-  pub commanded : IsAfterRound state row.commanded
-  pub time : IsRoundAt ticks row.round row.seconds row.on_way
+  pub start : DataNodes
+  pub at_start : AreAtStart M.cluster start
+  pub taken : List Taken
+  pub are : AreTaken ticks M start taken
+  pub reached : IsReached row.round M (state_of M taken)
+  pub is : IsRowOf M start taken row
 
 pub record AreRowsAfter (ticks : Ticks) (M : State) (rows : List Row) : Type 0 where
   pub all : All (IsRowAfter ticks M) rows
@@ -59,62 +59,57 @@ pub record EndsWith (rows : List Row) (row : Row) : Type 0 where
   pub front : List Row
   pub is : rows ≡ front ++ row ∷ []
 
--- After its number of rounds, as the next one comes, the manager answered that a node is retired.
-pub record IsRetiredAfter (ticks : Ticks) (M : State) (t : Retirement) : Type 0 where
-  pub state : State
-  pub reached : IsReached t.rounds M state
-  pub retired : is_retired state.cluster state.holdings t.node ≡ true
-  pub time : IsTimeAfter ticks t.rounds t.seconds
-
-pub record AreRetired (ticks : Ticks) (M : State) (ts : List Retirement) : Type 0 where
-  pub all : All (IsRetiredAfter ticks M) ts
-
--- a round commanded this copy, after some calls
-pub record IsCommandedAfter (M : State) (s : Sent) : Type 0 where
-  pub rounds : ℕ
-  pub state : State
-  pub reached : IsReached rounds M state
-  pub commanded : Contains (transfers_in (whole_round state).0) s.transfer
-
--- rounds commanded these copies, and DataNodes count them
-pub record AreSentAfter (M : State) (d : DataNodes) : Type 0 where
-  pub copies : List Sent
-  pub commanded : All (IsCommandedAfter M) copies
-  pub counted : AreCounted copies d
-
--- the rounds came at their ticks, and are what a repair has of the last
-pub record AreTimed (ticks : Ticks) (r : Repair) : Type 0 where
-  pub taken : List Taken
-  pub are : AreTaken ticks taken
-  pub number : r.rounds ≡ length taken
-  pub time : r.time ≡ time_of taken
-  pub on_way : r.datanodes.on_way.sent.items ≡ on_way_of taken
-
--- Rounds led from one state to another, and what was noted is what the manager answered on the way.
-pub record IsUnderWay (ticks : Ticks) (M N : State) (r : Repair) : Type 0 where
+-- Rounds led from one state to another, and what was noted is what they left and were answered.
+pub record IsUnderWay (ticks : Ticks) (M : State) (d : DataNodes) (N : State) (r : Repair) : Type 0 where
+  pub at_start : AreAtStart M.cluster d
   pub reached : IsReached r.rounds M N
-  pub timed : AreTimed ticks r
+  pub history : HasTaken ticks M d N r
   pub rows : AreRowsAfter ticks M r.rows.rows.items
-  pub retired : AreRetired ticks M r.retired.items
-  pub commanded : 0 < r.rounds → IsAfterRound N r.commanded
-  pub sent : AreSentAfter M r.datanodes
+  pub retired : (n : ℕ) → has r.drained.items n ≡ true → retirement_of r.retired.items n ≡ retired_since history.taken n
 
 -- these are the blocks with a level, ascending
 pub record AreLeveled (M : State) (bs : List ℕ) : Type 0 where
   pub ascending : IsStrictlyIncreasing bs
   pub all : (b : ℕ) → has bs b ≡ is_some (level M.cluster M.holdings b)
 
--- The same at the end: the last row is that of the last round, and the watched blocks are those
--- with a level.
-pub record IsDone (ticks : Ticks) (M N : State) (r : Repair) : Type 0 where
-  pub under_way : IsUnderWay ticks M N r
+-- The same with the row of the last round; and the watched blocks are those with a level.
+pub record IsNoted (ticks : Ticks) (M : State) (d : DataNodes) (N : State) (r : Repair) : Type 0 where
+  pub under_way : IsUnderWay ticks M d N r
   pub last : Row
   pub ends : EndsWith r.rows.rows.items last
-  pub round : last.round ≡ r.rounds
-  pub counts : AreCounts N last.levels
-  pub commanded : IsAfterRound N last.commanded
-  pub on_way : last.on_way ≡ length r.datanodes.on_way.sent.items
+  pub is_last : IsRowOf M d under_way.history.taken last
   pub blocks : AreLeveled N r.watch.blocks.items
+
+-- for how many rounds a manager awaits these pending copies
+abbrev pub awaited_rounds : Map by_replica ℕ → ℕ → ℕ
+awaited_rounds pending pend = if len pending == 0 then 0 else pend
+
+-- DataNodes have nothing to do
+abbrev pub are_idle : DataNodes → Bool
+are_idle d = (length d.on_way.sent.items == 0) && (length d.deletes.items == 0)
+
+-- a repair stops: no copy is awaited and DataNodes have nothing to do, or it took a million rounds
+abbrev pub is_over : ℕ → Repair → Bool
+is_over awaited r = (nat_le awaited r.rounds && are_idle r.datanodes) || (r.rounds == 1000000)
+
+-- Rounds led from one state to another, and here is what was noted, up to the end.
+pub record HasEnded (ticks : Ticks) (M : State) (d : DataNodes) (N : State) (r : Repair) : Type 0 where
+  pub reached : IsReached r.rounds M N
+  pub history : HasTaken ticks M d N r
+  pub rows : AreRowsAfter ticks M r.rows.rows.items
+  pub last : Row
+  pub ends : EndsWith r.rows.rows.items last
+  pub is_last : IsRowOf M d history.taken last
+  pub retired : AreRetired ticks N history.taken r
+  pub blocks : AreLeveled N r.watch.blocks.items
+
+-- a repair at this pace has led from one state to another
+pub record IsDone (pace : Pace) (M N : State) (r : Repair) : Type 0 where
+  pub start : DataNodes
+  pub at_start : AreAtStart M.cluster start
+  pub bandwidth : start.links.bandwidth ≡ pace.bandwidth
+  pub ended : HasEnded (ticks_of pace M.cluster) M start N r
+  pub over : is_over (awaited_rounds M.holdings.pending M.limits.pend) r ≡ true
 
 -- of these blocks those with a level, and the level that the manager answers
 pub record AreFound (M : State) (bs : List ℕ) (us : List Unmended) : Type 0 where

@@ -1,8 +1,10 @@
 -- When copies arrive, and what is free: a model. What a node sends and what it receives are two
 -- links of one bandwidth, each of which passes one copy after another.
-use Rattle.std.specs.Prelude.{ℕ, ◌+◌, ◌*◌, ◌-◌, ◌^◌, max, min, nat_eq, unwrap_or}
+use Rattle.std.specs.Prelude.{ℕ, ◌+◌, ◌*◌, ◌-◌, ◌^◌, max, min, nat_eq, option_map, unwrap_or}
 use Rattle.std.specs.Int.{div_ceil}
 use Rattle.std.specs.HashMap.{get}
+use Rattle.bm_base.specs.Maps.Map as map_of
+use Rattle.bm_base.specs.Words.{Cluster}
 use Rattle.bm_base.specs.declared.event.Remaining.{Remaining}
 use Rattle.cluster_repair.specs.declared.links.Links.{Links}
 use Rattle.cluster_repair.specs.declared.free.FreeBytes.{FreeBytes}
@@ -39,6 +41,10 @@ arrival l source target bytes now = max (sent_at l source bytes now) (received_a
 -- the free bytes of a storage; 0 of one that is not known
 abbrev pub free_on : FreeBytes → ℕ → ℕ
 free_on f s = unwrap_or (get nat_eq f.free s) 0
+
+-- the same as the last heartbeat had it
+abbrev pub free_in : Cluster → ℕ → ℕ
+free_in C s = unwrap_or (option_map (λ i. i.remaining) (map_of.get C.storages s)) 0
 
 -- what the node of a storage reports as free there
 abbrev pub remaining_in : FreeBytes → ℕ → Remaining

@@ -1,13 +1,19 @@
 // A model of DataNodes: how they obey the commands of rounds, and what they report.
-ghost use Rattle.std.specs.Prelude.{◌≡◌, ◌++◌, ◌∷◌, [], nat_lt, filter, List, None, IfOk, OnOk};
+ghost use Rattle.std.specs.Prelude.{◌≡◌, ◌++◌, ◌∷◌, [], ℕ, map, List, None, IfOk, OnOk};
+ghost use Rattle.std.specs.List.{fold};
 ghost use Rattle.bm_base.specs.Words.{after_event, refusal_of};
+ghost use Rattle.cluster_report.specs.Catalogues.{len_in};
+ghost use Rattle.laws_of_repairs.specs.Repairs.{Covers};
 ghost use Rattle.cluster_repair.specs.declared.on_way.Sent.{Sent};
-ghost use Rattle.cluster_repair.specs.Rows.{AreReported};
-ghost use Rattle.cluster_repair.specs.Sent.{AreBegun, AreCounted, transfers_in};
+ghost use Rattle.cluster_repair.specs.Reports.{HaveReported, received, deleted, heartbeat_of, free_after};
+ghost use Rattle.cluster_repair.specs.History.{AreAtStart};
+ghost use Rattle.cluster_repair.specs.Rows.{AreReported, are_idle};
+ghost use Rattle.cluster_repair.specs.Sending.{free_on};
+ghost use Rattle.cluster_repair.specs.Sent.{AreBegun, AreCounted, node_with, transfers_in, deletes_in};
 
-use crate::free::FreeBytes;
+use crate::free::{FreeBytes, NodeStorages};
 use crate::links::Links;
-use crate::on_way::OnWay;
+use crate::on_way::{OnWay, Sent};
 use crate::watch::Watch;
 use bm_base::{Commands, Delete, Event, NodeId, Refusal, StorageId, Transfer};
 use bm_crew::NoGate;
@@ -36,7 +42,8 @@ impl DataNodes {
     /// Nothing is on its way.
     pub fn new(alloc: Global, topology: &Topology, bandwidth: u64) -> Result<DataNodes, AllocError>
         ensures counts { IfOk result (AreCounted []) }
-        ensures on_way { IfOk result (λ d. d.on_way.sent.items ≡ []) }
+        ensures at_start { IfOk result (AreAtStart topology.now.cluster) }
+        ensures bandwidth { IfOk result (λ d. d.links.bandwidth ≡ bandwidth) }
     {
         let free = FreeBytes::new(alloc, topology)?;
         Ok(DataNodes {
@@ -51,7 +58,9 @@ impl DataNodes {
     }
 
     /// Whether nothing is left to be done.
-    pub fn are_idle(&self) -> bool {
+    pub fn are_idle(&self) -> bool
+        ensures { result ≡ are_idle self.now }
+    {
         self.on_way.is_empty() && self.deletes.is_empty()
     }
 
@@ -65,14 +74,15 @@ impl DataNodes {
         blocks: &Catalogue,
         now: u64,
     ) -> Result<(), Refusal>
-        ensures reported { OnOk result (AreReported manager.old manager.new
-            watch.old.blocks.items watch.new.blocks.items) }
-        ensures on_way { OnOk result (self.new.on_way.sent.items
-            ≡ filter (λ s. nat_lt now s.arrival) self.old.on_way.sent.items) }
+        ensures reported { OnOk result (HaveReported (len_in blocks.now) now self.old self.new
+            manager.old manager.new) }
+        ensures covers { OnOk result (Covers manager.old watch.old.blocks.items
+            → Covers manager.new watch.new.blocks.items) }
         ensures counts { OnOk result ((ss : List Sent) → AreCounted ss self.old
             → AreCounted ss self.new) }
     {
-        report_copies(rt, alloc, manager, watch, &mut self.on_way, now)?;
+        let due = self.on_way.take_due(alloc, now)?;
+        report_copies(rt, manager, watch, due.as_slice())?;
         report_deletes(rt, manager, watch, self.deletes.as_slice())?;
         give_back_deleted(&mut self.free, self.deletes.as_slice(), blocks)?;
         self.deletes.clear();
@@ -87,7 +97,10 @@ impl DataNodes {
         commands: &Commands,
         now: u64,
     ) -> Result<(), AllocError>
-        ensures { OnOk result (AreBegun (transfers_in commands.now) self.old self.new) }
+        ensures begun { OnOk result (AreBegun topology.now.cluster now
+            (transfers_in commands.now) self.old self.new) }
+        ensures deletes { OnOk result (self.new.deletes.items
+            ≡ self.old.deletes.items ++ deletes_in commands.now) }
     {
         for node in commands.nodes.as_slice() {
             self.send_all(topology, node.transfers.as_slice(), now)?;
@@ -103,7 +116,9 @@ impl DataNodes {
         transfers: &[Transfer],
         now: u64,
     ) -> Result<(), AllocError>
-        ensures { OnOk result (AreBegun transfers.now self.old self.new) }
+        ensures begun { OnOk result (AreBegun topology.now.cluster now transfers.now
+            self.old self.new) }
+        ensures deletes { self.new.deletes ≡ self.old.deletes }
     {
         for transfer in transfers {
             self.send(topology, *transfer, now)?;
@@ -112,9 +127,10 @@ impl DataNodes {
     }
 
     /// Sends a copy, unless it is on its way already: then the target refuses the second.
-    #[tactic(auto, using(crate::proofs::SentLemmas::begun_already))]
     fn send(&mut self, topology: &Topology, transfer: Transfer, now: u64) -> Result<(), AllocError>
-        ensures { OnOk result (AreBegun (transfer ∷ []) self.old self.new) }
+        ensures begun { OnOk result (AreBegun topology.now.cluster now (transfer ∷ [])
+            self.old self.new) }
+        ensures deletes { self.new.deletes ≡ self.old.deletes }
     {
         if self.on_way.has(&transfer) {
             return Ok(());
@@ -146,7 +162,11 @@ fn give_back_deleted(
     free: &mut FreeBytes,
     deletes: &[Delete],
     blocks: &Catalogue,
-) -> Result<(), AllocError> {
+) -> Result<(), AllocError>
+    ensures free { OnOk result ((s : ℕ) → free_on free.new s
+        ≡ fold (free_after (len_in blocks.now) s) (free_on free.old s) deletes.now) }
+    ensures nodes { free.new.nodes ≡ free.old.nodes }
+{
     for delete in deletes {
         free.give_back(delete.storage, blocks.len_of(delete.block))?;
     }
@@ -154,7 +174,9 @@ fn give_back_deleted(
 }
 
 /// The node of a storage; each storage of a command is known.
-fn node_of(topology: &Topology, storage: StorageId) -> NodeId {
+fn node_of(topology: &Topology, storage: StorageId) -> NodeId
+    ensures { result ≡ node_with topology.now.cluster storage }
+{
     topology.node_of(storage).unwrap_or(NodeId(0))
 }
 
@@ -174,20 +196,15 @@ fn apply<H: Threads + Wait + Sync>(
 #[tactic(auto, using(crate::proofs::Reach::reported_at_once))]
 fn report_copies<H: Threads + Wait + Sync>(
     rt: &H,
-    alloc: Global,
     manager: &mut Manager,
     watch: &mut Watch,
-    on_way: &mut OnWay,
-    now: u64,
+    due: &[Sent],
 ) -> Result<(), Refusal>
-    ensures reported { OnOk result (AreReported manager.old manager.new
+    ensures { OnOk result (AreReported (map received due.now) manager.old manager.new
         watch.old.blocks.items watch.new.blocks.items) }
-    ensures on_way { OnOk result (on_way.new.sent.items
-        ≡ filter (λ s. nat_lt now s.arrival) on_way.old.sent.items) }
 {
-    let due = on_way.take_due(alloc, now)?;
-    for sent in &due {
-        report_copy(rt, manager, watch, &sent.transfer)?;
+    for sent in due {
+        report_copy(rt, manager, watch, sent)?;
     }
     Ok(())
 }
@@ -196,11 +213,12 @@ fn report_copy<H: Threads + Wait + Sync>(
     rt: &H,
     manager: &mut Manager,
     watch: &mut Watch,
-    copied: &Transfer,
+    sent: &Sent,
 ) -> Result<(), Refusal>
-    ensures { OnOk result (AreReported manager.old manager.new
+    ensures { OnOk result (AreReported (received sent.now ∷ []) manager.old manager.new
         watch.old.blocks.items watch.new.blocks.items) }
 {
+    let copied = sent.transfer;
     let received = Event::Received {
         storage: copied.target,
         id: copied.block,
@@ -218,7 +236,7 @@ fn report_deletes<H: Threads + Wait + Sync>(
     watch: &mut Watch,
     deletes: &[Delete],
 ) -> Result<(), Refusal>
-    ensures { OnOk result (AreReported manager.old manager.new
+    ensures { OnOk result (AreReported (map deleted deletes.now) manager.old manager.new
         watch.old.blocks.items watch.new.blocks.items) }
 {
     for delete in deletes {
@@ -233,7 +251,7 @@ fn report_delete<H: Threads + Wait + Sync>(
     watch: &mut Watch,
     delete: &Delete,
 ) -> Result<(), Refusal>
-    ensures { OnOk result (AreReported manager.old manager.new
+    ensures { OnOk result (AreReported (deleted delete.now ∷ []) manager.old manager.new
         watch.old.blocks.items watch.new.blocks.items) }
 {
     let deleted = Event::Deleted {
@@ -252,15 +270,30 @@ fn report_free<H: Threads + Wait + Sync>(
     manager: &mut Manager,
     free: &FreeBytes,
 ) -> Result<(), Refusal>
-    ensures { OnOk result ((bs : _) → AreReported manager.old manager.new bs bs) }
+    ensures { OnOk result ((bs : _) → AreReported (map (heartbeat_of free.now) free.now.nodes.items)
+        manager.old manager.new bs bs) }
 {
     for node in &free.nodes {
-        let remaining = free.remaining_on(alloc, node)?;
-        let heartbeat = Event::Heartbeat {
-            node: node.node,
-            remaining,
-        };
-        apply(rt, manager, &heartbeat)?;
+        report_free_on(rt, alloc, manager, free, node)?;
     }
+    Ok(())
+}
+
+fn report_free_on<H: Threads + Wait + Sync>(
+    rt: &H,
+    alloc: Global,
+    manager: &mut Manager,
+    free: &FreeBytes,
+    node: &NodeStorages,
+) -> Result<(), Refusal>
+    ensures { OnOk result ((bs : _) → AreReported (heartbeat_of free.now node.now ∷ [])
+        manager.old manager.new bs bs) }
+{
+    let remaining = free.remaining_on(alloc, node)?;
+    let heartbeat = Event::Heartbeat {
+        node: node.node,
+        remaining,
+    };
+    apply(rt, manager, &heartbeat)?;
     Ok(())
 }

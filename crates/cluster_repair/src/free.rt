@@ -1,6 +1,9 @@
 // The free bytes of storages, as their DataNodes know them.
-ghost use Rattle.std.specs.Prelude.{◌≡◌, ℕ, ◌+◌, ◌-◌, min, nat_eq, map, IfOk, OnOk, if◌then◌else◌};
-ghost use Rattle.cluster_repair.specs.Sending.{most, free_on, remaining_in};
+ghost use Rattle.std.specs.Prelude.{◌≡◌, ℕ, ◌+◌, ◌-◌, min, nat_eq, map, filter, unwrap_or, IfOk, OnOk, if◌then◌else◌};
+ghost use Rattle.std.specs.HashMap.{get};
+ghost use Rattle.bm_base.specs.Words.{has, has_storage, keys};
+ghost use Rattle.cluster_repair.specs.History.{numbers_of, node_among};
+ghost use Rattle.cluster_repair.specs.Sending.{most, free_on, free_in, remaining_in};
 
 use crate::numbers::put;
 use bm_base::{Items, NodeId, Remaining, StorageId};
@@ -27,14 +30,15 @@ pub struct FreeBytes {
 
 impl FreeBytes {
     /// The free bytes of all storages, as the last heartbeats reported them.
-    pub fn new(alloc: Global, topology: &Topology) -> Result<FreeBytes, AllocError> {
+    pub fn new(alloc: Global, topology: &Topology) -> Result<FreeBytes, AllocError>
+        ensures free { IfOk result (λ f. (s : ℕ) → free_on f s ≡ free_in topology.now.cluster s) }
+        ensures nodes { IfOk result (λ f. map numbers_of f.nodes.items
+            ≡ map (node_among topology.now.cluster (keys topology.now.cluster.storages))
+            (keys topology.now.cluster.nodes)) }
+    {
         let storages = all_storages(alloc, topology)?;
         let nodes = nodes_with(alloc, topology, storages.as_slice())?;
-        let mut free = HashMap::new(alloc);
-        for storage in &storages {
-            let remaining = topology.remaining(*storage).unwrap_or(0);
-            put(&mut free, storage.0, remaining)?;
-        }
+        let free = free_bytes_of(alloc, topology, storages.as_slice())?;
         Ok(FreeBytes {
             storages,
             nodes,
@@ -49,18 +53,20 @@ impl FreeBytes {
     }
 
     pub fn take(&mut self, storage: StorageId, bytes: u64) -> Result<(), AllocError>
-        ensures { OnOk result ((s : ℕ) → free_on self.new s
+        ensures free { OnOk result ((s : ℕ) → free_on self.new s
             ≡ (if nat_eq storage s then free_on self.old storage - bytes
             else free_on self.old s)) }
+        ensures nodes { self.new.nodes ≡ self.old.nodes }
     {
         let left = self.of(storage).saturating_sub(bytes);
         self.put(storage, left)
     }
 
     pub fn give_back(&mut self, storage: StorageId, bytes: u64) -> Result<(), AllocError>
-        ensures { OnOk result ((s : ℕ) → free_on self.new s
+        ensures free { OnOk result ((s : ℕ) → free_on self.new s
             ≡ (if nat_eq storage s then min (free_on self.old storage + bytes) most
             else free_on self.old s)) }
+        ensures nodes { self.new.nodes ≡ self.old.nodes }
     {
         let left = self.of(storage).saturating_add(bytes);
         self.put(storage, left)
@@ -68,8 +74,9 @@ impl FreeBytes {
 
     #[tactic(auto, using(crate::proofs::NumberLemmas::number_put))]
     fn put(&mut self, storage: StorageId, bytes: u64) -> Result<(), AllocError>
-        ensures { OnOk result ((s : ℕ) → free_on self.new s
+        ensures free { OnOk result ((s : ℕ) → free_on self.new s
             ≡ (if nat_eq storage s then bytes else free_on self.old s)) }
+        ensures nodes { self.new.nodes ≡ self.old.nodes }
     {
         put(&mut self.free, storage.0, bytes)
     }
@@ -94,11 +101,31 @@ impl FreeBytes {
     }
 }
 
+/// The free bytes of these storages, by number.
+fn free_bytes_of(
+    alloc: Global,
+    topology: &Topology,
+    storages: &[StorageId],
+) -> Result<HashMap<u32, u64>, AllocError>
+    ensures { IfOk result (λ free. (s : ℕ) → unwrap_or (get nat_eq free s) 0
+        ≡ (if has storages.now s then free_in topology.now.cluster s else 0)) }
+{
+    let mut free = HashMap::new(alloc);
+    for storage in storages {
+        let remaining = topology.remaining(*storage).unwrap_or(0);
+        put(&mut free, storage.0, remaining)?;
+    }
+    Ok(free)
+}
+
 fn nodes_with(
     alloc: Global,
     topology: &Topology,
     storages: &[StorageId],
-) -> Result<Vec<NodeStorages>, AllocError> {
+) -> Result<Vec<NodeStorages>, AllocError>
+    ensures { IfOk result (λ v. map numbers_of v.items
+        ≡ map (node_among topology.now.cluster storages.now) (keys topology.now.cluster.nodes)) }
+{
     let all = all_nodes(alloc, topology)?;
     let mut nodes = Vec::new(alloc);
     for node in &all {
@@ -116,7 +143,10 @@ fn storages_of(
     topology: &Topology,
     node: NodeId,
     storages: &[StorageId],
-) -> Result<Vec<StorageId>, AllocError> {
+) -> Result<Vec<StorageId>, AllocError>
+    ensures { IfOk result (λ v. v.items
+        ≡ filter (has_storage topology.now.cluster node) storages.now) }
+{
     let mut own = Vec::new(alloc);
     for storage in storages {
         if topology.has_storage(node, *storage) {

@@ -21,7 +21,11 @@ pub struct Links {
 
 impl Links {
     /// Every node is idle.
-    pub fn new(alloc: Global, bandwidth: u64) -> Links {
+    pub fn new(alloc: Global, bandwidth: u64) -> Links
+        ensures sending { (n : ℕ) → sends_until result n ≡ 0 }
+        ensures receiving { (n : ℕ) → receives_until result n ≡ 0 }
+        ensures bandwidth { result.bandwidth ≡ bandwidth }
+    {
         Links {
             bandwidth,
             sending: HashMap::new(alloc),

@@ -1,9 +1,10 @@
 // Copies on their way, ordered by the time of their arrival.
-ghost use Rattle.std.specs.Prelude.{◌≡◌, ◌++◌, ◌∷◌, ◌==◌, ◌&&◌, not, [], ℕ, false, nat_lt, length, count_by, filter, IfOk, OnOk, if◌then◌else◌};
+ghost use Rattle.std.specs.Prelude.{◌≡◌, ◌+◌, ◌++◌, ◌∷◌, ◌==◌, ◌&&◌, not, min, [], ℕ, false, nat_lt, length, count_by, filter, IfOk, OnOk, if◌then◌else◌};
 ghost use Rattle.std.specs.List.{list_any};
 ghost use Rattle.std.specs.List.Sorted.{IsPermutation, IsSortedByKey};
 ghost use Rattle.bm_base.specs.Ordered.{by_pair};
 ghost use Rattle.cluster_repair.specs.Copies.{is_copy_of, is_among, has_place, has_arrived, when};
+ghost use Rattle.cluster_repair.specs.Sending.{most};
 
 use bm_base::Transfer;
 use std::alloc::{AllocError, Global};
@@ -63,8 +64,9 @@ impl OnWay {
     /// Adds a copy, which is not on its way yet.
     pub fn add(&mut self, arrival: u64, transfer: Transfer) -> Result<(), AllocError>
         requires { is_among self.old.sent.items transfer ≡ false }
-        ensures { OnOk result (self.new.sent.items ≡ self.old.sent.items
+        ensures sent { OnOk result (self.new.sent.items ≡ self.old.sent.items
             ++ record { arrival = arrival; order = self.old.next; transfer = transfer } ∷ []) }
+        ensures next { OnOk result (self.new.next ≡ min (self.old.next + 1) most) }
     {
         let order = self.next;
         self.sent.push(Sent {
@@ -91,6 +93,7 @@ impl OnWay {
         ensures sorted { IfOk result (λ v. IsSortedByKey when by_pair.cmp v.items) }
         ensures left { OnOk result (self.new.sent.items
             ≡ filter (λ s. nat_lt now s.arrival) self.old.sent.items) }
+        ensures next { self.new.next ≡ self.old.next }
     {
         let mut due = due_by(alloc, self.sent.as_slice(), now)?;
         due.sort_by_key(|sent| when(sent))?;

@@ -1,13 +1,16 @@
 // Rounds until nothing more is copied.
-ghost use Rattle.std.specs.Prelude.{◌≡◌, ◌+◌, ◌<◌, [], IfOk, OnOk};
+ghost use Rattle.std.specs.Prelude.{◌≡◌, ◌+◌, ◌<◌, ◌&&◌, ℕ, true, nat_eq, nat_le, [], None, filter, IfOk, OnOk, if◌then◌else◌};
 ghost use Rattle.bm_base.specs.Machine.State.{State};
+ghost use Rattle.bm_base.specs.Words.{knows_node};
 ghost use Rattle.cluster_report.specs.Sessions.{IsInStep};
 ghost use Rattle.laws_of_repairs.specs.Repairs.{Covers};
-ghost use Rattle.cluster_repair.specs.Rows.{IsReached, AreRetired, AreTimed, IsUnderWay, IsDone};
-ghost use Rattle.cluster_repair.specs.Retirements.{retirement_of};
+ghost use Rattle.cluster_repair.specs.History.{AreAtStart, AreOf, ComesAt, HasTaken};
+ghost use Rattle.cluster_repair.specs.Retirements.{AreAnswered, is_retired_in, note_at, noted, retirement_of};
+ghost use Rattle.cluster_repair.specs.Rows.{IsUnderWay, IsNoted, HasEnded, IsDone, are_idle, awaited_rounds, is_over};
 ghost use Rattle.cluster_repair.specs.Sent.{AreCounted, copies_in};
+ghost use Rattle.cluster_repair.specs.Ticks.{ticks_of};
+ghost use Rattle.cluster_repair.specs.declared.datanodes.DataNodes.{DataNodes};
 ghost use Rattle.cluster_repair.specs.declared.ticks.Ticks.{Ticks};
-ghost use Rattle.cluster_repair.specs.Ticks.{ComesAt, IsTimeAfter, ticks_of};
 
 use crate::datanodes::DataNodes;
 use crate::links::MICROS;
@@ -52,11 +55,11 @@ impl Pace {
     }
 }
 
-/// When a node can be switched off that is to be taken away.
+/// Since when a node can be switched off that is to be taken away.
 #[derive(Clone, Copy)]
 pub struct Retirement {
     pub node: NodeId,
-    /// The number of rounds after which the manager first answers that it is retired.
+    /// The number of rounds after which the manager always answers that it is retired.
     pub rounds: u32,
     /// When the next round comes, in seconds from the first.
     pub seconds: u64,
@@ -70,7 +73,7 @@ pub struct Repair {
     pub rows: Rows,
     /// The alive nodes that are to be taken away.
     pub drained: Vec<NodeId>,
-    /// Those of them that are retired.
+    /// Those of them that are retired, by the last answer.
     pub retired: Vec<Retirement>,
     /// The rounds that were taken.
     pub rounds: u32,
@@ -102,8 +105,9 @@ pub fn repair_cluster<R: Eprint + Threads + Wait + Sync>(
     progress: &mut Progress,
 ) -> Result<Repair, Refusal>
     requires { IsInStep session.old }
-    ensures { IfOk result (λ r. IsDone (ticks_of pace session.old.manager.cluster)
-        session.old.manager session.new.manager r) }
+    ensures done { IfOk result (IsDone pace session.old.manager session.new.manager) }
+    ensures drained { IfOk result (λ r. r.drained.items
+        ≡ filter (knows_node session.old.manager.cluster) drained.now) }
 {
     let mut repair = Repair::new(alloc, session, pace, drained)?;
     let book = &session.book;
@@ -116,11 +120,14 @@ pub fn repair_cluster<R: Eprint + Threads + Wait + Sync>(
     };
     repair.take_rounds(rt, &mut session.manager, &facts, progress)?;
     repair.note_row(alloc, &session.manager)?;
+    repair.note_retired_at_end(&session.manager, &facts)?;
     Ok(repair)
 }
 
 /// After how many rounds no copy is awaited that was commanded before.
-fn awaited_rounds(transfers: &Transfers) -> u32 {
+fn awaited_rounds(transfers: &Transfers) -> u32
+    ensures { result ≡ awaited_rounds transfers.now.copies transfers.now.pend }
+{
     if transfers.count() == 0 {
         0
     } else {
@@ -142,8 +149,13 @@ impl Repair {
         ensures retired { IfOk result (λ r. r.retired.items ≡ []) }
         ensures rounds { IfOk result (λ r. r.rounds ≡ 0) }
         ensures time { IfOk result (λ r. r.time ≡ 0) }
-        ensures on_way { IfOk result (λ r. r.datanodes.on_way.sent.items ≡ []) }
-        ensures sent { IfOk result (λ r. AreCounted [] r.datanodes) }
+        ensures commanded { IfOk result (λ r. r.commanded ≡ 0) }
+        ensures at_start { IfOk result
+            (λ r. AreAtStart session.now.book.topology.cluster r.datanodes) }
+        ensures bandwidth { IfOk result (λ r. r.datanodes.links.bandwidth ≡ pace.bandwidth) }
+        ensures counts { IfOk result (λ r. AreCounted [] r.datanodes) }
+        ensures drained { IfOk result (λ r. r.drained.items
+            ≡ filter (knows_node session.now.book.topology.cluster) drained.now) }
     {
         let topology = &session.book.topology;
         let watch = Watch::new(alloc, &session.manager, &session.book.blocks)?;
@@ -172,9 +184,12 @@ impl Repair {
         requires none { self.old.rounds ≡ 0 }
         ensures covers { OnOk result (Covers manager.new self.new.watch.blocks.items) }
         ensures taken { OnOk result (0 < self.new.rounds) }
-        ensures under_way { OnOk result ((M : State)
-            → IsUnderWay facts.now.ticks M manager.old self.old
-            → IsUnderWay facts.now.ticks M manager.new self.new) }
+        ensures over { OnOk result (is_over facts.now.awaited self.new ≡ true) }
+        ensures drained { self.new.drained ≡ self.old.drained }
+        ensures under_way { OnOk result ((M : State) (d : DataNodes)
+            → AreOf facts.now.topology.now.cluster facts.now.blocks.now M
+            → IsUnderWay facts.now.ticks M d manager.old self.old
+            → IsUnderWay facts.now.ticks M d manager.new self.new) }
     {
         for past in 0..MOST_ROUNDS {
             progress.show_made(rt, past);
@@ -188,7 +203,10 @@ impl Repair {
     }
 
     /// Whether nothing more comes after the rounds that were taken.
-    fn is_over(&self, facts: &Facts<'_>) -> bool {
+    fn is_over(&self, facts: &Facts<'_>) -> bool
+        ensures { result ≡ (nat_le facts.now.awaited self.now.rounds
+            && are_idle self.now.datanodes) }
+    {
         self.rounds >= facts.awaited && self.datanodes.are_idle()
     }
 
@@ -203,9 +221,11 @@ impl Repair {
         requires few { self.old.rounds < 1000000 }
         ensures covers { OnOk result (Covers manager.new self.new.watch.blocks.items) }
         ensures rounds { OnOk result (self.new.rounds ≡ self.old.rounds + 1) }
-        ensures under_way { OnOk result ((M : State)
-            → IsUnderWay facts.now.ticks M manager.old self.old
-            → IsUnderWay facts.now.ticks M manager.new self.new) }
+        ensures drained { self.new.drained ≡ self.old.drained }
+        ensures under_way { OnOk result ((M : State) (d : DataNodes)
+            → AreOf facts.now.topology.now.cluster facts.now.blocks.now M
+            → IsUnderWay facts.now.ticks M d manager.old self.old
+            → IsUnderWay facts.now.ticks M d manager.new self.new) }
     {
         let now = self.next_time(facts.ticks);
         let watch = &mut self.watch;
@@ -229,7 +249,8 @@ impl Repair {
 
     /// When the next round comes, in microseconds.
     fn next_time(&self, ticks: Ticks) -> u64
-        ensures { (timed : AreTimed ticks self.now) → ComesAt ticks timed.taken result }
+        ensures { (M : State) (d : DataNodes) (N : State) (history : HasTaken ticks M d N self.now)
+            → ComesAt ticks history.taken result }
     {
         if self.rounds == 0 {
             0
@@ -242,10 +263,11 @@ impl Repair {
     fn note_due(&mut self, alloc: Global, manager: &Manager) -> Result<(), Refusal>
         requires { Covers manager.now self.old.watch.blocks.items }
         ensures covers { OnOk result (Covers manager.now self.new.watch.blocks.items) }
-        ensures rounds { OnOk result (self.new.rounds ≡ self.old.rounds) }
-        ensures under_way { OnOk result ((ticks : Ticks) (M : State)
-            → IsUnderWay ticks M manager.now self.old
-            → IsUnderWay ticks M manager.now self.new) }
+        ensures rounds { self.new.rounds ≡ self.old.rounds }
+        ensures drained { self.new.drained ≡ self.old.drained }
+        ensures under_way { OnOk result ((ticks : Ticks) (M : State) (d : DataNodes)
+            → IsUnderWay ticks M d manager.now self.old
+            → IsUnderWay ticks M d manager.now self.new) }
     {
         if self.rounds > 0 && self.rows.is_due(self.rounds) {
             self.note_row(alloc, manager)?;
@@ -258,10 +280,12 @@ impl Repair {
         requires covers { Covers manager.now self.old.watch.blocks.items }
         requires taken { 0 < self.old.rounds }
         ensures covers { OnOk result (Covers manager.now self.new.watch.blocks.items) }
-        ensures rounds { OnOk result (self.new.rounds ≡ self.old.rounds) }
-        ensures done { OnOk result ((ticks : Ticks) (M : State)
-            → IsUnderWay ticks M manager.now self.old
-            → IsDone ticks M manager.now self.new) }
+        ensures rounds { self.new.rounds ≡ self.old.rounds }
+        ensures datanodes { self.new.datanodes ≡ self.old.datanodes }
+        ensures drained { self.new.drained ≡ self.old.drained }
+        ensures noted { OnOk result ((ticks : Ticks) (M : State) (d : DataNodes)
+            → IsUnderWay ticks M d manager.now self.old
+            → IsNoted ticks M d manager.now self.new) }
     {
         let levels = self.watch.count(alloc, manager)?;
         let row = Row {
@@ -274,6 +298,26 @@ impl Repair {
         self.rows.push(alloc, row)?;
         Ok(())
     }
+
+    /// Notes which nodes are retired after the last round, where the next one would come.
+    fn note_retired_at_end(&mut self, manager: &Manager, facts: &Facts<'_>) -> Result<(), Refusal>
+        ensures rounds { self.new.rounds ≡ self.old.rounds }
+        ensures datanodes { self.new.datanodes ≡ self.old.datanodes }
+        ensures drained { self.new.drained ≡ self.old.drained }
+        ensures ended { OnOk result ((M : State) (d : DataNodes)
+            → IsNoted facts.now.ticks M d manager.now self.old
+            → HasEnded facts.now.ticks M d manager.now self.new) }
+    {
+        let next = self.next_time(facts.ticks);
+        note_retired(
+            manager,
+            self.drained.as_slice(),
+            &mut self.retired,
+            self.rounds,
+            next / MICROS,
+        )?;
+        Ok(())
+    }
 }
 
 /// Those of these nodes that are alive.
@@ -281,7 +325,9 @@ fn alive_among(
     alloc: Global,
     topology: &Topology,
     drained: &[NodeId],
-) -> Result<Vec<NodeId>, AllocError> {
+) -> Result<Vec<NodeId>, AllocError>
+    ensures { IfOk result (λ v. v.items ≡ filter (knows_node topology.now.cluster) drained.now) }
+{
     let mut alive = Vec::new(alloc);
     for node in drained {
         if topology.node_drains(*node).is_some() {
@@ -291,8 +337,8 @@ fn alive_among(
     Ok(alive)
 }
 
-/// Notes which of these nodes are retired after this number of rounds, as the next one comes, and
-/// were not before.
+/// Notes what the manager answers about these nodes after this number of rounds, as the next one
+/// comes.
 fn note_retired(
     manager: &Manager,
     drained: &[NodeId],
@@ -300,28 +346,31 @@ fn note_retired(
     rounds: u32,
     seconds: u64,
 ) -> Result<(), Refusal>
-    ensures { OnOk result ((ticks : Ticks) (M : State) → IsReached rounds M manager.now
-        → IsTimeAfter ticks rounds seconds
-        → AreRetired ticks M retired.old.items → AreRetired ticks M retired.new.items) }
+    ensures { OnOk result (AreAnswered manager.now drained.now rounds seconds
+        retired.old.items retired.new.items) }
 {
     for node in drained {
-        note_if_retired(manager, *node, retired, rounds, seconds)?;
+        note_answer(manager, *node, retired, rounds, seconds)?;
     }
     Ok(())
 }
 
-fn note_if_retired(
+/// Notes a yes unless the answer before was one; a no drops the note.
+fn note_answer(
     manager: &Manager,
     node: NodeId,
     retired: &mut Vec<Retirement>,
     rounds: u32,
     seconds: u64,
 ) -> Result<(), Refusal>
-    ensures { OnOk result ((ticks : Ticks) (M : State) → IsReached rounds M manager.now
-        → IsTimeAfter ticks rounds seconds
-        → AreRetired ticks M retired.old.items → AreRetired ticks M retired.new.items) }
+    ensures { OnOk result ((n : ℕ) → retirement_of retired.new.items n ≡ (if nat_eq node n
+        then noted (is_retired_in manager.now n) (retirement_of retired.old.items n)
+        (note_at n rounds seconds)
+        else retirement_of retired.old.items n)) }
 {
-    if retirement_of(retired.as_slice(), node).is_none() && manager.retired(node)? {
+    if !manager.retired(node)? {
+        drop_note(retired, node);
+    } else if retirement_of(retired.as_slice(), node).is_none() {
         retired.push(Retirement {
             node,
             rounds,
@@ -331,7 +380,14 @@ fn note_if_retired(
     Ok(())
 }
 
-/// When a node was retired.
+fn drop_note(retired: &mut Vec<Retirement>, node: NodeId)
+    ensures { (n : ℕ) → retirement_of retired.new.items n
+        ≡ (if nat_eq node n then None else retirement_of retired.old.items n) }
+{
+    retired.retain(|retirement| retirement.node != node);
+}
+
+/// Since when a node is retired.
 pub fn retirement_of(retired: &[Retirement], node: NodeId) -> Option<Retirement>
     ensures { result ≡ retirement_of retired.now node }
 {

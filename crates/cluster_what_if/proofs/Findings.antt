@@ -18,7 +18,6 @@ use Rattle.cluster_losses.specs.declared.loss_events.Lost.{Lost}
 use Rattle.cluster_names.specs.FileTable.{FileTable}
 use Rattle.cluster_pages.specs.AtRisk.{AreAtRisk}
 use Rattle.cluster_repair.specs.Rows.{IsDone, AreUnmended}
-use Rattle.cluster_repair.specs.Ticks.{ticks_of}
 use Rattle.cluster_repair.specs.declared.repair.Pace.{Pace}
 use Rattle.cluster_what_if.specs.Answers.{IsAnswer}
 use Rattle.cluster_what_if.specs.Found.{AreFound, AreFoundOf, IsMended, IsMendedAt, IsTableOfNodes, IsTableOfRacks}
@@ -35,7 +34,7 @@ pub answered : (f : FileTable) (M : State) (es : List Event) (a : Answer)
     → IsAnswer f M es a
 answered f M es a before without files = record { before = before; without = without; files = files }
 
-pub mended_at_pace : (pace : Pace) (M N : State) (m : Mended) → m.pace ≡ pace → IsDone (ticks_of pace M.cluster) M N m.repair → AreUnmended N m.unmended.items → IsMended pace M N m
+pub mended_at_pace : (pace : Pace) (M N : State) (m : Mended) → m.pace ≡ pace → IsDone pace M N m.repair → AreUnmended N m.unmended.items → IsMended pace M N m
 mended_at_pace pace M N m paced done unmended = record { paced = paced; done = done; unmended = unmended }
 
 pub found_at_once : (before after : Loaded) (pace : Option Pace) (lost : Lost) (it : Losses)

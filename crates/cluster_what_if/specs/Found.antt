@@ -15,7 +15,6 @@ use Rattle.cluster_losses.specs.declared.loss.Question.TheVariants as question
 use Rattle.cluster_losses.specs.declared.loss_events.Lost.{Lost}
 use Rattle.cluster_losses.specs.declared.parts.Part.{Part}
 use Rattle.cluster_repair.specs.Rows.{IsDone, AreUnmended}
-use Rattle.cluster_repair.specs.Ticks.{ticks_of}
 use Rattle.cluster_repair.specs.declared.repair.Pace.{Pace}
 use Rattle.cluster_what_if.specs.Answers.{IsAnswer}
 use Rattle.cluster_what_if.specs.Text.{lost_text}
@@ -29,7 +28,7 @@ use Rattle.cluster_what_if.specs.declared.found.Table.{Table}
 -- have a level are listed.
 pub record IsMended (pace : Pace) (M N : State) (m : Mended) : Type 0 where
   pub paced : m.pace ≡ pace
-  pub done : IsDone (ticks_of pace M.cluster) M N m.repair
+  pub done : IsDone pace M N m.repair
   pub unmended : AreUnmended N m.unmended.items
 
 -- the same if there is a pace; else no round is taken

@@ -3,5 +3,5 @@ use Rattle.cluster_repair.proofs.datanodes.report_copy.Goals as goal
 
 pub returns : goal.returns
 returns g c =
-    reported_copy c.args.manager.now c.apply.new.manager c.args.watch.now.blocks.items c.add.new.self.blocks.items c.args.copied.now.target c.args.copied.now.block c.args.copied.now.stamp
+    reported_copy c.args.manager.now c.apply.new.manager c.args.watch.now.blocks.items c.add.new.self.blocks.items c.args.sent.now
     c.in_ok-apply.ensures.accepted c.in_ok-apply.ensures.state c.in_ok-add.ensures

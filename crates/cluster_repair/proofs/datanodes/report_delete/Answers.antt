@@ -3,5 +3,5 @@ use Rattle.cluster_repair.proofs.datanodes.report_delete.Goals as goal
 
 pub returns : goal.returns
 returns g c =
-    reported_delete c.args.manager.now c.apply.new.manager c.args.watch.now.blocks.items c.add.new.self.blocks.items c.args.delete.now.storage c.args.delete.now.block
+    reported_delete c.args.manager.now c.apply.new.manager c.args.watch.now.blocks.items c.add.new.self.blocks.items c.args.delete.now
     c.in_ok-apply.ensures.accepted c.in_ok-apply.ensures.state c.in_ok-add.ensures

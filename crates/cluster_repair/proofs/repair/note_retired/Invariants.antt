@@ -1,8 +1,6 @@
-use Rattle.bm_base.specs.Machine.State.{State}
-use Rattle.cluster_repair.specs.declared.ticks.Ticks.{Ticks}
-use Rattle.cluster_repair.specs.Rows.{IsReached, AreRetired}
-use Rattle.cluster_repair.specs.Ticks.{IsTimeAfter}
+use Rattle.std.specs.Prelude.{take}
+use Rattle.cluster_repair.specs.Retirements.{AreAnswered}
 use Rattle.cluster_repair.proofs.repair.note_retired.Given as goal
 
 abbrev pub invariant-loop-node : goal.invariant-loop-node
-invariant-loop-node l = (ticks : Ticks) (M : State) → IsReached l.rounds M l.manager → IsTimeAfter ticks l.rounds l.seconds → AreRetired ticks M l.fn.retired.items → AreRetired ticks M l.retired.items
+invariant-loop-node l = AreAnswered l.manager (take l.node-index l.drained) l.rounds l.seconds l.fn.retired.items l.retired.items

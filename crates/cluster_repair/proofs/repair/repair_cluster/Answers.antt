@@ -1,17 +1,37 @@
-use Rattle.std.proofs.Common.{◌≡◌, ◌∙◌, ap, subst}
+use Rattle.std.proofs.Common.{◌≡◌, ◌∙◌, ap, filter, subst}
+use Rattle.bm_base.specs.Words.{Cluster, knows_node}
 use Rattle.cluster_repair.specs.declared.ticks.Ticks.{Ticks}
-use Rattle.cluster_repair.specs.Rows.{IsDone}
+use Rattle.cluster_repair.specs.History.{AreAtStart}
+use Rattle.cluster_repair.specs.Rows.{HasEnded, awaited_rounds}
 use Rattle.cluster_repair.specs.Ticks.{ticks_of}
+use Rattle.cluster_repair.proofs.HistoryLemmas.{over_alike}
 use Rattle.cluster_repair.proofs.Reach.{under_way_at_once}
 use Rattle.cluster_repair.proofs.repair.repair_cluster.Goals as goal
 
-pub returns : goal.returns
-returns g c =
+pub returns-clause-done : goal.returns-clause-done
+returns-clause-done g c =
     let M = c.args.session.now.manager in
-    let ticks = c.ticks.result in
     let start = c.in_ok-repair.ensures in
+    let d = c.in_ok-repair.repair.datanodes in
+    let ticks = c.ticks.result in
     let same : ticks ≡ ticks_of c.args.pace M.cluster = c.ticks.ensures ∙ ap (ticks_of c.args.pace) c.requires.cluster in
-    subst (λ (t : Ticks). IsDone t M c.take_rounds.new.manager c.note_row.new.self) same
-    (c.in_ok-note_row.ensures.done ticks M
-    (c.in_ok-take_rounds.ensures.under_way M
-    (under_way_at_once ticks M c.in_ok-repair.repair start.rows start.retired start.rounds start.time start.on_way start.sent)))
+    let end = c.note_retired_at_end.new.self in
+    let at_start = subst (λ (C : Cluster). AreAtStart C d) c.requires.cluster start.at_start in
+    record {
+      start = d;
+      at_start = at_start;
+      bandwidth = start.bandwidth;
+      ended = subst (λ (t : Ticks). HasEnded t M d c.take_rounds.new.manager end) same
+          (c.in_ok-note_retired_at_end.ensures.ended M d
+          (c.in_ok-note_row.ensures.noted ticks M d
+          (c.in_ok-take_rounds.ensures.under_way M d (record { cluster = c.requires.cluster; lists = c.requires.blocks })
+          (under_way_at_once ticks M c.in_ok-repair.repair start.rows start.retired start.rounds start.time start.commanded at_start start.counts))));
+      over = over_alike c.awaited_rounds.result (awaited_rounds M.holdings.pending M.limits.pend) c.take_rounds.new.self end
+          (c.awaited_rounds.ensures ∙ ap (λ p. awaited_rounds p c.args.session.now.book.transfers.pend) c.requires.copies ∙ ap (awaited_rounds M.holdings.pending) c.requires.pend)
+          (c.note_retired_at_end.ensures.rounds ∙ c.note_row.ensures.rounds) (c.note_retired_at_end.ensures.datanodes ∙ c.note_row.ensures.datanodes) c.in_ok-take_rounds.ensures.over;
+    }
+
+pub returns-clause-drained : goal.returns-clause-drained
+returns-clause-drained g c =
+    ap (λ v. v.items) (c.note_retired_at_end.ensures.drained ∙ c.note_row.ensures.drained ∙ c.take_rounds.ensures.drained) ∙ c.in_ok-repair.ensures.drained
+    ∙ ap (λ (C : Cluster). filter (knows_node C) c.args.drained.now) c.requires.cluster

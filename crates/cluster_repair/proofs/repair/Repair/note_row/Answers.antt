@@ -1,8 +1,8 @@
 use Rattle.std.proofs.Common.{refl}
-use Rattle.cluster_repair.proofs.Reach.{noted}
+use Rattle.cluster_repair.proofs.Reach.{noted_row}
 use Rattle.cluster_repair.proofs.repair.Repair.note_row.Goals as goal
 
-pub returns-clause-done : goal.returns-clause-done
-returns-clause-done c ticks M on =
-    noted ticks M c.args.manager.now c.args.self.now _ _ c.in_ok-levels.ensures.counts refl refl refl c.len.ensures c.requires.taken c.in_ok-levels.ensures.blocks
-    (c.in_ok-push.ensures.rows ticks M) c.in_ok-push.ensures.last refl refl refl refl refl on
+pub returns-clause-noted : goal.returns-clause-noted
+returns-clause-noted c ticks M d on =
+    noted_row ticks M d c.args.manager.now c.args.self.now _ _ c.in_ok-levels.ensures.counts refl refl refl c.len.ensures c.requires.taken c.in_ok-levels.ensures.blocks
+    (c.in_ok-push.ensures.rows ticks M) c.in_ok-push.ensures.last refl refl refl refl refl refl on

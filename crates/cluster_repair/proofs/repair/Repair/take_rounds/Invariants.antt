@@ -1,6 +1,8 @@
 use Rattle.std.specs.Prelude.{◌≡◌}
 use Rattle.bm_base.specs.Machine.State.{State}
 use Rattle.laws_of_repairs.specs.Repairs.{Covers}
+use Rattle.cluster_repair.specs.declared.datanodes.DataNodes.{DataNodes}
+use Rattle.cluster_repair.specs.History.{AreOf}
 use Rattle.cluster_repair.specs.Rows.{IsUnderWay}
 use Rattle.cluster_repair.proofs.repair.Repair.take_rounds.Given as goal
 
@@ -8,5 +10,6 @@ abbrev pub invariant-loop-past : goal.invariant-loop-past
 invariant-loop-past g l = record {
   few : l.self.rounds ≡ l.past;
   covers : Covers l.manager l.self.watch.blocks.items;
-  under_way : (M : State) → IsUnderWay l.facts.ticks M l.fn.manager l.fn.self → IsUnderWay l.facts.ticks M l.manager l.self;
+  drained : l.self.drained ≡ l.fn.self.drained;
+  under_way : (M : State) (d : DataNodes) → AreOf l.facts.topology.now.cluster l.facts.blocks.now M → IsUnderWay l.facts.ticks M d l.fn.manager l.fn.self → IsUnderWay l.facts.ticks M d l.manager l.self;
 }

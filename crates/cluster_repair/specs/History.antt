@@ -1,0 +1,103 @@
+-- The rounds of a repair, one after another.
+use Rattle.std.specs.Prelude.{◌≡◌, ℕ, List, [], ◌∷◌, ◌++◌, filter, length, map}
+use Rattle.bm_base.specs.Words.{Cluster, State, count_call, has_storage, keys, whole_round}
+use Rattle.cluster_report.specs.Catalogues.{Lists, len_of}
+use Rattle.cluster_report.specs.declared.catalogue.Catalogue.{Catalogue}
+use Rattle.cluster_repair.specs.declared.datanodes.DataNodes.{DataNodes}
+use Rattle.cluster_repair.specs.declared.free.NodeStorages.{NodeStorages}
+use Rattle.cluster_repair.specs.declared.on_way.Sent.{Sent}
+use Rattle.cluster_repair.specs.declared.repair.Repair.{Repair}
+use Rattle.cluster_repair.specs.declared.ticks.Ticks.{Ticks}
+use Rattle.cluster_repair.specs.Reports.{HaveReported}
+use Rattle.cluster_repair.specs.Sending.{sends_until, receives_until, free_in, free_on}
+use Rattle.cluster_repair.specs.Sent.{AreBegun, AreCounted, copies_in, deletes_in, transfers_in}
+use Rattle.cluster_repair.specs.Ticks.{IsNextTick}
+
+-- A round: when it came, and the manager then, after the reports; the copies that DataNodes began,
+-- and DataNodes after it.
+pub record Taken : Type 0 where
+  pub time : ℕ
+  pub state : State
+  pub copies : List Sent
+  pub datanodes : DataNodes
+
+-- The last of these rounds comes first in their list. Before them, M and d were the manager and
+-- DataNodes.
+
+-- the manager after these rounds
+abbrev pub state_of : State → List Taken → State
+state_of M [] = M
+state_of M (last ∷ before) = count_call (whole_round last.state).1
+
+-- DataNodes after these rounds
+abbrev pub datanodes_of : DataNodes → List Taken → DataNodes
+datanodes_of d [] = d
+datanodes_of d (last ∷ before) = last.datanodes
+
+-- when the last was
+abbrev pub time_of : List Taken → ℕ
+time_of [] = 0
+time_of (last ∷ before) = last.time
+
+-- how many copies the last commanded
+abbrev pub commanded_of : List Taken → ℕ
+commanded_of [] = 0
+commanded_of (last ∷ before) = copies_in (whole_round last.state).0
+
+-- all copies that DataNodes began
+abbrev pub copies_of : List Taken → List Sent
+copies_of [] = []
+copies_of (last ∷ before) = copies_of before ++ last.copies
+
+-- the round after these comes at this time
+abbrev pub ComesAt : Ticks → List Taken → ℕ → Type 0
+ComesAt ticks [] t = t ≡ 0
+ComesAt ticks (last ∷ before) t = IsNextTick ticks last.datanodes.on_way.sent.items last.time t
+
+-- A round after others: DataNodes report what they have done, the manager commands, and DataNodes
+-- begin it.
+pub record IsTaken (ticks : Ticks) (M : State) (d : DataNodes) (before : List Taken) (round : Taken) : Type 0 where
+  pub comes : ComesAt ticks before round.time
+  pub mid : DataNodes
+  pub reported : HaveReported (len_of M.holdings.blocks) round.time (datanodes_of d before) mid (state_of M before) round.state
+  pub begun : AreBegun M.cluster round.time (transfers_in (whole_round round.state).0) mid round.datanodes
+  pub copies : round.copies ≡ begun.copies
+  pub deletes : round.datanodes.deletes.items ≡ deletes_in (whole_round round.state).0
+
+-- each of these rounds was taken after those before it
+abbrev pub AreTaken : Ticks → State → DataNodes → List Taken → Type 0
+AreTaken ticks M d [] = Unit {0}
+AreTaken ticks M d (round ∷ before) = IsTaken ticks M d before round × AreTaken ticks M d before
+
+-- a cluster and a catalogue are those of a state
+pub record AreOf (C : Cluster) (blocks : Catalogue) (M : State) : Type 0 where
+  pub cluster : C ≡ M.cluster
+  pub lists : Lists blocks M.holdings.blocks
+
+-- the numbers of a node and its storages
+abbrev pub numbers_of : NodeStorages → ℕ × List ℕ
+numbers_of n = (n.node, n.storages.items)
+
+-- a node with those of its storages that are among these
+abbrev pub node_among : Cluster → List ℕ → ℕ → ℕ × List ℕ
+node_among C ss n = (n, filter (has_storage C n) ss)
+
+-- DataNodes before the first round: they have nothing to do, and know what is free in the cluster
+pub record AreAtStart (C : Cluster) (d : DataNodes) : Type 0 where
+  pub free : (s : ℕ) → free_on d.free s ≡ free_in C s
+  pub nodes : map numbers_of d.free.nodes.items ≡ map (node_among C (keys C.storages)) (keys C.nodes)
+  pub on_way : d.on_way.sent.items ≡ []
+  pub deletes : d.deletes.items ≡ []
+  pub sending : (n : ℕ) → sends_until d.links n ≡ 0
+  pub receiving : (n : ℕ) → receives_until d.links n ≡ 0
+
+-- a repair has taken rounds, and its counts are those of all copies
+pub record HasTaken (ticks : Ticks) (M : State) (d : DataNodes) (N : State) (r : Repair) : Type 0 where
+  pub taken : List Taken
+  pub are : AreTaken ticks M d taken
+  pub rounds : r.rounds ≡ length taken
+  pub time : r.time ≡ time_of taken
+  pub commanded : r.commanded ≡ commanded_of taken
+  pub state : N ≡ state_of M taken
+  pub datanodes : r.datanodes ≡ datanodes_of d taken
+  pub counted : AreCounted (copies_of taken) r.datanodes
