@@ -17,7 +17,7 @@ use Rattle.cluster_names.specs.FileTable.{FileTable}
 use Rattle.cluster_report.specs.Levels.{levels_counted}
 use Rattle.cluster_report.specs.Reports.{levels_held}
 use Rattle.cluster_report.specs.TagTotals.{blocks_held}
-use Rattle.cluster_losses.specs.Alike.{IsLike, IsSnapshot, AreSame, seen_nodes, seen_storages}
+use Rattle.cluster_losses.specs.Alike.{IsLike, IsSnapshot, AreSame}
 use Rattle.cluster_losses.specs.Events.{death}
 use Rattle.cluster_losses.specs.Outcomes.{StandsAs, IsOutcome}
 use Rattle.cluster_losses.specs.Tables.{IsRowAt}
@@ -210,12 +210,4 @@ module _ (M N : State) (s t : Snapshot) (of_M : IsSnapshot M s) (of_N : IsSnapsh
     blocks = blocks;
     replicas = sym of_N.replicas ∙ same.replicas ∙ of_M.replicas;
     excess = sym of_N.excess ∙ same.excess ∙ of_M.excess;
-  }
-
-  pub same_if_like : IsLike M N → AreSame s t
-  same_if_like like = record {
-    nodes = of_N.nodes ∙ ap seen_nodes like.cluster ∙ sym of_M.nodes;
-    storages = of_N.storages ∙ ap seen_storages like.cluster ∙ sym of_M.storages;
-    replicas = of_N.replicas ∙ like.replicas ∙ sym of_M.replicas;
-    excess = of_N.excess ∙ like.excess ∙ sym of_M.excess;
   }

@@ -1,7 +1,6 @@
 -- Lemmas.
 pub mod Alike
 pub mod Clusters
-pub mod Faults
 pub mod Kept
 pub mod LackingLemmas
 pub mod NamedLemmas
