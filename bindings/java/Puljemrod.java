@@ -20,8 +20,9 @@ import java.util.Objects;
  * }
  * </pre>
  *
- * The answers are proved to be the definition's. The calls of one manager are made one after another; its
- * methods are synchronized. The property {@code puljemrod.jni} names the library that the README builds.
+ * The answers are proved to be the definition's. The calls of one manager are made one after
+ * another; its methods are synchronized. The property {@code puljemrod.jni} names the library that
+ * the README builds.
  */
 public final class Puljemrod implements AutoCloseable {
     static {
@@ -44,7 +45,10 @@ public final class Puljemrod implements AutoCloseable {
         public long secret = 0;
     }
 
-    /** Why a manager could not be opened, or a line not be answered: the number is that of docs/FORMATS.md. */
+    /**
+     * Why a manager could not be opened, or a line not be answered: the number is that of
+     * docs/FORMATS.md.
+     */
     public static final class RefusedException extends RuntimeException {
         private static final long serialVersionUID = 1;
         public final int number;
@@ -61,7 +65,10 @@ public final class Puljemrod implements AutoCloseable {
     /** Where the handle of the C library is; 0 once it is closed. */
     private long handle;
 
-    /** An empty manager. Throws where an option is outside its range (15), or memory was refused (14). */
+    /**
+     * An empty manager. Throws where an option is outside its range (15), or memory was refused
+     * (14).
+     */
     public Puljemrod(Options options) {
         int[] code = new int[1];
         handle = open(options.shards, options.work, options.invalidate, options.pend,
@@ -72,9 +79,10 @@ public final class Puljemrod implements AutoCloseable {
     }
 
     /**
-     * Answers a line, without a line end. A refusal is an answer too ("refused 5 UnknownBlock"). Throws where
-     * memory was refused (14): then nothing has changed. After an OutOfMemoryError the line counts, and only
-     * its answer is lost: it has no place in Java's memory, or more bytes than an array.
+     * Answers a line, without a line end. A refusal is an answer too ("refused 5 UnknownBlock").
+     * Throws where memory was refused (14): then nothing has changed. After an OutOfMemoryError the
+     * line counts, and only its answer is lost: it has no place in Java's memory, or more bytes
+     * than an array.
      */
     public String line(String line) {
         return new String(line(line.getBytes(StandardCharsets.UTF_8)), StandardCharsets.US_ASCII);
@@ -108,7 +116,10 @@ public final class Puljemrod implements AutoCloseable {
 
     private static native void close(long handle);
 
-    /** Answers the worked examples in the folder that is named, and compares the answers with the stored ones. */
+    /**
+     * Answers the worked examples in the folder that is named, and compares the answers with the
+     * stored ones.
+     */
     public static void main(String[] words) throws IOException {
         int passed = 0;
         int failed = 0;

@@ -1,4 +1,5 @@
-/* The native methods of Puljemrod.java. A handle is in memory of its own, so that it never moves. */
+/* The native methods of Puljemrod.java. A handle is in memory of its own, so that it never
+ * moves. */
 #include "puljemrod.h"
 
 #include <jni.h>
@@ -25,8 +26,8 @@ JNIEXPORT jlong JNICALL Java_Puljemrod_open(JNIEnv *env, jclass class, jint shar
     return (jlong)(intptr_t)handle;
 }
 
-/* NULL where memory was refused, and then nothing has changed; or where Java cannot hold the answer of a call that
- * counts, and then an OutOfMemoryError is pending. */
+/* NULL where memory was refused, and then nothing has changed; or where Java cannot hold the answer
+ * of a call that counts, and then an OutOfMemoryError is pending. */
 JNIEXPORT jbyteArray JNICALL Java_Puljemrod_answer(JNIEnv *env, jclass class, jlong at, jbyteArray line) {
     (void)class;
     puljemrod *handle = (puljemrod *)(intptr_t)at;

@@ -10,8 +10,8 @@
     'level 7; 4'
     'refused 20 BadLine'
 
-`./puljemrod build library` makes the library that is called in this process. Without it the line tool is a
-child process: `./puljemrod build`.
+`./puljemrod build library` makes the library that is called in this process. Without it the line
+tool is a child process: `./puljemrod build`.
 """
 
 import ctypes

@@ -1,4 +1,5 @@
-//! Links libpuljemrod.a from the folder that PULJEMROD_DIST names, or from dist/ of this repository.
+//! Links libpuljemrod.a from the folder that PULJEMROD_DIST names, or from dist/ of this
+//! repository.
 
 use std::env;
 use std::path::Path;

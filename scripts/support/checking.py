@@ -31,7 +31,7 @@ def want(is_so, why):
 
 
 def code_blocks(page):
-    """Of a page's text what stands four columns in, block by block."""
+    """The blocks of a page's text that are indented by four columns."""
     blocks = re.findall(r"(?:^    .*\n)+", page, re.MULTILINE)
     return [re.sub(r"^    ", "", block, flags=re.MULTILINE) for block in blocks]
 
@@ -121,8 +121,8 @@ class Proved:
         for path in [kit / "rlibs", *(it.parent for it in below.values())]:
             self.words += ["-L", f"dependency={path}"]
         self.words += ["--antt-project", kit / "rattle/logic/antt-project.json", "--links", f"{crate}="]
-        self.room = tempfile.TemporaryDirectory()
-        self.checked = f"{self.room.name}/checked"
+        self.scratch = tempfile.TemporaryDirectory()
+        self.checked = f"{self.scratch.name}/checked"
         jobs = str(len(os.sched_getaffinity(0)))
         proof = ["--logic-built", kit / "logic_built", "--jobs", jobs, "-o", self.checked]
         ended_well([self.rattle, "check", *self.words, *proof], self.folder)

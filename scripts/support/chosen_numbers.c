@@ -1,13 +1,15 @@
-// Numbers that an attacker may choose if a table hashes without a secret: they share few of its groups, so that a look-up of one walks
-// past all that came before it.
+// Numbers that an attacker may choose if a table hashes without a secret: they share few of its
+// groups, so that a look-up of one walks past all that came before it.
 //
 //     chosen_numbers FIRST COUNT STEP SHIFT BITS TAG
 //
-// prints COUNT numbers, one a line, ascending from FIRST by multiples of STEP. Of the 32 bits of their hashes BITS from SHIFT on are
-// zero, and the highest eight are TAG, so that a look-up compares each of them.
+// prints COUNT numbers, one a line, ascending from FIRST by multiples of STEP. Of the 32 bits of
+// their hashes BITS from SHIFT on are zero, and the highest eight are TAG, so that a look-up
+// compares each of them.
 //
-// The hash is that of `FoldHasher` and `IndexMap`: a product of 128 bits, folded to 64 and to 32. A table takes the lowest bits for the
-// group. So in a table of 2^G groups, where G is SHIFT + BITS, all of these numbers share one 2^BITS-th of the groups.
+// The hash is that of `FoldHasher` and `IndexMap`: a product of 128 bits, folded to 64 and to 32. A
+// table takes the lowest bits for the group. So in a table of 2^G groups, where G is SHIFT + BITS,
+// all of these numbers share one 2^BITS-th of the groups.
 #include <stdint.h>
 #include <stdio.h>
 #include <stdlib.h>

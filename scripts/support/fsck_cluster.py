@@ -209,7 +209,8 @@ def places(block: Block, file: File, version: Version) -> list[Replica]:
 
 
 def printed_count(block: Block, file: File, version: Version) -> int:
-    """The number of the block's line: that of its places in 2.6, of its live replicas since then."""
+    """The number of the block's line: that of its places in 2.6, of its live replicas since
+    then."""
     return len(places(block, file, version)) if version < (2, 7) else live(block)
 
 

@@ -99,8 +99,8 @@ def list_words(block: Block, file: File, call: Fsck) -> str:
 
 
 def block_words(block: Block, file: File, call: Fsck) -> str:
-    """The rest of a block's line after its length; `repl=` of 2.6 counts the places, that of 2.7 the
-    live replicas."""
+    """The rest of a block's line after its length; `repl=` of 2.6 counts the places, that of 2.7
+    the live replicas."""
     is_lost = is_missing(block, file, call.version)
     missing = " MISSING!" if is_lost else ""
     if is_lost and not file.policy:

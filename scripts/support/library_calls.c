@@ -1,5 +1,5 @@
-/* Calls each function of the library, with allocations refused too: it is linked with --wrap for malloc, realloc
- * and free. Writes what failed, and then how many checks passed. */
+/* Calls each function of the library, with allocations refused too: it is linked with --wrap for
+ * malloc, realloc and free. Writes what failed, and then how many checks passed. */
 #include "puljemrod.h"
 
 #include <pthread.h>
@@ -27,7 +27,8 @@ void *__real_malloc(size_t size);
 void *__real_realloc(void *block, size_t size);
 void __real_free(void *block);
 
-/* Blocks that are not freed yet; how many more allocations are given, -1 for all; whether one was refused. */
+/* Blocks that are not freed yet; how many more allocations are given, -1 for all; whether one was
+ * refused. */
 static _Atomic long blocks, left = -1;
 static _Atomic bool was_refused;
 
@@ -193,7 +194,8 @@ static bool is_event(puljemrod *handle, uint32_t code, uint32_t wanted, const ch
         && has_text(handle, text);
 }
 
-/* Events that take no memory, and one that something else refuses. Storage 12 is there, and no block. */
+/* Events that take no memory, and one that something else refuses. Storage 12 is there, and no
+ * block. */
 static void check_events_without_memory(puljemrod *handle) {
     puljemrod_add_block(handle, 5, 1, 64, 1);
     left = 0;
@@ -204,8 +206,8 @@ static void check_events_without_memory(puljemrod *handle) {
     check(are, "events without memory");
 }
 
-/* A heartbeat is refused only where the memory of earlier ones is too small for its list. Two of them leave that of
- * two lists: one in the answer, and one for the next. */
+/* A heartbeat is refused only where the memory of earlier ones is too small for its list. Two of
+ * them leave that of two lists: one in the answer, and one for the next. */
 static void heartbeats_without_memory(void) {
     puljemrod h = PULJEMROD_CLOSED_HANDLE;
     const uint32_t storages[] = {11, 12};
@@ -271,7 +273,8 @@ static void events(void) {
 
 /* ---- questions and rounds by functions of their own */
 
-/* Two nodes, of which node 1 has block 7, which has too few replicas, and node 2 a stray replica of block 9. */
+/* Two nodes, of which node 1 has block 7, which has too few replicas, and node 2 a stray replica of
+ * block 9. */
 static void make_small_cluster(puljemrod *handle) {
     const uint32_t storages[] = {11, 12}, other[] = {21};
     const puljemrod_remaining remaining[] = {{21, 1000}};
@@ -443,8 +446,8 @@ static void lists(void) {
     puljemrod_close(&h);
 }
 
-/* The line is answered with its Nth allocation refused, for N from 1 on; each time nothing is changed, or the text
- * is owed. */
+/* The line is answered with its Nth allocation refused, for N from 1 on; each time nothing is
+ * changed, or the text is owed. */
 static bool is_answered_in_the_end(puljemrod *handle, const struct row *row, unsigned *memory, unsigned *owed) {
     for (long n = 0;; n++) {
         size_t len = 99;

@@ -1,21 +1,24 @@
 // Comes before a program's allocator (LD_PRELOAD): refuses the allocations that it is asked to, and
-// counts the bytes that are held.
-// What it sees goes to the file that MEMORY_LOG names, a line each.
+// counts the bytes that are held. What it sees goes to the file that MEMORY_LOG names, a line each.
 //
 // The program reports where it is by lines on standard error:
 //     begun NAME     from here on every allocation is refused
 //     refuse K NAME  from here on the K-th allocation is refused, and that one alone
-//     ended NAME     no longer; the log gets `window NAME` or, after `refuse`, `turn NAME`, and how many allocations were tried since;
-//                    with threads the K-th may be that of any of them
+//     ended NAME     no longer; the log gets `window NAME` or, after `refuse`, `turn NAME`, and how
+//                    many allocations were tried since; with threads the K-th may be that of any
+//                    of them
 //     mark NAME      the log gets `mark NAME` and how many bytes are held
-// With REFUSE_AT=k the k-th allocation is refused, and that one alone; the log gets `refused k`. With PEAK=1 the log gets
-// `peak` at the end, and how many bytes were held at most; the end is `exit` or, in a program that may start threads, `_exit`.
+// With REFUSE_AT=k the k-th allocation is refused, and that one alone; the log gets `refused k`.
+// With PEAK=1 the log gets `peak` at the end, and how many bytes were held at most; the end is
+// `exit` or, in a program that may start threads, `_exit`.
 // With COUNT=1 it gets `made` there, and how many allocations were made.
 //
-// With LAST_TURN=k the log gets a further line when `refuse k NAME` ends: `sizes NAME T M B1 B2 ..` has the number of threads
-// started since then, how many threads met (see below), and the bytes of each allocation.
-// With MEET=NAME the started threads and their starter meet after each `refuse K NAME`: each waits at its first allocation until
-// the others are at theirs, or have ended. This shows whether one thread does all the work.
+// With LAST_TURN=k the log gets a further line when `refuse k NAME` ends: `sizes NAME T M B1 B2 ..`
+// has the number of threads started since then, how many threads met (see below), and the bytes of
+// each allocation.
+// With MEET=NAME the started threads and their starter meet after each `refuse K NAME`: each waits
+// at its first allocation until the others are at theirs, or have ended. This shows whether one
+// thread does all the work.
 #define _GNU_SOURCE
 #include <errno.h>
 #include <dlfcn.h>

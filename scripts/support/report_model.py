@@ -24,7 +24,8 @@ FIRST = 10
 
 
 class Known:
-    """A cluster after lines, which are bytes, with the names of the tables that the import writes."""
+    """A cluster after lines, which are bytes, with the names of the tables that the import
+    writes."""
 
     def __init__(self, lines, names="", files=""):
         self.state, self.notes = State(), []

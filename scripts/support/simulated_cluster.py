@@ -1,5 +1,6 @@
-"""What `simulate` shows, by the model of model/ and plain lists: the placement, the incidents, and
-DataNodes that send one copy after another and receive one after another. Times are in microseconds."""
+"""What `simulate` shows, by the model of model/ and plain lists: the placement, the incidents,
+and DataNodes that send one copy after another and receive one after another. Times are in
+microseconds."""
 
 from dataclasses import dataclass, field
 
@@ -137,8 +138,8 @@ class SimulatedCluster:
                 self.state = events.corrupt(self.state, good[self.dice.below(len(good))], block)
 
     def next_time(self):
-        """When the next round comes: after as many intervals as are needed for fewer copies to be on
-        their way than a round may command, at least one."""
+        """When the next round comes: after as many intervals as are needed for fewer copies to be
+        on their way than a round may command, at least one."""
         interval, most = self.asked.interval * 10**6, max(self.state.limits.work * len(self.state.nodes), 1)
         time = self.times[-1] + interval
         while sum(end > time for end, _, _ in self.on_way) >= most:

@@ -1,14 +1,15 @@
-// Stands before a program's reads of standard input and its writes of standard output and standard
+// Intercepts a program's reads of standard input and its writes of standard output and standard
 // error (LD_PRELOAD), and lets them fail where the variables say. At the end, which is `exit` or
-// `_exit`, the file that STREAM_LOG names gets a line `reads N writes M`: how many reads of standard
-// input and writes of standard output there were, those that failed among them.
+// `_exit`, the file that STREAM_LOG names gets a line `reads N writes M`: how many reads of
+// standard input and writes of standard output there were, those that failed among them.
 //
-// With READ_BYTES=n a read gives n bytes at most, and with WRITE_BYTES=n a write takes n bytes at most.
-// With READ_FAILS=k the k-th read fails, and that one alone; with WRITE_FAILS=k the k-th write and all
-// later ones.
+// With READ_BYTES=n a read gives n bytes at most, and with WRITE_BYTES=n a write takes n bytes at
+// most.
+// With READ_FAILS=k the k-th read fails, and that one alone; with WRITE_FAILS=k the k-th write and
+// all later ones.
 //
-// With NOTE_BYTES=n a write to standard error takes n bytes at most. With NOTE_FAILS=k the k-th such
-// write fails, and that one alone, so that the program can still report the fault there.
+// With NOTE_BYTES=n a write to standard error takes n bytes at most. With NOTE_FAILS=k the k-th
+// such write fails, and that one alone, so that the program can still report the fault there.
 #define _GNU_SOURCE
 #include <errno.h>
 #include <fcntl.h>

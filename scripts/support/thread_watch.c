@@ -1,7 +1,9 @@
-// Comes before a program's `pthread_create` (LD_PRELOAD): counts the threads that are asked for, and refuses some on request.
+// Comes before a program's `pthread_create` (LD_PRELOAD): counts the threads that are asked for,
+// and refuses some on request.
 //
-// With THREADS_FROM=k the k-th thread and all later ones are refused, as where the system has none left; THREADS_FROM=1 refuses
-// all. At the end the file that THREAD_LOG names gets a line `started N refused M`; the end is `exit` or `_exit`.
+// With THREADS_FROM=k the k-th thread and all later ones are refused, as where the system has none
+// left; THREADS_FROM=1 refuses all. At the end the file that THREAD_LOG names gets a line `started
+// N refused M`; the end is `exit` or `_exit`.
 #define _GNU_SOURCE
 #include <dlfcn.h>
 #include <errno.h>

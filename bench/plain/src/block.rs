@@ -123,7 +123,7 @@ pub struct Block<L> {
     /// The number of wanted replicas, or 0 of an unknown block with stray replicas.
     pub wanted: u8,
     pub pending: u8,
-    /// It is among the blocks whose excess marks the next round looks at.
+    /// It is among the blocks whose excess marks the next round scans.
     pub is_unsettled: bool,
 }
 

@@ -183,7 +183,7 @@ impl<M: Measured> Bench<M> {
             ),
             (
                 [&ascending, &ascending],
-                "full reports by rising number",
+                "full reports, ascending numbers",
                 "a_full_rising_replicas_per_s",
             ),
             (

@@ -1,8 +1,8 @@
 //! The block management of an HDFS NameNode, behind safe calls.
 //!
 //! A [`Manager`] takes events one after another and answers questions. What it answers, refuses and
-//! commands is proved to be what the definitions give; this crate, which makes the calls of the library
-//! for C, is only tested. docs/FORMATS.md has the lines, docs/RULES.md the rules.
+//! commands is proved to be what the definitions give; this crate, which makes the calls of the
+//! library for C, is only tested. docs/FORMATS.md has the lines, docs/RULES.md the rules.
 //!
 //! ```no_run
 //! use puljemrod::{Event, Manager, Options};

@@ -11,7 +11,8 @@ struct Handle {
     is_open: bool,
 }
 
-/// How a manager is set up; docs/FORMATS.md has the ranges. No answer depends on `shards` or `secret`.
+/// How a manager is set up; docs/FORMATS.md has the ranges. No answer depends on `shards` or
+/// `secret`.
 #[repr(C)]
 #[derive(Clone, Copy, Debug, PartialEq, Eq)]
 pub struct Options {
@@ -171,6 +172,27 @@ unsafe fn apply(handle: *mut Handle, event: &Event) -> u32 {
     }
 }
 
+/// Whether an accepted event of this kind neither adds nor removes replicas: at most their marks
+/// change, as `change_holdings` in crates/bm_base/specs/Machine/Events.antt defines.
+fn keeps_replicas(event: &Event) -> bool {
+    match event {
+        Event::Register { .. }
+        | Event::Drain { .. }
+        | Event::Undrain { .. }
+        | Event::Heartbeat { .. }
+        | Event::Add { .. }
+        | Event::Delete { .. }
+        | Event::SetReplication { .. }
+        | Event::Restamp { .. }
+        | Event::Corrupt { .. } => true,
+        Event::Dead { .. }
+        | Event::StorageFailed { .. }
+        | Event::Received { .. }
+        | Event::Deleted { .. }
+        | Event::Report { .. } => false,
+    }
+}
+
 /// Copies out rows from an index on, and returns how many.
 type CopyOut<R> = unsafe extern "C" fn(*mut Handle, usize, *mut R, usize) -> usize;
 
@@ -269,6 +291,9 @@ impl Manager {
     pub fn apply(&mut self, event: &Event) -> Result<Done, Error> {
         // SAFETY: the handle is open, and each list is read while its call runs.
         checked(unsafe { apply(&mut *self.handle, event) })?;
+        if keeps_replicas(event) {
+            return Ok(Done { added: 0, removed: 0 });
+        }
         let mut done = DoneRow::default();
         // SAFETY: the handle is open, and the counts are of this call.
         checked(unsafe { puljemrod_done(&mut *self.handle, &mut done) })?;

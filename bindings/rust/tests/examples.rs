@@ -1,5 +1,5 @@
-//! The worked examples of the repository, line by line, and each typed call on a small cluster whose answers were
-//! worked out by hand.
+//! The worked examples of the repository, line by line, and each typed call on a small cluster
+//! whose answers were worked out by hand.
 
 use puljemrod::{Command, Commands, Done, Entry, Event, Manager, Options, Remaining, Replica, Tag};
 use std::fs;
@@ -107,4 +107,76 @@ fn a_draining_node_retires_and_a_manager_moves_between_threads() {
     manager.apply(&Event::SetReplication { id: 7, repl: 3 }).unwrap();
     manager.apply(&Event::Restamp { id: 7, gen: 2, len: 65 }).unwrap();
     assert_eq!(manager.places(7), Ok(vec![]));
+}
+
+/// Each kind of event, by its typed call on one manager and by its line on another.
+#[test]
+fn typed_events_are_answered_as_their_lines() {
+    let mut typed = Manager::open(&Options::default()).unwrap();
+    let mut lines = Manager::open(&Options::default()).unwrap();
+    let mut compare = |event: Event, line: &str, answer: &str| {
+        let done = typed.apply(&event).unwrap();
+        assert_eq!(format!("ok {} {}", done.added, done.removed), answer, "{line}");
+        assert_eq!(lines.line(line.as_bytes()).unwrap(), answer.as_bytes(), "{line}");
+    };
+    let storages = vec![11, 12];
+    compare(
+        Event::Register { node: 1, rack: 1, storages },
+        r#"{"op":"register","node":1,"rack":1,"storages":[11,12]}"#,
+        "ok 0 0",
+    );
+    compare(
+        Event::Register { node: 2, rack: 1, storages: vec![21] },
+        r#"{"op":"register","node":2,"rack":1,"storages":[21]}"#,
+        "ok 0 0",
+    );
+    let remaining = vec![Remaining { storage: 12, remaining: 1000 }];
+    compare(
+        Event::Heartbeat { node: 1, remaining },
+        r#"{"op":"heartbeat","node":1,"remaining":[[12,1000]]}"#,
+        "ok 0 0",
+    );
+    compare(
+        Event::Add { id: 7, gen: 1, len: 64, repl: 2 },
+        r#"{"op":"add","id":7,"gen":1,"len":64,"repl":2}"#,
+        "ok 0 0",
+    );
+    for (storage, answer) in [(11, "ok 1 0"), (21, "ok 1 0"), (21, "ok 0 0"), (12, "ok 1 1")] {
+        let line = format!(r#"{{"op":"received","storage":{storage},"id":7,"gen":1,"len":64}}"#);
+        compare(Event::Received { storage, id: 7, gen: 1, len: 64 }, &line, answer);
+    }
+    for storage in [12, 11] {
+        let line = format!(r#"{{"op":"corrupt","storage":{storage},"id":7}}"#);
+        compare(Event::Corrupt { storage, id: 7 }, &line, "ok 0 0");
+    }
+    compare(
+        Event::SetReplication { id: 7, repl: 1 },
+        r#"{"op":"set_replication","id":7,"repl":1}"#,
+        "ok 0 0",
+    );
+    compare(
+        Event::Restamp { id: 7, gen: 2, len: 65 },
+        r#"{"op":"restamp","id":7,"gen":2,"len":65}"#,
+        "ok 0 0",
+    );
+    compare(Event::Drain { node: 1 }, r#"{"op":"drain","node":1}"#, "ok 0 0");
+    compare(Event::Undrain { node: 1 }, r#"{"op":"undrain","node":1}"#, "ok 0 0");
+    compare(Event::Delete { id: 7 }, r#"{"op":"delete","id":7}"#, "ok 0 0");
+    let blocks = vec![Entry { from: 7, to: 9, gen: 2, len: 65 }];
+    compare(
+        Event::Report { storage: 12, blocks },
+        r#"{"op":"report","storage":12,"blocks":[[7,9,2,65]]}"#,
+        "ok 2 0",
+    );
+    compare(
+        Event::Deleted { storage: 12, id: 7 },
+        r#"{"op":"deleted","storage":12,"id":7}"#,
+        "ok 0 1",
+    );
+    compare(
+        Event::StorageFailed { storage: 21 },
+        r#"{"op":"storage_failed","storage":21}"#,
+        "ok 0 1",
+    );
+    compare(Event::Dead { node: 1 }, r#"{"op":"dead","node":1}"#, "ok 0 2");
 }

@@ -25,17 +25,17 @@ module _ (a : Contents) (slot : ℕ) (h : Block → Block) where
         | inr other ↦ ap f (changed-elsewhere x other)
       ]
 
-  pub keeps-changed : ((b : Block) → (h b).room ≡ b.room) → KeepsAllBut slot a changed_at
+  pub keeps-changed : ((b : Block) → (h b).capacity ≡ b.capacity) → KeepsAllBut slot a changed_at
   keeps-changed same = record {
     lists = refl;
     blocks = changed-elsewhere;
-    room = λ x. changed-blind (λ o. option_map_or (λ (b : Block). b.room) o 0) by x;
+    capacity = λ x. changed-blind (λ o. option_map_or (λ (b : Block). b.capacity) o 0) by x;
     ids = refl;
     delimiter = refl;
     steps = refl;
     bound = refl;
   }
     where
-      by : (o : Option Block) → option_map_or (λ (b : Block). b.room) (option_map h o) 0 ≡ option_map_or (λ (b : Block). b.room) o 0
+      by : (o : Option Block) → option_map_or (λ (b : Block). b.capacity) (option_map h o) 0 ≡ option_map_or (λ (b : Block). b.capacity) o 0
       by None = refl
       by (Some b) = same b

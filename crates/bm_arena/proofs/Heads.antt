@@ -11,18 +11,18 @@ use Rattle.slab.specs.Slab.{Slab, get}
 use Rattle.bm_arena.specs.declared.types.BlockEntry.{BlockEntry}
 use Rattle.bm_arena.specs.Triplets.{Block, links_of, slot_views, at_slot, with_capacity, capacity_at, change_block}
 use Rattle.bm_arena.specs.Lists.{IsList}
-use Rattle.bm_arena.specs.Contents.{Contents, IsReserved, with_room, find_marks, room_at, block_at}
+use Rattle.bm_arena.specs.Contents.{Contents, IsReserved, with_entry_capacity, find_marks, entry_capacity, block_at}
 use Rattle.bm_arena.specs.Inside.{list_from, lists_from, IsArena}
 use Rattle.bm_arena.proofs.EntryViews.{lookup-lists_from, marks_in, entry_seen}
 use Rattle.bm_arena.proofs.Entries.{lookup-push_before, lookup-push_here, lookup-push_cases}
-use Rattle.bm_arena.proofs.ListReads.{walk-nowhere, room-seen, reserve-arena, reserve-blocks, reserve-lists}
+use Rattle.bm_arena.proofs.ListReads.{walk-nowhere, capacity-seen, reserve-arena, reserve-blocks, reserve-lists}
 use Rattle.bm_arena.proofs.Triplets.{get_or-set_here}
 
 pub IsReserved-refl : (a : Contents) → IsReserved a a
 IsReserved-refl a = record {
   blocks = λ _ _. refl;
-  marker = room_itself (block_at a a.delimiter);
-  room = omega arith;
+  marker = capacity_itself (block_at a a.delimiter);
+  capacity = omega arith;
   marks = λ _ _. refl;
   lists = λ _. refl;
   heads = λ _ h. h;
@@ -32,9 +32,9 @@ IsReserved-refl a = record {
   bound = refl;
 }
   where
-    room_itself : (o : Option Block) → o ≡ option_map (with_room (option_map_or (λ (b : Block). b.room) o 0)) o
-    room_itself None = refl
-    room_itself (Some b) = refl
+    capacity_itself : (o : Option Block) → o ≡ option_map (with_entry_capacity (option_map_or (λ (b : Block). b.capacity) o 0)) o
+    capacity_itself None = refl
+    capacity_itself (Some b) = refl
 
 pub IsReserved-trans : (a b c : Contents) → IsReserved a b → IsReserved b c → IsReserved a c
 IsReserved-trans a b c p q = record {
@@ -46,13 +46,13 @@ IsReserved-trans a b c p q = record {
   delimiter = q.delimiter ∙ p.delimiter;
   steps = q.steps ∙ p.steps;
   bound = q.bound ∙ p.bound;
-  marker = rw p.delimiter at q.marker ∙ ap (option_map (with_room (room_at c a.delimiter))) p.marker ∙ room_again (block_at a a.delimiter);
-  room = let more : room_at b a.delimiter ≤ room_at c a.delimiter = rw p.delimiter at q.room in omega (arith, p.room, more);
+  marker = rw p.delimiter at q.marker ∙ ap (option_map (with_entry_capacity (entry_capacity c a.delimiter))) p.marker ∙ capacity_again (block_at a a.delimiter);
+  capacity = let more : entry_capacity b a.delimiter ≤ entry_capacity c a.delimiter = rw p.delimiter at q.capacity in omega (arith, p.capacity, more);
 }
   where
-    room_again : (o : Option Block) → option_map (with_room (room_at c a.delimiter)) (option_map (with_room (room_at b a.delimiter)) o) ≡ option_map (with_room (room_at c a.delimiter)) o
-    room_again None = refl
-    room_again (Some b) = refl
+    capacity_again : (o : Option Block) → option_map (with_entry_capacity (entry_capacity c a.delimiter)) (option_map (with_entry_capacity (entry_capacity b a.delimiter)) o) ≡ option_map (with_entry_capacity (entry_capacity c a.delimiter)) o
+    capacity_again None = refl
+    capacity_again (Some b) = refl
 
 -- a storage without a head gets one, of an empty list
 module _ (slots : Slab BlockEntry) (ids : List (ℕ × ℕ)) (heads : List (ℕ × Option ℕ)) (delimiter s : ℕ) (arena : IsArena slots ids heads delimiter)
@@ -66,8 +66,8 @@ module _ (slots : Slab BlockEntry) (ids : List (ℕ × ℕ)) (heads : List (ℕ 
   nothing_listed : IsList (links_of slots s) None (list_from slots s None)
   nothing_listed = rw empty_list (record { chain = refl; distinct = tt })
 
-  pub head-arena : IsDistinct nat_eq (keys_of more) → ((b : Block) → get_or (slot_views slots) delimiter None ≡ Some b → length heads + 1 ≤ b.room) → IsArena slots ids more delimiter
-  head-arena unique room = record {
+  pub head-arena : IsDistinct nat_eq (keys_of more) → ((b : Block) → get_or (slot_views slots) delimiter None ≡ Some b → length heads + 1 ≤ b.capacity) → IsArena slots ids more delimiter
+  head-arena unique capacity = record {
     sound = record {
       lists = λ q first is.
           elim (lookup-push_cases q s None first heads is) [
@@ -87,7 +87,7 @@ module _ (slots : Slab BlockEntry) (ids : List (ℕ × ℕ)) (heads : List (ℕ 
       known = arena.numbers.known;
       marker =
           let b = arena.numbers.marker in
-          (b.0, b.1, omega (arith, room b.0 b.1, length-append heads ((s, None) ∷ [])));
+          (b.0, b.1, omega (arith, capacity b.0 b.1, length-append heads ((s, None) ∷ [])));
       each = arena.numbers.each;
       small = arena.numbers.small;
     };
@@ -130,14 +130,14 @@ pub no_lookup : {A : Type 0} (o : Option A) → is_some o ≡ false → o ≡ No
 no_lookup None is = refl
 no_lookup (Some x) is = absurd (false≢true (sym is))
 
-marks-change_room : (blocks : List (Option Block)) (x room y s : ℕ) → marks_in (change_block (with_room room) blocks x) y s ≡ marks_in blocks y s
-marks-change_room blocks x room y s =
+marks-change_capacity : (blocks : List (Option Block)) (x capacity y s : ℕ) → marks_in (change_block (with_entry_capacity capacity) blocks x) y s ≡ marks_in blocks y s
+marks-change_capacity blocks x capacity y s =
     elim (cases_eq y x) [
-      | inl same ↦ rw same (ap (λ o. option_and_then (λ (b : Block). find_marks b.replicas s) o) (get_or-set_here blocks x (option_map (with_room room)) refl) ∙ by (get_or blocks x None))
+      | inl same ↦ rw same (ap (λ o. option_and_then (λ (b : Block). find_marks b.replicas s) o) (get_or-set_here blocks x (option_map (with_entry_capacity capacity)) refl) ∙ by (get_or blocks x None))
       | inr differs ↦ ap (λ o. option_and_then (λ (b : Block). find_marks b.replicas s) o) (get_or-set_other blocks x y _ None differs)
     ]
   where
-    by : (o : Option Block) → option_and_then (λ (b : Block). find_marks b.replicas s) (option_map (with_room room) o) ≡ option_and_then (λ (b : Block). find_marks b.replicas s) o
+    by : (o : Option Block) → option_and_then (λ (b : Block). find_marks b.replicas s) (option_map (with_entry_capacity capacity) o) ≡ option_and_then (λ (b : Block). find_marks b.replicas s) o
     by None = refl
     by (Some b) = refl
 
@@ -148,63 +148,63 @@ module _ (slots new : Slab BlockEntry) (ids : List (ℕ × ℕ)) (heads : List (
   abbrev seen_as : Slab BlockEntry → List (ℕ × Option ℕ) → Contents
   seen_as s hs = record { blocks = slot_views s; ids = ids; lists = lists_from s hs; delimiter = delimiter; steps = steps; bound = bound }
 
-  pub roomier-arena : IsArena new ids heads delimiter
-  roomier-arena = reserve-arena slots new delimiter is grows ids heads delimiter arena
+  pub enlarged-arena : IsArena new ids heads delimiter
+  enlarged-arena = reserve-arena slots new delimiter is grows ids heads delimiter arena
 
-  marker-roomier : get_or (slot_views new) delimiter None ≡ option_map (with_room (option_map_or (λ (b : Block). b.room) (get_or (slot_views new) delimiter None) 0)) (get_or (slot_views slots) delimiter None)
-  marker-roomier =
+  marker-enlarged : get_or (slot_views new) delimiter None ≡ option_map (with_entry_capacity (option_map_or (λ (b : Block). b.capacity) (get_or (slot_views new) delimiter None) 0)) (get_or (slot_views slots) delimiter None)
+  marker-enlarged =
       let blocks = reserve-blocks slots new delimiter is grows ids heads delimiter arena in
-      ap (λ bs. get_or bs delimiter None) blocks ∙ get_or-set_here (slot_views slots) delimiter (option_map (with_room (capacity_at new delimiter))) refl
-      ∙ ap (λ r. option_map (with_room r) (get_or (slot_views slots) delimiter None)) (sym (room-seen new delimiter))
+      ap (λ bs. get_or bs delimiter None) blocks ∙ get_or-set_here (slot_views slots) delimiter (option_map (with_entry_capacity (capacity_at new delimiter))) refl
+      ∙ ap (λ r. option_map (with_entry_capacity r) (get_or (slot_views slots) delimiter None)) (sym (capacity-seen new delimiter))
 
-  pub roomier-kept : (after : List (ℕ × Option ℕ)) → after ≡ heads → IsReserved (seen_as slots heads) (seen_as new after)
-  roomier-kept after same =
+  pub enlarged-kept : (after : List (ℕ × Option ℕ)) → after ≡ heads → IsReserved (seen_as slots heads) (seen_as new after)
+  enlarged-kept after same =
       let lists = reserve-lists slots new delimiter is grows ids heads delimiter arena in
       let blocks = reserve-blocks slots new delimiter is grows ids heads delimiter arena in
       rw same (record {
         blocks = λ slot differs. ap (λ bs. get_or bs slot None) blocks ∙ get_or-set_other (slot_views slots) delimiter slot _ None differs;
-        marks = λ slot s. ap (λ bs. marks_in bs slot s) blocks ∙ marks-change_room (slot_views slots) delimiter (capacity_at new delimiter) slot s;
+        marks = λ slot s. ap (λ bs. marks_in bs slot s) blocks ∙ marks-change_capacity (slot_views slots) delimiter (capacity_at new delimiter) slot s;
         lists = λ s. ap (λ ls. unwrap_or (lookup (nat_eq s) ls) []) lists;
         heads = λ s h. rw lists h;
         ids = refl;
         delimiter = refl;
         steps = refl;
         bound = refl;
-        marker = marker-roomier;
-        room = rw (room-seen slots delimiter, room-seen new delimiter) grows;
+        marker = marker-enlarged;
+        capacity = rw (capacity-seen slots delimiter, capacity-seen new delimiter) grows;
       })
 
-  pub roomier-named : (after : List (ℕ × Option ℕ)) → after ≡ heads → (q : ℕ) → IsSome (lookup (nat_eq q) (lists_from new after)) → IsSome (lookup (nat_eq q) (lists_from slots heads))
-  roomier-named after same q some =
+  pub enlarged-named : (after : List (ℕ × Option ℕ)) → after ≡ heads → (q : ℕ) → IsSome (lookup (nat_eq q) (lists_from new after)) → IsSome (lookup (nat_eq q) (lists_from slots heads))
+  enlarged-named after same q some =
       let lists = reserve-lists slots new delimiter is grows ids heads delimiter arena in
       rw (same, lists) at some
 
   module _ (s : ℕ) (absent : lookup (nat_eq s) heads ≡ None) (after : List (ℕ × Option ℕ)) (after_is : after ≡ heads ++ (s, None) ∷ []) where
     pub headed-arena : IsDistinct nat_eq (keys_of after) → (count additional : ℕ) → count ≡ length heads → additional ≡ count + 1 → ((e : BlockEntry) → get new delimiter ≡ Some e → length e.triplets.items + additional ≤ e.triplets.capacity) → IsArena new ids after delimiter
-    headed-arena unique count additional count_is additional_is room =
+    headed-arena unique count additional count_is additional_is capacity =
         let unique_more = rw after_is at unique in
-        rw after_is (head-arena new ids heads delimiter s roomier-arena absent unique_more (λ b seen.
+        rw after_is (head-arena new ids heads delimiter s enlarged-arena absent unique_more (λ b seen.
         let e = entry_seen new delimiter b seen in
-        let fits = room e.0 e.1 in
-        let same : e.0.triplets.capacity ≡ b.room = ap (λ (c : Block). c.room) e.2 in
+        let fits = capacity e.0 e.1 in
+        let same : e.0.triplets.capacity ≡ b.capacity = ap (λ (c : Block). c.capacity) e.2 in
         omega (arith, fits, same, count_is, additional_is)))
 
     pub headed-here : IsSome (lookup (nat_eq s) (lists_from new after))
-    headed-here = rw (after_is, head-here new ids heads delimiter s roomier-arena absent) refl
+    headed-here = rw (after_is, head-here new ids heads delimiter s enlarged-arena absent) refl
 
     pub headed-kept : IsReserved (seen_as slots heads) (seen_as new after)
     headed-kept =
-        rw after_is (IsReserved-trans (seen_as slots heads) (seen_as new heads) (seen_as new (heads ++ (s, None) ∷ [])) (roomier-kept heads refl) (record {
+        rw after_is (IsReserved-trans (seen_as slots heads) (seen_as new heads) (seen_as new (heads ++ (s, None) ∷ [])) (enlarged-kept heads refl) (record {
           blocks = λ _ _. refl;
           marks = λ _ _. refl;
-          lists = λ q. list-kept new ids heads delimiter s roomier-arena absent q;
-          heads = λ q h. head-kept new ids heads delimiter s roomier-arena absent q h;
+          lists = λ q. list-kept new ids heads delimiter s enlarged-arena absent q;
+          heads = λ q h. head-kept new ids heads delimiter s enlarged-arena absent q h;
           ids = refl;
           delimiter = refl;
           steps = refl;
           bound = refl;
           marker = (IsReserved-refl (seen_as new heads)).marker;
-          room = omega arith;
+          capacity = omega arith;
         }))
 
     -- no other storage got a head

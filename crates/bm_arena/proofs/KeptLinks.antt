@@ -12,7 +12,7 @@ use Rattle.bm_arena.specs.declared.types.BlockEntry.{BlockEntry}
 use Rattle.bm_arena.specs.declared.types.Triplet.{Triplet}
 use Rattle.bm_base.specs.declared.replica.Marks.{Marks}
 use Rattle.bm_base.specs.declared.replica.BlockInfo.{BlockInfo}
-use Rattle.bm_arena.specs.Contents.{with_info, with_room, with_marks, change_marks}
+use Rattle.bm_arena.specs.Contents.{with_info, with_entry_capacity, with_marks, change_marks}
 use Rattle.bm_arena.specs.Triplets.{with_capacity, with_triplet_marks, triplet_view, Block, find_triplet, triplet_at, links_of, slot_views, entry_view, at_slot, change_block, change_at, change_triplet, with_triplets}
 use Rattle.bm_maps.specs.SlotLists.{Distinct}
 use Rattle.bm_arena.specs.Lists.{Chain, IsList}
@@ -60,7 +60,7 @@ module _ (old new : Slab BlockEntry)
 module _ (g : BlockEntry → BlockEntry) (h : Block → Block) (slots : Slab BlockEntry) (x : ℕ)
     (shows : (e : BlockEntry) → entry_view (g e) ≡ h (entry_view e))
     (same_id : (b : Block) → (h b).id ≡ b.id)
-    (grows : (b : Block) → get_or (slot_views slots) x None ≡ Some b → b.room ≤ (h b).room)
+    (grows : (b : Block) → get_or (slot_views slots) x None ≡ Some b → b.capacity ≤ (h b).capacity)
     (same_storages : (b : Block) → storages_of (h b) ≡ storages_of b)
     (keep : (e : BlockEntry) (s : ℕ) (t : Triplet) → find_triplet e.triplets.items s ≡ Some t → KeepsLinks t (find_triplet (g e).triplets.items s))
     (back : (e : BlockEntry) (s : ℕ) (u : Triplet) → find_triplet (g e).triplets.items s ≡ Some u → (t : Triplet) × (find_triplet e.triplets.items s ≡ Some t)) where
@@ -156,7 +156,7 @@ module _ (slots new : Slab BlockEntry) (x storage : ℕ) (marks : Marks) (is : n
   change e = with_triplets e (change_triplet (with_triplet_marks marks) e.triplets.items storage)
 
   shows_marks : (e : BlockEntry) → entry_view (change e) ≡ with_marks storage marks (entry_view e)
-  shows_marks e = ap (λ rs. record { id = e.id; info = e.info; replicas = rs; room = e.triplets.capacity }) (map-change_marks e.triplets.items storage marks)
+  shows_marks e = ap (λ rs. record { id = e.id; info = e.info; replicas = rs; capacity = e.triplets.capacity }) (map-change_marks e.triplets.items storage marks)
 
   keep_links : (e : BlockEntry) (s : ℕ) (t : Triplet) → find_triplet e.triplets.items s ≡ Some t → KeepsLinks t (find_triplet (change e).triplets.items s)
   keep_links e s t h =
@@ -190,22 +190,22 @@ module _ (slots new : Slab BlockEntry) (x storage : ℕ) (marks : Marks) (is : n
   set_marks-blocks = rw is (seen-at_slot change slots x (with_marks storage marks) shows_marks)
 
 -- a block gets more capacity for triplets
-module _ (slots new : Slab BlockEntry) (x room : ℕ) (is : new ≡ at_slot (with_capacity room) slots x)
-    (grows : (e : BlockEntry) → get slots x ≡ Some e → e.triplets.capacity ≤ room)
+module _ (slots new : Slab BlockEntry) (x capacity : ℕ) (is : new ≡ at_slot (with_capacity capacity) slots x)
+    (grows : (e : BlockEntry) → get slots x ≡ Some e → e.triplets.capacity ≤ capacity)
     (ids : List (ℕ × ℕ)) (heads : List (ℕ × Option ℕ)) (delimiter : ℕ) (arena : IsArena slots ids heads delimiter) where
-  grows_seen : (b : Block) → get_or (slot_views slots) x None ≡ Some b → b.room ≤ room
+  grows_seen : (b : Block) → get_or (slot_views slots) x None ≡ Some b → b.capacity ≤ capacity
   grows_seen b seen =
       let e = entry_seen slots x b seen in
-      let same : e.0.triplets.capacity ≡ b.room = ap (λ (c : Block). c.room) e.2 in
+      let same : e.0.triplets.capacity ≡ b.capacity = ap (λ (c : Block). c.capacity) e.2 in
       omega (arith, grows e.0 e.1, same)
 
   pub reserved-arena : IsArena new ids heads delimiter
   reserved-arena =
-      rw is (IsArena-relinked (with_capacity room) (with_room room) slots x (λ _. refl) (λ _. refl) grows_seen (λ _. refl) (λ e s t h. (t, h, refl, refl)) (λ e s u h. (u, h)) ids heads delimiter arena)
+      rw is (IsArena-relinked (with_capacity capacity) (with_entry_capacity capacity) slots x (λ _. refl) (λ _. refl) grows_seen (λ _. refl) (λ e s t h. (t, h, refl, refl)) (λ e s u h. (u, h)) ids heads delimiter arena)
 
   pub reserved-lists : lists_from new heads ≡ lists_from slots heads
   reserved-lists =
-      rw is (lists-relinked (with_capacity room) (with_room room) slots x (λ _. refl) (λ _. refl) grows_seen (λ _. refl) (λ e s t h. (t, h, refl, refl)) (λ e s u h. (u, h)) ids heads delimiter arena)
+      rw is (lists-relinked (with_capacity capacity) (with_entry_capacity capacity) slots x (λ _. refl) (λ _. refl) grows_seen (λ _. refl) (λ e s t h. (t, h, refl, refl)) (λ e s u h. (u, h)) ids heads delimiter arena)
 
-  pub reserved-blocks : slot_views new ≡ change_block (with_room room) (slot_views slots) x
-  reserved-blocks = rw is (seen-at_slot (with_capacity room) slots x (with_room room) (λ _. refl))
+  pub reserved-blocks : slot_views new ≡ change_block (with_entry_capacity capacity) (slot_views slots) x
+  reserved-blocks = rw is (seen-at_slot (with_capacity capacity) slots x (with_entry_capacity capacity) (λ _. refl))

@@ -11,7 +11,7 @@ use Rattle.bm_base.specs.declared.replica.Marks.{Marks}
 use Rattle.bm_arena.specs.declared.types.Triplet.{Triplet}
 use Rattle.bm_arena.specs.Triplets.{Block, change_block, find_triplet, fill_first, is_of, triplet_view}
 use Rattle.bm_maps.specs.SlotLists.{IsMember, Distinct, without}
-use Rattle.bm_arena.specs.Contents.{Contents, block_at, list_of, HasHead, marks_at, find_marks, with_list, with_replica, without_replica, linked_front, unlinked, moved_front, HasCapacity, IsLawful, KeepsOthers, known_of, room_at}
+use Rattle.bm_arena.specs.Contents.{Contents, block_at, list_of, HasHead, marks_at, find_marks, with_list, with_replica, without_replica, linked_front, unlinked, moved_front, HasCapacity, IsLawful, KeepsOthers, known_of, entry_capacity}
 use Rattle.bm_arena.proofs.Replicas.{keys, map-fill_first, find_marks-seen, found-fill_first_here, found-fill_first_other}
 use Rattle.bm_arena.proofs.Triplets.{get_or-set_here}
 use Rattle.bm_arena.proofs.EntryViews.{marks_of}
@@ -119,10 +119,10 @@ known-changed h same_id same_info None = refl
 known-changed h same_id same_info (Some b) = rw (same_id b, same_info b) refl
 
 -- the capacity does not change with the replicas
-room-same : (h : Block → Block) (a : Contents) (slot : ℕ) → ((b : Block) → (h b).room ≡ b.room) → room_at (record a { blocks = change_block h a.blocks slot }) slot ≡ room_at a slot
-room-same h a slot same = ap (λ o. option_map_or (λ (b : Block). b.room) o 0) (changed_block h a slot) ∙ by (block_at a slot)
+capacity-same : (h : Block → Block) (a : Contents) (slot : ℕ) → ((b : Block) → (h b).capacity ≡ b.capacity) → entry_capacity (record a { blocks = change_block h a.blocks slot }) slot ≡ entry_capacity a slot
+capacity-same h a slot same = ap (λ o. option_map_or (λ (b : Block). b.capacity) o 0) (changed_block h a slot) ∙ by (block_at a slot)
   where
-    by : (o : Option Block) → option_map_or (λ (b : Block). b.room) (option_map h o) 0 ≡ option_map_or (λ (b : Block). b.room) o 0
+    by : (o : Option Block) → option_map_or (λ (b : Block). b.capacity) (option_map h o) 0 ≡ option_map_or (λ (b : Block). b.capacity) o 0
     by None = refl
     by (Some b) = same b
 
@@ -138,7 +138,7 @@ others-linked_front a slot s m = record {
   delimiter = refl;
   steps = refl;
   bound = refl;
-  room = room-same (with_replica s m) a slot (λ _. refl);
+  capacity = capacity-same (with_replica s m) a slot (λ _. refl);
 }
   where
     stays : (q : ℕ) → q ≢ s → (o : Option Block) → option_and_then (λ (b : Block). find_marks b.replicas q) (option_map (with_replica s m) o) ≡ option_and_then (λ (b : Block). find_marks b.replicas q) o
@@ -176,7 +176,7 @@ module _ (a : Contents) (lawful : IsLawful a) (slot s : ℕ) where
     delimiter = refl;
     steps = refl;
     bound = refl;
-    room = room-same (without_replica s) a slot (λ _. refl);
+    capacity = capacity-same (without_replica s) a slot (λ _. refl);
   }
     where
       by : (q : ℕ) → q ≢ s → (o : Option Block) → block_at a slot ≡ o → option_and_then (λ (b : Block). find_marks (fill_first (λ (r : ℕ × Marks). eqb r.0 s) b.replicas) q) o ≡ option_and_then (λ (b : Block). find_marks b.replicas q) o
@@ -195,15 +195,15 @@ others-moved_front a slot s = record {
   delimiter = refl;
   steps = refl;
   bound = refl;
-  room = refl;
+  capacity = refl;
 }
 
 -- the marks of a replica that was linked, if the block has capacity
 pub marks_at-linked : (a : Contents) (slot s : ℕ) (m : Marks) → HasCapacity a slot → marks_at a slot s ≡ None → marks_at (linked_front a slot s m) slot s ≡ Some m
-marks_at-linked a slot s m room none = by (block_at a slot) refl
+marks_at-linked a slot s m capacity none = by (block_at a slot) refl
   where
     by : (o : Option Block) → block_at a slot ≡ o → marks_at (linked_front a slot s m) slot s ≡ Some m
     by None is =
-        let P : Option Block → Type 0 = λ o. IsSomeAnd o (λ (b : Block). length b.replicas < b.room) in
-        absurd (subst P is room)
+        let P : Option Block → Type 0 = λ o. IsSomeAnd o (λ (b : Block). length b.replicas < b.capacity) in
+        absurd (subst P is capacity)
     by (Some b) is = marks_at-linked_front a slot s m b is none

@@ -25,8 +25,8 @@ length-set_value storage w (e ∷ es) =
     elim (cases_Bool (eqb storage e.0)) [ inl here ↦ rw here refl | inr other ↦ rw other (ap (λ n. suc n) (length-set_value storage w es)) ]
 
 -- numbers and slots stay if one block changes in anything but its number
-pub AreIds-change : (blocks : List (Option Block)) (ids : List (ℕ × ℕ)) (delimiter heads x : ℕ) (h : Block → Block) → ((b : Block) → (h b).id ≡ b.id) → ((b : Block) → get_or blocks x None ≡ Some b → b.room ≤ (h b).room) → AreIds blocks ids delimiter heads → AreIds (change_block h blocks x) ids delimiter heads
-AreIds-change blocks ids delimiter heads x h keeps_id keeps_room are = record {
+pub AreIds-change : (blocks : List (Option Block)) (ids : List (ℕ × ℕ)) (delimiter heads x : ℕ) (h : Block → Block) → ((b : Block) → (h b).id ≡ b.id) → ((b : Block) → get_or blocks x None ≡ Some b → b.capacity ≤ (h b).capacity) → AreIds blocks ids delimiter heads → AreIds (change_block h blocks x) ids delimiter heads
+AreIds-change blocks ids delimiter heads x h keeps_id keeps_capacity are = record {
   there = λ id slot is.
       let before = are.there id slot is in
       let after = at_change slot before.1 before.2 in
@@ -37,7 +37,7 @@ AreIds-change blocks ids delimiter heads x h keeps_id keeps_room are = record {
   each = are.each;
   small = λ slot b is. let before = at_change_back slot b is in are.small slot before.0 before.1;
   marker =
-      let after = room_change are.marker.0 are.marker.1 in
+      let after = capacity_change are.marker.0 are.marker.1 in
       (after.0, after.1, omega (arith, after.2, are.marker.2));
 }
   where
@@ -48,10 +48,10 @@ AreIds-change blocks ids delimiter heads x h keeps_id keeps_room are = record {
           | inr differs ↦ (b, get_or-set_other blocks x slot _ None differs ∙ is, refl)
         ]
 
-    room_change : (b : Block) → get_or blocks delimiter None ≡ Some b → (c : Block) × (get_or (change_block h blocks x) delimiter None ≡ Some c) × (b.room ≤ c.room)
-    room_change b is =
+    capacity_change : (b : Block) → get_or blocks delimiter None ≡ Some b → (c : Block) × (get_or (change_block h blocks x) delimiter None ≡ Some c) × (b.capacity ≤ c.capacity)
+    capacity_change b is =
         elim (cases_eq delimiter x) [
-          | inl same ↦ (h b, rw same (get_or-set_here blocks x (option_map h) refl ∙ ap (option_map h) (rw same at is)), keeps_room b (rw same at is))
+          | inl same ↦ (h b, rw same (get_or-set_here blocks x (option_map h) refl ∙ ap (option_map h) (rw same at is)), keeps_capacity b (rw same at is))
           | inr differs ↦ (b, get_or-set_other blocks x delimiter _ None differs ∙ is, omega arith)
         ]
 
@@ -72,7 +72,7 @@ AreIds-change blocks ids delimiter heads x h keeps_id keeps_room are = record {
 -- the same, from a contract of `link_front`
 module _ (slots : Slab BlockEntry) (heads : List (ℕ × Option ℕ)) (first : Option ℕ) (storage x : ℕ) (marks : Marks)
     (ids : List (ℕ × ℕ)) (delimiter : ℕ) (arena : IsArena slots ids heads delimiter) (known : Some first ≡ lookup (nat_eq storage) heads)
-    (room : IsSomeAnd (get_or (slot_views slots) x None) (λ (b : Block). length b.replicas < b.room))
+    (capacity : IsSomeAnd (get_or (slot_views slots) x None) (λ (b : Block). length b.replicas < b.capacity))
     (absent : marks_in (slot_views slots) x storage ≡ None) where
   abbrev new_triplet : Triplet
   new_triplet = record { storage = storage; previous = None; next = first; marks = marks }
@@ -83,8 +83,8 @@ module _ (slots : Slab BlockEntry) (heads : List (ℕ × Option ℕ)) (first : O
       by : (o : Option BlockEntry) → get slots x ≡ o → (e : BlockEntry) × (get slots x ≡ Some e) × (find_triplet e.triplets.items storage ≡ None)
       by None at =
           let nothing : get_or (slot_views slots) x None ≡ None = get_or-map (option_map entry_view) slots.slots x None ∙ ap (option_map entry_view) at in
-          let P : Option Block → Type 0 = λ o. IsSomeAnd o (λ (b : Block). length b.replicas < b.room) in
-          absurd (subst P nothing room)
+          let P : Option Block → Type 0 = λ o. IsSomeAnd o (λ (b : Block). length b.replicas < b.capacity) in
+          absurd (subst P nothing capacity)
       by (Some e) at =
           let gone : triplet_at slots x storage ≡ None = none_inside marks_of (triplet_at slots x storage) (sym (marks-seen slots x storage) ∙ absent) in
           (e, at, sym (ap (read storage) at) ∙ gone)

@@ -15,7 +15,7 @@ use Rattle.bm_base.specs.declared.replica.Marks.{Marks}
 use Rattle.bm_arena.specs.Triplets.{Block, find_triplet, triplet_at, links_of, slot_views, entry_view, triplet_view, at_slot, with_capacity, capacity_at, change_block}
 use Rattle.bm_maps.specs.SlotLists.{IsMember, Distinct, without}
 use Rattle.bm_arena.specs.Lists.{walk, Chain}
-use Rattle.bm_arena.specs.Contents.{Contents, with_room, room_at}
+use Rattle.bm_arena.specs.Contents.{Contents, with_entry_capacity, entry_capacity}
 use Rattle.bm_arena.specs.Inside.{list_from, lists_from, storages_of, IsSound, IsArena}
 use Rattle.bm_maps.proofs.SlotLists.{length-distinct_below, length-without, Among-without_other}
 use Rattle.bm_arena.proofs.Lists.{walk-chain}
@@ -26,13 +26,13 @@ use Rattle.bm_arena.proofs.EntryViews.{lookup-lists_from, marks_in, marks_of, ma
 use Rattle.bm_arena.proofs.KeptLinks.{reserved-arena, reserved-lists, reserved-blocks}
 
 pub walk-listed : (slots : Slab BlockEntry) (heads : List (ℕ × Option ℕ)) (storage left : ℕ) (first : Option ℕ) → IsSound slots heads → length slots.slots ≤ left → Some first ≡ lookup (nat_eq storage) heads → walk (links_of slots storage) left first ≡ unwrap_or (lookup (nat_eq storage) (lists_from slots heads)) []
-walk-listed slots heads storage left first sound room known =
+walk-listed slots heads storage left first sound capacity known =
     let list = sound.lists storage first (sym known) in
     let short : length (list_from slots storage first) ≤ length slots.slots =
     length-distinct_below (length slots.slots) (list_from slots storage first) list.distinct (λ x there.
     let t = Chain-member (links_of slots storage) None first (list_from slots storage first) x list.chain there in
     triplet_at_within slots x storage t.0 t.1) in
-    rw (lookup-lists_from slots storage heads, ← known) (walk-chain (links_of slots storage) None first (list_from slots storage first) left list.chain (omega (arith, short, room)))
+    rw (lookup-lists_from slots storage heads, ← known) (walk-chain (links_of slots storage) None first (list_from slots storage first) left list.chain (omega (arith, short, capacity)))
 
 pub walk-nowhere : (links : ℕ → Option Triplet) (n : ℕ) → walk links n None ≡ []
 walk-nowhere links zero = refl
@@ -43,10 +43,10 @@ walk-headless slots heads storage left first none start =
     rw (lookup-lists_from slots storage heads, ← none, start) (walk-nowhere (links_of slots storage) left)
 
 -- the capacity that is seen is that of the entry
-pub room-seen : (slots : Slab BlockEntry) (x : ℕ) → option_map_or (λ (b : Block). b.room) (get_or (slot_views slots) x None) 0 ≡ capacity_at slots x
-room-seen slots x = ap (λ o. option_map_or (λ (b : Block). b.room) o 0) (get_or-map (option_map entry_view) slots.slots x None) ∙ by (get slots x)
+pub capacity-seen : (slots : Slab BlockEntry) (x : ℕ) → option_map_or (λ (b : Block). b.capacity) (get_or (slot_views slots) x None) 0 ≡ capacity_at slots x
+capacity-seen slots x = ap (λ o. option_map_or (λ (b : Block). b.capacity) o 0) (get_or-map (option_map entry_view) slots.slots x None) ∙ by (get slots x)
   where
-    by : (o : Option BlockEntry) → option_map_or (λ (b : Block). b.room) (option_map entry_view o) 0 ≡ option_map_or (λ (e : BlockEntry). e.triplets.capacity) o 0
+    by : (o : Option BlockEntry) → option_map_or (λ (b : Block). b.capacity) (option_map entry_view o) 0 ≡ option_map_or (λ (e : BlockEntry). e.triplets.capacity) o 0
     by None = refl
     by (Some e) = refl
 
@@ -60,7 +60,7 @@ module _ (slots new : Slab BlockEntry) (x : ℕ) (is : new ≡ at_slot (with_cap
   pub reserve-arena : IsArena new ids heads delimiter
   reserve-arena = reserved-arena slots new x (capacity_at new x) is grows_entry ids heads delimiter arena
 
-  pub reserve-blocks : slot_views new ≡ change_block (with_room (capacity_at new x)) (slot_views slots) x
+  pub reserve-blocks : slot_views new ≡ change_block (with_entry_capacity (capacity_at new x)) (slot_views slots) x
   reserve-blocks = reserved-blocks slots new x (capacity_at new x) is grows_entry ids heads delimiter arena
 
   pub reserve-lists : lists_from new heads ≡ lists_from slots heads
@@ -69,10 +69,10 @@ module _ (slots new : Slab BlockEntry) (x : ℕ) (is : new ≡ at_slot (with_cap
   pub reserve-view : (steps bound : ℕ) →
       let after : Contents = record { blocks = slot_views new; ids = ids; lists = lists_from new heads; delimiter = delimiter; steps = steps; bound = bound } in
       let before : Contents = record { blocks = slot_views slots; ids = ids; lists = lists_from slots heads; delimiter = delimiter; steps = steps; bound = bound } in
-      after ≡ record before { blocks = change_block (with_room (room_at after x)) before.blocks x }
+      after ≡ record before { blocks = change_block (with_entry_capacity (entry_capacity after x)) before.blocks x }
   reserve-view steps bound =
-      let same : slot_views new ≡ change_block (with_room (room_at (record { blocks = slot_views new; ids = ids; lists = lists_from new heads; delimiter = delimiter; steps = steps; bound = bound }) x)) (slot_views slots) x =
-      reserve-blocks ∙ ap (λ r. change_block (with_room r) (slot_views slots) x) (sym (room-seen new x)) in
+      let same : slot_views new ≡ change_block (with_entry_capacity (entry_capacity (record { blocks = slot_views new; ids = ids; lists = lists_from new heads; delimiter = delimiter; steps = steps; bound = bound }) x)) (slot_views slots) x =
+      reserve-blocks ∙ ap (λ r. change_block (with_entry_capacity r) (slot_views slots) x) (sym (capacity-seen new x)) in
       ap2 same reserve-lists
     where
       ap2 : {bs cs : List (Option Block)} {ls ms : List (ℕ × List ℕ)} → bs ≡ cs → ls ≡ ms
@@ -113,10 +113,10 @@ head-found slots heads s some = by (lookup (nat_eq s) heads) refl
     by (Some first) is = (first, is)
 
 -- the delimiter has capacity for the list of each head
-pub delimiter-room : (slots : Slab BlockEntry) (ids : List (ℕ × ℕ)) (heads : List (ℕ × Option ℕ)) (delimiter : ℕ) → IsArena slots ids heads delimiter → (s : ℕ)
+pub delimiter-capacity : (slots : Slab BlockEntry) (ids : List (ℕ × ℕ)) (heads : List (ℕ × Option ℕ)) (delimiter : ℕ) → IsArena slots ids heads delimiter → (s : ℕ)
     → IsSome (lookup (nat_eq s) (lists_from slots heads)) → marks_in (slot_views slots) delimiter s ≡ None
-    → IsSomeAnd (get_or (slot_views slots) delimiter None) (λ (b : Block). length b.replicas < b.room)
-delimiter-room slots ids heads delimiter arena s some absent =
+    → IsSomeAnd (get_or (slot_views slots) delimiter None) (λ (b : Block). length b.replicas < b.capacity)
+delimiter-capacity slots ids heads delimiter arena s some absent =
     let marker = arena.numbers.marker in
     let b = marker.0 in
     let e = entry_seen slots delimiter b marker.1 in
@@ -136,7 +136,7 @@ delimiter-room slots ids heads delimiter arena s some absent =
     ]) in
     let count : length b.replicas ≡ length (keys ts) = sym (length-map b.replicas (λ (r : ℕ × Marks). r.0)) ∙ ap length storages in
     let heads_count : length (keys_of heads) ≡ length heads = length-map heads (λ (h : ℕ × Option ℕ). h.0) in
-    let fits : length b.replicas < b.room = omega (arith, few, count, heads_count, marker.2) in
+    let fits : length b.replicas < b.capacity = omega (arith, few, count, heads_count, marker.2) in
     rw marker.1 fits
 
 -- the replica at an index is the triplet there
@@ -169,8 +169,8 @@ pub empty-headless : (slots : Slab BlockEntry) (heads : List (ℕ × Option ℕ)
 empty-headless slots heads s none = rw (lookup-lists_from slots s heads, ← none) refl
 
 -- a block that is seen with free capacity has an entry with it
-pub room-entry : (slots : Slab BlockEntry) (x : ℕ) → IsSomeAnd (get_or (slot_views slots) x None) (λ (b : Block). length b.replicas < b.room) → (e : BlockEntry) → get slots x ≡ Some e → length e.triplets.items + 1 ≤ e.triplets.capacity
-room-entry slots x room e at =
-    let P : Option Block → Type 0 = λ o. IsSomeAnd o (λ (b : Block). length b.replicas < b.room) in
-    let fits : length (map triplet_view e.triplets.items) < e.triplets.capacity = subst P (seen_at slots x e at) room in
+pub capacity-entry : (slots : Slab BlockEntry) (x : ℕ) → IsSomeAnd (get_or (slot_views slots) x None) (λ (b : Block). length b.replicas < b.capacity) → (e : BlockEntry) → get slots x ≡ Some e → length e.triplets.items + 1 ≤ e.triplets.capacity
+capacity-entry slots x capacity e at =
+    let P : Option Block → Type 0 = λ o. IsSomeAnd o (λ (b : Block). length b.replicas < b.capacity) in
+    let fits : length (map triplet_view e.triplets.items) < e.triplets.capacity = subst P (seen_at slots x e at) capacity in
     omega (arith, fits, length-map e.triplets.items triplet_view)

@@ -11,13 +11,13 @@ use Rattle.bm_arena.proofs.ChangedBlock.{keeps-changed}
 use Rattle.bm_arena.proofs.SetMarks.{set_at, set-known}
 
 pub entries-none : (a : Contents) → KeepsEntries a a
-entries-none a = record { ids = refl; known = λ x. refl; room = λ x. refl; heads = λ t h. h; delimiter = refl; bound = refl }
+entries-none a = record { ids = refl; known = λ x. refl; capacity = λ x. refl; heads = λ t h. h; delimiter = refl; bound = refl }
 
 pub entries-chain : (a b c : Contents) → KeepsEntries a b → KeepsEntries b c → KeepsEntries a c
 entries-chain a b c f g = record {
   ids = g.ids ∙ f.ids;
   known = λ x. g.known x ∙ f.known x;
-  room = λ x. g.room x ∙ f.room x;
+  capacity = λ x. g.capacity x ∙ f.capacity x;
   heads = λ t h. g.heads t (f.heads t h);
   delimiter = g.delimiter ∙ f.delimiter;
   bound = g.bound ∙ f.bound;
@@ -27,7 +27,7 @@ pub entries-others : (a c : Contents) (slot s : ℕ) → KeepsOthers a c slot s 
 entries-others a c slot s others = record {
   ids = others.ids;
   known = λ x. elim (cases_eq x slot) [ inl same ↦ rw same others.known | inr differs ↦ ap known_of (others.blocks x differs) ];
-  room = λ x. elim (cases_eq x slot) [ inl same ↦ rw same others.room | inr differs ↦ ap (λ o. option_map_or (λ (b : Block). b.room) o 0) (others.blocks x differs) ];
+  capacity = λ x. elim (cases_eq x slot) [ inl same ↦ rw same others.capacity | inr differs ↦ ap (λ o. option_map_or (λ (b : Block). b.capacity) o 0) (others.blocks x differs) ];
   heads = others.heads;
   delimiter = others.delimiter;
   bound = others.bound;
@@ -37,7 +37,7 @@ pub entries-set : (a c : Contents) (slot : ℕ) → KeepsAllBut slot a c → kno
 entries-set a c slot rest known = record {
   ids = rest.ids;
   known = λ x. elim (cases_eq x slot) [ inl same ↦ rw same known | inr differs ↦ ap known_of (rest.blocks x differs) ];
-  room = rest.room;
+  capacity = rest.capacity;
   heads = λ t h. let P : List (ℕ × List ℕ) → Type 0 = λ l. IsSome (lookup (nat_eq t) l) in subst P (sym rest.lists) h;
   delimiter = rest.delimiter;
   bound = rest.bound;

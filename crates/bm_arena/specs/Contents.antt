@@ -45,7 +45,7 @@ marks_at a slot storage = option_and_then (λ (b : Block). find_marks b.replicas
 
 -- one more replica of the block fits with no allocation
 abbrev pub HasCapacity : Contents → ℕ → Type 0
-HasCapacity a slot = IsSomeAnd (block_at a slot) (λ (b : Block). length b.replicas < b.room)
+HasCapacity a slot = IsSomeAnd (block_at a slot) (λ (b : Block). length b.replicas < b.capacity)
 
 -- a count that stays at its greatest value
 abbrev pub saturating_next : ℕ → ℕ
@@ -84,8 +84,8 @@ moved_front a slot storage = record a {
   steps = saturating_next a.steps;
 }
 
-abbrev pub with_room : ℕ → Block → Block
-with_room room b = record b { room = room }
+abbrev pub with_entry_capacity : ℕ → Block → Block
+with_entry_capacity capacity b = record b { capacity = capacity }
 
 abbrev pub with_info : Option BlockInfo → Block → Block
 with_info info b = record b { info = info }
@@ -108,7 +108,7 @@ IsEntry a slot = (id : ℕ) × (slot_of a id ≡ Some slot)
 
 -- an entry with no block and no replica: it has its inline capacity
 abbrev pub empty_block : ℕ → Block
-empty_block id = record { id = id; info = None; replicas = []; room = INLINE_TRIPLETS }
+empty_block id = record { id = id; info = None; replicas = []; capacity = INLINE_TRIPLETS }
 
 -- a number that was not there has an empty entry at a slot that was vacant
 pub record IsAdded (old new : Contents) (id slot : ℕ) : Type 0 where
@@ -132,8 +132,8 @@ abbrev pub slot_before : ℕ → List ℕ → Option ℕ
 slot_before x xs = before_in None x xs
 
 -- how many replicas fit at a slot with no allocation
-abbrev pub room_at : Contents → ℕ → ℕ
-room_at a slot = option_map_or (λ (b : Block). b.room) (block_at a slot) 0
+abbrev pub entry_capacity : Contents → ℕ → ℕ
+entry_capacity a slot = option_map_or (λ (b : Block). b.capacity) (block_at a slot) 0
 
 -- the marks of the delimiter, which mean nothing
 abbrev pub no_marks : Marks
@@ -143,8 +143,8 @@ no_marks = record { tag = Good; excess = false; ordered = false }
 -- delimiter's entry may have more capacity
 pub record IsReserved (old new : Contents) : Type 0 where
   pub blocks : (slot : ℕ) → slot ≢ old.delimiter → block_at new slot ≡ block_at old slot
-  pub marker : block_at new old.delimiter ≡ option_map (with_room (room_at new old.delimiter)) (block_at old old.delimiter)
-  pub room : room_at old old.delimiter ≤ room_at new old.delimiter
+  pub marker : block_at new old.delimiter ≡ option_map (with_entry_capacity (entry_capacity new old.delimiter)) (block_at old old.delimiter)
+  pub capacity : entry_capacity old old.delimiter ≤ entry_capacity new old.delimiter
   pub marks : (slot storage : ℕ) → marks_at new slot storage ≡ marks_at old slot storage
   pub lists : (storage : ℕ) → list_of new storage ≡ list_of old storage
   pub heads : (storage : ℕ) → HasHead old storage → HasHead new storage
@@ -194,14 +194,14 @@ pub record KeepsOthers (old new : Contents) (slot storage : ℕ) : Type 0 where
   pub delimiter : new.delimiter ≡ old.delimiter
   pub steps : new.steps ≡ saturating_next old.steps
   pub bound : new.bound ≡ old.bound
-  pub room : room_at new slot ≡ room_at old slot
+  pub capacity : entry_capacity new slot ≡ entry_capacity old slot
 
 -- What a change of the block in a slot that moves it in no list keeps: all lists, all other blocks,
 -- all capacities, and all numbers with their slots.
 pub record KeepsAllBut (slot : ℕ) (old new : Contents) : Type 0 where
   pub lists : new.lists ≡ old.lists
   pub blocks : (other : ℕ) → other ≢ slot → block_at new other ≡ block_at old other
-  pub room : (other : ℕ) → room_at new other ≡ room_at old other
+  pub capacity : (other : ℕ) → entry_capacity new other ≡ entry_capacity old other
   pub ids : new.ids ≡ old.ids
   pub delimiter : new.delimiter ≡ old.delimiter
   pub steps : new.steps ≡ old.steps
@@ -212,7 +212,7 @@ pub record KeepsAllBut (slot : ℕ) (old new : Contents) : Type 0 where
 pub record KeepsEntries (old new : Contents) : Type 0 where
   pub ids : new.ids ≡ old.ids
   pub known : (slot : ℕ) → known_of (block_at new slot) ≡ known_of (block_at old slot)
-  pub room : (slot : ℕ) → room_at new slot ≡ room_at old slot
+  pub capacity : (slot : ℕ) → entry_capacity new slot ≡ entry_capacity old slot
   pub heads : (storage : ℕ) → HasHead old storage → HasHead new storage
   pub delimiter : new.delimiter ≡ old.delimiter
   pub bound : new.bound ≡ old.bound

@@ -38,7 +38,7 @@ pub record AreIds (blocks : List (Option Block)) (ids : List (ℕ × ℕ)) (deli
   -- no number is listed twice
   pub each : IsDistinct nat_eq (keys_of ids)
   -- the delimiter has capacity for a triplet of each head
-  pub marker : (b : Block) × (slice_index_or blocks delimiter None ≡ Some b) × (heads ≤ b.room)
+  pub marker : (b : Block) × (slice_index_or blocks delimiter None ≡ Some b) × (heads ≤ b.capacity)
   -- a link can name each slot that is held
   pub small : (slot : ℕ) (b : Block) → slice_index_or blocks slot None ≡ Some b → slot < end_of_links
 

@@ -14,7 +14,7 @@ pub record Block : Type 0 where
   pub id : ℕ
   pub info : Option BlockInfo
   pub replicas : List (ℕ × Marks)
-  pub room : ℕ
+  pub capacity : ℕ
 
 -- the first triplet of a storage
 abbrev pub find_triplet : List Triplet → ℕ → Option Triplet
@@ -53,7 +53,7 @@ with_triplets e ts = record e { triplets = record e.triplets { items = ts } }
 
 -- an entry with the same triplets in another capacity
 abbrev pub with_capacity : ℕ → BlockEntry → BlockEntry
-with_capacity room e = record e { triplets = record e.triplets { capacity = room } }
+with_capacity capacity e = record e { triplets = record e.triplets { capacity = capacity } }
 
 -- how many triplets fit at a slot with no allocation
 abbrev pub capacity_at : Slab BlockEntry → ℕ → ℕ
@@ -106,7 +106,7 @@ storages_in ts = map (λ r. r.0) (map triplet_view ts)
 
 -- what is seen of a block
 abbrev pub entry_view : BlockEntry → Block
-entry_view e = record { id = e.id; info = e.info; replicas = map triplet_view e.triplets.items; room = e.triplets.capacity }
+entry_view e = record { id = e.id; info = e.info; replicas = map triplet_view e.triplets.items; capacity = e.triplets.capacity }
 
 abbrev pub slot_views : Slab BlockEntry → List (Option Block)
 slot_views s = map (option_map entry_view) s.slots

@@ -2,7 +2,7 @@
 ghost use Rattle.std.specs.Prelude.{◌≡◌, ◌≢◌, ◌≤◌, ◌==◌, ℕ, if◌then◌else◌, IsSome, IsSomeAnd, None, Some, [], IfOk, IfErr, OnOk, OnErr, IsOk};
 ghost use Rattle.bm_base.specs.declared.refusal.Refusal.TheVariants.{Memory};
 ghost use Rattle.bm_arena.specs.Triplets.{Block, change_block};
-ghost use Rattle.bm_arena.specs.Contents.{dropped, room_at, with_room, with_marks, with_info, block_at, marks_at, known_of, slot_of, IsAdded, HasCapacity, IsLawful, KeepsAllBut};
+ghost use Rattle.bm_arena.specs.Contents.{dropped, entry_capacity, with_entry_capacity, with_marks, with_info, block_at, marks_at, known_of, slot_of, IsAdded, HasCapacity, IsLawful, KeepsAllBut};
 ghost use Rattle.bm_arena.specs.HeldMaps.{replicas_of, blocks_of, with_known};
 ghost use Rattle.bm_base.specs.Words.{insert, replica_at};
 
@@ -69,15 +69,15 @@ impl Arena {
     /// there already, nothing is done; so up to three replicas take no memory. `Memory`.
     pub fn reserve_triplet(&mut self, slot: Slot) -> Result<(), Refusal>
         requires { IsSome (block_at self.old slot) }
-        ensures room { OnOk result (HasCapacity self.new slot) }
+        ensures capacity { OnOk result (HasCapacity self.new slot) }
         ensures succeeds { HasCapacity self.old slot → IsOk result }
-        ensures had_room { HasCapacity self.old slot → self.new ≡ self.old }
+        ensures had_capacity { HasCapacity self.old slot → self.new ≡ self.old }
         ensures rest { self.new
             ≡ record self.old {
-              blocks = change_block (with_room (room_at self.new slot))
+              blocks = change_block (with_entry_capacity (entry_capacity self.new slot))
                   self.old.blocks slot;
             } }
-        ensures grows { room_at self.old slot ≤ room_at self.new slot }
+        ensures grows { entry_capacity self.old slot ≤ entry_capacity self.new slot }
         ensures marks { (other storage : ℕ)
             → marks_at self.new other storage ≡ marks_at self.old other storage }
         ensures others { (other : ℕ) → other ≢ slot

@@ -93,7 +93,7 @@ fn index_near(triplets: &[Triplet], storage: u32, guess: usize) -> Option<usize>
 }
 
 // The triplet of a storage.
-fn find_in(triplets: &[Triplet], storage: u32) -> Option<Triplet>
+fn search_triplets(triplets: &[Triplet], storage: u32) -> Option<Triplet>
     ensures { result ≡ find_triplet triplets.now storage }
 {
     match index_of(triplets, storage) {
@@ -102,7 +102,7 @@ fn find_in(triplets: &[Triplet], storage: u32) -> Option<Triplet>
     }
 }
 
-fn set_previous_in(triplets: &mut [Triplet], storage: u32, previous: SlotLink)
+fn set_triplet_previous(triplets: &mut [Triplet], storage: u32, previous: SlotLink)
     ensures { triplets.new ≡ change_triplet (with_previous previous) triplets.old storage }
 {
     if let Some(index) = index_of(triplets, storage) {
@@ -110,7 +110,7 @@ fn set_previous_in(triplets: &mut [Triplet], storage: u32, previous: SlotLink)
     }
 }
 
-fn set_next_in(triplets: &mut [Triplet], storage: u32, next: SlotLink)
+fn set_triplet_next(triplets: &mut [Triplet], storage: u32, next: SlotLink)
     ensures { triplets.new ≡ change_triplet (with_next next) triplets.old storage }
 {
     if let Some(index) = index_of(triplets, storage) {
@@ -118,7 +118,7 @@ fn set_next_in(triplets: &mut [Triplet], storage: u32, next: SlotLink)
     }
 }
 
-fn set_marks_in(triplets: &mut [Triplet], storage: u32, marks: Marks)
+fn set_triplet_marks(triplets: &mut [Triplet], storage: u32, marks: Marks)
     ensures { triplets.new ≡ change_triplet (with_triplet_marks marks) triplets.old storage }
 {
     if let Some(index) = index_of(triplets, storage) {
@@ -126,7 +126,7 @@ fn set_marks_in(triplets: &mut [Triplet], storage: u32, marks: Marks)
     }
 }
 
-fn set_marks_near_in(triplets: &mut [Triplet], storage: u32, marks: Marks, guess: usize)
+fn set_triplet_marks_near(triplets: &mut [Triplet], storage: u32, marks: Marks, guess: usize)
     requires { Distinct (storages_in triplets.old) }
     ensures { triplets.new ≡ change_triplet (with_triplet_marks marks) triplets.old storage }
 {
@@ -140,7 +140,7 @@ pub(crate) fn find(slots: &Slab<BlockEntry>, slot: usize, storage: u32) -> Optio
     ensures { result ≡ triplet_at slots.now slot storage }
 {
     match slots.get(slot) {
-        Some(entry) => find_in(entry.triplets.as_slice(), storage),
+        Some(entry) => search_triplets(entry.triplets.as_slice(), storage),
         None => None,
     }
 }
@@ -149,7 +149,7 @@ fn set_previous(slots: &mut Slab<BlockEntry>, slot: usize, storage: u32, previou
     ensures { slots.new ≡ change_at (with_previous previous) slots.old slot storage }
 {
     if let Some(entry) = slots.get_mut(slot) {
-        set_previous_in(entry.triplets.as_mut_slice(), storage, previous);
+        set_triplet_previous(entry.triplets.as_mut_slice(), storage, previous);
     }
 }
 
@@ -157,7 +157,7 @@ fn set_next(slots: &mut Slab<BlockEntry>, slot: usize, storage: u32, next: SlotL
     ensures { slots.new ≡ change_at (with_next next) slots.old slot storage }
 {
     if let Some(entry) = slots.get_mut(slot) {
-        set_next_in(entry.triplets.as_mut_slice(), storage, next);
+        set_triplet_next(entry.triplets.as_mut_slice(), storage, next);
     }
 }
 
@@ -172,12 +172,12 @@ pub(crate) fn put_first(
     ensures slots { slots.new ≡ change_at (as_first first) slots.old slot storage }
 {
     match slots.get_mut(slot) {
-        Some(entry) => put_first_in(entry.triplets.as_mut_slice(), storage, first),
+        Some(entry) => set_first_link(entry.triplets.as_mut_slice(), storage, first),
         None => None,
     }
 }
 
-fn put_first_in(triplets: &mut [Triplet], storage: u32, first: SlotLink) -> Option<Triplet>
+fn set_first_link(triplets: &mut [Triplet], storage: u32, first: SlotLink) -> Option<Triplet>
     ensures found { result ≡ find_triplet triplets.old storage }
     ensures triplets { triplets.new ≡ change_triplet (as_first first) triplets.old storage }
 {
@@ -211,7 +211,7 @@ pub(crate) fn set_marks(slots: &mut Slab<BlockEntry>, slot: usize, storage: u32,
     ensures { slots.new ≡ change_at (with_triplet_marks marks) slots.old slot storage }
 {
     if let Some(entry) = slots.get_mut(slot) {
-        set_marks_in(entry.triplets.as_mut_slice(), storage, marks);
+        set_triplet_marks(entry.triplets.as_mut_slice(), storage, marks);
     }
 }
 
@@ -227,7 +227,7 @@ pub(crate) fn set_marks_near(
     ensures { slots.new ≡ change_at (with_triplet_marks marks) slots.old slot storage }
 {
     if let Some(entry) = slots.get_mut(slot) {
-        set_marks_near_in(entry.triplets.as_mut_slice(), storage, marks, guess);
+        set_triplet_marks_near(entry.triplets.as_mut_slice(), storage, marks, guess);
     }
 }
 
@@ -322,11 +322,12 @@ pub(crate) fn reserve_triplets(
 ) -> Result<(), AllocError>
     ensures rest { slots.new ≡ at_slot (with_capacity (capacity_at slots.new slot)) slots.old slot }
     ensures grows { capacity_at slots.old slot ≤ capacity_at slots.new slot }
-    ensures room { OnOk result ((e : _) → get slots.new slot ≡ Some e
+    ensures capacity { OnOk result ((e : _) → get slots.new slot ≡ Some e
         → HasRoomFor e.triplets additional) }
     ensures succeeds { ((e : _) → get slots.old slot ≡ Some e → HasRoomFor e.triplets additional)
         → IsOk result }
-    ensures had_room { ((e : _) → get slots.old slot ≡ Some e → HasRoomFor e.triplets additional)
+    ensures had_capacity { ((e : _) → get slots.old slot ≡ Some e
+        → HasRoomFor e.triplets additional)
         → slots.new ≡ slots.old }
     ensures refused { OnErr result (slots.new ≡ slots.old) }
 {
@@ -346,12 +347,12 @@ pub(crate) fn replica_at(
         (λ e. option_map triplet_view (slice_get e.triplets.items i)) (get slots.now slot) }
 {
     match slots.get(slot) {
-        Some(entry) => replica_in(entry.triplets.as_slice(), i),
+        Some(entry) => replica_of_triplet(entry.triplets.as_slice(), i),
         None => None,
     }
 }
 
-fn replica_in(triplets: &[Triplet], i: usize) -> Option<(StorageId, Marks)>
+fn replica_of_triplet(triplets: &[Triplet], i: usize) -> Option<(StorageId, Marks)>
     ensures { result ≡ option_map triplet_view (slice_get triplets.now i) }
 {
     if i < triplets.len() {

@@ -106,7 +106,7 @@ impl SlotIndex {
         ensures refused { IfErr result (λ e. e ≡ Memory) }
         ensures unchanged { OnErr result (self.new ≡ self.old) }
     {
-        let (slot, is_new) = slot_in(&mut self.index, slots, id)?;
+        let (slot, is_new) = find_or_add_slot(&mut self.index, slots, id)?;
         if is_new {
             self.greatest = self.greatest.max(id);
         }
@@ -126,7 +126,7 @@ impl SlotIndex {
 }
 
 // The slot of a number in the index, and whether it is new.
-fn slot_in(
+fn find_or_add_slot(
     ids: &mut IndexMap<u64, usize, HashSecret>,
     slots: &mut Slab<BlockEntry>,
     id: u64,

@@ -54,8 +54,8 @@ impl Arena {
         if self.heads.contains_key(&storage.0) {
             return Ok(());
         }
-        let room = self.heads.len() + 1;
-        links::reserve_triplets(&mut self.slots, self.delimiter, room)?;
+        let capacity = self.heads.len() + 1;
+        links::reserve_triplets(&mut self.slots, self.delimiter, capacity)?;
         self.heads.insert(storage.0, NO_LINK)?;
         Ok(())
     }
@@ -79,7 +79,7 @@ impl Arena {
     /// storage's list. Takes no memory.
     pub fn link_front(&mut self, slot: Slot, storage: StorageId, marks: Marks)
         requires head { HasHead self.old storage }
-        requires room { HasCapacity self.old slot }
+        requires capacity { HasCapacity self.old slot }
         requires absent { marks_at self.old slot storage ≡ None }
         ensures after { self.new ≡ linked_front self.old slot storage marks }
         ensures list { list_of self.new storage ≡ slot ∷ list_of self.old storage }

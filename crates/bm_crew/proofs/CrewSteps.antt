@@ -34,8 +34,8 @@ module _ {T U : Type 0} (post : ℕ → T → U → Type 0) where
     pub collected_one : (bag : Bag (ℕ × T)) (old new : Collector T U) (x : ℕ × (ℕ × T)) (m : ℕ × (ℕ × U)) → IsCollecting pre post bag old → IsCallerOf bag new.pass → view_of new.pass ≡ after_take (view_of old.pass) x → Contains (given_of old.pass) x → IsPlacedResultOf post x m → new.slots.items ≡ set old.slots.items m.0 (Some m.1) → vec_len new.slots ≡ vec_len old.slots → IsCollecting pre post bag new
     collected_one bag old new x m was is took known made put len =
         let given : given_of new.pass ≡ given_of old.pass = ap (λ (v : PassView (ℕ × T)). v.given) took in
-        let place : x.0 < vec_len old.slots = All-contains (λ item. item.0 < vec_len old.slots) (given_of old.pass) x was.places known in
-        let below : m.0 < length old.slots.items = omega (arith, place, made.0, old.slots.ok.0) in
+        let index : x.0 < vec_len old.slots = All-contains (λ item. item.0 < vec_len old.slots) (given_of old.pass) x was.places known in
+        let below : m.0 < length old.slots.items = omega (arith, index, made.0, old.slots.ok.0) in
         let more = filled_more post (taken_of old.pass) (x ∷ []) (m ∷ []) old.slots.items was.filled (made, tt) (All-cons (λ (m : ℕ × (ℕ × U)). m.0 < length old.slots.items) m [] below (All-nil (λ (m : ℕ × (ℕ × U)). m.0 < length old.slots.items))) in
         record {
           leads = is;
@@ -98,7 +98,7 @@ module _ {T U : Type 0} (pre : ℕ → T → Type 0) (post : ℕ → T → U →
       none_taken = ap (λ (v : PassView (ℕ × T)). v.taken) knows_all;
       none_done = idle.none_done;
       not_ended = ap (λ (v : PassView (ℕ × T)). v.found_empty) knows_all;
-      room = subst (λ (g : List (ℕ × (ℕ × T))). length g ≤ vec_capacity helper.done) (sym (ap (λ (v : PassView (ℕ × T)). v.given) knows_all)) idle.room;
+      capacity = subst (λ (g : List (ℕ × (ℕ × T))). length g ≤ vec_capacity helper.done) (sym (ap (λ (v : PassView (ℕ × T)). v.given) knows_all)) idle.capacity;
     };
     knows_all = ap (λ (v : PassView (ℕ × T)). v.knows_all) knows_all;
     accepts = subst (λ l. All (λ item. pre item.1.0 item.1.1) l) (sym (ap (λ (v : PassView (ℕ × T)). v.given) knows_all)) was.accepts;
@@ -106,18 +106,18 @@ module _ {T U : Type 0} (pre : ℕ → T → Type 0) (post : ℕ → T → U →
 
 -- a worker with capacity for more has capacity for less
 pub idle_for_less : {T U : Type 0} (n m : ℕ) (bag : Bag (ℕ × T)) (helpers : List (Helper T U)) → m ≤ n → All (IsIdle n bag) helpers → All (IsIdle m bag) helpers
-idle_for_less n m bag helpers few = All-weaker (IsIdle n bag) (IsIdle m bag) (λ h k. record { of = k.of; none_taken = k.none_taken; none_done = k.none_done; not_ended = k.not_ended; room = omega (arith, few, k.room) }) helpers
+idle_for_less n m bag helpers few = All-weaker (IsIdle n bag) (IsIdle m bag) (λ h k. record { of = k.of; none_taken = k.none_taken; none_done = k.none_done; not_ended = k.not_ended; capacity = omega (arith, few, k.capacity) }) helpers
 
 -- a worker that took one more of the given pieces still had capacity for its result
-pub still_room : {T U : Type 0} (post : ℕ → T → U → Type 0) (bag : Bag (ℕ × T)) (h : Helper T U) (next : BagPass (ℕ × T)) (x : ℕ × (ℕ × T)) → IsHelping post bag h → view_of next ≡ after_take (view_of h.pass) x → length (taken_of next) ≤ length (given_of h.pass) → length (given_of h.pass) ≤ vec_capacity h.done → vec_len h.done < vec_capacity h.done
-still_room {T} post bag h next x was took few room =
+pub still_capacity : {T U : Type 0} (post : ℕ → T → U → Type 0) (bag : Bag (ℕ × T)) (h : Helper T U) (next : BagPass (ℕ × T)) (x : ℕ × (ℕ × T)) → IsHelping post bag h → view_of next ≡ after_take (view_of h.pass) x → length (taken_of next) ≤ length (given_of h.pass) → length (given_of h.pass) ≤ vec_capacity h.done → vec_len h.done < vec_capacity h.done
+still_capacity {T} post bag h next x was took few capacity =
     let same : length h.done.items ≡ length (taken_of h.pass) = AllZip-long (IsPlacedResultOf post) (taken_of h.pass) h.done.items was.done in
     let one : length (taken_of next) ≡ length (taken_of h.pass) + 1 = ap (λ (v : PassView (ℕ × T)). length v.taken) took ∙ length-append (taken_of h.pass) (x ∷ []) in
-    omega (arith, same, one, few, room, h.done.ok.0)
+    omega (arith, same, one, few, capacity, h.done.ok.0)
 
 -- another pass gets its worker
 pub idles_more : {T U : Type 0} (n : ℕ) (bag : Bag (ℕ × T)) (all yielded left rest : List (BagPass (ℕ × T))) (pass : BagPass (ℕ × T)) (helpers : List (Helper T U)) (done : Vec (ℕ × (ℕ × U)) Global) → all ≡ yielded ++ left → left ≡ pass ∷ rest → All (λ p. IsHelperOf bag p × (view_of p ≡ helper_view false [])) all → All (IsIdle n bag) helpers → done.items ≡ [] → n ≤ vec_capacity done → All (IsIdle n bag) (helpers ++ record { pass = pass; done = done } ∷ [])
-idles_more {T} {U} n bag all yielded left rest pass helpers done is front each idle none room =
+idles_more {T} {U} n bag all yielded left rest pass helpers done is front each idle none capacity =
     let P : BagPass (ℕ × T) → Type 0 = λ p. IsHelperOf bag p × (view_of p ≡ helper_view false []) in
     let h : All P (yielded ++ (pass ∷ rest)) = subst (λ l. All P l) (is ∙ ap (λ l. yielded ++ l) front) each in
     let one : P pass = All-head P pass rest (all_right P yielded (pass ∷ rest) h) in
@@ -127,17 +127,17 @@ idles_more {T} {U} n bag all yielded left rest pass helpers done is front each i
       none_taken = ap (λ (v : PassView (ℕ × T)). v.taken) one.1;
       none_done = none;
       not_ended = ap (λ (v : PassView (ℕ × T)). v.found_empty) one.1;
-      room = room;
+      capacity = capacity;
     })
 
 -- one more item is put
-pub puts_more : {T : Type 0} (before : PassView (ℕ × T)) (now next : PassView (ℕ × T)) (items : List (ℕ × T)) (place : ℕ) (item : ℕ × T) → place ≡ length items → now ≡ with_given before (enumerate_from 0 items) → next ≡ after_put now (place, item) → next ≡ with_given before (enumerate_from 0 (items ++ item ∷ []))
-puts_more {T} before now next items place item at was is =
-    let here : (place, item) ≡ (0 + length items, item) = ap (λ p. (p, item)) (omega (arith, at)) in
+pub puts_more : {T : Type 0} (before : PassView (ℕ × T)) (now next : PassView (ℕ × T)) (items : List (ℕ × T)) (index : ℕ) (item : ℕ × T) → index ≡ length items → now ≡ with_given before (enumerate_from 0 items) → next ≡ after_put now (index, item) → next ≡ with_given before (enumerate_from 0 (items ++ item ∷ []))
+puts_more {T} before now next items index item at was is =
+    let here : (index, item) ≡ (0 + length items, item) = ap (λ p. (p, item)) (omega (arith, at)) in
     is ∙ (λ i. after_put (was i) (here i)) ∙ ap (λ l. with_given before l) (sym (enumerate_push 0 items item))
 
-pub puts_room : {T : Type 0} (all yielded left rest : List T) (item : T) → all ≡ yielded ++ left → left ≡ item ∷ rest → length (enumerate_from 0 yielded) < length all
-puts_room all yielded left rest item is front = omega (arith, length-enumerate_from 0 yielded, length-append yielded (item ∷ rest), ap length (is ∙ ap (λ l. yielded ++ l) front))
+pub puts_capacity : {T : Type 0} (all yielded left rest : List T) (item : T) → all ≡ yielded ++ left → left ≡ item ∷ rest → length (enumerate_from 0 yielded) < length all
+puts_capacity all yielded left rest item is front = omega (arith, length-enumerate_from 0 yielded, length-append yielded (item ∷ rest), ap length (is ∙ ap (λ l. yielded ++ l) front))
 
 -- all was put, and nothing is taken yet
 pub starts : {T U : Type 0} (pre : ℕ → T → Type 0) (post : ℕ → T → U → Type 0) (bag : Bag (ℕ × T)) (old new : BagPass (ℕ × T)) (items : List (ℕ × T)) (slots : Vec (Option (ℕ × U)) Global) → IsCallerOf bag new → view_of new ≡ with_given (view_of old) (enumerate_from 0 items) → taken_of old ≡ [] → All (λ item. pre item.0 item.1) items → vec_len slots ≡ length items → All (λ s. s ≡ None) slots.items

@@ -23,10 +23,10 @@ pub struct Crew;
 /// needs.
 ///
 /// Contracts see it as its capacity in items, and the number of workers next to the calling thread.
-/// Each worker has capacity for as many results.
+/// Each worker has capacity for that number of results.
 #[derive(Drop)]
 pub struct Ready<T, U> {
-    room: usize,
+    capacity: usize,
     /// `None` if the calling thread is the only worker.
     team: Option<Team<T, U>>,
     /// The capacity is for a team: without one, no slot is needed.
@@ -37,13 +37,13 @@ pub struct Ready<T, U> {
 impl<T, U> Model for Ready<T, U> {
     ghost Value = { Readiness };
 
-    ghost view = { λ r. record { room = r.room; helpers = helpers_in r.team } };
+    ghost view = { λ r. record { capacity = r.capacity; helpers = helpers_in r.team } };
 
     ghost invariant = { λ r.
-        IfSome r.team (λ team. IsTeamFor r.room team × (r.room ≤ vec_capacity r.slots))
+        IfSome r.team (λ team. IsTeamFor r.capacity team × (r.capacity ≤ vec_capacity r.slots))
         × (r.slots.items ≡ [])
         × (r.results.items ≡ [])
-        × (r.room ≤ vec_capacity r.results) };
+        × (r.capacity ≤ vec_capacity r.results) };
 }
 
 impl Crew {
@@ -56,7 +56,7 @@ impl Crew {
         workers: usize,
     ) -> Result<Ready<T, U>, Refusal>
         requires { 0 < workers }
-        ensures room { IfOk result (λ r. r.room ≡ n) }
+        ensures capacity { IfOk result (λ r. r.capacity ≡ n) }
         ensures helpers { IfOk result (λ r. 0 < n → r.helpers + 1 ≡ workers) }
         ensures none { IfOk result (λ r. n ≡ 0 → r.helpers ≡ 0) }
         ensures refused { IfErr result (λ e. e ≡ Memory) }
@@ -64,7 +64,7 @@ impl Crew {
         let results = Vec::with_capacity(alloc, n)?;
         if n == 0 || workers == 1 {
             return Ok(Ready {
-                room: n,
+                capacity: n,
                 team: None,
                 slots: Vec::new(alloc),
                 results,
@@ -73,7 +73,7 @@ impl Crew {
         let slots = Vec::with_capacity(alloc, n)?;
         let team = Team::open(alloc, n, workers)?;
         Ok(Ready {
-            room: n,
+            capacity: n,
             team: Some(team),
             slots,
             results,
@@ -85,7 +85,7 @@ impl<T: Send + Drop, U: Send + Drop> Ready<T, U> {
     /// Works each item, a shard with its piece. Returns the results in the order of items, each
     /// with its shard and with what `work` promises for that shard and that piece.
     ///
-    /// Refuses nothing: there are at most as many items as the crew is ready for, and `work` may be
+    /// Refuses nothing: there are no more items than the crew is ready for, and `work` may be
     /// called on each. Asks the allocator for nothing; starting a thread takes memory of the
     /// system. The others do the share of a worker that cannot be started. `gate.at(shard)` is
     /// called before the work of each piece.
@@ -96,13 +96,13 @@ impl<T: Send + Drop, U: Send + Drop> Ready<T, U> {
         work: &F,
         gate: &G,
     ) -> Vec<(u32, U)>
-        requires room { vec_len items ≤ self.room }
+        requires capacity { vec_len items ≤ self.capacity }
         requires accepts { All (λ item. F.pre work.now item.0 item.1) items.items }
         ensures len { vec_len result ≡ vec_len items }
         ensures each { AllZip (IsResultOf (F.post work.now)) items.items result.items }
     {
         let Ready {
-            room: _,
+            capacity: _,
             team,
             mut slots,
             results,
@@ -131,7 +131,7 @@ impl<T: Drop, U: Drop> Ready<T, U> {
     /// Returns what [`Ready::run`] returns, by the calling thread alone: needs no runtime, passes
     /// no gate, and terminates.
     pub fn run_alone<F: Fn(u32, T) -> U>(self, items: Vec<(u32, T)>, work: &F) -> Vec<(u32, U)>
-        requires room { vec_len items ≤ self.room }
+        requires capacity { vec_len items ≤ self.capacity }
         requires accepts { All (λ item. F.pre work.now item.0 item.1) items.items }
         ensures len { vec_len result ≡ vec_len items }
         ensures each { AllZip (IsResultOf (F.post work.now)) items.items result.items }
@@ -146,7 +146,7 @@ fn work_in_turn<T: Drop, U: Drop, J: Fn(u32, T) -> U>(
     mut results: Vec<(u32, U)>,
     job: &J,
 ) -> Vec<(u32, U)>
-    requires room { (results.items ≡ []) × (vec_len items ≤ vec_capacity results) }
+    requires capacity { (results.items ≡ []) × (vec_len items ≤ vec_capacity results) }
     requires accepts { All (λ item. J.pre job.now item.0 item.1) items.items }
     ensures len { vec_len result ≡ vec_len items }
     ensures each { AllZip (IsResultOf (J.post job.now)) items.items result.items }

@@ -14,8 +14,8 @@ use Rattle.bm_levels.specs.Leveled.{Leveled, IsLeveled, AreLevels}
 use Rattle.bm_levels.proofs.StatusByCounts.{level_unknown}
 
 -- capacity for the slots below a bound is capacity for each of them
-pub room_below : (K : IndexedLevels) (bound slot : ℕ) → HasCapacityFor K bound → slot < bound → HasCapacityFor K (slot + 1)
-room_below K bound slot h lt = (omega (arith, h.0, lt), omega (arith, h.1, lt))
+pub capacity_below : (K : IndexedLevels) (bound slot : ℕ) → HasCapacityFor K bound → slot < bound → HasCapacityFor K (slot + 1)
+capacity_below K bound slot h lt = (omega (arith, h.0, lt), omega (arith, h.1, lt))
 
 -- all slots hold the same blocks, with the same status
 module _ (old : Leveled) (a : Contents) (K : IndexedLevels) (blocks : (slot : ℕ) → block_at a slot ≡ block_at old.arena slot) (delimiter : a.delimiter ≡ old.arena.delimiter)
@@ -24,10 +24,10 @@ module _ (old : Leveled) (a : Contents) (K : IndexedLevels) (blocks : (slot : �
   marker = ap (block_at a) delimiter ∙ blocks old.arena.delimiter
 
   pub leveled_same : IsLeveled old → ((bound : ℕ) → HasCapacityFor old.kept bound → HasCapacityFor K bound) → IsLeveled (record { arena = a; kept = K })
-  leveled_same h room = record {
+  leveled_same h capacity = record {
     free = λ s. ap (λ o. option_and_then (λ (b : Block). find_marks b.replicas s) o) marker ∙ h.free s;
     blank = ap (λ o. option_and_then (λ (b : Block). b.info) o) marker ∙ h.blank;
-    room = λ z there. let P : Option Block → Type 0 = λ o. IsSome o in room (z + 1) (h.room z (subst P (blocks z) there));
+    capacity = λ z there. let P : Option Block → Type 0 = λ o. IsSome o in capacity (z + 1) (h.capacity z (subst P (blocks z) there));
     unsettled = λ z.
         let P : Option Block → Type 0 = λ o. IsUnsettled K z ↔ (is_settled_at o ≡ false) in
         subst P (sym (blocks z)) (λ u. (h.unsettled z).0 ((same z).unsettled.0 u), λ s. (same z).unsettled.1 ((h.unsettled z).1 s));
@@ -57,10 +57,10 @@ module _ (old : Leveled) (a : Contents) (K : IndexedLevels) (id slot : ℕ) (law
   mark = ap (block_at a) added.delimiter ∙ added.others old.arena.delimiter (λ e. added.marked (sym e))
 
   pub leveled_added : IsLeveled old → ((z : ℕ) → IsSome (block_at a z) → HasCapacityFor K (z + 1)) → IsLeveled (record { arena = a; kept = K })
-  leveled_added h room = record {
+  leveled_added h capacity = record {
     free = λ s. ap (λ o. option_and_then (λ (b : Block). find_marks b.replicas s) o) mark ∙ h.free s;
     blank = ap (λ o. option_and_then (λ (b : Block). b.info) o) mark ∙ h.blank;
-    room = room;
+    capacity = capacity;
     unsettled = λ z. elim (cases_eq z slot) [
       | inl here ↦
           let P : ℕ → Type 0 = λ x. IsUnsettled K x ↔ (is_settled_at (block_at a x) ≡ false) in

@@ -127,13 +127,13 @@ unchanged_step f a b slot n s m new is same before there =
     listed (Some k) = refl
 
 pub keeps_itself : (slot : ℕ) (a : Contents) → KeepsAllBut slot a a
-keeps_itself slot a = record { lists = refl; blocks = λ other ne. refl; room = λ other. refl; ids = refl; delimiter = refl; steps = refl; bound = refl }
+keeps_itself slot a = record { lists = refl; blocks = λ other ne. refl; capacity = λ other. refl; ids = refl; delimiter = refl; steps = refl; bound = refl }
 
 pub keeps_then : (slot : ℕ) (a b c : Contents) → KeepsAllBut slot a b → KeepsAllBut slot b c → KeepsAllBut slot a c
 keeps_then slot a b c f g = record {
   lists = g.lists ∙ f.lists;
   blocks = λ other ne. g.blocks other ne ∙ f.blocks other ne;
-  room = λ other. g.room other ∙ f.room other;
+  capacity = λ other. g.capacity other ∙ f.capacity other;
   ids = g.ids ∙ f.ids;
   delimiter = g.delimiter ∙ f.delimiter;
   steps = g.steps ∙ f.steps;

@@ -113,9 +113,9 @@ module _ (old : Leveled) (a : Contents) (slot : ℕ) (changed : IsChangedAt old.
   leveled_alike known settled h = record {
     free = λ s. ap (λ o. option_and_then (λ (b : Block). find_marks b.replicas s) o) marker_kept ∙ h.free s;
     blank = ap (λ o. option_and_then (λ (b : Block). b.info) o) marker_kept ∙ h.blank;
-    room = λ z there. elim (cases_eq z slot) [
-      | inl same ↦ let P : ℕ → Type 0 = λ x. HasCapacityFor old.kept (x + 1) in subst P (sym same) (h.room slot changed.held)
-      | inr differs ↦ let P : Option Block → Type 0 = λ o. IsSome o in h.room z (subst P (changed.blocks z differs) there)
+    capacity = λ z there. elim (cases_eq z slot) [
+      | inl same ↦ let P : ℕ → Type 0 = λ x. HasCapacityFor old.kept (x + 1) in subst P (sym same) (h.capacity slot changed.held)
+      | inr differs ↦ let P : Option Block → Type 0 = λ o. IsSome o in h.capacity z (subst P (changed.blocks z differs) there)
     ];
     unsettled = λ z.
         let P : Bool → Type 0 = λ b. IsUnsettled old.kept z ↔ (b ≡ false) in

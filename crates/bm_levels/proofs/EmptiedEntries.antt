@@ -75,9 +75,9 @@ module _ (old : Leveled) (c : Contents) (slot : ℕ) (k : Block) (lawful : IsLaw
   leveled_still h = record {
     free = λ s. ap (λ o. option_and_then (λ (b : Block). find_marks b.replicas s) o) marker ∙ h.free s;
     blank = ap (λ o. option_and_then (λ (b : Block). b.info) o) marker ∙ h.blank;
-    room = λ z there. elim (cases_eq z slot) [
+    capacity = λ z there. elim (cases_eq z slot) [
       | inl same ↦ let P : Option Block → Type 0 = λ o. IsSome o in absurd (false≢true (subst P (entries z ∙ ap (λ b. if b then None else block_at a z) (eq-eqb z slot same)) there))
-      | inr differs ↦ let P : Option Block → Type 0 = λ o. IsSome o in h.room z (subst P (still z differs) there)
+      | inr differs ↦ let P : Option Block → Type 0 = λ o. IsSome o in h.capacity z (subst P (still z differs) there)
     ];
     unsettled = λ z. elim (cases_eq z slot) [
       | inl same ↦

@@ -27,11 +27,11 @@ module _ (a : Contents) (K : IndexedLevels) (vacant : (slot : ℕ) → slot ≢ 
   ]
 
   pub leveled_new : HasCapacityFor K (a.delimiter + 1) → IsLeveled (record { arena = a; kept = K })
-  leveled_new room = record {
+  leveled_new capacity = record {
     free = λ s. ap (λ o. option_and_then (λ (b : Block). find_marks b.replicas s) o) marker;
     blank = unknown a.delimiter;
-    room = λ slot there. elim (cases_eq slot a.delimiter) [
-      | inl same ↦ let P : ℕ → Type 0 = λ x. HasCapacityFor K (x + 1) in subst P (sym same) room
+    capacity = λ slot there. elim (cases_eq slot a.delimiter) [
+      | inl same ↦ let P : ℕ → Type 0 = λ x. HasCapacityFor K (x + 1) in subst P (sym same) capacity
       | inr differs ↦ let P : Option Block → Type 0 = λ o. IsSome o in absurd (false≢true (subst P (vacant slot differs) there))
     ];
     unsettled = λ slot. (λ u. absurd (settled slot u), λ s. absurd (true≢false (sym (all_settled slot) ∙ s)));

@@ -16,7 +16,7 @@ pub mod ReadyReports
 pub mod UpToDate
 pub mod Reclassified
 pub mod LeavingReplicas
-pub mod Places
+pub mod Indexes
 pub mod DrainChange
 pub mod AllMarks
 pub mod RevisedHoldings

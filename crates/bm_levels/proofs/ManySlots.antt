@@ -51,7 +51,7 @@ module _ (rack : ℕ → Option ℕ) (draining : ℕ → Bool) (multi : Bool) (o
   same_info slot = known_info (block_at a slot) (block_at old.arena slot) (known slot)
 
   pub leveled_many : IsLeveled old → ((bound : ℕ) → HasCapacityFor old.kept bound → HasCapacityFor K bound) → IsLeveled (record { arena = a; kept = K })
-  leveled_many h room =
+  leveled_many h capacity =
       let free_now : (t : ℕ) → marks_at a old.arena.delimiter t ≡ None = λ t. sym (ap (λ d. marks_at a d t) delimiter) ∙ free t ∙ h.free t in
       let blank_now : info_at a old.arena.delimiter ≡ None = same_info old.arena.delimiter ∙ h.blank in
       let now_settled = marker_settled (block_at a old.arena.delimiter) free_now blank_now in
@@ -59,7 +59,7 @@ module _ (rack : ℕ → Option ℕ) (draining : ℕ → Bool) (multi : Bool) (o
       record {
         free = λ t. free t ∙ h.free t;
         blank = ap (info_at a) delimiter ∙ blank_now;
-        room = λ z there. room (z + 1) (h.room z (known_there (block_at a z) (block_at old.arena z) (known z) there));
+        capacity = λ z there. capacity (z + 1) (h.capacity z (known_there (block_at a z) (block_at old.arena z) (known z) there));
         unsettled = λ z. elim (cases_eq z old.arena.delimiter) [
           | inl same ↦
               let P : ℕ → Type 0 = λ x. IsUnsettled K x ↔ (is_settled_at (block_at a x) ≡ false) in

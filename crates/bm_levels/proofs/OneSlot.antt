@@ -30,12 +30,12 @@ module _ (rack : ℕ → Option ℕ) (draining : ℕ → Bool) (multi : Bool) (o
   marker = ap (block_at a) changed.delimiter ∙ changed.blocks old.arena.delimiter (λ e. changed.apart (sym e))
 
   pub leveled_where : IsLeveled old → ((bound : ℕ) → HasCapacityFor old.kept bound → HasCapacityFor K bound) → IsLeveled (record { arena = a; kept = K })
-  leveled_where h room = record {
+  leveled_where h capacity = record {
     free = λ s. ap (λ o. option_and_then (λ (b : Block). find_marks b.replicas s) o) marker ∙ h.free s;
     blank = ap (λ o. option_and_then (λ (b : Block). b.info) o) marker ∙ h.blank;
-    room = λ z there. elim (cases_eq z slot) [
-      | inl same ↦ let P : ℕ → Type 0 = λ x. HasCapacityFor K (x + 1) in subst P (sym same) (room (slot + 1) (h.room slot changed.held))
-      | inr differs ↦ let P : Option Block → Type 0 = λ o. IsSome o in room (z + 1) (h.room z (subst P (changed.blocks z differs) there))
+    capacity = λ z there. elim (cases_eq z slot) [
+      | inl same ↦ let P : ℕ → Type 0 = λ x. HasCapacityFor K (x + 1) in subst P (sym same) (capacity (slot + 1) (h.capacity slot changed.held))
+      | inr differs ↦ let P : Option Block → Type 0 = λ o. IsSome o in capacity (z + 1) (h.capacity z (subst P (changed.blocks z differs) there))
     ];
     unsettled = λ z. elim (cases_eq z slot) [
       | inl same ↦ let P : ℕ → Type 0 = λ x. IsUnsettled K x ↔ (is_settled_at (block_at a x) ≡ false) in subst P (sym same) status.unsettled

@@ -8,7 +8,7 @@ use Rattle.bm_base.specs.declared.replica.Marks.{Marks}
 use Rattle.bm_base.specs.declared.replica.BlockInfo.{BlockInfo}
 use Rattle.bm_base.specs.Words.{Cluster, replica_at, get, rack_of, is_draining, is_multi_rack}
 use Rattle.bm_arena.specs.Triplets.{Block}
-use Rattle.bm_arena.specs.Contents.{Contents, block_at, slot_of, marks_at, find_marks, room_at, with_room, IsLawful}
+use Rattle.bm_arena.specs.Contents.{Contents, block_at, slot_of, marks_at, find_marks, entry_capacity, with_entry_capacity, IsLawful}
 use Rattle.bm_arena.specs.HeldMaps.{info_at}
 use Rattle.bm_arena.proofs.HeldReplicas.{info_in, replica_in, get-replicas_of, get-blocks_of}
 use Rattle.bm_report.specs.Expanded.{IsPrepared}
@@ -28,7 +28,7 @@ pub record IsUnusedAt (o : Option Block) : Type 0 where
 
 -- two slots hold the same but for capacity, or both hold nothing
 abbrev pub AreAlike : Option Block → Option Block → Type 0
-AreAlike o p = ((k : Block) × (room : ℕ) × (p ≡ Some k) × (o ≡ Some (with_room room k))) ⊎ (IsUnusedAt o × IsUnusedAt p)
+AreAlike o p = ((k : Block) × (capacity : ℕ) × (p ≡ Some k) × (o ≡ Some (with_entry_capacity capacity k))) ⊎ (IsUnusedAt o × IsUnusedAt p)
 
 pub none_unused : (o : Option Block) → o ≡ None → IsUnusedAt o
 none_unused o e = record { info = ap (λ x. option_and_then (λ (b : Block). b.info) x) e; marks = λ t. ap (λ x. option_and_then (λ (b : Block). find_marks b.replicas t) x) e }
@@ -53,10 +53,10 @@ alike_marks o p t (inr h) = h.0.marks t ∙ sym (h.1.marks t)
 
 module _ (old : Leveled) (a : Contents) (K : IndexedLevels) (alike : (slot : ℕ) → AreAlike (block_at a slot) (block_at old.arena slot)) (delimiter : a.delimiter ≡ old.arena.delimiter) (same : (slot : ℕ) → IsSameAt old.kept K slot) where
   pub leveled_alike : IsLeveled old → ((z : ℕ) → IsSome (block_at a z) → HasCapacityFor K (z + 1)) → IsLeveled (record { arena = a; kept = K })
-  leveled_alike h room = record {
+  leveled_alike h capacity = record {
     free = λ s. ap (λ d. marks_at a d s) delimiter ∙ alike_marks (block_at a old.arena.delimiter) (block_at old.arena old.arena.delimiter) s (alike old.arena.delimiter) ∙ h.free s;
     blank = ap (info_at a) delimiter ∙ alike_info (block_at a old.arena.delimiter) (block_at old.arena old.arena.delimiter) (alike old.arena.delimiter) ∙ h.blank;
-    room = room;
+    capacity = capacity;
     unsettled = λ z.
         let e = alike_settled (block_at a z) (block_at old.arena z) (alike z) in
         (λ u. e ∙ (h.unsettled z).0 ((same z).unsettled.0 u), λ s. (same z).unsettled.1 ((h.unsettled z).1 (sym e ∙ s)));
@@ -70,7 +70,7 @@ module _ (old : Leveled) (a : Contents) (K : IndexedLevels) (alike : (slot : ℕ
 -- empty or has an unused entry
 module _ (a c : Contents) (lawful_a : IsLawful a) (lawful_c : IsLawful c) (prepared : IsPrepared a c) where
   held_there : (slot : ℕ) (k : Block) → block_at a slot ≡ Some k → AreAlike (block_at c slot) (block_at a slot)
-  held_there slot k e = inl (k, room_at c slot, e, prepared.entries slot k e)
+  held_there slot k e = inl (k, entry_capacity c slot, e, prepared.entries slot k e)
 
   slot_held : (b slot : ℕ) → slot_of a b ≡ Some slot → block_at a slot ≡ None → ⊥
   slot_held b slot e none = let f = lawful_a.found b slot e in sure (sym f.2 ∙ none)
@@ -147,7 +147,7 @@ module _ (a c : Contents) (lawful_a : IsLawful a) (lawful_c : IsLawful c) (prepa
         gone : slot ≢ d.delimiter → block_at d slot ≡ None → (k : Block) → block_at a slot ≡ Some k → IsUnusedAt (block_at a slot)
         gone differs none k e =
             let now = prepared.entries slot k e in
-            let leads = lawful_c.known slot (with_room (room_at c slot) k) now (λ same. differs (same ∙ sym delimiter)) in
+            let leads = lawful_c.known slot (with_entry_capacity (entry_capacity c slot) k) now (λ same. differs (same ∙ sym delimiter)) in
             case (named k.id && is_unused_number c k.id) refl leads now
           where
             and_right : (x y : Bool) → (x && y) ≡ true → y ≡ true
@@ -157,9 +157,9 @@ module _ (a c : Contents) (lawful_a : IsLawful a) (lawful_c : IsLawful c) (prepa
             sure : {k : Block} → Some k ≡ None → ⊥
             sure f = cc
 
-            case : (t : Bool) → (named k.id && is_unused_number c k.id) ≡ t → slot_of c k.id ≡ Some slot → block_at c slot ≡ Some (with_room (room_at c slot) k) → IsUnusedAt (block_at a slot)
+            case : (t : Bool) → (named k.id && is_unused_number c k.id) ≡ t → slot_of c k.id ≡ Some slot → block_at c slot ≡ Some (with_entry_capacity (entry_capacity c slot) k) → IsUnusedAt (block_at a slot)
             case true f leads now =
-                let parts = unused_parts k (sym (has_no_replicas k.id slot (with_room (room_at c slot) k) leads now) ∙ and_right (named k.id) (is_unused_number c k.id) f) in
+                let parts = unused_parts k (sym (has_no_replicas k.id slot (with_entry_capacity (entry_capacity c slot) k) leads now) ∙ and_right (named k.id) (is_unused_number c k.id) f) in
                 record {
                   info = ap (λ x. option_and_then (λ (b : Block). b.info) x) e ∙ parts.0;
                   marks = λ t. ap (λ x. option_and_then (λ (b : Block). find_marks b.replicas t) x) e ∙ ap (λ rs. find_marks rs t) parts.1;
@@ -213,7 +213,7 @@ module _ (a c : Contents) (lawful_a : IsLawful a) (lawful_c : IsLawful c) (prepa
     -- the invariant and the levels hold again, with capacity for more slots
     module _ (k K : IndexedLevels) (same : (slot : ℕ) → IsSameAt k K slot) where
       pub leveled_again : KeepsCapacity k K → IsLeveled (record { arena = a; kept = k }) → IsLeveled (record { arena = d; kept = K })
-      leveled_again room h = leveled_alike (record { arena = a; kept = k }) d K alike_again (delimiter ∙ prepared.delimiter) same h (λ z there. room (z + 1) (h.room z (held_before z there)))
+      leveled_again capacity h = leveled_alike (record { arena = a; kept = k }) d K alike_again (delimiter ∙ prepared.delimiter) same h (λ z there. capacity (z + 1) (h.capacity z (held_before z there)))
 
       pub levels_again : (C : Cluster) → AreLevels C (record { arena = a; kept = k }) → AreLevels C (record { arena = d; kept = K })
       levels_again = levels_alike (record { arena = a; kept = k }) d K alike_again (delimiter ∙ prepared.delimiter) same

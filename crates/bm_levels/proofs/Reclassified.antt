@@ -23,10 +23,10 @@ module _ (rack : ℕ → Option ℕ) (draining : ℕ → Bool) (multi : Bool) (o
   -- the invariant holds again
   pub leveled_again : ((slot : ℕ) → IsClassified rack draining multi (block_at old.arena slot) K slot ⊎ IsSameAt old.kept K slot) → IsLeveled old → ((bound : ℕ) → HasCapacityFor old.kept bound → HasCapacityFor K bound)
       → IsLeveled (record { arena = old.arena; kept = K })
-  leveled_again each h room = record {
+  leveled_again each h capacity = record {
     free = h.free;
     blank = h.blank;
-    room = λ z there. room (z + 1) (h.room z there);
+    capacity = λ z there. capacity (z + 1) (h.capacity z there);
     unsettled = λ z. elim (each z) [ inl status ↦ status.unsettled | inr same ↦ (λ u. (h.unsettled z).0 (same.unsettled.0 u), λ s. same.unsettled.1 ((h.unsettled z).1 s)) ];
     unknown = λ z e. elim (each z) [ inl status ↦ status.level ∙ sym (level_unknown rack draining multi (block_at old.arena z) e) | inr same ↦ same.level ∙ h.unknown z e ];
   }

@@ -33,8 +33,8 @@ entries_blocks a c keeps =
     ∙ under (λ x. info_at c x) (λ x. info_at a x) (slot_of a b) (λ x. known_info (block_at c x) (block_at a x) (keeps.known x)))
 
 -- there is capacity for each unsettled slot
-pub start_room : (old : Leveled) → IsLeveled old → (slot : ℕ) → IsUnsettled old.kept slot → HasCapacityFor old.kept (slot + 1)
-start_room old h slot there = h.room slot (unsettled_held (block_at old.arena slot) ((h.unsettled slot).0 there))
+pub start_capacity : (old : Leveled) → IsLeveled old → (slot : ℕ) → IsUnsettled old.kept slot → HasCapacityFor old.kept (slot + 1)
+start_capacity old h slot there = h.capacity slot (unsettled_held (block_at old.arena slot) ((h.unsettled slot).0 there))
 
 -- an unsettled slot holds a block and is not the delimiter's
 pub changed_there : (old : Leveled) → IsLeveled old → (a : Contents) (slot : ℕ) → IsUnsettled old.kept slot → KeepsAllBut slot old.arena a → IsChangedAt old.arena a slot

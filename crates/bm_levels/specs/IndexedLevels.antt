@@ -39,7 +39,7 @@ IsUnsettled K slot = IsMember slot K.unsettled.slots
 
 -- there is capacity for the slots below this one
 abbrev pub HasCapacityFor : IndexedLevels → ℕ → Type 0
-HasCapacityFor K bound = (bound ≤ length K.levels.levels) × (bound ≤ K.unsettled.room)
+HasCapacityFor K bound = (bound ≤ length K.levels.levels) × (bound ≤ K.unsettled.capacity)
 
 -- there is capacity for a slot, and for each of these
 abbrev pub HasCapacityAt : IndexedLevels → ℕ → Type 0
@@ -54,7 +54,7 @@ KeepsCapacity old new = (bound : ℕ) → HasCapacityFor old bound → HasCapaci
 
 -- a change reserves at most this many slots, and none if there was capacity for them
 abbrev pub GrowsWithin : ℕ → IndexedLevels → IndexedLevels → Type 0
-GrowsWithin most old new = (length new.levels.levels ≤ max (length old.levels.levels) most) × (new.unsettled.room ≤ max old.unsettled.room most)
+GrowsWithin most old new = (length new.levels.levels ≤ max (length old.levels.levels) most) × (new.unsettled.capacity ≤ max old.unsettled.capacity most)
 
 -- these are exactly the slots at a level
 abbrev pub AreSlotsAt : IndexedLevels → Level → List ℕ → Type 0

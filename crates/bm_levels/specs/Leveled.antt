@@ -16,7 +16,7 @@ pub record IsLeveled (v : Leveled) : Type 0 where
   pub free : (storage : ℕ) → marks_at v.arena v.arena.delimiter storage ≡ None
   pub blank : info_at v.arena v.arena.delimiter ≡ None
   -- there is capacity for every slot that is held
-  pub room : (slot : ℕ) → IsSome (block_at v.arena slot) → HasCapacityFor v.kept (slot + 1)
+  pub capacity : (slot : ℕ) → IsSome (block_at v.arena slot) → HasCapacityFor v.kept (slot + 1)
   -- the unsettled slots are exactly those of the blocks that are not settled
   pub unsettled : (slot : ℕ) → IsUnsettled v.kept slot ↔ (is_settled_at (block_at v.arena slot) ≡ false)
   -- a slot without a known block has no level

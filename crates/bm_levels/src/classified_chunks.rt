@@ -59,10 +59,10 @@ impl LevelIndex {
         slots: &[Slot],
         cluster_after: &ClusterAfter<'_>,
     )
-        requires room { HasCapacityForEach self.old slots.now }
+        requires capacity { HasCapacityForEach self.old slots.now }
         ensures status { AreClassifiedAfter cluster_after.now arena.now slots.now self.new }
         ensures others { IsSameOutside slots.now self.old self.new }
-        ensures room { KeepsCapacity self.old self.new }
+        ensures capacity { KeepsCapacity self.old self.new }
     {
         for chunk in slots.chunks(CHUNK) {
             self.reclassify_chunk(arena, chunk, cluster_after);
@@ -73,10 +73,10 @@ impl LevelIndex {
     /// anything changes.
     fn reclassify_chunk(&mut self, arena: &Arena, chunk: &[Slot], cluster_after: &ClusterAfter<'_>)
         requires few { length chunk.now ≤ 64 }
-        requires room { HasCapacityForEach self.old chunk.now }
+        requires capacity { HasCapacityForEach self.old chunk.now }
         ensures status { AreClassifiedAfter cluster_after.now arena.now chunk.now self.new }
         ensures others { IsSameOutside chunk.now self.old self.new }
-        ensures room { KeepsCapacity self.old self.new }
+        ensures capacity { KeepsCapacity self.old self.new }
     {
         let status = classify_chunk(arena, chunk, cluster_after);
         if self.keeps_all(chunk, status.as_slice()) {
@@ -91,7 +91,7 @@ impl LevelIndex {
     /// gives.
     fn keeps_all(&self, chunk: &[Slot], status: &[BlockStatus]) -> bool
         requires few { length chunk.now ≤ length status.now }
-        requires room { HasCapacityForEach self.now chunk.now }
+        requires capacity { HasCapacityForEach self.now chunk.now }
         ensures { result ≡ true → HaveStatuses self.now chunk.now status.now }
     {
         let mut are_kept = true;

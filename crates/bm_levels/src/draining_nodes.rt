@@ -39,7 +39,7 @@ impl LevelIndex {
         requires { (slot storage : ℕ) → IsMember slot (list_of arena.now storage)
             → HasCapacityFor self.old (slot + 1) }
         ensures each { AreClassifiedOnNode cluster_after.now node arena.now self.old self.new }
-        ensures room { KeepsCapacity self.old self.new }
+        ensures capacity { KeepsCapacity self.old self.new }
     {
         for storage in cluster_after.topology.storages_of(node) {
             self.reclassify_list(arena, *storage, cluster_after);
@@ -55,7 +55,7 @@ impl LevelIndex {
     )
         requires { HasCapacityForEach self.old (list_of arena.now storage) }
         ensures each { AreClassifiedOnStorage cluster_after.now storage arena.now self.old self.new }
-        ensures room { KeepsCapacity self.old self.new }
+        ensures capacity { KeepsCapacity self.old self.new }
     {
         for slot in arena.walk(storage) {
             self.classify(arena, slot, cluster_after);

@@ -69,7 +69,7 @@ impl LevelIndex {
     /// Reserves all slots below a bound, and some more, so that growth is amortized. Only this call
     /// takes memory.
     pub fn grow_to(&mut self, bound: usize) -> Result<(), Refusal>
-        ensures room { OnOk result (HasCapacityFor self.new bound) }
+        ensures capacity { OnOk result (HasCapacityFor self.new bound) }
         ensures kept { KeepsCapacity self.old self.new }
         ensures few { GrowsWithin (bound + 255) self.old self.new }
         ensures there { HasCapacityFor self.old bound → IsOk result }
@@ -77,23 +77,23 @@ impl LevelIndex {
         ensures same { (slot : ℕ) → IsSameAt self.old self.new slot }
         ensures refused { IfErr result (λ e. e ≡ Memory) }
     {
-        if self.has_room_for(bound) {
+        if self.has_capacity_for(bound) {
             return Ok(());
         }
         self.grow(rounded_up(bound))
     }
 
     /// Whether there is capacity for all slots below a bound.
-    fn has_room_for(&self, bound: usize) -> bool
+    fn has_capacity_for(&self, bound: usize) -> bool
         ensures there { result ≡ true → HasCapacityFor self.now bound }
         ensures lacking { HasCapacityFor self.now bound → result ≡ true }
     {
-        bound <= self.levels.room() && bound <= self.unsettled.room()
+        bound <= self.levels.capacity() && bound <= self.unsettled.capacity()
     }
 
     /// Reserves all slots below a bound, and no more.
     fn grow(&mut self, bound: usize) -> Result<(), Refusal>
-        ensures room { OnOk result (HasCapacityFor self.new bound) }
+        ensures capacity { OnOk result (HasCapacityFor self.new bound) }
         ensures kept { KeepsCapacity self.old self.new }
         ensures few { GrowsWithin bound self.old self.new }
         ensures same { (slot : ℕ) → IsSameAt self.old self.new slot }
@@ -105,11 +105,11 @@ impl LevelIndex {
 
     /// Sets the status of the block at a slot.
     pub(crate) fn set_status(&mut self, slot: Slot, status: BlockStatus)
-        requires room { HasCapacityAt self.old slot }
+        requires capacity { HasCapacityAt self.old slot }
         ensures kept { HasStatus self.new slot status }
         ensures others { (other : ℕ) → other ≢ slot → IsSameAt self.old self.new other }
         ensures ahead { KeepsAhead slot self.old.unsettled.slots self.new.unsettled.slots }
-        ensures room { KeepsCapacity self.old self.new }
+        ensures capacity { KeepsCapacity self.old self.new }
     {
         self.levels.set(slot, status.level);
         if status.is_settled {
@@ -121,7 +121,7 @@ impl LevelIndex {
 
     /// The status of the block at a slot.
     pub(crate) fn status_at(&self, slot: Slot) -> BlockStatus
-        requires room { HasCapacityAt self.now slot }
+        requires capacity { HasCapacityAt self.now slot }
         ensures { HasStatus self.now slot result }
     {
         BlockStatus {
@@ -134,7 +134,7 @@ impl LevelIndex {
     pub fn level(&self, slot: Slot) -> Option<Level>
         ensures { result ≡ level_of_slot self.now slot }
     {
-        if slot < self.levels.room() {
+        if slot < self.levels.capacity() {
             self.levels.level(slot)
         } else {
             None

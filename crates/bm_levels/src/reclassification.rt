@@ -13,11 +13,11 @@ use bm_topo::Topology;
 impl LevelIndex {
     /// Reclassifies the block at a slot.
     pub(crate) fn classify(&mut self, arena: &Arena, slot: Slot, cluster_after: &ClusterAfter<'_>)
-        requires room { HasCapacityAt self.old slot }
+        requires capacity { HasCapacityAt self.old slot }
         ensures status { IsClassifiedAfter cluster_after.now (block_at arena.now slot) self.new slot }
         ensures others { (other : ℕ) → other ≢ slot → IsSameAt self.old self.new other }
         ensures ahead { KeepsAhead slot self.old.unsettled.slots self.new.unsettled.slots }
-        ensures room { KeepsCapacity self.old self.new }
+        ensures capacity { KeepsCapacity self.old self.new }
     {
         self.set_status(
             slot,
@@ -34,11 +34,11 @@ impl LevelIndex {
         cluster_after: &ClusterAfter<'_>,
         was: BlockStatus,
     )
-        requires room { HasCapacityAt self.old slot }
+        requires capacity { HasCapacityAt self.old slot }
         requires was { HasStatus self.old slot was }
         ensures status { IsClassifiedAfter cluster_after.now (block_at arena.now slot) self.new slot }
         ensures others { (other : ℕ) → other ≢ slot → IsSameAt self.old self.new other }
-        ensures room { KeepsCapacity self.old self.new }
+        ensures capacity { KeepsCapacity self.old self.new }
     {
         let status = classify(arena, slot, arena.triplet_count(slot), cluster_after);
         if are_equal(status, was) {
@@ -50,11 +50,11 @@ impl LevelIndex {
     /// Reclassifies the block at a slot, in an unchanged cluster.
     #[tactic(auto, unfolding(crate::specs::Status::drains_after_change))]
     pub(crate) fn update_level(&mut self, topology: &Topology, arena: &Arena, slot: Slot)
-        requires room { HasCapacityAt self.old slot }
+        requires capacity { HasCapacityAt self.old slot }
         ensures status { IsClassifiedIn topology.now.cluster (block_at arena.now slot) self.new slot }
         ensures others { (other : ℕ) → other ≢ slot → IsSameAt self.old self.new other }
         ensures ahead { KeepsAhead slot self.old.unsettled.slots self.new.unsettled.slots }
-        ensures room { KeepsCapacity self.old self.new }
+        ensures capacity { KeepsCapacity self.old self.new }
     {
         self.classify(arena, slot, &ClusterAfter::unchanged(topology));
     }
@@ -68,11 +68,11 @@ impl LevelIndex {
         slot: Slot,
         was: BlockStatus,
     )
-        requires room { HasCapacityAt self.old slot }
+        requires capacity { HasCapacityAt self.old slot }
         requires was { HasStatus self.old slot was }
         ensures status { IsClassifiedIn topology.now.cluster (block_at arena.now slot) self.new slot }
         ensures others { (other : ℕ) → other ≢ slot → IsSameAt self.old self.new other }
-        ensures room { KeepsCapacity self.old self.new }
+        ensures capacity { KeepsCapacity self.old self.new }
     {
         self.classify_from(arena, slot, &ClusterAfter::unchanged(topology), was);
     }
@@ -80,10 +80,10 @@ impl LevelIndex {
     /// Reclassifies the blocks at these slots, in an unchanged cluster.
     #[tactic(auto, unfolding(crate::specs::Status::drains_after_change))]
     pub(crate) fn update_all(&mut self, topology: &Topology, arena: &Arena, slots: &[Slot])
-        requires room { HasCapacityForEach self.old slots.now }
+        requires capacity { HasCapacityForEach self.old slots.now }
         ensures status { AreClassifiedIn topology.now.cluster arena.now slots.now self.new }
         ensures others { IsSameOutside slots.now self.old self.new }
-        ensures room { KeepsCapacity self.old self.new }
+        ensures capacity { KeepsCapacity self.old self.new }
     {
         self.classify_all(arena, slots, &ClusterAfter::unchanged(topology));
     }
@@ -93,7 +93,7 @@ impl LevelIndex {
         requires { HasCapacityForEach self.old (indexed_slots arena.now) }
         ensures status { AreClassifiedAfter cluster_after.now arena.now (indexed_slots arena.now) self.new }
         ensures others { IsSameOutside (indexed_slots arena.now) self.old self.new }
-        ensures room { KeepsCapacity self.old self.new }
+        ensures capacity { KeepsCapacity self.old self.new }
     {
         for index in 0..arena.count() {
             if let Some(slot) = arena.slot_at(index) {

@@ -79,7 +79,7 @@ impl LeveledBlocks {
         ensures refused { IfErr result (λ e. e ≡ Memory) }
     {
         self.arena.show_invariant();
-        let found = report.ready_one(&mut self.arena, storage, id, stamp);
+        let found = report.prepare_notice(&mut self.arena, storage, id, stamp);
         self.arena.show_invariant();
         let grown = self.kept.grow_to(self.arena.slot_bound());
         if found.is_err() || grown.is_err() {

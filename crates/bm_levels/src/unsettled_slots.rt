@@ -43,7 +43,7 @@ impl LevelIndex {
         ensures { result ≡ has self.now.unsettled.slots slot }
     {
         self.unsettled.show_invariant();
-        slot < self.unsettled.room() && self.unsettled.contains(slot)
+        slot < self.unsettled.capacity() && self.unsettled.contains(slot)
     }
 
     /// The slots that a round has to scan, in any order.

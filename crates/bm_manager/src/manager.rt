@@ -174,7 +174,7 @@ impl Manager {
     #[tactic(auto, unfolding(bm_base::specs::Machine::Refusals::refusal_of, bm_base::specs::Machine::Refusals::calls_spent))]
     fn check(&self, event: &Event) -> Result<(), Refusal>
         ensures refusal { result ≡ checked (refusal_of self.now event.now) }
-        ensures room { OnOk result (self.now.calls < last_number) }
+        ensures numbers_left { OnOk result (self.now.calls < last_number) }
         ensures cluster { OnOk result (first_of (cluster_checks self.now.cluster event.now)
             ≡ None) }
         ensures blocks { OnOk result (first_of (block_checks self.now.holdings event.now) ≡ None) }

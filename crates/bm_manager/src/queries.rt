@@ -81,7 +81,8 @@ impl Manager {
     }
 
     /// Whether a node is decommissioned and can be switched off: it drains, and each block with a
-    /// drained replica on it has as many live ones as are wanted. `UnknownNode`. Takes no memory.
+    /// drained replica on it has at least the wanted number of live ones. `UnknownNode`. Takes no
+    /// memory.
     #[tactic(auto, unfolding(bm_base::specs::Machine::Refusals::node_refusal, bm_base::specs::Machine::Queries::is_retired, bm_parts::specs::QueryLaws::holds_back))]
     pub fn retired(&self, node: NodeId) -> Result<bool, Refusal>
         ensures known { OnOk result (node_refusal self.now.cluster node ≡ None) }

@@ -10,9 +10,9 @@ use Rattle.bm_base.proofs.OfSorted.{len-of_sorted, get-of_sorted}
 
 module _ {X Z : Type 0} where
   abbrev pub table_of : Vec (ℕ × X) Z → Table X
-  table_of v = record { map = of_sorted v.items; room = vec_capacity v - vec_len v }
+  table_of v = record { map = of_sorted v.items; spare = vec_capacity v - vec_len v }
 
-  -- the table can hold as many entries as the vector
+  -- the table has capacity for all entries of the vector
   pub capacity-table_of : (v : Vec (ℕ × X) Z) → T (is_sorted nat_cmp v.items) → capacity (table_of v) ≡ vec_capacity v
   capacity-table_of v h = let e = len-of_sorted by_number v.items h in omega (arith, e, v.ok.0, v.ok.1)
 

@@ -7,11 +7,11 @@ use Rattle.bm_base.specs.Maps.MapCode.{code}
 pub record Table (X : Type 0) : Type 0 where
   pub map : Map by_number X
   -- the number of further entries that take no memory
-  pub room : ℕ
+  pub spare : ℕ
 
 -- the capacity in entries, used and spare: the same before and after a call that takes no memory
 abbrev pub capacity : {X : Type 0} → Table X → ℕ
-capacity t = len t.map + t.room
+capacity t = len t.map + t.spare
 
 abbrev pub coded_table : {X : Type 0} → Coded X → Coded (Table X)
-coded_table {X} x = code_by (Map by_number X × ℕ) (coded× (code coded_ℕ x) coded_ℕ) (λ t. (t.map, t.room)) (λ p. record { map = p.0; room = p.1 }) (λ _. refl)
+coded_table {X} x = code_by (Map by_number X × ℕ) (coded× (code coded_ℕ x) coded_ℕ) (λ t. (t.map, t.spare)) (λ p. record { map = p.0; spare = p.1 }) (λ _. refl)

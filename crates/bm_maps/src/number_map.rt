@@ -31,7 +31,7 @@ impl<V> Model for NumberMap<V> {
 
     ghost view = { λ m. record {
       map = of_sorted m.entries.items;
-      room = vec_capacity m.entries - vec_len m.entries;
+      spare = vec_capacity m.entries - vec_len m.entries;
     } };
 
     ghost invariant = { λ m. T (is_sorted nat_cmp m.entries.items) };
@@ -41,7 +41,7 @@ impl<V: Copy> NumberMap<V> {
     /// No entry, and no capacity. Takes no memory.
     pub fn new(alloc: Global) -> Self
         ensures empty { result.map ≡ map.empty }
-        ensures room { result.room ≡ 0 }
+        ensures spare { result.spare ≡ 0 }
     {
         NumberMap {
             entries: Vec::new(alloc),
@@ -78,12 +78,12 @@ impl<V: Copy> NumberMap<V> {
     pub fn insert(&mut self, key: u64, value: V) -> Result<(), AllocError>
         ensures ok { OnOk result (self.new.map ≡ map.insert self.old.map key value) }
         ensures err { OnErr result (self.new.map ≡ self.old.map) }
-        ensures err_room { OnErr result (self.new.room ≡ self.old.room) }
+        ensures err_spare { OnErr result (self.new.spare ≡ self.old.spare) }
         ensures known { IsTrue (map.contains_key self.old.map key) → IsOk result }
         ensures known_no_growth { IsTrue (map.contains_key self.old.map key)
             → capacity self.new ≡ capacity self.old }
-        ensures reserved { 1 ≤ self.old.room → IsOk result }
-        ensures reserved_no_growth { 1 ≤ self.old.room → capacity self.new ≡ capacity self.old }
+        ensures reserved { 1 ≤ self.old.spare → IsOk result }
+        ensures reserved_no_growth { 1 ≤ self.old.spare → capacity self.new ≡ capacity self.old }
         ensures no_less { capacity self.old ≤ capacity self.new }
     {
         let at = index_of_number(&self.entries, key);
@@ -94,21 +94,21 @@ impl<V: Copy> NumberMap<V> {
     /// Reserves capacity for `additional` further entries; with enough capacity nothing changes.
     /// The entries stay as they are, and an `Err` changes nothing.
     pub fn reserve(&mut self, additional: usize) -> Result<(), AllocError>
-        ensures room { OnOk result (additional ≤ self.new.room) }
-        ensures succeeds { additional ≤ self.old.room → IsOk result }
-        ensures kept { self.old.room ≤ self.new.room }
+        ensures spare { OnOk result (additional ≤ self.new.spare) }
+        ensures succeeds { additional ≤ self.old.spare → IsOk result }
+        ensures kept { self.old.spare ≤ self.new.spare }
         ensures same { self.new.map ≡ self.old.map }
-        ensures enough { additional ≤ self.old.room → self.new.room ≡ self.old.room }
-        ensures err_room { OnErr result (self.new.room ≡ self.old.room) }
+        ensures enough { additional ≤ self.old.spare → self.new.spare ≡ self.old.spare }
+        ensures err_spare { OnErr result (self.new.spare ≡ self.old.spare) }
     {
         reserve(&mut self.entries, additional)
     }
 
     /// Inserts into reserved capacity. Takes no memory.
     pub fn insert_reserved(&mut self, key: u64, value: V)
-        requires { 1 ≤ self.old.room }
+        requires { 1 ≤ self.old.spare }
         ensures after { self.new.map ≡ map.insert self.old.map key value }
-        ensures room { self.old.room ≤ self.new.room + 1 }
+        ensures spare { self.old.spare ≤ self.new.spare + 1 }
         ensures no_growth { capacity self.new ≡ capacity self.old }
     {
         let at = index_of_number(&self.entries, key);
@@ -121,11 +121,21 @@ impl<V: Copy> NumberMap<V> {
     /// Sets the value at a known key; else nothing changes. Takes no memory.
     pub fn replace(&mut self, key: u64, value: V)
         ensures after { self.new.map ≡ map.revise_at self.old.map key (λ _. value) }
-        ensures room { self.new.room ≡ self.old.room }
+        ensures spare { self.new.spare ≡ self.old.spare }
         ensures no_growth { capacity self.new ≡ capacity self.old }
     {
         let at = index_of_number(&self.entries, key);
         replace(&mut self.entries, at, &key, value);
+    }
+
+    /// As `replace`, trying index `guess` first.
+    pub fn replace_near(&mut self, key: u64, value: V, guess: usize)
+        ensures after { self.new.map ≡ map.revise_at self.old.map key (λ _. value) }
+        ensures spare { self.new.spare ≡ self.old.spare }
+        ensures no_growth { capacity self.new ≡ capacity self.old }
+    {
+        let index = index_by_guess(&self.entries, key, guess);
+        replace(&mut self.entries, index, &key, value);
     }
 
     /// The entries, by ascending key.

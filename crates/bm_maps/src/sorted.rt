@@ -117,7 +117,7 @@ pub(crate) fn put<K: Ord + Copy, V: Copy>(
 /// end nothing moves.
 fn insert_reserved<K: Copy, V: Copy>(entries: &mut Vec<(K, V)>, at: usize, entry: (K, V))
     requires at { at ≤ length entries.old.items }
-    requires room { vec_len entries.old < vec_capacity entries.old }
+    requires spare { vec_len entries.old < vec_capacity entries.old }
     ensures items { entries.new.items ≡ insert entries.old.items at entry }
     ensures len { vec_len entries.new ≡ vec_len entries.old + 1 }
     ensures capacity { vec_capacity entries.new ≡ vec_capacity entries.old }

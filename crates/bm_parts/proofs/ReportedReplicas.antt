@@ -126,12 +126,12 @@ reported_below es m each =
     each_mapped (λ (t : ReportedBlock). t.id < m) (λ b. record { id = b; stamp = e.stamp }) (range_from e.from (run_length e)) (counted_below e.from (run_length e) m (λ some. omega (arith, h, some)))))
 
 abbrev leaves_by : Bool → Bool → Bool → Bool
-leaves_by here named sisters = if here then not named else named && sisters
+leaves_by here named siblings = if here then not named else named && siblings
 
-named_stays : (here named sisters : Bool) → (here ≡ true → sisters ≡ false) → not (leaves_by here named sisters) ≡ true → named ≡ true → sisters ≡ false
-named_stays true named sisters own e h = own refl
-named_stays false true sisters own e h = not_passed sisters e
-named_stays false false sisters own e h = cc
+named_stays : (here named siblings : Bool) → (here ≡ true → siblings ≡ false) → not (leaves_by here named siblings) ≡ true → named ≡ true → siblings ≡ false
+named_stays true named siblings own e h = own refl
+named_stays false true siblings own e h = not_passed siblings e
+named_stays false false siblings own e h = cc
 
 -- each listed number is named
 each_named : (ts : List ReportedBlock) → Each (λ (x : ReportedBlock). is_named ts x.id ≡ true) ts

@@ -152,12 +152,12 @@ enter_keeps_placed C P p stamp known L =
     placed_entered C P (enter C P p stamp) p.storage (λ b. b == p.block) (λ q. not (replaces C p q)) L known (enter_apart C p) (enter_origin C P p stamp)
 
 abbrev leaves_by : Bool → Bool → Bool → Bool
-leaves_by here named sisters = if here then not named else named && sisters
+leaves_by here named siblings = if here then not named else named && siblings
 
-named_stays : (here named sisters : Bool) → (here ≡ true → sisters ≡ false) → not (leaves_by here named sisters) ≡ true → named ≡ true → sisters ≡ false
-named_stays true named sisters own e h = own refl
-named_stays false true sisters own e h = not_passed sisters e
-named_stays false false sisters own e h = cc
+named_stays : (here named siblings : Bool) → (here ≡ true → siblings ≡ false) → not (leaves_by here named siblings) ≡ true → named ≡ true → siblings ≡ false
+named_stays true named siblings own e h = own refl
+named_stays false true siblings own e h = not_passed siblings e
+named_stays false false siblings own e h = cc
 
 report_apart : (C : Cluster) (s : ℕ) (ts : List ReportedBlock) (q : ReplicaId) → not (leaves_by_report C s ts q) ≡ true → is_named ts q.block ≡ true → are_siblings C s q.storage ≡ false
 unfolding leaves_by_report

@@ -14,13 +14,13 @@ use Rattle.std.proofs.lemmas.List.{nil_from_length}
 use Rattle.std.proofs.lemmas.List.Sums.{length-filter, count_by-le-length}
 use Rattle.std.proofs.lemmas.Map.Made.{lookup-map_values, is_some-lookup}
 use Rattle.bm_base.proofs.Options.{not_there}
-use Rattle.bm_pending.specs.Inside.{PendingTargets, targets_at, room_in, room_at}
+use Rattle.bm_pending.specs.Inside.{PendingTargets, targets_at, capacity_left, capacity_at}
 
 abbrev pub items_or : Option PendingTargets → List (ℕ × ℕ)
 items_or o = option_map_or (λ (v : PendingTargets). v.items) o []
 
-abbrev pub room_or : Option PendingTargets → ℕ
-room_or o = option_map_or room_in o 0
+abbrev pub capacity_or : Option PendingTargets → ℕ
+capacity_or o = option_map_or capacity_left o 0
 
 module _ (es : List (ℕ × PendingTargets)) (b : ℕ) where
   -- a block that was not there comes with no target
@@ -31,27 +31,27 @@ module _ (es : List (ℕ × PendingTargets)) (b : ℕ) where
       by true e = no_items ∙ sym (ap items_or none) ∙ ap (targets_at es) (eqb-true b q e)
       by false e = refl
 
-  pub fresh-rooms : (v : PendingTargets) → lookup (nat_eq b) es ≡ None → (q : ℕ) → room_at es q ≤ room_or (cond (nat_eq b q) (Some v) (lookup (nat_eq q) es))
-  fresh-rooms v none q = by (nat_eq b q) refl
+  pub fresh-capacities : (v : PendingTargets) → lookup (nat_eq b) es ≡ None → (q : ℕ) → capacity_at es q ≤ capacity_or (cond (nat_eq b q) (Some v) (lookup (nat_eq q) es))
+  fresh-capacities v none q = by (nat_eq b q) refl
     where
-      by : (t : Bool) → nat_eq b q ≡ t → room_at es q ≤ room_or (cond t (Some v) (lookup (nat_eq q) es))
-      by true e = let zero_room : room_at es q ≡ 0 = ap (room_at es) (sym (eqb-true b q e)) ∙ ap room_or none in omega (arith, zero_room)
+      by : (t : Bool) → nat_eq b q ≡ t → capacity_at es q ≤ capacity_or (cond t (Some v) (lookup (nat_eq q) es))
+      by true e = let none_left : capacity_at es q ≡ 0 = ap (capacity_at es) (sym (eqb-true b q e)) ∙ ap capacity_or none in omega (arith, none_left)
       by false e = omega arith
 
   -- a known block has other targets, within its capacity
-  pub freed-rooms : (v w : PendingTargets) → Some v ≡ lookup (nat_eq b) es → room_in v ≤ room_in w → (q : ℕ) → room_at es q ≤ room_or (cond (nat_eq b q) (Some w) (lookup (nat_eq q) es))
-  freed-rooms v w here less q = by (nat_eq b q) refl
+  pub freed-capacities : (v w : PendingTargets) → Some v ≡ lookup (nat_eq b) es → capacity_left v ≤ capacity_left w → (q : ℕ) → capacity_at es q ≤ capacity_or (cond (nat_eq b q) (Some w) (lookup (nat_eq q) es))
+  freed-capacities v w here less q = by (nat_eq b q) refl
     where
-      by : (t : Bool) → nat_eq b q ≡ t → room_at es q ≤ room_or (cond t (Some w) (lookup (nat_eq q) es))
-      by true e = let same : room_at es q ≡ room_in v = ap (room_at es) (sym (eqb-true b q e)) ∙ ap room_or (sym here) in omega (arith, same, less)
+      by : (t : Bool) → nat_eq b q ≡ t → capacity_at es q ≤ capacity_or (cond t (Some w) (lookup (nat_eq q) es))
+      by true e = let same : capacity_at es q ≡ capacity_left v = ap (capacity_at es) (sym (eqb-true b q e)) ∙ ap capacity_or (sym here) in omega (arith, same, less)
       by false e = omega arith
 
   -- a block that was there has other targets
-  pub written-rooms : (v w : PendingTargets) (n : ℕ) → Some v ≡ lookup (nat_eq b) es → room_in v ≤ room_in w + n → (q : ℕ) → room_at es q ≤ room_or (cond (nat_eq b q) (Some w) (lookup (nat_eq q) es)) + cond (nat_eq b q) n 0
-  written-rooms v w n here less q = by (nat_eq b q) refl
+  pub written-capacities : (v w : PendingTargets) (n : ℕ) → Some v ≡ lookup (nat_eq b) es → capacity_left v ≤ capacity_left w + n → (q : ℕ) → capacity_at es q ≤ capacity_or (cond (nat_eq b q) (Some w) (lookup (nat_eq q) es)) + cond (nat_eq b q) n 0
+  written-capacities v w n here less q = by (nat_eq b q) refl
     where
-      by : (t : Bool) → nat_eq b q ≡ t → room_at es q ≤ room_or (cond t (Some w) (lookup (nat_eq q) es)) + cond t n 0
-      by true e = let same : room_at es q ≡ room_in v = ap (room_at es) (sym (eqb-true b q e)) ∙ ap room_or (sym here) in omega (arith, same, less)
+      by : (t : Bool) → nat_eq b q ≡ t → capacity_at es q ≤ capacity_or (cond t (Some w) (lookup (nat_eq q) es)) + cond t n 0
+      by true e = let same : capacity_at es q ≡ capacity_left v = ap (capacity_at es) (sym (eqb-true b q e)) ∙ ap capacity_or (sym here) in omega (arith, same, less)
       by false e = omega arith
 
   -- a block that is not there stays so
@@ -66,8 +66,8 @@ fewer : {X : Type 0} (p : X → Bool) (xs : List X) → length (filter p xs) ≤
 fewer p xs = omega (arith, length-filter p xs, count_by-le-length p xs)
 
 -- removing targets keeps at least the spare capacity
-pub filtered-room : (v w : PendingTargets) (p : ℕ × ℕ → Bool) → w.items ≡ filter p v.items → w.capacity ≡ v.capacity → room_in v ≤ room_in w
-filtered-room v w p items capacity = omega (arith, subst (λ xs. length xs ≤ length v.items) (sym items) (fewer p v.items), capacity)
+pub filtered-capacity : (v w : PendingTargets) (p : ℕ × ℕ → Bool) → w.items ≡ filter p v.items → w.capacity ≡ v.capacity → capacity_left v ≤ capacity_left w
+filtered-capacity v w p items capacity = omega (arith, subst (λ xs. length xs ≤ length v.items) (sym items) (fewer p v.items), capacity)
 
 length-put : (k v : ℕ) (es : List (ℕ × ℕ)) → length (put nat_cmp k v es) ≤ length es + 1
 length-put k v [] = omega arith
@@ -78,8 +78,8 @@ length-put k v (e ∷ es) = elim (nat_cmp k e.0) as (λ r. length (by_order r ((
 ]
 
 -- adding a target takes capacity for one at most
-pub put-room : (v w : PendingTargets) (storage round : ℕ) → w.items ≡ put nat_cmp storage round v.items → w.capacity ≡ v.capacity → room_in v ≤ room_in w + 1
-put-room v w storage round items capacity = let more : length w.items ≤ length v.items + 1 = subst (λ xs. length xs ≤ length v.items + 1) (sym items) (length-put storage round v.items) in omega (arith, more, capacity)
+pub put-capacity : (v w : PendingTargets) (storage round : ℕ) → w.items ≡ put nat_cmp storage round v.items → w.capacity ≡ v.capacity → capacity_left v ≤ capacity_left w + 1
+put-capacity v w storage round items capacity = let more : length w.items ≤ length v.items + 1 = subst (λ xs. length xs ≤ length v.items + 1) (sym items) (length-put storage round v.items) in omega (arith, more, capacity)
 
 -- Each block's targets are filtered.
 module _ (es fs : List (ℕ × PendingTargets)) (p : ℕ × ℕ → Bool) (is : fs ≡ map (λ e. (e.0, record e.1 { items = filter p e.1.items })) es) where
@@ -96,12 +96,12 @@ module _ (es fs : List (ℕ × PendingTargets)) (p : ℕ × ℕ → Bool) (is : 
       by None = refl
       by (Some v) = refl
 
-  pub filtered-rooms : (q : ℕ) → room_at es q ≤ room_at fs q
-  filtered-rooms q = subst (λ o. room_at es q ≤ room_or o) (sym (looked q)) (by (lookup (nat_eq q) es))
+  pub filtered-capacities : (q : ℕ) → capacity_at es q ≤ capacity_at fs q
+  filtered-capacities q = subst (λ o. capacity_at es q ≤ capacity_or o) (sym (looked q)) (by (lookup (nat_eq q) es))
     where
-      by : (o : Option PendingTargets) → room_or o ≤ room_or (option_map filtered o)
+      by : (o : Option PendingTargets) → capacity_or o ≤ capacity_or (option_map filtered o)
       by None = omega arith
-      by (Some v) = filtered-room v (filtered v) p refl refl
+      by (Some v) = filtered-capacity v (filtered v) p refl refl
 
 -- Blocks with no target are of no account.
 module _ (es fs : List (ℕ × PendingTargets)) (unique : IsDistinct nat_eq (keys_of es)) (is : fs ≡ filter (λ e. not (length e.1.items == 0)) es) where
@@ -123,24 +123,24 @@ module _ (es fs : List (ℕ × PendingTargets)) (unique : IsDistinct nat_eq (key
           by false e = refl
 
   -- a block with a target keeps its capacity
-  pub shed-kept : (q : ℕ) → targets_at es q ≢ [] → room_at fs q ≡ room_at es q
-  shed-kept q some = ap room_or (looked_left q) ∙ chosen (lookup (nat_eq q) es) some
+  pub shed-kept : (q : ℕ) → targets_at es q ≢ [] → capacity_at fs q ≡ capacity_at es q
+  shed-kept q some = ap capacity_or (looked_left q) ∙ chosen (lookup (nat_eq q) es) some
     where
-      chosen : (o : Option PendingTargets) → items_or o ≢ [] → room_or (left o) ≡ room_or o
+      chosen : (o : Option PendingTargets) → items_or o ≢ [] → capacity_or (left o) ≡ capacity_or o
       chosen None h = refl
       chosen (Some v) h = by (length v.items == 0) refl
         where
-          by : (t : Bool) → (length v.items == 0) ≡ t → room_or (cond (not t) (Some v) None) ≡ room_in v
+          by : (t : Bool) → (length v.items == 0) ≡ t → capacity_or (cond (not t) (Some v) None) ≡ capacity_left v
           by true e = absurd (h (nil_from_length v.items (eqb-true (length v.items) 0 e)))
           by false e = refl
 
   -- others lose theirs
-  pub shed-freed : (q : ℕ) → targets_at es q ≡ [] → room_at fs q ≡ 0
-  shed-freed q none = ap room_or (looked_left q) ∙ chosen (lookup (nat_eq q) es) none
+  pub shed-freed : (q : ℕ) → targets_at es q ≡ [] → capacity_at fs q ≡ 0
+  shed-freed q none = ap capacity_or (looked_left q) ∙ chosen (lookup (nat_eq q) es) none
     where
-      chosen : (o : Option PendingTargets) → items_or o ≡ [] → room_or (left o) ≡ 0
+      chosen : (o : Option PendingTargets) → items_or o ≡ [] → capacity_or (left o) ≡ 0
       chosen None h = refl
-      chosen (Some v) h = ap (λ n. room_or (cond (not (n == 0)) (Some v) None)) (ap length h)
+      chosen (Some v) h = ap (λ n. capacity_or (cond (not (n == 0)) (Some v) None)) (ap length h)
 
 -- A block that passes no look is not among those that pass.
 module _ (es : List (ℕ × PendingTargets)) (unique : IsDistinct nat_eq (keys_of es)) where

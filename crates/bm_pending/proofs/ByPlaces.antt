@@ -36,10 +36,10 @@ index-had es q some = has-keys es q.block ∙ by (lookup (nat_eq q.block) es) (s
     by (Some v) e = refl
 
 -- the blocks in the order of their indices are the keys
-pub keys-seen : (es : List (ℕ × PendingTargets)) (p : PendingMap) → record { map = map_of es; rooms = capacities_of es } ≡ p → keys_of es ≡ blocks_in p
+pub keys-seen : (es : List (ℕ × PendingTargets)) (p : PendingMap) → record { map = map_of es; capacities = capacities_of es } ≡ p → keys_of es ≡ blocks_in p
 keys-seen es p view = sym (places-seen es) ∙ ap (λ (p : PendingMap). blocks_in p) view
 
 -- so is the one at an index
-pub index-seen : (es : List (ℕ × PendingTargets)) (p : PendingMap) → record { map = map_of es; rooms = capacities_of es } ≡ p → (o : Option (ℕ × PendingTargets)) (i : ℕ) → o ≡ slice_get es i
+pub index-seen : (es : List (ℕ × PendingTargets)) (p : PendingMap) → record { map = map_of es; capacities = capacities_of es } ≡ p → (o : Option (ℕ × PendingTargets)) (i : ℕ) → o ≡ slice_get es i
     → option_map (λ (e : ℕ × PendingTargets). e.0) o ≡ slice_get (blocks_in p) i
 index-seen es p view o i e = ap (option_map (λ (e : ℕ × PendingTargets). e.0)) e ∙ sym (slice_get-map (λ (e : ℕ × PendingTargets). e.0) es i) ∙ ap (λ ks. slice_get ks i) (keys-seen es p view)

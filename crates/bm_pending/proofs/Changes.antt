@@ -13,27 +13,27 @@ use Rattle.bm_base.specs.Words.{Map, by_number, empty, entries, get, insert, kee
 use Rattle.bm_base.proofs.MapLaws.{same_map, get-insert, get-keep, get-remove, entries-keep}
 use Rattle.bm_base.proofs.MapEntries.{one_out}
 use Rattle.bm_base.proofs.Ties.{number_tie, replica_tie}
-use Rattle.bm_pending.specs.PendingMap.{PendingMap, room}
-use Rattle.bm_pending.specs.Inside.{PendingTargets, map_of, capacities_of, targets_at, room_in, room_at, IsPending}
+use Rattle.bm_pending.specs.PendingMap.{PendingMap, capacity}
+use Rattle.bm_pending.specs.Inside.{PendingTargets, map_of, capacities_of, targets_at, capacity_left, capacity_at, IsPending}
 use Rattle.bm_pending.proofs.TargetViews.{get-map_of}
 
 pub map_of-nil : (es : List (ℕ × PendingTargets)) → es ≡ [] → map_of es ≡ empty
 unfolding map_of
 map_of-nil es e = ap map_of e
 
-pub room-nil : (es : List (ℕ × PendingTargets)) (b : ℕ) → es ≡ [] → room (record { map = map_of es; rooms = capacities_of es }) b ≡ 0
-room-nil es b e = ap (λ xs. unwrap_or (lookup (nat_eq b) (capacities_of xs)) 0) e
+pub capacity-nil : (es : List (ℕ × PendingTargets)) (b : ℕ) → es ≡ [] → capacity (record { map = map_of es; capacities = capacities_of es }) b ≡ 0
+capacity-nil es b e = ap (λ xs. unwrap_or (lookup (nat_eq b) (capacities_of xs)) 0) e
 
 opened : {X : Type 0} (f : X → ℕ) (o : Option X) → unwrap_or (option_map f o) 0 ≡ option_map_or f o 0
 opened f None = refl
 opened f (Some x) = refl
 
 -- what is seen of a block's capacity
-pub room-seen : (m : Map by_replica ℕ) (es : List (ℕ × PendingTargets)) (b : ℕ) → room (record { map = m; rooms = capacities_of es }) b ≡ room_at es b
-room-seen m es b = ap (λ o. unwrap_or o 0) (lookup-map_values room_in (nat_eq b) es) ∙ opened room_in (lookup (nat_eq b) es)
+pub capacity-seen : (m : Map by_replica ℕ) (es : List (ℕ × PendingTargets)) (b : ℕ) → capacity (record { map = m; capacities = capacities_of es }) b ≡ capacity_at es b
+capacity-seen m es b = ap (λ o. unwrap_or o 0) (lookup-map_values capacity_left (nat_eq b) es) ∙ opened capacity_left (lookup (nat_eq b) es)
 
-pub room-gone : (es : List (ℕ × PendingTargets)) (b : ℕ) → room_at es b ≡ 0 → room (record { map = map_of es; rooms = capacities_of es }) b ≡ 0
-room-gone es b e = room-seen (map_of es) es b ∙ e
+pub capacity-gone : (es : List (ℕ × PendingTargets)) (b : ℕ) → capacity_at es b ≡ 0 → capacity (record { map = map_of es; capacities = capacities_of es }) b ≡ 0
+capacity-gone es b e = capacity-seen (map_of es) es b ∙ e
 
 -- Targets that are filtered.
 module _ (p : ℕ → ℕ → Bool) (ts : List (ℕ × ℕ)) (rise : T (is_sorted nat_cmp ts)) where
@@ -128,28 +128,28 @@ module _ (es fs : List (ℕ × PendingTargets)) (p : ℕ → ℕ → Bool) (chan
 -- What is seen of the capacity.
 
 abbrev pub shown : List (ℕ × PendingTargets) → PendingMap
-shown es = record { map = map_of es; rooms = capacities_of es }
+shown es = record { map = map_of es; capacities = capacities_of es }
 
 module _ (es : List (ℕ × PendingTargets)) (p : PendingMap) (is : shown es ≡ p) where
-  pub room-shown : (b : ℕ) → room p b ≡ room_at es b
-  room-shown b = ap (λ v. room v b) (sym is) ∙ room-seen (map_of es) es b
+  pub capacity-shown : (b : ℕ) → capacity p b ≡ capacity_at es b
+  capacity-shown b = ap (λ v. capacity v b) (sym is) ∙ capacity-seen (map_of es) es b
 
-  pub room-kept : (fs : List (ℕ × PendingTargets)) (b : ℕ) → room_at es b ≤ room_at fs b → room p b ≤ room (shown fs) b
-  room-kept fs b less = omega (arith, room-shown b, room-seen (map_of fs) fs b, less)
+  pub capacity-kept : (fs : List (ℕ × PendingTargets)) (b : ℕ) → capacity_at es b ≤ capacity_at fs b → capacity p b ≤ capacity (shown fs) b
+  capacity-kept fs b less = omega (arith, capacity-shown b, capacity-seen (map_of fs) fs b, less)
 
-  pub room-used : (fs : List (ℕ × PendingTargets)) (k b : ℕ) → room_at es b ≤ room_at fs b + cond (nat_eq k b) 1 0 → room p b ≤ room (shown fs) b + cond (b == k) 1 0
-  room-used fs k b less =
-      let turned : room_at es b ≤ room_at fs b + cond (b == k) 1 0 = subst (λ t. room_at es b ≤ room_at fs b + cond t 1 0) (nat_eq_equiv.symm k b) less in
-      omega (arith, room-shown b, room-seen (map_of fs) fs b, turned)
+  pub capacity-used : (fs : List (ℕ × PendingTargets)) (k b : ℕ) → capacity_at es b ≤ capacity_at fs b + cond (nat_eq k b) 1 0 → capacity p b ≤ capacity (shown fs) b + cond (b == k) 1 0
+  capacity-used fs k b less =
+      let turned : capacity_at es b ≤ capacity_at fs b + cond (b == k) 1 0 = subst (λ t. capacity_at es b ≤ capacity_at fs b + cond t 1 0) (nat_eq_equiv.symm k b) less in
+      omega (arith, capacity-shown b, capacity-seen (map_of fs) fs b, turned)
 
-  pub room-dropped : (fs : List (ℕ × PendingTargets)) (k b : ℕ) → room_at fs b ≡ cond (nat_eq k b) 0 (room_at es b) → room (shown fs) b ≡ cond (b == k) 0 (room p b)
-  room-dropped fs k b same = room-seen (map_of fs) fs b ∙ same ∙ (λ j. cond (nat_eq_equiv.symm k b j) 0 (sym (room-shown b) j))
+  pub capacity-dropped : (fs : List (ℕ × PendingTargets)) (k b : ℕ) → capacity_at fs b ≡ cond (nat_eq k b) 0 (capacity_at es b) → capacity (shown fs) b ≡ cond (b == k) 0 (capacity p b)
+  capacity-dropped fs k b same = capacity-seen (map_of fs) fs b ∙ same ∙ (λ j. cond (nat_eq_equiv.symm k b j) 0 (sym (capacity-shown b) j))
 
-  pub room-same : (fs : List (ℕ × PendingTargets)) (b : ℕ) → room_at fs b ≡ room_at es b → room (shown fs) b ≡ room p b
-  room-same fs b same = room-seen (map_of fs) fs b ∙ same ∙ sym (room-shown b)
+  pub capacity-same : (fs : List (ℕ × PendingTargets)) (b : ℕ) → capacity_at fs b ≡ capacity_at es b → capacity (shown fs) b ≡ capacity p b
+  capacity-same fs b same = capacity-seen (map_of fs) fs b ∙ same ∙ sym (capacity-shown b)
 
-  pub room-had : (b n : ℕ) → n < room p b → n < room_at es b
-  room-had b n h = omega (arith, room-shown b, h)
+  pub capacity-had : (b n : ℕ) → n < capacity p b → n < capacity_at es b
+  capacity-had b n h = omega (arith, capacity-shown b, h)
 
-  pub room-enough : (b n : ℕ) → n ≤ room p b → n ≤ room_at es b
-  room-enough b n h = omega (arith, room-shown b, h)
+  pub capacity-enough : (b n : ℕ) → n ≤ capacity p b → n ≤ capacity_at es b
+  capacity-enough b n h = omega (arith, capacity-shown b, h)

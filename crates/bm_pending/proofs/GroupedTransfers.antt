@@ -67,15 +67,15 @@ storages b [] = refl
 storages b (t ∷ ts) = ap (λ xs. t.0 ∷ xs) (storages b ts)
 
 -- the targets of a block, as they are seen
-pub targets-seen : (es : List (ℕ × PendingTargets)) (b : ℕ) → ((q : ℕ) → T (is_sorted nat_cmp (targets_at es q))) → targets_of (record { map = map_of es; rooms = capacities_of es }) b ≡ map (λ t. t.0) (targets_at es b)
+pub targets-seen : (es : List (ℕ × PendingTargets)) (b : ℕ) → ((q : ℕ) → T (is_sorted nat_cmp (targets_at es q))) → targets_of (record { map = map_of es; capacities = capacities_of es }) b ≡ map (λ t. t.0) (targets_at es b)
 targets-seen es b rise = ap (map (λ (e : ReplicaId × ℕ). e.0.storage)) (block-entries es b rise) ∙ storages b (targets_at es b)
 
 module _ (es : List (ℕ × PendingTargets)) (b : ℕ) (rise : (q : ℕ) → T (is_sorted nat_cmp (targets_at es q))) where
-  pub count-seen : length (targets_of (record { map = map_of es; rooms = capacities_of es }) b) ≡ length (targets_at es b)
+  pub count-seen : length (targets_of (record { map = map_of es; capacities = capacities_of es }) b) ≡ length (targets_at es b)
   count-seen = ap length (targets-seen es b rise) ∙ length-map (targets_at es b) (λ (t : ℕ × ℕ). t.0)
 
-  pub none-seen : targets_of (record { map = map_of es; rooms = capacities_of es }) b ≡ [] → targets_at es b ≡ []
+  pub none-seen : targets_of (record { map = map_of es; capacities = capacities_of es }) b ≡ [] → targets_at es b ≡ []
   none-seen none = nil_from_length (targets_at es b) (sym count-seen ∙ ap length none)
 
-  pub some-seen : targets_of (record { map = map_of es; rooms = capacities_of es }) b ≢ [] → targets_at es b ≢ []
-  some-seen some none = some (nil_from_length (targets_of (record { map = map_of es; rooms = capacities_of es }) b) (count-seen ∙ ap length none))
+  pub some-seen : targets_of (record { map = map_of es; capacities = capacities_of es }) b ≢ [] → targets_at es b ≢ []
+  some-seen some none = some (nil_from_length (targets_of (record { map = map_of es; capacities = capacities_of es }) b) (count-seen ∙ ap length none))

@@ -8,7 +8,7 @@ use Rattle.bm_base.specs.declared.ids.Part.{Part}
 use Rattle.bm_base.specs.declared.commands.Transfer.{Transfer}
 use Rattle.bm_base.specs.Shards.{shard_of}
 use Rattle.bm_base.specs.RoundParts.{own_transfers}
-use Rattle.bm_pending.specs.PendingMap.{PendingMap, room}
+use Rattle.bm_pending.specs.PendingMap.{PendingMap, capacity}
 use Rattle.bm_pending.specs.TargetCounts.{count_at}
 
 abbrev pub count_of : ℕ → List Transfer → ℕ
@@ -20,9 +20,9 @@ own part ts = own_transfers part.index part.shards ts
 -- the counts of these transfers, and the capacity for them
 pub record HasCounted (part : Part) (start p : PendingMap) (es : List (ℕ × ℕ)) (xs : List Transfer) : Type 0 where
   pub map : p.map ≡ start.map
-  pub rooms : (b : ℕ) → room start b ≤ room p b
+  pub capacities : (b : ℕ) → capacity start b ≤ capacity p b
   pub counts : (q : ℕ) → count_at es q ≡ count_of q (own part xs)
-  pub places : (q : ℕ) → count_of q (own part xs) ≤ room p q
+  pub places : (q : ℕ) → count_of q (own part xs) ≤ capacity p q
 
 one_more : (q : ℕ) (xs : List Transfer) (t : Transfer) → count_of q (xs ++ t ∷ []) ≡ cond (t.block == q) (suc (count_of q xs)) (count_of q xs)
 one_more q xs t = ap length (filter-append (λ (x : Transfer). x.block == q) xs (t ∷ [])) ∙ length-append (filter (λ x. x.block == q) xs) (filter (λ x. x.block == q) (t ∷ [])) ∙ by (t.block == q)
@@ -36,23 +36,23 @@ module _ (part : Part) (xs : List Transfer) (t : Transfer) where
   appended = filter-append (λ (x : Transfer). shard_of x.block part.shards == part.index) xs (t ∷ [])
 
   module _ (start p : PendingMap) (es : List (ℕ × ℕ)) (h : HasCounted part start p es xs) where
-    pub counted_own : (q : PendingMap) (fs : List (ℕ × ℕ)) (n : ℕ) → (shard_of t.block part.shards == part.index) ≡ true → q.map ≡ p.map → ((b : ℕ) → room p b ≤ room q b)
-        → ((b : ℕ) → count_at fs b ≡ cond (nat_eq t.block b) (suc (count_at es b)) (count_at es b)) → n ≡ suc (count_at es t.block) → n ≤ room q t.block
+    pub counted_own : (q : PendingMap) (fs : List (ℕ × ℕ)) (n : ℕ) → (shard_of t.block part.shards == part.index) ≡ true → q.map ≡ p.map → ((b : ℕ) → capacity p b ≤ capacity q b)
+        → ((b : ℕ) → count_at fs b ≡ cond (nat_eq t.block b) (suc (count_at es b)) (count_at es b)) → n ≡ suc (count_at es t.block) → n ≤ capacity q t.block
         → HasCounted part start q fs (xs ++ t ∷ [])
     counted_own q fs n is_own same grows counts number enough = record {
       map = same ∙ h.map;
-      rooms = λ b. let a = h.rooms b in let c = grows b in omega (arith, a, c);
+      capacities = λ b. let a = h.capacities b in let c = grows b in omega (arith, a, c);
       counts = λ b. counts b ∙ ap (λ k. cond (nat_eq t.block b) (suc k) k) (h.counts b) ∙ sym (more b);
-      places = λ b. subst (λ k. k ≤ room q b) (sym (more b)) (place b (nat_eq t.block b) refl);
+      places = λ b. subst (λ k. k ≤ capacity q b) (sym (more b)) (place b (nat_eq t.block b) refl);
     }
       where
         more : (b : ℕ) → count_of b (own part (xs ++ t ∷ [])) ≡ cond (t.block == b) (suc (count_of b (own part xs))) (count_of b (own part xs))
         more b = ap (count_of b) (appended ∙ ap (λ u. own part xs ++ cond u (t ∷ []) []) is_own) ∙ one_more b (own part xs) t
 
-        place : (b : ℕ) (u : Bool) → nat_eq t.block b ≡ u → cond u (suc (count_of b (own part xs))) (count_of b (own part xs)) ≤ room q b
+        place : (b : ℕ) (u : Bool) → nat_eq t.block b ≡ u → cond u (suc (count_of b (own part xs))) (count_of b (own part xs)) ≤ capacity q b
         place b true e =
             let same_block : t.block ≡ b = eqb-true t.block b e in
-            subst (λ x. suc (count_of x (own part xs)) ≤ room q x) same_block (let k = h.counts t.block in omega (arith, k, number, enough))
+            subst (λ x. suc (count_of x (own part xs)) ≤ capacity q x) same_block (let k = h.counts t.block in omega (arith, k, number, enough))
         place b false e = let a = h.places b in let c = grows b in omega (arith, a, c)
 
     pub counted_other : (shard_of t.block part.shards == part.index) ≡ false → HasCounted part start p es (xs ++ t ∷ [])
@@ -60,9 +60,9 @@ module _ (part : Part) (xs : List Transfer) (t : Transfer) where
         let same : own part (xs ++ t ∷ []) ≡ own part xs = appended ∙ ap (λ u. own part xs ++ cond u (t ∷ []) []) other ∙ nothing (own part xs) in
         record {
           map = h.map;
-          rooms = h.rooms;
+          capacities = h.capacities;
           counts = λ q. h.counts q ∙ ap (count_of q) (sym same);
-          places = λ q. subst (λ ys. count_of q ys ≤ room p q) (sym same) (h.places q);
+          places = λ q. subst (λ ys. count_of q ys ≤ capacity p q) (sym same) (h.places q);
         }
       where
         nothing : (ys : List Transfer) → ys ++ [] ≡ ys

@@ -22,7 +22,7 @@ module _ (es : List (ℕ × PendingTargets)) (rise : (q : ℕ) → T (is_sorted 
   left-targets : (q : ℕ) → targets_at left q ≡ filter stays (targets_at es q)
   left-targets q = filtered-targets es left stays refl q
 
-  pub left-seen : (b : ℕ) → remaining_targets pend r (record { map = map_of es; rooms = capacities_of es }) b ≡ map (λ t. t.0) (filter stays (targets_at es b))
+  pub left-seen : (b : ℕ) → remaining_targets pend r (record { map = map_of es; capacities = capacities_of es }) b ≡ map (λ t. t.0) (filter stays (targets_at es b))
   left-seen b =
       ap (λ m. map (λ (e : ReplicaId × ℕ). e.0.storage) (filter (λ e. e.0.block == b) (entries m))) (sym (map-kept es left (λ _ t. not (is_expired pend r t)) left-targets rise))
       ∙ targets-seen left b (ascending-kept es left (λ _ t. not (is_expired pend r t)) left-targets rise).ascending

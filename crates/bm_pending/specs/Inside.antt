@@ -33,16 +33,16 @@ expired_among pend r ts = filter (λ t. is_expired pend r t.1) ts
 abbrev pub remaining_storages : ℕ → ℕ → List (ℕ × ℕ) → List ℕ
 remaining_storages pend r ts = map (λ t. t.0) (filter (λ t. not (is_expired pend r t.1)) ts)
 
-abbrev pub room_in : PendingTargets → ℕ
-room_in v = v.capacity - length v.items
+abbrev pub capacity_left : PendingTargets → ℕ
+capacity_left v = v.capacity - length v.items
 
 -- how many more transfers of a block need no memory
-abbrev pub room_at : List (ℕ × PendingTargets) → ℕ → ℕ
-room_at es b = option_map_or room_in (lookup (nat_eq b) es) 0
+abbrev pub capacity_at : List (ℕ × PendingTargets) → ℕ → ℕ
+capacity_at es b = option_map_or capacity_left (lookup (nat_eq b) es) 0
 
 -- each block with how many more of its transfers need no memory
 abbrev pub capacities_of : List (ℕ × PendingTargets) → List (ℕ × ℕ)
-capacities_of es = map (λ e. (e.0, room_in e.1)) es
+capacities_of es = map (λ e. (e.0, capacity_left e.1)) es
 
 -- the targets of each block are ascending
 pub record IsPending (es : List (ℕ × PendingTargets)) : Type 0 where

@@ -9,15 +9,15 @@ pub record PendingMap : Type 0 where
   -- by block and target, the round in which the transfer was commanded
   pub map : Map by_replica ℕ
   -- the number of further transfers of a block that there is capacity for
-  pub rooms : List (ℕ × ℕ)
+  pub capacities : List (ℕ × ℕ)
 
 -- how many more transfers of the block need no memory
-abbrev pub room : PendingMap → ℕ → ℕ
-room p b = unwrap_or (lookup (nat_eq b) p.rooms) 0
+abbrev pub capacity : PendingMap → ℕ → ℕ
+capacity p b = unwrap_or (lookup (nat_eq b) p.capacities) 0
 
 -- the blocks with capacity or a transfer, by index
 abbrev pub blocks_in : PendingMap → List ℕ
-blocks_in p = map (λ e. e.0) p.rooms
+blocks_in p = map (λ e. e.0) p.capacities
 
 -- the targets of a block's transfers, ascending
 abbrev pub targets_of : PendingMap → ℕ → List ℕ

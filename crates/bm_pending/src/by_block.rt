@@ -5,7 +5,7 @@ ghost use Rattle.std.specs.FinMap as list;
 ghost use Rattle.std.specs.Map.{keys_of};
 ghost use Rattle.bm_base.specs.declared.refusal.Refusal.TheVariants.{Memory};
 ghost use Rattle.bm_base.specs.Words.{has, is_expired};
-ghost use Rattle.bm_pending.specs.Inside.{targets_at, room_at};
+ghost use Rattle.bm_pending.specs.Inside.{targets_at, capacity_at};
 
 use crate::targets::{PendingTargets, drop_expired, drop_storages, drop_target, put};
 use bm_base::{HashSecret, Refusal, StorageId};
@@ -18,16 +18,17 @@ use std::alloc::Global;
 pub(crate) type Blocks = IndexMap<u64, PendingTargets, HashSecret>;
 
 /// Reserves capacity for `additional` more targets of a block.
-pub(crate) fn reserve_in(
+pub(crate) fn reserve_targets(
     blocks: &mut Blocks,
     alloc: Global,
     block: u64,
     additional: usize,
 ) -> Result<(), Refusal>
     ensures targets { (q : ℕ) → targets_at blocks.new.entries q ≡ targets_at blocks.old.entries q }
-    ensures room { OnOk result (additional ≤ room_at blocks.new.entries block) }
-    ensures rooms { (q : ℕ) → room_at blocks.old.entries q ≤ room_at blocks.new.entries q }
-    ensures succeeds { 0 < additional → additional ≤ room_at blocks.old.entries block
+    ensures capacity { OnOk result (additional ≤ capacity_at blocks.new.entries block) }
+    ensures capacities { (q : ℕ)
+        → capacity_at blocks.old.entries q ≤ capacity_at blocks.new.entries q }
+    ensures succeeds { 0 < additional → additional ≤ capacity_at blocks.old.entries block
         → IsOk result }
     ensures refused { IfErr result (λ e. e ≡ Memory) }
 {
@@ -43,15 +44,16 @@ pub(crate) fn reserve_in(
 }
 
 /// Sets the round of a target of a block.
-pub(crate) fn put_in(blocks: &mut Blocks, block: u64, storage: u32, round: u64)
+pub(crate) fn put_target(blocks: &mut Blocks, block: u64, storage: u32, round: u64)
     requires sorted { (q : ℕ) → T (list.is_sorted nat_cmp (targets_at blocks.old.entries q)) }
-    requires room { 0 < room_at blocks.old.entries block }
+    requires capacity { 0 < capacity_at blocks.old.entries block }
     ensures targets { (q : ℕ)
         → targets_at blocks.new.entries q
         ≡ cond (nat_eq block q) (list.put nat_cmp storage round (targets_at blocks.old.entries q))
         (targets_at blocks.old.entries q) }
-    ensures rooms { (q : ℕ)
-        → room_at blocks.old.entries q ≤ room_at blocks.new.entries q + cond (nat_eq block q) 1 0 }
+    ensures capacities { (q : ℕ)
+        → capacity_at blocks.old.entries q
+        ≤ capacity_at blocks.new.entries q + cond (nat_eq block q) 1 0 }
 {
     if let Some(targets) = blocks.get_mut(&block) {
         put(targets, storage, round);
@@ -59,14 +61,15 @@ pub(crate) fn put_in(blocks: &mut Blocks, block: u64, storage: u32, round: u64)
 }
 
 /// Takes a target of a block out.
-pub(crate) fn drop_in(blocks: &mut Blocks, block: u64, storage: u32)
+pub(crate) fn drop_pending(blocks: &mut Blocks, block: u64, storage: u32)
     ensures keys { keys_of blocks.new.entries ≡ keys_of blocks.old.entries }
     ensures targets { (q : ℕ)
         → targets_at blocks.new.entries q
         ≡ cond (nat_eq block q) (filter
         (λ t. not (t.0 == storage)) (targets_at blocks.old.entries q))
         (targets_at blocks.old.entries q) }
-    ensures rooms { (q : ℕ) → room_at blocks.old.entries q ≤ room_at blocks.new.entries q }
+    ensures capacities { (q : ℕ)
+        → capacity_at blocks.old.entries q ≤ capacity_at blocks.new.entries q }
 {
     if let Some(targets) = blocks.get_mut(&block) {
         drop_target(targets, storage);
@@ -78,18 +81,20 @@ pub(crate) fn drop_block(blocks: &mut Blocks, block: u64)
     ensures targets { (q : ℕ)
         → targets_at blocks.new.entries q
         ≡ cond (nat_eq block q) [] (targets_at blocks.old.entries q) }
-    ensures rooms { (q : ℕ)
-        → room_at blocks.new.entries q ≡ cond (nat_eq block q) 0 (room_at blocks.old.entries q) }
+    ensures capacities { (q : ℕ)
+        → capacity_at blocks.new.entries q
+        ≡ cond (nat_eq block q) 0 (capacity_at blocks.old.entries q) }
 {
     blocks.swap_remove(&block);
 }
 
 /// Takes the transfers out that are given up.
-pub(crate) fn drop_expired_in(blocks: &mut Blocks, pend: u32, round: u64)
+pub(crate) fn drop_expired_targets(blocks: &mut Blocks, pend: u32, round: u64)
     ensures targets { (q : ℕ)
         → targets_at blocks.new.entries q
         ≡ filter (λ t. not (is_expired pend round t.1)) (targets_at blocks.old.entries q) }
-    ensures rooms { (q : ℕ) → room_at blocks.old.entries q ≤ room_at blocks.new.entries q }
+    ensures capacities { (q : ℕ)
+        → capacity_at blocks.old.entries q ≤ capacity_at blocks.new.entries q }
 {
     blocks.retain(|_, targets| {
         drop_expired(targets, pend, round);
@@ -98,11 +103,12 @@ pub(crate) fn drop_expired_in(blocks: &mut Blocks, pend: u32, round: u64)
 }
 
 /// Takes the transfers to these storages out.
-pub(crate) fn drop_storages_in(blocks: &mut Blocks, storages: &[StorageId])
+pub(crate) fn drop_targets_on(blocks: &mut Blocks, storages: &[StorageId])
     ensures targets { (q : ℕ)
         → targets_at blocks.new.entries q
         ≡ filter (λ t. not (has storages.now t.0)) (targets_at blocks.old.entries q) }
-    ensures rooms { (q : ℕ) → room_at blocks.old.entries q ≤ room_at blocks.new.entries q }
+    ensures capacities { (q : ℕ)
+        → capacity_at blocks.old.entries q ≤ capacity_at blocks.new.entries q }
 {
     blocks.retain(|_, targets| {
         drop_storages(targets, storages);
@@ -114,9 +120,9 @@ pub(crate) fn drop_storages_in(blocks: &mut Blocks, storages: &[StorageId])
 pub(crate) fn release_unused(blocks: &mut Blocks)
     ensures targets { (q : ℕ) → targets_at blocks.new.entries q ≡ targets_at blocks.old.entries q }
     ensures kept { (q : ℕ) → targets_at blocks.old.entries q ≢ []
-        → room_at blocks.new.entries q ≡ room_at blocks.old.entries q }
+        → capacity_at blocks.new.entries q ≡ capacity_at blocks.old.entries q }
     ensures freed { (q : ℕ) → targets_at blocks.old.entries q ≡ []
-        → room_at blocks.new.entries q ≡ 0 }
+        → capacity_at blocks.new.entries q ≡ 0 }
 {
     // For proofs alone: each block occurs once.
     let _ = blocks.iter();
@@ -124,7 +130,7 @@ pub(crate) fn release_unused(blocks: &mut Blocks)
 }
 
 /// The targets of a block.
-pub(crate) fn targets_in(blocks: &Blocks, block: u64) -> &[(u32, u64)]
+pub(crate) fn list_targets(blocks: &Blocks, block: u64) -> &[(u32, u64)]
     ensures { result.now ≡ targets_at blocks.now.entries block }
 {
     match blocks.get(&block) {
@@ -134,9 +140,9 @@ pub(crate) fn targets_in(blocks: &Blocks, block: u64) -> &[(u32, u64)]
 }
 
 /// The round of a target of a block.
-pub(crate) fn find_in(blocks: &Blocks, block: u64, storage: u32) -> Option<u64>
+pub(crate) fn find_target(blocks: &Blocks, block: u64, storage: u32) -> Option<u64>
     requires { (q : ℕ) → T (list.is_sorted nat_cmp (targets_at blocks.now.entries q)) }
     ensures { result ≡ list.find nat_cmp storage (targets_at blocks.now.entries block) }
 {
-    find(targets_in(blocks, block), &storage)
+    find(list_targets(blocks, block), &storage)
 }

@@ -2,7 +2,7 @@
 ghost use Rattle.std.specs.Prelude.{◌≡◌, ◌≤◌, ◌<◌, ℕ, ◌==◌, length, filter, suc, cond, nat_eq, OnOk, IfOk, IfErr};
 ghost use Rattle.bm_base.specs.declared.refusal.Refusal.TheVariants.{Memory};
 ghost use Rattle.bm_base.specs.RoundParts.{own_transfers};
-ghost use Rattle.bm_pending.specs.PendingMap.{room};
+ghost use Rattle.bm_pending.specs.PendingMap.{capacity};
 ghost use Rattle.bm_pending.specs.TargetCounts.{count_at};
 
 use crate::pending_transfers::PendingTransfers;
@@ -15,10 +15,10 @@ impl PendingTransfers {
     pub fn reserve_own(&mut self, transfers: &[Transfer], part: Part) -> Result<(), Refusal>
         requires part { part.index < part.shards }
         ensures map { self.new.map ≡ self.old.map }
-        ensures room { OnOk result ((b : ℕ)
+        ensures capacity { OnOk result ((b : ℕ)
             → length (filter (λ t. t.block == b)
-            (own_transfers part.index part.shards transfers.now)) ≤ room self.new b) }
-        ensures rooms { (b : ℕ) → room self.old b ≤ room self.new b }
+            (own_transfers part.index part.shards transfers.now)) ≤ capacity self.new b) }
+        ensures capacities { (b : ℕ) → capacity self.old b ≤ capacity self.new b }
         ensures refused { IfErr result (λ e. e ≡ Memory) }
     {
         let mut counts = IndexMap::with_hasher(self.alloc, *self.by_block.hasher());

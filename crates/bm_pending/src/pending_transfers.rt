@@ -6,14 +6,14 @@ ghost use Rattle.bm_base.specs.declared.replica.ReplicaId.{ReplicaId};
 ghost use Rattle.bm_base.specs.Maps.Map as map;
 ghost use Rattle.bm_base.specs.Words.{replica_at, has, is_expired};
 ghost use Rattle.bm_pending.specs.RemainingTargets as remaining;
-ghost use Rattle.bm_pending.specs.PendingMap.{room, blocks_in, targets_of, expired_of};
+ghost use Rattle.bm_pending.specs.PendingMap.{capacity, blocks_in, targets_of, expired_of};
 
 use crate::by_block::{
-    Blocks, drop_block, drop_expired_in, drop_in, drop_storages_in, find_in, put_in,
-    release_unused, reserve_in, targets_in,
+    Blocks, drop_block, drop_expired_targets, drop_pending, drop_targets_on, find_target,
+    list_targets, put_target, release_unused, reserve_targets,
 };
 use crate::remaining_targets::{count_remaining_among, remaining_among};
-use crate::transfer_lists::{expired_in, push_storages};
+use crate::transfer_lists::{list_expired, push_storages};
 use bm_base::{BlockId, HashSecret, Refusal, ReplicaId, StorageId, StorageIds};
 use indexmap::IndexMap;
 use std::alloc::Global;
@@ -40,7 +40,7 @@ impl Model for PendingTransfers {
 
     ghost view = { λ p. record {
       map = map_of p.by_block.entries;
-      rooms = capacities_of p.by_block.entries;
+      capacities = capacities_of p.by_block.entries;
     } };
 
     ghost invariant = { λ p. IsPending p.by_block.entries };
@@ -50,7 +50,7 @@ impl PendingTransfers {
     /// No transfer, and no capacity, in a table that hashes by this secret. Takes no memory.
     pub fn new(alloc: Global, secret: HashSecret) -> Self
         ensures map { result.map ≡ map.empty }
-        ensures room { (block : ℕ) → room result block ≡ 0 }
+        ensures capacity { (block : ℕ) → capacity result block ≡ 0 }
     {
         PendingTransfers {
             by_block: IndexMap::with_hasher(alloc, secret),
@@ -62,38 +62,39 @@ impl PendingTransfers {
     /// if `additional` is positive and there is capacity already.
     pub fn reserve(&mut self, block: BlockId, additional: usize) -> Result<(), Refusal>
         ensures map { self.new.map ≡ self.old.map }
-        ensures room { OnOk result (additional ≤ room self.new block) }
-        ensures rooms { (other : ℕ) → room self.old other ≤ room self.new other }
-        ensures succeeds { 0 < additional → additional ≤ room self.old block → IsOk result }
+        ensures capacity { OnOk result (additional ≤ capacity self.new block) }
+        ensures capacities { (other : ℕ) → capacity self.old other ≤ capacity self.new other }
+        ensures succeeds { 0 < additional → additional ≤ capacity self.old block → IsOk result }
         ensures refused { IfErr result (λ e. e ≡ Memory) }
     {
-        reserve_in(&mut self.by_block, self.alloc, block.0, additional)
+        reserve_targets(&mut self.by_block, self.alloc, block.0, additional)
     }
 
     /// Sets the round of a transfer. Takes no memory.
     pub fn insert_reserved(&mut self, block: BlockId, storage: StorageId, round: u64)
-        requires { 0 < room self.old block }
+        requires { 0 < capacity self.old block }
         ensures map { self.new.map ≡ map.insert self.old.map (replica_at block storage) round }
-        ensures rooms { (other : ℕ)
-            → room self.old other ≤ room self.new other + (if other == block then 1 else 0) }
+        ensures capacities { (other : ℕ)
+            → capacity self.old other
+            ≤ capacity self.new other + (if other == block then 1 else 0) }
     {
-        put_in(&mut self.by_block, block.0, storage.0, round);
+        put_target(&mut self.by_block, block.0, storage.0, round);
     }
 
     /// Takes a transfer out, if it is there. Takes no memory.
     pub fn remove(&mut self, block: BlockId, storage: StorageId)
         ensures map { self.new.map ≡ map.remove self.old.map (replica_at block storage) }
         ensures places { blocks_in self.new ≡ blocks_in self.old }
-        ensures rooms { (other : ℕ) → room self.old other ≤ room self.new other }
+        ensures capacities { (other : ℕ) → capacity self.old other ≤ capacity self.new other }
     {
-        drop_in(&mut self.by_block, block.0, storage.0);
+        drop_pending(&mut self.by_block, block.0, storage.0);
     }
 
     /// Removes the transfers of a block, and releases its capacity. Takes no memory.
     pub fn remove_block(&mut self, block: BlockId)
         ensures map { self.new.map ≡ map.keep self.old.map (λ q _. not (q.block == block)) }
-        ensures rooms { (other : ℕ)
-            → room self.new other ≡ (if other == block then 0 else room self.old other) }
+        ensures capacities { (other : ℕ)
+            → capacity self.new other ≡ (if other == block then 0 else capacity self.old other) }
     {
         drop_block(&mut self.by_block, block.0);
     }
@@ -102,9 +103,9 @@ impl PendingTransfers {
     /// blocks. Takes no memory.
     pub fn drop_expired(&mut self, pend: u32, round: u64)
         ensures map { self.new.map ≡ map.keep self.old.map (λ _ t. not (is_expired pend round t)) }
-        ensures rooms { (other : ℕ) → room self.old other ≤ room self.new other }
+        ensures capacities { (other : ℕ) → capacity self.old other ≤ capacity self.new other }
     {
-        drop_expired_in(&mut self.by_block, pend, round);
+        drop_expired_targets(&mut self.by_block, pend, round);
     }
 
     /// Removes the transfers to these storages, in one pass over the blocks, each target compared
@@ -112,9 +113,9 @@ impl PendingTransfers {
     pub fn drop_storages(&mut self, storages: &[StorageId])
         ensures map { self.new.map
             ≡ map.keep self.old.map (λ q _. not (has storages.now q.storage)) }
-        ensures rooms { (other : ℕ) → room self.old other ≤ room self.new other }
+        ensures capacities { (other : ℕ) → capacity self.old other ≤ capacity self.new other }
     {
-        drop_storages_in(&mut self.by_block, storages);
+        drop_targets_on(&mut self.by_block, storages);
     }
 
     /// Releases the capacity of the blocks without a transfer, in one pass over the blocks. Takes
@@ -122,8 +123,8 @@ impl PendingTransfers {
     pub fn release_unused(&mut self)
         ensures map { self.new.map ≡ self.old.map }
         ensures kept { (block : ℕ) → targets_of self.old block ≢ []
-            → room self.new block ≡ room self.old block }
-        ensures freed { (block : ℕ) → targets_of self.old block ≡ [] → room self.new block ≡ 0 }
+            → capacity self.new block ≡ capacity self.old block }
+        ensures freed { (block : ℕ) → targets_of self.old block ≡ [] → capacity self.new block ≡ 0 }
     {
         release_unused(&mut self.by_block);
     }
@@ -132,14 +133,14 @@ impl PendingTransfers {
     pub fn contains(&self, block: BlockId, storage: StorageId) -> bool
         ensures { result ≡ map.contains_key self.now.map (replica_at block storage) }
     {
-        find_in(&self.by_block, block.0, storage.0).is_some()
+        find_target(&self.by_block, block.0, storage.0).is_some()
     }
 
     /// How many transfers of a block are on their way.
     pub fn count_of(&self, block: BlockId) -> usize
         ensures { result ≡ length (targets_of self.now block) }
     {
-        targets_in(&self.by_block, block.0).len()
+        list_targets(&self.by_block, block.0).len()
     }
 
     /// The number of blocks with capacity or a transfer: `block_at` has one at each index below.
@@ -179,7 +180,7 @@ impl PendingTransfers {
         ensures unchanged { OnErr result (into.new.items ≡ into.old.items) }
         ensures refused { IfErr result (λ e. e ≡ Memory) }
     {
-        push_storages(targets_in(&self.by_block, block.0), into)
+        push_storages(list_targets(&self.by_block, block.0), into)
     }
 
     /// The targets of the transfers of a block that `drop_expired` keeps, ascending. May answer
@@ -194,7 +195,7 @@ impl PendingTransfers {
         ensures targets { IfOk result (λ v. v ≡ remaining.remaining_targets pend round self.now block) }
         ensures refused { IfErr result (λ e. e ≡ Memory) }
     {
-        let left = remaining_among(alloc, targets_in(&self.by_block, block.0), pend, round)?;
+        let left = remaining_among(alloc, list_targets(&self.by_block, block.0), pend, round)?;
         Ok(left)
     }
 
@@ -202,7 +203,7 @@ impl PendingTransfers {
     pub fn count_remaining(&self, block: BlockId, pend: u32, round: u64) -> usize
         ensures { result ≡ length (remaining.remaining_targets pend round self.now block) }
     {
-        count_remaining_among(targets_in(&self.by_block, block.0), pend, round)
+        count_remaining_among(list_targets(&self.by_block, block.0), pend, round)
     }
 
     /// The transfers that `drop_expired` removes, by block and then by target. May answer `Memory`.
@@ -215,6 +216,6 @@ impl PendingTransfers {
         ensures items { IfOk result (λ v. v.items ≡ expired_of pend round self.now.map) }
         ensures refused { IfErr result (λ e. e ≡ Memory) }
     {
-        expired_in(&self.by_block, alloc, pend, round)
+        list_expired(&self.by_block, alloc, pend, round)
     }
 }

@@ -17,7 +17,7 @@ pub(crate) type PendingTargets = SmallVec<(u32, u64), 2>;
 /// Sets the round of a storage. Takes no memory.
 pub(crate) fn put(targets: &mut PendingTargets, storage: u32, round: u64)
     requires sorted { T (list.is_sorted nat_cmp targets.old.items) }
-    requires room { HasRoomFor targets.old 1 }
+    requires capacity { HasRoomFor targets.old 1 }
     ensures items { targets.new.items ≡ list.put nat_cmp storage round targets.old.items }
     ensures capacity { targets.new.capacity ≡ targets.old.capacity }
 {

@@ -9,7 +9,7 @@ ghost use Rattle.bm_base.specs.Words.{replica_at, is_expired};
 ghost use Rattle.bm_pending.specs.PendingMap.{expired_of};
 ghost use Rattle.bm_pending.specs.Inside.{targets_at, expired_among, map_of};
 
-use crate::by_block::{Blocks, targets_in};
+use crate::by_block::{Blocks, list_targets};
 use crate::targets::is_expired;
 use bm_base::{BlockId, Refusal, ReplicaId, StorageId};
 use std::alloc::Global;
@@ -50,7 +50,12 @@ fn has_expired(targets: &[(u32, u64)], pend: u32, round: u64) -> bool
 }
 
 /// The numbers of the blocks with an expired transfer, ascending.
-fn expiring_in(blocks: &Blocks, alloc: Global, pend: u32, round: u64) -> Result<Vec<u64>, Refusal>
+fn list_expiring_blocks(
+    blocks: &Blocks,
+    alloc: Global,
+    pend: u32,
+    round: u64,
+) -> Result<Vec<u64>, Refusal>
     ensures ascending { IfOk result (λ v. IsNonDecreasing v.items) }
     ensures distinct { IfOk result (λ v. IsDistinct nat_eq v.items) }
     ensures absent { IfOk result (λ v. (b : ℕ) → list_any (nat_eq b) v.items ≡ false
@@ -88,7 +93,7 @@ fn push_expired(
 }
 
 /// All transfers that are given up, by block and then by storage.
-pub(crate) fn expired_in(
+pub(crate) fn list_expired(
     blocks: &Blocks,
     alloc: Global,
     pend: u32,
@@ -98,10 +103,10 @@ pub(crate) fn expired_in(
     ensures items { IfOk result (λ v. v.items ≡ expired_of pend round (map_of blocks.now.entries)) }
     ensures refused { IfErr result (λ e. e ≡ Memory) }
 {
-    let numbers = expiring_in(blocks, alloc, pend, round)?;
+    let numbers = list_expiring_blocks(blocks, alloc, pend, round)?;
     let mut all = Vec::new(alloc);
     for block in &numbers {
-        push_expired(targets_in(blocks, *block), *block, pend, round, &mut all)?;
+        push_expired(list_targets(blocks, *block), *block, pend, round, &mut all)?;
     }
     Ok(all)
 }

@@ -21,7 +21,7 @@ use Rattle.bm_place.specs.Scan.{scan}
 use Rattle.bm_place.specs.ReplicaSpread.{replica_spread_of, class_by_spread, is_one}
 use Rattle.bm_place.specs.Targets.{free_bytes_on, target_at, target_table, cmp_targets, is_available, is_excluded_by}
 use Rattle.bm_place.specs.BestTargets.{IsMember, AreBestTargets, is_better_than, cmp_of_one_node}
-use Rattle.bm_place.proofs.SameNodeTargets.{IsLike, like, more_room}
+use Rattle.bm_place.proofs.SameNodeTargets.{IsLike, like, more_free_bytes}
 use Rattle.bm_place.proofs.Best.{least-bears}
 use Rattle.bm_place.proofs.RowScan.{scan-found}
 use Rattle.bm_place.proofs.RowOrder.{target_cmp_total, ordered_as, tested_as}
@@ -136,7 +136,7 @@ module _ (C : Cluster) (sent : ℕ → ℕ) (urgency : Level) (holders excluded 
         let w = replica_spread_of C holders in
         let c = best_targets.first t (get-table (target_at C sent) (keys C.storages) s ∙ ap (λ b. cond b (Some t) None) there) in
         let same = like c.0 t c.2.alike in
-        let free = free_too C w urgency excluded len c.0 t same (more_room c.0 t c.2.before) (best_targets.within c.0 c.1) (tested_as C sent urgency holders excluded len s ∙ may) in (
+        let free = free_too C w urgency excluded len c.0 t same (more_free_bytes c.0 t c.2.before) (best_targets.within c.0 c.1) (tested_as C sent urgency holders excluded len s ∙ may) in (
           c.0.storage,
           has_storage_of cs c.0 c.1,
           sym (tested_as C sent urgency holders excluded len c.0.storage) ∙ ap (is_available C w urgency excluded len) (made c.0 c.1) ∙ free,

@@ -35,9 +35,9 @@ module _ (C : Cluster) (sent : ℕ → ℕ) (urgency : Level) (holders excluded 
   abbrev IsFound : Option ℕ → Type 0
   IsFound m = IsLeastOf (target_cmp C sent holders) (is_target C sent urgency holders excluded len) (keys C.storages) m
 
-  pub has_room : (m : Option ℕ) → IsFound m → IfSome m (λ s. len + sent s ≤ remaining C s)
-  has_room None h = tt
-  has_room (Some s) h = (parts C sent urgency holders excluded len s h.0).0
+  pub has_enough_bytes : (m : Option ℕ) → IsFound m → IfSome m (λ s. len + sent s ≤ remaining C s)
+  has_enough_bytes None h = tt
+  has_enough_bytes (Some s) h = (parts C sent urgency holders excluded len s h.0).0
 
   pub on_kept_node : (m : Option ℕ) → IsFound m → IfSome m (λ s. is_draining C s ≡ false)
   on_kept_node None h = tt

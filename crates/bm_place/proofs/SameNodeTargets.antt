@@ -73,12 +73,12 @@ pub not_before_itself : (t : TargetRow) → is_better_than t t ≡ false
 not_before_itself t = ap is_lt (tied_itself cmp_alike_total t)
 
 -- a target before which another does not come has no less free bytes
-pub more_room : (c t : TargetRow) → is_better_than t c ≡ false → free_bytes_on t ≤ free_bytes_on c
-more_room c t e = by (nat_cmp t.storage c.storage) e
+pub more_free_bytes : (c t : TargetRow) → is_better_than t c ≡ false → free_bytes_on t ≤ free_bytes_on c
+more_free_bytes c t e = by (nat_cmp t.storage c.storage) e
   where
     by : (r : _) → is_lt (ordering_then (nat_cmp (free_bytes_on c) (free_bytes_on t)) r) ≡ false → free_bytes_on t ≤ free_bytes_on c
     by r e = grind (arith, nat_tests)
 
 -- with no more free bytes a target does not come earlier
-pub less_room : (s t : TargetRow) → s.storage ≡ t.storage → free_bytes_on s ≤ free_bytes_on t → is_better_than s t ≡ false
-less_room s t same less = grind (arith, nat_tests)
+pub less_free_bytes : (s t : TargetRow) → s.storage ≡ t.storage → free_bytes_on s ≤ free_bytes_on t → is_better_than s t ≡ false
+less_free_bytes s t same less = grind (arith, nat_tests)

@@ -17,7 +17,7 @@ use Rattle.bm_place.specs.Scan.{scan, is_better}
 use Rattle.bm_place.specs.ReplicaSpread.{class_by_spread, is_one}
 use Rattle.bm_place.specs.Targets.{free_bytes_on, cmp_targets, is_available, is_excluded_by}
 use Rattle.bm_place.specs.BestTargets.{IsMember, IsInOrder, is_better_than, cmp_of_one_node}
-use Rattle.bm_place.proofs.SameNodeTargets.{more_room}
+use Rattle.bm_place.proofs.SameNodeTargets.{more_free_bytes}
 use Rattle.bm_place.proofs.SortedTargets.{behind_at}
 use Rattle.bm_place.proofs.Tables.{drop-next}
 
@@ -64,14 +64,14 @@ module _ (C : Cluster) (w : ReplicaSpread) (urgency : Level) (excluded : List �
 
   module _ (cs : List TargetRow) (ordered : IsInOrder cs) (i : ℕ) (t : TargetRow) (at : slice_get cs i ≡ Some t) (best : Option TargetRow) (inv : scan order may best (drop i cs) ≡ scan order may None cs) where
     -- no target from t on is eligible if t has too few free bytes
-    pub ends_at_room : free_bytes_on t < len → scan order may None cs ≡ best
-    ends_at_room less = sym inv ∙ ap (scan order may best) (drop-next cs i t at) ∙ scan_none order may best (t ∷ drop (i + 1) cs) (λ x there. none x there)
+    pub ends_below_len : free_bytes_on t < len → scan order may None cs ≡ best
+    ends_below_len less = sym inv ∙ ap (scan order may best) (drop-next cs i t at) ∙ scan_none order may best (t ∷ drop (i + 1) cs) (λ x there. none x there)
       where
         none : (x : TargetRow) → IsMember (t ∷ drop (i + 1) cs) x → may x ≡ false
         none x (inl e) = subst (λ x. may x ≡ false) e (too_full t less)
         none x (inr there) =
             let one : i + 1 ≡ suc i = omega arith in
-            let more = more_room t x (behind_at i cs t x ordered at (subst (λ j. IsMember (drop j cs) x) one there)) in
+            let more = more_free_bytes t x (behind_at i cs t x ordered at (subst (λ j. IsMember (drop j cs) x) one there)) in
             too_full x (omega arith)
 
     -- if t is eligible and of the better class, no target after it comes before it

@@ -15,7 +15,7 @@ use Rattle.bm_place.specs.declared.scheduled_bytes.TargetRow.{TargetRow}
 use Rattle.bm_place.specs.Targets.{free_bytes_on}
 use Rattle.bm_place.specs.Scan.{scan}
 use Rattle.bm_place.specs.BestTargets.{AreOf, IsMember, IsKept, CanReplace, are_of_one_node, is_better_than, cmp_of_one_node, reposition}
-use Rattle.bm_place.proofs.SameNodeTargets.{IsLike, like, alike, like_back, like_then, like_itself, less_room, ranks}
+use Rattle.bm_place.proofs.SameNodeTargets.{IsLike, like, alike, like_back, like_then, like_itself, less_free_bytes, ranks}
 use Rattle.bm_place.proofs.ScanStart.{found}
 use Rattle.bm_place.proofs.ListIndices.{made_among, of_made, has_among}
 use Rattle.bm_place.proofs.NonePasses.{none_passes}
@@ -50,15 +50,15 @@ module _ (rows : Map by_number TargetRow) (target len : ℕ) where
   like_before true x = record { node = refl; rack = refl; is_draining = refl }
   like_before false x = like_itself x
 
-  no_more_room : (b : Bool) (x : TargetRow) → free_bytes_on (cond b (sent_more len x) x) ≤ free_bytes_on x
-  no_more_room true x = omega arith
-  no_more_room false x = omega arith
+  no_more_free_bytes : (b : Bool) (x : TargetRow) → free_bytes_on (cond b (sent_more len x) x) ≤ free_bytes_on x
+  no_more_free_bytes true x = omega arith
+  no_more_free_bytes false x = omega arith
 
   -- the best target of a row stays so with more scheduled to the row
   still_replaces : (b : Bool) (c x : TargetRow) → CanReplace c x → CanReplace c (cond b (sent_more len x) x)
   still_replaces b c x h = record {
     alike = alike c (cond b (sent_more len x) x) (like_then c x (cond b (sent_more len x) x) (like c x h.alike) (like_back (cond b (sent_more len x) x) x (like_before b x)));
-    before = ranks.chain (cond b (sent_more len x) x) x c (less_room (cond b (sent_more len x) x) x (same_storage b x) (no_more_room b x)) h.before;
+    before = ranks.chain (cond b (sent_more len x) x) x c (less_free_bytes (cond b (sent_more len x) x) x (same_storage b x) (no_more_free_bytes b x)) h.before;
   }
 
   module _ (cs : List TargetRow) (kept : IsKept rows cs) (fits : IfSome (get rows target) (λ t. len + t.scheduled ≤ t.remaining)) where
@@ -70,7 +70,7 @@ module _ (rows : Map by_number TargetRow) (target len : ℕ) where
       where
         by : (b : Bool) → (s == target) ≡ b → (x : TargetRow) → get rows s ≡ Some x → cond b (sent_more len x) x ≡ t → t.scheduled ≤ t.remaining
         by true same x at more =
-            let room : len + x.scheduled ≤ x.remaining = subst (λ o. IfSome o (λ (t : TargetRow). len + t.scheduled ≤ t.remaining)) (ap (get rows) (sym (eqb-true s target same)) ∙ at) fits in
+            let enough_bytes : len + x.scheduled ≤ x.remaining = subst (λ o. IfSome o (λ (t : TargetRow). len + t.scheduled ≤ t.remaining)) (ap (get rows) (sym (eqb-true s target same)) ∙ at) fits in
             subst (λ (t : TargetRow). t.scheduled ≤ t.remaining) more (omega arith)
         by false same x at other = subst (λ (t : TargetRow). t.scheduled ≤ t.remaining) other (kept.within s x at)
 

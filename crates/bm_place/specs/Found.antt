@@ -26,7 +26,7 @@ pub record IsLeastTarget (C : Cluster) (sent : ℕ → ℕ) (urgency : Level) (h
   pub choice : found ≡ least_target_by C sent urgency holders excluded len
   -- it is eligible, and no eligible one comes before it
   pub least : IsLeastOf (target_cmp C sent holders) (is_target C sent urgency holders excluded len) (keys C.storages) found
-  pub room : IfSome found (λ s. len + sent s ≤ remaining C s)
+  pub enough_bytes : IfSome found (λ s. len + sent s ≤ remaining C s)
   pub not_excluded_node : IfSome found (λ s. (b n : ℕ) → has excluded b ≡ true → node_of C b ≡ Some n → has_storage C n s ≡ false)
   pub not_draining : IfSome found (λ s. is_draining C s ≡ false)
   pub other_rack : LeavesRack C sent urgency holders excluded len found

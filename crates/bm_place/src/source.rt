@@ -30,7 +30,7 @@ pub struct SourceRow {
 /// highest level and 2 at the others; one that drains may send 4 at each.
 ///
 /// `streams` was made from the same cluster; else the answer is unspecified. Scans each usable
-/// replica once, with four look-ups. Takes no memory.
+/// replica once, with two look-ups. Takes no memory.
 pub fn least_source(
     usable: &[StorageId],
     level: Level,
@@ -68,16 +68,15 @@ fn source_at(topology: &Topology, streams: &Streams<'_>, storage: StorageId) -> 
     ensures { result ≡ sources.source_at topology.now.cluster
         (sources.streams_by topology.now.cluster (tables.count_at streams.now.counts)) storage }
 {
-    let is_drained = topology.is_draining(storage);
-    match topology.node_of(storage) {
-        Some(node) => SourceRow {
-            is_drained,
-            streams: streams.count_of(node),
-            node,
+    match topology.spot_of(storage) {
+        Some(spot) => SourceRow {
+            is_drained: spot.drains,
+            streams: streams.count_of(spot.node),
+            node: spot.node,
             storage,
         },
         None => SourceRow {
-            is_drained,
+            is_drained: false,
             streams: 0,
             node: NodeId(0),
             storage,

@@ -7,9 +7,9 @@ use Rattle.std.proofs.lemmas.List.{get_or-map, get_or_default, length-map, lengt
 use Rattle.bm_base.specs.declared.level.Level.{Level}
 use Rattle.bm_base.specs.Machine.Levels.{level_number}
 use Rattle.bm_queues.specs.declared.level_lists.Cell.{Cell}
-use Rattle.bm_queues.specs.DenseLevels.{AreDense, HaveRoom, seen, level_in, array_of, levels_in, indices_in, arrays_in}
-use Rattle.bm_queues.proofs.LevelLaws.{level_below, last-below, left-dense, more-dense, room-for-one}
-use Rattle.bm_queues.proofs.OneArray.{array-at, arrays-set, room-set}
+use Rattle.bm_queues.specs.DenseLevels.{AreDense, HaveCapacity, seen, level_in, array_of, levels_in, indices_in, arrays_in}
+use Rattle.bm_queues.proofs.LevelLaws.{level_below, last-below, left-dense, more-dense, capacity-for-one}
+use Rattle.bm_queues.proofs.OneArray.{array-at, arrays-set, capacity-set}
 
 pub long-cells : (cells : List Cell) → length (indices_in cells) ≡ length (levels_in cells)
 long-cells cells = length-map cells (λ (c : Cell). c.index) ∙ sym (length-map cells (λ (c : Cell). c.level))
@@ -106,11 +106,11 @@ module _ {Z : Type 0} (cells : List Cell) (arrays : List (Vec ℕ Z)) (are : Are
           pub seen-left : seen (levels_in after) (arrays_in (set arrays n w)) ≡ seen (set levels slot None) (set (arrays_in arrays) (level_number l) (swap_remove xs (get_or indices slot 0) slot))
           seen-left = ap (λ ls. seen ls (arrays_in (set arrays n w))) levels-now ∙ ap (seen (set levels slot None)) arrays-left
 
-          pub dense-left : HaveRoom arrays (length levels) → vec_capacity w ≡ vec_capacity v → AreDense (levels_in after) (indices_in after) (arrays_in (set arrays n w)) × HaveRoom (set arrays n w) (length (levels_in after))
-          dense-left room capacity = (
+          pub dense-left : HaveCapacity arrays (length levels) → vec_capacity w ≡ vec_capacity v → AreDense (levels_in after) (indices_in after) (arrays_in (set arrays n w)) × HaveCapacity (set arrays n w) (length (levels_in after))
+          dense-left enough capacity = (
             rw (levels-now, indices-now, arrays-left) (left-dense levels indices (arrays_in arrays) are slot l held (long-cells cells)),
             (let same : length (levels_in after) ≡ length levels = ap length levels-now ∙ length-set levels slot None in
-                rw same (room-set arrays n v (number-below arrays are.five l n number) at w (length levels) (omega (arith, capacity)) room)),
+                rw same (capacity-set arrays n v (number-below arrays are.five l n number) at w (length levels) (omega (arith, capacity)) enough)),
           )
 
   -- the slot enters a list
@@ -123,9 +123,9 @@ module _ {Z : Type 0} (cells : List Cell) (arrays : List (Vec ℕ Z)) (are : Are
 
     pub one-fits : vec_len v < length levels
     one-fits =
-        let room = room-for-one levels indices (arrays_in arrays) are slot l none below in
+        let enough = capacity-for-one levels indices (arrays_in arrays) are slot l none below in
         let len = ap length own in
-        omega (arith, room, len, v.ok.0)
+        omega (arith, enough, len, v.ok.0)
 
     module _ (o : Option Level) (some : o ≡ Some l) (w : Vec ℕ Z) (items : w.items ≡ v.items ++ slot ∷ []) (count : ℕ) (long : count ≡ vec_len v) where
       abbrev grown : List Cell
@@ -145,9 +145,9 @@ module _ {Z : Type 0} (cells : List Cell) (arrays : List (Vec ℕ Z)) (are : Are
       pub seen-more : seen (levels_in grown) (arrays_in (set arrays n w)) ≡ seen (set levels slot (Some l)) (set (arrays_in arrays) (level_number l) (ys ++ slot ∷ []))
       seen-more = ap (λ ls. seen ls (arrays_in (set arrays n w))) grown-levels ∙ ap (seen (set levels slot (Some l))) arrays-more
 
-      pub dense-more : HaveRoom arrays (length levels) → vec_capacity w ≡ vec_capacity v → AreDense (levels_in grown) (indices_in grown) (arrays_in (set arrays n w)) × HaveRoom (set arrays n w) (length (levels_in grown))
-      dense-more room capacity = (
+      pub dense-more : HaveCapacity arrays (length levels) → vec_capacity w ≡ vec_capacity v → AreDense (levels_in grown) (indices_in grown) (arrays_in (set arrays n w)) × HaveCapacity (set arrays n w) (length (levels_in grown))
+      dense-more enough capacity = (
         rw (grown-levels, grown-indices, arrays-more) (more-dense levels indices (arrays_in arrays) are slot l none below (long-cells cells)),
         (let same : length (levels_in grown) ≡ length levels = ap length grown-levels ∙ length-set levels slot (Some l) in
-            rw same (room-set arrays n v (number-below arrays are.five l n number) at w (length levels) (omega (arith, capacity)) room)),
+            rw same (capacity-set arrays n v (number-below arrays are.five l n number) at w (length levels) (omega (arith, capacity)) enough)),
       )

@@ -386,8 +386,8 @@ module _ (levels : List (Option Level)) (indices : List ℕ) (arrays : List (Lis
     levelled : (s : ℕ) (m : Level) → level_in levels s ≡ Some m → s ≢ slot
     levelled s m at e = none-some m (sym none ∙ sym (ap (level_in levels) e) ∙ at)
 
-    pub room-for-one : length ys < length levels
-    room-for-one =
+    pub capacity-for-one : length ys < length levels
+    capacity-for-one =
         let all : length (slot ∷ ys) ≤ length levels =
         length-distinct_below (length levels) (slot ∷ ys) ((λ h. levelled slot l ((array-exact l slot).0 h) refl), array-once l)
         (λ x there. elim there [

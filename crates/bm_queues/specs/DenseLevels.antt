@@ -19,8 +19,8 @@ module _ {Z : Type 0} where
   arrays_in arrays = map (λ (v : Vec ℕ Z). v.items) arrays
 
   -- each array has this capacity
-  abbrev pub HaveRoom : List (Vec ℕ Z) → ℕ → Type 0
-  HaveRoom arrays bound = All (λ (v : Vec ℕ Z). bound ≤ vec_capacity v) arrays
+  abbrev pub HaveCapacity : List (Vec ℕ Z) → ℕ → Type 0
+  HaveCapacity arrays bound = All (λ (v : Vec ℕ Z). bound ≤ vec_capacity v) arrays
 
 -- the end of an array is the front of its list
 abbrev pub seen : List (Option Level) → List (List ℕ) → Levels

@@ -24,8 +24,8 @@ abbrev pub next_of : Levels → ℕ → Option ℕ
 next_of v slot = option_and_then (λ l. slot_after slot (slots_of v l)) (level_at v slot)
 
 -- the capacity grown to n slots: new slots have no level
-abbrev pub with_room : Levels → ℕ → Levels
-with_room v room = record v { levels = v.levels ++ replicate (room - length v.levels) None }
+abbrev pub with_capacity : Levels → ℕ → Levels
+with_capacity v capacity = record v { levels = v.levels ++ replicate (capacity - length v.levels) None }
 
 -- the slots that following `next` from the first slot of a level visits
 abbrev pub visited : Levels → Level → List ℕ

@@ -7,22 +7,22 @@ use Rattle.bm_queues.specs.Links.{AreLinks, list_from, walk}
 -- the slots in order from the front, and the capacity
 pub record Members : Type 0 where
   pub slots : List ℕ
-  pub room : ℕ
+  pub capacity : ℕ
 
 -- the slots that following `next` from the first one visits
 abbrev pub visited : Members → List ℕ
 visited v = walk (λ slot. slot_after slot v.slots) (length v.slots) (first_of v.slots)
 
 -- the same members, with capacity for n slots or more
-abbrev pub with_room : Members → ℕ → Members
-with_room v room = record v { room = if nat_lt v.room room then room else v.room }
+abbrev pub with_capacity : Members → ℕ → Members
+with_capacity v capacity = record v { capacity = if nat_lt v.capacity capacity then capacity else v.capacity }
 
 -- the invariant of a set
 pub record IsLawful (v : Members) : Type 0 where
   pub distinct : Distinct v.slots
-  pub below : (slot : ℕ) → IsMember slot v.slots → slot < v.room
+  pub below : (slot : ℕ) → IsMember slot v.slots → slot < v.capacity
   -- links can name all slots below the capacity
-  pub small : v.room + 1 ≤ end_of_links
+  pub small : v.capacity + 1 ≤ end_of_links
 
 -- the representation of a set by its fields
 pub record AreMembers (k : ℕ) (next back : List (Option ℕ)) (count : ℕ) : Type 0 where

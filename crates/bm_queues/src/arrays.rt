@@ -1,7 +1,7 @@
 // The arrays of the five levels.
 ghost use Rattle.std.specs.Prelude.{◌≡◌, ◌≤◌, ℕ, [], ◌∷◌, map, length, IfOk, OnOk};
 ghost use Rattle.std.specs.List.{All};
-ghost use Rattle.bm_queues.specs.DenseLevels.{arrays_in, HaveRoom};
+ghost use Rattle.bm_queues.specs.DenseLevels.{arrays_in, HaveCapacity};
 
 use std::alloc::{AllocError, Global};
 
@@ -19,15 +19,16 @@ pub(crate) fn new_arrays(alloc: Global) -> Result<Vec<Vec<u32>>, AllocError>
 }
 
 /// Reserves capacity for a number of slots in each array.
-pub(crate) fn reserve_each(arrays: &mut Vec<Vec<u32>>, room: usize) -> Result<(), AllocError>
-    requires { All (λ array. length array ≤ room) (arrays_in arrays.old.items) }
+pub(crate) fn reserve_each(arrays: &mut Vec<Vec<u32>>, capacity: usize) -> Result<(), AllocError>
+    requires { All (λ array. length array ≤ capacity) (arrays_in arrays.old.items) }
     ensures same { arrays_in arrays.new.items ≡ arrays_in arrays.old.items }
-    ensures kept { (bound : ℕ) → HaveRoom arrays.old.items bound → HaveRoom arrays.new.items bound }
-    ensures room { OnOk result (HaveRoom arrays.new.items room) }
+    ensures kept { (bound : ℕ) → HaveCapacity arrays.old.items bound
+        → HaveCapacity arrays.new.items bound }
+    ensures capacity { OnOk result (HaveCapacity arrays.new.items capacity) }
 {
     for index in 0..arrays.len() {
         let array = &mut arrays[index];
-        array.reserve(room - array.len())?;
+        array.reserve(capacity - array.len())?;
     }
     Ok(())
 }

@@ -4,7 +4,7 @@ ghost use Rattle.std.specs.List.Sorted.{IsPermutation};
 ghost use Rattle.bm_base.specs.declared.level.Level.{Level};
 ghost use Rattle.bm_base.specs.declared.refusal.Refusal.TheVariants.{Memory};
 ghost use Rattle.bm_maps.specs.SlotLists.{IsMember, Distinct, first_of};
-ghost use Rattle.bm_queues.specs.Levels.{level_at, slots_of, next_of, with_room, visited, IsLawful};
+ghost use Rattle.bm_queues.specs.Levels.{level_at, slots_of, next_of, with_capacity, visited, IsLawful};
 ghost use Rattle.bm_queues.specs.Walks.{slots_from, IsOn, IsPast, GoesOn};
 
 use crate::arrays::{new_arrays, reserve_each};
@@ -39,14 +39,15 @@ pub struct LevelLists {
 impl Model for LevelLists {
     ghost use Rattle.std.specs.Prelude.{length};
     ghost use Rattle.bm_queues.specs.Levels.{Levels};
-    ghost use Rattle.bm_queues.specs.DenseLevels.{levels_in, indices_in, arrays_in, seen, AreDense, HaveRoom};
+    ghost use Rattle.bm_queues.specs.DenseLevels.{levels_in, indices_in, arrays_in, seen, AreDense, HaveCapacity};
 
     ghost Value = { Levels };
 
     ghost view = { λ a. seen (levels_in a.cells.items) (arrays_in a.arrays.items) };
 
     ghost invariant = { λ a. AreDense (levels_in a.cells.items) (indices_in a.cells.items)
-        (arrays_in a.arrays.items) × HaveRoom a.arrays.items (length (levels_in a.cells.items)) };
+        (arrays_in a.arrays.items)
+        × HaveCapacity a.arrays.items (length (levels_in a.cells.items)) };
 }
 
 impl LevelLists {
@@ -77,37 +78,37 @@ impl LevelLists {
     }
 
     /// The capacity in slots: the condition of the calls on a slot.
-    pub fn room(&self) -> usize
+    pub fn capacity(&self) -> usize
         ensures { result ≡ length self.now.levels }
     {
         self.cells.len()
     }
 
-    /// Grows the capacity to the slots below `room`; new slots have no level. If the capacity is
+    /// Grows the capacity to the slots below `bound`; new slots have no level. If the capacity is
     /// sufficient already, nothing changes. May answer `Memory`, also if 32 bits could not name all
     /// slots; capacity that the arrays gained is kept then.
-    pub fn grow_to(&mut self, room: usize) -> Result<(), Refusal>
-        ensures after { OnOk result (self.new ≡ with_room self.old room) }
-        ensures room { OnOk result (room ≤ length self.new.levels) }
+    pub fn grow_to(&mut self, bound: usize) -> Result<(), Refusal>
+        ensures after { OnOk result (self.new ≡ with_capacity self.old bound) }
+        ensures capacity { OnOk result (bound ≤ length self.new.levels) }
         ensures levels { (slot : ℕ) → level_at self.new slot ≡ level_at self.old slot }
         ensures lists { self.new.lists ≡ self.old.lists }
-        ensures there { room ≤ length self.old.levels → IsOk result }
+        ensures there { bound ≤ length self.old.levels → IsOk result }
         ensures refused { IfErr result (λ e. e ≡ Memory) }
         ensures unchanged { OnErr result (self.new ≡ self.old) }
         ensures lawful { IsLawful self.new }
     {
-        if room <= self.cells.len() {
+        if bound <= self.cells.len() {
             return Ok(());
         }
-        if !fits_link(room) {
+        if !fits_link(bound) {
             return Err(Refusal::Memory);
         }
-        reserve_each(&mut self.arrays, room)?;
+        reserve_each(&mut self.arrays, bound)?;
         let empty = Cell {
             level: no_level(),
             index: 0,
         };
-        self.cells.resize(room, empty)?;
+        self.cells.resize(bound, empty)?;
         Ok(())
     }
 
@@ -121,7 +122,7 @@ impl LevelLists {
             → slots_of self.new l ≡ slot ∷ slots_of self.old l }
         ensures left { (l : Level) → level_at self.old slot ≡ Some l → level ≢ Some l
             → IsPermutation (slots_of self.old l) (slot ∷ slots_of self.new l) }
-        ensures room { length self.new.levels ≡ length self.old.levels }
+        ensures capacity { length self.new.levels ≡ length self.old.levels }
         ensures levels { (other : ℕ)
             → level_at self.new other ≡ (if other == slot then level else level_at self.old other) }
         ensures others { (l : Level) → Some l ≢ level → Some l ≢ level_at self.old slot
@@ -146,7 +147,7 @@ impl LevelLists {
         requires { slot < length self.old.levels }
         ensures left { (l : Level) → level_at self.old slot ≡ Some l
             → IsPermutation (slots_of self.old l) (slot ∷ slots_of self.new l) }
-        ensures room { length self.new.levels ≡ length self.old.levels }
+        ensures capacity { length self.new.levels ≡ length self.old.levels }
         ensures levels { (other : ℕ)
             → level_at self.new other ≡ (if other == slot then None else level_at self.old other) }
         ensures others { (l : Level) → Some l ≢ level_at self.old slot
@@ -172,7 +173,7 @@ impl LevelLists {
         requires inside { slot < length self.old.levels }
         requires absent { level_at self.old slot ≡ None }
         ensures front { slots_of self.new level ≡ slot ∷ slots_of self.old level }
-        ensures room { length self.new.levels ≡ length self.old.levels }
+        ensures capacity { length self.new.levels ≡ length self.old.levels }
         ensures levels { (other : ℕ)
             → level_at self.new other ≡ (if other == slot then Some level else level_at self.old other) }
         ensures others { (l : Level) → l ≢ level → slots_of self.new l ≡ slots_of self.old l }

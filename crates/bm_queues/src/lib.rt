@@ -1,9 +1,9 @@
 //! Lists over slots: for each level the list of its slots, and sets of slots.
 //!
 //! The list of a level is an array, whose end is the front. A set is a doubly linked list through
-//! arrays by slot. Both may be changed behind a caller that iterates over them. Each change is a
-//! constant number of steps and takes no memory. A caller that reads the slots of a level, or of a
-//! set, reads no other slot.
+//! arrays by slot. A caller that iterates over either may change it at slots that it has visited.
+//! Each change is a constant number of steps and takes no memory. A caller that reads the slots of
+//! a level, or of a set, reads no other slot.
 #![tactic(auto)]
 
 mod arrays;

@@ -3,7 +3,7 @@ ghost use Rattle.std.specs.Prelude.{◌≡◌, ◌<◌, ◌≤◌, ℕ, ◌∷�
 ghost use Rattle.bm_maps.specs.SlotLinks.{end_of_links};
 ghost use Rattle.bm_maps.specs.SlotLists.{IsMember, without, first_of, slot_after};
 ghost use Rattle.bm_queues.specs.Links.{back_set};
-ghost use Rattle.bm_queues.specs.Linked.{room_of, list_of, AreLinked};
+ghost use Rattle.bm_queues.specs.Linked.{capacity_of, list_of, AreLinked};
 
 use crate::walk::Walk;
 use bm_maps::{END_OF_LINKS, NO_LINK, SlotLink};
@@ -35,11 +35,11 @@ fn set_previous(previous: &mut Vec<SlotLink>, at: SlotLink, to: SlotLink)
 
 // Whether links can name all cells of this many heads and slots. If not, the call is out of memory
 // without a refused growth.
-fn fits_links(heads: usize, room: usize) -> bool
+fn fits_links(heads: usize, bound: usize) -> bool
     requires { heads ≤ end_of_links }
-    ensures { IsTrue result ↔ (heads + room ≤ end_of_links) }
+    ensures { IsTrue result ↔ (heads + bound ≤ end_of_links) }
 {
-    room <= END_OF_LINKS as usize - heads
+    bound <= END_OF_LINKS as usize - heads
 }
 
 impl SlotLists {
@@ -47,7 +47,7 @@ impl SlotLists {
     pub(crate) fn new(alloc: Global, heads: usize) -> Result<SlotLists, AllocError>
         requires { heads < end_of_links }
         ensures heads { IfOk result (λ q. q.heads ≡ heads) }
-        ensures room { IfOk result (λ q. room_of q ≡ 0) }
+        ensures capacity { IfOk result (λ q. capacity_of q ≡ 0) }
         ensures lawful { IfOk result (λ q. AreLinked q) }
     {
         let mut next = Vec::new(alloc);
@@ -60,41 +60,41 @@ impl SlotLists {
     }
 
     /// The capacity in slots.
-    pub(crate) fn room(&self) -> usize
-        ensures { result ≡ room_of self.now }
+    pub(crate) fn capacity(&self) -> usize
+        ensures { result ≡ capacity_of self.now }
     {
         self.previous.len()
     }
 
-    /// Grows the capacity to the slots below `room`.
-    pub(crate) fn grow_to(&mut self, room: usize) -> Result<(), AllocError>
+    /// Grows the capacity to the slots below `bound`.
+    pub(crate) fn grow_to(&mut self, bound: usize) -> Result<(), AllocError>
         requires lawful { AreLinked self.old }
         ensures heads { self.new.heads ≡ self.old.heads }
-        ensures room { OnOk result (room_of self.new
-            ≡ (if nat_lt (room_of self.old) room then room else room_of self.old)) }
-        ensures enough { OnOk result (room ≤ room_of self.new) }
-        ensures kept { room_of self.old ≤ room_of self.new }
-        ensures refused { OnErr result (room_of self.new ≡ room_of self.old) }
-        ensures succeeds { room ≤ room_of self.old → IsOk result }
+        ensures capacity { OnOk result (capacity_of self.new
+            ≡ (if nat_lt (capacity_of self.old) bound then bound else capacity_of self.old)) }
+        ensures enough { OnOk result (bound ≤ capacity_of self.new) }
+        ensures kept { capacity_of self.old ≤ capacity_of self.new }
+        ensures refused { OnErr result (capacity_of self.new ≡ capacity_of self.old) }
+        ensures succeeds { bound ≤ capacity_of self.old → IsOk result }
         ensures lists { (l : ℕ) → l < self.old.heads → list_of self.new l ≡ list_of self.old l }
         ensures lawful { AreLinked self.new }
     {
-        if room <= self.previous.len() {
+        if bound <= self.previous.len() {
             return Ok(());
         }
-        if !fits_links(self.heads, room) {
+        if !fits_links(self.heads, bound) {
             return Err(AllocError);
         }
-        self.next.resize(self.heads + room, NO_LINK)?;
-        self.previous.resize(room, NO_LINK)
+        self.next.resize(self.heads + bound, NO_LINK)?;
+        self.previous.resize(bound, NO_LINK)
     }
 
     /// Takes a slot out of its list, if it is in one.
     pub(crate) fn unlink(&mut self, slot: usize)
         requires lawful { AreLinked self.old }
-        requires slot { slot < room_of self.old }
+        requires slot { slot < capacity_of self.old }
         ensures heads { self.new.heads ≡ self.old.heads }
-        ensures room { room_of self.new ≡ room_of self.old }
+        ensures capacity { capacity_of self.new ≡ capacity_of self.old }
         ensures lists { (l : ℕ) → l < self.old.heads
             → list_of self.new l ≡ without slot (list_of self.old l) }
         ensures lawful { AreLinked self.new }
@@ -113,10 +113,10 @@ impl SlotLists {
     pub(crate) fn link_front(&mut self, list: usize, slot: usize)
         requires lawful { AreLinked self.old }
         requires list { list < self.old.heads }
-        requires slot { slot < room_of self.old }
+        requires slot { slot < capacity_of self.old }
         requires absent { (l : ℕ) → l < self.old.heads → IsMember slot (list_of self.old l) → ⊥ }
         ensures heads { self.new.heads ≡ self.old.heads }
-        ensures room { room_of self.new ≡ room_of self.old }
+        ensures capacity { capacity_of self.new ≡ capacity_of self.old }
         ensures lists { (l : ℕ) → l < self.old.heads
             → list_of self.new l ≡ (if l == list then slot ∷ list_of self.old l
             else list_of self.old l) }
@@ -142,7 +142,7 @@ impl SlotLists {
     /// The next slot in a slot's list; none after the last one, and if the slot is in no list.
     pub(crate) fn next(&self, slot: usize) -> Option<usize>
         requires lawful { AreLinked self.now }
-        requires slot { slot < room_of self.now }
+        requires slot { slot < capacity_of self.now }
         ensures listed { (l : ℕ) → l < self.now.heads → IsMember slot (list_of self.now l)
             → result ≡ slot_after slot (list_of self.now l) }
         ensures absent { ((l : ℕ) → l < self.now.heads → IsMember slot (list_of self.now l) → ⊥)
@@ -154,7 +154,7 @@ impl SlotLists {
     /// Whether a slot is in a list.
     pub(crate) fn is_listed(&self, slot: usize) -> bool
         requires lawful { AreLinked self.now }
-        requires slot { slot < room_of self.now }
+        requires slot { slot < capacity_of self.now }
         ensures listed { IsTrue result
             → (l : ℕ) × (l < self.now.heads) × IsMember slot (list_of self.now l) }
         ensures found { (l : ℕ) → l < self.now.heads → IsMember slot (list_of self.now l)

@@ -2,7 +2,7 @@
 ghost use Rattle.std.specs.Prelude.{◌≡◌, ◌≢◌, ℕ, ◌<◌, ◌≤◌, IsTrue, ◌↔◌, [], ◌∷◌, length, Option, Some, IfOk, IfErr, OnOk, OnErr, IsOk};
 ghost use Rattle.bm_base.specs.declared.refusal.Refusal.TheVariants.{Memory};
 ghost use Rattle.bm_maps.specs.SlotLists.{IsMember, without, first_of, slot_after};
-ghost use Rattle.bm_queues.specs.Members.{with_room, visited, IsLawful};
+ghost use Rattle.bm_queues.specs.Members.{with_capacity, visited, IsLawful};
 ghost use Rattle.bm_queues.specs.Walks.{slots_from, IsOn, IsPast};
 
 use crate::slot_lists::SlotLists;
@@ -31,7 +31,7 @@ impl Model for SlotSet {
 
     ghost view = { λ a. record {
       slots = list_from a.lists.heads a.lists.next.items a.lists.previous.items 0;
-      room = length a.lists.previous.items;
+      capacity = length a.lists.previous.items;
     } };
 
     ghost invariant = { λ a. AreMembers a.lists.heads a.lists.next.items a.lists.previous.items
@@ -42,7 +42,7 @@ impl SlotSet {
     /// No slot, and no capacity. May answer `Memory`.
     pub fn new(alloc: Global) -> Result<SlotSet, Refusal>
         ensures slots { IfOk result (λ a. a.slots ≡ []) }
-        ensures room { IfOk result (λ a. a.room ≡ 0) }
+        ensures capacity { IfOk result (λ a. a.capacity ≡ 0) }
         ensures refused { IfErr result (λ e. e ≡ Memory) }
     {
         let lists = SlotLists::new(alloc, 1)?;
@@ -59,36 +59,36 @@ impl SlotSet {
     }
 
     /// The capacity in slots: the condition of the calls on a slot.
-    pub fn room(&self) -> usize
-        ensures { result ≡ self.now.room }
+    pub fn capacity(&self) -> usize
+        ensures { result ≡ self.now.capacity }
     {
-        self.lists.room()
+        self.lists.capacity()
     }
 
-    /// Grows the capacity to the slots below `room`. If it is sufficient already, nothing changes.
+    /// Grows the capacity to the slots below `bound`. If it is sufficient already, nothing changes.
     /// May answer `Memory`, also if a link of 32 bits could not name all slots.
-    pub fn grow_to(&mut self, room: usize) -> Result<(), Refusal>
-        ensures after { OnOk result (self.new ≡ with_room self.old room) }
+    pub fn grow_to(&mut self, bound: usize) -> Result<(), Refusal>
+        ensures after { OnOk result (self.new ≡ with_capacity self.old bound) }
         ensures slots { self.new.slots ≡ self.old.slots }
-        ensures room { OnOk result (room ≤ self.new.room) }
-        ensures there { room ≤ self.old.room → IsOk result }
+        ensures capacity { OnOk result (bound ≤ self.new.capacity) }
+        ensures there { bound ≤ self.old.capacity → IsOk result }
         ensures refused { IfErr result (λ e. e ≡ Memory) }
         ensures unchanged { OnErr result (self.new ≡ self.old) }
     {
-        self.lists.grow_to(room)?;
+        self.lists.grow_to(bound)?;
         Ok(())
     }
 
     /// Puts a slot at the front; nothing changes if it is in the set already. Takes no memory.
     pub fn insert(&mut self, slot: usize)
-        requires { slot < self.old.room }
+        requires { slot < self.old.capacity }
         ensures same { IsMember slot self.old.slots → self.new ≡ self.old }
         ensures after { (IsMember slot self.old.slots → ⊥)
             → self.new ≡ record self.old { slots = slot ∷ self.old.slots } }
         ensures held { IsMember slot self.new.slots }
         ensures others { (other : ℕ) → other ≢ slot
             → (IsMember other self.new.slots ↔ IsMember other self.old.slots) }
-        ensures room { self.new.room ≡ self.old.room }
+        ensures capacity { self.new.capacity ≡ self.old.capacity }
         ensures rest { (at : Option ℕ) → IsPast slot at self.old.slots
             → slots_from self.new.slots at ≡ slots_from self.old.slots at }
         ensures on { (at : Option ℕ) → IsPast slot at self.old.slots → IsOn at self.old.slots
@@ -103,10 +103,10 @@ impl SlotSet {
 
     /// Takes a slot out, if it is in the set. Takes no memory.
     pub fn remove(&mut self, slot: usize)
-        requires { slot < self.old.room }
+        requires { slot < self.old.capacity }
         ensures after { self.new ≡ record self.old { slots = without slot self.old.slots } }
         ensures gone { IsMember slot self.new.slots → ⊥ }
-        ensures room { self.new.room ≡ self.old.room }
+        ensures capacity { self.new.capacity ≡ self.old.capacity }
         ensures others { (other : ℕ) → other ≢ slot
             → (IsMember other self.new.slots ↔ IsMember other self.old.slots) }
         ensures rest { (at : Option ℕ) → IsPast slot at self.old.slots
@@ -122,7 +122,7 @@ impl SlotSet {
 
     /// Whether a slot is in the set.
     pub fn contains(&self, slot: usize) -> bool
-        requires { slot < self.now.room }
+        requires { slot < self.now.capacity }
         ensures { IsTrue result ↔ IsMember slot self.now.slots }
     {
         self.lists.is_listed(slot)
@@ -131,7 +131,7 @@ impl SlotSet {
     /// The number of slots in the set.
     pub fn len(&self) -> usize
         ensures count { result ≡ length self.now.slots }
-        ensures few { result ≤ self.now.room }
+        ensures few { result ≤ self.now.capacity }
     {
         self.count
     }
@@ -149,7 +149,7 @@ impl SlotSet {
     /// caller that iterates may remove the slot that it has left, or insert it again: the slots
     /// still to come stay the same.
     pub fn next(&self, slot: usize) -> Option<usize>
-        requires { slot < self.now.room }
+        requires { slot < self.now.capacity }
         ensures slot { result ≡ slot_after slot self.now.slots }
         ensures on { IsOn result self.now.slots }
         ensures rest { IsMember slot self.now.slots

@@ -27,7 +27,7 @@ impl<'a> Model for Walk<'a> {
 }
 
 // The link of a slot: none past the last slot.
-fn behind(links: &[SlotLink], slot: usize) -> SlotLink
+fn next_link(links: &[SlotLink], slot: usize) -> SlotLink
     ensures { result ≡ link_at links.now slot }
 {
     if slot < links.len() {
@@ -50,7 +50,7 @@ impl<'a> Iterator for Walk<'a> {
             return None;
         }
         self.left -= 1;
-        self.next = behind(self.links, slot);
+        self.next = next_link(self.links, slot);
         Some(slot)
     }
 }

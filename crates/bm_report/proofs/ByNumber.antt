@@ -18,7 +18,7 @@ use Rattle.bm_report.specs.declared.report_counts.ReportCounts.{ReportCounts}
 use Rattle.bm_report.specs.DuringReport.{AreAtSlots, HaveCapacity, IsEntered, IsCounted, FitsCounters, DropsInvalidExcess, reported_of, slot_in}
 use Rattle.bm_report.specs.Ready.{named_in, named_of, HasSlotFor, CanBeAdded}
 use Rattle.bm_report.specs.Expanded.{reported_to_part}
-use Rattle.bm_report.proofs.PartialReport.{IsUnderway, underway-first, underway-next, underway-last, here-part, here-rest, room-part}
+use Rattle.bm_report.proofs.PartialReport.{IsUnderway, underway-first, underway-next, underway-last, here-part, here-rest, capacity-part}
 use Rattle.bm_report.proofs.InvalidExcess.{drops-join, drops-same, here-ids}
 
 abbrev named_by_ids : List ReportedBlock → List (ℕ × ℕ) → List ReportedSlot
@@ -35,9 +35,9 @@ is_at : (P : ℕ → Type 0) (o : Option ℕ) → IsSomeAnd o P → o ≡ Some (
 is_at P None h = absurd h
 is_at P (Some x) h = refl
 
-room_at : (P : ℕ → Type 0) (o : Option ℕ) → IsSomeAnd o P → P (unwrap_or o 0)
-room_at P None h = absurd h
-room_at P (Some x) h = h
+holds_at : (P : ℕ → Type 0) (o : Option ℕ) → IsSomeAnd o P → P (unwrap_or o 0)
+holds_at P None h = absurd h
+holds_at P (Some x) h = h
 
 pub first_named : (t : ReportedBlock) (ts : List ReportedBlock) → IsTrue (is_named (t ∷ ts) t.id)
 unfolding is_named
@@ -55,10 +55,10 @@ pub here_of : (a : Contents) (s : ℕ) (ts : List ReportedBlock) → ((b : ℕ) 
 here_of a s [] places = tt
 here_of a s (t ∷ ts) places = (is_at (λ slot. marks_at a slot s ≡ None → HasCapacity a slot) (slot_of a t.id) (places t.id (first_named t ts)), here_of a s ts (λ b h. places b (then_named t ts b h)))
 
-pub room_of : (a : Contents) (s : ℕ) (ts : List ReportedBlock) → ((b : ℕ) → IsTrue (is_named ts b) → HasSlotFor a s b) → HaveCapacity a s (named_of a ts)
-room_of a s [] places = tt
-room_of a s (t ∷ ts) places =
-    (room_at (λ slot. marks_at a slot s ≡ None → HasCapacity a slot) (slot_of a t.id) (places t.id (first_named t ts)), room_of a s ts (λ b h. places b (then_named t ts b h)))
+pub capacity_for_named : (a : Contents) (s : ℕ) (ts : List ReportedBlock) → ((b : ℕ) → IsTrue (is_named ts b) → HasSlotFor a s b) → HaveCapacity a s (named_of a ts)
+capacity_for_named a s [] places = tt
+capacity_for_named a s (t ∷ ts) places =
+    (holds_at (λ slot. marks_at a slot s ≡ None → HasCapacity a slot) (slot_of a t.id) (places t.id (first_named t ts)), capacity_for_named a s ts (λ b h. places b (then_named t ts b h)))
 
 pub reported_back : (a : Contents) (ts : List ReportedBlock) → map reported_of (named_of a ts) ≡ ts
 reported_back a [] = refl
@@ -94,7 +94,7 @@ module _ (C : Cluster) (s : ℕ) (all : List ReportedBlock) (first : Contents) (
   pub left-first : CanBeAdded C s all first t → IsLeft all first t
   left-first can =
       let P : ℕ → Type 0 = λ n. FitsCounters t n in
-      (refl, underway-first C s (named_of first all) first t can.here can.room can.once can.head (subst P (sym (length-map all (named_in first))) can.small))
+      (refl, underway-first C s (named_of first all) first t can.here can.capacity can.once can.head (subst P (sym (length-map all (named_in first))) can.small))
 
   pub left-can : (xs ys : List ReportedBlock) (now : Contents) (u : ReportCounts) → IsLeft (xs ++ ys) now u → CanBeAdded C s xs now u
   left-can xs ys now u f =
@@ -105,7 +105,7 @@ module _ (C : Cluster) (s : ℕ) (all : List ReportedBlock) (first : Contents) (
       let m = length-append xs ys in
       record {
         here = subst H (sym same) (here-part now (named_of first xs) (named_of first ys) (subst H (split first xs ys) f.1.here));
-        room = subst R (sym same) (room-part now s (named_of first xs) (named_of first ys) (subst R (split first xs ys) f.1.room));
+        capacity = subst R (sym same) (capacity-part now s (named_of first xs) (named_of first ys) (subst R (split first xs ys) f.1.capacity));
         head = f.1.head;
         once = f.1.once;
         small = record {

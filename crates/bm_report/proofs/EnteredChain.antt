@@ -190,6 +190,6 @@ pub here-framed : (s : ℕ) (a b : Contents) (ns : List ReportedSlot) → KeepsR
 here-framed s a b [] f h = tt
 here-framed s a b (n ∷ ns) f h = (ap (λ l. lookup (nat_eq n.id) l) f.ids ∙ h.0, here-framed s a b ns f h.1)
 
-pub room-framed : (s : ℕ) (a b : Contents) (ns : List ReportedSlot) → KeepsRest s a b → HaveCapacity a s ns → HaveCapacity b s ns
-room-framed s a b [] f h = tt
-room-framed s a b (n ∷ ns) f h = (λ none. f.room n.slot none (h.0 (f.absent n.slot none)), room-framed s a b ns f h.1)
+pub capacity-framed : (s : ℕ) (a b : Contents) (ns : List ReportedSlot) → KeepsRest s a b → HaveCapacity a s ns → HaveCapacity b s ns
+capacity-framed s a b [] f h = tt
+capacity-framed s a b (n ∷ ns) f h = (λ none. f.capacity n.slot none (h.0 (f.absent n.slot none)), capacity-framed s a b ns f h.1)

@@ -12,14 +12,14 @@ use Rattle.bm_report.specs.declared.types.ReportedSlot.{ReportedSlot}
 use Rattle.bm_report.specs.declared.report_counts.ReportCounts.{ReportCounts}
 use Rattle.bm_arena.specs.HeldMaps.{replicas_of, blocks_of}
 use Rattle.bm_report.specs.DuringReport.{AreAtSlots, HaveCapacity, IsOncePerNode, IsEntered, IsCounted, IsListed, FitsCounters}
-use Rattle.bm_report.proofs.EnteredChain.{entered-none, counted-none, entered-append, counted-append, here-framed, room-framed}
+use Rattle.bm_report.proofs.EnteredChain.{entered-none, counted-none, entered-append, counted-append, here-framed, capacity-framed}
 use Rattle.bm_report.proofs.OncePerNode.{once-entered_all}
 
 -- Some of the named blocks are entered, and `rest` are still to be: the conditions for entering
 -- these, and the final result.
 pub record IsUnderway (C : Cluster) (s : ℕ) (all rest : List ReportedSlot) (first now : Contents) (t u : ReportCounts) : Type 0 where
   pub here : AreAtSlots now rest
-  pub room : HaveCapacity now s rest
+  pub capacity : HaveCapacity now s rest
   pub once : IsOncePerNode C (replicas_of now)
   pub head : HasHead now s
   pub small : FitsCounters u (length rest)
@@ -82,9 +82,9 @@ small-next C s k xs a b t u f h = record {
 
 pub underway-first : (C : Cluster) (s : ℕ) (all : List ReportedSlot) (a : Contents) (t : ReportCounts) → AreAtSlots a all → HaveCapacity a s all → IsOncePerNode C (replicas_of a) → HasHead a s → FitsCounters t (length all)
     → IsUnderway C s all all a a t t
-underway-first C s all a t here room once head small = record {
+underway-first C s all a t here capacity once head small = record {
   here = here;
-  room = room;
+  capacity = capacity;
   once = once;
   head = head;
   small = small;
@@ -96,17 +96,17 @@ pub here-rest : (a : Contents) (xs ys : List ReportedSlot) → AreAtSlots a (xs 
 here-rest a [] ys h = h
 here-rest a (x ∷ xs) ys h = here-rest a xs ys h.1
 
-room-rest : (a : Contents) (s : ℕ) (xs ys : List ReportedSlot) → HaveCapacity a s (xs ++ ys) → HaveCapacity a s ys
-room-rest a s [] ys h = h
-room-rest a s (x ∷ xs) ys h = room-rest a s xs ys h.1
+capacity-rest : (a : Contents) (s : ℕ) (xs ys : List ReportedSlot) → HaveCapacity a s (xs ++ ys) → HaveCapacity a s ys
+capacity-rest a s [] ys h = h
+capacity-rest a s (x ∷ xs) ys h = capacity-rest a s xs ys h.1
 
 pub here-part : (a : Contents) (xs ys : List ReportedSlot) → AreAtSlots a (xs ++ ys) → AreAtSlots a xs
 here-part a [] ys h = tt
 here-part a (x ∷ xs) ys h = (h.0, here-part a xs ys h.1)
 
-pub room-part : (a : Contents) (s : ℕ) (xs ys : List ReportedSlot) → HaveCapacity a s (xs ++ ys) → HaveCapacity a s xs
-room-part a s [] ys h = tt
-room-part a s (x ∷ xs) ys h = (h.0, room-part a s xs ys h.1)
+pub capacity-part : (a : Contents) (s : ℕ) (xs ys : List ReportedSlot) → HaveCapacity a s (xs ++ ys) → HaveCapacity a s xs
+capacity-part a s [] ys h = tt
+capacity-part a s (x ∷ xs) ys h = (h.0, capacity-part a s xs ys h.1)
 
 pub underway-next : (C : Cluster) (s : ℕ) (all xs rest : List ReportedSlot) (first now next : Contents) (t u v : ReportCounts)
     → IsUnderway C s all (xs ++ rest) first now t u → IsEntered C s xs now next → IsCounted C s xs now next u v → IsUnderway C s all rest first next t v
@@ -115,7 +115,7 @@ underway-next C s all xs rest first now next t u v f e k =
     let Q : _ → Type 0 = λ K. IsOncePerNode C K in
     record {
       here = here-framed s now next rest e.frame (here-rest now xs rest f.here);
-      room = room-framed s now next rest e.frame (room-rest now s xs rest f.room);
+      capacity = capacity-framed s now next rest e.frame (capacity-rest now s xs rest f.capacity);
       once = subst Q (sym e.replicas) (once-entered_all C (blocks_of now) s xs (replicas_of now) f.once);
       head = e.frame.heads s f.head;
       small = small-next C s (length rest) xs now next u v k (subst P (length-append xs rest) f.small);

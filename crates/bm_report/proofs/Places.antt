@@ -25,11 +25,11 @@ list_within a s lawful = length-distinct_below a.bound (list_of a s) (lawful.dis
 -- each number that was looked up has its entry
 pub places_of : (a : Contents) (s : ℕ) (ns : List ReportedSlot) → AreAtSlots a ns → HaveCapacity a s ns → (b : ℕ) → IsTrue (is_named (map reported_of ns) b) → HasSlotFor a s b
 unfolding is_named
-places_of a s [] here room b named = absurd (false≢true named)
-places_of a s (n ∷ ns) here room b named = by (n.id == b) refl named (places_of a s ns here.1 room.1 b)
+places_of a s [] here capacity b named = absurd (false≢true named)
+places_of a s (n ∷ ns) here capacity b named = by (n.id == b) refl named (places_of a s ns here.1 capacity.1 b)
   where
     by : (t : Bool) → (n.id == b) ≡ t → IsTrue (t || is_named (map reported_of ns) b) → (IsTrue (is_named (map reported_of ns) b) → HasSlotFor a s b) → HasSlotFor a s b
     by true same named later =
         let P : Option ℕ → Type 0 = λ o. IsSomeAnd o (λ slot. marks_at a slot s ≡ None → HasCapacity a slot) in
-        subst P (sym here.0 ∙ ap (slot_of a) (eqb-true n.id b same)) room.0
+        subst P (sym here.0 ∙ ap (slot_of a) (eqb-true n.id b same)) capacity.0
     by false differs named later = later named

@@ -6,8 +6,8 @@ use Rattle.std.specs.Map.{lookup}
 use Rattle.std.proofs.lemmas.Bool.{cases_eq, false≢true}
 use Rattle.std.proofs.lemmas.Option.{none-some}
 use Rattle.bm_arena.specs.Triplets.{Block, change_block}
-use Rattle.bm_arena.specs.Contents.{Contents, block_at, slot_of, marks_at, find_marks, room_at, with_room, HasCapacity, IsAdded, IsReserved, IsLawful}
-use Rattle.bm_arena.proofs.MoreCapacity.{room-here, room-elsewhere, room-blind, room-marks}
+use Rattle.bm_arena.specs.Contents.{Contents, block_at, slot_of, marks_at, find_marks, entry_capacity, with_entry_capacity, HasCapacity, IsAdded, IsReserved, IsLawful}
+use Rattle.bm_arena.proofs.MoreCapacity.{capacity-here, capacity-elsewhere, capacity-blind, capacity-marks}
 use Rattle.bm_report.specs.declared.types.ReportedSlot.{ReportedSlot}
 use Rattle.bm_arena.specs.HeldMaps.{info_at}
 use Rattle.bm_report.specs.DuringReport.{AreAtSlots, HaveCapacity}
@@ -16,8 +16,8 @@ use Rattle.bm_arena.proofs.HeldReplicas.{same_replicas, same_blocks, under}
 use Rattle.bm_arena.proofs.SetInfo.{added-held, added-same, added-replicas, added-blocks}
 
 -- a block with its own capacity is the same block
-kept_room : (c : Contents) (x : ℕ) (b : Block) → block_at c x ≡ Some b → block_at c x ≡ Some (with_room (room_at c x) b)
-kept_room c x b e = let r : b.room ≡ room_at c x = sym (ap (λ o. option_map_or (λ (k : Block). k.room) o 0) e) in e ∙ (λ i. Some (with_room (r i) b))
+kept_capacity : (c : Contents) (x : ℕ) (b : Block) → block_at c x ≡ Some b → block_at c x ≡ Some (with_entry_capacity (entry_capacity c x) b)
+kept_capacity c x b e = let r : b.capacity ≡ entry_capacity c x = sym (ap (λ o. option_map_or (λ (k : Block). k.capacity) o 0) e) in e ∙ (λ i. Some (with_entry_capacity (r i) b))
 
 pub prepared-none : (a : Contents) → IsPrepared a a
 prepared-none a = record {
@@ -30,8 +30,8 @@ prepared-none a = record {
   slots = λ b x h. h;
   held = λ x h. h;
   marks = λ x t h. refl;
-  room = λ x p h. h;
-  entries = kept_room a;
+  capacity = λ x p h. h;
+  entries = kept_capacity a;
   grows = λ x. omega arith;
   bound = omega arith;
 }
@@ -47,27 +47,27 @@ prepared-chain a b c f g = record {
   slots = λ k x h. g.slots k x (f.slots k x h);
   held = λ x h. g.held x (f.held x h);
   marks = λ x t h. g.marks x t (f.held x h) ∙ f.marks x t h;
-  room = λ x p h. g.room x (λ e. p (e ∙ f.delimiter)) (f.room x p h);
-  entries = λ x k e. g.entries x (with_room (room_at b x) k) (f.entries x k e);
+  capacity = λ x p h. g.capacity x (λ e. p (e ∙ f.delimiter)) (f.capacity x p h);
+  entries = λ x k e. g.entries x (with_entry_capacity (entry_capacity b x) k) (f.entries x k e);
   grows = λ x. let p = f.grows x in let q = g.grows x in omega (arith, p, q);
   bound = omega (arith, f.bound, g.bound);
 }
 
 -- a slot gets more capacity
-module _ (a c : Contents) (slot room : ℕ) (is : c ≡ record a { blocks = change_block (with_room room) a.blocks slot }) (grows : room_at a slot ≤ room) where
-  abbrev roomy : Contents
-  roomy = record a { blocks = change_block (with_room room) a.blocks slot }
+module _ (a c : Contents) (slot capacity : ℕ) (is : c ≡ record a { blocks = change_block (with_entry_capacity capacity) a.blocks slot }) (grows : entry_capacity a slot ≤ capacity) where
+  abbrev enlarged : Contents
+  enlarged = record a { blocks = change_block (with_entry_capacity capacity) a.blocks slot }
 
-  roomy_here : block_at roomy slot ≡ option_map (with_room room) (block_at a slot)
-  roomy_here = room-here a slot room
+  enlarged_here : block_at enlarged slot ≡ option_map (with_entry_capacity capacity) (block_at a slot)
+  enlarged_here = capacity-here a slot capacity
 
-  roomy_other : (x : ℕ) → x ≢ slot → block_at roomy x ≡ block_at a x
-  roomy_other = room-elsewhere a slot room
+  enlarged_other : (x : ℕ) → x ≢ slot → block_at enlarged x ≡ block_at a x
+  enlarged_other = capacity-elsewhere a slot capacity
 
-  prepared_roomy : IsPrepared a roomy
-  prepared_roomy = record {
-    replicas = same_replicas a roomy (λ q. under (λ k. marks_at roomy k q.storage) (λ k. marks_at a k q.storage) (slot_of a q.block) (λ x. room-marks a slot room x q.storage));
-    blocks = same_blocks a roomy (λ b. under (λ k. info_at roomy k) (λ k. info_at a k) (slot_of a b) (λ x. room-blind a slot room (λ (k : Block). k.info) (λ k. refl) x));
+  prepared_enlarged : IsPrepared a enlarged
+  prepared_enlarged = record {
+    replicas = same_replicas a enlarged (λ q. under (λ k. marks_at enlarged k q.storage) (λ k. marks_at a k q.storage) (slot_of a q.block) (λ x. capacity-marks a slot capacity x q.storage));
+    blocks = same_blocks a enlarged (λ b. under (λ k. info_at enlarged k) (λ k. info_at a k) (slot_of a b) (λ x. capacity-blind a slot capacity (λ (k : Block). k.info) (λ k. refl) x));
     lists = λ t. refl;
     heads = λ t h. h;
     delimiter = refl;
@@ -77,50 +77,50 @@ module _ (a c : Contents) (slot room : ℕ) (is : c ≡ record a { blocks = chan
       | inl here ↦
           let P : Option Block → Type 0 = λ o. IsSome o in
           let h_here : IsSome (block_at a slot) = let Q : ℕ → Type 0 = λ k. IsSome (block_at a k) in subst Q here h in
-          rw here (subst P (sym roomy_here) (still (block_at a slot) h_here))
-      | inr other ↦ let P : Option Block → Type 0 = λ o. IsSome o in subst P (sym (roomy_other x other)) h
+          rw here (subst P (sym enlarged_here) (still (block_at a slot) h_here))
+      | inr other ↦ let P : Option Block → Type 0 = λ o. IsSome o in subst P (sym (enlarged_other x other)) h
     ];
-    marks = λ x t h. room-marks a slot room x t;
-    room = λ x apart h. elim (cases_eq x slot) [
+    marks = λ x t h. capacity-marks a slot capacity x t;
+    capacity = λ x apart h. elim (cases_eq x slot) [
       | inl here ↦
-          let P : Option Block → Type 0 = λ o. IsSomeAnd o (λ (b : Block). length b.replicas < b.room) in
+          let P : Option Block → Type 0 = λ o. IsSomeAnd o (λ (b : Block). length b.replicas < b.capacity) in
           let h_here : HasCapacity a slot = let Q : ℕ → Type 0 = λ k. HasCapacity a k in subst Q here h in
-          rw here (subst P (sym roomy_here) (more (block_at a slot) grows h_here))
+          rw here (subst P (sym enlarged_here) (more (block_at a slot) grows h_here))
       | inr other ↦
-          let P : Option Block → Type 0 = λ o. IsSomeAnd o (λ (b : Block). length b.replicas < b.room) in
-          subst P (sym (roomy_other x other)) h
+          let P : Option Block → Type 0 = λ o. IsSomeAnd o (λ (b : Block). length b.replicas < b.capacity) in
+          subst P (sym (enlarged_other x other)) h
     ];
     entries = λ x b e. elim (cases_eq x slot) [
       | inl here ↦
           let e_here : block_at a slot ≡ Some b = ap (block_at a) (sym here) ∙ e in
-          rw here (kept_room roomy slot (with_room room b) (roomy_here ∙ ap (option_map (with_room room)) e_here))
-      | inr other ↦ kept_room roomy x b (roomy_other x other ∙ e)
+          rw here (kept_capacity enlarged slot (with_entry_capacity capacity b) (enlarged_here ∙ ap (option_map (with_entry_capacity capacity)) e_here))
+      | inr other ↦ kept_capacity enlarged x b (enlarged_other x other ∙ e)
     ];
     grows = λ x. elim (cases_eq x slot) [
       | inl here ↦
-          let now : room_at roomy slot ≡ option_map_or (λ (b : Block). b.room) (option_map (with_room room) (block_at a slot)) 0 = ap (λ o. option_map_or (λ (b : Block). b.room) o 0) roomy_here in
+          let now : entry_capacity enlarged slot ≡ option_map_or (λ (b : Block). b.capacity) (option_map (with_entry_capacity capacity) (block_at a slot)) 0 = ap (λ o. option_map_or (λ (b : Block). b.capacity) o 0) enlarged_here in
           let no_less = larger (block_at a slot) grows in
           rw here (omega (arith, now, no_less))
-      | inr other ↦ let same : room_at roomy x ≡ room_at a x = ap (λ o. option_map_or (λ (b : Block). b.room) o 0) (roomy_other x other) in omega (arith, same)
+      | inr other ↦ let same : entry_capacity enlarged x ≡ entry_capacity a x = ap (λ o. option_map_or (λ (b : Block). b.capacity) o 0) (enlarged_other x other) in omega (arith, same)
     ];
     bound = omega arith;
   }
     where
-      larger : (o : Option Block) → option_map_or (λ (b : Block). b.room) o 0 ≤ room → option_map_or (λ (b : Block). b.room) o 0 ≤ option_map_or (λ (b : Block). b.room) (option_map (with_room room) o) 0
+      larger : (o : Option Block) → option_map_or (λ (b : Block). b.capacity) o 0 ≤ capacity → option_map_or (λ (b : Block). b.capacity) o 0 ≤ option_map_or (λ (b : Block). b.capacity) (option_map (with_entry_capacity capacity) o) 0
       larger None g = omega arith
       larger (Some b) g = g
 
-      still : (o : Option Block) → IsSome o → IsSome (option_map (with_room room) o)
+      still : (o : Option Block) → IsSome o → IsSome (option_map (with_entry_capacity capacity) o)
       still None h = absurd (false≢true h)
       still (Some b) h = refl
 
-      more : (o : Option Block) → option_map_or (λ (b : Block). b.room) o 0 ≤ room → IsSomeAnd o (λ (b : Block). length b.replicas < b.room)
-          → IsSomeAnd (option_map (with_room room) o) (λ (b : Block). length b.replicas < b.room)
+      more : (o : Option Block) → option_map_or (λ (b : Block). b.capacity) o 0 ≤ capacity → IsSomeAnd o (λ (b : Block). length b.replicas < b.capacity)
+          → IsSomeAnd (option_map (with_entry_capacity capacity) o) (λ (b : Block). length b.replicas < b.capacity)
       more None g h = h
       more (Some b) g h = omega (arith, g, h)
 
-  pub prepared-room : IsPrepared a c
-  prepared-room = let P : Contents → Type 0 = λ x. IsPrepared a x in subst P (sym is) prepared_roomy
+  pub prepared-capacity : IsPrepared a c
+  prepared-capacity = let P : Contents → Type 0 = λ x. IsPrepared a x in subst P (sym is) prepared_enlarged
 
 -- a new number gets an entry
 module _ (a c : Contents) (id slot : ℕ) (lawful : IsLawful a) (new : slot_of a id ≡ None) (added : IsAdded a c id slot) where
@@ -135,13 +135,13 @@ module _ (a c : Contents) (id slot : ℕ) (lawful : IsLawful a) (new : slot_of a
     slots = λ b x h. added-same a c id slot lawful new added b (λ same. none-some x (sym new ∙ ap (slot_of a) (sym same) ∙ h)) ∙ h;
     held = λ x h. let P : Option Block → Type 0 = λ o. IsSome o in subst P (sym (added.others x (held x h))) h;
     marks = λ x t h. ap (λ o. option_and_then (λ (b : Block). find_marks b.replicas t) o) (added.others x (held x h));
-    room = λ x apart h.
-        let P : Option Block → Type 0 = λ o. IsSomeAnd o (λ (b : Block). length b.replicas < b.room) in
-        subst P (sym (added.others x (held x (roomy_held (block_at a x) h)))) h;
-    entries = λ x b e. kept_room c x b (added.others x (held x (ap is_some e)) ∙ e);
+    capacity = λ x apart h.
+        let P : Option Block → Type 0 = λ o. IsSomeAnd o (λ (b : Block). length b.replicas < b.capacity) in
+        subst P (sym (added.others x (held x (enlarged_held (block_at a x) h)))) h;
+    entries = λ x b e. kept_capacity c x b (added.others x (held x (ap is_some e)) ∙ e);
     grows = λ x. elim (cases_eq x slot) [
-      | inl here ↦ let none : room_at a slot ≡ 0 = ap (λ o. option_map_or (λ (b : Block). b.room) o 0) added.vacant in rw here (omega (arith, none))
-      | inr other ↦ let same : room_at c x ≡ room_at a x = ap (λ o. option_map_or (λ (b : Block). b.room) o 0) (added.others x other) in omega (arith, same)
+      | inl here ↦ let none : entry_capacity a slot ≡ 0 = ap (λ o. option_map_or (λ (b : Block). b.capacity) o 0) added.vacant in rw here (omega (arith, none))
+      | inr other ↦ let same : entry_capacity c x ≡ entry_capacity a x = ap (λ o. option_map_or (λ (b : Block). b.capacity) o 0) (added.others x other) in omega (arith, same)
     ];
     bound = omega (arith, added.bound);
   }
@@ -149,9 +149,9 @@ module _ (a c : Contents) (id slot : ℕ) (lawful : IsLawful a) (new : slot_of a
       held : (x : ℕ) → IsSome (block_at a x) → x ≢ slot
       held = added-held a c id slot lawful new added
 
-      roomy_held : (o : Option Block) → IsSomeAnd o (λ (b : Block). length b.replicas < b.room) → IsSome o
-      roomy_held None h = absurd h
-      roomy_held (Some b) h = refl
+      enlarged_held : (o : Option Block) → IsSomeAnd o (λ (b : Block). length b.replicas < b.capacity) → IsSome o
+      enlarged_held None h = absurd h
+      enlarged_held (Some b) h = refl
 
 -- Numbers that were looked up stay so.
 
@@ -159,19 +159,19 @@ pub here-prepared : (a b : Contents) (ns : List ReportedSlot) → IsPrepared a b
 here-prepared a b [] p h = tt
 here-prepared a b (n ∷ ns) p h = (p.slots n.id n.slot h.0, here-prepared a b ns p h.1)
 
-pub room-prepared : (s : ℕ) (a b : Contents) (ns : List ReportedSlot) → IsLawful a → IsPrepared a b → AreAtSlots a ns → HaveCapacity a s ns → HaveCapacity b s ns
-room-prepared s a b [] lawful p h r = tt
-room-prepared s a b (n ∷ ns) lawful p h r =
+pub capacity-prepared : (s : ℕ) (a b : Contents) (ns : List ReportedSlot) → IsLawful a → IsPrepared a b → AreAtSlots a ns → HaveCapacity a s ns → HaveCapacity b s ns
+capacity-prepared s a b [] lawful p h r = tt
+capacity-prepared s a b (n ∷ ns) lawful p h r =
     let f = lawful.found n.id n.slot h.0 in
-    (λ none. p.room n.slot f.0 (r.0 (sym (p.marks n.slot s (ap is_some f.2)) ∙ none)), room-prepared s a b ns lawful p h.1 r.1)
+    (λ none. p.capacity n.slot f.0 (r.0 (sym (p.marks n.slot s (ap is_some f.2)) ∙ none)), capacity-prepared s a b ns lawful p h.1 r.1)
 
 pub here-push : (a : Contents) (ns : List ReportedSlot) (n : ReportedSlot) → AreAtSlots a ns → slot_of a n.id ≡ Some n.slot → AreAtSlots a (ns ++ n ∷ [])
 here-push a [] n h e = (e, tt)
 here-push a (m ∷ ns) n h e = (h.0, here-push a ns n h.1 e)
 
-pub room-push : (a : Contents) (s : ℕ) (ns : List ReportedSlot) (n : ReportedSlot) → HaveCapacity a s ns → (marks_at a n.slot s ≡ None → HasCapacity a n.slot) → HaveCapacity a s (ns ++ n ∷ [])
-room-push a s [] n h e = (e, tt)
-room-push a s (m ∷ ns) n h e = (h.0, room-push a s ns n h.1 e)
+pub capacity-push : (a : Contents) (s : ℕ) (ns : List ReportedSlot) (n : ReportedSlot) → HaveCapacity a s ns → (marks_at a n.slot s ≡ None → HasCapacity a n.slot) → HaveCapacity a s (ns ++ n ∷ [])
+capacity-push a s [] n h e = (e, tt)
+capacity-push a s (m ∷ ns) n h e = (h.0, capacity-push a s ns n h.1 e)
 
 -- storages get heads
 pub prepared-reserved : (a c : Contents) → IsLawful a → IsLawful c → IsReserved a c → IsPrepared a c
@@ -190,16 +190,16 @@ prepared-reserved a c lawful lawful_c r = record {
     | inr differs ↦ let P : Option Block → Type 0 = λ o. IsSome o in subst P (sym (r.blocks x differs)) h
   ];
   marks = λ x t h. r.marks x t;
-  room = λ x apart h. let P : Option Block → Type 0 = λ o. IsSomeAnd o (λ (b : Block). length b.replicas < b.room) in subst P (sym (r.blocks x apart)) h;
+  capacity = λ x apart h. let P : Option Block → Type 0 = λ o. IsSomeAnd o (λ (b : Block). length b.replicas < b.capacity) in subst P (sym (r.blocks x apart)) h;
   entries = λ x b e. elim (cases_eq x a.delimiter) [
     | inl same ↦
         let e_here : block_at a a.delimiter ≡ Some b = ap (block_at a) (sym same) ∙ e in
-        rw same (r.marker ∙ ap (option_map (with_room (room_at c a.delimiter))) e_here)
-    | inr differs ↦ kept_room c x b (r.blocks x differs ∙ e)
+        rw same (r.marker ∙ ap (option_map (with_entry_capacity (entry_capacity c a.delimiter))) e_here)
+    | inr differs ↦ kept_capacity c x b (r.blocks x differs ∙ e)
   ];
   grows = λ x. elim (cases_eq x a.delimiter) [
-    | inl same ↦ rw same r.room
-    | inr differs ↦ let e : room_at c x ≡ room_at a x = ap (λ o. option_map_or (λ (b : Block). b.room) o 0) (r.blocks x differs) in omega (arith, e)
+    | inl same ↦ rw same r.capacity
+    | inr differs ↦ let e : entry_capacity c x ≡ entry_capacity a x = ap (λ o. option_map_or (λ (b : Block). b.capacity) o 0) (r.blocks x differs) in omega (arith, e)
   ];
   bound = omega (arith, r.bound);
 }

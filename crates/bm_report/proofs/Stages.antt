@@ -111,7 +111,7 @@ excess-out s (b ∷ bs) K good = excess-out s bs (remove K (replica_at b s)) (λ
     was true z m e = cc
     was false z m e = e
 
-module _ (C : Cluster) (s : ℕ) (ns : List ReportedSlot) (a0 a1 : Contents) (lawful0 : IsLawful a0) (here : AreAtSlots a0 ns) (room : HaveCapacity a0 s ns)
+module _ (C : Cluster) (s : ℕ) (ns : List ReportedSlot) (a0 a1 : Contents) (lawful0 : IsLawful a0) (here : AreAtSlots a0 ns) (capacity : HaveCapacity a0 s ns)
     (list1 : list_of a1 s ≡ a0.delimiter ∷ list_of a0 s) (others1 : KeepsOthers a0 a1 a0.delimiter s) where
   pub replicas1 : replicas_of a1 ≡ replicas_of a0
   replicas1 = replicas-kept a0 a1 lawful0 others1.ids others1.blocks
@@ -128,18 +128,18 @@ module _ (C : Cluster) (s : ℕ) (ns : List ReportedSlot) (a0 a1 : Contents) (la
   pub here1 : AreAtSlots a1 ns
   here1 = here-ids a0 a1 ns others1.ids here
 
-  room_by : (ms : List ReportedSlot) → AreAtSlots a0 ms → HaveCapacity a0 s ms → HaveCapacity a1 s ms
-  room_by [] h r = tt
-  room_by (n ∷ ms) h r = (
+  capacity_after : (ms : List ReportedSlot) → AreAtSlots a0 ms → HaveCapacity a0 s ms → HaveCapacity a1 s ms
+  capacity_after [] h r = tt
+  capacity_after (n ∷ ms) h r = (
     λ none.
         let same : block_at a1 n.slot ≡ block_at a0 n.slot = others1.blocks n.slot (lawful0.found n.id n.slot h.0).0 in
-        let P : Option Block → Type 0 = λ o. IsSomeAnd o (λ (b : Block). length b.replicas < b.room) in
+        let P : Option Block → Type 0 = λ o. IsSomeAnd o (λ (b : Block). length b.replicas < b.capacity) in
         subst P (sym same) (r.0 (sym (ap (λ o. option_and_then (λ (b : Block). find_marks b.replicas s) o) same) ∙ none)),
-    room_by ms h.1 r.1,
+    capacity_after ms h.1 r.1,
   )
 
-  pub room1 : HaveCapacity a1 s ns
-  room1 = room_by ns here room
+  pub capacity1 : HaveCapacity a1 s ns
+  capacity1 = capacity_after ns here capacity
 
   pub once1 : IsOncePerNode C (replicas_of a0) → IsOncePerNode C (replicas_of a1)
   once1 once = let P : Held → Type 0 = λ K. IsOncePerNode C K in subst P (sym replicas1) once

@@ -124,7 +124,7 @@ pub record KeepsRest (s : ℕ) (old new : Contents) : Type 0 where
   pub blocks : blocks_of new ≡ blocks_of old
   pub heads : (t : ℕ) → HasHead old t → HasHead new t
   pub absent : (slot : ℕ) → marks_at new slot s ≡ None → marks_at old slot s ≡ None
-  pub room : (slot : ℕ) → marks_at new slot s ≡ None → HasCapacity old slot → HasCapacity new slot
+  pub capacity : (slot : ℕ) → marks_at new slot s ≡ None → HasCapacity old slot → HasCapacity new slot
   pub entries : KeepsEntries old new
 
 -- the slot of a named block

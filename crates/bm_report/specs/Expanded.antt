@@ -5,7 +5,7 @@ use Rattle.bm_base.specs.declared.event.Entry.{Entry}
 use Rattle.bm_base.specs.Machine.Entries.{ReportedBlock, expanded}
 use Rattle.bm_parts.specs.Parts.{reported_of}
 use Rattle.bm_arena.specs.Triplets.{Block}
-use Rattle.bm_arena.specs.Contents.{Contents, block_at, slot_of, marks_at, list_of, room_at, with_room, HasHead, HasCapacity}
+use Rattle.bm_arena.specs.Contents.{Contents, block_at, slot_of, marks_at, list_of, entry_capacity, with_entry_capacity, HasHead, HasCapacity}
 use Rattle.bm_arena.specs.HeldMaps.{replicas_of, blocks_of}
 
 -- the reported blocks of a shard's numbers
@@ -28,8 +28,8 @@ pub record IsPrepared (old new : Contents) : Type 0 where
   pub slots : (b slot : ℕ) → slot_of old b ≡ Some slot → slot_of new b ≡ Some slot
   pub held : (slot : ℕ) → IsSome (block_at old slot) → IsSome (block_at new slot)
   pub marks : (slot t : ℕ) → IsSome (block_at old slot) → marks_at new slot t ≡ marks_at old slot t
-  pub room : (slot : ℕ) → slot ≢ old.delimiter → HasCapacity old slot → HasCapacity new slot
+  pub capacity : (slot : ℕ) → slot ≢ old.delimiter → HasCapacity old slot → HasCapacity new slot
   -- the content of a slot stays, its replicas in their order, but for more capacity
-  pub entries : (slot : ℕ) (b : Block) → block_at old slot ≡ Some b → block_at new slot ≡ Some (with_room (room_at new slot) b)
-  pub grows : (slot : ℕ) → room_at old slot ≤ room_at new slot
+  pub entries : (slot : ℕ) (b : Block) → block_at old slot ≡ Some b → block_at new slot ≡ Some (with_entry_capacity (entry_capacity new slot) b)
+  pub grows : (slot : ℕ) → entry_capacity old slot ≤ entry_capacity new slot
   pub bound : old.bound ≤ new.bound

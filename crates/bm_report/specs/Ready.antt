@@ -19,7 +19,7 @@ pub record LookedUpReport : Type 0 where
   -- how many changed slots were listed before the sweep
   pub came : ℕ
   -- how many slots can be listed in all without allocation
-  pub room : ℕ
+  pub capacity : ℕ
 
 -- the reported blocks of its numbers
 abbrev pub reported_blocks : LookedUpReport → List ReportedBlock
@@ -29,13 +29,13 @@ reported_blocks r = map reported_of r.named
 -- capacity for a replica on s, and s has a head. A notice needs no more.
 pub record IsLookedUp (r : LookedUpReport) (a : Contents) (s : ℕ) : Type 0 where
   pub here : AreAtSlots a r.named
-  pub room : HaveCapacity a s r.named
+  pub capacity : HaveCapacity a s r.named
   pub head : HasHead a s
 
 -- For a full report, there is also capacity to list all slots that may change.
 pub record IsReady (r : LookedUpReport) (a : Contents) (s : ℕ) : Type 0 where
   pub looked_up : IsLookedUp r a s
-  pub space : length r.changed + length r.named + length (list_of a s) ≤ r.room
+  pub space : length r.changed + length r.named + length (list_of a s) ≤ r.capacity
 
 -- the slot is that of a reported number
 abbrev pub IsReportedAt : Contents → List ReportedBlock → ℕ → Type 0
@@ -76,7 +76,7 @@ named_of a ts = map (named_in a) ts
 -- numbers can be entered one after another: each has its entry, and the counts do not overflow
 pub record CanBeAdded (C : Cluster) (s : ℕ) (ts : List ReportedBlock) (a : Contents) (t : ReportCounts) : Type 0 where
   pub here : AreAtSlots a (named_of a ts)
-  pub room : HaveCapacity a s (named_of a ts)
+  pub capacity : HaveCapacity a s (named_of a ts)
   pub head : HasHead a s
   pub once : IsOncePerNode C (replicas_of a)
   pub small : FitsCounters t (length ts)

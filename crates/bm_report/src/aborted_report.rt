@@ -13,11 +13,11 @@ pub(crate) fn abort_named(arena: &mut Arena, named: &[ReportedSlot])
     ensures { IsAborted named.now arena.old arena.new }
 {
     for named in named {
-        abort_one(arena, named);
+        abort_number(arena, named);
     }
 }
 
-fn abort_one(arena: &mut Arena, named: &ReportedSlot)
+fn abort_number(arena: &mut Arena, named: &ReportedSlot)
     ensures { IsAborted (named.now ∷ []) arena.old arena.new }
 {
     arena.show_invariant();

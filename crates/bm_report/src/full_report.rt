@@ -26,7 +26,7 @@ pub(crate) fn apply(
     came: &mut usize,
 ) -> Applied
     requires here { AreAtSlots arena.old named.now }
-    requires room { HaveCapacity arena.old storage named.now }
+    requires capacity { HaveCapacity arena.old storage named.now }
     requires head { HasHead arena.old storage }
     requires once { IsOncePerNode topology.now.cluster (replicas_of arena.old) }
     requires good { IsExcessGood (replicas_of arena.old) }

@@ -1,8 +1,8 @@
 //! Full block reports, compared by the delimiter as in Hadoop 2's BlockManager, and the notices of
 //! single replicas.
 //!
-//! A report is taken in two steps. `ready`, or `ready_one` for a notice, finds or makes the entries
-//! of its numbers and reserves all memory, which can be refused. Then `apply_full`,
+//! A report is taken in two steps. `ready`, or `prepare_notice` for a notice, finds or makes the
+//! entries of its numbers and reserves all memory, which can be refused. Then `apply_full`,
 //! `apply_received` or `abort` takes none and succeeds. In between, a `Report` keeps the slots, so
 //! that a known number is hashed at most twice. It reads 64 numbers ahead and lists the slots that
 //! change. A shard holds one. The free functions keep nothing and look each number up again.

@@ -32,7 +32,7 @@ fn slot_for(arena: &mut Arena, id: BlockId) -> Result<Slot, Refusal>
 
 /// Looks up one number, and reserves a replica on the storage. `named` lists every new entry, even
 /// after an `Err`.
-fn look_up_one(
+fn look_up_number(
     arena: &mut Arena,
     storage: StorageId,
     id: BlockId,
@@ -40,11 +40,11 @@ fn look_up_one(
     named: &mut Vec<ReportedSlot>,
 ) -> Result<(), Refusal>
     requires here { AreAtSlots arena.old named.old.items }
-    requires room { HaveCapacity arena.old storage named.old.items }
+    requires capacity { HaveCapacity arena.old storage named.old.items }
     ensures kept { IsPrepared arena.old arena.new }
     ensures others { (b : ℕ) → b ≢ id → slot_of arena.new b ≡ slot_of arena.old b }
     ensures here { OnOk result (AreAtSlots arena.new named.new.items) }
-    ensures room { OnOk result (HaveCapacity arena.new storage named.new.items) }
+    ensures capacity { OnOk result (HaveCapacity arena.new storage named.new.items) }
     ensures named { OnOk result (map reported_of named.new.items ≡ map reported_of named.old.items
         ++ record { id = id; stamp = stamp } ∷ []) }
     ensures fresh { NamesNew arena.old arena.new named.old.items named.new.items }
@@ -72,12 +72,12 @@ fn look_up_run(
     requires shards { 0 < part.shards }
     requires index { part.index < part.shards }
     requires here { AreAtSlots arena.old named.old.items }
-    requires room { HaveCapacity arena.old storage named.old.items }
+    requires capacity { HaveCapacity arena.old storage named.old.items }
     ensures kept { IsPrepared arena.old arena.new }
     ensures others { (b : ℕ) → is_named (of_part part (blocks_of_entry entry.now)) b ≡ false
         → slot_of arena.new b ≡ slot_of arena.old b }
     ensures here { OnOk result (AreAtSlots arena.new named.new.items) }
-    ensures room { OnOk result (HaveCapacity arena.new storage named.new.items) }
+    ensures capacity { OnOk result (HaveCapacity arena.new storage named.new.items) }
     ensures named { OnOk result (map reported_of named.new.items ≡ map reported_of named.old.items
         ++ of_part part (blocks_of_entry entry.now)) }
     ensures fresh { NamesNew arena.old arena.new named.old.items named.new.items }
@@ -89,7 +89,7 @@ fn look_up_run(
     let mut next = first_of_part(entry.from, part);
     while next <= last {
         arena.show_invariant();
-        look_up_one(arena, storage, BlockId(next as u64), entry.stamp, named)?;
+        look_up_number(arena, storage, BlockId(next as u64), entry.stamp, named)?;
         next += u128::from(part.shards);
     }
     Ok(())
@@ -111,7 +111,7 @@ fn look_up_all(
     ensures others { (b : ℕ) → is_named (reported_to_part part entries.now) b ≡ false
         → slot_of arena.new b ≡ slot_of arena.old b }
     ensures here { OnOk result (AreAtSlots arena.new named.new.items) }
-    ensures room { OnOk result (HaveCapacity arena.new storage named.new.items) }
+    ensures capacity { OnOk result (HaveCapacity arena.new storage named.new.items) }
     ensures named { OnOk result (map reported_of named.new.items ≡ reported_to_part part entries.now) }
     ensures fresh { NamesNew arena.old arena.new [] named.new.items }
     ensures there { HaveReplicas arena.old storage (reported_to_part part entries.now)
@@ -156,12 +156,12 @@ fn look_up_chunk(
     requires shards { 0 < part.shards }
     requires index { part.index < part.shards }
     requires here { AreAtSlots arena.old named.old.items }
-    requires room { HaveCapacity arena.old storage named.old.items }
+    requires capacity { HaveCapacity arena.old storage named.old.items }
     ensures kept { IsPrepared arena.old arena.new }
     ensures others { (b : ℕ) → is_named (reported_to_part part chunk.now) b ≡ false
         → slot_of arena.new b ≡ slot_of arena.old b }
     ensures here { OnOk result (AreAtSlots arena.new named.new.items) }
-    ensures room { OnOk result (HaveCapacity arena.new storage named.new.items) }
+    ensures capacity { OnOk result (HaveCapacity arena.new storage named.new.items) }
     ensures named { OnOk result (map reported_of named.new.items ≡ map reported_of named.old.items
         ++ reported_to_part part chunk.now) }
     ensures fresh { NamesNew arena.old arena.new named.old.items named.new.items }
@@ -215,7 +215,7 @@ pub(crate) fn look_up(
         → slot_of arena.new b ≡ slot_of arena.old b }
     ensures head { OnOk result (HasHead arena.new storage) }
     ensures here { OnOk result (AreAtSlots arena.new named.new.items) }
-    ensures room { OnOk result (HaveCapacity arena.new storage named.new.items) }
+    ensures capacity { OnOk result (HaveCapacity arena.new storage named.new.items) }
     ensures named { OnOk result (map reported_of named.new.items ≡ reported_to_part part entries.now) }
     ensures fresh { NamesNew arena.old arena.new [] named.new.items }
     ensures there { HasHead arena.old storage
@@ -239,7 +239,7 @@ pub(crate) fn look_up_alone(
     ensures others { (b : ℕ) → b ≢ id → slot_of arena.new b ≡ slot_of arena.old b }
     ensures head { OnOk result (HasHead arena.new storage) }
     ensures here { OnOk result (AreAtSlots arena.new named.new.items) }
-    ensures room { OnOk result (HaveCapacity arena.new storage named.new.items) }
+    ensures capacity { OnOk result (HaveCapacity arena.new storage named.new.items) }
     ensures named { OnOk result (map reported_of named.new.items
         ≡ record { id = id; stamp = stamp } ∷ []) }
     ensures fresh { NamesNew arena.old arena.new [] named.new.items }
@@ -250,7 +250,7 @@ pub(crate) fn look_up_alone(
     arena.show_invariant();
     reserve_head(arena, storage)?;
     arena.show_invariant();
-    look_up_one(arena, storage, id, stamp, named)
+    look_up_number(arena, storage, id, stamp, named)
 }
 
 fn reserve_head(arena: &mut Arena, storage: StorageId) -> Result<(), Refusal>

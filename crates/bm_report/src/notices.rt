@@ -30,7 +30,7 @@ pub(crate) fn receive(
 ) -> Applied
     requires here { slot_of arena.old named.now.id ≡ Some named.now.slot }
     requires head { HasHead arena.old storage }
-    requires room { marks_at arena.old named.now.slot storage ≡ None
+    requires capacity { marks_at arena.old named.now.slot storage ≡ None
         → HasCapacity arena.old named.now.slot }
     requires once { IsOncePerNode topology.now.cluster (replicas_of arena.old) }
     ensures { HasReceived topology.now.cluster storage named.now.id named.now.stamp arena.old

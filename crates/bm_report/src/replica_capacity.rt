@@ -15,7 +15,8 @@ pub(crate) fn reserve_replica(
 ) -> Result<(), Refusal>
     requires held { IsSome (block_at arena.old slot) }
     ensures kept { IsPrepared arena.old arena.new }
-    ensures room { OnOk result (marks_at arena.new slot storage ≡ None → HasCapacity arena.new slot) }
+    ensures capacity { OnOk result (marks_at arena.new slot storage ≡ None
+        → HasCapacity arena.new slot) }
     ensures there { IsSome (marks_at arena.old slot storage)
         → IsOk result × (arena.new ≡ arena.old) }
     ensures numbers { (b : ℕ) → slot_of arena.new b ≡ slot_of arena.old b }

@@ -47,7 +47,7 @@ impl Model for Report {
       named = r.named.items;
       changed = r.changed.items;
       came = r.came;
-      room = vec_capacity r.changed;
+      capacity = vec_capacity r.changed;
     } };
 }
 
@@ -91,15 +91,15 @@ impl Report {
         look_up(arena, storage, entries, part, &mut self.named)?;
         arena.show_invariant();
         self.changed.clear();
-        let room = list_capacity(self.named.len(), arena.slot_bound())?;
-        self.changed.reserve(room)?;
+        let capacity = list_capacity(self.named.len(), arena.slot_bound())?;
+        self.changed.reserve(capacity)?;
         Ok(())
     }
 
     /// Finds the slot of one number, gives it an entry if it has none, and reserves what
     /// `apply_received` needs, but no list of slots. Nothing that is held changes, and what was
     /// looked up before is forgotten. `Memory`: then `abort` drops an entry that is new.
-    pub fn ready_one(
+    pub fn prepare_notice(
         &mut self,
         arena: &mut Arena,
         storage: StorageId,
@@ -241,7 +241,7 @@ impl Report {
 /// Upper bound on the changed slots: those reported plus those swept. `Memory` if it overflows.
 /// Takes no memory.
 fn list_capacity(named: usize, slots: usize) -> Result<usize, Refusal>
-    ensures room { IfOk result (λ room. room ≡ named + slots) }
+    ensures capacity { IfOk result (λ capacity. capacity ≡ named + slots) }
     ensures fits { IsOk result ↔ (named + slots < 2 ^ 64) }
     ensures refused { IfErr result (λ e. e ≡ Memory) }
 {

@@ -27,7 +27,7 @@ pub(crate) fn add_reported(
     requires here { slot_of arena.old named.now.id ≡ Some named.now.slot }
     requires was { was ≡ marks_at arena.old named.now.slot storage }
     requires head { HasHead arena.old storage }
-    requires room { marks_at arena.old named.now.slot storage ≡ None
+    requires capacity { marks_at arena.old named.now.slot storage ≡ None
         → HasCapacity arena.old named.now.slot }
     requires once { IsOncePerNode topology.now.cluster (replicas_of arena.old) }
     requires small { FitsCounters tally.old 1 }
@@ -96,7 +96,7 @@ pub(crate) fn link_new(
     requires here { slot_of arena.old named.now.id ≡ Some named.now.slot }
     requires absent { marks_at arena.old named.now.slot storage ≡ None }
     requires head { HasHead arena.old storage }
-    requires room { HasCapacity arena.old named.now.slot }
+    requires capacity { HasCapacity arena.old named.now.slot }
     requires once { IsOncePerNode topology.now.cluster (replicas_of arena.old) }
     ensures replicas { replicas_of arena.new ≡ entered_at topology.now.cluster
         (replicas_of arena.old) (replica_at named.now.id storage) marks }

@@ -69,7 +69,7 @@ fn add_and_list(
     requires here { slot_of arena.old named.now.id ≡ Some named.now.slot }
     requires was { was ≡ marks_at arena.old named.now.slot storage }
     requires head { HasHead arena.old storage }
-    requires room { marks_at arena.old named.now.slot storage ≡ None
+    requires capacity { marks_at arena.old named.now.slot storage ≡ None
         → HasCapacity arena.old named.now.slot }
     requires once { IsOncePerNode topology.now.cluster (replicas_of arena.old) }
     requires small { FitsCounters tally.old 1 }
@@ -104,7 +104,7 @@ fn add_chunk(
 )
     requires few { length chunk.now ≤ CHUNK }
     requires here { AreAtSlots arena.old chunk.now }
-    requires room { HaveCapacity arena.old storage chunk.now }
+    requires capacity { HaveCapacity arena.old storage chunk.now }
     requires head { HasHead arena.old storage }
     requires once { IsOncePerNode topology.now.cluster (replicas_of arena.old) }
     requires small { FitsCounters tally.old (length chunk.now) }
@@ -139,7 +139,7 @@ pub(crate) fn add_all_reported(
     changed: &mut Vec<Slot>,
 )
     requires here { AreAtSlots arena.old named.now }
-    requires room { HaveCapacity arena.old storage named.now }
+    requires capacity { HaveCapacity arena.old storage named.now }
     requires head { HasHead arena.old storage }
     requires once { IsOncePerNode topology.now.cluster (replicas_of arena.old) }
     requires small { FitsCounters tally.old (length named.now) }

@@ -1,6 +1,6 @@
 // The marks of reported replicas.
 ghost use Rattle.std.specs.Prelude.{◌≡◌};
-ghost use Rattle.bm_report.specs.DuringReport as midway;
+ghost use Rattle.bm_report.specs.DuringReport as during_report;
 
 use bm_base::{BlockInfo, Marks, Stamp, Tag};
 
@@ -11,7 +11,7 @@ pub(crate) fn marks_during_report(
     was: Option<Marks>,
     stamp: &Stamp,
 ) -> Marks
-    ensures { result ≡ midway.marks_during_report info was stamp.now }
+    ensures { result ≡ during_report.marks_during_report info was stamp.now }
 {
     let (was_bad, was_excess) = match was {
         Some(marks) => (marks.tag.is_bad(), marks.excess),
@@ -25,7 +25,7 @@ pub(crate) fn marks_during_report(
 }
 
 fn reported_tag(info: Option<BlockInfo>, was_bad: bool, stamp: &Stamp) -> Tag
-    ensures { result ≡ midway.reported_tag info was_bad stamp.now }
+    ensures { result ≡ during_report.reported_tag info was_bad stamp.now }
 {
     match info {
         None => Tag::Stray,
@@ -43,14 +43,14 @@ fn reported_tag(info: Option<BlockInfo>, was_bad: bool, stamp: &Stamp) -> Tag
 
 /// Whether only a good replica has the mark "in excess".
 pub(crate) fn is_excess_good(marks: Marks) -> bool
-    ensures { result ≡ midway.is_excess_good marks }
+    ensures { result ≡ during_report.is_excess_good marks }
 {
     !(marks.excess && !marks.tag.is_good())
 }
 
 /// The marks after the report: only a good replica stays in excess.
 pub(crate) fn without_invalid_excess(marks: Marks) -> Marks
-    ensures { result ≡ midway.without_invalid_excess marks }
+    ensures { result ≡ during_report.without_invalid_excess marks }
 {
     Marks {
         tag: marks.tag,

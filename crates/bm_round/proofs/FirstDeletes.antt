@@ -51,11 +51,11 @@ module _ (most : ℕ) (C : Cluster) (ds : List Delete) (d : Delete) where
       ap (λ us. record (node_commands C [] ds n) { deletes = us }) (first_more most (node_commands C [] ds n).deletes d)
       ∙ ap (λ (k : NodeCommands). record k { deletes = take most k.deletes }) (own_delete C [] ds d n e)
 
-  pub with_room : (k : NodeCommands) → length k.deletes < most → with_first k ≡ record k { deletes = k.deletes ++ d ∷ [] }
-  with_room k less = ap (λ b. record k { deletes = k.deletes ++ cond b (d ∷ []) [] }) (lt-ltb (length k.deletes) most less)
+  pub adds_below_most : (k : NodeCommands) → length k.deletes < most → with_first k ≡ record k { deletes = k.deletes ++ d ∷ [] }
+  adds_below_most k less = ap (λ b. record k { deletes = k.deletes ++ cond b (d ∷ []) [] }) (lt-ltb (length k.deletes) most less)
 
-  pub without_room : (k : NodeCommands) → most ≤ length k.deletes → with_first k ≡ k
-  without_room k full =
+  pub keeps_at_most : (k : NodeCommands) → most ≤ length k.deletes → with_first k ≡ k
+  keeps_at_most k full =
       ap (λ b. record k { deletes = k.deletes ++ cond b (d ∷ []) [] }) (le-ltb (length k.deletes) most full)
       ∙ ap (λ us. record k { deletes = us }) (append-nil k.deletes)
 

@@ -1,5 +1,5 @@
 -- Elements in the order of their keys.
-use Rattle.std.proofs.Common.{◌≡◌, ℕ, List, [], ◌∷◌, ◌++◌, map, flat_map, length, get_or, refl, sym, ap, subst, ◌∙◌, append-nil, arith, T}
+use Rattle.std.proofs.Common.{◌≡◌, ℕ, List, [], ◌∷◌, map, flat_map, length, get_or, refl, sym, ap, subst, ◌∙◌, append-nil, arith, T}
 use Rattle.std.specs.FinMap.{is_sorted}
 use Rattle.std.proofs.lemmas.List.Sorted.{IsPermutation-refl}
 use Rattle.std.specs.Prelude.{Some}
@@ -13,7 +13,7 @@ use Rattle.bm_base.proofs.MapEntries.{Holds, holds_insert_all, each_entry}
 use Rattle.bm_base.proofs.MapLaws.{get-empty}
 use Rattle.bm_parts.specs.Merging.{AreSorted}
 use Rattle.bm_parts.proofs.SortedLists.{sorted_is_ordered}
-use Rattle.bm_round.specs.KeyedParts.{keyed_wish, keyed_deletes}
+use Rattle.bm_round.specs.KeyedParts.{keyed_wish, keyed_wishes, keyed_deletes}
 
 -- A list in the order of its keys is ascending in them.
 
@@ -55,3 +55,10 @@ unfolding merged_deletes
 deletes_alone_are [] p one sorted = absurd (omega (arith, one))
 deletes_alone_are (q ∷ []) p one sorted = sym (ap (ordered_by by_pair delete_key) (append-nil q.deletes) ∙ sorted_is_ordered (ℕ × ℕ) _ by_pair delete_key q.deletes q.deletes sorted.0 (IsPermutation-refl q.deletes))
 deletes_alone_are (q ∷ r ∷ ps) p one sorted = absurd (omega (arith, one))
+
+-- the same for the wishes of one part
+pub wishes_alone_are : (ps : List RoundPart) (p : RoundPart) → length ps ≡ 1 → AreSorted (map keyed_wishes ps) → (get_or ps 0 p).wishes ≡ merged_wishes ps
+unfolding merged_wishes
+wishes_alone_are [] p one sorted = absurd (omega (arith, one))
+wishes_alone_are (q ∷ []) p one sorted = sym (ap (ordered_by by_pair wish_key) (append-nil q.wishes) ∙ sorted_is_ordered (ℕ × ℕ) _ by_pair wish_key q.wishes q.wishes sorted.0 (IsPermutation-refl q.wishes))
+wishes_alone_are (q ∷ r ∷ ps) p one sorted = absurd (omega (arith, one))

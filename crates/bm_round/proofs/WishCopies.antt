@@ -89,7 +89,7 @@ module _ (limits : RoundLimits) (C : Cluster) where
       (least_target C chosen w.level (holders_by chosen w) (excluded_by chosen w) w.stamp.len))
       (least_source C chosen w.level (sources_by w)))) full
 
-  -- where the round has as many transfers as it may, it is at its end
+  -- where the round has reached its limit of transfers, it is at its end
   pub full_stays : (chosen : List Transfer) (ws : List Wish) → nat_le (limits.work * len C.nodes) (length chosen) ≡ true → transfers_over limits C chosen ws ≡ chosen
   full_stays chosen [] full = refl
   full_stays chosen (w ∷ ws) full =

@@ -13,7 +13,7 @@ ghost use Rattle.bm_round.specs.KeyedParts as merging;
 
 use crate::chosen_so_far::is_full_count;
 use crate::groups::Groups;
-use crate::merge::{merge_deletes, merge_wishes};
+use crate::merge::{merge_deletes, merge_wishes, references_to};
 use crate::transfers::choose_transfers;
 use bm_base::{Chosen, Config, Delete, Items, NodeCommands, Refusal, RoundPart, Transfer};
 use bm_topo::Topology;
@@ -63,7 +63,7 @@ pub fn choose(
     })
 }
 
-/// Whether a round has as many transfers as it may. Then later wishes cannot change it.
+/// Whether a round has reached its limit of transfers. Then later wishes cannot change it.
 pub fn is_full(chosen: &Chosen, topology: &Topology, config: &Config) -> bool
     ensures exact { result
         ≡ nat_le (config.now.work * len topology.now.cluster.nodes) (length chosen.now.transfers) }
@@ -76,6 +76,7 @@ pub fn is_full(chosen: &Chosen, topology: &Topology, config: &Config) -> bool
     is_full_count(chosen.transfers.as_slice().len(), config, topology)
 }
 
+/// Returns the chosen transfers. The wishes of a single part are sorted already.
 #[tactic(auto, unfolding(bm_base::specs::Choices::chosen_transfers))]
 fn transfers_of(
     alloc: Global,
@@ -90,6 +91,10 @@ fn transfers_of(
         topology.now.cluster parts.now) }
     ensures refused { IfErr result (λ e. e ≡ Memory) }
 {
+    if parts.len() == 1 {
+        let wishes = references_to(alloc, parts[0].wishes.as_slice())?;
+        return choose_transfers(alloc, wishes.as_slice(), topology, config);
+    }
     let wishes = merge_wishes(alloc, parts)?;
     choose_transfers(alloc, wishes.as_slice(), topology, config)
 }

@@ -46,7 +46,7 @@ impl<'a> ChosenSoFar<'a> {
         })
     }
 
-    /// Whether the round has as many transfers as it may.
+    /// Whether the round has reached its limit of transfers.
     pub fn is_full(&self, config: &Config, topology: &Topology) -> bool
         ensures { result ≡ nat_le (config.now.work * map.len topology.now.cluster.nodes)
             (length self.now.transfers.items) }

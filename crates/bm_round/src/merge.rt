@@ -68,6 +68,18 @@ fn gather_wishes<'a>(alloc: Global, parts: &'a [RoundPart]) -> Result<Vec<&'a Wi
     Ok(all)
 }
 
+/// References to these wishes, in the same order.
+pub(crate) fn references_to<'a>(
+    alloc: Global,
+    wishes: &'a [Wish],
+) -> Result<Vec<&'a Wish>, AllocError>
+    ensures { IfOk result (λ v. merging.referenced_wishes v.items ≡ wishes.now) }
+{
+    let mut all = Vec::with_capacity(alloc, wishes.len())?;
+    push_wishes(wishes, &mut all)?;
+    Ok(all)
+}
+
 fn push_wishes<'a>(wishes: &'a [Wish], all: &mut Vec<&'a Wish>) -> Result<(), AllocError>
     ensures { OnOk result (merging.referenced_wishes all.new.items
         ≡ merging.referenced_wishes all.old.items ++ wishes.now) }

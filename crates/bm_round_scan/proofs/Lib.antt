@@ -10,6 +10,7 @@ pub mod BlockFindings
 pub mod PassingElements
 pub mod PassingSlots
 pub mod Permutations
+pub mod MovedSlots
 pub mod NextBlock
 pub mod ScannedSlots
 pub mod SortedStorages

@@ -40,7 +40,7 @@ pub record IsPut (C : Cluster) (pend r : ℕ) (bound : Option (ℕ × ℕ)) (p :
   pub wishes : g.wishes.items ≡ f.wishes.items ++ wishes_before bound (option_to_list (wish_seen C pend r p l u))
   pub deletes : g.deletes.items ≡ f.deletes.items ++ deletes_of e (scanned_replicas l)
 
-module _ (C : Cluster) (pend r : ℕ) (a : Contents) (p : PendingMap) (l : BlockScan) (u : UsableReplicas) (e : Bool) (look : IsBlockScan C pend r (holdings_with a p.map) l) (seen : IsSeen C l u e) where
+module _ (C : Cluster) (pend r : ℕ) (a : Contents) (p : PendingMap) (l : BlockScan) (u : UsableReplicas) (e : Bool) (scan : IsBlockScan C pend r (holdings_with a p.map) l) (seen : IsSeen C l u e) where
   abbrev H : Holdings
   H = holdings_with a p.map
 
@@ -56,16 +56,16 @@ module _ (C : Cluster) (pend r : ℕ) (a : Contents) (p : PendingMap) (l : Block
   left_at_start = refl
 
   known : l.info ≡ get G.blocks l.id
-  known = look.info ∙ sym known_at_start
+  known = scan.info ∙ sym known_at_start
 
   lives_are : u.live ≡ live C G l.id
-  lives_are = seen.usable.live ∙ storages_own (is_live_on C) G l.id l.replicas.items look.replicas
+  lives_are = seen.usable.live ∙ storages_own (is_live_on C) G l.id l.replicas.items scan.replicas
 
   drained_are : u.drained ≡ drained C G l.id
-  drained_are = seen.usable.drained ∙ storages_own (is_drained_on C) G l.id l.replicas.items look.replicas
+  drained_are = seen.usable.drained ∙ storages_own (is_drained_on C) G l.id l.replicas.items scan.replicas
 
   pairs_are : storages_at (λ _ _. true) l.replicas.items ≡ storages_where (λ _ _. true) G l.id
-  pairs_are = storages_own (λ _ _. true) G l.id l.replicas.items look.replicas
+  pairs_are = storages_own (λ _ _. true) G l.id l.replicas.items scan.replicas
 
   enough_is : e ≡ has_enough_live C G l.id
   unfolding has_enough_live
@@ -79,7 +79,7 @@ module _ (C : Cluster) (pend r : ℕ) (a : Contents) (p : PendingMap) (l : Block
 
   pub found_more : (bound : Option (ℕ × ℕ)) (f g : Findings) → IsPut C pend r bound p l u e f g → (bs : List ℕ) → HasFound C pend r H bound bs f → HasFound C pend r H bound (bs ++ l.id ∷ []) g
   found_more bound f g put bs has = record {
-    excess = put.excess ∙ (λ j. has.excess j ++ map (λ (e : ReplicaId × Marks). e.0) (filter (λ e. look.excess e.0.storage j) (look.replicas j))) ∙ more (excess_at C pend r H) bs l.id;
+    excess = put.excess ∙ (λ j. has.excess j ++ map (λ (e : ReplicaId × Marks). e.0) (filter (λ e. scan.excess e.0.storage j) (scan.replicas j))) ∙ more (excess_at C pend r H) bs l.id;
     wishes = put.wishes ∙ (λ j. has.wishes j ++ wishes_before bound (option_to_list (wish_is j))) ∙ more (λ b. wishes_before bound (wishes_at C pend r H b)) bs l.id;
-    deletes = put.deletes ∙ (λ j. has.deletes j ++ deletes_of (enough_is j) (look.replicas j)) ∙ more (deletes_at C pend r H) bs l.id;
+    deletes = put.deletes ∙ (λ j. has.deletes j ++ deletes_of (enough_is j) (scan.replicas j)) ∙ more (deletes_at C pend r H) bs l.id;
   }

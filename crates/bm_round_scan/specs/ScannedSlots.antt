@@ -33,8 +33,8 @@ has_enough_pending C pend r a p slot =
 abbrev pub is_settled_to_scan : IndexedLevels → Contents → Option (ℕ × ℕ) → (ℕ → Bool) → ℕ → Bool
 is_settled_to_scan K a bound has_enough slot = is_before bound (key_at K a slot) && (not (has K.unsettled.slots slot) && not (has_enough slot))
 
--- the slots that a round scans for the wishes before a bound: the unsettled ones, and of the
--- settled ones at a level at which copies are wanted those before the bound without enough pending
--- transfers
+-- the slots that a round scans for the wishes before a bound: all unsettled ones, and some of the
+-- settled ones. These are at a level at which copies are wanted, before the bound, and without
+-- enough pending transfers.
 abbrev pub scanned_slots : IndexedLevels → Contents → Option (ℕ × ℕ) → (ℕ → Bool) → List ℕ
 scanned_slots K a bound has_enough = K.unsettled.slots ++ filter (is_settled_to_scan K a bound has_enough) (slots_needing_copies K)

@@ -31,7 +31,7 @@ pub(crate) struct BlockScan {
     /// A scratch buffer for the storages of a settled block.
     pub storages: Vec<StorageId>,
     /// Scratch buffers for the choice of excess.
-    room: ExcessScratch,
+    scratch: ExcessScratch,
 }
 
 impl BlockScan {
@@ -45,14 +45,14 @@ impl BlockScan {
             excess: Vec::new(alloc),
             replicas: Vec::new(alloc),
             storages: Vec::new(alloc),
-            room: ExcessScratch::new(alloc),
+            scratch: ExcessScratch::new(alloc),
         }
     }
 
     /// Scans the block of a number with this slot, and returns the storages of its usable replicas.
     /// It costs a few reads of each of its replicas, and O(n log n) steps for n of them. It takes
-    /// memory only if more than four are live or drained, if the block has more replicas than each
-    /// block before, or if a list of surplus grows past its capacity.
+    /// memory only if more than four are live or drained, if it has more replicas than each block
+    /// before, or if a list of surplus grows past its capacity.
     pub(crate) fn scan_block(
         &mut self,
         alloc: Global,
@@ -63,7 +63,7 @@ impl BlockScan {
     ) -> Result<UsableReplicas, Refusal>
         requires { slot_of arena.now id ≡ Some slot }
         ensures id { OnOk result (self.new.id ≡ id) }
-        ensures look { OnOk result ((pend r : ℕ) (pending : Map by_replica ℕ)
+        ensures scan { OnOk result ((pend r : ℕ) (pending : Map by_replica ℕ)
             → IsBlockScan topology.now.cluster pend r (holdings_with arena.now pending) self.new) }
         ensures in_order { OnOk result (IsNonDecreasing self.new.excess.items) }
         ensures usable { IfOk result
@@ -77,7 +77,7 @@ impl BlockScan {
         self.info = arena.info(slot);
         fill_surplus(
             &mut self.excess,
-            &mut self.room,
+            &mut self.scratch,
             topology,
             self.info,
             usable.live.as_slice(),
@@ -149,10 +149,10 @@ impl BlockScan {
 
 /// Replaces the contents of `into` by the surplus among these storages of one block's live
 /// replicas. It takes memory only if there is a surplus, and then only if `into` or a list of
-/// `room` grows past its capacity.
+/// `scratch` grows past its capacity.
 fn fill_surplus(
     into: &mut Vec<StorageId>,
-    room: &mut ExcessScratch,
+    scratch: &mut ExcessScratch,
     topology: &Topology,
     info: Option<BlockInfo>,
     live: &[StorageId],
@@ -163,7 +163,7 @@ fn fill_surplus(
     ensures refused { IfErr result (λ e. e ≡ Memory) }
 {
     match info {
-        Some(info) => fill_excess(into, room, live, info.repl, topology),
+        Some(info) => fill_excess(into, scratch, live, info.repl, topology),
         None => {
             into.clear();
             Ok(())

@@ -25,11 +25,12 @@ use std::alloc::Global;
 ///
 /// It scans the unsettled blocks, and those before the bound at a level at which copies are wanted,
 /// and iterates over the pending transfers once. So its cost does not grow with the number of the
-/// other blocks, but for those at such a level. Each of these costs one step of dense memory, and
-/// the comparison of a level and a number. Of a settled block with a pending transfer the live
-/// replicas are counted first: it is left out if the live replicas and the pending transfers reach
-/// the number wanted. A scanned block with n replicas costs O(n log n) steps: they are sorted, and
-/// each is searched for among those in excess. The result is sorted.
+/// other blocks, but for those at such a level. The slots of these are copied and sorted first.
+/// Then each costs one step of dense memory, and the comparison of a level and a number. Of a
+/// settled block with a pending transfer the live replicas are counted first: it is left out if the
+/// live replicas and the pending transfers reach the number wanted. A scanned block with n replicas
+/// costs O(n log n) steps: they are sorted, and each is searched for among those in excess. The
+/// result is sorted.
 pub fn find_round(
     alloc: Global,
     blocks: &LeveledBlocks,

@@ -20,9 +20,9 @@ use bm_pending::PendingTransfers;
 use bm_topo::Topology;
 use std::alloc::Global;
 
-/// The maximum capacity for wishes before any is found. A wish is large, and is copied whenever
-/// their list grows.
-const FIRST_CAPACITY: usize = 4096;
+/// The maximum capacity for wishes before any is found: 60 MB. A wish is large, and is copied
+/// whenever their list grows.
+const FIRST_CAPACITY: usize = 1 << 18;
 
 /// The findings so far, in the order of the scan.
 #[derive(Drop)]
@@ -63,9 +63,9 @@ impl<'a> RoundScan<'a> {
             wishes: Vec::with_capacity(alloc, slots.len().min(FIRST_CAPACITY))?,
             deletes: Vec::new(alloc),
         };
-        let mut look = BlockScan::new(alloc);
+        let mut scan = BlockScan::new(alloc);
         for keyed in slots {
-            self.scan_slot(alloc, keyed.1, &mut look, &mut found)?;
+            self.scan_slot(alloc, keyed.1, &mut scan, &mut found)?;
         }
         Ok(found)
     }
@@ -82,7 +82,7 @@ impl<'a> RoundScan<'a> {
         &self,
         alloc: Global,
         slot: Slot,
-        look: &mut BlockScan,
+        scan: &mut BlockScan,
         found: &mut Findings,
     ) -> Result<(), Refusal>
         requires known { (id : ℕ) × (slot_of self.now.arena.now id ≡ Some slot) }
@@ -99,16 +99,16 @@ impl<'a> RoundScan<'a> {
         let id = self.arena.id_of(slot);
         if self.is_settled(slot) {
             let wishes = &mut found.wishes;
-            return self.push_settled_wish(alloc, slot, id, &mut look.storages, wishes);
+            return self.push_settled_wish(alloc, slot, id, &mut scan.storages, wishes);
         }
-        let usable = look.scan_block(alloc, self.arena, self.topology, slot, id)?;
-        let enough = has_enough(look.info, usable.live.as_slice().len());
-        look.push_excess(&mut found.excess)?;
-        look.push_deletes(enough, &mut found.deletes)?;
-        let storages = storages_of(alloc, look.replicas.as_slice())?;
+        let usable = scan.scan_block(alloc, self.arena, self.topology, slot, id)?;
+        let enough = has_enough(scan.info, usable.live.as_slice().len());
+        scan.push_excess(&mut found.excess)?;
+        scan.push_deletes(enough, &mut found.deletes)?;
+        let storages = storages_of(alloc, scan.replicas.as_slice())?;
         let storages = storages.as_slice();
         let wishes = &mut found.wishes;
-        self.push_wish(alloc, look.id, look.info, usable, storages, wishes)?;
+        self.push_wish(alloc, scan.id, scan.info, usable, storages, wishes)?;
         Ok(())
     }
 }

@@ -16,49 +16,98 @@ use std::alloc::{AllocError, Global};
 /// The number of slots in a chunk.
 const CHUNK: usize = 64;
 
+/// The slots of a level are sorted if there are more than this number.
+const MAX_UNSORTED: usize = 512;
+
 /// The unsettled slots, and the settled ones before the bound at a level at which copies are wanted
-/// that lack pending transfers; each of them once, with its key.
+/// that lack pending transfers; each of them once, with its key, in any order.
 pub(crate) fn slots_to_scan(
     alloc: Global,
     start: &RoundScan,
 ) -> Result<Vec<(Key, Slot)>, AllocError>
-    ensures { IfOk result (λ v. v.items
-        ≡ map (scanned.keyed_at start.now.kept.now start.now.arena.now)
+    ensures { IfOk result (λ v. IsPermutation
+        (map (scanned.keyed_at start.now.kept.now start.now.arena.now)
         (scanned.scanned_slots start.now.kept.now start.now.arena.now start.now.bound
         (scanned.has_enough_pending start.now.topology.now.cluster start.now.pend start.now.round
-        start.now.arena.now start.now.pending.now))) }
+        start.now.arena.now start.now.pending.now))) v.items) }
 {
-    let mut keyed = Vec::new(alloc);
+    let mut keyed = Vec::with_capacity(alloc, first_capacity(start))?;
     for slot in start.kept.unsettled_slots() {
         keyed.push((key_of(start.kept, start.arena, slot), slot))?;
     }
-    push_settled(start, Level::Highest, &mut keyed)?;
-    push_settled(start, Level::VeryUnderReplicated, &mut keyed)?;
-    push_settled(start, Level::UnderReplicated, &mut keyed)?;
-    push_settled(start, Level::BadlyDistributed, &mut keyed)?;
+    push_level(alloc, start, Level::Highest, &mut keyed)?;
+    push_level(alloc, start, Level::VeryUnderReplicated, &mut keyed)?;
+    push_level(alloc, start, Level::UnderReplicated, &mut keyed)?;
+    push_level(alloc, start, Level::BadlyDistributed, &mut keyed)?;
     Ok(keyed)
 }
 
-/// Appends the settled slots of a level that come before the bound and lack pending transfers.
-fn push_settled(
+/// The number of slots for which capacity is made at first. Without a bound, mostly all blocks that
+/// need copies are scanned; before a bound, mostly few.
+fn first_capacity(start: &RoundScan) -> usize {
+    let needing_copies = match start.bound {
+        Some(_) => 0,
+        None => start.kept.count_needing_copies(),
+    };
+    start.kept.unsettled_count().saturating_add(needing_copies)
+}
+
+/// Appends the settled slots of a level that come before the bound and lack pending transfers, in
+/// any order. Without a bound, slots are sorted first: they are read in nearly sequential memory,
+/// and as block numbers mostly ascend with slots, `sort_slots` then has little to do.
+fn push_level(
+    alloc: Global,
     start: &RoundScan,
     level: Level,
     into: &mut Vec<(Key, Slot)>,
 ) -> Result<(), AllocError>
+    ensures { OnOk result (IsPermutation (into.old.items
+        ++ map (scanned.keyed_at start.now.kept.now start.now.arena.now)
+        (filter
+        (scanned.is_settled_to_scan start.now.kept.now start.now.arena.now start.now.bound
+        (scanned.has_enough_pending start.now.topology.now.cluster start.now.pend start.now.round
+        start.now.arena.now start.now.pending.now)) (slots_at start.now.kept.now level)))
+        into.new.items) }
+{
+    let listed = start.kept.at_level(level);
+    if is_read_as_listed(start, listed.len()) {
+        return push_settled(start, level, listed, into);
+    }
+    let mut slots = Vec::from_slice(alloc, listed)?;
+    slots.sort_unstable();
+    push_settled(start, level, &slots, into)
+}
+
+/// Whether the slots of a level are read in the order of their list. Sorting pays only for many
+/// slots, and only if most of them are kept.
+fn is_read_as_listed(start: &RoundScan, count: usize) -> bool {
+    start.bound.is_some() || count <= MAX_UNSORTED
+}
+
+/// Appends those of these slots of a level that are settled, come before the bound and lack pending
+/// transfers.
+fn push_settled(
+    start: &RoundScan,
+    level: Level,
+    slots: &[u32],
+    into: &mut Vec<(Key, Slot)>,
+) -> Result<(), AllocError>
+    requires level { (slot : ℕ) → IsMember slot slots.now
+        → level_of_slot start.now.kept.now slot ≡ Some level }
     ensures { OnOk result (into.new.items ≡ into.old.items
         ++ map (scanned.keyed_at start.now.kept.now start.now.arena.now)
         (filter
         (scanned.is_settled_to_scan start.now.kept.now start.now.arena.now start.now.bound
         (scanned.has_enough_pending start.now.topology.now.cluster start.now.pend start.now.round
-        start.now.arena.now start.now.pending.now)) (slots_at start.now.kept.now level))) }
+        start.now.arena.now start.now.pending.now)) slots.now)) }
 {
-    for chunk in start.kept.at_level(level).chunks(CHUNK) {
+    for chunk in slots.chunks(CHUNK) {
         push_settled_chunk(start, level, chunk, into)?;
     }
     Ok(())
 }
 
-/// The same for a chunk of the slots of a level.
+/// The same for a chunk of the slots.
 fn push_settled_chunk(
     start: &RoundScan,
     level: Level,

@@ -16,8 +16,8 @@ use std::alloc::{AllocError, Global};
 
 impl<'a> RoundScan<'a> {
     /// Appends the wish of a block with these usable replicas, and replicas on these storages in
-    /// all: copies at its level, if it needs any, and only if that comes before the bound. The
-    /// pending transfers are counted only if it does.
+    /// all: copies at its level. Appends nothing if it needs none, or if the wish is not before the
+    /// bound. The pending transfers are counted only if it is.
     pub(crate) fn push_wish(
         &self,
         alloc: Global,

@@ -53,8 +53,8 @@ take-take (suc m) (suc n) [] h = refl
 take-take (suc m) (suc n) (x ∷ xs) h = ap (λ ys. x ∷ ys) (take-take m n xs (omega arith))
 
 -- the bytes that are taken of a piece: all that fit within the limit
-pub take_room : (xs ys : List ℕ) (most room n : ℕ) → length xs + room ≡ most → room ≤ n → take most (xs ++ take n ys) ≡ xs ++ take room ys
-take_room xs ys most room n e h = rw (← e, take-append-add xs (take n ys) room, take-take room n ys h) refl
+pub take_within : (xs ys : List ℕ) (most bytes_left n : ℕ) → length xs + bytes_left ≡ most → bytes_left ≤ n → take most (xs ++ take n ys) ≡ xs ++ take bytes_left ys
+take_within xs ys most bytes_left n e h = rw (← e, take-append-add xs (take n ys) bytes_left, take-take bytes_left n ys h) refl
 
 -- ---- the outcome
 
@@ -161,8 +161,8 @@ pub finished_causes : (M : State) (start new : Option (List ℕ)) (state : State
 finished_causes M start new state done piece reads reads' before now result same ok err =
     MatchResult-from_both result _ _ (IfOk-weaker result _ _ (λ _ h. (same, h)) ok) (IfErr-weaker result _ _ (λ f h. counts_of_piece M start new state done piece reads reads' before now f same h) err)
 
-pub room_split : (ys : List ℕ) (room n : ℕ) → room ≤ n → take n ys ≡ take room ys ++ drop room (take n ys)
-room_split ys room n h = rw (← take-take room n ys h, take-append-drop) refl
+pub take_split : (ys : List ℕ) (bytes_left n : ℕ) → bytes_left ≤ n → take n ys ≡ take bytes_left ys ++ drop bytes_left (take n ys)
+take_split ys bytes_left n h = rw (← take-take bytes_left n ys h, take-append-drop) refl
 
 -- all bytes that the reader had were read
 pub text_of_known : (config : Config) (before left : Option (List ℕ)) (input : List ℕ) (old new : Option (List ℕ)) (result : Result Summary Fault) → Consumes before left input → IsAtEnd left

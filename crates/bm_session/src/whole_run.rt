@@ -56,9 +56,9 @@ pub fn run<R: Source, W: Sink, H: Threads + Wait + RandomSource + Sync>(
         if n == 0 {
             return session.finish(rt, writer);
         }
-        let room = MAX_BYTES - count;
-        if n > room {
-            session.take_piece(rt, &buffer[..room], writer)?;
+        let bytes_left = MAX_BYTES - count;
+        if n > bytes_left {
+            session.take_piece(rt, &buffer[..bytes_left], writer)?;
             return Err(Fault::TooMuch);
         }
         session.take_piece(rt, &buffer[..n], writer)?;

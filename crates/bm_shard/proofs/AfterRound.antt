@@ -40,9 +40,9 @@ module _ (C : Cluster) (pend r index shards : ℕ) (ts : List Transfer) (ds : Li
       λ i. record { blocks = (blocks_c ∙ blocks_b) i; replicas = replicas i; pending = pending i }
 
 -- with other capacity for transfers, all else that is seen stays
-pub same_without_room : (v : Leveled) (P Q : Map by_replica ℕ) → Q ≡ P → (part : Part) (round pend : ℕ) (room room' : Reserved) (before : Seen) → seen_of v P part round pend room ≡ before
-    → IsSameButCapacity before (seen_of v Q part round pend room')
-same_without_room v P Q same part round pend room room' before is = subst (λ s. IsSameButCapacity s (seen_of v Q part round pend room')) is (record {
-  rest = λ i. record { holdings = holdings_with v.arena (same i); part = part; round = round; pend = pend; levels = levels_of v; room = room' };
+pub same_without_capacity : (v : Leveled) (P Q : Map by_replica ℕ) → Q ≡ P → (part : Part) (round pend : ℕ) (reserved reserved' : Reserved) (before : Seen) → seen_of v P part round pend reserved ≡ before
+    → IsSameButCapacity before (seen_of v Q part round pend reserved')
+same_without_capacity v P Q same part round pend reserved reserved' before is = subst (λ s. IsSameButCapacity s (seen_of v Q part round pend reserved')) is (record {
+  rest = λ i. record { holdings = holdings_with v.arena (same i); part = part; round = round; pend = pend; levels = levels_of v; reserved = reserved' };
   levels = λ C up_to_date. refl;
 })

@@ -14,9 +14,9 @@ use Rattle.bm_shard.specs.UpToDate.{IsUpToDate, IsSameButCapacity}
 use Rattle.bm_shard.proofs.Levels.{right_by_number, right_by_slot}
 use Rattle.bm_shard.proofs.SameHoldings.{seen_of}
 
-module _ (C D : Cluster) (v w : Leveled) (P Q : Map by_replica ℕ) (lawful_v : IsLawful v.arena) (leveled_v : IsLeveled v) (lawful_w : IsLawful w.arena) (levels : AreLevels C v → AreLevels D w) (part : Part) (round pend : ℕ) (room room' : Reserved) where
+module _ (C D : Cluster) (v w : Leveled) (P Q : Map by_replica ℕ) (lawful_v : IsLawful v.arena) (leveled_v : IsLeveled v) (lawful_w : IsLawful w.arena) (levels : AreLevels C v → AreLevels D w) (part : Part) (round pend : ℕ) (reserved reserved' : Reserved) where
   has_changed : (to : Holdings) (answer : Done) → holdings_with w.arena Q ≡ to → answer ≡ done (holdings_with v.arena P) to
-      → HasChanged C D (seen_of v P part round pend room) (seen_of w Q part round pend room') to answer
+      → HasChanged C D (seen_of v P part round pend reserved) (seen_of w Q part round pend reserved') to answer
   has_changed to answer is answers = record {
     holdings = is;
     done = answers;
@@ -27,11 +27,11 @@ module _ (C D : Cluster) (v w : Leveled) (P Q : Map by_replica ℕ) (lawful_v : 
   }
 
   -- for a shard that was seen as `before`
-  pub changed_seen : (to : Holdings → Holdings) (answer : Done) (before : Seen) → seen_of v P part round pend room ≡ before
+  pub changed_seen : (to : Holdings → Holdings) (answer : Done) (before : Seen) → seen_of v P part round pend reserved ≡ before
       → holdings_with w.arena Q ≡ to (holdings_with v.arena P) → answer ≡ done (holdings_with v.arena P) (to (holdings_with v.arena P))
-      → HasChanged C D before (seen_of w Q part round pend room') (to before.holdings) answer
+      → HasChanged C D before (seen_of w Q part round pend reserved') (to before.holdings) answer
   changed_seen to answer before seen is answers =
-      subst (λ s. HasChanged C D s (seen_of w Q part round pend room') (to s.holdings) answer) seen (has_changed (to (holdings_with v.arena P)) answer is answers)
+      subst (λ s. HasChanged C D s (seen_of w Q part round pend reserved') (to s.holdings) answer) seen (has_changed (to (holdings_with v.arena P)) answer is answers)
 
 -- A shard that changes only its capacity is up to date in the same clusters. So an event has the
 -- same effect on it as before.

@@ -20,10 +20,10 @@ ready_without (FullReport s es) S none = absurd (true≢false none)
 ready_without e S none = tt
 
 -- a shard that is ready for a round stays so, if it changes only other capacity
-pub ready_still : (chosen : Chosen) (old mid : Seen) → IsSameButCapacity old mid → mid.room.transfers ≡ old.room.transfers → IsReadyForRound chosen old → IsReadyForRound chosen mid
+pub ready_still : (chosen : Chosen) (old mid : Seen) → IsSameButCapacity old mid → mid.reserved.transfers ≡ old.reserved.transfers → IsReadyForRound chosen old → IsReadyForRound chosen mid
 unfolding IsReadyForRound
-ready_still chosen old mid same rooms ready b =
+ready_still chosen old mid same capacities ready b =
     let part : mid.part ≡ old.part = ap (λ (S : Seen). S.part) same.rest in
     let P : Part → List (ℕ × ℕ) → Type 0 =
     λ p rs. length (filter (λ t. t.block == b) (own_transfers p.index p.shards chosen.transfers)) ≤ unwrap_or (lookup (nat_eq b) rs) 0 in
-    subst (P mid.part) (sym rooms) (subst (λ p. P p old.room.transfers) (sym part) (ready b))
+    subst (P mid.part) (sym capacities) (subst (λ p. P p old.reserved.transfers) (sym part) (ready b))

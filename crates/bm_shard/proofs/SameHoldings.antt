@@ -20,7 +20,7 @@ pub record KeepsHeld (v w : Leveled) : Type 0 where
 
 -- the view of contracts on these fields
 abbrev pub seen_of : Leveled → Map by_replica ℕ → Part → ℕ → ℕ → Reserved → Seen
-seen_of v P part round pend room = record { holdings = holdings_with v.arena P; part = part; round = round; pend = pend; levels = levels_of v; room = room }
+seen_of v P part round pend reserved = record { holdings = holdings_with v.arena P; part = part; round = round; pend = pend; levels = levels_of v; reserved = reserved }
 
 module _ (v w : Leveled) (P : Map by_replica ℕ) (lawful_v : IsLawful v.arena) (leveled_v : IsLeveled v) (lawful_w : IsLawful w.arena) (same : KeepsHeld v w) where
   holdings_same : holdings_with w.arena P ≡ holdings_with v.arena P
@@ -32,12 +32,12 @@ module _ (v w : Leveled) (P : Map by_replica ℕ) (lawful_v : IsLawful v.arena) 
       same_map (levels_of w) (levels_of v) (λ b.
       right_by_number C w P lawful_w (same.levels C (right_by_slot C v P lawful_v leveled_v right)) b ∙ ap (λ H. level C H b) holdings_same ∙ sym (right b))
 
-  pub same_but_room : (part : Part) (round pend : ℕ) (room room' : Reserved) → IsSameButCapacity (seen_of v P part round pend room) (seen_of w P part round pend room')
-  same_but_room part round pend room room' = record {
-    rest = λ i. record { holdings = holdings_same i; part = part; round = round; pend = pend; levels = levels_of w; room = room' };
+  pub same_but_capacity : (part : Part) (round pend : ℕ) (reserved reserved' : Reserved) → IsSameButCapacity (seen_of v P part round pend reserved) (seen_of w P part round pend reserved')
+  same_but_capacity part round pend reserved reserved' = record {
+    rest = λ i. record { holdings = holdings_same i; part = part; round = round; pend = pend; levels = levels_of w; reserved = reserved' };
     levels = λ C up_to_date. levels_same C up_to_date.levels;
   }
 
   -- for a shard that was seen as `before`
-  pub same_seen : (part : Part) (round pend : ℕ) (room room' : Reserved) (before : Seen) → seen_of v P part round pend room ≡ before → IsSameButCapacity before (seen_of w P part round pend room')
-  same_seen part round pend room room' before is = subst (λ s. IsSameButCapacity s (seen_of w P part round pend room')) is (same_but_room part round pend room room')
+  pub same_seen : (part : Part) (round pend : ℕ) (reserved reserved' : Reserved) (before : Seen) → seen_of v P part round pend reserved ≡ before → IsSameButCapacity before (seen_of w P part round pend reserved')
+  same_seen part round pend reserved reserved' before is = subst (λ s. IsSameButCapacity s (seen_of w P part round pend reserved')) is (same_but_capacity part round pend reserved reserved')

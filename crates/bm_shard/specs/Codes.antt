@@ -35,8 +35,8 @@ look_up_again (ReportOf s ts) = refl
 abbrev pub coded_look_up : Coded LookUp
 coded_look_up = code_by ((ℕ × List ReportedBlock) ⊎ (ℕ × List ReportedBlock)) (coded⊎ (coded× coded_ℕ (coded_list coded_reported)) (coded× coded_ℕ (coded_list coded_reported))) cases look_up look_up_again
 
-abbrev pub coded_room : Coded Reserved
-coded_room =
+abbrev pub coded_reserved : Coded Reserved
+coded_reserved =
     code_by ((List ℕ × List ℕ) × (Option LookUp × List (ℕ × ℕ)))
     (coded× (coded× (coded_list coded_ℕ) (coded_list coded_ℕ)) (coded× (coded_option coded_look_up) (coded_list (coded× coded_ℕ coded_ℕ))))
     (λ r. ((r.entries, r.lists), (r.report, r.transfers))) (λ t. record { entries = t.0.0; lists = t.0.1; report = t.1.0; transfers = t.1.1 }) (λ _. refl)
@@ -44,6 +44,6 @@ coded_room =
 abbrev pub coded_seen : Coded Seen
 coded_seen =
     code_by ((Holdings × Part) × ((ℕ × ℕ) × (Map by_number Level × Reserved)))
-    (coded× (coded× coded_holdings coded_part) (coded× (coded× coded_ℕ coded_ℕ) (coded× (code coded_ℕ coded_level) coded_room)))
-    (λ S. ((S.holdings, S.part), ((S.round, S.pend), (S.levels, S.room))))
-    (λ t. record { holdings = t.0.0; part = t.0.1; round = t.1.0.0; pend = t.1.0.1; levels = t.1.1.0; room = t.1.1.1 }) (λ _. refl)
+    (coded× (coded× coded_holdings coded_part) (coded× (coded× coded_ℕ coded_ℕ) (coded× (code coded_ℕ coded_level) coded_reserved)))
+    (λ S. ((S.holdings, S.part), ((S.round, S.pend), (S.levels, S.reserved))))
+    (λ t. record { holdings = t.0.0; part = t.0.1; round = t.1.0.0; pend = t.1.0.1; levels = t.1.1.0; reserved = t.1.1.1 }) (λ _. refl)

@@ -14,4 +14,4 @@ leaves C _ s = false
 
 -- no storage that passes has a list
 abbrev pub HasNoLists : (ℕ → Bool) → Seen → Type 0
-HasNoLists left S = (s : ℕ) → left s ≡ true → IsMember s S.room.lists → ⊥
+HasNoLists left S = (s : ℕ) → left s ≡ true → IsMember s S.reserved.lists → ⊥

@@ -37,13 +37,13 @@ pub record Seen : Type 0 where
   pub pend : ℕ
   -- the stored level of each known block that has one
   pub levels : Map by_number Level
-  pub room : Reserved
+  pub reserved : Reserved
 
 -- the reservations suffice for an event; other events take no memory
 unfoldable pub IsReadyFor : Event → Seen → Type 0
-IsReadyFor (AddBlock b stamp repl) S = IsMember b S.room.entries
-IsReadyFor (Received s b stamp) S = S.room.report ≡ Some (NoticeOf s (record { id = b; stamp = stamp } ∷ []))
-IsReadyFor (FullReport s es) S = S.room.report ≡ Some (ReportOf s (reported_of S.part.index S.part.shards (expanded es)))
+IsReadyFor (AddBlock b stamp repl) S = IsMember b S.reserved.entries
+IsReadyFor (Received s b stamp) S = S.reserved.report ≡ Some (NoticeOf s (record { id = b; stamp = stamp } ∷ []))
+IsReadyFor (FullReport s es) S = S.reserved.report ≡ Some (ReportOf s (reported_of S.part.index S.part.shards (expanded es)))
 IsReadyFor _ S = Unit {0}
 
 -- whether an event needs a reservation, so that its preparation may be out of memory
@@ -56,4 +56,4 @@ needs_reservation _ = false
 -- the reservations suffice for the choice of a round: each block has capacity for its transfers
 unfoldable pub IsReadyForRound : Chosen → Seen → Type 0
 IsReadyForRound chosen S =
-    (b : ℕ) → length (filter (λ t. t.block == b) (own_transfers S.part.index S.part.shards chosen.transfers)) ≤ unwrap_or (lookup (nat_eq b) S.room.transfers) 0
+    (b : ℕ) → length (filter (λ t. t.block == b) (own_transfers S.part.index S.part.shards chosen.transfers)) ≤ unwrap_or (lookup (nat_eq b) S.reserved.transfers) 0

@@ -14,7 +14,7 @@ use Rattle.bm_shard.specs.Seen.{Seen}
 
 -- the number has an entry, and neither a known block nor a replica
 pub record IsUnused (S : Seen) (b : ℕ) : Type 0 where
-  pub entry : IsMember b S.room.entries
+  pub entry : IsMember b S.reserved.entries
   pub unknown : get S.holdings.blocks b ≡ None
   pub empty : (s : ℕ) → get S.holdings.replicas (replica_at b s) ≡ None
 
@@ -34,4 +34,4 @@ may_add_entry part _ n = false
 
 -- a block without a pending transfer has no capacity for any
 abbrev pub HasNoUnusedCapacity : Seen → Type 0
-HasNoUnusedCapacity S = (b : ℕ) → pending_targets S.holdings b ≡ [] → unwrap_or (lookup (nat_eq b) S.room.transfers) 0 ≡ 0
+HasNoUnusedCapacity S = (b : ℕ) → pending_targets S.holdings b ≡ [] → unwrap_or (lookup (nat_eq b) S.reserved.transfers) 0 ≡ 0

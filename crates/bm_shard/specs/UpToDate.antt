@@ -15,7 +15,7 @@ pub record IsUpToDate (C : Cluster) (S : Seen) : Type 0 where
 -- The same in all but capacity. Levels are stored by slots, which may change; if they were right in
 -- a cluster, they are the same too.
 pub record IsSameButCapacity (old new : Seen) : Type 0 where
-  pub rest : new ≡ record old { levels = new.levels; room = new.room }
+  pub rest : new ≡ record old { levels = new.levels; reserved = new.reserved }
   pub levels : (C : Cluster) → IsUpToDate C old → new.levels ≡ old.levels
 
 -- the part of the shard as its next round begins

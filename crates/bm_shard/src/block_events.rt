@@ -27,7 +27,7 @@ impl Shard {
         stamp: Stamp,
         repl: u32,
     ) -> Done
-        requires entry { IsMember id self.old.room.entries }
+        requires entry { IsMember id self.old.reserved.entries }
         ensures changed { HasChanged topology.now.cluster topology.now.cluster self.old self.new
             (events.add_block self.old.holdings id stamp repl) result }
         ensures unused { HasNoUnused self.new }

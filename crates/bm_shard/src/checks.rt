@@ -1,6 +1,6 @@
 // The checks of an event on the blocks.
 ghost use Rattle.std.specs.Prelude.{◌≡◌, if◌then◌else◌};
-ghost use Rattle.bm_base.specs.Words.{get, first_of, block_checks, knows_block, is_bad_replication, is_old, checked};
+ghost use Rattle.bm_base.specs.Words.{get, first_of, block_checks, knows_block, is_still_stored, is_bad_replication, is_old, checked};
 
 use crate::shard::Shard;
 use bm_base::{BlockId, BlockInfo, Event, MAX_REPLICATION, Refusal, Stamp};
@@ -16,10 +16,11 @@ impl Shard {
     {
         match event {
             Event::AddBlock { id, repl, .. } => {
-                if knows_block(&self.blocks, *id) {
+                let (known, stored) = self.known_or_stored(*id);
+                if known {
                     return Err(Refusal::BlockKnown);
                 }
-                if is_still_stored(&self.blocks, *id) {
+                if stored {
                     return Err(Refusal::StillStored);
                 }
                 check_replication(*repl)
@@ -50,6 +51,23 @@ impl Shard {
             | Event::Received { .. }
             | Event::Deleted { .. }
             | Event::FullReport { .. } => Ok(()),
+        }
+    }
+
+    /// Whether a block is known, and whether a stray replica of it is stored. A number without an
+    /// entry, which is usual for a new block, is looked up once.
+    fn known_or_stored(&self, id: BlockId) -> (bool, bool)
+        ensures known { result.0 ≡ knows_block self.now.holdings id }
+        ensures stored { result.1 ≡ is_still_stored self.now.holdings id }
+    {
+        let arena = self.blocks.arena();
+        arena.show_invariant();
+        match arena.find(id) {
+            Some(_) => (
+                knows_block(&self.blocks, id),
+                is_still_stored(&self.blocks, id),
+            ),
+            None => (false, false),
         }
     }
 

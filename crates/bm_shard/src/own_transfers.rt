@@ -2,7 +2,7 @@
 ghost use Rattle.std.specs.Prelude.{◌≡◌, ◌<◌, ◌≤◌, ℕ, ◌==◌, length, filter, map};
 ghost use Rattle.bm_base.specs.Words.{insert_all, replica_at};
 ghost use Rattle.bm_base.specs.RoundParts.{own_transfers};
-ghost use Rattle.bm_pending.specs.PendingMap.{room};
+ghost use Rattle.bm_pending.specs.PendingMap.{capacity};
 
 use bm_base::{Part, Transfer, shard_of};
 use bm_pending::PendingTransfers;
@@ -15,9 +15,9 @@ pub(crate) fn insert_own(
     round: u64,
 )
     requires part { part.index < part.shards }
-    requires room { (b : ℕ)
+    requires capacity { (b : ℕ)
         → length (filter (λ t. t.block == b) (own_transfers part.index part.shards transfers.now))
-        ≤ room pending.old b }
+        ≤ capacity pending.old b }
     ensures { pending.new.map
         ≡ insert_all pending.old.map (map
         (λ t. (replica_at t.block t.target, round))

@@ -57,7 +57,7 @@ impl Shard {
     /// Gives a number an entry.
     fn ready_entry(&mut self, id: BlockId) -> Result<(), Refusal>
         requires none { HasNoUnused self.old }
-        ensures ready { OnOk result (IsMember id self.new.room.entries) }
+        ensures ready { OnOk result (IsMember id self.new.reserved.entries) }
         ensures same { IsSameButCapacity self.old self.new }
         ensures unused { HasUnusedOnly (λ b. id == b) self.new }
         ensures given_up { OnErr result (HasNoUnused self.new) }
@@ -77,7 +77,7 @@ impl Shard {
     /// Looks up the number of a notice.
     fn ready_notice(&mut self, storage: StorageId, id: BlockId, stamp: Stamp) -> Result<(), Refusal>
         requires none { HasNoUnused self.old }
-        ensures ready { OnOk result (self.new.room.report
+        ensures ready { OnOk result (self.new.reserved.report
             ≡ Some (NoticeOf storage (record { id = id; stamp = stamp } ∷ []))) }
         ensures same { IsSameButCapacity self.old self.new }
         ensures unused { HasUnusedOnly (λ b. id == b) self.new }
@@ -106,7 +106,7 @@ impl Shard {
     ) -> Result<(), Refusal>
         requires part { part.index < part.shards }
         requires none { HasNoUnused self.old }
-        ensures ready { OnOk result (self.new.room.report
+        ensures ready { OnOk result (self.new.reserved.report
             ≡ Some (ReportOf storage (reported_to_part part entries.now))) }
         ensures same { IsSameButCapacity self.old self.new }
         ensures unused { HasUnusedOnly (is_named (reported_to_part part entries.now)) self.new }
@@ -132,7 +132,7 @@ impl Shard {
     pub fn abort(&mut self)
         ensures same { IsSameButCapacity self.old self.new }
         ensures unused { HasNoUnused self.new }
-        ensures transfers { self.new.room.transfers ≡ self.old.room.transfers }
+        ensures transfers { self.new.reserved.transfers ≡ self.old.reserved.transfers }
     {
         let prepared = self.prepared;
         self.prepared = PreparedEvent::Nothing;

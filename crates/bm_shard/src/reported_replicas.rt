@@ -33,7 +33,7 @@ impl Shard {
         id: BlockId,
         stamp: Stamp,
     ) -> Done
-        requires ready { self.old.room.report
+        requires ready { self.old.reserved.report
             ≡ Some (NoticeOf storage (record { id = id; stamp = stamp } ∷ [])) }
         requires placed { IsPlaced topology.now.cluster self.old.holdings }
         ensures changed { HasChanged topology.now.cluster topology.now.cluster self.old self.new
@@ -56,9 +56,11 @@ impl Shard {
     /// leave, and the transfers of those that came have arrived. Costs one step for each named
     /// number and each replica that leaves, and a read of each block with transfers.
     pub(crate) fn report(&mut self, topology: &Topology, storage: StorageId) -> Done
-        requires ready { (ts : List ReportedBlock) × (self.old.room.report ≡ Some (ReportOf storage ts)) }
+        requires ready { (ts : List ReportedBlock) × (self.old.reserved.report
+            ≡ Some (ReportOf storage ts)) }
         requires placed { IsPlaced topology.now.cluster self.old.holdings }
-        ensures changed { (ts : List ReportedBlock) → self.old.room.report ≡ Some (ReportOf storage ts)
+        ensures changed { (ts : List ReportedBlock)
+            → self.old.reserved.report ≡ Some (ReportOf storage ts)
             → HasChanged topology.now.cluster topology.now.cluster self.old self.new
             (events.report topology.now.cluster self.old.holdings storage ts) result }
         ensures few { (result.added < 2 ^ 100) × (result.removed < 2 ^ 100) }

@@ -74,7 +74,7 @@ impl Shard {
     ) -> Result<(), Refusal>
         ensures ready { OnOk result (IsReadyForRound chosen.now self.new) }
         ensures same { IsSameButCapacity self.old self.new }
-        ensures entries { self.new.room.entries ≡ self.old.room.entries }
+        ensures entries { self.new.reserved.entries ≡ self.old.reserved.entries }
         ensures refused { IfErr result (λ e. e ≡ Memory) }
     {
         let _ = part;
@@ -144,7 +144,7 @@ impl Shard {
     /// shard is up to date in some cluster. Takes no memory.
     pub fn round_abort(&mut self)
         ensures same { IsSameButCapacity self.old self.new }
-        ensures entries { self.new.room.entries ≡ self.old.room.entries }
+        ensures entries { self.new.reserved.entries ≡ self.old.reserved.entries }
         ensures freed { HasNoUnusedCapacity self.new }
     {
         self.pending.release_unused();

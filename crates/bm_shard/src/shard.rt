@@ -58,11 +58,11 @@ impl Model for Shard {
       round = s.round;
       pend = s.pend;
       levels = levels_of s.blocks;
-      room = record {
+      reserved = record {
         entries = numbers_of s.blocks.arena;
         lists = heads_of s.blocks.arena;
         report = report_of s.report s.prepared;
-        transfers = s.pending.rooms;
+        transfers = s.pending.capacities;
       };
     } };
 

@@ -15,7 +15,7 @@ use Rattle.bm_shards.specs.Whole.{parts_of, held_by, AreIndexed, AreShards, AreU
 use Rattle.bm_shards.specs.Answers.{EachBecame}
 use Rattle.bm_shards.specs.Worked.{IsSame}
 
--- there are as many parts as shards
+-- each shard has one part
 pub count_of : (ss : List (ℕ × Seen)) → length (parts_of ss) ≡ length ss
 count_of [] = refl
 count_of (s ∷ ss) = ap suc (count_of ss)
@@ -31,14 +31,14 @@ stays_up_to_date C S T same h =
 -- two steps that each change only the capacity, one after the other, change only the capacity
 pub same_again : (R S T : Seen) → IsSameButCapacity R S → IsSameButCapacity S T → IsSameButCapacity R T
 same_again R S T first next =
-    let with_room : Seen → Seen = λ s. record s { levels = T.levels; room = T.room } in
+    let with_reserved : Seen → Seen = λ s. record s { levels = T.levels; reserved = T.reserved } in
     record {
-      rest = next.rest ∙ ap with_room first.rest;
+      rest = next.rest ∙ ap with_reserved first.rest;
       levels = λ C h. next.levels C (stays_up_to_date C R S first h) ∙ first.levels C h;
     }
 
 -- no number has an unused entry afterwards, if the step keeps the entries
-pub unused_again : (S T : Seen) → IsSameButCapacity S T → T.room.entries ≡ S.room.entries → HasNoUnused S → HasNoUnused T
+pub unused_again : (S T : Seen) → IsSameButCapacity S T → T.reserved.entries ≡ S.reserved.entries → HasNoUnused S → HasNoUnused T
 unused_again S T same entries none b unused =
     let held : T.holdings ≡ S.holdings = ap (λ s. s.holdings) same.rest in
     none b (record {

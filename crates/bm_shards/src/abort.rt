@@ -11,12 +11,12 @@ pub(crate) fn abort_all(shards: &mut Vec<(u32, Shard)>)
     ensures given_up { All (λ s. HasGivenUp s.1) shards.new.items }
 {
     for one in shards.iter_mut() {
-        abort_one(&mut one.1);
+        abort_shard(&mut one.1);
     }
 }
 
 /// Has a shard give up what it reserved for an event or a round.
-fn abort_one(shard: &mut Shard)
+fn abort_shard(shard: &mut Shard)
     ensures same { IsSameButCapacity shard.old shard.new }
     ensures given_up { HasGivenUp shard.new }
 {

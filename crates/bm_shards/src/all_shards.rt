@@ -19,6 +19,8 @@ use std::marker::Model;
 pub struct AllShards {
     pub(crate) alloc: Global,
     pub(crate) shards: Vec<(u32, Shard)>,
+    // A hint: whether the next round asks for all wishes at once.
+    pub(crate) is_scarce: bool,
 }
 
 impl Model for AllShards {
@@ -47,7 +49,11 @@ impl AllShards {
         ensures refused { IfErr result (λ e. e ≡ Memory) }
     {
         let shards = new_shards(alloc, config, secret)?;
-        Ok(AllShards { alloc, shards })
+        Ok(AllShards {
+            alloc,
+            shards,
+            is_scarce: false,
+        })
     }
 }
 

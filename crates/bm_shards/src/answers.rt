@@ -58,7 +58,7 @@ fn split_answers<A: Drop>(
 
 /// Moves an answer into `answers`, or returns the refusal.
 fn put_answer<A: Drop>(answers: &mut Vec<A>, answer: Result<A, Refusal>) -> Result<(), Refusal>
-    requires room { vec_len answers.old < vec_capacity answers.old }
+    requires capacity { vec_len answers.old < vec_capacity answers.old }
     ensures answers { answers.new.items
         ≡ answers.old.items ++ cons_option (result_ok answer) [] }
     ensures len { vec_len answers.new ≤ vec_len answers.old + 1 }
@@ -80,7 +80,7 @@ pub(crate) fn gather_prepared(
     prepared: Vec<(u32, Asked<()>)>,
     back: &mut Vec<(u32, Shard)>,
 ) -> Result<(), Refusal>
-    requires room { (back.old.items ≡ []) × (vec_len prepared ≤ vec_capacity back.old) }
+    requires capacity { (back.old.items ≡ []) × (vec_len prepared ≤ vec_capacity back.old) }
     ensures shards { back.new.items ≡ map shard_answered prepared.items }
     ensures outcome { result ≡ first_fault prepared.items }
 {
@@ -105,7 +105,7 @@ fn first_refusal(first: Result<(), Refusal>, next: Result<(), Refusal>) -> Resul
 /// Moves the changed shards into `back`, which has capacity for them, and adds up what they
 /// answered.
 pub(crate) fn gather_done(changed: Vec<(u32, Answered<Done>)>, back: &mut Vec<(u32, Shard)>) -> Done
-    requires room { (back.old.items ≡ []) × (vec_len changed ≤ vec_capacity back.old) }
+    requires capacity { (back.old.items ≡ []) × (vec_len changed ≤ vec_capacity back.old) }
     requires shards { length changed.items ≤ 64 }
     requires few { All IsFew changed.items }
     ensures shards { back.new.items ≡ map shard_answered changed.items }

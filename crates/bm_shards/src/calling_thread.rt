@@ -12,7 +12,7 @@ ghost use Rattle.bm_shards.specs.RoundWorked.{CanFind, HasPart, CanCommitRound, 
 
 use crate::answers::{Answered, Asked};
 use crate::shard_work::{
-    commit_one, commit_round_one, find_one, prepare_one, prepare_round_one, rows_of_one,
+    commit_round_one, commit_shard, find_in_shard, prepare_round_one, prepare_shard, rows_of_one,
 };
 use crate::table::Rows;
 use crate::workers::Workers;
@@ -40,7 +40,7 @@ impl Workers for CallingThread {
     ) -> Vec<(u32, Asked<()>)> {
         let work = |_: u32, shard: Shard| -> Asked<()>
             ensures { IsPrepared (IsReadyFor event.entry.now) shard result }
-        { prepare_one(shard, event, topology) };
+        { prepare_shard(shard, event, topology) };
         ready.run_alone(shards, &work)
     }
 
@@ -58,7 +58,7 @@ impl Workers for CallingThread {
             requires multi { multi ≡ is_multi_rack (change_cluster topology.now.cluster event.now) }
             requires shard { CanCommit topology.now.cluster event.now shard }
             ensures { IsCommitted topology.entry.now.cluster event.entry.now shard result }
-        { commit_one(shard, event, topology, multi) };
+        { commit_shard(shard, event, topology, multi) };
         ready.run_alone(shards, &work)
     }
 
@@ -74,7 +74,7 @@ impl Workers for CallingThread {
             requires { CanFind topology.now.cluster round shard }
             ensures { HasAnswered
                 (λ S. part_before bound (next_part topology.entry.now.cluster S)) shard result }
-        { find_one(shard, round, topology, bound) };
+        { find_in_shard(shard, round, topology, bound) };
         ready.run_alone(shards, &work)
     }
 

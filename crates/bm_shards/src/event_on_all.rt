@@ -69,7 +69,7 @@ fn prepare_for_event<W: Workers>(
     ensures same { AllZip IsSame shards.old.items shards.new.items }
     ensures ready { OnOk result
         (All (λ s. CanCommit topology.now.cluster event.now s.1) shards.new.items) }
-    ensures room { IfOk result (λ r. r.0.room ≡ vec_len shards.new) }
+    ensures capacity { IfOk result (λ r. r.0.capacity ≡ vec_len shards.new) }
     ensures back { IfOk result
         (λ r. (r.1.items ≡ []) × (vec_len shards.new ≤ vec_capacity r.1)) }
     ensures refused { IfErr result (λ e. e ≡ Memory) }
@@ -92,7 +92,7 @@ fn commit_and_gather<W: Workers>(
     topology: &Topology,
     multi: bool,
 ) -> Done
-    requires room { vec_len shards.old ≤ buffers.0.room }
+    requires capacity { vec_len shards.old ≤ buffers.0.capacity }
     requires back { (buffers.1.items ≡ []) × (vec_len shards.old ≤ vec_capacity buffers.1) }
     requires cluster { first_of (cluster_checks topology.now.cluster event.now) ≡ None }
     requires every { block_of event.now ≡ None }

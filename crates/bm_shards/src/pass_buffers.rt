@@ -17,7 +17,7 @@ pub(crate) fn reserve_pass<U: Drop>(
     workers: usize,
 ) -> Result<PassBuffers<U>, Refusal>
     requires { 0 < workers }
-    ensures ready { IfOk result (λ r. r.0.room ≡ count) }
+    ensures ready { IfOk result (λ r. r.0.capacity ≡ count) }
     ensures back { IfOk result (λ r. (r.1.items ≡ []) × (count ≤ vec_capacity r.1)) }
     ensures refused { IfErr result (λ e. e ≡ Memory) }
 {

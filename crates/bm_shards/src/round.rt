@@ -13,7 +13,7 @@ use crate::abort::abort_all;
 use crate::all_shards::AllShards;
 use crate::answers::{Asked, gather_prepared};
 use crate::pass_buffers::reserve_pass;
-use crate::round_parts::find_round;
+use crate::round_parts::{find_round, lacks_transfers};
 use crate::workers::Workers;
 use bm_base::{Chosen, Commands, Config, Refusal, RoundPart};
 use bm_crew::{Crew, Ready};
@@ -52,24 +52,26 @@ impl AllShards {
         ensures refused { IfErr result (λ e. e ≡ Memory) }
     {
         round_all(
-            self.alloc,
             workers,
             &mut self.shards,
             config,
             last,
             topology,
+            &mut self.is_scarce,
         )
     }
 }
 
-/// Takes the round after `last` in all shards, or in none, and returns its commands.
+/// Takes the round after `last` in all shards, or in none, and returns its commands. `is_scarce` is
+/// a hint: whether to ask for all wishes at once. It is not set after a refusal in the search, so
+/// that the next round needs less memory.
 fn round_all<W: Workers>(
-    alloc: Global,
     workers: &W,
     shards: &mut Vec<(u32, Shard)>,
     config: &Config,
     last: u64,
     topology: &Topology,
+    is_scarce: &mut bool,
 ) -> Result<Commands, Refusal>
     requires config { config_refusal config.now ≡ None }
     requires counted { last + 1 < 2 ^ 64 }
@@ -89,7 +91,10 @@ fn round_all<W: Workers>(
     ensures kept { OnErr result (HaveTaken last config.now.pend shards.new.items) }
     ensures refused { IfErr result (λ e. e ≡ Memory) }
 {
-    let found = find_round(alloc, workers, shards, config, last + 1, topology)?;
+    let alloc = *shards.allocator();
+    let asks_for_all = mem::replace(is_scarce, false);
+    let found = find_round(workers, shards, config, last + 1, topology, asks_for_all)?;
+    *is_scarce = lacks_transfers(&found, config, topology);
     take_round(
         alloc,
         workers,
@@ -150,7 +155,7 @@ fn prepare_for_round<W: Workers>(
     ensures same { AllZip IsSame shards.old.items shards.new.items }
     ensures ready { OnOk result
         (All (CanCommitRound topology.now.cluster parts.now chosen.now) shards.new.items) }
-    ensures room { IfOk result (λ r. r.room ≡ vec_len shards.new) }
+    ensures capacity { IfOk result (λ r. r.capacity ≡ vec_len shards.new) }
     ensures refused { IfErr result (λ e. e ≡ Memory) }
 {
     let (preparing, back) = reserve_pass::<Asked<()>>(alloc, shards.len(), workers.count())?;

@@ -30,15 +30,15 @@ pub(crate) struct FoundRound {
 }
 
 /// Collects each shard's part and chooses from them. Asks first for the wishes up to a bound. While
-/// the round is not full after that, asks for those up to a later bound, and at last for all. No
-/// shard changes.
+/// the round is not full after that, asks for those up to a later bound, and at last for all.
+/// `asks_for_all` leaves the bounds out; the answer is the same. No shard changes.
 pub(crate) fn find_round<W: Workers>(
-    alloc: Global,
     workers: &W,
     shards: &mut Vec<(u32, Shard)>,
     config: &Config,
     round: u64,
     topology: &Topology,
+    asks_for_all: bool,
 ) -> Result<FoundRound, Refusal>
     requires config { config_refusal config.now ≡ None }
     requires shards { All (λ s. CanFind topology.now.cluster round s.1) shards.old.items }
@@ -53,7 +53,11 @@ pub(crate) fn find_round<W: Workers>(
         f.choice) }
     ensures refused { IfErr result (λ e. e ≡ Memory) }
 {
+    let alloc = *shards.allocator();
     for wishes in &WISHES_PER_TRANSFER {
+        if asks_for_all {
+            break;
+        }
         let bound = bound_of_shards(shards.as_slice(), config, topology, *wishes)?;
         let parts = find_parts(alloc, workers, shards, round, topology, bound)?;
         let choice = choose_commands(alloc, parts.as_slice(), config, round, topology)?;
@@ -64,6 +68,20 @@ pub(crate) fn find_round<W: Workers>(
     let parts = find_parts(alloc, workers, shards, round, topology, None)?;
     let choice = choose_commands(alloc, parts.as_slice(), config, round, topology)?;
     Ok(FoundRound { parts, choice })
+}
+
+/// Whether a round is not full, although it found more wishes than the first bound asks for. Then
+/// the next round is likely to need all wishes too.
+pub(crate) fn lacks_transfers(found: &FoundRound, config: &Config, topology: &Topology) -> bool {
+    if is_full(&found.choice.chosen, topology, config) {
+        return false;
+    }
+    let mut wishes = 0;
+    for part in found.parts.as_slice() {
+        wishes = part.wishes.as_slice().len().saturating_add(wishes);
+    }
+    let transfers = u64::from(config.work).saturating_mul(u64::from(topology.alive_nodes()));
+    wishes as u64 > transfers.saturating_mul(WISHES_PER_TRANSFER[0])
 }
 
 /// Whether the choice from the wishes before a bound is the choice from all wishes.

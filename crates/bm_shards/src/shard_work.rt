@@ -18,7 +18,7 @@ use bm_shard::Shard;
 use bm_topo::Topology;
 
 /// Takes the memory of an event in one shard.
-pub(crate) fn prepare_one(mut shard: Shard, event: &Event, topology: &Topology) -> Asked<()>
+pub(crate) fn prepare_shard(mut shard: Shard, event: &Event, topology: &Topology) -> Asked<()>
     ensures { IsPrepared (IsReadyFor event.now) shard result }
 {
     let answer = shard.prepare(event, topology);
@@ -26,7 +26,7 @@ pub(crate) fn prepare_one(mut shard: Shard, event: &Event, topology: &Topology) 
 }
 
 /// Changes one shard by an event on no block for which it is ready.
-pub(crate) fn commit_one(
+pub(crate) fn commit_shard(
     mut shard: Shard,
     event: &Event,
     topology: &Topology,
@@ -43,7 +43,7 @@ pub(crate) fn commit_one(
 }
 
 /// Finds the part of one shard in its next round, with the wishes before a bound.
-pub(crate) fn find_one(
+pub(crate) fn find_in_shard(
     shard: Shard,
     round: u64,
     topology: &Topology,

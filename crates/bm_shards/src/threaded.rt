@@ -12,7 +12,7 @@ ghost use Rattle.bm_shards.specs.RoundWorked.{CanFind, HasPart, CanCommitRound, 
 
 use crate::answers::{Answered, Asked};
 use crate::shard_work::{
-    commit_one, commit_round_one, find_one, prepare_one, prepare_round_one, rows_of_one,
+    commit_round_one, commit_shard, find_in_shard, prepare_round_one, prepare_shard, rows_of_one,
 };
 use crate::table::Rows;
 use crate::workers::Workers;
@@ -81,7 +81,7 @@ impl<R: Threads + Wait> Workers for Threaded<R, &(dyn Gate + Sync)> {
     ) -> Vec<(u32, Asked<()>)> {
         let work = |_: u32, shard: Shard| -> Asked<()>
             ensures { IsPrepared (IsReadyFor event.entry.now) shard result }
-        { prepare_one(shard, event, topology) };
+        { prepare_shard(shard, event, topology) };
         ready.run(&self.rt, shards, &work, &self.gate)
     }
 
@@ -99,7 +99,7 @@ impl<R: Threads + Wait> Workers for Threaded<R, &(dyn Gate + Sync)> {
             requires multi { multi ≡ is_multi_rack (change_cluster topology.now.cluster event.now) }
             requires shard { CanCommit topology.now.cluster event.now shard }
             ensures { IsCommitted topology.entry.now.cluster event.entry.now shard result }
-        { commit_one(shard, event, topology, multi) };
+        { commit_shard(shard, event, topology, multi) };
         ready.run(&self.rt, shards, &work, &self.gate)
     }
 
@@ -115,7 +115,7 @@ impl<R: Threads + Wait> Workers for Threaded<R, &(dyn Gate + Sync)> {
             requires { CanFind topology.now.cluster round shard }
             ensures { HasAnswered
                 (λ S. part_before bound (next_part topology.entry.now.cluster S)) shard result }
-        { find_one(shard, round, topology, bound) };
+        { find_in_shard(shard, round, topology, bound) };
         ready.run(&self.rt, shards, &work, &self.gate)
     }
 

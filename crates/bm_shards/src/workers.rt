@@ -38,7 +38,7 @@ pub trait Workers {
         event: &Event,
         topology: &Topology,
     ) -> Vec<(u32, Asked<()>)>
-        requires room { vec_len shards ≤ ready.room }
+        requires capacity { vec_len shards ≤ ready.capacity }
         ensures len { vec_len result ≡ vec_len shards }
         ensures each { EachBecame (IsPrepared (IsReadyFor event.now)) shards.items
             result.items };
@@ -52,7 +52,7 @@ pub trait Workers {
         topology: &Topology,
         multi: bool,
     ) -> Vec<(u32, Answered<Done>)>
-        requires room { vec_len shards ≤ ready.room }
+        requires capacity { vec_len shards ≤ ready.capacity }
         requires cluster { first_of (cluster_checks topology.now.cluster event.now) ≡ None }
         requires every { block_of event.now ≡ None }
         requires multi { multi ≡ is_multi_rack (change_cluster topology.now.cluster event.now) }
@@ -71,7 +71,7 @@ pub trait Workers {
         topology: &Topology,
         bound: Option<Key>,
     ) -> Vec<(u32, Asked<RoundPart>)>
-        requires room { vec_len shards ≤ ready.room }
+        requires capacity { vec_len shards ≤ ready.capacity }
         requires shards { All (λ s. CanFind topology.now.cluster round s.1) shards.items }
         ensures len { vec_len result ≡ vec_len shards }
         ensures each { EachBecame
@@ -88,7 +88,7 @@ pub trait Workers {
         chosen: &Chosen,
         topology: &Topology,
     ) -> Vec<(u32, Asked<()>)>
-        requires room { vec_len shards ≤ ready.room }
+        requires capacity { vec_len shards ≤ ready.capacity }
         requires shards { All (HasPart topology.now.cluster parts.now) shards.items }
         ensures len { vec_len result ≡ vec_len shards }
         ensures each { EachBecame (IsPrepared (IsReadyForRound chosen.now)) shards.items
@@ -103,7 +103,7 @@ pub trait Workers {
         chosen: &Chosen,
         topology: &Topology,
     ) -> Vec<(u32, Shard)>
-        requires room { vec_len shards ≤ ready.room }
+        requires capacity { vec_len shards ≤ ready.capacity }
         requires shards { All (CanCommitRound topology.now.cluster parts.now chosen.now) shards.items }
         ensures len { vec_len result ≡ vec_len shards }
         ensures each { EachBecame (HasTakenRound topology.now.cluster chosen.now) shards.items
@@ -115,7 +115,7 @@ pub trait Workers {
         ready: Ready<Shard, Asked<Rows>>,
         shards: Vec<(u32, Shard)>,
     ) -> Vec<(u32, Asked<Rows>)>
-        requires room { vec_len shards ≤ ready.room }
+        requires capacity { vec_len shards ≤ ready.capacity }
         ensures len { vec_len result ≡ vec_len shards }
         ensures each { EachBecame (HasAnswered rows_of) shards.items result.items };
 }

@@ -85,23 +85,23 @@ module _ (key : ℕ → ℕ) where
   )
 
   -- the next storage comes after all that are of its node or of lesser ones
-  module _ (ks ss : List ℕ) (s place : ℕ) (within : place ≤ length ss)
-      (point : IsPartitionPoint (λ t. nat_le (key t) (key s) ≡ true) (λ t. nat_le (key t) (key s) ≡ false) ss place) where
-    in_order_with : IsNonDecreasingBy key ss → IsNonDecreasingBy key (insert ss place s)
+  module _ (ks ss : List ℕ) (s index : ℕ) (within : index ≤ length ss)
+      (point : IsPartitionPoint (λ t. nat_le (key t) (key s) ≡ true) (λ t. nat_le (key t) (key s) ≡ false) ss index) where
+    in_order_with : IsNonDecreasingBy key ss → IsNonDecreasingBy key (insert ss index s)
     in_order_with sorted =
-        IsNonDecreasingBy-insert key ss place s sorted within (λ k d lt. at_most (key (get_or ss k d)) (key s) (point.0 k d (omega arith) lt))
+        IsNonDecreasingBy-insert key ss index s sorted within (λ k d lt. at_most (key (get_or ss k d)) (key s) (point.0 k d (omega arith) lt))
         (λ k d le lt. more (key (get_or ss k d)) (key s) (point.1 k d le lt))
 
-    each_with : (n : ℕ) → filter (λ t. key t == n) ss ≡ filter (λ t. key t == n) ks → filter (λ t. key t == n) (insert ss place s) ≡ filter (λ t. key t == n) (ks ++ s ∷ [])
+    each_with : (n : ℕ) → filter (λ t. key t == n) ss ≡ filter (λ t. key t == n) ks → filter (λ t. key t == n) (insert ss index s) ≡ filter (λ t. key t == n) (ks ++ s ∷ [])
     each_with n same =
         let p : ℕ → Bool = λ t. key t == n in
-        let whole : filter p (take place ss) ++ filter p (drop place ss) ≡ filter p ks = parted p ss place ∙ same in
-        filter_append p (take place ss) (s ∷ drop place ss)
-        ∙ (elim (key s == n) as (λ b. (key s == n) ≡ b → filter p (take place ss) ++ cond b (s ∷ filter p (drop place ss)) (filter p (drop place ss)) ≡ filter p ks ++ cond b (s ∷ []) []) [
+        let whole : filter p (take index ss) ++ filter p (drop index ss) ≡ filter p ks = parted p ss index ∙ same in
+        filter_append p (take index ss) (s ∷ drop index ss)
+        ∙ (elim (key s == n) as (λ b. (key s == n) ≡ b → filter p (take index ss) ++ cond b (s ∷ filter p (drop index ss)) (filter p (drop index ss)) ≡ filter p ks ++ cond b (s ∷ []) []) [
           | true ↦ λ t.
-              let none : filter p (drop place ss) ≡ [] =
-              none_left p (drop place ss) (each_from (λ x. p x ≡ false) ss place (λ k d le lt. above (key (get_or ss k d)) (key s) n (point.1 k d le lt) (eqb-true (key s) n t))) in
-              let front : filter p (take place ss) ≡ filter p ks = sym (append-nil (filter p (take place ss))) ∙ ap (λ xs. filter p (take place ss) ++ xs) (sym none) ∙ whole in
+              let none : filter p (drop index ss) ≡ [] =
+              none_left p (drop index ss) (each_from (λ x. p x ≡ false) ss index (λ k d le lt. above (key (get_or ss k d)) (key s) n (point.1 k d le lt) (eqb-true (key s) n t))) in
+              let front : filter p (take index ss) ≡ filter p ks = sym (append-nil (filter p (take index ss))) ∙ ap (λ xs. filter p (take index ss) ++ xs) (sym none) ∙ whole in
               (λ i. front i ++ s ∷ none i)
           | false ↦ λ _. whole ∙ sym (append-nil (filter p ks))
         ]) refl
@@ -132,14 +132,14 @@ pub none_known : (storages : Map by_number StorageInfo) (ss : List ℕ) → stor
 none_known storages ss is none =
     subst (λ m. AreAllByNode m ss) (sym is) (subst (λ xs. AreByNode (node_in empty) xs ss) (sym no_keys) (subst (AreByNode (node_in empty) []) (sym none) (none_by_node (node_in empty))))
 
-pub one_more : (storages : Map by_number StorageInfo) (ks ss : List ℕ) (s place n : ℕ) → node_in storages s ≡ n → place ≤ length ss
-    → IsPartitionPoint (λ t. nat_le (node_in storages t) n ≡ true) (λ t. nat_le (node_in storages t) n ≡ false) ss place → AreByNode (node_in storages) ks ss → AreByNode (node_in storages) (ks ++ s ∷ []) (insert ss place s)
-one_more storages ks ss s place n at within parts h =
-    let point = subst (λ m. IsPartitionPoint (λ t. nat_le (node_in storages t) m ≡ true) (λ t. nat_le (node_in storages t) m ≡ false) ss place) (sym at) parts in
+pub one_more : (storages : Map by_number StorageInfo) (ks ss : List ℕ) (s index n : ℕ) → node_in storages s ≡ n → index ≤ length ss
+    → IsPartitionPoint (λ t. nat_le (node_in storages t) n ≡ true) (λ t. nat_le (node_in storages t) n ≡ false) ss index → AreByNode (node_in storages) ks ss → AreByNode (node_in storages) (ks ++ s ∷ []) (insert ss index s)
+one_more storages ks ss s index n at within parts h =
+    let point = subst (λ m. IsPartitionPoint (λ t. nat_le (node_in storages t) m ≡ true) (λ t. nat_le (node_in storages t) m ≡ false) ss index) (sym at) parts in
     record {
-      in_order = in_order_with (node_in storages) ks ss s place within point h.in_order;
-      each = λ m. each_with (node_in storages) ks ss s place within point m (h.each m);
-      many = length-insert ss place s within ∙ ap (λ k. k + 1) h.many ∙ sym (length_push ks s);
+      in_order = in_order_with (node_in storages) ks ss s index within point h.in_order;
+      each = λ m. each_with (node_in storages) ks ss s index within point m (h.each m);
+      many = length-insert ss index s within ∙ ap (λ k. k + 1) h.many ∙ sym (length_push ks s);
     }
 
 -- What a loop over the entries of a table knows of the one at its place.
@@ -161,18 +161,18 @@ module _ (m : Map by_number StorageInfo) (es : List (ℕ × StorageInfo)) (i : �
       ∙ ap (λ k. take i (map (λ (x : ℕ × StorageInfo). x.0) (entries m)) ++ k ∷ [])
       (get_or-map (λ (x : ℕ × StorageInfo). x.0) (entries m) i e ∙ ap (λ (x : ℕ × StorageInfo). x.0) (ap (λ xs. get_or xs i e) (sym is) ∙ sym read))
 
-  pub placed : (ss seen new : List ℕ) (e : ℕ × StorageInfo) (place : ℕ) → seen ≡ ss → i < length es → e ≡ get_or es i e → place ≤ length seen
-      → (IsNonDecreasingBy (node_in m) seen → IsPartitionPoint (λ t. nat_le (node_in m t) e.1.node ≡ true) (λ t. nat_le (node_in m t) e.1.node ≡ false) seen place)
-      → new ≡ insert ss place e.0 → AreByNode (node_in m) (take i (keys m)) ss → AreByNode (node_in m) (take (i + 1) (keys m)) new
-  placed ss seen new e place same below read within parts made h =
+  pub placed : (ss seen new : List ℕ) (e : ℕ × StorageInfo) (index : ℕ) → seen ≡ ss → i < length es → e ≡ get_or es i e → index ≤ length seen
+      → (IsNonDecreasingBy (node_in m) seen → IsPartitionPoint (λ t. nat_le (node_in m t) e.1.node ≡ true) (λ t. nat_le (node_in m t) e.1.node ≡ false) seen index)
+      → new ≡ insert ss index e.0 → AreByNode (node_in m) (take i (keys m)) ss → AreByNode (node_in m) (take (i + 1) (keys m)) new
+  placed ss seen new e index same below read within parts made h =
       let key = node_in m in
       let node = node_there m e.0 e.1 (entry_there m es i e is below read) in
       let before = subst (AreByNode key (take i (keys m))) (sym same) h in
-      let after = one_more m (take i (keys m)) seen e.0 place e.1.node node within (parts before.in_order) before in
-      subst (λ xs. AreByNode key xs new) (sym (next_key e below read)) (subst (AreByNode key (take i (keys m) ++ e.0 ∷ [])) (ap (λ xs. insert xs place e.0) same ∙ sym made) after)
+      let after = one_more m (take i (keys m)) seen e.0 index e.1.node node within (parts before.in_order) before in
+      subst (λ xs. AreByNode key xs new) (sym (next_key e below read)) (subst (AreByNode key (take i (keys m) ++ e.0 ∷ [])) (ap (λ xs. insert xs index e.0) same ∙ sym made) after)
 
-  pub room_left : (ss : List ℕ) (bound : ℕ) → i < length es → len m ≤ bound → AreByNode (node_in m) (take i (keys m)) ss → length ss < bound
-  room_left ss bound below few h =
+  pub capacity_left : (ss : List ℕ) (bound : ℕ) → i < length es → len m ≤ bound → AreByNode (node_in m) (take i (keys m)) ss → length ss < bound
+  capacity_left ss bound below few h =
       let count = same_count m es is in
       let long = length-take-le i (keys m) (omega (arith, count, count_keys m, below)) in
       omega (arith, h.many, long, count, below, few)
@@ -224,8 +224,8 @@ unfolding revise_at
 keys-reported [] m = refl
 keys-reported (r ∷ rs) m = keys-reported rs (revise_at m r.storage (λ i. record i { remaining = r.remaining })) ∙ keys-revised m _
 
-pub by_node_told : (old new : Map by_number StorageInfo) (rs : List Remaining) (ss : List ℕ) → new ≡ set_remaining old rs → AreAllByNode old ss → AreAllByNode new ss
+pub by_node_reported : (old new : Map by_number StorageInfo) (rs : List Remaining) (ss : List ℕ) → new ≡ set_remaining old rs → AreAllByNode old ss → AreAllByNode new ss
 unfolding node_in
-by_node_told old new rs ss is h =
+by_node_reported old new rs ss is h =
     let nodes : (s : ℕ) → node_in old s ≡ node_in new s = λ s. ap (λ o. unwrap_or o 0) (sym (same_nodes old rs s)) ∙ ap (λ m. node_in m s) (sym is) in
     subst (λ (x : (ℕ → ℕ) × List ℕ). AreByNode x.0 x.1 ss) (λ i. (λ s. nodes s i, (sym (keys-reported rs old) ∙ ap keys (sym is)) i)) h

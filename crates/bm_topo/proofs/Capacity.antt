@@ -5,7 +5,7 @@ use Rattle.bm_base.specs.declared.storage.StorageInfo.{StorageInfo}
 use Rattle.bm_base.specs.Maps.Map.{Map, by_number, len, remove, revise_at}
 use Rattle.bm_maps.specs.Table.{Table, capacity}
 use Rattle.bm_topo.specs.Racks.{without_one}
-use Rattle.bm_topo.specs.Seen.{Seen, SpareRoom, IsSameCapacity, HasNoLessRoom}
+use Rattle.bm_topo.specs.Seen.{Seen, SpareCapacity, IsSameCapacity, HasNoLessCapacity}
 use Rattle.bm_topo.specs.Sound.{IsSound}
 use Rattle.bm_topo.proofs.Lengths.{len-remove, len-revise_at}
 use Rattle.bm_topo.proofs.RackCount.{racks_counted}
@@ -13,7 +13,7 @@ use Rattle.bm_topo.proofs.RackCount.{racks_counted}
 abbrev pub seen_of : Table ℕ → Table (Unit {0}) → Table ℕ → Table StorageInfo → Seen
 seen_of nodes draining racks storages = record {
   cluster = record { nodes = nodes.map; draining = draining.map; storages = storages.map };
-  room = record { nodes = nodes.room; draining = draining.room; racks = racks.room; storages = storages.room };
+  spare = record { nodes = nodes.spare; draining = draining.spare; racks = racks.spare; storages = storages.spare };
 }
 
 -- four tables, and what becomes of them, each within its capacity
@@ -43,20 +43,20 @@ module _ (nodes nodes' racks racks' : Table ℕ) (draining draining' : Table (Un
       } in
       subst (λ s. IsSameCapacity s (seen_of nodes' draining' racks' storages')) is same
 
-  pub no_less : IsWithin nodes nodes' racks racks' draining draining' storages storages' → IsNoLonger nodes nodes' racks racks' draining draining' storages storages' → HasNoLessRoom old.room (seen_of nodes' draining' racks' storages').room
+  pub no_less : IsWithin nodes nodes' racks racks' draining draining' storages storages' → IsNoLonger nodes nodes' racks racks' draining draining' storages storages' → HasNoLessCapacity old.spare (seen_of nodes' draining' racks' storages').spare
   no_less within shorter =
-      let same : HasNoLessRoom (seen_of nodes draining racks storages).room (seen_of nodes' draining' racks' storages').room = (
+      let same : HasNoLessCapacity (seen_of nodes draining racks storages).spare (seen_of nodes' draining' racks' storages').spare = (
         omega (arith, within.nodes_same, shorter.nodes_fewer),
         omega (arith, within.draining_same, shorter.draining_fewer),
         omega (arith, within.racks_same, shorter.racks_fewer),
         omega (arith, within.storages_same, shorter.storages_fewer),
       ) in
-      subst (λ s. HasNoLessRoom s.room (seen_of nodes' draining' racks' storages').room) is same
+      subst (λ s. HasNoLessCapacity s.spare (seen_of nodes' draining' racks' storages').spare) is same
 
 -- where the storages alone change
 pub no_less_storages : (nodes racks : Table ℕ) (draining : Table (Unit {0})) (storages storages' : Table StorageInfo) (old : Seen)
     → seen_of nodes draining racks storages ≡ old → capacity storages' ≡ capacity storages → len storages'.map ≤ len storages.map
-    → HasNoLessRoom old.room (seen_of nodes draining racks storages').room
+    → HasNoLessCapacity old.spare (seen_of nodes draining racks storages').spare
 no_less_storages nodes racks draining storages storages' old is same fewer =
     no_less nodes nodes racks racks draining draining storages storages' old is
     (record { nodes_same = refl; draining_same = refl; racks_same = refl; storages_same = same })
@@ -65,13 +65,13 @@ no_less_storages nodes racks draining storages storages' old is same fewer =
 -- where the nodes that drain, and no others, change
 pub no_less_draining : (nodes racks : Table ℕ) (draining draining' : Table (Unit {0})) (storages : Table StorageInfo) (old : Seen)
     → seen_of nodes draining racks storages ≡ old → capacity draining' ≡ capacity draining → len draining'.map ≤ len draining.map
-    → HasNoLessRoom old.room (seen_of nodes draining' racks storages).room
+    → HasNoLessCapacity old.spare (seen_of nodes draining' racks storages).spare
 no_less_draining nodes racks draining draining' storages old is same fewer =
     no_less nodes nodes racks racks draining draining' storages storages old is
     (record { nodes_same = refl; draining_same = same; racks_same = refl; storages_same = refl })
     (record { nodes_fewer = omega arith; draining_fewer = fewer; racks_fewer = omega arith; storages_fewer = omega arith })
 
-pub no_less-then : (a b c : SpareRoom) → HasNoLessRoom a b → HasNoLessRoom b c → HasNoLessRoom a c
+pub no_less-then : (a b c : SpareCapacity) → HasNoLessCapacity a b → HasNoLessCapacity b c → HasNoLessCapacity a c
 no_less-then a b c p q = (omega (arith, p.0, q.0), omega (arith, p.1, q.1), omega (arith, p.2, q.2), omega (arith, p.3, q.3))
 
 -- the counts, once one of n nodes has left rack r, are no more

@@ -29,9 +29,9 @@ spot_stays nodes draining old new p same h = record {
   drains = h.drains ∙ sym (ap (λ o. option_map_or (λ n. contains_key draining n) o false) same);
 }
 
-pub spots_told : (nodes : Map by_number ℕ) (draining : Set by_number) (old new : Map by_number StorageInfo) (rs : List Remaining) → new ≡ set_remaining old rs
+pub spots_reported : (nodes : Map by_number ℕ) (draining : Set by_number) (old new : Map by_number StorageInfo) (rs : List Remaining) → new ≡ set_remaining old rs
     → (spots : List Spot) (n : ℕ) → HasSpots (cluster_of nodes draining old) spots n → HasSpots (cluster_of nodes draining new) spots n
-spots_told nodes draining old new rs is spots n h = record {
+spots_reported nodes draining old new rs is spots n h = record {
   whole = h.whole;
   few = h.few;
   each = λ k p below at. spot_stays nodes draining old new p (ap (λ m. option_map (λ (i : StorageInfo). i.node) (get m p.storage)) is ∙ same_nodes old rs p.storage) (h.each k p below at);
@@ -51,14 +51,14 @@ spot_is nodes draining storages p i there node rack drains_is =
 
 -- one spot more is set
 pub set_next : (C : Cluster) (spots : List Spot) (i : ℕ) (p : Spot) → i < length spots → AreSpots C spots i → IsSpot C p → AreSpots C (slice_set spots i p) (i + 1)
-set_next C spots i p room before here k q below at =
+set_next C spots i p in_list before here k q below at =
     let read = slice_get-get_or (slice_set spots i p) k q (slice_get_within (slice_set spots i p) k q at) in
     elim (cases_eq k i) [
-      | inl is ↦ subst (IsSpot C) (sym (get_or-set_same spots i p q room) ∙ get_or_from_slice_get (slice_set spots i p) i q q (ap (λ z. slice_get (slice_set spots i p) z) (sym is) ∙ at)) here
+      | inl is ↦ subst (IsSpot C) (sym (get_or-set_same spots i p q in_list) ∙ get_or_from_slice_get (slice_set spots i p) i q q (ap (λ z. slice_get (slice_set spots i p) z) (sym is) ∙ at)) here
       | inr differs ↦
           let less : k < i = omega arith in
           let same = sym (get_or-set_other spots i k p q differs) ∙ get_or_from_slice_get (slice_set spots i p) k q q at in
-          let inside : k < length spots = omega (arith, less, room) in
+          let inside : k < length spots = omega (arith, less, in_list) in
           before k q less (slice_get-get_or spots k q inside ∙ ap Some same)
     ]
 

@@ -42,9 +42,9 @@ pub(crate) fn storages_of<'a>(
     ensures { result.now ≡ filter
         (λ s. node_in storages.now.map s == node) (map.keys storages.now.map) }
 {
-    let first = sorted.partition_point(|storage| node_in(storages, hints, *storage) < node.0);
+    let first = sorted.partition_point(|storage| read_node(storages, hints, *storage) < node.0);
     let rest = &sorted[first..];
-    let count = rest.partition_point(|storage| node_in(storages, hints, *storage) <= node.0);
+    let count = rest.partition_point(|storage| read_node(storages, hints, *storage) <= node.0);
     &rest[..count]
 }
 
@@ -64,7 +64,7 @@ fn index_for(
     if is_after_all(sorted, node, storages) {
         return sorted.len();
     }
-    sorted.partition_point(|storage| node_in(storages, hints, *storage) <= node.0)
+    sorted.partition_point(|storage| read_node(storages, hints, *storage) <= node.0)
 }
 
 /// Whether the last storage, if there is one, is of this node or a lesser one. One read where it
@@ -81,7 +81,7 @@ fn is_after_all(sorted: &[StorageId], node: NodeId, storages: &NumberMap<Storage
 }
 
 /// The node of a storage; 0 of one that the table does not have.
-fn node_in(storages: &NumberMap<StorageInfo>, hints: &IndexHints, storage: StorageId) -> u32
+fn read_node(storages: &NumberMap<StorageInfo>, hints: &IndexHints, storage: StorageId) -> u32
     ensures { result ≡ node_in storages.now.map storage }
 {
     node_near(storages, storage, hints.of_storage(u64::from(storage.0)))

@@ -6,7 +6,7 @@ ghost use Rattle.bm_base.specs.Maps.Map as map;
 ghost use Rattle.bm_base.specs.Machine.Events as events;
 ghost use Rattle.bm_base.specs.Words.{first_of, cluster_checks, Refuses};
 ghost use Rattle.bm_base.specs.declared.event.Event.TheVariants as event_of;
-ghost use Rattle.bm_topo.specs.Seen.{IsReadyFor, HasNoLessRoom, IsSameCapacity, grows_cluster};
+ghost use Rattle.bm_topo.specs.Seen.{IsReadyFor, HasNoLessCapacity, IsSameCapacity, grows_cluster};
 
 use crate::by_node::sort_by_node;
 use crate::tables::{add_storages, drop_storages, leave_rack, set_remaining};
@@ -21,12 +21,12 @@ impl Topology {
     /// The cluster stays as it is, and so does capacity that was reserved before.
     pub fn prepare(&mut self, event: &Event) -> Result<(), Refusal>
         requires { first_of (cluster_checks self.old.cluster event.now) ≡ None }
-        ensures ready { OnOk result (IsReadyFor event.now self.new.room) }
+        ensures ready { OnOk result (IsReadyFor event.now self.new.spare) }
         ensures refused { IfErr result (Refuses None (grows_cluster event.now)) }
-        ensures enough { IsReadyFor event.now self.old.room → IsOk result }
-        ensures nothing_taken { IsReadyFor event.now self.old.room → self.new ≡ self.old }
+        ensures enough { IsReadyFor event.now self.old.spare → IsOk result }
+        ensures nothing_taken { IsReadyFor event.now self.old.spare → self.new ≡ self.old }
         ensures nothing_needed { grows_cluster event.now ≡ false → self.new ≡ self.old }
-        ensures kept { HasNoLessRoom self.old.room self.new.room }
+        ensures kept { HasNoLessCapacity self.old.spare self.new.spare }
         ensures same { self.new.cluster ≡ self.old.cluster }
     {
         match event {
@@ -38,15 +38,15 @@ impl Topology {
 
     /// Reserves capacity for one node, on any rack, with `storages` storages.
     fn reserve(&mut self, storages: usize) -> Result<(), AllocError>
-        ensures nodes { OnOk result (1 ≤ self.new.room.nodes) }
-        ensures racks { OnOk result (1 ≤ self.new.room.racks) }
-        ensures storages { OnOk result (storages ≤ self.new.room.storages) }
-        ensures enough { 1 ≤ self.old.room.nodes → 1 ≤ self.old.room.racks
-            → storages ≤ self.old.room.storages → IsOk result }
-        ensures nothing_taken { 1 ≤ self.old.room.nodes → 1 ≤ self.old.room.racks
-            → storages ≤ self.old.room.storages →
+        ensures nodes { OnOk result (1 ≤ self.new.spare.nodes) }
+        ensures racks { OnOk result (1 ≤ self.new.spare.racks) }
+        ensures storages { OnOk result (storages ≤ self.new.spare.storages) }
+        ensures enough { 1 ≤ self.old.spare.nodes → 1 ≤ self.old.spare.racks
+            → storages ≤ self.old.spare.storages → IsOk result }
+        ensures nothing_taken { 1 ≤ self.old.spare.nodes → 1 ≤ self.old.spare.racks
+            → storages ≤ self.old.spare.storages →
             self.new ≡ self.old }
-        ensures kept { HasNoLessRoom self.old.room self.new.room }
+        ensures kept { HasNoLessCapacity self.old.spare self.new.spare }
         ensures same { self.new.cluster ≡ self.old.cluster }
     {
         self.nodes.reserve(1)?;
@@ -60,10 +60,11 @@ impl Topology {
     #[tactic(auto, unfolding(bm_base::specs::Machine::Events::change_cluster))]
     pub fn commit(&mut self, event: &Event)
         requires accepted { first_of (cluster_checks self.old.cluster event.now) ≡ None }
-        requires ready { IsReadyFor event.now self.old.room }
+        requires ready { IsReadyFor event.now self.old.spare }
         ensures after { self.new.cluster ≡ events.change_cluster self.old.cluster event.now }
         ensures no_growth { IsSameCapacity self.old self.new }
-        ensures kept { grows_cluster event.now ≡ false → HasNoLessRoom self.old.room self.new.room }
+        ensures kept { grows_cluster event.now ≡ false
+            → HasNoLessCapacity self.old.spare self.new.spare }
     {
         match event {
             Event::Register {
@@ -111,7 +112,7 @@ impl Topology {
     fn add_node(&mut self, node: NodeId, rack: Rack, storages: &[StorageId])
         requires accepted { first_of
             (cluster_checks self.old.cluster (event_of.Register node rack storages.now)) ≡ None }
-        requires ready { IsReadyFor (event_of.Register node rack storages.now) self.old.room }
+        requires ready { IsReadyFor (event_of.Register node rack storages.now) self.old.spare }
         ensures after { self.new.cluster ≡ events.register self.old.cluster node rack storages.now }
         ensures no_growth { IsSameCapacity self.old self.new }
     {
@@ -127,7 +128,7 @@ impl Topology {
     fn drop_node(&mut self, node: NodeId)
         ensures after { self.new.cluster ≡ events.without_node self.old.cluster node }
         ensures no_growth { IsSameCapacity self.old self.new }
-        ensures kept { HasNoLessRoom self.old.room self.new.room }
+        ensures kept { HasNoLessCapacity self.old.spare self.new.spare }
     {
         self.spot_count = 0;
         drop_storages(&mut self.storages, node);
@@ -144,7 +145,7 @@ impl Topology {
         ensures after { self.new.cluster
             ≡ record self.old.cluster { nodes = map.remove self.old.cluster.nodes node } }
         ensures no_growth { IsSameCapacity self.old self.new }
-        ensures kept { HasNoLessRoom self.old.room self.new.room }
+        ensures kept { HasNoLessCapacity self.old.spare self.new.spare }
     {
         let Some(rack) = self.rack_of_node(node) else {
             return;
@@ -156,7 +157,7 @@ impl Topology {
     }
 
     fn drain(&mut self, node: NodeId)
-        requires room { 1 ≤ self.old.room.draining }
+        requires spare { 1 ≤ self.old.spare.draining }
         requires alive { map.contains_key self.old.cluster.nodes node ≡ true }
         ensures after { self.new.cluster ≡ events.drain self.old.cluster node }
         ensures no_growth { IsSameCapacity self.old self.new }
@@ -168,7 +169,7 @@ impl Topology {
     fn undrain(&mut self, node: NodeId)
         ensures after { self.new.cluster ≡ events.undrain self.old.cluster node }
         ensures no_growth { IsSameCapacity self.old self.new }
-        ensures kept { HasNoLessRoom self.old.room self.new.room }
+        ensures kept { HasNoLessCapacity self.old.spare self.new.spare }
     {
         self.spot_count = 0;
         self.draining.remove(u64::from(node.0));
@@ -177,7 +178,7 @@ impl Topology {
     fn drop_storage(&mut self, storage: StorageId)
         ensures after { self.new.cluster ≡ events.without_storage self.old.cluster storage }
         ensures no_growth { IsSameCapacity self.old self.new }
-        ensures kept { HasNoLessRoom self.old.room self.new.room }
+        ensures kept { HasNoLessCapacity self.old.spare self.new.spare }
     {
         self.spot_count = 0;
         self.storages.remove(u64::from(storage.0));
@@ -188,8 +189,8 @@ impl Topology {
     fn set_remaining(&mut self, remaining: &[Remaining])
         ensures after { self.new.cluster ≡ events.heartbeat self.old.cluster remaining.now }
         ensures no_growth { IsSameCapacity self.old self.new }
-        ensures kept { HasNoLessRoom self.old.room self.new.room }
+        ensures kept { HasNoLessCapacity self.old.spare self.new.spare }
     {
-        set_remaining(&mut self.storages, remaining);
+        set_remaining(&mut self.storages, &self.hints, remaining);
     }
 }

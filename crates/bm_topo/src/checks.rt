@@ -173,7 +173,7 @@ impl Topology {
     fn knows_node(&self, node: NodeId) -> bool
         ensures { result ≡ knows_node self.now.cluster node }
     {
-        self.nodes.get(u64::from(node.0)).is_some()
+        self.rack_of_node(node).is_some()
     }
 }
 

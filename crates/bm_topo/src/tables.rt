@@ -7,6 +7,7 @@ ghost use Rattle.bm_topo.specs.Racks.{without_one};
 ghost use Rattle.bm_topo.specs.NewStorages.{new_storages};
 ghost use Rattle.bm_topo.specs.Keys.{HasSmallKeys};
 
+use crate::index_hints::IndexHints;
 use bm_base::{NodeId, Rack, Remaining, StorageId, StorageInfo};
 use bm_maps::NumberMap;
 
@@ -16,7 +17,7 @@ pub(crate) fn add_storages(
     node: NodeId,
     its_own: &[StorageId],
 )
-    requires { length its_own.now ≤ storages.old.room }
+    requires { length its_own.now ≤ storages.old.spare }
     ensures after { storages.new.map ≡ map.insert_all storages.old.map (new_storages node its_own.now) }
     ensures small { HasSmallKeys storages.old.map → HasSmallKeys storages.new.map }
     ensures no_growth { capacity storages.new ≡ capacity storages.old }
@@ -50,26 +51,38 @@ pub(crate) fn leave_rack(racks: &mut NumberMap<u32>, rack: Rack, count: u32)
 }
 
 /// Sets the remaining bytes of known storages, one after another.
-pub(crate) fn set_remaining(storages: &mut NumberMap<StorageInfo>, remaining: &[Remaining])
+pub(crate) fn set_remaining(
+    storages: &mut NumberMap<StorageInfo>,
+    hints: &IndexHints,
+    remaining: &[Remaining],
+)
     ensures after { storages.new.map ≡ events.set_remaining storages.old.map remaining.now }
     ensures no_growth { capacity storages.new ≡ capacity storages.old }
 {
     for reported in remaining {
-        set_remaining_of(storages, reported.storage, reported.remaining);
+        set_storage_remaining(storages, hints, reported.storage, reported.remaining);
     }
 }
 
-/// Sets the remaining bytes of a storage, if it is there.
-fn set_remaining_of(storages: &mut NumberMap<StorageInfo>, storage: StorageId, remaining: u64)
+/// Sets the remaining bytes of a storage, if it is there: a few reads at the hint, and else a
+/// look-up.
+fn set_storage_remaining(
+    storages: &mut NumberMap<StorageInfo>,
+    hints: &IndexHints,
+    storage: StorageId,
+    remaining: u64,
+)
     ensures after { storages.new.map
         ≡ map.revise_at storages.old.map storage (λ i. record i { remaining = remaining }) }
     ensures no_growth { capacity storages.new ≡ capacity storages.old }
 {
-    if let Some(info) = storages.get(u64::from(storage.0)) {
+    let number = u64::from(storage.0);
+    let guess = hints.of_storage(number);
+    if let Some(info) = storages.get_near(number, guess) {
         let updated = StorageInfo {
             node: info.node,
             remaining,
         };
-        storages.replace(u64::from(storage.0), updated);
+        storages.replace_near(number, updated, guess);
     }
 }

@@ -9,7 +9,7 @@ ghost use Rattle.bm_base.specs.Machine.Excess as excess;
 ghost use Rattle.bm_base.specs.Machine.Refusals.{knows_node, knows_storage};
 ghost use Rattle.bm_base.specs.Promises.Lawful.{IsLawfulCluster};
 ghost use Rattle.bm_base.specs.declared.limits.TheConstants.{MAX_NODES, MAX_STORAGES};
-ghost use Rattle.bm_topo.specs.Seen.{no_room};
+ghost use Rattle.bm_topo.specs.Seen.{no_capacity};
 
 use crate::by_node::{StoragesByNode, storages_of};
 use crate::index_hints::IndexHints;
@@ -73,11 +73,11 @@ impl Model for Topology {
         draining = t.draining.map;
         storages = t.storages.map;
       };
-      room = record {
-        nodes = t.nodes.room;
-        draining = t.draining.room;
-        racks = t.racks.room;
-        storages = t.storages.room;
+      spare = record {
+        nodes = t.nodes.spare;
+        draining = t.draining.spare;
+        racks = t.racks.spare;
+        storages = t.storages.spare;
       };
     } };
 
@@ -91,7 +91,7 @@ impl Topology {
     #[tactic(auto, unfolding(bm_base::specs::Machine::State::empty_cluster))]
     pub fn new(alloc: Global) -> Result<Topology, Refusal>
         ensures empty { IfOk result (λ t. t.cluster ≡ state.empty_cluster) }
-        ensures room { IfOk result (λ t. t.room ≡ no_room) }
+        ensures spare { IfOk result (λ t. t.spare ≡ no_capacity) }
         ensures succeeds { IsOk result }
     {
         Ok(Topology {

@@ -21,13 +21,13 @@ pub fits_later : (v : Option Evidence) (s t : Evidence) → BeginsShown v s → 
 fits_later None s t f g = tt
 fits_later (Some v) s t f g = goes_trans v s t f g
 
--- the view of one seat changes
-kept_set : (shown : Evidence) (views : List (Option Evidence)) (seat : ℕ) (w : Option Evidence) → ((j : ℕ) (u : Option Evidence) → get_elem? views j ≡ some u → BeginsShown u shown) → BeginsShown w shown → Kept shown (set views seat w)
-kept_set shown views seat w others mine j u e =
+-- the view of one slot changes
+kept_set : (shown : Evidence) (views : List (Option Evidence)) (slot : ℕ) (w : Option Evidence) → ((j : ℕ) (u : Option Evidence) → get_elem? views j ≡ some u → BeginsShown u shown) → BeginsShown w shown → Kept shown (set views slot w)
+kept_set shown views slot w others mine j u e =
     ⊎_elim
-    (λ (x : (j ≡ seat) × (w ≡ u)). subst (λ u. BeginsShown u shown) x.1 mine)
-    (λ (x : (j ≢ seat) × (get_elem? views j ≡ some u)). others j u x.1)
-    (at_set views seat j w u e)
+    (λ (x : (j ≡ slot) × (w ≡ u)). subst (λ u. BeginsShown u shown) x.1 mine)
+    (λ (x : (j ≢ slot) × (get_elem? views j ≡ some u)). others j u x.1)
+    (at_set views slot j w u e)
 
 kept_snoc : (shown : Evidence) (views : List (Option Evidence)) (w : Option Evidence) → Kept shown views → BeginsShown w shown → Kept shown (views ++ w ∷ [])
 kept_snoc shown views w h mine j u e = ⊎_elim (h j u) (λ (same : w ≡ u). subst (λ u. BeginsShown u shown) same mine) (at_snoc views w u j e)
@@ -36,21 +36,21 @@ pub admits : Admits Holds None
 admits x views h = kept_snoc x views None h tt
 
 -- a reader enters
-pub enters : (seat : ℕ) (v : Option Evidence) → Turns Holds seat v (λ x. x) (λ v x y w. Sees v y w)
-enters seat v x views h at = (Some x, kept_set x views seat (Some x) h (goes_self x), (h seat v at, refl))
+pub enters : (slot : ℕ) (v : Option Evidence) → Turns Holds slot v (λ x. x) (λ v x y w. Sees v y w)
+enters slot v x views h at = (Some x, kept_set x views slot (Some x) h (goes_self x), (h slot v at, refl))
 
 -- the publisher shows a later version
-pub shows : (seat : ℕ) (v : Option Evidence) (x y : Evidence) (next : Evidence) → Extends x next → y ≡ next → TurnsAt Holds seat v x y (λ v x y w. w ≡ Some y)
-shows seat v x y next goes is views h at =
+pub shows : (slot : ℕ) (v : Option Evidence) (x y : Evidence) (next : Evidence) → Extends x next → y ≡ next → TurnsAt Holds slot v x y (λ v x y w. w ≡ Some y)
+shows slot v x y next goes is views h at =
     let later : Extends x y = subst (Extends x) (sym is) goes in
-    (Some y, kept_set y views seat (Some y) (λ j u e. fits_later u x y (h j u e) later) (goes_self y), refl)
+    (Some y, kept_set y views slot (Some y) (λ j u e. fits_later u x y (h j u e) later) (goes_self y), refl)
 
 -- the publisher passes on what it saw
-pub shares : (seat : ℕ) (v : Option Evidence) → Forks Holds seat v v v
-shares seat v x views h at = kept_snoc x (set views seat v) v (kept_set x views seat v h (h seat v at)) (h seat v at)
+pub shares : (slot : ℕ) (v : Option Evidence) → Forks Holds slot v v v
+shares slot v x views h at = kept_snoc x (set views slot v) v (kept_set x views slot v h (h slot v at)) (h slot v at)
 
 -- a locator learns it
-pub learns : (seat : ℕ) (v : Option Evidence) (other : ℕ) (note : Option Evidence) → Merges Holds seat v other note note None
-learns seat v other note x views h at apart there =
-    let theirs = ⊎_elim (λ (t : (other ≡ seat) × (note ≡ note)). absurd (apart t.0)) (λ (t : (other ≢ seat) × (get_elem? views other ≡ some note)). h other note t.1) (at_set views seat other note note there) in
-    kept_set x (set views seat note) other None (kept_set x views seat note h theirs) tt
+pub learns : (slot : ℕ) (v : Option Evidence) (other : ℕ) (note : Option Evidence) → Merges Holds slot v other note note None
+learns slot v other note x views h at apart there =
+    let theirs = ⊎_elim (λ (t : (other ≡ slot) × (note ≡ note)). absurd (apart t.0)) (λ (t : (other ≢ slot) × (get_elem? views other ≡ some note)). h other note t.1) (at_set views slot other note note there) in
+    kept_set x (set views slot note) other None (kept_set x views slot note h theirs) tt

@@ -1,4 +1,4 @@
--- The rule of `left_right`: what a seat saw once is a prefix of the current value. A seat is a
+-- The rule of `left_right`: what a slot saw once is a prefix of the current value. A slot is a
 -- locator or the publisher; its view is the evidence of what it saw last.
 use Rattle.std.specs.Prelude.{◌≡◌, ℕ, List, Option, Some, None}
 use mathlib.Core.Option.{some}
@@ -18,20 +18,20 @@ pub record Extends (early late : Evidence) : Type 0 where
   pub home : early.home ≡ late.home
   pub list : IsPrefix (shown_in early.log) (shown_in late.log)
 
--- what a seat saw is a prefix of the current value, if it saw anything
+-- what a slot saw is a prefix of the current value, if it saw anything
 abbrev pub BeginsShown : Option Evidence → Evidence → Type 0
 BeginsShown None shown = Unit {0}
 BeginsShown (Some seen) shown = Extends seen shown
 
--- the same for each seat
+-- the same for each slot
 abbrev pub Kept : Evidence → List (Option Evidence) → Type 0
-Kept shown views = (seat : ℕ) (v : Option Evidence) → get_elem? views seat ≡ some v → BeginsShown v shown
+Kept shown views = (slot : ℕ) (v : Option Evidence) → get_elem? views slot ≡ some v → BeginsShown v shown
 
--- A seat with this view reads the current value, which is its view afterwards.
+-- A slot with this view reads the current value, which is its view afterwards.
 abbrev pub Sees : Option Evidence → Evidence → Option Evidence → Type 0
 Sees v shown w = BeginsShown v shown × (w ≡ Some shown)
 
--- a seat with this view saw at least that list, of this journal
+-- a slot with this view saw at least that list, of this journal
 abbrev pub HasSeen : Option Evidence → Home → List Version → Type 0
 HasSeen None home list = ⊥
 HasSeen (Some seen) home list = (seen.home ≡ home) × IsPrefix list (shown_in seen.log)

@@ -15,7 +15,7 @@
 //!   afterwards as settled, or as withdrawn. At run time the journal is two words that no one
 //!   reads; its entries exist in proofs. An `Evidence` is a token for a prefix of the journal. Of
 //!   any two tokens of one journal one is a prefix of the other (`logbook`).
-//! - `rule.rt`: the current table carries its `Evidence`, and what a seat has seen once stays a
+//! - `rule.rt`: the current table carries its `Evidence`, and what a slot has seen once stays a
 //!   prefix of it (`left_right`).
 #![tactic(auto)]
 

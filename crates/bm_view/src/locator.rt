@@ -33,7 +33,7 @@ pub struct Located {
 /// learnt by receipts, and the call of `open_view`. Each learnt list is a prefix of its list.
 #[derive(Drop)]
 pub struct Locator {
-    seat: ReaderSlot,
+    slot: ReaderSlot,
     /// The journal of the version that it answered from last. It has no bytes.
     answered: Evidence,
     /// The longest journal that it learnt. It has no bytes.
@@ -59,9 +59,9 @@ impl Model for Locator {
 
     ghost invariant = { λ l.
         (l.longest.home ≡ l.answered.home)
-        × (length l.longest.log ≡ 2 * l.seat.learnt_number)
+        × (length l.longest.log ≡ 2 * l.slot.learnt_number)
         × IsSettled l.longest.log
-        × HasSeen (sight l.seat.reader.place) l.answered.home (shown_in l.answered.log)
+        × HasSeen (sight l.slot.reader.place) l.answered.home (shown_in l.answered.log)
         × IsHistory (versions l.longest.log)
         × All (λ known. IsPrefix known (versions l.longest.log)) l.learnt };
 }
@@ -91,22 +91,22 @@ fn enter(reader: VersionReader) -> Result<VersionReading, VersionReader>
 }
 
 // Reads the version that is shown. `None` if `left_right` refuses to enter.
-fn read(seat: ReaderSlot, id: BlockId) -> (ReaderSlot, Option<ReadResult>)
-    ensures number { result.0.learnt_number ≡ seat.learnt_number }
+fn read(slot: ReaderSlot, id: BlockId) -> (ReaderSlot, Option<ReadResult>)
+    ensures number { result.0.learnt_number ≡ slot.learnt_number }
     ensures seen { MatchOption result.1
-        (sight result.0.reader.place ≡ sight seat.reader.place)
-        (λ g. Sees (sight seat.reader.place) g.evidence (sight result.0.reader.place)) }
+        (sight result.0.reader.place ≡ sight slot.reader.place)
+        (λ g. Sees (sight slot.reader.place) g.evidence (sight result.0.reader.place)) }
     ensures found { IfSome result.1 (λ g.
         let shown = last_of (shown_in g.evidence.log) in
         (g.found.calls ≡ shown.calls) × (g.found.places ≡ places_in shown.rows id)) }
     ensures close { IfSome result.1 (λ g. (0 < length g.evidence.log)
-        × (g.is_older ≡ false → 2 * seat.learnt_number ≤ length g.evidence.log + 1)) }
+        × (g.is_older ≡ false → 2 * slot.learnt_number ≤ length g.evidence.log + 1)) }
     ensures history { IfSome result.1 (λ g. IsHistory (shown_in g.evidence.log)) }
 {
     let ReaderSlot {
         reader,
         learnt_number,
-    } = seat;
+    } = slot;
     let (reader, seen) = match enter(reader) {
         Ok(reading) => {
             let shown = reading.get();
@@ -122,11 +122,11 @@ fn read(seat: ReaderSlot, id: BlockId) -> (ReaderSlot, Option<ReadResult>)
         }
         Err(reader) => (reader, None),
     };
-    let seat = ReaderSlot {
+    let slot = ReaderSlot {
         reader,
         learnt_number,
     };
-    (seat, seen)
+    (slot, seen)
 }
 
 impl Locator {
@@ -136,7 +136,7 @@ impl Locator {
         ensures { result ≡ record { home = first.home; list = opening ∷ []; learnt = [] } }
     {
         Locator {
-            seat: ReaderSlot {
+            slot: ReaderSlot {
                 reader,
                 learnt_number: Count::one(alloc),
             },
@@ -156,9 +156,9 @@ impl Locator {
         let (evidence, number) = receipt.into_parts();
         self.longest.show_one_journal(&evidence);
         self.learnt.add(&evidence);
-        if self.seat.learnt_number.is_below(&number) {
+        if self.slot.learnt_number.is_below(&number) {
             self.longest = evidence;
-            self.seat.learnt_number = number;
+            self.slot.learnt_number = number;
         }
     }
 
@@ -181,7 +181,7 @@ impl Locator {
         ensures no_older { IfSome result
             (λ found. All (EndsBy found.calls) self.old.learnt) }
     {
-        let Some(seen) = replace_with(&mut self.seat, id, read) else {
+        let Some(seen) = replace_with(&mut self.slot, id, read) else {
             return None;
         };
         let ReadResult {

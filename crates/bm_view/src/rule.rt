@@ -1,6 +1,6 @@
-//! The rule of the current value: what a seat has seen once stays a prefix of it. A seat is a
+//! The rule of the current value: what a slot has seen once stays a prefix of it. A slot is a
 //! locator, or the publisher. The structs here have no values: they name what a step passes to the
-//! seat that takes it.
+//! slot that takes it.
 ghost use Rattle.std.specs.Prelude.{◌≡◌, None, Some};
 ghost use Rattle.bm_view.specs.Rule.{Kept, Sees};
 
@@ -11,7 +11,7 @@ use crossbeam_utils::rule::{Outcome, Protocol};
 use left_right::reader::{Reader, Reading};
 use left_right::writer::Writer;
 
-/// A seat's view is what it saw last, if anything.
+/// A slot's view is what it saw last, if anything.
 pub struct GrowingList;
 
 impl Protocol<Shown, Option<Evidence>> for GrowingList {

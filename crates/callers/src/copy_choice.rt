@@ -21,7 +21,7 @@ pub fn first_copy(
 ) -> Result<Option<Transfer>, Refusal>
     ensures copy { IfOk result (λ copy. copy
         ≡ first_copy topology.now.cluster live.now level block stamp) }
-    ensures room { IfOk result (FitsOnTarget topology.now.cluster stamp.len) }
+    ensures fits { IfOk result (FitsOnTarget topology.now.cluster stamp.len) }
     ensures node { IfOk result (GoesToAnotherNode topology.now.cluster live.now) }
     ensures refused { IfErr result (λ e. e ≡ Memory) }
 {
@@ -43,7 +43,7 @@ fn copy_by(
     requires streams { streams.now ≡ senders_with topology.now.cluster [] }
     requires scheduled { scheduled.now ≡ targets_with topology.now.cluster [] }
     ensures copy { result ≡ first_copy topology.now.cluster live.now level block stamp }
-    ensures room { FitsOnTarget topology.now.cluster stamp.len result }
+    ensures fits { FitsOnTarget topology.now.cluster stamp.len result }
     ensures node { GoesToAnotherNode topology.now.cluster live.now result }
 {
     let source = least_source(live, level, topology, streams)?;

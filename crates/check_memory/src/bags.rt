@@ -1,6 +1,6 @@
 // Bags of pieces, filled to their capacity.
 ghost use Rattle.std.specs.Prelude.{◌≡◌, ◌≤◌, ◌<◌, []};
-ghost use Rattle.bm_crew.specs.Bags.{room_of, given_of, IsCallerOf, IsHelperOf, IsPassIn, MayPut};
+ghost use Rattle.bm_crew.specs.Bags.{capacity_of, given_of, IsCallerOf, IsHelperOf, IsPassIn, MayPut};
 
 use crate::marks::say;
 use crate::tally::Tally;
@@ -59,7 +59,7 @@ fn put_all<R: Wait>(rt: &R, bag: &Bag<u64>, pass: &mut BagPass<u64>, count: usiz
     requires caller { IsCallerOf bag.now pass.old }
     requires open { MayPut pass.old }
     requires nothing { given_of pass.old ≡ [] }
-    requires room { count ≤ room_of bag.now }
+    requires capacity { count ≤ capacity_of bag.now }
     ensures { IsCallerOf bag.now pass.new }
 {
     for place in 0..count {

@@ -58,7 +58,7 @@ fn level_of(slot: usize) -> Level {
 /// Gives each slot a level, one after another. Each new one is at the front of its list.
 fn spread(lists: &mut LevelLists, size: usize, tally: &mut Tally) {
     for slot in 0..size {
-        if slot < lists.room() {
+        if slot < lists.capacity() {
             lists.set(slot, Some(level_of(slot)));
             tally.note(lists.level(slot) == Some(level_of(slot)));
             tally.note(lists.first(level_of(slot)) == Some(slot));
@@ -69,7 +69,7 @@ fn spread(lists: &mut LevelLists, size: usize, tally: &mut Tally) {
 /// Gives all slots one level.
 fn gather(lists: &mut LevelLists, size: usize, tally: &mut Tally) {
     for slot in 0..size {
-        if slot < lists.room() {
+        if slot < lists.capacity() {
             lists.set(slot, Some(Level::Highest));
         }
     }
@@ -101,7 +101,7 @@ fn take_levels(lists: &mut LevelLists, size: usize, tally: &mut Tally) {
 
 fn insert_all(slots: &mut SlotSet, size: usize, tally: &mut Tally) {
     for slot in 0..size {
-        if slot < slots.room() {
+        if slot < slots.capacity() {
             slots.insert(slot);
             tally.note(slots.contains(slot) && slots.first() == Some(slot));
         }

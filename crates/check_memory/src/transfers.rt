@@ -1,7 +1,7 @@
 // Pending transfers, three of each block: to storage 0 since round 1, to storage 1 since round 4,
 // to storage 2 since round 5.
 ghost use Rattle.std.specs.Prelude.{◌≡◌, ◌≤◌, ◌<◌, ℕ, OnOk};
-ghost use Rattle.bm_pending.specs.PendingMap.{room};
+ghost use Rattle.bm_pending.specs.PendingMap.{capacity};
 
 use crate::events::block;
 use crate::marks::say;
@@ -43,7 +43,7 @@ fn open_windows<R: Eprint>(
     size: u32,
     tally: &mut Tally,
 )
-    requires { (b : ℕ) → b < size → 3 ≤ room pending.old b }
+    requires { (b : ℕ) → b < size → 3 ≤ capacity pending.old b }
 {
     say(rt, "begun", "control");
     tally.refuse_if(is_new_block_refused(pending, size));
@@ -64,7 +64,7 @@ fn open_windows<R: Eprint>(
 
 /// Reserves memory for three transfers of each block.
 fn reserve_all(pending: &mut PendingTransfers, size: u32) -> Result<(), Refusal>
-    ensures { OnOk result ((b : ℕ) → b < size → 3 ≤ room pending.new b) }
+    ensures { OnOk result ((b : ℕ) → b < size → 3 ≤ capacity pending.new b) }
 {
     for number in 0..size {
         pending.reserve(block(number), 3)?;
@@ -74,7 +74,7 @@ fn reserve_all(pending: &mut PendingTransfers, size: u32) -> Result<(), Refusal>
 
 /// Whether there is no memory for one more block. If there is, it is removed again.
 fn is_new_block_refused(pending: &mut PendingTransfers, size: u32) -> bool
-    ensures { (b : ℕ) → b < size → room pending.old b ≤ room pending.new b }
+    ensures { (b : ℕ) → b < size → capacity pending.old b ≤ capacity pending.new b }
 {
     let is_refused = pending.reserve(block(size), 1).is_err();
     pending.remove_block(block(size));
@@ -82,7 +82,7 @@ fn is_new_block_refused(pending: &mut PendingTransfers, size: u32) -> bool
 }
 
 fn insert_all(pending: &mut PendingTransfers, size: u32)
-    requires { (b : ℕ) → b < size → 3 ≤ room pending.old b }
+    requires { (b : ℕ) → b < size → 3 ≤ capacity pending.old b }
 {
     for number in 0..size {
         pending.insert_reserved(block(number), StorageId(2), 5);

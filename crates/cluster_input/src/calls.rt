@@ -156,7 +156,7 @@ fn make_reports<H: Threads + Wait + Sync>(
     Ok(())
 }
 
-/// Reports the replicas on a storage: as many as fit into a report, then each of the others by a
+/// Reports the replicas on a storage: a report up to its limit, then each of the others by a
 /// notice.
 fn make_row<H: Threads + Wait + Sync>(rt: &H, session: &mut Session, row: &Row) -> Result<(), Fault>
     requires { IsInStep session.old }

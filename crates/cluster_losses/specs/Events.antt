@@ -1,4 +1,5 @@
--- The events by which nodes and storages are lost, and those that leave the known blocks as they are.
+-- The events by which nodes and storages are lost, and those that leave the known blocks as they
+-- are.
 use Rattle.std.specs.Prelude.{◌≡◌, ℕ, Bool, true, false, List, ◌++◌, map}
 use Rattle.std.specs.List.{list_any}
 use Rattle.bm_base.specs.declared.event.Event.{Event}

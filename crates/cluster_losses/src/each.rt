@@ -43,7 +43,7 @@ pub struct Row {
 /// blocks at the first three levels, then by number. Each comes back before the next is lost, and
 /// the cluster is then compared with that before. `Excess` if a replica is in excess; `NotSetBack`
 /// if the cluster differs from that before.
-pub fn rows_of<H: Threads + Wait + Sync>(
+pub fn make_rows<H: Threads + Wait + Sync>(
     rt: &H,
     alloc: Global,
     loaded: &mut Loaded,
@@ -100,7 +100,7 @@ fn lose_each<H: Threads + Wait + Sync>(
 {
     let mut rows = Vec::new(alloc);
     for part in parts {
-        let row = row_of(rt, alloc, session, files, part)?;
+        let row = make_row(rt, alloc, session, files, part)?;
         rows.push(row)?;
         set_back(rt, session, returns, part)?;
         first.compare(alloc, session)?;
@@ -110,7 +110,7 @@ fn lose_each<H: Threads + Wait + Sync>(
 
 /// Loses one rack or node alone.
 #[tactic(auto, using(crate::proofs::Tables::row_at))]
-fn row_of<H: Threads + Wait + Sync>(
+fn make_row<H: Threads + Wait + Sync>(
     rt: &H,
     alloc: Global,
     session: &mut Session,

@@ -40,8 +40,8 @@ impl Progress {
         }
     }
 
-    /// Shows `34 % of the input`, if the number changed. An `all` of 0 is an unknown length: then it
-    /// shows `12 MB of the input`.
+    /// Shows `34 % of the input`, if the number changed. An `all` of 0 is an unknown length: then
+    /// it shows `12 MB of the input`.
     pub fn show_input<R: Eprint>(&mut self, rt: &R, read: u64, all: u64) {
         let (number, unit) = if all == 0 {
             (read / 1_000_000, "MB")

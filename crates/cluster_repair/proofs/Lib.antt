@@ -9,3 +9,4 @@ pub mod SentLemmas
 pub mod WatchLemmas
 pub mod UnmendedLemmas
 pub mod ReasonLemmas
+pub mod RowLemmas

@@ -14,7 +14,7 @@ use Rattle.bm_base.specs.declared.call.Call.{Call}
 use Rattle.bm_base.specs.declared.call.Call.TheVariants as call
 use Rattle.bm_base.specs.declared.call.Answer.TheVariants as answer
 use Rattle.bm_base.specs.Words.{Cluster, State, has, whole_round, refusal_of, round_refusal, step, refused_or, count_call, done_by, after_event, state_after}
-use Rattle.laws_of_repairs.proofs.Watching.{round_is_next, covers_heard, covers_told}
+use Rattle.laws_of_repairs.proofs.Watching.{round_is_next, covers_heard, covers_reported}
 use Rattle.cluster_report.specs.Catalogues.{len_in}
 use Rattle.cluster_report.specs.declared.catalogue.Catalogue.{Catalogue}
 use Rattle.cluster_repair.specs.declared.free.FreeBytes.{FreeBytes}
@@ -24,12 +24,12 @@ use Rattle.cluster_repair.specs.declared.repair.Repair.{Repair}
 use Rattle.cluster_repair.specs.declared.on_way.Sent.{Sent}
 use Rattle.cluster_repair.specs.declared.datanodes.DataNodes.{DataNodes}
 use Rattle.cluster_repair.specs.declared.ticks.Ticks.{Ticks}
-use Rattle.cluster_repair.specs.History.{AreAtStart, AreOf, ComesAt, HasTaken}
+use Rattle.cluster_repair.specs.History.{AreAtStart, AreOf, ComesAt, HasTaken, Taken}
 use Rattle.cluster_repair.specs.Reports.{HaveReported, IsReached, after_events, deleted, heartbeat_of, received, reports_of}
 use Rattle.cluster_repair.specs.Retirements.{AreAnswered, is_retired_in, note_at, noted, retired_since, retirement_of}
 use Rattle.cluster_repair.specs.Sending.{remaining_in}
 use Rattle.cluster_repair.specs.Sent.{AreCounted, AreBegun, copies_in, deletes_in, transfers_in}
-use Rattle.cluster_repair.specs.Rows.{AreReported, AreCounts, IsRowAfter, AreRowsAfter, EndsWith, IsUnderWay, IsNoted, HasEnded, AreLeveled, is_on_stride}
+use Rattle.cluster_repair.specs.Rows.{AreReported, AreCounts, IsRowAmong, AreRowsAmong, EndsWith, IsUnderWay, IsNoted, HasEnded, AreLeveled, is_on_stride}
 use Rattle.cluster_repair.proofs.HistoryLemmas.{listed_if, row_of, since_more, taken_alike, taken_more}
 
 state_after-append : (M : State) (calls more : List Call) → state_after M (calls ++ more) ≡ state_after (state_after M calls) more
@@ -93,7 +93,7 @@ pub reported_copy : (M N : State) (xs ys : List ℕ) (s : Sent) → refusal_of M
 reported_copy M N xs ys s accepted after added = record {
   state = after;
   reached = reached_by_event M N (received s) accepted after;
-  covers = covers_told M N (received s) xs ys s.transfer.block added (λ b apart. ap not apart) after;
+  covers = covers_reported M N (received s) xs ys s.transfer.block added (λ b apart. ap not apart) after;
 }
 
 pub reported_delete : (M N : State) (xs ys : List ℕ) (d : Delete) → refusal_of M (deleted d) ≡ None → N ≡ after_event M (deleted d) → ys ≡ xs ++ d.block ∷ []
@@ -101,7 +101,7 @@ pub reported_delete : (M N : State) (xs ys : List ℕ) (d : Delete) → refusal_
 reported_delete M N xs ys d accepted after added = record {
   state = after;
   reached = reached_by_event M N (deleted d) accepted after;
-  covers = covers_told M N (deleted d) xs ys d.block added (λ b apart. ap not apart) after;
+  covers = covers_reported M N (deleted d) xs ys d.block added (λ b apart. ap not apart) after;
 }
 
 pub reported_free : (M N : State) (xs : List ℕ) (f : FreeBytes) (n : NodeStorages) (rs : List Remaining) → rs ≡ map (remaining_in f) n.storages.items
@@ -123,20 +123,28 @@ reported_in_turn due ss ds es f K L M N xs ys zs copies deletes first second thi
 
 -- Rows.
 
-no_rows : (ticks : Ticks) (M : State) → AreRowsAfter ticks M []
-no_rows ticks M = record { all = All-nil (IsRowAfter ticks M) }
+no_rows : (M : State) (d : DataNodes) (taken : List Taken) → AreRowsAmong M d taken []
+no_rows M d taken = record { all = All-nil (IsRowAmong M d taken) }
 
-pub rows_and : (ticks : Ticks) (M : State) (rows new : List Row) (row : Row) → new ≡ rows ++ row ∷ [] → AreRowsAfter ticks M rows → IsRowAfter ticks M row
-    → AreRowsAfter ticks M new
-rows_and ticks M rows new row is before one = record {
-  all = All-same (IsRowAfter ticks M) new _ is (All-push (IsRowAfter ticks M) rows row before.all one);
+pub rows_and : (M : State) (d : DataNodes) (taken : List Taken) (rows new : List Row) (row : Row) → new ≡ rows ++ row ∷ [] → AreRowsAmong M d taken rows
+    → IsRowAmong M d taken row → AreRowsAmong M d taken new
+rows_and M d taken rows new row is before one = record {
+  all = All-same (IsRowAmong M d taken) new _ is (All-push (IsRowAmong M d taken) rows row before.all one);
 }
 
-pub rows_among : (ticks : Ticks) (M : State) (rows new : List Row) (stride : ℕ) → new ≡ filter (λ r. is_on_stride r.round stride) rows
-    → AreRowsAfter ticks M rows → AreRowsAfter ticks M new
-rows_among ticks M rows new stride is before = record {
-  all = All-same (IsRowAfter ticks M) new _ is (All-filter (λ r. is_on_stride r.round stride) (IsRowAfter ticks M) rows before.all);
+pub rows_among : (M : State) (d : DataNodes) (taken : List Taken) (rows new : List Row) (stride : ℕ) → new ≡ filter (λ r. is_on_stride r.round stride) rows
+    → AreRowsAmong M d taken rows → AreRowsAmong M d taken new
+rows_among M d taken rows new stride is before = record {
+  all = All-same (IsRowAmong M d taken) new _ is (All-filter (λ r. is_on_stride r.round stride) (IsRowAmong M d taken) rows before.all);
 }
+
+-- after one more round
+row_later : (M : State) (d : DataNodes) (taken : List Taken) (round : Taken) (row : Row) → IsRowAmong M d taken row → IsRowAmong M d (round ∷ taken) row
+row_later M d taken round row among =
+    record { later = round ∷ among.later; before = among.before; parts = ap (λ (rs : List Taken). round ∷ rs) among.parts; reached = among.reached; is = among.is }
+
+rows_later : (M : State) (d : DataNodes) (taken : List Taken) (round : Taken) (rows : List Row) → AreRowsAmong M d taken rows → AreRowsAmong M d (round ∷ taken) rows
+rows_later M d taken round rows among = record { all = λ k e below. row_later M d taken round (get_or rows k e) (among.all k e below) }
 
 -- Rounds.
 
@@ -146,7 +154,7 @@ under_way_at_once ticks M r rows retired rounds now commanded at_start counted =
   at_start = at_start;
   reached = subst (λ n. IsReached n M M) (sym rounds) (reached_at_once M);
   history = record { taken = []; are = tt; rounds = rounds; time = now; commanded = commanded; state = refl; datanodes = refl; counted = counted };
-  rows = subst (AreRowsAfter ticks M) (sym rows) (no_rows ticks M);
+  rows = subst (AreRowsAmong M r.datanodes []) (sym rows) (no_rows M r.datanodes []);
   retired = λ n there. ap (λ ts. retirement_of ts n) retired;
 }
 
@@ -163,11 +171,13 @@ under_way_by_round ticks M d C blocks K L N old new mid k now of accepted after 
     let reached_then : IsReached old.rounds M L = subst (λ n. IsReached n M L) (sym (none_more old.rounds)) (reached_on M K L old.rounds 0 on.reached reported.reached) in
     let begun_then = subst (λ (k : Commands). AreBegun C now (transfers_in k) mid new.datanodes) is begun in
     let deleted_then = deletes ∙ ap (λ (k : Commands). mid.deletes.items ++ deletes_in k) is in
+    let history : HasTaken ticks M d N new =
+    taken_more ticks M d K L C blocks old new mid now on.history of (comes on.history) reported begun_then deleted_then N k after is rounds time commanded same in
     record {
       at_start = on.at_start;
       reached = subst (λ n. IsReached n M N) (sym rounds) (reached_on M L N old.rounds 1 reached_then (reached_by_round L N accepted after));
-      history = taken_more ticks M d K L C blocks old new mid now on.history of (comes on.history) reported begun_then deleted_then N k after is rounds time commanded same;
-      rows = subst (AreRowsAfter ticks M) (sym rows) on.rows;
+      history = history;
+      rows = subst (AreRowsAmong M d history.taken) (sym rows) (rows_later M d on.history.taken _ old.rows.rows.items on.rows);
       retired = λ n there.
           since_more (is_retired_in L n) (has old.drained.items n) n old.rounds (length on.history.taken) (now / 1000000) (retirement_of old.retired.items n) (retirement_of new.retired.items n)
           (retired_since on.history.taken n) (ap (λ ns. has ns n) (sym drained) ∙ there) (answers n) (on.retired n (ap (λ ns. has ns n) (sym drained) ∙ there)) on.history.rounds;
@@ -176,7 +186,7 @@ under_way_by_round ticks M d C blocks K L N old new mid k now of accepted after 
 -- a row
 pub noted_row : (ticks : Ticks) (M : State) (d : DataNodes) (N : State) (old new : Repair) (row : Row) → AreCounts N row.levels → row.round ≡ old.rounds → row.seconds ≡ old.time / 1000000
     → row.commanded ≡ old.commanded → row.on_way ≡ length old.datanodes.on_way.sent.items → 0 < old.rounds → AreLeveled N new.watch.blocks.items
-    → (AreRowsAfter ticks M old.rows.rows.items → IsRowAfter ticks M row → AreRowsAfter ticks M new.rows.rows.items) → EndsWith new.rows.rows.items row
+    → ((taken : List Taken) → AreRowsAmong M d taken old.rows.rows.items → IsRowAmong M d taken row → AreRowsAmong M d taken new.rows.rows.items) → EndsWith new.rows.rows.items row
     → new.rounds ≡ old.rounds → new.time ≡ old.time → new.commanded ≡ old.commanded → new.datanodes ≡ old.datanodes → new.drained ≡ old.drained → new.retired ≡ old.retired
     → IsUnderWay ticks M d N old → IsNoted ticks M d N new
 noted_row ticks M d N old new row counts round seconds commanded on_way some blocks rows ends rounds now same_commanded same drained retired on =
@@ -187,11 +197,10 @@ noted_row ticks M d N old new row counts round seconds commanded on_way some blo
         at_start = on.at_start;
         reached = subst (λ n. IsReached n M N) (sym rounds) on.reached;
         history = taken_alike ticks M d N old new on.history rounds now same_commanded same;
-        rows = rows on.rows (record {
-          start = d;
-          at_start = on.at_start;
-          taken = taken;
-          are = on.history.are;
+        rows = rows taken on.rows (record {
+          later = [];
+          before = taken;
+          parts = refl;
           reached = subst (λ (S : State). IsReached row.round M S) on.history.state (subst (λ n. IsReached n M N) (sym round) on.reached);
           is = is;
         });
@@ -219,7 +228,7 @@ ended ticks M d N old new next comes answers rounds now commanded same drained r
     record {
       reached = subst (λ n. IsReached n M N) (sym rounds) under_way.reached;
       history = taken_alike ticks M d N old new under_way.history rounds now commanded same;
-      rows = subst (λ rs. AreRowsAfter ticks M rs.rows.items) (sym rows) under_way.rows;
+      rows = subst (λ rs. AreRowsAmong M d taken rs.rows.items) (sym rows) under_way.rows;
       last = on.last;
       ends = subst (λ rs. EndsWith rs.rows.items on.last) (sym rows) on.ends;
       is_last = on.is_last;

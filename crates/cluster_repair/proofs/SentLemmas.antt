@@ -167,6 +167,7 @@ begun_none C now d = record {
   later = All-nil (λ s. min (now + micros_for d.links.bandwidth (bytes_of s)) most ≤ s.arrival);
   free = λ t. none_taken (free_on d.free t);
   nodes = refl;
+  storages = refl;
   counted = λ before counted. subst (λ ss. AreCounted ss d) (sym (append-nil before)) counted;
 }
 
@@ -185,15 +186,17 @@ begun_already C now d t there = record {
   later = All-nil (λ s. min (now + micros_for d.links.bandwidth (bytes_of s)) most ≤ s.arrival);
   free = λ t. none_taken (free_on d.free t);
   nodes = refl;
+  storages = refl;
   counted = λ before counted. subst (λ ss. AreCounted ss d) (sym (append-nil before)) counted;
 }
 
 pub begun_one : (C : Cluster) (now : ℕ) (old new : DataNodes) (s : Sent) → is_among old.on_way.sent.items s.transfer ≡ false → new.on_way.sent.items ≡ old.on_way.sent.items ++ s ∷ []
     → s.order ≡ old.on_way.next → new.on_way.next ≡ min (old.on_way.next + 1) most → IsSent C now old.links new.links s
     → ((t : ℕ) → free_on new.free t ≡ (if nat_eq s.transfer.target t then free_on old.free s.transfer.target - bytes_of s else free_on old.free t)) → new.free.nodes ≡ old.free.nodes
+    → new.free.storages ≡ old.free.storages
     → new.copies ≡ min (old.copies + 1) (2 ^ 64 - 1) → new.bytes ≡ min (old.bytes + bytes_of s) (2 ^ 128 - 1) → new.last_arrival ≡ max old.last_arrival s.arrival
     → AreBegun C now (s.transfer ∷ []) old new
-begun_one C now old new s apart on_way order next sent free nodes copies bytes last =
+begun_one C now old new s apart on_way order next sent free nodes storages copies bytes last =
     let IsLater : Sent → Type 0 = λ r. min (now + micros_for old.links.bandwidth (bytes_of r)) most ≤ r.arrival in
     record {
       copies = s ∷ [];
@@ -211,6 +214,7 @@ begun_one C now old new s apart on_way order next sent free nodes copies bytes l
           taken_once (nat_eq s.transfer.target t) s (free_on old.free s.transfer.target) (free_on old.free t) (free_on new.free t)
           (λ e. ap (free_on old.free) (eqb-true s.transfer.target t e)) (free t);
       nodes = nodes;
+      storages = storages;
       counted = λ before counted. counted_and before s old new copies bytes last counted;
     }
 
@@ -241,6 +245,7 @@ begun_on C now ts us vs a b c is first second =
           taken_twice (free_on a.free t) (free_on b.free t) (free_on c.free t) (bytes_to t first.copies) (bytes_to t second.copies) (bytes_to t (first.copies ++ second.copies))
           (first.free t) (second.free t) (bytes_to-append t first.copies second.copies);
       nodes = second.nodes ∙ first.nodes;
+      storages = second.storages ∙ first.storages;
       counted = λ before counted.
           subst (λ ss. AreCounted ss c) (append_assoc before first.copies second.copies) (second.counted (before ++ first.copies) (first.counted before counted));
     })
@@ -263,6 +268,7 @@ begun_same C now ts a b c on_way links free copies bytes last begun =
       later = begun.later;
       free = λ t. ap (λ (f : FreeBytes). free_on f t) free ∙ begun.free t;
       nodes = ap (λ (f : FreeBytes). f.nodes) free ∙ begun.nodes;
+      storages = ap (λ (f : FreeBytes). f.storages) free ∙ begun.storages;
       counted = λ before counted.
           let was = begun.counted before counted in
           record { copies = copies ∙ was.copies; bytes = bytes ∙ was.bytes; last_arrival = last ∙ was.last_arrival };

@@ -14,8 +14,8 @@ abbrev pub is_among : List Sent → Transfer → Bool
 is_among ss t = list_any (is_copy_of t.block t.target) ss
 
 -- whether a set of blocks and targets has block b and storage t
-abbrev pub has_place : {S : Type 0} → HashSet (ℕ × ℕ) S → ℕ → ℕ → Bool
-has_place places b t = list_any (λ p. (b == p.0) && (t == p.1)) places.keys
+abbrev pub holds_target : {S : Type 0} → HashSet (ℕ × ℕ) S → ℕ → ℕ → Bool
+holds_target targets b t = list_any (λ p. (b == p.0) && (t == p.1)) targets.keys
 
 -- whether a copy has arrived by now
 abbrev pub has_arrived : ℕ → Sent → Bool

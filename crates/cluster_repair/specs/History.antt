@@ -86,6 +86,7 @@ node_among C ss n = (n, filter (has_storage C n) ss)
 pub record AreAtStart (C : Cluster) (d : DataNodes) : Type 0 where
   pub free : (s : ℕ) → free_on d.free s ≡ free_in C s
   pub nodes : map numbers_of d.free.nodes.items ≡ map (node_among C (keys C.storages)) (keys C.nodes)
+  pub storages : d.free.storages.items ≡ keys C.storages
   pub on_way : d.on_way.sent.items ≡ []
   pub deletes : d.deletes.items ≡ []
   pub sending : (n : ℕ) → sends_until d.links n ≡ 0

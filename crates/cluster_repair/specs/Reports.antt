@@ -58,6 +58,7 @@ pub record HaveReported (len : ℕ → ℕ) (now : ℕ) (old new : DataNodes) (M
   pub reached : IsReached 0 M N
   pub free : (s : ℕ) → free_on new.free s ≡ fold (free_after len s) (free_on old.free s) old.deletes.items
   pub nodes : new.free.nodes ≡ old.free.nodes
+  pub storages : new.free.storages ≡ old.free.storages
   pub deletes : new.deletes.items ≡ []
   pub on_way : new.on_way.sent.items ≡ filter (λ s. nat_lt now s.arrival) old.on_way.sent.items
   pub next : new.on_way.next ≡ old.on_way.next

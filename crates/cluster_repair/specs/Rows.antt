@@ -1,6 +1,6 @@
 -- What rounds leave, and how a manager came there.
 use Rattle.std.specs.Prelude.{◌≡◌, ℕ, ◌<◌, Bool, true, ◌+◌, ◌-◌, ◌/◌, ◌%◌, ◌==◌, ◌&&◌, ◌||◌, nat_le, if◌then◌else◌, max, List, [], ◌∷◌, ◌++◌, map, filter, length, Some, is_some}
-use Rattle.std.specs.List.{All}
+use Rattle.std.specs.List.{All, AllPairs, list_any}
 use Rattle.std.specs.List.Sorted.{IsStrictlyIncreasing}
 use Rattle.bm_base.specs.declared.event.Event.{Event}
 use Rattle.bm_base.specs.declared.level.Level.TheVariants.{Highest, VeryUnderReplicated, UnderReplicated, BadlyDistributed}
@@ -14,7 +14,7 @@ use Rattle.cluster_repair.specs.declared.repair.Pace.{Pace}
 use Rattle.cluster_repair.specs.declared.repair.Repair.{Repair}
 use Rattle.cluster_repair.specs.declared.ticks.Ticks.{Ticks}
 use Rattle.cluster_repair.specs.Reports.{IsReached, after_events}
-use Rattle.cluster_repair.specs.History.{Taken, AreTaken, AreAtStart, HasTaken, commanded_of, datanodes_of, state_of, time_of}
+use Rattle.cluster_repair.specs.History.{Taken, AreAtStart, HasTaken, commanded_of, datanodes_of, state_of, time_of}
 use Rattle.cluster_repair.specs.Retirements.{AreRetired, retired_since, retirement_of}
 use Rattle.cluster_repair.specs.Ticks.{ticks_of}
 
@@ -42,17 +42,24 @@ pub record IsRowOf (M : State) (d : DataNodes) (taken : List Taken) (row : Row) 
   pub commanded : row.commanded ≡ commanded_of taken
   pub on_way : row.on_way ≡ length (datanodes_of d taken).on_way.sent.items
 
--- the same of rounds from a state on
-pub record IsRowAfter (ticks : Ticks) (M : State) (row : Row) : Type 0 where
-  pub start : DataNodes
-  pub at_start : AreAtStart M.cluster start
-  pub taken : List Taken
-  pub are : AreTaken ticks M start taken
-  pub reached : IsReached row.round M (state_of M taken)
-  pub is : IsRowOf M start taken row
+-- A row has what one of these rounds left. The list has the last round first, so it ends with this
+-- one and those before it.
+pub record IsRowAmong (M : State) (d : DataNodes) (taken : List Taken) (row : Row) : Type 0 where
+  pub later : List Taken
+  pub before : List Taken
+  pub parts : taken ≡ later ++ before
+  pub reached : IsReached row.round M (state_of M before)
+  pub is : IsRowOf M d before row
 
-pub record AreRowsAfter (ticks : Ticks) (M : State) (rows : List Row) : Type 0 where
-  pub all : All (IsRowAfter ticks M) rows
+pub record AreRowsAmong (M : State) (d : DataNodes) (taken : List Taken) (rows : List Row) : Type 0 where
+  pub all : All (IsRowAmong M d taken) rows
+
+-- The rounds of these rows ascend, and all come before this one. The first round has a row, once it
+-- comes before it.
+pub record AreInOrder (next : ℕ) (rows : List Row) : Type 0 where
+  pub ascend : AllPairs (λ a b. a.round < b.round) rows
+  pub before : All (λ r. r.round < next) rows
+  pub first : 1 < next → list_any (λ r. r.round == 1) rows ≡ true
 
 -- a row is the last
 pub record EndsWith (rows : List Row) (row : Row) : Type 0 where
@@ -64,7 +71,7 @@ pub record IsUnderWay (ticks : Ticks) (M : State) (d : DataNodes) (N : State) (r
   pub at_start : AreAtStart M.cluster d
   pub reached : IsReached r.rounds M N
   pub history : HasTaken ticks M d N r
-  pub rows : AreRowsAfter ticks M r.rows.rows.items
+  pub rows : AreRowsAmong M d history.taken r.rows.rows.items
   pub retired : (n : ℕ) → has r.drained.items n ≡ true → retirement_of r.retired.items n ≡ retired_since history.taken n
 
 -- these are the blocks with a level, ascending
@@ -96,7 +103,7 @@ is_over awaited r = (nat_le awaited r.rounds && are_idle r.datanodes) || (r.roun
 pub record HasEnded (ticks : Ticks) (M : State) (d : DataNodes) (N : State) (r : Repair) : Type 0 where
   pub reached : IsReached r.rounds M N
   pub history : HasTaken ticks M d N r
-  pub rows : AreRowsAfter ticks M r.rows.rows.items
+  pub rows : AreRowsAmong M d history.taken r.rows.rows.items
   pub last : Row
   pub ends : EndsWith r.rows.rows.items last
   pub is_last : IsRowOf M d history.taken last
@@ -110,6 +117,7 @@ pub record IsDone (pace : Pace) (M N : State) (r : Repair) : Type 0 where
   pub bandwidth : start.links.bandwidth ≡ pace.bandwidth
   pub ended : HasEnded (ticks_of pace M.cluster) M start N r
   pub over : is_over (awaited_rounds M.holdings.pending M.limits.pend) r ≡ true
+  pub in_order : AreInOrder (r.rounds + 1) r.rows.rows.items
 
 -- of these blocks those with a level, and the level that the manager answers
 pub record AreFound (M : State) (bs : List ℕ) (us : List Unmended) : Type 0 where

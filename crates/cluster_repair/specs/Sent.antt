@@ -96,4 +96,5 @@ pub record AreBegun (C : Cluster) (now : ℕ) (ts : List Transfer) (old new : Da
   pub later : All (λ s. min (now + micros_for old.links.bandwidth (bytes_of s)) most ≤ s.arrival) copies
   pub free : (t : ℕ) → free_on new.free t ≡ free_on old.free t - bytes_to t copies
   pub nodes : new.free.nodes ≡ old.free.nodes
+  pub storages : new.free.storages ≡ old.free.storages
   pub counted : (before : List Sent) → AreCounted before old → AreCounted (before ++ copies) new

@@ -166,6 +166,7 @@ fn give_back_deleted(
     ensures free { OnOk result ((s : ℕ) → free_on free.new s
         ≡ fold (free_after (len_in blocks.now) s) (free_on free.old s) deletes.now) }
     ensures nodes { free.new.nodes ≡ free.old.nodes }
+    ensures storages { free.new.storages ≡ free.old.storages }
 {
     for delete in deletes {
         free.give_back(delete.storage, blocks.len_of(delete.block))?;

@@ -35,6 +35,8 @@ impl FreeBytes {
         ensures nodes { IfOk result (λ f. map numbers_of f.nodes.items
             ≡ map (node_among topology.now.cluster (keys topology.now.cluster.storages))
             (keys topology.now.cluster.nodes)) }
+        ensures storages { IfOk result
+            (λ f. f.storages.items ≡ keys topology.now.cluster.storages) }
     {
         let storages = all_storages(alloc, topology)?;
         let nodes = nodes_with(alloc, topology, storages.as_slice())?;
@@ -57,6 +59,7 @@ impl FreeBytes {
             ≡ (if nat_eq storage s then free_on self.old storage - bytes
             else free_on self.old s)) }
         ensures nodes { self.new.nodes ≡ self.old.nodes }
+        ensures storages { self.new.storages ≡ self.old.storages }
     {
         let left = self.of(storage).saturating_sub(bytes);
         self.put(storage, left)
@@ -67,6 +70,7 @@ impl FreeBytes {
             ≡ (if nat_eq storage s then min (free_on self.old storage + bytes) most
             else free_on self.old s)) }
         ensures nodes { self.new.nodes ≡ self.old.nodes }
+        ensures storages { self.new.storages ≡ self.old.storages }
     {
         let left = self.of(storage).saturating_add(bytes);
         self.put(storage, left)
@@ -77,6 +81,7 @@ impl FreeBytes {
         ensures free { OnOk result ((s : ℕ) → free_on self.new s
             ≡ (if nat_eq storage s then bytes else free_on self.old s)) }
         ensures nodes { self.new.nodes ≡ self.old.nodes }
+        ensures storages { self.new.storages ≡ self.old.storages }
     {
         put(&mut self.free, storage.0, bytes)
     }

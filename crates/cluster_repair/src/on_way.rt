@@ -3,7 +3,7 @@ ghost use Rattle.std.specs.Prelude.{◌≡◌, ◌+◌, ◌++◌, ◌∷◌, ◌
 ghost use Rattle.std.specs.List.{list_any};
 ghost use Rattle.std.specs.List.Sorted.{IsPermutation, IsSortedByKey};
 ghost use Rattle.bm_base.specs.Ordered.{by_pair};
-ghost use Rattle.cluster_repair.specs.Copies.{is_copy_of, is_among, has_place, has_arrived, when};
+ghost use Rattle.cluster_repair.specs.Copies.{is_copy_of, is_among, holds_target, has_arrived, when};
 ghost use Rattle.cluster_repair.specs.Sending.{most};
 
 use bm_base::Transfer;
@@ -25,10 +25,10 @@ pub struct Sent {
 pub struct OnWay {
     pub sent: Vec<Sent>,
     /// Their blocks and targets.
-    pub places: HashSet<(u64, u32)>,
+    pub targets: HashSet<(u64, u32)>,
     pub next: u64,
     pub ghost once: { (b t : ℕ) → count_by (is_copy_of b t) sent.items
-        ≡ (if has_place places b t then 1 else 0) },
+        ≡ (if holds_target targets b t then 1 else 0) },
 }
 
 impl OnWay {
@@ -37,7 +37,7 @@ impl OnWay {
     {
         OnWay {
             sent: Vec::new(alloc),
-            places: HashSet::new(alloc),
+            targets: HashSet::new(alloc),
             next: 0,
         }
     }
@@ -58,7 +58,7 @@ impl OnWay {
     pub fn has(&self, transfer: &Transfer) -> bool
         ensures { result ≡ is_among self.now.sent.items transfer.now }
     {
-        self.places.contains(&place_of(transfer))
+        self.targets.contains(&key_of(transfer))
     }
 
     /// Adds a copy, which is not on its way yet.
@@ -74,7 +74,7 @@ impl OnWay {
             order,
             transfer,
         })?;
-        match self.places.insert(place_of(&transfer)) {
+        match self.targets.insert(key_of(&transfer)) {
             Ok(_) => {
                 self.next = order.saturating_add(1);
                 Ok(())
@@ -98,7 +98,7 @@ impl OnWay {
         let mut due = due_by(alloc, self.sent.as_slice(), now)?;
         due.sort_by_key(|sent| when(sent))?;
         let left = left_by(alloc, self.sent.as_slice(), now)?;
-        forget(&mut self.places, due.as_slice());
+        forget(&mut self.targets, due.as_slice());
         self.sent = left;
         Ok(due)
     }
@@ -111,17 +111,17 @@ fn when(sent: &Sent) -> (u64, u64)
     (sent.arrival, sent.order)
 }
 
-fn forget(places: &mut HashSet<(u64, u32)>, sent: &[Sent])
-    ensures { (b t : ℕ) → has_place places.new b t
-        ≡ (has_place places.old b t && not (list_any (is_copy_of b t) sent.now)) }
+fn forget(targets: &mut HashSet<(u64, u32)>, sent: &[Sent])
+    ensures { (b t : ℕ) → holds_target targets.new b t
+        ≡ (holds_target targets.old b t && not (list_any (is_copy_of b t) sent.now)) }
 {
     for one in sent {
-        let _ = places.remove(&place_of(&one.transfer));
+        let _ = targets.remove(&key_of(&one.transfer));
     }
 }
 
 /// The block and the target of a copy.
-fn place_of(transfer: &Transfer) -> (u64, u32)
+fn key_of(transfer: &Transfer) -> (u64, u32)
     ensures { result ≡ (transfer.now.block, transfer.now.target) }
 {
     (transfer.block.0, transfer.target.0)

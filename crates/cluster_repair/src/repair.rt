@@ -6,7 +6,7 @@ ghost use Rattle.cluster_report.specs.Sessions.{IsInStep};
 ghost use Rattle.laws_of_repairs.specs.Repairs.{Covers};
 ghost use Rattle.cluster_repair.specs.History.{AreAtStart, AreOf, ComesAt, HasTaken};
 ghost use Rattle.cluster_repair.specs.Retirements.{AreAnswered, is_retired_in, note_at, noted, retirement_of};
-ghost use Rattle.cluster_repair.specs.Rows.{IsUnderWay, IsNoted, HasEnded, IsDone, are_idle, awaited_rounds, is_over};
+ghost use Rattle.cluster_repair.specs.Rows.{AreInOrder, IsUnderWay, IsNoted, HasEnded, IsDone, are_idle, awaited_rounds, is_over};
 ghost use Rattle.cluster_repair.specs.Sent.{AreCounted, copies_in};
 ghost use Rattle.cluster_repair.specs.Ticks.{ticks_of};
 ghost use Rattle.cluster_repair.specs.declared.datanodes.DataNodes.{DataNodes};
@@ -44,7 +44,7 @@ pub struct Pace {
 }
 
 impl Pace {
-    /// A round is left out while as many copies are on their way as one may command.
+    /// A round is left out while the copies on their way are at least its limit.
     pub fn ticks(self, topology: &Topology) -> Ticks
         ensures { result ≡ ticks_of self topology.now.cluster }
     {
@@ -108,6 +108,7 @@ pub fn repair_cluster<R: Eprint + Threads + Wait + Sync>(
     ensures done { IfOk result (IsDone pace session.old.manager session.new.manager) }
     ensures drained { IfOk result (λ r. r.drained.items
         ≡ filter (knows_node session.old.manager.cluster) drained.now) }
+    ensures book { session.new.book ≡ session.old.book }
 {
     let mut repair = Repair::new(alloc, session, pace, drained)?;
     let book = &session.book;
@@ -186,6 +187,8 @@ impl Repair {
         ensures taken { OnOk result (0 < self.new.rounds) }
         ensures over { OnOk result (is_over facts.now.awaited self.new ≡ true) }
         ensures drained { self.new.drained ≡ self.old.drained }
+        ensures in_order { OnOk result (AreInOrder self.old.rounds self.old.rows.rows.items
+            → AreInOrder self.new.rounds self.new.rows.rows.items) }
         ensures under_way { OnOk result ((M : State) (d : DataNodes)
             → AreOf facts.now.topology.now.cluster facts.now.blocks.now M
             → IsUnderWay facts.now.ticks M d manager.old self.old
@@ -221,6 +224,7 @@ impl Repair {
         requires few { self.old.rounds < 1000000 }
         ensures covers { OnOk result (Covers manager.new self.new.watch.blocks.items) }
         ensures rounds { OnOk result (self.new.rounds ≡ self.old.rounds + 1) }
+        ensures rows { self.new.rows ≡ self.old.rows }
         ensures drained { self.new.drained ≡ self.old.drained }
         ensures under_way { OnOk result ((M : State) (d : DataNodes)
             → AreOf facts.now.topology.now.cluster facts.now.blocks.now M
@@ -265,6 +269,8 @@ impl Repair {
         ensures covers { OnOk result (Covers manager.now self.new.watch.blocks.items) }
         ensures rounds { self.new.rounds ≡ self.old.rounds }
         ensures drained { self.new.drained ≡ self.old.drained }
+        ensures in_order { OnOk result (AreInOrder self.old.rounds self.old.rows.rows.items
+            → AreInOrder (self.old.rounds + 1) self.new.rows.rows.items) }
         ensures under_way { OnOk result ((ticks : Ticks) (M : State) (d : DataNodes)
             → IsUnderWay ticks M d manager.now self.old
             → IsUnderWay ticks M d manager.now self.new) }
@@ -283,6 +289,8 @@ impl Repair {
         ensures rounds { self.new.rounds ≡ self.old.rounds }
         ensures datanodes { self.new.datanodes ≡ self.old.datanodes }
         ensures drained { self.new.drained ≡ self.old.drained }
+        ensures in_order { OnOk result (AreInOrder self.old.rounds self.old.rows.rows.items
+            → AreInOrder (self.old.rounds + 1) self.new.rows.rows.items) }
         ensures noted { OnOk result ((ticks : Ticks) (M : State) (d : DataNodes)
             → IsUnderWay ticks M d manager.now self.old
             → IsNoted ticks M d manager.now self.new) }
@@ -304,6 +312,7 @@ impl Repair {
         ensures rounds { self.new.rounds ≡ self.old.rounds }
         ensures datanodes { self.new.datanodes ≡ self.old.datanodes }
         ensures drained { self.new.drained ≡ self.old.drained }
+        ensures rows { self.new.rows ≡ self.old.rows }
         ensures ended { OnOk result ((M : State) (d : DataNodes)
             → IsNoted facts.now.ticks M d manager.now self.old
             → HasEnded facts.now.ticks M d manager.now self.new) }

@@ -1,8 +1,9 @@
 // A row of counts for every round; if there are many rounds, for every second, fourth and so on.
-ghost use Rattle.std.specs.Prelude.{◌≡◌, [], filter, IfOk, OnOk};
+ghost use Rattle.std.specs.Prelude.{◌≡◌, ℕ, ◌+◌, List, [], filter, IfOk, OnOk};
 ghost use Rattle.bm_base.specs.Machine.State.{State};
-ghost use Rattle.cluster_repair.specs.Rows.{IsRowAfter, AreRowsAfter, EndsWith, is_on_stride};
-ghost use Rattle.cluster_repair.specs.declared.ticks.Ticks.{Ticks};
+ghost use Rattle.cluster_repair.specs.History.{Taken};
+ghost use Rattle.cluster_repair.specs.Rows.{IsRowAmong, AreRowsAmong, AreInOrder, EndsWith, is_on_stride};
+ghost use Rattle.cluster_repair.specs.declared.datanodes.DataNodes.{DataNodes};
 
 use cluster_report::levels::LevelCounts;
 use std::alloc::{AllocError, Global};
@@ -51,21 +52,25 @@ impl Rows {
 
     /// Adds the row of a round.
     pub fn push(&mut self, alloc: Global, row: Row) -> Result<(), AllocError>
-        ensures rows { OnOk result ((ticks : Ticks) (M : State)
-            → AreRowsAfter ticks M self.old.rows.items
-            → IsRowAfter ticks M row → AreRowsAfter ticks M self.new.rows.items) }
+        ensures rows { OnOk result ((M : State) (d : DataNodes) (taken : List Taken)
+            → AreRowsAmong M d taken self.old.rows.items
+            → IsRowAmong M d taken row → AreRowsAmong M d taken self.new.rows.items) }
         ensures last { OnOk result (EndsWith self.new.rows.items row) }
+        ensures in_order { OnOk result (AreInOrder row.round self.old.rows.items
+            → AreInOrder (row.round + 1) self.new.rows.items) }
     {
-        self.make_room(alloc)?;
+        self.thin_if_full(alloc)?;
         self.rows.push(row)?;
         Ok(())
     }
 
     /// Drops every second row if there are too many for one more.
-    fn make_room(&mut self, alloc: Global) -> Result<(), AllocError>
-        ensures { OnOk result ((ticks : Ticks) (M : State)
-            → AreRowsAfter ticks M self.old.rows.items
-            → AreRowsAfter ticks M self.new.rows.items) }
+    fn thin_if_full(&mut self, alloc: Global) -> Result<(), AllocError>
+        ensures rows { OnOk result ((M : State) (d : DataNodes) (taken : List Taken)
+            → AreRowsAmong M d taken self.old.rows.items
+            → AreRowsAmong M d taken self.new.rows.items) }
+        ensures in_order { OnOk result ((next : ℕ) → AreInOrder next self.old.rows.items
+            → AreInOrder next self.new.rows.items) }
     {
         if self.rows.len() < MOST_KEPT {
             return Ok(());
@@ -77,9 +82,11 @@ impl Rows {
     /// Drops every second row.
     #[tactic(auto, using(crate::proofs::Reach::rows_among))]
     fn thin(&mut self, alloc: Global) -> Result<(), AllocError>
-        ensures { OnOk result ((ticks : Ticks) (M : State)
-            → AreRowsAfter ticks M self.old.rows.items
-            → AreRowsAfter ticks M self.new.rows.items) }
+        ensures rows { OnOk result ((M : State) (d : DataNodes) (taken : List Taken)
+            → AreRowsAmong M d taken self.old.rows.items
+            → AreRowsAmong M d taken self.new.rows.items) }
+        ensures in_order { OnOk result ((next : ℕ) → AreInOrder next self.old.rows.items
+            → AreInOrder next self.new.rows.items) }
     {
         let stride = self.stride.saturating_mul(2);
         self.rows = rows_on(alloc, self.rows.as_slice(), stride)?;

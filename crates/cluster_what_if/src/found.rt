@@ -8,7 +8,7 @@ use crate::options::Asked;
 use crate::text::write_lost;
 use bm_base::{NodeId, Refusal};
 use cluster_input::loaded::Loaded;
-use cluster_losses::each::{Row, nodes_of, racks_of, rows_of};
+use cluster_losses::each::{Row, make_rows, nodes_of, racks_of};
 use cluster_losses::fault::Fault;
 use cluster_losses::loss::{Kind, Question};
 use cluster_losses::loss_events::Lost;
@@ -76,13 +76,13 @@ pub fn find<R: Eprint + Threads + Wait + Sync>(
         }
         Question::EachRack => {
             let parts = racks_of(alloc, &loaded.session.book)?;
-            let rows = rows_of(rt, alloc, loaded, parts.as_slice())?;
+            let rows = make_rows(rt, alloc, loaded, parts.as_slice())?;
             let kind = Kind::Rack;
             Ok(Found::Table(Table { kind, rows }))
         }
         Question::EachNode => {
             let parts = nodes_of(alloc, &loaded.session.book)?;
-            let rows = rows_of(rt, alloc, loaded, parts.as_slice())?;
+            let rows = make_rows(rt, alloc, loaded, parts.as_slice())?;
             let kind = Kind::Node;
             Ok(Found::Table(Table { kind, rows }))
         }

@@ -65,7 +65,7 @@ fn write_named(text: &mut String, named: &str) -> Result<(), AllocError> {
     text.push_str("</ul>\n")
 }
 
-/// The numbers that are looked at first.
+/// The numbers that come first on the page.
 fn write_facts(text: &mut String, files: &Files, losses: &Losses) -> Result<(), AllocError> {
     let answer = &losses.answer;
     text.push_str("<h2>In short</h2>\n<dl>\n")?;

@@ -80,13 +80,13 @@ known_not false e = refl
 spare_spared : (c d : Cluster) (node : ℕ) → after_spare c node ≡ Ok d → Spared c d
 spare_spared c d node = by (has_storage c.rows node)
   where
-    room : Result Cluster Why
-    room = if nat_lt (length c.storages) 4096 then Ok (with_spare c node) else Err why.TooManyStorages
+    added : Result Cluster Why
+    added = if nat_lt (length c.storages) 4096 then Ok (with_spare c node) else Err why.TooManyStorages
 
-    by : (b : Bool) → (if b then Ok c else (if not (is_new c.storages (name_of c.nodes node)) then Err why.Elsewhere else room)) ≡ Ok d → Spared c d
+    by : (b : Bool) → (if b then Ok c else (if not (is_new c.storages (name_of c.nodes node)) then Err why.Elsewhere else added)) ≡ Ok d → Spared c d
     by true e = subst (Spared c) (same_ok c d e) (none_spared c)
     by false e =
-        let apart = if_not (not (is_new c.storages (name_of c.nodes node))) room why.Elsewhere d e in
+        let apart = if_not (not (is_new c.storages (name_of c.nodes node))) added why.Elsewhere d e in
         let new = known_not (list_any (bytes_eq (name_of c.nodes node)) c.storages) apart.0 in
         subst (Spared c) (same_ok (with_spare c node) d (if_ok (nat_lt (length c.storages) 4096) (Ok (with_spare c node)) why.TooManyStorages d apart.1).1) (one_spared c node new)
 

@@ -211,7 +211,7 @@ fn write_reports<W: Write>(alloc: Global, writer: &mut W, cluster: &Cluster) -> 
     Ok(())
 }
 
-/// Reports the replicas on a storage: as many as fit into a report, then each of the others by a
+/// Reports the replicas on a storage: a report up to its limit, then each of the others by a
 /// notice.
 fn write_row<W: Write>(alloc: Global, writer: &mut W, row: &Row) -> Result<(), Fault>
     ensures written { OnOk result (Written (reports row.now) (W.contents writer.old)

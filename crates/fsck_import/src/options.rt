@@ -11,6 +11,11 @@ use fsck_files::{Skips, Unclear};
 use fsck_text::number_of;
 use std::alloc::{AllocError, Global};
 
+const EXAMPLES: &str = "Examples:\n  \
+./puljemrod import fsck.txt > cluster.jsonl\n  \
+./puljemrod import --nodes nodes.txt --names names.tsv fsck.txt > cluster.jsonl\n  \
+./puljemrod import --skip open,snapshots --unclear omit fsck.txt > cluster.jsonl";
+
 /// The values of three options.
 #[derive(Clone, Copy, Drop)]
 pub struct Values {
@@ -74,6 +79,7 @@ fn command<'a>(alloc: Global) -> Result<Command<'a>, AllocError>
 {
     Command::new(alloc, "fsck_import")
         .about("Writes what hdfs fsck says of a cluster as lines of the line tool")
+        .after_help(EXAMPLES)
         .arg(option(
             alloc,
             "remaining",

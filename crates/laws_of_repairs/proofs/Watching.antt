@@ -135,9 +135,9 @@ pub covers_heard : (M N : State) (e : Event) (xs : List ℕ) → ((b : ℕ) → 
 covers_heard M N e xs beside is covers = subst (λ O. Covers O xs) (sym is) (λ b none. reports_keep M e b (beside b) ∙ covers b none)
 
 -- a notice of a block that is added
-pub covers_told : (M N : State) (e : Event) (xs ys : List ℕ) (c : ℕ) → ys ≡ xs ++ c ∷ [] → ((b : ℕ) → (c == b) ≡ false → is_report_not_naming b e ≡ true)
+pub covers_reported : (M N : State) (e : Event) (xs ys : List ℕ) (c : ℕ) → ys ≡ xs ++ c ∷ [] → ((b : ℕ) → (c == b) ≡ false → is_report_not_naming b e ≡ true)
     → N ≡ after_event M e → Covers M xs → Covers N ys
-covers_told M N e xs ys c added beside is covers = subst (λ O. Covers O ys) (sym is) told
+covers_reported M N e xs ys c added beside is covers = subst (λ O. Covers O ys) (sym is) told
   where
     told : Covers (after_event M e) ys
     told b none =

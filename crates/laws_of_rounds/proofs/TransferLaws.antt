@@ -358,11 +358,11 @@ sent_more C limits H s front t fits why =
   where
     by_target : (b : Bool) → (t.target == s) ≡ b → (l : ℕ) → why.info.stamp.len + scheduled_to front t.target ≤ remaining C t.target → l ≡ why.info.stamp.len
         → scheduled_to (front ++ t ∷ []) s ≡ scheduled_to front s + (if t.target == s then l else 0) → scheduled_to (front ++ t ∷ []) s ≤ remaining C s
-    by_target true e l room same long =
-        let here : why.info.stamp.len + scheduled_to front s ≤ remaining C s = subst (λ z. why.info.stamp.len + scheduled_to front z ≤ remaining C z) (eqb-true t.target s e) room in
+    by_target true e l enough same long =
+        let here : why.info.stamp.len + scheduled_to front s ≤ remaining C s = subst (λ z. why.info.stamp.len + scheduled_to front z ≤ remaining C z) (eqb-true t.target s e) enough in
         let sum : scheduled_to (front ++ t ∷ []) s ≡ scheduled_to front s + l = long ∙ ap (λ b. scheduled_to front s + (if b then l else 0)) e in
         omega (arith, here, sum, same)
-    by_target false e l room same long =
+    by_target false e l enough same long =
         let sum : scheduled_to (front ++ t ∷ []) s ≡ scheduled_to front s + 0 = long ∙ ap (λ b. scheduled_to front s + (if b then l else 0)) e in
         omega (arith, fits, sum)
 

@@ -9,10 +9,10 @@ use borrow.Rule.Slice.PartMut.{put_mid}
 use mathlib.Core.List.{append_assoc}
 
 pub one_more : {X Y : Type 0} (f : X → Y) (xs : List X) (old ys : List Y) (i : ℕ) (x : X) → i < length xs → i < length old → ys ≡ map f (take i xs) ++ drop i old → x ≡ get_or xs i x → set ys i (f x) ≡ map f (take (i + 1) xs) ++ drop (i + 1) old
-one_more f xs old ys i x lt room h is =
+one_more f xs old ys i x lt bound h is =
     let front = map f (take i xs) in
     let long : length front ≡ i = length-map (take i xs) f ∙ omega (arith, length-take i xs) in
-    let parts : ys ≡ front ++ get_or old i (f x) ∷ drop (i + 1) old = h ∙ ap (λ l. front ++ l) (drop_more old i (f x) room) in
+    let parts : ys ≡ front ++ get_or old i (f x) ∷ drop (i + 1) old = h ∙ ap (λ l. front ++ l) (drop_more old i (f x) bound) in
     ap (λ l. set l i (f x)) parts ∙ set_at front _ _ (f x) i long ∙ sym (append_assoc front (f x ∷ []) _)
     ∙ ap (λ l. l ++ drop (i + 1) old) (ap (λ y. front ++ f y ∷ []) is ∙ sym (map_more f xs i x lt))
 
@@ -38,10 +38,10 @@ one_list old now after all r from left count copied is held lefts is_copied is_a
     let long : length (take count D) ≡ count = omega (arith, length-take count D, is) in
     let front : take count now ≡ take count D = ap (take count) held ∙ take_at (take count D) (drop count old) count long in
     let back : drop count now ≡ drop count old = ap (drop count) held ∙ drop_at (take count D) (drop count old) count long in
-    let room : copied ≡ min (length old - count) (length E) = omega (arith, is_copied, ap length back, length-drop count old) in
-    let total : count + copied ≡ min (length old) (length (drop from (all ++ r))) = omega (arith, is, room, ap length whole, length-append D E) in
-    let same : min (count + copied) (length D) ≡ min count (length D) = omega (arith, is, room) in
-    let rest : count + copied - length D ≡ copied = omega (arith, is, room) in
+    let bound : copied ≡ min (length old - count) (length E) = omega (arith, is_copied, ap length back, length-drop count old) in
+    let total : count + copied ≡ min (length old) (length (drop from (all ++ r))) = omega (arith, is, bound, ap length whole, length-append D E) in
+    let same : min (count + copied) (length D) ≡ min count (length D) = omega (arith, is, bound) in
+    let rest : count + copied - length D ≡ copied = omega (arith, is, bound) in
     let first : take (count + copied) D ≡ take count D = sym (take_min (count + copied) D) ∙ ap (λ k. take k D) same ∙ take_min count D in
     let rows : take count D ++ take copied E ≡ take (count + copied) (drop from (all ++ r)) =
     ap₂ (λ a k. a ++ take k E) (sym first) (sym rest) ∙ sym (take_both (count + copied) D E) ∙ ap (take (count + copied)) (sym whole) in
@@ -59,13 +59,13 @@ one_node f items old now new all more from left count copied whole is held lefts
     let r = map f items in
     let rest : take (length now - count) (drop count now) ≡ drop count now = take_rest now count in
     let as_many : length (drop left r) ≡ length (drop left items) = omega (arith, length-drop left r, length-drop left items, length-map items f) in
-    let room : copied ≡ min (length (drop count now)) (length (drop left r)) = omega (arith, is_copied, ap length rest, as_many) in
+    let bound : copied ≡ min (length (drop count now)) (length (drop left r)) = omega (arith, is_copied, ap length rest, as_many) in
     let rows : map f (take copied (drop left items)) ≡ take copied (drop left r) = sym (take-map f copied (drop left items)) ∙ ap (take copied) (sym (drop-map f left items)) in
     let new_is : new ≡ take copied (drop left r) ++ drop copied (drop count now) = is_new ∙ ap₂ (λ a b. a ++ drop copied b) rows rest in
     let end : drop (length now - count) (drop count now) ≡ [] = drop_all (length now - count) (drop count now) (omega (arith, length-drop count now)) in
     let put : put_mid count (length now - count) now new ≡ take count now ++ (take copied (drop left r) ++ drop copied (drop count now)) =
     ap (λ l. take count now ++ l) (ap (λ l. new ++ l) end ∙ append-nil new ∙ new_is) in
-    let done = one_list old now _ all r from left count copied is held lefts room put in
+    let done = one_list old now _ all r from left count copied is held lefts bound put in
     rw whole done
 
 pub flat_more : {X Y : Type 0} (f : X → List Y) (xs : List X) (i : ℕ) (d : X) → i < length xs → flat_map f (take (i + 1) xs) ≡ flat_map f (take i xs) ++ f (get_or xs i d)

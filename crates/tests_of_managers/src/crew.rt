@@ -105,7 +105,7 @@ enum Work {
 #[derive(Clone, Copy)]
 struct Runs<'a> {
     workers: &'a [usize],
-    room: usize,
+    capacity: usize,
     items: &'a [(u32, u64)],
     work: Work,
     results: &'a [(u32, u64)],
@@ -114,21 +114,21 @@ struct Runs<'a> {
 static RUNS: [Runs<'static>; 4] = [
     Runs {
         workers: &[1, 2, 16],
-        room: 3,
+        capacity: 3,
         items: &[(0, 5), (1, 6), (2, 7)],
         work: Work::Square,
         results: &[(0, 25), (1, 36), (2, 49)],
     },
     Runs {
         workers: &[1, 2, 16],
-        room: 0,
+        capacity: 0,
         items: &[],
         work: Work::AddShards,
         results: &[],
     },
     Runs {
         workers: &[1, 2, 16],
-        room: 3,
+        capacity: 3,
         items: &[],
         work: Work::AddShards,
         results: &[],
@@ -136,7 +136,7 @@ static RUNS: [Runs<'static>; 4] = [
     // Shards need not be ascending or distinct, and the capacity may exceed the number of items.
     Runs {
         workers: &[1, 2, 16],
-        room: 7,
+        capacity: 7,
         items: &[(9, 1), (2, 2), (9, 3), (0, 4)],
         work: Work::AddShards,
         results: &[(9, 901), (2, 202), (9, 903), (0, 4)],
@@ -156,9 +156,9 @@ fn check_run<R: Abort + Threads + Wait + Sync>(
     runs: &Runs<'_>,
     workers: usize,
 ) {
-    assert!(rt; 0 < workers && runs.items.len() <= runs.room);
+    assert!(rt; 0 < workers && runs.items.len() <= runs.capacity);
     let items = Vec::from_slice(alloc, runs.items).expect(rt, "memory");
-    let ready = Crew::ready::<u64, u64>(alloc, runs.room, workers).expect(rt, "memory");
+    let ready = Crew::ready::<u64, u64>(alloc, runs.capacity, workers).expect(rt, "memory");
     let work = runs.work;
     let made = ready.run(
         rt,

@@ -481,7 +481,7 @@ round 2; delete 2 21 7
     },
     // No target has enough free bytes for the second copy.
     Row {
-        name: "targets_need_room",
+        name: "targets_need_free_bytes",
         config: EXAMPLE_CONFIG,
         before: CLUSTER,
         script: r#"{"op":"heartbeat","node":2,"remaining":[[21,10]]}

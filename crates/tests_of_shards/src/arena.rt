@@ -188,10 +188,10 @@ fn link(arena: &mut Arena, slot: usize, storage: StorageId) -> Answer {
     if arena.reserve_triplet(slot).is_err() {
         return Answer::Other;
     }
-    link_with_room(arena, slot, storage)
+    link_with_capacity(arena, slot, storage)
 }
 
-fn link_with_room(arena: &mut Arena, slot: usize, storage: StorageId) -> Answer {
+fn link_with_capacity(arena: &mut Arena, slot: usize, storage: StorageId) -> Answer {
     if !arena.has_head(storage) {
         return Answer::NotAllowed;
     }

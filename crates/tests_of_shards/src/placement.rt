@@ -246,13 +246,13 @@ fn check_excess(
     topology: &Topology,
     case: &Choice<'_>,
     chosen: &mut Vec<StorageId>,
-    room: &mut ExcessScratch,
+    scratch: &mut ExcessScratch,
 ) {
     let live = storages_numbered(rt, alloc, case.live);
     let wanted = storages_numbered(rt, alloc, case.chosen);
     let alone = excess_of(alloc, live.as_slice(), case.repl, topology).expect(rt, "memory");
     assert!(rt; alone.as_slice() == wanted.as_slice());
-    fill_excess(chosen, room, live.as_slice(), case.repl, topology).expect(rt, "memory");
+    fill_excess(chosen, scratch, live.as_slice(), case.repl, topology).expect(rt, "memory");
     assert!(rt; chosen.as_slice() == wanted.as_slice());
     drop(alone);
     drop(wanted);
@@ -264,10 +264,10 @@ fn check_excess_on(
     alloc: Global,
     case: &Excess<'_>,
     chosen: &mut Vec<StorageId>,
-    room: &mut ExcessScratch,
+    scratch: &mut ExcessScratch,
 ) {
     let topology = cluster(rt, alloc, &case.free, &[]);
-    check_excess(rt, alloc, &topology, &case.choice, chosen, room);
+    check_excess(rt, alloc, &topology, &case.choice, chosen, scratch);
     drop(topology);
 }
 
@@ -275,11 +275,11 @@ fn check_excess_on(
 fn replicas_in_excess(rt: HostRuntime) {
     let alloc = rt.alloc();
     let mut chosen = Vec::new(alloc);
-    let mut room = ExcessScratch::new(alloc);
+    let mut scratch = ExcessScratch::new(alloc);
     for case in &EXCESSES {
-        check_excess_on(&rt, alloc, case, &mut chosen, &mut room);
+        check_excess_on(&rt, alloc, case, &mut chosen, &mut scratch);
     }
-    drop(room);
+    drop(scratch);
     drop(chosen);
 }
 
@@ -288,11 +288,11 @@ fn many_replicas_in_excess(rt: HostRuntime) {
     let alloc = rt.alloc();
     let topology = cluster_of_singles(&rt, alloc);
     let mut chosen = Vec::new(alloc);
-    let mut room = ExcessScratch::new(alloc);
+    let mut scratch = ExcessScratch::new(alloc);
     for case in &MANY {
-        check_excess(&rt, alloc, &topology, case, &mut chosen, &mut room);
+        check_excess(&rt, alloc, &topology, case, &mut chosen, &mut scratch);
     }
-    drop(room);
+    drop(scratch);
     drop(chosen);
     drop(topology);
 }

@@ -14,7 +14,7 @@ enum LevelStep {
     Level(usize),
     First(Level),
     Next(usize),
-    Room,
+    Capacity,
     Slots(Level),
 }
 
@@ -29,7 +29,7 @@ enum SetStep {
     Len,
     First,
     Next(usize),
-    Room,
+    Capacity,
     Walk,
 }
 
@@ -39,7 +39,7 @@ enum Answer {
     Fine,
     Refused,
     /// The slot is not below the capacity.
-    NoRoom,
+    NoCapacity,
     Yes,
     No,
     Nothing,
@@ -96,16 +96,16 @@ fn answer_slots(slots: &[u32]) -> Answer {
 }
 
 fn set(lists: &mut LevelLists, slot: usize, level: Option<Level>) -> Answer {
-    if slot >= lists.room() {
-        return Answer::NoRoom;
+    if slot >= lists.capacity() {
+        return Answer::NoCapacity;
     }
     lists.set(slot, level);
     Answer::Fine
 }
 
 fn level(lists: &LevelLists, slot: usize) -> Answer {
-    if slot >= lists.room() {
-        return Answer::NoRoom;
+    if slot >= lists.capacity() {
+        return Answer::NoCapacity;
     }
     match lists.level(slot) {
         Some(level) => Answer::Level(level),
@@ -114,20 +114,20 @@ fn level(lists: &LevelLists, slot: usize) -> Answer {
 }
 
 fn next(lists: &LevelLists, at: usize) -> Answer {
-    if at >= lists.room() {
-        return Answer::NoRoom;
+    if at >= lists.capacity() {
+        return Answer::NoCapacity;
     }
     slot(lists.next(at))
 }
 
 fn of_levels(lists: &mut LevelLists, step: LevelStep) -> Answer {
     match step {
-        LevelStep::GrowTo(room) => answer_of(lists.grow_to(room)),
+        LevelStep::GrowTo(capacity) => answer_of(lists.grow_to(capacity)),
         LevelStep::Set(slot, level) => set(lists, slot, level),
         LevelStep::Level(slot) => level(lists, slot),
         LevelStep::First(level) => slot(lists.first(level)),
         LevelStep::Next(slot) => next(lists, slot),
-        LevelStep::Room => Answer::Number(lists.room()),
+        LevelStep::Capacity => Answer::Number(lists.capacity()),
         LevelStep::Slots(level) => answer_slots(lists.slots(level)),
     }
 }
@@ -170,9 +170,9 @@ static LEVELS_OF_THREE_SLOTS: [(LevelStep, Answer); 22] = [
     // A greater capacity keeps the lists, and a smaller one changes nothing.
     (LevelStep::GrowTo(5), Answer::Fine),
     (LevelStep::GrowTo(1), Answer::Fine),
-    (LevelStep::Room, Answer::Number(5)),
+    (LevelStep::Capacity, Answer::Number(5)),
     (LevelStep::GrowTo(1_000), Answer::Fine),
-    (LevelStep::Room, Answer::Number(1_000)),
+    (LevelStep::Capacity, Answer::Number(1_000)),
     (
         LevelStep::Set(4, Some(Level::UnderReplicated)),
         Answer::Fine,
@@ -187,7 +187,7 @@ static LEVELS_OF_THREE_SLOTS: [(LevelStep, Answer); 22] = [
 static REFUSED_WHERE_NO_LINK_REACHES: [(LevelStep, Answer); 3] = [
     (LevelStep::GrowTo(1), Answer::Fine),
     (LevelStep::GrowTo(4_294_967_296), Answer::Refused),
-    (LevelStep::Room, Answer::Number(1)),
+    (LevelStep::Capacity, Answer::Number(1)),
 ];
 
 /// The second table asks for a capacity that links cannot address, which is refused.
@@ -198,44 +198,44 @@ fn levels_of_slots(rt: HostRuntime) {
 }
 
 fn insert(slots: &mut SlotSet, slot: usize) -> Answer {
-    if slot >= slots.room() {
-        return Answer::NoRoom;
+    if slot >= slots.capacity() {
+        return Answer::NoCapacity;
     }
     slots.insert(slot);
     contains(slots, slot)
 }
 
 fn remove(slots: &mut SlotSet, slot: usize) -> Answer {
-    if slot >= slots.room() {
-        return Answer::NoRoom;
+    if slot >= slots.capacity() {
+        return Answer::NoCapacity;
     }
     slots.remove(slot);
     contains(slots, slot)
 }
 
 fn contains(slots: &SlotSet, slot: usize) -> Answer {
-    if slot >= slots.room() {
-        return Answer::NoRoom;
+    if slot >= slots.capacity() {
+        return Answer::NoCapacity;
     }
     yes(slots.contains(slot))
 }
 
 fn next_in(slots: &SlotSet, at: usize) -> Answer {
-    if at >= slots.room() {
-        return Answer::NoRoom;
+    if at >= slots.capacity() {
+        return Answer::NoCapacity;
     }
     slot(slots.next(at))
 }
 
 fn of_set(slots: &mut SlotSet, step: SetStep) -> Answer {
     match step {
-        SetStep::GrowTo(room) => answer_of(slots.grow_to(room)),
+        SetStep::GrowTo(capacity) => answer_of(slots.grow_to(capacity)),
         SetStep::Insert(slot) => insert(slots, slot),
         SetStep::Remove(slot) => remove(slots, slot),
         SetStep::Len => Answer::Number(slots.len()),
         SetStep::First => slot(slots.first()),
         SetStep::Next(slot) => next_in(slots, slot),
-        SetStep::Room => Answer::Number(slots.room()),
+        SetStep::Capacity => Answer::Number(slots.capacity()),
         SetStep::Walk => answer_walk(slots.walk()),
     }
 }
@@ -248,7 +248,7 @@ static SET_OF_THREE_SLOTS: [(SetStep, Answer); 14] = [
     (SetStep::Insert(2), Answer::Yes),
     (SetStep::Len, Answer::Number(2)),
     (SetStep::First, Answer::Slot(2)),
-    (SetStep::Room, Answer::Number(3)),
+    (SetStep::Capacity, Answer::Number(3)),
     (SetStep::Next(2), Answer::Slot(0)),
     (SetStep::Remove(2), Answer::No),
     (SetStep::Remove(1), Answer::No),

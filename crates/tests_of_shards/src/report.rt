@@ -4,7 +4,7 @@
 ghost use Rattle.std.specs.Prelude.{◌≡◌, ◌<◌, ◌≤◌, ℕ, true};
 ghost use Rattle.bm_base.specs.declared.limits.TheConstants.{MAX_NUMBERS};
 ghost use Rattle.bm_base.specs.Machine.Entries.{numbers_in};
-ghost use Rattle.bm_report.specs.DuringReport as midway;
+ghost use Rattle.bm_report.specs.DuringReport as during_report;
 ghost use Rattle.bm_report.specs.Tested.{IsSingle};
 
 use crate::support::{check_step, join};
@@ -148,7 +148,7 @@ fn is_single(arena: &Arena, slot: Slot) -> bool
 
 /// Whether a replica is good if it is in excess.
 fn is_excess_good(marks: Marks) -> bool
-    ensures { result ≡ midway.is_excess_good marks }
+    ensures { result ≡ during_report.is_excess_good marks }
 {
     !marks.excess || marks.tag.is_good()
 }
@@ -291,7 +291,7 @@ fn apply_notice(
 ) -> Answer {
     let is_ready = world
         .report
-        .ready_one(&mut world.arena, storage, BlockId(id), stamp(generation));
+        .prepare_notice(&mut world.arena, storage, BlockId(id), stamp(generation));
     assert!(rt; is_ready.is_ok());
     assert!(rt; is_simple(&world.arena));
     let stamp = stamp(generation);

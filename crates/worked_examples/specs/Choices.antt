@@ -50,8 +50,8 @@ RacksOfCopies =
 
 -- The free bytes of a target are its remaining bytes minus those that the round sends there. Of
 -- targets with equal free bytes the lesser storage is taken.
-abbrev pub RoomOfTargets : Type 0
-RoomOfTargets =
+abbrev pub FreeBytesOfTargets : Type 0
+FreeBytesOfTargets =
     (target_of (sent 9 11 51 150 ∷ []) Highest (11 ∷ []) ≡ Some 41)
     × (least_target three_racks [] UnderReplicated (31 ∷ []) (31 ∷ 51 ∷ []) 10 ≡ Some 11)
 

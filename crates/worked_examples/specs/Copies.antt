@@ -80,8 +80,8 @@ pending_transfer_expires = HoldsOnCluster (record example_config { pend = 2 }) (
     ∷ round gives commands 3 (copies_by 1 (copy 7 11 31 ∷ []) ∷ [])
     ∷ [])
 
-abbrev pub targets_need_room : Type 0
-targets_need_room = HoldsOnCluster example_config (
+abbrev pub targets_need_free_bytes : Type 0
+targets_need_free_bytes = HoldsOnCluster example_config (
     heartbeat 2 (remaining 21 10 ∷ []) gives ok 0 0
     ∷ heartbeat 3 (remaining 31 9 ∷ []) gives ok 0 0
     ∷ heartbeat 4 (remaining 41 5 ∷ []) gives ok 0 0

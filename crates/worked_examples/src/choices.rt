@@ -11,8 +11,8 @@ pub fn racks_of_copies()
 
 /// The target is the storage with the most free bytes, counted without those that the round fills.
 /// Of equal ones it is the lesser storage.
-pub fn room_of_targets()
-    ensures { row.RoomOfTargets }
+pub fn free_bytes_of_targets()
+    ensures { row.FreeBytesOfTargets }
 {}
 
 /// A block fits a storage that has exactly its length free, but not one with a byte less.

@@ -30,6 +30,6 @@ pub fn pending_transfer_expires()
 
 /// Only a storage with enough free bytes for the block is a target, even on the same rack. The
 /// second copy has no such storage.
-pub fn targets_need_room()
-    ensures { example.targets_need_room }
+pub fn targets_need_free_bytes()
+    ensures { example.targets_need_free_bytes }
 {}

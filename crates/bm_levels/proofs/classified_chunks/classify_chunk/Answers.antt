@@ -20,10 +20,10 @@ read_on c i below slot default is =
     let P : ℕ → BlockStatus → Type 0 = λ z j. IsStatusOf (rack_of C) (drains_after_change C c.args.cluster_after.now.drain_change) c.args.cluster_after.now.multi (block_at c.args.arena.now z) j in
     elim (cases_eq i c.loop-index.index) [
       | inl here ↦
-          let room : c.loop-index.index < length c.loop-index.status = omega (arith, c.loop-index.invariant.whole) in
+          let capacity : c.loop-index.index < length c.loop-index.status = omega (arith, c.loop-index.invariant.whole) in
           let same : slice_index_or c.args.chunk.now c.loop-index.index 0 ≡ slot = get_or_from_slice_get c.args.chunk.now c.loop-index.index slot 0 (rw here at is) in
           rw here (subst (λ z. P z (slice_index_or (slice_set c.loop-index.status c.loop-index.index c.classify.result) c.loop-index.index default)) same
-          (subst (P (slice_index_or c.args.chunk.now c.loop-index.index 0)) (sym (get_or-set_same c.loop-index.status c.loop-index.index c.classify.result default room))
+          (subst (P (slice_index_or c.args.chunk.now c.loop-index.index 0)) (sym (get_or-set_same c.loop-index.status c.loop-index.index c.classify.result default capacity))
           (record { level = c.classify.ensures.level; settled = c.classify.ensures.settled })))
       | inr differs ↦
           let less : i < c.loop-index.index = omega arith in

@@ -14,9 +14,9 @@ read_on : (c : goal.After-triplet_count) → (i : ℕ) → i < c.loop-index.inde
 read_on c i below slot is =
     elim (cases_eq i c.loop-index.index) [
       | inl here ↦
-          let room : c.loop-index.index < length c.loop-index.counts = omega (arith, c.loop-index.invariant.whole) in
+          let in_bounds : c.loop-index.index < length c.loop-index.counts = omega (arith, c.loop-index.invariant.whole) in
           let same : slice_index_or c.args.chunk.now c.loop-index.index 0 ≡ slot = get_or_from_slice_get c.args.chunk.now c.loop-index.index slot 0 (rw here at is) in
-          rw here (get_or-set_same c.loop-index.counts c.loop-index.index c.triplet_count.result 0 room ∙ c.triplet_count.ensures ∙ ap (λ z. option_map_or (λ (b : Block). length b.replicas) (block_at c.args.arena.now z) 0) same)
+          rw here (get_or-set_same c.loop-index.counts c.loop-index.index c.triplet_count.result 0 in_bounds ∙ c.triplet_count.ensures ∙ ap (λ z. option_map_or (λ (b : Block). length b.replicas) (block_at c.args.arena.now z) 0) same)
       | inr differs ↦
           let less : i < c.loop-index.index = omega arith in
           get_or-set_other c.loop-index.counts c.loop-index.index i c.triplet_count.result 0 differs ∙ c.loop-index.invariant.read i less slot is

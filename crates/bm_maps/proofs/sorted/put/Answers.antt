@@ -17,8 +17,8 @@ insert_reserved-requires-clause-at g c =
     let e = c.requires.at in
     omega (arith, e, key_index-le g.K.Ord.cmp c.args.key c.args.entries.now.items, ap length c.in_ok-reserve.ensures.items)
 
-pub insert_reserved-requires-clause-room : goal.insert_reserved-requires-clause-room
-insert_reserved-requires-clause-room g c = omega (arith, c.in_ok-reserve.ensures.ok)
+pub insert_reserved-requires-clause-spare : goal.insert_reserved-requires-clause-spare
+insert_reserved-requires-clause-spare g c = omega (arith, c.in_ok-reserve.ensures.ok)
 
 pub returns-clause-ok : goal.returns-clause-ok
 returns-clause-ok g c =

@@ -3,7 +3,7 @@ use Rattle.std.proofs.lemmas.Option.{slice_get-get_or}
 use Rattle.bm_place.specs.BestTargets.{AreBestTargets}
 use Rattle.bm_place.specs.Targets.{free_bytes_on, cmp_targets, is_available}
 use Rattle.bm_place.proofs.BestTargetScan.{target_found}
-use Rattle.bm_place.proofs.TargetWalk.{IsWalked, here_behind, walked_past, walked_with, ends_at_room, ends_at_first, ends_behind}
+use Rattle.bm_place.proofs.TargetWalk.{IsWalked, here_behind, walked_past, walked_with, ends_below_len, ends_at_first, ends_behind}
 use Rattle.bm_place.proofs.target.least_fitting.Goals.{then-beats_best+else-class_of-eq0, else-beats_best}
 use Rattle.bm_place.proofs.target.least_fitting.Goals as goal
 
@@ -39,7 +39,7 @@ returns-then-free_bytes_on-len c sent made =
     let less : free_bytes_on t < c.args.len = omega (arith, c.free_bytes_on.ensures, c.if-free_bytes_on-len.true) in
     c.storage_of.ensures
     ∙ target_found C sent c.args.level c.args.held.now c.args.excluded.now c.args.len cs (subst (λ rows. AreBestTargets rows cs) made c.best_targets-targets.ensures) w c.loop-target.best c.of-spread.ensures
-    (ends_at_room C w c.args.level c.args.excluded.now c.args.len cs c.best_targets-targets.ensures.ordered c.loop-target.target-index t at c.loop-target.best c.loop-target.invariant.scanned less)
+    (ends_below_len C w c.args.level c.args.excluded.now c.args.len cs c.best_targets-targets.ensures.ordered c.loop-target.target-index t at c.loop-target.best c.loop-target.invariant.scanned less)
 
 pub returns-then-class_of-eq0 : goal.returns-then-class_of-eq0
 returns-then-class_of-eq0 c sent made =

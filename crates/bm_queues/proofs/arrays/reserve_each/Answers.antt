@@ -1,11 +1,11 @@
 use Rattle.std.proofs.Common.{◌≡◌, ◌<◌, ◌≤◌, [], length, get_or, sym, subst, ap, ◌∙◌, arith}
 use Rattle.std.proofs.lemmas.List.{take_all, length-map, length-set}
-use Rattle.bm_queues.specs.DenseLevels.{arrays_in, HaveRoom}
-use Rattle.bm_queues.proofs.OneArray.{array-at, arrays-same, room-set, room-more}
+use Rattle.bm_queues.specs.DenseLevels.{arrays_in, HaveCapacity}
+use Rattle.bm_queues.proofs.OneArray.{array-at, arrays-same, capacity-set, capacity-more}
 use Rattle.bm_queues.proofs.arrays.reserve_each.Goals as goal
 
-pub overflow_sub-room : goal.overflow_sub-room
-overflow_sub-room c =
+pub overflow_sub-capacity : goal.overflow_sub-capacity
+overflow_sub-capacity c =
     let arrays = c.loop-index.arrays.items in
     let index = c.loop-index.index in
     let v = c.index_mut-array.result.now in
@@ -32,12 +32,12 @@ loop-index-preserved c =
     let at = c.index_mut-array.ensures.value in
     record {
       same = arrays-same arrays index v low at w c.in_ok-reserve.ensures.items ∙ c.loop-index.invariant.same;
-      kept = λ bound before. room-set arrays index v low at w bound c.in_ok-reserve.ensures.capacity (c.loop-index.invariant.kept bound before);
-      made = room-more arrays index v low at w c.args.room (let got = c.in_ok-reserve.ensures.ok in omega (arith, got, c.len.ensures)) c.loop-index.invariant.made;
+      kept = λ bound before. capacity-set arrays index v low at w bound c.in_ok-reserve.ensures.capacity (c.loop-index.invariant.kept bound before);
+      made = capacity-more arrays index v low at w c.args.capacity (let got = c.in_ok-reserve.ensures.ok in omega (arith, got, c.len.ensures)) c.loop-index.invariant.made;
       count = length-set arrays index w ∙ c.loop-index.invariant.count;
     }
 
-pub returns-clause-room : goal.returns-clause-room
-returns-clause-room c =
+pub returns-clause-capacity : goal.returns-clause-capacity
+returns-clause-capacity c =
     let end : length c.loop-index.arrays.items ≤ c.loop-index.index = omega (arith, c.loop-index-test.false, c.loop-index.invariant.count) in
-    subst (λ us. HaveRoom us c.args.room) (take_all c.loop-index.index c.loop-index.arrays.items end) c.loop-index.invariant.made
+    subst (λ us. HaveCapacity us c.args.capacity) (take_all c.loop-index.index c.loop-index.arrays.items end) c.loop-index.invariant.made

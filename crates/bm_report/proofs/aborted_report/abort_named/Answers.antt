@@ -14,7 +14,7 @@ loop-named-preserved c =
     (slice_get_read c.args.named.now (length c.args.named.now) c.loop-named.named-index c.named-item.result refl c.loop-named-test.true c.named-item.is) in
     let Q : List ReportedSlot → Type 0 = λ l. (last : Contents) → IsAborted l c.loop-named.arena last → IsAborted c.args.named.now c.args.arena.now last in
     rw add-one (λ last g. (subst Q next c.loop-named.invariant) last
-    (aborted-cons c.named-item.result (drop (suc c.loop-named.named-index) c.args.named.now) c.loop-named.arena c.abort_one.new.arena last c.abort_one.ensures g))
+    (aborted-cons c.named-item.result (drop (suc c.loop-named.named-index) c.args.named.now) c.loop-named.arena c.abort_number.new.arena last c.abort_number.ensures g))
 
 pub returns : goal.returns
 returns c =

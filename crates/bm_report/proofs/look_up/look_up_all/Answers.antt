@@ -26,7 +26,7 @@ loop-chunk-preserved c =
           (subst (λ (l : List ReportedSlot). NamesNew c.loop-chunk.arena c.look_up_chunk.new.arena l c.look_up_chunk.new.named.items) c.read_ahead.ensures.named c.look_up_chunk.ensures.fresh);
       kept = prepared-chain c.args.arena.now c.loop-chunk.arena c.look_up_chunk.new.arena inv.kept c.look_up_chunk.ensures.kept;
       here = c.in_ok-look_up_chunk.ensures.here;
-      room = c.in_ok-look_up_chunk.ensures.room;
+      capacity = c.in_ok-look_up_chunk.ensures.capacity;
       others = λ b out. c.look_up_chunk.ensures.others b (not_named _ (λ in_it. named_apart _ b out (chunk_named part c.args.entries.now _ chunk left whole inv.rest b in_it))) ∙ inv.others b out;
       rest = left_named part c.args.entries.now _ chunk left whole inv.rest;
       there = λ h.

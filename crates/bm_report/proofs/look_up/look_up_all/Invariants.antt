@@ -16,7 +16,7 @@ invariant-loop-chunk l =
       fresh : NamesNew l.initial.arena l.arena [] l.named.items;
       kept : IsPrepared l.initial.arena l.arena;
       here : AreAtSlots l.arena l.named.items;
-      room : HaveCapacity l.arena l.storage l.named.items;
+      capacity : HaveCapacity l.arena l.storage l.named.items;
       others : (b : ℕ) → is_named (reported_to_part l.part l.entries) b ≡ false → slot_of l.arena b ≡ slot_of l.initial.arena b;
       rest : (b : ℕ) → is_named (reported_to_part l.part left) b ≡ true → is_named (reported_to_part l.part l.entries) b ≡ true;
       there : HaveReplicas l.initial.arena l.storage (reported_to_part l.part l.entries) → l.arena ≡ l.initial.arena;

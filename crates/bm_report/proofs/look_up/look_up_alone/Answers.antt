@@ -10,4 +10,4 @@ returns-in_err-reserve_head-clause-there c there = (c.reserve_head.ensures.had (
 pub returns-clause-there : goal.returns-clause-there
 returns-clause-there c there =
     let same = (c.reserve_head.ensures.had (head_there c.args.arena.now c.args.storage c.args.id there c.show_invariant.ensures)).1 in
-    c.look_up_one.ensures.there (subst (λ (a : Contents). HasReplica a c.args.storage c.args.id) (sym same) there) ∙ same
+    c.look_up_number.ensures.there (subst (λ (a : Contents). HasReplica a c.args.storage c.args.id) (sym same) there) ∙ same

@@ -17,7 +17,7 @@ loop-entry-preserved c =
       fresh = naming-chain c.args.arena.now c.loop-entry.arena c.look_up_run.new.arena c.args.named.now.items c.loop-entry.named.items c.look_up_run.new.named.items c.loop-entry.invariant.fresh c.look_up_run.ensures.fresh;
       kept = prepared-chain c.args.arena.now c.loop-entry.arena c.look_up_run.new.arena c.loop-entry.invariant.kept c.look_up_run.ensures.kept;
       here = c.in_ok-look_up_run.ensures.here;
-      room = c.in_ok-look_up_run.ensures.room;
+      capacity = c.in_ok-look_up_run.ensures.capacity;
       others = λ b out.
           c.look_up_run.ensures.others b (not_named _ (λ in_it. named_apart _ b out (c.loop-entry.invariant.rest b (entry_named c.args.part c.args.chunk.now c.loop-entry.entry-index c.entry-item.result b at in_it)))) ∙ c.loop-entry.invariant.others b out;
       rest = λ b in_it. c.loop-entry.invariant.rest b (rest_named c.args.part c.args.chunk.now c.loop-entry.entry-index c.entry-item.result b at in_it);

@@ -13,7 +13,7 @@ invariant-loop-entry l =
       fresh : NamesNew l.initial.arena l.arena l.initial.named.items l.named.items;
       kept : IsPrepared l.initial.arena l.arena;
       here : AreAtSlots l.arena l.named.items;
-      room : HaveCapacity l.arena l.storage l.named.items;
+      capacity : HaveCapacity l.arena l.storage l.named.items;
       others : (b : ℕ) → is_named (reported_to_part l.part l.chunk) b ≡ false → slot_of l.arena b ≡ slot_of l.initial.arena b;
       rest : (b : ℕ) → is_named (of_part l.part (expanded (drop l.entry-index l.chunk))) b ≡ true → is_named (reported_to_part l.part l.chunk) b ≡ true;
       there : HaveReplicas l.initial.arena l.storage (reported_to_part l.part l.chunk) → l.arena ≡ l.initial.arena;

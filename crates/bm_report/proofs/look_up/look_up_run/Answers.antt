@@ -20,7 +20,7 @@ loop-next-init c =
       fresh = naming-none c.args.arena.now c.args.arena.now c.args.named.now.items c.args.named.now.items (λ b. refl) refl;
       kept = prepared-none c.args.arena.now;
       here = c.requires.here;
-      room = c.requires.room;
+      capacity = c.requires.capacity;
       others = λ b out. refl;
       rest = λ b in_it. ap (λ l. is_named l b) first_is ∙ in_it;
       there = λ h. refl;
@@ -32,37 +32,37 @@ pub loop-next-preserved : goal.loop-next-preserved
 loop-next-preserved c =
     let to : c.from-last.result ≡ c.args.entry.now.to = c.from-last.ensures ∙ ap (λ (e : Entry). e.to) c.entry.view_is in
     let within : c.loop-next.next ≤ c.args.entry.now.to = omega (arith, c.loop-next-test.true, to) in record {
-      fresh = naming-chain c.args.arena.now c.loop-next.arena c.look_up_one.new.arena c.args.named.now.items c.loop-next.named.items c.look_up_one.new.named.items c.loop-next.invariant.fresh c.look_up_one.ensures.fresh;
-      kept = prepared-chain c.args.arena.now c.loop-next.arena c.look_up_one.new.arena c.loop-next.invariant.kept c.look_up_one.ensures.kept;
-      here = c.in_ok-look_up_one.ensures.here;
-      room = c.in_ok-look_up_one.ensures.room;
-      others = λ b out. c.look_up_one.ensures.others b (λ same. named_apart _ b out (c.loop-next.invariant.rest b (next_named c.args.part c.args.entry.now c.loop-next.next b c.requires.index c.loop-next.invariant.own within same))) ∙ c.loop-next.invariant.others b out;
+      fresh = naming-chain c.args.arena.now c.loop-next.arena c.look_up_number.new.arena c.args.named.now.items c.loop-next.named.items c.look_up_number.new.named.items c.loop-next.invariant.fresh c.look_up_number.ensures.fresh;
+      kept = prepared-chain c.args.arena.now c.loop-next.arena c.look_up_number.new.arena c.loop-next.invariant.kept c.look_up_number.ensures.kept;
+      here = c.in_ok-look_up_number.ensures.here;
+      capacity = c.in_ok-look_up_number.ensures.capacity;
+      others = λ b out. c.look_up_number.ensures.others b (λ same. named_apart _ b out (c.loop-next.invariant.rest b (next_named c.args.part c.args.entry.now c.loop-next.next b c.requires.index c.loop-next.invariant.own within same))) ∙ c.loop-next.invariant.others b out;
       rest = λ b in_it.
           let at : is_named (of_part c.args.part (reported_from c.args.entry.now (c.loop-next.next + c.args.part.shards))) b ≡ true = ap (λ k. is_named (of_part c.args.part (reported_from c.args.entry.now (c.loop-next.next + k))) b) (sym c.from-next.ensures) ∙ in_it in
           c.loop-next.invariant.rest b (later_named c.args.part c.args.entry.now c.loop-next.next b c.requires.index c.loop-next.invariant.own within at);
       there = λ h.
           let same = c.loop-next.invariant.there h in
           let named = c.loop-next.invariant.rest c.loop-next.next (next_named c.args.part c.args.entry.now c.loop-next.next c.loop-next.next c.requires.index c.loop-next.invariant.own within refl) in
-          c.look_up_one.ensures.there (subst (λ (a : Contents). HasReplica a c.args.storage c.loop-next.next) (sym same) (h c.loop-next.next named)) ∙ same;
+          c.look_up_number.ensures.there (subst (λ (a : Contents). HasReplica a c.args.storage c.loop-next.next) (sym same) (h c.loop-next.next named)) ∙ same;
       own = ap (λ k. (c.loop-next.next + k) % c.args.part.shards) c.from-next.ensures ∙ add-mod_right c.loop-next.next c.args.part.shards ∙ c.loop-next.invariant.own;
-      named = ap (λ k. map reported_of c.look_up_one.new.named.items ++ of_part c.args.part (reported_from c.args.entry.now (c.loop-next.next + k))) c.from-next.ensures ∙ run_step c.args.part c.args.entry.now c.loop-next.next (map reported_of c.loop-next.named.items) (map reported_of c.look_up_one.new.named.items) _ c.requires.index c.loop-next.invariant.own within c.loop-next.invariant.named
-          (c.in_ok-look_up_one.ensures.named ∙ ap (λ (e : Entry). map reported_of c.loop-next.named.items ++ record { id = c.loop-next.next; stamp = e.stamp } ∷ []) c.entry.view_is);
+      named = ap (λ k. map reported_of c.look_up_number.new.named.items ++ of_part c.args.part (reported_from c.args.entry.now (c.loop-next.next + k))) c.from-next.ensures ∙ run_step c.args.part c.args.entry.now c.loop-next.next (map reported_of c.loop-next.named.items) (map reported_of c.look_up_number.new.named.items) _ c.requires.index c.loop-next.invariant.own within c.loop-next.invariant.named
+          (c.in_ok-look_up_number.ensures.named ∙ ap (λ (e : Entry). map reported_of c.loop-next.named.items ++ record { id = c.loop-next.next; stamp = e.stamp } ∷ []) c.entry.view_is);
     }
 
-pub returns-in_err-look_up_one-clause-kept : goal.returns-in_err-look_up_one-clause-kept
-returns-in_err-look_up_one-clause-kept c =
-    prepared-chain c.args.arena.now c.loop-next.arena c.look_up_one.new.arena c.loop-next.invariant.kept c.look_up_one.ensures.kept
+pub returns-in_err-look_up_number-clause-kept : goal.returns-in_err-look_up_number-clause-kept
+returns-in_err-look_up_number-clause-kept c =
+    prepared-chain c.args.arena.now c.loop-next.arena c.look_up_number.new.arena c.loop-next.invariant.kept c.look_up_number.ensures.kept
 
-pub returns-in_err-look_up_one-clause-others : goal.returns-in_err-look_up_one-clause-others
-returns-in_err-look_up_one-clause-others c b out =
+pub returns-in_err-look_up_number-clause-others : goal.returns-in_err-look_up_number-clause-others
+returns-in_err-look_up_number-clause-others c b out =
     let to : c.from-last.result ≡ c.args.entry.now.to = c.from-last.ensures ∙ ap (λ (e : Entry). e.to) c.entry.view_is in
     let within : c.loop-next.next ≤ c.args.entry.now.to = omega (arith, c.loop-next-test.true, to) in
-    c.look_up_one.ensures.others b (λ same. named_apart _ b out (c.loop-next.invariant.rest b (next_named c.args.part c.args.entry.now c.loop-next.next b c.requires.index c.loop-next.invariant.own within same))) ∙ c.loop-next.invariant.others b out
+    c.look_up_number.ensures.others b (λ same. named_apart _ b out (c.loop-next.invariant.rest b (next_named c.args.part c.args.entry.now c.loop-next.next b c.requires.index c.loop-next.invariant.own within same))) ∙ c.loop-next.invariant.others b out
 
-pub returns-in_err-look_up_one-clause-there : goal.returns-in_err-look_up_one-clause-there
-returns-in_err-look_up_one-clause-there c h =
+pub returns-in_err-look_up_number-clause-there : goal.returns-in_err-look_up_number-clause-there
+returns-in_err-look_up_number-clause-there c h =
     let to : c.from-last.result ≡ c.args.entry.now.to = c.from-last.ensures ∙ ap (λ (e : Entry). e.to) c.entry.view_is in
     let within : c.loop-next.next ≤ c.args.entry.now.to = omega (arith, c.loop-next-test.true, to) in
     let same = c.loop-next.invariant.there h in
     let named = c.loop-next.invariant.rest c.loop-next.next (next_named c.args.part c.args.entry.now c.loop-next.next c.loop-next.next c.requires.index c.loop-next.invariant.own within refl) in
-    c.look_up_one.ensures.there (subst (λ (a : Contents). HasReplica a c.args.storage c.loop-next.next) (sym same) (h c.loop-next.next named)) ∙ same
+    c.look_up_number.ensures.there (subst (λ (a : Contents). HasReplica a c.args.storage c.loop-next.next) (sym same) (h c.loop-next.next named)) ∙ same

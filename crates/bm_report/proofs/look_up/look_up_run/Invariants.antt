@@ -15,7 +15,7 @@ invariant-loop-next l =
       fresh : NamesNew l.initial.arena l.arena l.initial.named.items l.named.items;
       kept : IsPrepared l.initial.arena l.arena;
       here : AreAtSlots l.arena l.named.items;
-      room : HaveCapacity l.arena l.storage l.named.items;
+      capacity : HaveCapacity l.arena l.storage l.named.items;
       others : (b : ℕ) → is_named (of_part l.part (blocks_of_entry l.entry)) b ≡ false → slot_of l.arena b ≡ slot_of l.initial.arena b;
       rest : (b : ℕ) → is_named (of_part l.part (reported_from l.entry l.next)) b ≡ true → is_named (of_part l.part (blocks_of_entry l.entry)) b ≡ true;
       there : HaveReplicas l.initial.arena l.storage (of_part l.part (blocks_of_entry l.entry)) → l.arena ≡ l.initial.arena;

@@ -6,7 +6,7 @@ use Rattle.bm_maps.specs.SlotLists.{IsMember}
 use Rattle.bm_report.specs.DuringReport.{AllAlreadyThere, slot_in}
 use Rattle.bm_report.proofs.ListedSlots.{slots-front, slots-back}
 use Rattle.bm_report.proofs.UnchangedReport.{all_same, front_of, back_of}
-use Rattle.bm_report.proofs.PartialReport.{IsUnderway, listed-chain, underway-next, underway-last, here-part, room-part}
+use Rattle.bm_report.proofs.PartialReport.{IsUnderway, listed-chain, underway-next, underway-last, here-part, capacity-part}
 use Rattle.bm_report.proofs.reported_chunks.add_all_reported.Goals as goal
 
 split : (c : goal.After-add_chunk-arg-in-loop-chunk-2-1)
@@ -18,8 +18,8 @@ split c =
 pub add_chunk-requires-clause-here : goal.add_chunk-requires-clause-here
 add_chunk-requires-clause-here c = here-part c.loop-chunk.arena c.in-Some.chunk.now (chunks_rest c.next.new.self) (split c).here
 
-pub add_chunk-requires-clause-room : goal.add_chunk-requires-clause-room
-add_chunk-requires-clause-room c = room-part c.loop-chunk.arena c.args.storage c.in-Some.chunk.now (chunks_rest c.next.new.self) (split c).room
+pub add_chunk-requires-clause-capacity : goal.add_chunk-requires-clause-capacity
+add_chunk-requires-clause-capacity c = capacity-part c.loop-chunk.arena c.args.storage c.in-Some.chunk.now (chunks_rest c.next.new.self) (split c).capacity
 
 in_all : (c : goal.After-add_chunk) → (slot : ℕ) → IsMember slot (map slot_in (c.in-Some.chunk.now ++ chunks_rest c.next.new.self)) → IsMember slot (map slot_in c.args.named.now)
 in_all c slot m = let P : List ReportedSlot → Type 0 = λ l. IsMember slot (map slot_in l) in c.loop-chunk.invariant.rest slot (subst P (sym c.in-Some.ensures.steps.1.0) m)

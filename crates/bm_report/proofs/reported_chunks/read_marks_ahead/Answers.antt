@@ -14,9 +14,9 @@ read_on : (c : goal.After-marks) → (i : ℕ) → i < c.loop-index.index + 1 �
 read_on c i below n is =
     elim (cases_eq i c.loop-index.index) [
       | inl here ↦
-          let room : c.loop-index.index < length c.loop-index.ahead = omega (arith, c.loop-index.invariant.whole) in
+          let in_bounds : c.loop-index.index < length c.loop-index.ahead = omega (arith, c.loop-index.invariant.whole) in
           let same : c.index-chunk-index.result ≡ n = c.index-chunk-index.is ∙ get_or_from_slice_get c.args.chunk.now c.loop-index.index n c.index-chunk-index.result (rw here at is) in
-          rw here (get_or-set_same c.loop-index.ahead c.loop-index.index c.marks.result None room ∙ c.marks.ensures ∙ ap (λ (x : ReportedSlot). marks_at c.args.arena.now x.slot c.args.storage) same)
+          rw here (get_or-set_same c.loop-index.ahead c.loop-index.index c.marks.result None in_bounds ∙ c.marks.ensures ∙ ap (λ (x : ReportedSlot). marks_at c.args.arena.now x.slot c.args.storage) same)
       | inr differs ↦
           let less : i < c.loop-index.index = omega arith in
           get_or-set_other c.loop-index.ahead c.loop-index.index i c.marks.result None differs ∙ c.loop-index.invariant.read i less n is

@@ -8,6 +8,6 @@ pub returns-clause-ready : goal.returns-clause-ready
 returns-clause-ready c = record {
   places = λ b reported.
       let P : List ReportedBlock → Type 0 = λ ts. IsTrue (is_named ts b) in
-      places_of c.look_up.new.arena c.args.storage c.look_up.new.named.items c.in_ok-look_up.ensures.here c.in_ok-look_up.ensures.room b (subst P (sym c.in_ok-look_up.ensures.named) reported);
+      places_of c.look_up.new.arena c.args.storage c.look_up.new.named.items c.in_ok-look_up.ensures.here c.in_ok-look_up.ensures.capacity b (subst P (sym c.in_ok-look_up.ensures.named) reported);
   head = c.in_ok-look_up.ensures.head;
 }

@@ -1,5 +1,6 @@
-use Rattle.std.proofs.Common.{◌≡◌, ℕ, List, map, sym, ap, subst, ◌∙◌}
+use Rattle.std.proofs.Common.{ℕ, List, map, sym, ap, subst, ◌∙◌}
 use Rattle.std.specs.List.Sorted.{IsPermutation}
+use Rattle.std.proofs.lemmas.List.Sorted.{IsPermutation-trans}
 use Rattle.bm_base.specs.declared.replica.ReplicaId.{ReplicaId}
 use Rattle.bm_base.specs.declared.round.RoundPart.{RoundPart}
 use Rattle.bm_base.specs.Machine.State.{by_replica}
@@ -24,10 +25,11 @@ scan_all-requires-clause-known c slot there =
     let listed : AreListed v.kept = subst AreListed c.level_index.ensures (record { unsettled = c.show_invariant-3.ensures.unsettled; needing_copies = c.show_invariant-3.ensures.needing_copies; once = c.show_invariant-3.ensures.needing_copies_once }) in
     let slots = scanned_slots v.kept v.arena c.args.bound (has_enough_pending C c.args.pend c.args.round v.arena way) in
     let keyed_slots : IndexedLevels → Contents → List ((ℕ × ℕ) × ℕ) = λ K a. map (keyed_at K a) (scanned_slots K a c.args.bound (has_enough_pending C c.args.pend c.args.round a way)) in
-    let keyed : c.in_ok-slots.slots.items ≡ map (keyed_at v.kept v.arena) slots = c.in_ok-slots.ensures ∙ (λ j. keyed_slots (c.level_index-2.ensures j) (c.arena-2.ensures j)) in
+    let keyed : IsPermutation (map (keyed_at v.kept v.arena) slots) c.in_ok-slots.slots.items =
+    subst (λ (xs : List ((ℕ × ℕ) × ℕ)). IsPermutation xs c.in_ok-slots.slots.items) (λ j. keyed_slots (c.level_index-2.ensures j) (c.arena-2.ensures j)) c.in_ok-slots.ensures in
     let moved : IsPermutation (map (keyed_at v.kept v.arena) slots) c.deref.result.now =
     subst (IsPermutation (map (keyed_at v.kept v.arena) slots)) (sym c.deref.ensures.value)
-    (subst (λ (xs : List ((ℕ × ℕ) × ℕ)). IsPermutation xs c.sort_slots.new.slots.items) keyed c.sort_slots.ensures) in
+    (IsPermutation-trans (map (keyed_at v.kept v.arena) slots) c.in_ok-slots.slots.items c.sort_slots.new.slots.items keyed c.sort_slots.ensures) in
     let known = scanned_known v lawful c.show_invariant.ensures listed C c.requires.levels c.args.pend c.args.round way c.args.bound c.deref.result.now moved slot there in
     (id_at v.arena slot, ap (λ (b : Contents). slot_of b (id_at v.arena slot)) c.arena-2.ensures ∙ known)
 
@@ -44,10 +46,11 @@ returns-clause-part c =
     let listed : AreListed v.kept = subst AreListed c.level_index.ensures (record { unsettled = c.show_invariant-3.ensures.unsettled; needing_copies = c.show_invariant-3.ensures.needing_copies; once = c.show_invariant-3.ensures.needing_copies_once }) in
     let slots = scanned_slots v.kept v.arena c.args.bound (has_enough_pending C c.args.pend c.args.round v.arena way) in
     let keyed_slots : IndexedLevels → Contents → List ((ℕ × ℕ) × ℕ) = λ K a. map (keyed_at K a) (scanned_slots K a c.args.bound (has_enough_pending C c.args.pend c.args.round a way)) in
-    let keyed : c.in_ok-slots.slots.items ≡ map (keyed_at v.kept v.arena) slots = c.in_ok-slots.ensures ∙ (λ j. keyed_slots (c.level_index-2.ensures j) (c.arena-2.ensures j)) in
+    let keyed : IsPermutation (map (keyed_at v.kept v.arena) slots) c.in_ok-slots.slots.items =
+    subst (λ (xs : List ((ℕ × ℕ) × ℕ)). IsPermutation xs c.in_ok-slots.slots.items) (λ j. keyed_slots (c.level_index-2.ensures j) (c.arena-2.ensures j)) c.in_ok-slots.ensures in
     let moved : IsPermutation (map (keyed_at v.kept v.arena) slots) c.deref.result.now =
     subst (IsPermutation (map (keyed_at v.kept v.arena) slots)) (sym c.deref.ensures.value)
-    (subst (λ (xs : List ((ℕ × ℕ) × ℕ)). IsPermutation xs c.sort_slots.new.slots.items) keyed c.sort_slots.ensures) in
+    (IsPermutation-trans (map (keyed_at v.kept v.arena) slots) c.in_ok-slots.slots.items c.sort_slots.new.slots.items keyed c.sort_slots.ensures) in
     let f = c.in_ok-found.found in
     let found : HasFound C c.args.pend c.args.round (holdings_with v.arena way.map) c.args.bound (map (λ (e : (ℕ × ℕ) × ℕ). id_at v.arena e.1) c.deref.result.now) f =
     subst (λ (b : Contents). HasFound C c.args.pend c.args.round (holdings_with b way.map) c.args.bound (map (λ (e : (ℕ × ℕ) × ℕ). id_at b e.1) c.deref.result.now) f) c.arena-2.ensures c.in_ok-found.ensures.found in

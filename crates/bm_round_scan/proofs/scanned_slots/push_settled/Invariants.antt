@@ -1,7 +1,7 @@
 use Rattle.std.proofs.Common.{◌≡◌, ℕ, Some, ◌++◌, map, filter}
 use Rattle.std.specs.Slice.Iter.{chunks_rest}
 use Rattle.bm_maps.specs.SlotLists.{IsMember}
-use Rattle.bm_levels.specs.IndexedLevels.{level_of_slot, slots_at}
+use Rattle.bm_levels.specs.IndexedLevels.{level_of_slot}
 use Rattle.bm_round_scan.specs.ScannedSlots.{keyed_at, is_settled_to_scan, has_enough_pending}
 use Rattle.bm_round_scan.proofs.scanned_slots.push_settled.Given as goal
 
@@ -15,5 +15,5 @@ invariant-loop-chunk l =
       finite : goal.iterator-loop-chunk.is_finite l.chunk-iterator;
       level : (slot : ℕ) → IsMember slot left → level_of_slot l.start.kept.now slot ≡ Some l.level;
       all : l.into.items ++ map (keyed_at l.start.kept.now s.arena.now) (filter to_scan left)
-          ≡ l.initial.into.items ++ map (keyed_at l.start.kept.now s.arena.now) (filter to_scan (slots_at l.start.kept.now l.level));
+          ≡ l.initial.into.items ++ map (keyed_at l.start.kept.now s.arena.now) (filter to_scan l.slots);
     }

@@ -13,9 +13,9 @@ read_on : (c : After-index-numbers-index) → (i : ℕ) → i < c.loop-index.ind
 read_on c i below slot is =
     elim (cases_eq i c.loop-index.index) [
       | inl here ↦
-          let room : c.loop-index.index < length c.loop-index.numbers = omega (arith, c.loop-index.invariant.whole) in
+          let in_bounds : c.loop-index.index < length c.loop-index.numbers = omega (arith, c.loop-index.invariant.whole) in
           let same : slice_index_or c.args.chunk.now c.loop-index.index 0 ≡ slot = get_or_from_slice_get c.args.chunk.now c.loop-index.index slot 0 (rw here at is) in
-          rw here (get_or-set_same c.loop-index.numbers c.loop-index.index c.number_of.result 0 room ∙ c.number_of.ensures ∙ ap (id_at c.args.arena.now) same)
+          rw here (get_or-set_same c.loop-index.numbers c.loop-index.index c.number_of.result 0 in_bounds ∙ c.number_of.ensures ∙ ap (id_at c.args.arena.now) same)
       | inr differs ↦
           let less : i < c.loop-index.index = omega arith in
           get_or-set_other c.loop-index.numbers c.loop-index.index i c.number_of.result 0 differs ∙ c.loop-index.invariant.read i less slot is

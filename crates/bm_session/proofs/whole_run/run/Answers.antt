@@ -5,7 +5,7 @@ use Rattle.bm_base.specs.Machine.State.{State, first_state}
 use Rattle.bm_session.specs.declared.limits.TheConstants.{MAX_BYTES}
 use Rattle.bm_session.proofs.LineLemmas.{whole_lines-split}
 use Rattle.bm_session.proofs.ProgressLemmas.{few_lines}
-use Rattle.bm_session.proofs.RunLemmas.{Consumes-nil, Consumes-then, Consumes-keeps, take_whole, take_room, room_split, faulted_at_start, counts_at_start, config_at_start, config_of_piece, config_of_finished, faulted_of_piece, faulted_of_whole, counts_of_piece, too_many_bytes, finished_leaves, finished_causes, text_of_known, flushed_at_start, flushed_of_piece}
+use Rattle.bm_session.proofs.RunLemmas.{Consumes-nil, Consumes-then, Consumes-keeps, take_whole, take_within, take_split, faulted_at_start, counts_at_start, config_at_start, config_of_piece, config_of_finished, faulted_of_piece, faulted_of_whole, counts_of_piece, too_many_bytes, finished_leaves, finished_causes, text_of_known, flushed_at_start, flushed_of_piece}
 use Rattle.bm_session.proofs.whole_run.run.Goals as goal
 
 pub returns-in_err-session-clause-leaves : goal.returns-in_err-session-clause-leaves
@@ -44,7 +44,7 @@ returns-in_err-take_piece-2-clause-config g c =
 pub loop-n-init : goal.loop-n-init
 loop-n-init g c = record {
   few = omega arith;
-  room = refl;
+  buffer_len = refl;
   reads = refl;
   writes = refl;
   flushed = λ h. h;
@@ -63,7 +63,7 @@ returns-then-n-eq0-clause-leaves g c =
     let M : State = first_state c.args.config.now in (
       q.0,
       rw append-nil at (Consumes-then _ _ _ _ _ q.1 none),
-      finished_leaves c.args.config.now q.0 _ _ _ _ _ _ _ c.finish.result (c.in-Ok.ensures.bytes.1 c.if-n-eq0.true (omega (arith, c.loop-n.invariant.room))) (omega (arith, q.2, c.loop-n.invariant.few))
+      finished_leaves c.args.config.now q.0 _ _ _ _ _ _ _ c.finish.result (c.in-Ok.ensures.bytes.1 c.if-n-eq0.true (omega (arith, c.loop-n.invariant.buffer_len))) (omega (arith, q.2, c.loop-n.invariant.few))
           (IfOk-weaker c.finish.result _ _ (λ summary h. h M _ q.0 q.3) c.finish.ensures.ok)
           (IfErr-weaker c.finish.result _ _ (λ f h. h M _ q.0 q.3) c.finish.ensures.err),
     )
@@ -79,15 +79,15 @@ pub returns-in_err-take_piece-clause-leaves : goal.returns-in_err-take_piece-cla
 returns-in_err-take_piece-clause-leaves g c =
     let e = err_from_is_err_and c.from_residual-in_err-take_piece.result c.from_residual-in_err-take_piece.ensures.1 in
     let q = c.loop-n.invariant.progress in
-    let room : ℕ = MAX_BYTES - c.loop-n.count in
+    let bytes_left : ℕ = MAX_BYTES - c.loop-n.count in
     let read : List ℕ = take c.in-Ok.n c.read.new.buf in
-    let split : read ≡ take room c.read.new.buf ++ drop room read = room_split c.read.new.buf room c.in-Ok.n (omega arith) in (
+    let split : read ≡ take bytes_left c.read.new.buf ++ drop bytes_left read = take_split c.read.new.buf bytes_left c.in-Ok.n (omega arith) in (
       q.0 ++ read,
       Consumes-then _ _ _ _ _ q.1 c.in-Ok.ensures.bytes.0,
-      rw (e.1, e.2, split) (faulted_of_piece c.args.config.now q.0 (take room c.read.new.buf) (drop room read) _ _ _ _ _ _ _
-          (rw (← split) (take_room q.0 c.read.new.buf MAX_BYTES room c.in-Ok.n (omega (arith, q.2, c.loop-n.invariant.few)) (omega arith)))
+      rw (e.1, e.2, split) (faulted_of_piece c.args.config.now q.0 (take bytes_left c.read.new.buf) (drop bytes_left read) _ _ _ _ _ _ _
+          (rw (← split) (take_within q.0 c.read.new.buf MAX_BYTES bytes_left c.in-Ok.n (omega (arith, q.2, c.loop-n.invariant.few)) (omega arith)))
           (rw (← split) (omega (arith, length-take-le c.in-Ok.n c.read.new.buf c.in-Ok.ensures.bound.0, c.in-Ok.ensures.last)))
-          (rw (← split) (omega (arith, length-take-le c.in-Ok.n c.read.new.buf c.in-Ok.ensures.bound.0, c.in-Ok.ensures.bound.0, c.loop-n.invariant.room)))
+          (rw (← split) (omega (arith, length-take-le c.in-Ok.n c.read.new.buf c.in-Ok.ensures.bound.0, c.in-Ok.ensures.bound.0, c.loop-n.invariant.buffer_len)))
           (c.in_err-take_piece.ensures.err (first_state c.args.config.now) _ q.0 q.3)),
     )
 
@@ -97,15 +97,15 @@ returns-in_err-take_piece-clause-cause g c =
     let q = c.loop-n.invariant.progress in
     rw (e.1, e.2, ← c.loop-n.invariant.writes) (counts_of_piece _ _ _ _ _ _ _ _ _ _ _ (c.in-Ok.ensures.cause ∙ c.loop-n.invariant.reads) (c.in_err-take_piece.ensures.err (first_state c.args.config.now) _ q.0 q.3))
 
-pub returns-then-n-room-clause-leaves : goal.returns-then-n-room-clause-leaves
-returns-then-n-room-clause-leaves g c =
+pub returns-then-n-bytes_left-clause-leaves : goal.returns-then-n-bytes_left-clause-leaves
+returns-then-n-bytes_left-clause-leaves g c =
     let q = c.loop-n.invariant.progress in
-    let room : ℕ = MAX_BYTES - c.loop-n.count in
+    let bytes_left : ℕ = MAX_BYTES - c.loop-n.count in
     let read : List ℕ = take c.in-Ok.n c.read.new.buf in (
       q.0 ++ read,
       Consumes-then _ _ _ _ _ q.1 c.in-Ok.ensures.bytes.0,
-      too_many_bytes c.args.config.now (q.0 ++ read) (q.0 ++ take room c.read.new.buf) 0 _ _ _
-          (take_room q.0 c.read.new.buf MAX_BYTES room c.in-Ok.n (omega (arith, q.2, c.loop-n.invariant.few)) (omega arith))
+      too_many_bytes c.args.config.now (q.0 ++ read) (q.0 ++ take bytes_left c.read.new.buf) 0 _ _ _
+          (take_within q.0 c.read.new.buf MAX_BYTES bytes_left c.in-Ok.n (omega (arith, q.2, c.loop-n.invariant.few)) (omega arith))
           (omega (arith, length-append q.0 read, length-take-le c.in-Ok.n c.read.new.buf c.in-Ok.ensures.bound.0, q.2, c.loop-n.invariant.few))
           (c.in_ok-take_piece.ensures.ok (first_state c.args.config.now) _ q.0 q.3),
     )
@@ -120,7 +120,7 @@ returns-in_err-take_piece-2-clause-leaves g c =
       rw (e.1, e.2) (faulted_of_whole c.args.config.now q.0 read _ _ _ _ _ _ _
           (take_whole MAX_BYTES (q.0 ++ read) (omega (arith, length-append q.0 read, length-take-le c.in-Ok.n c.read.new.buf c.in-Ok.ensures.bound.0, q.2, c.loop-n.invariant.few)))
           (omega (arith, length-take-le c.in-Ok.n c.read.new.buf c.in-Ok.ensures.bound.0, c.in-Ok.ensures.last))
-          (omega (arith, length-take-le c.in-Ok.n c.read.new.buf c.in-Ok.ensures.bound.0, c.in-Ok.ensures.bound.0, c.loop-n.invariant.room))
+          (omega (arith, length-take-le c.in-Ok.n c.read.new.buf c.in-Ok.ensures.bound.0, c.in-Ok.ensures.bound.0, c.loop-n.invariant.buffer_len))
           (c.in_err-take_piece-2.ensures.err (first_state c.args.config.now) _ q.0 q.3)),
     )
 
@@ -136,7 +136,7 @@ loop-n-preserved g c =
     let read : List ℕ = take c.in-Ok.n c.read.new.buf in
     record {
       few = omega (arith, c.loop-n.invariant.few);
-      room = c.read.auto.buf ∙ c.loop-n.invariant.room;
+      buffer_len = c.read.auto.buf ∙ c.loop-n.invariant.buffer_len;
       reads = c.in-Ok.ensures.cause ∙ c.loop-n.invariant.reads;
       writes = c.in_ok-take_piece-2.ensures.faults ∙ c.loop-n.invariant.writes;
       flushed = λ _. c.in_ok-take_piece-2.ensures.flushed;
@@ -153,7 +153,7 @@ returns-then-n-eq0-clause-text g c =
     let q = c.loop-n.invariant.progress in
     let none = rw c.if-n-eq0.true at c.in-Ok.ensures.bytes.0 in
     let M : State = first_state c.args.config.now in
-    text_of_known c.args.config.now _ _ q.0 _ _ c.finish.result (rw append-nil at (Consumes-then _ _ _ _ _ q.1 none)) (c.in-Ok.ensures.bytes.1 c.if-n-eq0.true (omega (arith, c.loop-n.invariant.room)))
+    text_of_known c.args.config.now _ _ q.0 _ _ c.finish.result (rw append-nil at (Consumes-then _ _ _ _ _ q.1 none)) (c.in-Ok.ensures.bytes.1 c.if-n-eq0.true (omega (arith, c.loop-n.invariant.buffer_len)))
     (IfOk-weaker c.finish.result _ _ (λ summary h. h M _ q.0 q.3) c.finish.ensures.ok)
 
 pub returns-in_err-session-clause-at_reads : goal.returns-in_err-session-clause-at_reads

@@ -8,7 +8,7 @@ use Rattle.bm_session.proofs.whole_run.run.Given as goal
 abbrev pub invariant-loop-n : goal.invariant-loop-n
 invariant-loop-n g l = record {
   few : l.count ≤ MAX_BYTES;
-  room : length l.buffer ≡ PIECE;
+  buffer_len : length l.buffer ≡ PIECE;
   reads : g.R.Source.faults l.reader ≡ g.R.Source.faults l.fn.reader;
   writes : g.W.Sink.faults l.writer ≡ g.W.Sink.faults l.fn.writer;
   flushed : g.W.Sink.is_flushed l.fn.writer ≡ true → g.W.Sink.is_flushed l.writer ≡ true;

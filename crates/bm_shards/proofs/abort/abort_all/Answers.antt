@@ -16,8 +16,8 @@ loop-one-init c = record {
 
 pub loop-one-preserved : goal.loop-one-preserved
 loop-one-preserved c = record {
-  each = same_set _ c.loop-one.one-items c.loop-one.one-index c.one-item.result _ c.loop-one.invariant.each (refl, c.abort_one.ensures.same);
-  given_up = AllWithin-more_set c.loop-one.one-items c.loop-one.one-index _ (omega arith) (λ (s : ℕ × Seen). HasGivenUp s.1) c.loop-one.invariant.given_up c.abort_one.ensures.given_up;
+  each = same_set _ c.loop-one.one-items c.loop-one.one-index c.one-item.result _ c.loop-one.invariant.each (refl, c.abort_shard.ensures.same);
+  given_up = AllWithin-more_set c.loop-one.one-items c.loop-one.one-index _ (omega arith) (λ (s : ℕ × Seen). HasGivenUp s.1) c.loop-one.invariant.given_up c.abort_shard.ensures.given_up;
 }
 
 all_of : {X : Type 0} (P : X → Type 0) (xs ys : List X) (n i : ℕ) → n ≡ length xs → length xs ≤ i → AllWithin P xs 0 i → All P (take n (xs ++ ys))

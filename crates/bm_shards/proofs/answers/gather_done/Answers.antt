@@ -34,5 +34,5 @@ loop-index-preserved c = let inv = c.loop-index.invariant in let one : ℕ × An
       few_added = omega (arith, inv.few_added, long, few.0);
       few_removed = omega (arith, inv.few_removed, long, few.1);
       count = omega (arith, inv.count, long, c.push_reserved.ensures.len);
-      room = omega (arith, inv.room, c.push_reserved.ensures.capacity);
+      capacity = omega (arith, inv.capacity, c.push_reserved.ensures.capacity);
     }

@@ -12,5 +12,5 @@ invariant-loop-index l = record {
   few_added : l.added ≤ 1267650600228229401496703205376 * length l.yielded;
   few_removed : l.removed ≤ 1267650600228229401496703205376 * length l.yielded;
   count : vec_len l.back ≡ length l.yielded;
-  room : vec_len l.fn.changed ≤ vec_capacity l.back;
+  capacity : vec_len l.fn.changed ≤ vec_capacity l.back;
 }

@@ -12,5 +12,5 @@ loop-index-preserved c = let inv = c.loop-index.invariant in let one : ℕ × As
   shards = c.push_reserved.ensures.items ∙ rw inv.shards (sym (map_push shard_answered c.loop-index.yielded one));
   outcome = c.first_refusal-outcome.ensures ∙ (λ j. result_and (inv.outcome j) (sym (fault_alone c.in-Some.one.answer) j)) ∙ sym (fault_push c.loop-index.yielded one);
   count = omega (arith, inv.count, length-append c.loop-index.yielded (one ∷ []), c.push_reserved.ensures.len);
-  room = omega (arith, inv.room, c.push_reserved.ensures.capacity);
+  capacity = omega (arith, inv.capacity, c.push_reserved.ensures.capacity);
 }

@@ -9,5 +9,5 @@ invariant-loop-index l = record {
   shards : l.back.items ≡ map shard_answered l.yielded;
   outcome : l.outcome ≡ first_fault l.yielded;
   count : vec_len l.back ≡ length l.yielded;
-  room : vec_len l.fn.prepared ≤ vec_capacity l.back;
+  capacity : vec_len l.fn.prepared ≤ vec_capacity l.back;
 }

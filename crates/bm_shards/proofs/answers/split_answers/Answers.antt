@@ -18,6 +18,6 @@ loop-index-preserved g c =
       outcome = c.first_refusal-outcome.ensures ∙ (λ j. result_and (inv.outcome j) (c.put_answer.ensures.outcome j)) ∙ sym (fault_push c.loop-index.yielded one);
       count = omega (arith, inv.count, length-append c.loop-index.yielded (one ∷ []), c.push_reserved.ensures.len);
       few = omega (arith, inv.few, length-append c.loop-index.yielded (one ∷ []), c.put_answer.ensures.len);
-      room = omega (arith, inv.room, c.push_reserved.ensures.capacity);
-      room_of_answers = omega (arith, inv.room_of_answers, c.put_answer.ensures.capacity);
+      capacity = omega (arith, inv.capacity, c.push_reserved.ensures.capacity);
+      capacity_of_answers = omega (arith, inv.capacity_of_answers, c.put_answer.ensures.capacity);
     }

@@ -13,6 +13,6 @@ invariant-loop-index g l = record {
   outcome : l.outcome ≡ first_fault l.yielded;
   count : vec_len l.back ≡ length l.yielded;
   few : vec_len l.answers ≤ length l.yielded;
-  room : vec_len l.fn.asked ≤ vec_capacity l.back;
-  room_of_answers : vec_len l.fn.asked ≤ vec_capacity l.answers;
+  capacity : vec_len l.fn.asked ≤ vec_capacity l.back;
+  capacity_of_answers : vec_len l.fn.asked ≤ vec_capacity l.answers;
 }

@@ -1,5 +1,5 @@
 use Rattle.std.proofs.Common.{length, ap, arith}
-use Rattle.bm_topo.proofs.ByNode.{placed, room_left, all_placed}
+use Rattle.bm_topo.proofs.ByNode.{placed, capacity_left, all_placed}
 use Rattle.bm_topo.proofs.by_node.sort_by_node.Goals as goal
 
 pub insert-requires : goal.insert-requires
@@ -7,8 +7,8 @@ insert-requires c =
     let items = c.entries-number-items in
     let within = c.index_for-index.ensures.within in
     let same = ap length c.as_slice.ensures.value in
-    let room = room_left c.args.storages.now.map items.result.now c.loop-number.number-index items.ensures c.loop-number.sorted.items _ c.loop-number-test.true c.requires.few c.loop-number.invariant in
-    (omega arith, (omega (arith, within, same), room))
+    let spare = capacity_left c.args.storages.now.map items.result.now c.loop-number.number-index items.ensures c.loop-number.sorted.items _ c.loop-number-test.true c.requires.few c.loop-number.invariant in
+    (omega arith, (omega (arith, within, same), spare))
 
 pub loop-number-preserved : goal.loop-number-preserved
 loop-number-preserved c =

@@ -9,7 +9,7 @@ use Rattle.bm_topo.proofs.tables.add_storages.Given as goal
 abbrev pub invariant-loop-storage : goal.invariant-loop-storage
 invariant-loop-storage l = record {
   storages : insert_all l.storages.map (new_storages l.node (drop l.storage-index l.its_own)) ≡ insert_all l.initial.storages.map (new_storages l.node l.its_own);
-  room : length (drop l.storage-index l.its_own) ≤ l.storages.room;
+  spare : length (drop l.storage-index l.its_own) ≤ l.storages.spare;
   small : HasSmallKeys l.initial.storages.map → HasSmallKeys l.storages.map;
   no_growth : capacity l.storages ≡ capacity l.initial.storages;
 }

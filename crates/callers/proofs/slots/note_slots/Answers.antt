@@ -9,7 +9,7 @@ loop-slot-preserved c =
     let i = c.loop-slot.slot-index in
     let xs = c.args.slots.now in
     let P : List ℕ → Type 0 = λ ys. (slot : ℕ) → IsMember slot c.insert.new.self.slots ↔ IsMember slot ys in (
-      omega (arith, c.loop-slot.invariant.0, c.insert.ensures.room),
+      omega (arith, c.loop-slot.invariant.0, c.insert.ensures.capacity),
       subst P (sym (take_more xs i 0 c.loop-slot-test.true))
           (one_more (slice_index_or xs i 0) (take i xs) c.loop-slot.set.slots c.insert.new.self.slots c.loop-slot.invariant.1 c.insert.ensures.held c.insert.ensures.others),
     )

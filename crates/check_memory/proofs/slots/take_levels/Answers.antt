@@ -20,8 +20,8 @@ set-requires c = within c.loop-at.lists c.loop-at.at c.in-Some.slot c.show_invar
 pub level-requires : goal.level-requires
 level-requires c =
     let inside = within c.loop-at.lists c.loop-at.at c.in-Some.slot c.show_invariant.ensures.lawful c.loop-at.invariant c.in-Some.is in
-    let room = c.set.ensures.room in
-    omega (arith, inside, room)
+    let capacity = c.set.ensures.capacity in
+    omega (arith, inside, capacity)
 
 pub loop-at-smaller : goal.loop-at-smaller
 loop-at-smaller c =

@@ -10,6 +10,7 @@ loop-delete-preserved c = record {
       freed_more (len_in c.args.blocks.now) c.args.deletes.now c.loop-delete.delete-index c.delete-item.result s c.args.free.now c.loop-delete.free c.give_back.new.self c.len_of.result
       c.loop-delete-test.true c.delete-item.is c.len_of.ensures (c.loop-delete.invariant.free s) (c.in_ok-give_back.ensures.free s);
   nodes = c.give_back.ensures.nodes ∙ c.loop-delete.invariant.nodes;
+  storages = c.give_back.ensures.storages ∙ c.loop-delete.invariant.storages;
 }
 
 pub returns-clause-free : goal.returns-clause-free

@@ -9,4 +9,5 @@ abbrev pub invariant-loop-delete : goal.invariant-loop-delete
 invariant-loop-delete l = record {
   free : (s : ℕ) → free_on l.free s ≡ fold (free_after (len_in l.blocks) s) (free_on l.fn.free s) (take l.delete-index l.deletes);
   nodes : l.free.nodes ≡ l.fn.free.nodes;
+  storages : l.free.storages ≡ l.fn.free.storages;
 }

@@ -2,7 +2,7 @@ use Rattle.std.proofs.Common.{◌∙◌, ℕ, false, cond, take, sym, ap}
 use Rattle.std.specs.Prelude.{◌==◌, ◌&&◌, ◌||◌}
 use Rattle.std.specs.List.{list_any}
 use Rattle.std.proofs.lemmas.List.Folds.{list_any_more}
-use Rattle.cluster_repair.specs.Copies.{is_copy_of, has_place}
+use Rattle.cluster_repair.specs.Copies.{is_copy_of, holds_target}
 use Rattle.cluster_repair.proofs.CopyLemmas.{forgotten_more}
 use Rattle.cluster_repair.proofs.on_way.forget.Goals as goal
 
@@ -13,5 +13,5 @@ loop-one-preserved c b t =
     let i = c.loop-one.one-index in
     let x = c.one-item.result in
     forgotten_more x b t _ _ _ (list_any p (take i xs)) _ (c.loop-one.invariant b t)
-    (c.remove.ensures.updates.0 (b, t) ∙ ap (λ (q : ℕ × ℕ). cond ((q.0 == b) && (q.1 == t)) false (has_place c.loop-one.places b t)) c.place_of.ensures)
+    (c.remove.ensures.updates.0 (b, t) ∙ ap (λ (q : ℕ × ℕ). cond ((q.0 == b) && (q.1 == t)) false (holds_target c.loop-one.targets b t)) c.key_of.ensures)
     (list_any_more p xs i x c.loop-one-test.true ∙ ap (λ y. list_any p (take i xs) || p y) (sym c.one-item.is))

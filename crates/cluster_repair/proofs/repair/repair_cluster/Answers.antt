@@ -1,11 +1,13 @@
-use Rattle.std.proofs.Common.{◌≡◌, ◌∙◌, ap, filter, subst}
+use Rattle.std.proofs.Common.{◌≡◌, ◌∙◌, ◌+◌, sym, ap, filter, subst}
 use Rattle.bm_base.specs.Words.{Cluster, knows_node}
+use Rattle.cluster_repair.specs.declared.rows.Rows.{Rows}
 use Rattle.cluster_repair.specs.declared.ticks.Ticks.{Ticks}
 use Rattle.cluster_repair.specs.History.{AreAtStart}
-use Rattle.cluster_repair.specs.Rows.{HasEnded, awaited_rounds}
+use Rattle.cluster_repair.specs.Rows.{AreInOrder, HasEnded, awaited_rounds}
 use Rattle.cluster_repair.specs.Ticks.{ticks_of}
 use Rattle.cluster_repair.proofs.HistoryLemmas.{over_alike}
 use Rattle.cluster_repair.proofs.Reach.{under_way_at_once}
+use Rattle.cluster_repair.proofs.RowLemmas.{none_in_order}
 use Rattle.cluster_repair.proofs.repair.repair_cluster.Goals as goal
 
 pub returns-clause-done : goal.returns-clause-done
@@ -29,6 +31,10 @@ returns-clause-done g c =
       over = over_alike c.awaited_rounds.result (awaited_rounds M.holdings.pending M.limits.pend) c.take_rounds.new.self end
           (c.awaited_rounds.ensures ∙ ap (λ p. awaited_rounds p c.args.session.now.book.transfers.pend) c.requires.copies ∙ ap (awaited_rounds M.holdings.pending) c.requires.pend)
           (c.note_retired_at_end.ensures.rounds ∙ c.note_row.ensures.rounds) (c.note_retired_at_end.ensures.datanodes ∙ c.note_row.ensures.datanodes) c.in_ok-take_rounds.ensures.over;
+      in_order = subst (λ (rs : Rows). AreInOrder (end.rounds + 1) rs.rows.items) (sym c.note_retired_at_end.ensures.rows)
+          (subst (λ n. AreInOrder (n + 1) c.note_row.new.self.rows.rows.items) (sym (c.note_retired_at_end.ensures.rounds ∙ c.note_row.ensures.rounds))
+          (c.in_ok-note_row.ensures.in_order (c.in_ok-take_rounds.ensures.in_order
+          (subst (λ n. AreInOrder n c.in_ok-repair.repair.rows.rows.items) (sym start.rounds) (subst (AreInOrder 0) (sym start.rows) none_in_order)))));
     }
 
 pub returns-clause-drained : goal.returns-clause-drained

@@ -14,7 +14,8 @@ added old new a app rule h local before is = h.shape local ∙ ap₂ with_rule b
 
 pub returns : goal.returns
 returns c =
-    let s0 : app_of c.about.result ≡ new_app (codes "fsck_import") = ap app_of_fields c.about.ensures ∙ c.new.ensures.app in
+    let s0 : app_of c.after_help.result ≡ new_app (codes "fsck_import") =
+    ap app_of_fields c.after_help.ensures ∙ ap app_of_fields c.about.ensures ∙ c.new.ensures.app in
     let s1 = added _ _ _ _ _ c.in_ok-arg.ensures c.option.ensures.local s0 c.option.ensures.rule in
     let s2 = added _ _ _ _ _ c.in_ok-arg-2.ensures c.option-2.ensures.local s1 c.option-2.ensures.rule in
     let s3 = added _ _ _ _ _ c.in_ok-arg-3.ensures c.option-3.ensures.local s2 c.option-3.ensures.rule in

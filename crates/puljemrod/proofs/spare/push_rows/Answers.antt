@@ -8,5 +8,5 @@ loop-row-preserved c =
     record {
       items = grind (arith, common_steps);
       count = omega (arith, inv.count, c.push_reserved.ensures.len);
-      room = omega (arith, inv.room, c.push_reserved.ensures.capacity);
+      capacity = omega (arith, inv.capacity, c.push_reserved.ensures.capacity);
     }

@@ -6,5 +6,5 @@ abbrev pub invariant-loop-row : goal.invariant-loop-row
 invariant-loop-row l = record {
   items : l.list.items ≡ l.initial.list.items ++ map remaining_of (take l.row-index l.rows);
   count : vec_len l.list ≡ vec_len l.initial.list + l.row-index;
-  room : vec_capacity l.list ≡ vec_capacity l.initial.list;
+  capacity : vec_capacity l.list ≡ vec_capacity l.initial.list;
 }

@@ -10,21 +10,21 @@ use Rattle.bm_arena.proofs.arena.Arena.link_front.Goals as goal
 
 pub invariant_of-self : goal.invariant_of-self
 invariant_of-self c =
-    let room = rw (← c.self.view_is) at c.requires.room in
+    let capacity = rw (← c.self.view_is) at c.requires.capacity in
     let absent = rw (← c.self.view_is, ← c.storage.view_is) at c.requires.absent in
     record {
       arena =
-          link_front-sound c.self.inside.slots c.self.inside.heads.entries c.in-Some.head.first c.storage.inside.0 c.args.slot c.args.marks c.self.inside.ids c.self.inside.delimiter c.self.invariant.arena c.in-Some.ensures.first room absent
+          link_front-sound c.self.inside.slots c.self.inside.heads.entries c.in-Some.head.first c.storage.inside.0 c.args.slot c.args.marks c.self.inside.ids c.self.inside.delimiter c.self.invariant.arena c.in-Some.ensures.first capacity absent
           c.add_triplet.new.slots c.attach.new.slots _ c.attach.new.first c.add_triplet.ensures c.attach.ensures.slots (c.set.ensures.entries c.storage.inside.0 c.in-Some.head.first c.in-Some.ensures.index) c.attach.ensures.first c.set.ensures.unique;
       bounded = below-linked c.self.inside.slots c.add_triplet.new.slots c.attach.new.slots c.in-Some.head.first c.args.slot c.storage.inside.0 _ c.self.inside.bound c.add_triplet.ensures c.attach.ensures.slots c.self.invariant.bounded;
     }
 
 pub returns-in-Some-clause-after : goal.returns-in-Some-clause-after
 returns-in-Some-clause-after c =
-    let room = rw (← c.self.view_is) at c.requires.room in
+    let capacity = rw (← c.self.view_is) at c.requires.capacity in
     let absent = rw (← c.self.view_is, ← c.storage.view_is) at c.requires.absent in
     rw (← c.self.view_is, ← c.storage.view_is)
-    (link_front-view c.self.inside.slots c.self.inside.heads.entries c.in-Some.head.first c.storage.inside.0 c.args.slot c.args.marks c.self.inside.ids c.self.inside.delimiter c.self.invariant.arena c.in-Some.ensures.first room absent
+    (link_front-view c.self.inside.slots c.self.inside.heads.entries c.in-Some.head.first c.storage.inside.0 c.args.slot c.args.marks c.self.inside.ids c.self.inside.delimiter c.self.invariant.arena c.in-Some.ensures.first capacity absent
     c.add_triplet.new.slots c.attach.new.slots _ c.attach.new.first c.self.inside.steps c.saturating_next-self-inside.result c.self.inside.bound c.add_triplet.ensures c.attach.ensures.slots (c.set.ensures.entries c.storage.inside.0 c.in-Some.head.first c.in-Some.ensures.index) c.attach.ensures.first
     c.saturating_next-self-inside.ensures)
 
@@ -42,7 +42,7 @@ returns-in-Some-clause-list c =
 
 pub returns-in-Some-clause-marks : goal.returns-in-Some-clause-marks
 returns-in-Some-clause-marks c =
-    ap (λ a. marks_at a c.args.slot c.args.storage) (returns-in-Some-clause-after c) ∙ marks_at-linked c.args.self.now c.args.slot c.args.storage c.args.marks c.requires.room c.requires.absent
+    ap (λ a. marks_at a c.args.slot c.args.storage) (returns-in-Some-clause-after c) ∙ marks_at-linked c.args.self.now c.args.slot c.args.storage c.args.marks c.requires.capacity c.requires.absent
 
 pub returns-in-Some-clause-others : goal.returns-in-Some-clause-others
 returns-in-Some-clause-others c =

@@ -3,7 +3,7 @@ use Rattle.std.proofs.Common.{sym, refl, ◌∙◌, ◌+◌, None}
 use Rattle.std.specs.Prelude.{nat_eq}
 use Rattle.std.proofs.lemmas.Bool.{false≢true}
 use Rattle.indexmap.proofs.CallerLemmas.{insert_entry-new}
-use Rattle.bm_arena.proofs.Heads.{head-seen, no_lookup, roomier-arena, roomier-kept, headed-arena, headed-here, headed-kept, headed-named, roomier-named}
+use Rattle.bm_arena.proofs.Heads.{head-seen, no_lookup, enlarged-arena, enlarged-kept, headed-arena, headed-here, headed-kept, headed-named, enlarged-named}
 use Rattle.bm_arena.proofs.Bounds.{below-changed}
 use Rattle.bm_arena.proofs.arena.Arena.reserve_head.Goals as goal
 
@@ -16,31 +16,31 @@ pub invariant_of-self : goal.invariant_of-self
 invariant_of-self c =
     record {
       arena =
-          roomier-arena c.self.inside.slots c.reserve_triplets.new.slots c.self.inside.ids c.self.inside.heads.entries c.self.inside.delimiter c.reserve_triplets.ensures.rest c.reserve_triplets.ensures.grows c.self.invariant.arena c.self.inside.steps c.self.inside.bound;
+          enlarged-arena c.self.inside.slots c.reserve_triplets.new.slots c.self.inside.ids c.self.inside.heads.entries c.self.inside.delimiter c.reserve_triplets.ensures.rest c.reserve_triplets.ensures.grows c.self.invariant.arena c.self.inside.steps c.self.inside.bound;
       bounded = below-changed _ c.self.inside.slots c.reserve_triplets.new.slots c.self.inside.delimiter c.self.inside.bound c.reserve_triplets.ensures.rest c.self.invariant.bounded;
     }
 
 pub returns-in_err-reserve_triplets-clause-kept : goal.returns-in_err-reserve_triplets-clause-kept
-returns-in_err-reserve_triplets-clause-kept c = rw (← c.self.view_is) (roomier-kept c.self.inside.slots c.reserve_triplets.new.slots c.self.inside.ids c.self.inside.heads.entries c.self.inside.delimiter c.reserve_triplets.ensures.rest c.reserve_triplets.ensures.grows c.self.invariant.arena c.self.inside.steps c.self.inside.bound _ refl)
+returns-in_err-reserve_triplets-clause-kept c = rw (← c.self.view_is) (enlarged-kept c.self.inside.slots c.reserve_triplets.new.slots c.self.inside.ids c.self.inside.heads.entries c.self.inside.delimiter c.reserve_triplets.ensures.rest c.reserve_triplets.ensures.grows c.self.invariant.arena c.self.inside.steps c.self.inside.bound _ refl)
 
 pub invariant_of-self-in_err-insert : goal.invariant_of-self-in_err-insert
 invariant_of-self-in_err-insert c =
     rw c.in_err-insert.ensures.err
     (record {
       arena =
-          roomier-arena c.self.inside.slots c.reserve_triplets.new.slots c.self.inside.ids c.self.inside.heads.entries c.self.inside.delimiter c.reserve_triplets.ensures.rest c.reserve_triplets.ensures.grows c.self.invariant.arena c.self.inside.steps c.self.inside.bound;
+          enlarged-arena c.self.inside.slots c.reserve_triplets.new.slots c.self.inside.ids c.self.inside.heads.entries c.self.inside.delimiter c.reserve_triplets.ensures.rest c.reserve_triplets.ensures.grows c.self.invariant.arena c.self.inside.steps c.self.inside.bound;
       bounded = below-changed _ c.self.inside.slots c.reserve_triplets.new.slots c.self.inside.delimiter c.self.inside.bound c.reserve_triplets.ensures.rest c.self.invariant.bounded;
     })
 
 pub returns-in_err-insert-clause-kept : goal.returns-in_err-insert-clause-kept
-returns-in_err-insert-clause-kept c = rw (← c.self.view_is) (roomier-kept c.self.inside.slots c.reserve_triplets.new.slots c.self.inside.ids c.self.inside.heads.entries c.self.inside.delimiter c.reserve_triplets.ensures.rest c.reserve_triplets.ensures.grows c.self.invariant.arena c.self.inside.steps c.self.inside.bound _ c.in_err-insert.ensures.err)
+returns-in_err-insert-clause-kept c = rw (← c.self.view_is) (enlarged-kept c.self.inside.slots c.reserve_triplets.new.slots c.self.inside.ids c.self.inside.heads.entries c.self.inside.delimiter c.reserve_triplets.ensures.rest c.reserve_triplets.ensures.grows c.self.invariant.arena c.self.inside.steps c.self.inside.bound _ c.in_err-insert.ensures.err)
 
 pub invariant_of-self-2 : goal.invariant_of-self-2
 invariant_of-self-2 c =
     record {
       arena =
           headed-arena c.self.inside.slots c.reserve_triplets.new.slots c.self.inside.ids c.self.inside.heads.entries c.self.inside.delimiter c.reserve_triplets.ensures.rest c.reserve_triplets.ensures.grows c.self.invariant.arena c.self.inside.steps c.self.inside.bound c.storage.inside.0 (no_lookup _ (sym c.contains_key.ensures ∙ c.if-contains_key.false)) c.insert.new.self.entries (c.in_ok-insert.ensures.entries ∙ insert_entry-new nat_eq c.self.inside.heads c.storage.inside.0 None (no_lookup _ (sym c.contains_key.ensures ∙ c.if-contains_key.false)))
-          c.insert.ensures.unique c.len-room.result (c.len-room.result + 1) c.len-room.ensures.len refl c.in_ok-reserve_triplets.ensures.room;
+          c.insert.ensures.unique c.len-capacity.result (c.len-capacity.result + 1) c.len-capacity.ensures.len refl c.in_ok-reserve_triplets.ensures.capacity;
       bounded = below-changed _ c.self.inside.slots c.reserve_triplets.new.slots c.self.inside.delimiter c.self.inside.bound c.reserve_triplets.ensures.rest c.self.invariant.bounded;
     }
 
@@ -68,11 +68,11 @@ returns-clause-lawful c = IsLawful-arena _ _ _ _ _ (invariant_of-self-2 c) _
 
 pub returns-in_err-reserve_triplets-clause-named : goal.returns-in_err-reserve_triplets-clause-named
 returns-in_err-reserve_triplets-clause-named c q differs some =
-    rw (← c.self.view_is) (roomier-named c.self.inside.slots c.reserve_triplets.new.slots c.self.inside.ids c.self.inside.heads.entries c.self.inside.delimiter c.reserve_triplets.ensures.rest c.reserve_triplets.ensures.grows c.self.invariant.arena c.self.inside.steps c.self.inside.bound _ refl q some)
+    rw (← c.self.view_is) (enlarged-named c.self.inside.slots c.reserve_triplets.new.slots c.self.inside.ids c.self.inside.heads.entries c.self.inside.delimiter c.reserve_triplets.ensures.rest c.reserve_triplets.ensures.grows c.self.invariant.arena c.self.inside.steps c.self.inside.bound _ refl q some)
 
 pub returns-in_err-insert-clause-named : goal.returns-in_err-insert-clause-named
 returns-in_err-insert-clause-named c q differs some =
-    rw (← c.self.view_is) (roomier-named c.self.inside.slots c.reserve_triplets.new.slots c.self.inside.ids c.self.inside.heads.entries c.self.inside.delimiter c.reserve_triplets.ensures.rest c.reserve_triplets.ensures.grows c.self.invariant.arena c.self.inside.steps c.self.inside.bound _ c.in_err-insert.ensures.err q some)
+    rw (← c.self.view_is) (enlarged-named c.self.inside.slots c.reserve_triplets.new.slots c.self.inside.ids c.self.inside.heads.entries c.self.inside.delimiter c.reserve_triplets.ensures.rest c.reserve_triplets.ensures.grows c.self.invariant.arena c.self.inside.steps c.self.inside.bound _ c.in_err-insert.ensures.err q some)
 
 pub returns-clause-named : goal.returns-clause-named
 returns-clause-named c q differs some =

@@ -20,13 +20,13 @@ loop-chunk-init c =
       size = search rules;
       underway = subst P (sym whole) (underway_none (rack_of C) D c.args.cluster_after.now.multi c.args.arena.now all c.args.self.now);
       listed = λ slot h. let Q : List ℕ → Type 0 = λ l. IsMember slot l in subst Q whole h;
-      room = λ bound h. h;
+      capacity = λ bound h. h;
     }
 
-pub reclassify_chunk-requires-clause-room : goal.reclassify_chunk-requires-clause-room
-reclassify_chunk-requires-clause-room c slot there =
+pub reclassify_chunk-requires-clause-capacity : goal.reclassify_chunk-requires-clause-capacity
+reclassify_chunk-requires-clause-capacity c slot there =
     let P : List ℕ → Type 0 = λ l. IsMember slot l in
-    c.loop-chunk.invariant.room (slot + 1) (c.requires.room slot (c.loop-chunk.invariant.listed slot (subst P (sym c.in-Some.ensures.steps.1.0) (Among-left slot c.in-Some.chunk.now (chunks_rest c.next.new.self) there))))
+    c.loop-chunk.invariant.capacity (slot + 1) (c.requires.capacity slot (c.loop-chunk.invariant.listed slot (subst P (sym c.in-Some.ensures.steps.1.0) (Among-left slot c.in-Some.chunk.now (chunks_rest c.next.new.self) there))))
 
 pub loop-chunk-preserved : goal.loop-chunk-preserved
 loop-chunk-preserved c =
@@ -45,7 +45,7 @@ loop-chunk-preserved c =
       size = c.in-Some.ensures.steps.0 ∙ c.loop-chunk.invariant.size;
       underway = underway_chunk (rack_of C) D multi a all xs ys c.args.self.now c.loop-chunk.self c.reclassify_chunk.new.self (λ slot h. listed slot (Among-left slot xs ys h)) (subst P whole c.loop-chunk.invariant.underway) c.reclassify_chunk.ensures.status c.reclassify_chunk.ensures.others;
       listed = λ slot h. listed slot (among_back slot xs ys h);
-      room = λ bound h. c.reclassify_chunk.ensures.room bound (c.loop-chunk.invariant.room bound h);
+      capacity = λ bound h. c.reclassify_chunk.ensures.capacity bound (c.loop-chunk.invariant.capacity bound h);
     }
 
 pub returns-clause-status : goal.returns-clause-status

@@ -12,7 +12,7 @@ pub record AreClassifiedSoFar (l : goal.Live-loop-chunk) : Type 0 where
   pub size : chunks_size l.chunk-iterator ≡ 64
   pub underway : IsUnderway (rack_after l.cluster_after) (drains_after l.cluster_after) l.cluster_after.multi l.arena l.slots (chunks_rest l.chunk-iterator) l.initial.self l.self
   pub listed : (slot : ℕ) → IsMember slot (chunks_rest l.chunk-iterator) → IsMember slot l.slots
-  pub room : (bound : ℕ) → HasCapacityFor l.initial.self bound → HasCapacityFor l.self bound
+  pub capacity : (bound : ℕ) → HasCapacityFor l.initial.self bound → HasCapacityFor l.self bound
 
 abbrev pub invariant-loop-chunk : goal.invariant-loop-chunk
 invariant-loop-chunk l = AreClassifiedSoFar l

@@ -11,23 +11,23 @@ use Rattle.bm_queues.specs.Members as members
 use Rattle.bm_levels.specs.IndexedLevels.{IndexedLevels, GrowsWithin}
 use Rattle.bm_levels.proofs.level_index.LevelIndex.grow.Goals as goal
 
-longer : (xs : List (Option Level)) (room : ℕ) → length (xs ++ replicate (room - length xs) None) ≤ max (length xs) room
-longer xs room =
-    let added = length-append xs (replicate (room - length xs) None) in
-    let many = length-replicate {A = Option Level} (room - length xs) None in
+longer : (xs : List (Option Level)) (capacity : ℕ) → length (xs ++ replicate (capacity - length xs) None) ≤ max (length xs) capacity
+longer xs capacity =
+    let added = length-append xs (replicate (capacity - length xs) None) in
+    let many = length-replicate {A = Option Level} (capacity - length xs) None in
     omega (arith, added, many)
 
-levels_within : (r : Result (Unit {0}) Refusal) (old new : Levels) (room : ℕ) → OnOk r (new ≡ levels.with_room old room) → OnErr r (new ≡ old) → length new.levels ≤ max (length old.levels) room
-levels_within (Ok x) old new room grown same = subst (λ (v : Levels). length v.levels ≤ max (length old.levels) room) (sym grown) (longer old.levels room)
-levels_within (Err x) old new room grown same = subst (λ (v : Levels). length v.levels ≤ max (length old.levels) room) (sym same) (omega arith)
+levels_within : (r : Result (Unit {0}) Refusal) (old new : Levels) (capacity : ℕ) → OnOk r (new ≡ levels.with_capacity old capacity) → OnErr r (new ≡ old) → length new.levels ≤ max (length old.levels) capacity
+levels_within (Ok x) old new capacity grown same = subst (λ (v : Levels). length v.levels ≤ max (length old.levels) capacity) (sym grown) (longer old.levels capacity)
+levels_within (Err x) old new capacity grown same = subst (λ (v : Levels). length v.levels ≤ max (length old.levels) capacity) (sym same) (omega arith)
 
 either_within : (b : Bool) (x y : ℕ) → (if b then y else x) ≤ max x y
 either_within true x y = omega arith
 either_within false x y = omega arith
 
-set_within : (r : Result (Unit {0}) Refusal) (old new : Members) (room : ℕ) → OnOk r (new ≡ members.with_room old room) → OnErr r (new ≡ old) → new.room ≤ max old.room room
-set_within (Ok x) old new room grown same = subst (λ (v : Members). v.room ≤ max old.room room) (sym grown) (either_within (nat_lt old.room room) old.room room)
-set_within (Err x) old new room grown same = subst (λ (v : Members). v.room ≤ max old.room room) (sym same) (omega arith)
+set_within : (r : Result (Unit {0}) Refusal) (old new : Members) (capacity : ℕ) → OnOk r (new ≡ members.with_capacity old capacity) → OnErr r (new ≡ old) → new.capacity ≤ max old.capacity capacity
+set_within (Ok x) old new capacity grown same = subst (λ (v : Members). v.capacity ≤ max old.capacity capacity) (sym grown) (either_within (nat_lt old.capacity capacity) old.capacity capacity)
+set_within (Err x) old new capacity grown same = subst (λ (v : Members). v.capacity ≤ max old.capacity capacity) (sym same) (omega arith)
 
 pub returns-in_err-grow_to-clause-few : goal.returns-in_err-grow_to-clause-few
 returns-in_err-grow_to-clause-few c =

@@ -18,12 +18,12 @@ decided : (b : Bool) (xs : List ℕ) (x : ℕ) → (IsTrue b ↔ IsMember x xs) 
 decided true xs x h = sym (among_has xs x (h.0 refl))
 decided false xs x h = sym (absent xs x (λ there. true≢false (sym (h.1 there))))
 
-pub returns-then-slot-room : goal.returns-then-slot-room
-returns-then-slot-room c = decided c.contains.result c.args.self.now.unsettled.slots c.args.slot (rw (← c.self.view_is) c.contains.ensures)
+pub returns-then-slot-capacity : goal.returns-then-slot-capacity
+returns-then-slot-capacity c = decided c.contains.result c.args.self.now.unsettled.slots c.args.slot (rw (← c.self.view_is) c.contains.ensures)
 
-pub returns-else-slot-room : goal.returns-else-slot-room
-returns-else-slot-room c =
+pub returns-else-slot-capacity : goal.returns-else-slot-capacity
+returns-else-slot-capacity c =
     let none : has c.args.self.now.unsettled.slots c.args.slot ≡ false =
-    rw (← c.self.view_is) (absent c.self.inside.unsettled.slots c.args.slot (λ there. let below = c.show_invariant.ensures.lawful.below c.args.slot there in omega (arith, below, c.if-slot-room.false, c.room.ensures))) in
-    let above : nat_lt c.args.slot c.room.result ≡ false = grind (arith, nat_tests, c.if-slot-room.false) in
+    rw (← c.self.view_is) (absent c.self.inside.unsettled.slots c.args.slot (λ there. let below = c.show_invariant.ensures.lawful.below c.args.slot there in omega (arith, below, c.if-slot-capacity.false, c.capacity.ensures))) in
+    let above : nat_lt c.args.slot c.capacity.result ≡ false = grind (arith, nat_tests, c.if-slot-capacity.false) in
     above ∙ sym none

@@ -21,7 +21,7 @@ pub status_at-requires : goal.status_at-requires
 status_at-requires c =
     let x = slice_index_or c.args.chunk.now c.loop-index.index 0 in
     let at = slice_get-get_or c.args.chunk.now c.loop-index.index 0 c.loop-index-test.true in
-    record { room = (x + 1, omega arith, c.requires.room x (among_in x c.args.chunk.now c.loop-index.index at)) }
+    record { capacity = (x + 1, omega arith, c.requires.capacity x (among_in x c.args.chunk.now c.loop-index.index at)) }
 
 pub loop-index-preserved : goal.loop-index-preserved
 loop-index-preserved c e i below slot default is =

@@ -23,13 +23,13 @@ returns-then-keeps_all-clause-status c slot there =
 pub loop-index-init : goal.loop-index-init
 loop-index-init c =
     let C = c.args.cluster_after.now.topology.now.cluster in
-    record { underway = underway_none (rack_of C) (drains_after_change C c.args.cluster_after.now.drain_change) c.args.cluster_after.now.multi c.args.arena.now c.args.chunk.now c.args.self.now; room = λ bound h. h }
+    record { underway = underway_none (rack_of C) (drains_after_change C c.args.cluster_after.now.drain_change) c.args.cluster_after.now.multi c.args.arena.now c.args.chunk.now c.args.self.now; capacity = λ bound h. h }
 
 pub set_status-requires : goal.set_status-requires
 set_status-requires c =
     let x = slice_index_or c.args.chunk.now c.loop-index.index 0 in
     let at = slice_get-get_or c.args.chunk.now c.loop-index.index 0 c.loop-index-test.true in
-    record { room = (x + 1, omega arith, c.loop-index.invariant.room (x + 1) (c.requires.room x (among_in x c.args.chunk.now c.loop-index.index at))) }
+    record { capacity = (x + 1, omega arith, c.loop-index.invariant.capacity (x + 1) (c.requires.capacity x (among_in x c.args.chunk.now c.loop-index.index at))) }
 
 pub loop-index-preserved : goal.loop-index-preserved
 loop-index-preserved c =
@@ -46,7 +46,7 @@ loop-index-preserved c =
       underway = underway_more (rack_of C) D multi c.args.arena.now c.args.chunk.now rest x c.args.self.now c.loop-index.self c.set_status.new.self there (subst P next c.loop-index.invariant.underway)
           (classified_as (rack_of C) D multi (block_at c.args.arena.now x) c.set_status.new.self x _ c.set_status.ensures.kept (c.classify_chunk-status.ensures c.loop-index.index x _ at))
           c.set_status.ensures.others;
-      room = λ bound h. c.set_status.ensures.room bound (c.loop-index.invariant.room bound h);
+      capacity = λ bound h. c.set_status.ensures.capacity bound (c.loop-index.invariant.capacity bound h);
     }
 
 pub returns-clause-status : goal.returns-clause-status

@@ -10,13 +10,13 @@ use Rattle.bm_levels.proofs.level_index.LevelIndex.reclassify_every_block.Goals.
 pub loop-index-init : goal.loop-index-init
 loop-index-init c =
     let C = c.args.cluster_after.now.topology.now.cluster in
-    record { underway = underway_none (rack_of C) (drains_after_change C c.args.cluster_after.now.drain_change) c.args.cluster_after.now.multi c.args.arena.now (indexed_slots c.args.arena.now) c.args.self.now; room = λ bound h. h }
+    record { underway = underway_none (rack_of C) (drains_after_change C c.args.cluster_after.now.drain_change) c.args.cluster_after.now.multi c.args.arena.now (indexed_slots c.args.arena.now) c.args.self.now; capacity = λ bound h. h }
 
 pub classify-requires : goal.classify-requires
 classify-requires c =
     let a = c.args.arena.now in
     let there = among_next (indexed_slots a) (drop (c.loop-index.index + 1) (indexed_slots a)) c.loop-index.index c.in-Some.slot (led_next a c.loop-index.index c.in-Some.slot c.in-Some.ensures) in
-    record { room = (c.in-Some.slot + 1, omega arith, c.loop-index.invariant.room (c.in-Some.slot + 1) (c.requires c.in-Some.slot there)) }
+    record { capacity = (c.in-Some.slot + 1, omega arith, c.loop-index.invariant.capacity (c.in-Some.slot + 1) (c.requires c.in-Some.slot there)) }
 
 pub loop-index-preserved : goal.loop-index-preserved
 loop-index-preserved c =
@@ -35,7 +35,7 @@ loop-index-preserved c =
           let R : IndexedLevels → Type 0 = λ K. (bound : ℕ) → HasCapacityFor c.args.self.now bound → HasCapacityFor K bound in
           record {
             underway = subst Q (sym w.self-is) (underway_more (rack_of C) D c.args.cluster_after.now.multi a (indexed_slots a) rest x c.args.self.now c.loop-index.self w.classify.new.self there (subst P next c.loop-index.invariant.underway) w.classify.ensures.status w.classify.ensures.others);
-            room = subst R (sym w.self-is) (λ bound h. w.classify.ensures.room bound (c.loop-index.invariant.room bound h));
+            capacity = subst R (sym w.self-is) (λ bound h. w.classify.ensures.capacity bound (c.loop-index.invariant.capacity bound h));
           }
       | in_default w ↦ absurd (led_none a i (sym w.in_default.ensures) (omega (arith, c.loop-index-test.true, c.count-index-end.ensures)))
     ]

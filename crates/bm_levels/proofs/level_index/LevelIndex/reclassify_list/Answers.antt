@@ -22,14 +22,14 @@ loop-slot-init c =
     record {
       underway = subst P (sym e) (underway_none (rack_of C) D c.args.cluster_after.now.multi c.args.arena.now all K);
       listed = λ slot h. let Q : List ℕ → Type 0 = λ l. IsMember slot l in subst Q e h;
-      room = λ bound h. h;
+      capacity = λ bound h. h;
     }
 
 pub classify-requires : goal.classify-requires
 classify-requires c =
     let x = c.in-Some.slot in
     let there = c.loop-slot.invariant.listed x (head_among c.loop-slot.slot-iterator c.next.new.self x c.in-Some.ensures.steps) in
-    record { room = (x + 1, omega arith, c.loop-slot.invariant.room (x + 1) (c.requires x there)) }
+    record { capacity = (x + 1, omega arith, c.loop-slot.invariant.capacity (x + 1) (c.requires x there)) }
 
 pub loop-slot-preserved : goal.loop-slot-preserved
 loop-slot-preserved c =
@@ -45,7 +45,7 @@ loop-slot-preserved c =
     record {
       underway = underway_more (rack_of C) D multi a all c.next.new.self x c.args.self.now c.loop-slot.self c.classify.new.self there (subst P next c.loop-slot.invariant.underway) c.classify.ensures.status c.classify.ensures.others;
       listed = λ slot h. let Q : List ℕ → Type 0 = λ l. IsMember slot l in c.loop-slot.invariant.listed slot (subst Q (sym next) (inr h));
-      room = λ bound h. c.classify.ensures.room bound (c.loop-slot.invariant.room bound h);
+      capacity = λ bound h. c.classify.ensures.capacity bound (c.loop-slot.invariant.capacity bound h);
     }
 
 pub returns-clause-each : goal.returns-clause-each

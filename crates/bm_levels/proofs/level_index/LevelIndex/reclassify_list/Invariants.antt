@@ -10,7 +10,7 @@ use Rattle.bm_levels.proofs.level_index.LevelIndex.reclassify_list.Given as goal
 pub record AreClassifiedSoFar (l : goal.Live-loop-slot) : Type 0 where
   pub underway : IsUnderway (rack_after l.cluster_after) (drains_after l.cluster_after) l.cluster_after.multi l.arena (list_of l.arena l.fn.storage) l.slot-iterator l.initial.self l.self
   pub listed : (slot : ℕ) → IsMember slot l.slot-iterator → IsMember slot (list_of l.arena l.fn.storage)
-  pub room : (bound : ℕ) → HasCapacityFor l.initial.self bound → HasCapacityFor l.self bound
+  pub capacity : (bound : ℕ) → HasCapacityFor l.initial.self bound → HasCapacityFor l.self bound
 
 abbrev pub invariant-loop-slot : goal.invariant-loop-slot
 invariant-loop-slot l = AreClassifiedSoFar l

@@ -13,11 +13,11 @@ use Rattle.bm_levels.proofs.leveled_blocks.LeveledBlocks.apply_report.Goals as g
 
 pub update_all-requires : goal.update_all-requires
 update_all-requires c = record {
-  room = λ slot there.
+  capacity = λ slot there.
       let P : List ℕ → Type 0 = λ l. IsMember slot l in
       elim (c.apply_full-applied.ensures.listed slot (subst P c.changed_slots.ensures there)) [
         | inl old ↦ absurd (subst P c.requires.fresh old)
-        | inr e ↦ c.self.invariant.room slot (held_by c.self.inside.arena slot (c.show_invariant.ensures.found e.0 slot e.1))
+        | inr e ↦ c.self.invariant.capacity slot (held_by c.self.inside.arena slot (c.show_invariant.ensures.found e.0 slot e.1))
       ];
 }
 
@@ -48,7 +48,7 @@ mark c =
 pub invariant_of-self : goal.invariant_of-self
 invariant_of-self c =
     let r = c.apply_full-applied.ensures in
-    leveled_reported c.args.topology.now.cluster (before c) c.apply_full-applied.new.arena c.update_all.new.self r.entries.delimiter r.free r.entries.known (each c) (mark c) c.self.invariant c.update_all.ensures.room
+    leveled_reported c.args.topology.now.cluster (before c) c.apply_full-applied.new.arena c.update_all.new.self r.entries.delimiter r.free r.entries.known (each c) (mark c) c.self.invariant c.update_all.ensures.capacity
 
 pub returns-clause-levels : goal.returns-clause-levels
 returns-clause-levels c =

@@ -25,7 +25,7 @@ at_slot c =
     record { blocks = (keeps c).blocks; delimiter = (keeps c).delimiter; apart = found.0; held = held_by c.self.inside.arena c.args.slot found }
 
 pub invariant_of-self : goal.invariant_of-self
-invariant_of-self c = leveled_after c.args.topology.now.cluster (before c) c.set_info.new.self c.update_level.new.self c.args.slot (at_slot c) c.update_level.ensures.status c.update_level.ensures.others c.self.invariant c.update_level.ensures.room
+invariant_of-self c = leveled_after c.args.topology.now.cluster (before c) c.set_info.new.self c.update_level.new.self c.args.slot (at_slot c) c.update_level.ensures.status c.update_level.ensures.others c.self.invariant c.update_level.ensures.capacity
 
 pub returns-clause-blocks : goal.returns-clause-blocks
 returns-clause-blocks c =

@@ -2,7 +2,7 @@ use Rattle.std.proofs.Common.{◌≡◌, ◌≤◌, true, [], length, arith, sym
 use Rattle.bm_base.specs.Machine.Replicas.{has_storage}
 use Rattle.bm_arena.specs.Contents.{list_of, HasHead}
 use Rattle.bm_levels.proofs.LeavingReplicas.{leaving_more, leaving_of, stays_empty}
-use Rattle.bm_levels.proofs.Places.{gone_all, gone_more, own_at}
+use Rattle.bm_levels.proofs.Indexes.{gone_all, gone_more, own_at}
 use Rattle.bm_levels.proofs.leveled_blocks.LeveledBlocks.clear_node.Goals as goal
 
 pub loop-storage-preserved : goal.loop-storage-preserved

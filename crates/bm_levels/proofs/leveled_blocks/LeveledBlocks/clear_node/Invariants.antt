@@ -3,7 +3,7 @@ use Rattle.bm_arena.specs.Contents.{list_of, HasHead}
 use Rattle.bm_levels.specs.Unused.{MakesNoUnused}
 use Rattle.bm_levels.specs.LeavingReplicas.{IsLeaving, MakesNoHead}
 use Rattle.bm_levels.specs.ClusterAfter.{is_on_node, KeepsLevelsAfter}
-use Rattle.bm_levels.proofs.Places.{HaveGone}
+use Rattle.bm_levels.proofs.Indexes.{HaveGone}
 use Rattle.bm_levels.proofs.leveled_blocks.LeveledBlocks.clear_node.Given as goal
 
 -- the replicas on the node's storages so far have left

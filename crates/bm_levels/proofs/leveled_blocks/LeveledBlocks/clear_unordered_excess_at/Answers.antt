@@ -5,13 +5,13 @@ use Rattle.bm_levels.specs.IndexedLevels.{IsUnsettled}
 use Rattle.bm_levels.specs.Changes.{changed, all_changed}
 use Rattle.bm_levels.specs.Leveled.{Leveled, AreLevels}
 use Rattle.bm_levels.proofs.OneSlot.{IsChangedAt, leveled_after, levels_after}
-use Rattle.bm_levels.proofs.RoundStart.{start_room, changed_there}
+use Rattle.bm_levels.proofs.RoundStart.{start_capacity, changed_there}
 use Rattle.bm_levels.proofs.leveled_blocks.LeveledBlocks.clear_unordered_excess_at.Goals as goal
 
 pub update_level-requires : goal.update_level-requires
 update_level-requires c =
     let P : Leveled → Type 0 = λ v. IsUnsettled v.kept c.args.slot in
-    record { room = (c.args.slot + 1, omega arith, start_room (record { arena = c.self.inside.arena; kept = c.self.inside.kept }) c.self.invariant c.args.slot (subst P (sym c.self.view_is) c.requires)) }
+    record { capacity = (c.args.slot + 1, omega arith, start_capacity (record { arena = c.self.inside.arena; kept = c.self.inside.kept }) c.self.invariant c.args.slot (subst P (sym c.self.view_is) c.requires)) }
 
 abbrev before : goal.After-update_level → Leveled
 before c = record { arena = c.self.inside.arena; kept = c.self.inside.kept }
@@ -23,7 +23,7 @@ at_slot c =
 
 pub invariant_of-self : goal.invariant_of-self
 invariant_of-self c =
-    leveled_after c.args.topology.now.cluster (before c) c.change_marks.new.arena c.update_level.new.self c.args.slot (at_slot c) c.update_level.ensures.status c.update_level.ensures.others c.self.invariant c.update_level.ensures.room
+    leveled_after c.args.topology.now.cluster (before c) c.change_marks.new.arena c.update_level.new.self c.args.slot (at_slot c) c.update_level.ensures.status c.update_level.ensures.others c.self.invariant c.update_level.ensures.capacity
 
 pub returns-then-change_marks-clause-begun : goal.returns-then-change_marks-clause-begun
 unfolding changed

@@ -34,7 +34,7 @@ at_slot c =
 
 pub invariant_of-self : goal.invariant_of-self
 invariant_of-self c =
-    leveled_after c.args.topology.now.cluster (before c) c.mark_listed.new.arena c.update_level.new.self c.in-Some.slot (at_slot c) c.update_level.ensures.status c.update_level.ensures.others c.self.invariant c.update_level.ensures.room
+    leveled_after c.args.topology.now.cluster (before c) c.mark_listed.new.arena c.update_level.new.self c.in-Some.slot (at_slot c) c.update_level.ensures.status c.update_level.ensures.others c.self.invariant c.update_level.ensures.capacity
 
 pub returns-clause-replicas : goal.returns-clause-replicas
 returns-clause-replicas c =

@@ -5,7 +5,7 @@ use Rattle.bm_arena.specs.HeldMaps.{blocks_of, replicas_of}
 use Rattle.bm_base.proofs.Options.{not_there}
 use Rattle.bm_levels.specs.Leveled.{Leveled, AreLevels}
 use Rattle.bm_report.proofs.SingleReplicas.{ok_then}
-use Rattle.bm_levels.proofs.AddedEntries.{room_below, leveled_same, levels_same, leveled_added, levels_added, dropped_again, blocks_again, replicas_again, numbers_again}
+use Rattle.bm_levels.proofs.AddedEntries.{capacity_below, leveled_same, levels_same, leveled_added, levels_added, dropped_again, blocks_again, replicas_again, numbers_again}
 use Rattle.bm_levels.proofs.Unused.{unused_held, some_before}
 use Rattle.bm_levels.specs.Unused.{MakesNoUnused}
 use Rattle.bm_levels.proofs.leveled_blocks.LeveledBlocks.ready_block.Goals as goal
@@ -54,7 +54,7 @@ returns-then-is_err-clause-levels c =
 pub invariant_of-self-else-is_err : goal.invariant_of-self-else-is_err
 invariant_of-self-else-is_err c =
     leveled_added (first c) c.add_entry.new.self c.grow_to.new.self c.args.id c.in_ok-slot.slot c.show_invariant.ensures (added_else c) c.grow_to.ensures.same c.self.invariant
-    (λ z there. room_below c.grow_to.new.self c.slot_bound.result z (ok_then c.grow_to.result _ (c.is_err.ensures.negation ∙ ap not c.if-is_err.false) c.grow_to.ensures.room) (c.slot_bound.ensures.above z there))
+    (λ z there. capacity_below c.grow_to.new.self c.slot_bound.result z (ok_then c.grow_to.result _ (c.is_err.ensures.negation ∙ ap not c.if-is_err.false) c.grow_to.ensures.capacity) (c.slot_bound.ensures.above z there))
 
 pub returns-clause-levels : goal.returns-clause-levels
 returns-clause-levels c =

@@ -7,7 +7,7 @@ use Rattle.bm_levels.specs.IndexedLevels.{HasCapacityFor}
 use Rattle.bm_report.proofs.SingleReplicas.{ok_then}
 use Rattle.bm_levels.specs.Leveled.{Leveled, AreLevels}
 use Rattle.bm_levels.specs.Unused.{MakesNoUnused}
-use Rattle.bm_levels.proofs.AddedEntries.{room_below}
+use Rattle.bm_levels.proofs.AddedEntries.{capacity_below}
 use Rattle.bm_levels.proofs.Unused.{unused_again}
 use Rattle.bm_levels.proofs.ReadyReports.{alike_ready, leveled_again, levels_again, leveled_alike, levels_alike}
 use Rattle.bm_levels.proofs.leveled_blocks.LeveledBlocks.ready_report.Goals as goal
@@ -46,7 +46,7 @@ pub invariant_of-self : goal.invariant_of-self
 invariant_of-self c =
     leveled_alike (start c) c.ready-found.new.arena c.grow_to-grown.new.self (alike_ready c.self.inside.arena c.ready-found.new.arena c.show_invariant.ensures c.show_invariant-2.ensures c.ready-found.ensures.kept) c.ready-found.ensures.kept.delimiter
     c.grow_to-grown.ensures.same c.self.invariant
-    (λ z there. room_below c.grow_to-grown.new.self c.slot_bound.result z (ok_then c.grow_to-grown.result _ (c.is_err-else-is_err.ensures.negation ∙ ap not c.if-is_err-2.false) c.grow_to-grown.ensures.room) (c.slot_bound.ensures.above z there))
+    (λ z there. capacity_below c.grow_to-grown.new.self c.slot_bound.result z (ok_then c.grow_to-grown.result _ (c.is_err-else-is_err.ensures.negation ∙ ap not c.if-is_err-2.false) c.grow_to-grown.ensures.capacity) (c.slot_bound.ensures.above z there))
 
 pub returns-clause-levels : goal.returns-clause-levels
 returns-clause-levels c =
@@ -62,7 +62,7 @@ returns-clause-there c =
     subst P c.self.view_is (λ head there.
     let same = c.ready-found.ensures.there head there in (
       same,
-      λ room.
-          let kept = c.grow_to-grown.ensures.unchanged (subst (λ (n : ℕ). HasCapacityFor c.self.inside.kept n) (sym (c.slot_bound.ensures.bound ∙ ap (λ (a : Contents). a.bound) same)) room) in
+      λ capacity.
+          let kept = c.grow_to-grown.ensures.unchanged (subst (λ (n : ℕ). HasCapacityFor c.self.inside.kept n) (sym (c.slot_bound.ensures.bound ∙ ap (λ (a : Contents). a.bound) same)) capacity) in
           λ i. record { arena = same i; kept = kept i },
     ))

@@ -31,14 +31,14 @@ found : (v w : Leveled) (r : LookedUpReport) (id slot : ℕ) (stamp : Stamp) →
 found v w r id slot stamp same is at here = ap (λ (x : Leveled). slot_of x.arena id) same ∙ led w.arena r.named (record { id = id; stamp = stamp }) slot is at here
 
 -- there is capacity for the status of this slot
-room_at : (v w : Leveled) (r : LookedUpReport) (id slot : ℕ) (stamp : Stamp) → v ≡ w → reported_blocks r ≡ record { id = id; stamp = stamp } ∷ [] → map slot_in r.named ≡ slot ∷ [] → AreAtSlots w.arena r.named → IsLawful v.arena → IsLeveled v → HasCapacityAt v.kept slot
-room_at v w r id slot stamp same is at here lawful h = (slot + 1, omega arith, h.room slot (held_by v.arena slot (lawful.found id slot (found v w r id slot stamp same is at here))))
+capacity_at : (v w : Leveled) (r : LookedUpReport) (id slot : ℕ) (stamp : Stamp) → v ≡ w → reported_blocks r ≡ record { id = id; stamp = stamp } ∷ [] → map slot_in r.named ≡ slot ∷ [] → AreAtSlots w.arena r.named → IsLawful v.arena → IsLeveled v → HasCapacityAt v.kept slot
+capacity_at v w r id slot stamp same is at here lawful h = (slot + 1, omega arith, h.capacity slot (held_by v.arena slot (lawful.found id slot (found v w r id slot stamp same is at here))))
 
 pub status_at-was-requires : goal.status_at-was-requires
-status_at-was-requires c = record { room = room_at (record { arena = c.self.inside.arena; kept = c.self.inside.kept }) c.args.self.now c.args.report.now c.args.id c.slot_of_one-slot.result c.args.stamp c.self.view_is c.requires.reported c.slot_of_one-slot.ensures c.requires.looked_up.here c.show_invariant.ensures c.self.invariant }
+status_at-was-requires c = record { capacity = capacity_at (record { arena = c.self.inside.arena; kept = c.self.inside.kept }) c.args.self.now c.args.report.now c.args.id c.slot_of_one-slot.result c.args.stamp c.self.view_is c.requires.reported c.slot_of_one-slot.ensures c.requires.looked_up.here c.show_invariant.ensures c.self.invariant }
 
-pub update_from-requires-clause-room : goal.update_from-requires-clause-room
-update_from-requires-clause-room c = room_at (record { arena = c.self.inside.arena; kept = c.self.inside.kept }) c.args.self.now c.args.report.now c.args.id c.slot_of_one-slot.result c.args.stamp c.self.view_is c.requires.reported c.slot_of_one-slot.ensures c.requires.looked_up.here c.show_invariant.ensures c.self.invariant
+pub update_from-requires-clause-capacity : goal.update_from-requires-clause-capacity
+update_from-requires-clause-capacity c = capacity_at (record { arena = c.self.inside.arena; kept = c.self.inside.kept }) c.args.self.now c.args.report.now c.args.id c.slot_of_one-slot.result c.args.stamp c.self.view_is c.requires.reported c.slot_of_one-slot.ensures c.requires.looked_up.here c.show_invariant.ensures c.self.invariant
 
 changed : (c : goal.After-update_from) → IsChangedAt c.self.inside.arena c.apply_received-applied.new.arena c.slot_of_one-slot.result
 changed c =
@@ -55,7 +55,7 @@ changed c =
 pub invariant_of-self : goal.invariant_of-self
 invariant_of-self c =
     leveled_after c.args.topology.now.cluster (record { arena = c.self.inside.arena; kept = c.self.inside.kept }) c.apply_received-applied.new.arena c.update_from.new.self c.slot_of_one-slot.result (changed c)
-    c.update_from.ensures.status c.update_from.ensures.others c.self.invariant c.update_from.ensures.room
+    c.update_from.ensures.status c.update_from.ensures.others c.self.invariant c.update_from.ensures.capacity
 
 pub returns-clause-levels : goal.returns-clause-levels
 returns-clause-levels c =

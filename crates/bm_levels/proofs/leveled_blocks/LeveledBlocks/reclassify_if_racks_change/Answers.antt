@@ -6,12 +6,12 @@ use Rattle.bm_levels.proofs.Reclassified.{led_held, leveled_each, levels_each}
 use Rattle.bm_levels.proofs.leveled_blocks.LeveledBlocks.reclassify_if_racks_change.Goals as goal
 
 pub reclassify_every_block-requires : goal.reclassify_every_block-requires
-reclassify_every_block-requires c = λ slot there. c.self.invariant.room slot (led_held c.self.inside.arena c.show_invariant.ensures slot there)
+reclassify_every_block-requires c = λ slot there. c.self.invariant.capacity slot (led_held c.self.inside.arena c.show_invariant.ensures slot there)
 
 pub invariant_of-self : goal.invariant_of-self
 invariant_of-self c =
     leveled_each c.args.topology.now.cluster c.args.multi (record { arena = c.self.inside.arena; kept = c.self.inside.kept }) c.reclassify_every_block.new.self
-    c.reclassify_every_block.ensures.status c.reclassify_every_block.ensures.others c.self.invariant c.reclassify_every_block.ensures.room
+    c.reclassify_every_block.ensures.status c.reclassify_every_block.ensures.others c.self.invariant c.reclassify_every_block.ensures.capacity
 
 pub returns-clause-levels : goal.returns-clause-levels
 returns-clause-levels c =

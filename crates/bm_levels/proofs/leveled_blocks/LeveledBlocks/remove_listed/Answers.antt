@@ -26,8 +26,8 @@ pub classify_all-requires : goal.classify_all-requires
 classify_all-requires c =
     let f = first (record { arena = c.self.inside.arena; kept = c.self.inside.kept }) c.args.self.now c.args.slots.now c.args.storage c.self.view_is c.requires in
     record {
-      room = λ slot there.
-          c.self.invariant.room slot (held_on c.self.inside.arena c.show_invariant.ensures c.args.storage slot (listed_in (list_of c.self.inside.arena c.args.storage) c.args.slots.now f.0 f.1 slot there));
+      capacity = λ slot there.
+          c.self.invariant.capacity slot (held_on c.self.inside.arena c.show_invariant.ensures c.args.storage slot (listed_in (list_of c.self.inside.arena c.args.storage) c.args.slots.now f.0 f.1 slot there));
     }
 
 pub invariant_of-self : goal.invariant_of-self
@@ -37,7 +37,7 @@ invariant_of-self c =
     let u = c.unlink_all.ensures in
     leveled_first (rack_after c.args.cluster_after.now) (drains_after c.args.cluster_after.now) c.args.cluster_after.now.multi
     old c.unlink_all.new.arena c.classify_all.new.self c.args.storage c.args.slots.now f.0 f.1 c.show_invariant.ensures c.self.invariant u.others u.known u.delimiter
-    c.classify_all.ensures.status c.classify_all.ensures.others c.classify_all.ensures.room
+    c.classify_all.ensures.status c.classify_all.ensures.others c.classify_all.ensures.capacity
 
 pub returns-clause-left : goal.returns-clause-left
 returns-clause-left c =

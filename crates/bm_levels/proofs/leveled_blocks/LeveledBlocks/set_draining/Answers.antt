@@ -9,13 +9,13 @@ use Rattle.bm_levels.proofs.DrainChange.{drain_change, turned_all}
 use Rattle.bm_levels.proofs.leveled_blocks.LeveledBlocks.set_draining.Goals as goal
 
 pub reclassify_node-requires : goal.reclassify_node-requires
-reclassify_node-requires c = λ slot storage there. c.self.invariant.room slot (held_on c.self.inside.arena c.show_invariant.ensures storage slot there)
+reclassify_node-requires c = λ slot storage there. c.self.invariant.capacity slot (held_on c.self.inside.arena c.show_invariant.ensures storage slot there)
 
 pub invariant_of-self : goal.invariant_of-self
 invariant_of-self c =
     let C = c.args.topology.now.cluster in
     leveled_again (rack_of C) (drains_after_change C (Some (drain_change c.args.node c.args.drains))) c.multi_rack.result (record { arena = c.self.inside.arena; kept = c.self.inside.kept }) c.reclassify_node.new.self
-    (λ slot. elim (c.reclassify_node.ensures.each slot) [ inl status ↦ inl status | inr same ↦ inr same.0 ]) c.self.invariant c.reclassify_node.ensures.room
+    (λ slot. elim (c.reclassify_node.ensures.each slot) [ inl status ↦ inl status | inr same ↦ inr same.0 ]) c.self.invariant c.reclassify_node.ensures.capacity
 
 pub returns-clause-levels : goal.returns-clause-levels
 returns-clause-levels c =

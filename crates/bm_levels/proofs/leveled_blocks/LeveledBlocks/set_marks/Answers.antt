@@ -12,7 +12,7 @@ invariant_of-self c =
     let here = subst P (sym c.self.view_is) c.requires.slot.1 in
     leveled_after c.args.topology.now.cluster (record { arena = c.self.inside.arena; kept = c.self.inside.kept }) c.set_marks.new.self c.update_level.new.self c.args.slot
     (record { blocks = r.blocks; delimiter = r.delimiter; apart = (c.show_invariant.ensures.found c.requires.slot.0 c.args.slot here).0; held = held_by c.self.inside.arena c.args.slot (c.show_invariant.ensures.found c.requires.slot.0 c.args.slot here) })
-    c.update_level.ensures.status c.update_level.ensures.others c.self.invariant c.update_level.ensures.room
+    c.update_level.ensures.status c.update_level.ensures.others c.self.invariant c.update_level.ensures.capacity
 
 pub returns-clause-levels : goal.returns-clause-levels
 returns-clause-levels c =

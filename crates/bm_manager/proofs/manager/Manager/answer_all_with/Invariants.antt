@@ -10,6 +10,6 @@ invariant-loop-call g l =
     record {
       may : (rest : List Answer) → MayAnswerAll step l.self (drop l.call-index l.calls) rest → MayAnswerAll step l.fn.self l.calls (l.answers.items ++ rest);
       state : (rest : List Answer) → MayAnswerAll step l.self (drop l.call-index l.calls) rest → state_after_answers step l.self (drop l.call-index l.calls) rest ≡ state_after_answers step l.fn.self l.calls (l.answers.items ++ rest);
-      room : length l.calls ≤ vec_capacity l.answers;
+      capacity : length l.calls ≤ vec_capacity l.answers;
       count : vec_len l.answers ≡ l.call-index;
     }

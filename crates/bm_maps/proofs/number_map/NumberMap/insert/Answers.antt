@@ -24,10 +24,10 @@ returns-clause-known_no_growth g c known =
 
 pub returns-clause-reserved_no_growth : goal.returns-clause-reserved_no_growth
 returns-clause-reserved_no_growth g c reserved =
-    let room = ap (λ t. t.room) c.self.view_is in
+    let spare = ap (λ t. t.spare) c.self.view_is in
     same_capacity c.self.inside.entries c.put.new.entries c.args.self.now c.self.invariant
     (sorted_by-put by_number c.self.inside.entries.items c.put.new.entries.items c.args.key c.args.value c.in_ok-put.ensures.ok c.self.invariant) c.self.view_is
-    (c.in_ok-put.ensures.reserved (omega (arith, room, reserved)))
+    (c.in_ok-put.ensures.reserved (omega (arith, spare, reserved)))
 
 pub returns-clause-no_less : goal.returns-clause-no_less
 returns-clause-no_less g c =

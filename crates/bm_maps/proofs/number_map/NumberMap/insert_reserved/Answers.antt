@@ -13,7 +13,7 @@ returns-clause-after g c =
 
 pub returns-clause-no_growth : goal.returns-clause-no_growth
 returns-clause-no_growth g c =
-    let room = ap (λ t. t.room) c.self.view_is in
+    let spare = ap (λ t. t.spare) c.self.view_is in
     same_capacity c.self.inside.entries c.put.new.entries c.args.self.now c.self.invariant
     (sorted_by-put by_number c.self.inside.entries.items c.put.new.entries.items c.args.key c.args.value c.in-Ok.ensures.ok c.self.invariant) c.self.view_is
-    (c.in-Ok.ensures.reserved (omega (arith, room, c.requires)))
+    (c.in-Ok.ensures.reserved (omega (arith, spare, c.requires)))

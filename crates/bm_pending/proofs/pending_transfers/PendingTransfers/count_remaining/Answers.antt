@@ -13,4 +13,4 @@ returns c =
     let stays = λ (t : ℕ × ℕ). not (is_expired c.args.pend c.args.round t.1) in
     let ts = targets_at es c.block.inside.0 in
     rw (← c.self.view_is, ← c.block.view_is)
-    (c.count_remaining_among.ensures ∙ ap (count_by stays) c.targets_in.ensures ∙ sym (ap length (left-seen es c.self.invariant.ascending c.args.pend c.args.round c.block.inside.0) ∙ length-map (filter stays ts) (λ (t : ℕ × ℕ). t.0) ∙ length-filter stays ts))
+    (c.count_remaining_among.ensures ∙ ap (count_by stays) c.list_targets.ensures ∙ sym (ap length (left-seen es c.self.invariant.ascending c.args.pend c.args.round c.block.inside.0) ∙ length-map (filter stays ts) (λ (t : ℕ × ℕ). t.0) ∙ length-filter stays ts))

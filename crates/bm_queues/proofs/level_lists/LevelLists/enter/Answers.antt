@@ -3,7 +3,7 @@ use Rattle.std.specs.Prelude.{if◌then◌else◌, ◌==◌}
 use Rattle.bm_queues.specs.Levels.{level_at, slots_of}
 use Rattle.bm_queues.proofs.LevelLaws.{lawful-levels, more-front, more-others, level-set}
 use Rattle.bm_queues.proofs.CellLaws.{number-below, one-fits, seen-more, dense-more}
-use Rattle.bm_queues.proofs.OneArray.{room-at}
+use Rattle.bm_queues.proofs.OneArray.{capacity-at}
 use Rattle.bm_queues.proofs.level_lists.LevelLists.enter.Goals as goal
 
 pub overflow_cast-len : goal.overflow_cast-len
@@ -15,8 +15,8 @@ overflow_cast-len c =
 pub push_reserved-requires : goal.push_reserved-requires
 push_reserved-requires c =
     let few = one-fits _ _ c.self.invariant.0 c.args.slot (rw (← c.self.view_is) at c.requires.inside) (rw (← c.self.view_is) at c.requires.absent) c.args.level _ c.number.ensures _ c.index_mut-array.ensures.value in
-    let room = room-at c.self.inside.arrays.items c.number.result c.index_mut-array.result.now (number-below _ c.self.invariant.0.five c.args.level c.number.result c.number.ensures) c.index_mut-array.ensures.value _ c.self.invariant.1 in
-    omega (arith, few, room)
+    let capacity = capacity-at c.self.inside.arrays.items c.number.result c.index_mut-array.result.now (number-below _ c.self.invariant.0.five c.args.level c.number.result c.number.ensures) c.index_mut-array.ensures.value _ c.self.invariant.1 in
+    omega (arith, few, capacity)
 
 pub invariant_of-self : goal.invariant_of-self
 invariant_of-self c =

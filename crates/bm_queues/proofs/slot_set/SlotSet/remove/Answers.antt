@@ -27,7 +27,7 @@ returns-else-is_listed-clause-after c =
     let heads = c.self.invariant.heads in
     let low : 0 < c.self.inside.lists.heads = omega (arith, heads) in
     let absent : IsMember c.args.slot (list_from c.self.inside.lists.heads c.self.inside.lists.next.items c.self.inside.lists.previous.items 0) → ⊥ = λ h. false≢true (sym c.if-is_listed.false ∙ c.is_listed.ensures.found 0 low h) in
-    rw (← c.self.view_is) (ap (λ xs. record { slots = xs; room = length c.self.inside.lists.previous.items }) (sym (without-absent c.args.slot (list_from c.self.inside.lists.heads c.self.inside.lists.next.items c.self.inside.lists.previous.items 0) absent)))
+    rw (← c.self.view_is) (ap (λ xs. record { slots = xs; capacity = length c.self.inside.lists.previous.items }) (sym (without-absent c.args.slot (list_from c.self.inside.lists.heads c.self.inside.lists.next.items c.self.inside.lists.previous.items 0) absent)))
 
 pub returns-then-is_listed-clause-gone : goal.returns-then-is_listed-clause-gone
 returns-then-is_listed-clause-gone c =

@@ -4,7 +4,7 @@ use Rattle.bm_base.specs.Words.{keys, has_storage}
 use Rattle.bm_round.specs.Commanded.{first_commands, first_by_node}
 use Rattle.bm_round.specs.NodeIndex.{index_where}
 use Rattle.bm_round.proofs.AddedCommands.{unchanged, command_changed, place_below}
-use Rattle.bm_round.proofs.FirstDeletes.{with_first, other_first, own_first, with_room, without_room}
+use Rattle.bm_round.proofs.FirstDeletes.{with_first, other_first, own_first, adds_below_most, keeps_at_most}
 use Rattle.bm_round.proofs.groups.Groups.add_first_delete.Goals as goal
 
 pub returns-in_default-clause-nodes : goal.returns-in_default-clause-nodes
@@ -36,7 +36,7 @@ returns-then-as_slice-most-clause-nodes c ds is =
     let read = c.index_mut-commands.ensures.value ∙ ap (λ ks. get_or ks i x) still in
     let full : most ≤ length x.deletes = omega (arith, c.if-as_slice-most.true, ap length c.as_slice.ensures) in
     ap (λ ks. set ks i x) still
-    ∙ ap (λ k. set (first_by_node most C ds) i k) (sym (without_room most C ds d x full))
+    ∙ ap (λ k. set (first_by_node most C ds) i k) (sym (keeps_at_most most C ds d x full))
     ∙ command_changed C d.storage (first_commands most C ds) (first_commands most C (ds ++ d ∷ [])) (with_first most C ds d) (other_first most C ds d) (own_first most C ds d) i x at read
 
 pub returns-clause-nodes : goal.returns-clause-nodes
@@ -51,6 +51,6 @@ returns-clause-nodes c ds is =
     let read = c.index_mut-commands.ensures.value ∙ ap (λ ks. get_or ks i x) still in
     let less : length x.deletes < most = omega (arith, c.if-as_slice-most.false, ap length c.as_slice.ensures) in
     let whole = ap (λ ks. set ks i (record x { deletes = x.deletes ++ d ∷ [] })) still
-    ∙ ap (λ k. set (first_by_node most C ds) i k) (sym (with_room most C ds d x less))
+    ∙ ap (λ k. set (first_by_node most C ds) i k) (sym (adds_below_most most C ds d x less))
     ∙ command_changed C d.storage (first_commands most C ds) (first_commands most C (ds ++ d ∷ [])) (with_first most C ds d) (other_first most C ds d) (own_first most C ds d) i x at read in
     IfOk-weaker c.push.result _ _ (λ _ e. ap (λ us. set c.look_up.new.self.nodes.items i (record x { deletes = us })) e ∙ whole) c.push.ensures

@@ -10,15 +10,15 @@ use Rattle.bm_round_scan.specs.BlockScans.{IsBlockScan}
 use Rattle.bm_round_scan.proofs.OwnReplicas.{look_is, storages_once}
 use Rattle.bm_round_scan.proofs.block_scan.BlockScan.scan_block.Goals as goal
 
-pub returns-clause-look : goal.returns-clause-look
-returns-clause-look c pend r pending =
+pub returns-clause-scan : goal.returns-clause-scan
+returns-clause-scan c pend r pending =
     let C = c.args.topology.now.cluster in
     let rs = c.fill_at_round_start.new.into.items in
     let chosen = c.fill_surplus.new.into in
     let many = c.sort_storages.new.storages in
     let handed = c.as_slice-2.ensures ∙ c.in_ok-usable.ensures.live ∙ ap (storages_at (is_live_on C)) c.as_slice.ensures.value in
     let once = ap has_repeats handed ∙ storages_once c.args.arena.now C c.args.id c.args.slot rs c.show_invariant.ensures c.requires c.in_ok-fill_at_round_start.ensures (is_live_on C) in
-    let l : BlockScan = record { id = c.args.id; info = c.info-self.result; excess = many; replicas = c.mark.new.self.replicas; storages = c.args.self.now.storages; room = c.fill_surplus.new.room } in
+    let l : BlockScan = record { id = c.args.id; info = c.info-self.result; excess = many; replicas = c.mark.new.self.replicas; storages = c.args.self.now.storages; scratch = c.fill_surplus.new.scratch } in
     subst (λ k. IsBlockScan C pend r (holdings_with c.args.arena.now pending) k) (sym c.mark.ensures.others)
     (look_is c.args.arena.now C l c.args.slot rs c.show_invariant.ensures c.requires c.in_ok-fill_at_round_start.ensures c.info-self.ensures
     (λ s. sym (list_any-IsPermutation (λ t. t == s) chosen.items many.items c.sort_storages.ensures.moved)

@@ -31,7 +31,7 @@ returns-clause-more c bs has =
     let id : l.id ≡ option_map_or (λ (b : Block). b.id) (block_at a c.args.slot) 0 = c.in_ok-usable.ensures.id ∙ c.id_of-id.ensures found.1 found.2 ∙ sym (ap (λ o. option_map_or (λ (b : Block). b.id) o 0) found.2) in
     subst (λ b. HasFound c.args.self.now.topology.now.cluster c.args.self.now.pend c.args.self.now.round (holdings_with a c.args.self.now.pending.now.map) c.args.self.now.bound (bs ++ b ∷ []) g) id
     (found_more c.args.self.now.topology.now.cluster c.args.self.now.pend c.args.self.now.round a c.args.self.now.pending.now l c.in_ok-usable.usable c.has_enough-enough.result
-    (c.in_ok-usable.ensures.look c.args.self.now.pend c.args.self.now.round c.args.self.now.pending.now.map)
+    (c.in_ok-usable.ensures.scan c.args.self.now.pend c.args.self.now.round c.args.self.now.pending.now.map)
     (record {
       usable = c.in_ok-usable.ensures.usable;
       enough = c.has_enough-enough.ensures ∙ ap (λ (xs : List ℕ). option_map_or (λ (i : BlockInfo). nat_le i.repl (length xs)) l.info false) c.as_slice.ensures;

@@ -14,7 +14,7 @@ use Rattle.bm_shard.proofs.shard.Shard.add_block.Goals as goal
 pub add_block-requires : goal.add_block-requires
 add_block-requires c = record {
   entry =
-      let P : Seen → Type 0 = λ s. IsMember c.args.id s.room.entries in
+      let P : Seen → Type 0 = λ s. IsMember c.args.id s.reserved.entries in
       has_entry c.self.inside.blocks.arena c.args.id (subst P (sym c.self.view_is) c.requires.entry);
 }
 

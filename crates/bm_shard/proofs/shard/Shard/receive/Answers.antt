@@ -16,7 +16,7 @@ use Rattle.bm_shard.proofs.shard.Shard.receive.Goals as goal
 pub receive-applied-requires-clause-looked_up : goal.receive-applied-requires-clause-looked_up
 receive-applied-requires-clause-looked_up c =
     let P : PreparedEvent → Type 0 = λ p. HasPrepared p c.self.inside.report c.self.inside.blocks.arena in
-    subst P (noticed c.self.inside.report c.self.inside.prepared c.args.storage _ (ap (λ (S : Seen). S.room.report) c.self.view_is ∙ c.requires.ready)).0 c.self.invariant.ready
+    subst P (noticed c.self.inside.report c.self.inside.prepared c.args.storage _ (ap (λ (S : Seen). S.reserved.report) c.self.view_is ∙ c.requires.ready)).0 c.self.invariant.ready
 
 pub receive-applied-requires-clause-once : goal.receive-applied-requires-clause-once
 unfolding holdings_with
@@ -40,7 +40,7 @@ returns-clause-changed c =
 
 none : (c : goal.After-done_from) → HasNoUnused c.receive-applied.new.self.arena
 none c =
-    let notice = noticed c.self.inside.report c.self.inside.prepared c.args.storage _ (ap (λ (S : Seen). S.room.report) c.self.view_is ∙ c.requires.ready) in
+    let notice = noticed c.self.inside.report c.self.inside.prepared c.args.storage _ (ap (λ (S : Seen). S.reserved.report) c.self.view_is ∙ c.requires.ready) in
     none_received c.args.topology.now.cluster (holdings_of c.self.inside.blocks.arena) c.self.inside.blocks.arena c.receive-applied.new.self.arena c.args.storage c.args.id c.args.stamp (subst (λ a. IsLawful a) c.arena.ensures c.show_invariant-2.ensures) c.receive-applied.ensures.received.entries.ids c.receive-applied.ensures.received.others c.receive-applied.ensures.received.replicas (λ n h. prepared_one c.self.inside.prepared c.self.inside.report c.args.storage c.args.id c.args.stamp n notice.0 notice.1 (c.self.invariant.unused n h))
 
 pub invariant_of-self : goal.invariant_of-self

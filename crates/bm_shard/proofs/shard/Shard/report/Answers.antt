@@ -20,7 +20,7 @@ use Rattle.bm_shard.proofs.Unused.{none_outside, none_reported, prepared_report}
 use Rattle.bm_shard.proofs.shard.Shard.report.Goals as goal
 
 ready : (c : goal.After-apply_report-arg-2-1) → HasPrepared (prepared.Report c.args.storage) c.self.inside.report c.self.inside.blocks.arena
-ready c = let P : PreparedEvent → Type 0 = λ p. HasPrepared p c.self.inside.report c.self.inside.blocks.arena in subst P (looked_up c.self.inside.report c.self.inside.prepared c.args.storage c.requires.ready.0 (ap (λ (S : Seen). S.room.report) c.self.view_is ∙ c.requires.ready.1)).0 c.self.invariant.ready
+ready c = let P : PreparedEvent → Type 0 = λ p. HasPrepared p c.self.inside.report c.self.inside.blocks.arena in subst P (looked_up c.self.inside.report c.self.inside.prepared c.args.storage c.requires.ready.0 (ap (λ (S : Seen). S.reserved.report) c.self.view_is ∙ c.requires.ready.1)).0 c.self.invariant.ready
 
 pub apply_report-applied-requires-clause-ready : goal.apply_report-applied-requires-clause-ready
 apply_report-applied-requires-clause-ready c = (ready c).0
@@ -52,9 +52,9 @@ returns-clause-changed c ts seen =
     let there = ap (λ (a : Contents). replicas_of a) c.arena-2.ensures ∙ made.replicas in
     let arrived = c.drop_arrived.ensures ∙ arrived_named C (holdings_of old.blocks.arena) s old.report.named c.arena-2.result.now there old.pending.map in
     let P : List ReportedBlock → Type 0 = λ l. HasChanged C C c.args.self.now
-    (seen_of new c.drop_arrived.new.pending.map old.part old.round old.pend (record { entries = numbers_of new.arena; lists = heads_of new.arena; report = None; transfers = c.drop_arrived.new.pending.rooms }))
+    (seen_of new c.drop_arrived.new.pending.map old.part old.round old.pend (record { entries = numbers_of new.arena; lists = heads_of new.arena; report = None; transfers = c.drop_arrived.new.pending.capacities }))
     (report C c.args.self.now.holdings s l) c.done_from.result in
-    subst P (looked_up old.report old.prepared s ts (ap (λ (S : Seen). S.room.report) c.self.view_is ∙ seen)).1
+    subst P (looked_up old.report old.prepared s ts (ap (λ (S : Seen). S.reserved.report) c.self.view_is ∙ seen)).1
     (changed_seen C C old.blocks new old.pending.map c.drop_arrived.new.pending.map (subst (λ a. IsLawful a) c.arena.ensures c.show_invariant-2.ensures) c.show_invariant.ensures (subst (λ a. IsLawful a) c.arena-3.ensures c.show_invariant-3.ensures)
     (λ h. c.drop_unused.ensures.levels C (made.levels h)) old.part old.round old.pend _ _ (λ H. report C H s (reported_blocks old.report)) _ c.args.self.now c.self.view_is
     (λ i. record { blocks = (c.drop_unused.ensures.blocks ∙ made.blocks) i; replicas = replicas i; pending = arrived i })
@@ -71,7 +71,7 @@ none c =
     let P : List ℕ → Type 0 = λ l. levels.HasNoUnusedAt l m c.drop_unused.new.self.arena in
     none_reported c.args.topology.now.cluster (holdings_of a) c.args.storage c.self.inside.report.named a m c.drop_unused.new.self.arena c.apply_report-applied.new.report.changed c.apply_report-applied.new.report.came
     (subst (λ x. IsLawful x) c.arena.ensures c.show_invariant-2.ensures) made.entries.ids made.changed made.came made.replicas
-    (λ n h. prepared_report c.self.inside.prepared c.self.inside.report c.args.storage n (looked_up c.self.inside.report c.self.inside.prepared c.args.storage c.requires.ready.0 (ap (λ (S : Seen). S.room.report) c.self.view_is ∙ c.requires.ready.1)).0 (c.self.invariant.unused n h)) c.drop_unused.ensures.unused (subst P c.swept_slots.ensures c.drop_unused.ensures.left)
+    (λ n h. prepared_report c.self.inside.prepared c.self.inside.report c.args.storage n (looked_up c.self.inside.report c.self.inside.prepared c.args.storage c.requires.ready.0 (ap (λ (S : Seen). S.reserved.report) c.self.view_is ∙ c.requires.ready.1)).0 (c.self.invariant.unused n h)) c.drop_unused.ensures.unused (subst P c.swept_slots.ensures c.drop_unused.ensures.left)
 
 pub invariant_of-self : goal.invariant_of-self
 invariant_of-self c = record { index = c.self.invariant.index; ready = tt; unused = λ b h. absurd (none c b h) }

@@ -1,13 +1,13 @@
 use Rattle.std.proofs.Common.{ℕ, ◌==◌, map, filter, sym, ap, ◌∙◌}
 use Rattle.bm_base.specs.Words.{Map, entries, by_replica, pending_targets}
 use Rattle.bm_levels.specs.Held.{holdings_with}
-use Rattle.bm_shard.proofs.AfterRound.{same_without_room}
+use Rattle.bm_shard.proofs.AfterRound.{same_without_capacity}
 use Rattle.bm_shard.proofs.shard.Shard.round_abort.Goals as goal
 
 pub returns-clause-same : goal.returns-clause-same
 returns-clause-same c =
     let v = c.self.inside in
-    same_without_room v.blocks v.pending.map c.release_unused.new.self.map c.release_unused.ensures.map v.part v.round v.pend _ _ c.args.self.now c.self.view_is
+    same_without_capacity v.blocks v.pending.map c.release_unused.new.self.map c.release_unused.ensures.map v.part v.round v.pend _ _ c.args.self.now c.self.view_is
 
 pub returns-clause-freed : goal.returns-clause-freed
 unfolding pending_targets holdings_with

@@ -6,7 +6,7 @@ use Rattle.bm_arena.specs.Contents.{IsLawful}
 use Rattle.bm_levels.specs.Held.{holdings_with}
 use Rattle.bm_parts.specs.PlacedLaws.{IsPlaced}
 use Rattle.bm_parts.proofs.WellPlaced.{round_keeps_placed}
-use Rattle.bm_pending.specs.PendingMap.{room}
+use Rattle.bm_pending.specs.PendingMap.{capacity}
 use Rattle.bm_shard.specs.Seen.{Seen, IsReadyForRound}
 use Rattle.bm_shard.specs.UpToDate.{IsUpToDate, next_part}
 use Rattle.bm_shard.proofs.Levels.{right_by_number, right_by_slot}
@@ -25,13 +25,13 @@ remark_excess-requires c = record {
       c.as_slice.ensures ∙ c.requires.part ∙ ap (λ (S : Seen). (next_part C S).excess) (sym c.self.view_is) ∙ same_surplus C v.pend (v.round + 1) v.blocks.arena v.pending.map;
 }
 
-pub insert_own-requires-clause-room : goal.insert_own-requires-clause-room
+pub insert_own-requires-clause-capacity : goal.insert_own-requires-clause-capacity
 unfolding IsReadyForRound
-insert_own-requires-clause-room c b =
+insert_own-requires-clause-capacity c b =
     let P : Seen → Type 0 = λ s. IsReadyForRound c.args.chosen.now s in
     let ready = subst P (sym c.self.view_is) c.requires.ready in
-    let Q : List Transfer → Type 0 = λ ts. length (filter (λ t. t.block == b) (own_transfers c.self.inside.part.index c.self.inside.part.shards ts)) ≤ room c.self.inside.pending b in
-    omega (arith, subst Q (sym c.as_slice-3.ensures) (ready b), c.drop_expired.ensures.rooms b)
+    let Q : List Transfer → Type 0 = λ ts. length (filter (λ t. t.block == b) (own_transfers c.self.inside.part.index c.self.inside.part.shards ts)) ≤ capacity c.self.inside.pending b in
+    omega (arith, subst Q (sym c.as_slice-3.ensures) (ready b), c.drop_expired.ensures.capacities b)
 
 -- the holdings after a round, of the shard's own blocks
 abbrev left_of : (c : goal.After-self-2-1) → Seen → Holdings

@@ -42,7 +42,7 @@ returns-clause-kept c =
     let left = len-remove c.self.inside.draining.map c.from.result in
     let left_is = ap len c.remove.ensures.after in
     let without = seen_of c.self.inside.nodes c.remove.new.self c.self.inside.racks c.drop_storages.new.storages in
-    no_less-then c.args.self.now.room without.room c.forget_node.new.self.room
+    no_less-then c.args.self.now.spare without.spare c.forget_node.new.self.spare
     (no_less c.self.inside.nodes c.self.inside.nodes c.self.inside.racks c.self.inside.racks c.self.inside.draining c.remove.new.self c.self.inside.storages c.drop_storages.new.storages c.args.self.now c.self.view_is
     (record { nodes_same = refl; draining_same = c.remove.ensures.no_growth; racks_same = refl; storages_same = c.drop_storages.ensures.no_growth })
     (record { nodes_fewer = omega arith; draining_fewer = omega (arith, left, left_is); racks_fewer = omega arith; storages_fewer = omega (arith, fewer, is) }))

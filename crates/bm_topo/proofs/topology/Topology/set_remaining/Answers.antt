@@ -1,16 +1,16 @@
 use Rattle.std.proofs.Common.{ap, ◌∙◌, arith}
 use Rattle.bm_base.specs.Words.{len, heartbeat, set_remaining}
 use Rattle.bm_topo.proofs.Capacity.{no_less_storages}
-use Rattle.bm_topo.proofs.SpotTable.{spots_told}
-use Rattle.bm_topo.proofs.ByNode.{by_node_told}
+use Rattle.bm_topo.proofs.SpotTable.{spots_reported}
+use Rattle.bm_topo.proofs.ByNode.{by_node_reported}
 use Rattle.bm_topo.proofs.SoundTables.{sound-reported, len-set_remaining}
 use Rattle.bm_topo.proofs.topology.Topology.set_remaining.Goals as goal
 
 pub invariant_of-self : goal.invariant_of-self
 invariant_of-self c = (
   sound-reported _ _ _ c.self.inside.storages.map _ c.args.remaining.now c.set_remaining.ensures.after c.self.invariant.0,
-  spots_told _ _ c.self.inside.storages.map _ c.args.remaining.now c.set_remaining.ensures.after _ _ c.self.invariant.1,
-  by_node_told c.self.inside.storages.map _ c.args.remaining.now c.self.inside.by_node.items c.set_remaining.ensures.after c.self.invariant.2,
+  spots_reported _ _ c.self.inside.storages.map _ c.args.remaining.now c.set_remaining.ensures.after _ _ c.self.invariant.1,
+  by_node_reported c.self.inside.storages.map _ c.args.remaining.now c.self.inside.by_node.items c.set_remaining.ensures.after c.self.invariant.2,
 )
 
 pub returns-clause-after : goal.returns-clause-after

@@ -14,7 +14,7 @@ invariant_of-self c =
     let theirs = c.into_parts-evidence.result.0.log in
     let seen = c.into_parts-evidence.ensures in
     let both = c.show_one_journal.ensures in
-    let below : c.self.inside.seat.learnt_number < c.into_parts-evidence.result.1 = c.is_below.ensures.0 c.if-is_below.true in
+    let below : c.self.inside.slot.learnt_number < c.into_parts-evidence.result.1 = c.is_below.ensures.0 c.if-is_below.true in
     let less : length mine ≤ length theirs = omega (arith, c.self.invariant.1, seen.number, below) in
     let begins = versions_prefix mine theirs (prefix_shorter mine theirs both.0 both.1 both.2 less) in (
       seen.seen.0 ∙ (c.requires ∙ ap (λ (l : Learnt). l.home) (sym c.self.view_is)),

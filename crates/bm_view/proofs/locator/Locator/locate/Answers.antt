@@ -10,19 +10,19 @@ use Rattle.bm_view.proofs.locator.Locator.locate.Goals as goal
 pub invariant_of-self-then-is_older : goal.invariant_of-self-then-is_older
 invariant_of-self-then-is_older c =
     let old = c.self.inside in
-    let now = later (sight old.seat.reader.place) c.in-Some.seen.evidence (sight c.replace_with.new.dest.reader.place) old.answered.home (shown_in old.answered.log) c.self.invariant.3 c.in-Some.ensures.1.0 in
+    let now = later (sight old.slot.reader.place) c.in-Some.seen.evidence (sight c.replace_with.new.dest.reader.place) old.answered.home (shown_in old.answered.log) c.self.invariant.3 c.in-Some.ensures.1.0 in
     (c.self.invariant.0, c.self.invariant.1 ∙ ap (λ n. 2 * n) (sym c.in-Some.ensures.0), c.self.invariant.2, now.before, c.self.invariant.4, c.self.invariant.5)
 
 pub invariant_of-self-2 : goal.invariant_of-self-2
 invariant_of-self-2 c =
     let old = c.self.inside in
-    let now = later (sight old.seat.reader.place) c.in-Some.seen.evidence (sight c.replace_with.new.dest.reader.place) old.answered.home (shown_in old.answered.log) c.self.invariant.3 c.in-Some.ensures.1.0 in
+    let now = later (sight old.slot.reader.place) c.in-Some.seen.evidence (sight c.replace_with.new.dest.reader.place) old.answered.home (shown_in old.answered.log) c.self.invariant.3 c.in-Some.ensures.1.0 in
     (c.self.invariant.0 ∙ sym now.home, c.self.invariant.1 ∙ ap (λ n. 2 * n) (sym c.in-Some.ensures.0), c.self.invariant.2, now.now, c.self.invariant.4, c.self.invariant.5)
 
 pub returns-clause-later : goal.returns-clause-later
 returns-clause-later c =
     let old = c.self.inside in
-    let now = later (sight old.seat.reader.place) c.in-Some.seen.evidence (sight c.replace_with.new.dest.reader.place) old.answered.home (shown_in old.answered.log) c.self.invariant.3 c.in-Some.ensures.1.0 in
+    let now = later (sight old.slot.reader.place) c.in-Some.seen.evidence (sight c.replace_with.new.dest.reader.place) old.answered.home (shown_in old.answered.log) c.self.invariant.3 c.in-Some.ensures.1.0 in
     subst (λ (l : Learnt). IsPrefix l.list (shown_in c.in-Some.seen.evidence.log)) c.self.view_is now.list
 
 pub returns-clause-learnt : goal.returns-clause-learnt

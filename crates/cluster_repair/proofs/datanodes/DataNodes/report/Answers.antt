@@ -22,6 +22,7 @@ returns-clause-reported g c =
           c.in_ok-give_back_deleted.ensures.free s
           ∙ ap (λ (ds : List Delete). fold (free_after (len_in c.args.blocks.now) s) (free_on c.args.self.now.free s) ds) c.as_slice-3.ensures.value;
       nodes = c.give_back_deleted.ensures.nodes;
+      storages = c.give_back_deleted.ensures.storages;
       deletes = c.clear.ensures.items;
       on_way = c.in_ok-due.ensures.left;
       next = c.take_due.ensures.next;

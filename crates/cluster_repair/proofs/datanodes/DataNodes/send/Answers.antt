@@ -10,7 +10,7 @@ returns-clause-begun c =
     (sym c.has.ensures ∙ c.if-has.false) c.in_ok-add.ensures.sent refl c.in_ok-add.ensures.next
     (is_sent c.args.topology.now.cluster c.args.now c.args.self.now.links c.send.new.self s c.node_of-source.result c.node_of-target.result c.node_of-source.ensures c.node_of-target.ensures
     c.in_ok-arrival.ensures.arrival c.in_ok-arrival.ensures.sending c.in_ok-arrival.ensures.receiving c.send.ensures.bandwidth)
-    c.in_ok-take.ensures.free c.take.ensures.nodes
+    c.in_ok-take.ensures.free c.take.ensures.nodes c.take.ensures.storages
     c.saturating_add-self.ensures
     (c.saturating_add-self-2.ensures ∙ ap (λ n. min (c.args.self.now.bytes + n) (2 ^ 128 - 1)) c.from.ensures) c.max-self.ensures
 

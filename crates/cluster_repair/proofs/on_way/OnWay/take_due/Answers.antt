@@ -4,21 +4,21 @@ use Rattle.std.specs.List.{list_any}
 use Rattle.std.specs.List.Sorted.{IsPermutation}
 use Rattle.std.proofs.lemmas.List.Sorted.{answers_always}
 use Rattle.cluster_repair.specs.declared.on_way.Sent.{Sent}
-use Rattle.cluster_repair.specs.Copies.{is_copy_of, has_place, has_arrived, when}
+use Rattle.cluster_repair.specs.Copies.{is_copy_of, holds_target, has_arrived, when}
 use Rattle.cluster_repair.proofs.CopyLemmas.{once_without}
 use Rattle.cluster_repair.proofs.on_way.OnWay.take_due.Goals as goal
 
 pub invariant_of-self : goal.invariant_of-self
 invariant_of-self c = record {
   once = λ b t.
-      let places = c.args.self.now.places in
+      let targets = c.args.self.now.targets in
       let due = c.sort_by_key.new.self.items in
       let now = c.args.now in
-      once_without c.args.self.now.sent.items due c.in_ok-left.left.items now b t (has_place places b t) (has_place c.forget.new.places b t)
+      once_without c.args.self.now.sent.items due c.in_ok-left.left.items now b t (holds_target targets b t) (holds_target c.forget.new.targets b t)
       (subst (λ (ss : List Sent). IsPermutation ss due) (c.in_ok-due.ensures ∙ ap (filter (has_arrived now)) c.as_slice.ensures.value) c.sort_by_key.ensures.permutation)
       (c.in_ok-left.ensures ∙ ap (filter (λ (s : Sent). nat_lt now s.arrival)) c.as_slice-2.ensures.value)
       (c.args.self.now.once b t)
-      (c.forget.ensures b t ∙ ap (λ ss. has_place places b t && not (list_any (is_copy_of b t) ss)) c.as_slice-3.ensures.value);
+      (c.forget.ensures b t ∙ ap (λ ss. holds_target targets b t && not (list_any (is_copy_of b t) ss)) c.as_slice-3.ensures.value);
 }
 
 pub returns-clause-due : goal.returns-clause-due

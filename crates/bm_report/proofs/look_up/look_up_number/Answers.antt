@@ -1,0 +1,34 @@
+use Rattle.std.proofs.Common.{◌++◌, ◌∷◌, [], List, subst, sym, ap, ◌∙◌}
+use Rattle.bm_report.specs.declared.types.ReportedSlot.{ReportedSlot}
+use Rattle.bm_report.specs.DuringReport.{AreAtSlots, HaveCapacity}
+use Rattle.bm_report.proofs.Preparation.{here-prepared, here-push, capacity-prepared, capacity-push, prepared-chain}
+use Rattle.bm_report.proofs.KnownNumbers.{slot_there, still_there}
+use Rattle.bm_report.proofs.look_up.look_up_number.Goals as goal
+
+pub returns-clause-here : goal.returns-clause-here
+returns-clause-here c =
+    let P : List ReportedSlot → Type 0 = λ l. AreAtSlots c.reserve_replica.new.arena l in
+    let one : ReportedSlot = record { id = c.args.id; slot = c.in_ok-slot.slot; stamp = c.args.stamp } in
+    let kept = prepared-chain c.args.arena.now c.slot_for.new.arena c.reserve_replica.new.arena c.slot_for.ensures.kept c.reserve_replica.ensures.kept in
+    subst P (sym (c.push_reserved.ensures.items ∙ ap (λ l. l ++ one ∷ []) c.reserve.ensures.items))
+    (here-push c.reserve_replica.new.arena c.args.named.now.items one
+    (here-prepared c.args.arena.now c.reserve_replica.new.arena c.args.named.now.items kept c.requires.here)
+    (c.reserve_replica.ensures.kept.slots c.args.id c.in_ok-slot.slot c.in_ok-slot.ensures.here))
+
+pub returns-clause-capacity : goal.returns-clause-capacity
+returns-clause-capacity c =
+    let P : List ReportedSlot → Type 0 = λ l. HaveCapacity c.reserve_replica.new.arena c.args.storage l in
+    let one : ReportedSlot = record { id = c.args.id; slot = c.in_ok-slot.slot; stamp = c.args.stamp } in
+    let kept = prepared-chain c.args.arena.now c.slot_for.new.arena c.reserve_replica.new.arena c.slot_for.ensures.kept c.reserve_replica.ensures.kept in
+    subst P (sym (c.push_reserved.ensures.items ∙ ap (λ l. l ++ one ∷ []) c.reserve.ensures.items))
+    (capacity-push c.reserve_replica.new.arena c.args.storage c.args.named.now.items one
+    (capacity-prepared c.args.storage c.args.arena.now c.reserve_replica.new.arena c.args.named.now.items c.show_invariant.ensures kept c.requires.here c.requires.capacity)
+    c.in_ok-reserve_replica.ensures.capacity)
+
+pub returns-in_err-reserve_replica-clause-there : goal.returns-in_err-reserve_replica-clause-there
+returns-in_err-reserve_replica-clause-there c h =
+    still_there c.args.arena.now c.slot_for.new.arena c.reserve_replica.new.arena c.args.storage c.args.id c.in_ok-slot.slot h (c.slot_for.ensures.known (slot_there c.args.arena.now c.args.storage c.args.id h)).1 c.in_ok-slot.ensures.here c.reserve_replica.ensures.there
+
+pub returns-clause-there : goal.returns-clause-there
+returns-clause-there c h =
+    still_there c.args.arena.now c.slot_for.new.arena c.reserve_replica.new.arena c.args.storage c.args.id c.in_ok-slot.slot h (c.slot_for.ensures.known (slot_there c.args.arena.now c.args.storage c.args.id h)).1 c.in_ok-slot.ensures.here c.reserve_replica.ensures.there
