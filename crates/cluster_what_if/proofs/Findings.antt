@@ -1,8 +1,8 @@
 -- What is found about losses, put together.
-use Rattle.std.proofs.Common.{◌≡◌, List, [], Option, map, subst}
-use Rattle.std.specs.Prelude.{string_bytes}
+use Rattle.std.proofs.Common.{◌≡◌, ℕ, List, [], Option, map, subst}
+use Rattle.std.specs.Prelude.{filter, string_bytes}
 use Rattle.bm_base.specs.declared.event.Event.{Event}
-use Rattle.bm_base.specs.Words.{State, keys}
+use Rattle.bm_base.specs.Words.{State, keys, knows_node}
 use Rattle.cluster_input.specs.declared.loaded.Loaded.{Loaded}
 use Rattle.cluster_lost.specs.Losses.{after_losses}
 use Rattle.cluster_losses.specs.Alike.{IsLike}
@@ -17,8 +17,10 @@ use Rattle.cluster_losses.specs.Outcomes.{StandsAs, IsOutcome}
 use Rattle.cluster_losses.specs.declared.loss_events.Lost.{Lost}
 use Rattle.cluster_names.specs.FileTable.{FileTable}
 use Rattle.cluster_pages.specs.AtRisk.{AreAtRisk}
+use Rattle.cluster_repair.specs.Reasons.{HaveReasons}
 use Rattle.cluster_repair.specs.Rows.{IsDone, AreUnmended}
 use Rattle.cluster_repair.specs.declared.repair.Pace.{Pace}
+use Rattle.cluster_report.specs.declared.book.Book.{Book}
 use Rattle.cluster_what_if.specs.Answers.{IsAnswer}
 use Rattle.cluster_what_if.specs.Found.{AreFound, AreFoundOf, IsMended, IsMendedAt, IsTableOfNodes, IsTableOfRacks}
 use Rattle.cluster_what_if.specs.Text.{lost_text}
@@ -34,13 +36,20 @@ pub answered : (f : FileTable) (M : State) (es : List Event) (a : Answer)
     → IsAnswer f M es a
 answered f M es a before without files = record { before = before; without = without; files = files }
 
-pub mended_at_pace : (pace : Pace) (M N : State) (m : Mended) → m.pace ≡ pace → IsDone pace M N m.repair → AreUnmended N m.unmended.items → IsMended pace M N m
-mended_at_pace pace M N m paced done unmended = record { paced = paced; done = done; unmended = unmended }
+pub mended_at_pace : (pace : Pace) (nodes : List ℕ) (book : Book) (M N : State) (m : Mended)
+    → m.pace ≡ pace
+    → m.repair.drained.items ≡ filter (knows_node M.cluster) nodes
+    → IsDone pace M N m.repair
+    → AreUnmended N m.unmended.items
+    → HaveReasons book N.holdings m.repair.datanodes.free m.unmended.items
+    → IsMended pace nodes book M N m
+mended_at_pace pace nodes book M N m paced drained done unmended reasons =
+    record { paced = paced; drained = drained; done = done; unmended = unmended; reasons = reasons }
 
 pub found_at_once : (before after : Loaded) (pace : Option Pace) (lost : Lost) (it : Losses)
     → string_bytes it.named ≡ lost_text before.names before.session.book.topology.cluster lost
     → IsAnswer before.files before.session.manager (events_of lost) it.answer
-    → IsMendedAt pace (after_losses before.session.manager (events_of lost)) after.session.manager it.mended
+    → IsMendedAt pace lost.drained.items after.session.book (after_losses before.session.manager (events_of lost)) after.session.manager it.mended
     → AreFound before after pace lost it
 found_at_once before after pace lost it named answer mended = record { named = named; answer = answer; mended = mended }
 

@@ -1,6 +1,6 @@
 -- What is found about losses.
-use Rattle.std.specs.Prelude.{◌≡◌, List, Option, Some, None, map, string_bytes}
-use Rattle.bm_base.specs.Words.{State, keys}
+use Rattle.std.specs.Prelude.{◌≡◌, ℕ, List, Option, Some, None, filter, map, string_bytes}
+use Rattle.bm_base.specs.Words.{State, keys, knows_node}
 use Rattle.cluster_input.specs.declared.loaded.Loaded.{Loaded}
 use Rattle.cluster_lost.specs.Losses.{after_losses}
 use Rattle.cluster_losses.specs.Alike.{IsLike}
@@ -14,8 +14,10 @@ use Rattle.cluster_losses.specs.declared.loss.Question.{Question}
 use Rattle.cluster_losses.specs.declared.loss.Question.TheVariants as question
 use Rattle.cluster_losses.specs.declared.loss_events.Lost.{Lost}
 use Rattle.cluster_losses.specs.declared.parts.Part.{Part}
+use Rattle.cluster_repair.specs.Reasons.{HaveReasons}
 use Rattle.cluster_repair.specs.Rows.{IsDone, AreUnmended}
 use Rattle.cluster_repair.specs.declared.repair.Pace.{Pace}
+use Rattle.cluster_report.specs.declared.book.Book.{Book}
 use Rattle.cluster_what_if.specs.Answers.{IsAnswer}
 use Rattle.cluster_what_if.specs.Text.{lost_text}
 use Rattle.cluster_what_if.specs.declared.found.Found.{Found}
@@ -24,24 +26,27 @@ use Rattle.cluster_what_if.specs.declared.found.Losses.{Losses}
 use Rattle.cluster_what_if.specs.declared.found.Mended.{Mended}
 use Rattle.cluster_what_if.specs.declared.found.Table.{Table}
 
--- Rounds led from one state to another, and nothing more is copied there; all blocks that still
--- have a level are listed.
-pub record IsMended (pace : Pace) (M N : State) (m : Mended) : Type 0 where
+-- Rounds led from one state to another, and nothing more is copied there. The repair notes when
+-- each of these nodes is retired, if it is alive. All blocks that still have a level are listed,
+-- each with its reason by this book.
+pub record IsMended (pace : Pace) (nodes : List ℕ) (book : Book) (M N : State) (m : Mended) : Type 0 where
   pub paced : m.pace ≡ pace
+  pub drained : m.repair.drained.items ≡ filter (knows_node M.cluster) nodes
   pub done : IsDone pace M N m.repair
   pub unmended : AreUnmended N m.unmended.items
+  pub reasons : HaveReasons book N.holdings m.repair.datanodes.free m.unmended.items
 
 -- the same if there is a pace; else no round is taken
-abbrev pub IsMendedAt : Option Pace → State → State → Option Mended → Type 0
-IsMendedAt None M N None = N ≡ M
-IsMendedAt (Some pace) M N (Some m) = IsMended pace M N m
-IsMendedAt _ M N _ = ⊥
+abbrev pub IsMendedAt : Option Pace → List ℕ → Book → State → State → Option Mended → Type 0
+IsMendedAt None nodes book M N None = N ≡ M
+IsMendedAt (Some pace) nodes book M N (Some m) = IsMended pace nodes book M N m
+IsMendedAt _ nodes book M N _ = ⊥
 
 -- What is lost by name, the answer about these losses, and what is copied again after them.
 pub record AreFound (before after : Loaded) (pace : Option Pace) (lost : Lost) (it : Losses) : Type 0 where
   pub named : string_bytes it.named ≡ lost_text before.names before.session.book.topology.cluster lost
   pub answer : IsAnswer before.files before.session.manager (events_of lost) it.answer
-  pub mended : IsMendedAt pace (after_losses before.session.manager (events_of lost)) after.session.manager it.mended
+  pub mended : IsMendedAt pace lost.drained.items after.session.book (after_losses before.session.manager (events_of lost)) after.session.manager it.mended
 
 -- the same of all that some words name
 pub record AreFoundOf (before after : Loaded) (pace : Option Pace) (ls : List Loss) (it : Losses) : Type 0 where

@@ -128,7 +128,8 @@ fn mend_at<R: Eprint + Threads + Wait + Sync>(
     progress: &mut Progress,
 ) -> Result<Option<Mended>, Refusal>
     requires { IsInStep session.old }
-    ensures { IfOk result (IsMendedAt pace session.old.manager session.new.manager) }
+    ensures { IfOk result (IsMendedAt pace drained.now session.new.book session.old.manager
+        session.new.manager) }
 {
     match pace {
         Some(pace) => Ok(Some(mend(rt, alloc, session, pace, drained, progress)?)),
@@ -147,7 +148,8 @@ fn mend<R: Eprint + Threads + Wait + Sync>(
     progress: &mut Progress,
 ) -> Result<Mended, Refusal>
     requires { IsInStep session.old }
-    ensures { IfOk result (IsMended pace session.old.manager session.new.manager) }
+    ensures { IfOk result (IsMended pace drained.now session.new.book session.old.manager
+        session.new.manager) }
 {
     let repair = repair_cluster(rt, alloc, session, pace, drained, progress)?;
     let blocks = repair.watch.blocks.as_slice();

@@ -6,7 +6,8 @@
 //! puljemrod_cluster report < cluster.jsonl
 //! ```
 //!
-//! The exit status is 0; or 1 after a fault, or if `report` met a refused line; or 2 for invalid
+//! `--help` in place of the word names the words, and after a word its options with examples. The
+//! exit status is 0; or 1 after a fault, or if `report` met a refused line; or 2 for invalid
 //! options.
 //! The stored run is a report, which `crates/cluster_report` explains.
 #![tactic(auto)]
@@ -22,9 +23,23 @@ use std::sync::Wait;
 use std::thread::Threads;
 use std::{env, io};
 
+const DONE: u8 = 0;
+
 const FAULTED: u8 = 1;
 
 const MISUSED: u8 = 2;
+
+const HELP: &str = "Tools for HDFS clusters, chosen by the first word
+
+Usage: puljemrod_cluster WORD [OPTIONS] [FILE]...
+
+Words:
+  import    writes what hdfs fsck says of a cluster as lines of the line tool
+  report    prints the state of a cluster, from such lines or from a text of hdfs fsck
+  what-if   prints what is lost with racks, nodes or storages, and how long repair takes
+  simulate  shows how a made-up cluster of DataNodes recovers, round by round
+
+`puljemrod_cluster WORD --help` prints the options of a word, with examples.";
 
 fn main(rt: HostRuntime) -> ExitCode {
     ExitCode::from(status_of(&rt, &rt.stderr()))
@@ -68,6 +83,10 @@ fn status_by_words<
         Some("report") => report_by_words(rt, notes, words),
         Some("simulate") => simulate_by_words(rt, words),
         Some("what-if") => losses_by_words(rt, notes, words),
+        Some("-h" | "--help") => {
+            let _ = rt.println(HELP);
+            DONE
+        }
         _ => {
             let _ = rt.eprintln(
                 "error: the first word is none of import, report, simulate and what-if",
