@@ -5,8 +5,8 @@
 //! `specs/OneLine` defines the text that answers a line, and the state after it.
 #![tactic(auto)]
 
-mod asked;
 mod line_answer;
+mod request;
 
-pub use asked::{Asked, asked_by, asked_of};
+pub use request::{Asked, asked_by, asked_of};
 pub use line_answer::{LineAnswer, make_call, make_call_alone};

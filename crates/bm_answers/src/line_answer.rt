@@ -4,7 +4,7 @@ ghost use Rattle.bm_base.specs.Machine.Answering.{is_out_of_memory};
 ghost use Rattle.bm_answers.specs.declared.line_answer.LineAnswer.TheVariants.{Answered};
 ghost use Rattle.bm_answers.specs.OneLine.{answer_to, asked_next, asked_may_lack, text_of, is_refusal, number_of};
 
-use crate::asked::Asked;
+use crate::request::Asked;
 use bm_base::{Answer, Call};
 use bm_crew::NoGate;
 use bm_lines::answer_line;

@@ -19,11 +19,11 @@ capacity_below K bound slot h lt = (omega (arith, h.0, lt), omega (arith, h.1, l
 
 -- all slots hold the same blocks, with the same status
 module _ (old : Leveled) (a : Contents) (K : IndexedLevels) (blocks : (slot : ℕ) → block_at a slot ≡ block_at old.arena slot) (delimiter : a.delimiter ≡ old.arena.delimiter)
-    (same : (slot : ℕ) → IsSameAt old.kept K slot) where
+    (same : (slot : ℕ) → IsSameAt old.level_index K slot) where
   marker : block_at a a.delimiter ≡ block_at old.arena old.arena.delimiter
   marker = ap (block_at a) delimiter ∙ blocks old.arena.delimiter
 
-  pub leveled_same : IsLeveled old → ((bound : ℕ) → HasCapacityFor old.kept bound → HasCapacityFor K bound) → IsLeveled (record { arena = a; kept = K })
+  pub leveled_same : IsLeveled old → ((bound : ℕ) → HasCapacityFor old.level_index bound → HasCapacityFor K bound) → IsLeveled (record { arena = a; level_index = K })
   leveled_same h capacity = record {
     free = λ s. ap (λ o. option_and_then (λ (b : Block). find_marks b.replicas s) o) marker ∙ h.free s;
     blank = ap (λ o. option_and_then (λ (b : Block). b.info) o) marker ∙ h.blank;
@@ -34,11 +34,11 @@ module _ (old : Leveled) (a : Contents) (K : IndexedLevels) (blocks : (slot : �
     unknown = λ z e. (same z).level ∙ h.unknown z (sym (ap (λ o. option_and_then (λ (b : Block). b.info) o) (blocks z)) ∙ e);
   }
 
-  pub levels_same : (C : Cluster) → AreLevels C old → AreLevels C (record { arena = a; kept = K })
+  pub levels_same : (C : Cluster) → AreLevels C old → AreLevels C (record { arena = a; level_index = K })
   levels_same C h z = (same z).level ∙ h z ∙ sym (ap (level_in C) (blocks z))
 
 -- a number gets a new entry
-module _ (old : Leveled) (a : Contents) (K : IndexedLevels) (id slot : ℕ) (lawful : IsLawful old.arena) (added : IsAdded old.arena a id slot) (same : (z : ℕ) → IsSameAt old.kept K z) where
+module _ (old : Leveled) (a : Contents) (K : IndexedLevels) (id slot : ℕ) (lawful : IsLawful old.arena) (added : IsAdded old.arena a id slot) (same : (z : ℕ) → IsSameAt old.level_index K z) where
   unknown_at : info_at a slot ≡ None
   unknown_at = ap (λ o. option_and_then (λ (b : Block). b.info) o) added.entry
 
@@ -56,7 +56,7 @@ module _ (old : Leveled) (a : Contents) (K : IndexedLevels) (id slot : ℕ) (law
   mark : block_at a a.delimiter ≡ block_at old.arena old.arena.delimiter
   mark = ap (block_at a) added.delimiter ∙ added.others old.arena.delimiter (λ e. added.marked (sym e))
 
-  pub leveled_added : IsLeveled old → ((z : ℕ) → IsSome (block_at a z) → HasCapacityFor K (z + 1)) → IsLeveled (record { arena = a; kept = K })
+  pub leveled_added : IsLeveled old → ((z : ℕ) → IsSome (block_at a z) → HasCapacityFor K (z + 1)) → IsLeveled (record { arena = a; level_index = K })
   leveled_added h capacity = record {
     free = λ s. ap (λ o. option_and_then (λ (b : Block). find_marks b.replicas s) o) mark ∙ h.free s;
     blank = ap (λ o. option_and_then (λ (b : Block). b.info) o) mark ∙ h.blank;
@@ -75,7 +75,7 @@ module _ (old : Leveled) (a : Contents) (K : IndexedLevels) (id slot : ℕ) (law
     ];
   }
 
-  pub levels_added : (C : Cluster) → AreLevels C old → AreLevels C (record { arena = a; kept = K })
+  pub levels_added : (C : Cluster) → AreLevels C old → AreLevels C (record { arena = a; level_index = K })
   levels_added C h z = elim (cases_eq z slot) [
     | inl here ↦
         (same z).level ∙ h z ∙ sym (level_unknown (rack_of C) (is_draining C) (is_multi_rack C) (block_at old.arena z) (ap (info_at old.arena) here ∙ was_unknown))

@@ -109,19 +109,19 @@ module _ (old : Leveled) (a : Contents) (slot : ℕ) (changed : IsChangedAt old.
   marker_kept = ap (block_at a) changed.delimiter ∙ changed.blocks old.arena.delimiter (λ e. changed.apart (sym e))
 
   pub leveled_alike : known_of (block_at a slot) ≡ known_of (block_at old.arena slot) → is_settled_at (block_at a slot) ≡ is_settled_at (block_at old.arena slot)
-      → IsLeveled old → IsLeveled (record { arena = a; kept = old.kept })
+      → IsLeveled old → IsLeveled (record { arena = a; level_index = old.level_index })
   leveled_alike known settled h = record {
     free = λ s. ap (λ o. option_and_then (λ (b : Block). find_marks b.replicas s) o) marker_kept ∙ h.free s;
     blank = ap (λ o. option_and_then (λ (b : Block). b.info) o) marker_kept ∙ h.blank;
     capacity = λ z there. elim (cases_eq z slot) [
-      | inl same ↦ let P : ℕ → Type 0 = λ x. HasCapacityFor old.kept (x + 1) in subst P (sym same) (h.capacity slot changed.held)
+      | inl same ↦ let P : ℕ → Type 0 = λ x. HasCapacityFor old.level_index (x + 1) in subst P (sym same) (h.capacity slot changed.held)
       | inr differs ↦ let P : Option Block → Type 0 = λ o. IsSome o in h.capacity z (subst P (changed.blocks z differs) there)
     ];
     unsettled = λ z.
-        let P : Bool → Type 0 = λ b. IsUnsettled old.kept z ↔ (b ≡ false) in
+        let P : Bool → Type 0 = λ b. IsUnsettled old.level_index z ↔ (b ≡ false) in
         subst P (sym (alike_at is_settled_at settled z)) (h.unsettled z);
     unknown = λ z e. h.unknown z (sym (alike_at (option_and_then (λ (b : Block). b.info)) (known_info (block_at a slot) (block_at old.arena slot) known) z) ∙ e);
   }
 
-  pub levels_alike : (C : Cluster) → level_in C (block_at a slot) ≡ level_in C (block_at old.arena slot) → AreLevels C old → AreLevels C (record { arena = a; kept = old.kept })
+  pub levels_alike : (C : Cluster) → level_in C (block_at a slot) ≡ level_in C (block_at old.arena slot) → AreLevels C old → AreLevels C (record { arena = a; level_index = old.level_index })
   levels_alike C same h z = h z ∙ sym (alike_at (level_in C) same z)

@@ -74,12 +74,12 @@ module _ (C : Cluster) (n : ℕ) where
 
   -- the slots with a replica on the node are reclassified, and the others keep their status
   pub turned_all : (d : Bool) (multi : Bool) (old : Leveled) (K : IndexedLevels) → multi ≡ is_multi_rack C → IsLawful old.arena
-      → ((slot : ℕ) → IsClassified (rack_of C) (drains_after_change C (Some (drain_change n d))) multi (block_at old.arena slot) K slot ⊎ (IsSameAt old.kept K slot × IsOff C n old.arena slot))
-      → AreLevels C old → AreLevels (if d then drain C n else undrain C n) (record { arena = old.arena; kept = K })
+      → ((slot : ℕ) → IsClassified (rack_of C) (drains_after_change C (Some (drain_change n d))) multi (block_at old.arena slot) K slot ⊎ (IsSameAt old.level_index K slot × IsOff C n old.arena slot))
+      → AreLevels C old → AreLevels (if d then drain C n else undrain C n) (record { arena = old.arena; level_index = K })
   turned_all d multi old K is lawful each h =
-      let P : Bool → Type 0 = λ m. AreLevelsBy (rack_of C) (drains_after_change C (Some (drain_change n d))) m (record { arena = old.arena; kept = K }) in
+      let P : Bool → Type 0 = λ m. AreLevelsBy (rack_of C) (drains_after_change C (Some (drain_change n d))) m (record { arena = old.arena; level_index = K }) in
       let Q : Bool → Type 0 = λ m. AreLevelsBy (rack_of C) (is_draining C) m old in
-      turned_levels d (record { arena = old.arena; kept = K })
+      turned_levels d (record { arena = old.arena; level_index = K })
       (subst P is
       (levels_again (rack_of C) (drains_after_change C (Some (drain_change n d))) multi old K (rack_of C) (is_draining C) multi (λ slot.
       elim (each slot) [ inl status ↦ inl status | inr same ↦ inr (same.0, off_alike d multi old.arena lawful slot same.1) ])

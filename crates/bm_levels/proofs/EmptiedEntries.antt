@@ -70,7 +70,7 @@ module _ (old : Leveled) (c : Contents) (slot : ℕ) (k : Block) (lawful : IsLaw
   marker : block_at c c.delimiter ≡ block_at a a.delimiter
   marker = ap (block_at c) delimiter ∙ still a.delimiter (λ e. apart (sym e))
 
-  pub leveled_still : IsLeveled old → IsLeveled (record { arena = c; kept = old.kept })
+  pub leveled_still : IsLeveled old → IsLeveled (record { arena = c; level_index = old.level_index })
   unfolding is_settled_at
   leveled_still h = record {
     free = λ s. ap (λ o. option_and_then (λ (b : Block). find_marks b.replicas s) o) marker ∙ h.free s;
@@ -84,7 +84,7 @@ module _ (old : Leveled) (c : Contents) (slot : ℕ) (k : Block) (lawful : IsLaw
           let vacant : block_at c z ≡ None = entries z ∙ ap (λ b. if b then None else block_at a z) (eq-eqb z slot same) in
           let was : is_settled_at (block_at a z) ≡ true = ap (λ x. is_settled_at (block_at a x)) same ∙ ap is_settled_at here ∙ settled_empty in
           (λ u. absurd (true≢false (sym was ∙ (h.unsettled z).0 u)), λ s. absurd (true≢false (sym (ap is_settled_at vacant) ∙ s)))
-      | inr differs ↦ let P : Option Block → Type 0 = λ o. IsUnsettled old.kept z ↔ (is_settled_at o ≡ false) in subst P (sym (still z differs)) (h.unsettled z)
+      | inr differs ↦ let P : Option Block → Type 0 = λ o. IsUnsettled old.level_index z ↔ (is_settled_at o ≡ false) in subst P (sym (still z differs)) (h.unsettled z)
     ];
     unknown = λ z e. elim (cases_eq z slot) [
       | inl same ↦ h.unknown z (ap (info_at a) same ∙ ap (λ o. option_and_then (λ (b : Block). b.info) o) here ∙ unknown)
@@ -92,7 +92,7 @@ module _ (old : Leveled) (c : Contents) (slot : ℕ) (k : Block) (lawful : IsLaw
     ];
   }
 
-  pub levels_still : (rack : ℕ → Option ℕ) (draining : ℕ → Bool) (multi : Bool) → AreLevelsBy rack draining multi old → AreLevelsBy rack draining multi (record { arena = c; kept = old.kept })
+  pub levels_still : (rack : ℕ → Option ℕ) (draining : ℕ → Bool) (multi : Bool) → AreLevelsBy rack draining multi old → AreLevelsBy rack draining multi (record { arena = c; level_index = old.level_index })
   unfolding level_by
   levels_still rack draining multi h z = elim (cases_eq z slot) [
     | inl same ↦
@@ -108,8 +108,8 @@ pub record IsEmptied (old : Leveled) (c : Contents) (slot : ℕ) : Type 0 where
   pub blocks : blocks_of c ≡ blocks_of old.arena
   pub numbers : (id : ℕ) → slot_of old.arena id ≢ Some slot → slot_of c id ≡ slot_of old.arena id
   pub gone : (id : ℕ) → slot_of old.arena id ≡ Some slot → slot_of c id ≡ None
-  pub leveled : IsLeveled old → IsLeveled (record { arena = c; kept = old.kept })
-  pub levels : (rack : ℕ → Option ℕ) (draining : ℕ → Bool) (multi : Bool) → AreLevelsBy rack draining multi old → AreLevelsBy rack draining multi (record { arena = c; kept = old.kept })
+  pub leveled : IsLeveled old → IsLeveled (record { arena = c; level_index = old.level_index })
+  pub levels : (rack : ℕ → Option ℕ) (draining : ℕ → Bool) (multi : Bool) → AreLevelsBy rack draining multi old → AreLevelsBy rack draining multi (record { arena = c; level_index = old.level_index })
 
 pub emptied : (old : Leveled) (c : Contents) (slot id : ℕ) → IsLawful old.arena → slot_of old.arena id ≡ Some slot → IsSomeAnd (block_at old.arena slot) (λ (b : Block). b.replicas ≡ []) → info_at old.arena slot ≡ None
     → ((b : Block) → block_at old.arena slot ≡ Some b → c ≡ dropped old.arena slot b.id)

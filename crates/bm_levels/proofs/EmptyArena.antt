@@ -26,7 +26,7 @@ module _ (a : Contents) (K : IndexedLevels) (vacant : (slot : ℕ) → slot ≢ 
     | inr differs ↦ ap is_settled_at (vacant slot differs)
   ]
 
-  pub leveled_new : HasCapacityFor K (a.delimiter + 1) → IsLeveled (record { arena = a; kept = K })
+  pub leveled_new : HasCapacityFor K (a.delimiter + 1) → IsLeveled (record { arena = a; level_index = K })
   leveled_new capacity = record {
     free = λ s. ap (λ o. option_and_then (λ (b : Block). find_marks b.replicas s) o) marker;
     blank = unknown a.delimiter;
@@ -38,5 +38,5 @@ module _ (a : Contents) (K : IndexedLevels) (vacant : (slot : ℕ) → slot ≢ 
     unknown = λ slot _. levels slot;
   }
 
-  pub levels_new : (C : Cluster) → AreLevels C (record { arena = a; kept = K })
+  pub levels_new : (C : Cluster) → AreLevels C (record { arena = a; level_index = K })
   levels_new C slot = levels slot ∙ level_unknown (rack_of C) (is_draining C) (is_multi_rack C) (block_at a slot) (unknown slot)

@@ -1,5 +1,6 @@
 -- Lemmas on levels: counts of replicas, statuses, and the invariant after each change.
 pub mod Counts
+pub mod CountedReplicas
 pub mod Slots
 pub mod StatusByCounts
 pub mod StatusUpdates

@@ -45,12 +45,12 @@ known_there o p e there = sym (by p) ∙ ap is_some (sym e) ∙ by o ∙ there
 module _ (rack : ℕ → Option ℕ) (draining : ℕ → Bool) (multi : Bool) (old : Leveled) (a : Contents) (K : IndexedLevels) (delimiter : a.delimiter ≡ old.arena.delimiter)
     (free : (t : ℕ) → marks_at a a.delimiter t ≡ marks_at old.arena old.arena.delimiter t)
     (known : (slot : ℕ) → known_of (block_at a slot) ≡ known_of (block_at old.arena slot))
-    (each : (slot : ℕ) → slot ≢ old.arena.delimiter → (IsClassified rack draining multi (block_at a slot) K slot) ⊎ ((block_at a slot ≡ block_at old.arena slot) × IsSameAt old.kept K slot))
-    (mark : IsSameAt old.kept K old.arena.delimiter) where
+    (each : (slot : ℕ) → slot ≢ old.arena.delimiter → (IsClassified rack draining multi (block_at a slot) K slot) ⊎ ((block_at a slot ≡ block_at old.arena slot) × IsSameAt old.level_index K slot))
+    (mark : IsSameAt old.level_index K old.arena.delimiter) where
   same_info : (slot : ℕ) → info_at a slot ≡ info_at old.arena slot
   same_info slot = known_info (block_at a slot) (block_at old.arena slot) (known slot)
 
-  pub leveled_many : IsLeveled old → ((bound : ℕ) → HasCapacityFor old.kept bound → HasCapacityFor K bound) → IsLeveled (record { arena = a; kept = K })
+  pub leveled_many : IsLeveled old → ((bound : ℕ) → HasCapacityFor old.level_index bound → HasCapacityFor K bound) → IsLeveled (record { arena = a; level_index = K })
   leveled_many h capacity =
       let free_now : (t : ℕ) → marks_at a old.arena.delimiter t ≡ None = λ t. sym (ap (λ d. marks_at a d t) delimiter) ∙ free t ∙ h.free t in
       let blank_now : info_at a old.arena.delimiter ≡ None = same_info old.arena.delimiter ∙ h.blank in
@@ -80,7 +80,7 @@ module _ (rack : ℕ → Option ℕ) (draining : ℕ → Bool) (multi : Bool) (o
         ];
       }
 
-  pub levels_many : IsLeveled old → AreLevelsBy rack draining multi old → AreLevelsBy rack draining multi (record { arena = a; kept = K })
+  pub levels_many : IsLeveled old → AreLevelsBy rack draining multi old → AreLevelsBy rack draining multi (record { arena = a; level_index = K })
   levels_many i h z = elim (cases_eq z old.arena.delimiter) [
     | inl same ↦
         let P : ℕ → Type 0 = λ x. level_of_slot K x ≡ level_by rack draining multi (block_at a x) in
@@ -93,10 +93,10 @@ module _ (rack : ℕ → Option ℕ) (draining : ℕ → Bool) (multi : Bool) (o
 module _ (C : Cluster) (old : Leveled) (a : Contents) (K : IndexedLevels) (delimiter : a.delimiter ≡ old.arena.delimiter)
     (free : (t : ℕ) → marks_at a a.delimiter t ≡ marks_at old.arena old.arena.delimiter t)
     (known : (slot : ℕ) → known_of (block_at a slot) ≡ known_of (block_at old.arena slot))
-    (each : (slot : ℕ) → slot ≢ old.arena.delimiter → (IsClassified (rack_of C) (is_draining C) (is_multi_rack C) (block_at a slot) K slot) ⊎ ((block_at a slot ≡ block_at old.arena slot) × IsSameAt old.kept K slot))
-    (mark : IsSameAt old.kept K old.arena.delimiter) where
-  pub leveled_reported : IsLeveled old → ((bound : ℕ) → HasCapacityFor old.kept bound → HasCapacityFor K bound) → IsLeveled (record { arena = a; kept = K })
+    (each : (slot : ℕ) → slot ≢ old.arena.delimiter → (IsClassified (rack_of C) (is_draining C) (is_multi_rack C) (block_at a slot) K slot) ⊎ ((block_at a slot ≡ block_at old.arena slot) × IsSameAt old.level_index K slot))
+    (mark : IsSameAt old.level_index K old.arena.delimiter) where
+  pub leveled_reported : IsLeveled old → ((bound : ℕ) → HasCapacityFor old.level_index bound → HasCapacityFor K bound) → IsLeveled (record { arena = a; level_index = K })
   leveled_reported = leveled_many (rack_of C) (is_draining C) (is_multi_rack C) old a K delimiter free known each mark
 
-  pub levels_reported : IsLeveled old → AreLevels C old → AreLevels C (record { arena = a; kept = K })
+  pub levels_reported : IsLeveled old → AreLevels C old → AreLevels C (record { arena = a; level_index = K })
   levels_reported = levels_many (rack_of C) (is_draining C) (is_multi_rack C) old a K delimiter free known each mark

@@ -25,11 +25,11 @@ pub record IsChangedAt (old new : Contents) (slot : ℕ) : Type 0 where
 
 module _ (rack : ℕ → Option ℕ) (draining : ℕ → Bool) (multi : Bool) (old : Leveled) (a : Contents) (K : IndexedLevels) (slot : ℕ) (changed : IsChangedAt old.arena a slot)
     (status : IsClassified rack draining multi (block_at a slot) K slot)
-    (others : (other : ℕ) → other ≢ slot → IsSameAt old.kept K other) where
+    (others : (other : ℕ) → other ≢ slot → IsSameAt old.level_index K other) where
   marker : block_at a a.delimiter ≡ block_at old.arena old.arena.delimiter
   marker = ap (block_at a) changed.delimiter ∙ changed.blocks old.arena.delimiter (λ e. changed.apart (sym e))
 
-  pub leveled_where : IsLeveled old → ((bound : ℕ) → HasCapacityFor old.kept bound → HasCapacityFor K bound) → IsLeveled (record { arena = a; kept = K })
+  pub leveled_where : IsLeveled old → ((bound : ℕ) → HasCapacityFor old.level_index bound → HasCapacityFor K bound) → IsLeveled (record { arena = a; level_index = K })
   leveled_where h capacity = record {
     free = λ s. ap (λ o. option_and_then (λ (b : Block). find_marks b.replicas s) o) marker ∙ h.free s;
     blank = ap (λ o. option_and_then (λ (b : Block). b.info) o) marker ∙ h.blank;
@@ -50,7 +50,7 @@ module _ (rack : ℕ → Option ℕ) (draining : ℕ → Bool) (multi : Bool) (o
     ];
   }
 
-  pub levels_where : AreLevelsBy rack draining multi old → AreLevelsBy rack draining multi (record { arena = a; kept = K })
+  pub levels_where : AreLevelsBy rack draining multi old → AreLevelsBy rack draining multi (record { arena = a; level_index = K })
   levels_where h z = elim (cases_eq z slot) [
     | inl same ↦ let P : ℕ → Type 0 = λ x. level_of_slot K x ≡ level_by rack draining multi (block_at a x) in subst P (sym same) status.level
     | inr differs ↦ (others z differs).level ∙ h z ∙ sym (ap (level_by rack draining multi) (changed.blocks z differs))
@@ -59,9 +59,9 @@ module _ (rack : ℕ → Option ℕ) (draining : ℕ → Bool) (multi : Bool) (o
 -- the same for the levels in a cluster
 module _ (C : Cluster) (old : Leveled) (a : Contents) (K : IndexedLevels) (slot : ℕ) (changed : IsChangedAt old.arena a slot)
     (status : IsClassified (rack_of C) (is_draining C) (is_multi_rack C) (block_at a slot) K slot)
-    (others : (other : ℕ) → other ≢ slot → IsSameAt old.kept K other) where
-  pub leveled_after : IsLeveled old → ((bound : ℕ) → HasCapacityFor old.kept bound → HasCapacityFor K bound) → IsLeveled (record { arena = a; kept = K })
+    (others : (other : ℕ) → other ≢ slot → IsSameAt old.level_index K other) where
+  pub leveled_after : IsLeveled old → ((bound : ℕ) → HasCapacityFor old.level_index bound → HasCapacityFor K bound) → IsLeveled (record { arena = a; level_index = K })
   leveled_after = leveled_where (rack_of C) (is_draining C) (is_multi_rack C) old a K slot changed status others
 
-  pub levels_after : AreLevels C old → AreLevels C (record { arena = a; kept = K })
+  pub levels_after : AreLevels C old → AreLevels C (record { arena = a; level_index = K })
   levels_after = levels_where (rack_of C) (is_draining C) (is_multi_rack C) old a K slot changed status others

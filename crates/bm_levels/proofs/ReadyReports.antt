@@ -51,8 +51,8 @@ alike_marks : (o p : Option Block) (t : ℕ) → AreAlike o p → option_and_the
 alike_marks o p t (inl h) = ap (λ x. option_and_then (λ (b : Block). find_marks b.replicas t) x) h.3 ∙ sym (ap (λ x. option_and_then (λ (b : Block). find_marks b.replicas t) x) h.2)
 alike_marks o p t (inr h) = h.0.marks t ∙ sym (h.1.marks t)
 
-module _ (old : Leveled) (a : Contents) (K : IndexedLevels) (alike : (slot : ℕ) → AreAlike (block_at a slot) (block_at old.arena slot)) (delimiter : a.delimiter ≡ old.arena.delimiter) (same : (slot : ℕ) → IsSameAt old.kept K slot) where
-  pub leveled_alike : IsLeveled old → ((z : ℕ) → IsSome (block_at a z) → HasCapacityFor K (z + 1)) → IsLeveled (record { arena = a; kept = K })
+module _ (old : Leveled) (a : Contents) (K : IndexedLevels) (alike : (slot : ℕ) → AreAlike (block_at a slot) (block_at old.arena slot)) (delimiter : a.delimiter ≡ old.arena.delimiter) (same : (slot : ℕ) → IsSameAt old.level_index K slot) where
+  pub leveled_alike : IsLeveled old → ((z : ℕ) → IsSome (block_at a z) → HasCapacityFor K (z + 1)) → IsLeveled (record { arena = a; level_index = K })
   leveled_alike h capacity = record {
     free = λ s. ap (λ d. marks_at a d s) delimiter ∙ alike_marks (block_at a old.arena.delimiter) (block_at old.arena old.arena.delimiter) s (alike old.arena.delimiter) ∙ h.free s;
     blank = ap (info_at a) delimiter ∙ alike_info (block_at a old.arena.delimiter) (block_at old.arena old.arena.delimiter) (alike old.arena.delimiter) ∙ h.blank;
@@ -63,7 +63,7 @@ module _ (old : Leveled) (a : Contents) (K : IndexedLevels) (alike : (slot : ℕ
     unknown = λ z e. (same z).level ∙ h.unknown z (sym (alike_info (block_at a z) (block_at old.arena z) (alike z)) ∙ e);
   }
 
-  pub levels_alike : (C : Cluster) → AreLevels C old → AreLevels C (record { arena = a; kept = K })
+  pub levels_alike : (C : Cluster) → AreLevels C old → AreLevels C (record { arena = a; level_index = K })
   levels_alike C h z = (same z).level ∙ h z ∙ sym (alike_level C (block_at a z) (block_at old.arena z) (alike z))
 
 -- after preparing, a slot that held an entry is as before but for capacity, and any other slot is
@@ -212,11 +212,11 @@ module _ (a c : Contents) (lawful_a : IsLawful a) (lawful_c : IsLawful c) (prepa
 
     -- the invariant and the levels hold again, with capacity for more slots
     module _ (k K : IndexedLevels) (same : (slot : ℕ) → IsSameAt k K slot) where
-      pub leveled_again : KeepsCapacity k K → IsLeveled (record { arena = a; kept = k }) → IsLeveled (record { arena = d; kept = K })
-      leveled_again capacity h = leveled_alike (record { arena = a; kept = k }) d K alike_again (delimiter ∙ prepared.delimiter) same h (λ z there. capacity (z + 1) (h.capacity z (held_before z there)))
+      pub leveled_again : KeepsCapacity k K → IsLeveled (record { arena = a; level_index = k }) → IsLeveled (record { arena = d; level_index = K })
+      leveled_again capacity h = leveled_alike (record { arena = a; level_index = k }) d K alike_again (delimiter ∙ prepared.delimiter) same h (λ z there. capacity (z + 1) (h.capacity z (held_before z there)))
 
-      pub levels_again : (C : Cluster) → AreLevels C (record { arena = a; kept = k }) → AreLevels C (record { arena = d; kept = K })
-      levels_again = levels_alike (record { arena = a; kept = k }) d K alike_again (delimiter ∙ prepared.delimiter) same
+      pub levels_again : (C : Cluster) → AreLevels C (record { arena = a; level_index = k }) → AreLevels C (record { arena = d; level_index = K })
+      levels_again = levels_alike (record { arena = a; level_index = k }) d K alike_again (delimiter ∙ prepared.delimiter) same
 
 -- an unused entry has no replica
 pub unused_there : (a : Contents) (b slot : ℕ) → IsLawful a → slot_of a b ≡ Some slot → IsUnused a b → IsSomeAnd (block_at a slot) (λ (k : Block). k.replicas ≡ [])

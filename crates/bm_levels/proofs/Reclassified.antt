@@ -21,8 +21,8 @@ use Rattle.bm_levels.proofs.OneSlot.{held_by}
 
 module _ (rack : ℕ → Option ℕ) (draining : ℕ → Bool) (multi : Bool) (old : Leveled) (K : IndexedLevels) where
   -- the invariant holds again
-  pub leveled_again : ((slot : ℕ) → IsClassified rack draining multi (block_at old.arena slot) K slot ⊎ IsSameAt old.kept K slot) → IsLeveled old → ((bound : ℕ) → HasCapacityFor old.kept bound → HasCapacityFor K bound)
-      → IsLeveled (record { arena = old.arena; kept = K })
+  pub leveled_again : ((slot : ℕ) → IsClassified rack draining multi (block_at old.arena slot) K slot ⊎ IsSameAt old.level_index K slot) → IsLeveled old → ((bound : ℕ) → HasCapacityFor old.level_index bound → HasCapacityFor K bound)
+      → IsLeveled (record { arena = old.arena; level_index = K })
   leveled_again each h capacity = record {
     free = h.free;
     blank = h.blank;
@@ -33,8 +33,8 @@ module _ (rack : ℕ → Option ℕ) (draining : ℕ → Bool) (multi : Bool) (o
 
   -- each slot is reclassified, or its level does not depend on the change
   pub levels_again : (rack' : ℕ → Option ℕ) (draining' : ℕ → Bool) (multi' : Bool)
-      → ((slot : ℕ) → IsClassified rack draining multi (block_at old.arena slot) K slot ⊎ (IsSameAt old.kept K slot × (level_by rack' draining' multi' (block_at old.arena slot) ≡ level_by rack draining multi (block_at old.arena slot))))
-      → AreLevelsBy rack' draining' multi' old → AreLevelsBy rack draining multi (record { arena = old.arena; kept = K })
+      → ((slot : ℕ) → IsClassified rack draining multi (block_at old.arena slot) K slot ⊎ (IsSameAt old.level_index K slot × (level_by rack' draining' multi' (block_at old.arena slot) ≡ level_by rack draining multi (block_at old.arena slot))))
+      → AreLevelsBy rack' draining' multi' old → AreLevelsBy rack draining multi (record { arena = old.arena; level_index = K })
   levels_again rack' draining' multi' each h slot = elim (each slot) [ inl status ↦ status.level | inr same ↦ same.0.level ∙ h slot ∙ same.1 ]
 
 -- the slot of a number is one of the slots to which numbers lead
@@ -72,11 +72,11 @@ led_unless v lawful h slot absent = elim (cases_eq slot v.arena.delimiter) [
 -- are on two racks or more
 module _ (C : Cluster) (multi : Bool) (old : Leveled) (K : IndexedLevels)
     (status : (slot : ℕ) → IsMember slot (indexed_slots old.arena) → IsClassified (rack_of C) (drains_after_change C None) multi (block_at old.arena slot) K slot)
-    (others : (slot : ℕ) → (IsMember slot (indexed_slots old.arena) → ⊥) → IsSameAt old.kept K slot) where
-  pub leveled_each : IsLeveled old → ((bound : ℕ) → HasCapacityFor old.kept bound → HasCapacityFor K bound) → IsLeveled (record { arena = old.arena; kept = K })
+    (others : (slot : ℕ) → (IsMember slot (indexed_slots old.arena) → ⊥) → IsSameAt old.level_index K slot) where
+  pub leveled_each : IsLeveled old → ((bound : ℕ) → HasCapacityFor old.level_index bound → HasCapacityFor K bound) → IsLeveled (record { arena = old.arena; level_index = K })
   leveled_each = leveled_again (rack_of C) (drains_after_change C None) multi old K (λ slot. elim (dec_among slot (indexed_slots old.arena)) [ inl there ↦ inl (status slot there) | inr absent ↦ inr (others slot absent) ])
 
-  pub levels_each : IsLawful old.arena → IsLeveled old → AreLevels C old → AreLevelsBy (rack_of C) (is_draining C) multi (record { arena = old.arena; kept = K })
+  pub levels_each : IsLawful old.arena → IsLeveled old → AreLevels C old → AreLevelsBy (rack_of C) (is_draining C) multi (record { arena = old.arena; level_index = K })
   unfolding drains_after_change
   levels_each lawful h =
       levels_again (rack_of C) (is_draining C) multi old K (rack_of C) (is_draining C) (is_multi_rack C) (λ slot.

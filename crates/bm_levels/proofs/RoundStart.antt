@@ -33,11 +33,11 @@ entries_blocks a c keeps =
     ∙ under (λ x. info_at c x) (λ x. info_at a x) (slot_of a b) (λ x. known_info (block_at c x) (block_at a x) (keeps.known x)))
 
 -- there is capacity for each unsettled slot
-pub start_capacity : (old : Leveled) → IsLeveled old → (slot : ℕ) → IsUnsettled old.kept slot → HasCapacityFor old.kept (slot + 1)
+pub start_capacity : (old : Leveled) → IsLeveled old → (slot : ℕ) → IsUnsettled old.level_index slot → HasCapacityFor old.level_index (slot + 1)
 start_capacity old h slot there = h.capacity slot (unsettled_held (block_at old.arena slot) ((h.unsettled slot).0 there))
 
 -- an unsettled slot holds a block and is not the delimiter's
-pub changed_there : (old : Leveled) → IsLeveled old → (a : Contents) (slot : ℕ) → IsUnsettled old.kept slot → KeepsAllBut slot old.arena a → IsChangedAt old.arena a slot
+pub changed_there : (old : Leveled) → IsLeveled old → (a : Contents) (slot : ℕ) → IsUnsettled old.level_index slot → KeepsAllBut slot old.arena a → IsChangedAt old.arena a slot
 changed_there old h a slot there rest =
     let marker = old.arena.delimiter in
     let unsettled = (h.unsettled slot).0 there in
@@ -53,11 +53,11 @@ pub record IsStarted (C : Cluster) (old : Leveled) (c : Contents) : Type 0 where
   pub replicas : replicas_of c ≡ (with_surplus_marked C (without_unordered_excess (holdings_of old.arena))).replicas
   pub blocks : blocks_of c ≡ blocks_of old.arena
   pub entries : KeepsEntries old.arena c
-  pub left : (slot : ℕ) → (IsUnsettled old.kept slot → ⊥) → block_at c slot ≡ block_at old.arena slot
+  pub left : (slot : ℕ) → (IsUnsettled old.level_index slot → ⊥) → block_at c slot ≡ block_at old.arena slot
 
 module _ (C : Cluster) (old : Leveled) (lawful : IsLawful old.arena) (h : IsLeveled old) (b c : Contents) (ps : List ReplicaId)
-    (begun : (slot : ℕ) → IsUnsettled old.kept slot → replicas_at b slot ≡ all_changed with_excess_reset (replicas_at old.arena slot))
-    (left_begun : (slot : ℕ) → (IsUnsettled old.kept slot → ⊥) → block_at b slot ≡ block_at old.arena slot) (entries_begun : KeepsEntries old.arena b)
+    (begun : (slot : ℕ) → IsUnsettled old.level_index slot → replicas_at b slot ≡ all_changed with_excess_reset (replicas_at old.arena slot))
+    (left_begun : (slot : ℕ) → (IsUnsettled old.level_index slot → ⊥) → block_at b slot ≡ block_at old.arena slot) (entries_begun : KeepsEntries old.arena b)
     (excess : replicas_of c ≡ revise (replicas_of b) (λ q m. if has_replica ps q then as_excess m else m))
     (left_marked : (slot : ℕ) → ((x : ℕ) → slot_of b x ≡ Some slot → has_block ps x ≡ false) → block_at c slot ≡ block_at b slot) (entries_marked : KeepsEntries b c)
     (are : ps ≡ surplus C (without_unordered_excess (holdings_of old.arena))) where
@@ -67,7 +67,7 @@ module _ (C : Cluster) (old : Leveled) (lawful : IsLawful old.arena) (h : IsLeve
   abbrev G : Holdings
   G = without_unordered_excess (holdings_of a)
 
-  settled_slot : (slot : ℕ) → (IsUnsettled old.kept slot → ⊥) → is_settled_at (block_at a slot) ≡ true
+  settled_slot : (slot : ℕ) → (IsUnsettled old.level_index slot → ⊥) → is_settled_at (block_at a slot) ≡ true
   settled_slot slot absent = elim (cases_Bool (is_settled_at (block_at a slot))) [ inl e ↦ e | inr e ↦ absurd (absent ((h.unsettled slot).1 e)) ]
 
   start_replicas : replicas_of c ≡ (with_surplus_marked C G).replicas
@@ -75,7 +75,7 @@ module _ (C : Cluster) (old : Leveled) (lawful : IsLawful old.arena) (h : IsLeve
       marked_replicas C G (replicas_of c)
       (excess
       ∙ ap (λ l. revise (replicas_of b) (λ q m. if has_replica l q then as_excess m else m)) are
-      ∙ ap (λ m. revise m (λ q m. if has_replica (surplus C G) q then as_excess m else m)) (begun_replicas a b old.kept.unsettled.slots lawful entries_begun.ids settled_slot begun left_begun))
+      ∙ ap (λ m. revise m (λ q m. if has_replica (surplus C G) q then as_excess m else m)) (begun_replicas a b old.level_index.unsettled.slots lawful entries_begun.ids settled_slot begun left_begun))
 
   entries : KeepsEntries a c
   entries = entries-chain a b c entries_begun entries_marked
@@ -84,7 +84,7 @@ module _ (C : Cluster) (old : Leveled) (lawful : IsLawful old.arena) (h : IsLeve
   start_blocks = entries_blocks a c entries
 
   -- settled slots are as before
-  left : (slot : ℕ) → (IsUnsettled old.kept slot → ⊥) → block_at c slot ≡ block_at a slot
+  left : (slot : ℕ) → (IsUnsettled old.level_index slot → ⊥) → block_at c slot ≡ block_at a slot
   left slot absent =
       left_marked slot (λ x led.
       let here : slot_of a x ≡ Some slot = sym (ap (λ l. lookup (nat_eq x) l) entries_begun.ids) ∙ led in

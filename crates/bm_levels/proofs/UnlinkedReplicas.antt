@@ -91,7 +91,7 @@ module _ (rack : ℕ → Option ℕ) (draining : ℕ → Bool) (multi : Bool) (o
     (lawful : IsLawful old.arena) (leveled : IsLeveled old)
     (others : (slot : ℕ) → (IsMember slot slots → ⊥) → block_at a slot ≡ block_at old.arena slot) (known : (slot : ℕ) → known_of (block_at a slot) ≡ known_of (block_at old.arena slot))
     (delimiter : a.delimiter ≡ old.arena.delimiter) (status : (slot : ℕ) → IsMember slot slots → IsClassified rack draining multi (block_at a slot) K slot)
-    (same : (slot : ℕ) → (IsMember slot slots → ⊥) → IsSameAt old.kept K slot) where
+    (same : (slot : ℕ) → (IsMember slot slots → ⊥) → IsSameAt old.level_index K slot) where
   no_marker : IsMember old.arena.delimiter slots → ⊥
   no_marker there =
       apart_from old.arena lawful s (leveled.free s) old.arena.delimiter ((lawful.exact old.arena.delimiter s).0 (listed_in (list_of old.arena s) slots rest first old.arena.delimiter there)) refl
@@ -99,13 +99,13 @@ module _ (rack : ℕ → Option ℕ) (draining : ℕ → Bool) (multi : Bool) (o
   free : (t : ℕ) → marks_at a a.delimiter t ≡ marks_at old.arena old.arena.delimiter t
   free t = ap (λ o. option_and_then (λ (k : Block). find_marks k.replicas t) o) (ap (block_at a) delimiter ∙ others old.arena.delimiter no_marker)
 
-  each : (slot : ℕ) → slot ≢ old.arena.delimiter → (IsClassified rack draining multi (block_at a slot) K slot) ⊎ ((block_at a slot ≡ block_at old.arena slot) × IsSameAt old.kept K slot)
+  each : (slot : ℕ) → slot ≢ old.arena.delimiter → (IsClassified rack draining multi (block_at a slot) K slot) ⊎ ((block_at a slot ≡ block_at old.arena slot) × IsSameAt old.level_index K slot)
   each slot _ = elim (dec_among slot slots) [ inl there ↦ inl (status slot there) | inr away ↦ inr (others slot away, same slot away) ]
 
-  pub leveled_first : ((bound : ℕ) → HasCapacityFor old.kept bound → HasCapacityFor K bound) → IsLeveled (record { arena = a; kept = K })
+  pub leveled_first : ((bound : ℕ) → HasCapacityFor old.level_index bound → HasCapacityFor K bound) → IsLeveled (record { arena = a; level_index = K })
   leveled_first = leveled_many rack draining multi old a K delimiter free known each (same old.arena.delimiter no_marker) leveled
 
-  pub levels_first : AreLevelsBy rack draining multi old → AreLevelsBy rack draining multi (record { arena = a; kept = K })
+  pub levels_first : AreLevelsBy rack draining multi old → AreLevelsBy rack draining multi (record { arena = a; level_index = K })
   levels_first = levels_many rack draining multi old a K delimiter free known each (same old.arena.delimiter no_marker) leveled
 
 -- Only the blocks at these slots change before their unused entries are dropped.

@@ -14,7 +14,7 @@ use Rattle.bm_levels.specs.Leveled.{Leveled}
 use Rattle.bm_levels.proofs.DroppedMarks.{IsBegun, begun_none, begun_more, begun_all, begun_others}
 
 abbrev unsettled_in : Leveled → List ℕ
-unsettled_in v = v.kept.unsettled.slots
+unsettled_in v = v.level_index.unsettled.slots
 
 -- After `step` steps the iteration is at a slot or at the end. The slots from there on are still to
 -- come, and at most `end` steps are needed.

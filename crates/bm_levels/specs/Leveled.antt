@@ -8,7 +8,7 @@ use Rattle.bm_levels.specs.IndexedLevels.{IndexedLevels, level_of_slot, IsUnsett
 
 pub record Leveled : Type 0 where
   pub arena : Contents
-  pub kept : IndexedLevels
+  pub level_index : IndexedLevels
 
 -- what holds between calls
 pub record IsLeveled (v : Leveled) : Type 0 where
@@ -16,15 +16,15 @@ pub record IsLeveled (v : Leveled) : Type 0 where
   pub free : (storage : ℕ) → marks_at v.arena v.arena.delimiter storage ≡ None
   pub blank : info_at v.arena v.arena.delimiter ≡ None
   -- there is capacity for every slot that is held
-  pub capacity : (slot : ℕ) → IsSome (block_at v.arena slot) → HasCapacityFor v.kept (slot + 1)
+  pub capacity : (slot : ℕ) → IsSome (block_at v.arena slot) → HasCapacityFor v.level_index (slot + 1)
   -- the unsettled slots are exactly those of the blocks that are not settled
-  pub unsettled : (slot : ℕ) → IsUnsettled v.kept slot ↔ (is_settled_at (block_at v.arena slot) ≡ false)
+  pub unsettled : (slot : ℕ) → IsUnsettled v.level_index slot ↔ (is_settled_at (block_at v.arena slot) ≡ false)
   -- a slot without a known block has no level
-  pub unknown : (slot : ℕ) → info_at v.arena slot ≡ None → level_of_slot v.kept slot ≡ None
+  pub unknown : (slot : ℕ) → info_at v.arena slot ≡ None → level_of_slot v.level_index slot ≡ None
 
 -- the level of each slot is that of its block in a cluster
 abbrev pub AreLevels : Cluster → Leveled → Type 0
-AreLevels C v = (slot : ℕ) → level_of_slot v.kept slot ≡ level_in C (block_at v.arena slot)
+AreLevels C v = (slot : ℕ) → level_of_slot v.level_index slot ≡ level_in C (block_at v.arena slot)
 
 -- a change keeps the levels right in a cluster
 abbrev pub KeepsLevels : Cluster → Leveled → Leveled → Type 0

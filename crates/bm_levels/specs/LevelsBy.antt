@@ -12,7 +12,7 @@ use Rattle.bm_levels.specs.Leveled.{Leveled}
 -- the level of each slot is that of its block, for these racks of storages, these storages on
 -- draining nodes, and one rack or several
 abbrev pub AreLevelsBy : (ℕ → Option ℕ) → (ℕ → Bool) → Bool → Leveled → Type 0
-AreLevelsBy rack draining multi v = (slot : ℕ) → level_of_slot v.kept slot ≡ level_by rack draining multi (block_at v.arena slot)
+AreLevelsBy rack draining multi v = (slot : ℕ) → level_of_slot v.level_index slot ≡ level_by rack draining multi (block_at v.arena slot)
 
 -- the same by the racks and the draining nodes of a cluster; whether its alive nodes are on two
 -- racks or more is a separate argument

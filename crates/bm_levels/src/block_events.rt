@@ -159,7 +159,7 @@ impl LeveledBlocks {
         self.arena.show_invariant();
         change_marks(&mut self.arena, slot, change);
         self.arena.set_info(slot, info);
-        self.kept.update_level(topology, &self.arena, slot);
+        self.level_index.update_level(topology, &self.arena, slot);
     }
 }
 

@@ -20,7 +20,7 @@ use std::marker::Model;
 #[derive(Drop)]
 pub struct LeveledBlocks {
     pub(crate) arena: Arena,
-    pub(crate) kept: LevelIndex,
+    pub(crate) level_index: LevelIndex,
 }
 
 impl Model for LeveledBlocks {
@@ -28,9 +28,9 @@ impl Model for LeveledBlocks {
 
     ghost Value = { Leveled };
 
-    ghost view = { λ b. record { arena = b.arena; kept = b.kept } };
+    ghost view = { λ b. record { arena = b.arena; level_index = b.level_index } };
 
-    ghost invariant = { λ b. IsLeveled (record { arena = b.arena; kept = b.kept }) };
+    ghost invariant = { λ b. IsLeveled (record { arena = b.arena; level_index = b.level_index }) };
 }
 
 impl LeveledBlocks {
@@ -43,9 +43,9 @@ impl LeveledBlocks {
         ensures refused { IfErr result (λ e. e ≡ Memory) }
     {
         let arena = Arena::with_secret(alloc, secret)?;
-        let mut kept = LevelIndex::new(alloc)?;
-        kept.grow_to(arena.slot_bound())?;
-        Ok(LeveledBlocks { arena, kept })
+        let mut level_index = LevelIndex::new(alloc)?;
+        level_index.grow_to(arena.slot_bound())?;
+        Ok(LeveledBlocks { arena, level_index })
     }
 
     /// Gives a number an entry, with capacity for its block's status. All blocks and replicas stay.
@@ -69,7 +69,7 @@ impl LeveledBlocks {
         self.arena.show_invariant();
         let slot = self.arena.add_entry(id)?;
         self.arena.show_invariant();
-        if self.kept.grow_to(self.arena.slot_bound()).is_err() {
+        if self.level_index.grow_to(self.arena.slot_bound()).is_err() {
             self.arena.drop_entry(slot);
             return Err(Refusal::Memory);
         }
@@ -88,7 +88,7 @@ impl LeveledBlocks {
     {
         self.arena.show_invariant();
         self.arena.set_info(slot, info);
-        self.kept.update_level(topology, &self.arena, slot);
+        self.level_index.update_level(topology, &self.arena, slot);
     }
 
     /// Changes the marks of the replica on a storage of the block at the slot of a number. Takes no
@@ -106,7 +106,7 @@ impl LeveledBlocks {
     {
         self.arena.show_invariant();
         self.arena.set_marks(slot, storage, marks);
-        self.kept.update_level(topology, &self.arena, slot);
+        self.level_index.update_level(topology, &self.arena, slot);
     }
 
     /// Takes out the replica on a storage of the block at the slot of a number. Takes no memory.
@@ -121,9 +121,9 @@ impl LeveledBlocks {
         ensures levels { KeepsLevels topology.now.cluster self.old self.new }
     {
         self.arena.show_invariant();
-        let was = self.kept.status_at(slot);
+        let was = self.level_index.status_at(slot);
         self.arena.unlink(slot, storage);
-        self.kept.update_from(topology, &self.arena, slot, was);
+        self.level_index.update_from(topology, &self.arena, slot, was);
     }
 
     /// For proofs alone: the unsettled slots are exactly those of unsettled blocks, a slot without
@@ -143,9 +143,9 @@ impl LeveledBlocks {
 
     /// The levels and the unsettled slots, to be read.
     pub fn level_index(&self) -> &LevelIndex
-        ensures { result.now ≡ self.now.kept }
+        ensures { result.now ≡ self.now.level_index }
     {
-        &self.kept
+        &self.level_index
     }
 
     /// The slot of a number that has an entry.
@@ -164,7 +164,7 @@ impl LeveledBlocks {
     {
         self.arena.show_invariant();
         match self.arena.find(id) {
-            Some(slot) => self.kept.level(slot),
+            Some(slot) => self.level_index.level(slot),
             None => None,
         }
     }

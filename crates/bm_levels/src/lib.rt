@@ -17,6 +17,7 @@ mod four_lists;
 mod level_index;
 mod leveled_blocks;
 mod listed_replicas;
+mod live_replicas;
 mod lost_storages;
 mod mark_changes;
 mod rack_changes;
@@ -31,3 +32,4 @@ mod unused_entries;
 
 pub use level_index::LevelIndex;
 pub use leveled_blocks::LeveledBlocks;
+pub use live_replicas::count_live;

@@ -38,7 +38,7 @@ impl LeveledBlocks {
             multi,
         };
         self.arena.show_invariant();
-        self.kept
+        self.level_index
             .reclassify_every_block(&self.arena, &cluster_after);
     }
 }

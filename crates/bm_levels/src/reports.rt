@@ -44,14 +44,14 @@ impl LeveledBlocks {
         ensures there { HasHead self.old.arena storage
             → HaveReplicas self.old.arena storage (reported_to_part part entries.now)
             → OnOk result ((self.new.arena ≡ self.old.arena)
-            × (HasCapacityFor self.old.kept self.old.arena.bound → self.new ≡ self.old)) }
+            × (HasCapacityFor self.old.level_index self.old.arena.bound → self.new ≡ self.old)) }
         ensures levels { (C : Cluster) → KeepsLevels C self.old self.new }
         ensures refused { IfErr result (λ e. e ≡ Memory) }
     {
         self.arena.show_invariant();
         let found = report.ready(&mut self.arena, storage, entries, part);
         self.arena.show_invariant();
-        let grown = self.kept.grow_to(self.arena.slot_bound());
+        let grown = self.level_index.grow_to(self.arena.slot_bound());
         if found.is_err() || grown.is_err() {
             report.abort(&mut self.arena);
             self.arena.show_invariant();
@@ -81,7 +81,7 @@ impl LeveledBlocks {
         self.arena.show_invariant();
         let found = report.prepare_notice(&mut self.arena, storage, id, stamp);
         self.arena.show_invariant();
-        let grown = self.kept.grow_to(self.arena.slot_bound());
+        let grown = self.level_index.grow_to(self.arena.slot_bound());
         if found.is_err() || grown.is_err() {
             report.abort(&mut self.arena);
             self.arena.show_invariant();
@@ -124,9 +124,9 @@ impl LeveledBlocks {
     {
         self.arena.show_invariant();
         let slot = report.slot_of_one();
-        let was = self.kept.status_at(slot);
+        let was = self.level_index.status_at(slot);
         let applied = report.apply_received(&mut self.arena, topology, storage, id, stamp);
-        self.kept.update_from(topology, &self.arena, slot, was);
+        self.level_index.update_from(topology, &self.arena, slot, was);
         applied
     }
 
@@ -163,7 +163,7 @@ impl LeveledBlocks {
     {
         self.arena.show_invariant();
         let applied = report.apply_full(&mut self.arena, topology, storage);
-        self.kept
+        self.level_index
             .update_all(topology, &self.arena, report.changed_slots());
         applied
     }

@@ -84,7 +84,7 @@ impl LeveledBlocks {
         self.arena
             .set_marks_near(slot, storage, with_order(marks), guess);
         if is_good_and_unmarked(marks) {
-            self.kept.update_level(topology, &self.arena, slot);
+            self.level_index.update_level(topology, &self.arena, slot);
         }
     }
 }

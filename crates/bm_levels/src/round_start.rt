@@ -44,10 +44,10 @@ impl LeveledBlocks {
     /// Drops the marks of excess whose delete was not ordered at each unsettled slot. A slot leaves
     /// the set if its block is settled then; so the next one is read before.
     fn clear_unordered_excess(&mut self, topology: &Topology)
-        ensures begun { (slot : ℕ) → IsUnsettled self.old.kept slot
+        ensures begun { (slot : ℕ) → IsUnsettled self.old.level_index slot
             → replicas_at self.new.arena slot
             ≡ all_changed with_excess_reset (replicas_at self.old.arena slot) }
-        ensures others { KeepsBlocksOutside self.old.kept.unsettled.slots
+        ensures others { KeepsBlocksOutside self.old.level_index.unsettled.slots
             self.old.arena self.new.arena }
         ensures entries { KeepsEntries self.old.arena self.new.arena }
         ensures levels { KeepsLevels topology.now.cluster self.old self.new }
@@ -65,18 +65,18 @@ impl LeveledBlocks {
     /// Drops the marks of excess whose delete was not ordered at an unsettled slot; its block is
     /// reclassified if there was one.
     fn clear_unordered_excess_at(&mut self, topology: &Topology, slot: Slot)
-        requires { IsUnsettled self.old.kept slot }
+        requires { IsUnsettled self.old.level_index slot }
         ensures begun { replicas_at self.new.arena slot
             ≡ all_changed with_excess_reset (replicas_at self.old.arena slot) }
         ensures others { (other : ℕ) → other ≢ slot
             → block_at self.new.arena other ≡ block_at self.old.arena other }
         ensures entries { KeepsEntries self.old.arena self.new.arena }
-        ensures ahead { KeepsAhead slot self.old.kept.unsettled.slots
-            self.new.kept.unsettled.slots }
+        ensures ahead { KeepsAhead slot self.old.level_index.unsettled.slots
+            self.new.level_index.unsettled.slots }
         ensures levels { KeepsLevels topology.now.cluster self.old self.new }
     {
         if change_marks(&mut self.arena, slot, MarkChange::RoundBegun) {
-            self.kept.update_level(topology, &self.arena, slot);
+            self.level_index.update_level(topology, &self.arena, slot);
         }
     }
 
@@ -140,7 +140,7 @@ impl LeveledBlocks {
         };
         self.arena.show_invariant();
         mark_listed(&mut self.arena, slot, group);
-        self.kept.update_level(topology, &self.arena, slot);
+        self.level_index.update_level(topology, &self.arena, slot);
     }
 
     /// Marks the existing replicas of a list as excess: each is looked up, and its block

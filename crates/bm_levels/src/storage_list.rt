@@ -108,13 +108,13 @@ impl LeveledBlocks {
     {
         self.arena.show_invariant();
         unlink_all(&mut self.arena, storage, slots);
-        self.kept.classify_all(&self.arena, slots, cluster_after);
+        self.level_index.classify_all(&self.arena, slots, cluster_after);
     }
 
     /// Drops the list of a storage, which is empty.
     fn drop_list(&mut self, storage: StorageId)
         requires { list_of self.old.arena storage ≡ [] }
-        ensures kept { self.new.kept ≡ self.old.kept }
+        ensures kept { self.new.level_index ≡ self.old.level_index }
         ensures entries { (slot : ℕ) → block_at self.new.arena slot ≡ block_at self.old.arena slot }
         ensures blocks { blocks_of self.new.arena ≡ blocks_of self.old.arena }
         ensures replicas { replicas_of self.new.arena ≡ replicas_of self.old.arena }

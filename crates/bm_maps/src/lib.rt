@@ -4,7 +4,7 @@
 mod number_map;
 mod number_search;
 mod slot_link;
-pub mod sorted;
+pub mod sorted_entries;
 
 pub use arrayvec::ArrayVec;
 pub use number_map::NumberMap;

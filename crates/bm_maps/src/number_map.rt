@@ -6,7 +6,7 @@ ghost use Rattle.std.specs.List.Retain.{IsFiltered};
 ghost use Rattle.std.specs.Fn.{CalledAt};
 
 use crate::number_search::{index_by_guess, index_of_number};
-use crate::sorted::{find_at, put, replace, reserve};
+use crate::sorted_entries::{find_at, put, replace, reserve};
 use std::alloc::{AllocError, Global};
 use std::marker::Model;
 

@@ -4,7 +4,7 @@ ghost use Rattle.std.specs.Ordering.{nat_cmp};
 ghost use Rattle.std.specs.FinMap as list;
 ghost use Rattle.bm_maps.specs.KeyIndex.{key_index, IsWithin};
 
-use crate::sorted::index_between;
+use crate::sorted_entries::index_between;
 use std::cmp::Ordering;
 
 /// The number of entries before a number's index. In strictly ascending numbers `a`, number `k` has

@@ -8,9 +8,9 @@
 //! - `whole`: parts put together
 //! - `events`, `rounds`: changes of parts, and of the whole
 //! - `queries`: answers of parts, joined
-//! - `settled`: blocks that a round need not scan
+//! - `settled_blocks`: blocks that a round need not scan
 //! - `levels`: events on the cluster after which a shard need not reclassify its blocks
-//! - `placed`: the storages of replicas, and which are in excess
+//! - `replica_storages`: the storages of replicas, and which are in excess
 //! - `merge`: what lists are merged by
 //!
 //! Only `events::block_of` computes something; the contract of each other function is a law.
@@ -19,8 +19,8 @@
 pub mod events;
 pub mod levels;
 pub mod merge;
-pub mod placed;
 pub mod queries;
+pub mod replica_storages;
 pub mod rounds;
-pub mod settled;
+pub mod settled_blocks;
 pub mod whole;

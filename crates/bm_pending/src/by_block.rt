@@ -9,7 +9,7 @@ ghost use Rattle.bm_pending.specs.Inside.{targets_at, capacity_at};
 
 use crate::targets::{PendingTargets, drop_expired, drop_storages, drop_target, put};
 use bm_base::{HashSecret, Refusal, StorageId};
-use bm_maps::sorted::find;
+use bm_maps::sorted_entries::find;
 use indexmap::IndexMap;
 use smallvec::SmallVec;
 use std::alloc::Global;

@@ -7,7 +7,7 @@ ghost use Rattle.smallvec.specs.SmallVec.{HasRoomFor};
 ghost use Rattle.bm_base.specs.Words.{has, is_expired};
 
 use bm_base::StorageId;
-use bm_maps::sorted::key_index;
+use bm_maps::sorted_entries::key_index;
 use smallvec::SmallVec;
 use std::cmp::Ordering;
 

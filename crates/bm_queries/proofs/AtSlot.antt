@@ -1,5 +1,5 @@
 -- Queries of one block are answered at its slot.
-use Rattle.std.proofs.Common.{◌≡◌, ℕ, Bool, true, false, cond, ◌&&◌, List, [], ◌∷◌, ◌++◌, map, filter, length, ◌+◌, Option, Some, None, is_some, refl, sym, ap, subst, ◌∙◌, eqb-true, eq-eqb, append_assoc, arith}
+use Rattle.std.proofs.Common.{◌≡◌, ℕ, Bool, true, false, cond, ◌&&◌, List, [], ◌∷◌, ◌++◌, map, filter, Option, Some, None, is_some, refl, sym, ap, subst, ◌∙◌, eqb-true, eq-eqb, append_assoc}
 use Rattle.std.specs.Prelude.{◌==◌, option_and_then}
 use Rattle.std.specs.Option.{option_map_or}
 use Rattle.std.specs.Cmp.{both_ways}
@@ -43,17 +43,6 @@ module _ (p : ℕ → Marks → Bool) (rs rest : List (ℕ × Marks)) (r : ℕ �
   pub storage_left : (xs : List ℕ) → p r.0 r.1 ≡ false → xs ++ storages rest ≡ xs ++ storages rs
   storage_left xs fail =
       sym (ap (λ l. xs ++ storages l) e ∙ ap (λ b. xs ++ map (λ (r : ℕ × Marks). r.0) (cond b (r ∷ filter (λ (r : ℕ × Marks). p r.0 r.1) rest) (filter (λ (r : ℕ × Marks). p r.0 r.1) rest))) fail)
-
-  pub counted_more : p r.0 r.1 ≡ true → length (storages rs) ≡ length (storages rest) + 1
-  counted_more pass =
-      ap (λ l. length (storages l)) e
-      ∙ ap (λ b. length (map (λ (r : ℕ × Marks). r.0) (cond b (r ∷ filter (λ (r : ℕ × Marks). p r.0 r.1) rest) (filter (λ (r : ℕ × Marks). p r.0 r.1) rest)))) pass
-      ∙ omega arith
-
-  pub counted_same : p r.0 r.1 ≡ false → length (storages rs) ≡ length (storages rest)
-  counted_same fail =
-      ap (λ l. length (storages l)) e
-      ∙ ap (λ b. length (map (λ (r : ℕ × Marks). r.0) (cond b (r ∷ filter (λ (r : ℕ × Marks). p r.0 r.1) rest) (filter (λ (r : ℕ × Marks). p r.0 r.1) rest)))) fail
 
 where_ascend : (p : ℕ → Marks → Bool) (H : Holdings) (b : ℕ) → Rise (storages_where p H b)
 unfolding storages_where entries

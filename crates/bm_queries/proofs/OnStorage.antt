@@ -113,7 +113,7 @@ module _ (C : Cluster) (H : Holdings) where
 
 -- the numbers at the slots of the level, sorted
 pub at_level : (C : Cluster) (v : Leveled) → IsLawful v.arena → IsLeveled v → AreLevels C v → (pending : Map by_replica ℕ) (slots ys : List ℕ)
-    → ((slot : ℕ) → IsMember slot slots ↔ (level_of_slot v.kept slot ≡ Some NoUsableReplica)) → Distinct slots
+    → ((slot : ℕ) → IsMember slot slots ↔ (level_of_slot v.level_index slot ≡ Some NoUsableReplica)) → Distinct slots
     → IsPermutation (map (id_at v.arena) slots) ys → IsSortedByKey (λ (n : ℕ). n) nat_cmp ys → ys ≡ missing_blocks C (holdings_with v.arena pending)
 unfolding missing_blocks
 at_level C v lawful leveled levels pending slots ys exact once moved sorted =

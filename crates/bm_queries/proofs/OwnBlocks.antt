@@ -77,7 +77,7 @@ module _ (v : Leveled) (lawful : IsLawful v.arena) (leveled : IsLeveled v) where
       (λ same. false≢true (sym (ap is_some (ap (λ k. marks_at v.arena k storage) same ∙ leveled.free storage)) ∙ (lawful.exact slot storage).0 listed))
 
   -- a slot with a level
-  pub own_leveled : (l : Level) (slot : ℕ) → level_of_slot v.kept slot ≡ Some l → IsOwn v.arena slot
+  pub own_leveled : (l : Level) (slot : ℕ) → level_of_slot v.level_index slot ≡ Some l → IsOwn v.arena slot
   own_leveled l slot e = by (info_at v.arena slot) refl
     where
       by : (o : Option BlockInfo) → info_at v.arena slot ≡ o → IsOwn v.arena slot

@@ -1,51 +1,25 @@
 // Whether a block keeps a draining node from being retired.
-ghost use Rattle.std.specs.Prelude.{◌≡◌, ℕ, length};
+ghost use Rattle.std.specs.Prelude.{◌≡◌, ℕ};
 ghost use Rattle.std.specs.List.{list_any};
 ghost use Rattle.bm_base.specs.Words.{Map, by_replica};
-ghost use Rattle.bm_base.specs.Machine.Replicas as replicas;
 ghost use Rattle.bm_arena.specs.Contents.{block_at};
-ghost use Rattle.bm_arena.specs.HeldMaps.{replicas_at};
 ghost use Rattle.bm_parts.specs.QueryLaws.{holds_back};
 ghost use Rattle.bm_levels.specs.Held.{holdings_with};
-ghost use Rattle.bm_levels.specs.Status.{storages_at};
 ghost use Rattle.bm_queries.specs.Listed.{lacks_live, holds_back_at, holds_back_on, holds_back_node};
 
 use bm_arena::{Arena, Slot};
-use bm_base::{Marks, NodeId, StorageId};
-use bm_levels::LeveledBlocks;
+use bm_base::{NodeId, StorageId};
+use bm_levels::{LeveledBlocks, count_live};
 use bm_topo::Topology;
-
-fn is_live_on(topology: &Topology, storage: StorageId, marks: Marks) -> bool
-    ensures { result ≡ replicas.is_live_on topology.now.cluster storage marks }
-{
-    let is_usable = marks.is_usable();
-    is_usable && !topology.is_draining(storage)
-}
-
-/// The number of live replicas at a slot.
-fn live_count(topology: &Topology, arena: &Arena, slot: Slot) -> usize
-    ensures { result ≡ length
-        (storages_at (replicas.is_live_on topology.now.cluster) (replicas_at arena.now slot)) }
-{
-    let mut count = 0;
-    for index in 0..arena.triplet_count(slot) {
-        if let Some((storage, marks)) = arena.triplet_at(slot, index) {
-            if is_live_on(topology, storage, marks) {
-                count += 1;
-            }
-        }
-    }
-    count
-}
 
 /// Whether fewer replicas of the block at a slot are live than are wanted; not if the block is
 /// unknown.
 fn lacks_live(topology: &Topology, arena: &Arena, slot: Slot) -> bool
     ensures { result ≡ lacks_live topology.now.cluster (block_at arena.now slot) }
 {
-    match arena.info(slot) {
-        Some(info) => live_count(topology, arena, slot) < info.repl as usize,
-        None => false,
+    match arena.block(slot) {
+        Some((Some(info), triplets)) => count_live(topology, triplets) < info.repl as usize,
+        _ => false,
     }
 }
 

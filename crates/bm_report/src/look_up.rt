@@ -10,12 +10,10 @@ ghost use Rattle.bm_report.specs.Ready.{HasReplica, HaveReplicas};
 
 use crate::first_of_part::first_of_part;
 use crate::replica_capacity::reserve_replica;
+use crate::reported_chunks::CHUNK;
 use crate::types::ReportedSlot;
 use bm_arena::{Arena, Slot};
 use bm_base::{BlockId, Entry, Part, Refusal, Stamp, StorageId};
-
-/// The number of entries in a chunk.
-const CHUNK: usize = 64;
 
 /// The slot of a number, which has an entry from now on.
 fn slot_for(arena: &mut Arena, id: BlockId) -> Result<Slot, Refusal>

@@ -18,7 +18,7 @@ use bm_arena::{Arena, Slot};
 use bm_base::{Marks, StorageId};
 use bm_topo::Topology;
 
-/// The number of blocks in a chunk.
+/// The number of blocks, or of entries, in a chunk.
 pub(crate) const CHUNK: usize = 64;
 
 /// The marks on the storage of each block of a chunk.

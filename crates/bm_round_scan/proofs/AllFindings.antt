@@ -47,7 +47,7 @@ use Rattle.bm_round_scan.proofs.PassingElements.{Passing, passing_listed, passin
 use Rattle.bm_round_scan.proofs.Permutations.{among_moved, among_before, distinct_moved}
 use Rattle.bm_round_scan.proofs.ScannedSlots.{AreListed, mapped_among, scanned_known_slot, ids_once, unsettled_scanned, level_scanned}
 
-module _ (v : Leveled) (lawful : IsLawful v.arena) (leveled : IsLeveled v) (is : AreListed v.kept) (C : Cluster) (levels : AreLevels C v) (pend r : ℕ) (way : PendingMap) where
+module _ (v : Leveled) (lawful : IsLawful v.arena) (leveled : IsLeveled v) (is : AreListed v.level_index) (C : Cluster) (levels : AreLevels C v) (pend r : ℕ) (way : PendingMap) where
   abbrev a : Contents
   a = v.arena
 
@@ -120,14 +120,14 @@ module _ (v : Leveled) (lawful : IsLawful v.arena) (leveled : IsLeveled v) (is :
 
   -- The scanned slots, in any order.
 
-  module _ (bound : Option (ℕ × ℕ)) (keyed : List ((ℕ × ℕ) × ℕ)) (moved : IsPermutation (map (keyed_at v.kept v.arena) (scanned_slots v.kept v.arena bound has_enough)) keyed) where
+  module _ (bound : Option (ℕ × ℕ)) (keyed : List ((ℕ × ℕ) × ℕ)) (moved : IsPermutation (map (keyed_at v.level_index v.arena) (scanned_slots v.level_index v.arena bound has_enough)) keyed) where
     abbrev scanned : List ℕ
-    scanned = scanned_slots v.kept a bound has_enough
+    scanned = scanned_slots v.level_index a bound has_enough
 
     abbrev ids : List ℕ
     ids = map (λ (e : (ℕ × ℕ) × ℕ). id_at a e.1) keyed
 
-    without_keys : {X : Type 0} (f : ℕ → X) (ss : List ℕ) → map (λ (e : (ℕ × ℕ) × ℕ). f e.1) (map (λ s. (key_at v.kept a s, s)) ss) ≡ map f ss
+    without_keys : {X : Type 0} (f : ℕ → X) (ss : List ℕ) → map (λ (e : (ℕ × ℕ) × ℕ). f e.1) (map (λ s. (key_at v.level_index a s, s)) ss) ≡ map f ss
     without_keys f [] = refl
     without_keys f (s ∷ ss) = ap (λ xs. f s ∷ xs) (without_keys f ss)
 
@@ -159,7 +159,7 @@ module _ (v : Leveled) (lawful : IsLawful v.arena) (leveled : IsLeveled v) (is :
         elim (cases_Bool (is_settled_at (block_at a slot))) [
           | inl settled ↦ inl (settled_there a pending lawful b slot here settled)
           | inr loose ↦ (let there = (leveled.unsettled slot).1 loose in
-              inr (scanned_id b slot here (unsettled_scanned v.kept is a bound has_enough slot there)))
+              inr (scanned_id b slot here (unsettled_scanned v.level_index is a bound has_enough slot there)))
         ]
 
     covers_excess : (q : ReplicaId) → IsSurplus C U q → IsMember q.block ids
@@ -188,10 +188,10 @@ module _ (v : Leveled) (lawful : IsLawful v.arena) (leveled : IsLeveled v) (is :
         let slot = slot_of_block w.block known.0 known.1 in
         elim (settled_or w.block slot.0 slot.1) [
           | inl settled ↦ (
-              let at : level_of_slot v.kept slot.0 ≡ Some w.level =
+              let at : level_of_slot v.level_index slot.0 ≡ Some w.level =
               levels slot.0 ∙ sym (ap (option_and_then (λ s. level_in C (block_at a s))) slot.1) ∙ sym (level_is_at_slot C a pending w.block lawful) ∙ sym (settled_is_left C pend r H w.block settled).3 ∙ wish_level C pend r H w.level w.block w wished in
-              let key : key_at v.kept a slot.0 ≡ wish_key w = (λ j. (option_map_or level_number (at j) 5, own_id w.block slot.0 slot.1 j)) in
-              scanned_id w.block slot.0 slot.1 (level_scanned v.kept is a bound has_enough w.level slot.0 (wish_usable w.level w.block w wished) at (ap (is_before bound) key ∙ early) (wish_lacks w slot.0 slot.1 settled wished)))
+              let key : key_at v.level_index a slot.0 ≡ wish_key w = (λ j. (option_map_or level_number (at j) 5, own_id w.block slot.0 slot.1 j)) in
+              scanned_id w.block slot.0 slot.1 (level_scanned v.level_index is a bound has_enough w.level slot.0 (wish_usable w.level w.block w wished) at (ap (is_before bound) key ∙ early) (wish_lacks w slot.0 slot.1 settled wished)))
           | inr visited ↦ visited
         ]
 

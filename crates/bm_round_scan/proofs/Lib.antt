@@ -15,7 +15,6 @@ pub mod NextBlock
 pub mod ScannedSlots
 pub mod SortedStorages
 pub mod SettledBlocks
-pub mod CountedReplicas
 pub mod EnoughPending
 pub mod AllFindings
 pub mod AbsentNumbers

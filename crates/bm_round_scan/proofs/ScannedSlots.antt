@@ -152,7 +152,7 @@ module _ (K : IndexedLevels) (is : AreListed K) where
           | inr needing_copies ↦ inr (level_needing_copies (level_of_slot K slot) ((is.needing_copies slot).0 (among_filtered to_scan slot (slots_needing_copies K) needing_copies).0))
         ]
 
-module _ (v : Leveled) (lawful : IsLawful v.arena) (leveled : IsLeveled v) (is : AreListed v.kept) (bound : Option (ℕ × ℕ)) (has_enough : ℕ → Bool) where
+module _ (v : Leveled) (lawful : IsLawful v.arena) (leveled : IsLeveled v) (is : AreListed v.level_index) (bound : Option (ℕ × ℕ)) (has_enough : ℕ → Bool) where
   abbrev a : Contents
   a = v.arena
 
@@ -168,24 +168,24 @@ module _ (v : Leveled) (lawful : IsLawful v.arena) (leveled : IsLeveled v) (is :
   unsettled_known : (slot : ℕ) → is_settled_at (block_at a slot) ≡ false → slot ≢ a.delimiter
   unsettled_known slot loose same = true≢false (sym (marker_settled (block_at a a.delimiter) leveled.free leveled.blank) ∙ ap (λ s. is_settled_at (block_at a s)) (sym same) ∙ loose)
 
-  level_info : (slot : ℕ) (l : Level) → level_of_slot v.kept slot ≡ Some l → info_at a slot ≢ None
+  level_info : (slot : ℕ) (l : Level) → level_of_slot v.level_index slot ≡ Some l → info_at a slot ≢ None
   level_info slot l at none = never (sym (leveled.unknown slot none) ∙ at)
     where
       never : None ≡ Some l → ⊥
       never e = cc
 
   -- a scanned slot is the slot of its block's number
-  pub scanned_known_slot : (slot : ℕ) → IsMember slot (scanned_slots v.kept a bound has_enough) → slot_of a (id_at a slot) ≡ Some slot
+  pub scanned_known_slot : (slot : ℕ) → IsMember slot (scanned_slots v.level_index a bound has_enough) → slot_of a (id_at a slot) ≡ Some slot
   scanned_known_slot slot h =
-      elim (scanned_is v.kept is a bound has_enough slot h) [
+      elim (scanned_is v.level_index is a bound has_enough slot h) [
         | inl loose ↦ let e = (leveled.unsettled slot).0 loose in known_at slot (unsettled_known slot e) (block_at a slot) refl (unsettled_held slot e)
         | inr at ↦
             known_at slot (λ same. level_info slot at.0 at.1 (ap (info_at a) same ∙ leveled.blank)) (block_at a slot) refl
             (λ none. level_info slot at.0 at.1 (ap (λ (o : Option Block). option_and_then (λ (b : Block). b.info) o) none))
       ]
 
-  pub ids_once : Distinct (map (id_at a) (scanned_slots v.kept a bound has_enough))
-  ids_once = distinct_mapped (id_at a) (slot_of a) (scanned_slots v.kept a bound has_enough) (scanned_once v.kept is a bound has_enough) scanned_known_slot
+  pub ids_once : Distinct (map (id_at a) (scanned_slots v.level_index a bound has_enough))
+  ids_once = distinct_mapped (id_at a) (slot_of a) (scanned_slots v.level_index a bound has_enough) (scanned_once v.level_index is a bound has_enough) scanned_known_slot
 
 -- the slots of the four levels, appended level by level, are the list of all
 pub scanned_by_level : {Y : Type 0} (f : ℕ → Y) (p : ℕ → Bool) (u w x y z : List ℕ)

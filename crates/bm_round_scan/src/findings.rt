@@ -54,7 +54,7 @@ pub fn find_round(
     blocks.level_index().show_invariant();
     let start = RoundScan {
         arena: blocks.arena(),
-        kept: blocks.level_index(),
+        level_index: blocks.level_index(),
         pending,
         topology,
         pend,

@@ -11,10 +11,10 @@ use bm_parts::merge::Key;
 const NO_LEVEL: u32 = 5;
 
 /// The level and the number of the block at a slot: the key of its wish, if the slot is settled.
-pub(crate) fn key_of(kept: &LevelIndex, arena: &Arena, slot: Slot) -> Key
-    ensures { result ≡ scanned.key_at kept.now arena.now slot }
+pub(crate) fn key_of(level_index: &LevelIndex, arena: &Arena, slot: Slot) -> Key
+    ensures { result ≡ scanned.key_at level_index.now arena.now slot }
 {
-    let level = match kept.level(slot) {
+    let level = match level_index.level(slot) {
         Some(level) => level.number(),
         None => NO_LEVEL,
     };

@@ -16,7 +16,7 @@ mod pending_copies;
 mod replicas;
 mod scan;
 mod scanned_slots;
-mod settled;
+mod settled_request;
 mod wishes;
 
 pub use findings::find_round;

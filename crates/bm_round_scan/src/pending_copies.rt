@@ -1,16 +1,13 @@
 // Whether the pending transfers of a settled block make up for the replicas that it lacks.
-ghost use Rattle.std.specs.Prelude.{◌≡◌, length, map};
-ghost use Rattle.bm_base.specs.Machine.Replicas as replicas;
+ghost use Rattle.std.specs.Prelude.{◌≡◌, length};
 ghost use Rattle.bm_arena.specs.HeldMaps.{id_at};
-ghost use Rattle.bm_arena.specs.Triplets.{triplet_view};
-ghost use Rattle.bm_levels.specs.Status.{storages_at};
 ghost use Rattle.bm_pending.specs.RemainingTargets.{remaining_targets};
 ghost use Rattle.bm_round_scan.specs.ScannedSlots as scanned;
 
 use crate::scan::RoundScan;
-use bm_arena::{Slot, Triplet};
-use bm_base::{BlockId, Marks, StorageId};
-use bm_topo::Topology;
+use bm_arena::Slot;
+use bm_base::BlockId;
+use bm_levels::count_live;
 
 impl<'a> RoundScan<'a> {
     /// Whether a transfer to the block at a slot stays pending, and with the pending ones at least
@@ -28,7 +25,7 @@ impl<'a> RoundScan<'a> {
         }
         match self.arena.block(slot) {
             Some((Some(info), triplets)) => {
-                let live = live_count(self.topology, triplets);
+                let live = count_live(self.topology, triplets);
                 (info.repl as usize).saturating_sub(live) <= pending
             }
             _ => false,
@@ -47,26 +44,4 @@ impl<'a> RoundScan<'a> {
         }
         self.pending.count_remaining(id, self.pend, self.round)
     }
-}
-
-fn is_live_on(topology: &Topology, storage: StorageId, marks: Marks) -> bool
-    ensures { result ≡ replicas.is_live_on topology.now.cluster storage marks }
-{
-    let is_usable = marks.is_usable();
-    is_usable && !topology.is_draining(storage)
-}
-
-/// The number of live ones among these replicas.
-fn live_count(topology: &Topology, triplets: &[Triplet]) -> usize
-    ensures { result ≡ length (storages_at (replicas.is_live_on topology.now.cluster)
-        (map triplet_view triplets.now)) }
-{
-    let mut count = 0;
-    for triplet in triplets {
-        let (storage, marks) = triplet.replica();
-        if is_live_on(topology, storage, marks) {
-            count += 1;
-        }
-    }
-    count
 }

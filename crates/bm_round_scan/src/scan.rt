@@ -37,7 +37,7 @@ pub(crate) struct Findings {
 pub(crate) struct RoundScan<'a> {
     pub arena: &'a Arena,
     /// The unsettled slots, and the levels of all slots.
-    pub kept: &'a LevelIndex,
+    pub level_index: &'a LevelIndex,
     pub pending: &'a PendingTransfers,
     pub topology: &'a Topology,
     pub pend: u32,
@@ -51,7 +51,7 @@ impl<'a> RoundScan<'a> {
     pub(crate) fn scan_all(&self, alloc: Global, slots: &[(Key, Slot)]) -> Result<Findings, Refusal>
         requires known { (slot : ℕ) → IsMember slot (values slots.now)
             → (id : ℕ) × (slot_of self.now.arena.now id ≡ Some slot) }
-        requires settled { AreMarked self.now.kept.now self.now.arena.now }
+        requires settled { AreMarked self.now.level_index.now self.now.arena.now }
         ensures found { IfOk result
             (HasFound self.now.topology.now.cluster self.now.pend self.now.round
             (holdings_with self.now.arena.now self.now.pending.now.map) self.now.bound
@@ -72,9 +72,9 @@ impl<'a> RoundScan<'a> {
 
     /// Whether the block at a slot is settled. If all are, nothing is read of the slot.
     pub(crate) fn is_settled(&self, slot: Slot) -> bool
-        ensures { result ≡ not (has self.now.kept.now.unsettled.slots slot) }
+        ensures { result ≡ not (has self.now.level_index.now.unsettled.slots slot) }
     {
-        self.kept.unsettled_count() == 0 || !self.kept.is_unsettled(slot)
+        self.level_index.unsettled_count() == 0 || !self.level_index.is_unsettled(slot)
     }
 
     /// Scans the block at a slot, and appends its findings.
@@ -86,7 +86,7 @@ impl<'a> RoundScan<'a> {
         found: &mut Findings,
     ) -> Result<(), Refusal>
         requires known { (id : ℕ) × (slot_of self.now.arena.now id ≡ Some slot) }
-        requires settled { AreMarked self.now.kept.now self.now.arena.now }
+        requires settled { AreMarked self.now.level_index.now self.now.arena.now }
         ensures more { (bs : List ℕ)
             → HasFound self.now.topology.now.cluster self.now.pend self.now.round
             (holdings_with self.now.arena.now self.now.pending.now.map) self.now.bound bs found.old

@@ -26,14 +26,14 @@ pub(crate) fn slots_to_scan(
     start: &RoundScan,
 ) -> Result<Vec<(Key, Slot)>, AllocError>
     ensures { IfOk result (λ v. IsPermutation
-        (map (scanned.keyed_at start.now.kept.now start.now.arena.now)
-        (scanned.scanned_slots start.now.kept.now start.now.arena.now start.now.bound
+        (map (scanned.keyed_at start.now.level_index.now start.now.arena.now)
+        (scanned.scanned_slots start.now.level_index.now start.now.arena.now start.now.bound
         (scanned.has_enough_pending start.now.topology.now.cluster start.now.pend start.now.round
         start.now.arena.now start.now.pending.now))) v.items) }
 {
     let mut keyed = Vec::with_capacity(alloc, first_capacity(start))?;
-    for slot in start.kept.unsettled_slots() {
-        keyed.push((key_of(start.kept, start.arena, slot), slot))?;
+    for slot in start.level_index.unsettled_slots() {
+        keyed.push((key_of(start.level_index, start.arena, slot), slot))?;
     }
     push_level(alloc, start, Level::Highest, &mut keyed)?;
     push_level(alloc, start, Level::VeryUnderReplicated, &mut keyed)?;
@@ -47,9 +47,9 @@ pub(crate) fn slots_to_scan(
 fn first_capacity(start: &RoundScan) -> usize {
     let needing_copies = match start.bound {
         Some(_) => 0,
-        None => start.kept.count_needing_copies(),
+        None => start.level_index.count_needing_copies(),
     };
-    start.kept.unsettled_count().saturating_add(needing_copies)
+    start.level_index.unsettled_count().saturating_add(needing_copies)
 }
 
 /// Appends the settled slots of a level that come before the bound and lack pending transfers, in
@@ -62,14 +62,14 @@ fn push_level(
     into: &mut Vec<(Key, Slot)>,
 ) -> Result<(), AllocError>
     ensures { OnOk result (IsPermutation (into.old.items
-        ++ map (scanned.keyed_at start.now.kept.now start.now.arena.now)
+        ++ map (scanned.keyed_at start.now.level_index.now start.now.arena.now)
         (filter
-        (scanned.is_settled_to_scan start.now.kept.now start.now.arena.now start.now.bound
+        (scanned.is_settled_to_scan start.now.level_index.now start.now.arena.now start.now.bound
         (scanned.has_enough_pending start.now.topology.now.cluster start.now.pend start.now.round
-        start.now.arena.now start.now.pending.now)) (slots_at start.now.kept.now level)))
+        start.now.arena.now start.now.pending.now)) (slots_at start.now.level_index.now level)))
         into.new.items) }
 {
-    let listed = start.kept.at_level(level);
+    let listed = start.level_index.at_level(level);
     if is_read_as_listed(start, listed.len()) {
         return push_settled(start, level, listed, into);
     }
@@ -93,11 +93,11 @@ fn push_settled(
     into: &mut Vec<(Key, Slot)>,
 ) -> Result<(), AllocError>
     requires level { (slot : ℕ) → IsMember slot slots.now
-        → level_of_slot start.now.kept.now slot ≡ Some level }
+        → level_of_slot start.now.level_index.now slot ≡ Some level }
     ensures { OnOk result (into.new.items ≡ into.old.items
-        ++ map (scanned.keyed_at start.now.kept.now start.now.arena.now)
+        ++ map (scanned.keyed_at start.now.level_index.now start.now.arena.now)
         (filter
-        (scanned.is_settled_to_scan start.now.kept.now start.now.arena.now start.now.bound
+        (scanned.is_settled_to_scan start.now.level_index.now start.now.arena.now start.now.bound
         (scanned.has_enough_pending start.now.topology.now.cluster start.now.pend start.now.round
         start.now.arena.now start.now.pending.now)) slots.now)) }
 {
@@ -116,11 +116,11 @@ fn push_settled_chunk(
 ) -> Result<(), AllocError>
     requires few { length chunk.now ≤ 64 }
     requires level { (slot : ℕ) → IsMember slot chunk.now
-        → level_of_slot start.now.kept.now slot ≡ Some level }
+        → level_of_slot start.now.level_index.now slot ≡ Some level }
     ensures { OnOk result (into.new.items ≡ into.old.items
-        ++ map (scanned.keyed_at start.now.kept.now start.now.arena.now)
+        ++ map (scanned.keyed_at start.now.level_index.now start.now.arena.now)
         (filter
-        (scanned.is_settled_to_scan start.now.kept.now start.now.arena.now start.now.bound
+        (scanned.is_settled_to_scan start.now.level_index.now start.now.arena.now start.now.bound
         (scanned.has_enough_pending start.now.topology.now.cluster start.now.pend start.now.round
         start.now.arena.now start.now.pending.now)) chunk.now)) }
 {
@@ -140,12 +140,12 @@ fn push_if_settled(
     id: BlockId,
     into: &mut Vec<(Key, Slot)>,
 ) -> Result<(), AllocError>
-    requires level { level_of_slot start.now.kept.now slot ≡ Some level }
+    requires level { level_of_slot start.now.level_index.now slot ≡ Some level }
     requires id { id ≡ id_at start.now.arena.now slot }
     ensures { OnOk result (into.new.items ≡ into.old.items
-        ++ map (scanned.keyed_at start.now.kept.now start.now.arena.now)
+        ++ map (scanned.keyed_at start.now.level_index.now start.now.arena.now)
         (filter
-        (scanned.is_settled_to_scan start.now.kept.now start.now.arena.now start.now.bound
+        (scanned.is_settled_to_scan start.now.level_index.now start.now.arena.now start.now.bound
         (scanned.has_enough_pending start.now.topology.now.cluster start.now.pend start.now.round
         start.now.arena.now start.now.pending.now)) (slot ∷ []))) }
 {

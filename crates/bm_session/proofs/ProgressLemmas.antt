@@ -7,7 +7,7 @@ use Rattle.std.proofs.lemmas.List.{length_push, take-append-le}
 use Rattle.bm_base.specs.Machine.State.{State}
 use Rattle.bm_session.specs.declared.limits.TheConstants.{MAX_LINES}
 use Rattle.bm_session.specs.declared.session.Session.{Session}
-use Rattle.bm_answers.specs.declared.asked.Asked.{Asked}
+use Rattle.bm_answers.specs.declared.request.Asked.{Asked}
 use Rattle.bm_answers.specs.OneLine.{asked, answer_to, asked_next, text_of, is_refusal, line_text, line_next, line_refused}
 use Rattle.bm_session.specs.declared.fault.Fault.{Fault}
 use Rattle.bm_session.specs.declared.fault.Fault.TheVariants.{Config, Read, Write, Memory, TooMuch}

@@ -44,15 +44,15 @@ get-levels_among K (p ∷ ps) b =
     read (Some i) = get-insert (levels_among K ps) p.0 i b
 
 -- the level of a number is that of its slot
-pub get-levels_of : (v : Leveled) (b : ℕ) → get (levels_of v) b ≡ option_and_then (level_of_slot v.kept) (slot_of v.arena b)
+pub get-levels_of : (v : Leveled) (b : ℕ) → get (levels_of v) b ≡ option_and_then (level_of_slot v.level_index) (slot_of v.arena b)
 unfolding levels_of
-get-levels_of v b = get-levels_among v.kept v.arena.ids b
+get-levels_of v b = get-levels_among v.level_index v.arena.ids b
 
 -- if the levels of the slots are right in a cluster, so are those of the numbers
 pub right_by_number : (C : Cluster) (v : Leveled) (P : Map by_replica ℕ) → IsLawful v.arena → AreLevels C v → (b : ℕ) → get (levels_of v) b ≡ level C (holdings_with v.arena P) b
 right_by_number C v P lawful right b = get-levels_of v b ∙ at (slot_of v.arena b) ∙ sym (level_is_at_slot C v.arena P b lawful)
   where
-    at : (o : Option ℕ) → option_and_then (level_of_slot v.kept) o ≡ option_and_then (λ slot. level_in C (block_at v.arena slot)) o
+    at : (o : Option ℕ) → option_and_then (level_of_slot v.level_index) o ≡ option_and_then (λ slot. level_in C (block_at v.arena slot)) o
     at None = refl
     at (Some slot) = right slot
 
@@ -60,15 +60,15 @@ right_by_number C v P lawful right b = get-levels_of v b ∙ at (slot_of v.arena
 pub right_by_slot : (C : Cluster) (v : Leveled) (P : Map by_replica ℕ) → IsLawful v.arena → IsLeveled v → ((b : ℕ) → get (levels_of v) b ≡ level C (holdings_with v.arena P) b) → AreLevels C v
 right_by_slot C v P lawful leveled right slot = at (block_at v.arena slot) refl
   where
-    unknown : info_at v.arena slot ≡ None → level_of_slot v.kept slot ≡ level_in C (block_at v.arena slot)
+    unknown : info_at v.arena slot ≡ None → level_of_slot v.level_index slot ≡ level_in C (block_at v.arena slot)
     unknown h = leveled.unknown slot h ∙ (level_unknown (rack_of C) (is_draining C) (is_multi_rack C) (block_at v.arena slot) h)
 
-    led : (b : ℕ) → slot_of v.arena b ≡ Some slot → level_of_slot v.kept slot ≡ level_in C (block_at v.arena slot)
+    led : (b : ℕ) → slot_of v.arena b ≡ Some slot → level_of_slot v.level_index slot ≡ level_in C (block_at v.arena slot)
     led b is =
-        ap (option_and_then (level_of_slot v.kept)) (sym is) ∙ sym (get-levels_of v b) ∙ right b ∙ level_is_at_slot C v.arena P b lawful
+        ap (option_and_then (level_of_slot v.level_index)) (sym is) ∙ sym (get-levels_of v b) ∙ right b ∙ level_is_at_slot C v.arena P b lawful
         ∙ ap (option_and_then (λ x. level_in C (block_at v.arena x))) is
 
-    at : (o : Option Block) → block_at v.arena slot ≡ o → level_of_slot v.kept slot ≡ level_in C (block_at v.arena slot)
+    at : (o : Option Block) → block_at v.arena slot ≡ o → level_of_slot v.level_index slot ≡ level_in C (block_at v.arena slot)
     at None e = unknown (ap (option_and_then (λ (b : Block). b.info)) e)
     at (Some k) e = elim (cases_eq slot v.arena.delimiter) [
       | inl same ↦ unknown (ap (info_at v.arena) same ∙ leveled.blank)

@@ -24,7 +24,7 @@ levels_among K (p ∷ ps) = with_level (levels_among K ps) p.0 (level_of_slot K 
 
 -- the levels of all blocks, by number
 unfoldable pub levels_of : Leveled → Map by_number Level
-levels_of v = levels_among v.kept v.arena.ids
+levels_of v = levels_among v.level_index v.arena.ids
 
 -- the numbers that have an entry
 abbrev pub numbers_of : Contents → List ℕ

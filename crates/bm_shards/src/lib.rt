@@ -21,10 +21,10 @@ mod round_choice;
 mod round_parts;
 mod shard_work;
 mod table;
-mod threaded;
+mod thread_crew;
 mod workers;
 
 pub use all_shards::AllShards;
 pub use calling_thread::CallingThread;
-pub use threaded::Threaded;
+pub use thread_crew::Threaded;
 pub use workers::Workers;

@@ -34,7 +34,7 @@ mod managers;
 mod marks;
 mod publication;
 mod questions;
-mod refused;
+mod refused_allocations;
 mod reports;
 mod short_calls;
 mod slots;
@@ -142,7 +142,7 @@ fn run<R: Print + Eprint + Threads + Wait + Sync>(
     turns: u32,
 ) {
     match check {
-        Check::Refused => refused::run(rt, bench, turns),
+        Check::Refused => refused_allocations::run(rt, bench, turns),
         Check::Without => without::run(rt, bench),
         Check::Limits => limits::run(rt, bench),
         Check::Long => long::run(rt, bench),

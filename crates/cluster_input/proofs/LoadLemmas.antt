@@ -11,7 +11,7 @@ use Rattle.cluster_input.specs.ClusterNames.{names_of}
 use Rattle.cluster_input.specs.Inputs.{IsAfter, IsRead, accepts, accepts_as, notes_as, notes_on}
 use Rattle.cluster_input.specs.Kinds.{are_lines, IsHeadOf}
 use Rattle.cluster_input.specs.MadeCalls.{Makes}
-use Rattle.cluster_input.specs.declared.loaded.Loaded.{Loaded}
+use Rattle.cluster_input.specs.declared.loaded_cluster.Loaded.{Loaded}
 
 -- what holds of the head and the rest, read as one, holds of the text
 through_head : (known left : Option (List ℕ)) (head : List ℕ) (P : Bool → List ℕ → Type 0)

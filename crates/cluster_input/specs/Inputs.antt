@@ -12,7 +12,7 @@ use Rattle.fsck_import.specs.declared.text_reader.Reading.{Reading}
 use Rattle.cluster_input.specs.ClusterNames.{names_of}
 use Rattle.cluster_input.specs.Kinds.{are_lines}
 use Rattle.cluster_input.specs.MadeCalls.{Makes}
-use Rattle.cluster_input.specs.declared.loaded.Loaded.{Loaded}
+use Rattle.cluster_input.specs.declared.loaded_cluster.Loaded.{Loaded}
 
 -- A text of fsck was read. The calls for its cluster, and no other, were made and accepted. Racks,
 -- nodes, storages and files have the names of the text.

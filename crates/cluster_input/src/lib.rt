@@ -6,7 +6,7 @@
 mod calls;
 pub mod fault;
 mod kind;
-pub mod loaded;
+pub mod loaded_cluster;
 mod names;
 pub mod options;
 pub mod sources;

@@ -3,9 +3,9 @@ ghost use Rattle.std.specs.Prelude.{◌≡◌, None, IfSome};
 ghost use Rattle.cluster_report.specs.Sessions.{IsInStep};
 
 use crate::fault::Fault;
-use crate::loaded::Loaded;
+use crate::loaded_cluster::Loaded;
 use crate::options::Asked;
-use cluster_progress::watched::{Meter, NoteWriter, WatchedReader};
+use cluster_progress::watched_streams::{Meter, NoteWriter, WatchedReader};
 use fsck_cluster::Cluster;
 use fsck_import::say_text_notes;
 use fsck_import::text_reader::{Reading, read_nodes};

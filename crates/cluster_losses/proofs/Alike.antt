@@ -19,12 +19,12 @@ use Rattle.cluster_report.specs.Reports.{levels_held}
 use Rattle.cluster_report.specs.TagTotals.{blocks_held}
 use Rattle.cluster_losses.specs.Alike.{IsLike, IsSnapshot, AreSame}
 use Rattle.cluster_losses.specs.Events.{death}
-use Rattle.cluster_losses.specs.Outcomes.{StandsAs, IsOutcome}
+use Rattle.cluster_losses.specs.Outcomes.{AreClusterCounts, IsOutcome}
 use Rattle.cluster_losses.specs.Tables.{IsRowAt}
 use Rattle.cluster_losses.specs.declared.each.Row.{Row}
-use Rattle.cluster_losses.specs.declared.parts.Part.{Part}
+use Rattle.cluster_losses.specs.declared.failure_domains.FailureDomain.{FailureDomain}
 use Rattle.cluster_losses.specs.declared.snapshot.Snapshot.{Snapshot}
-use Rattle.cluster_losses.specs.declared.standing.Standing.{Standing}
+use Rattle.cluster_losses.specs.declared.cluster_counts.ClusterCounts.{ClusterCounts}
 use Rattle.cluster_losses.specs.declared.without.Outcome.{Outcome}
 use Rattle.cluster_losses.proofs.Clusters.{same_cluster}
 use Rattle.cluster_losses.specs.Lacking.{lacking_bytes, bytes_to_copy, in_128_bits, free_for_copies}
@@ -170,8 +170,8 @@ module _ (M N : State) (a : AreAlike M N) where
   levels_alike : levels_held N ≡ levels_held M
   levels_alike = λ i. map (λ b. record { block = b; level = level_alike M N a b i }) (blocks_held (a.like.replicas i))
 
-  stands_alike : (s : Standing) → StandsAs N s → StandsAs M s
-  stands_alike s there = record {
+  counts_alike : (s : ClusterCounts) → AreClusterCounts N s → AreClusterCounts M s
+  counts_alike s there = record {
     levels = there.levels ∙ (λ i. levels_counted (levels_alike i) (length (missing_alike M N a i)));
     missing = there.missing ∙ missing_alike M N a;
     lacking = there.lacking ∙ ap in_128_bits (lacking_alike M N a);
@@ -186,15 +186,15 @@ module _ (M N : State) (a : AreAlike M N) where
 outcome_alike : (M N : State) (ns : List ℕ) (w : Outcome) → AreAlike M N → IsOutcome N (map death ns) w → IsOutcome M (map death ns) w
 outcome_alike M N ns w a there = record {
   lost = there.lost ∙ lost_alike M N a (map death ns);
-  stands = stands_alike (after_losses M (map death ns)) (after_losses N (map death ns)) (alike_deaths M N ns a) w.after there.stands;
+  counts = counts_alike (after_losses M (map death ns)) (after_losses N (map death ns)) (alike_deaths M N ns a) w.after there.counts;
 }
 
 -- a row is the same in a state that is alike
-pub row_alike : (f : FileTable) (M N : State) (part : Part) (row : Row) → IsLike M N → excess_replicas M.holdings ≡ [] → IsRowAt f N part row → IsRowAt f M part row
-row_alike f M N part row like none there = record {
+pub row_alike : (f : FileTable) (M N : State) (domain : FailureDomain) (row : Row) → IsLike M N → excess_replicas M.holdings ≡ [] → IsRowAt f N domain row → IsRowAt f M domain row
+row_alike f M N domain row like none there = record {
   number = there.number;
   nodes = there.nodes;
-  outcome = outcome_alike M N part.nodes row.without (record { like = like; none = none }) there.outcome;
+  outcome = outcome_alike M N domain.nodes row.without (record { like = like; none = none }) there.outcome;
   files = there.files;
 }
 

@@ -5,7 +5,7 @@ pub mod Kept
 pub mod LackingLemmas
 pub mod NamedLemmas
 pub mod NumberLemmas
-pub mod PartLemmas
+pub mod DomainLemmas
 pub mod Reached
 pub mod Returned
 pub mod Same

@@ -13,7 +13,7 @@ use Rattle.cluster_pages.specs.AtRisk.{AreAtRisk}
 use Rattle.cluster_pages.specs.declared.at_risk.AtRisk.{AtRisk}
 use Rattle.cluster_losses.specs.Events.{death}
 use Rattle.cluster_losses.specs.Outcomes.{IsOutcome}
-use Rattle.cluster_losses.specs.declared.parts.Part.{Part}
+use Rattle.cluster_losses.specs.declared.failure_domains.FailureDomain.{FailureDomain}
 use Rattle.cluster_losses.specs.declared.each.Row.{Row}
 use Rattle.cluster_losses.specs.Tables.{IsRowAt, levels_cmp, row_cmp}
 
@@ -40,10 +40,10 @@ rows_rank =
     (λ (r : Row). r)
 
 -- a row, by the lists that the code has
-pub row_at : (f : FileTable) (M : State) (part : Part) (row : Row) (es : List Event) (blocks : List ℕ) (risk : AtRisk) → row.number ≡ part.number → row.nodes ≡ length part.nodes
-    → es ≡ map death part.nodes → IsOutcome M es row.without → blocks ≡ row.without.lost → AreAtRisk f blocks [] risk → row.lost_files ≡ length risk.lost
-    → IsRowAt f M part row
-row_at f M part row es blocks risk number nodes deaths outcome same files count = record {
+pub row_at : (f : FileTable) (M : State) (domain : FailureDomain) (row : Row) (es : List Event) (blocks : List ℕ) (risk : AtRisk) → row.number ≡ domain.number → row.nodes ≡ length domain.nodes
+    → es ≡ map death domain.nodes → IsOutcome M es row.without → blocks ≡ row.without.lost → AreAtRisk f blocks [] risk → row.lost_files ≡ length risk.lost
+    → IsRowAt f M domain row
+row_at f M domain row es blocks risk number nodes deaths outcome same files count = record {
   number = number;
   nodes = nodes;
   outcome = subst (λ fs. IsOutcome M fs row.without) deaths outcome;

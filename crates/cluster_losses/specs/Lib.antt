@@ -5,7 +5,7 @@ pub mod Faults
 pub mod Lacking
 pub mod Named
 pub mod Outcomes
-pub mod Parts
+pub mod FailureDomains
 pub mod Questions
 pub mod Reached
 pub mod Returned

@@ -13,7 +13,7 @@ use Rattle.cluster_losses.specs.declared.loss.Kind.{Kind}
 use Rattle.cluster_losses.specs.declared.loss.Kind.TheVariants as kind
 use Rattle.cluster_losses.specs.declared.loss.Loss.{Loss}
 use Rattle.cluster_losses.specs.declared.loss_events.Lost.{Lost}
-use Rattle.cluster_losses.specs.Parts.{nodes_on}
+use Rattle.cluster_losses.specs.FailureDomains.{nodes_on}
 
 -- the number that a text writes in decimal digits, perhaps after a plus, if it has 32 bits
 abbrev pub number_written : Text → Option ℕ

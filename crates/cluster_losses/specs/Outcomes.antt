@@ -6,12 +6,12 @@ use Rattle.cluster_lost.specs.Losses.{after_losses, lost_blocks}
 use Rattle.cluster_report.specs.Levels.{levels_counted}
 use Rattle.cluster_report.specs.Reports.{levels_held}
 use Rattle.cluster_losses.specs.Lacking.{lacking_bytes, in_128_bits, free_for_copies}
-use Rattle.cluster_losses.specs.declared.standing.Standing.{Standing}
+use Rattle.cluster_losses.specs.declared.cluster_counts.ClusterCounts.{ClusterCounts}
 use Rattle.cluster_losses.specs.declared.without.Outcome.{Outcome}
 
 -- The counts of a state: blocks at each level, missing blocks, bytes of the copies that blocks
 -- lack, and free bytes on nodes that do not drain.
-pub record StandsAs (M : State) (s : Standing) : Type 0 where
+pub record AreClusterCounts (M : State) (s : ClusterCounts) : Type 0 where
   pub levels : s.levels ≡ levels_counted (levels_held M) (length (missing_blocks M.cluster M.holdings))
   pub missing : s.missing ≡ missing_blocks M.cluster M.holdings
   pub lacking : s.lacking ≡ in_128_bits (lacking_bytes M)
@@ -20,4 +20,4 @@ pub record StandsAs (M : State) (s : Standing) : Type 0 where
 -- The outcome of losses: the lost blocks, and the counts of the cluster after them.
 pub record IsOutcome (M : State) (es : List Event) (w : Outcome) : Type 0 where
   pub lost : w.lost ≡ lost_blocks M es
-  pub stands : StandsAs (after_losses M es) w.after
+  pub counts : AreClusterCounts (after_losses M es) w.after

@@ -4,7 +4,7 @@ use Rattle.bm_base.specs.declared.event.Event.{Event}
 use Rattle.bm_base.specs.declared.event.Event.TheVariants.{Register, Heartbeat, Drain, Received, Corrupt, FullReport}
 use Rattle.bm_base.specs.declared.event.Remaining.{Remaining}
 use Rattle.bm_base.specs.Words.{Cluster, keys, has_storage, drains, remaining}
-use Rattle.cluster_losses.specs.Parts.{rack_number}
+use Rattle.cluster_losses.specs.FailureDomains.{rack_number}
 
 -- whether an event reports what is stored
 abbrev pub is_report : Event → Bool

@@ -11,7 +11,7 @@ use Rattle.cluster_pages.specs.AtRisk.{AreAtRisk}
 use Rattle.cluster_pages.specs.declared.at_risk.AtRisk.{AtRisk}
 use Rattle.cluster_losses.specs.Events.{death}
 use Rattle.cluster_losses.specs.Outcomes.{IsOutcome}
-use Rattle.cluster_losses.specs.declared.parts.Part.{Part}
+use Rattle.cluster_losses.specs.declared.failure_domains.FailureDomain.{FailureDomain}
 use Rattle.cluster_losses.specs.declared.each.Row.{Row}
 
 -- a row has the number of files of its lost blocks
@@ -20,11 +20,11 @@ pub record HasLostFiles (f : FileTable) (row : Row) : Type 0 where
   pub files : AreAtRisk f row.without.lost [] risk
   pub count : row.lost_files ≡ length risk.lost
 
--- a row has what is lost if the nodes of a part die in this state
-pub record IsRowAt (f : FileTable) (M : State) (part : Part) (row : Row) : Type 0 where
-  pub number : row.number ≡ part.number
-  pub nodes : row.nodes ≡ length part.nodes
-  pub outcome : IsOutcome M (map death part.nodes) row.without
+-- a row has what is lost if the nodes of a failure domain die in this state
+pub record IsRowAt (f : FileTable) (M : State) (domain : FailureDomain) (row : Row) : Type 0 where
+  pub number : row.number ≡ domain.number
+  pub nodes : row.nodes ≡ length domain.nodes
+  pub outcome : IsOutcome M (map death domain.nodes) row.without
   pub files : HasLostFiles f row
 
 -- more blocks at the highest level come first; then more very under-replicated ones; then more
@@ -40,9 +40,9 @@ row_cmp a b =
     ordering_then (nat_cmp (length b.without.lost) (length a.without.lost))
     (ordering_then (levels_cmp a.without.after.levels b.without.after.levels) (nat_cmp a.number b.number))
 
--- For each part a row of what is lost if it alone dies in this state, the worst first.
-pub record AreRows (f : FileTable) (M : State) (parts : List Part) (rows : List Row) : Type 0 where
+-- For each failure domain a row of what is lost if it alone dies in this state, the worst first.
+pub record AreRows (f : FileTable) (M : State) (domains : List FailureDomain) (rows : List Row) : Type 0 where
   pub made : List Row
-  pub each : AllZip (IsRowAt f M) parts made
+  pub each : AllZip (IsRowAt f M) domains made
   pub moved : IsPermutation made rows
   pub worst_first : IsSorted row_cmp rows

@@ -11,14 +11,14 @@ ghost use Rattle.cluster_losses.specs.Tables.{AreRows, IsRowAt, levels_cmp, row_
 
 use crate::fault::Fault;
 use crate::loss_events::Lost;
-use crate::parts::Part;
-pub use crate::parts::{nodes_of, racks_of};
+use crate::failure_domains::FailureDomain;
+pub use crate::failure_domains::{nodes_of, racks_of};
 use crate::returns::Return;
 use crate::set_back::returns_of;
 use crate::snapshot::Snapshot;
 use crate::without::{Outcome, without};
 use bm_base::Refusal;
-use cluster_input::loaded::Loaded;
+use cluster_input::loaded_cluster::Loaded;
 use cluster_names::Files;
 use cluster_pages::at_risk::files_at_risk;
 use cluster_report::levels::LevelCounts;
@@ -47,11 +47,11 @@ pub fn make_rows<H: Threads + Wait + Sync>(
     rt: &H,
     alloc: Global,
     loaded: &mut Loaded,
-    parts: &[Part],
+    domains: &[FailureDomain],
 ) -> Result<Vec<Row>, Fault>
     requires { IsInStep loaded.old.session }
     ensures rows { IfOk result (λ v.
-        AreRows loaded.old.files loaded.old.session.manager parts.now v.items) }
+        AreRows loaded.old.files loaded.old.session.manager domains.now v.items) }
     ensures like { OnOk result (IsLike loaded.old.session.manager loaded.new.session.manager) }
     ensures reached { OnOk result
         (IsReached loaded.old.session.manager loaded.new.session.manager) }
@@ -70,7 +70,7 @@ pub fn make_rows<H: Threads + Wait + Sync>(
         alloc,
         &mut loaded.session,
         &loaded.files,
-        parts,
+        domains,
         &first,
         returns.as_slice(),
     )?;
@@ -84,7 +84,7 @@ fn lose_each<H: Threads + Wait + Sync>(
     alloc: Global,
     session: &mut Session,
     files: &Files,
-    parts: &[Part],
+    domains: &[FailureDomain],
     first: &Snapshot,
     returns: &[Return],
 ) -> Result<Vec<Row>, Fault>
@@ -92,17 +92,17 @@ fn lose_each<H: Threads + Wait + Sync>(
     requires first { IsSnapshot session.old.manager first.now }
     requires none_in_excess { excess_replicas session.old.manager.holdings ≡ [] }
     ensures rows { IfOk result (λ v.
-        AllZip (IsRowAt files.now session.old.manager) parts.now v.items) }
+        AllZip (IsRowAt files.now session.old.manager) domains.now v.items) }
     ensures like { OnOk result (IsLike session.old.manager session.new.manager) }
     ensures reached { OnOk result (IsReached session.old.manager session.new.manager) }
     ensures in_step { OnOk result (IsInStep session.new) }
     ensures fault { IfErr result (IsRowsFault session.old.manager session.new.manager) }
 {
     let mut rows = Vec::new(alloc);
-    for part in parts {
-        let row = make_row(rt, alloc, session, files, part)?;
+    for domain in domains {
+        let row = make_row(rt, alloc, session, files, domain)?;
         rows.push(row)?;
-        set_back(rt, session, returns, part)?;
+        set_back(rt, session, returns, domain)?;
         first.compare(alloc, session)?;
     }
     Ok(rows)
@@ -115,24 +115,24 @@ fn make_row<H: Threads + Wait + Sync>(
     alloc: Global,
     session: &mut Session,
     files: &Files,
-    part: &Part,
+    domain: &FailureDomain,
 ) -> Result<Row, Fault>
     requires { IsInStep session.old }
-    ensures row { IfOk result (λ r. IsRowAt files.now session.old.manager part.now r) }
+    ensures row { IfOk result (λ r. IsRowAt files.now session.old.manager domain.now r) }
     ensures blocks { OnOk result (session.new.manager.holdings.blocks
         ≡ session.old.manager.holdings.blocks) }
     ensures reached { OnOk result (IsReached session.old.manager session.new.manager) }
     ensures in_step { OnOk result (IsInStep session.new) }
     ensures fault { IfErr result IsRefusal }
 {
-    let lost = Lost::of_nodes(alloc, part.nodes.as_slice())?;
+    let lost = Lost::of_nodes(alloc, domain.nodes.as_slice())?;
     let losses = lost.events(alloc)?;
     let missing = session.manager.missing()?;
     let found = without(rt, alloc, session, missing.as_slice(), losses.as_slice())?;
     let risk = files_at_risk(alloc, files, found.lost.as_slice(), &[])?;
     Ok(Row {
-        number: part.number,
-        nodes: part.nodes.len(),
+        number: domain.number,
+        nodes: domain.nodes.len(),
         lost_files: risk.lost.len(),
         without: found,
     })
@@ -144,7 +144,7 @@ fn set_back<H: Threads + Wait + Sync>(
     rt: &H,
     session: &mut Session,
     returns: &[Return],
-    part: &Part,
+    domain: &FailureDomain,
 ) -> Result<(), Refusal>
     requires { IsInStep session.old }
     ensures blocks { OnOk result (session.new.manager.holdings.blocks
@@ -153,7 +153,7 @@ fn set_back<H: Threads + Wait + Sync>(
     ensures in_step { OnOk result (IsInStep session.new) }
 {
     for node in returns {
-        node.make(rt, session, part.nodes.as_slice())?;
+        node.make(rt, session, domain.nodes.as_slice())?;
     }
     Ok(())
 }

@@ -3,16 +3,16 @@
 //! Each rack or each node can be lost alone, and comes back before the next.
 #![tactic(auto)]
 
+pub mod cluster_counts;
 pub mod each;
 pub mod events;
 pub mod fault;
 mod lacking_bytes;
 pub mod loss;
 pub mod loss_events;
-mod named;
-mod parts;
+mod name_lookup;
+mod failure_domains;
 mod returns;
 mod set_back;
 mod snapshot;
-pub mod standing;
 pub mod without;

@@ -8,9 +8,9 @@ ghost use Rattle.cluster_losses.specs.Named.{AreNamed, AreAdded, IsFaultOf, name
 
 use crate::fault::Fault;
 use crate::loss::{Kind, Loss};
-use crate::named::{nodes_in, nodes_named, storage_named};
+use crate::name_lookup::{nodes_in, nodes_named, storage_named};
 use bm_base::{Event, NodeId, StorageId};
-use cluster_input::loaded::Loaded;
+use cluster_input::loaded_cluster::Loaded;
 use std::alloc::{AllocError, Global};
 
 /// The lost nodes and storages, each once.

@@ -6,7 +6,7 @@ ghost use Rattle.cluster_report.specs.Sessions.{IsInStep};
 ghost use Rattle.cluster_losses.specs.Outcomes.{IsOutcome};
 
 use crate::events::apply_all;
-use crate::standing::{Standing, standing_of};
+use crate::cluster_counts::{ClusterCounts, count_cluster};
 use bm_base::{BlockId, Event, Items, Refusal};
 use cluster_lost::lost_blocks;
 use cluster_report::session::Session;
@@ -17,7 +17,7 @@ use std::thread::Threads;
 /// The cluster without what is lost, where no round came between.
 #[derive(Drop)]
 pub struct Outcome {
-    pub after: Standing,
+    pub after: ClusterCounts,
     /// The blocks that are missing after the losses and were not before, ascending.
     pub lost: Items<BlockId>,
 }
@@ -43,7 +43,7 @@ pub fn without<H: Threads + Wait + Sync>(
 {
     session.manager.show_invariant();
     apply_all(rt, session, losses)?;
-    let after = standing_of(alloc, session)?;
+    let after = count_cluster(alloc, session)?;
     let lost = lost_blocks(alloc, missing, after.missing.as_slice())?;
     Ok(Outcome { after, lost })
 }

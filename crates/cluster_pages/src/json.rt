@@ -1,12 +1,12 @@
 // The report as one JSON value.
 use crate::at_risk::{AtRisk, FileRow};
-use crate::output::Standing;
+use crate::output::ClusterReport;
 use crate::text::{all_block_bytes, all_blocks, all_replica_bytes, all_replicas, first_of};
 use crate::text_parts::{
     bytes_on, level_word, path_at, remaining_on, replicas_on, state_word, thousandths,
 };
 use bm_base::BlockId;
-use cluster_input::loaded::Loaded;
+use cluster_input::loaded_cluster::Loaded;
 use cluster_names::{Files, Names};
 use cluster_report::levels::{LevelBytes, LevelCounts, Leveled};
 use cluster_report::nodes::{NodeRow, StorageRow};
@@ -116,14 +116,14 @@ struct FileJson<'a> {
 }
 
 /// The report as one JSON value on one line, with at most `most` blocks and files of each list.
-pub fn standing_json(
+pub fn make_json(
     alloc: Global,
     loaded: &Loaded,
     most: usize,
-    standing: &Standing,
+    cluster: &ClusterReport,
 ) -> Result<String, Error> {
-    let report = &standing.report;
-    let (lost, endangered) = files_of(alloc, &loaded.files, most, &standing.risk)?;
+    let report = &cluster.report;
+    let (lost, endangered) = files_of(alloc, &loaded.files, most, &cluster.risk)?;
     let value = ReportJson {
         calls: report.calls,
         rounds: report.round,

@@ -53,13 +53,13 @@ ghost use Rattle.cluster_report.specs.Sessions.{IsInStep};
 
 use clap::Error;
 use clap::error::ErrorKind;
-use cluster_input::loaded::Loaded;
+use cluster_input::loaded_cluster::Loaded;
 use cluster_input::options::{asked_of, files_of};
 use cluster_input::sources::load;
-use json::standing_json;
+use json::make_json;
 use options::{Form, form_of, matches_of, wrong_value};
-use output::{PrintFault, Standing, print_report, say_print_fault, standing_of, write_flushed};
-use page::standing_page;
+use output::{PrintFault, ClusterReport, print_report, make_report, say_print_fault, write_flushed};
+use page::make_page;
 use page_file::write_page;
 use std::alloc::Global;
 use std::io;
@@ -126,11 +126,11 @@ fn report_on<R: Print + Eprint + Files + AllocGlobal>(
     requires { IsInStep loaded.now.session }
 {
     let alloc: Global = rt.alloc();
-    let Ok(standing) = standing_of(alloc, loaded) else {
+    let Ok(cluster) = make_report(alloc, loaded) else {
         return say_memory(rt);
     };
     if let Some(path) = form.page {
-        let Ok(page) = standing_page(alloc, loaded, form.most, &standing) else {
+        let Ok(page) = make_page(alloc, loaded, form.most, &cluster) else {
             return say_memory(rt);
         };
         if !write_page(rt, PROGRAM, path, page) {
@@ -139,9 +139,9 @@ fn report_on<R: Print + Eprint + Files + AllocGlobal>(
     }
     let mut writer = io::writer(rt);
     let printed = if form.is_json {
-        print_json(alloc, &mut writer, loaded, form.most, &standing)
+        print_json(alloc, &mut writer, loaded, form.most, &cluster)
     } else {
-        print_report(alloc, &mut writer, loaded, form.most, &standing)
+        print_report(alloc, &mut writer, loaded, form.most, &cluster)
     };
     match printed {
         Ok(()) => DONE,
@@ -158,9 +158,9 @@ fn print_json<W: Write>(
     writer: &mut W,
     loaded: &Loaded,
     most: usize,
-    standing: &Standing,
+    cluster: &ClusterReport,
 ) -> Result<(), PrintFault> {
-    let Ok(mut text) = standing_json(alloc, loaded, most, standing) else {
+    let Ok(mut text) = make_json(alloc, loaded, most, cluster) else {
         return Err(PrintFault::Memory);
     };
     text.push_str("\n")?;

@@ -2,11 +2,11 @@
 ghost use Rattle.std.specs.Prelude.{◌≡◌, IfOk, IfErr, OnOk, string_bytes};
 ghost use Rattle.std.specs.Io.KnownBytes.{Appends};
 ghost use Rattle.cluster_report.specs.Sessions.{IsInStep};
-ghost use Rattle.cluster_pages.specs.Output.{IsReportOn, PrintsReport, StandsAs, WritesNothing};
+ghost use Rattle.cluster_pages.specs.Output.{IsReportOn, PrintsReport, IsClusterReport, WritesNothing};
 
 use crate::at_risk::{AtRisk, files_at_risk};
 use crate::text::report_text;
-use cluster_input::loaded::Loaded;
+use cluster_input::loaded_cluster::Loaded;
 use cluster_report::report::{Report, report_of};
 use std::alloc::{AllocError, Global};
 use std::io;
@@ -15,15 +15,15 @@ use thiserror::Error;
 
 /// The report on a cluster, and its files at risk.
 #[derive(Drop)]
-pub struct Standing {
+pub struct ClusterReport {
     pub report: Report,
     pub risk: AtRisk,
 }
 
 /// The report on a loaded cluster. Here the manager refuses only when out of memory.
-pub fn standing_of(alloc: Global, loaded: &Loaded) -> Result<Standing, AllocError>
+pub fn make_report(alloc: Global, loaded: &Loaded) -> Result<ClusterReport, AllocError>
     requires { IsInStep loaded.now.session }
-    ensures { IfOk result (λ s. StandsAs loaded.now s) }
+    ensures { IfOk result (λ s. IsClusterReport loaded.now s) }
 {
     let Ok(report) = report_of(alloc, &loaded.session.manager, &loaded.session.book) else {
         return Err(AllocError);
@@ -34,18 +34,18 @@ pub fn standing_of(alloc: Global, loaded: &Loaded) -> Result<Standing, AllocErro
         report.missing.as_slice(),
         report.urgent.as_slice(),
     )?;
-    Ok(Standing { report, risk })
+    Ok(ClusterReport { report, risk })
 }
 
 /// The text of a report, with at most this number of blocks and files of each list.
 #[tactic(auto, using(crate::proofs::OutputLemmas::reported))]
-pub fn standing_text(
+pub fn make_text(
     alloc: Global,
     loaded: &Loaded,
     most: usize,
-    standing: &Standing,
+    cluster: &ClusterReport,
 ) -> Result<String, AllocError>
-    requires { StandsAs loaded.now standing.now }
+    requires { IsClusterReport loaded.now cluster.now }
     ensures { IfOk result (λ s. IsReportOn loaded.now most (string_bytes s)) }
 {
     report_text(
@@ -53,8 +53,8 @@ pub fn standing_text(
         &loaded.names,
         &loaded.files,
         most,
-        &standing.report,
-        &standing.risk,
+        &cluster.report,
+        &cluster.risk,
     )
 }
 
@@ -98,14 +98,14 @@ pub fn print_report<W: Write>(
     writer: &mut W,
     loaded: &Loaded,
     most: usize,
-    standing: &Standing,
+    cluster: &ClusterReport,
 ) -> Result<(), PrintFault>
-    requires { StandsAs loaded.now standing.now }
+    requires { IsClusterReport loaded.now cluster.now }
     ensures text { OnOk result (PrintsReport loaded.now most
         (W.contents writer.old) (W.contents writer.new)) }
     ensures nothing_written { IfErr result (λ f. WritesNothing f writer.old writer.new) }
 {
-    let text = standing_text(alloc, loaded, most, standing)?;
+    let text = make_text(alloc, loaded, most, cluster)?;
     match write_flushed(writer, text.as_bytes()) {
         Ok(()) => Ok(()),
         Err(error) => Err(PrintFault::Write(error)),

@@ -1,6 +1,6 @@
 // The report as one self-contained HTML page with tables, bars and a chart.
 use crate::chart::write_chart;
-use crate::output::Standing;
+use crate::output::ClusterReport;
 use crate::page_frame::{write_foot, write_head};
 use crate::page_parts::{
     begin_table, end_table, write_amount_row, write_bytes, write_cell, write_escaped, write_fact,
@@ -10,7 +10,7 @@ use crate::page_parts::{
 use crate::text::{all_blocks, all_replicas, first_of};
 use crate::text_parts::{bytes_on, level_word, remaining_on, replicas_on, state_word};
 use bm_base::BlockId;
-use cluster_input::loaded::Loaded;
+use cluster_input::loaded_cluster::Loaded;
 use cluster_names::{Files, Names};
 use cluster_report::levels::Leveled;
 use cluster_report::nodes::{NodeRow, StorageRow};
@@ -18,21 +18,21 @@ use cluster_report::report::Report;
 use std::alloc::{AllocError, Global};
 
 /// The page of a report, with at most `most` blocks and files of each list.
-pub fn standing_page(
+pub fn make_page(
     alloc: Global,
     loaded: &Loaded,
     most: usize,
-    standing: &Standing,
+    cluster: &ClusterReport,
 ) -> Result<String, AllocError> {
-    let report = &standing.report;
+    let report = &cluster.report;
     let mut text = String::new(alloc);
     write_head(&mut text, "How the cluster stands")?;
-    write_summary(&mut text, &loaded.files, standing)?;
+    write_summary(&mut text, &loaded.files, cluster)?;
     write_levels(&mut text, report)?;
     write_tags(&mut text, report)?;
     write_nodes(&mut text, &loaded.names, report)?;
     write_storages(&mut text, &loaded.names, report.nodes.as_slice())?;
-    write_files(&mut text, &loaded.files, most, standing)?;
+    write_files(&mut text, &loaded.files, most, cluster)?;
     write_missing(&mut text, &loaded.files, most, report.missing.as_slice())?;
     write_urgent(&mut text, &loaded.files, most, report.urgent.as_slice())?;
     write_foot(&mut text)?;
@@ -40,8 +40,8 @@ pub fn standing_page(
 }
 
 /// The most important numbers.
-fn write_summary(text: &mut String, files: &Files, standing: &Standing) -> Result<(), AllocError> {
-    let report = &standing.report;
+fn write_summary(text: &mut String, files: &Files, cluster: &ClusterReport) -> Result<(), AllocError> {
+    let report = &cluster.report;
     text.push_str("<dl>\n")?;
     write_fact(text, "nodes", report.nodes.as_slice().len() as u128)?;
     write_fact(text, "blocks", all_blocks(&report.levels))?;
@@ -53,8 +53,8 @@ fn write_summary(text: &mut String, files: &Files, standing: &Standing) -> Resul
         report.urgent.as_slice().len() as u128,
     )?;
     if files.file_count() > 0 {
-        let lost = standing.risk.lost.as_slice().len();
-        let endangered = standing.risk.endangered.as_slice().len();
+        let lost = cluster.risk.lost.as_slice().len();
+        let endangered = cluster.risk.endangered.as_slice().len();
         write_fact(text, "lost files", lost as u128)?;
         write_fact(text, "endangered files", endangered as u128)?;
     }
@@ -204,7 +204,7 @@ fn write_files(
     text: &mut String,
     files: &Files,
     most: usize,
-    standing: &Standing,
+    cluster: &ClusterReport,
 ) -> Result<(), AllocError> {
     if files.file_count() == 0 {
         return Ok(());
@@ -214,14 +214,14 @@ fn write_files(
         "Lost files",
         files,
         most,
-        standing.risk.lost.as_slice(),
+        cluster.risk.lost.as_slice(),
     )?;
     write_file_table(
         text,
         "Endangered files",
         files,
         most,
-        standing.risk.endangered.as_slice(),
+        cluster.risk.endangered.as_slice(),
     )
 }
 

@@ -2,7 +2,7 @@
 //! can ask whether standard error is a terminal, so its caller decides whether the line is shown.
 #![tactic(auto)]
 
-pub mod watched;
+pub mod watched_streams;
 
 ghost use Rattle.std.specs.Prelude.{◌≤◌, ◌≡◌, IsSome, false};
 

@@ -103,13 +103,13 @@ fn reason_of(
         (len_in session.now.book.blocks block) free.now }
 {
     lists_ascend();
-    let place = Place {
+    let leveled = LeveledBlock {
         topology: &session.book.topology,
         replicas: replicas_of(replicas, block),
         length: session.book.blocks.len_of(block),
         level,
     };
-    place.reason(free)
+    leveled.reason(free)
 }
 
 /// The replicas of a block among all, which come by block.
@@ -123,16 +123,16 @@ fn replicas_of(replicas: &[Replica], block: BlockId) -> &[Replica]
     &rest[..count]
 }
 
-/// A block, and where its replicas are.
+/// A block with a level, and where its replicas are.
 #[derive(Clone, Copy)]
-struct Place<'a> {
+struct LeveledBlock<'a> {
     topology: &'a Topology,
     replicas: &'a [Replica],
     length: u64,
     level: Level,
 }
 
-impl Place<'_> {
+impl LeveledBlock<'_> {
     fn reason(&self, free: &FreeBytes) -> Reason
         ensures { result ≡ reason_for self.now.topology.now.cluster self.now.replicas.now
             self.now.level self.now.length free.now }

@@ -3,17 +3,17 @@ use Rattle.std.proofs.Common.{◌≡◌, ℕ, List, [], Option, map, subst}
 use Rattle.std.specs.Prelude.{filter, string_bytes}
 use Rattle.bm_base.specs.declared.event.Event.{Event}
 use Rattle.bm_base.specs.Words.{State, keys, knows_node}
-use Rattle.cluster_input.specs.declared.loaded.Loaded.{Loaded}
+use Rattle.cluster_input.specs.declared.loaded_cluster.Loaded.{Loaded}
 use Rattle.cluster_lost.specs.Losses.{after_losses}
 use Rattle.cluster_losses.specs.Alike.{IsLike}
 use Rattle.cluster_losses.specs.Events.{events_of}
 use Rattle.cluster_losses.specs.Named.{AreNamed}
-use Rattle.cluster_losses.specs.Parts.{AreRacks, node_part}
+use Rattle.cluster_losses.specs.FailureDomains.{AreRacks, node_domain}
 use Rattle.cluster_losses.specs.Tables.{AreRows}
 use Rattle.cluster_losses.specs.declared.loss.Kind.TheVariants as kind
 use Rattle.cluster_losses.specs.declared.loss.Loss.{Loss}
-use Rattle.cluster_losses.specs.declared.parts.Part.{Part}
-use Rattle.cluster_losses.specs.Outcomes.{StandsAs, IsOutcome}
+use Rattle.cluster_losses.specs.declared.failure_domains.FailureDomain.{FailureDomain}
+use Rattle.cluster_losses.specs.Outcomes.{AreClusterCounts, IsOutcome}
 use Rattle.cluster_losses.specs.declared.loss_events.Lost.{Lost}
 use Rattle.cluster_names.specs.FileTable.{FileTable}
 use Rattle.cluster_pages.specs.AtRisk.{AreAtRisk}
@@ -30,7 +30,7 @@ use Rattle.cluster_what_if.specs.declared.found.Mended.{Mended}
 use Rattle.cluster_what_if.specs.declared.found.Table.{Table}
 
 pub answered : (f : FileTable) (M : State) (es : List Event) (a : Answer)
-    → StandsAs M a.before
+    → AreClusterCounts M a.before
     → IsOutcome M es a.without
     → AreAtRisk f a.without.lost [] a.risk
     → IsAnswer f M es a
@@ -59,19 +59,19 @@ pub found_of : (before after : Loaded) (pace : Option Pace) (ls : List Loss) (lo
     → AreFoundOf before after pace ls it
 found_of before after pace ls lost it named found = record { lost = lost; named = named; found = found }
 
-pub racks_found : (before after : Loaded) (parts : List Part) (t : Table)
-    → AreRacks before.session.book.topology.cluster parts
-    → AreRows before.files before.session.manager parts t.rows.items
+pub racks_found : (before after : Loaded) (domains : List FailureDomain) (t : Table)
+    → AreRacks before.session.book.topology.cluster domains
+    → AreRows before.files before.session.manager domains t.rows.items
     → t.kind ≡ kind.Rack
     → IsLike before.session.manager after.session.manager
     → IsTableOfRacks before after t
-racks_found before after parts t racks rows kind_is like = record { parts = parts; racks = racks; rows = rows; kind_is = kind_is; like = like }
+racks_found before after domains t racks rows kind_is like = record { domains = domains; racks = racks; rows = rows; kind_is = kind_is; like = like }
 
-pub nodes_found : (before after : Loaded) (parts : List Part) (t : Table)
-    → parts ≡ map node_part (keys before.session.book.topology.cluster.nodes)
-    → AreRows before.files before.session.manager parts t.rows.items
+pub nodes_found : (before after : Loaded) (domains : List FailureDomain) (t : Table)
+    → domains ≡ map node_domain (keys before.session.book.topology.cluster.nodes)
+    → AreRows before.files before.session.manager domains t.rows.items
     → t.kind ≡ kind.Node
     → IsLike before.session.manager after.session.manager
     → IsTableOfNodes before after t
-nodes_found before after parts t is rows kind_is like =
+nodes_found before after domains t is rows kind_is like =
     record { rows = subst (λ ps. AreRows before.files before.session.manager ps t.rows.items) is rows; kind_is = kind_is; like = like }

@@ -1,19 +1,19 @@
 -- What is found about losses.
 use Rattle.std.specs.Prelude.{◌≡◌, ℕ, List, Option, Some, None, filter, map, string_bytes}
 use Rattle.bm_base.specs.Words.{State, keys, knows_node}
-use Rattle.cluster_input.specs.declared.loaded.Loaded.{Loaded}
+use Rattle.cluster_input.specs.declared.loaded_cluster.Loaded.{Loaded}
 use Rattle.cluster_lost.specs.Losses.{after_losses}
 use Rattle.cluster_losses.specs.Alike.{IsLike}
 use Rattle.cluster_losses.specs.Events.{events_of}
 use Rattle.cluster_losses.specs.Named.{AreNamed}
-use Rattle.cluster_losses.specs.Parts.{AreRacks, node_part}
+use Rattle.cluster_losses.specs.FailureDomains.{AreRacks, node_domain}
 use Rattle.cluster_losses.specs.Tables.{AreRows}
 use Rattle.cluster_losses.specs.declared.loss.Kind.TheVariants as kind
 use Rattle.cluster_losses.specs.declared.loss.Loss.{Loss}
 use Rattle.cluster_losses.specs.declared.loss.Question.{Question}
 use Rattle.cluster_losses.specs.declared.loss.Question.TheVariants as question
 use Rattle.cluster_losses.specs.declared.loss_events.Lost.{Lost}
-use Rattle.cluster_losses.specs.declared.parts.Part.{Part}
+use Rattle.cluster_losses.specs.declared.failure_domains.FailureDomain.{FailureDomain}
 use Rattle.cluster_repair.specs.Reasons.{HaveReasons}
 use Rattle.cluster_repair.specs.Rows.{IsDone, AreUnmended}
 use Rattle.cluster_repair.specs.declared.repair.Pace.{Pace}
@@ -56,15 +56,15 @@ pub record AreFoundOf (before after : Loaded) (pace : Option Pace) (ls : List Lo
 
 -- a row for each rack, which is lost alone; the cluster is then as before
 pub record IsTableOfRacks (before after : Loaded) (t : Table) : Type 0 where
-  pub parts : List Part
-  pub racks : AreRacks before.session.book.topology.cluster parts
-  pub rows : AreRows before.files before.session.manager parts t.rows.items
+  pub domains : List FailureDomain
+  pub racks : AreRacks before.session.book.topology.cluster domains
+  pub rows : AreRows before.files before.session.manager domains t.rows.items
   pub kind_is : t.kind ≡ kind.Rack
   pub like : IsLike before.session.manager after.session.manager
 
 -- a row for each node
 pub record IsTableOfNodes (before after : Loaded) (t : Table) : Type 0 where
-  pub rows : AreRows before.files before.session.manager (map node_part (keys before.session.book.topology.cluster.nodes)) t.rows.items
+  pub rows : AreRows before.files before.session.manager (map node_domain (keys before.session.book.topology.cluster.nodes)) t.rows.items
   pub kind_is : t.kind ≡ kind.Node
   pub like : IsLike before.session.manager after.session.manager
 

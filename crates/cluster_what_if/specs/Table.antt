@@ -7,7 +7,7 @@ use Rattle.cluster_names.specs.declared.names.Names.{Names}
 use Rattle.cluster_losses.specs.declared.each.Row.{Row}
 use Rattle.cluster_losses.specs.declared.loss.Kind.{Kind}
 use Rattle.cluster_losses.specs.declared.loss.Kind.TheVariants.{Rack}
-use Rattle.cluster_losses.specs.declared.standing.Standing.{Standing}
+use Rattle.cluster_losses.specs.declared.cluster_counts.ClusterCounts.{ClusterCounts}
 use Rattle.cluster_losses.specs.declared.without.Outcome.{Outcome}
 use Rattle.cluster_what_if.specs.Columns.{number_in, word_in, word_first, level_heads, level_numbers}
 use Rattle.cluster_what_if.specs.Text.{yes_or_no}
@@ -49,7 +49,7 @@ unfoldable pub lost_text : Outcome → List ℕ
 lost_text w = number_in 11 (length w.lost) ++ (codes " " ++ level_numbers w.after.levels)
 
 -- the bytes that are to be copied, those that are free, and whether they suffice
-unfoldable pub needs_text : Standing → List ℕ
+unfoldable pub needs_text : ClusterCounts → List ℕ
 needs_text s =
     number_in 20 s.lacking ++ (codes " "
     ++ (number_in 20 s.free ++ (codes " "

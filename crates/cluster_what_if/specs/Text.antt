@@ -10,7 +10,7 @@ use Rattle.cluster_report.specs.declared.levels.LevelCounts.{LevelCounts}
 use Rattle.cluster_pages.specs.Text.{file_line}
 use Rattle.cluster_pages.specs.declared.at_risk.FileRow.{FileRow}
 use Rattle.cluster_losses.specs.declared.loss_events.Lost.{Lost}
-use Rattle.cluster_losses.specs.declared.standing.Standing.{Standing}
+use Rattle.cluster_losses.specs.declared.cluster_counts.ClusterCounts.{ClusterCounts}
 use Rattle.cluster_what_if.specs.declared.answers.Answer.{Answer}
 
 -- a node that is lost or drained, with its rack
@@ -72,11 +72,11 @@ yes_or_no true = codes "yes"
 yes_or_no false = codes "no"
 
 -- whether the free bytes suffice for what is to be copied
-unfoldable pub fits_line : Standing → List ℕ
+unfoldable pub fits_line : ClusterCounts → List ℕ
 fits_line after = codes "free bytes suffice " ++ (yes_or_no (nat_le after.lacking after.free) ++ codes "\n")
 
 -- the bytes that are to be copied, those that are free, and whether they suffice
-unfoldable pub copies_text : Standing → List ℕ
+unfoldable pub copies_text : ClusterCounts → List ℕ
 copies_text after =
     count_line (codes "bytes to copy") after.lacking
     ++ (count_line (codes "free bytes") after.free

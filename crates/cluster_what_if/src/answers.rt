@@ -5,7 +5,7 @@ ghost use Rattle.cluster_report.specs.Sessions.{IsInStep};
 ghost use Rattle.cluster_what_if.specs.Answers.{IsAnswer};
 
 use bm_base::{Event, Refusal};
-use cluster_losses::standing::{Standing, standing_of};
+use cluster_losses::cluster_counts::{ClusterCounts, count_cluster};
 use cluster_losses::without::{Outcome, without};
 use cluster_names::Files;
 use cluster_pages::at_risk::{AtRisk, files_at_risk};
@@ -17,7 +17,7 @@ use std::thread::Threads;
 /// The counts of the cluster before losses and after them, with no round between.
 #[derive(Drop)]
 pub struct Answer {
-    pub before: Standing,
+    pub before: ClusterCounts,
     pub without: Outcome,
     /// The files of the lost blocks.
     pub risk: AtRisk,
@@ -40,7 +40,7 @@ pub fn answer_to_losses<H: Threads + Wait + Sync>(
         ≡ after_losses session.old.manager losses.now) }
     ensures in_step { OnOk result (IsInStep session.new) }
 {
-    let before = standing_of(alloc, session)?;
+    let before = count_cluster(alloc, session)?;
     let found = without(rt, alloc, session, before.missing.as_slice(), losses)?;
     let risk = files_at_risk(alloc, files, found.lost.as_slice(), &[])?;
     Ok(Answer {

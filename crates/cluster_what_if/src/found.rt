@@ -7,7 +7,7 @@ use crate::answers::{Answer, answer_to_losses};
 use crate::options::Asked;
 use crate::text::write_lost;
 use bm_base::{NodeId, Refusal};
-use cluster_input::loaded::Loaded;
+use cluster_input::loaded_cluster::Loaded;
 use cluster_losses::each::{Row, make_rows, nodes_of, racks_of};
 use cluster_losses::fault::Fault;
 use cluster_losses::loss::{Kind, Question};
@@ -75,14 +75,14 @@ pub fn find<R: Eprint + Threads + Wait + Sync>(
             Ok(Found::Losses(losses))
         }
         Question::EachRack => {
-            let parts = racks_of(alloc, &loaded.session.book)?;
-            let rows = make_rows(rt, alloc, loaded, parts.as_slice())?;
+            let domains = racks_of(alloc, &loaded.session.book)?;
+            let rows = make_rows(rt, alloc, loaded, domains.as_slice())?;
             let kind = Kind::Rack;
             Ok(Found::Table(Table { kind, rows }))
         }
         Question::EachNode => {
-            let parts = nodes_of(alloc, &loaded.session.book)?;
-            let rows = make_rows(rt, alloc, loaded, parts.as_slice())?;
+            let domains = nodes_of(alloc, &loaded.session.book)?;
+            let rows = make_rows(rt, alloc, loaded, domains.as_slice())?;
             let kind = Kind::Node;
             Ok(Found::Table(Table { kind, rows }))
         }

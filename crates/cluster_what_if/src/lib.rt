@@ -34,7 +34,7 @@ ghost use Rattle.cluster_report.specs.Sessions.{IsInStep};
 
 use clap::Error;
 use clap::error::ErrorKind;
-use cluster_input::loaded::Loaded;
+use cluster_input::loaded_cluster::Loaded;
 use cluster_input::options::files_of;
 use cluster_input::sources::load;
 use cluster_losses::fault::Fault;

@@ -5,7 +5,7 @@ use crate::page_rounds::{write_mended, write_mended_facts};
 use crate::page_table::write_table_page;
 use crate::text::fits_word;
 use bm_base::BlockId;
-use cluster_losses::standing::Standing;
+use cluster_losses::cluster_counts::ClusterCounts;
 use cluster_names::{Files, Names};
 use cluster_pages::page_frame::{write_foot, write_head};
 use cluster_pages::page_parts::{
@@ -81,7 +81,7 @@ fn write_facts(text: &mut String, files: &Files, losses: &Losses) -> Result<(), 
 }
 
 /// The bytes that are to be copied, those that are free, and whether they suffice.
-fn write_needs(text: &mut String, after: &Standing) -> Result<(), AllocError> {
+fn write_needs(text: &mut String, after: &ClusterCounts) -> Result<(), AllocError> {
     write_bytes_fact(text, "bytes to copy", after.lacking)?;
     write_bytes_fact(text, "free bytes", after.free)?;
     let fits = fits_word(after);

@@ -6,7 +6,7 @@ use crate::text::fits_word;
 use bm_base::{NodeId, Rack};
 use cluster_losses::each::Row;
 use cluster_losses::loss::Kind;
-use cluster_losses::standing::Standing;
+use cluster_losses::cluster_counts::ClusterCounts;
 use cluster_names::{Files, Names};
 use cluster_pages::page_frame::write_head;
 use cluster_pages::page_parts::{
@@ -103,7 +103,7 @@ pub fn write_level_cells(text: &mut String, levels: &LevelCounts) -> Result<(), 
 
 /// The bytes that are to be copied with a bar of them, those that are free, and whether they
 /// suffice.
-fn write_needs(text: &mut String, after: &Standing, most: u128) -> Result<(), AllocError> {
+fn write_needs(text: &mut String, after: &ClusterCounts, most: u128) -> Result<(), AllocError> {
     text.push_str("<td class=\"n\">")?;
     write_bytes(text, after.lacking)?;
     text.push_str("</td>")?;

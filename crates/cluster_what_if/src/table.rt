@@ -8,10 +8,10 @@ use crate::columns::{write_level_heads, write_level_numbers};
 use crate::found::Table;
 use crate::text::{fits_word, write_node, write_rack};
 use bm_base::{NodeId, Rack};
-use cluster_input::loaded::Loaded;
+use cluster_input::loaded_cluster::Loaded;
 use cluster_losses::each::Row;
 use cluster_losses::loss::Kind;
-use cluster_losses::standing::Standing;
+use cluster_losses::cluster_counts::ClusterCounts;
 use cluster_losses::without::Outcome;
 use cluster_names::{Files, Names};
 use std::alloc::{AllocError, Global};
@@ -161,7 +161,7 @@ fn write_lost(text: &mut String, without: &Outcome) -> Result<(), AllocError>
 
 /// The bytes that are to be copied, those that are free, and whether they suffice.
 #[tactic(auto, unfolding(crate::specs::Table::needs_text))]
-fn write_needs(text: &mut String, after: &Standing) -> Result<(), AllocError>
+fn write_needs(text: &mut String, after: &ClusterCounts) -> Result<(), AllocError>
     ensures { OnOk result (string_bytes text.new ≡ string_bytes text.old ++ needs_text after.now) }
 {
     let lacking = after.lacking;

@@ -6,9 +6,9 @@ ghost use Rattle.cluster_what_if.specs.Text.{node_words, node_line, storage_line
 
 use crate::answers::Answer;
 use bm_base::{BlockId, NodeId, Rack, StorageId};
-use cluster_input::loaded::Loaded;
+use cluster_input::loaded_cluster::Loaded;
 use cluster_losses::loss_events::Lost;
-use cluster_losses::standing::Standing;
+use cluster_losses::cluster_counts::ClusterCounts;
 use cluster_names::{Files, Names};
 use cluster_pages::at_risk::FileRow;
 use cluster_pages::text::first_of;
@@ -255,7 +255,7 @@ pub fn write_end(text: &mut String, place: Option<(&str, u64)>) -> Result<(), Al
 
 /// The bytes that are to be copied, and whether they fit.
 #[tactic(auto, unfolding(crate::specs::Text::copies_text))]
-fn write_copies(text: &mut String, after: &Standing) -> Result<(), AllocError>
+fn write_copies(text: &mut String, after: &ClusterCounts) -> Result<(), AllocError>
     ensures { OnOk result (string_bytes text.new ≡ string_bytes text.old
         ++ copies_text after.now) }
 {
@@ -265,7 +265,7 @@ fn write_copies(text: &mut String, after: &Standing) -> Result<(), AllocError>
 }
 
 #[tactic(auto, unfolding(crate::specs::Text::fits_line))]
-fn write_fits(text: &mut String, after: &Standing) -> Result<(), AllocError>
+fn write_fits(text: &mut String, after: &ClusterCounts) -> Result<(), AllocError>
     ensures { OnOk result (string_bytes text.new ≡ string_bytes text.old ++ fits_line after.now) }
 {
     let fits = fits_word(after);
@@ -273,7 +273,7 @@ fn write_fits(text: &mut String, after: &Standing) -> Result<(), AllocError>
 }
 
 /// Whether what is to be copied is no more than what is free.
-pub fn fits_word(after: &Standing) -> &'static str
+pub fn fits_word(after: &ClusterCounts) -> &'static str
     ensures { result.now ≡ yes_or_no (nat_le after.now.lacking after.now.free) }
 {
     if after.lacking <= after.free {

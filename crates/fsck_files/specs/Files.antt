@@ -25,8 +25,8 @@ use Rattle.fsck_files.specs.declared.files.File.{File}
 use Rattle.fsck_files.specs.declared.files.Files.{Files}
 use Rattle.fsck_files.specs.declared.files.LineFault.{LineFault}
 use Rattle.fsck_files.specs.declared.files.LineFault.TheVariants as fault
-use Rattle.fsck_files.specs.declared.files.Part.{Part}
-use Rattle.fsck_files.specs.declared.files.Part.TheVariants as part
+use Rattle.fsck_files.specs.declared.files.Section.{Section}
+use Rattle.fsck_files.specs.declared.files.Section.TheVariants as section
 use Rattle.fsck_files.specs.declared.refusal.Refusal.{Refusal}
 use Rattle.fsck_files.specs.declared.refusal.Refusal.TheVariants as refusal
 use Rattle.fsck_files.specs.declared.refusal.Why.{Why}
@@ -47,7 +47,7 @@ abbrev pub no_files : Skips → Unclear → Files
 no_files skips unclear = record {
   skips = skips;
   unclear = unclear;
-  part = part.Before;
+  section = section.Before;
   file = no_file;
   corrupt = [];
   counts = no_counts;
@@ -65,8 +65,8 @@ abbrev pub After : Type 0
 After = Result Files Why
 
 -- the first line of fsck comes once, before all files
-abbrev pub after_first : Files → Part → After
-after_first s part.Before = Ok (record s { part = part.Begun })
+abbrev pub after_first : Files → Section → After
+after_first s section.Before = Ok (record s { section = section.Begun })
 after_first s _ = Err why.OutOfPlace
 
 -- the file is left out, if its kind is
@@ -81,14 +81,14 @@ is_coded layout.ErasureCoded = true
 is_coded layout.Replicated = false
 
 -- the heading of a file may come before the summary
-abbrev pub may_head : Part → Bool
-may_head part.Summary = false
-may_head part.Behind = false
+abbrev pub may_head : Section → Bool
+may_head section.Summary = false
+may_head section.Behind = false
 may_head _ = true
 
 abbrev pub headed : Files → Heading → Files
 headed s h = record s {
-  part = part.Files;
+  section = section.Files;
   file = record { target = h.target; announced = h.blocks; read = 0; corrupt_read = 0; is_coded = is_coded h.layout; is_left_out = false };
   corrupt = [];
   counts = with_blocks s.counts (is_coded h.layout) h.blocks;
@@ -106,7 +106,7 @@ lacks_corrupt s = not s.file.is_left_out && nat_lt s.file.corrupt_read (length s
 -- why the next heading or the summary may not come here
 abbrev pub unended : Files → Option Why
 unended s =
-    if not (may_head s.part) then Some why.OutOfPlace
+    if not (may_head s.section) then Some why.OutOfPlace
     else (if lacks_blocks s.file then Some why.BlockLeftOut
     else (if lacks_corrupt s then Some why.CorruptElsewhere else None))
 
@@ -115,13 +115,13 @@ abbrev pub after_heading : Files → Heading → After
 after_heading s h =
     option_map_or (λ reason. Err reason) (unended s) (option_map_or (left_out (headed s h)) (kind_of h) (Ok (headed s h)))
 
-abbrev pub is_files : Part → Bool
-is_files part.Files = true
+abbrev pub is_files : Section → Bool
+is_files section.Files = true
 is_files _ = false
 
 -- a line about a file comes after its heading and before its blocks
 abbrev pub is_open : Files → Bool
-is_open s = is_files s.part && (s.file.read == 0)
+is_open s = is_files s.section && (s.file.read == 0)
 
 -- the result for a parsed line, or the fault of the line
 abbrev pub read_as : {A B : Type 0} → (A → Result B Refusal) → Result A Wrong → Result B Refusal
@@ -153,10 +153,10 @@ after_target s target =
 -- the summary begins after all blocks of the last file
 abbrev pub after_status : Files → Bool → After
 after_status s healthy =
-    option_map_or (λ reason. Err reason) (unended s) (Ok (record s { part = part.Summary; is_healthy = healthy }))
+    option_map_or (λ reason. Err reason) (unended s) (Ok (record s { section = section.Summary; is_healthy = healthy }))
 
-abbrev pub is_summary : Part → Bool
-is_summary part.Summary = true
+abbrev pub is_summary : Section → Bool
+is_summary section.Summary = true
 is_summary _ = false
 
 -- a number of the summary agrees with what was read
@@ -167,11 +167,11 @@ compared s count sum =
 
 -- a number of the summary is compared; a number outside the summary is ignored
 abbrev pub after_sum : Files → Count → ℕ → After
-after_sum s count sum = if is_summary s.part then compared s count sum else Ok s
+after_sum s count sum = if is_summary s.section then compared s count sum else Ok s
 
 -- the summary reports the number of files that are not in the text
 abbrev pub after_unlisted : Files → ℕ → Files
-after_unlisted s files = if is_summary s.part then record s { unlisted = plus s.unlisted files } else s
+after_unlisted s files = if is_summary s.section then record s { unlisted = plus s.unlisted files } else s
 
 -- the summary and the last line both report all files as healthy, or neither does
 abbrev pub agrees : Bool → Bool → Bool
@@ -181,12 +181,12 @@ agrees first second = if first then second else not second
 abbrev pub ended : Files → Bool → Bool → After
 ended s healthy of_all =
     if agrees (is_healthy s.counts) healthy && agrees s.is_healthy healthy
-    then Ok (record s { part = part.Behind; is_of_all = of_all }) else Err why.OtherHealth
+    then Ok (record s { section = section.Behind; is_of_all = of_all }) else Err why.OtherHealth
 
 -- the last line of fsck comes after a summary with the numbers of blocks and of corrupt blocks
 abbrev pub after_last : Files → Bool → Bool → After
 after_last s healthy of_all =
-    if not (is_summary s.part) then Err why.OutOfPlace
+    if not (is_summary s.section) then Err why.OutOfPlace
     else (if not s.summed.blocks then Err why.NoSum
     else (if not s.summed.corrupt then Err why.NoCorruptSum
     else ended s healthy of_all))
@@ -299,19 +299,19 @@ after_indexed s index text =
     else (if is_next s.file index then read_as (after_block s) (block_of text) else refused why.NotNext)
 
 -- a block comes after the heading of its file, and before the summary
-abbrev pub after_placed : Part → Files → ℕ → Text → Taken
-after_placed part.Before s index text = refused why.NoHeading
-after_placed part.Begun s index text = refused why.NoHeading
-after_placed part.Files s index text = after_indexed s index text
-after_placed part.Summary s index text = refused why.OutOfPlace
-after_placed part.Behind s index text = refused why.OutOfPlace
+abbrev pub after_placed : Section → Files → ℕ → Text → Taken
+after_placed section.Before s index text = refused why.NoHeading
+after_placed section.Begun s index text = refused why.NoHeading
+after_placed section.Files s index text = after_indexed s index text
+after_placed section.Summary s index text = refused why.OutOfPlace
+after_placed section.Behind s index text = refused why.OutOfPlace
 
 abbrev pub after_kind : Files → Line → Taken
-after_kind s line.First = without (after_first s s.part)
+after_kind s line.First = without (after_first s s.section)
 after_kind s (line.Heading h) = without (after_heading s h)
 after_kind s (line.Corrupt text) = without_block (after_corrupt s text)
 after_kind s (line.Target target) = without (after_target s target)
-after_kind s (line.Block index text) = after_placed s.part s index text
+after_kind s (line.Block index text) = after_placed s.section s index text
 after_kind s (line.Status healthy) = without (after_status s healthy)
 after_kind s (line.Sum count sum) = without (after_sum s count sum)
 after_kind s (line.Unlisted files) = Ok (after_unlisted s files, None)
@@ -332,6 +332,6 @@ abbrev pub IsCause : {A : Type 0} → LineFault → Result A Refusal → Type 0
 IsCause fault.Memory after = ⊤
 IsCause (fault.Refused r) after = after ≡ Err r
 
-abbrev pub is_whole : Part → Bool
-is_whole part.Behind = true
+abbrev pub is_whole : Section → Bool
+is_whole section.Behind = true
 is_whole _ = false

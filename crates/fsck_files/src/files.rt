@@ -14,9 +14,9 @@ use fsck_text::{
 };
 use std::alloc::{AllocError, Global};
 
-/// The part of the text in which the next line is.
+/// The section of the text in which the next line is.
 #[derive(Clone, Copy, Debug, PartialEq, Drop)]
-pub enum Part {
+pub enum Section {
     /// Before the first line of fsck, and before the first file.
     Before,
     /// After the first line of fsck, and before the first file.
@@ -70,7 +70,7 @@ impl File {
 pub struct Files {
     pub skips: Skips,
     pub unclear: Unclear,
-    pub part: Part,
+    pub section: Section,
     pub file: File,
     /// The blocks that fsck reports as corrupt under the heading of the file.
     pub corrupt: Numbers,
@@ -153,7 +153,7 @@ impl Files {
         Files {
             skips,
             unclear,
-            part: Part::Before,
+            section: Section::Before,
             file: File {
                 target: None,
                 announced: 0,
@@ -204,13 +204,13 @@ impl Files {
     }
 
     fn take_first(&mut self) -> Result<(), Why>
-        ensures ok { OnOk result (after_first self.old self.old.part ≡ Ok self.new) }
-        ensures refused { IfErr result (λ why. after_first self.old self.old.part ≡ Err why) }
+        ensures ok { OnOk result (after_first self.old self.old.section ≡ Ok self.new) }
+        ensures refused { IfErr result (λ why. after_first self.old self.old.section ≡ Err why) }
     {
-        if !matches!(self.part, Part::Before) {
+        if !matches!(self.section, Section::Before) {
             return Err(Why::OutOfPlace);
         }
-        self.part = Part::Begun;
+        self.section = Section::Begun;
         Ok(())
     }
 
@@ -231,7 +231,7 @@ impl Files {
     fn unended(&self) -> Option<Why>
         ensures { result ≡ unended self.now }
     {
-        if matches!(self.part, Part::Summary | Part::Behind) {
+        if matches!(self.section, Section::Summary | Section::Behind) {
             Some(Why::OutOfPlace)
         } else if self.file.read < self.file.announced {
             Some(Why::BlockLeftOut)
@@ -250,7 +250,7 @@ impl Files {
             return Err(why);
         }
         let is_coded = matches!(heading.layout, Layout::ErasureCoded);
-        self.part = Part::Files;
+        self.section = Section::Files;
         self.file = File {
             target: heading.target,
             announced: heading.blocks,
@@ -271,7 +271,7 @@ impl Files {
     fn is_open(&self) -> bool
         ensures { result ≡ is_open self.now }
     {
-        matches!(self.part, Part::Files) && self.file.read == 0
+        matches!(self.section, Section::Files) && self.file.read == 0
     }
 
     fn take_corrupt<'a>(&mut self, text: &'a str) -> Result<(), LineFault<'a>>
@@ -317,7 +317,7 @@ impl Files {
         if let Some(why) = self.unended() {
             return Err(why);
         }
-        self.part = Part::Summary;
+        self.section = Section::Summary;
         self.is_healthy = is_healthy;
         Ok(())
     }
@@ -327,7 +327,7 @@ impl Files {
         ensures ok { OnOk result (after_sum self.old count sum ≡ Ok self.new) }
         ensures refused { IfErr result (λ why. after_sum self.old count sum ≡ Err why) }
     {
-        if !matches!(self.part, Part::Summary) {
+        if !matches!(self.section, Section::Summary) {
             return Ok(());
         }
         let read = self.counts.number_of(count);
@@ -341,7 +341,7 @@ impl Files {
     fn take_unlisted(&mut self, files: u64)
         ensures { self.new ≡ after_unlisted self.old files }
     {
-        if matches!(self.part, Part::Summary) {
+        if matches!(self.section, Section::Summary) {
             self.unlisted = plus(self.unlisted, files);
         }
     }
@@ -350,7 +350,7 @@ impl Files {
         ensures ok { OnOk result (after_last self.old is_healthy is_of_all ≡ Ok self.new) }
         ensures refused { IfErr result (λ why. after_last self.old is_healthy is_of_all ≡ Err why) }
     {
-        if !matches!(self.part, Part::Summary) {
+        if !matches!(self.section, Section::Summary) {
             return Err(Why::OutOfPlace);
         }
         if !self.summed.blocks {
@@ -362,7 +362,7 @@ impl Files {
         if self.counts.is_healthy() != is_healthy || self.is_healthy != is_healthy {
             return Err(Why::OtherHealth);
         }
-        self.part = Part::Behind;
+        self.section = Section::Behind;
         self.is_of_all = is_of_all;
         Ok(())
     }
@@ -374,13 +374,13 @@ impl Files {
         index: u64,
         text: &'a str,
     ) -> Result<Option<Block<'a>>, LineFault<'a>>
-        ensures ok { IfOk result (λ block. after_placed self.old.part self.old index text.entry.now ≡ Ok (self.new, block)) }
-        ensures refused { IfErr result (λ f. IsCause f (after_placed self.old.part self.old index text.entry.now)) }
+        ensures ok { IfOk result (λ block. after_placed self.old.section self.old index text.entry.now ≡ Ok (self.new, block)) }
+        ensures refused { IfErr result (λ f. IsCause f (after_placed self.old.section self.old index text.entry.now)) }
     {
-        match self.part {
-            Part::Before | Part::Begun => Err(LineFault::from(Why::NoHeading)),
-            Part::Files => self.take_indexed(alloc, index, text),
-            Part::Summary | Part::Behind => Err(LineFault::from(Why::OutOfPlace)),
+        match self.section {
+            Section::Before | Section::Begun => Err(LineFault::from(Why::NoHeading)),
+            Section::Files => self.take_indexed(alloc, index, text),
+            Section::Summary | Section::Behind => Err(LineFault::from(Why::OutOfPlace)),
         }
     }
 
@@ -558,9 +558,9 @@ impl Files {
 
     /// Whether the last line of fsck was read.
     pub fn is_whole(&self) -> bool
-        ensures { result ≡ is_whole self.now.part }
+        ensures { result ≡ is_whole self.now.section }
     {
-        matches!(self.part, Part::Behind)
+        matches!(self.section, Section::Behind)
     }
 }
 

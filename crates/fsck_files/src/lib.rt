@@ -13,7 +13,7 @@ mod replicas;
 mod skips;
 
 pub use counts::{Counts, Summed};
-pub use files::{File, Files, LineFault, Part};
+pub use files::{File, Files, LineFault, Section};
 pub use numbers::Numbers;
 pub use refusal::{Mismatch, Refusal, Why};
 pub use replicas::{Block, is_corrupt, is_draining};

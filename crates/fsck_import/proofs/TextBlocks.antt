@@ -66,7 +66,7 @@ at_spares f l (Err w) read e = absurd (err_is_not_ok (cause.Cluster w) read e)
 
 end_taken : (s read : Reading) → at_end s ≡ Ok read → with_spares s.cluster ≡ Ok read.cluster
 end_taken s read e =
-    at_spares s.files s.listing (with_spares s.cluster) read (if_ok (files.is_whole s.files.part) (with_cluster s.files s.listing (with_spares s.cluster)) (cause.File why.CutOff) read e).1
+    at_spares s.files s.listing (with_spares s.cluster) read (if_ok (files.is_whole s.files.section) (with_cluster s.files s.listing (with_spares s.cluster)) (cause.File why.CutOff) read e).1
 
 -- the calls for what was read describe the blocks of the text
 pub has_blocks : (text : Text) (start read : Reading) → reading_of start text ≡ Ok read → HasBlocks start text read

@@ -65,7 +65,7 @@ after_line s line = with_taken line (headed s.listing line) s.cluster (files.aft
 
 -- at the end of the text, if its last line was read; each known node gets a storage
 abbrev pub at_end : Reading → Result Reading Cause
-at_end s = if files.is_whole s.files.part then with_cluster s.files s.listing (with_spares s.cluster) else Err (cause.File why.CutOff)
+at_end s = if files.is_whole s.files.section then with_cluster s.files s.listing (with_spares s.cluster) else Err (cause.File why.CutOff)
 
 abbrev pub ended : Reading × ℕ → Result Reading Unread
 ended p = at_line p.1 (at_end p.0)

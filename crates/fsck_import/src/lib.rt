@@ -16,7 +16,7 @@ pub mod text_reader;
 
 use clap::Error;
 use clap::error::ErrorKind;
-use cluster_progress::watched::{Meter, WatchedReader};
+use cluster_progress::watched_streams::{Meter, WatchedReader};
 use destination::{Destination, Stream, TableFile};
 use fault::Fault;
 use fsck_cluster::Cluster;

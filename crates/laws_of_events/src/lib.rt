@@ -5,7 +5,7 @@
 //! - `calls`: the state after each kind of call
 //! - `changes`, `reports`: what each event changes, and what it keeps
 //! - `runs`: full reports whose entries are runs of block numbers
-//! - `draining`: decommissioning
+//! - `draining_nodes`: decommissioning
 //! - `queries`: what queries list
 //! - `shards`: the parts into which blocks are cut by their numbers
 //!
@@ -15,7 +15,7 @@
 
 pub mod calls;
 pub mod changes;
-pub mod draining;
+pub mod draining_nodes;
 pub mod lawful;
 pub mod plain_words;
 pub mod queries;

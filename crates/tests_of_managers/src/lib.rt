@@ -13,7 +13,7 @@ mod crew;
 #[cfg(test)]
 mod lines;
 #[cfg(test)]
-mod located;
+mod locator_answers;
 #[cfg(test)]
 mod long_lines;
 #[cfg(test)]
@@ -33,4 +33,4 @@ mod vectors;
 #[cfg(test)]
 mod view;
 #[cfg(test)]
-mod worked;
+mod example_scripts;

@@ -3,7 +3,7 @@
 ghost use Rattle.std.specs.Prelude.{◌≡◌};
 ghost use Rattle.std.specs.Arc.{arc_value};
 
-use crate::located::{found_on, is_found_on, storages_numbered};
+use crate::locator_answers::{found_on, is_found_on, storages_numbered};
 use bm_base::{BlockId, Places, Refusal, StorageId};
 use bm_view::{Located, Locator, Publisher, Receipt, Table, open_view};
 use std::alloc::Global;

@@ -61,7 +61,7 @@ enum Many {
 
 /// A question that a slot answers.
 #[derive(Clone, Copy)]
-enum Place {
+enum SlotQuestion {
     /// The slot of a block, which is added if it is new.
     Added(u64),
     Find(u64),
@@ -89,7 +89,7 @@ enum Step {
     Add(u64),
     Do(Deed),
     DoMany(Many),
-    Where(Place),
+    Where(SlotQuestion),
     HowMany(Count),
     Walk(u32),
     /// Whether each of the lists below a number holds block 7, then its own block of `AddEach`, and
@@ -166,9 +166,9 @@ fn yes(is_so: bool) -> Answer {
 
 fn reserve(rt: &impl Abort, alloc: Global, arena: &mut Arena, first: u32, count: u32) -> Answer {
     let mut storages = Vec::new(alloc);
-    for place in 0..count {
+    for index in 0..count {
         storages
-            .push(StorageId(first.saturating_add(place)))
+            .push(StorageId(first.saturating_add(index)))
             .expect(rt, "memory");
     }
     match arena.reserve_heads(storages.as_slice()) {
@@ -363,14 +363,14 @@ fn before(arena: &Arena, storage: StorageId, slot: usize) -> Option<usize> {
 }
 
 /// `usize::MAX`, which is no slot, means a question that is not allowed.
-fn slot_asked(rt: &impl Abort, arena: &mut Arena, slots: &Slots, place: Place) -> Option<usize> {
-    match place {
-        Place::Added(block) => Some(add(rt, arena, block)),
-        Place::Find(block) => arena.find(BlockId(block)),
-        Place::SlotAt(place) => arena.slot_at(place),
-        Place::BehindDelimiter(storage) => behind_the_delimiter(arena, StorageId(storage)),
-        Place::Behind(storage, block) => behind(arena, StorageId(storage), slot_of(slots, block)),
-        Place::Before(storage, block) => before(arena, StorageId(storage), slot_of(slots, block)),
+fn slot_asked(rt: &impl Abort, arena: &mut Arena, slots: &Slots, question: SlotQuestion) -> Option<usize> {
+    match question {
+        SlotQuestion::Added(block) => Some(add(rt, arena, block)),
+        SlotQuestion::Find(block) => arena.find(BlockId(block)),
+        SlotQuestion::SlotAt(index) => arena.slot_at(index),
+        SlotQuestion::BehindDelimiter(storage) => behind_the_delimiter(arena, StorageId(storage)),
+        SlotQuestion::Behind(storage, block) => behind(arena, StorageId(storage), slot_of(slots, block)),
+        SlotQuestion::Before(storage, block) => before(arena, StorageId(storage), slot_of(slots, block)),
     }
 }
 
@@ -462,7 +462,7 @@ fn answer_of(
         }
         Step::Do(deed) => do_deed(rt, alloc, arena, slots, deed),
         Step::DoMany(many) => done_often(rt, alloc, arena, slots, many),
-        Step::Where(place) => name_of(slots, slot_asked(rt, arena, slots, place)),
+        Step::Where(question) => name_of(slots, slot_asked(rt, arena, slots, question)),
         Step::HowMany(count) => Answer::Number(count_of(arena, count)),
         _ => looked_up(arena, slots, step),
     }
@@ -472,7 +472,7 @@ fn looked_up(arena: &Arena, slots: &Slots, step: Step) -> Answer {
     match step {
         Step::Walk(storage) => walk(arena, StorageId(storage)),
         Step::WalkEach(count) => yes(walk_each(arena, count)),
-        Step::TripletAt(block, place) => replica(arena.triplet_at(slot_of(slots, block), place)),
+        Step::TripletAt(block, index) => replica(arena.triplet_at(slot_of(slots, block), index)),
         Step::IsDelimiter(block) => yes(arena.is_delimiter(slot_of(slots, block))),
         Step::HasHead(storage) => yes(arena.has_head(StorageId(storage))),
         Step::Info(block) => info(arena.info(slot_of(slots, block))),
@@ -525,11 +525,11 @@ static SCENARIOS: [Scenario<'static>; 8] = [
             (Step::Walk(11), Answer::Blocks([9, 8, 7], 3)),
             (Step::Do(Deed::PutDelimiter(11)), Answer::Fine),
             (Step::Do(Deed::MoveFront(8, 11)), Answer::Fine),
-            (Step::Where(Place::BehindDelimiter(11)), Answer::SlotOf(9)),
-            (Step::Where(Place::Behind(11, 9)), Answer::SlotOf(7)),
-            (Step::Where(Place::Behind(11, 7)), Answer::Nothing),
-            (Step::Where(Place::Before(11, 7)), Answer::SlotOf(9)),
-            (Step::Where(Place::Before(11, 8)), Answer::Nothing),
+            (Step::Where(SlotQuestion::BehindDelimiter(11)), Answer::SlotOf(9)),
+            (Step::Where(SlotQuestion::Behind(11, 9)), Answer::SlotOf(7)),
+            (Step::Where(SlotQuestion::Behind(11, 7)), Answer::Nothing),
+            (Step::Where(SlotQuestion::Before(11, 7)), Answer::SlotOf(9)),
+            (Step::Where(SlotQuestion::Before(11, 8)), Answer::Nothing),
             (Step::Do(Deed::TakeDelimiter(11)), Answer::Fine),
             (Step::Walk(11), Answer::Blocks([8, 9, 7], 3)),
             (Step::HowMany(Count::Steps), Answer::Number(6)),
@@ -540,7 +540,7 @@ static SCENARIOS: [Scenario<'static>; 8] = [
         name: "counts and places",
         setup: &THREE_BLOCKS,
         steps: &[
-            (Step::Where(Place::Added(7)), Answer::SlotOf(7)),
+            (Step::Where(SlotQuestion::Added(7)), Answer::SlotOf(7)),
             (Step::HowMany(Count::Blocks), Answer::Number(3)),
             (Step::TripletAt(7, 0), Answer::Replica(11)),
             (Step::TripletAt(7, 1), Answer::Nothing),
@@ -550,10 +550,10 @@ static SCENARIOS: [Scenario<'static>; 8] = [
         name: "look ups answer what up_to_date",
         setup: &THREE_BLOCKS,
         steps: &[
-            (Step::Where(Place::Find(7)), Answer::SlotOf(7)),
-            (Step::Where(Place::Find(6)), Answer::Nothing),
-            (Step::Where(Place::SlotAt(1)), Answer::SlotOf(8)),
-            (Step::Where(Place::SlotAt(3)), Answer::Nothing),
+            (Step::Where(SlotQuestion::Find(7)), Answer::SlotOf(7)),
+            (Step::Where(SlotQuestion::Find(6)), Answer::Nothing),
+            (Step::Where(SlotQuestion::SlotAt(1)), Answer::SlotOf(8)),
+            (Step::Where(SlotQuestion::SlotAt(3)), Answer::Nothing),
             (Step::HowMany(Count::SlotBound), Answer::Number(4)),
             (Step::IsDelimiter(7), Answer::No),
             (Step::Info(7), Answer::Nothing),
@@ -565,7 +565,7 @@ static SCENARIOS: [Scenario<'static>; 8] = [
         ],
     },
     Scenario {
-        name: "last replica fills the freed place",
+        name: "last replica fills the freed index",
         setup: &THREE_BLOCKS,
         steps: &[
             // Three more replicas of a block, so that its triplets are no longer inline.
@@ -586,10 +586,10 @@ static SCENARIOS: [Scenario<'static>; 8] = [
         steps: &[
             (Step::Do(Deed::Unlink(7, 11)), Answer::Fine),
             (Step::Do(Deed::DropEntry(7)), Answer::Fine),
-            (Step::Where(Place::Find(7)), Answer::Nothing),
+            (Step::Where(SlotQuestion::Find(7)), Answer::Nothing),
             (Step::HowMany(Count::Blocks), Answer::Number(2)),
-            (Step::Where(Place::SlotAt(0)), Answer::SlotOf(9)),
-            (Step::Where(Place::Added(5)), Answer::SlotOf(7)),
+            (Step::Where(SlotQuestion::SlotAt(0)), Answer::SlotOf(9)),
+            (Step::Where(SlotQuestion::Added(5)), Answer::SlotOf(7)),
             (Step::HowMany(Count::SlotBound), Answer::Number(4)),
             (Step::Do(Deed::DropHead(12)), Answer::Fine),
             (Step::HasHead(12), Answer::No),
@@ -628,8 +628,8 @@ static SCENARIOS: [Scenario<'static>; 8] = [
             (Step::HowMany(Count::Steps), Answer::Number(8192)),
             (Step::DoMany(Many::PutDelimiter(4096)), Answer::Fine),
             (Step::HowMany(Count::Walked(4095)), Answer::Number(3)),
-            (Step::Where(Place::BehindDelimiter(0)), Answer::SlotOf(7)),
-            (Step::Where(Place::BehindDelimiter(4095)), Answer::SlotOf(7)),
+            (Step::Where(SlotQuestion::BehindDelimiter(0)), Answer::SlotOf(7)),
+            (Step::Where(SlotQuestion::BehindDelimiter(4095)), Answer::SlotOf(7)),
             (Step::DoMany(Many::TakeDelimiter(4096)), Answer::Fine),
             (Step::WalkEach(4096), Answer::Yes),
             (Step::HowMany(Count::Steps), Answer::Number(16384)),

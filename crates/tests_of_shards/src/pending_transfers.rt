@@ -56,8 +56,8 @@ fn targets(pending: &PendingTransfers, alloc: Global, block: u64) -> Result<Answ
     if storages.len() > 4 {
         return Ok(Answer::TooMany);
     }
-    for (place, storage) in storages.iter().enumerate() {
-        first[place] = storage.0;
+    for (index, storage) in storages.iter().enumerate() {
+        first[index] = storage.0;
     }
     Ok(Answer::Storages(first, storages.len()))
 }
@@ -67,8 +67,8 @@ fn replicas(all: &[ReplicaId]) -> Answer {
     if all.len() > 4 {
         return Answer::TooMany;
     }
-    for (place, replica) in all.iter().enumerate() {
-        first[place] = (replica.block.0, replica.storage.0);
+    for (index, replica) in all.iter().enumerate() {
+        first[index] = (replica.block.0, replica.storage.0);
     }
     Answer::Replicas(first, all.len())
 }

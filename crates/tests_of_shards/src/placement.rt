@@ -85,9 +85,9 @@ fn drain(rt: &impl Abort, topology: &mut Topology, node: u32) {
 /// A cluster of nodes, some of which drain.
 fn cluster(rt: &impl Abort, alloc: Global, free: &[u64; 6], draining: &[u32]) -> Topology {
     let mut topology = Topology::new(alloc).expect(rt, "memory");
-    for place in 0..6 {
-        if free[place] > 0 {
-            join_node(rt, alloc, &mut topology, &NODES[place], free[place]);
+    for index in 0..6 {
+        if free[index] > 0 {
+            join_node(rt, alloc, &mut topology, &NODES[index], free[index]);
         }
     }
     for node in draining {

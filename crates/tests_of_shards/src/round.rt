@@ -88,8 +88,8 @@ fn with_wishes(rt: &impl Abort, alloc: Global, low: Wish, high: Wish) -> RoundPa
 
 /// Whether the wishes have these levels and blocks, in this order.
 fn are_keys(wishes: &[&Wish], keys: &[(u32, u64)]) -> bool {
-    for (place, key) in keys.iter().enumerate() {
-        match wishes.get(place) {
+    for (index, key) in keys.iter().enumerate() {
+        match wishes.get(index) {
             Some(wish) if (wish.level.number(), wish.block.0) == *key => {}
             _ => return false,
         }

@@ -78,8 +78,8 @@ enum Answer {
 /// The storages from `first` on, `count` of them.
 fn storages(rt: &impl Abort, alloc: Global, first: u32, count: u32) -> Items<StorageId> {
     let mut ids = Vec::new(alloc);
-    for place in 0..count {
-        ids.push(StorageId(first.saturating_add(place)))
+    for index in 0..count {
+        ids.push(StorageId(first.saturating_add(index)))
             .expect(rt, "memory");
     }
     Items::from_vec(ids)
@@ -251,8 +251,8 @@ fn looked_up(topology: &Topology, step: Step) -> Option<u64> {
         Step::NodeOf(storage) => topology.node_of(StorageId(storage)).map(|n| u64::from(n.0)),
         Step::RackOf(storage) => topology.rack_of(StorageId(storage)).map(|r| u64::from(r.0)),
         Step::FreeOn(storage) => topology.remaining(StorageId(storage)),
-        Step::NodeAt(place) => topology.node_at(place).map(|n| u64::from(n.0)),
-        Step::StorageAt(place) => topology.storage_at(place).map(|s| u64::from(s.0)),
+        Step::NodeAt(index) => topology.node_at(index).map(|n| u64::from(n.0)),
+        Step::StorageAt(index) => topology.storage_at(index).map(|s| u64::from(s.0)),
         _ => None,
     }
 }

@@ -9,7 +9,7 @@
 pub mod choices;
 pub mod copies;
 pub mod deletes;
-pub mod draining;
+pub mod draining_nodes;
 pub mod levels;
 pub mod limits;
 pub mod refusals;

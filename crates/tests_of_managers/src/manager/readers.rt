@@ -3,7 +3,7 @@ ghost use Rattle.std.specs.Prelude.{◌≡◌};
 
 use super::config;
 use crate::calls::{Case, STAMP, call_of};
-use crate::located::is_found_on;
+use crate::locator_answers::is_found_on;
 use crate::notices::{Home, Notice, make_notice};
 use bm_base::{Answer, BlockId};
 use bm_crew::NoGate;

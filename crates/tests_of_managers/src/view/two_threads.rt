@@ -3,7 +3,7 @@ ghost use Rattle.std.specs.Prelude.{◌≡◌, ◌≤◌, IfSome};
 ghost use Rattle.bm_view.specs.History.{last_of};
 
 use super::version;
-use crate::located::found_on;
+use crate::locator_answers::found_on;
 use crate::notices::{Home, Notice, make_notice};
 use bm_base::{BlockId, StorageId};
 use bm_view::{Located, Locator, Publisher, Receipt, open_view};

@@ -17,7 +17,7 @@ push_settled-requires-2 c =
 pub returns : goal.returns
 returns c =
     let s = c.args.start.now in
-    let K = s.kept.now in
+    let K = s.level_index.now in
     let listed = slots_at K c.args.level in
     let copied : IsPermutation listed c.sort_unstable.new.self.items = subst (λ (xs : List ℕ). IsPermutation xs c.sort_unstable.new.self.items) (c.in_ok-slots.ensures.items ∙ c.at_level-listed.ensures.slots) c.sort_unstable.ensures.permutation in
     let moved : IsPermutation listed c.deref.result.now = subst (IsPermutation listed) (sym c.deref.ensures.value) copied in

@@ -10,10 +10,10 @@ abbrev pub invariant-loop-chunk : goal.invariant-loop-chunk
 invariant-loop-chunk l =
     let s = l.start in
     let left = chunks_rest l.chunk-iterator in
-    let to_scan = is_settled_to_scan l.start.kept.now s.arena.now s.bound (has_enough_pending s.topology.now.cluster s.pend s.round s.arena.now s.pending.now) in
+    let to_scan = is_settled_to_scan l.start.level_index.now s.arena.now s.bound (has_enough_pending s.topology.now.cluster s.pend s.round s.arena.now s.pending.now) in
     record {
       finite : goal.iterator-loop-chunk.is_finite l.chunk-iterator;
-      level : (slot : ℕ) → IsMember slot left → level_of_slot l.start.kept.now slot ≡ Some l.level;
-      all : l.into.items ++ map (keyed_at l.start.kept.now s.arena.now) (filter to_scan left)
-          ≡ l.initial.into.items ++ map (keyed_at l.start.kept.now s.arena.now) (filter to_scan l.slots);
+      level : (slot : ℕ) → IsMember slot left → level_of_slot l.start.level_index.now slot ≡ Some l.level;
+      all : l.into.items ++ map (keyed_at l.start.level_index.now s.arena.now) (filter to_scan left)
+          ≡ l.initial.into.items ++ map (keyed_at l.start.level_index.now s.arena.now) (filter to_scan l.slots);
     }

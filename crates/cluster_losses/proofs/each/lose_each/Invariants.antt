@@ -6,9 +6,9 @@ use Rattle.cluster_losses.specs.Reached.{IsReached}
 use Rattle.cluster_losses.specs.Tables.{IsRowAt}
 use Rattle.cluster_losses.proofs.each.lose_each.Given as goal
 
-abbrev pub invariant-loop-part : goal.invariant-loop-part
-invariant-loop-part g l = record {
-  rows : AllZip (IsRowAt l.files l.fn.session.manager) (take l.part-index l.parts) l.rows.items;
+abbrev pub invariant-loop-domain : goal.invariant-loop-domain
+invariant-loop-domain g l = record {
+  rows : AllZip (IsRowAt l.files l.fn.session.manager) (take l.domain-index l.domains) l.rows.items;
   like : IsLike l.fn.session.manager l.session.manager;
   reached : IsReached l.fn.session.manager l.session.manager;
   in_step : IsInStep l.session;

@@ -1,5 +1,5 @@
 use Rattle.std.proofs.Common.{◌∙◌, subst}
-use Rattle.cluster_losses.specs.Outcomes.{StandsAs}
+use Rattle.cluster_losses.specs.Outcomes.{AreClusterCounts}
 use Rattle.cluster_losses.proofs.Steps.{missing_both}
 use Rattle.cluster_losses.proofs.without.without.Goals as goal
 
@@ -8,5 +8,5 @@ returns-clause-outcome g c = record {
   lost =
       c.in_ok-lost.ensures c.args.session.now.manager c.args.losses.now
       (missing_both _ _ _ _ _ c.show_invariant.ensures c.requires.losses c.requires.missing c.in_ok-apply_all.ensures.state (c.as_slice.ensures ∙ c.in_ok-after.ensures.missing));
-  stands = subst (λ M. StandsAs M c.in_ok-after.after) c.in_ok-apply_all.ensures.state c.in_ok-after.ensures;
+  counts = subst (λ M. AreClusterCounts M c.in_ok-after.after) c.in_ok-apply_all.ensures.state c.in_ok-after.ensures;
 }

@@ -12,7 +12,7 @@ pub invariant_of-self : goal.invariant_of-self
 invariant_of-self c =
     let r = c.abort.ensures in
     let a = c.self.inside.arena in
-    let K = c.self.inside.kept in
+    let K = c.self.inside.level_index in
     leveled_again a a c.show_invariant.ensures c.show_invariant.ensures (prepared-none a) c.abort.new.arena c.show_invariant-2.ensures (is_named (reported_blocks c.args.report.now)) r.delimiter r.marker r.numbers r.entries (none_fresh a (is_named (reported_blocks c.args.report.now)))
     K K (λ z. same_itself K z) (λ z h. h) c.self.invariant
 
@@ -20,8 +20,8 @@ pub returns-clause-levels : goal.returns-clause-levels
 returns-clause-levels c =
     let r = c.abort.ensures in
     let a = c.self.inside.arena in
-    let K = c.self.inside.kept in
-    let P : Leveled → Type 0 = λ v. (C : Cluster) → AreLevels C v → AreLevels C (record { arena = c.abort.new.arena; kept = K }) in
+    let K = c.self.inside.level_index in
+    let P : Leveled → Type 0 = λ v. (C : Cluster) → AreLevels C v → AreLevels C (record { arena = c.abort.new.arena; level_index = K }) in
     subst P c.self.view_is
     (levels_again a a c.show_invariant.ensures c.show_invariant.ensures (prepared-none a) c.abort.new.arena c.show_invariant-2.ensures (is_named (reported_blocks c.args.report.now)) r.delimiter r.marker r.numbers r.entries (none_fresh a (is_named (reported_blocks c.args.report.now)))
     K K (λ z. same_itself K z))

@@ -22,11 +22,11 @@ update_all-requires c = record {
 }
 
 abbrev before : goal.After-update_all → Leveled
-before c = record { arena = c.self.inside.arena; kept = c.self.inside.kept }
+before c = record { arena = c.self.inside.arena; level_index = c.self.inside.level_index }
 
 each : (c : goal.After-update_all) → (slot : ℕ) → slot ≢ c.self.inside.arena.delimiter
     → (IsClassified (rack_of c.args.topology.now.cluster) (is_draining c.args.topology.now.cluster) (is_multi_rack c.args.topology.now.cluster) (block_at c.apply_full-applied.new.arena slot) c.update_all.new.self slot)
-    ⊎ ((block_at c.apply_full-applied.new.arena slot ≡ block_at c.self.inside.arena slot) × IsSameAt c.self.inside.kept c.update_all.new.self slot)
+    ⊎ ((block_at c.apply_full-applied.new.arena slot ≡ block_at c.self.inside.arena slot) × IsSameAt c.self.inside.level_index c.update_all.new.self slot)
 each c slot ne =
     elim (dec_among slot c.changed_slots.result.now) [
       | inl there ↦ inl (c.update_all.ensures.status slot there)
@@ -35,7 +35,7 @@ each c slot ne =
           inr (c.apply_full-applied.ensures.changed slot ne (subst P c.changed_slots.ensures absent), c.update_all.ensures.others slot absent)
     ]
 
-mark : (c : goal.After-update_all) → IsSameAt c.self.inside.kept c.update_all.new.self c.self.inside.arena.delimiter
+mark : (c : goal.After-update_all) → IsSameAt c.self.inside.level_index c.update_all.new.self c.self.inside.arena.delimiter
 mark c =
     c.update_all.ensures.others c.self.inside.arena.delimiter
     (λ there.
@@ -53,7 +53,7 @@ invariant_of-self c =
 pub returns-clause-levels : goal.returns-clause-levels
 returns-clause-levels c =
     let r = c.apply_full-applied.ensures in
-    let P : Leveled → Type 0 = λ v. AreLevels c.args.topology.now.cluster v → AreLevels c.args.topology.now.cluster (record { arena = c.apply_full-applied.new.arena; kept = c.update_all.new.self }) in
+    let P : Leveled → Type 0 = λ v. AreLevels c.args.topology.now.cluster v → AreLevels c.args.topology.now.cluster (record { arena = c.apply_full-applied.new.arena; level_index = c.update_all.new.self }) in
     subst P c.self.view_is
     (levels_reported c.args.topology.now.cluster (before c) c.apply_full-applied.new.arena c.update_all.new.self r.entries.delimiter r.free r.entries.known (each c) (mark c) c.self.invariant)
 

@@ -11,7 +11,7 @@ use Rattle.bm_levels.proofs.OneSlot.{IsChangedAt, held_by, leveled_after, levels
 use Rattle.bm_levels.proofs.leveled_blocks.LeveledBlocks.change_block.Goals as goal
 
 abbrev before : goal.After-update_level → Leveled
-before c = record { arena = c.self.inside.arena; kept = c.self.inside.kept }
+before c = record { arena = c.self.inside.arena; level_index = c.self.inside.level_index }
 
 keeps : (c : goal.After-update_level) → KeepsAllBut c.args.slot c.self.inside.arena c.set_info.new.self
 keeps c = keeps_then c.args.slot c.self.inside.arena c.change_marks.new.arena c.set_info.new.self c.change_marks.ensures.rest c.set_info.ensures.rest
@@ -52,5 +52,5 @@ returns-clause-rest c = let P : Leveled → Type 0 = λ v. KeepsAllBut c.args.sl
 
 pub returns-clause-levels : goal.returns-clause-levels
 returns-clause-levels c =
-    let P : Leveled → Type 0 = λ v. AreLevels c.args.topology.now.cluster v → AreLevels c.args.topology.now.cluster (record { arena = c.set_info.new.self; kept = c.update_level.new.self }) in
+    let P : Leveled → Type 0 = λ v. AreLevels c.args.topology.now.cluster v → AreLevels c.args.topology.now.cluster (record { arena = c.set_info.new.self; level_index = c.update_level.new.self }) in
     subst P c.self.view_is (levels_after c.args.topology.now.cluster (before c) c.set_info.new.self c.update_level.new.self c.args.slot (at_slot c) c.update_level.ensures.status c.update_level.ensures.others)

@@ -10,15 +10,15 @@ use Rattle.bm_levels.proofs.leveled_blocks.LeveledBlocks.clear_unordered_excess_
 
 pub update_level-requires : goal.update_level-requires
 update_level-requires c =
-    let P : Leveled → Type 0 = λ v. IsUnsettled v.kept c.args.slot in
-    record { capacity = (c.args.slot + 1, omega arith, start_capacity (record { arena = c.self.inside.arena; kept = c.self.inside.kept }) c.self.invariant c.args.slot (subst P (sym c.self.view_is) c.requires)) }
+    let P : Leveled → Type 0 = λ v. IsUnsettled v.level_index c.args.slot in
+    record { capacity = (c.args.slot + 1, omega arith, start_capacity (record { arena = c.self.inside.arena; level_index = c.self.inside.level_index }) c.self.invariant c.args.slot (subst P (sym c.self.view_is) c.requires)) }
 
 abbrev before : goal.After-update_level → Leveled
-before c = record { arena = c.self.inside.arena; kept = c.self.inside.kept }
+before c = record { arena = c.self.inside.arena; level_index = c.self.inside.level_index }
 
 at_slot : (c : goal.After-update_level) → IsChangedAt c.self.inside.arena c.change_marks.new.arena c.args.slot
 at_slot c =
-    let P : Leveled → Type 0 = λ v. IsUnsettled v.kept c.args.slot in
+    let P : Leveled → Type 0 = λ v. IsUnsettled v.level_index c.args.slot in
     changed_there (before c) c.self.invariant c.change_marks.new.arena c.args.slot (subst P (sym c.self.view_is) c.requires) c.change_marks.ensures.rest
 
 pub invariant_of-self : goal.invariant_of-self
@@ -39,5 +39,5 @@ returns-else-change_marks-clause-begun c =
 
 pub returns-then-change_marks-clause-levels : goal.returns-then-change_marks-clause-levels
 returns-then-change_marks-clause-levels c =
-    let P : Leveled → Type 0 = λ v. AreLevels c.args.topology.now.cluster v → AreLevels c.args.topology.now.cluster (record { arena = c.change_marks.new.arena; kept = c.update_level.new.self }) in
+    let P : Leveled → Type 0 = λ v. AreLevels c.args.topology.now.cluster v → AreLevels c.args.topology.now.cluster (record { arena = c.change_marks.new.arena; level_index = c.update_level.new.self }) in
     subst P c.self.view_is (levels_after c.args.topology.now.cluster (before c) c.change_marks.new.arena c.update_level.new.self c.args.slot (at_slot c) c.update_level.ensures.status c.update_level.ensures.others)

@@ -10,11 +10,11 @@ use Rattle.bm_levels.proofs.EmptiedEntries.{IsEmptied, emptied}
 use Rattle.bm_levels.proofs.Unused.{slots_kept}
 use Rattle.bm_levels.proofs.leveled_blocks.LeveledBlocks.drop_if_unused.Goals as goal
 
-done : (c : goal.After-drop_entry) → IsEmptied (record { arena = c.self.inside.arena; kept = c.self.inside.kept }) c.drop_entry.new.self c.args.slot
+done : (c : goal.After-drop_entry) → IsEmptied (record { arena = c.self.inside.arena; level_index = c.self.inside.level_index }) c.drop_entry.new.self c.args.slot
 done c =
     let P : Leveled → Type 0 = λ v. slot_of v.arena c.requires.0 ≡ Some c.args.slot in
     let here = subst P (sym c.self.view_is) c.requires.1 in
-    emptied (record { arena = c.self.inside.arena; kept = c.self.inside.kept }) c.drop_entry.new.self c.args.slot c.requires.0 c.show_invariant.ensures here (c.has_no_replicas.ensures.0 c.if-has_no_replicas.true)
+    emptied (record { arena = c.self.inside.arena; level_index = c.self.inside.level_index }) c.drop_entry.new.self c.args.slot c.requires.0 c.show_invariant.ensures here (c.has_no_replicas.ensures.0 c.if-has_no_replicas.true)
     (sym c.info.ensures ∙ not_there c.info.result (c.is_none.ensures ∙ ap not c.if-is_none.true)) c.drop_entry.ensures.after c.drop_entry.ensures.entries c.drop_entry.ensures.numbers
 
 pub invariant_of-self : goal.invariant_of-self
@@ -33,12 +33,12 @@ returns-then-is_none-clause-numbers c =
 
 pub returns-then-is_none-clause-levels : goal.returns-then-is_none-clause-levels
 returns-then-is_none-clause-levels c =
-    let P : Leveled → Type 0 = λ v. (C : Cluster) → AreLevels C v → AreLevels C (record { arena = c.drop_entry.new.self; kept = c.self.inside.kept }) in
+    let P : Leveled → Type 0 = λ v. (C : Cluster) → AreLevels C v → AreLevels C (record { arena = c.drop_entry.new.self; level_index = c.self.inside.level_index }) in
     subst P c.self.view_is (λ C. (done c).levels (rack_of C) (is_draining C) (is_multi_rack C))
 
 pub returns-then-is_none-clause-levels_by : goal.returns-then-is_none-clause-levels_by
 returns-then-is_none-clause-levels_by c =
-    let P : Leveled → Type 0 = λ v. (rack : ℕ → Option ℕ) (draining : ℕ → Bool) (multi : Bool) → AreLevelsBy rack draining multi v → AreLevelsBy rack draining multi (record { arena = c.drop_entry.new.self; kept = c.self.inside.kept }) in
+    let P : Leveled → Type 0 = λ v. (rack : ℕ → Option ℕ) (draining : ℕ → Bool) (multi : Bool) → AreLevelsBy rack draining multi v → AreLevelsBy rack draining multi (record { arena = c.drop_entry.new.self; level_index = c.self.inside.level_index }) in
     subst P c.self.view_is (done c).levels
 
 pub returns-then-is_none-clause-gone : goal.returns-then-is_none-clause-gone

@@ -21,7 +21,7 @@ returns-in_default-clause-replicas c =
     ∙ (λ i. revise (replicas_of a) (λ q m. group_marks b ps c.requires.block q m i))
 
 abbrev before : goal.After-update_level → Leveled
-before c = record { arena = c.self.inside.arena; kept = c.self.inside.kept }
+before c = record { arena = c.self.inside.arena; level_index = c.self.inside.level_index }
 
 here : (c : goal.After-update_level) → slot_of c.self.inside.arena c.args.block ≡ Some c.in-Some.slot
 here c = let P : Leveled → Type 0 = λ v. slot_of v.arena c.args.block ≡ Some c.in-Some.slot in subst P (sym c.self.view_is) (sym c.in-Some.ensures)
@@ -58,5 +58,5 @@ returns-clause-others c =
 
 pub returns-clause-levels : goal.returns-clause-levels
 returns-clause-levels c =
-    let P : Leveled → Type 0 = λ v. AreLevels c.args.topology.now.cluster v → AreLevels c.args.topology.now.cluster (record { arena = c.mark_listed.new.arena; kept = c.update_level.new.self }) in
+    let P : Leveled → Type 0 = λ v. AreLevels c.args.topology.now.cluster v → AreLevels c.args.topology.now.cluster (record { arena = c.mark_listed.new.arena; level_index = c.update_level.new.self }) in
     subst P c.self.view_is (levels_after c.args.topology.now.cluster (before c) c.mark_listed.new.arena c.update_level.new.self c.in-Some.slot (at_slot c) c.update_level.ensures.status c.update_level.ensures.others)

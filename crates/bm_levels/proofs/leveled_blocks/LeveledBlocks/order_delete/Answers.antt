@@ -15,7 +15,7 @@ invariant_of-self c =
     let r = c.set_marks_near.ensures.rest in
     let P : Leveled → Type 0 = λ v. slot_of v.arena c.requires.slot.0 ≡ Some c.args.slot in
     let here = subst P (sym c.self.view_is) c.requires.slot.1 in
-    leveled_after c.args.topology.now.cluster (record { arena = c.self.inside.arena; kept = c.self.inside.kept }) c.set_marks_near.new.self c.update_level.new.self c.args.slot
+    leveled_after c.args.topology.now.cluster (record { arena = c.self.inside.arena; level_index = c.self.inside.level_index }) c.set_marks_near.new.self c.update_level.new.self c.args.slot
     (record { blocks = r.blocks; delimiter = r.delimiter; apart = (c.show_invariant.ensures.found c.requires.slot.0 c.args.slot here).0; held = held_by c.self.inside.arena c.args.slot (c.show_invariant.ensures.found c.requires.slot.0 c.args.slot here) })
     c.update_level.ensures.status c.update_level.ensures.others c.self.invariant c.update_level.ensures.capacity
 
@@ -29,7 +29,7 @@ invariant_of-self-else-is_good_and_unmarked c =
     let was : marks_at c.self.inside.arena c.args.slot s ≡ Some c.args.marks = subst Q (sym c.self.view_is) c.requires.replica in
     let before : is_good_and_unmarked c.args.marks ≡ false = sym c.is_good_and_unmarked.ensures ∙ c.if-is_good_and_unmarked.false in
     let now : marks_at c.set_marks_near.new.self c.args.slot s ≡ Some (as_ordered c.args.marks) = c.set_marks_near.ensures.marks (rw was refl) ∙ ap (λ (m : Marks). Some m) c.with_order.ensures in
-    leveled_alike (record { arena = c.self.inside.arena; kept = c.self.inside.kept }) c.set_marks_near.new.self c.args.slot
+    leveled_alike (record { arena = c.self.inside.arena; level_index = c.self.inside.level_index }) c.set_marks_near.new.self c.args.slot
     (record { blocks = r.blocks; delimiter = r.delimiter; apart = (c.show_invariant.ensures.found c.requires.slot.0 c.args.slot here).0; held = held_by c.self.inside.arena c.args.slot (c.show_invariant.ensures.found c.requires.slot.0 c.args.slot here) })
     c.set_marks_near.ensures.known
     (unsettled_by c.set_marks_near.new.self c.args.slot s (as_ordered c.args.marks) now (not_plain_then c.args.marks) ∙ sym (unsettled_by c.self.inside.arena c.args.slot s c.args.marks was before))
@@ -40,8 +40,8 @@ returns-then-is_good_and_unmarked-clause-levels c =
     let r = c.set_marks_near.ensures.rest in
     let P : Leveled → Type 0 = λ v. slot_of v.arena c.requires.slot.0 ≡ Some c.args.slot in
     let here = subst P (sym c.self.view_is) c.requires.slot.1 in
-    let Q : Leveled → Type 0 = λ v. AreLevels c.args.topology.now.cluster v → AreLevels c.args.topology.now.cluster (record { arena = c.set_marks_near.new.self; kept = c.update_level.new.self }) in
-    subst Q c.self.view_is (levels_after c.args.topology.now.cluster (record { arena = c.self.inside.arena; kept = c.self.inside.kept }) c.set_marks_near.new.self c.update_level.new.self c.args.slot
+    let Q : Leveled → Type 0 = λ v. AreLevels c.args.topology.now.cluster v → AreLevels c.args.topology.now.cluster (record { arena = c.set_marks_near.new.self; level_index = c.update_level.new.self }) in
+    subst Q c.self.view_is (levels_after c.args.topology.now.cluster (record { arena = c.self.inside.arena; level_index = c.self.inside.level_index }) c.set_marks_near.new.self c.update_level.new.self c.args.slot
     (record { blocks = r.blocks; delimiter = r.delimiter; apart = (c.show_invariant.ensures.found c.requires.slot.0 c.args.slot here).0; held = held_by c.self.inside.arena c.args.slot (c.show_invariant.ensures.found c.requires.slot.0 c.args.slot here) })
     c.update_level.ensures.status c.update_level.ensures.others)
 
@@ -57,7 +57,7 @@ returns-else-is_good_and_unmarked-clause-levels c =
     let after : c.set_marks_near.new.self ≡ record c.self.inside.arena { blocks = change_block (with_marks s (as_ordered c.args.marks)) c.self.inside.arena.blocks c.args.slot } =
     c.set_marks_near.ensures.after
     ∙ ap (λ (m : Marks). record c.self.inside.arena { blocks = change_block (with_marks s m) c.self.inside.arena.blocks c.args.slot }) c.with_order.ensures in
-    let Q : Leveled → Type 0 = λ v. AreLevels C v → AreLevels C (record { arena = c.set_marks_near.new.self; kept = c.self.inside.kept }) in
-    subst Q c.self.view_is (levels_alike (record { arena = c.self.inside.arena; kept = c.self.inside.kept }) c.set_marks_near.new.self c.args.slot
+    let Q : Leveled → Type 0 = λ v. AreLevels C v → AreLevels C (record { arena = c.set_marks_near.new.self; level_index = c.self.inside.level_index }) in
+    subst Q c.self.view_is (levels_alike (record { arena = c.self.inside.arena; level_index = c.self.inside.level_index }) c.set_marks_near.new.self c.args.slot
     (record { blocks = r.blocks; delimiter = r.delimiter; apart = (c.show_invariant.ensures.found c.requires.slot.0 c.args.slot here).0; held = held_by c.self.inside.arena c.args.slot (c.show_invariant.ensures.found c.requires.slot.0 c.args.slot here) })
     C (level_ordered (rack_of C) (is_draining C) (is_multi_rack C) s c.args.marks c.self.inside.arena c.set_marks_near.new.self c.args.slot was after))

@@ -11,10 +11,10 @@ use Rattle.bm_levels.specs.Unused.{MakesNoUnused}
 use Rattle.bm_levels.proofs.leveled_blocks.LeveledBlocks.ready_block.Goals as goal
 
 abbrev first : goal.Else-is_err → Leveled
-first c = record { arena = c.self.inside.arena; kept = c.self.inside.kept }
+first c = record { arena = c.self.inside.arena; level_index = c.self.inside.level_index }
 
 abbrev before : goal.After-drop_entry → Leveled
-before c = record { arena = c.self.inside.arena; kept = c.self.inside.kept }
+before c = record { arena = c.self.inside.arena; level_index = c.self.inside.level_index }
 
 added_then : (c : goal.After-drop_entry) → IsAdded c.self.inside.arena c.add_entry.new.self c.args.id c.in_ok-slot.slot
 added_then c = c.in_ok-slot.ensures.added (sym c.find.ensures ∙ not_there c.find.result (sym c.is_some.ensures ∙ c.if-is_some.false))
@@ -48,7 +48,7 @@ returns-then-is_err-clause-numbers c =
 
 pub returns-then-is_err-clause-levels : goal.returns-then-is_err-clause-levels
 returns-then-is_err-clause-levels c =
-    let P : Leveled → Type 0 = λ v. (C : Cluster) → AreLevels C v → AreLevels C (record { arena = c.drop_entry.new.self; kept = c.grow_to.new.self }) in
+    let P : Leveled → Type 0 = λ v. (C : Cluster) → AreLevels C v → AreLevels C (record { arena = c.drop_entry.new.self; level_index = c.grow_to.new.self }) in
     subst P c.self.view_is (levels_same (before c) c.drop_entry.new.self c.grow_to.new.self (again c) (marker c) c.grow_to.ensures.same)
 
 pub invariant_of-self-else-is_err : goal.invariant_of-self-else-is_err
@@ -58,7 +58,7 @@ invariant_of-self-else-is_err c =
 
 pub returns-clause-levels : goal.returns-clause-levels
 returns-clause-levels c =
-    let P : Leveled → Type 0 = λ v. (C : Cluster) → AreLevels C v → AreLevels C (record { arena = c.add_entry.new.self; kept = c.grow_to.new.self }) in
+    let P : Leveled → Type 0 = λ v. (C : Cluster) → AreLevels C v → AreLevels C (record { arena = c.add_entry.new.self; level_index = c.grow_to.new.self }) in
     subst P c.self.view_is (levels_added (first c) c.add_entry.new.self c.grow_to.new.self c.args.id c.in_ok-slot.slot c.show_invariant.ensures (added_else c) c.grow_to.ensures.same)
 
 pub returns-then-is_err-clause-others : goal.returns-then-is_err-clause-others

@@ -16,16 +16,16 @@ invariant_of-self-then-is_err c =
     let k = c.prepare_notice-found.ensures in
     let r = c.abort.ensures in
     leveled_again c.self.inside.arena c.prepare_notice-found.new.arena c.show_invariant.ensures c.show_invariant-2.ensures k.kept c.abort.new.arena c.show_invariant-then-is_err.ensures (is_named (reported_blocks c.prepare_notice-found.new.self))
-    r.delimiter r.marker r.numbers r.entries k.fresh c.self.inside.kept c.grow_to-grown.new.self c.grow_to-grown.ensures.same c.grow_to-grown.ensures.kept c.self.invariant
+    r.delimiter r.marker r.numbers r.entries k.fresh c.self.inside.level_index c.grow_to-grown.new.self c.grow_to-grown.ensures.same c.grow_to-grown.ensures.kept c.self.invariant
 
 pub returns-then-is_err-clause-levels : goal.returns-then-is_err-clause-levels
 returns-then-is_err-clause-levels c =
     let k = c.prepare_notice-found.ensures in
     let r = c.abort.ensures in
-    let P : Leveled → Type 0 = λ v. (C : Cluster) → AreLevels C v → AreLevels C (record { arena = c.abort.new.arena; kept = c.grow_to-grown.new.self }) in
+    let P : Leveled → Type 0 = λ v. (C : Cluster) → AreLevels C v → AreLevels C (record { arena = c.abort.new.arena; level_index = c.grow_to-grown.new.self }) in
     subst P c.self.view_is
     (levels_again c.self.inside.arena c.prepare_notice-found.new.arena c.show_invariant.ensures c.show_invariant-2.ensures k.kept c.abort.new.arena c.show_invariant-then-is_err.ensures (is_named (reported_blocks c.prepare_notice-found.new.self))
-    r.delimiter r.marker r.numbers r.entries k.fresh c.self.inside.kept c.grow_to-grown.new.self c.grow_to-grown.ensures.same)
+    r.delimiter r.marker r.numbers r.entries k.fresh c.self.inside.level_index c.grow_to-grown.new.self c.grow_to-grown.ensures.same)
 
 pub returns-then-is_err-clause-given_up : goal.returns-then-is_err-clause-given_up
 returns-then-is_err-clause-given_up c =
@@ -37,7 +37,7 @@ returns-then-is_err-clause-given_up c =
 -- The notice is ready.
 
 abbrev start : goal.Else-is_err-2 → Leveled
-start c = record { arena = c.self.inside.arena; kept = c.self.inside.kept }
+start c = record { arena = c.self.inside.arena; level_index = c.self.inside.level_index }
 
 pub invariant_of-self : goal.invariant_of-self
 invariant_of-self c =
@@ -47,6 +47,6 @@ invariant_of-self c =
 
 pub returns-clause-levels : goal.returns-clause-levels
 returns-clause-levels c =
-    let P : Leveled → Type 0 = λ v. (C : Cluster) → AreLevels C v → AreLevels C (record { arena = c.prepare_notice-found.new.arena; kept = c.grow_to-grown.new.self }) in
+    let P : Leveled → Type 0 = λ v. (C : Cluster) → AreLevels C v → AreLevels C (record { arena = c.prepare_notice-found.new.arena; level_index = c.grow_to-grown.new.self }) in
     subst P c.self.view_is
     (levels_alike (start c) c.prepare_notice-found.new.arena c.grow_to-grown.new.self (alike_ready c.self.inside.arena c.prepare_notice-found.new.arena c.show_invariant.ensures c.show_invariant-2.ensures c.prepare_notice-found.ensures.kept) c.prepare_notice-found.ensures.kept.delimiter c.grow_to-grown.ensures.same)

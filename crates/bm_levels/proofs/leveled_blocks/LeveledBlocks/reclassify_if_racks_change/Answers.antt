@@ -10,13 +10,13 @@ reclassify_every_block-requires c = λ slot there. c.self.invariant.capacity slo
 
 pub invariant_of-self : goal.invariant_of-self
 invariant_of-self c =
-    leveled_each c.args.topology.now.cluster c.args.multi (record { arena = c.self.inside.arena; kept = c.self.inside.kept }) c.reclassify_every_block.new.self
+    leveled_each c.args.topology.now.cluster c.args.multi (record { arena = c.self.inside.arena; level_index = c.self.inside.level_index }) c.reclassify_every_block.new.self
     c.reclassify_every_block.ensures.status c.reclassify_every_block.ensures.others c.self.invariant c.reclassify_every_block.ensures.capacity
 
 pub returns-clause-levels : goal.returns-clause-levels
 returns-clause-levels c =
     let C = c.args.topology.now.cluster in
-    let P : Leveled → Type 0 = λ v. AreLevels C v → AreLevelsBy (rack_of C) (is_draining C) c.args.multi (record { arena = c.self.inside.arena; kept = c.reclassify_every_block.new.self }) in
+    let P : Leveled → Type 0 = λ v. AreLevels C v → AreLevelsBy (rack_of C) (is_draining C) c.args.multi (record { arena = c.self.inside.arena; level_index = c.reclassify_every_block.new.self }) in
     subst P c.self.view_is
-    (levels_each C c.args.multi (record { arena = c.self.inside.arena; kept = c.self.inside.kept }) c.reclassify_every_block.new.self
+    (levels_each C c.args.multi (record { arena = c.self.inside.arena; level_index = c.self.inside.level_index }) c.reclassify_every_block.new.self
     c.reclassify_every_block.ensures.status c.reclassify_every_block.ensures.others c.show_invariant.ensures c.self.invariant)

@@ -9,7 +9,7 @@ invariant_of-self c =
     let r = c.unlink.ensures.others in
     let P : Leveled → Type 0 = λ v. slot_of v.arena c.requires.slot.0 ≡ Some c.args.slot in
     let here = subst P (sym c.self.view_is) c.requires.slot.1 in
-    leveled_after c.args.topology.now.cluster (record { arena = c.self.inside.arena; kept = c.self.inside.kept }) c.unlink.new.self c.update_from.new.self c.args.slot
+    leveled_after c.args.topology.now.cluster (record { arena = c.self.inside.arena; level_index = c.self.inside.level_index }) c.unlink.new.self c.update_from.new.self c.args.slot
     (record { blocks = r.blocks; delimiter = r.delimiter; apart = (c.show_invariant.ensures.found c.requires.slot.0 c.args.slot here).0; held = held_by c.self.inside.arena c.args.slot (c.show_invariant.ensures.found c.requires.slot.0 c.args.slot here) })
     c.update_from.ensures.status c.update_from.ensures.others c.self.invariant c.update_from.ensures.capacity
 
@@ -18,7 +18,7 @@ returns-clause-levels c =
     let r = c.unlink.ensures.others in
     let P : Leveled → Type 0 = λ v. slot_of v.arena c.requires.slot.0 ≡ Some c.args.slot in
     let here = subst P (sym c.self.view_is) c.requires.slot.1 in
-    let Q : Leveled → Type 0 = λ v. AreLevels c.args.topology.now.cluster v → AreLevels c.args.topology.now.cluster (record { arena = c.unlink.new.self; kept = c.update_from.new.self }) in
-    subst Q c.self.view_is (levels_after c.args.topology.now.cluster (record { arena = c.self.inside.arena; kept = c.self.inside.kept }) c.unlink.new.self c.update_from.new.self c.args.slot
+    let Q : Leveled → Type 0 = λ v. AreLevels c.args.topology.now.cluster v → AreLevels c.args.topology.now.cluster (record { arena = c.unlink.new.self; level_index = c.update_from.new.self }) in
+    subst Q c.self.view_is (levels_after c.args.topology.now.cluster (record { arena = c.self.inside.arena; level_index = c.self.inside.level_index }) c.unlink.new.self c.update_from.new.self c.args.slot
     (record { blocks = r.blocks; delimiter = r.delimiter; apart = (c.show_invariant.ensures.found c.requires.slot.0 c.args.slot here).0; held = held_by c.self.inside.arena c.args.slot (c.show_invariant.ensures.found c.requires.slot.0 c.args.slot here) })
     c.update_from.ensures.status c.update_from.ensures.others)

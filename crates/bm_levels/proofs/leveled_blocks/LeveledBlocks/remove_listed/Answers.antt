@@ -20,11 +20,11 @@ first v w slots storage same h = let P : Leveled → Type 0 = λ x. (rest : List
 
 pub unlink_all-requires-clause-first : goal.unlink_all-requires-clause-first
 unlink_all-requires-clause-first c =
-    first (record { arena = c.self.inside.arena; kept = c.self.inside.kept }) c.args.self.now c.args.slots.now c.args.storage c.self.view_is c.requires
+    first (record { arena = c.self.inside.arena; level_index = c.self.inside.level_index }) c.args.self.now c.args.slots.now c.args.storage c.self.view_is c.requires
 
 pub classify_all-requires : goal.classify_all-requires
 classify_all-requires c =
-    let f = first (record { arena = c.self.inside.arena; kept = c.self.inside.kept }) c.args.self.now c.args.slots.now c.args.storage c.self.view_is c.requires in
+    let f = first (record { arena = c.self.inside.arena; level_index = c.self.inside.level_index }) c.args.self.now c.args.slots.now c.args.storage c.self.view_is c.requires in
     record {
       capacity = λ slot there.
           c.self.invariant.capacity slot (held_on c.self.inside.arena c.show_invariant.ensures c.args.storage slot (listed_in (list_of c.self.inside.arena c.args.storage) c.args.slots.now f.0 f.1 slot there));
@@ -32,7 +32,7 @@ classify_all-requires c =
 
 pub invariant_of-self : goal.invariant_of-self
 invariant_of-self c =
-    let old : Leveled = record { arena = c.self.inside.arena; kept = c.self.inside.kept } in
+    let old : Leveled = record { arena = c.self.inside.arena; level_index = c.self.inside.level_index } in
     let f = first old c.args.self.now c.args.slots.now c.args.storage c.self.view_is c.requires in
     let u = c.unlink_all.ensures in
     leveled_first (rack_after c.args.cluster_after.now) (drains_after c.args.cluster_after.now) c.args.cluster_after.now.multi
@@ -60,10 +60,10 @@ pub returns-clause-levels : goal.returns-clause-levels
 returns-clause-levels c =
     let rack = rack_of c.args.cluster_after.now.topology.now.cluster in
     let draining = drains_after_change c.args.cluster_after.now.topology.now.cluster c.args.cluster_after.now.drain_change in
-    let old : Leveled = record { arena = c.self.inside.arena; kept = c.self.inside.kept } in
+    let old : Leveled = record { arena = c.self.inside.arena; level_index = c.self.inside.level_index } in
     let f = first old c.args.self.now c.args.slots.now c.args.storage c.self.view_is c.requires in
     let u = c.unlink_all.ensures in
-    let P : Leveled → Type 0 = λ v. AreLevelsBy rack draining c.args.cluster_after.now.multi v → AreLevelsBy rack draining c.args.cluster_after.now.multi (record { arena = c.unlink_all.new.arena; kept = c.classify_all.new.self }) in
+    let P : Leveled → Type 0 = λ v. AreLevelsBy rack draining c.args.cluster_after.now.multi v → AreLevelsBy rack draining c.args.cluster_after.now.multi (record { arena = c.unlink_all.new.arena; level_index = c.classify_all.new.self }) in
     subst P c.self.view_is
     (levels_first rack draining c.args.cluster_after.now.multi old c.unlink_all.new.arena c.classify_all.new.self c.args.storage c.args.slots.now f.0 f.1 c.show_invariant.ensures c.self.invariant u.others u.known u.delimiter
     c.classify_all.ensures.status c.classify_all.ensures.others)

@@ -14,12 +14,12 @@ reclassify_node-requires c = λ slot storage there. c.self.invariant.capacity sl
 pub invariant_of-self : goal.invariant_of-self
 invariant_of-self c =
     let C = c.args.topology.now.cluster in
-    leveled_again (rack_of C) (drains_after_change C (Some (drain_change c.args.node c.args.drains))) c.multi_rack.result (record { arena = c.self.inside.arena; kept = c.self.inside.kept }) c.reclassify_node.new.self
+    leveled_again (rack_of C) (drains_after_change C (Some (drain_change c.args.node c.args.drains))) c.multi_rack.result (record { arena = c.self.inside.arena; level_index = c.self.inside.level_index }) c.reclassify_node.new.self
     (λ slot. elim (c.reclassify_node.ensures.each slot) [ inl status ↦ inl status | inr same ↦ inr same.0 ]) c.self.invariant c.reclassify_node.ensures.capacity
 
 pub returns-clause-levels : goal.returns-clause-levels
 returns-clause-levels c =
     let C = c.args.topology.now.cluster in
-    let P : Leveled → Type 0 = λ v. AreLevels C v → AreLevels (if c.args.drains then drain C c.args.node else undrain C c.args.node) (record { arena = c.self.inside.arena; kept = c.reclassify_node.new.self }) in
+    let P : Leveled → Type 0 = λ v. AreLevels C v → AreLevels (if c.args.drains then drain C c.args.node else undrain C c.args.node) (record { arena = c.self.inside.arena; level_index = c.reclassify_node.new.self }) in
     subst P c.self.view_is
-    (turned_all C c.args.node c.args.drains c.multi_rack.result (record { arena = c.self.inside.arena; kept = c.self.inside.kept }) c.reclassify_node.new.self c.multi_rack.ensures c.show_invariant.ensures c.reclassify_node.ensures.each)
+    (turned_all C c.args.node c.args.drains c.multi_rack.result (record { arena = c.self.inside.arena; level_index = c.self.inside.level_index }) c.reclassify_node.new.self c.multi_rack.ensures c.show_invariant.ensures c.reclassify_node.ensures.each)

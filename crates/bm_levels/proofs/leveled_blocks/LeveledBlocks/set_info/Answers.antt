@@ -9,7 +9,7 @@ invariant_of-self c =
     let r = c.set_info.ensures.rest in
     let P : Leveled → Type 0 = λ v. slot_of v.arena c.requires.0 ≡ Some c.args.slot in
     let here = subst P (sym c.self.view_is) c.requires.1 in
-    leveled_after c.args.topology.now.cluster (record { arena = c.self.inside.arena; kept = c.self.inside.kept }) c.set_info.new.self c.update_level.new.self c.args.slot
+    leveled_after c.args.topology.now.cluster (record { arena = c.self.inside.arena; level_index = c.self.inside.level_index }) c.set_info.new.self c.update_level.new.self c.args.slot
     (record { blocks = r.blocks; delimiter = r.delimiter; apart = (c.show_invariant.ensures.found c.requires.0 c.args.slot here).0; held = held_by c.self.inside.arena c.args.slot (c.show_invariant.ensures.found c.requires.0 c.args.slot here) })
     c.update_level.ensures.status c.update_level.ensures.others c.self.invariant c.update_level.ensures.capacity
 
@@ -18,7 +18,7 @@ returns-clause-levels c =
     let r = c.set_info.ensures.rest in
     let P : Leveled → Type 0 = λ v. slot_of v.arena c.requires.0 ≡ Some c.args.slot in
     let here = subst P (sym c.self.view_is) c.requires.1 in
-    let Q : Leveled → Type 0 = λ v. AreLevels c.args.topology.now.cluster v → AreLevels c.args.topology.now.cluster (record { arena = c.set_info.new.self; kept = c.update_level.new.self }) in
-    subst Q c.self.view_is (levels_after c.args.topology.now.cluster (record { arena = c.self.inside.arena; kept = c.self.inside.kept }) c.set_info.new.self c.update_level.new.self c.args.slot
+    let Q : Leveled → Type 0 = λ v. AreLevels c.args.topology.now.cluster v → AreLevels c.args.topology.now.cluster (record { arena = c.set_info.new.self; level_index = c.update_level.new.self }) in
+    subst Q c.self.view_is (levels_after c.args.topology.now.cluster (record { arena = c.self.inside.arena; level_index = c.self.inside.level_index }) c.set_info.new.self c.update_level.new.self c.args.slot
     (record { blocks = r.blocks; delimiter = r.delimiter; apart = (c.show_invariant.ensures.found c.requires.0 c.args.slot here).0; held = held_by c.self.inside.arena c.args.slot (c.show_invariant.ensures.found c.requires.0 c.args.slot here) })
     c.update_level.ensures.status c.update_level.ensures.others)

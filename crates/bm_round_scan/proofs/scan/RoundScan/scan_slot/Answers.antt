@@ -57,7 +57,7 @@ settled_slot us slot false none there = absurd (false≢true (none ∙ among_has
 pub push_settled_wish-requires-clause-settled : goal.push_settled_wish-requires-clause-settled
 push_settled_wish-requires-clause-settled c =
     let s = c.args.self.now in
-    settled_slot s.kept.now.unsettled.slots c.args.slot (is_settled_at (block_at s.arena.now c.args.slot)) (is_not (has s.kept.now.unsettled.slots c.args.slot) (sym c.is_settled.ensures ∙ c.if-is_settled.true)) (c.requires.settled c.args.slot).1
+    settled_slot s.level_index.now.unsettled.slots c.args.slot (is_settled_at (block_at s.arena.now c.args.slot)) (is_not (has s.level_index.now.unsettled.slots c.args.slot) (sym c.is_settled.ensures ∙ c.if-is_settled.true)) (c.requires.settled c.args.slot).1
 
 pub returns-then-is_settled-clause-more : goal.returns-then-is_settled-clause-more
 returns-then-is_settled-clause-more c bs found_so_far =
@@ -68,7 +68,7 @@ returns-then-is_settled-clause-more c bs found_so_far =
     let own = c.id_of-id.ensures found.1 found.2 in
     let here = ap (slot_of a) (own ∙ found.3) ∙ c.requires.known.1 in
     let id : c.id_of-id.result ≡ id_at a c.args.slot = own ∙ sym (ap (λ o. option_map_or (λ (b : Block). b.id) o 0) found.2) in
-    let settled = settled_slot s.kept.now.unsettled.slots c.args.slot (is_settled_at (block_at a c.args.slot)) (is_not (has s.kept.now.unsettled.slots c.args.slot) (sym c.is_settled.ensures ∙ c.if-is_settled.true)) (c.requires.settled c.args.slot).1 in
+    let settled = settled_slot s.level_index.now.unsettled.slots c.args.slot (is_settled_at (block_at a c.args.slot)) (is_not (has s.level_index.now.unsettled.slots c.args.slot) (sym c.is_settled.ensures ∙ c.if-is_settled.true)) (c.requires.settled c.args.slot).1 in
     let f = c.args.found.now in
     let g : Findings = record { excess = f.excess; wishes = c.push_settled_wish.new.into; deletes = f.deletes } in
     subst (λ b. OnOk c.push_settled_wish.result (HasFound C s.pend s.round (holdings_with a s.pending.now.map) s.bound (bs ++ b ∷ []) g)) id

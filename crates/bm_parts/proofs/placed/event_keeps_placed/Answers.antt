@@ -1,5 +1,0 @@
-use Rattle.bm_parts.proofs.WellPlaced.{event_keeps_placed}
-use Rattle.bm_parts.proofs.placed.event_keeps_placed.Goals as goal
-
-pub returns : goal.returns
-returns c = event_keeps_placed

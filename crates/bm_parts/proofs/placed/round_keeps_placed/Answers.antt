@@ -1,5 +1,0 @@
-use Rattle.bm_parts.proofs.WellPlaced.{round_keeps_placed}
-use Rattle.bm_parts.proofs.placed.round_keeps_placed.Goals as goal
-
-pub returns : goal.returns
-returns c = round_keeps_placed

@@ -1,6 +1,0 @@
-use Rattle.std.proofs.Common.{◌≡◌, map, take}
-use Rattle.cluster_losses.specs.Parts.{rack_number}
-use Rattle.cluster_losses.proofs.parts.rack_of_each.Given as goal
-
-abbrev pub invariant-loop-node : goal.invariant-loop-node
-invariant-loop-node l = l.numbers.items ≡ map (rack_number l.book.topology.cluster) (take l.node-index l.node-items)

@@ -1,0 +1,94 @@
+// Looks up the names of a command line: by the names of the cluster, or by number if it has none.
+ghost use Rattle.std.specs.Prelude.{◌≡◌, ◌==◌, IfOk, nat_eq, slice_index};
+ghost use Rattle.std.specs.List.{starts_with};
+ghost use Rattle.cluster_losses.specs.Named.{number_written, number_named, is_on_host, is_node_named, nodes_named, nodes_in};
+
+use crate::failure_domains::nodes_on;
+use bm_base::{NodeId, Rack, StorageId};
+use cluster_input::loaded_cluster::Loaded;
+use cluster_names::{NameTable, Names};
+use cluster_report::nodes::all_nodes;
+use std::alloc::{AllocError, Global};
+
+/// The alive nodes of the rack of this name, ascending.
+pub fn nodes_in(alloc: Global, loaded: &Loaded, name: &str) -> Result<Vec<NodeId>, AllocError>
+    ensures { IfOk result (λ v. v.items
+        ≡ nodes_in loaded.now.session.book.topology.cluster loaded.now.names name.now) }
+{
+    match number_named(&loaded.names.racks, name) {
+        Some(rack) => nodes_on(alloc, &loaded.session.book, Rack(rack)),
+        None => Ok(Vec::new(alloc)),
+    }
+}
+
+pub fn storage_named(loaded: &Loaded, name: &str) -> Option<StorageId>
+    ensures { result ≡ number_named loaded.now.names.storages name.now }
+{
+    Some(StorageId(number_named(&loaded.names.storages, name)?))
+}
+
+/// The alive nodes of this name, ascending: the one that has it, or else those on the host,
+/// whatever their ports.
+pub fn nodes_named(alloc: Global, loaded: &Loaded, name: &str) -> Result<Vec<NodeId>, AllocError>
+    ensures { IfOk result (λ v. v.items
+        ≡ nodes_named loaded.now.session.book.topology.cluster loaded.now.names name.now) }
+{
+    let number = number_named(&loaded.names.nodes, name);
+    let all = all_nodes(alloc, &loaded.session.book.topology)?;
+    all.iter()
+        .filter(|node| is_node_named(&loaded.names, number, name, **node))
+        .copied()
+        .collect(alloc)
+}
+
+/// Whether a node has this name, of which this is the number.
+fn is_node_named(names: &Names, number: Option<u32>, name: &str, node: NodeId) -> bool
+    requires { number ≡ number_named names.now.nodes name.now }
+    ensures { result ≡ is_node_named names.now name.now node }
+{
+    match number {
+        Some(number) => node.0 == number,
+        None => match names.host(node) {
+            Some(own) => is_on_host(own, name),
+            None => false,
+        },
+    }
+}
+
+/// Whether the name of a node is this host, a colon, and a port.
+fn is_on_host(name: &str, host: &str) -> bool
+    ensures { result ≡ is_on_host name.now host.now }
+{
+    begins(name, host) && is_colon_at(name.as_bytes(), host.len())
+}
+
+fn begins(text: &str, start: &str) -> bool
+    ensures { result ≡ starts_with nat_eq text.now start.now }
+{
+    text.starts_with(start)
+}
+
+fn is_colon_at(text: &[u8], index: usize) -> bool
+    ensures { result ≡ (slice_index text.now index == 58) }
+{
+    match text.get(index) {
+        Some(byte) => *byte == b':',
+        None => false,
+    }
+}
+
+/// The number that has this name. If nothing of the kind is named, the number is the name.
+fn number_named(names: &NameTable, name: &str) -> Option<u32>
+    ensures { result ≡ number_named names.now name.now }
+{
+    if 0 < names.len() {
+        return names.number(name);
+    }
+    number_written(name)
+}
+
+fn number_written(text: &str) -> Option<u32>
+    ensures { result ≡ number_written text.now }
+{
+    text.parse::<u32>().ok()
+}

@@ -1,5 +1,0 @@
-use Rattle.laws_of_events.proofs.DrainLaws.{undrained_idly}
-use Rattle.laws_of_events.proofs.draining.idle_undrain_changes_nothing.Goals as goal
-
-pub returns : goal.returns
-returns c = undrained_idly

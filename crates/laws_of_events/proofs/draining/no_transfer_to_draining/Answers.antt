@@ -1,5 +1,0 @@
-use Rattle.laws_of_events.proofs.NoTransferToDraining.{none_sent_there}
-use Rattle.laws_of_events.proofs.draining.no_transfer_to_draining.Goals as goal
-
-pub returns : goal.returns
-returns c = none_sent_there

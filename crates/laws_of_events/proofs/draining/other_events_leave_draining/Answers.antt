@@ -1,5 +1,0 @@
-use Rattle.laws_of_events.proofs.DrainLaws.{others_leave}
-use Rattle.laws_of_events.proofs.draining.other_events_leave_draining.Goals as goal
-
-pub returns : goal.returns
-returns c = others_leave

@@ -1,5 +1,0 @@
-use Rattle.laws_of_events.proofs.RetiredNodes.{said_plainly}
-use Rattle.laws_of_events.proofs.draining.retired_is_said_plainly.Goals as goal
-
-pub returns : goal.returns
-returns c = said_plainly

@@ -1,5 +1,0 @@
-use Rattle.laws_of_events.proofs.DrainLaws.{undrain_takes}
-use Rattle.laws_of_events.proofs.draining.undrain_takes_nothing.Goals as goal
-
-pub returns : goal.returns
-returns c = undrain_takes
