@@ -8,5 +8,5 @@
 mod line_answer;
 mod request;
 
-pub use request::{Asked, asked_by, asked_of};
 pub use line_answer::{LineAnswer, make_call, make_call_alone};
+pub use request::{Asked, asked_by, asked_of};

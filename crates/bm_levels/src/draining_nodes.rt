@@ -29,7 +29,8 @@ impl LeveledBlocks {
             multi: topology.multi_rack(),
         };
         self.arena.show_invariant();
-        self.level_index.reclassify_node(&self.arena, node, &cluster_after);
+        self.level_index
+            .reclassify_node(&self.arena, node, &cluster_after);
     }
 }
 

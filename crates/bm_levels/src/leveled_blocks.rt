@@ -123,7 +123,8 @@ impl LeveledBlocks {
         self.arena.show_invariant();
         let was = self.level_index.status_at(slot);
         self.arena.unlink(slot, storage);
-        self.level_index.update_from(topology, &self.arena, slot, was);
+        self.level_index
+            .update_from(topology, &self.arena, slot, was);
     }
 
     /// For proofs alone: the unsettled slots are exactly those of unsettled blocks, a slot without

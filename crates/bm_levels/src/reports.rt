@@ -126,7 +126,8 @@ impl LeveledBlocks {
         let slot = report.slot_of_one();
         let was = self.level_index.status_at(slot);
         let applied = report.apply_received(&mut self.arena, topology, storage, id, stamp);
-        self.level_index.update_from(topology, &self.arena, slot, was);
+        self.level_index
+            .update_from(topology, &self.arena, slot, was);
         applied
     }
 

@@ -108,7 +108,8 @@ impl LeveledBlocks {
     {
         self.arena.show_invariant();
         unlink_all(&mut self.arena, storage, slots);
-        self.level_index.classify_all(&self.arena, slots, cluster_after);
+        self.level_index
+            .classify_all(&self.arena, slots, cluster_after);
     }
 
     /// Drops the list of a storage, which is empty.

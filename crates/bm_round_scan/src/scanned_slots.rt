@@ -49,7 +49,10 @@ fn first_capacity(start: &RoundScan) -> usize {
         Some(_) => 0,
         None => start.level_index.count_needing_copies(),
     };
-    start.level_index.unsettled_count().saturating_add(needing_copies)
+    start
+        .level_index
+        .unsettled_count()
+        .saturating_add(needing_copies)
 }
 
 /// Appends the settled slots of a level that come before the bound and lack pending transfers, in

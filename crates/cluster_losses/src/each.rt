@@ -9,10 +9,10 @@ ghost use Rattle.cluster_losses.specs.Faults.{IsRefusal, IsRowsFault};
 ghost use Rattle.cluster_losses.specs.Reached.{IsReached};
 ghost use Rattle.cluster_losses.specs.Tables.{AreRows, IsRowAt, levels_cmp, row_cmp};
 
-use crate::fault::Fault;
-use crate::loss_events::Lost;
 use crate::failure_domains::FailureDomain;
 pub use crate::failure_domains::{nodes_of, racks_of};
+use crate::fault::Fault;
+use crate::loss_events::Lost;
 use crate::returns::Return;
 use crate::set_back::returns_of;
 use crate::snapshot::Snapshot;

@@ -6,12 +6,12 @@
 pub mod cluster_counts;
 pub mod each;
 pub mod events;
+mod failure_domains;
 pub mod fault;
 mod lacking_bytes;
 pub mod loss;
 pub mod loss_events;
 mod name_lookup;
-mod failure_domains;
 mod returns;
 mod set_back;
 mod snapshot;

@@ -5,8 +5,8 @@ ghost use Rattle.cluster_lost.specs.Losses.{are_losses, after_losses};
 ghost use Rattle.cluster_report.specs.Sessions.{IsInStep};
 ghost use Rattle.cluster_losses.specs.Outcomes.{IsOutcome};
 
-use crate::events::apply_all;
 use crate::cluster_counts::{ClusterCounts, count_cluster};
+use crate::events::apply_all;
 use bm_base::{BlockId, Event, Items, Refusal};
 use cluster_lost::lost_blocks;
 use cluster_report::session::Session;

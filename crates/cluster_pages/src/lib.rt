@@ -58,7 +58,9 @@ use cluster_input::options::{asked_of, files_of};
 use cluster_input::sources::load;
 use json::make_json;
 use options::{Form, form_of, matches_of, wrong_value};
-use output::{PrintFault, ClusterReport, print_report, make_report, say_print_fault, write_flushed};
+use output::{
+    ClusterReport, PrintFault, make_report, print_report, say_print_fault, write_flushed,
+};
 use page::make_page;
 use page_file::write_page;
 use std::alloc::Global;

@@ -40,7 +40,11 @@ pub fn make_page(
 }
 
 /// The most important numbers.
-fn write_summary(text: &mut String, files: &Files, cluster: &ClusterReport) -> Result<(), AllocError> {
+fn write_summary(
+    text: &mut String,
+    files: &Files,
+    cluster: &ClusterReport,
+) -> Result<(), AllocError> {
     let report = &cluster.report;
     text.push_str("<dl>\n")?;
     write_fact(text, "nodes", report.nodes.as_slice().len() as u128)?;

@@ -4,9 +4,9 @@ use crate::page::write_part;
 use crate::table::kind_word;
 use crate::text::fits_word;
 use bm_base::{NodeId, Rack};
+use cluster_losses::cluster_counts::ClusterCounts;
 use cluster_losses::each::Row;
 use cluster_losses::loss::Kind;
-use cluster_losses::cluster_counts::ClusterCounts;
 use cluster_names::{Files, Names};
 use cluster_pages::page_frame::write_head;
 use cluster_pages::page_parts::{

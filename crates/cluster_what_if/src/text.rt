@@ -7,8 +7,8 @@ ghost use Rattle.cluster_what_if.specs.Text.{node_words, node_line, storage_line
 use crate::answers::Answer;
 use bm_base::{BlockId, NodeId, Rack, StorageId};
 use cluster_input::loaded_cluster::Loaded;
-use cluster_losses::loss_events::Lost;
 use cluster_losses::cluster_counts::ClusterCounts;
+use cluster_losses::loss_events::Lost;
 use cluster_names::{Files, Names};
 use cluster_pages::at_risk::FileRow;
 use cluster_pages::text::first_of;

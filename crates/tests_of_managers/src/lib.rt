@@ -11,6 +11,8 @@ mod calls;
 #[cfg(test)]
 mod crew;
 #[cfg(test)]
+mod example_scripts;
+#[cfg(test)]
 mod lines;
 #[cfg(test)]
 mod locator_answers;
@@ -32,5 +34,3 @@ mod streams;
 mod vectors;
 #[cfg(test)]
 mod view;
-#[cfg(test)]
-mod example_scripts;

@@ -363,14 +363,27 @@ fn before(arena: &Arena, storage: StorageId, slot: usize) -> Option<usize> {
 }
 
 /// `usize::MAX`, which is no slot, means a question that is not allowed.
-fn slot_asked(rt: &impl Abort, arena: &mut Arena, slots: &Slots, question: SlotQuestion) -> Option<usize> {
+fn slot_asked(
+    rt: &impl Abort,
+    arena: &mut Arena,
+    slots: &Slots,
+    question: SlotQuestion,
+) -> Option<usize> {
     match question {
         SlotQuestion::Added(block) => Some(add(rt, arena, block)),
         SlotQuestion::Find(block) => arena.find(BlockId(block)),
         SlotQuestion::SlotAt(index) => arena.slot_at(index),
         SlotQuestion::BehindDelimiter(storage) => behind_the_delimiter(arena, StorageId(storage)),
-        SlotQuestion::Behind(storage, block) => behind(arena, StorageId(storage), slot_of(slots, block)),
-        SlotQuestion::Before(storage, block) => before(arena, StorageId(storage), slot_of(slots, block)),
+        SlotQuestion::Behind(storage, block) => behind(
+            arena,
+            StorageId(storage),
+            slot_of(slots, block),
+        ),
+        SlotQuestion::Before(storage, block) => before(
+            arena,
+            StorageId(storage),
+            slot_of(slots, block),
+        ),
     }
 }
 
@@ -525,7 +538,10 @@ static SCENARIOS: [Scenario<'static>; 8] = [
             (Step::Walk(11), Answer::Blocks([9, 8, 7], 3)),
             (Step::Do(Deed::PutDelimiter(11)), Answer::Fine),
             (Step::Do(Deed::MoveFront(8, 11)), Answer::Fine),
-            (Step::Where(SlotQuestion::BehindDelimiter(11)), Answer::SlotOf(9)),
+            (
+                Step::Where(SlotQuestion::BehindDelimiter(11)),
+                Answer::SlotOf(9),
+            ),
             (Step::Where(SlotQuestion::Behind(11, 9)), Answer::SlotOf(7)),
             (Step::Where(SlotQuestion::Behind(11, 7)), Answer::Nothing),
             (Step::Where(SlotQuestion::Before(11, 7)), Answer::SlotOf(9)),
@@ -628,8 +644,14 @@ static SCENARIOS: [Scenario<'static>; 8] = [
             (Step::HowMany(Count::Steps), Answer::Number(8192)),
             (Step::DoMany(Many::PutDelimiter(4096)), Answer::Fine),
             (Step::HowMany(Count::Walked(4095)), Answer::Number(3)),
-            (Step::Where(SlotQuestion::BehindDelimiter(0)), Answer::SlotOf(7)),
-            (Step::Where(SlotQuestion::BehindDelimiter(4095)), Answer::SlotOf(7)),
+            (
+                Step::Where(SlotQuestion::BehindDelimiter(0)),
+                Answer::SlotOf(7),
+            ),
+            (
+                Step::Where(SlotQuestion::BehindDelimiter(4095)),
+                Answer::SlotOf(7),
+            ),
             (Step::DoMany(Many::TakeDelimiter(4096)), Answer::Fine),
             (Step::WalkEach(4096), Answer::Yes),
             (Step::HowMany(Count::Steps), Answer::Number(16384)),
