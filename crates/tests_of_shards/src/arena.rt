@@ -61,7 +61,7 @@ enum Many {
 
 /// A question that a slot answers.
 #[derive(Clone, Copy)]
-enum SlotQuestion {
+enum Seek {
     /// The slot of a block, which is added if it is new.
     Added(u64),
     Find(u64),
@@ -89,7 +89,7 @@ enum Step {
     Add(u64),
     Do(Deed),
     DoMany(Many),
-    Where(SlotQuestion),
+    Where(Seek),
     HowMany(Count),
     Walk(u32),
     /// Whether each of the lists below a number holds block 7, then its own block of `AddEach`, and
@@ -363,27 +363,14 @@ fn before(arena: &Arena, storage: StorageId, slot: usize) -> Option<usize> {
 }
 
 /// `usize::MAX`, which is no slot, means a question that is not allowed.
-fn slot_asked(
-    rt: &impl Abort,
-    arena: &mut Arena,
-    slots: &Slots,
-    question: SlotQuestion,
-) -> Option<usize> {
+fn slot_asked(rt: &impl Abort, arena: &mut Arena, slots: &Slots, question: Seek) -> Option<usize> {
     match question {
-        SlotQuestion::Added(block) => Some(add(rt, arena, block)),
-        SlotQuestion::Find(block) => arena.find(BlockId(block)),
-        SlotQuestion::SlotAt(index) => arena.slot_at(index),
-        SlotQuestion::BehindDelimiter(storage) => behind_the_delimiter(arena, StorageId(storage)),
-        SlotQuestion::Behind(storage, block) => behind(
-            arena,
-            StorageId(storage),
-            slot_of(slots, block),
-        ),
-        SlotQuestion::Before(storage, block) => before(
-            arena,
-            StorageId(storage),
-            slot_of(slots, block),
-        ),
+        Seek::Added(block) => Some(add(rt, arena, block)),
+        Seek::Find(block) => arena.find(BlockId(block)),
+        Seek::SlotAt(index) => arena.slot_at(index),
+        Seek::BehindDelimiter(storage) => behind_the_delimiter(arena, StorageId(storage)),
+        Seek::Behind(storage, block) => behind(arena, StorageId(storage), slot_of(slots, block)),
+        Seek::Before(storage, block) => before(arena, StorageId(storage), slot_of(slots, block)),
     }
 }
 
@@ -538,14 +525,11 @@ static SCENARIOS: [Scenario<'static>; 8] = [
             (Step::Walk(11), Answer::Blocks([9, 8, 7], 3)),
             (Step::Do(Deed::PutDelimiter(11)), Answer::Fine),
             (Step::Do(Deed::MoveFront(8, 11)), Answer::Fine),
-            (
-                Step::Where(SlotQuestion::BehindDelimiter(11)),
-                Answer::SlotOf(9),
-            ),
-            (Step::Where(SlotQuestion::Behind(11, 9)), Answer::SlotOf(7)),
-            (Step::Where(SlotQuestion::Behind(11, 7)), Answer::Nothing),
-            (Step::Where(SlotQuestion::Before(11, 7)), Answer::SlotOf(9)),
-            (Step::Where(SlotQuestion::Before(11, 8)), Answer::Nothing),
+            (Step::Where(Seek::BehindDelimiter(11)), Answer::SlotOf(9)),
+            (Step::Where(Seek::Behind(11, 9)), Answer::SlotOf(7)),
+            (Step::Where(Seek::Behind(11, 7)), Answer::Nothing),
+            (Step::Where(Seek::Before(11, 7)), Answer::SlotOf(9)),
+            (Step::Where(Seek::Before(11, 8)), Answer::Nothing),
             (Step::Do(Deed::TakeDelimiter(11)), Answer::Fine),
             (Step::Walk(11), Answer::Blocks([8, 9, 7], 3)),
             (Step::HowMany(Count::Steps), Answer::Number(6)),
@@ -556,7 +540,7 @@ static SCENARIOS: [Scenario<'static>; 8] = [
         name: "counts and places",
         setup: &THREE_BLOCKS,
         steps: &[
-            (Step::Where(SlotQuestion::Added(7)), Answer::SlotOf(7)),
+            (Step::Where(Seek::Added(7)), Answer::SlotOf(7)),
             (Step::HowMany(Count::Blocks), Answer::Number(3)),
             (Step::TripletAt(7, 0), Answer::Replica(11)),
             (Step::TripletAt(7, 1), Answer::Nothing),
@@ -566,10 +550,10 @@ static SCENARIOS: [Scenario<'static>; 8] = [
         name: "look ups answer what up_to_date",
         setup: &THREE_BLOCKS,
         steps: &[
-            (Step::Where(SlotQuestion::Find(7)), Answer::SlotOf(7)),
-            (Step::Where(SlotQuestion::Find(6)), Answer::Nothing),
-            (Step::Where(SlotQuestion::SlotAt(1)), Answer::SlotOf(8)),
-            (Step::Where(SlotQuestion::SlotAt(3)), Answer::Nothing),
+            (Step::Where(Seek::Find(7)), Answer::SlotOf(7)),
+            (Step::Where(Seek::Find(6)), Answer::Nothing),
+            (Step::Where(Seek::SlotAt(1)), Answer::SlotOf(8)),
+            (Step::Where(Seek::SlotAt(3)), Answer::Nothing),
             (Step::HowMany(Count::SlotBound), Answer::Number(4)),
             (Step::IsDelimiter(7), Answer::No),
             (Step::Info(7), Answer::Nothing),
@@ -602,10 +586,10 @@ static SCENARIOS: [Scenario<'static>; 8] = [
         steps: &[
             (Step::Do(Deed::Unlink(7, 11)), Answer::Fine),
             (Step::Do(Deed::DropEntry(7)), Answer::Fine),
-            (Step::Where(SlotQuestion::Find(7)), Answer::Nothing),
+            (Step::Where(Seek::Find(7)), Answer::Nothing),
             (Step::HowMany(Count::Blocks), Answer::Number(2)),
-            (Step::Where(SlotQuestion::SlotAt(0)), Answer::SlotOf(9)),
-            (Step::Where(SlotQuestion::Added(5)), Answer::SlotOf(7)),
+            (Step::Where(Seek::SlotAt(0)), Answer::SlotOf(9)),
+            (Step::Where(Seek::Added(5)), Answer::SlotOf(7)),
             (Step::HowMany(Count::SlotBound), Answer::Number(4)),
             (Step::Do(Deed::DropHead(12)), Answer::Fine),
             (Step::HasHead(12), Answer::No),
@@ -644,14 +628,8 @@ static SCENARIOS: [Scenario<'static>; 8] = [
             (Step::HowMany(Count::Steps), Answer::Number(8192)),
             (Step::DoMany(Many::PutDelimiter(4096)), Answer::Fine),
             (Step::HowMany(Count::Walked(4095)), Answer::Number(3)),
-            (
-                Step::Where(SlotQuestion::BehindDelimiter(0)),
-                Answer::SlotOf(7),
-            ),
-            (
-                Step::Where(SlotQuestion::BehindDelimiter(4095)),
-                Answer::SlotOf(7),
-            ),
+            (Step::Where(Seek::BehindDelimiter(0)), Answer::SlotOf(7)),
+            (Step::Where(Seek::BehindDelimiter(4095)), Answer::SlotOf(7)),
             (Step::DoMany(Many::TakeDelimiter(4096)), Answer::Fine),
             (Step::WalkEach(4096), Answer::Yes),
             (Step::HowMany(Count::Steps), Answer::Number(16384)),
