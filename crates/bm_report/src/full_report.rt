@@ -47,7 +47,7 @@ pub(crate) fn apply(
     ensures split { came.new ≤ length changed.new.items }
     ensures came { (slot : ℕ) → IsMember slot (take came.new changed.new.items)
         → IsMember slot changed.old.items ⊎ IsMember slot (map slot_in named.now) }
-    ensures quiet { AllAlreadyThere arena.old storage named.now → result.removed ≡ 0
+    ensures no_change { AllAlreadyThere arena.old storage named.now → result.removed ≡ 0
         → changed.new.items ≡ changed.old.items }
     ensures added { result.added
         ≡ calls.new_replicas (replicas_of arena.old) (replicas_of arena.new) }

@@ -35,7 +35,7 @@ pub(crate) fn add_reported(
     ensures counted { IsCounted topology.now.cluster storage (named.now ∷ []) arena.old arena.new
         tally.old tally.new }
     ensures same { result ≡ false → arena.new.blocks ≡ arena.old.blocks }
-    ensures quiet { IsAlreadyThere arena.old storage named.now → result ≡ false }
+    ensures no_change { IsAlreadyThere arena.old storage named.now → result ≡ false }
     ensures others { (slot : ℕ) → slot ≢ named.now.slot
         → block_at arena.new slot ≡ block_at arena.old slot }
 {
@@ -70,7 +70,7 @@ pub(crate) fn move_known(
     ensures behind { behind arena.new storage ≡ without named.now.slot (behind arena.old storage) }
     ensures frame { KeepsRest storage arena.old arena.new }
     ensures same { result ≡ false → arena.new.blocks ≡ arena.old.blocks }
-    ensures quiet { marks ≡ was → result ≡ false }
+    ensures no_change { marks ≡ was → result ≡ false }
     ensures others { (slot : ℕ) → slot ≢ named.now.slot
         → block_at arena.new slot ≡ block_at arena.old slot }
     ensures steps { arena.new.steps ≡ saturating_next arena.old.steps }

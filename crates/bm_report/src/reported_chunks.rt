@@ -78,7 +78,7 @@ fn add_and_list(
     ensures counted { IsCounted topology.now.cluster storage (named.now ∷ []) arena.old arena.new
         tally.old tally.new }
     ensures same { result ≡ false → arena.new.blocks ≡ arena.old.blocks }
-    ensures quiet { IsAlreadyThere arena.old storage named.now
+    ensures no_change { IsAlreadyThere arena.old storage named.now
         → (result ≡ false) × (changed.new.items ≡ changed.old.items) }
     ensures listed { IsListed arena.old arena.new changed.old.items changed.new.items }
     ensures came { (slot : ℕ) → IsMember slot changed.new.items
@@ -112,7 +112,7 @@ fn add_chunk(
     ensures entered { IsEntered topology.now.cluster storage chunk.now arena.old arena.new }
     ensures counted { IsCounted topology.now.cluster storage chunk.now arena.old arena.new
         tally.old tally.new }
-    ensures quiet { AllAlreadyThere arena.old storage chunk.now
+    ensures no_change { AllAlreadyThere arena.old storage chunk.now
         → (arena.new.blocks ≡ arena.old.blocks) × (changed.new.items ≡ changed.old.items) }
     ensures listed { IsListed arena.old arena.new changed.old.items changed.new.items }
     ensures came { (slot : ℕ) → IsMember slot changed.new.items
@@ -147,7 +147,7 @@ pub(crate) fn add_all_reported(
     ensures entered { IsEntered topology.now.cluster storage named.now arena.old arena.new }
     ensures counted { IsCounted topology.now.cluster storage named.now arena.old arena.new
         tally.old tally.new }
-    ensures quiet { AllAlreadyThere arena.old storage named.now
+    ensures no_change { AllAlreadyThere arena.old storage named.now
         → (arena.new.blocks ≡ arena.old.blocks) × (changed.new.items ≡ changed.old.items) }
     ensures listed { IsListed arena.old arena.new changed.old.items changed.new.items }
     ensures came { (slot : ℕ) → IsMember slot changed.new.items

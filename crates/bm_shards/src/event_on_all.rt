@@ -43,7 +43,7 @@ pub(crate) fn change_all<W: Workers>(
     ensures rounds { (round pend : ℕ) → HaveTaken round pend shards.old.items
         → HaveTaken round pend shards.new.items }
     ensures unchanged { OnErr result (held_by shards.new.items ≡ held_by shards.old.items) }
-    ensures still { OnErr result (AreUpToDate topology.now.cluster shards.new.items) }
+    ensures after_refusal { OnErr result (AreUpToDate topology.now.cluster shards.new.items) }
     ensures given_up { OnErr result (All (λ s. HasGivenUp s.1) shards.new.items) }
     ensures refused { IfErr result (λ e. e ≡ Memory) }
 {

@@ -37,7 +37,7 @@ pub(crate) fn change_own(
     ensures rounds { (round pend : ℕ) → HaveTaken round pend shards.old.items
         → HaveTaken round pend shards.new.items }
     ensures unchanged { OnErr result (held_by shards.new.items ≡ held_by shards.old.items) }
-    ensures still { OnErr result (AreUpToDate topology.now.cluster shards.new.items) }
+    ensures after_refusal { OnErr result (AreUpToDate topology.now.cluster shards.new.items) }
     ensures refused { IfErr result (Refuses None (takes_memory event.now)) }
 {
     let index = index_of_shard(id, shards.len());

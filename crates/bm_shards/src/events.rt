@@ -37,7 +37,7 @@ impl AllShards {
         ensures rounds { (round pend : ℕ) → HasTaken round pend self.old
             → HasTaken round pend self.new }
         ensures unchanged { OnErr result (self.new.holdings ≡ self.old.holdings) }
-        ensures still { OnErr result (IsUpToDate topology.now.cluster self.new) }
+        ensures after_refusal { OnErr result (IsUpToDate topology.now.cluster self.new) }
         ensures refused { IfErr result (Refuses None (takes_memory event.now)) }
     {
         topology.show_invariant();

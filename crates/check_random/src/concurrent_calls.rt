@@ -50,7 +50,7 @@ pub fn are_all_alike<R: Threads + Wait + Sync>(
         }
         later = later.saturating_add(reads.later);
     }
-    run.counts.tell(host);
+    run.counts.print(host);
     tell_later(host, later);
     Ok(run.counts.are_enough() && later >= LEAST_LATER)
 }

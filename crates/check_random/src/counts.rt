@@ -91,7 +91,7 @@ impl Counts {
     }
 
     /// Prints one line of counts on standard error. A failed write is ignored.
-    pub fn tell(&self, rt: &HostRuntime) {
+    pub fn print(&self, rt: &HostRuntime) {
         let accepted = self.accepted_events();
         let Counts {
             rounds,

@@ -48,7 +48,7 @@ pub fn are_all_alike<R: Threads + Wait + Sync>(
             return Ok(false);
         }
     }
-    run.counts.tell(host);
+    run.counts.print(host);
     Ok(calls < LIST || run.counts.are_enough())
 }
 

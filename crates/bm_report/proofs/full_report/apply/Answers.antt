@@ -104,9 +104,9 @@ returns-clause-removed c =
     c.add_all_reported.new.arena c.sweep.new.arena c.take_delimiter.new.self c.show_invariant-2.ensures c.add_all_reported.ensures.entered start c.add_all_reported.new.tally c.sweep.new.tally c.sweep.ensures.swept c.take_delimiter.ensures.others c.show_invariant-3.ensures
     c.drop_invalid_excess.new.arena c.drop_invalid_excess.ensures c.add_all_reported.ensures.counted refl refl
 
-pub returns-clause-quiet : goal.returns-clause-quiet
-returns-clause-quiet c all none =
-    let q = c.add_all_reported.ensures.quiet (already_all c.args.arena.now c.put_delimiter.new.self c.args.storage c.args.named.now c.show_invariant.ensures c.requires.here c.put_delimiter.ensures.others.blocks all) in
+pub returns-clause-no_change : goal.returns-clause-no_change
+returns-clause-no_change c all none =
+    let q = c.add_all_reported.ensures.no_change (already_all c.args.arena.now c.put_delimiter.new.self c.args.storage c.args.named.now c.show_invariant.ensures c.requires.here c.put_delimiter.ensures.others.blocks all) in
     let swept = c.sweep.ensures.swept.removed in
     let empty : length (behind c.add_all_reported.new.arena c.args.storage) ≡ 0 = omega (arith, swept, none) in
     c.sweep.ensures.appended ∙ ap (λ l. c.add_all_reported.new.changed.items ++ l) (nothing_left (behind c.add_all_reported.new.arena c.args.storage) empty) ∙ append-nil c.add_all_reported.new.changed.items ∙ q.1

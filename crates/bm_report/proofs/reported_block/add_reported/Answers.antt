@@ -27,14 +27,14 @@ returns-in-None-clause-counted c =
     (c.marks_during_report-marks.ensures ∙ ap (λ i. marks_during_report i c.args.was c.args.named.now.stamp) c.info.ensures) c.link_new-left_sibling.ensures.behind c.link_new-left_sibling.ensures.frame c.link_new-left_sibling.ensures.replicas
     c.args.tally.now c.count_link.new.self c.link_new-left_sibling.result c.is_excess_good-is_excess_good.result c.in-None.is c.is_excess_good-is_excess_good.ensures c.count_link.ensures c.link_new-left_sibling.ensures.steps c.link_new-left_sibling.ensures.removed
 
-pub returns-in-Some-clause-quiet : goal.returns-in-Some-clause-quiet
-returns-in-Some-clause-quiet c was_there =
+pub returns-in-Some-clause-no_change : goal.returns-in-Some-clause-no_change
+returns-in-Some-clause-no_change c was_there =
     let is : Some c.in-Some.was ≡ Some c.marks_during_report-marks.result =
     sym (sym c.requires.was ∙ c.in-Some.is) ∙ was_there ∙ ap Some (sym (c.marks_during_report-marks.ensures ∙ (λ i. marks_during_report (c.info.ensures i) (c.requires.was i) c.args.named.now.stamp))) in
-    c.move_known.ensures.quiet (sym (one c.in-Some.was c.marks_during_report-marks.result is))
+    c.move_known.ensures.no_change (sym (one c.in-Some.was c.marks_during_report-marks.result is))
   where
     one : (x y : Marks) → Some x ≡ Some y → x ≡ y
     one x y e = cc
 
-pub returns-in-None-clause-quiet : goal.returns-in-None-clause-quiet
-returns-in-None-clause-quiet c was_there = absurd (none-some _ (sym (sym c.requires.was ∙ c.in-None.is) ∙ was_there))
+pub returns-in-None-clause-no_change : goal.returns-in-None-clause-no_change
+returns-in-None-clause-no_change c was_there = absurd (none-some _ (sym (sym c.requires.was ∙ c.in-None.is) ∙ was_there))

@@ -37,11 +37,11 @@ loop-chunk-preserved c =
           underway-next c.args.topology.now.cluster c.args.storage c.args.named.now chunk rest c.args.arena.now c.loop-chunk.arena c.add_chunk.new.arena c.args.tally.now c.loop-chunk.tally c.add_chunk.new.tally
           (split c.before) c.add_chunk.ensures.entered c.add_chunk.ensures.counted;
       space = omega (arith, c.add_chunk.ensures.grown, c.loop-chunk.invariant.space, long);
-      quiet = λ all.
-          let so_far = c.loop-chunk.invariant.quiet all in
+      no_change = λ all.
+          let so_far = c.loop-chunk.invariant.no_change all in
           let P : List ReportedSlot → Type 0 = λ l. AllAlreadyThere c.args.arena.now c.args.storage l in
           let both = subst P whole so_far.2 in
-          let q = c.add_chunk.ensures.quiet (all_same c.args.arena.now c.loop-chunk.arena c.args.storage chunk so_far.0 (front_of c.args.arena.now c.args.storage chunk rest both)) in
+          let q = c.add_chunk.ensures.no_change (all_same c.args.arena.now c.loop-chunk.arena c.args.storage chunk so_far.0 (front_of c.args.arena.now c.args.storage chunk rest both)) in
           (q.0 ∙ so_far.0, q.1 ∙ so_far.1, back_of c.args.arena.now c.args.storage chunk rest both);
       listed = listed-chain c.args.arena.now c.loop-chunk.arena c.add_chunk.new.arena c.args.changed.now.items c.loop-chunk.changed.items c.add_chunk.new.changed.items c.loop-chunk.invariant.listed c.add_chunk.ensures.listed;
       came = λ slot m.

@@ -14,7 +14,7 @@ invariant-loop-chunk l =
       finite : goal.iterator-loop-chunk.is_finite l.chunk-iterator;
       size : chunks_size l.chunk-iterator ≡ 64;
       underway : IsUnderway l.topology.cluster l.storage l.named rest l.initial.arena l.arena l.initial.tally l.tally;
-      quiet : AllAlreadyThere l.initial.arena l.storage l.named → (l.arena.blocks ≡ l.initial.arena.blocks) × (l.changed.items ≡ l.initial.changed.items) × AllAlreadyThere l.initial.arena l.storage rest;
+      no_change : AllAlreadyThere l.initial.arena l.storage l.named → (l.arena.blocks ≡ l.initial.arena.blocks) × (l.changed.items ≡ l.initial.changed.items) × AllAlreadyThere l.initial.arena l.storage rest;
       listed : IsListed l.initial.arena l.arena l.initial.changed.items l.changed.items;
       space : vec_len l.changed + length rest ≤ vec_len l.initial.changed + length l.named;
       came : Came l.named l.initial.changed.items l.changed.items;

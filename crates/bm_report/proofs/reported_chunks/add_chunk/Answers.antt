@@ -32,11 +32,11 @@ loop-index-preserved c = record {
       let both = both_false c.loop-index.is_changed c.add_and_list-now_changed.result e in
       c.add_and_list-now_changed.ensures.same both.1 ∙ c.loop-index.invariant.same both.0;
   space = omega (arith, c.add_and_list-now_changed.ensures.grown, c.loop-index.invariant.space);
-  quiet = λ all.
-      let so_far = c.loop-index.invariant.quiet all in
+  no_change = λ all.
+      let so_far = c.loop-index.invariant.no_change all in
       let at = slice_get_read c.args.chunk.now (length c.args.chunk.now) c.loop-index.index c.index-chunk-index.result refl c.loop-index-test.true c.index-chunk-index.is in
       let was_there = already_same c.args.arena.now c.loop-index.arena c.args.storage c.index-chunk-index.result so_far.0 (one_of c.args.arena.now c.args.storage c.args.chunk.now c.loop-index.index c.index-chunk-index.result at all) in
-      let q = c.add_and_list-now_changed.ensures.quiet was_there in
+      let q = c.add_and_list-now_changed.ensures.no_change was_there in
       (c.add_and_list-now_changed.ensures.same q.0 ∙ so_far.0, q.1 ∙ so_far.1);
   listed = listed-chain c.args.arena.now c.loop-index.arena c.add_and_list-now_changed.new.arena c.args.changed.now.items c.loop-index.changed.items c.add_and_list-now_changed.new.changed.items c.loop-index.invariant.listed c.add_and_list-now_changed.ensures.listed;
   came = λ slot m.

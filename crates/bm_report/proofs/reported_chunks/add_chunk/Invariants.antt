@@ -9,7 +9,7 @@ abbrev pub invariant-loop-index : goal.invariant-loop-index
 invariant-loop-index l =
     record {
       underway : IsUnderway l.topology.cluster l.storage l.chunk (drop l.index l.chunk) l.initial.arena l.arena l.initial.tally l.tally;
-      quiet : AllAlreadyThere l.initial.arena l.storage l.chunk → (l.arena.blocks ≡ l.initial.arena.blocks) × (l.changed.items ≡ l.initial.changed.items);
+      no_change : AllAlreadyThere l.initial.arena l.storage l.chunk → (l.arena.blocks ≡ l.initial.arena.blocks) × (l.changed.items ≡ l.initial.changed.items);
       listed : IsListed l.initial.arena l.arena l.initial.changed.items l.changed.items;
       same : l.is_changed ≡ false → l.arena.blocks ≡ l.initial.arena.blocks;
       space : vec_len l.changed ≤ vec_len l.initial.changed + l.index;

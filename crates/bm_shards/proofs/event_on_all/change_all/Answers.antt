@@ -25,5 +25,5 @@ returns-in-Err-clause-rounds g c round pend took = same_took round pend _ _ (all
 pub returns-in-Err-clause-unchanged : goal.returns-in-Err-clause-unchanged
 returns-in-Err-clause-unchanged g c = same_held _ _ (all_same_again _ _ _ c.prepare_for_event.ensures.same c.abort_all.ensures.each)
 
-pub returns-in-Err-clause-still : goal.returns-in-Err-clause-still
-returns-in-Err-clause-still g c = same_up_to_date c.args.topology.now.cluster _ _ (all_same_again _ _ _ c.prepare_for_event.ensures.same c.abort_all.ensures.each) c.requires.up_to_date
+pub returns-in-Err-clause-after_refusal : goal.returns-in-Err-clause-after_refusal
+returns-in-Err-clause-after_refusal g c = same_up_to_date c.args.topology.now.cluster _ _ (all_same_again _ _ _ c.prepare_for_event.ensures.same c.abort_all.ensures.each) c.requires.up_to_date

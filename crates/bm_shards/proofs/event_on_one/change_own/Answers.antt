@@ -30,6 +30,6 @@ pub returns-clause-unchanged : goal.returns-clause-unchanged
 returns-clause-unchanged c =
     (at_end c.args.topology.now.cluster c.args.event.now c.args.id _ _ _ c.change_at.result c.requires.shards c.requires.one (c.index_of_shard-index.ensures ∙ ap (shard_of c.args.id) (omega (arith, c.len.ensures, c.args.shards.now.ok.0))) c.change_at.ensures.changed c.change_at.ensures.same).5
 
-pub returns-clause-still : goal.returns-clause-still
-returns-clause-still c =
+pub returns-clause-after_refusal : goal.returns-clause-after_refusal
+returns-clause-after_refusal c =
     (at_end c.args.topology.now.cluster c.args.event.now c.args.id _ _ _ c.change_at.result c.requires.shards c.requires.one (c.index_of_shard-index.ensures ∙ ap (shard_of c.args.id) (omega (arith, c.len.ensures, c.args.shards.now.ok.0))) c.change_at.ensures.changed c.change_at.ensures.same).6 c.requires.up_to_date
