@@ -14,21 +14,29 @@ use Rattle.cluster_repair.specs.declared.repair.Repair.{Repair}
 use Rattle.cluster_repair.specs.declared.repair.Retirement.{Retirement}
 use Rattle.cluster_repair.specs.declared.rows.Row.{Row}
 use Rattle.cluster_repair.specs.declared.ticks.Ticks.{Ticks}
-use Rattle.cluster_repair.specs.History.{AreOf, ComesAt, HasTaken, IsTaken, Taken, copies_of, datanodes_of, time_of}
+use Rattle.cluster_repair.specs.History.{AreOf, ComesAt, GoesOn, HasTaken, IsTaken, Taken, are_idle, awaited_rounds, copies_of, datanodes_of, time_of}
 use Rattle.cluster_repair.specs.Reports.{HaveReported}
 use Rattle.cluster_repair.specs.Retirements.{note_at, noted}
-use Rattle.cluster_repair.specs.Rows.{AreCounts, IsRowOf, are_idle, is_over}
+use Rattle.cluster_repair.specs.Rows.{AreCounts, IsRowOf, is_over}
 use Rattle.cluster_repair.specs.Sent.{AreBegun, AreCounted, copies_in, deletes_in, transfers_in}
 use Rattle.cluster_repair.specs.Ticks.{IsNextTick}
 
 pub one_longer : {X : Type 0} (m n : ℕ) (x : X) (before : List X) → m ≡ n + 1 → n ≡ length before → m ≡ length (x ∷ before)
 one_longer m n x before is same = omega (arith, is, same)
 
-lengths : (blocks : Catalogue) (C : Cluster) (M : State) → AreOf C blocks M → len_in blocks ≡ len_of M.holdings.blocks
-lengths blocks C M of = λ i b. option_map_or (λ (info : BlockInfo). info.stamp.len) (of.lists b i) 0
+lengths : (blocks : Catalogue) (C : Cluster) (n : ℕ) (M : State) → AreOf C blocks n M → len_in blocks ≡ len_of M.holdings.blocks
+lengths blocks C n M of = λ i b. option_map_or (λ (info : BlockInfo). info.stamp.len) (of.lists b i) 0
+
+-- a repair that is not over goes on
+goes_on_after : (M : State) (d : DataNodes) (taken : List Taken) (n rounds : ℕ) (e : DataNodes) → n ≡ awaited_rounds M.holdings.pending M.limits.pend → rounds ≡ length taken
+    → e ≡ datanodes_of d taken → (0 < rounds → (nat_le n rounds && are_idle e) ≡ false) → GoesOn M taken
+goes_on_after M d [] n rounds e awaited number same going = tt
+goes_on_after M d (last ∷ before) n rounds e awaited number same going =
+    ap (λ k. nat_le k (length (last ∷ before)) && are_idle last.datanodes) (sym awaited) ∙ ap (λ k. nat_le n k && are_idle last.datanodes) (sym number)
+    ∙ ap (λ f. nat_le n rounds && are_idle f) (sym same) ∙ going (omega (arith, number))
 
 -- one more round
-module _ (ticks : Ticks) (M : State) (d : DataNodes) (K L : State) (C : Cluster) (blocks : Catalogue) (old new : Repair) (mid : DataNodes) (now : ℕ) (has_taken : HasTaken ticks M d K old) (of : AreOf C blocks M) (comes : ComesAt ticks has_taken.taken now) (reported : HaveReported (len_in blocks) now old.datanodes mid K L) (begun : AreBegun C now (transfers_in (whole_round L).0) mid new.datanodes) (deletes : new.datanodes.deletes.items ≡ mid.deletes.items ++ deletes_in (whole_round L).0) where
+module _ (ticks : Ticks) (M : State) (d : DataNodes) (K L : State) (C : Cluster) (blocks : Catalogue) (n : ℕ) (old new : Repair) (mid : DataNodes) (now : ℕ) (has_taken : HasTaken ticks M d K old) (of : AreOf C blocks n M) (going : 0 < old.rounds → (nat_le n old.rounds && are_idle old.datanodes) ≡ false) (comes : ComesAt ticks has_taken.taken now) (reported : HaveReported (len_in blocks) now old.datanodes mid K L) (begun : AreBegun C now (transfers_in (whole_round L).0) mid new.datanodes) (deletes : new.datanodes.deletes.items ≡ mid.deletes.items ++ deletes_in (whole_round L).0) where
   abbrev pub begun_there : AreBegun M.cluster now (transfers_in (whole_round L).0) mid new.datanodes
   begun_there = subst (λ (D : Cluster). AreBegun D now (transfers_in (whole_round L).0) mid new.datanodes) of.cluster begun
 
@@ -37,11 +45,12 @@ module _ (ticks : Ticks) (M : State) (d : DataNodes) (K L : State) (C : Cluster)
 
   pub is_taken : IsTaken ticks M d has_taken.taken round_taken
   is_taken = record {
+    goes_on = goes_on_after M d has_taken.taken n old.rounds old.datanodes of.awaited has_taken.rounds has_taken.datanodes going;
     comes = comes;
     mid = mid;
     reported = subst (λ (S : State). HaveReported (len_of M.holdings.blocks) now (datanodes_of d has_taken.taken) mid S L) has_taken.state
         (subst (λ (e : DataNodes). HaveReported (len_of M.holdings.blocks) now e mid K L) has_taken.datanodes
-        (subst (λ (len : ℕ → ℕ). HaveReported len now old.datanodes mid K L) (lengths blocks C M of) reported));
+        (subst (λ (len : ℕ → ℕ). HaveReported len now old.datanodes mid K L) (lengths blocks C n M of) reported));
     begun = begun_there;
     copies = refl;
     deletes = deletes ∙ ap (λ (ds : List Delete). ds ++ deletes_in (whole_round L).0) reported.deletes;

@@ -1,6 +1,6 @@
 -- How reports and rounds lead from one state to another, and what is noted on the way.
 use Rattle.std.proofs.Common.{◌≡◌, ◌∙◌, ◌++◌, ℕ, ◌+◌, ◌≤◌, true, not, List, [], ◌∷◌, None, refl, sym, ap, subst, length, map, take, take_all, get_or, arith}
-use Rattle.std.specs.Prelude.{◌<◌, ◌/◌}
+use Rattle.std.specs.Prelude.{◌<◌, ◌/◌, ◌&&◌, false, nat_le}
 use Rattle.std.specs.List.{filter}
 use Rattle.std.proofs.lemmas.List.{map-append, take_more}
 use Rattle.std.proofs.lemmas.List.Elements.{All-nil, All-same, All-push, All-filter}
@@ -24,7 +24,7 @@ use Rattle.cluster_repair.specs.declared.repair.Repair.{Repair}
 use Rattle.cluster_repair.specs.declared.on_way.Sent.{Sent}
 use Rattle.cluster_repair.specs.declared.datanodes.DataNodes.{DataNodes}
 use Rattle.cluster_repair.specs.declared.ticks.Ticks.{Ticks}
-use Rattle.cluster_repair.specs.History.{AreAtStart, AreOf, ComesAt, HasTaken, Taken}
+use Rattle.cluster_repair.specs.History.{AreAtStart, AreOf, ComesAt, HasTaken, Taken, are_idle}
 use Rattle.cluster_repair.specs.Reports.{HaveReported, IsReached, after_events, deleted, heartbeat_of, received, reports_of}
 use Rattle.cluster_repair.specs.Retirements.{AreAnswered, is_retired_in, note_at, noted, retired_since, retirement_of}
 use Rattle.cluster_repair.specs.Sending.{remaining_in}
@@ -159,20 +159,20 @@ under_way_at_once ticks M r rows retired rounds now commanded at_start counted =
 }
 
 -- reports and a round
-pub under_way_by_round : (ticks : Ticks) (M : State) (d : DataNodes) (C : Cluster) (blocks : Catalogue) (K L N : State) (old new : Repair) (mid : DataNodes) (k : Commands) (now : ℕ)
-    → AreOf C blocks M → round_refusal L ≡ None → N ≡ count_call (whole_round L).1 → k ≡ (whole_round L).0
+pub under_way_by_round : (ticks : Ticks) (M : State) (d : DataNodes) (C : Cluster) (blocks : Catalogue) (most : ℕ) (K L N : State) (old new : Repair) (mid : DataNodes) (k : Commands) (now : ℕ)
+    → AreOf C blocks most M → (0 < old.rounds → (nat_le most old.rounds && are_idle old.datanodes) ≡ false) → round_refusal L ≡ None → N ≡ count_call (whole_round L).1 → k ≡ (whole_round L).0
     → new.rounds ≡ old.rounds + 1 → new.time ≡ now → new.rows.rows.items ≡ old.rows.rows.items → new.commanded ≡ copies_in k → new.drained.items ≡ old.drained.items
     → ((history : HasTaken ticks M d K old) → ComesAt ticks history.taken now)
     → HaveReported (len_in blocks) now old.datanodes mid K L → ((ss : List Sent) → AreCounted ss old.datanodes → AreCounted ss mid)
     → AreBegun C now (transfers_in k) mid new.datanodes → new.datanodes.deletes.items ≡ mid.deletes.items ++ deletes_in k
     → AreAnswered L old.drained.items old.rounds (now / 1000000) old.retired.items new.retired.items
     → IsUnderWay ticks M d K old → IsUnderWay ticks M d N new
-under_way_by_round ticks M d C blocks K L N old new mid k now of accepted after is rounds time rows commanded drained comes reported same begun deletes answers on =
+under_way_by_round ticks M d C blocks most K L N old new mid k now of going accepted after is rounds time rows commanded drained comes reported same begun deletes answers on =
     let reached_then : IsReached old.rounds M L = subst (λ n. IsReached n M L) (sym (none_more old.rounds)) (reached_on M K L old.rounds 0 on.reached reported.reached) in
     let begun_then = subst (λ (k : Commands). AreBegun C now (transfers_in k) mid new.datanodes) is begun in
     let deleted_then = deletes ∙ ap (λ (k : Commands). mid.deletes.items ++ deletes_in k) is in
     let history : HasTaken ticks M d N new =
-    taken_more ticks M d K L C blocks old new mid now on.history of (comes on.history) reported begun_then deleted_then N k after is rounds time commanded same in
+    taken_more ticks M d K L C blocks most old new mid now on.history of going (comes on.history) reported begun_then deleted_then N k after is rounds time commanded same in
     record {
       at_start = on.at_start;
       reached = subst (λ n. IsReached n M N) (sym rounds) (reached_on M L N old.rounds 1 reached_then (reached_by_round L N accepted after));

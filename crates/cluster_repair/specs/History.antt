@@ -1,6 +1,6 @@
 -- The rounds of a repair, one after another.
-use Rattle.std.specs.Prelude.{◌≡◌, ℕ, List, [], ◌∷◌, ◌++◌, filter, length, map}
-use Rattle.bm_base.specs.Words.{Cluster, State, count_call, has_storage, keys, whole_round}
+use Rattle.std.specs.Prelude.{◌≡◌, ℕ, Bool, false, ◌==◌, ◌&&◌, nat_le, if◌then◌else◌, List, [], ◌∷◌, ◌++◌, filter, length, map}
+use Rattle.bm_base.specs.Words.{Cluster, Map, State, by_replica, count_call, has_storage, keys, len, whole_round}
 use Rattle.cluster_report.specs.Catalogues.{Lists, len_of}
 use Rattle.cluster_report.specs.declared.catalogue.Catalogue.{Catalogue}
 use Rattle.cluster_repair.specs.declared.datanodes.DataNodes.{DataNodes}
@@ -54,9 +54,24 @@ abbrev pub ComesAt : Ticks → List Taken → ℕ → Type 0
 ComesAt ticks [] t = t ≡ 0
 ComesAt ticks (last ∷ before) t = IsNextTick ticks last.datanodes.on_way.sent.items last.time t
 
+-- for how many rounds a manager awaits these pending copies
+abbrev pub awaited_rounds : Map by_replica ℕ → ℕ → ℕ
+awaited_rounds pending pend = if len pending == 0 then 0 else pend
+
+-- DataNodes have nothing to do
+abbrev pub are_idle : DataNodes → Bool
+are_idle d = (length d.on_way.sent.items == 0) && (length d.deletes.items == 0)
+
+-- another round comes after these: a copy is awaited that was commanded before, or DataNodes have
+-- something to do
+abbrev pub GoesOn : State → List Taken → Type 0
+GoesOn M [] = Unit {0}
+GoesOn M (last ∷ before) = (nat_le (awaited_rounds M.holdings.pending M.limits.pend) (length (last ∷ before)) && are_idle last.datanodes) ≡ false
+
 -- A round after others: DataNodes report what they have done, the manager commands, and DataNodes
 -- begin it.
 pub record IsTaken (ticks : Ticks) (M : State) (d : DataNodes) (before : List Taken) (round : Taken) : Type 0 where
+  pub goes_on : GoesOn M before
   pub comes : ComesAt ticks before round.time
   pub mid : DataNodes
   pub reported : HaveReported (len_of M.holdings.blocks) round.time (datanodes_of d before) mid (state_of M before) round.state
@@ -69,10 +84,11 @@ abbrev pub AreTaken : Ticks → State → DataNodes → List Taken → Type 0
 AreTaken ticks M d [] = Unit {0}
 AreTaken ticks M d (round ∷ before) = IsTaken ticks M d before round × AreTaken ticks M d before
 
--- a cluster and a catalogue are those of a state
-pub record AreOf (C : Cluster) (blocks : Catalogue) (M : State) : Type 0 where
+-- a cluster, a catalogue and a number of awaited rounds are those of a state
+pub record AreOf (C : Cluster) (blocks : Catalogue) (rounds : ℕ) (M : State) : Type 0 where
   pub cluster : C ≡ M.cluster
   pub lists : Lists blocks M.holdings.blocks
+  pub awaited : rounds ≡ awaited_rounds M.holdings.pending M.limits.pend
 
 -- the numbers of a node and its storages
 abbrev pub numbers_of : NodeStorages → ℕ × List ℕ
@@ -88,6 +104,7 @@ pub record AreAtStart (C : Cluster) (d : DataNodes) : Type 0 where
   pub nodes : map numbers_of d.free.nodes.items ≡ map (node_among C (keys C.storages)) (keys C.nodes)
   pub storages : d.free.storages.items ≡ keys C.storages
   pub on_way : d.on_way.sent.items ≡ []
+  pub next : d.on_way.next ≡ 0
   pub deletes : d.deletes.items ≡ []
   pub sending : (n : ℕ) → sends_until d.links n ≡ 0
   pub receiving : (n : ℕ) → receives_until d.links n ≡ 0

@@ -1,10 +1,10 @@
 -- What rounds leave, and how a manager came there.
-use Rattle.std.specs.Prelude.{◌≡◌, ℕ, ◌<◌, Bool, true, ◌+◌, ◌-◌, ◌/◌, ◌%◌, ◌==◌, ◌&&◌, ◌||◌, nat_le, if◌then◌else◌, max, List, [], ◌∷◌, ◌++◌, map, filter, length, Some, is_some}
+use Rattle.std.specs.Prelude.{◌≡◌, ℕ, ◌<◌, Bool, true, ◌+◌, ◌-◌, ◌/◌, ◌%◌, ◌==◌, ◌&&◌, ◌||◌, nat_le, max, List, [], ◌∷◌, ◌++◌, map, filter, length, Some, is_some}
 use Rattle.std.specs.List.{All, AllPairs, list_any}
 use Rattle.std.specs.List.Sorted.{IsStrictlyIncreasing}
 use Rattle.bm_base.specs.declared.event.Event.{Event}
 use Rattle.bm_base.specs.declared.level.Level.TheVariants.{Highest, VeryUnderReplicated, UnderReplicated, BadlyDistributed}
-use Rattle.bm_base.specs.Words.{Map, State, by_replica, has, keys, len, level, missing_blocks}
+use Rattle.bm_base.specs.Words.{State, has, keys, level, missing_blocks}
 use Rattle.cluster_report.specs.declared.levels.LevelCounts.{LevelCounts}
 use Rattle.laws_of_repairs.specs.Repairs.{Covers, blocks_at}
 use Rattle.cluster_repair.specs.declared.datanodes.DataNodes.{DataNodes}
@@ -14,7 +14,7 @@ use Rattle.cluster_repair.specs.declared.repair.Pace.{Pace}
 use Rattle.cluster_repair.specs.declared.repair.Repair.{Repair}
 use Rattle.cluster_repair.specs.declared.ticks.Ticks.{Ticks}
 use Rattle.cluster_repair.specs.Reports.{IsReached, after_events}
-use Rattle.cluster_repair.specs.History.{Taken, AreAtStart, HasTaken, commanded_of, datanodes_of, state_of, time_of}
+use Rattle.cluster_repair.specs.History.{Taken, AreAtStart, HasTaken, are_idle, awaited_rounds, commanded_of, datanodes_of, state_of, time_of}
 use Rattle.cluster_repair.specs.Retirements.{AreRetired, retired_since, retirement_of}
 use Rattle.cluster_repair.specs.Ticks.{ticks_of}
 
@@ -54,12 +54,17 @@ pub record IsRowAmong (M : State) (d : DataNodes) (taken : List Taken) (row : Ro
 pub record AreRowsAmong (M : State) (d : DataNodes) (taken : List Taken) (rows : List Row) : Type 0 where
   pub all : All (IsRowAmong M d taken) rows
 
--- The rounds of these rows ascend, and all come before this one. The first round has a row, once it
--- comes before it.
-pub record AreInOrder (next : ℕ) (rows : List Row) : Type 0 where
+-- whether a round is one of 1, 1 + stride and so on
+abbrev pub is_on_stride : ℕ → ℕ → Bool
+is_on_stride round stride = (round - 1) % max stride 1 == 0
+
+-- The rounds of these rows ascend, and all come before this one. Each round before it that is one of
+-- 1, 1 + stride and so on has a row. Before the 64th each round is one.
+pub record AreInOrder (next stride : ℕ) (rows : List Row) : Type 0 where
   pub ascend : AllPairs (λ a b. a.round < b.round) rows
   pub before : All (λ r. r.round < next) rows
-  pub first : 1 < next → list_any (λ r. r.round == 1) rows ≡ true
+  pub each : (round : ℕ) → 0 < round → round < next → is_on_stride round stride ≡ true → list_any (λ r. r.round == round) rows ≡ true
+  pub fine : next < 64 → stride ≡ 1
 
 -- a row is the last
 pub record EndsWith (rows : List Row) (row : Row) : Type 0 where
@@ -87,14 +92,6 @@ pub record IsNoted (ticks : Ticks) (M : State) (d : DataNodes) (N : State) (r : 
   pub is_last : IsRowOf M d under_way.history.taken last
   pub blocks : AreLeveled N r.watch.blocks.items
 
--- for how many rounds a manager awaits these pending copies
-abbrev pub awaited_rounds : Map by_replica ℕ → ℕ → ℕ
-awaited_rounds pending pend = if len pending == 0 then 0 else pend
-
--- DataNodes have nothing to do
-abbrev pub are_idle : DataNodes → Bool
-are_idle d = (length d.on_way.sent.items == 0) && (length d.deletes.items == 0)
-
 -- a repair stops: no copy is awaited and DataNodes have nothing to do, or it took a million rounds
 abbrev pub is_over : ℕ → Repair → Bool
 is_over awaited r = (nat_le awaited r.rounds && are_idle r.datanodes) || (r.rounds == 1000000)
@@ -117,7 +114,7 @@ pub record IsDone (pace : Pace) (M N : State) (r : Repair) : Type 0 where
   pub bandwidth : start.links.bandwidth ≡ pace.bandwidth
   pub ended : HasEnded (ticks_of pace M.cluster) M start N r
   pub over : is_over (awaited_rounds M.holdings.pending M.limits.pend) r ≡ true
-  pub in_order : AreInOrder (r.rounds + 1) r.rows.rows.items
+  pub in_order : AreInOrder (r.rounds + 1) r.rows.stride r.rows.rows.items
 
 -- of these blocks those with a level, and the level that the manager answers
 pub record AreFound (M : State) (bs : List ℕ) (us : List Unmended) : Type 0 where
@@ -128,7 +125,3 @@ pub record AreFound (M : State) (bs : List ℕ) (us : List Unmended) : Type 0 wh
 pub record AreUnmended (M : State) (us : List Unmended) : Type 0 where
   pub blocks : AreLeveled M (map (λ u. u.block) us)
   pub each : All (λ u. level M.cluster M.holdings u.block ≡ Some u.level) us
-
--- whether a round is one of 1, 1 + stride and so on
-abbrev pub is_on_stride : ℕ → ℕ → Bool
-is_on_stride round stride = (round - 1) % max stride 1 == 0

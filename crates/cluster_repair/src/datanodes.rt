@@ -6,8 +6,8 @@ ghost use Rattle.cluster_report.specs.Catalogues.{len_in};
 ghost use Rattle.laws_of_repairs.specs.Repairs.{Covers};
 ghost use Rattle.cluster_repair.specs.declared.on_way.Sent.{Sent};
 ghost use Rattle.cluster_repair.specs.Reports.{HaveReported, received, deleted, heartbeat_of, free_after};
-ghost use Rattle.cluster_repair.specs.History.{AreAtStart};
-ghost use Rattle.cluster_repair.specs.Rows.{AreReported, are_idle};
+ghost use Rattle.cluster_repair.specs.History.{AreAtStart, are_idle};
+ghost use Rattle.cluster_repair.specs.Rows.{AreReported};
 ghost use Rattle.cluster_repair.specs.Sending.{free_on};
 ghost use Rattle.cluster_repair.specs.Sent.{AreBegun, AreCounted, node_with, transfers_in, deletes_in};
 

@@ -33,7 +33,8 @@ pub struct OnWay {
 
 impl OnWay {
     pub fn new(alloc: Global) -> OnWay
-        ensures { result.sent.items ≡ [] }
+        ensures sent { result.sent.items ≡ [] }
+        ensures next { result.next ≡ 0 }
     {
         OnWay {
             sent: Vec::new(alloc),

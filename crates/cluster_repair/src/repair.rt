@@ -1,12 +1,12 @@
 // Rounds until nothing more is copied.
-ghost use Rattle.std.specs.Prelude.{◌≡◌, ◌+◌, ◌<◌, ◌&&◌, ℕ, true, nat_eq, nat_le, [], None, filter, IfOk, OnOk, if◌then◌else◌};
+ghost use Rattle.std.specs.Prelude.{◌≡◌, ◌+◌, ◌<◌, ◌&&◌, ℕ, false, true, nat_eq, nat_le, [], None, filter, IfOk, OnOk, if◌then◌else◌};
 ghost use Rattle.bm_base.specs.Machine.State.{State};
 ghost use Rattle.bm_base.specs.Words.{knows_node};
 ghost use Rattle.cluster_report.specs.Sessions.{IsInStep};
 ghost use Rattle.laws_of_repairs.specs.Repairs.{Covers};
-ghost use Rattle.cluster_repair.specs.History.{AreAtStart, AreOf, ComesAt, HasTaken};
+ghost use Rattle.cluster_repair.specs.History.{AreAtStart, AreOf, ComesAt, HasTaken, are_idle, awaited_rounds};
 ghost use Rattle.cluster_repair.specs.Retirements.{AreAnswered, is_retired_in, note_at, noted, retirement_of};
-ghost use Rattle.cluster_repair.specs.Rows.{AreInOrder, IsUnderWay, IsNoted, HasEnded, IsDone, are_idle, awaited_rounds, is_over};
+ghost use Rattle.cluster_repair.specs.Rows.{AreInOrder, IsUnderWay, IsNoted, HasEnded, IsDone, is_over};
 ghost use Rattle.cluster_repair.specs.Sent.{AreCounted, copies_in};
 ghost use Rattle.cluster_repair.specs.Ticks.{ticks_of};
 ghost use Rattle.cluster_repair.specs.declared.datanodes.DataNodes.{DataNodes};
@@ -147,6 +147,7 @@ impl Repair {
         requires { IsInStep session.now }
         ensures covers { IfOk result (λ r. Covers session.now.manager r.watch.blocks.items) }
         ensures rows { IfOk result (λ r. r.rows.rows.items ≡ []) }
+        ensures stride { IfOk result (λ r. r.rows.stride ≡ 1) }
         ensures retired { IfOk result (λ r. r.retired.items ≡ []) }
         ensures rounds { IfOk result (λ r. r.rounds ≡ 0) }
         ensures time { IfOk result (λ r. r.time ≡ 0) }
@@ -187,10 +188,11 @@ impl Repair {
         ensures taken { OnOk result (0 < self.new.rounds) }
         ensures over { OnOk result (is_over facts.now.awaited self.new ≡ true) }
         ensures drained { self.new.drained ≡ self.old.drained }
-        ensures in_order { OnOk result (AreInOrder self.old.rounds self.old.rows.rows.items
-            → AreInOrder self.new.rounds self.new.rows.rows.items) }
+        ensures in_order { OnOk result (AreInOrder self.old.rounds self.old.rows.stride
+            self.old.rows.rows.items
+            → AreInOrder self.new.rounds self.new.rows.stride self.new.rows.rows.items) }
         ensures under_way { OnOk result ((M : State) (d : DataNodes)
-            → AreOf facts.now.topology.now.cluster facts.now.blocks.now M
+            → AreOf facts.now.topology.now.cluster facts.now.blocks.now facts.now.awaited M
             → IsUnderWay facts.now.ticks M d manager.old self.old
             → IsUnderWay facts.now.ticks M d manager.new self.new) }
     {
@@ -222,12 +224,14 @@ impl Repair {
     ) -> Result<(), Refusal>
         requires covers { Covers manager.old self.old.watch.blocks.items }
         requires few { self.old.rounds < 1000000 }
+        requires goes_on { 0 < self.old.rounds
+            → (nat_le facts.now.awaited self.old.rounds && are_idle self.old.datanodes) ≡ false }
         ensures covers { OnOk result (Covers manager.new self.new.watch.blocks.items) }
         ensures rounds { OnOk result (self.new.rounds ≡ self.old.rounds + 1) }
         ensures rows { self.new.rows ≡ self.old.rows }
         ensures drained { self.new.drained ≡ self.old.drained }
         ensures under_way { OnOk result ((M : State) (d : DataNodes)
-            → AreOf facts.now.topology.now.cluster facts.now.blocks.now M
+            → AreOf facts.now.topology.now.cluster facts.now.blocks.now facts.now.awaited M
             → IsUnderWay facts.now.ticks M d manager.old self.old
             → IsUnderWay facts.now.ticks M d manager.new self.new) }
     {
@@ -268,9 +272,11 @@ impl Repair {
         requires { Covers manager.now self.old.watch.blocks.items }
         ensures covers { OnOk result (Covers manager.now self.new.watch.blocks.items) }
         ensures rounds { self.new.rounds ≡ self.old.rounds }
+        ensures datanodes { self.new.datanodes ≡ self.old.datanodes }
         ensures drained { self.new.drained ≡ self.old.drained }
-        ensures in_order { OnOk result (AreInOrder self.old.rounds self.old.rows.rows.items
-            → AreInOrder (self.old.rounds + 1) self.new.rows.rows.items) }
+        ensures in_order { OnOk result (AreInOrder self.old.rounds self.old.rows.stride
+            self.old.rows.rows.items → AreInOrder (self.old.rounds + 1) self.new.rows.stride
+            self.new.rows.rows.items) }
         ensures under_way { OnOk result ((ticks : Ticks) (M : State) (d : DataNodes)
             → IsUnderWay ticks M d manager.now self.old
             → IsUnderWay ticks M d manager.now self.new) }
@@ -289,8 +295,9 @@ impl Repair {
         ensures rounds { self.new.rounds ≡ self.old.rounds }
         ensures datanodes { self.new.datanodes ≡ self.old.datanodes }
         ensures drained { self.new.drained ≡ self.old.drained }
-        ensures in_order { OnOk result (AreInOrder self.old.rounds self.old.rows.rows.items
-            → AreInOrder (self.old.rounds + 1) self.new.rows.rows.items) }
+        ensures in_order { OnOk result (AreInOrder self.old.rounds self.old.rows.stride
+            self.old.rows.rows.items → AreInOrder (self.old.rounds + 1) self.new.rows.stride
+            self.new.rows.rows.items) }
         ensures noted { OnOk result ((ticks : Ticks) (M : State) (d : DataNodes)
             → IsUnderWay ticks M d manager.now self.old
             → IsNoted ticks M d manager.now self.new) }

@@ -1,5 +1,5 @@
 // A row of counts for every round; if there are many rounds, for every second, fourth and so on.
-ghost use Rattle.std.specs.Prelude.{◌≡◌, ℕ, ◌+◌, List, [], filter, IfOk, OnOk};
+ghost use Rattle.std.specs.Prelude.{◌≡◌, ℕ, ◌+◌, ◌≤◌, List, [], filter, length, IfOk, OnOk};
 ghost use Rattle.bm_base.specs.Machine.State.{State};
 ghost use Rattle.cluster_repair.specs.History.{Taken};
 ghost use Rattle.cluster_repair.specs.Rows.{IsRowAmong, AreRowsAmong, AreInOrder, EndsWith, is_on_stride};
@@ -10,6 +10,9 @@ use std::alloc::{AllocError, Global};
 
 /// There are at most this number of rows: before one more comes, every second goes.
 const MOST_KEPT: usize = 64;
+
+/// Beyond this stride no row goes. A repair has no more rounds.
+const MOST_STRIDE: u32 = 1_000_000;
 
 /// The counts after a round.
 #[derive(Clone, Copy)]
@@ -35,7 +38,8 @@ pub struct Rows {
 
 impl Rows {
     pub fn new(alloc: Global) -> Rows
-        ensures { result.rows.items ≡ [] }
+        ensures none { result.rows.items ≡ [] }
+        ensures stride { result.stride ≡ 1 }
     {
         Rows {
             rows: Vec::new(alloc),
@@ -56,8 +60,8 @@ impl Rows {
             → AreRowsAmong M d taken self.old.rows.items
             → IsRowAmong M d taken row → AreRowsAmong M d taken self.new.rows.items) }
         ensures last { OnOk result (EndsWith self.new.rows.items row) }
-        ensures in_order { OnOk result (AreInOrder row.round self.old.rows.items
-            → AreInOrder (row.round + 1) self.new.rows.items) }
+        ensures in_order { OnOk result (AreInOrder row.round self.old.stride self.old.rows.items
+            → AreInOrder (row.round + 1) self.new.stride self.new.rows.items) }
     {
         self.thin_if_full(alloc)?;
         self.rows.push(row)?;
@@ -69,10 +73,11 @@ impl Rows {
         ensures rows { OnOk result ((M : State) (d : DataNodes) (taken : List Taken)
             → AreRowsAmong M d taken self.old.rows.items
             → AreRowsAmong M d taken self.new.rows.items) }
-        ensures in_order { OnOk result ((next : ℕ) → AreInOrder next self.old.rows.items
-            → AreInOrder next self.new.rows.items) }
+        ensures in_order { OnOk result ((next : ℕ)
+            → AreInOrder next self.old.stride self.old.rows.items
+            → AreInOrder next self.new.stride self.new.rows.items) }
     {
-        if self.rows.len() < MOST_KEPT {
+        if self.rows.len() < MOST_KEPT || self.stride > MOST_STRIDE {
             return Ok(());
         }
         self.thin(alloc)?;
@@ -82,13 +87,16 @@ impl Rows {
     /// Drops every second row.
     #[tactic(auto, using(crate::proofs::Reach::rows_among))]
     fn thin(&mut self, alloc: Global) -> Result<(), AllocError>
+        requires full { 64 ≤ length self.old.rows.items }
+        requires few { self.old.stride ≤ 1000000 }
         ensures rows { OnOk result ((M : State) (d : DataNodes) (taken : List Taken)
             → AreRowsAmong M d taken self.old.rows.items
             → AreRowsAmong M d taken self.new.rows.items) }
-        ensures in_order { OnOk result ((next : ℕ) → AreInOrder next self.old.rows.items
-            → AreInOrder next self.new.rows.items) }
+        ensures in_order { OnOk result ((next : ℕ)
+            → AreInOrder next self.old.stride self.old.rows.items
+            → AreInOrder next self.new.stride self.new.rows.items) }
     {
-        let stride = self.stride.saturating_mul(2);
+        let stride = self.stride * 2;
         self.rows = rows_on(alloc, self.rows.as_slice(), stride)?;
         self.stride = stride;
         Ok(())

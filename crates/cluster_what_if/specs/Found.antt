@@ -17,6 +17,7 @@ use Rattle.cluster_losses.specs.declared.failure_domains.FailureDomain.{FailureD
 use Rattle.cluster_repair.specs.Reasons.{HaveReasons}
 use Rattle.cluster_repair.specs.Rows.{IsDone, AreUnmended}
 use Rattle.cluster_repair.specs.declared.repair.Pace.{Pace}
+use Rattle.cluster_report.specs.Sessions.{Follows}
 use Rattle.cluster_report.specs.declared.book.Book.{Book}
 use Rattle.cluster_what_if.specs.Answers.{IsAnswer}
 use Rattle.cluster_what_if.specs.Text.{lost_text}
@@ -28,8 +29,9 @@ use Rattle.cluster_what_if.specs.declared.found.Table.{Table}
 
 -- Rounds led from one state to another, and nothing more is copied there. The repair notes when
 -- each of these nodes is retired, if it is alive. All blocks that still have a level are listed,
--- each with its reason by this book.
+-- each with its reason by this book, which has the cluster and the lengths of the first state.
 pub record IsMended (pace : Pace) (nodes : List ℕ) (book : Book) (M N : State) (m : Mended) : Type 0 where
+  pub follows : Follows book M
   pub paced : m.pace ≡ pace
   pub drained : m.repair.drained.items ≡ filter (knows_node M.cluster) nodes
   pub done : IsDone pace M N m.repair

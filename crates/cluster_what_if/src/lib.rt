@@ -30,7 +30,10 @@ mod shown_rows;
 mod table;
 mod text;
 
+ghost use Rattle.std.specs.Prelude.{◌≡◌, false};
+ghost use Rattle.std.specs.Io.KnownBytes.{Appends};
 ghost use Rattle.cluster_report.specs.Sessions.{IsInStep};
+ghost use Rattle.cluster_what_if.specs.Output.{IsPrinted, found_text};
 
 use clap::Error;
 use clap::error::ErrorKind;
@@ -47,6 +50,7 @@ use output::{print_lines, print_picture};
 use page::found_page;
 use std::alloc::Global;
 use std::io;
+use std::io::Write;
 use std::rt::Files;
 use std::sync::Wait;
 use std::thread::Threads;
@@ -77,7 +81,7 @@ pub fn losses_by_words<
     };
     match load(rt, notes, PROGRAM, &asked.input, files_of(&matches)) {
         Some((mut loaded, all_accepted)) => {
-            let status = answer(rt, &mut loaded, &asked);
+            let status = answer(rt, &mut io::writer(rt), &mut loaded, &asked);
             if all_accepted { status } else { FAULTED }
         }
         None => FAULTED,
@@ -93,34 +97,48 @@ fn say_error<R: Print + Eprint>(rt: &R, error: &Error) -> u8 {
     if error.use_stderr() { MISUSED } else { DONE }
 }
 
-fn say_fault<R: Eprint>(rt: &R, fault: Fault) -> u8 {
+fn say_fault<R: Eprint>(rt: &R, fault: Fault) -> u8
+    ensures { result ≡ 1 }
+{
     let _ = rt.eprintln(format_args!("{PROGRAM}: {fault}"));
     FAULTED
 }
 
-/// The answer about a cluster: the page, if one is asked for, and then standard output.
-fn answer<R: Print + Eprint + Files + AllocGlobal + Threads + Wait + Sync>(
+/// The answer about a cluster: the page, if one is asked for, and then the lines or the picture. The
+/// status is `DONE` only if all of it is written.
+#[tactic(auto, using(crate::proofs::Findings::printed))]
+fn answer<R: Eprint + Files + AllocGlobal + Threads + Wait + Sync, W: Write>(
     rt: &R,
+    writer: &mut W,
     loaded: &mut Loaded,
     asked: &Asked<'_>,
 ) -> u8
     requires { IsInStep loaded.old.session }
+    ensures { result ≡ 0 → asked.now.is_picture ≡ false
+        → IsPrinted asked.now.question asked.now.pace asked.now.most loaded.old loaded.new
+        (W.contents writer.old) (W.contents writer.new) }
 {
     let mut progress = Progress::new(asked.shows_progress);
     let found = find(rt, rt.alloc(), loaded, asked, &mut progress);
     progress.end(rt);
     match found {
-        Ok(found) => write_found(rt, loaded, asked, &found),
+        Ok(found) => write_found(rt, writer, loaded, asked, &found),
         Err(fault) => say_fault(rt, fault),
     }
 }
 
-fn write_found<R: Print + Eprint + Files + AllocGlobal>(
+/// Writes the page, if one is asked for, and then the lines or the picture.
+fn write_found<R: Eprint + Files + AllocGlobal, W: Write>(
     rt: &R,
+    writer: &mut W,
     loaded: &Loaded,
     asked: &Asked<'_>,
     found: &Found,
-) -> u8 {
+) -> u8
+    ensures { result ≡ 0 → asked.now.is_picture ≡ false
+        → Appends (W.contents writer.old) (W.contents writer.new)
+        (found_text loaded.now.names loaded.now.files asked.now.most found.now) }
+{
     let alloc: Global = rt.alloc();
     let (names, files, most) = (&loaded.names, &loaded.files, asked.most);
     if let Some(path) = asked.page {
@@ -131,11 +149,10 @@ fn write_found<R: Print + Eprint + Files + AllocGlobal>(
             return FAULTED;
         }
     }
-    let mut writer = io::writer(rt);
     let printed = if asked.is_picture {
-        print_picture(alloc, &mut writer, found)
+        print_picture(alloc, writer, found)
     } else {
-        print_lines(alloc, &mut writer, names, files, most, found)
+        print_lines(alloc, writer, names, files, most, found)
     };
     match printed {
         Ok(()) => DONE,

@@ -11,4 +11,4 @@ returns-clause-last c = record { front = c.thin_if_full.new.self.rows.items; is 
 
 pub returns-clause-in_order : goal.returns-clause-in_order
 returns-clause-in_order c before =
-    in_order_and c.thin_if_full.new.self.rows.items c.push.new.self.items c.args.row c.in_ok-push.ensures.items (c.in_ok-thin_if_full.ensures.in_order c.args.row.round before)
+    in_order_and c.thin_if_full.new.self.stride c.thin_if_full.new.self.rows.items c.push.new.self.items c.args.row c.in_ok-push.ensures.items (c.in_ok-thin_if_full.ensures.in_order c.args.row.round before)
