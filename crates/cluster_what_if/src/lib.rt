@@ -104,8 +104,8 @@ fn say_fault<R: Eprint>(rt: &R, fault: Fault) -> u8
     FAULTED
 }
 
-/// The answer about a cluster: the page, if one is asked for, and then the lines or the picture. The
-/// status is `DONE` only if all of it is written.
+/// The answer about a cluster: the page, if one is asked for, and then the lines or the picture.
+/// The status is `DONE` only if all of it is written.
 #[tactic(auto, using(crate::proofs::Findings::printed))]
 fn answer<R: Eprint + Files + AllocGlobal + Threads + Wait + Sync, W: Write>(
     rt: &R,
