@@ -2,7 +2,8 @@
 use Rattle.std.proofs.Common.{◌≡◌, ◌∙◌, ◌++◌, ℕ, zero, suc, ◌+◌, ◌*◌, ◌<◌, ◌≤◌, Bool, true, false, List, [], ◌∷◌, length, refl, sym, ap, subst, eq-eqb, arith}
 use Rattle.std.specs.Prelude.{◌-◌, ◌%◌, ◌==◌, ◌||◌, max}
 use Rattle.std.specs.List.{All, AllPairs, filter, list_any}
-use Rattle.std.proofs.Math.Nat.{◌∣◌, dvd_refl, dvd-mul_right, mod-mod_of_dvd, zero-mod}
+use Rattle.std.specs.Int.{◌∣◌}
+use Rattle.std.proofs.Math.Nat.{dvd_refl, dvd-mul_right, mod-mod_of_dvd, zero-mod}
 use Rattle.std.proofs.lemmas.Bool.{eqb-true, eqb-false, true≢false}
 use Rattle.std.proofs.lemmas.List.Elements.{All-nil, All-push, All-filter}
 use Rattle.std.proofs.lemmas.List.Folds.{list_any-append}
@@ -80,18 +81,3 @@ in_order_and stride rows new row is old = subst (AreInOrder (row.round + 1) stri
       ∙ or_first (list_any (λ (r : Row). r.round == k) rows) (row.round == k) (λ apart. old.each k some (below_both k row.round below apart) on);
   fine = λ below. old.fine (omega (arith, below));
 })
-
--- a round with no row of its own is not on the stride
-pub in_order_on : (n stride : ℕ) (rows : List Row) → (0 < n → is_on_stride n stride ≡ false) → AreInOrder n stride rows → AreInOrder (n + 1) stride rows
-in_order_on n stride rows off old = record {
-  ascend = old.ascend;
-  before = λ k d below. let less = old.before k d below in omega (arith, less);
-  each = λ k some below on. old.each k some (before_last k some below on (n == k) refl) on;
-  fine = λ below. old.fine (omega (arith, below));
-}
-  where
-    before_last : (k : ℕ) → 0 < k → k < n + 1 → is_on_stride k stride ≡ true → (last : Bool) → (n == k) ≡ last → k < n
-    before_last k some below on true is =
-        let same = eqb-true n k is in
-        absurd (true≢false (sym (ap (λ j. is_on_stride j stride) same ∙ on) ∙ off (subst (λ j. 0 < j) (sym same) some)))
-    before_last k some below on false is = below_both k n below is
