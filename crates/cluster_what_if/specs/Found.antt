@@ -1,13 +1,15 @@
 -- What is found about losses.
-use Rattle.std.specs.Prelude.{◌≡◌, ℕ, List, Option, Some, None, filter, map, string_bytes}
+use Rattle.std.specs.Prelude.{◌≡◌, ◌⊎◌, ℕ, List, Option, Some, None, filter, map, string_bytes}
 use Rattle.bm_base.specs.Words.{State, keys, knows_node}
 use Rattle.cluster_input.specs.declared.loaded_cluster.Loaded.{Loaded}
 use Rattle.cluster_lost.specs.Losses.{after_losses}
 use Rattle.cluster_losses.specs.Alike.{IsLike}
 use Rattle.cluster_losses.specs.Events.{events_of}
-use Rattle.cluster_losses.specs.Named.{AreNamed}
+use Rattle.cluster_losses.specs.Faults.{IsRefusal, IsRowsFault}
+use Rattle.cluster_losses.specs.Named.{AreNamed, IsFaultOf, first_unknown}
 use Rattle.cluster_losses.specs.FailureDomains.{AreRacks, node_domain}
 use Rattle.cluster_losses.specs.Tables.{AreRows}
+use Rattle.cluster_losses.specs.declared.fault.Fault.{Fault}
 use Rattle.cluster_losses.specs.declared.loss.Kind.TheVariants as kind
 use Rattle.cluster_losses.specs.declared.loss.Loss.{Loss}
 use Rattle.cluster_losses.specs.declared.loss.Question.{Question}
@@ -76,3 +78,9 @@ IsFoundFor (question.Losses ls) pace before after (found.Losses it) = AreFoundOf
 IsFoundFor question.EachRack pace before after (found.Table t) = IsTableOfRacks before after t
 IsFoundFor question.EachNode pace before after (found.Table t) = IsTableOfNodes before after t
 IsFoundFor _ pace before after _ = ⊥
+
+-- Why nothing is found. Of losses a word names nothing, or a loss is refused. Of a table a replica
+-- is in excess, or a rack or node does not come back. And memory may be refused.
+abbrev pub IsFindFault : Question → Loaded → Loaded → Fault → Type 0
+IsFindFault (question.Losses ls) before after f = IsFaultOf (first_unknown before.session.book.topology.cluster before.names ls.items) f ⊎ IsRefusal f
+IsFindFault _ before after f = IsRowsFault before.session.manager after.session.manager f

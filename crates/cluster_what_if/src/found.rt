@@ -1,7 +1,8 @@
 // Finds what the losses of a command line lead to: all of them together, or each alone.
-ghost use Rattle.std.specs.Prelude.{◌≡◌, IfOk, OnOk};
+ghost use Rattle.std.specs.Prelude.{◌≡◌, IfErr, IfOk, OnOk};
 ghost use Rattle.cluster_report.specs.Sessions.{IsInStep};
-ghost use Rattle.cluster_what_if.specs.Found.{IsFoundFor, AreFound, IsMended, IsMendedAt};
+ghost use Rattle.cluster_losses.specs.Faults.{IsRefusal};
+ghost use Rattle.cluster_what_if.specs.Found.{IsFindFault, IsFoundFor, AreFound, IsMended, IsMendedAt};
 
 use crate::answers::{Answer, answer_to_losses};
 use crate::options::Asked;
@@ -65,6 +66,7 @@ pub fn find<R: Eprint + Threads + Wait + Sync>(
     requires { IsInStep loaded.old.session }
     ensures answers { IfOk result (IsFoundFor asked.now.question asked.now.pace
         loaded.old loaded.new) }
+    ensures fault { IfErr result (IsFindFault asked.now.question loaded.old loaded.new) }
     ensures names { OnOk result (loaded.new.names ≡ loaded.old.names) }
     ensures files { OnOk result (loaded.new.files ≡ loaded.old.files) }
 {
@@ -101,6 +103,7 @@ fn find_losses<R: Eprint + Threads + Wait + Sync>(
 ) -> Result<Losses, Fault>
     requires { IsInStep loaded.old.session }
     ensures found { IfOk result (AreFound loaded.old loaded.new pace lost.now) }
+    ensures fault { IfErr result IsRefusal }
     ensures names { OnOk result (loaded.new.names ≡ loaded.old.names) }
     ensures files { OnOk result (loaded.new.files ≡ loaded.old.files) }
 {
