@@ -1,25 +1,21 @@
 -- Lists that have all blocks with a level.
 use Rattle.std.specs.Prelude.{◌≡◌, ℕ, ◌+◌, ◌≤◌, Bool, true, false, not, ◌&&◌, ◌||◌, ◌==◌, nat_eq, if◌then◌else◌, List, [], ◌∷◌, ◌++◌, filter, length, count_by, Option, Some, None, is_some}
-use Rattle.std.specs.List.{list_any, dedup, Contains}
+use Rattle.std.specs.List.{list_any, dedup}
 use Rattle.std.specs.List.Sorted.{IsPermutation}
 use Rattle.std.proofs.Common.{cond, refl, sym, ap, subst, ◌∙◌, arith}
 use Rattle.std.proofs.lemmas.Bool.{false≢true, true≢false, eqb-true}
 use Rattle.std.proofs.lemmas.List.Folds.{list_any-append}
-use Rattle.std.proofs.lemmas.List.Kept.{Contains-dedup_nat}
 use Rattle.std.proofs.lemmas.List.Sorted.{list_any-IsPermutation}
 use Rattle.std.proofs.lemmas.List.Sums.{length-filter}
-use Rattle.std.proofs.lemmas.Map.Views.{Contains-from_any, list_any-from_Contains}
-use Rattle.std.specs.Cmp.{nat_eq_equiv}
 use Rattle.bm_base.specs.declared.event.Event.{Event}
 use Rattle.bm_base.specs.declared.level.Level.{Level}
 use Rattle.bm_base.specs.declared.replica.BlockInfo.{BlockInfo}
 use Rattle.bm_base.specs.Words.{get, keys, State, has, has_repeats, level, is_at, after_event, whole_round, count_call}
 use Rattle.bm_base.specs.Promises.Lawful.{IsLawful}
-use Rattle.bm_base.proofs.Clusters.{eqb_turned}
-use Rattle.bm_base.proofs.ListTests.{or_left, or_right, and_second, same_again, any_agree, count_without, has_filter, once_filter}
+use Rattle.bm_base.proofs.ListTests.{or_left, or_right, and_second, same_again, count_without, has_filter, once_filter}
 use Rattle.bm_base.proofs.OneWish.{once_keys}
 use Rattle.bm_base.proofs.Options.{is_there}
-use Rattle.bm_base.proofs.Sets.{has_keys}
+use Rattle.bm_base.proofs.Sets.{has_keys, has_once}
 use Rattle.laws_of_states.proofs.LawfulRounds.{orderly}
 use Rattle.laws_of_rounds.proofs.Needs.{level_unknown}
 use Rattle.laws_of_rounds.proofs.NodeCommands.{same_rest}
@@ -81,25 +77,9 @@ count_as_all M bs urgency once covers =
 
 -- Lists that change.
 
-is_number : (b : ℕ) (xs : List ℕ) → list_any (nat_eq b) xs ≡ has xs b
-is_number b xs = any_agree (nat_eq b) (λ x. x == b) (λ x. eqb_turned b x) xs
-
-same_number : (x y : ℕ) → nat_eq x y ≡ true → x ≡ y
-same_number x y e = eqb-true x y e
-
-has_contains : (xs : List ℕ) (b : ℕ) → has xs b ≡ true → Contains xs b
-has_contains xs b e = Contains-from_any same_number b xs (is_number b xs ∙ e)
-
-contains_has : (xs : List ℕ) (b : ℕ) → Contains xs b → has xs b ≡ true
-contains_has xs b h = sym (is_number b xs) ∙ list_any-from_Contains nat_eq_equiv b xs h
-
 -- the same numbers, in order and each once
 pub covers_sorted : (M : State) (xs ys : List ℕ) → IsPermutation xs ys → Covers M xs → Covers M (dedup nat_eq ys)
-covers_sorted M xs ys same covers b none = covers b (list_any-IsPermutation (λ x. x == b) xs ys same ∙ absent (has ys b) refl)
-  where
-    absent : (t : Bool) → has ys b ≡ t → has ys b ≡ false
-    absent true e = absurd (false≢true (sym none ∙ contains_has (dedup nat_eq ys) b (Contains-dedup_nat ys b (has_contains ys b e))))
-    absent false e = e
+covers_sorted M xs ys same covers b none = covers b (list_any-IsPermutation (λ x. x == b) xs ys same ∙ sym (has_once ys b) ∙ none)
 
 pub without_level : (l : Option Level) → is_some l ≡ false → l ≡ None
 without_level None e = refl
