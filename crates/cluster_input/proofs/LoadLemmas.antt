@@ -1,5 +1,5 @@
 -- After a text was read, the loaded cluster is that of the text, if the reader's bytes are known.
-use Rattle.std.proofs.Common.{◌≡◌, ℕ, Bool, true, List, [], Option, Some, None, IfSome, Ok, refl, sym, ap, subst, ◌∙◌, append-nil}
+use Rattle.std.proofs.Common.{◌≡◌, ℕ, Bool, true, List, [], Option, Some, None, IfSome, OnOk, Result, Ok, Err, refl, sym, ap, subst, ◌∙◌, append-nil}
 use Rattle.std.specs.Fmt.{option_append}
 use Rattle.std.specs.Io.KnownBytes.{Appends}
 use Rattle.bm_base.specs.Machine.State.{State}
@@ -52,13 +52,21 @@ notes_through known left head shown M old new e h noted =
     (subst (λ xs. IfSome known (λ text. IsHeadOf text xs left)) (sym e) h) noted
 
 -- a text of fsck was read, and its calls were made
-pub is_read : (known : Option (List ℕ)) (start read : Reading) (remaining : ℕ) (old new : Loaded)
+is_read : (known : Option (List ℕ)) (start read : Reading) (remaining : ℕ) (old new : Loaded)
     → IfSome known (λ text. reading_of start text ≡ Ok read) → IfSome known (λ text. HasBlocks start text read)
     → Makes (calls_for read.cluster remaining) old.session.manager new.session.manager → new.names ≡ names_of read.cluster
     → new.files ≡ read.listing.files → IfSome known (λ text. IsRead start remaining text old new)
 is_read None start read remaining old new read_is blocks makes names files = tt
 is_read (Some text) start read remaining old new read_is blocks makes names files =
     record { read = read; read_is = read_is; makes = makes; blocks = blocks; names = names; files = files }
+
+pub taken_is_read : {A E : Type 0} (r : Result A E) (known : Option (List ℕ)) (start read : Reading) (remaining : ℕ) (old new : Loaded)
+    → IfSome known (λ text. reading_of start text ≡ Ok read) → IfSome known (λ text. HasBlocks start text read)
+    → OnOk r (Makes (calls_for read.cluster remaining) old.session.manager new.session.manager) → OnOk r (new.names ≡ names_of read.cluster)
+    → OnOk r (new.files ≡ read.listing.files) → OnOk r (IfSome known (λ text. IsRead start remaining text old new))
+taken_is_read (Ok _) known start read remaining old new read_is blocks makes names files =
+    is_read known start read remaining old new read_is blocks makes names files
+taken_is_read (Err _) known start read remaining old new read_is blocks makes names files = tt
 
 -- each call for a text of fsck is accepted, and it has no notes
 pub all_accepted_of : (known : Option (List ℕ)) → IfSome known (λ text. true ≡ true)

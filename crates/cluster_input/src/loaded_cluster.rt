@@ -7,9 +7,11 @@ ghost use Rattle.bm_lines.specs.Lines.{lines_of};
 ghost use Rattle.cluster_names.specs.FileTable.{no_blocks};
 ghost use Rattle.cluster_report.specs.Sessions.{IsInStep};
 ghost use Rattle.cluster_report.specs.LineNotes.{IsAllAccepted, notes_text};
-ghost use Rattle.cluster_input.specs.ClusterNames.{no_names};
+ghost use Rattle.fsck_import.specs.CallsFor.{calls_for};
+ghost use Rattle.cluster_input.specs.ClusterNames.{names_of, no_names};
 ghost use Rattle.cluster_input.specs.Kinds.{are_lines};
 ghost use Rattle.cluster_input.specs.Inputs.{IsAfter, IsRead, AreTaken, accepts, accepts_as, notes_as, notes_on};
+ghost use Rattle.cluster_input.specs.MadeCalls.{Makes};
 
 use crate::calls::make_calls;
 use crate::fault::Fault;
@@ -180,15 +182,30 @@ impl Loaded {
             IsRead start remaining text self.old self.new)) }
         ensures in_step { OnOk result (IsInStep self.new.session) }
     {
-        let alloc = self.session.alloc;
-        let read = match read_cluster(alloc, reader, start) {
-            Ok(read) => read,
-            Err(fault) => return Err(Fault::from(fault)),
-        };
+        let mut read = read_cluster(self.session.alloc, reader, start)?;
+        let taken = self.take_reading(rt, &mut read, remaining);
+        drop(read);
+        taken
+    }
+
+    /// Takes what was read of a text: its calls, its names and its files.
+    fn take_reading<H: Threads + Wait + Sync>(
+        &mut self,
+        rt: &H,
+        read: &mut Reading,
+        remaining: u64,
+    ) -> Result<(), Fault>
+        requires { IsInStep self.old.session }
+        ensures made { OnOk result (Makes (calls_for read.old.cluster remaining)
+            self.old.session.manager self.new.session.manager) }
+        ensures in_step { OnOk result (IsInStep self.new.session) }
+        ensures names { OnOk result (self.new.names ≡ names_of read.old.cluster) }
+        ensures files { OnOk result (self.new.files ≡ read.old.listing.files) }
+    {
         make_calls(rt, &mut self.session, &read.cluster, remaining)?;
-        self.names = names_of(alloc, &read.cluster)?;
-        self.notes = Some(notes_of(&read));
-        self.files = read.listing.into_files();
+        self.names = names_of(self.session.alloc, &read.cluster)?;
+        self.notes = Some(notes_of(read));
+        read.listing.swap_files(&mut self.files);
         Ok(())
     }
 }

@@ -54,7 +54,11 @@ pub fn load<R: Input + Eprint + Files + AllocGlobal + Threads + Wait + Sync, N: 
     };
     let start = start_of(rt.alloc(), nodes, asked);
     let mut writer = NoteWriter::new(io::writer(notes), rt, &meter);
-    let all_accepted = take_all(&console, &mut loaded, start, asked, files, &mut writer)?;
+    let taken = take_all(&console, &mut loaded, start, asked, files, &mut writer);
+    let Some(all_accepted) = taken else {
+        drop(loaded);
+        return None;
+    };
     meter.clear(rt);
     if let Some(notes) = &loaded.notes {
         say_text_notes(rt, program, asked.values.unclear, notes);

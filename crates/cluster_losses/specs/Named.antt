@@ -1,10 +1,11 @@
 -- What the words of a command line name.
-use Rattle.std.specs.Prelude.{◌≡◌, ⊤, ℕ, Bool, true, false, ◌^◌, ◌==◌, ◌&&◌, nat_eq, nat_lt, List, [], ◌∷◌, ◌++◌, filter, fold, length, slice_index, if◌then◌else◌, Option, Some, None, option_map}
+use Rattle.std.specs.Prelude.{◌≡◌, ⊤, ℕ, Bool, true, false, ◌^◌, ◌==◌, ◌&&◌, nat_eq, nat_lt, List, [], ◌∷◌, ◌++◌, filter, fold, length, if◌then◌else◌, Option, Some, None, option_map}
 use Rattle.std.specs.Option.{option_map_or}
-use Rattle.std.specs.List.{find, flat_map, starts_with}
-use Rattle.std.specs.Str.{all_ascii_digits}
+use Rattle.std.specs.List.{find, flat_map}
+use Rattle.std.specs.Str.{all_ascii_digits, bytes_eq}
 use Rattle.std.specs.Str.Parse.{digits_value, without_leading_plus}
 use Rattle.bm_base.specs.Words.{Cluster, has, keys, knows_storage}
+use Rattle.fsck_text.specs.Cuts.{last_cut_at}
 use Rattle.cluster_names.specs.Rows.{Rows, Text, name_of, number_of}
 use Rattle.cluster_names.specs.declared.names.Names.{Names}
 use Rattle.cluster_losses.specs.declared.fault.Fault.{Fault}
@@ -25,9 +26,9 @@ number_written text =
 abbrev pub number_named : Rows → Text → Option ℕ
 number_named rows name = if nat_lt 0 (length rows) then number_of rows name else number_written name
 
--- whether a name is this host, a colon, and a port
+-- whether a name is this host, a colon, and a port, which has no colon
 abbrev pub is_on_host : Text → Text → Bool
-is_on_host name host = starts_with nat_eq name host && (slice_index name (length host) == 58)
+is_on_host name host = option_map_or (λ parts. bytes_eq parts.0 host) (last_cut_at 58 name) false
 
 -- whether a node has this name: if no node has the whole name, each on the host has it, whatever
 -- its port

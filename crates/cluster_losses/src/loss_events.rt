@@ -1,5 +1,5 @@
 // The events by which racks, nodes and storages are lost.
-ghost use Rattle.std.specs.Prelude.{◌≡◌, ◌==◌, ◌++◌, ◌∷◌, [], true, false, Some, None, is_some, is_none, length, map, option_to_list, IfOk, IfErr, OnOk, if◌then◌else◌};
+ghost use Rattle.std.specs.Prelude.{◌≡◌, ◌==◌, ◌++◌, ◌∷◌, [], true, false, Some, None, is_some, is_none, length, map, option_to_list, IfOk, IfErr, IfSome, OnOk, if◌then◌else◌};
 ghost use Rattle.bm_base.specs.Maps.Lists.{has, has_repeats};
 ghost use Rattle.cluster_lost.specs.Losses.{are_losses};
 ghost use Rattle.cluster_losses.specs.declared.loss.Kind.TheVariants as kind_of;
@@ -7,7 +7,7 @@ ghost use Rattle.cluster_losses.specs.Events.{death, failure, drain, events_of};
 ghost use Rattle.cluster_losses.specs.Named.{AreNamed, AreAdded, IsFaultOf, named_by, storages_named, is_unknown, first_unknown, with_all, with_one};
 
 use crate::fault::Fault;
-use crate::loss::{Kind, Loss};
+use crate::loss::{Kind, Loss, Question};
 use crate::name_lookup::{nodes_in, nodes_named, storage_named};
 use bm_base::{Event, NodeId, StorageId};
 use cluster_input::loaded_cluster::Loaded;
@@ -105,6 +105,24 @@ impl Lost {
         add_deaths(&mut events, self.nodes.as_slice())?;
         Ok(events)
     }
+}
+
+/// The first loss whose name the cluster does not have; none if memory is refused before it.
+pub fn unknown_of<'a>(alloc: Global, loaded: &Loaded, question: &Question<'a>) -> Option<Loss<'a>>
+    ensures { IfSome result (λ loss. is_unknown loaded.now.session.book.topology.cluster
+        loaded.now.names loss.now ≡ true) }
+{
+    let Question::Losses(losses) = question else {
+        return None;
+    };
+    for loss in losses.as_slice() {
+        match Lost::named(alloc, loaded, &[*loss]) {
+            Ok(_) => {}
+            Err(Fault::Unknown(_)) => return Some(*loss),
+            Err(_) => return None,
+        }
+    }
+    None
 }
 
 /// The storage of this name, if the cluster has it.

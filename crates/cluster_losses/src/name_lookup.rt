@@ -1,6 +1,5 @@
 // Looks up the names of a command line: by the names of the cluster, or by number if it has none.
-ghost use Rattle.std.specs.Prelude.{◌≡◌, ◌==◌, IfOk, nat_eq, slice_index};
-ghost use Rattle.std.specs.List.{starts_with};
+ghost use Rattle.std.specs.Prelude.{◌≡◌, IfOk};
 ghost use Rattle.cluster_losses.specs.Named.{number_written, number_named, is_on_host, is_node_named, nodes_named, nodes_in};
 
 use crate::failure_domains::nodes_on;
@@ -8,6 +7,7 @@ use bm_base::{NodeId, Rack, StorageId};
 use cluster_input::loaded_cluster::Loaded;
 use cluster_names::{NameTable, Names};
 use cluster_report::nodes::all_nodes;
+use fsck_text::last_cut_at;
 use std::alloc::{AllocError, Global};
 
 /// The alive nodes of the rack of this name, ascending.
@@ -59,20 +59,8 @@ fn is_node_named(names: &Names, number: Option<u32>, name: &str, node: NodeId) -
 fn is_on_host(name: &str, host: &str) -> bool
     ensures { result ≡ is_on_host name.now host.now }
 {
-    begins(name, host) && is_colon_at(name.as_bytes(), host.len())
-}
-
-fn begins(text: &str, start: &str) -> bool
-    ensures { result ≡ starts_with nat_eq text.now start.now }
-{
-    text.starts_with(start)
-}
-
-fn is_colon_at(text: &[u8], index: usize) -> bool
-    ensures { result ≡ (slice_index text.now index == 58) }
-{
-    match text.get(index) {
-        Some(byte) => *byte == b':',
+    match last_cut_at(name, ':') {
+        Some((own, _)) => own == host,
         None => false,
     }
 }

@@ -50,6 +50,7 @@ pub mod text;
 pub mod text_parts;
 
 ghost use Rattle.cluster_report.specs.Sessions.{IsInStep};
+ghost use Rattle.cluster_pages.specs.Output.{IsClusterReport};
 
 use clap::Error;
 use clap::error::ErrorKind;
@@ -99,6 +100,7 @@ pub fn report_by_words<
     match load(rt, notes, PROGRAM, &asked, files_of(&matches)) {
         Some((loaded, all_accepted)) => {
             let status = report_on(rt, &loaded, &form_of(&matches));
+            drop(loaded);
             if all_accepted { status } else { FAULTED }
         }
         None => FAULTED,
@@ -119,7 +121,6 @@ fn say_memory<R: Eprint>(rt: &R) -> u8 {
     FAULTED
 }
 
-/// Writes the page, if one is asked for, and then prints the lines or the JSON value.
 fn report_on<R: Print + Eprint + Files + AllocGlobal>(
     rt: &R,
     loaded: &Loaded,
@@ -131,8 +132,23 @@ fn report_on<R: Print + Eprint + Files + AllocGlobal>(
     let Ok(cluster) = make_report(alloc, loaded) else {
         return say_memory(rt);
     };
+    let status = write_report(rt, loaded, form, &cluster);
+    drop(cluster);
+    status
+}
+
+/// Writes the page, if one is asked for, and then prints the lines or the JSON value.
+fn write_report<R: Print + Eprint + Files + AllocGlobal>(
+    rt: &R,
+    loaded: &Loaded,
+    form: &Form<'_>,
+    cluster: &ClusterReport,
+) -> u8
+    requires { IsClusterReport loaded.now cluster.now }
+{
+    let alloc: Global = rt.alloc();
     if let Some(path) = form.page {
-        let Ok(page) = make_page(alloc, loaded, form.most, &cluster) else {
+        let Ok(page) = make_page(alloc, loaded, form.most, cluster) else {
             return say_memory(rt);
         };
         if !write_page(rt, PROGRAM, path, page) {
@@ -141,9 +157,9 @@ fn report_on<R: Print + Eprint + Files + AllocGlobal>(
     }
     let mut writer = io::writer(rt);
     let printed = if form.is_json {
-        print_json(alloc, &mut writer, loaded, form.most, &cluster)
+        print_json(alloc, &mut writer, loaded, form.most, cluster)
     } else {
-        print_report(alloc, &mut writer, loaded, form.most, &cluster)
+        print_report(alloc, &mut writer, loaded, form.most, cluster)
     };
     match printed {
         Ok(()) => DONE,

@@ -161,6 +161,8 @@ fn all_rounds<R: Eprint + Threads + Wait + Sync>(
 ) -> Result<Vec<Counts>, Refusal> {
     let mut simulation = Simulation::new(alloc)?;
     let mut rows = Vec::new(alloc);
-    take_all_rounds(rt, &mut simulation, options, plan, &mut rows, progress)?;
+    let taken = take_all_rounds(rt, &mut simulation, options, plan, &mut rows, progress);
+    drop(simulation);
+    taken?;
     Ok(rows)
 }

@@ -41,6 +41,8 @@ use cluster_input::loaded_cluster::Loaded;
 use cluster_input::options::files_of;
 use cluster_input::sources::load;
 use cluster_losses::fault::Fault;
+use cluster_losses::loss::{Loss, Question};
+use cluster_losses::loss_events::unknown_of;
 use cluster_pages::output::say_print_fault;
 use cluster_pages::page_file::write_page;
 use cluster_progress::Progress;
@@ -82,6 +84,7 @@ pub fn losses_by_words<
     match load(rt, notes, PROGRAM, &asked.input, files_of(&matches)) {
         Some((mut loaded, all_accepted)) => {
             let status = answer(rt, &mut io::writer(rt), &mut loaded, &asked);
+            drop(loaded);
             if all_accepted { status } else { FAULTED }
         }
         None => FAULTED,
@@ -122,8 +125,32 @@ fn answer<R: Eprint + Files + AllocGlobal + Threads + Wait + Sync, W: Write>(
     let found = find(rt, rt.alloc(), loaded, asked, &mut progress);
     progress.end(rt);
     match found {
-        Ok(found) => write_found(rt, writer, loaded, asked, &found),
-        Err(fault) => say_fault(rt, fault),
+        Ok(found) => {
+            let status = write_found(rt, writer, loaded, asked, &found);
+            drop(found);
+            status
+        }
+        Err(fault) => say_find_fault(rt, loaded, &asked.question, fault),
+    }
+}
+
+/// Says why nothing is found: which name is unknown, if one is.
+fn say_find_fault<R: Eprint + AllocGlobal>(
+    rt: &R,
+    loaded: &Loaded,
+    question: &Question<'_>,
+    fault: Fault,
+) -> u8
+    ensures { result ≡ 1 }
+{
+    match unknown_of(rt.alloc(), loaded, question) {
+        Some(Loss { kind, name }) => {
+            let _ = rt.eprintln(format_args!(
+                "{PROGRAM}: the cluster has no {kind} {name}; `report` lists the names"
+            ));
+            FAULTED
+        }
+        None => say_fault(rt, fault),
     }
 }
 

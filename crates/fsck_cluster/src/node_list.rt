@@ -121,12 +121,28 @@ impl NodeList {
         ensures ok { IfOk result (λ c. at_end self ≡ Ok c) }
         ensures refused { IfErr result (λ f. IsCause f (at_end self)) }
     {
+        self.end_report(alloc)?;
+        Ok(self.into_cluster())
+    }
+
+    /// Ends the last section. One must have been of live nodes.
+    fn end_report<'a>(&mut self, alloc: Global) -> Result<(), NodeFault<'a>>
+        ensures ok { OnOk result (at_end self.old ≡ Ok self.new.cluster) }
+        ensures refused { IfErr result (λ f. IsCause f (at_end self.old)) }
+    {
         self.end_section(alloc)?;
-        if !self.was_live {
-            return Err(NodeFault::Refused(NodeRefusal::Why(NodeWhy::NoLiveNodes)));
+        if self.was_live {
+            Ok(())
+        } else {
+            Err(NodeFault::Refused(NodeRefusal::Why(NodeWhy::NoLiveNodes)))
         }
+    }
+
+    fn into_cluster(self) -> Cluster
+        ensures { result ≡ self.cluster }
+    {
         let NodeList { cluster, .. } = self;
-        Ok(cluster)
+        cluster
     }
 
     /// Adds the node that was being read.

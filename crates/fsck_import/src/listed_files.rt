@@ -7,6 +7,7 @@ use cluster_names::Files;
 use fsck_text::path_of;
 use std::alloc::{AllocError, Global};
 use std::marker::Model;
+use std::mem;
 
 /// The path of the current file, and the files of the blocks so far. It stays empty unless a table
 /// of files is asked for.
@@ -48,10 +49,12 @@ impl Listing {
         &self.files
     }
 
-    pub fn into_files(self) -> Files
-        ensures { result ≡ self.files }
+    /// Exchanges the files for others.
+    pub fn swap_files(&mut self, others: &mut Files)
+        ensures files { self.new.files ≡ others.old }
+        ensures others { others.new ≡ self.old.files }
     {
-        self.files
+        mem::swap(&mut self.files, others);
     }
 
     /// Takes the path, if a line is the heading of a file.
