@@ -110,7 +110,7 @@ impl Lost {
 /// The first loss whose name the cluster does not have; none if memory is refused before it.
 pub fn unknown_of<'a>(alloc: Global, loaded: &Loaded, question: &Question<'a>) -> Option<Loss<'a>>
     ensures { IfSome result (λ loss. is_unknown loaded.now.session.book.topology.cluster
-        loaded.now.names loss.now ≡ true) }
+        loaded.now.names loss ≡ true) }
 {
     let Question::Losses(losses) = question else {
         return None;
