@@ -51,7 +51,7 @@ impl Listing {
 
     /// Exchanges the files for others.
     pub fn swap_files(&mut self, others: &mut Files)
-        ensures files { self.new.files ≡ others.old }
+        ensures state { self.new ≡ record self.old { files = others.old } }
         ensures others { others.new ≡ self.old.files }
     {
         mem::swap(&mut self.files, others);
