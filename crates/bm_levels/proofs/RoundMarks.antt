@@ -3,6 +3,7 @@
 --     none_marked            a settled block has no surplus
 --     marked_replicas        marking the surplus replicas marks what the round marks
 use Rattle.std.specs.Prelude.{◌≡◌, ℕ, Bool, true, false, ◌&&◌, ◌||◌, ◌==◌, if◌then◌else◌, List, [], ◌∷◌, map, filter, nat_eq, Option, Some, None, option_map, option_and_then}
+use Rattle.std.specs.Cmp.{both_ways}
 use Rattle.std.specs.List.{list_any}
 use Rattle.std.specs.Map.{lookup}
 use Rattle.std.proofs.Common.{cond, refl, sym, ap, ◌∙◌, inl, inr}
@@ -84,11 +85,6 @@ chosen p g f (x ∷ xs) =
       | true ↦ ap (λ t. f (g x) || t) (chosen p g f xs)
       | false ↦ chosen p g f xs
     ]
-
-both_ways : (a b : Bool) → (a ≡ true → b ≡ true) → (b ≡ true → a ≡ true) → a ≡ b
-both_ways true b f g = sym (f refl)
-both_ways false true f g = g refl
-both_ways false false f g = refl
 
 module _ (C : Cluster) (G : Holdings) where
   -- a replica is in the surplus exactly if it is in that of its block

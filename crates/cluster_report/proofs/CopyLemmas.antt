@@ -2,6 +2,7 @@
 use Rattle.std.proofs.Common.{◌≡◌, ℕ, ◌+◌, ◌-◌, ◌<◌, Bool, true, false, cond, not, ◌&&◌, ◌||◌, Option, Some, List, [], ◌∷◌, ◌++◌, map, filter, length, take, get_or, refl, ap, sym, ◌∙◌, append-nil, arith}
 use Rattle.std.specs.Prelude.{nat_lt, nat_le}
 use Rattle.std.specs.Ordering.{eq_by_cmp}
+use Rattle.std.specs.Cmp.{both_ways}
 use Rattle.std.specs.List.{flat_map, list_any}
 use Rattle.std.proofs.lemmas.Bool.{lt-ltb}
 use Rattle.std.proofs.lemmas.List.{take_more, map-append}
@@ -64,11 +65,6 @@ module _ {K X : Type 0} {o : Order K} where
 
 -- ---- the commands of all nodes
 
-same_truth : (a b : Bool) → (a ≡ true → b ≡ true) → (b ≡ true → a ≡ true) → a ≡ b
-same_truth true b f g = sym (f refl)
-same_truth false true f g = g refl
-same_truth false false f g = refl
-
 both_true : (a b : Bool) → a ≡ true → b ≡ true → (a && b) ≡ true
 both_true true b e h = h
 both_true false b e h = e
@@ -127,7 +123,7 @@ module _ (C : Cluster) (r : ℕ) (ts : List Transfer) (ds : List Delete) where
       ∙ any_filter (λ k. list_any p (commanded_to r k)) has_commands (map (node_commands C ts ds) ns)
       ∙ any_map (λ k. has_commands k && list_any p (commanded_to r k)) (node_commands C ts ds) ns
       ∙ any_agree _ (λ n. list_any (λ t. has_storage C n t.source && p (sent t)) ts) (one_commanded p) ns
-      ∙ same_truth _ _ (of_sent C ns (λ t. p (sent t)) ts) (all_sent C ns (λ t. p (sent t)) ts each)
+      ∙ both_ways _ _ (of_sent C ns (λ t. p (sent t)) ts) (all_sent C ns (λ t. p (sent t)) ts each)
       ∙ sym (any_map p sent ts)
 
   all_put : (m : Map by_replica ℕ) (ns : List ℕ) → Each (λ t. list_any (λ n. has_storage C n t.source) ns ≡ true) ts

@@ -1,5 +1,6 @@
 -- The calls for a cluster describe the blocks that were added to it.
 use Rattle.std.proofs.Common.{◌≡◌, ℕ, Bool, true, false, List, [], ◌∷◌, ◌++◌, Ok, map, length, refl, sym, ap, subst, ◌∙◌, arith}
+use Rattle.std.specs.Cmp.{both_ways}
 use Rattle.std.specs.List.{flat_map, list_any, AllByRecursion}
 use Rattle.std.specs.List.Sorted.{IsPermutation}
 use Rattle.std.specs.Str.{bytes_eq}
@@ -80,11 +81,6 @@ drained_only c d t remaining address spared drains e =
     let number = drains.only found.number (ap (λ ns. has_number ns found.number) (sym spared.draining) ∙ found.drains) in
     let name : address ≡ name_of c.nodes found.number = found.name ∙ ap (λ ns. name_of ns found.number) spared.nodes in
     ap (λ x. list_any (bytes_eq x) t.addresses) name ∙ number.among
-
-both_ways : (a b : Bool) → (a ≡ true → b ≡ true) → (b ≡ true → a ≡ true) → a ≡ b
-both_ways true b f g = sym (f refl)
-both_ways false true f g = g refl
-both_ways false false f g = refl
 
 add_numbered : (blocks : List Block) → map add (map numbered blocks) ≡ map add_of blocks
 add_numbered [] = refl
