@@ -8,12 +8,13 @@ use Rattle.std.specs.FinMap.Entries.{below_all}
 use Rattle.std.specs.List.{list_any}
 use Rattle.std.proofs.lemmas.List.{length-map}
 use Rattle.std.proofs.lemmas.Bool.{or_left, or_right}
+use Rattle.std.proofs.NetLemmas.Options.{cond_none}
 use Rattle.bm_base.specs.Maps.Conjunction.{first, second}
 use Rattle.bm_base.specs.Maps.Map.{Map, Order, entries, get, insert, insert_all, keep, revise, remove, len, keys, contains_key}
 use Rattle.bm_base.proofs.MapLaws.{same_map, find_below, get-insert, get-keep, get-revise, get-remove, entries-revise}
 use Rattle.bm_base.proofs.Differences.{len-insert, len-keep-le}
 use Rattle.bm_base.proofs.ForEach.{Each, each_then, each_mapped}
-use Rattle.bm_base.proofs.Options.{there, is_there, kept, keeps, revised, removed}
+use Rattle.bm_base.proofs.Options.{there, is_there, kept, keeps, revised}
 
 equal : (r : Ordering) → is_eq r ≡ true → r ≡ Equal
 equal Less p = cc
@@ -63,7 +64,7 @@ module _ {K X : Type 0} {o : Order K} where
   get_revised m f q x e = revised (f q) (get m q) x (sym (get-revise m f q) ∙ e)
 
   pub get_removed : (m : Map o X) (k q : K) (x : X) → get (remove m k) q ≡ Some x → (eq_by_cmp o.cmp q k ≡ false) × (get m q ≡ Some x)
-  get_removed m k q x e = removed (eq_by_cmp o.cmp q k) (get m q) x (sym (get-remove m k q) ∙ e)
+  get_removed m k q x e = cond_none (eq_by_cmp o.cmp q k) (get m q) x (sym (get-remove m k q) ∙ e)
 
   inserted : (m : Map o X) (k : K) (v : X) (q : K) (x : X) (b : Bool) → eq_by_cmp o.cmp q k ≡ b → cond b (Some v) (get m q) ≡ Some x → ((q ≡ k) × (v ≡ x)) ⊎ ((eq_by_cmp o.cmp q k ≡ false) × (get m q ≡ Some x))
   inserted m k v q x true t e = inl (same_key o q k t, (cc))

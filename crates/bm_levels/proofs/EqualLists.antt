@@ -2,7 +2,7 @@
 use Rattle.std.specs.Prelude.{◌≡◌, ℕ, Bool, true, false, ◌||◌, ◌==◌, List, [], ◌∷◌, length, map, filter, Some, if◌then◌else◌}
 use Rattle.std.specs.Option.{option_map_or}
 use Rattle.std.proofs.Common.{cond, refl, sym, ap, subst, ◌∙◌, arith, inl, inr, ◌⊎◌}
-use Rattle.std.proofs.lemmas.Bool.{eqb-true, eq-eqb, cases_Bool, true≢false}
+use Rattle.std.proofs.lemmas.Bool.{eqb-true, eq-eqb, cases_Bool, true≢false, or_right, or_parts}
 use Rattle.bm_base.specs.declared.replica.Marks.{Marks}
 use Rattle.bm_base.specs.Maps.Lists.{has, has_repeats}
 use Rattle.bm_maps.specs.SlotLists.{IsMember, Distinct, without}
@@ -33,21 +33,13 @@ has_among (y ∷ ys) x e =
 
 pub among_has : (xs : List ℕ) (x : ℕ) → IsMember x xs → has xs x ≡ true
 among_has [] x h = absurd h
-among_has (y ∷ ys) x h = elim h [ inl same ↦ ap (λ b. b || has ys x) (eq-eqb y x (sym same)) | inr later ↦ either (y == x) (has ys x) (among_has ys x later) ]
-  where
-    either : (a b : Bool) → b ≡ true → (a || b) ≡ true
-    either true b e = refl
-    either false b e = e
+among_has (y ∷ ys) x h = elim h [ inl same ↦ ap (λ b. b || has ys x) (eq-eqb y x (sym same)) | inr later ↦ or_right (y == x) (has ys x) (among_has ys x later) ]
 
 pub once_distinct : (xs : List ℕ) → has_repeats xs ≡ false → Distinct xs
 once_distinct [] e = tt
 once_distinct (x ∷ xs) e =
-    let h = both (has xs x) (has_repeats xs) e in
+    let h = or_parts (has xs x) (has_repeats xs) e in
     (λ there. true≢false (sym (among_has xs x there) ∙ h.0), once_distinct xs h.1)
-  where
-    both : (a b : Bool) → (a || b) ≡ false → (a ≡ false) × (b ≡ false)
-    both true b f = cc
-    both false b f = (refl, f)
 
 abbrev keys_at : List (ℕ × Marks) → List ℕ
 keys_at rs = map (λ (r : ℕ × Marks). r.0) rs

@@ -1,10 +1,11 @@
 -- The storages of a node, one after another.
 use Rattle.std.specs.Prelude.{◌≡◌, ◌⊎◌, ℕ, zero, suc, ◌+◌, ◌<◌, ◌≤◌, ◌==◌, ◌||◌, Bool, true, false, List, [], ◌∷◌, length, Option}
 use Rattle.std.proofs.Common.{get_or, refl, sym, ap, subst, ◌∙◌, arith, inl, inr, eqb-true}
-use Rattle.std.proofs.lemmas.Bool.{cases_eq, false≢true}
+use Rattle.std.proofs.lemmas.Bool.{cases_eq, false≢true, or_left, or_right}
+use Rattle.std.proofs.lemmas.Grind.{get_or_default_zero}
 use Rattle.bm_base.specs.Maps.Lists.{has}
 use Rattle.bm_maps.specs.SlotLists.{IsMember}
-use Rattle.bm_base.proofs.ListTests.{or_left, or_right, same_again}
+use Rattle.bm_base.proofs.ListTests.{same_again}
 use Rattle.bm_arena.specs.Contents.{Contents, block_at, list_of}
 use Rattle.bm_levels.specs.IndexedLevels.{IndexedLevels, IsClassified, IsSameAt}
 use Rattle.bm_levels.proofs.StatusUpdates.{classified_still, same_chain}
@@ -23,14 +24,8 @@ has_at [] i lt = absurd (omega (arith, lt))
 has_at (x ∷ xs) zero lt = or_left (x == x) (has xs x) (same_again x)
 has_at (x ∷ xs) (suc i) lt = or_right (x == get_or xs i 0) (has xs (get_or xs i 0)) (has_at xs i (omega (arith, lt)))
 
--- what is read at an index, whatever is read past the last one
-read_at : (ss : List ℕ) (i d : ℕ) → i < length ss → get_or ss i d ≡ get_or ss i 0
-read_at [] i d lt = absurd (omega (arith, lt))
-read_at (x ∷ xs) zero d lt = refl
-read_at (x ∷ xs) (suc i) d lt = read_at xs i d (omega (arith, lt))
-
 pub own_at : (ss : List ℕ) (i s : ℕ) → i < length ss → s ≡ get_or ss i s → has ss s ≡ true
-own_at ss i s lt is = ap (has ss) (is ∙ read_at ss i s lt) ∙ has_at ss i lt
+own_at ss i s lt is = ap (has ss) (is ∙ get_or_default_zero ss i s lt) ∙ has_at ss i lt
 
 module _ (ss : List ℕ) (P : ℕ → Type 0) where
   -- those at the first indexes have gone
@@ -43,7 +38,7 @@ module _ (ss : List ℕ) (P : ℕ → Type 0) where
 -- one more has gone, and those before it still have
 pub gone_more : (ss : List ℕ) (P Q : ℕ → Type 0) (index s : ℕ) → index < length ss → s ≡ get_or ss index s → HaveGone ss P index → ((t : ℕ) → P t → Q t) → Q s → HaveGone ss Q (index + 1)
 gone_more ss P Q index s below is h still here i lt = elim (cases_eq i index) [
-  | inl same ↦ subst Q (is ∙ read_at ss index s below ∙ ap (λ k. get_or ss k 0) (sym same)) here
+  | inl same ↦ subst Q (is ∙ get_or_default_zero ss index s below ∙ ap (λ k. get_or ss k 0) (sym same)) here
   | inr differs ↦ still (get_or ss i 0) (h i (omega (arith, lt, differs)))
 ]
 

@@ -3,7 +3,7 @@ use Rattle.std.specs.Prelude.{◌≡◌, ℕ, ◌≤◌, Bool, true, false, not,
 use Rattle.std.specs.Option.{option_map_or}
 use Rattle.std.specs.List.{list_any}
 use Rattle.std.proofs.Common.{cond, refl, sym, ap, ◌∙◌, arith}
-use Rattle.std.proofs.lemmas.Bool.{or_parts}
+use Rattle.std.proofs.lemmas.Bool.{or_parts, not-false}
 use Rattle.std.proofs.lemmas.Bool.Decides.{nat_tests}
 use Rattle.bm_base.specs.declared.replica.Marks.{Marks}
 use Rattle.bm_base.specs.declared.replica.Tag.{Tag}
@@ -12,7 +12,6 @@ use Rattle.bm_base.specs.declared.replica.BlockInfo.{BlockInfo}
 use Rattle.bm_base.specs.Words.{Map, get, by_replica, replica_at, is_good, is_usable, storages_where}
 use Rattle.bm_arena.specs.Triplets.{Block}
 use Rattle.bm_arena.specs.Contents.{Contents, block_at, slot_of, find_marks, IsLawful}
-use Rattle.bm_base.proofs.Options.{fails_not}
 use Rattle.bm_levels.specs.Status.{storages_at, is_good_and_unmarked, is_settled_at}
 use Rattle.bm_levels.specs.Held.{holdings_with}
 use Rattle.bm_levels.proofs.Levels.{found_marks, found_info, as_many}
@@ -40,7 +39,7 @@ each_plain [] s m e f = cc
 each_plain (r ∷ rs) s m e f =
     let h = or_parts (not (is_good_and_unmarked r.1)) (list_any (λ (x : ℕ × Marks). not (is_good_and_unmarked x.1)) rs) e in
     (elim (r.0 == s) as (λ b. (if b then Some r.1 else find_marks rs s) ≡ Some m → is_good_and_unmarked m ≡ true) [
-      | true ↦ λ g. let same : r.1 ≡ m = (cc) in ap is_good_and_unmarked (sym same) ∙ fails_not (is_good_and_unmarked r.1) h.0
+      | true ↦ λ g. let same : r.1 ≡ m = (cc) in ap is_good_and_unmarked (sym same) ∙ not-false (is_good_and_unmarked r.1) h.0
       | false ↦ λ g. each_plain rs s m h.1 g
     ]) f
 

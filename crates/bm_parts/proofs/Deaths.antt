@@ -2,11 +2,10 @@
 use Rattle.std.proofs.Common.{◌≡◌, ◌≢◌, ℕ, false, not, Option, Some, None, is_some, refl, ap, ◌∙◌}
 use Rattle.std.specs.Prelude.{◌==◌, option_and_then}
 use Rattle.std.specs.Option.{option_map_or}
-use Rattle.std.proofs.lemmas.Bool.{eqb-false}
+use Rattle.std.proofs.lemmas.Bool.{eqb-false, not_from_false}
 use Rattle.bm_base.specs.Words.{get, Cluster, node_of, rack_of, has_storage, drains, is_draining, without_node, without_storage}
 use Rattle.bm_base.proofs.Clusters.{same_node}
 use Rattle.bm_parts.proofs.KeepLaws.{get-keep_there}
-use Rattle.bm_base.proofs.Options.{not_failed}
 use Rattle.bm_base.proofs.MapEntries.{get_left}
 
 drains_elsewhere : (C : Cluster) (n m : ℕ) → m ≢ n → drains (without_node C n) m ≡ drains C m
@@ -15,7 +14,7 @@ drains_elsewhere C n m other = ap is_some (get_left C.draining n m other)
 
 node_elsewhere : (C : Cluster) (n s : ℕ) → has_storage C n s ≡ false → node_of (without_node C n) s ≡ node_of C s
 unfolding without_node
-node_elsewhere C n s h = same_node C (without_node C n) s (get-keep_there C.storages (λ t. not (has_storage C n t)) s (not_failed (has_storage C n s) h))
+node_elsewhere C n s h = same_node C (without_node C n) s (get-keep_there C.storages (λ t. not (has_storage C n t)) s (not_from_false (has_storage C n s) h))
 
 pub draining_elsewhere : (C : Cluster) (n s : ℕ) → has_storage C n s ≡ false → is_draining (without_node C n) s ≡ is_draining C s
 unfolding has_storage is_draining

@@ -3,6 +3,7 @@
 use Rattle.std.proofs.Common.{◌≡◌, ℕ, ◌≤◌, Bool, true, false, not, Some, List, is_some, IsTrue, refl, sym, ap, ◌∙◌, true≢false}
 use Rattle.std.specs.Prelude.{◌==◌, if◌then◌else◌}
 use Rattle.std.specs.Ordering.{eq_by_cmp, nat_cmp}
+use Rattle.std.proofs.lemmas.Bool.{not-true, not_from_false}
 use Rattle.bm_base.specs.declared.replica.ReplicaId.{ReplicaId}
 use Rattle.bm_base.specs.declared.replica.Marks.{Marks}
 use Rattle.bm_base.specs.declared.replica.BlockInfo.{BlockInfo}
@@ -13,7 +14,7 @@ use Rattle.bm_base.specs.Promises.Lawful.{IsLawfulHoldings}
 use Rattle.bm_base.proofs.MapLaws.{get-remove}
 use Rattle.bm_parts.proofs.KeepLaws.{get-keep_there}
 use Rattle.bm_base.proofs.Ties.{number_tie}
-use Rattle.bm_base.proofs.Options.{there, is_there, not_passed, not_failed, not_taken}
+use Rattle.bm_base.proofs.Options.{there, is_there, not_taken}
 use Rattle.bm_base.proofs.ForEach.{each_mapped, each_then, none_passes}
 use Rattle.bm_base.proofs.MapEntries.{same_key, get_kept, get_removed, get_insert_all_elsewhere}
 use Rattle.bm_base.proofs.Clusters.{same_node, as_known, same_siblings}
@@ -59,10 +60,10 @@ was_there m p q e = let x = there (get (keep m p) q) e in let k = get_kept m p q
 -- holdings without the storages that are gone
 module _ (C D : Cluster) (H : Holdings) (gone : ℕ → Bool) (stays : (s : ℕ) → gone s ≡ false → node_of D s ≡ node_of C s) (L : IsLawfulHoldings C H) where
   replica_kept : (p : ReplicaId) → is_some (get (keep H.replicas (λ q _. not (gone q.storage))) p) ≡ true → (is_some (get H.replicas p) ≡ true) × (gone p.storage ≡ false)
-  replica_kept p e = let k = was_there H.replicas (λ q _. not (gone q.storage)) p e in (k.0, not_passed (gone p.storage) k.2)
+  replica_kept p e = let k = was_there H.replicas (λ q _. not (gone q.storage)) p e in (k.0, not-true (gone p.storage) k.2)
 
   pending_kept : (p : ReplicaId) → is_some (get (keep H.pending (λ q _. not (gone q.storage))) p) ≡ true → (is_some (get H.pending p) ≡ true) × (gone p.storage ≡ false)
-  pending_kept p e = let k = was_there H.pending (λ q _. not (gone q.storage)) p e in (k.0, not_passed (gone p.storage) k.2)
+  pending_kept p e = let k = was_there H.pending (λ q _. not (gone q.storage)) p e in (k.0, not-true (gone p.storage) k.2)
 
   pub without_lawful : IsLawfulHoldings D (without_storages H gone)
   unfolding without_storages
@@ -85,7 +86,7 @@ pub after_death : (C : Cluster) (H : Holdings) (n : ℕ) → IsLawfulHoldings C 
 unfolding without_node
 after_death C H n L =
     without_lawful C (without_node C n) H (has_storage C n)
-    (λ s e. same_node C (without_node C n) s (get-keep_there C.storages (λ t. not (has_storage C n t)) s (not_failed (has_storage C n s) e))) L
+    (λ s e. same_node C (without_node C n) s (get-keep_there C.storages (λ t. not (has_storage C n t)) s (not_from_false (has_storage C n s) e))) L
 
 pub after_failure : (C : Cluster) (H : Holdings) (s : ℕ) → IsLawfulHoldings C H → IsLawfulHoldings (without_storage C s) (without_storages H (λ t. t == s))
 unfolding without_storage

@@ -3,7 +3,7 @@ use Rattle.std.proofs.Common.{◌≡◌, ℕ, Bool, true, false, not, ◌||◌, 
 use Rattle.std.specs.Prelude.{◌==◌, if◌then◌else◌, IsSome, option_map, option_and_then}
 use Rattle.std.specs.Ordering.{eq_by_cmp}
 use Rattle.std.specs.List.{list_any}
-use Rattle.std.proofs.lemmas.Bool.{or_parts}
+use Rattle.std.proofs.lemmas.Bool.{or_parts, not-true, not-false}
 use Rattle.bm_base.specs.declared.event.Event.TheVariants.{Register, Dead, StorageFailed, Heartbeat, Drain, Undrain, AddBlock, DeleteBlock, SetReplication, Restamp, Received, Deleted, Corrupt, FullReport}
 use Rattle.bm_base.specs.declared.event.Remaining.{Remaining}
 use Rattle.bm_base.specs.declared.refusal.Refusal.{Refusal}
@@ -17,7 +17,7 @@ use Rattle.bm_base.specs.Shards.{shard_of}
 use Rattle.bm_base.specs.RoundParts.{holdings_at_choice}
 use Rattle.bm_base.specs.Promises.Lawful.{IsLawfulCluster}
 use Rattle.bm_base.proofs.Checks.{first_fails, all_fail}
-use Rattle.bm_base.proofs.Options.{there, is_there, not_passed, fails_not}
+use Rattle.bm_base.proofs.Options.{there, is_there}
 use Rattle.bm_base.proofs.ForEach.{each_of, each_mapped}
 use Rattle.bm_base.proofs.MapEntries.{Holds, get_kept, get_revised, get_removed, known_revised, holds_inserted, holds_insert_all}
 use Rattle.bm_parts.specs.LevelLaws as law
@@ -36,7 +36,7 @@ unfolding without_storages
 racked_left C D H gone same racked q here =
     let stayed = there (get (keep H.replicas (λ q _. not (gone q.storage))) q) here in
     let was = get_kept H.replicas (λ q _. not (gone q.storage)) q stayed.0 stayed.1 in
-    ap is_some (same q.storage (not_passed (gone q.storage) was.1)) ∙ racked q (is_there (get H.replicas q) stayed.0 was.0)
+    ap is_some (same q.storage (not-true (gone q.storage) was.1)) ∙ racked q (is_there (get H.replicas q) stayed.0 was.0)
 
 pub register_keeps_racked : (C : Cluster) (H : Holdings) (n rack : ℕ) (ss : List ℕ) → contains_key C.nodes n ≡ false → list_any (knows_storage C) ss ≡ false → IsRacked C H → IsRacked (register C n rack ss) H
 register_keeps_racked C H n rack ss new unknown racked = racked_alike C (register C n rack ss) H (λ s was. (stands_before C n rack ss new unknown s was).0) racked
@@ -99,7 +99,7 @@ known_rack C s lawful known =
     ap (λ z. is_some (option_and_then (λ n. get C.nodes n) (option_map (λ (i : StorageInfo). i.node) z))) i.1 ∙ lawful.alive s i.0 i.1
 
 storage_known : (C : Cluster) (s : ℕ) (cs : List (Refusal × Bool)) → first_of ((UnknownStorage, not (knows_storage C s)) ∷ cs) ≡ None → knows_storage C s ≡ true
-storage_known C s cs e = fails_not (knows_storage C s) (first_fails UnknownStorage (not (knows_storage C s)) cs e).0
+storage_known C s cs e = not-false (knows_storage C s) (first_fails UnknownStorage (not (knows_storage C s)) cs e).0
 
 module _ (C : Cluster) (P : Holdings) (racked : IsRacked C P) (s : ℕ) (rack : IsSome (rack_of C s)) where
   abbrev HasRack : ReplicaId → Marks → Type 0

@@ -3,7 +3,7 @@ use Rattle.std.proofs.Common.{◌≡◌, ℕ, zero, suc, ◌+◌, ◌<◌, ◌�
 use Rattle.std.specs.Prelude.{◌==◌, if◌then◌else◌}
 use Rattle.std.specs.Option.{option_map_or}
 use Rattle.std.specs.List.{list_any}
-use Rattle.std.proofs.lemmas.Bool.{and_parts, or_left, or_right}
+use Rattle.std.proofs.lemmas.Bool.{and_parts, or_left, or_right, not-true}
 use Rattle.bm_base.specs.declared.replica.ReplicaId.{ReplicaId}
 use Rattle.bm_base.specs.declared.replica.Tag.TheVariants.{Good, Stale, Bad, Stray}
 use Rattle.bm_base.specs.declared.replica.Marks.{Marks}
@@ -12,7 +12,7 @@ use Rattle.bm_base.specs.declared.replica.BlockInfo.{BlockInfo}
 use Rattle.bm_base.specs.declared.event.Entry.{Entry}
 use Rattle.bm_base.specs.Words.{get, insert_all, keep, contains_key, Cluster, Holdings, replica_at, is_good, is_stray, are_siblings, ReportedBlock, range_from, run_length, blocks_of_entry, expanded, was_bad, was_excess, same_stamp, entered_tag, entered_marks, replaces, enter, is_named, leaves_by_report, report}
 use Rattle.bm_base.specs.Promises.Lawful.{IsLawfulHoldings}
-use Rattle.bm_base.proofs.Options.{there, is_there, not_passed}
+use Rattle.bm_base.proofs.Options.{there, is_there}
 use Rattle.bm_base.proofs.ForEach.{Each, each_mapped, each_then, each_flat}
 use Rattle.bm_base.proofs.MapEntries.{Holds, get_kept, get_removed, holds_insert_all}
 use Rattle.bm_base.proofs.Clusters.{siblings_turned, no_sibling_itself}
@@ -86,7 +86,7 @@ module _ (C : Cluster) (H : Holdings) (s : ℕ) (named : ℕ → Bool) (stays : 
 -- One replica.
 
 sibling_fails : (a b : Bool) → not (a && b) ≡ true → a ≡ true → b ≡ false
-sibling_fails true b e h = not_passed b e
+sibling_fails true b e h = not-true b e
 sibling_fails false b e h = cc
 
 module _ (C : Cluster) (H : Holdings) (p : ReplicaId) (stamp : Stamp) where
@@ -130,7 +130,7 @@ leaves_by here named siblings = if here then not named else named && siblings
 
 named_stays : (here named siblings : Bool) → (here ≡ true → siblings ≡ false) → not (leaves_by here named siblings) ≡ true → named ≡ true → siblings ≡ false
 named_stays true named siblings own e h = own refl
-named_stays false true siblings own e h = not_passed siblings e
+named_stays false true siblings own e h = not-true siblings e
 named_stays false false siblings own e h = cc
 
 -- each listed number is named

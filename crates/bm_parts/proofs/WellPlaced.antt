@@ -3,7 +3,7 @@
 use Rattle.std.proofs.Common.{◌≡◌, ℕ, Bool, true, false, not, ◌&&◌, Some, None, is_some, IsTrue, List, [], ◌∷◌, refl, sym, ap, subst, ◌∙◌, ◌⊎◌, inl, inr, eqb-true}
 use Rattle.std.specs.Prelude.{◌==◌, if◌then◌else◌}
 use Rattle.std.specs.Ordering.{eq_by_cmp, nat_cmp}
-use Rattle.std.proofs.lemmas.Bool.{and_parts, false≢true, true≢false}
+use Rattle.std.proofs.lemmas.Bool.{and_parts, false≢true, true≢false, not-true, not_from_false, not-false}
 use Rattle.bm_base.specs.declared.event.Event.TheVariants.{Register, Dead, StorageFailed, Heartbeat, Drain, Undrain, AddBlock, DeleteBlock, SetReplication, Restamp, Received, Deleted, Corrupt, FullReport}
 use Rattle.bm_base.specs.declared.event.Remaining.{Remaining}
 use Rattle.bm_base.specs.declared.refusal.Refusal.{Refusal}
@@ -18,7 +18,7 @@ use Rattle.bm_base.proofs.MapLaws.{get-remove}
 use Rattle.bm_parts.proofs.KeepLaws.{get-keep_there}
 use Rattle.bm_base.proofs.Ties.{number_tie}
 use Rattle.bm_base.proofs.Checks.{first_fails}
-use Rattle.bm_base.proofs.Options.{there, is_there, not_passed, not_failed, not_taken, fails_not}
+use Rattle.bm_base.proofs.Options.{there, is_there, not_taken}
 use Rattle.bm_base.proofs.ForEach.{each_mapped, each_then, none_passes}
 use Rattle.bm_base.proofs.MapEntries.{Holds, same_key, get_kept, get_revised, get_removed, known_revised, get_insert_all_elsewhere}
 use Rattle.bm_base.proofs.Clusters.{same_node, as_known, same_siblings, siblings_turned, no_sibling_itself}
@@ -57,7 +57,7 @@ without_placed C D H gone stays L =
     let test : ReplicaId → Marks → Bool = λ q _. not (gone q.storage) in
     placed_among C D H (without_storages H gone) L
     (λ p e. let x = there (get (keep H.replicas test) p) e in is_there (get H.replicas p) x.0 (get_kept H.replicas test p x.0 x.1).0)
-    (λ p e. let x = there (get (keep H.replicas test) p) e in stays p.storage (not_passed (gone p.storage) (get_kept H.replicas test p x.0 x.1).1))
+    (λ p e. let x = there (get (keep H.replicas test) p) e in stays p.storage (not-true (gone p.storage) (get_kept H.replicas test p x.0 x.1).1))
     (λ p m e. L.excess_is_good p m (get_kept H.replicas test p m e).0)
 
 -- Nodes and storages that come and go.
@@ -80,7 +80,7 @@ after_death : (C : Cluster) (H : Holdings) (n : ℕ) → IsPlaced C H → IsPlac
 unfolding without_node
 after_death C H n L =
     without_placed C (without_node C n) H (has_storage C n)
-    (λ s e. same_node C (without_node C n) s (get-keep_there C.storages (λ t. not (has_storage C n t)) s (not_failed (has_storage C n s) e))) L
+    (λ s e. same_node C (without_node C n) s (get-keep_there C.storages (λ t. not (has_storage C n t)) s (not_from_false (has_storage C n s) e))) L
 
 after_failure : (C : Cluster) (H : Holdings) (s : ℕ) → IsPlaced C H → IsPlaced (without_storage C s) (without_storages H (λ t. t == s))
 unfolding without_storage
@@ -140,7 +140,7 @@ module _ (C : Cluster) (H G : Holdings) (s : ℕ) (named : ℕ → Bool) (stays 
   }
 
 sibling_fails : (a b : Bool) → not (a && b) ≡ true → a ≡ true → b ≡ false
-sibling_fails true b e h = not_passed b e
+sibling_fails true b e h = not-true b e
 sibling_fails false b e h = cc
 
 enter_apart : (C : Cluster) (p q : ReplicaId) → not (replaces C p q) ≡ true → (q.block == p.block) ≡ true → are_siblings C p.storage q.storage ≡ false
@@ -156,7 +156,7 @@ leaves_by here named siblings = if here then not named else named && siblings
 
 named_stays : (here named siblings : Bool) → (here ≡ true → siblings ≡ false) → not (leaves_by here named siblings) ≡ true → named ≡ true → siblings ≡ false
 named_stays true named siblings own e h = own refl
-named_stays false true siblings own e h = not_passed siblings e
+named_stays false true siblings own e h = not-true siblings e
 named_stays false false siblings own e h = cc
 
 report_apart : (C : Cluster) (s : ℕ) (ts : List ReportedBlock) (q : ReplicaId) → not (leaves_by_report C s ts q) ≡ true → is_named ts q.block ≡ true → are_siblings C s q.storage ≡ false
@@ -170,7 +170,7 @@ report_keeps_placed C P s ts known L = placed_entered C P (report C P s ts) s (i
 
 storage_known : (C : Cluster) (s : ℕ) (cs : List (Refusal × Bool)) → first_of ((UnknownStorage, not (knows_storage C s)) ∷ cs) ≡ None → contains_key C.storages s ≡ true
 unfolding knows_storage
-storage_known C s cs e = fails_not (knows_storage C s) (first_fails UnknownStorage (not (knows_storage C s)) cs e).0
+storage_known C s cs e = not-false (knows_storage C s) (first_fails UnknownStorage (not (knows_storage C s)) cs e).0
 
 either : (C : Cluster) (P : Holdings) (t : Bool) (G : Holdings) → IsPlaced C P → IsPlaced C G → IsPlaced C (if t then G else P)
 either C P true G L h = h

@@ -3,11 +3,10 @@ use Rattle.std.specs.List.Sorted.{IsSorted}
 use Rattle.std.proofs.Common.{◌≡◌, ◌+◌, ◌==◌, ℕ, suc, Bool, true, false, ◌||◌, List, [], ◌∷◌, ◌++◌, map, slice_index_or, refl, subst, arith}
 use Rattle.std.specs.Ordering.{is_lt, nat_cmp, ordering_then}
 use Rattle.std.specs.Cmp.{IsStrictWeakOrder, nat_cmp_total}
-use Rattle.std.proofs.lemmas.Bool.{eqb-true, false≢true}
+use Rattle.std.proofs.lemmas.Bool.{eqb-true, false≢true, or_right}
 use Rattle.std.proofs.lemmas.Cmp.{on_total, then_total, back_total}
 use Rattle.std.proofs.lemmas.List.MinMax.{ranks_by}
 use Rattle.bm_base.specs.Words.{Cluster, has, remaining}
-use Rattle.bm_base.proofs.ListTests.{or_right}
 use Rattle.bm_place.specs.declared.holders.Holder.{Holder}
 use Rattle.bm_place.specs.Holders.{holder_at}
 use Rattle.bm_place.specs.SortedExcess.{cmp_in_class}

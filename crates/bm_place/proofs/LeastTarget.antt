@@ -4,7 +4,7 @@ use Rattle.std.specs.Option.{option_map_or, IfSome}
 use Rattle.std.specs.List.{list_any}
 use Rattle.std.proofs.Common.{◌≡◌, ◌≤◌, ◌+◌, ℕ, Bool, true, false, cond, ◌&&◌, nat_le, not, List, [], ◌∷◌, length, Option, Some, None, refl, sym, ap, subst, ◌∙◌, ◌==◌, true≢false}
 use Rattle.std.specs.Ordering.{is_lt, nat_cmp, ordering_then}
-use Rattle.std.proofs.lemmas.Bool.{eqb-true, eq-eqb, leb-true}
+use Rattle.std.proofs.lemmas.Bool.{eqb-true, eq-eqb, leb-true, not-true}
 use Rattle.bm_base.specs.declared.level.Level.{Level}
 use Rattle.bm_base.specs.declared.level.Level.TheVariants.{BadlyDistributed}
 use Rattle.bm_base.specs.Words.{has, distinct, get, keys, Cluster, node_of, has_storage, is_draining, racks, is_at, remaining, free_bytes, class_of, target_cmp, is_excluded, is_target, is_on_racks}
@@ -20,16 +20,12 @@ four true true false d e = cc
 four true false c d e = cc
 four false b c d e = cc
 
-not_true : (b : Bool) → not b ≡ true → b ≡ false
-not_true true e = cc
-not_true false e = refl
-
 -- the properties of a target
 pub parts : (C : Cluster) (sent : ℕ → ℕ) (urgency : Level) (holders excluded : List ℕ) (len s : ℕ) → is_target C sent urgency holders excluded len s ≡ true → (len + sent s ≤ remaining C s) × (is_draining C s ≡ false) × (is_excluded C excluded s ≡ false)
 unfolding is_target
 parts C sent urgency holders excluded len s e =
     let all = four (nat_le (len + sent s) (remaining C s)) (not (is_draining C s)) (not (is_excluded C excluded s)) (not (is_at BadlyDistributed (Some urgency) && (length (racks C holders) == 1) && (class_of C holders s == 1))) e in
-    (leb-true (len + sent s) (remaining C s) all.0, not_true (is_draining C s) all.1, not_true (is_excluded C excluded s) all.2)
+    (leb-true (len + sent s) (remaining C s) all.0, not-true (is_draining C s) all.1, not-true (is_excluded C excluded s) all.2)
 
 module _ (C : Cluster) (sent : ℕ → ℕ) (urgency : Level) (holders excluded : List ℕ) (len : ℕ) where
   abbrev IsFound : Option ℕ → Type 0
@@ -77,7 +73,7 @@ module _ (C : Cluster) (sent : ℕ → ℕ) (urgency : Level) (holders excluded 
       by false e = ap not e
       by true e =
           let rest = ordering_then (nat_cmp (free_bytes C sent s) (free_bytes C sent t)) (nat_cmp t s) in
-          let elsewhere = not_true (is_on_racks C (racks C holders) t) off in
+          let elsewhere = not-true (is_on_racks C (racks C holders) t) off in
           let before : is_lt (ordering_then (nat_cmp (class_of C holders t) (class_of C holders s)) rest) ≡ true = λ i. is_lt (ordering_then (nat_cmp (class_on_one t false one elsewhere i) (class_on_one s true one e i)) rest) in
           absurd (true≢false (sym before ∙ h.2 t there may))
 

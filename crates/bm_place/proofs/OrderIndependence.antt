@@ -5,7 +5,7 @@ use Rattle.std.specs.declared.cmp.Ordering.{Ordering}
 use Rattle.std.specs.declared.cmp.Ordering.TheVariants.{Less, Equal, Greater}
 use Rattle.std.specs.Ordering.{is_lt, nat_cmp, ordering_then, ordering_reverse}
 use Rattle.std.specs.Cmp.{IsTotalOrder, nat_cmp_total}
-use Rattle.std.proofs.lemmas.Bool.{eqb-true, eq-eqb}
+use Rattle.std.proofs.lemmas.Bool.{eqb-true, eq-eqb, or_parts}
 use Rattle.std.proofs.lemmas.List.Sums.{length-filter}
 use Rattle.bm_base.specs.Words.{Cluster, has, has_repeats, least, remaining, share_rack, has_rack_mate, excess_cmp, excess_among}
 use Rattle.bm_base.proofs.ListTests.{filter_filter}
@@ -90,10 +90,6 @@ has_counted (y ∷ xs) x = by (y == x) (has_counted xs x) ∙ ap (nat_lt 0) (sym
 
 alike_has : (xs ys : List ℕ) → HaveAlike xs ys → (x : ℕ) → has xs x ≡ has ys x
 alike_has xs ys alike x = has_counted xs x ∙ ap (nat_lt 0) (alike (λ y. y == x)) ∙ sym (has_counted ys x)
-
-or_parts : (a b : Bool) → (a || b) ≡ false → (a ≡ false) × (b ≡ false)
-or_parts true b e = cc
-or_parts false b e = (refl, e)
 
 none_counted : (xs : List ℕ) (x : ℕ) → has xs x ≡ false → count_by (λ y. y == x) xs ≡ 0
 none_counted xs x none = by (count_by (λ y. y == x) xs) (sym (has_counted xs x) ∙ none)

@@ -7,12 +7,12 @@ use Rattle.std.proofs.Common.{append-nil, append_assoc}
 use Rattle.std.proofs.Common.{◌≡◌, ◌+◌, ◌==◌, ℕ, zero, suc, Bool, true, false, cond, not, ◌||◌, nat_lt, List, [], ◌∷◌, ◌++◌, filter, map, take, drop, count_by, Option, Some, None, refl, sym, ap, subst, ◌∙◌, arith, true≢false}
 use Rattle.std.specs.declared.cmp.Ordering.{Ordering}
 use Rattle.std.specs.Ordering.{is_lt, nat_cmp, ordering_then}
-use Rattle.std.proofs.lemmas.Bool.{eqb-true, false≢true, or_parts}
+use Rattle.std.proofs.lemmas.Bool.{eqb-true, false≢true, or_parts, or_left, or_right}
 use Rattle.std.proofs.lemmas.List.Sums.{sum_by-append}
 use Rattle.std.proofs.lemmas.List.Folds.{list_any-append}
 use Rattle.std.proofs.lemmas.Option.{same_Some, slice_get-map}
 use Rattle.bm_base.specs.Words.{Map, by_number, Cluster, has, has_repeats, least, rack_of, share_rack, has_rack_mate, excess_cmp, excess_among}
-use Rattle.bm_base.proofs.ListTests.{once_filter, or_left, or_right, same_again}
+use Rattle.bm_base.proofs.ListTests.{once_filter, same_again}
 use Rattle.bm_place.specs.declared.holders.Holder.{Holder}
 use Rattle.bm_place.specs.RackCounts.{is_on, CountsRacks}
 use Rattle.bm_place.specs.Holders.{holder_at}

@@ -6,7 +6,7 @@ use Rattle.std.specs.Ordering.{nat_cmp, eq_by_cmp}
 use Rattle.std.specs.FinMap.{find}
 use Rattle.std.proofs.lemmas.Bool.{eqb-true}
 use Rattle.std.proofs.lemmas.List.{length-map}
-use Rattle.std.proofs.lemmas.Option.{slice_get_past}
+use Rattle.std.proofs.lemmas.Option.{slice_get_past, same_Some}
 use Rattle.std.proofs.lemmas.Bool.Decides.{nat_tests}
 use Rattle.bm_base.specs.Words.{has, Map, by_number, empty, entries, get, insert, insert_all, keys, len, revise_at, contains_key, Cluster, node_of, node_number}
 use Rattle.bm_base.proofs.MapLaws.{same_map, get-insert, get-empty, get-revise}
@@ -105,12 +105,9 @@ count-empty q = ap (λ o. unwrap_or o 0) (get-empty by_number q)
 
 -- Lists in loops.
 
-head : {A : Type 0} (x y : A) → Some x ≡ Some y → x ≡ y
-head x y e = cc
-
 next : {A : Type 0} (xs : List A) (i : ℕ) (x : A) → slice_get xs i ≡ Some x → drop i xs ≡ x ∷ drop (suc i) xs
 next [] i x h = cc
-next (y ∷ xs) zero x h = ap (λ z. z ∷ xs) (head y x h)
+next (y ∷ xs) zero x h = ap (λ z. z ∷ xs) (same_Some y x h)
 next (y ∷ xs) (suc i) x h = next xs i x h
 
 -- the rest of a list at an index is the element there and the rest after it

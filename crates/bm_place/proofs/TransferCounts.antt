@@ -5,7 +5,7 @@ use Rattle.std.proofs.Common.{◌≡◌, ◌<◌, ◌≤◌, nat_lt, subst, ℕ,
 use Rattle.std.specs.Ordering.{eq_by_cmp, nat_cmp}
 use Rattle.std.specs.declared.cmp.Ordering.{Ordering}
 use Rattle.std.specs.Option.{option_map_or, IfSome}
-use Rattle.std.proofs.lemmas.List.Sums.{sum_by-append}
+use Rattle.std.proofs.lemmas.List.Sums.{sum_by-append, sum_by_push}
 use Rattle.std.proofs.lemmas.Bool.{eqb-true, eq-eqb, ltb-true}
 use Rattle.bm_base.specs.declared.commands.Transfer.{Transfer}
 use Rattle.bm_base.specs.declared.level.Level.{Level}
@@ -39,11 +39,6 @@ module _ {X : Type 0} (f g : ℕ → X) (k : ℕ) (h : X → X) (is : (q : ℕ) 
 
 -- Sums with one more summand.
 
-sum_one : {X : Type 0} (f : X → ℕ) (xs : List X) (x : X) → sum_by f (xs ++ x ∷ []) ≡ sum_by f xs + f x
-sum_one f xs x =
-    let e : 0 + f x ≡ f x = omega arith in
-    sum_by-append f xs (x ∷ []) ∙ ap (λ n. sum_by f xs + n) e
-
 pub count_none : {X : Type 0} (xs : List X) → count_by (λ _. false) xs ≡ 0
 count_none [] = refl
 count_none (x ∷ xs) = omega (arith, count_none xs)
@@ -71,7 +66,7 @@ targets-more C sent target len =
 
 pub scheduled-more : (chosen : List Transfer) (t : Transfer) (s : ℕ) → scheduled_to (chosen ++ t ∷ []) s ≡ scheduled_to chosen s + cond (t.target == s) t.stamp.len 0
 unfolding scheduled_to
-scheduled-more chosen t s = sum_one (λ u. if u.target == s then u.stamp.len else 0) chosen t
+scheduled-more chosen t s = sum_by_push (λ u. if u.target == s then u.stamp.len else 0) chosen t
 
 -- one more transfer is chosen
 pub targets-chosen : (C : Cluster) (chosen : List Transfer) (t : Transfer)
@@ -134,7 +129,7 @@ node_in_table C s =
 
 pub sent-more : (C : Cluster) (chosen : List Transfer) (t : Transfer) (n : ℕ) → transfers_by C (chosen ++ t ∷ []) n ≡ transfers_by C chosen n + cond (has_storage C n t.source) 1 0
 unfolding transfers_by
-sent-more C chosen t n = sum_one (λ u. if has_storage C n u.source then 1 else 0) chosen t
+sent-more C chosen t n = sum_by_push (λ u. if has_storage C n u.source then 1 else 0) chosen t
 
 more_node : (C : Cluster) (sends more : ℕ → ℕ) (s : ℕ) → ((n : ℕ) → more n ≡ sends n + cond (has_storage C n s) 1 0) → with_one_from s (sender_table C sends) ≡ sender_table C more
 unfolding with_one_from has_storage

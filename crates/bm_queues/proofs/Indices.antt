@@ -4,14 +4,13 @@ use Rattle.std.specs.Prelude.{◌↔◌, slice_get}
 use Rattle.std.specs.List.{swap_remove}
 use Rattle.std.specs.List.Sorted.{IsPermutation}
 use Rattle.std.proofs.lemmas.Option.{get_or_from_slice_get, none-some}
-use Rattle.std.proofs.lemmas.Bool.{cases_eq, eq-eqb, ne_eqb}
+use Rattle.std.proofs.lemmas.Bool.{cases_eq, eq-eqb, ne_eqb, cases_lt}
 use Rattle.std.proofs.lemmas.List.{get_or_default, get_or-reverse, get_or-drop, get_or-take, length-reverse, length-take-le, reverse-append, reverse-reverse, take-append-drop, take-take, take-set-le, take_more}
 use Rattle.std.proofs.lemmas.List.Sorted.{IsPermutation-swap_remove, IsPermutation-reverse, IsPermutation-sym, IsPermutation-trans, IsPermutation-cons}
 use Rattle.std.proofs.lemmas.Grind.{common_steps}
 use Rattle.bm_maps.specs.SlotLists.{IsMember, Distinct, first_of, slot_after}
 use Rattle.bm_maps.proofs.SlotLists.{dec_among}
 use Rattle.bm_queues.specs.Walks.{slots_from, IsOn, IsPast}
-use Rattle.bm_queues.proofs.Visits.{below_or_past}
 
 pub place_among : (x : ℕ) (xs : List ℕ) → IsMember x xs → (i : ℕ) × (i < length xs) × (get_or xs i 0 ≡ x)
 place_among x [] there = absurd there
@@ -206,7 +205,7 @@ module _ (xs : List ℕ) (apart : AreApart xs) (slot place : ℕ) (low : place <
             let i : ℕ = found.0 in
             let inside : i < length xs = found.1 in
             let whole : slots_from (reverse xs) (Some y) ≡ reverse (take (i + 1) xs) = ap (λ w. slots_from (reverse xs) (Some w)) (sym found.2) ∙ from-index xs apart i inside in
-            elim (below_or_past i place) [
+            elim (cases_lt i place) [
               | inl below ↦
                   let inner : i < last = omega (arith, below, low) in
                   let short : i < length rest = omega (arith, inner, rest-length) in

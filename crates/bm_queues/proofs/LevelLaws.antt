@@ -4,7 +4,7 @@ use Rattle.std.specs.Prelude.{if◌then◌else◌, ◌==◌, ◌↔◌, option_a
 use Rattle.std.specs.List.{swap_remove, All}
 use Rattle.std.specs.List.Sorted.{IsPermutation}
 use Rattle.std.proofs.Math.ListN.{get_or-map}
-use Rattle.std.proofs.lemmas.Bool.{cases_eq, eq-eqb, ne_eqb}
+use Rattle.std.proofs.lemmas.Bool.{cases_eq, eq-eqb, ne_eqb, cases_lt}
 use Rattle.std.proofs.lemmas.Option.{none-some, same_Some}
 use Rattle.std.proofs.lemmas.List.{get_or-set_same, get_or-set_other, get_or_append_left, get_or_push, get_or_past, length-append, length-map, length-replicate, length-set, length_push, get_or_default, map-append, reverse-append, reverse-reverse, take_all}
 use Rattle.bm_base.specs.declared.level.Level.{Level}
@@ -18,7 +18,7 @@ use Rattle.bm_queues.specs.Levels.{Levels, IsLawful, visited, level_at, slots_of
 use Rattle.bm_queues.specs.declared.level_lists.Cell.{Cell}
 use Rattle.bm_queues.specs.DenseLevels.{AreDense, seen, level_in, array_of, levels_in, indices_in}
 use Rattle.bm_queues.specs.Walks.{slots_from, IsOn, IsPast, GoesOn}
-use Rattle.bm_queues.proofs.Visits.{walk-after, below_or_past}
+use Rattle.bm_queues.proofs.Visits.{walk-after}
 use Rattle.bm_queues.proofs.ListIteration.{next-is_on, rest-next, past-is}
 use Rattle.bm_queues.proofs.Indices.{AreApart, place_among, among_here, distinct_apart, among-reverse, distinct-reverse, first-taken, after-index, rest-length, rest-at, rest-place, rest-from, rest-on, permutation-reverse}
 
@@ -57,7 +57,7 @@ cases_level l m = elim (cases_eq (level_number l) (level_number m)) [ inl same �
 -- a slot that has a level is below the capacity
 pub held_below : (levels : List (Option Level)) (slot : ℕ) (l : Level) → get_or levels slot None ≡ Some l → slot < length levels
 held_below levels slot l is =
-    elim (below_or_past slot (length levels)) [
+    elim (cases_lt slot (length levels)) [
       | inl below ↦ below
       | inr past ↦ absurd (none-some l (sym (get_or_past levels slot None past) ∙ is))
     ]

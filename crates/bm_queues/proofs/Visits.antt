@@ -15,8 +15,3 @@ walk-after behind (x ∷ ys) (suc n) distinct is fits =
     let differs : x ≢ y = λ e. distinct.0 (let P : ℕ → Type 0 = λ w. IsMember w ys in subst P (sym e) there) in
     is y (inr there) ∙ (rw (ne_eqb x y differs) refl)) (omega arith) in
     rw here (ap (λ zs. x ∷ zs) rest)
-
-pub below_or_past : (n m : ℕ) → (n < m) ⊎ (m ≤ n)
-below_or_past n zero = inr (omega arith)
-below_or_past zero (suc m) = inl (omega arith)
-below_or_past (suc n) (suc m) = elim (below_or_past n m) [ inl below ↦ inl (omega (arith, below)) | inr past ↦ inr (omega (arith, past)) ]

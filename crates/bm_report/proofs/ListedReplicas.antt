@@ -3,24 +3,21 @@ use Rattle.std.proofs.Common.{◌≡◌, ℕ, zero, suc, ◌<◌, List, [], ◌�
 use Rattle.std.specs.Prelude.{slice_get}
 use Rattle.std.specs.Option.{option_map, option_and_then}
 use Rattle.std.proofs.lemmas.Bool.{cases_Bool, eq-eqb, eqb-true, false≢true}
-use Rattle.std.proofs.lemmas.Option.{none-some, slice_get_within}
+use Rattle.std.proofs.lemmas.Option.{none-some, slice_get_within, same_Some}
 use Rattle.bm_base.specs.declared.replica.Marks.{Marks}
 use Rattle.bm_arena.specs.declared.types.Triplet.{Triplet}
 use Rattle.bm_arena.specs.Triplets.{Block, triplet_view}
 use Rattle.bm_arena.specs.Contents.{find_marks}
 
-head_of : {X : Type 0} (x y : X) → Some x ≡ Some y → x ≡ y
-head_of x y e = cc
-
 -- a look-up in a block is one in its replicas
 of_block : (o : Option Block) (rs : List (ℕ × Marks)) (t : ℕ) → Some rs ≡ option_map (λ (b : Block). b.replicas) o → option_and_then (λ (b : Block). find_marks b.replicas t) o ≡ find_marks rs t
 of_block None rs t is = absurd (none-some rs (sym is))
-of_block (Some b) rs t is = ap (λ xs. find_marks xs t) (sym (head_of rs b.replicas is))
+of_block (Some b) rs t is = ap (λ xs. find_marks xs t) (sym (same_Some rs b.replicas is))
 
 -- a replica in the list is found by its storage
 found-at : (ts : List Triplet) (i : ℕ) (t : Triplet) → slice_get ts i ≡ Some t → IsSome (find_marks (map triplet_view ts) t.storage)
 found-at [] i t e = absurd (none-some t e)
-found-at (x ∷ ts) zero t e = let same : x ≡ t = head_of x t e in rw (eq-eqb x.storage t.storage (ap (λ (y : Triplet). y.storage) same)) refl
+found-at (x ∷ ts) zero t e = let same : x ≡ t = same_Some x t e in rw (eq-eqb x.storage t.storage (ap (λ (y : Triplet). y.storage) same)) refl
 found-at (x ∷ ts) (suc i) t e = elim (cases_Bool (eqb x.storage t.storage)) [ inl here ↦ rw here refl | inr other ↦ rw other (found-at ts i t e) ]
 
 pub found-in : (o : Option Block) (ts : List Triplet) (i : ℕ) (t : Triplet) → Some (map triplet_view ts) ≡ option_map (λ (b : Block). b.replicas) o → slice_get ts i ≡ Some t

@@ -13,10 +13,6 @@ use Rattle.bm_report.proofs.NumberRuns.{reported_from, reported_next, reported_r
 pub named_apart : (ts : List ReportedBlock) (b : ℕ) → is_named ts b ≡ false → is_named ts b ≡ true → ⊥
 named_apart ts b out in_it = false≢true (sym out ∙ in_it)
 
-pub not_named : (t : Bool) → (t ≡ true → ⊥) → t ≡ false
-not_named true h = absurd (h refl)
-not_named false h = refl
-
 or_last : (x : Bool) → (x || true) ≡ true
 or_last true = refl
 or_last false = refl

@@ -2,11 +2,10 @@
 use Rattle.std.proofs.Common.{◌≡◌, ◌≢◌, ℕ, Bool, true, false, not, ◌&&◌, Option, Some, None, IsSome, sym, subst, ap, ◌∙◌, eq-eqb, eqb-true, ne_eqb}
 use Rattle.std.specs.Prelude.{◌==◌}
 use Rattle.std.specs.Option.{option_map_or, IfSome, IfNone}
-use Rattle.std.proofs.lemmas.Bool.{false≢true, and_parts}
+use Rattle.std.proofs.lemmas.Bool.{false≢true, and_parts, and_from, not_from_false}
 use Rattle.bm_base.specs.Words.{Cluster, node_of, are_siblings}
 use Rattle.bm_arena.specs.Contents.{Contents, marks_at}
 use Rattle.bm_base.proofs.Clusters.{siblings_by, no_sibling_itself}
-use Rattle.bm_base.proofs.Options.{not_failed}
 
 pub siblings_apart : (C : Cluster) (s t : ℕ) → are_siblings C s t ≡ true → t ≢ s
 siblings_apart C s t h same = false≢true (sym (ap (are_siblings C s) same ∙ no_sibling_itself C s) ∙ h)
@@ -18,16 +17,12 @@ nodes_share (Some n) None c h g = absurd (false≢true h)
 nodes_share (Some n) (Some m) None h g = absurd (false≢true g)
 nodes_share (Some n) (Some m) (Some k) h g = eq-eqb k m (eqb-true k n g ∙ sym (eqb-true m n h))
 
-both_true : (x y : Bool) → x ≡ true → y ≡ true → (x && y) ≡ true
-both_true true y e f = f
-both_true false y e f = cc
-
 -- two storages that share the node of a third share a node
 pub siblings_share : (C : Cluster) (s t u : ℕ) → are_siblings C s t ≡ true → are_siblings C s u ≡ true → u ≢ t → are_siblings C t u ≡ true
 siblings_share C s t u h g apart =
     let x = and_parts (not (t == s)) _ (sym (siblings_by C s t) ∙ h) in
     let y = and_parts (not (u == s)) _ (sym (siblings_by C s u) ∙ g) in
-    siblings_by C t u ∙ both_true (not (u == t)) _ (not_failed (u == t) (ne_eqb u t apart)) (nodes_share (node_of C s) (node_of C t) (node_of C u) x.1 y.1)
+    siblings_by C t u ∙ and_from (not (u == t)) _ (not_from_false (u == t) (ne_eqb u t apart)) (nodes_share (node_of C s) (node_of C t) (node_of C u) x.1 y.1)
 
 -- a storage that shares a node has one
 pub has_node : (C : Cluster) (s t : ℕ) → node_of C s ≡ None → are_siblings C s t ≡ true → ⊥

@@ -49,10 +49,6 @@ pub back_of : (a : Contents) (s : ℕ) (ns ms : List ReportedSlot) → AllAlread
 back_of a s [] ms h = h
 back_of a s (n ∷ ns) ms h = back_of a s ns ms h.1
 
-pub nothing_left : {X : Type 0} (xs : List X) → length xs ≡ 0 → xs ≡ []
-nothing_left [] e = refl
-nothing_left (x ∷ xs) e = absurd (omega (arith, e))
-
 -- In terms of holdings.
 
 -- marks that stay without lost excess are in excess only if they are good

@@ -2,7 +2,7 @@
 use Rattle.std.proofs.Common.{◌≡◌, ℕ, zero, suc, ◌≤◌, ◌<◌, Bool, true, false, cond, List, [], ◌∷◌, ◌++◌, filter, flat_map, take, length, Option, Some, None, refl, sym, ap, subst, ◌∙◌, arith, append-nil}
 use Rattle.std.specs.Prelude.{◌==◌, ◌*◌, if◌then◌else◌, nat_le, option_to_list}
 use Rattle.std.specs.Option.{option_map_or}
-use Rattle.std.proofs.lemmas.Bool.{eqb-true}
+use Rattle.std.proofs.lemmas.Bool.{eqb-true, or_parts}
 use Rattle.std.proofs.lemmas.Bool.Decides.{nat_tests}
 use Rattle.std.proofs.lemmas.List.{length-append}
 use Rattle.std.proofs.lemmas.List.Elements.{filter-append}
@@ -14,7 +14,6 @@ use Rattle.bm_base.specs.Words.{keys, len, RoundLimits, Cluster, has, has_repeat
 use Rattle.bm_base.specs.Choices.{merged_wishes, merged_deletes, one_by_one, transfer_by, transfers_over, chosen_transfers, first_of_each_node, chosen_deletes}
 use Rattle.bm_base.proofs.ForEach.{Each, each_passing, each_then}
 use Rattle.bm_base.proofs.OneWish.{once_keys}
-use Rattle.bm_round.proofs.WishCopies.{none_has}
 
 -- Transfers.
 
@@ -92,13 +91,13 @@ module _ (limits : RoundLimits) (C : Cluster) (ds : List Delete) where
   none_among : (n : ℕ) (ks : List ℕ) → has ks n ≡ false → filter (is_on n) (flat_map first_of ks) ≡ []
   none_among n [] none = refl
   none_among n (k ∷ ks) none =
-      let two = none_has (k == n) (has ks n) none in
+      let two = or_parts (k == n) (has ks n) none in
       filter-append (is_on n) (first_of k) (flat_map first_of ks) ∙ (λ i. none_of n k two.0 i ++ none_among n ks two.1 i)
 
   few_among : (n : ℕ) (ks : List ℕ) → has_repeats ks ≡ false → length (filter (is_on n) (flat_map first_of ks)) ≤ limits.invalidate
   few_among n [] once = omega arith
   few_among n (k ∷ ks) once =
-      let two = none_has (has ks k) (has_repeats ks) once in
+      let two = or_parts (has ks k) (has_repeats ks) once in
       subst (λ xs. length xs ≤ limits.invalidate) (sym (filter-append (is_on n) (first_of k) (flat_map first_of ks))) (by (k == n) refl two.0 (few_among n ks two.1))
     where
       by : (b : Bool) → (k == n) ≡ b → has ks k ≡ false → length (filter (is_on n) (flat_map first_of ks)) ≤ limits.invalidate

@@ -6,6 +6,7 @@ use Rattle.std.specs.declared.cmp.Ordering.TheVariants.{Less, Equal, Greater}
 use Rattle.std.specs.Ordering.{is_lt}
 use Rattle.std.specs.FinMap.{is_sorted}
 use Rattle.std.specs.FinMap.Entries.{below_all}
+use Rattle.std.proofs.lemmas.Grind.{flat_map-append}
 use Rattle.bm_base.specs.Maps.Conjunction.{first, second}
 use Rattle.bm_base.specs.declared.round.Wish.{Wish}
 use Rattle.bm_base.specs.declared.round.RoundPart.{RoundPart}
@@ -54,13 +55,9 @@ module _ {X : Type 0} (key : X → ℕ × ℕ) (bound : ℕ × ℕ) where
 
 -- The transfers of a round.
 
-flat_append : {X Y : Type 0} (f : X → List Y) (xs ys : List X) → flat_map f (xs ++ ys) ≡ flat_map f xs ++ flat_map f ys
-flat_append f [] ys = refl
-flat_append f (x ∷ xs) ys = ap (λ zs. f x ++ zs) (flat_append f xs ys) ∙ sym (append_assoc (f x) (flat_map f xs) (flat_map f ys))
-
 copies_append : (us vs : List Wish) → one_by_one (us ++ vs) ≡ one_by_one us ++ one_by_one vs
 unfolding one_by_one
-copies_append us vs = flat_append (λ (w : Wish). replicate w.count w) us vs
+copies_append us vs = flat_map-append (λ (w : Wish). replicate w.count w) us vs
 
 module _ (limits : RoundLimits) (C : Cluster) (bound : ℕ × ℕ) (ps : List RoundPart) where
   pub full_by_first : nat_le (limits.work * len C.nodes) (length (chosen_transfers limits C (map (part_before (Some bound)) ps))) ≡ true

@@ -3,6 +3,7 @@ use Rattle.std.proofs.Common.{◌≡◌, ◌<◌, ◌≤◌, ℕ, Bool, true, fa
 use Rattle.std.proofs.lemmas.Bool.{ltb-true, ltb-false, lt-ltb, le-ltb}
 use Rattle.std.proofs.lemmas.Bool.Decides.{nat_tests}
 use Rattle.std.proofs.lemmas.List.{length-append, length-take-le, take-append-le}
+use Rattle.std.proofs.lemmas.List.Folds.{flat_map-map}
 use Rattle.bm_base.specs.declared.commands.Delete.{Delete}
 use Rattle.bm_base.specs.declared.commands.NodeCommands.{NodeCommands}
 use Rattle.bm_base.specs.Words.{keys, RoundLimits, Cluster, has_storage, node_commands}
@@ -10,13 +11,9 @@ use Rattle.bm_base.specs.Choices.{first_of_each_node}
 use Rattle.bm_round.specs.Commanded.{first_commands, first_by_node}
 use Rattle.bm_round.proofs.AddedCommands.{other_delete, own_delete}
 
-flat_mapped : {X Y Z : Type 0} (h : Y → List Z) (f : X → Y) (xs : List X) → flat_map h (map f xs) ≡ flat_map (λ x. h (f x)) xs
-flat_mapped h f [] = refl
-flat_mapped h f (x ∷ xs) = ap (λ zs. h (f x) ++ zs) (flat_mapped h f xs)
-
 pub firsts_are : (limits : RoundLimits) (C : Cluster) (ds : List Delete) → flat_map (λ (k : NodeCommands). k.deletes) (first_by_node limits.invalidate C ds) ≡ first_of_each_node limits C ds
 unfolding first_of_each_node node_commands
-firsts_are limits C ds = flat_mapped (λ (k : NodeCommands). k.deletes) (first_commands limits.invalidate C ds) (keys C.nodes)
+firsts_are limits C ds = flat_map-map (λ (k : NodeCommands). k.deletes) (first_commands limits.invalidate C ds) (keys C.nodes)
 
 -- one more after the first n
 first_more : {X : Type 0} (most : ℕ) (xs : List X) (x : X) → take most xs ++ cond (nat_lt (length (take most xs)) most) (x ∷ []) [] ≡ take most (xs ++ x ∷ [])

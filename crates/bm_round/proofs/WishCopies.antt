@@ -4,7 +4,7 @@ use Rattle.std.specs.Prelude.{◌==◌, ◌*◌, ◌||◌, nat_le, option_to_lis
 use Rattle.std.specs.Option.{option_map_or}
 use Rattle.std.proofs.lemmas.List.{at_drop_more}
 use Rattle.std.proofs.lemmas.Bool.Decides.{nat_tests}
-use Rattle.std.proofs.lemmas.Bool.{eq-eqb, false≢true}
+use Rattle.std.proofs.lemmas.Bool.{eq-eqb, false≢true, or_parts}
 use Rattle.bm_base.specs.declared.commands.Transfer.{Transfer}
 use Rattle.bm_base.specs.declared.round.Wish.{Wish}
 use Rattle.bm_base.specs.Words.{len, RoundLimits, Cluster, has, targets_of, least_source, least_target}
@@ -72,11 +72,6 @@ abbrev pub AreFresh : List Transfer → List Wish → Type 0
 AreFresh chosen [] = Unit {0}
 AreFresh chosen (w ∷ ws) = (targets_of chosen w.block ≡ []) × AreFresh chosen ws
 
-pub none_has : (a : Bool) (b : Bool) → (a || b) ≡ false → (a ≡ false) × (b ≡ false)
-none_has false false e = (refl, refl)
-none_has true b e = absurd (false≢true (sym e))
-none_has false true e = absurd (false≢true (sym e))
-
 module _ (limits : RoundLimits) (C : Cluster) where
   pub over_append : (chosen : List Transfer) (ws vs : List Wish) → transfers_over limits C chosen (ws ++ vs) ≡ transfers_over limits C (transfers_over limits C chosen ws) vs
   over_append chosen [] vs = refl
@@ -138,7 +133,7 @@ module _ (limits : RoundLimits) (C : Cluster) where
       → AreFresh (transfers_over limits C chosen (replicate n w)) ws
   fresh_past n chosen w [] apart fresh = tt
   fresh_past n chosen w (v ∷ vs) apart fresh =
-      let two = none_has (v.block == w.block) (has (map (λ (u : Wish). u.block) vs) w.block) apart in
+      let two = or_parts (v.block == w.block) (has (map (λ (u : Wish). u.block) vs) w.block) apart in
       (other_block n chosen w v.block (equal_back v.block w.block false two.0) ∙ fresh.0, fresh_past n chosen w vs two.1 fresh.1)
 
   -- one more wish is done

@@ -2,7 +2,7 @@
 use Rattle.std.proofs.Common.{◌≡◌, ℕ, zero, suc, Bool, true, false, cond, List, [], ◌∷◌, ◌++◌, filter, replicate, length, Option, Some, None, is_some, refl, ap, subst}
 use Rattle.std.specs.Prelude.{◌==◌, ◌*◌, ◌||◌, nat_le, nat_lt, option_to_list, option_and_then, option_map}
 use Rattle.std.specs.List.{All, Contains}
-use Rattle.std.proofs.lemmas.Bool.{eq-eqb, false≢true}
+use Rattle.std.proofs.lemmas.Bool.{eq-eqb, false≢true, or_right}
 use Rattle.std.proofs.lemmas.Option.{same_Some}
 use Rattle.std.proofs.lemmas.List.Elements.{All-nil, All-cons, All-append, All-contains_itself}
 use Rattle.bm_base.specs.declared.level.Level.{Level}
@@ -14,14 +14,10 @@ use Rattle.bm_base.specs.Choices.{merged_wishes, one_by_one, sources_by, holders
 use Rattle.bm_base.proofs.ForEach.{Each, each_all, each_then, each_filtered, each_flat, least_is_one}
 use Rattle.bm_round.specs.Copies.{IsCopyOf}
 
-or_true : (a b : Bool) → b ≡ true → (a || b) ≡ true
-or_true true b e = refl
-or_true false b e = e
-
 -- a list has each of its numbers
 each_has : (xs : List ℕ) → Each (λ x. has xs x ≡ true) xs
 each_has [] = tt
-each_has (x ∷ xs) = (ap (λ b. b || has xs x) (eq-eqb x x refl), each_then (λ y. has xs y ≡ true) (λ y. has (x ∷ xs) y ≡ true) xs (each_has xs) (λ y h. or_true (x == y) (has xs y) h))
+each_has (x ∷ xs) = (ap (λ b. b || has xs x) (eq-eqb x x refl), each_then (λ y. has xs y ≡ true) (λ y. has (x ∷ xs) y ≡ true) xs (each_has xs) (λ y h. or_right (x == y) (has xs y) h))
 
 source_among : (C : Cluster) (chosen : List Transfer) (urgency : Level) (usable : List ℕ) (s : ℕ) → least_source C chosen urgency usable ≡ Some s → has usable s ≡ true
 unfolding least_source least_source_by

@@ -7,7 +7,7 @@ use Rattle.std.specs.FinMap.{is_sorted}
 use Rattle.std.specs.FinMap.Entries.{below_all}
 use Rattle.std.specs.List.{list_any, IsDistinct, AllByRecursion}
 use Rattle.std.proofs.Common.{cond, refl, sym, ap, ◌∙◌, eqb-true, eq-eqb}
-use Rattle.std.proofs.lemmas.Bool.{and_from, false≢true}
+use Rattle.std.proofs.lemmas.Bool.{and_from, false≢true, and_left, and_right}
 use Rattle.bm_base.specs.Maps.Conjunction.{first, second}
 use Rattle.bm_base.specs.declared.replica.ReplicaId.{ReplicaId}
 use Rattle.bm_base.specs.declared.replica.Marks.{Marks}
@@ -88,12 +88,6 @@ and_turned true false = refl
 and_turned false true = refl
 and_turned false false = refl
 
-none_and : (x y : Bool) → x ≡ false → (x && y) ≡ false
-none_and x y e = ap (λ t. t && y) e
-
-and_none : (x y : Bool) → y ≡ false → (x && y) ≡ false
-and_none x y e = and_turned x y ∙ none_and y x e
-
 pair_tie : (p q : ℕ × ℕ) → eq_by_cmp pair_cmp p q ≡ ((p.0 == q.0) && (p.1 == q.1))
 pair_tie p q = replica_tie (replica_at p.0 p.1) (replica_at q.0 q.1)
 
@@ -125,7 +119,7 @@ module _ (C : Cluster) (pend r : ℕ) (H : Holdings) where
 
   pub excess_listed : IsListed by_replica (λ (q : ReplicaId). q) (λ q. q.block) (IsSurplus C U) (excess_at C pend r H)
   excess_listed = record {
-    differ = λ x y other. replica_tie x y ∙ none_and (x.block == y.block) (x.storage == y.storage) other;
+    differ = λ x y other. replica_tie x y ∙ and_left (x.block == y.block) (x.storage == y.storage) other;
     of_block = λ b. each_mapped (λ q. q.block ≡ b) (λ (e : ReplicaId × Marks). e.0) (filter (is_excess b) (entries (own_replicas G b))) (each_then (IsOwn G b (is_excess b)) (λ e. e.0.block ≡ b) (filter (is_excess b) (entries (own_replicas G b))) (own_entries G b (is_excess b)) (λ e h. h.1));
     apart = λ b. own_differ G b (is_excess b) (tie by_replica (λ (q : ReplicaId). q)) (λ e. e.0) (λ c d. refl);
     only = λ b.
@@ -151,7 +145,7 @@ module _ (C : Cluster) (pend r : ℕ) (H : Holdings) where
 
   pub deletes_listed : ((q : ReplicaId) (m : Marks) → get G.replicas q ≡ Some m → contains_key C.storages q.storage ≡ true) → IsListed by_pair delete_key (λ (d : Delete). d.block) (IsDeletable C G) (deletes_at C pend r H)
   deletes_listed stored = record {
-    differ = λ x y other. pair_tie (delete_key x) (delete_key y) ∙ and_none (x.storage == y.storage) (x.block == y.block) other;
+    differ = λ x y other. pair_tie (delete_key x) (delete_key y) ∙ and_right (x.storage == y.storage) (x.block == y.block) other;
     of_block = λ b. each_mapped (λ (d : Delete). d.block ≡ b) delete_of (filter (is_gone b) (entries (own_replicas G b))) (each_then (IsOwn G b (is_gone b)) (λ e. e.0.block ≡ b) (filter (is_gone b) (entries (own_replicas G b))) (own_entries G b (is_gone b)) (λ e h. h.1));
     apart = λ b. own_differ G b (is_gone b) (tie by_pair delete_key) delete_of delete_tie;
     only = λ b.
@@ -191,7 +185,7 @@ module _ (C : Cluster) (pend r : ℕ) (H : Holdings) where
 
   pub wishes_listed : IsListed by_pair wish_key (λ (w : Wish). w.block) (IsRequested C G) (wishes_at C pend r H)
   wishes_listed = record {
-    differ = λ x y other. pair_tie (wish_key x) (wish_key y) ∙ and_none (level_number x.level == level_number y.level) (x.block == y.block) other;
+    differ = λ x y other. pair_tie (wish_key x) (wish_key y) ∙ and_right (level_number x.level == level_number y.level) (x.block == y.block) other;
     of_block = λ b. each_optional (λ (w : Wish). w.block ≡ b) (wish_in C G b) (λ w e. (wish_made b w e).1);
     apart = λ b. one_apart (tie by_pair wish_key) (wish_in C G b);
     only = λ b. each_optional (IsRequested C G) (wish_in C G b) (λ w e. (wish_made b w e).0);

@@ -3,10 +3,10 @@ use Rattle.std.specs.Prelude.{◌≡◌, ℕ, Bool, true, false, ◌==◌, List,
 use Rattle.std.specs.List.{flat_map, list_any, IsDistinct, AllByRecursion}
 use Rattle.std.proofs.Common.{inl, inr, sym, ap, ◌∙◌, ne_eqb}
 use Rattle.std.proofs.lemmas.List.Folds.{list_any-append}
+use Rattle.std.proofs.lemmas.Bool.{or_left, or_right}
 use Rattle.bm_base.specs.Maps.Map.{Order}
 use Rattle.bm_maps.specs.SlotLists.{IsMember, Distinct}
 use Rattle.bm_base.proofs.ForEach.{Each, each_of, each_then, each_appended, each_flat}
-use Rattle.bm_base.proofs.ListTests.{or_left, or_right}
 use Rattle.bm_parts.specs.Found.{IsGathered}
 use Rattle.bm_round_scan.specs.BlockFindings.{IsInOrder}
 use Rattle.bm_round_scan.proofs.SortedElements.{tie, gathered_sorted}

@@ -2,7 +2,7 @@
 use Rattle.std.specs.Prelude.{◌≡◌, ◌≢◌, ℕ, Bool, true, false, not, ◌&&◌, List, [], ◌∷◌, ◌++◌, map, filter, Option, Some, None, option_and_then}
 use Rattle.std.specs.Option.{option_map_or}
 use Rattle.std.proofs.Common.{◌⊎◌, cond, inl, inr, refl, sym, ap, subst, ◌∙◌}
-use Rattle.std.proofs.lemmas.Bool.{cases_Bool, true≢false, and_from}
+use Rattle.std.proofs.lemmas.Bool.{cases_Bool, true≢false, and_from, not-true}
 use Rattle.std.proofs.lemmas.List.{append_assoc, map-append}
 use Rattle.std.proofs.lemmas.List.Elements.{filter-append}
 use Rattle.bm_base.specs.declared.level.Level.{Level}
@@ -123,11 +123,7 @@ module _ (K : IndexedLevels) (is : AreListed K) where
     settled = filter to_scan (slots_needing_copies K)
 
     settled_apart : AreApart u settled
-    settled_apart z here there = true≢false (sym (among_has u z here) ∙ by (has u z) (former (not (has u z)) (not (has_enough z)) (latter (is_before bound (key_at K a z)) (not (has u z) && not (has_enough z)) (among_filtered to_scan z (slots_needing_copies K) there).1)))
-      where
-        by : (t : Bool) → not t ≡ true → t ≡ false
-        by true e = absurd (true≢false (sym e))
-        by false e = refl
+    settled_apart z here there = true≢false (sym (among_has u z here) ∙ not-true (has u z) (former (not (has u z)) (not (has_enough z)) (latter (is_before bound (key_at K a z)) (not (has u z) && not (has_enough z)) (among_filtered to_scan z (slots_needing_copies K) there).1)))
 
     pub scanned_once : Distinct slots
     scanned_once = distinct_appended u settled is.unsettled (distinct_filtered to_scan (slots_needing_copies K) is.once) settled_apart

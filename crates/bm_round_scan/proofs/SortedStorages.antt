@@ -9,7 +9,7 @@ use Rattle.std.specs.FinMap.Entries.{below_all}
 use Rattle.std.specs.List.{list_any, IsDistinct}
 use Rattle.std.specs.List.Sorted.{IsPermutation, IsSortedByKey}
 use Rattle.std.proofs.Common.{cond, refl, sym, ap, subst, ◌∙◌, eqb-true}
-use Rattle.std.proofs.lemmas.Bool.{and_parts}
+use Rattle.std.proofs.lemmas.Bool.{and_parts, or_left, or_right}
 use Rattle.bm_base.specs.Maps.Conjunction.{both, first, second}
 use Rattle.bm_base.specs.declared.replica.ReplicaId.{ReplicaId}
 use Rattle.bm_base.specs.declared.replica.Marks.{Marks}
@@ -17,7 +17,7 @@ use Rattle.bm_base.specs.Words.{Map, by_number, entries, Holdings, by_replica, r
 use Rattle.bm_maps.specs.SlotLists.{Distinct}
 use Rattle.bm_base.proofs.Clusters.{eqb_turned}
 use Rattle.bm_base.proofs.ForEach.{Each}
-use Rattle.bm_base.proofs.ListTests.{any_agree, same_again, or_left, or_right}
+use Rattle.bm_base.proofs.ListTests.{any_agree, same_again}
 use Rattle.bm_base.proofs.Ties.{number_tie}
 use Rattle.bm_parts.proofs.Filters.{all_each}
 use Rattle.bm_parts.proofs.EqualLists.{gathered_alike}

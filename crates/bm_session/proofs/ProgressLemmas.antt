@@ -4,6 +4,7 @@ use Rattle.std.specs.Prelude.{Option, Some, None, Result, Ok, Err, is_err, OnOk}
 use Rattle.std.specs.Int.{from_bool}
 use Rattle.std.specs.Io.KnownBytes.{Appends, Keeps}
 use Rattle.std.proofs.lemmas.List.{length_push, take-append-le}
+use Rattle.std.proofs.KnownBytes.{Appends-nil, Appends-trans, Appends-kept}
 use Rattle.bm_base.specs.Machine.State.{State}
 use Rattle.bm_session.specs.declared.limits.TheConstants.{MAX_LINES}
 use Rattle.bm_session.specs.declared.session.Session.{Session}
@@ -19,22 +20,6 @@ use Rattle.bm_session.proofs.LineLemmas.{rest_line, lines_of-first, IsPart-appen
 use Rattle.bm_session.proofs.TextLemmas.{texts-push, after-push, refusals-push}
 
 -- ---- known bytes
-
-pub Appends-nil : (known : Option (List ℕ)) → Appends known known []
-Appends-nil None = tt
-Appends-nil (Some xs) = sym (append-nil xs)
-
-pub Appends-then : (a b c : Option (List ℕ)) (xs ys : List ℕ) → Appends a b xs → Appends b c ys → Appends a c (xs ++ ys)
-Appends-then None b c xs ys p q = tt
-Appends-then (Some old) None c xs ys p q = absurd p
-Appends-then (Some old) (Some mid) None xs ys p q = absurd q
-Appends-then (Some old) (Some mid) (Some new) xs ys p q = rw (q, p) (append_assoc old xs ys)
-
-pub Appends-keeps : (a b c : Option (List ℕ)) (xs : List ℕ) → Appends a b xs → Keeps b c → Appends a c xs
-Appends-keeps None b c xs p q = tt
-Appends-keeps (Some old) None c xs p q = absurd p
-Appends-keeps (Some old) (Some mid) None xs p q = absurd q
-Appends-keeps (Some old) (Some mid) (Some new) xs p q = q ∙ p
 
 -- a fact about success, if a call did not fail
 pub at_success : {T E P : Type 0} (r : Result T E) (b : Bool) → b ≡ is_err r → b ≡ false → OnOk r P → P
@@ -70,7 +55,7 @@ progress_end M start old new s t bytes a p ask wrote next lines refused empty =
       splits = splits_end p.splits;
       holds = empty;
       state = rw after-push (rw (← p.state, ← e) next);
-      wrote = rw texts-push (Appends-then start old new _ _ p.wrote (rw (← p.state, ← e) wrote));
+      wrote = rw texts-push (Appends-trans start old new _ _ p.wrote (rw (← p.state, ← e) wrote));
       count = omega (arith, p.count, length_push p.lines p.rest);
       refused = rw refusals-push (rw (← p.state, ← e, ← p.refused) refused);
       begun = λ h. absurd (omega arith);
@@ -200,7 +185,7 @@ lines_of-empty M start now s bytes p none = lines_of-split p.splits ∙ rw none 
 pub finished : (M : State) (start old new : Option (List ℕ)) (t : Session) (bytes : List ℕ) (q : Progress M start old t bytes) (ls : List (List ℕ)) → ls ≡ q.lines → Keeps old new
     → Appends start new (texts M ls) × IsSummary M ls (record { lines = t.lines; accepted = t.lines - t.refused; refused = t.refused })
 finished M start old new t bytes q ls e keeps = (
-  rw e (Appends-keeps start old new _ q.wrote keeps),
+  rw e (Appends-kept start old new _ q.wrote keeps),
   record { lines_read = rw e q.count; lines_few = t.few; lines_refused = rw e q.refused; lines_accepted = omega (arith, t.counted) },
 )
 

@@ -5,6 +5,7 @@ use Rattle.std.specs.Io.KnownBytes.{Appends, Consumes, Keeps, IsAtEnd}
 use Rattle.std.proofs.lemmas.List.{take-append-drop}
 use Rattle.std.proofs.lemmas.Result.{IfOk-weaker, IfErr-weaker, MatchResult-from_both}
 use Rattle.std.proofs.Math.Seq.{take-append-add}
+use Rattle.std.proofs.KnownBytes.{Appends-nil}
 use Rattle.bm_base.specs.declared.config.Config.{Config}
 use Rattle.bm_base.specs.Words.{State, first_state, config_refusal}
 use Rattle.bm_session.specs.declared.limits.TheConstants.{MAX_LINES, MAX_BYTES, PIECE}
@@ -18,25 +19,9 @@ use Rattle.bm_session.specs.StartFaults.{StartFault}
 use Rattle.bm_session.specs.Progress.{Progress, PieceFault, IsSummary}
 use Rattle.bm_session.specs.Outcome.{Faulted, Leaves, FaultCounts, HasCause, ConfigOfFault, ChecksConfig}
 use Rattle.bm_session.proofs.LineLemmas.{whole_lines-split}
-use Rattle.bm_session.proofs.ProgressLemmas.{Appends-nil, answered_more}
+use Rattle.bm_session.proofs.ProgressLemmas.{answered_more}
 
 -- ---- known bytes
-
-pub Consumes-nil : (known : Option (List ℕ)) → Consumes known known []
-Consumes-nil None = tt
-Consumes-nil (Some xs) = refl
-
-pub Consumes-then : (a b c : Option (List ℕ)) (xs ys : List ℕ) → Consumes a b xs → Consumes b c ys → Consumes a c (xs ++ ys)
-Consumes-then None b c xs ys p q = tt
-Consumes-then (Some old) None c xs ys p q = absurd p
-Consumes-then (Some old) (Some mid) None xs ys p q = absurd q
-Consumes-then (Some old) (Some mid) (Some new) xs ys p q = rw (p, q) (sym (append_assoc xs ys new))
-
-pub Consumes-keeps : (a b c : Option (List ℕ)) (xs : List ℕ) → Consumes a b xs → Keeps b c → Consumes a c xs
-Consumes-keeps None b c xs p q = tt
-Consumes-keeps (Some old) None c xs p q = absurd p
-Consumes-keeps (Some old) (Some mid) None xs p q = absurd q
-Consumes-keeps (Some old) (Some mid) (Some new) xs p q = rw q p
 
 -- ---- parts of lists
 

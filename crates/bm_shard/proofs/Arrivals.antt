@@ -110,10 +110,6 @@ module _ (a : Contents) (s : ℕ) where
       by q true e = gone (get m q) (contains_key (replicas_of a) (replica_at b s)) (ap (λ p. contains_key m p && contains_key (replicas_of a) (replica_at b s)) (by_replica.same q (replica_at b s) (equal (by_replica.cmp q (replica_at b s)) e)) ∙ none)
       by q false e = stays (get m q)
 
-pub none_to_drop : (x y : Bool) → y ≡ false → (x && y) ≡ false
-none_to_drop true y e = e
-none_to_drop false y e = refl
-
 -- the block at an index, and the blocks after it
 pub drop_here : (xs : List ℕ) (i : ℕ) → i < length xs → (b : ℕ) × (slice_get xs i ≡ Some b) × (drop i xs ≡ b ∷ drop (i + 1) xs)
 drop_here [] i less = absurd (omega (arith, less))

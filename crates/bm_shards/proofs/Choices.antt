@@ -2,6 +2,7 @@
 use Rattle.std.specs.Prelude.{◌≡◌, ℕ, ◌+◌, Bool, true, false, ◌==◌, ◌||◌, List, [], ◌∷◌, ◌++◌, map, filter, length, Option, None}
 use Rattle.std.specs.List.{flat_map}
 use Rattle.std.proofs.Common.{cond, refl, sym, ap, subst, ◌∙◌}
+use Rattle.std.proofs.lemmas.Bool.{or_parts}
 use Rattle.bm_base.specs.declared.commands.Delete.{Delete}
 use Rattle.bm_base.specs.declared.round.RoundPart.{RoundPart}
 use Rattle.bm_base.specs.declared.round.Wish.{Wish}
@@ -19,7 +20,6 @@ use Rattle.bm_parts.proofs.Filters.{filter_all}
 use Rattle.bm_parts.proofs.MergedChoices.{wishes_join, parts_choose_transfers, parts_choose_deletes}
 use Rattle.bm_parts.proofs.WholeParts.{whole_has_its_parts}
 use Rattle.bm_round.specs.KeyedParts.{keyed_wishes, keyed_delete, keyed_deletes}
-use Rattle.bm_round.proofs.WishCopies.{none_has}
 use Rattle.bm_shard.specs.Seen.{Seen}
 use Rattle.bm_shard.specs.UpToDate.{next_part}
 use Rattle.bm_shards.specs.RoundChosen.{next_parts, next_excess, HasExcess}
@@ -29,7 +29,7 @@ use Rattle.bm_shards.proofs.SameShards.{count_of}
 -- a number that is not in a list is not in a filtered part of it
 none_left : {X : Type 0} (number : X → ℕ) (p : X → Bool) (b : ℕ) (xs : List X) → has (map number xs) b ≡ false → has (map number (filter p xs)) b ≡ false
 none_left number p b [] none = none
-none_left number p b (x ∷ xs) none = let two = none_has (number x == b) (has (map number xs) b) none in by (p x) two.0 (none_left number p b xs two.1)
+none_left number p b (x ∷ xs) none = let two = or_parts (number x == b) (has (map number xs) b) none in by (p x) two.0 (none_left number p b xs two.1)
   where
     by : (t : Bool) → (number x == b) ≡ false → has (map number (filter p xs)) b ≡ false → has (map number (cond t (x ∷ filter p xs) (filter p xs))) b ≡ false
     by true other rest = ap (λ u. u || has (map number (filter p xs)) b) other ∙ rest
@@ -38,7 +38,7 @@ none_left number p b (x ∷ xs) none = let two = none_has (number x == b) (has (
 once_left : {X : Type 0} (number : X → ℕ) (p : X → Bool) (xs : List X) → has_repeats (map number xs) ≡ false → has_repeats (map number (filter p xs)) ≡ false
 once_left number p [] once = once
 once_left number p (x ∷ xs) once =
-    let two = none_has (has (map number xs) (number x)) (has_repeats (map number xs)) once in
+    let two = or_parts (has (map number xs) (number x)) (has_repeats (map number xs)) once in
     by (p x) (none_left number p (number x) xs two.0) (once_left number p xs two.1)
   where
     by : (t : Bool) → has (map number (filter p xs)) (number x) ≡ false → has_repeats (map number (filter p xs)) ≡ false → has_repeats (map number (cond t (x ∷ filter p xs) (filter p xs))) ≡ false

@@ -22,10 +22,6 @@ on_err (Err e) P h = h
 
 -- The step of the loop that gathers one more.
 
-pub map_push : {X Y : Type 0} (f : X → Y) (xs : List X) (x : X) → map f (xs ++ x ∷ []) ≡ map f xs ++ f x ∷ []
-map_push f [] x = refl
-map_push f (y ∷ xs) x = ap (λ ys. f y ∷ ys) (map_push f xs x)
-
 pub done_push : (cs : List (ℕ × Answered Done)) (c : ℕ × Answered Done)
     → ((done_of (cs ++ c ∷ [])).added ≡ (done_of cs).added + c.1.answer.added) × ((done_of (cs ++ c ∷ [])).removed ≡ (done_of cs).removed + c.1.answer.removed)
 done_push [] c = (omega arith, omega arith)

@@ -9,6 +9,7 @@ use Rattle.std.proofs.lemmas.Int.{ints}
 use Rattle.std.proofs.lemmas.List.{get_or-map, length-map}
 use Rattle.std.proofs.lemmas.List.Sums.{AllPass-from_list_all}
 use Rattle.std.proofs.lemmas.Slice.Eq.{bytes_eq-Decides}
+use Rattle.std.proofs.lemmas.Bool.{or_parts}
 use Rattle.clap.specs.Lexer.{without_minus}
 use Rattle.clap.specs.Facts.{args_of, groups_of, unwrap_or_range}
 use Rattle.clap.specs.Built.{IsParsedFrom, NamesNoGroup}
@@ -173,13 +174,9 @@ pub record Place (name d : Text) (most : ℕ) : Type 0 where
   pub other_names : (bytes_eq name [] || (bytes_eq name (codes "help") || bytes_eq name (codes "version"))) ≡ false
   pub fits : most < 2 ^ 32
 
-neither : (a b : Bool) → (a || b) ≡ false → (a ≡ false) × (b ≡ false)
-neither true b e = absurd (true≢false e)
-neither false b e = (refl, e)
-
 only_named : (name d : Text) (most : ℕ) (w : Place name d most) (j : ℕ) → j < 5 → bytes_eq (slice_index_or options j blank).id name ≡ true → j ≡ w.place
 only_named name d most w j lt same =
-    let apart = neither _ _ w.alone in
+    let apart = or_parts _ _ w.alone in
     only_place (has_name name) w.before (option_rule name d most) w.after apart.0 apart.1 j blank
     (subst (λ (l : List Rule). j < length l) w.rules lt) (subst (λ (l : List Rule). bytes_eq (slice_index_or l j blank).id name ≡ true) w.rules same)
     ∙ w.count
@@ -208,8 +205,8 @@ text_found cmd m is p name d most w =
     let count = args_count cmd is in
     let lt : w.place < length (args_of cmd) = subst (λ n. w.place < n) (sym count) w.below in
     let a = nth (args_of cmd) w.place lt in
-    let other = neither _ _ w.other_names in
-    let others = neither _ _ other.1 in
+    let other = or_parts _ _ w.other_names in
+    let others = or_parts _ _ other.1 in
     let rule : rule_of a.0 ≡ option_rule name d most = ap rule_of (sym a.1) ∙ (rule_at cmd is w.place a.0 lt ∙ rule_here name d most w) in
     let is_name : a.0.id.now ≡ name = ap (λ (r : Rule). r.id) rule in
     let plain = plain_facts cmd (ap (λ (x : App). x.top.is_plain) is) in
@@ -224,7 +221,7 @@ text_found cmd m is p name d most w =
 given_number : (words : List Text) (name d : Text) (most : ℕ) (w : Place name d most) (t : Text) → first_of name (matches_of tool words) ≡ Some t
     → number_for name (number_of d) words ≡ number_of t
 given_number words name d most w t found =
-    let apart = neither _ _ w.filled_alone in
+    let apart = or_parts _ _ w.filled_alone in
     let split : first_of name (fold with_default (rows_given words) (w.filled_before ++ w.filled ∷ w.filled_after)) ≡ Some t
     = ap (λ (l : List Rule). first_of name (fold with_default (rows_given words) l)) (sym w.filled_rules) ∙ found in
     subst (λ (u : Text). list_any (has_name u) w.filled_before ≡ false → list_any (has_name u) w.filled_after ≡ false

@@ -3,6 +3,7 @@ use Rattle.std.specs.Prelude.{◌≡◌, ℕ, Bool, true, false, not, ◌||◌, 
 use Rattle.std.specs.Option.{option_map_or}
 use Rattle.std.specs.List.{list_any}
 use Rattle.std.proofs.Common.{refl}
+use Rattle.std.proofs.lemmas.Bool.{or_parts}
 use Rattle.bm_base.specs.declared.event.Remaining.{Remaining}
 use Rattle.bm_base.specs.declared.event.Event.TheVariants.{Heartbeat}
 use Rattle.bm_base.specs.declared.storage.StorageInfo.{StorageInfo}
@@ -20,12 +21,8 @@ own_known C n s = by (get C.storages s)
 all_known : (C : Cluster) (n : ℕ) (rs : List Remaining) → list_any (λ r. not (has_storage C n r.storage)) rs ≡ false → list_any (λ r. not (knows_storage C r.storage)) rs ≡ false
 all_known C n [] e = refl
 all_known C n (r ∷ rs) e =
-    let both = both_false (not (has_storage C n r.storage)) (list_any (λ (x : Remaining). not (has_storage C n x.storage)) rs) e in
+    let both = or_parts (not (has_storage C n r.storage)) (list_any (λ (x : Remaining). not (has_storage C n x.storage)) rs) e in
     (λ i. own_known C n r.storage both.0 i || all_known C n rs both.1 i)
-  where
-    both_false : (a b : Bool) → (a || b) ≡ false → (a ≡ false) × (b ≡ false)
-    both_false true b e = cc
-    both_false false b e = (refl, e)
 
 pub heard : (C : Cluster) (n : ℕ) (rs : List Remaining) → not (knows_node C n) ≡ false → list_any (λ r. not (has_storage C n r.storage)) rs ≡ false
     → first_of (cluster_checks C (Heartbeat n rs)) ≡ None

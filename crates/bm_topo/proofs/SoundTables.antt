@@ -2,7 +2,7 @@
 use Rattle.std.proofs.Common.{◌≡◌, ℕ, ◌+◌, ◌<◌, ◌≤◌, ◌^◌, Bool, true, false, cond, ◌||◌, List, [], ◌∷◌, length, Option, Some, None, refl, sym, ap, subst, ◌∙◌, ◌≢◌, true≢false, arith}
 use Rattle.std.specs.Prelude.{◌==◌, not, option_and_then, option_map, is_some}
 use Rattle.std.specs.Option.{option_map_or}
-use Rattle.std.proofs.lemmas.Bool.{leb-false, ltb-false, eq-eqb}
+use Rattle.std.proofs.lemmas.Bool.{leb-false, ltb-false, eq-eqb, or_parts, not-true}
 use Rattle.bm_base.specs.declared.storage.StorageInfo.{StorageInfo}
 use Rattle.bm_base.specs.declared.event.Event.TheVariants.{Register}
 use Rattle.bm_base.specs.declared.event.Remaining.{Remaining}
@@ -12,7 +12,6 @@ use Rattle.bm_base.specs.Promises.Lawful.{IsLawfulCluster}
 use Rattle.bm_base.proofs.MapEntries.{not_tied, key_itself, get_kept, known_before, known_removed}
 use Rattle.bm_base.proofs.ClusterEvents.{registrable, registered, storage_failed, heartbeat_reported, began_to_drain, ceased_to_drain}
 use Rattle.bm_base.proofs.MapLaws.{same_map, get-keep, get-empty, get-remove}
-use Rattle.bm_base.proofs.Options.{not_passed}
 use Rattle.bm_base.proofs.Differences.{len-keep-le}
 use Rattle.bm_topo.specs.Keys.{HasSmallKeys}
 use Rattle.bm_topo.specs.NewStorages.{new_storages}
@@ -92,7 +91,7 @@ sound-kept nodes racks draining left old new n is left_is h = record {
 -- then none of its storages is left, and it is not among those that drain
 pub none_left : (old new : Map by_number StorageInfo) (n s : ℕ) (i : StorageInfo) → new ≡ keep old (λ _ j. not (j.node == n)) → get new s ≡ Some i → i.node ≢ n
 none_left old new n s i is e here =
-    let other : (i.node == n) ≡ false = not_passed (i.node == n) (get_kept old (λ _ j. not (j.node == n)) s i (ap (λ m. get m s) (sym is) ∙ e)).1 in
+    let other : (i.node == n) ≡ false = not-true (i.node == n) (get_kept old (λ _ j. not (j.node == n)) s i (ap (λ m. get m s) (sym is) ∙ e)).1 in
     true≢false (sym (eq-eqb i.node n here) ∙ other)
 
 pub not_left : (draining left : Set by_number) (n : ℕ) → left ≡ remove draining n → contains_key left n ≡ false
@@ -145,10 +144,6 @@ none_here : {X : Type 0} (b : Bool) (x : X) (r : Option X) → cond b (Some x) r
 none_here true x r h = cc
 none_here false x r h = (refl, h)
 
-either_false : (a b : Bool) → (a || b) ≡ false → (a ≡ false) × (b ≡ false)
-either_false true b h = cc
-either_false false b h = (refl, h)
-
 unknown : {X : Type 0} (v : Option X) → is_some v ≡ false → v ≡ None
 unknown None h = refl
 unknown (Some x) h = cc
@@ -164,7 +159,7 @@ registration_is_new C n rack ss h =
     let first = none_here _ _ _ h in
     let second = none_here _ _ _ first.1 in
     let third = none_here _ _ _ second.1 in
-    let few = either_false _ _ third.0 in
+    let few = or_parts _ _ third.0 in
     let nodes = leb-false MAX_NODES (len C.nodes) few.0 in
     let storages = ltb-false MAX_STORAGES (len C.storages + length ss) few.1 in
     record { absent = unknown _ first.0; few_nodes = omega (arith, nodes); few_storages = omega (arith, storages) }

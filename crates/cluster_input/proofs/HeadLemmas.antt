@@ -4,6 +4,8 @@ use Rattle.std.specs.List.{find, list_any}
 use Rattle.std.specs.Io.{StartsWith, appended_bytes}
 use Rattle.std.specs.Io.KnownBytes.{Consumes, IsAtEnd}
 use Rattle.std.proofs.lemmas.List.{take-append-drop}
+use Rattle.std.proofs.KnownBytes.{Consumes-trans}
+use Rattle.std.proofs.lemmas.Bool.{or_right}
 use Rattle.cluster_input.specs.Kinds.{is_blank, is_brace, are_lines, IsHead, IsHeadOf}
 
 -- the first byte that is not blank in the front is the first in the whole
@@ -22,22 +24,12 @@ any_of b = not (is_blank b)
 alike_here : (head rest : List ℕ) → list_any any_of head ≡ true → are_lines head ≡ are_lines (head ++ rest)
 alike_here head rest h = ap is_brace (sym (find_in any_of head rest h))
 
-pub none_read : (known : Option (List ℕ)) → Consumes known known []
-none_read None = tt
-none_read (Some text) = refl
-
-pub more_read : (a b c : Option (List ℕ)) (xs ys : List ℕ) → Consumes a b xs → Consumes b c ys → Consumes a c (xs ++ ys)
-more_read None b c xs ys h k = tt
-more_read (Some a) None c xs ys h k = absurd h
-more_read (Some a) (Some b) None xs ys h k = k
-more_read (Some a) (Some b) (Some c) xs ys h k = h ∙ ap (λ t. xs ++ t) k ∙ sym (append_assoc xs ys c)
-
 -- one more line is appended to the head
 pub head_more : (known a b : Option (List ℕ)) (old new : List ℕ) → Consumes known a old → Consumes a b (appended_bytes old new) → StartsWith new old
     → Consumes known b new
 head_more known a b old new h k starts =
     subst (Consumes known b) (ap (λ xs. xs ++ drop (length old) new) (sym starts) ∙ take-append-drop (length old) new)
-    (more_read known a b old (appended_bytes old new) h k)
+    (Consumes-trans known a b old (appended_bytes old new) h k)
 
 -- the head ends with a line that is not blank
 pub head_found : (known left : Option (List ℕ)) (head : List ℕ) → Consumes known left head → list_any any_of head ≡ true
@@ -62,8 +54,4 @@ head_whole (Some text) (Some rest) head h done =
 pub any_dropped : (n : ℕ) (xs : List ℕ) → list_any any_of (drop n xs) ≡ true → list_any any_of xs ≡ true
 any_dropped zero xs h = h
 any_dropped (suc n) [] h = h
-any_dropped (suc n) (x ∷ xs) h = or_later (any_of x) (list_any any_of xs) (any_dropped n xs h)
-  where
-    or_later : (a b : Bool) → b ≡ true → (a || b) ≡ true
-    or_later true b e = refl
-    or_later false b e = e
+any_dropped (suc n) (x ∷ xs) h = or_right (any_of x) (list_any any_of xs) (any_dropped n xs h)

@@ -5,6 +5,7 @@ use Rattle.std.proofs.Math.Seq.{take-suc}
 use Rattle.std.proofs.lemmas.Option.{slice_get_past}
 use Rattle.std.proofs.lemmas.List.Folds.{list_any-append}
 use Rattle.std.proofs.lemmas.Grind.{flat_map-append}
+use Rattle.std.proofs.lemmas.Bool.{or_from}
 use Rattle.bm_base.specs.declared.call.Call.{Call}
 use Rattle.bm_base.specs.declared.call.Call.TheVariants as call
 use Rattle.bm_base.specs.declared.event.Entry.{Entry}
@@ -30,10 +31,6 @@ answers-append M (k ∷ calls) more = ap (λ rest. (step M k).0 ∷ rest) (answe
 pub none_made : (M : State) → Makes [] M M
 none_made M = record { state = refl; accepted = refl }
 
-neither : (a b : Bool) → a ≡ false → b ≡ false → (a || b) ≡ false
-neither true b e h = e
-neither false b e h = h
-
 -- these calls, and then those
 pub made_more : (calls more : List Call) (a b c : State) → Makes calls a b → Makes more b c → Makes (calls ++ more) a c
 made_more calls more a b c first second =
@@ -43,7 +40,7 @@ made_more calls more a b c first second =
       accepted =
           ap (list_any is_refused) (answers-append a calls more)
           ∙ list_any-append is_refused (answers a calls) (answers (state_after a calls) more)
-          ∙ neither _ _ first.accepted then.accepted;
+          ∙ or_from _ _ first.accepted then.accepted;
     }
 
 none_only : (b : Bool) (text : List ℕ) → cond b (Some text) None ≡ None → b ≡ false

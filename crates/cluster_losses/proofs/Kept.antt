@@ -1,6 +1,7 @@
 -- Blocks that events leave as they are.
 use Rattle.std.proofs.Common.{◌≡◌, ◌∙◌, ℕ, Bool, true, false, cond, ◌||◌, List, [], ◌∷◌, refl, sym, ap, subst, map}
 use Rattle.std.specs.List.{fold, list_any}
+use Rattle.std.proofs.lemmas.Bool.{or_parts}
 use Rattle.bm_base.specs.declared.event.Event.{Event}
 use Rattle.bm_base.specs.declared.event.Event.TheVariants.{Register, Dead, StorageFailed, Heartbeat, Drain, Undrain, AddBlock, DeleteBlock, SetReplication, Restamp, Received, Deleted, Corrupt, FullReport}
 use Rattle.bm_base.specs.Words.{State, Holdings, drains, after_event, change_holdings, without_storages, begin_drain, enter, remove_replica, make_bad, report}
@@ -28,14 +29,10 @@ blocks_kept M (Deleted s b) h = refl
 blocks_kept M (Corrupt s b) h = refl
 blocks_kept M (FullReport s es) h = refl
 
-pub neither_changes : (a b : Bool) → (a || b) ≡ false → (a ≡ false) × (b ≡ false)
-neither_changes true b h = cc
-neither_changes false b h = (refl, h)
-
 pub all_kept : (M N : State) (es : List Event) → KeepBlocks es → N ≡ fold after_event M es → N.holdings.blocks ≡ M.holdings.blocks
 all_kept M N [] h is = ap (λ (O : State). O.holdings.blocks) is
 all_kept M N (e ∷ es) h is =
-    let both = neither_changes (changes_blocks e) (list_any changes_blocks es) h in
+    let both = or_parts (changes_blocks e) (list_any changes_blocks es) h in
     all_kept (after_event M e) N es both.1 is ∙ blocks_kept M e both.0
 
 deaths_keep : (ns : List ℕ) → KeepBlocks (map death ns)

@@ -2,7 +2,7 @@
 use Rattle.std.proofs.Common.{◌≡◌, ◌∙◌, ℕ, Bool, true, false, cond, List, [], ◌∷◌, ◌++◌, Some, None, refl, sym, ap, drop, length, get_or, option_map, arith}
 use Rattle.std.specs.Prelude.{◌==◌, ◌||◌, ◌+◌, ◌<◌, zero, suc, slice_get, if◌then◌else◌}
 use Rattle.std.specs.List.{find}
-use Rattle.std.proofs.lemmas.Bool.{false≢true}
+use Rattle.std.proofs.lemmas.Bool.{false≢true, or_from, or_parts}
 use Rattle.std.proofs.lemmas.Option.{slice_get-get_or}
 use Rattle.std.proofs.lemmas.List.Folds.{list_any-append}
 use Rattle.std.proofs.lemmas.List.Sums.{fold-append}
@@ -17,25 +17,17 @@ use Rattle.cluster_losses.specs.Named.{IsFaultOf, AreNamed, AreAdded, all_named,
 
 -- Each number once.
 
-or_false : (a b : Bool) → a ≡ false → b ≡ false → (a || b) ≡ false
-or_false a b e f = λ i. e i || f i
-
 turned : (x y : ℕ) → (y == x) ≡ false → (x == y) ≡ false
 turned x y e = eqb_turned x y ∙ e
 
 once_push : (xs : List ℕ) (x : ℕ) → has xs x ≡ false → has_repeats xs ≡ false → has_repeats (xs ++ x ∷ []) ≡ false
 once_push [] x none once = refl
 once_push (y ∷ xs) x none once =
-    let first = none_of (y == x) (has xs x) none in
-    let rest = none_of (has xs y) (has_repeats xs) once in
-    or_false _ _
-    (list_any-append (λ z. z == y) xs (x ∷ []) ∙ or_false _ _ rest.0 (or_false _ _ (turned x y first.0) refl))
+    let first = or_parts (y == x) (has xs x) none in
+    let rest = or_parts (has xs y) (has_repeats xs) once in
+    or_from _ _
+    (list_any-append (λ z. z == y) xs (x ∷ []) ∙ or_from _ _ rest.0 (or_from _ _ (turned x y first.0) refl))
     (once_push xs x first.1 rest.1)
-  where
-    none_of : (a b : Bool) → (a || b) ≡ false → (a ≡ false) × (b ≡ false)
-    none_of false false e = (refl, refl)
-    none_of true b e = absurd (false≢true (sym e))
-    none_of false true e = absurd (false≢true (sym e))
 
 once_with : (xs : List ℕ) (x : ℕ) → has_repeats xs ≡ false → has_repeats (with_one xs x) ≡ false
 once_with xs x once = by (has xs x) refl
@@ -108,6 +100,3 @@ none_left C names ls lost nodes drained storages = record {
   storages = ap (λ xs. with_all xs (all_named C names fails ls)) storages;
   unknown = refl;
 }
-
-pub next_at : {X : Type 0} (xs : List X) (i : ℕ) (d : X) → i < length xs → drop i xs ≡ get_or xs i d ∷ drop (i + 1) xs
-next_at xs i d less = next_word xs i (get_or xs i d) (slice_get-get_or xs i d less)

@@ -4,11 +4,12 @@ use Rattle.std.specs.List.{list_any, position_or_len}
 use Rattle.std.specs.Map.{lookup}
 use Rattle.std.specs.Str.{bytes_eq}
 use Rattle.std.specs.String.{string_eq}
+use Rattle.std.proofs.lemmas.List.{map_push}
 use Rattle.indexmap.specs.IndexSet.{insert_key}
 use Rattle.cluster_names.specs.Rows.{Text}
 use Rattle.cluster_names.specs.FileTable.{FileTable, path_index, with_path}
 use Rattle.cluster_names.specs.declared.files.FilePlace.{FilePlace}
-use Rattle.cluster_names.proofs.RowLemmas.{map-push, none_if}
+use Rattle.cluster_names.proofs.RowLemmas.{none_if}
 
 module _ {A B : Type 0} (p : B → Bool) (f : A → B) where
   list_any-map : (xs : List A) → list_any p (map f xs) ≡ list_any (λ x. p (f x)) xs
@@ -42,7 +43,7 @@ module _ {Y : Type 0} (keys : List (String Y)) (path : Text) where
   paths_put k e none =
       let here : list_any (bytes_eq path) (map string_bytes keys) ≡ false = list_any-map (bytes_eq path) string_bytes keys ∙ sym none in
       let any : list_any (string_eq k) keys ≡ false = ap (λ t. list_any (λ x. bytes_eq t (string_bytes x)) keys) e ∙ sym none in
-      rw (any, here) (map-push string_bytes keys k ∙ ap (λ t. map string_bytes keys ++ t ∷ []) e)
+      rw (any, here) (map_push string_bytes keys k ∙ ap (λ t. map string_bytes keys ++ t ∷ []) e)
 
 -- two tables with the same paths and the same places
 pub same_table : (f g : FileTable) → f.paths ≡ g.paths → f.places ≡ g.places → f ≡ g

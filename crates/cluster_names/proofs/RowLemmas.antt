@@ -4,6 +4,8 @@ use Rattle.std.specs.Str.{bytes_eq}
 use Rattle.std.proofs.lemmas.Slice.Eq.{bytes_eq-Decides}
 use Rattle.std.proofs.lemmas.Bool.{eqb-true, eq-eqb}
 use Rattle.std.specs.Borrow.{Bor}
+use Rattle.std.proofs.lemmas.Option.{cond_some}
+use Rattle.std.proofs.lemmas.List.{map_push}
 use Rattle.cluster_names.specs.Names.{row_of}
 use Rattle.cluster_names.specs.Rows.{Text, Rows, name_of, number_of, IsOneToOne}
 use Rattle.cluster_names.specs.declared.name_table.Row.{Row}
@@ -74,17 +76,13 @@ module _ (rows : Rows) (n : ℕ) (t : Text) where
       ∙ map-or_else (λ r. r.0) (find (λ r. bytes_eq r.1 u) rows) _
       ∙ ap (or_else (number_of rows u)) (map-cond (λ r. r.0) (bytes_eq t u) (n, t))
 
-some_of : {A : Type 0} (b : Bool) (x y : A) → cond b (Some x) None ≡ Some y → (b ≡ true) × (x ≡ y)
-some_of true x y e = (refl, cc)
-some_of false x y e = cc
-
 module _ (rows : Rows) (n : ℕ) (t : Text) (one : IsOneToOne rows) (new_number : name_of rows n ≡ None) (new_name : number_of rows t ≡ None) where
   by_name : (m : ℕ) (u : Text) (found : Option Text) → name_of rows m ≡ found → or_else found (cond (nat_eq n m) (Some t) None) ≡ Some u
       → number_of (rows ++ (n, t) ∷ []) u ≡ Some m
   by_name m u (Some x) was e =
       number_of-push rows n t u ∙ ap (λ o. or_else o (cond (bytes_eq t u) (Some n) None)) (one.of_name m u (was ∙ e))
   by_name m u None was e =
-      let same = some_of (nat_eq n m) t u e in
+      let same = cond_some (nat_eq n m) t u e in
       number_of-push rows n t u
       ∙ ap (λ v. or_else (number_of rows v) (cond (bytes_eq t v) (Some n) None)) (sym same.1)
       ∙ ap (λ o. or_else o (cond (bytes_eq t t) (Some n) None)) new_name
@@ -96,7 +94,7 @@ module _ (rows : Rows) (n : ℕ) (t : Text) (one : IsOneToOne rows) (new_number 
   by_number m u (Some x) was e =
       name_of-push rows n t m ∙ ap (λ o. or_else o (cond (nat_eq n m) (Some t) None)) (one.of_number m u (was ∙ e))
   by_number m u None was e =
-      let same = some_of (bytes_eq t u) n m e in
+      let same = cond_some (bytes_eq t u) n m e in
       name_of-push rows n t m
       ∙ ap (λ k. or_else (name_of rows k) (cond (nat_eq n k) (Some t) None)) (sym same.1)
       ∙ ap (λ o. or_else o (cond (nat_eq n n) (Some t) None)) new_number
@@ -110,10 +108,6 @@ module _ (rows : Rows) (n : ℕ) (t : Text) (one : IsOneToOne rows) (new_number 
     of_number = λ m u e. by_number m u (number_of rows u) refl (sym (number_of-push rows n t u) ∙ e);
   }
 
-pub map-push : {A B : Type 0} (f : A → B) (xs : List A) (x : A) → map f (xs ++ x ∷ []) ≡ map f xs ++ f x ∷ []
-map-push f [] x = refl
-map-push f (y ∷ xs) x = ap (λ ys. f y ∷ ys) (map-push f xs x)
-
 pub none_if : {A : Type 0} (o : Option A) → false ≡ is_some o → o ≡ None
 none_if None e = refl
 none_if (Some x) e = cc
@@ -126,7 +120,7 @@ pub one_to_one-rows : (rows : List Row) (row : Row) → IsOneToOne (map row_of r
     → name_of (map row_of rows) row.number ≡ None → number_of (map row_of rows) (string_bytes row.name) ≡ None
     → IsOneToOne (map row_of (rows ++ row ∷ []))
 one_to_one-rows rows row one number name =
-    subst IsOneToOne (sym (map-push row_of rows row))
+    subst IsOneToOne (sym (map_push row_of rows row))
     (one_to_one-push (map row_of rows) row.number (string_bytes row.name) one number name)
 
 -- a look-up that finds nothing means that no row has the key

@@ -2,7 +2,7 @@
 use Rattle.std.proofs.Common.{◌≡◌, ◌∙◌, ◌++◌, ◌∷◌, [], ◌+◌, ◌-◌, ◌^◌, ◌≤◌, ℕ, Bool, true, false, cond, List, min, max, filter, refl, sym, ap, subst, arith, append_assoc, append-nil, length, length-append, take, get_or}
 use Rattle.std.specs.Prelude.{◌==◌, ◌&&◌, ◌||◌, ◌<◌, nat_eq, sum_by, if◌then◌else◌}
 use Rattle.std.specs.List.{All, Contains, flat_map, fold}
-use Rattle.std.proofs.lemmas.Bool.{eq-eqb, eqb-true}
+use Rattle.std.proofs.lemmas.Bool.{eq-eqb, eqb-true, or_left}
 use Rattle.std.proofs.lemmas.List.{take_more}
 use Rattle.std.proofs.lemmas.List.Concat.{flat_map-append, flat_map-cons}
 use Rattle.std.proofs.lemmas.List.Elements.{filter-append, All-nil, All-cons, All-append, All-weaker, Contains-append_left, Contains-append_right, Contains-push}
@@ -27,17 +27,13 @@ or_false : (a b : Bool) → (a || b) ≡ false → a ≡ false
 or_false false b e = refl
 or_false true b e = e
 
-or_true : (a b : Bool) → a ≡ true → (a || b) ≡ true
-or_true true b e = refl
-or_true false b e = ap (λ t. t || b) e
-
 among_front : (xs ys zs : List Sent) (t : Transfer) → zs ≡ xs ++ ys → is_among zs t ≡ false → is_among xs t ≡ false
 among_front xs ys zs t is none =
     or_false (is_among xs t) (is_among ys t) (sym (list_any-append (is_copy_of t.block t.target) xs ys) ∙ ap (λ ss. is_among ss t) (sym is) ∙ none)
 
 still_among : (xs ys zs : List Sent) (t : Transfer) → zs ≡ xs ++ ys → is_among xs t ≡ true → is_among zs t ≡ true
 still_among xs ys zs t is there =
-    ap (λ ss. is_among ss t) is ∙ list_any-append (is_copy_of t.block t.target) xs ys ∙ or_true (is_among xs t) (is_among ys t) there
+    ap (λ ss. is_among ss t) is ∙ list_any-append (is_copy_of t.block t.target) xs ys ∙ or_left (is_among xs t) (is_among ys t) there
 
 itself : (t : Transfer) → ((t.block == t.block) && (t.target == t.target)) ≡ true
 itself t = ap (λ b. b && (t.target == t.target)) (eq-eqb t.block t.block refl) ∙ eq-eqb t.target t.target refl

@@ -4,7 +4,7 @@ use Rattle.std.specs.Prelude.{nat_lt, nat_le}
 use Rattle.std.specs.Ordering.{eq_by_cmp}
 use Rattle.std.specs.Cmp.{both_ways}
 use Rattle.std.specs.List.{flat_map, list_any}
-use Rattle.std.proofs.lemmas.Bool.{lt-ltb}
+use Rattle.std.proofs.lemmas.Bool.{lt-ltb, or_left, and_from, or_right}
 use Rattle.std.proofs.lemmas.List.{take_more, map-append}
 use Rattle.std.proofs.lemmas.List.Folds.{list_any-append}
 use Rattle.std.proofs.lemmas.Grind.{flat_map-append}
@@ -15,7 +15,7 @@ use Rattle.bm_base.specs.Words.{Map, Order, get, insert, insert_all, keep, keys,
 use Rattle.bm_base.specs.Promises.Lawful.{IsLawful}
 use Rattle.bm_base.proofs.MapLaws.{same_map, get-insert}
 use Rattle.bm_base.proofs.ForEach.{Each, each_of, each_mapped, each_flat, each_any}
-use Rattle.bm_base.proofs.ListTests.{or_left, or_right, and_second, any_filter, any_map, any_weaker, any_agree}
+use Rattle.bm_base.proofs.ListTests.{and_second, any_filter, any_map, any_weaker, any_agree}
 use Rattle.cluster_report.specs.Copies.{commanded_to}
 use Rattle.cluster_report.proofs.SentLemmas.{each_sent}
 
@@ -65,10 +65,6 @@ module _ {K X : Type 0} {o : Order K} where
 
 -- ---- the commands of all nodes
 
-both_true : (a b : Bool) → a ≡ true → b ≡ true → (a && b) ≡ true
-both_true true b e h = h
-both_true false b e h = e
-
 or_second : (a b : Bool) → a ≡ false → (a || b) ≡ true → b ≡ true
 or_second true b e h = cc
 or_second false b e h = h
@@ -84,7 +80,7 @@ module _ (C : Cluster) (ns : List ℕ) (p : Transfer → Bool) where
   sent_one : (t : Transfer) (ts : List Transfer) (b : Bool) → p t ≡ b → list_any (λ n. has_storage C n t.source) ns ≡ true → (p t || list_any p ts) ≡ true
       → (list_any p ts ≡ true → list_any (sent_to ts) ns ≡ true) → list_any (sent_to (t ∷ ts)) ns ≡ true
   sent_one t ts true e at h rest =
-      any_weaker (λ n. has_storage C n t.source) (sent_to (t ∷ ts)) (λ n k. or_left (has_storage C n t.source && p t) (sent_to ts n) (both_true _ _ k e)) ns at
+      any_weaker (λ n. has_storage C n t.source) (sent_to (t ∷ ts)) (λ n k. or_left (has_storage C n t.source && p t) (sent_to ts n) (and_from _ _ k e)) ns at
   sent_one t ts false e at h rest =
       any_weaker (sent_to ts) (sent_to (t ∷ ts)) (λ n k. or_right (has_storage C n t.source && p t) (sent_to ts n) k) ns (rest (or_second (p t) (list_any p ts) e h))
 

@@ -2,6 +2,7 @@
 use Rattle.std.proofs.Common.{◌≡◌, ℕ, ◌+◌, ◌<◌, Bool, true, false, ◌&&◌, List, [], ◌∷◌, ◌++◌, Option, Some, None, IfSome, is_none, length, arith, refl, sym, ap, subst, ◌∙◌, append_assoc, append-nil}
 use Rattle.std.specs.Io.BufRead.{take_through, drop_through}
 use Rattle.std.specs.Io.KnownBytes.{Appends, IsAtEnd}
+use Rattle.std.proofs.KnownBytes.{Appends-nil, Appends-trans}
 use Rattle.bm_base.specs.Machine.State.{State}
 use Rattle.bm_lines.specs.Lines.{lines_of}
 use Rattle.cluster_report.specs.LineNotes.{without_end, refusal_text, after_line, after_lines, all_accepted, note_text, notes_text}
@@ -15,16 +16,6 @@ each_some (Some x) h = h x refl
 
 pub at_some : {A : Type 0} (P : A → Type 0) (o : Option A) (x : A) → o ≡ Some x → IfSome o P → P x
 at_some P o x e h = subst (λ p. IfSome p P) e h
-
-pub Appends-nil : (known : Option (List ℕ)) → Appends known known []
-Appends-nil None = tt
-Appends-nil (Some xs) = sym (append-nil xs)
-
-Appends-then : (a b c : Option (List ℕ)) (xs ys : List ℕ) → Appends a b xs → Appends b c ys → Appends a c (xs ++ ys)
-Appends-then None b c xs ys p q = tt
-Appends-then (Some old) None c xs ys p q = absurd p
-Appends-then (Some old) (Some mid) None xs ys p q = absurd q
-Appends-then (Some old) (Some mid) (Some new) xs ys p q = rw (q, p) (append_assoc old xs ys)
 
 -- ---- one line
 
@@ -99,7 +90,7 @@ taken_line M N N' start now now' left left' input n a is b read line t reads lin
       noted = λ new h.
           t.noted new
           (subst (λ xs. Appends now new (notes_text n N xs)) (sym lines)
-          (Appends-then now now' new (note_text n (refusal_text N line)) (notes_text (n + 1) (after_line N line) ls) note (subst (λ S. Appends now' new (notes_text (n + 1) S ls)) next h)));
+          (Appends-trans now now' new (note_text n (refusal_text N line)) (notes_text (n + 1) (after_line N line) ls) note (subst (λ S. Appends now' new (notes_text (n + 1) S ls)) next h)));
     }
 
 lines_of-none : lines_of [] ≡ []

@@ -3,6 +3,8 @@ use Rattle.std.proofs.Common.{◌≡◌, ℕ, suc, ◌+◌, Bool, true, false, n
 use Rattle.std.specs.List.{list_any, position_or_len}
 use Rattle.std.specs.Str.{bytes_eq}
 use Rattle.std.specs.String.{string_eq}
+use Rattle.std.proofs.lemmas.List.{map_push}
+use Rattle.std.proofs.lemmas.Bool.{not-true}
 use Rattle.indexmap.specs.IndexSet.{insert_key}
 use Rattle.fsck_text.specs.Cuts.{Text}
 use Rattle.fsck_cluster.specs.Names.{is_new, name_number, with_name}
@@ -25,10 +27,6 @@ module _ {A B : Type 0} (p : B → Bool) (f : A → B) where
       ap (λ n. cond (nat_lt n (length (map f xs))) (Some n) None) (position_or_len-map xs)
       ∙ ap (λ m. cond (nat_lt (position_or_len (λ x. p (f x)) xs) m) (Some (position_or_len (λ x. p (f x)) xs)) None) (length-mapped xs)
 
-map-push : {A B : Type 0} (f : A → B) (xs : List A) (x : A) → map f (xs ++ x ∷ []) ≡ map f xs ++ f x ∷ []
-map-push f [] x = refl
-map-push f (y ∷ xs) x = ap (λ ys. f y ∷ ys) (map-push f xs x)
-
 some_of_cond : (b : Bool) (n i : ℕ) → cond b (Some n) None ≡ Some i → n ≡ i
 some_of_cond true n i e = cc
 some_of_cond false n i e = cc
@@ -44,10 +42,6 @@ number-found names name i e = ap (λ n. n + 1) (place-found (bytes_eq name) name
 pub names-found : (names : List Text) (name : Text) → false ≡ is_new names name → names ≡ with_name names name
 names-found names name e = rw (← e) refl
 
-none_said : (b : Bool) → not b ≡ true → b ≡ false
-none_said true e = cc
-none_said false e = refl
-
 module _ {Y : Type 0} (keys : List (String Y)) where
   pub new-known : (name : Text) (b : Bool) → b ≡ list_any (λ k. bytes_eq name (string_bytes k)) keys → not b ≡ is_new (map string_bytes keys) name
   new-known name b e = ap not (e ∙ sym (list_any-map (bytes_eq name) string_bytes keys))
@@ -58,6 +52,6 @@ module _ {Y : Type 0} (keys : List (String Y)) where
 
   pub names-put : (k : String Y) (name : Text) → string_bytes k ≡ name → is_new (map string_bytes keys) name ≡ true → map string_bytes (insert_key string_eq keys k) ≡ with_name (map string_bytes keys) name
   names-put k name e here =
-      let none : list_any (λ x. bytes_eq name (string_bytes x)) keys ≡ false = sym (list_any-map (bytes_eq name) string_bytes keys) ∙ none_said _ here in
+      let none : list_any (λ x. bytes_eq name (string_bytes x)) keys ≡ false = sym (list_any-map (bytes_eq name) string_bytes keys) ∙ not-true _ here in
       let any : list_any (string_eq k) keys ≡ false = ap (λ t. list_any (λ x. bytes_eq t (string_bytes x)) keys) e ∙ none in
-      rw (any, here) (map-push string_bytes keys k ∙ ap (λ t. map string_bytes keys ++ t ∷ []) e)
+      rw (any, here) (map_push string_bytes keys k ∙ ap (λ t. map string_bytes keys ++ t ∷ []) e)

@@ -4,13 +4,14 @@ use Rattle.std.specs.List.{list_any, AllByRecursion}
 use Rattle.std.proofs.lemmas.Bool.Decides.{nat_tests}
 use Rattle.std.specs.Str.{bytes_eq}
 use Rattle.std.proofs.lemmas.List.Folds.{list_any-append}
+use Rattle.std.proofs.lemmas.List.{map_push}
 use Rattle.bm_base.specs.Machine.Entries.{range_from}
 use Rattle.fsck_text.specs.Cuts.{Text}
 use Rattle.fsck_files.specs.Numbers.{has_number, with_number}
 use Rattle.fsck_cluster.specs.Names.{name_of}
 use Rattle.fsck_cluster.specs.declared.cluster.Bad.{Bad}
 use Rattle.fsck_cluster.specs.declared.cluster.NodeRow.{NodeRow}
-use Rattle.fsck_import.proofs.NameLemmas.{map-push, name_of-more, same_name, same_number, number_is_itself, name_is_itself, known-push, known_last}
+use Rattle.fsck_import.proofs.NameLemmas.{name_of-more, same_name, same_number, number_is_itself, name_is_itself, known-push, known_last}
 
 -- Corrupt replicas.
 
@@ -52,7 +53,7 @@ pub corrupted_more : (names : List Text) (bad : List Bad) (pairs : List (Text ×
 corrupted_more names bad pairs storage id name within e before =
     let b : Bad = record { storage = storage; id = id } in
     record {
-      named = map-push (by_name names) bad b ∙ ap (λ t. t ++ by_name names b ∷ []) before.named ∙ ap (λ t. pairs ++ (t, id) ∷ []) e;
+      named = map_push (by_name names) bad b ∙ ap (λ t. t ++ by_name names b ∷ []) before.named ∙ ap (λ t. pairs ++ (t, id) ∷ []) e;
       within = bad-push (length names) bad b before.within within;
     }
 
@@ -258,7 +259,7 @@ count_push-names names name =
 -- nodes numbered from 1 on, one for each name, and one more
 pub numbered-push : (rows : List NodeRow) (names : List Text) (row : NodeRow) (name : Text) → map node_number rows ≡ range_from 1 (length names) → row.number ≡ length names + 1
     → map node_number (rows ++ row ∷ []) ≡ range_from 1 (length (names ++ name ∷ []))
-numbered-push rows names row name h e = map-push node_number rows row ∙ ap (λ t. t ++ row.number ∷ []) h ∙ ap (λ n. range_from 1 (length names) ++ n ∷ []) e ∙ count_push-names names name
+numbered-push rows names row name h e = map_push node_number rows row ∙ ap (λ t. t ++ row.number ∷ []) h ∙ ap (λ n. range_from 1 (length names) ++ n ∷ []) e ∙ count_push-names names name
 
 above_it : (n m : ℕ) → n ≤ m → (n == m) ≡ false → suc n ≤ m
 above_it n m h e = grind (arith, nat_tests)

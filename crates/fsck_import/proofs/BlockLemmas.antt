@@ -1,8 +1,9 @@
 -- A cluster stays right as blocks are added.
 use Rattle.std.proofs.Common.{◌≡◌, ℕ, ◌==◌, ◌||◌, Bool, true, false, nat_eq, List, [], ◌∷◌, ◌++◌, Ok, map, refl, sym, ap, subst, ◌∙◌, append_assoc}
 use Rattle.std.specs.List.{list_any, flat_map}
-use Rattle.std.proofs.lemmas.List.{append-nil}
+use Rattle.std.proofs.lemmas.List.{append-nil, map_push}
 use Rattle.std.proofs.lemmas.List.Folds.{list_any-append}
+use Rattle.std.proofs.lemmas.Bool.{or_parts}
 use Rattle.bm_base.specs.Maps.Lists.{has, has_repeats}
 use Rattle.bm_base.specs.declared.replica.BlockInfo.{BlockInfo}
 use Rattle.fsck_files.specs.declared.replicas.Block.{Block}
@@ -12,7 +13,7 @@ use Rattle.fsck_cluster.specs.Clusters.{after_places, after_block}
 use Rattle.fsck_cluster.specs.declared.cluster.Cluster.{Cluster}
 use Rattle.fsck_cluster.specs.declared.cluster.Why.TheVariants as why
 use Rattle.fsck_import.specs.Laws.{after_blocks, ids, replicas_of, corrupt_of, drained_of}
-use Rattle.fsck_import.proofs.NameLemmas.{or_false, same_ok, if_not, came_of, map-push, number_is_itself}
+use Rattle.fsck_import.proofs.NameLemmas.{same_ok, if_not, came_of, number_is_itself}
 use Rattle.fsck_import.proofs.StorageLemmas.{all-more}
 use Rattle.fsck_import.proofs.OnceLemmas.{Once, once_next}
 use Rattle.fsck_import.proofs.SoundLemmas.{Taken, Sound}
@@ -21,14 +22,14 @@ use Rattle.fsck_import.proofs.ReplicaLemmas.{with_all, places_sound}
 has-push : (xs : List ℕ) (x y : ℕ) → has xs y ≡ false → (x == y) ≡ false → has (xs ++ x ∷ []) y ≡ false
 has-push [] x y h e = ap (λ b. b || false) e
 has-push (z ∷ xs) x y h e =
-    let both = or_false (z == y) (has xs y) h in
+    let both = or_parts (z == y) (has xs y) h in
     ap (λ b. b || has (xs ++ x ∷ []) y) both.0 ∙ has-push xs x y both.1 e
 
 repeats-push : (xs : List ℕ) (x : ℕ) → has_repeats xs ≡ false → list_any (nat_eq x) xs ≡ false → has_repeats (xs ++ x ∷ []) ≡ false
 repeats-push [] x h e = refl
 repeats-push (y ∷ xs) x h e =
-    let apart = or_false (has xs y) (has_repeats xs) h in
-    let new = or_false (nat_eq x y) (list_any (nat_eq x) xs) e in
+    let apart = or_parts (has xs y) (has_repeats xs) h in
+    let new = or_parts (nat_eq x y) (list_any (nat_eq x) xs) e in
     ap (λ b. b || has_repeats (xs ++ x ∷ [])) (has-push xs x y apart.0 new.0) ∙ repeats-push xs x apart.1 new.1
 
 -- a block by its number
@@ -57,7 +58,7 @@ block_sound c d t b e before =
     list_any-append (nat_eq b.id) t.numbers (b.id ∷ []) ∙ ap (λ x. list_any (nat_eq b.id) t.numbers || (x || false)) (number_is_itself b.id) ∙ or_true (list_any (nat_eq b.id) t.numbers) in
     let more : Sound m (with_number t b) = record {
       blocks = ap (λ xs. xs ++ numbered b ∷ []) before.blocks;
-      numbers = map-push (λ x. x.0) c.blocks (b.id, info) ∙ ap (λ ns. ns ++ b.id ∷ []) before.numbers;
+      numbers = map_push (λ x. x.0) c.blocks (b.id, info) ∙ ap (λ ns. ns ++ b.id ∷ []) before.numbers;
       apart = repeats-push t.numbers b.id before.apart new;
       stored = before.stored;
       names = before.names;

@@ -7,25 +7,18 @@ use Rattle.std.proofs.lemmas.Bool.Decides.{eqb_tells}
 use Rattle.std.proofs.lemmas.List.{get_or_append_left}
 use Rattle.std.proofs.lemmas.List.Folds.{list_any-append}
 use Rattle.std.proofs.lemmas.Slice.Eq.{bytes_eq-Decides}
+use Rattle.std.proofs.lemmas.Bool.{or_parts}
 use Rattle.fsck_text.specs.Cuts.{Text}
 use Rattle.fsck_text.specs.Wrongs.{after_ok}
 use Rattle.fsck_cluster.specs.Names.{name_number, name_of, with_name}
 
 -- Tests.
 
-pub or_false : (a b : Bool) → (a || b) ≡ false → (a ≡ false) × (b ≡ false)
-or_false true b h = absurd (true≢false h)
-or_false false b h = (refl, h)
-
 pub same_number : (a b : ℕ) → nat_eq a b ≡ true → a ≡ b
 same_number a b h = elim (eqb_tells a b) [ inl e ↦ e.1 | inr e ↦ absurd (true≢false (sym h ∙ e.0)) ]
 
 pub number_is_itself : (n : ℕ) → nat_eq n n ≡ true
 number_is_itself n = elim (eqb_tells n n) [ inl e ↦ e.0 | inr e ↦ absurd (e.1 refl) ]
-
-pub map-push : {A B : Type 0} (f : A → B) (xs : List A) (x : A) → map f (xs ++ x ∷ []) ≡ map f xs ++ f x ∷ []
-map-push f [] x = refl
-map-push f (y ∷ xs) x = ap (λ ys. f y ∷ ys) (map-push f xs x)
 
 -- Results.
 
@@ -64,7 +57,7 @@ module _ {A : Type 0} (p : A → Bool) where
   pub new_position : (xs : List A) → list_any p xs ≡ false → position_or_len p xs ≡ length xs
   new_position [] h = refl
   new_position (x ∷ xs) h =
-      let both = or_false (p x) (list_any p xs) h in
+      let both = or_parts (p x) (list_any p xs) h in
       by (p x) both.0 (new_position xs both.1)
     where
       by : (b : Bool) → b ≡ false → position_or_len p xs ≡ length xs → cond (not b) (1 + position_or_len p xs) 0 ≡ suc (length xs)
@@ -104,7 +97,7 @@ known_last name (x ∷ names) = by (bytes_eq name x) (known_last name names)
 
 pub last_position : (name : Text) (names : List Text) → list_any (bytes_eq name) names ≡ false → position_or_len (bytes_eq name) (names ++ name ∷ []) ≡ position_or_len (bytes_eq name) names
 last_position name [] h = ap (λ b. cond (not b) 1 0) (name_is_itself name)
-last_position name (x ∷ names) h = ap (λ n. cond (not (bytes_eq name x)) (1 + n) 0) (last_position name names (or_false (bytes_eq name x) _ h).1)
+last_position name (x ∷ names) h = ap (λ n. cond (not (bytes_eq name x)) (1 + n) 0) (last_position name names (or_parts (bytes_eq name x) _ h).1)
 
 pub with_known : (names : List Text) (name : Text) → list_any (bytes_eq name) names ≡ true → with_name names name ≡ names
 with_known names name h = ap (λ b. if not b then names ++ name ∷ [] else names) h

@@ -6,12 +6,13 @@ use Rattle.std.specs.Option.{option_map_or}
 use Rattle.std.specs.Str.{bytes_eq}
 use Rattle.std.proofs.lemmas.List.Sums.{sum_by-cons, sum_by-append}
 use Rattle.std.proofs.lemmas.List.Folds.{list_any-append}
+use Rattle.std.proofs.lemmas.Bool.{or_parts}
 use Rattle.fsck_text.specs.Cuts.{Text}
 use Rattle.fsck_cluster.specs.Rows.{new_row, ends_with}
 use Rattle.fsck_cluster.specs.declared.rows.Held.{Held}
 use Rattle.fsck_cluster.specs.declared.rows.Row.{Row}
 use Rattle.fsck_import.specs.Laws.{Replica, is_replica, EachOnce}
-use Rattle.fsck_import.proofs.NameLemmas.{or_false, same_number, same_name, number_is_itself}
+use Rattle.fsck_import.proofs.NameLemmas.{same_number, same_name, number_is_itself}
 use Rattle.fsck_import.proofs.StorageLemmas.{Fit, on_row, on_rows, on_storage, holding}
 
 -- how many replicas of a block are among these
@@ -72,7 +73,7 @@ once_more numbers row h known e before = record {
 -- the next block, which is new
 pub once_next : (numbers : List ℕ) (old id : ℕ) (row : Row) → list_any (nat_eq id) numbers ≡ false → Once numbers old row → Once (numbers ++ id ∷ []) id row
 once_next numbers old id row new before = record {
-  among = λ other none. before.among other (or_false (list_any (nat_eq other) numbers) (list_any (nat_eq other) (id ∷ [])) (sym (list_any-append (nat_eq other) numbers (id ∷ [])) ∙ none)).0;
+  among = λ other none. before.among other (or_parts (list_any (nat_eq other) numbers) (list_any (nat_eq other) (id ∷ [])) (sym (list_any-append (nat_eq other) numbers (id ∷ [])) ∙ none)).0;
   once = before.once;
   last = λ e. before.among id new;
 }
@@ -97,8 +98,8 @@ same_otherwise a b e = by (bytes_eq b a) refl
 pub twice-push : (names : List Text) (name : Text) → has_twice names ≡ false → list_any (bytes_eq name) names ≡ false → has_twice (names ++ name ∷ []) ≡ false
 twice-push [] name h new = refl
 twice-push (x ∷ names) name h new =
-    let apart = or_false (list_any (bytes_eq x) names) (has_twice names) h in
-    let none = or_false (bytes_eq name x) (list_any (bytes_eq name) names) new in
+    let apart = or_parts (list_any (bytes_eq x) names) (has_twice names) h in
+    let none = or_parts (bytes_eq name x) (list_any (bytes_eq name) names) new in
     let here : list_any (bytes_eq x) (names ++ name ∷ []) ≡ false =
     list_any-append (bytes_eq x) names (name ∷ []) ∙ ap (λ b. b || (bytes_eq x name || false)) apart.0 ∙ ap (λ b. b || false) (same_otherwise name x none.0) in
     ap (λ b. b || has_twice (names ++ name ∷ [])) here ∙ twice-push names name apart.1 none.1
@@ -127,14 +128,14 @@ on_none : (n : ℕ) (rows : List Row) (names : List Text) (storage : Text) (id :
 on_none n [] names storage id fits e = refl
 on_none n (row ∷ rows) [] storage id fits e = absurd fits
 on_none n (row ∷ rows) (name ∷ names) storage id fits e =
-    let none = or_false (bytes_eq storage name) (list_any (bytes_eq storage) names) e in
+    let none = or_parts (bytes_eq storage name) (list_any (bytes_eq storage) names) e in
     omega (arith, counted storage id (on_row name row) (on_rows rows names), on_other storage id name row.held none.0, on_none (n + 1) rows names storage id fits.1 none.1)
 
 pub rows_once : (n : ℕ) (rows : List Row) (names : List Text) (numbers : List ℕ) (last : ℕ) → Fit n rows names → has_twice names ≡ false → AllByRecursion (Once numbers last) rows → EachOnce (on_rows rows names)
 rows_once n [] names numbers last fits apart once storage id = omega arith
 rows_once n (row ∷ rows) [] numbers last fits apart once storage id = absurd fits
 rows_once n (row ∷ rows) (name ∷ names) numbers last fits apart once storage id =
-    let parts = or_false (list_any (bytes_eq name) names) (has_twice names) apart in
+    let parts = or_parts (list_any (bytes_eq name) names) (has_twice names) apart in
     by parts.0 (bytes_eq storage name) refl (rows_once (n + 1) rows names numbers last fits.1 parts.1 once.1 storage id)
   where
     by : list_any (bytes_eq name) names ≡ false → (b : Bool) → bytes_eq storage name ≡ b → count storage id (on_rows rows names) ≤ 1 → count storage id (on_row name row ++ on_rows rows names) ≤ 1

@@ -6,6 +6,7 @@ use Rattle.std.specs.List.{flat_map, list_any, AllByRecursion}
 use Rattle.std.specs.Str.{bytes_eq}
 use Rattle.std.proofs.lemmas.Grind.{flat_map-append}
 use Rattle.std.proofs.lemmas.List.{append-nil, map-append, take-append-drop}
+use Rattle.std.proofs.lemmas.Bool.{or_right}
 use Rattle.bm_base.specs.Machine.Entries.{range_from, run_length, blocks_of_entry, expanded}
 use Rattle.bm_base.specs.declared.call.Call.{Call}
 use Rattle.bm_base.specs.declared.call.Call.TheVariants as call
@@ -154,10 +155,6 @@ drained_from names numbers (row ∷ rows) address h = by (has_number numbers row
     by true drains k others = here (bytes_eq address (name_of names row.number)) refl drains k others
     by false drains k others = others k
 
-or_known : (a b : Bool) → b ≡ true → (a || b) ≡ true
-or_known true b h = refl
-or_known false b h = h
-
 -- the calls decommission each node that drains
 pub node_drains : (names : List Text) (numbers : List ℕ) (rows : List NodeRow) (number : ℕ) (address : Text) → has_number (map node_number rows) number ≡ true → has_number numbers number ≡ true
     → name_of names number ≡ address → list_any (bytes_eq address) (drained names (map drain (filter (λ node. has_number numbers node.number) rows))) ≡ true
@@ -172,5 +169,5 @@ node_drains names numbers (row ∷ rows) number address known drains e =
         let name : name_of names row.number ≡ address = ap (name_of names) (same_number row.number number same) ∙ e in
         ap (λ t. t || list_any (bytes_eq address) (drained names (map drain (filter (λ node. has_number numbers node.number) rows)))) (ap (bytes_eq address) name ∙ name_is_itself address)
     by true false same it_drains known rest = absurd (true≢false (sym drains ∙ ap (has_number numbers) (sym (same_number row.number number same)) ∙ it_drains))
-    by false true same it_drains known rest = or_known (bytes_eq address (name_of names row.number)) _ (rest known)
+    by false true same it_drains known rest = or_right (bytes_eq address (name_of names row.number)) _ (rest known)
     by false false same it_drains known rest = rest known

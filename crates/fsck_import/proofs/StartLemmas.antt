@@ -4,7 +4,8 @@ use Rattle.std.specs.Prelude.{is_none, codes}
 use Rattle.std.specs.List.{list_any}
 use Rattle.std.specs.Option.{option_map_or}
 use Rattle.std.specs.Str.{bytes_eq}
-use Rattle.std.proofs.lemmas.List.{append-nil}
+use Rattle.std.proofs.lemmas.List.{append-nil, map_push}
+use Rattle.std.proofs.lemmas.Bool.{not-true, not-false}
 use Rattle.bm_base.specs.Machine.Entries.{range_from}
 use Rattle.fsck_text.specs.Cuts.{Text}
 use Rattle.fsck_text.specs.Nodes.{node_line_of}
@@ -22,7 +23,7 @@ use Rattle.fsck_cluster.specs.declared.node_list.NodeRefusal.TheVariants as refu
 use Rattle.fsck_cluster.specs.declared.node_list.NodeWhy.TheVariants as why
 use Rattle.fsck_import.specs.Laws.{IsFresh}
 use Rattle.fsck_import.specs.Starts.{after_node_lines}
-use Rattle.fsck_import.proofs.NameLemmas.{same_ok, err_is_not_ok, if_ok, if_not, came_of, map-push, new_position, with_new}
+use Rattle.fsck_import.proofs.NameLemmas.{same_ok, err_is_not_ok, if_ok, if_not, came_of, new_position, with_new}
 use Rattle.fsck_import.proofs.BadLemmas.{node_number, count_push-names, has-last, has-with_either, in-count_up}
 
 -- each node that drains is one of the nodes
@@ -52,7 +53,7 @@ pub record Nodes (c : Cluster) (row : Option NodeRow) : Type 0 where
 row_ended : (s : NodeList) (row : NodeRow) → Nodes s.cluster (Some row) → (t : NodeList) → (row' : NodeRow) → row'.number ≡ row.number → t.cluster.node_rows ≡ s.cluster.node_rows ++ row' ∷ []
     → t.cluster.nodes ≡ s.cluster.nodes → t.cluster.storages ≡ s.cluster.storages → t.cluster.rows ≡ s.cluster.rows → t.cluster.blocks ≡ s.cluster.blocks → t.cluster.bad ≡ s.cluster.bad → t.cluster.draining ≡ s.cluster.draining → Nodes t.cluster None
 row_ended s row before t row' number rows nodes storages held blocks bad draining = record {
-  nodes = append-nil (map node_number t.cluster.node_rows) ∙ ap (map node_number) rows ∙ map-push node_number s.cluster.node_rows row' ∙ ap (λ n. map node_number s.cluster.node_rows ++ n ∷ []) number ∙ before.nodes
+  nodes = append-nil (map node_number t.cluster.node_rows) ∙ ap (map node_number) rows ∙ map_push node_number s.cluster.node_rows row' ∙ ap (λ n. map node_number s.cluster.node_rows ++ n ∷ []) number ∙ before.nodes
       ∙ ap (λ ns. range_from 1 (length ns)) (sym nodes);
   storages = storages ∙ before.storages;
   rows = held ∙ before.rows;
@@ -105,7 +106,7 @@ ended_all s t e before =
 -- a node begins
 named_nodes : (s : NodeList) (address : Text) → is_new s.cluster.nodes address ≡ true → Nodes s.cluster None → Nodes (named s address).cluster (named s address).row
 named_nodes s address new before =
-    let none : list_any (bytes_eq address) s.cluster.nodes ≡ false = is_false (list_any (bytes_eq address) s.cluster.nodes) new in
+    let none : list_any (bytes_eq address) s.cluster.nodes ≡ false = not-true (list_any (bytes_eq address) s.cluster.nodes) new in
     let number : name_number s.cluster.nodes address ≡ length s.cluster.nodes + 1 = ap (λ n. n + 1) (new_position (bytes_eq address) s.cluster.nodes none) in
     record {
       nodes = ap (λ t. t ++ name_number s.cluster.nodes address ∷ []) (sym (append-nil (map node_number s.cluster.node_rows)) ∙ before.nodes)
@@ -122,10 +123,6 @@ named_nodes s address new before =
     further : (n : ℕ) → n ≤ length s.cluster.nodes → n ≤ length (s.cluster.nodes ++ address ∷ [])
     further n h = omega (arith, h, length-append s.cluster.nodes (address ∷ []))
 
-    is_false : (b : Bool) → not b ≡ true → b ≡ false
-    is_false false e = refl
-    is_false true e = absurd (true≢false (sym e))
-
 node_nodes : (s t : NodeList) (address : Text) → after_name s address ≡ Ok t → Nodes s.cluster s.row → Nodes t.cluster t.row
 node_nodes s t address e before =
     let first = came_of (with_node address) (ended_row s) t e in
@@ -133,11 +130,7 @@ node_nodes s t address e before =
     let done = ended s m first.1 before in
     let new = if_not (not (is_new m.cluster.nodes address)) (if nat_lt (length m.cluster.nodes) 256 then Ok (named m address) else Err (refusal.Why why.TooManyNodes)) (refusal.Why why.NodeTwice) t first.2 in
     let same : named m address ≡ t = same_ok (named m address) t (if_ok (nat_lt (length m.cluster.nodes) 256) (Ok (named m address)) (refusal.Why why.TooManyNodes) t new.1).1 in
-    subst (λ x. Nodes x.cluster x.row) same (named_nodes m address (not_not (is_new m.cluster.nodes address) new.0) done.0)
-  where
-    not_not : (b : Bool) → not b ≡ false → b ≡ true
-    not_not true e = refl
-    not_not false e = absurd (true≢false e)
+    subst (λ x. Nodes x.cluster x.row) same (named_nodes m address (not-false (is_new m.cluster.nodes address) new.0) done.0)
 
 section_nodes : (s t : NodeList) (live : Bool) (count : ℕ) → after_section s live count ≡ Ok t → Nodes s.cluster s.row → Nodes t.cluster t.row
 section_nodes s t live count e before =

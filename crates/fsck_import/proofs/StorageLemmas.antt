@@ -6,13 +6,14 @@ use Rattle.std.specs.List.Sorted.{IsPermutation}
 use Rattle.std.specs.Option.{option_map_or}
 use Rattle.std.specs.Str.{bytes_eq}
 use Rattle.std.proofs.lemmas.List.Sorted.{IsPermutation-append_right, IsPermutation-append_left, IsPermutation-append_comm, IsPermutation-trans}
+use Rattle.std.proofs.lemmas.List.{map_push}
 use Rattle.bm_base.specs.Machine.Entries.{ReportedBlock}
 use Rattle.fsck_text.specs.Cuts.{Text}
 use Rattle.fsck_cluster.specs.Rows.{new_row, with_held_at}
 use Rattle.fsck_cluster.specs.declared.rows.Held.{Held}
 use Rattle.fsck_cluster.specs.declared.rows.Row.{Row}
 use Rattle.fsck_import.specs.Laws.{Replica, replica}
-use Rattle.fsck_import.proofs.NameLemmas.{map-push, same_name, new_position}
+use Rattle.fsck_import.proofs.NameLemmas.{same_name, new_position}
 
 -- Rows of which each is of a kind.
 
@@ -122,7 +123,7 @@ added_first n row rows x names h fits =
     let here = on_row x row in
     let others = on_rows rows names in
     let r : Replica = on_storage x h in
-    let more : on_row x (holding row h) ≡ here ++ r ∷ [] = map-push (on_storage x) row.held h in
+    let more : on_row x (holding row h) ≡ here ++ r ∷ [] = map_push (on_storage x) row.held h in
     let moved : IsPermutation (here ++ (others ++ r ∷ [])) (here ++ (r ∷ [] ++ others)) = IsPermutation-append_right here (others ++ r ∷ []) (r ∷ [] ++ others) (IsPermutation-append_comm others (r ∷ [])) in
     record {
       reordered = subst (λ t. IsPermutation ((here ++ others) ++ r ∷ []) (t ++ others)) (sym more)

@@ -3,6 +3,7 @@ use Rattle.std.proofs.Common.{◌≡◌, ◌≢◌, ℕ, Bool, true, false, cond
 use Rattle.std.specs.Prelude.{◌==◌, if◌then◌else◌, option_and_then, option_map}
 use Rattle.std.specs.Ordering.{eq_by_cmp, nat_cmp}
 use Rattle.std.proofs.lemmas.Bool.{and_left}
+use Rattle.std.proofs.lemmas.Iterator.Adapters.{option_map_id}
 use Rattle.bm_base.specs.declared.replica.ReplicaId.{ReplicaId}
 use Rattle.bm_base.specs.declared.replica.Tag.{Tag}
 use Rattle.bm_base.specs.declared.replica.Tag.TheVariants.{Good, Stale, Bad, Stray}
@@ -97,17 +98,13 @@ found_at : (m : Map by_replica Marks) (p q : ReplicaId) (t : Bool) → eq_by_cmp
 unfolding revise_at
 found_at m p q t e = get-revise m (λ r k. if eq_by_cmp replica_cmp r p then as_bad k else k) q ∙ ap (λ c. option_map (λ k. if c then as_bad k else k) (get m q)) e
 
-as_it_was : {X : Type 0} (z : Option X) → option_map (λ k. k) z ≡ z
-as_it_was None = refl
-as_it_was (Some x) = refl
-
 pub replica_found_bad : law.corrupt_replica_is_bad
 unfolding after_event change_holdings make_bad
 replica_found_bad M s b =
     let m = M.holdings.replicas in
     let p = replica_at b s in
     let here = found_at m p p true (key_itself by_replica p) in
-    ((λ k e. here ∙ ap (option_map as_bad) e), (λ none. here ∙ ap (option_map as_bad) none), (λ q other. found_at m p q false (not_tied by_replica q p other) ∙ as_it_was (get m q)), refl)
+    ((λ k e. here ∙ ap (option_map as_bad) e), (λ none. here ∙ ap (option_map as_bad) none), (λ q other. found_at m p q false (not_tied by_replica q p other) ∙ option_map_id (get m q)), refl)
 
 -- Pending transfers.
 

@@ -2,7 +2,7 @@
 use Rattle.std.proofs.Common.{◌≡◌, ◌≢◌, ℕ, ◌*◌, Bool, true, false, not, Option, Some, None, is_some, List, [], ◌∷◌, ◌++◌, filter, length, option_to_list, refl, sym, ap, ◌∙◌, true≢false, eq-eqb}
 use Rattle.std.specs.Prelude.{◌==◌, nat_le, if◌then◌else◌, option_map}
 use Rattle.std.specs.Option.{option_map_or}
-use Rattle.std.proofs.lemmas.Bool.{and_parts}
+use Rattle.std.proofs.lemmas.Bool.{and_parts, not-true}
 use Rattle.std.proofs.lemmas.Option.{same_Some}
 use Rattle.bm_base.specs.declared.replica.ReplicaId.{ReplicaId}
 use Rattle.bm_base.specs.declared.storage.StorageInfo.{StorageInfo}
@@ -19,7 +19,7 @@ use Rattle.bm_base.specs.declared.call.Call.TheVariants as call
 use Rattle.bm_base.specs.declared.call.Answer.{Answer}
 use Rattle.bm_base.specs.Words.{Set, by_number, get, keep, remove, contains_key, keys, len, RoundLimits, Cluster, Holdings, State, by_replica, first_state, empty_holdings, has, node_of, has_storage, drains, is_draining, sources_of, register, heartbeat, without_node, without_storage, drain, undrain, begin_drain, change_cluster, change_holdings, without_expired, without_unordered_excess, with_surplus_marked, state_after_expiry, state_at_choice, RequestedCopy, holders_of, excluded_for, is_target, target_cmp, least_target_by, least_target, scheduled_to, least_source, transfer_for, transfers_from, transfers, wishes, deletes, end_round, whole_round, refusal_of, round_refusal, node_refusal, storage_refusal, block_refusal, step, refused_or, after_event, state_after}
 use Rattle.bm_base.proofs.MapLaws.{get-empty}
-use Rattle.bm_base.proofs.Options.{there, is_there, not_passed, revised}
+use Rattle.bm_base.proofs.Options.{there, is_there, revised}
 use Rattle.bm_base.proofs.ForEach.{Each, each_passing, each_appended, each_optional, least_is_one}
 use Rattle.bm_base.proofs.MapEntries.{get_kept, get_removed, get_taken, get_other, known_before}
 use Rattle.bm_base.proofs.Clusters.{node_is}
@@ -115,7 +115,7 @@ drain_spares C H n S p is = by_state (drains C n) refl is
         let r = there (get (fewer_sent C H n).pending p) is in
         let was = get_kept H.pending (λ q _. not (has_storage C n q.storage)) p r.0 r.1 in
         drained_still C n p.storage (S p (is_there (get H.pending p) r.0 was.0))
-        (λ m at same. true≢false (sym (ap (λ k. has_storage C k p.storage) (sym same) ∙ at_node C p.storage m at) ∙ not_passed (has_storage C n p.storage) was.1))
+        (λ m at same. true≢false (sym (ap (λ k. has_storage C k p.storage) (sym same) ∙ at_node C p.storage m at) ∙ not-true (has_storage C n p.storage) was.1))
 
 event_spares : (C : Cluster) (H : Holdings) (e : Event) → Spares C H → Spares (change_cluster C e) (change_holdings C H e)
 unfolding change_cluster change_holdings
@@ -134,7 +134,7 @@ unfolding least_target least_target_by is_target
 target_off C chosen urgency holders excluded l t e =
     let test : ℕ → Bool = is_target C (scheduled_to chosen) urgency holders excluded l in
     let found : test t ≡ true = least_is_one (λ s. test s ≡ true) (target_cmp C (scheduled_to chosen) holders) (filter test (keys C.storages)) (each_passing test (keys C.storages)) t e in
-    not_passed (is_draining C t) (and_parts _ _ (and_parts _ _ (and_parts _ _ found).0).0).1
+    not-true (is_draining C t) (and_parts _ _ (and_parts _ _ (and_parts _ _ found).0).0).1
 
 abbrev IsSpared : Cluster → Transfer → Type 0
 IsSpared C t = is_draining C t.target ≡ false

@@ -3,7 +3,7 @@ use Rattle.std.proofs.Common.{◌≡◌, ℕ, ◌*◌, Bool, true, false, cond, 
 use Rattle.std.specs.Prelude.{◌==◌, nat_le}
 use Rattle.std.specs.Option.{option_map_or}
 use Rattle.std.specs.List.{list_any}
-use Rattle.std.proofs.lemmas.Bool.{and_parts, and_from}
+use Rattle.std.proofs.lemmas.Bool.{and_parts, and_from, not-true}
 use Rattle.bm_base.specs.declared.replica.ReplicaId.{ReplicaId}
 use Rattle.bm_base.specs.declared.replica.Marks.{Marks}
 use Rattle.bm_base.specs.declared.replica.Stamp.{Stamp}
@@ -82,11 +82,7 @@ IsAbsent H t = get H.replicas (replica_at t.block t.target) ≡ None
 
 not_excluded : (C : Cluster) (sent : ℕ → ℕ) (urgency : Level) (holders excluded : List ℕ) (l s : ℕ) → is_target C sent urgency holders excluded l s ≡ true → is_excluded C excluded s ≡ false
 unfolding is_target
-not_excluded C sent urgency holders excluded l s h = undone (is_excluded C excluded s) (and_parts _ _ (and_parts _ _ h).0).1
-  where
-    undone : (b : Bool) → not b ≡ true → b ≡ false
-    undone true e = cc
-    undone false e = refl
+not_excluded C sent urgency holders excluded l s h = not-true (is_excluded C excluded s) (and_parts _ _ (and_parts _ _ h).0).1
 
 target_free : (C : Cluster) (H : Holdings) (chosen : List Transfer) (urgency : Level) (holders : List ℕ) (b l t : ℕ) → least_target C chosen urgency holders (excluded_for H chosen b) l ≡ Some t → get H.replicas (replica_at b t) ≡ None
 unfolding least_target least_target_by

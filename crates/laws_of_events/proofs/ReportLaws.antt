@@ -3,7 +3,7 @@ use Rattle.std.proofs.Common.{◌≡◌, ◌≢◌, ℕ, ◌+◌, ◌-◌, ◌�
 use Rattle.std.specs.Prelude.{◌==◌, nat_le, nat_lt, if◌then◌else◌}
 use Rattle.std.specs.Option.{option_map_or}
 use Rattle.std.specs.Ordering.{eq_by_cmp}
-use Rattle.std.proofs.lemmas.Bool.{eqb-false, and_right}
+use Rattle.std.proofs.lemmas.Bool.{eqb-false, and_right, not-false}
 use Rattle.std.proofs.lemmas.List.Sums.{length-filter}
 use Rattle.std.proofs.lemmas.List.{map-append, append_assoc}
 use Rattle.std.proofs.lemmas.List.Folds.{list_any-append}
@@ -252,11 +252,7 @@ received_there M s b stamp =
 known_since_bad : (C : Cluster) (H : Holdings) → IsLawfulHoldings C H → (p : ReplicaId) → law.IsBadIn H p → (i : BlockInfo) × (get H.blocks p.block ≡ Some i)
 known_since_bad C H L p bad =
     let known : not (contains_key H.blocks p.block) ≡ false = sym (L.strays p bad.0 bad.1) ∙ ap is_stray bad.2 in
-    there (get H.blocks p.block) (undo (contains_key H.blocks p.block) known)
-  where
-    undo : (b : Bool) → not b ≡ false → b ≡ true
-    undo true e = refl
-    undo false e = cc
+    there (get H.blocks p.block) (not-false (contains_key H.blocks p.block) known)
 
 bad_reported : (C : Cluster) (H : Holdings) (s : ℕ) (named : ℕ → Bool) (stays : ReplicaId → Bool) → IsLawfulHoldings C H → (p : ReplicaId) (m : Marks) → law.IsBadIn H p → IsKept H stays p m ⊎ IsPut H s named p m → m.tag ≡ Bad
 bad_reported C H s named stays L p m bad (inl was) = let same : Some m ≡ Some bad.0 = sym was.0 ∙ bad.1 in let is : m ≡ bad.0 = (cc) in ap (λ n. n.tag) is ∙ bad.2

@@ -3,7 +3,7 @@ use Rattle.std.proofs.Common.{◌≡◌, ℕ, ◌<◌, ◌≤◌, Bool, true, fa
 use Rattle.std.specs.Prelude.{◌==◌, nat_le}
 use Rattle.std.specs.Option.{option_map_or}
 use Rattle.std.specs.List.{list_any}
-use Rattle.std.proofs.lemmas.Bool.{and_parts, and_from, and_right, leb-true, le-leb, false_from_ne_true}
+use Rattle.std.proofs.lemmas.Bool.{and_parts, and_from, and_right, leb-true, le-leb, false_from_ne_true, not-true, not_from_false}
 use Rattle.bm_base.specs.declared.replica.ReplicaId.{ReplicaId}
 use Rattle.bm_base.specs.declared.replica.Marks.{Marks}
 use Rattle.bm_base.specs.declared.replica.BlockInfo.{BlockInfo}
@@ -13,7 +13,6 @@ use Rattle.bm_base.specs.declared.call.Answer.{Answer}
 use Rattle.bm_base.specs.declared.call.Answer.TheVariants as answer
 use Rattle.bm_base.specs.Words.{get, entries, keys, Cluster, Holdings, State, replica_at, has, is_usable, is_live_on, is_drained_on, node_of, has_storage, drains, is_draining, storages_where, live, drained, has_enough_live, usable, missing_blocks, is_held_back_by, is_retired, without_node, without_storages, change_cluster, change_holdings, node_refusal, step, refused_or, after_event}
 use Rattle.bm_base.specs.Promises.Lawful.{IsLawfulHoldings, IsOrderly}
-use Rattle.bm_base.proofs.Options.{not_failed, not_passed}
 use Rattle.bm_base.proofs.MapEntries.{entry_passes, passes_entry}
 use Rattle.laws_of_events.proofs.NodeChanges.{on_it, is_on_it, node_at, still_there}
 use Rattle.bm_base.proofs.ListTests.{any_map}
@@ -73,7 +72,7 @@ module _ (C : Cluster) (H : Holdings) (n : ℕ) where
     none_holds_back : (b : ℕ) (i : BlockInfo) → get H.blocks b ≡ Some i → is_held_back_by C H n b ≡ false
     none_holds_back b i e =
         let none : list_any (is_held_back_by C H n) (keys H.blocks) ≡ false =
-        not_passed _ (and_parts (drains C n) (not (list_any (is_held_back_by C H n) (keys H.blocks))) (sym retired_is ∙ retired)).1 in
+        not-true _ (and_parts (drains C n) (not (list_any (is_held_back_by C H n) (keys H.blocks))) (sym retired_is ∙ retired)).1 in
         false_from_ne_true (is_held_back_by C H n b) (λ h. true≢false (sym (any_held_back ∙ passes_entry H.blocks (λ e. is_held_back_by C H n e.0) b i e h) ∙ none))
 
     -- a block with a usable replica on the node has enough live ones
@@ -95,7 +94,7 @@ module _ (C : Cluster) (H : Holdings) (n : ℕ) where
       let drained_here = and_parts (p.0.block == b.0) (is_drained_on C p.0.storage p.1) here.0 in
       let is : get H.replicas (replica_at b.0 p.0.storage) ≡ Some p.1 = ap (λ c. get H.replicas (replica_at c p.0.storage)) (sym (eqb-true p.0.block b.0 drained_here.0)) ∙ p.2 in
       let live_enough = plain b.0 p.0.storage b.1 p.1 b.2 here.1 is (and_parts (is_usable p.1) (is_draining C p.0.storage) drained_here.1).0 in
-      true≢false (sym (enough_is b.0 b.1 b.2 ∙ le-leb b.1.repl (length (live C H b.0)) live_enough) ∙ not_passed (has_enough_live C H b.0) parts.1)
+      true≢false (sym (enough_is b.0 b.1 b.2 ∙ le-leb b.1.repl (length (live C H b.0)) live_enough) ∙ not-true (has_enough_live C H b.0) parts.1)
 
 pub said_plainly : law.retired_is_said_plainly
 said_plainly C H n = (
@@ -103,7 +102,7 @@ said_plainly C H n = (
   (λ h.
       retired_is C H n
       ∙ and_from (drains C n) (not (list_any (is_held_back_by C H n) (keys H.blocks))) h.0
-      (not_failed (list_any (is_held_back_by C H n) (keys H.blocks))
+      (not_from_false (list_any (is_held_back_by C H n) (keys H.blocks))
       (false_from_ne_true (list_any (is_held_back_by C H n) (keys H.blocks)) (unheld C H n (λ b s i m info on is usable. h.1 b s i info (is_on_it C n s on) (m, is, usable_marks m usable)))))),
 )
 

@@ -1,18 +1,17 @@
 -- What DataNodes report keeps the levels of other blocks.
 use Rattle.std.specs.Prelude.{◌≡◌, ℕ, Bool, true, false, not, ◌==◌, Some}
 use Rattle.std.proofs.Common.{refl, sym, ap, ◌∙◌}
-use Rattle.std.proofs.lemmas.Bool.{false≢true, true≢false}
+use Rattle.std.proofs.lemmas.Bool.{false≢true, true≢false, not-true}
 use Rattle.bm_base.specs.declared.event.Event.{Event}
 use Rattle.bm_base.specs.declared.event.Event.TheVariants.{Register, Dead, StorageFailed, Heartbeat, Drain, Undrain, AddBlock, DeleteBlock, SetReplication, Restamp, Received, Deleted, Corrupt, FullReport}
 use Rattle.bm_base.specs.Words.{State, level, change_cluster, change_holdings, after_event}
 use Rattle.bm_base.proofs.ListTests.{same_again}
-use Rattle.bm_base.proofs.Options.{not_passed}
 use Rattle.bm_parts.proofs.OneBlock.{event_leaves_other_levels}
 use Rattle.bm_parts.proofs.ClusterLevels.{heartbeat_leaves_levels}
 use Rattle.laws_of_repairs.specs.Repairs.{ReportsKeepLevels}
 
 apart : (b c : ℕ) → not (c == b) ≡ true → b ≡ c → ⊥
-apart b c other same = true≢false (sym (ap (λ x. x == b) (sym same) ∙ same_again b) ∙ not_passed (c == b) other)
+apart b c other same = true≢false (sym (ap (λ x. x == b) (sym same) ∙ same_again b) ∙ not-true (c == b) other)
 
 pub reports_keep : ReportsKeepLevels
 unfolding after_event change_cluster change_holdings

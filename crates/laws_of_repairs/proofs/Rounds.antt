@@ -1,7 +1,7 @@
 -- A round gives no block a level that had none: enough live replicas stay, and on two racks.
 use Rattle.std.specs.Prelude.{◌≡◌, ℕ, ◌≤◌, ◌<◌, Bool, true, false, not, ◌&&◌, ◌||◌, ◌==◌, nat_lt, if◌then◌else◌, List, [], ◌∷◌, map, filter, length, Option, Some, None, is_some}
 use Rattle.std.proofs.Common.{refl, sym, ap, subst, ◌∙◌, arith}
-use Rattle.std.proofs.lemmas.Bool.{false≢true, true≢false, ltb-true}
+use Rattle.std.proofs.lemmas.Bool.{false≢true, true≢false, ltb-true, or_left}
 use Rattle.bm_base.specs.declared.level.Level.{Level}
 use Rattle.bm_base.specs.declared.level.Level.TheVariants.{Highest, VeryUnderReplicated, UnderReplicated, BadlyDistributed, NoUsableReplica}
 use Rattle.bm_base.specs.declared.replica.ReplicaId.{ReplicaId}
@@ -10,7 +10,7 @@ use Rattle.bm_base.specs.declared.replica.BlockInfo.{BlockInfo}
 use Rattle.bm_base.specs.Words.{get, Cluster, Holdings, State, has, has_repeats, live, is_live_on, is_usable, is_good, is_draining, rack_of, level, storages_where, with_excess_reset, state_at_choice, state_after_expiry, without_expired, without_unordered_excess}
 use Rattle.bm_base.specs.Promises.Lawful.{IsOrderly}
 use Rattle.bm_base.specs.Promises.NextRound.{after_round, unmarked, live_unmarked, live_marked, live_after}
-use Rattle.bm_base.proofs.ListTests.{or_left, same_again, and_first, and_second}
+use Rattle.bm_base.proofs.ListTests.{same_again, and_first, and_second}
 use Rattle.bm_base.proofs.Membership.{once_where, revised_where}
 use Rattle.bm_parts.proofs.Storages.{fewer_where}
 use Rattle.laws_of_states.proofs.LiveReplicas.{live_is}

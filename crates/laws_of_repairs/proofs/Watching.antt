@@ -3,7 +3,7 @@ use Rattle.std.specs.Prelude.{◌≡◌, ℕ, ◌+◌, ◌≤◌, Bool, true, fa
 use Rattle.std.specs.List.{list_any, dedup}
 use Rattle.std.specs.List.Sorted.{IsPermutation}
 use Rattle.std.proofs.Common.{cond, refl, sym, ap, subst, ◌∙◌, arith}
-use Rattle.std.proofs.lemmas.Bool.{false≢true, true≢false, eqb-true}
+use Rattle.std.proofs.lemmas.Bool.{false≢true, true≢false, eqb-true, or_left, or_parts, or_right}
 use Rattle.std.proofs.lemmas.List.Folds.{list_any-append}
 use Rattle.std.proofs.lemmas.List.Sorted.{list_any-IsPermutation}
 use Rattle.std.proofs.lemmas.List.Sums.{length-filter}
@@ -12,7 +12,7 @@ use Rattle.bm_base.specs.declared.level.Level.{Level}
 use Rattle.bm_base.specs.declared.replica.BlockInfo.{BlockInfo}
 use Rattle.bm_base.specs.Words.{get, keys, State, has, has_repeats, level, is_at, after_event, whole_round, count_call}
 use Rattle.bm_base.specs.Promises.Lawful.{IsLawful}
-use Rattle.bm_base.proofs.ListTests.{or_left, or_right, and_second, same_again, count_without, has_filter, once_filter}
+use Rattle.bm_base.proofs.ListTests.{and_second, same_again, count_without, has_filter, once_filter}
 use Rattle.bm_base.proofs.OneWish.{once_keys}
 use Rattle.bm_base.proofs.Options.{is_there}
 use Rattle.bm_base.proofs.Sets.{has_keys, has_once}
@@ -28,18 +28,14 @@ has_level M b = is_some (level M.cluster M.holdings b)
 
 -- Counting.
 
-neither : (a b : Bool) → (a || b) ≡ false → (a ≡ false) × (b ≡ false)
-neither false b e = (refl, e)
-neither true b e = absurd (true≢false e)
-
 -- a list without repeats has no more that pass than one that has all of these
 fewer : (p : ℕ → Bool) (xs ys : List ℕ) → has_repeats xs ≡ false → has_repeats ys ≡ false → ((b : ℕ) → p b ≡ true → has xs b ≡ true → has ys b ≡ true)
     → length (filter p xs) ≤ length (filter p ys)
 fewer p [] ys once once_too among = omega arith
-fewer p (x ∷ xs) ys once once_too among = by_test (λ zs. fewer p xs zs (neither (has xs x) (has_repeats xs) once).1) (p x) refl
+fewer p (x ∷ xs) ys once once_too among = by_test (λ zs. fewer p xs zs (or_parts (has xs x) (has_repeats xs) once).1) (p x) refl
   where
     other : (b : ℕ) → has xs b ≡ true → (t : Bool) → (b == x) ≡ t → (b == x) ≡ false
-    other b at true e = absurd (false≢true (sym (neither (has xs x) (has_repeats xs) once).0 ∙ ap (has xs) (sym (eqb-true b x e)) ∙ at))
+    other b at true e = absurd (false≢true (sym (or_parts (has xs x) (has_repeats xs) once).0 ∙ ap (has xs) (sym (eqb-true b x e)) ∙ at))
     other b at false e = e
 
     by_test : ((zs : List ℕ) → has_repeats zs ≡ false → ((b : ℕ) → p b ≡ true → has xs b ≡ true → has zs b ≡ true) → length (filter p xs) ≤ length (filter p zs))
@@ -121,8 +117,8 @@ covers_reported M N e xs ys c added beside is covers = subst (λ O. Covers O ys)
   where
     told : Covers (after_event M e) ys
     told b none =
-        let parts = neither (has xs b) ((c == b) || false) (sym (list_any-append (λ x. x == b) xs (c ∷ [])) ∙ ap (λ zs. has zs b) (sym added) ∙ none) in
-        reports_keep M e b (beside b (neither (c == b) false parts.1).0) ∙ covers b parts.0
+        let parts = or_parts (has xs b) ((c == b) || false) (sym (list_any-append (λ x. x == b) xs (c ∷ [])) ∙ ap (λ zs. has zs b) (sym added) ∙ none) in
+        reports_keep M e b (beside b (or_parts (c == b) false parts.1).0) ∙ covers b parts.0
 
 -- a round
 pub covers_round : (M N : State) (xs : List ℕ) → IsLawful M → N ≡ count_call (whole_round M).1 → Covers M xs → Covers N xs

@@ -2,7 +2,7 @@
 use Rattle.std.specs.Prelude.{◌≡◌, ◌↔◌, ℕ, ◌+◌, ◌-◌, ◌≤◌, ◌⊎◌, Bool, true, false, not, ◌&&◌, ◌==◌, nat_le, if◌then◌else◌, List, [], ◌∷◌, filter, length, Option, Some, None, option_map}
 use Rattle.std.specs.Option.{option_map_or}
 use Rattle.std.proofs.Common.{cond, refl, sym, ap, ◌∙◌, arith, inl, inr}
-use Rattle.std.proofs.lemmas.Bool.{leb-true, false≢true, true≢false}
+use Rattle.std.proofs.lemmas.Bool.{leb-true, false≢true, true≢false, or_left, not-true, or_right}
 use Rattle.bm_base.specs.declared.replica.ReplicaId.{ReplicaId}
 use Rattle.bm_base.specs.declared.replica.Tag.{Tag}
 use Rattle.bm_base.specs.declared.replica.Tag.TheVariants.{Good, Stale, Bad, Stray}
@@ -14,7 +14,7 @@ use Rattle.bm_base.proofs.MapLaws.{get-revise}
 use Rattle.bm_base.specs.Promises.NextRound.{unmarked, live_unmarked, live_marked, live_after, drained_unmarked}
 use Rattle.laws_of_rounds.specs.Deletes.{MayBeDeleted}
 use Rattle.std.proofs.lemmas.Option.{same_Some}
-use Rattle.bm_base.proofs.ListTests.{has_filter, or_left, or_right, same_again, and_first, and_second}
+use Rattle.bm_base.proofs.ListTests.{has_filter, same_again, and_first, and_second}
 use Rattle.bm_base.proofs.Membership.{has_where}
 use Rattle.laws_of_states.proofs.Surpluses.{kept_of, chosen_among}
 use Rattle.laws_of_states.proofs.MarkedReplicas.{marked_unmarked, marked_count, marked_is, after_marked, excess_known, unordered_dropped}
@@ -191,10 +191,6 @@ other_is_new M q n found unordered excess =
           ∙ ap (λ t. not t && has (live_unmarked M q.block) q.storage) chosen,
     )
 
-not_true : (d : Bool) → not d ≡ true → d ≡ false
-not_true true e = absurd (false≢true e)
-not_true false e = refl
-
 counts_by : (t : Tag) (x o : Bool) → (is_good t && not (if o then x else false)) ≡ true → (t ≡ Good) × ((x && o) ≡ false)
 counts_by Good true true e = absurd (false≢true e)
 counts_by Good true false e = (refl, refl)
@@ -250,7 +246,7 @@ pub live_before_is : (M : State) (b s : ℕ)
     ↔ ((m : Marks) × (get M.holdings.replicas (replica_at b s) ≡ Some m) × (m.tag ≡ Good) × ((m.excess && m.ordered) ≡ false) × (is_draining M.cluster s ≡ false))
 live_before_is M b s =
     let is = before_is (λ t. not (is_draining M.cluster t)) M b s in (
-      λ h. let m = is.0 h in (m.0, m.1, m.2, m.3, not_true (is_draining M.cluster s) m.4),
+      λ h. let m = is.0 h in (m.0, m.1, m.2, m.3, not-true (is_draining M.cluster s) m.4),
       λ h. is.1 (h.0, h.1, h.2, h.3, ap not h.4),
     )
 

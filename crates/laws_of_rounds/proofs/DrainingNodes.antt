@@ -4,7 +4,7 @@ use Rattle.std.specs.Prelude.{◌≡◌, ℕ, ◌≤◌, ◌⊎◌, Bool, true, 
 use Rattle.std.specs.Option.{option_map_or}
 use Rattle.std.specs.Ordering.{nat_cmp, ordering_then}
 use Rattle.std.proofs.Common.{refl, sym, ap, subst, ◌∙◌, arith, inl, inr}
-use Rattle.std.proofs.lemmas.Bool.{ltb-false, false≢true, true≢false}
+use Rattle.std.proofs.lemmas.Bool.{ltb-false, false≢true, true≢false, or_right}
 use Rattle.std.proofs.lemmas.List.Sums.{length-filter}
 use Rattle.std.proofs.lemmas.List.{length-append}
 use Rattle.bm_base.specs.declared.level.Level.{Level}
@@ -15,7 +15,7 @@ use Rattle.bm_base.specs.declared.commands.Transfer.{Transfer}
 use Rattle.bm_base.specs.declared.commands.Delete.{Delete}
 use Rattle.bm_base.specs.Words.{get, entries, Cluster, Holdings, State, replica_at, has, live, drained, sources_of, is_usable, is_drained_on, is_draining, drains, has_storage, node_of, storages_where, state_after_expiry, state_at_choice, with_surplus_marked, excess_in, end_round, is_commanded, whole_round, stream_limit, streams_from, node_number, source_rank, source_cmp, least_source_by, least_source}
 use Rattle.bm_base.specs.Promises.NextRound.{IsTransferCommanded, transfers_chosen, unmarked, drained_unmarked, drained_marked, drained_after}
-use Rattle.bm_base.proofs.ListTests.{has_filter, or_right, and_first, filter_append}
+use Rattle.bm_base.proofs.ListTests.{has_filter, and_first, filter_append}
 use Rattle.bm_base.proofs.Membership.{revised_where, has_where}
 use Rattle.laws_of_rounds.proofs.UsableReplicas.{sources_are}
 use Rattle.laws_of_states.proofs.LiveReplicas.{drained_is}

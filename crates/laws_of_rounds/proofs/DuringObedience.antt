@@ -4,7 +4,7 @@ use Rattle.std.specs.Prelude.{◌≡◌, ℕ, Bool, true, false, not, ◌&&◌, 
 use Rattle.std.specs.Option.{option_map_or}
 use Rattle.std.specs.Ordering.{eq_by_cmp}
 use Rattle.std.proofs.Common.{cond, refl, sym, ap, subst, ◌∙◌, inl, inr}
-use Rattle.std.proofs.lemmas.Bool.{eqb-true, false≢true, and_parts, false_from_ne_true}
+use Rattle.std.proofs.lemmas.Bool.{eqb-true, false≢true, and_parts, false_from_ne_true, not-true, not_from_false}
 use Rattle.bm_base.specs.declared.replica.ReplicaId.{ReplicaId}
 use Rattle.bm_base.specs.declared.replica.Stamp.{Stamp}
 use Rattle.bm_base.specs.declared.replica.Tag.{Tag}
@@ -16,7 +16,7 @@ use Rattle.bm_base.specs.declared.commands.Transfer.{Transfer}
 use Rattle.bm_base.specs.declared.commands.Delete.{Delete}
 use Rattle.bm_base.specs.Words.{get, Cluster, Holdings, State, by_replica, replica_cmp, replica_at, has, live, is_good, is_bad, is_usable, is_live_on, node_of, has_storage, is_draining, are_siblings, same_stamp, was_bad, was_excess, entered_tag, entered_marks, replaces, enter, remove_replica, change_cluster, change_holdings, after_event}
 use Rattle.bm_base.specs.Promises.NextRound.{IsAmong, IsDeleteCommanded, IsTransferCommanded, deletes_commanded, after_round, live_after}
-use Rattle.bm_base.proofs.Options.{is_there, revised, not_passed, not_failed, staying, all_stays}
+use Rattle.bm_base.proofs.Options.{is_there, revised, staying, all_stays}
 use Rattle.bm_base.proofs.ForEach.{Each}
 use Rattle.bm_base.proofs.MapLaws.{get-insert, get-keep, get-remove}
 use Rattle.bm_base.proofs.MapEntries.{same_key, key_itself, not_tied}
@@ -90,7 +90,7 @@ unfolding replaces are_siblings
 replaced_is C p q e =
     let is = and_parts (q.block == p.block) (are_siblings C p.storage q.storage) e in
     let siblings = and_parts (not (q.storage == p.storage)) (option_map_or (λ n. has_storage C n q.storage) (node_of C p.storage) false) is.1 in
-    (is.0, on_one_node C p.storage q.storage (node_of C p.storage) refl siblings.1, not_passed (q.storage == p.storage) siblings.0)
+    (is.0, on_one_node C p.storage q.storage (node_of C p.storage) refl siblings.1, not-true (q.storage == p.storage) siblings.0)
 
 -- Steps.
 
@@ -172,7 +172,7 @@ module _ (M N : State) (unchanged : HasSameBlocks M N) where
         by_tie true tie = copy_usable (subst (IsUnspoilt N.holdings) (same_key by_replica q key tie) (unspoilt (get N.holdings.replicas q) there))
         by_tie false tie =
             ap (λ o. option_map_or is_usable o false) (all_stays (not (replaces N.cluster key q)) (get N.holdings.replicas q)
-            (not_failed (replaces N.cluster key q) (ap (λ C. replaces C key q) unchanged.cluster ∙ safe.not_replaced t h))) ∙ there
+            (not_from_false (replaces N.cluster key q) (ap (λ C. replaces C key q) unchanged.cluster ∙ safe.not_replaced t h))) ∙ there
 
     pub copy_arrives : IsUnspoilt N.holdings key → IsUsable (after_event N (copied t)).holdings key
     copy_arrives clean =

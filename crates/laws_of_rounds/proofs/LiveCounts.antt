@@ -5,7 +5,7 @@ use Rattle.std.specs.Option.{option_map_or}
 use Rattle.std.specs.Ordering.{eq_by_cmp}
 use Rattle.std.specs.List.{list_any}
 use Rattle.std.proofs.Common.{cond, refl, sym, ap, subst, ◌∙◌, arith, inl, inr, append_assoc}
-use Rattle.std.proofs.lemmas.Bool.{eqb-true, false≢true, true≢false, and_from, or_parts, or_from, or_cases, false_from_ne_true}
+use Rattle.std.proofs.lemmas.Bool.{eqb-true, false≢true, true≢false, and_from, or_parts, or_from, or_cases, false_from_ne_true, or_left, or_right}
 use Rattle.std.proofs.lemmas.List.{length-append, length-map}
 use Rattle.std.proofs.lemmas.List.Sums.{length-filter}
 use Rattle.std.proofs.lemmas.List.Folds.{list_any-append}
@@ -18,7 +18,7 @@ use Rattle.bm_base.specs.Promises.NextRound.{IsAmong, IsTransferCommanded, trans
 use Rattle.bm_base.proofs.Options.{staying}
 use Rattle.bm_base.proofs.ForEach.{Each, each_all, each_then, each_any, each_appended, each_mapped}
 use Rattle.bm_base.proofs.MapEntries.{same_key}
-use Rattle.bm_base.proofs.ListTests.{or_left, or_right, same_again, has_filter, once_filter, any_map, any_filter, and_first, and_second}
+use Rattle.bm_base.proofs.ListTests.{same_again, has_filter, once_filter, any_map, any_filter, and_first, and_second}
 use Rattle.laws_of_states.proofs.Surpluses.{others, others_fewer}
 use Rattle.laws_of_rounds.specs.Obedience.{copies_commanded}
 use Rattle.laws_of_rounds.specs.Obedience.{copied, erased, Obeys, ObeysAll, after_obeying, live_obeying, as_listed}

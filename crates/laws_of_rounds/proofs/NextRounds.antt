@@ -3,7 +3,7 @@ use Rattle.std.specs.Prelude.{◌≡◌, ℕ, zero, suc, ◌+◌, ◌-◌, ◌<�
 use Rattle.std.specs.List.{list_any}
 use Rattle.std.specs.Ordering.{eq_by_cmp}
 use Rattle.std.proofs.Common.{cond, refl, sym, ap, subst, ◌∙◌, arith}
-use Rattle.std.proofs.lemmas.Bool.{lt-leb, false≢true, true≢false}
+use Rattle.std.proofs.lemmas.Bool.{lt-leb, false≢true, true≢false, or_left, or_right}
 use Rattle.bm_base.specs.declared.replica.ReplicaId.{ReplicaId}
 use Rattle.bm_base.specs.declared.replica.Marks.{Marks}
 use Rattle.bm_base.specs.declared.commands.Transfer.{Transfer}
@@ -14,7 +14,7 @@ use Rattle.bm_base.proofs.Ties.{replica_tie}
 use Rattle.bm_base.specs.Promises.NextRound.{IsTransferCommanded, IsAmong, deletes_commanded, transfers_commanded, transfers_chosen, after_round}
 use Rattle.laws_of_rounds.specs.Rounds.{after_rounds}
 use Rattle.bm_base.proofs.ForEach.{Each, each_any, each_then}
-use Rattle.bm_base.proofs.ListTests.{or_left, or_right, same_again}
+use Rattle.bm_base.proofs.ListTests.{same_again}
 use Rattle.bm_base.proofs.MapEntries.{same_key}
 use Rattle.laws_of_states.proofs.RoundCommands.{IsTested, chosen_deletes_of, each_delete, each_transfer, at_same}
 use Rattle.laws_of_states.proofs.LiveAfterRound.{marks_started, remarked, remarked_ordered, surplus_of}
@@ -53,10 +53,6 @@ each_is_commanded ds (d ∷ es) f = (
   f d (or_left ((d.storage == d.storage) && (d.block == d.block)) (list_any (λ e. (e.storage == d.storage) && (e.block == d.block)) es) (both (d.storage == d.storage) (d.block == d.block) (same_again d.storage) (same_again d.block))),
   each_is_commanded ds es (λ c g. f c (or_right ((d.storage == c.storage) && (d.block == c.block)) (list_any (λ e. (e.storage == c.storage) && (e.block == c.block)) es) g)),
 )
-  where
-    both : (a b : Bool) → a ≡ true → b ≡ true → (a && b) ≡ true
-    both true b e f = f
-    both false b e f = e
 
 commanded_itself : (ds : List Delete) → Each (λ (d : Delete). is_commanded ds (replica_at d.block d.storage) ≡ true) ds
 unfolding is_commanded

@@ -3,7 +3,7 @@ use Rattle.std.specs.Prelude.{◌≡◌, ℕ, ◌+◌, ◌≤◌, ◌<◌, ◌�
 use Rattle.std.specs.Option.{option_map_or}
 use Rattle.std.specs.List.{All}
 use Rattle.std.proofs.Common.{cond, refl, sym, ap, subst, ◌∙◌, arith, inl, inr, append_assoc}
-use Rattle.std.proofs.lemmas.Bool.{eqb-true, lt-ltb, false≢true}
+use Rattle.std.proofs.lemmas.Bool.{eqb-true, lt-ltb, false≢true, or_left, or_right}
 use Rattle.bm_base.specs.declared.replica.ReplicaId.{ReplicaId}
 use Rattle.bm_base.specs.declared.replica.Marks.{Marks}
 use Rattle.bm_base.specs.declared.level.Level.TheVariants.{Highest}
@@ -16,7 +16,7 @@ use Rattle.bm_base.specs.Promises.NextRound.{IsAmong, IsTransferCommanded, delet
 use Rattle.std.proofs.lemmas.Option.{same_Some}
 use Rattle.bm_base.proofs.Options.{there}
 use Rattle.bm_base.proofs.ForEach.{Each, each_of, each_then, each_filter_by, each_flat_map, each_any}
-use Rattle.bm_base.proofs.ListTests.{or_left, or_right, same_again}
+use Rattle.bm_base.proofs.ListTests.{same_again}
 use Rattle.bm_base.proofs.Membership.{has_where}
 use Rattle.laws_of_rounds.proofs.UsableReplicas.{sources_usable}
 use Rattle.laws_of_rounds.proofs.NodeGroups.{each_node, each_on_node, all_of_each}

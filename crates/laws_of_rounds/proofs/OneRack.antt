@@ -2,7 +2,7 @@
 use Rattle.std.specs.Prelude.{◌≡◌, ℕ, ◌≤◌, ◌↔◌, Bool, true, false, ◌||◌, ◌&&◌, ◌*◌, ◌==◌, nat_lt, nat_le, List, [], ◌∷◌, map, filter_map, length, Option, Some, None, is_some, option_map, option_and_then}
 use Rattle.std.specs.Option.{option_map_or}
 use Rattle.std.proofs.Common.{cond, refl, sym, ap, ◌∙◌, arith}
-use Rattle.std.proofs.lemmas.Bool.{eqb-true, lt-ltb, ltb-true, false≢true, true≢false}
+use Rattle.std.proofs.lemmas.Bool.{eqb-true, lt-ltb, ltb-true, false≢true, true≢false, or_left}
 use Rattle.std.proofs.lemmas.Bool.Decides.{nat_tests}
 use Rattle.bm_base.specs.declared.level.Level.TheVariants.{Highest, VeryUnderReplicated, UnderReplicated, BadlyDistributed, NoUsableReplica}
 use Rattle.bm_base.specs.declared.replica.BlockInfo.{BlockInfo}
@@ -12,7 +12,7 @@ use Rattle.laws_of_rounds.specs.Levels.{AreOnOneRack, HasTwoRacks}
 use Rattle.laws_of_rounds.proofs.Needs.{level_known}
 use Rattle.std.proofs.lemmas.Option.{same_Some}
 use Rattle.bm_base.proofs.ForEach.{each_any}
-use Rattle.bm_base.proofs.ListTests.{any_map, or_left, same_again}
+use Rattle.bm_base.proofs.ListTests.{any_map, same_again}
 use Rattle.bm_base.proofs.Membership.{has_where}
 use Rattle.bm_base.proofs.MapEntries.{each_entry}
 use Rattle.bm_base.proofs.OneWish.{once_keys}

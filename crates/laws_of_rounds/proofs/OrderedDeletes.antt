@@ -3,7 +3,7 @@
 use Rattle.std.specs.Prelude.{◌≡◌, ℕ, Bool, true, false, not, ◌&&◌, ◌==◌, ◌⊎◌, if◌then◌else◌, List, [], ◌∷◌, map, Option, Some, None, is_some, option_and_then}
 use Rattle.std.specs.Ordering.{eq_by_cmp}
 use Rattle.std.proofs.Common.{cond, refl, sym, ap, subst, ◌∙◌}
-use Rattle.std.proofs.lemmas.Bool.{false≢true, true≢false}
+use Rattle.std.proofs.lemmas.Bool.{false≢true, true≢false, false_from_ne_true}
 use Rattle.bm_base.specs.declared.config.Config.{Config}
 use Rattle.bm_base.specs.declared.call.Call.{Call}
 use Rattle.bm_base.specs.declared.call.Call.TheVariants as call
@@ -217,8 +217,4 @@ good_stays M b s i done lawful known h =
     (one.0, is.0, is.1, is.2, is.3, unordered is.0 (ap (λ t. is_good t && not is.0.excess) is.2 ∙ ap not is.3) (done_round M done (replica_at b one.0) is.0 is.1), is.4)
   where
     unordered : (m : Marks) → is_usable m ≡ true → IsDone m → m.ordered ≡ false
-    unordered m usable h = by_order m.ordered (λ e. true≢false (sym usable ∙ h e))
-      where
-        by_order : (x : Bool) → (x ≡ true → ⊥) → x ≡ false
-        by_order true f = absurd (f refl)
-        by_order false f = refl
+    unordered m usable h = false_from_ne_true m.ordered (λ e. true≢false (sym usable ∙ h e))

@@ -3,7 +3,7 @@ use Rattle.std.specs.Prelude.{◌≡◌, ℕ, zero, suc, ◌+◌, ◌*◌, ◌�
 use Rattle.std.specs.Option.{option_map_or}
 use Rattle.std.proofs.Common.{cond, refl, sym, ap, ◌∙◌, arith, inl, inr, append-nil}
 use Rattle.std.proofs.lemmas.Bool.{eqb-true, leb-true, false≢true, true≢false}
-use Rattle.std.proofs.lemmas.List.{length-map}
+use Rattle.std.proofs.lemmas.List.{length-map, nil_from_length}
 use Rattle.std.proofs.lemmas.List.{length-append}
 use Rattle.bm_base.specs.declared.level.Level.{Level}
 use Rattle.bm_base.specs.declared.level.Level.TheVariants.{Highest, VeryUnderReplicated, UnderReplicated, BadlyDistributed, NoUsableReplica}
@@ -231,10 +231,6 @@ badly_counted n d repl rs multi e = by_tests (nat_le repl n) refl (nat_lt 1 repl
         other false z false true e = cc
         other false z false false e = cc
 
-empty_of : {X : Type 0} (xs : List X) → length xs ≡ 0 → xs ≡ []
-empty_of [] e = refl
-empty_of (x ∷ xs) e = absurd (omega arith)
-
 holders_alone : (C : Cluster) (H : Holdings) (front : List Transfer) (b : ℕ) → pending_targets H b ≡ [] → targets_of front b ≡ [] → holders_of C H front b ≡ live C H b
 unfolding holders_of
 holders_alone C H front b e f =
@@ -288,7 +284,7 @@ none_other : (C : Cluster) (H : Holdings) (front : List Transfer) (b repl n back
 none_other C H front b repl n back long enough (inl h) = absurd (omega (arith, long, enough, h))
 none_other C H front b repl n back long enough (inr h) =
     let one = h.2 in
-    (empty_of (pending_targets H b) h.1, empty_of (targets_of front b) (omega (arith, long, one)))
+    (nil_from_length (pending_targets H b) h.1, nil_from_length (targets_of front b) (omega (arith, long, one)))
 
 first_off : (a b c : Bool) → a ≡ true → (a && b && c) ≡ false → (b && c) ≡ false
 first_off true true c e f = f

@@ -3,7 +3,7 @@ use Rattle.std.specs.Prelude.{◌≡◌, ℕ, ◌+◌, ◌*◌, ◌≤◌, ◌<�
 use Rattle.std.specs.Option.{option_map_or}
 use Rattle.std.specs.List.{list_any, All}
 use Rattle.std.proofs.Common.{cond, refl, sym, ap, subst, ◌∙◌, arith, inl, inr}
-use Rattle.std.proofs.lemmas.Bool.{eqb-true, leb-true, false≢true, true≢false}
+use Rattle.std.proofs.lemmas.Bool.{eqb-true, leb-true, false≢true, true≢false, or_left, or_cases, or_right, not-true}
 use Rattle.std.proofs.lemmas.List.Sums.{length-filter, sum_by_push}
 use Rattle.std.proofs.lemmas.List.Folds.{list_any-append}
 use Rattle.std.proofs.lemmas.List.{length-append}
@@ -19,7 +19,7 @@ use Rattle.bm_base.specs.declared.commands.NodeCommands.{NodeCommands}
 use Rattle.bm_base.specs.Words.{get, keys, entries, len, RoundLimits, Cluster, Holdings, State, replica_at, has, has_repeats, sources_of, node_of, has_storage, is_draining, storages_where, level, is_at, state_after_expiry, state_at_choice, with_surplus_marked, without_expired, without_unordered_excess, remaining, pending_targets, streams_from, scheduled_to, stream_limit, targets_of, holders_of, excluded_for, is_excluded, is_target, class_of, racks, whole_round, commands_of, node_commands, has_commands}
 use Rattle.bm_base.specs.Promises.NextRound.{IsAmong, transfers_chosen, transfers_commanded, live_marked, drained_marked}
 use Rattle.laws_of_rounds.specs.Transfers.{IsFreshNode}
-use Rattle.bm_base.proofs.ListTests.{and_first, and_second, or_left, or_right, same_again, filter_append, filter_filter, any_map, any_filter}
+use Rattle.bm_base.proofs.ListTests.{and_first, and_second, same_again, filter_append, filter_filter, any_map, any_filter}
 use Rattle.bm_base.proofs.Membership.{has_where, has_listed, listed}
 use Rattle.laws_of_rounds.proofs.NodeGroups.{on_one_node, each_node, all_of_each}
 use Rattle.bm_base.proofs.Sets.{has_keys}
@@ -51,13 +51,9 @@ pub source_live_or_drained : (M : State) (front back : List Transfer) (t : Trans
     → ((has (live_marked M t.block) t.source ≡ true) ⊎ (has (drained_marked M t.block) t.source ≡ true)) × ((i : BlockInfo) × (get M.holdings.blocks t.block ≡ Some i) × (t.stamp ≡ i.stamp))
 source_live_or_drained M front back t is =
     let there = source_usable M front back t is in (
-      either (has (live_marked M t.block) t.source) (has (drained_marked M t.block) t.source) (sym (sources_are M.cluster (state_at_choice M).holdings t.block t.source) ∙ there.0),
+      or_cases (has (live_marked M t.block) t.source) (has (drained_marked M t.block) t.source) (sym (sources_are M.cluster (state_at_choice M).holdings t.block t.source) ∙ there.0),
       there.1,
     )
-  where
-    either : (a b : Bool) → (a || b) ≡ true → (a ≡ true) ⊎ (b ≡ true)
-    either true b e = inl refl
-    either false b e = inr e
 
 limit_cases : (l : Level) (found : Option Level) (d : Bool) (n : ℕ) → found ≡ Some l → d ≡ false → n < stream_limit l d → (found ≡ Some Highest) ⊎ (n < 2)
 limit_cases Highest found d n e s h = inl e
@@ -235,10 +231,6 @@ pub record IsFit (C : Cluster) (front : List Transfer) (urgency : Level) (holder
   pub free : is_excluded C excluded u ≡ false
   pub apart : (is_at BadlyDistributed (Some urgency) && (length (racks C holders) == 1) && (class_of C holders u == 1)) ≡ false
 
-not_true : (b : Bool) → not b ≡ true → b ≡ false
-not_true true e = absurd (false≢true e)
-not_true false e = refl
-
 pub target_parts : (C : Cluster) (front : List Transfer) (urgency : Level) (holders excluded : List ℕ) (n u : ℕ) → is_target C (scheduled_to front) urgency holders excluded n u ≡ true
     → IsFit C front urgency holders excluded n u
 unfolding is_target
@@ -251,9 +243,9 @@ target_parts C front urgency holders excluded n u e =
     let two = and_first (fits && staying) free three in
     record {
       fits = leb-true (n + scheduled_to front u) (remaining C u) (and_first fits staying two);
-      staying = not_true (is_draining C u) (and_second fits staying two);
-      free = not_true (is_excluded C excluded u) (and_second (fits && staying) free three);
-      apart = not_true badly (and_second (fits && staying && free) (not badly) e);
+      staying = not-true (is_draining C u) (and_second fits staying two);
+      free = not-true (is_excluded C excluded u) (and_second (fits && staying) free three);
+      apart = not-true badly (and_second (fits && staying && free) (not badly) e);
     }
 
 some_of : {X : Type 0} (o : Option X) → is_some o ≡ true → (x : X) × (o ≡ Some x)

@@ -1,6 +1,7 @@
 -- An accepted event keeps a lawful state lawful.
 use Rattle.std.proofs.Common.{◌≡◌, ℕ, ◌<◌, ◌^◌, Bool, true, false, not, Some, None, List, [], map, sym, ap, ◌∙◌}
 use Rattle.std.specs.Prelude.{◌==◌}
+use Rattle.std.proofs.lemmas.Bool.{not-false}
 use Rattle.bm_base.specs.declared.replica.ReplicaId.{ReplicaId}
 use Rattle.bm_base.specs.declared.replica.Marks.{Marks}
 use Rattle.bm_base.specs.declared.replica.Stamp.{Stamp}
@@ -11,7 +12,7 @@ use Rattle.bm_base.specs.declared.event.Event.TheVariants.{Register, Dead, Stora
 use Rattle.bm_base.specs.declared.refusal.Refusal.TheVariants.{UnknownStorage, UnknownBlock, BlockKnown, StillStored, BadReplication, TooMany}
 use Rattle.bm_base.specs.Words.{Map, get, keep, revise, revise_at, contains_key, Cluster, Holdings, State, replica_at, by_replica, has_storage, change_cluster, change_holdings, change, add_block, delete_block, set_replication, restamp, make_bad, remove_replica, without_storages, without_pending, change_marks_of_block, enter, report, expanded, first_of, is_too_long, cluster_checks, block_checks, knows_storage, knows_block, is_still_stored, is_bad_replication, refusal_of, after_event}
 use Rattle.bm_base.specs.Promises.Lawful.{IsLawful, IsOrderly, IsLawfulHoldings, HasFittingNumbers}
-use Rattle.bm_base.proofs.Options.{there, is_there, fails_not}
+use Rattle.bm_base.proofs.Options.{there, is_there}
 use Rattle.bm_base.proofs.ForEach.{each_all, each_mapped}
 use Rattle.bm_base.proofs.MapEntries.{Holds, get_kept, get_removed, known_revised, holds_inserted, holds_insert_all}
 use Rattle.bm_base.proofs.Checks.{IsAccepted, accepted, all_fail, both_fail, first_fails}
@@ -26,15 +27,15 @@ use Rattle.bm_base.specs.Promises.Fitting.{FitsEvent}
 
 received_known : (C : Cluster) (s b : ℕ) (stamp : Stamp) → first_of (cluster_checks C (Received s b stamp)) ≡ None → contains_key C.storages s ≡ true
 unfolding cluster_checks knows_storage
-received_known C s b stamp h = fails_not (contains_key C.storages s) (first_fails UnknownStorage (not (knows_storage C s)) [] h).0
+received_known C s b stamp h = not-false (contains_key C.storages s) (first_fails UnknownStorage (not (knows_storage C s)) [] h).0
 
 reported_known : (C : Cluster) (s : ℕ) (es : List Entry) → first_of (cluster_checks C (FullReport s es)) ≡ None → contains_key C.storages s ≡ true
 unfolding cluster_checks knows_storage
-reported_known C s es h = fails_not (contains_key C.storages s) (both_fail UnknownStorage TooMany (not (knows_storage C s)) (is_too_long es) h).0
+reported_known C s es h = not-false (contains_key C.storages s) (both_fail UnknownStorage TooMany (not (knows_storage C s)) (is_too_long es) h).0
 
 corrupt_known : (H : Holdings) (s b : ℕ) → first_of (block_checks H (Corrupt s b)) ≡ None → knows_block H b ≡ true
 unfolding block_checks
-corrupt_known H s b h = fails_not (knows_block H b) (first_fails UnknownBlock (not (knows_block H b)) [] h).0
+corrupt_known H s b h = not-false (knows_block H b) (first_fails UnknownBlock (not (knows_block H b)) [] h).0
 
 addable : (H : Holdings) (b : ℕ) (stamp : Stamp) (repl : ℕ) → first_of (block_checks H (AddBlock b stamp repl)) ≡ None → (knows_block H b ≡ false) × (is_still_stored H b ≡ false) × (is_bad_replication repl ≡ false)
 unfolding block_checks

@@ -2,7 +2,7 @@
 use Rattle.std.proofs.Common.{◌≡◌, ℕ, ◌≤◌, Bool, true, false, cond, not, ◌&&◌, Some, None, is_some, IsTrue, refl, sym, ap, subst, ◌∙◌, true≢false, eqb-true, arith, ltb-false}
 use Rattle.std.specs.Prelude.{◌==◌, if◌then◌else◌, nat_lt}
 use Rattle.std.specs.Ordering.{eq_by_cmp, nat_cmp}
-use Rattle.std.proofs.lemmas.Bool.{or_parts, eqb-false, and_from}
+use Rattle.std.proofs.lemmas.Bool.{or_parts, eqb-false, and_from, not-true}
 use Rattle.bm_base.specs.declared.replica.ReplicaId.{ReplicaId}
 use Rattle.bm_base.specs.declared.replica.Tag.{Tag}
 use Rattle.bm_base.specs.declared.replica.Tag.TheVariants.{Good, Stale, Bad, Stray}
@@ -14,7 +14,7 @@ use Rattle.bm_base.specs.declared.limits.TheConstants.{MAX_REPLICATION}
 use Rattle.bm_base.specs.Promises.Lawful.{IsLawfulHoldings}
 use Rattle.bm_base.proofs.MapLaws.{get-remove}
 use Rattle.bm_base.proofs.Ties.{number_tie}
-use Rattle.bm_base.proofs.Options.{there, is_there, not_passed}
+use Rattle.bm_base.proofs.Options.{there, is_there}
 use Rattle.bm_base.proofs.MapEntries.{Holds, same_key, get_kept, get_removed, get_revised, get_elsewhere, known_inserted, known_revised, holds_inserted, passes_entry}
 use Rattle.bm_parts.proofs.RemainingHoldings.{lawful_among, among_here}
 
@@ -72,7 +72,7 @@ module _ (H : Holdings) (b : ℕ) (f : Marks → Marks) where
   pending_left q e =
       let x = there (get (keep H.pending (λ q _. not (q.block == b))) q) e in
       let k = get_kept H.pending (λ q _. not (q.block == b)) q x.0 x.1 in
-      (is_there (get H.pending q) x.0 k.0, not_passed (q.block == b) k.1)
+      (is_there (get H.pending q) x.0 k.0, not-true (q.block == b) k.1)
 
 out_of : (m : Map by_number BlockInfo) (b q : ℕ) → (t : Bool) → (q == b) ≡ t → contains_key (remove m b) q ≡ (not t && contains_key m q)
 out_of m b q true t = ap is_some (get-remove m b q ∙ ap (λ c. cond c None (get m q)) (number_tie q b ∙ t))

@@ -2,11 +2,12 @@
 use Rattle.std.specs.Prelude.{◌≡◌, Bool, true, false, ◌&&◌, ◌==◌, List, [], ◌∷◌, ◌++◌}
 use Rattle.std.specs.List.{list_any}
 use Rattle.std.proofs.Common.{sym, subst}
+use Rattle.std.proofs.lemmas.Bool.{or_left, and_from, or_right}
 use Rattle.bm_base.specs.declared.replica.ReplicaId.{ReplicaId}
 use Rattle.bm_base.specs.declared.commands.Delete.{Delete}
 use Rattle.bm_base.specs.Words.{State, is_commanded}
 use Rattle.bm_base.specs.Promises.NextRound.{IsAmong, IsDeleteCommanded, deletes_commanded}
-use Rattle.bm_base.proofs.ListTests.{or_left, or_right, same_again}
+use Rattle.bm_base.proofs.ListTests.{same_again}
 use Rattle.laws_of_states.proofs.RoundCommands.{IsTested}
 
 commanded_at : (q : ReplicaId) (d : Delete) (front back : List Delete) → ((d.storage == q.storage) && (d.block == q.block)) ≡ true → list_any (λ e. (e.storage == q.storage) && (e.block == q.block)) (front ++ d ∷ back) ≡ true
@@ -20,10 +21,6 @@ commanded_among q d ds at e = subst (λ es. list_any (λ (c : Delete). (c.storag
 abbrev pub delete_of : ReplicaId → Delete
 delete_of q = record { storage = q.storage; block = q.block }
 
-both : (a b : Bool) → a ≡ true → b ≡ true → (a && b) ≡ true
-both true b e f = f
-both false b e f = e
-
 pub tested : (M : State) (q : ReplicaId) → IsDeleteCommanded M q → IsTested M q
 unfolding is_commanded
-tested M q h = commanded_among q (delete_of q) (deletes_commanded M) h (both (q.storage == q.storage) (q.block == q.block) (same_again q.storage) (same_again q.block))
+tested M q h = commanded_among q (delete_of q) (deletes_commanded M) h (and_from (q.storage == q.storage) (q.block == q.block) (same_again q.storage) (same_again q.block))

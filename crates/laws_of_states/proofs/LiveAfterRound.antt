@@ -2,7 +2,7 @@
 use Rattle.std.specs.Prelude.{◌≡◌, ℕ, zero, suc, ◌-◌, ◌≤◌, ◌⊎◌, Bool, true, false, not, ◌&&◌, ◌||◌, ◌==◌, nat_le, if◌then◌else◌, List, [], ◌∷◌, length, Some, None, option_map, is_some}
 use Rattle.std.specs.Option.{option_map_or}
 use Rattle.std.proofs.Common.{refl, sym, ap, subst, ◌∙◌, arith, inl, inr}
-use Rattle.std.proofs.lemmas.Bool.{leb-true, false≢true, true≢false}
+use Rattle.std.proofs.lemmas.Bool.{leb-true, false≢true, true≢false, or_left}
 use Rattle.bm_base.specs.declared.replica.ReplicaId.{ReplicaId}
 use Rattle.bm_base.specs.declared.replica.Tag.{Tag}
 use Rattle.bm_base.specs.declared.replica.Tag.TheVariants.{Good, Stale, Bad, Stray}
@@ -13,7 +13,7 @@ use Rattle.bm_base.specs.Promises.Lawful.{IsOrderly}
 use Rattle.bm_base.proofs.MapLaws.{get-revise}
 use Rattle.bm_base.proofs.Options.{revised}
 use Rattle.bm_base.specs.Promises.NextRound.{unmarked, live_unmarked, live_marked, live_after}
-use Rattle.bm_base.proofs.ListTests.{and_first, or_left, same_again}
+use Rattle.bm_base.proofs.ListTests.{and_first, same_again}
 use Rattle.bm_base.proofs.Membership.{has_where}
 use Rattle.laws_of_states.proofs.LawfulRounds.{cleared_tag}
 use Rattle.laws_of_states.proofs.MarkedReplicas.{unordered_dropped, marked_in, after_marked, excess_known, marked_count}

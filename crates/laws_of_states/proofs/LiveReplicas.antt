@@ -2,12 +2,11 @@
 use Rattle.std.specs.Prelude.{◌≡◌, ℕ, ◌↔◌, Bool, true, false, not, ◌&&◌, Option, Some, None}
 use Rattle.std.specs.Option.{option_map_or}
 use Rattle.std.proofs.Common.{refl, sym, ap, ◌∙◌}
-use Rattle.std.proofs.lemmas.Bool.{false≢true}
+use Rattle.std.proofs.lemmas.Bool.{false≢true, not-true}
 use Rattle.bm_base.specs.declared.replica.Tag.{Tag}
 use Rattle.bm_base.specs.declared.replica.Tag.TheVariants.{Good, Stale, Bad, Stray}
 use Rattle.bm_base.specs.declared.replica.Marks.{Marks}
 use Rattle.bm_base.specs.Words.{get, Cluster, Holdings, replica_at, has, live, drained, is_usable, is_live_on, is_drained_on, is_draining, is_good}
-use Rattle.bm_base.proofs.Options.{not_passed}
 use Rattle.bm_base.proofs.ListTests.{and_first, and_second}
 use Rattle.bm_base.proofs.Membership.{has_where}
 
@@ -29,7 +28,7 @@ of_mark d o m found good counts on =
 pub live_is : (C : Cluster) (H : Holdings) (b s : ℕ)
     → (has (live C H b) s ≡ true) ↔ ((m : Marks) × (get H.replicas (replica_at b s) ≡ Some m) × (m.tag ≡ Good) × (m.excess ≡ false) × (is_draining C s ≡ false))
 live_is C H b s = (
-  λ h. let is = mark_of (not (is_draining C s)) (get H.replicas (replica_at b s)) (sym (has_where (is_live_on C) H b s) ∙ h) in (is.0, is.1, is.2, is.3, not_passed (is_draining C s) is.4),
+  λ h. let is = mark_of (not (is_draining C s)) (get H.replicas (replica_at b s)) (sym (has_where (is_live_on C) H b s) ∙ h) in (is.0, is.1, is.2, is.3, not-true (is_draining C s) is.4),
   λ h. has_where (is_live_on C) H b s ∙ of_mark (not (is_draining C s)) (get H.replicas (replica_at b s)) h.0 h.1 h.2 h.3 (ap not h.4),
 )
 

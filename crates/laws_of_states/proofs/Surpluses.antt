@@ -4,18 +4,15 @@ use Rattle.std.specs.declared.cmp.Ordering.{Ordering}
 use Rattle.std.specs.Ordering.{is_lt}
 use Rattle.std.specs.Option.{option_map_or}
 use Rattle.std.proofs.Common.{cond, refl, sym, ap, subst, ◌∙◌, arith}
-use Rattle.std.proofs.lemmas.Bool.{eqb-true, false≢true}
+use Rattle.std.proofs.lemmas.Bool.{eqb-true, false≢true, or_left, or_right}
 use Rattle.bm_base.specs.Words.{Cluster, has, has_repeats, least, excess_cmp, excess_among}
 use Rattle.bm_base.proofs.Clusters.{eqb_turned}
-use Rattle.std.proofs.lemmas.Option.{same_Some}
-use Rattle.bm_base.proofs.ListTests.{count_without, has_filter, once_filter, filter_filter, or_left, or_right, same_again, and_second}
+use Rattle.std.proofs.lemmas.Option.{same_Some, none-some}
+use Rattle.bm_base.proofs.ListTests.{count_without, has_filter, once_filter, filter_filter, same_again, and_second}
 
 all_pass : {X : Type 0} (xs : List X) → filter (λ _. true) xs ≡ xs
 all_pass [] = refl
 all_pass (x ∷ xs) = ap (λ ys. x ∷ ys) (all_pass xs)
-
-some≢none : {X : Type 0} (x : X) → None ≡ Some x → ⊥
-some≢none x e = false≢true (ap is_some e)
 
 -- The least of a list is in the list, and nothing in it comes before the least by the order's first
 -- part.
@@ -30,14 +27,14 @@ among_first R x xs None h = or_left (x == x) (has xs x) (same_again x)
 among_first R x xs (Some y) h = among_two x y xs (is_lt (R y x)) (h y refl)
 
 pub least_among : (R : ℕ → ℕ → Ordering) (xs : List ℕ) (x : ℕ) → least R xs ≡ Some x → has xs x ≡ true
-least_among R [] x e = absurd (some≢none x e)
+least_among R [] x e = absurd (none-some x e)
 least_among R (z ∷ xs) x e =
     subst (λ y. has (z ∷ xs) y ≡ true) (same_Some (option_map_or (λ y. if is_lt (R y z) then y else z) (least R xs) z) x e) (among_first R z xs (least R xs) (λ y f. least_among R xs y f))
 
 -- a list that is not empty has a least item
 pub least_there : (R : ℕ → ℕ → Ordering) (xs : List ℕ) → 1 ≤ length xs → least R xs ≡ None → ⊥
 least_there R [] h e = omega arith
-least_there R (x ∷ xs) h e = some≢none (option_map_or (λ y. if is_lt (R y x) then y else x) (least R xs) x) (sym e)
+least_there R (x ∷ xs) h e = none-some (option_map_or (λ y. if is_lt (R y x) then y else x) (least R xs) x) (sym e)
 
 -- The candidates that stay.
 

@@ -1,10 +1,10 @@
 use Rattle.std.proofs.Common.{◌≡◌, ◌++◌, ℕ, List, length, take, false, refl, subst, sym, ap, ◌∙◌, arith}
-use Rattle.std.proofs.lemmas.List.{append-nil, length-append}
+use Rattle.std.proofs.lemmas.List.{append-nil, length-append, nil_from_length}
 use Rattle.std.proofs.Math.Seq.{take-append_seam}
 use Rattle.bm_maps.specs.SlotLists.{IsMember}
 use Rattle.bm_report.specs.declared.report_counts.ReportCounts.{ReportCounts}
 use Rattle.bm_report.specs.DuringReport.{behind, IsExcessGood}
-use Rattle.bm_report.proofs.UnchangedReport.{already_all, nothing_left}
+use Rattle.bm_report.proofs.UnchangedReport.{already_all}
 use Rattle.bm_report.proofs.Maps.{Held}
 use Rattle.bm_report.proofs.Stages.{behind-fits, replicas1, here1, capacity1, once1, here4, good4, replicas5, blocks5, entries5, free5, listed5, changed5, added5, removed5}
 use Rattle.bm_report.proofs.full_report.apply.Goals as goal
@@ -109,7 +109,7 @@ returns-clause-no_change c all none =
     let q = c.add_all_reported.ensures.no_change (already_all c.args.arena.now c.put_delimiter.new.self c.args.storage c.args.named.now c.show_invariant.ensures c.requires.here c.put_delimiter.ensures.others.blocks all) in
     let swept = c.sweep.ensures.swept.removed in
     let empty : length (behind c.add_all_reported.new.arena c.args.storage) ≡ 0 = omega (arith, swept, none) in
-    c.sweep.ensures.appended ∙ ap (λ l. c.add_all_reported.new.changed.items ++ l) (nothing_left (behind c.add_all_reported.new.arena c.args.storage) empty) ∙ append-nil c.add_all_reported.new.changed.items ∙ q.1
+    c.sweep.ensures.appended ∙ ap (λ l. c.add_all_reported.new.changed.items ++ l) (nil_from_length (behind c.add_all_reported.new.arena c.args.storage) empty) ∙ append-nil c.add_all_reported.new.changed.items ∙ q.1
 
 pub returns-clause-split : goal.returns-clause-split
 returns-clause-split c =

@@ -1,6 +1,7 @@
 use Rattle.std.proofs.Common.{[], ◌++◌, List, map, sym, subst, ap, ◌∙◌}
 use Rattle.std.specs.Slice.Iter.{chunks_rest}
 use Rattle.std.proofs.lemmas.List.{nil_from_length}
+use Rattle.std.proofs.lemmas.Bool.{false_from_ne_true}
 use Rattle.bm_report.specs.declared.types.ReportedSlot.{ReportedSlot}
 use Rattle.bm_report.specs.Aborted.{NamesNew}
 use Rattle.bm_arena.specs.Contents.{Contents}
@@ -10,7 +11,7 @@ use Rattle.bm_report.specs.Ready.{HaveReplicas}
 use Rattle.bm_report.proofs.Aborts.{naming-chain}
 use Rattle.bm_report.proofs.Preparation.{prepared-chain}
 use Rattle.bm_report.proofs.NumberRuns.{chunk_on, chunks_end}
-use Rattle.bm_report.proofs.NamedNumbers.{named_apart, not_named, chunk_named, left_named}
+use Rattle.bm_report.proofs.NamedNumbers.{named_apart, chunk_named, left_named}
 use Rattle.bm_report.proofs.look_up.look_up_all.Goals as goal
 
 pub loop-chunk-preserved : goal.loop-chunk-preserved
@@ -27,7 +28,7 @@ loop-chunk-preserved c =
       kept = prepared-chain c.args.arena.now c.loop-chunk.arena c.look_up_chunk.new.arena inv.kept c.look_up_chunk.ensures.kept;
       here = c.in_ok-look_up_chunk.ensures.here;
       capacity = c.in_ok-look_up_chunk.ensures.capacity;
-      others = λ b out. c.look_up_chunk.ensures.others b (not_named _ (λ in_it. named_apart _ b out (chunk_named part c.args.entries.now _ chunk left whole inv.rest b in_it))) ∙ inv.others b out;
+      others = λ b out. c.look_up_chunk.ensures.others b (false_from_ne_true _ (λ in_it. named_apart _ b out (chunk_named part c.args.entries.now _ chunk left whole inv.rest b in_it))) ∙ inv.others b out;
       rest = left_named part c.args.entries.now _ chunk left whole inv.rest;
       there = λ h.
           let same = inv.there h in
@@ -49,7 +50,7 @@ returns-in_err-look_up_chunk-clause-kept c = prepared-chain c.args.arena.now c.l
 pub returns-in_err-look_up_chunk-clause-others : goal.returns-in_err-look_up_chunk-clause-others
 returns-in_err-look_up_chunk-clause-others c b out =
     let inv = c.loop-chunk.invariant in
-    c.look_up_chunk.ensures.others b (not_named _ (λ in_it. named_apart _ b out (chunk_named c.args.part c.args.entries.now _ c.in-Some.chunk.now (chunks_rest c.next.new.self) c.in-Some.ensures.steps.1.0 inv.rest b in_it))) ∙ inv.others b out
+    c.look_up_chunk.ensures.others b (false_from_ne_true _ (λ in_it. named_apart _ b out (chunk_named c.args.part c.args.entries.now _ c.in-Some.chunk.now (chunks_rest c.next.new.self) c.in-Some.ensures.steps.1.0 inv.rest b in_it))) ∙ inv.others b out
 
 pub returns-in_err-look_up_chunk-clause-there : goal.returns-in_err-look_up_chunk-clause-there
 returns-in_err-look_up_chunk-clause-there c h =

@@ -1,5 +1,6 @@
 use Rattle.std.proofs.Common.{length, refl, sym, subst, ◌∙◌, map}
 use Rattle.std.proofs.lemmas.Option.{slice_get_read}
+use Rattle.std.proofs.lemmas.Bool.{false_from_ne_true}
 use Rattle.bm_arena.specs.Contents.{Contents}
 use Rattle.bm_base.specs.Machine.Entries.{blocks_of_entry}
 use Rattle.bm_report.specs.Expanded.{of_part}
@@ -8,7 +9,7 @@ use Rattle.bm_report.specs.Ready.{HaveReplicas}
 use Rattle.bm_report.proofs.Aborts.{naming-chain}
 use Rattle.bm_report.proofs.Preparation.{prepared-chain}
 use Rattle.bm_report.proofs.NumberRuns.{reported_on, reported_end}
-use Rattle.bm_report.proofs.NamedNumbers.{named_apart, not_named, entry_named, rest_named}
+use Rattle.bm_report.proofs.NamedNumbers.{named_apart, entry_named, rest_named}
 use Rattle.bm_report.proofs.look_up.look_up_chunk.Goals as goal
 
 pub loop-entry-preserved : goal.loop-entry-preserved
@@ -19,7 +20,7 @@ loop-entry-preserved c =
       here = c.in_ok-look_up_run.ensures.here;
       capacity = c.in_ok-look_up_run.ensures.capacity;
       others = λ b out.
-          c.look_up_run.ensures.others b (not_named _ (λ in_it. named_apart _ b out (c.loop-entry.invariant.rest b (entry_named c.args.part c.args.chunk.now c.loop-entry.entry-index c.entry-item.result b at in_it)))) ∙ c.loop-entry.invariant.others b out;
+          c.look_up_run.ensures.others b (false_from_ne_true _ (λ in_it. named_apart _ b out (c.loop-entry.invariant.rest b (entry_named c.args.part c.args.chunk.now c.loop-entry.entry-index c.entry-item.result b at in_it)))) ∙ c.loop-entry.invariant.others b out;
       rest = λ b in_it. c.loop-entry.invariant.rest b (rest_named c.args.part c.args.chunk.now c.loop-entry.entry-index c.entry-item.result b at in_it);
       there = λ h.
           let same = c.loop-entry.invariant.there h in
@@ -36,7 +37,7 @@ returns-clause-named c =
 pub returns-in_err-look_up_run-clause-others : goal.returns-in_err-look_up_run-clause-others
 returns-in_err-look_up_run-clause-others c b out =
     let at = slice_get_read c.args.chunk.now (length c.args.chunk.now) c.loop-entry.entry-index c.entry-item.result refl c.loop-entry-test.true c.entry-item.is in
-    c.look_up_run.ensures.others b (not_named _ (λ in_it. named_apart _ b out (c.loop-entry.invariant.rest b (entry_named c.args.part c.args.chunk.now c.loop-entry.entry-index c.entry-item.result b at in_it)))) ∙ c.loop-entry.invariant.others b out
+    c.look_up_run.ensures.others b (false_from_ne_true _ (λ in_it. named_apart _ b out (c.loop-entry.invariant.rest b (entry_named c.args.part c.args.chunk.now c.loop-entry.entry-index c.entry-item.result b at in_it)))) ∙ c.loop-entry.invariant.others b out
 
 pub returns-in_err-look_up_run-clause-there : goal.returns-in_err-look_up_run-clause-there
 returns-in_err-look_up_run-clause-there c h =

@@ -1,6 +1,7 @@
 use Rattle.std.proofs.Common.{◌≡◌, suc, length, drop, ◌∷◌, [], false, refl, subst, ◌∙◌, arith, add-one}
 use Rattle.std.proofs.Common.{Bool, true, ◌||◌, List, ℕ, map, inl, inr, sym}
 use Rattle.std.proofs.lemmas.Option.{slice_get_read}
+use Rattle.std.proofs.lemmas.Bool.{or_parts}
 use Rattle.bm_report.specs.declared.types.ReportedSlot.{ReportedSlot}
 use Rattle.bm_maps.specs.SlotLists.{IsMember}
 use Rattle.bm_report.specs.DuringReport.{slot_in}
@@ -8,10 +9,6 @@ use Rattle.bm_report.proofs.ListedSlots.{slot-listed}
 use Rattle.bm_report.proofs.UnchangedReport.{already_same, one_of}
 use Rattle.bm_report.proofs.PartialReport.{IsUnderway, listed-chain, underway-next, underway-last, drop_next, drop_all}
 use Rattle.bm_report.proofs.reported_chunks.add_chunk.Goals as goal
-
-both_false : (a b : Bool) → (a || b) ≡ false → (a ≡ false) × (b ≡ false)
-both_false true b e = cc
-both_false false b e = (refl, e)
 
 underway_here : (c : goal.After-add_and_list-now_changed)
     → IsUnderway c.args.topology.now.cluster c.args.storage c.args.chunk.now (c.index-chunk-index.result ∷ drop (suc c.loop-index.index) c.args.chunk.now) c.args.arena.now c.loop-index.arena c.args.tally.now c.loop-index.tally
@@ -29,7 +26,7 @@ loop-index-preserved c = record {
       c.add_and_list-now_changed.new.arena c.args.tally.now c.loop-index.tally c.add_and_list-now_changed.new.tally
       (underway_here c) c.add_and_list-now_changed.ensures.entered c.add_and_list-now_changed.ensures.counted);
   same = λ e.
-      let both = both_false c.loop-index.is_changed c.add_and_list-now_changed.result e in
+      let both = or_parts c.loop-index.is_changed c.add_and_list-now_changed.result e in
       c.add_and_list-now_changed.ensures.same both.1 ∙ c.loop-index.invariant.same both.0;
   space = omega (arith, c.add_and_list-now_changed.ensures.grown, c.loop-index.invariant.space);
   no_change = λ all.

@@ -1,9 +1,10 @@
 use Rattle.std.proofs.Common.{arith, ◌∙◌, ◌∷◌, [], sym, length-append}
 use Rattle.std.specs.Result.{result_and}
 use Rattle.std.specs.Prelude.{ℕ}
+use Rattle.std.proofs.lemmas.List.{map_push}
 use Rattle.bm_shards.specs.Answers.{Asked, shard_answered}
 use Rattle.bm_crew.proofs.Zips.{take_one}
-use Rattle.bm_shards.proofs.Gathered.{map_push, fault_push, fault_alone}
+use Rattle.bm_shards.proofs.Gathered.{fault_push, fault_alone}
 use Rattle.bm_shards.proofs.answers.gather_prepared.Goals as goal
 
 pub loop-index-preserved : goal.loop-index-preserved

@@ -2,9 +2,10 @@ use Rattle.std.specs.Prelude.{ℕ}
 use Rattle.std.specs.Result.{result_and, result_ok}
 use Rattle.std.specs.List.{cons_option}
 use Rattle.std.proofs.Common.{arith, ◌∙◌, ◌∷◌, [], ◌++◌, ap, sym, length-append}
+use Rattle.std.proofs.lemmas.List.{map_push}
 use Rattle.bm_shards.specs.Answers.{Asked, shard_answered}
 use Rattle.bm_crew.proofs.Zips.{take_one}
-use Rattle.bm_shards.proofs.Gathered.{map_push, fault_push, answers_push}
+use Rattle.bm_shards.proofs.Gathered.{fault_push, answers_push}
 use Rattle.bm_shards.proofs.answers.split_answers.Goals as goal
 
 pub loop-index-preserved : goal.loop-index-preserved

@@ -1,15 +1,11 @@
 use Rattle.std.proofs.Common.{◌≡◌, ◌&&◌, ◌<◌, ◌+◌, ℕ, Bool, true, false, List, length, inl, inr, refl, sym, subst, ◌∙◌, arith}
 use Rattle.std.specs.Prelude.{slice_index_or}
-use Rattle.std.proofs.lemmas.Bool.{cases_eq}
+use Rattle.std.proofs.lemmas.Bool.{cases_eq, and_parts}
 use Rattle.std.proofs.lemmas.Option.{same_Some, get_or_from_slice_get, slice_get-get_or, slice_get_within}
 use Rattle.bm_levels.specs.declared.classification.BlockStatus.{BlockStatus}
 use Rattle.bm_levels.specs.IndexedLevels.{IndexedLevels, HasStatus}
 use Rattle.bm_levels.proofs.StatusUpdates.{among_in}
 use Rattle.bm_levels.proofs.level_index.LevelIndex.keeps_all.Goals as goal
-
-both_true : (a b : Bool) → (a && b) ≡ true → (a ≡ true) × (b ≡ true)
-both_true true b e = (refl, e)
-both_true false b e = cc
 
 -- what is read within a list does not depend on the default
 kept_here : (K : IndexedLevels) (x slot : ℕ) (k : BlockStatus) (js : List BlockStatus) (p : ℕ) (d default : BlockStatus) → HasStatus K x k → x ≡ slot → k ≡ slice_index_or js p d → p < length js → HasStatus K slot (slice_index_or js p default)
@@ -25,7 +21,7 @@ status_at-requires c =
 
 pub loop-index-preserved : goal.loop-index-preserved
 loop-index-preserved c e i below slot default is =
-    let both = both_true c.loop-index.are_kept c.are_equal-are_kept.result e in
+    let both = and_parts c.loop-index.are_kept c.are_equal-are_kept.result e in
     elim (cases_eq i c.loop-index.index) [
       | inl here ↦
           let low : c.loop-index.index < length c.args.status.now = omega (arith, c.requires.few, c.loop-index-test.true) in

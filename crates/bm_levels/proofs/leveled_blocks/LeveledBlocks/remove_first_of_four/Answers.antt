@@ -1,15 +1,12 @@
 use Rattle.std.proofs.Common.{◌≡◌, Bool, true, false, refl, sym, ◌∙◌}
 use Rattle.std.specs.Prelude.{◌||◌}
+use Rattle.std.proofs.lemmas.Bool.{or_parts}
 use Rattle.bm_levels.proofs.leveled_blocks.LeveledBlocks.remove_first_of_four.Goals as goal
-
-neither : (a b : Bool) → (a || b) ≡ false → (a ≡ false) × (b ≡ false)
-neither true b e = cc
-neither false b e = (refl, e)
 
 none_of : (a b c : Bool) → ((a || b) || c) ≡ false → (a ≡ false) × (b ≡ false) × (c ≡ false)
 none_of a b c e =
-    let last = neither (a || b) c e in
-    let first = neither a b last.0 in
+    let last = or_parts (a || b) c e in
+    let first = or_parts a b last.0 in
     (first.0, first.1, last.1)
 
 pub remove_first_once-second-requires : goal.remove_first_once-second-requires

@@ -1,9 +1,9 @@
 use Rattle.std.proofs.Common.{◌≡◌, ◌+◌, drop, List, sym, subst, arith}
-use Rattle.std.proofs.lemmas.List.{drop_all}
+use Rattle.std.proofs.lemmas.List.{drop_all, drop_more}
 use Rattle.std.proofs.lemmas.Result.{err_from_is_err_and}
 use Rattle.cluster_losses.specs.declared.loss.Loss.{Loss}
 use Rattle.cluster_losses.specs.Named.{all_named, dies, drains, fails, first_unknown}
-use Rattle.cluster_losses.proofs.NamedLemmas.{AreLeft, none_left, added, all_added, fault_stays, once, next_at}
+use Rattle.cluster_losses.proofs.NamedLemmas.{AreLeft, none_left, added, all_added, fault_stays, once}
 use Rattle.cluster_losses.proofs.loss_events.Lost.named.Goals as goal
 
 pub loop-loss-init : goal.loop-loss-init
@@ -16,7 +16,7 @@ loop-loss-preserved c =
     let ls = c.args.losses.now in
     let i = c.loop-loss.loss-index in
     added C names ls (drop (i + 1) ls) _ c.loop-loss.lost _ c.in_ok-add.ensures.lost c.in_ok-add.ensures.known
-    (subst (λ (rest : List Loss). AreLeft C names rest ls c.loop-loss.lost) (next_at ls i _ c.loop-loss-test.true) c.loop-loss.invariant)
+    (subst (λ (rest : List Loss). AreLeft C names rest ls c.loop-loss.lost) (drop_more ls i _ c.loop-loss-test.true) c.loop-loss.invariant)
 
 pub returns-clause-lost : goal.returns-clause-lost
 returns-clause-lost c =
@@ -53,4 +53,4 @@ returns-in_err-add-clause-fault c =
     let e = err_from_is_err_and c.from_residual.result c.from_residual.ensures.1 in
     rw (e.1, e.2)
     (fault_stays C names ls (drop (i + 1) ls) _ _
-    (subst (λ (rest : List Loss). first_unknown C names rest ≡ first_unknown C names ls) (next_at ls i _ c.loop-loss-test.true) c.loop-loss.invariant.unknown) c.in_err-add.ensures.fault)
+    (subst (λ (rest : List Loss). first_unknown C names rest ≡ first_unknown C names ls) (drop_more ls i _ c.loop-loss-test.true) c.loop-loss.invariant.unknown) c.in_err-add.ensures.fault)
