@@ -7,6 +7,7 @@ use Rattle.std.specs.FinMap.{find, is_sorted}
 use Rattle.std.specs.FinMap.Entries.{below_all}
 use Rattle.std.proofs.Common.{inl, inr, cond, refl, sym, ap, subst, ◌∙◌}
 use Rattle.std.proofs.lemmas.Bool.{cases_Bool, eqb-true}
+use Rattle.std.proofs.Math.Bool.{and-false}
 use Rattle.bm_base.specs.Maps.Conjunction.{first, second}
 use Rattle.bm_base.specs.declared.replica.ReplicaId.{ReplicaId}
 use Rattle.bm_base.specs.declared.replica.Marks.{Marks}
@@ -18,7 +19,7 @@ use Rattle.bm_base.proofs.MapLaws.{find_below, entries-revise}
 use Rattle.bm_base.proofs.Ties.{replica_tie}
 use Rattle.bm_base.proofs.Clusters.{eqb_turned}
 use Rattle.bm_base.proofs.MapEntries.{same_key}
-use Rattle.bm_base.proofs.ListTests.{and_never, any_map, any_filter, any_agree}
+use Rattle.bm_base.proofs.ListTests.{any_map, any_filter, any_agree}
 
 module _ {K X : Type 0} (o : Order K) where
   -- at most one of the sorted entries has the key
@@ -50,7 +51,7 @@ on_storage : {X : Type 0} (x : Bool) (p : ℕ → X → Bool) (t s : ℕ) (v : X
 on_storage x p t s v =
     elim (cases_Bool (t == s)) [
       | inl same ↦ ap (λ u. (x && p u v) && (t == s)) (eqb-true t s same)
-      | inr other ↦ rw other (and_never (x && p t v) ∙ sym (and_never (x && p s v)))
+      | inr other ↦ rw other (and-false (x && p t v) ∙ sym (and-false (x && p s v)))
     ]
 
 turned : (x y z u : Bool) → x ≡ u → ((x && y) && z) ≡ ((u && z) && y)

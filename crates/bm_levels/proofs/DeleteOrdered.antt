@@ -4,6 +4,7 @@ use Rattle.std.specs.Prelude.{◌≡◌, ◌↔◌, ℕ, ◌+◌, IsSome, Bool, 
 use Rattle.std.specs.List.{list_any}
 use Rattle.std.proofs.Common.{cond, refl, sym, ap, subst, ◌∙◌, inl, inr}
 use Rattle.std.proofs.lemmas.Bool.{cases_eq, eqb-true}
+use Rattle.std.proofs.Math.Bool.{or-true}
 use Rattle.bm_base.specs.declared.replica.Marks.{Marks}
 use Rattle.bm_base.specs.declared.replica.Tag.{Tag}
 use Rattle.bm_base.specs.declared.replica.Tag.TheVariants.{Good, Stale, Bad, Stray}
@@ -80,16 +81,13 @@ some_marked : (rs : List (ℕ × Marks)) (s : ℕ) (m : Marks) → find_marks rs
 some_marked [] s m e f = cc
 some_marked (r ∷ rs) s m e f = by (r.0 == s) (λ g. some_marked rs s m g f) e
   where
-    either : (b : Bool) → (b || true) ≡ true
-    either true = refl
-    either false = refl
 
     by : (b : Bool) → (find_marks rs s ≡ Some m → list_any (λ (x : ℕ × Marks). not (is_good_and_unmarked x.1)) rs ≡ true) → cond b (Some r.1) (find_marks rs s) ≡ Some m
         → (not (is_good_and_unmarked r.1) || list_any (λ (r : ℕ × Marks). not (is_good_and_unmarked r.1)) rs) ≡ true
     by true rest g =
         let was : r.1 ≡ m = (cc) in
         ap (λ b. not b || list_any (λ (r : ℕ × Marks). not (is_good_and_unmarked r.1)) rs) (ap is_good_and_unmarked was ∙ f)
-    by false rest g = ap (λ b. not (is_good_and_unmarked r.1) || b) (rest g) ∙ either (not (is_good_and_unmarked r.1))
+    by false rest g = ap (λ b. not (is_good_and_unmarked r.1) || b) (rest g) ∙ or-true (not (is_good_and_unmarked r.1))
 
 unsettled_where : (o : Option Block) (s : ℕ) (m : Marks) → option_and_then (λ (k : Block). find_marks k.replicas s) o ≡ Some m → is_good_and_unmarked m ≡ false → is_settled_at o ≡ false
 unfolding is_settled_at

@@ -5,6 +5,7 @@
 use Rattle.std.specs.Prelude.{◌≡◌, ℕ, Bool, true, false, ◌&&◌, ◌||◌, ◌==◌, if◌then◌else◌, List, [], ◌∷◌, Option, Some, None, option_map}
 use Rattle.std.specs.Ordering.{eq_by_cmp}
 use Rattle.std.proofs.Common.{cond, refl, sym, ap, ◌∙◌}
+use Rattle.std.proofs.Math.Bool.{and_comm}
 use Rattle.bm_base.specs.declared.replica.ReplicaId.{ReplicaId}
 use Rattle.bm_base.specs.declared.replica.Marks.{Marks}
 use Rattle.bm_base.specs.declared.commands.Delete.{Delete}
@@ -24,14 +25,8 @@ unmapped : {X : Type 0} (v : Option X) → v ≡ option_map (λ x. x) v
 unmapped None = refl
 unmapped (Some x) = refl
 
-and_swap : (s t : Bool) → (s && t) ≡ (t && s)
-and_swap true true = refl
-and_swap true false = refl
-and_swap false true = refl
-and_swap false false = refl
-
 its_key : (q p : ReplicaId) → eq_by_cmp replica_cmp q p ≡ ((p.storage == q.storage) && (p.block == q.block))
-its_key q p = replica_tie q p ∙ and_swap (q.block == p.block) (q.storage == p.storage) ∙ (λ i. eqb_turned q.storage p.storage i && eqb_turned q.block p.block i)
+its_key q p = replica_tie q p ∙ and_comm (q.block == p.block) (q.storage == p.storage) ∙ (λ i. eqb_turned q.storage p.storage i && eqb_turned q.block p.block i)
 
 module _ (f : Marks → Marks) (again : (x : Marks) → f (f x) ≡ f x) (m : Map by_replica Marks) where
   abbrev flagged : (ReplicaId → Bool) → Map by_replica Marks

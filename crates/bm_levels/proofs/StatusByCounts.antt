@@ -7,6 +7,7 @@ use Rattle.std.proofs.Common.{refl, sym, subst, ap, ◌∙◌, inl, inr, arith}
 use Rattle.std.proofs.lemmas.Bool.{le-leb, lt-leb}
 use Rattle.std.proofs.lemmas.List.{length-map}
 use Rattle.std.proofs.lemmas.Option.{none-some, same_Some}
+use Rattle.std.proofs.Math.Bool.{and-false}
 use Rattle.bm_base.specs.declared.replica.Marks.{Marks}
 use Rattle.bm_base.specs.declared.replica.BlockInfo.{BlockInfo}
 use Rattle.bm_base.specs.declared.level.Level.TheVariants.{BadlyDistributed}
@@ -115,12 +116,8 @@ module _ (rack : ℕ → Option ℕ) (draining : ℕ → Bool) where
   settled_counted b i k e h =
       elim h.decided [
         | inl all ↦ settled_known (Some b) i k e (sym (ap (count_replicas rack draining k) all) ∙ h.counted)
-        | inr soon ↦ ap (λ t. k.is_good_and_unmarked && t) (lt-leb (length b.replicas) i.repl soon.0) ∙ never k.is_good_and_unmarked ∙ settled_soon (Some b) i e soon.0
+        | inr soon ↦ ap (λ t. k.is_good_and_unmarked && t) (lt-leb (length b.replicas) i.repl soon.0) ∙ and-false k.is_good_and_unmarked ∙ settled_soon (Some b) i e soon.0
       ]
-    where
-      never : (c : Bool) → (c && false) ≡ false
-      never true = refl
-      never false = refl
 
   pub level_classified : (multi : Bool) (o : Option Block) (ts : List Triplet) (i : BlockInfo) (k : Count) → Some (Some i) ≡ option_map (λ (b : Block). b.info) o
       → Some (map triplet_view ts) ≡ option_map (λ (b : Block). b.replicas) o → IsCountOf rack draining i.repl (map triplet_view ts) k

@@ -3,6 +3,7 @@
 use Rattle.std.proofs.Common.{◌≡◌, Bool, true, false, cond, ◌&&◌, Option, Some, None, refl, sym, ap, ◌∙◌}
 use Rattle.std.specs.Prelude.{option_and_then}
 use Rattle.std.specs.Ordering.{eq_by_cmp}
+use Rattle.std.proofs.Math.Bool.{and_comm}
 use Rattle.bm_base.specs.Maps.Map.{Map, Order, get, insert, keep, remove}
 use Rattle.bm_base.proofs.MapLaws.{equal, same_map, get-keep, get-insert, get-remove}
 
@@ -13,15 +14,9 @@ passed_then : {X : Type 0} (a : X → Bool) (t : Bool) (x : X) → option_and_th
 passed_then a true x = refl
 passed_then a false x = refl
 
-and_swap : (s t : Bool) → (s && t) ≡ (t && s)
-and_swap true true = refl
-and_swap true false = refl
-and_swap false true = refl
-and_swap false false = refl
-
 both_pass : {X : Type 0} (a b : X → Bool) (v : Option X) → option_and_then (λ x. passed (a x) x) (option_and_then (λ x. passed (b x) x) v) ≡ option_and_then (λ x. passed (b x) x) (option_and_then (λ x. passed (a x) x) v)
 both_pass a b None = refl
-both_pass a b (Some x) = passed_then a (b x) x ∙ ap (λ t. passed t x) (and_swap (b x) (a x)) ∙ sym (passed_then b (a x) x)
+both_pass a b (Some x) = passed_then a (b x) x ∙ ap (λ t. passed t x) (and_comm (b x) (a x)) ∙ sym (passed_then b (a x) x)
 
 all_pass : {X : Type 0} (b : Bool) (v : Option X) → b ≡ true → option_and_then (λ x. passed b x) v ≡ v
 all_pass true None e = refl

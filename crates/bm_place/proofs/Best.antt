@@ -7,12 +7,9 @@ use Rattle.std.specs.Ordering.{is_lt}
 use Rattle.std.specs.Cmp.{IsTotalOrder, IsStrictWeakOrder}
 use Rattle.std.proofs.lemmas.List.MinMax.{ranks_by}
 use Rattle.std.proofs.lemmas.Bool.{eqb-true}
+use Rattle.std.proofs.Math.Bool.{or-true}
 use Rattle.bm_base.specs.Maps.Lists.{has, least}
 use Rattle.bm_place.specs.Least.{IsLeastOf}
-
-or_true : (b : Bool) → (b || true) ≡ true
-or_true true = refl
-or_true false = refl
 
 module _ (R : ℕ → ℕ → Ordering) (o : IsStrictWeakOrder (λ x y. is_lt (R x y))) (p : ℕ → Bool) where
   itself : (x : ℕ) (b : Bool) → is_lt (R x x) ≡ b → is_lt (R x x) ≡ false
@@ -37,7 +34,7 @@ module _ (R : ℕ → ℕ → Ordering) (o : IsStrictWeakOrder (λ x y. is_lt (R
   after_some : (x b : ℕ) (xs : List ℕ) (t : Bool) → is_lt (R b x) ≡ t → p x ≡ true → IsLeastOf R p xs (Some b) → IsLeastOf R p (x ∷ xs) (Some (cond t b x))
   after_some x b xs true e passes rest = (
     rest.0,
-    ap (λ t. (x == b) || t) rest.1 ∙ or_true (x == b),
+    ap (λ t. (x == b) || t) rest.1 ∙ or-true (x == b),
     λ y h f. first_or (λ z. p z ≡ true → is_lt (R z b) ≡ false) x y xs (x == y) refl h (λ _. o.one_way b x e) (λ there f. rest.2 y there f) f,
   )
   after_some x b xs false e passes rest = (
@@ -53,7 +50,7 @@ module _ (R : ℕ → ℕ → Ordering) (o : IsStrictWeakOrder (λ x y. is_lt (R
   passed_over x xs None fails rest = λ y h. first_or (λ z. p z ≡ false) x y xs (x == y) refl h fails (rest y)
   passed_over x xs (Some b) fails rest = (
     rest.0,
-    ap (λ t. (x == b) || t) rest.1 ∙ or_true (x == b),
+    ap (λ t. (x == b) || t) rest.1 ∙ or-true (x == b),
     λ y h f. first_or (λ z. p z ≡ true → is_lt (R z b) ≡ false) x y xs (x == y) refl h (λ f. absurd (true≢false (sym f ∙ fails))) (λ there f. rest.2 y there f) f,
   )
 

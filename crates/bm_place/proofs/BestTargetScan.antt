@@ -11,6 +11,7 @@ use Rattle.std.proofs.lemmas.Bool.Decides.{nat_tests}
 use Rattle.std.proofs.lemmas.Cmp.{tied_itself}
 use Rattle.std.proofs.lemmas.List.MinMax.{ranks_by}
 use Rattle.std.proofs.lemmas.Option.{cond_some}
+use Rattle.std.proofs.Math.Bool.{or-true}
 use Rattle.bm_base.specs.declared.level.Level.{Level}
 use Rattle.bm_base.specs.declared.level.Level.TheVariants.{BadlyDistributed}
 use Rattle.bm_base.specs.Words.{is_at, has, least, get, keys, Cluster, free_bytes, class_of, target_cmp, is_target, least_target_by}
@@ -77,14 +78,10 @@ module _ (C : Cluster) (w : ReplicaSpread) (urgency : Level) (excluded : List �
 
 -- Lists of targets and of their storages.
 
-or_behind : (b : Bool) → (b || true) ≡ true
-or_behind true = refl
-or_behind false = refl
-
 pub has_storage_of : (cs : List TargetRow) (c : TargetRow) → IsMember cs c → has (map (λ (t : TargetRow). t.storage) cs) c.storage ≡ true
 has_storage_of [] c none = absurd none
 has_storage_of (d ∷ cs) c (inl e) = ap (λ b. b || has (map (λ (t : TargetRow). t.storage) cs) c.storage) (eq-eqb d.storage c.storage (ap (λ (t : TargetRow). t.storage) e))
-has_storage_of (d ∷ cs) c (inr there) = ap (λ b. (d.storage == c.storage) || b) (has_storage_of cs c there) ∙ or_behind (d.storage == c.storage)
+has_storage_of (d ∷ cs) c (inr there) = ap (λ b. (d.storage == c.storage) || b) (has_storage_of cs c there) ∙ or-true (d.storage == c.storage)
 
 pub of_storage : (cs : List TargetRow) (s : ℕ) → has (map (λ (t : TargetRow). t.storage) cs) s ≡ true → (c : TargetRow) × IsMember cs c × (c.storage ≡ s)
 of_storage [] s h = cc

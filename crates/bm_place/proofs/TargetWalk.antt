@@ -8,6 +8,7 @@ use Rattle.std.proofs.Common.{◌≡◌, ◌<◌, ◌≤◌, ◌+◌, ℕ, suc, 
 use Rattle.std.proofs.lemmas.Bool.{leb-true}
 use Rattle.std.proofs.lemmas.Bool.Decides.{nat_tests}
 use Rattle.std.proofs.lemmas.List.{at_drop_all}
+use Rattle.std.proofs.Math.Bool.{and-false}
 use Rattle.bm_base.specs.declared.level.Level.{Level}
 use Rattle.bm_base.specs.declared.level.Level.TheVariants.{BadlyDistributed}
 use Rattle.bm_base.specs.Words.{is_at, Cluster}
@@ -30,11 +31,7 @@ scan_none R p best (x ∷ xs) none = ap (λ b. scan R p (cond (b && is_better R 
 scan_best : {X : Type 0} (R : X → X → Ordering) (p : X → Bool) (b : X) (xs : List X) → ((x : X) → IsMember xs x → is_lt (R x b) ≡ false) → scan R p (Some b) xs ≡ Some b
 scan_best R p b [] least = refl
 scan_best R p b (x ∷ xs) least =
-    ap (λ t. scan R p (cond t (Some x) (Some b)) xs) (ap (λ t. p x && t) (least x (inl refl)) ∙ never (p x)) ∙ scan_best R p b xs (λ y there. least y (inr there))
-  where
-    never : (b : Bool) → (b && false) ≡ false
-    never true = refl
-    never false = refl
+    ap (λ t. scan R p (cond t (Some x) (Some b)) xs) (ap (λ t. p x && t) (least x (inl refl)) ∙ and-false (p x)) ∙ scan_best R p b xs (λ y there. least y (inr there))
 
 -- if x does not come before t by free bytes, and t is of the better class, x does not come before t
 not_before_first : (w : ReplicaSpread) (x t : TargetRow) → class_by_spread w t.rack ≡ 0 → is_better_than x t ≡ false → is_lt (cmp_targets w x t) ≡ false

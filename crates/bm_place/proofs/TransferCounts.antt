@@ -7,6 +7,7 @@ use Rattle.std.specs.declared.cmp.Ordering.{Ordering}
 use Rattle.std.specs.Option.{option_map_or, IfSome}
 use Rattle.std.proofs.lemmas.List.Sums.{sum_by-append, sum_by_push}
 use Rattle.std.proofs.lemmas.Bool.{eqb-true, eq-eqb, ltb-true}
+use Rattle.std.proofs.Math.Bool.{or-true}
 use Rattle.bm_base.specs.declared.commands.Transfer.{Transfer}
 use Rattle.bm_base.specs.declared.level.Level.{Level}
 use Rattle.bm_base.specs.declared.level.Level.TheVariants.{Highest, VeryUnderReplicated, UnderReplicated, BadlyDistributed, NoUsableReplica}
@@ -76,17 +77,13 @@ targets-chosen C chosen t =
 
 -- Sources.
 
-or_true : (b : Bool) → (b || true) ≡ true
-or_true true = refl
-or_true false = refl
-
 has_mapped : (f : ℕ → ℕ) (ks : List ℕ) (s : ℕ) → has ks s ≡ true → has (map f ks) (f s) ≡ true
 has_mapped f [] s h = cc
 has_mapped f (k ∷ ks) s h = by (k == s) refl h (has_mapped f ks s)
   where
     by : (b : Bool) → (k == s) ≡ b → (b || has ks s) ≡ true → (has ks s ≡ true → has (map f ks) (f s) ≡ true) → ((f k == f s) || has (map f ks) (f s)) ≡ true
     by true e h rest = ap (λ t. t || has (map f ks) (f s)) (eq-eqb (f k) (f s) (ap f (eqb-true k s e)))
-    by false e h rest = ap (λ t. (f k == f s) || t) (rest h) ∙ or_true (f k == f s)
+    by false e h rest = ap (λ t. (f k == f s) || t) (rest h) ∙ or-true (f k == f s)
 
 some_mapped : (o : Option StorageInfo) (n : ℕ) → option_map (λ (i : StorageInfo). i.node) o ≡ Some n → is_some o ≡ true
 some_mapped None n e = cc

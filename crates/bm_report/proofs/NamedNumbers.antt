@@ -3,6 +3,7 @@ use Rattle.std.proofs.Common.{◌≡◌, ℕ, Bool, true, false, ◌+◌, ◌<�
 use Rattle.std.specs.Prelude.{◌==◌, slice_get}
 use Rattle.std.proofs.lemmas.Bool.{false≢true}
 use Rattle.std.proofs.lemmas.List.Folds.{list_any-append}
+use Rattle.std.proofs.Math.Bool.{or-true}
 use Rattle.bm_base.specs.declared.event.Entry.{Entry}
 use Rattle.bm_base.specs.declared.ids.Part.{Part}
 use Rattle.bm_base.specs.Words.{ReportedBlock, blocks_of_entry, expanded, is_named}
@@ -13,17 +14,13 @@ use Rattle.bm_report.proofs.NumberRuns.{reported_from, reported_next, reported_r
 pub named_apart : (ts : List ReportedBlock) (b : ℕ) → is_named ts b ≡ false → is_named ts b ≡ true → ⊥
 named_apart ts b out in_it = false≢true (sym out ∙ in_it)
 
-or_last : (x : Bool) → (x || true) ≡ true
-or_last true = refl
-or_last false = refl
-
 named_first : (t : ReportedBlock) (ts : List ReportedBlock) (b : ℕ) → b ≡ t.id → is_named (t ∷ ts) b ≡ true
 unfolding is_named
 named_first t ts b same = ap (λ x. x || is_named ts b) (eq-eqb t.id b (sym same))
 
 named_later : (t : ReportedBlock) (ts : List ReportedBlock) (b : ℕ) → is_named ts b ≡ true → is_named (t ∷ ts) b ≡ true
 unfolding is_named
-named_later t ts b in_it = ap (λ x. (t.id == b) || x) in_it ∙ or_last (t.id == b)
+named_later t ts b in_it = ap (λ x. (t.id == b) || x) in_it ∙ or-true (t.id == b)
 
 named_either : (ts us : List ReportedBlock) (b : ℕ) → is_named (ts ++ us) b ≡ (is_named ts b || is_named us b)
 unfolding is_named
@@ -46,7 +43,7 @@ module _ (p : Part) (es fs : List Entry) (b : ℕ) where
   front_named in_it = either ∙ ap (λ x. x || is_named (reported_to_part p fs) b) in_it
 
   back_named : is_named (reported_to_part p fs) b ≡ true → is_named (reported_to_part p (es ++ fs)) b ≡ true
-  back_named in_it = either ∙ ap (λ x. is_named (reported_to_part p es) b || x) in_it ∙ or_last (is_named (reported_to_part p es) b)
+  back_named in_it = either ∙ ap (λ x. is_named (reported_to_part p es) b || x) in_it ∙ or-true (is_named (reported_to_part p es) b)
 
 -- what a chunk names, the whole report names, and so it does what the entries after the chunk name
 module _ (p : Part) (all rest chunk left : List Entry) (whole : rest ≡ chunk ++ left) (named : (b : ℕ) → is_named (reported_to_part p rest) b ≡ true → is_named (reported_to_part p all) b ≡ true) where
@@ -65,4 +62,4 @@ module _ (p : Part) (es : List Entry) (i : ℕ) (e : Entry) (b : ℕ) (at : slic
   entry_named in_it = parts ∙ ap (λ x. x || is_named (of_part p (expanded (drop (i + 1) es))) b) in_it
 
   pub rest_named : is_named (of_part p (expanded (drop (i + 1) es))) b ≡ true → is_named (of_part p (expanded (drop i es))) b ≡ true
-  rest_named in_it = parts ∙ ap (λ x. is_named (of_part p (blocks_of_entry e)) b || x) in_it ∙ or_last (is_named (of_part p (blocks_of_entry e)) b)
+  rest_named in_it = parts ∙ ap (λ x. is_named (of_part p (blocks_of_entry e)) b || x) in_it ∙ or-true (is_named (of_part p (blocks_of_entry e)) b)

@@ -1,6 +1,7 @@
 -- A replica is received, or deleted.
 use Rattle.std.proofs.Common.{◌≡◌, ◌≢◌, ℕ, ◌+◌, Bool, true, false, cond, not, ◌&&◌, ◌||◌, Option, Some, None, is_some, IsSome, refl, subst, sym, ap, ◌∙◌, arith}
 use Rattle.std.specs.Option.{option_and_then}
+use Rattle.std.proofs.Math.Bool.{and-false}
 use Rattle.bm_base.specs.declared.replica.ReplicaId.{ReplicaId}
 use Rattle.bm_base.specs.declared.replica.Marks.{Marks}
 use Rattle.bm_base.specs.Words.{get, insert, remove, len, Cluster, replica_at, replaces, enter, entered_marks, new_replicas}
@@ -105,11 +106,7 @@ received-new C a c s n here absent m m_is replicas frame others left_sibling len
     out = ap is_some (get-here a n.id n.slot s here ∙ absent)
 
     not_in : (q : ReplicaId) → has (replicas_of a) q ≡ false → (not (replaces C (replica_at n.id s) q) && has (replicas_of a) q) ≡ has (replicas_of a) q
-    not_in q e = ap (λ x. not (replaces C (replica_at n.id s) q) && x) e ∙ right (not (replaces C (replica_at n.id s) q)) ∙ sym e
-      where
-        right : (x : Bool) → (x && false) ≡ false
-        right true = refl
-        right false = refl
+    not_in q e = ap (λ x. not (replaces C (replica_at n.id s) q) && x) e ∙ and-false (not (replaces C (replica_at n.id s) q)) ∙ sym e
 
     came_one : new_replicas (replicas_of a) (replicas_of c) ≡ 1
     came_one =

@@ -6,6 +6,7 @@ use Rattle.std.specs.Option.{option_map, option_map_or, option_and_then}
 use Rattle.std.proofs.lemmas.Bool.{false≢true, and_parts}
 use Rattle.std.proofs.lemmas.List.{length-map}
 use Rattle.std.proofs.lemmas.List.Sums.{length-filter}
+use Rattle.std.proofs.Math.Bool.{and-false, and_comm}
 use Rattle.bm_base.specs.declared.replica.ReplicaId.{ReplicaId}
 use Rattle.bm_base.specs.declared.replica.Tag.TheVariants.{Good}
 use Rattle.bm_base.specs.declared.replica.Marks.{Marks}
@@ -75,16 +76,12 @@ new-more K L M p m not_k not_l more =
     ∙ len-same (apart_from K M) (insert (apart_from K L) p m) (λ q.
     has-kept M (λ k. not (has K k)) q ∙ by q (has K q) refl
     ∙ sym (ap is_some (get-insert (apart_from K L) p m q) ∙ some_cond (tie q p) (get (apart_from K L) q) ∙ ap (λ x. tie q p || x) (has-kept L (λ k. not (has K k)) q)))
-    ∙ len-put_new (apart_from K L) p m (none (get (apart_from K L) p) (has-kept L (λ k. not (has K k)) p ∙ ap (λ x. not (has K p) && x) not_l ∙ right (not (has K p))))
+    ∙ len-put_new (apart_from K L) p m (none (get (apart_from K L) p) (has-kept L (λ k. not (has K k)) p ∙ ap (λ x. not (has K p) && x) not_l ∙ and-false (not (has K p))))
     ∙ ap (λ n. n + 1) (sym (new-is K L))
   where
     some_cond : (t : Bool) (z : Option Marks) → is_some (cond t (Some m) z) ≡ (t || is_some z)
     some_cond true z = refl
     some_cond false z = refl
-
-    right : (x : Bool) → (x && false) ≡ false
-    right true = refl
-    right false = refl
 
     none : (z : Option Marks) → is_some z ≡ false → z ≡ None
     none None e = refl
@@ -107,18 +104,12 @@ parts K L =
 pub came_and_went : (K L : Held) → len K + new_replicas K L ≡ len L + new_replicas L K
 came_and_went K L =
     let common : len (keep L (λ q _. has K q)) ≡ len (keep K (λ q _. has L q)) =
-    len-same (keep L (λ q _. has K q)) (keep K (λ q _. has L q)) (λ q. has-kept L (has K) q ∙ swap (has K q) (has L q) ∙ sym (has-kept K (has L) q)) in
+    len-same (keep L (λ q _. has K q)) (keep K (λ q _. has L q)) (λ q. has-kept L (has K) q ∙ and_comm (has K q) (has L q) ∙ sym (has-kept K (has L) q)) in
     let k = parts K L in
     let l = parts L K in
     let a = new-is K L in
     let b = new-is L K in
     omega (arith, common, k, l, a, b)
-  where
-    swap : (x y : Bool) → (x && y) ≡ (y && x)
-    swap true true = refl
-    swap true false = refl
-    swap false true = refl
-    swap false false = refl
 
 -- Entered blocks.
 

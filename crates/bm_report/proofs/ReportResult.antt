@@ -4,6 +4,7 @@ use Rattle.std.specs.Prelude.{◌==◌, if◌then◌else◌}
 use Rattle.std.specs.List.{list_any}
 use Rattle.std.specs.Option.{option_map, option_map_or, option_or, option_and_then}
 use Rattle.std.proofs.lemmas.Bool.{cases_Bool}
+use Rattle.std.proofs.Math.Bool.{and-true, and-false, and_self_left}
 use Rattle.bm_base.specs.declared.replica.ReplicaId.{ReplicaId}
 use Rattle.bm_base.specs.declared.replica.Tag.TheVariants.{Good, Stale, Bad}
 use Rattle.bm_base.specs.declared.replica.Marks.{Marks}
@@ -47,26 +48,14 @@ abbrev enter_marks : Map by_number BlockInfo → Option Marks → ℕ → Option
 enter_marks B w b o = option_map_or (λ st. Some (marks_during_report (get B b) w st)) o w
 
 own_tie : (q : ReplicaId) (b s : ℕ) → (q.storage == s) ≡ true → tie q (replica_at b s) ≡ (q.block == b)
-own_tie q b s own = replica_tie q (replica_at b s) ∙ ap (λ t. (q.block == b) && t) own ∙ right (q.block == b)
-  where
-    right : (x : Bool) → (x && true) ≡ x
-    right true = refl
-    right false = refl
+own_tie q b s own = replica_tie q (replica_at b s) ∙ ap (λ t. (q.block == b) && t) own ∙ and-true (q.block == b)
 
 other_tie : (q : ReplicaId) (b s : ℕ) → (q.storage == s) ≡ false → tie q (replica_at b s) ≡ false
-other_tie q b s other = replica_tie q (replica_at b s) ∙ ap (λ t. (q.block == b) && t) other ∙ right (q.block == b)
-  where
-    right : (x : Bool) → (x && false) ≡ false
-    right true = refl
-    right false = refl
+other_tie q b s other = replica_tie q (replica_at b s) ∙ ap (λ t. (q.block == b) && t) other ∙ and-false (q.block == b)
 
 own_kept : (C : Cluster) (q : ReplicaId) (b s : ℕ) → (q.storage == s) ≡ true → replaces C (replica_at b s) q ≡ false
 unfolding replaces
-own_kept C q b s own = ap (λ t. (q.block == b) && t) (ap (are_siblings C s) (eqb-true q.storage s own) ∙ no_sibling_itself C s) ∙ right (q.block == b)
-  where
-    right : (x : Bool) → (x && false) ≡ false
-    right true = refl
-    right false = refl
+own_kept C q b s own = ap (λ t. (q.block == b) && t) (ap (are_siblings C s) (eqb-true q.storage s own) ∙ no_sibling_itself C s) ∙ and-false (q.block == b)
 
 module _ (C : Cluster) (B : Map by_number BlockInfo) (s : ℕ) where
   -- one block was entered: replicas on s, and elsewhere
@@ -151,11 +140,7 @@ out-at s (b ∷ bs) K q =
 
 dropped_twice : (o : Option Marks) → option_map without_invalid_excess (option_map without_invalid_excess o) ≡ option_map without_invalid_excess o
 dropped_twice None = refl
-dropped_twice (Some m) = ap (λ e. Some (record m { excess = e })) (again (is_good m.tag) m.excess)
-  where
-    again : (g e : Bool) → (g && (g && e)) ≡ (g && e)
-    again true e = refl
-    again false e = refl
+dropped_twice (Some m) = ap (λ e. Some (record m { excess = e })) (and_self_left (is_good m.tag) m.excess)
 
 invalid_excess_out_one-at : (s b : ℕ) (K : Held) (q : ReplicaId) → get (invalid_excess_out_one s b K) q ≡ cond (tie q (replica_at b s)) (option_map without_invalid_excess (get K q)) (get K q)
 invalid_excess_out_one-at s b K q = by (get K (replica_at b s)) refl

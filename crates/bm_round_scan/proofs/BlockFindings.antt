@@ -8,6 +8,7 @@ use Rattle.std.specs.FinMap.Entries.{below_all}
 use Rattle.std.specs.List.{list_any, IsDistinct, AllByRecursion}
 use Rattle.std.proofs.Common.{cond, refl, sym, ap, ◌∙◌, eqb-true, eq-eqb}
 use Rattle.std.proofs.lemmas.Bool.{and_from, false≢true, and_left, and_right}
+use Rattle.std.proofs.Math.Bool.{and_comm}
 use Rattle.bm_base.specs.Maps.Conjunction.{first, second}
 use Rattle.bm_base.specs.declared.replica.ReplicaId.{ReplicaId}
 use Rattle.bm_base.specs.declared.replica.Marks.{Marks}
@@ -82,17 +83,11 @@ module _ (G : Holdings) (b : ℕ) (p : ReplicaId × Marks → Bool) where
 
 -- Keys.
 
-and_turned : (x y : Bool) → (x && y) ≡ (y && x)
-and_turned true true = refl
-and_turned true false = refl
-and_turned false true = refl
-and_turned false false = refl
-
 pair_tie : (p q : ℕ × ℕ) → eq_by_cmp pair_cmp p q ≡ ((p.0 == q.0) && (p.1 == q.1))
 pair_tie p q = replica_tie (replica_at p.0 p.1) (replica_at q.0 q.1)
 
 delete_tie : (c d : ReplicaId × Marks) → eq_by_cmp pair_cmp (c.0.storage, c.0.block) (d.0.storage, d.0.block) ≡ eq_by_cmp replica_cmp c.0 d.0
-delete_tie c d = pair_tie (c.0.storage, c.0.block) (d.0.storage, d.0.block) ∙ and_turned (c.0.storage == d.0.storage) (c.0.block == d.0.block) ∙ sym (replica_tie c.0 d.0)
+delete_tie c d = pair_tie (c.0.storage, c.0.block) (d.0.storage, d.0.block) ∙ and_comm (c.0.storage == d.0.storage) (c.0.block == d.0.block) ∙ sym (replica_tie c.0 d.0)
 
 module _ (C : Cluster) (pend r : ℕ) (H : Holdings) where
   abbrev U : Holdings

@@ -11,6 +11,7 @@ use Rattle.std.proofs.lemmas.Cmp.{eq_by_cmp_equiv}
 use Rattle.std.proofs.lemmas.Map.Keys.{IsDistinct-IsPermutation}
 use Rattle.std.proofs.lemmas.List.Sorted.{All-permutation, IsPermutation-map, list_any-IsPermutation}
 use Rattle.std.proofs.lemmas.Simd.{map-map}
+use Rattle.std.proofs.Math.Bool.{and-false}
 use Rattle.bm_base.specs.declared.replica.ReplicaId.{ReplicaId}
 use Rattle.bm_base.specs.declared.replica.Marks.{Marks}
 use Rattle.bm_base.specs.Words.{Map, by_number, get, empty, insert_all, keep, revise, entries, Cluster, Holdings, by_replica, replica_cmp, replica_at, has, has_repeats, storages_where, is_live_on, without_expired, with_excess_reset, without_unordered_excess, excess_of, excess_in, with_surplus_marked}
@@ -22,7 +23,7 @@ use Rattle.bm_base.proofs.MapEntries.{get_kept, get_keeps, get_revised}
 use Rattle.bm_base.proofs.ForEach.{Each, each_all, each_mapped, each_then}
 use Rattle.bm_base.proofs.Ties.{replica_tie}
 use Rattle.bm_base.proofs.Clusters.{eqb_turned}
-use Rattle.bm_base.proofs.ListTests.{and_never, any_map, any_agree, filter_filter}
+use Rattle.bm_base.proofs.ListTests.{any_map, any_agree, filter_filter}
 use Rattle.bm_base.proofs.Membership.{once_where}
 use Rattle.bm_maps.specs.SlotLists.{IsMember, Distinct}
 use Rattle.bm_parts.proofs.Filters.{all_each, any_shown, map_filter}
@@ -90,7 +91,7 @@ module _ (b : ℕ) where
   apart_from : (x : ℕ × Marks) (rs : List (ℕ × Marks)) → (IsMember x.0 (map (λ r. r.0) rs) → ⊥) → AllByRecursion (λ y. is_tie x y ≡ false) (excess_reset rs)
   apart_from x [] none = tt
   apart_from x (r ∷ rs) none = (
-    replica_tie (replica_at b x.0) (replica_at b r.0) ∙ ap (λ t. (b == b) && t) (ne_eqb x.0 r.0 (λ same. none (inl same))) ∙ and_never (b == b),
+    replica_tie (replica_at b x.0) (replica_at b r.0) ∙ ap (λ t. (b == b) && t) (ne_eqb x.0 r.0 (λ same. none (inl same))) ∙ and-false (b == b),
     apart_from x rs (λ h. none (inr h)),
   )
 

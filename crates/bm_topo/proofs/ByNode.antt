@@ -10,6 +10,7 @@ use Rattle.std.proofs.lemmas.List.{append-nil, length-map, length_push, take_all
 use Rattle.std.proofs.lemmas.List.Edits.{length-insert}
 use Rattle.std.proofs.lemmas.List.Sorted.{IsNonDecreasingBy-insert, IsNonDecreasingBy-short}
 use Rattle.std.proofs.Math.ListN.{get_or-map}
+use Rattle.std.proofs.Math.Bool.{and-true}
 use Rattle.bm_base.specs.declared.storage.StorageInfo.{StorageInfo}
 use Rattle.bm_base.specs.declared.event.Remaining.{Remaining}
 use Rattle.bm_base.specs.Words.{Map, by_number, empty, get, keys, entries, len, contains_key, revise, revise_at, has, set_remaining, Cluster, node_of, has_storage}
@@ -200,11 +201,7 @@ own_each C n s = has_filter (has_storage C n) (keys C.storages) s ∙ ap (λ b. 
   where
     by : (o : Option StorageInfo) → (option_map_or (λ m. m == n) (option_map (λ (i : StorageInfo). i.node) o) false && is_some o) ≡ option_map_or (λ m. m == n) (option_map (λ (i : StorageInfo). i.node) o) false
     by None = refl
-    by (Some i) = and_true (i.node == n)
-      where
-        and_true : (b : Bool) → (b && true) ≡ b
-        and_true true = refl
-        and_true false = refl
+    by (Some i) = and-true (i.node == n)
 
 pub own_few : (C : Cluster) (n : ℕ) → length (filter (has_storage C n) (keys C.storages)) ≤ len C.storages
 own_few C n = let parts = both_parts (has_storage C n) (keys C.storages) in omega (arith, parts, count_keys C.storages)

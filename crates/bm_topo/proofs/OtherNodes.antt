@@ -6,6 +6,7 @@ use Rattle.std.specs.Ordering.{nat_cmp, eq_by_cmp}
 use Rattle.std.specs.FinMap.{put}
 use Rattle.std.specs.FinMap.Entries.{by_order}
 use Rattle.std.proofs.lemmas.Bool.{eq-eqb}
+use Rattle.std.proofs.Math.Bool.{or-true}
 use Rattle.bm_base.specs.Words.{has, Map, by_number, entries, insert, remove, alter}
 use Rattle.bm_base.specs.Maps.Altered.{with_value, alter_values}
 use Rattle.bm_base.proofs.Ties.{number_tie}
@@ -19,10 +20,6 @@ inside a b e = cc
 
 head_there : (r : ℕ) (x : ℕ) (xs : List ℕ) → x ≡ r → list_any (λ y. y == r) (x ∷ xs) ≡ true
 head_there r x xs e = ap (λ b. b || list_any (λ y. y == r) xs) (eq-eqb x r e)
-
-or_true : (a : Bool) → (a || true) ≡ true
-or_true true = refl
-or_true false = refl
 
 other-among : (n r : ℕ) (es : List (ℕ × ℕ)) → first_other_rack n es ≡ Some r → list_any (λ y. y == r) (map (λ e. e.1) (alter_values (dropped n) es)) ≡ true
 other-among n r [] h = cc
@@ -56,7 +53,7 @@ put-among k v (e ∷ es) =
     elim (nat_cmp k e.0) as (λ r. list_any (λ y. y == v) (map (λ e. e.1) (by_order r ((k, v) ∷ e ∷ es) ((e.0, v) ∷ es) (e ∷ put nat_cmp k v es))) ≡ true) [
       | Less ↦ head_there v v (map (λ e. e.1) (e ∷ es)) refl
       | Equal ↦ head_there v v (map (λ e. e.1) es) refl
-      | Greater ↦ ap (λ b. (e.1 == v) || b) (put-among k v es) ∙ or_true (e.1 == v)
+      | Greater ↦ ap (λ b. (e.1 == v) || b) (put-among k v es) ∙ or-true (e.1 == v)
     ]
 
 pub inserted_there : (nodes : Map by_number ℕ) (n v : ℕ) → has (racks_of (insert nodes n v)) v ≡ true

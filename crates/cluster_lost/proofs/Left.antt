@@ -4,6 +4,7 @@ use Rattle.std.specs.Prelude.{◌==◌, if◌then◌else◌, option_and_then, op
 use Rattle.std.specs.Option.{option_map_or}
 use Rattle.std.specs.List.{fold, list_any}
 use Rattle.std.proofs.lemmas.Bool.{and_parts}
+use Rattle.std.proofs.Math.Bool.{and-true}
 use Rattle.bm_base.specs.declared.replica.ReplicaId.{ReplicaId}
 use Rattle.bm_base.specs.declared.replica.Marks.{Marks}
 use Rattle.bm_base.specs.declared.replica.BlockInfo.{BlockInfo}
@@ -199,12 +200,8 @@ left_by_losses M (e ∷ es) b t h =
     (λ stays. any_agree (λ e. takes D e s) (λ e. takes C e s) (takes_as_before C D s (λ m. stays_by_loss C e m s parts.0 stays)) es))
     (usable M.holdings b)
 
-and_true : (b : Bool) → (b && true) ≡ b
-and_true true = refl
-and_true false = refl
-
 pub left_law : losses.missing_has_no_replica_left
 left_law M es b L h known =
     let i = there (get M.holdings.blocks b) known in
     missing_is_unusable (after_losses M es) b i.0 (ap (λ m. get m b) (blocks_stay M es h) ∙ i.1) (L.replicated b i.0 i.1).0
-    ∙ ap not (left_by_losses M es b (λ _. true) h ∙ any_agree (λ s. not (is_taken M.cluster es s) && true) (λ s. not (is_taken M.cluster es s)) (λ s. and_true (not (is_taken M.cluster es s))) (usable M.holdings b))
+    ∙ ap not (left_by_losses M es b (λ _. true) h ∙ any_agree (λ s. not (is_taken M.cluster es s) && true) (λ s. not (is_taken M.cluster es s)) (λ s. and-true (not (is_taken M.cluster es s))) (usable M.holdings b))

@@ -3,6 +3,7 @@ use Rattle.std.proofs.Common.{◌≡◌, ℕ, ◌+◌, ◌<◌, Bool, true, fals
 use Rattle.std.specs.Prelude.{◌==◌}
 use Rattle.std.specs.List.{list_any}
 use Rattle.std.proofs.lemmas.List.Folds.{list_any_more}
+use Rattle.std.proofs.Math.Bool.{and-true, and_comm}
 use Rattle.bm_base.specs.declared.replica.BlockInfo.{BlockInfo}
 use Rattle.bm_base.specs.declared.event.Event.{Event}
 use Rattle.bm_base.specs.Words.{has, Map, by_number, get, insert, entries, keys, contains_key, Cluster, Holdings, State, usable, missing_blocks}
@@ -52,16 +53,6 @@ has_known : (m : Map by_number BlockInfo) (b : ℕ) → contains_key m b ≡ tru
 unfolding keys
 has_known m b h = let i = there (get m b) h in any_map (λ x. x == b) (λ e. e.0) (entries m) ∙ passes_entry m (λ e. e.0 == b) b i.0 i.1 (same_again b)
 
-and_true : (b : Bool) → (b && true) ≡ b
-and_true true = refl
-and_true false = refl
-
-and_turned : (a b : Bool) → (a && b) ≡ (b && a)
-and_turned true true = refl
-and_turned true false = refl
-and_turned false true = refl
-and_turned false false = refl
-
 module _ (M : State) (es : List Event) (before after : List ℕ) (h : AreMissing M es before after) where
   abbrev blocks : Map by_number BlockInfo
   blocks = M.holdings.blocks
@@ -71,7 +62,7 @@ module _ (M : State) (es : List Event) (before after : List ℕ) (h : AreMissing
   was_missing b known =
       let i = there (get blocks b) known in
       ap (λ bs. not (has bs b)) h.missing_before
-      ∙ ap not (has_filtered (is_missing M) (keys blocks) b ∙ ap (λ z. is_missing M b && z) (has_known blocks b known) ∙ and_true (is_missing M b) ∙ missing_is_unusable M b i.0 i.1 (h.lawful.replicated b i.0 i.1).0)
+      ∙ ap not (has_filtered (is_missing M) (keys blocks) b ∙ ap (λ z. is_missing M b && z) (has_known blocks b known) ∙ and-true (is_missing M b) ∙ missing_is_unusable M b i.0 i.1 (h.lawful.replicated b i.0 i.1).0)
       ∙ ap not (sym (none_if_empty (usable M.holdings b)))
 
   pub newly_missing : (known : Map by_number Bool) → ((b : ℕ) → contains_key known b ≡ has before b) → filter (λ b. not (contains_key known b)) after ≡ lost_blocks M es
@@ -81,7 +72,7 @@ module _ (M : State) (es : List Event) (before after : List ℕ) (h : AreMissing
       ∙ filter_filter (λ b. not (contains_key known b)) (is_missing (after_losses M es)) (keys blocks)
       ∙ filter_each (λ b. is_missing (after_losses M es) b && not (contains_key known b)) (is_lost M es) (keys blocks)
       (each_then (λ b. contains_key blocks b ≡ true) (λ b. (is_missing (after_losses M es) b && not (contains_key known b)) ≡ is_lost M es b) (keys blocks) (each_known blocks)
-      (λ b is. (λ i. left_law M es b h.lawful h.losses is i && (ap not (knows b) ∙ was_missing b is) i) ∙ and_turned (not (has_replica_left M es b)) (has_replica M b)))
+      (λ b is. (λ i. left_law M es b h.lawful h.losses is i && (ap not (knows b) ∙ was_missing b is) i) ∙ and_comm (not (has_replica_left M es b)) (has_replica M b)))
 
 -- A set of the first blocks of a list.
 pub one_more : (m : Map by_number Bool) (xs : List ℕ) (i x : ℕ) → ((b : ℕ) → contains_key m b ≡ has (take i xs) b) → i < length xs → get_or xs i x ≡ x

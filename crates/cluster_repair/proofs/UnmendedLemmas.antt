@@ -4,6 +4,7 @@ use Rattle.std.specs.Prelude.{◌&&◌}
 use Rattle.std.specs.List.Sorted.{IsStrictlyIncreasing}
 use Rattle.std.proofs.lemmas.List.Elements.{All-nil, All-same}
 use Rattle.std.proofs.lemmas.List.Kept.{IsStrictlyIncreasing-filter}
+use Rattle.std.proofs.Math.Bool.{and_self}
 use Rattle.bm_base.specs.Words.{State, has, level}
 use Rattle.bm_base.proofs.ListTests.{has_filter}
 use Rattle.laws_of_repairs.proofs.Watching.{has_level}
@@ -19,15 +20,11 @@ none_found M bs us no_blocks none = record {
   each = All-same (HasItsLevel M) us [] none (All-nil (HasItsLevel M));
 }
 
-and_same : (a : Bool) → (a && a) ≡ a
-and_same true = refl
-and_same false = refl
-
 pub all_found : (M : State) (bs : List ℕ) (us : List Unmended) → AreLeveled M bs → AreFound M bs us → AreUnmended M us
 all_found M bs us leveled found = record {
   blocks = record {
     ascending = subst IsStrictlyIncreasing (sym found.blocks) (IsStrictlyIncreasing-filter (has_level M) bs leveled.ascending);
-    all = λ b. ap (λ cs. has cs b) found.blocks ∙ has_filter (has_level M) bs b ∙ ap (λ t. has_level M b && t) (leveled.all b) ∙ and_same (has_level M b);
+    all = λ b. ap (λ cs. has cs b) found.blocks ∙ has_filter (has_level M) bs b ∙ ap (λ t. has_level M b && t) (leveled.all b) ∙ and_self (has_level M b);
   };
   each = found.each;
 }

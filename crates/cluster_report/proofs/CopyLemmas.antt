@@ -8,6 +8,7 @@ use Rattle.std.proofs.lemmas.Bool.{lt-ltb, or_left, and_from, or_right}
 use Rattle.std.proofs.lemmas.List.{take_more, map-append}
 use Rattle.std.proofs.lemmas.List.Folds.{list_any-append}
 use Rattle.std.proofs.lemmas.Grind.{flat_map-append}
+use Rattle.std.proofs.Math.Bool.{and-false}
 use Rattle.bm_base.specs.declared.replica.ReplicaId.{ReplicaId}
 use Rattle.bm_base.specs.declared.commands.Transfer.{Transfer}
 use Rattle.bm_base.specs.declared.commands.Delete.{Delete}
@@ -94,11 +95,7 @@ module _ (C : Cluster) (ns : List ℕ) (p : Transfer → Bool) where
       any_weaker (λ t. has_storage C n.0 t.source && p t) p (λ t k. and_second (has_storage C n.0 t.source) (p t) k) ts n.2
 
 some_commands : {X Y : Type 0} (p : Y → Bool) (f : X → Y) (xs : List X) (n : ℕ) → (nat_lt 0 (length xs + n) && list_any p (map f xs)) ≡ list_any p (map f xs)
-some_commands p f [] n = and_false (nat_lt 0 (0 + n))
-  where
-    and_false : (b : Bool) → (b && false) ≡ false
-    and_false true = refl
-    and_false false = refl
+some_commands p f [] n = and-false (nat_lt 0 (0 + n))
 some_commands p f (x ∷ xs) n = ap (λ b. b && list_any p (map f (x ∷ xs))) (lt-ltb 0 (length (x ∷ xs) + n) (omega arith))
 
 module _ (C : Cluster) (r : ℕ) (ts : List Transfer) (ds : List Delete) where

@@ -3,6 +3,7 @@ use Rattle.std.proofs.Common.{◌≡◌, ℕ, ◌+◌, ◌<◌, Bool, true, fals
 use Rattle.std.specs.Io.BufRead.{take_through, drop_through}
 use Rattle.std.specs.Io.KnownBytes.{Appends, IsAtEnd}
 use Rattle.std.proofs.KnownBytes.{Appends-nil, Appends-trans}
+use Rattle.std.proofs.Math.Bool.{and-true}
 use Rattle.bm_base.specs.Machine.State.{State}
 use Rattle.bm_lines.specs.Lines.{lines_of}
 use Rattle.cluster_report.specs.LineNotes.{without_end, refusal_text, after_line, after_lines, all_accepted, note_text, notes_text}
@@ -103,16 +104,12 @@ pub record AllTaken (M : State) (start : Option (List ℕ)) (input : List ℕ) (
   pub all : accepted ≡ all_accepted M (lines_of input)
   pub noted : Appends start now (notes_text 1 M (lines_of input))
 
-and_true : (a : Bool) → (a && true) ≡ a
-and_true true = refl
-and_true false = refl
-
 pub taken_all : (M N : State) (start now left : Option (List ℕ)) (input : List ℕ) (n : ℕ) (a : Bool) → Taken M start input n N a now left → IsAtEnd left → AllTaken M start input N a now
 unfolding after_lines all_accepted notes_text
 taken_all M N start now left input n a t at_end =
     let none : lines_of t.rest ≡ [] = ap lines_of (subst IsAtEnd t.left_is at_end) ∙ lines_of-none in
     record {
       state = sym (t.state ∙ ap (after_lines N) none);
-      all = sym (t.all ∙ ap (λ xs. a && all_accepted N xs) none ∙ and_true a);
+      all = sym (t.all ∙ ap (λ xs. a && all_accepted N xs) none ∙ and-true a);
       noted = t.noted now (subst (λ xs. Appends now now (notes_text n N xs)) (sym none) (Appends-nil now));
     }

@@ -5,6 +5,7 @@ use Rattle.std.proofs.lemmas.Bool.Decides.{nat_tests}
 use Rattle.std.specs.Str.{bytes_eq}
 use Rattle.std.proofs.lemmas.List.Folds.{list_any-append}
 use Rattle.std.proofs.lemmas.List.{map_push}
+use Rattle.std.proofs.Math.Bool.{or-true}
 use Rattle.bm_base.specs.Machine.Entries.{range_from}
 use Rattle.fsck_text.specs.Cuts.{Text}
 use Rattle.fsck_files.specs.Numbers.{has_number, with_number}
@@ -103,10 +104,6 @@ drains_name names name draining addresses before = record {
       among = ap (λ t. list_any (bytes_eq t) addresses) (name_of-more names (name ∷ []) number (omega (arith, n.above, n.within))) ∙ n.among;
     }
 
-or_true : (a : Bool) → (a || true) ≡ true
-or_true true = refl
-or_true false = refl
-
 true_or : (a b : Bool) → (a || b) ≡ true → a ≡ false → b ≡ true
 true_or true b h e = absurd (true≢false e)
 true_or false b h e = h
@@ -116,7 +113,7 @@ or_nothing true h = refl
 or_nothing false h = h
 
 pub has-last : (numbers : List ℕ) (n : ℕ) → has_number (numbers ++ n ∷ []) n ≡ true
-has-last numbers n = list_any-append (λ m. m == n) numbers (n ∷ []) ∙ ap (λ b. has_number numbers n || (b || false)) (number_is_itself n) ∙ or_true (has_number numbers n)
+has-last numbers n = list_any-append (λ m. m == n) numbers (n ∷ []) ∙ ap (λ b. has_number numbers n || (b || false)) (number_is_itself n) ∙ or-true (has_number numbers n)
 
 has-with_same : (numbers : List ℕ) (n : ℕ) → has_number (with_number numbers n) n ≡ true
 has-with_same numbers n = by (has_number numbers n) refl
@@ -209,7 +206,7 @@ name_found names (n ∷ draining) address h = by (bytes_eq address (name_of name
         let found = rest k in
         record {
           number = found.number;
-          drains = ap (λ b. (n == found.number) || b) found.drains ∙ or_true (n == found.number);
+          drains = ap (λ b. (n == found.number) || b) found.drains ∙ or-true (n == found.number);
           name = found.name;
         }
 
@@ -222,7 +219,7 @@ number_found names (n ∷ draining) number h = by (n == number) refl h (number_f
 
     by : (b : Bool) → (n == number) ≡ b → (b || has_number draining number) ≡ true → (has_number draining number ≡ true → others ≡ true) → (bytes_eq (name_of names number) (name_of names n) || others) ≡ true
     by true same k rest = ap (λ m. bytes_eq (name_of names number) (name_of names m) || others) (same_number n number same) ∙ ap (λ b. b || others) (name_is_itself (name_of names number))
-    by false same k rest = ap (λ b. bytes_eq (name_of names number) (name_of names n) || b) (rest k) ∙ or_true (bytes_eq (name_of names number) (name_of names n))
+    by false same k rest = ap (λ b. bytes_eq (name_of names number) (name_of names n) || b) (rest k) ∙ or-true (bytes_eq (name_of names number) (name_of names n))
 
 -- the nodes that drain at the start
 pub drains_first : (names : List Text) (draining : List ℕ) → ((number : ℕ) → has_number draining number ≡ true → (1 ≤ number) × (number ≤ length names)) → Drains names draining (map (name_of names) draining)

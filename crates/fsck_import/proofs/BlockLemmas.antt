@@ -4,6 +4,7 @@ use Rattle.std.specs.List.{list_any, flat_map}
 use Rattle.std.proofs.lemmas.List.{append-nil, map_push}
 use Rattle.std.proofs.lemmas.List.Folds.{list_any-append}
 use Rattle.std.proofs.lemmas.Bool.{or_parts}
+use Rattle.std.proofs.Math.Bool.{or-true}
 use Rattle.bm_base.specs.Maps.Lists.{has, has_repeats}
 use Rattle.bm_base.specs.declared.replica.BlockInfo.{BlockInfo}
 use Rattle.fsck_files.specs.declared.replicas.Block.{Block}
@@ -44,10 +45,6 @@ with_number t b = record t { blocks = t.blocks ++ numbered b ∷ []; numbers = t
 abbrev pub with_taken : Taken → Block → Taken
 with_taken t b = with_all (with_number t b) b b.replicas
 
-or_true : (a : Bool) → (a || true) ≡ true
-or_true true = refl
-or_true false = refl
-
 block_sound : (c d : Cluster) (t : Taken) (b : Block) → after_block c b ≡ Ok d → Sound c t → Sound d (with_taken t b)
 block_sound c d t b e before =
     let info : BlockInfo = record { stamp = b.stamp; repl = b.wanted } in
@@ -55,7 +52,7 @@ block_sound c d t b e before =
     let parts = if_not (has_block c.blocks b.id) (after_places m b b.replicas) why.BlockTwice d e in
     let new : list_any (nat_eq b.id) t.numbers ≡ false = ap (list_any (nat_eq b.id)) (sym before.numbers) ∙ list_any-map (nat_eq b.id) (λ x. x.0) c.blocks ∙ parts.0 in
     let known : list_any (nat_eq b.id) (t.numbers ++ b.id ∷ []) ≡ true =
-    list_any-append (nat_eq b.id) t.numbers (b.id ∷ []) ∙ ap (λ x. list_any (nat_eq b.id) t.numbers || (x || false)) (number_is_itself b.id) ∙ or_true (list_any (nat_eq b.id) t.numbers) in
+    list_any-append (nat_eq b.id) t.numbers (b.id ∷ []) ∙ ap (λ x. list_any (nat_eq b.id) t.numbers || (x || false)) (number_is_itself b.id) ∙ or-true (list_any (nat_eq b.id) t.numbers) in
     let more : Sound m (with_number t b) = record {
       blocks = ap (λ xs. xs ++ numbered b ∷ []) before.blocks;
       numbers = map_push (λ x. x.0) c.blocks (b.id, info) ∙ ap (λ ns. ns ++ b.id ∷ []) before.numbers;

@@ -5,6 +5,7 @@ use Rattle.std.specs.Ordering.{eq_by_cmp, nat_cmp, ordering_then}
 use Rattle.std.specs.Cmp.{nat_cmp_total, tied_itself}
 use Rattle.std.specs.FinMap.{find, is_sorted}
 use Rattle.std.specs.FinMap.Entries.{same_entries, below_all}
+use Rattle.std.proofs.Math.Bool.{or-false}
 use Rattle.bm_base.specs.declared.replica.ReplicaId.{ReplicaId}
 use Rattle.bm_base.specs.declared.replica.Marks.{Marks}
 use Rattle.bm_base.specs.declared.event.Event.TheVariants.{FullReport}
@@ -99,10 +100,6 @@ known_marked (x ∷ xs) m b =
     known_marked xs (insert m x tt) b ∙ ap (λ z. has xs b || is_some z) (get-insert m x tt b) ∙ ap (λ c. has xs b || is_some (cond c (Some tt) (get m b))) (number_tie b x ∙ eqb_turned b x)
     ∙ known_or (has xs b) (x == b) (get m b)
 
-or_false : (b : Bool) → (b || false) ≡ b
-or_false true = refl
-or_false false = refl
-
 -- the answer of the query, if exactly the blocks in xs have a replica on the storage
 blocks_are : (H : Holdings) (s : ℕ) (xs : List ℕ) → ((b : ℕ) → contains_key H.replicas (replica_at b s) ≡ has xs b) → blocks_on H s ≡ distinct xs
 unfolding blocks_on distinct keys entries get
@@ -111,7 +108,7 @@ blocks_are H s xs reported =
     let lists : marked_all (blocks_in s H.replicas.list) ≡ all.list =
     same_entries by_number.cmp by_number.total by_number.same (marked_all (blocks_in s H.replicas.list)) all.list (sorted_blocks s H.replicas.list H.replicas.sorted) all.sorted
     (λ b. same_unit (find nat_cmp b (marked_all (blocks_in s H.replicas.list))) (find nat_cmp b all.list)
-    (found_blocks s b H.replicas.list ∙ reported b ∙ sym (known_marked xs empty b ∙ ap (λ z. has xs b || is_some z) (get-empty by_number b) ∙ or_false (has xs b)))) in
+    (found_blocks s b H.replicas.list ∙ reported b ∙ sym (known_marked xs empty b ∙ ap (λ z. has xs b || is_some z) (get-empty by_number b) ∙ or-false (has xs b)))) in
     sym (firsts (blocks_in s H.replicas.list)) ∙ ap (map (λ e. e.0)) lists
 
 pub asked_after : law.report_is_what_is_asked

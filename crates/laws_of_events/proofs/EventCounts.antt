@@ -6,6 +6,7 @@ use Rattle.std.specs.FinMap.{find, is_sorted}
 use Rattle.std.specs.FinMap.Entries.{same_entries, below_all}
 use Rattle.std.proofs.lemmas.List.{length-map}
 use Rattle.std.proofs.lemmas.List.Sums.{length-filter}
+use Rattle.std.proofs.Math.Bool.{and_comm}
 use Rattle.bm_base.specs.declared.replica.Marks.{Marks}
 use Rattle.bm_base.specs.Words.{Map, Order, get, keep, len, entries, contains_key, Holdings, by_replica, new_replicas, done, done_by, after_event}
 use Rattle.bm_base.proofs.Differences.{both_parts}
@@ -69,16 +70,10 @@ kept_some true (Some x) = refl
 kept_some false None = refl
 kept_some false (Some x) = refl
 
-both_swap : (a b : Bool) → (a && b) ≡ (b && a)
-both_swap true true = refl
-both_swap true false = refl
-both_swap false true = refl
-both_swap false false = refl
-
 shared_keys : (m n : Replicas) → len (shared m n) ≡ len (shared n m)
 shared_keys m n =
     same_len (shared m n) (shared n m) (λ q.
-    ap is_some (get-keep m (λ q _. contains_key n q) q) ∙ kept_some (contains_key n q) (get m q) ∙ both_swap (contains_key n q) (contains_key m q)
+    ap is_some (get-keep m (λ q _. contains_key n q) q) ∙ kept_some (contains_key n q) (get m q) ∙ and_comm (contains_key n q) (contains_key m q)
     ∙ sym (ap is_some (get-keep n (λ q _. contains_key m q) q) ∙ kept_some (contains_key m q) (get n q)))
 
 done_adds_up : (H G : Holdings) → len G.replicas + (done H G).removed ≡ len H.replicas + (done H G).added

@@ -4,6 +4,7 @@ use Rattle.std.specs.Prelude.{◌==◌, if◌then◌else◌}
 use Rattle.std.specs.Option.{option_or, option_map_or}
 use Rattle.std.specs.Ordering.{eq_by_cmp}
 use Rattle.std.proofs.lemmas.Bool.{and_right}
+use Rattle.std.proofs.Math.Bool.{and-true}
 use Rattle.bm_base.specs.declared.replica.ReplicaId.{ReplicaId}
 use Rattle.bm_base.specs.declared.replica.Marks.{Marks}
 use Rattle.bm_base.specs.declared.replica.Stamp.{Stamp}
@@ -62,11 +63,7 @@ module _ (C : Cluster) (H : Holdings) (s : ℕ) where
   put_or b o z = option_map_or (λ t. Some (entered_marks H (replica_at b s) t)) o z
 
   tied : (b c : ℕ) → eq_by_cmp replica_cmp (replica_at b s) (replica_at c s) ≡ (b == c)
-  tied b c = replica_tie (replica_at b s) (replica_at c s) ∙ rw (eq-eqb s s refl) (with_true (b == c))
-    where
-      with_true : (x : Bool) → (x && true) ≡ x
-      with_true true = refl
-      with_true false = refl
+  tied b c = replica_tie (replica_at b s) (replica_at c s) ∙ rw (eq-eqb s s refl) (and-true (b == c))
 
   step_put : (b : ℕ) (o : Option Stamp) (x : ReportedBlock) (z : Option Marks) (t : Bool) → (b == x.id) ≡ t → (x.id == b) ≡ t
       → put_or b o (cond t (Some (entered_marks H (replica_at x.id s) x.stamp)) z) ≡ put_or b (option_or o (if t then Some x.stamp else None)) z

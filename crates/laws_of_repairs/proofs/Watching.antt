@@ -7,6 +7,7 @@ use Rattle.std.proofs.lemmas.Bool.{false≢true, true≢false, eqb-true, or_left
 use Rattle.std.proofs.lemmas.List.Folds.{list_any-append}
 use Rattle.std.proofs.lemmas.List.Sorted.{list_any-IsPermutation}
 use Rattle.std.proofs.lemmas.List.Sums.{length-filter}
+use Rattle.std.proofs.Math.Bool.{and-true}
 use Rattle.bm_base.specs.declared.event.Event.{Event}
 use Rattle.bm_base.specs.declared.level.Level.{Level}
 use Rattle.bm_base.specs.declared.replica.BlockInfo.{BlockInfo}
@@ -93,15 +94,12 @@ covers_leveled M xs covers b none = by_test (has_level M b) refl
 pub leveled_all : (M : State) (xs : List ℕ) → Covers M xs → (b : ℕ) → has (filter (has_level M) xs) b ≡ has_level M b
 leveled_all M xs covers b = has_filter (has_level M) xs b ∙ by_test (has xs b) refl
   where
-    and_true : (a : Bool) → (a && true) ≡ a
-    and_true true = refl
-    and_true false = refl
 
     and_false : (a : Bool) → a ≡ false → (a && false) ≡ a
     and_false a e = ap (λ c. c && false) e ∙ sym e
 
     by_test : (t : Bool) → has xs b ≡ t → (has_level M b && has xs b) ≡ has_level M b
-    by_test true e = ap (λ t. has_level M b && t) e ∙ and_true (has_level M b)
+    by_test true e = ap (λ t. has_level M b && t) e ∙ and-true (has_level M b)
     by_test false e = ap (λ t. has_level M b && t) e ∙ and_false (has_level M b) (ap is_some (covers b e))
 
 -- States that change.

@@ -22,8 +22,8 @@ use Rattle.bm_base.specs.declared.replica.BlockInfo.{BlockInfo}
 use Rattle.bm_base.proofs.MapLaws.{get-empty, get-insert, get-keep, get-revise, get-remove}
 use Rattle.bm_base.specs.Promises.NextRound.{after_round}
 use Rattle.std.proofs.lemmas.Option.{same_Some}
+use Rattle.std.proofs.Math.Bool.{and-false}
 use Rattle.bm_base.proofs.ForEach.{each_any}
-use Rattle.bm_base.proofs.ListTests.{and_never}
 use Rattle.laws_of_states.proofs.MarkedReplicas.{unordered_dropped, ordered_by}
 use Rattle.laws_of_states.proofs.RoundCommands.{IsTested, IsChosen, chosen_deletes, chosen_deletes_of, at_same}
 use Rattle.laws_of_states.proofs.LiveAfterRound.{one_stays, remarked, surplus_of, marks_started, deleted_marks, live_is_kept, weaker_kind}
@@ -133,7 +133,7 @@ done_event C H (FullReport s es) h = done_reported H s (expanded es) _ (done_kep
 -- Rounds.
 
 with_mark : (c : Bool) (n : Marks) → IsDone n → IsDone (if c then record n { excess = true } else n)
-with_mark true n old e = and_never (is_good n.tag)
+with_mark true n old e = and-false (is_good n.tag)
 with_mark false n old e = old e
 
 dropped_done : (t : Bool) (n : Marks) → n.ordered ≡ t → IsDone n → IsDone (if t then n else record n { excess = false })

@@ -3,6 +3,7 @@ use Rattle.std.specs.Prelude.{◌≡◌, ℕ, ◌+◌, ◌-◌, Bool, true, fals
 use Rattle.std.specs.Option.{option_map_or}
 use Rattle.std.proofs.Common.{cond, refl, sym, ap, subst, ◌∙◌, arith}
 use Rattle.std.proofs.lemmas.Bool.{eqb-true}
+use Rattle.std.proofs.Math.Bool.{and-false}
 use Rattle.bm_base.specs.declared.replica.ReplicaId.{ReplicaId}
 use Rattle.bm_base.specs.declared.replica.Marks.{Marks}
 use Rattle.bm_base.specs.declared.replica.BlockInfo.{BlockInfo}
@@ -10,7 +11,6 @@ use Rattle.bm_base.specs.declared.commands.Transfer.{Transfer}
 use Rattle.bm_base.specs.declared.commands.Delete.{Delete}
 use Rattle.bm_base.specs.Words.{get, entries, Cluster, Holdings, State, has, live, is_usable, is_live_on, is_draining, is_good, storages_where, state_after_expiry, state_at_choice, without_expired, without_unordered_excess, with_surplus_marked, excess_in, excess_of, excess_among, end_round, is_commanded, whole_round}
 use Rattle.bm_base.specs.Promises.NextRound.{unmarked, live_unmarked, live_marked, live_after}
-use Rattle.bm_base.proofs.ListTests.{and_never}
 use Rattle.bm_base.proofs.Membership.{listed, revised_where, once_where}
 use Rattle.laws_of_states.proofs.Surpluses.{kept_of, kept_count}
 
@@ -47,7 +47,7 @@ marked_list on b chosen (e ∷ es) =
         ≡ kept_of (chosen b) (map (λ (d : ReplicaId × Marks). d.0.storage) (cond (is_usable e.1 && on e.0.storage) (e ∷ right) right))
     here e left right true is rest =
         ap (λ u. map (λ (d : ReplicaId × Marks). d.0.storage) (cond (is_usable (if u then record e.1 { excess = true } else e.1) && on e.0.storage) (e ∷ left) left)) is
-        ∙ ap (λ u. map (λ (d : ReplicaId × Marks). d.0.storage) (cond (u && on e.0.storage) (e ∷ left) left)) (and_never (is_good e.1.tag))
+        ∙ ap (λ u. map (λ (d : ReplicaId × Marks). d.0.storage) (cond (u && on e.0.storage) (e ∷ left) left)) (and-false (is_good e.1.tag))
         ∙ rest
         ∙ (elim (is_usable e.1 && on e.0.storage) as (λ u. kept_of (chosen b) (map (λ (d : ReplicaId × Marks). d.0.storage) right) ≡ kept_of (chosen b) (map (λ (d : ReplicaId × Marks). d.0.storage) (cond u (e ∷ right) right))) [
           | true ↦ sym (ap (λ u. cond (not u) (e.0.storage ∷ kept_of (chosen b) (map (λ (d : ReplicaId × Marks). d.0.storage) right)) (kept_of (chosen b) (map (λ (d : ReplicaId × Marks). d.0.storage) right))) is)
