@@ -126,10 +126,6 @@ some_map f (Some x) = refl
 pub head-seen : (slots : Slab BlockEntry) (heads : List (ℕ × Option ℕ)) (s : ℕ) (found : Bool) → found ≡ is_some (lookup (nat_eq s) heads) → found ≡ is_some (lookup (nat_eq s) (lists_from slots heads))
 head-seen slots heads s found is = is ∙ sym (ap is_some (lookup-lists_from slots s heads) ∙ some_map (list_from slots s) (lookup (nat_eq s) heads))
 
-pub no_lookup : {A : Type 0} (o : Option A) → is_some o ≡ false → o ≡ None
-no_lookup None is = refl
-no_lookup (Some x) is = absurd (false≢true (sym is))
-
 marks-change_capacity : (blocks : List (Option Block)) (x capacity y s : ℕ) → marks_in (change_block (with_entry_capacity capacity) blocks x) y s ≡ marks_in blocks y s
 marks-change_capacity blocks x capacity y s =
     elim (cases_eq y x) [

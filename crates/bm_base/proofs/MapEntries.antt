@@ -11,15 +11,10 @@ use Rattle.std.proofs.lemmas.Bool.{or_left, or_right}
 use Rattle.std.proofs.NetLemmas.Options.{cond_none}
 use Rattle.bm_base.specs.Maps.Conjunction.{first, second}
 use Rattle.bm_base.specs.Maps.Map.{Map, Order, entries, get, insert, insert_all, keep, revise, remove, len, keys, contains_key}
-use Rattle.bm_base.proofs.MapLaws.{same_map, find_below, get-insert, get-keep, get-revise, get-remove, entries-revise}
+use Rattle.bm_base.proofs.MapLaws.{same_map, find_below, get-insert, get-keep, get-revise, get-remove, entries-revise, equal}
 use Rattle.bm_base.proofs.Differences.{len-insert, len-keep-le}
 use Rattle.bm_base.proofs.ForEach.{Each, each_then, each_mapped}
 use Rattle.bm_base.proofs.Options.{there, is_there, kept, keeps, revised}
-
-equal : (r : Ordering) → is_eq r ≡ true → r ≡ Equal
-equal Less p = cc
-equal Equal p = refl
-equal Greater p = cc
 
 -- keys that tie are equal
 pub same_key : {K : Type 0} (o : Order K) (p q : K) → eq_by_cmp o.cmp p q ≡ true → p ≡ q
@@ -28,9 +23,9 @@ same_key o p q e = o.same p q (equal _ e)
 pub key_itself : {K : Type 0} (o : Order K) (q : K) → eq_by_cmp o.cmp q q ≡ true
 key_itself o q = ap is_eq (tied_itself o.total q)
 
-still : {X : Type 0} (b : Bool) (v : X) (z : Option X) → is_some z ≡ true → is_some (cond b (Some v) z) ≡ true
-still true v z e = refl
-still false v z e = e
+pub still_some : {X : Type 0} (b : Bool) (v : X) (z : Option X) → is_some z ≡ true → is_some (cond b (Some v) z) ≡ true
+still_some true v z e = refl
+still_some false v z e = e
 
 pub one_out : {X : Type 0} (b : Bool) (z : Option X) → cond b None z ≡ option_and_then (λ x. cond (not b) (Some x) None) z
 one_out true None = refl
@@ -90,7 +85,7 @@ module _ {K X : Type 0} {o : Order K} where
 
   -- a known key stays known after an insert
   pub known_inserted : (m : Map o X) (k : K) (v : X) (q : K) → contains_key m q ≡ true → contains_key (insert m k v) q ≡ true
-  known_inserted m k v q e = ap is_some (get-insert m k v q) ∙ still (eq_by_cmp o.cmp q k) v (get m q) e
+  known_inserted m k v q e = ap is_some (get-insert m k v q) ∙ still_some (eq_by_cmp o.cmp q k) v (get m q) e
 
   -- a property of all entries and of the inserted one holds after the insert
   pub holds_inserted : (P : K → X → Type 0) (m : Map o X) (k : K) (v : X) → Holds P m → P k v → Holds P (insert m k v)

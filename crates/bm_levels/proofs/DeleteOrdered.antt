@@ -14,11 +14,11 @@ use Rattle.bm_base.specs.Spread.{spread}
 use Rattle.bm_arena.specs.Triplets.{Block, change_block}
 use Rattle.bm_arena.specs.Contents.{Contents, block_at, marks_at, find_marks, change_marks, with_marks, known_of}
 use Rattle.bm_arena.proofs.ChangedBlock.{changed-here}
+use Rattle.bm_arena.proofs.HeldReplicas.{info_known}
 use Rattle.bm_levels.specs.Changes.{as_ordered}
 use Rattle.bm_levels.specs.Status.{storages_at, is_live_by, is_drained_by, is_good_and_unmarked, level_by, level_in, is_settled_at}
 use Rattle.bm_levels.specs.IndexedLevels.{IsUnsettled, HasCapacityFor}
 use Rattle.bm_levels.specs.Leveled.{Leveled, IsLeveled, AreLevels}
-use Rattle.bm_levels.proofs.ManySlots.{known_info}
 use Rattle.bm_levels.proofs.OneSlot.{IsChangedAt}
 
 -- if a test passes the old and the new marks of one replica alike, the same storages pass
@@ -118,7 +118,7 @@ module _ (old : Leveled) (a : Contents) (slot : ℕ) (changed : IsChangedAt old.
     unsettled = λ z.
         let P : Bool → Type 0 = λ b. IsUnsettled old.level_index z ↔ (b ≡ false) in
         subst P (sym (alike_at is_settled_at settled z)) (h.unsettled z);
-    unknown = λ z e. h.unknown z (sym (alike_at (option_and_then (λ (b : Block). b.info)) (known_info (block_at a slot) (block_at old.arena slot) known) z) ∙ e);
+    unknown = λ z e. h.unknown z (sym (alike_at (option_and_then (λ (b : Block). b.info)) (info_known (block_at a slot) (block_at old.arena slot) known) z) ∙ e);
   }
 
   pub levels_alike : (C : Cluster) → level_in C (block_at a slot) ≡ level_in C (block_at old.arena slot) → AreLevels C old → AreLevels C (record { arena = a; level_index = old.level_index })

@@ -14,6 +14,7 @@ use Rattle.bm_levels.specs.IndexedLevels.{IndexedLevels, level_of_slot, IsUnsett
 use Rattle.bm_levels.specs.Leveled.{Leveled, IsLeveled, AreLevels}
 use Rattle.bm_levels.specs.LevelsBy.{AreLevelsBy}
 use Rattle.bm_levels.proofs.StatusByCounts.{level_unknown}
+use Rattle.bm_arena.proofs.HeldReplicas.{info_known}
 
 pub no_replicas : (rs : List (ℕ × Marks)) → ((t : ℕ) → find_marks rs t ≡ None) → rs ≡ []
 no_replicas [] h = refl
@@ -28,13 +29,6 @@ unfolding is_settled_at
 marker_settled None free blank = refl
 marker_settled (Some b) free blank = rw (no_replicas b.replicas free, blank) refl
 
-pub known_info : (o p : Option Block) → known_of o ≡ known_of p → option_and_then (λ (b : Block). b.info) o ≡ option_and_then (λ (b : Block). b.info) p
-known_info o p e = sym (by o) ∙ ap (λ k. option_and_then (λ (x : ℕ × Option BlockInfo). x.1) k) e ∙ by p
-  where
-    by : (o : Option Block) → option_and_then (λ (x : ℕ × Option BlockInfo). x.1) (known_of o) ≡ option_and_then (λ (b : Block). b.info) o
-    by None = refl
-    by (Some b) = refl
-
 known_there : (o p : Option Block) → known_of o ≡ known_of p → IsSome o → IsSome p
 known_there o p e there = sym (by p) ∙ ap is_some (sym e) ∙ by o ∙ there
   where
@@ -48,7 +42,7 @@ module _ (rack : ℕ → Option ℕ) (draining : ℕ → Bool) (multi : Bool) (o
     (each : (slot : ℕ) → slot ≢ old.arena.delimiter → (IsClassified rack draining multi (block_at a slot) K slot) ⊎ ((block_at a slot ≡ block_at old.arena slot) × IsSameAt old.level_index K slot))
     (mark : IsSameAt old.level_index K old.arena.delimiter) where
   same_info : (slot : ℕ) → info_at a slot ≡ info_at old.arena slot
-  same_info slot = known_info (block_at a slot) (block_at old.arena slot) (known slot)
+  same_info slot = info_known (block_at a slot) (block_at old.arena slot) (known slot)
 
   pub leveled_many : IsLeveled old → ((bound : ℕ) → HasCapacityFor old.level_index bound → HasCapacityFor K bound) → IsLeveled (record { arena = a; level_index = K })
   leveled_many h capacity =

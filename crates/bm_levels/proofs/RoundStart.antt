@@ -9,13 +9,13 @@ use Rattle.bm_base.specs.RoundParts.{surplus}
 use Rattle.bm_arena.specs.Triplets.{Block}
 use Rattle.bm_arena.specs.Contents.{Contents, block_at, slot_of, IsLawful, KeepsAllBut, KeepsEntries}
 use Rattle.bm_arena.specs.HeldMaps.{replicas_at, replicas_of, blocks_of, info_at, holdings_of}
-use Rattle.bm_arena.proofs.HeldReplicas.{same_blocks, under}
+use Rattle.bm_arena.proofs.HeldReplicas.{same_blocks, under, info_known}
 use Rattle.bm_arena.proofs.StableEntries.{entries-chain}
 use Rattle.bm_levels.specs.Status.{is_settled_at}
 use Rattle.bm_levels.specs.IndexedLevels.{IsUnsettled, HasCapacityFor}
 use Rattle.bm_levels.specs.Leveled.{Leveled, IsLeveled}
 use Rattle.bm_levels.specs.Changes.{as_excess, all_changed, has_replica, has_block}
-use Rattle.bm_levels.proofs.ManySlots.{known_info, marker_settled}
+use Rattle.bm_levels.proofs.ManySlots.{marker_settled}
 use Rattle.bm_levels.proofs.OneSlot.{IsChangedAt}
 use Rattle.bm_levels.proofs.RoundMarks.{settled_block, begun_replicas, no_surplus, marked_replicas, none_marked}
 
@@ -30,7 +30,7 @@ pub entries_blocks : (a c : Contents) → KeepsEntries a c → blocks_of c ≡ b
 entries_blocks a c keeps =
     same_blocks a c (λ b.
     ap (λ l. option_and_then (λ x. info_at c x) (lookup (nat_eq b) l)) keeps.ids
-    ∙ under (λ x. info_at c x) (λ x. info_at a x) (slot_of a b) (λ x. known_info (block_at c x) (block_at a x) (keeps.known x)))
+    ∙ under (λ x. info_at c x) (λ x. info_at a x) (slot_of a b) (λ x. info_known (block_at c x) (block_at a x) (keeps.known x)))
 
 -- there is capacity for each unsettled slot
 pub start_capacity : (old : Leveled) → IsLeveled old → (slot : ℕ) → IsUnsettled old.level_index slot → HasCapacityFor old.level_index (slot + 1)

@@ -7,10 +7,7 @@ use Rattle.bm_base.specs.declared.level.Level.TheVariants.{Highest, VeryUnderRep
 use Rattle.bm_maps.specs.SlotLists.{IsMember, Distinct}
 use Rattle.bm_arena.proofs.Replicas.{Among-append, Among-left}
 use Rattle.bm_levels.specs.IndexedLevels.{IndexedLevels, level_of_slot, slots_at, slots_needing_copies, needs_copies, AreSlotsAt, NeedCopies}
-
-among_right : (x : ℕ) (xs ys : List ℕ) → IsMember x ys → IsMember x (xs ++ ys)
-among_right x [] ys h = h
-among_right x (z ∷ zs) ys h = inr (among_right x zs ys h)
+use Rattle.bm_levels.proofs.StatusUpdates.{among_back}
 
 distinct_both : (xs ys : List ℕ) → Distinct xs → Distinct ys → ((z : ℕ) → IsMember z xs → IsMember z ys → ⊥) → Distinct (xs ++ ys)
 distinct_both [] ys d e apart = e
@@ -26,11 +23,11 @@ module _ (K : IndexedLevels) (listed : (l : Level) → AreSlotsAt K l (slots_at 
 
   in_list : (slot : ℕ) (l : Level) → level_of_slot K slot ≡ Some l → needs_copies (Some l) ≡ true → IsMember slot (slots_needing_copies K)
   in_list slot Highest at wishes = Among-left slot (slots_at K Highest) first ((listed Highest slot).1 at)
-  in_list slot VeryUnderReplicated at wishes = among_right slot (slots_at K Highest) first (Among-left slot (slots_at K VeryUnderReplicated) second ((listed VeryUnderReplicated slot).1 at))
+  in_list slot VeryUnderReplicated at wishes = among_back slot (slots_at K Highest) first (Among-left slot (slots_at K VeryUnderReplicated) second ((listed VeryUnderReplicated slot).1 at))
   in_list slot UnderReplicated at wishes =
-      among_right slot (slots_at K Highest) first (among_right slot (slots_at K VeryUnderReplicated) second (Among-left slot (slots_at K UnderReplicated) (slots_at K BadlyDistributed) ((listed UnderReplicated slot).1 at)))
+      among_back slot (slots_at K Highest) first (among_back slot (slots_at K VeryUnderReplicated) second (Among-left slot (slots_at K UnderReplicated) (slots_at K BadlyDistributed) ((listed UnderReplicated slot).1 at)))
   in_list slot BadlyDistributed at wishes =
-      among_right slot (slots_at K Highest) first (among_right slot (slots_at K VeryUnderReplicated) second (among_right slot (slots_at K UnderReplicated) (slots_at K BadlyDistributed) ((listed BadlyDistributed slot).1 at)))
+      among_back slot (slots_at K Highest) first (among_back slot (slots_at K VeryUnderReplicated) second (among_back slot (slots_at K UnderReplicated) (slots_at K BadlyDistributed) ((listed BadlyDistributed slot).1 at)))
   in_list slot NoUsableReplica at wishes = absurd (true≢false (sym wishes))
 
   needing_copies : (slot : ℕ) (o : Option Level) → level_of_slot K slot ≡ o → needs_copies o ≡ true → IsMember slot (slots_needing_copies K)

@@ -10,6 +10,7 @@ use Rattle.bm_base.specs.Maps.Map.{Map, Order, get, insert, revise_at, contains_
 use Rattle.bm_base.specs.Maps.OfSorted.{of_sorted}
 use Rattle.bm_base.proofs.MapLaws.{equal, same_map, get-insert, get-revise}
 use Rattle.bm_base.proofs.OfSorted.{get-of_sorted}
+use Rattle.bm_base.proofs.Options.{not_there}
 use Rattle.bm_maps.proofs.SortedLaws.{sorted_by-put, insert_by-put}
 
 put_there : {X : Type 0} (b : Bool) (v : X) (w : Option X) → is_some w ≡ true → option_map (λ x. cond b v x) w ≡ cond b (Some v) w
@@ -17,10 +18,6 @@ put_there true v None h = cc
 put_there false v None h = refl
 put_there true v (Some x) h = refl
 put_there false v (Some x) h = refl
-
-none_where : {X : Type 0} (z : Option X) → is_some z ≡ false → z ≡ None
-none_where None e = refl
-none_where (Some y) e = cc
 
 kept : {X : Type 0} (f : X → X) (v : Option X) → option_map (λ x. cond false (f x) x) v ≡ v
 kept f None = refl
@@ -72,7 +69,7 @@ module _ {K X : Type 0} (o : Order K) where
   replaced_by : (es fs : List (K × X)) (k : K) (v : X) (m : Map o X) (b : Bool) → contains_key m k ≡ b → fs ≡ cond b (put o.cmp k v es) es → T (is_sorted o.cmp es) → of_sorted es ≡ m
       → of_sorted fs ≡ revise_at m k (λ _. v)
   replaced_by es fs k v m true there e h is = insert_by-put o es fs k v m e h is ∙ insert_there m k v there
-  replaced_by es fs k v m false none e h is = ap (of_sorted {o = o}) e ∙ is ∙ no_change m k (λ _. v) (none_where (get m k) none)
+  replaced_by es fs k v m false none e h is = ap (of_sorted {o = o}) e ∙ is ∙ no_change m k (λ _. v) (not_there (get m k) none)
 
   -- a sorted vector in which the value at a key was set, if it has the key
   pub replaced : (es fs : List (K × X)) (k : K) (v : X) (m : Map o X) → fs ≡ cond (is_some (find o.cmp k es)) (put o.cmp k v es) es → T (is_sorted o.cmp es) → of_sorted es ≡ m

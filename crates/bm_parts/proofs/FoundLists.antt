@@ -64,7 +64,7 @@ surplus_gathered C H =
 
 -- Deletes.
 
-any_flat_at : {Y : Type 0} (t : Y → Bool) (f : ℕ → List Y) (ss : List ℕ) (s : ℕ) → has ss s ≡ true → list_any t (f s) ≡ true → list_any t (flat_map f ss) ≡ true
+pub any_flat_at : {Y : Type 0} (t : Y → Bool) (f : ℕ → List Y) (ss : List ℕ) (s : ℕ) → has ss s ≡ true → list_any t (f s) ≡ true → list_any t (flat_map f ss) ≡ true
 any_flat_at t f [] s e h = cc
 any_flat_at t f (u ∷ ss) s e h = list_any-append t (f u) (flat_map f ss) ∙ by_test (u == s) refl e (any_flat_at t f ss s)
   where

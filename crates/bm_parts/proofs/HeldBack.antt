@@ -18,7 +18,7 @@ none_of : {X : Type 0} (t : X → Bool) (xs : List X) → Each (λ x. t x ≡ fa
 none_of t [] h = refl
 none_of t (x ∷ xs) h = ap (λ b. b || list_any t xs) h.0 ∙ none_of t xs h.1
 
-any_flat : {X Y : Type 0} (t : Y → Bool) (f : X → List Y) (xs : List X) → list_any t (flat_map f xs) ≡ list_any (λ x. list_any t (f x)) xs
+pub any_flat : {X Y : Type 0} (t : Y → Bool) (f : X → List Y) (xs : List X) → list_any t (flat_map f xs) ≡ list_any (λ x. list_any t (f x)) xs
 any_flat t f [] = refl
 any_flat t f (x ∷ xs) = list_any-append t (f x) (flat_map f xs) ∙ ap (λ b. list_any t (f x) || b) (any_flat t f xs)
 

@@ -50,7 +50,7 @@ module _ {Y : Type 0} (f : Holdings → ℕ → Y) (p : Holdings → ℕ → Boo
       (sym (ap (map (f H)) (map_filter (λ (e : ℕ × BlockInfo). e.0) (p H) H.blocks.list) ∙ map-map (f H) (λ (e : ℕ × BlockInfo). e.0) (filter (λ e. p H e.0) H.blocks.list)))
       (listed_ascends nat_cmp (λ (e : ℕ × BlockInfo). f H e.0) (λ e. p H e.0) key (λ e. is H e.0) H.blocks.list H.blocks.sorted)
 
-map_same : (bs : List ℕ) → map (λ b. b) bs ≡ bs
+pub map_same : (bs : List ℕ) → map (λ b. b) bs ≡ bs
 map_same [] = refl
 map_same (b ∷ bs) = ap (λ cs. b ∷ cs) (map_same bs)
 

@@ -42,7 +42,7 @@ one_block_changes_one_part C P (Received s c stamp) b index shards is = ap (λ x
 one_block_changes_one_part C P (Deleted s c) b index shards is = ap (λ x. if shard_of x shards == index then change_holdings C P (Deleted s c) else P) (same_Some c b is)
 one_block_changes_one_part C P (Corrupt s c) b index shards is = ap (λ x. if shard_of x shards == index then change_holdings C P (Corrupt s c) else P) (same_Some c b is)
 
-none_came : (m : Map by_replica Marks) → new_replicas m m ≡ 0
+pub none_came : (m : Map by_replica Marks) → new_replicas m m ≡ 0
 unfolding new_replicas
 none_came m = none_new m m (λ q x e. ap is_some e)
 

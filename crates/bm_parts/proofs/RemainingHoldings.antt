@@ -106,7 +106,7 @@ same_holdings C D H stays L =
     })
     (marks_of C H L)
 
-other_key : (C : Cluster) (s t : ℕ) → contains_key C.storages s ≡ true → knows_storage C t ≡ false → (b : Bool) → eq_by_cmp nat_cmp s t ≡ b → b ≡ false
+pub other_key : (C : Cluster) (s t : ℕ) → contains_key C.storages s ≡ true → knows_storage C t ≡ false → (b : Bool) → eq_by_cmp nat_cmp s t ≡ b → b ≡ false
 unfolding knows_storage
 other_key C s t known unknown true e = absurd (true≢false (sym known ∙ ap (contains_key C.storages) (same_key by_number s t e) ∙ unknown))
 other_key C s t known unknown false e = refl

@@ -127,7 +127,7 @@ module _ (C : Cluster) (P : Holdings) (racked : IsRacked C P) (s : ℕ) (rack : 
 
 -- Events and rounds.
 
-register_unrefused : (C : Cluster) (n rack : ℕ) (ss : List ℕ) → first_of (cluster_checks C (Register n rack ss)) ≡ None → (contains_key C.nodes n ≡ false) × (list_any (knows_storage C) ss ≡ false)
+pub register_unrefused : (C : Cluster) (n rack : ℕ) (ss : List ℕ) → first_of (cluster_checks C (Register n rack ss)) ≡ None → (contains_key C.nodes n ≡ false) × (list_any (knows_storage C) ss ≡ false)
 unfolding cluster_checks knows_node
 register_unrefused C n rack ss e =
     let fails = all_fail NodeKnown StorageKnown TooMany (contains_key C.nodes n) (has_repeats ss || list_any (knows_storage C) ss) _ e in

@@ -85,7 +85,7 @@ module _ (C : Cluster) (H : Holdings) (s : ℕ) (named : ℕ → Bool) (stays : 
 
 -- One replica.
 
-sibling_fails : (a b : Bool) → not (a && b) ≡ true → a ≡ true → b ≡ false
+pub sibling_fails : (a b : Bool) → not (a && b) ≡ true → a ≡ true → b ≡ false
 sibling_fails true b e h = not-true b e
 sibling_fails false b e h = cc
 
@@ -128,7 +128,7 @@ reported_below es m each =
 abbrev leaves_by : Bool → Bool → Bool → Bool
 leaves_by here named siblings = if here then not named else named && siblings
 
-named_stays : (here named siblings : Bool) → (here ≡ true → siblings ≡ false) → not (leaves_by here named siblings) ≡ true → named ≡ true → siblings ≡ false
+pub named_stays : (here named siblings : Bool) → (here ≡ true → siblings ≡ false) → not (leaves_by here named siblings) ≡ true → named ≡ true → siblings ≡ false
 named_stays true named siblings own e h = own refl
 named_stays false true siblings own e h = not-true siblings e
 named_stays false false siblings own e h = cc

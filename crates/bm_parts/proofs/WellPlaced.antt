@@ -23,8 +23,8 @@ use Rattle.bm_base.proofs.ForEach.{each_mapped, each_then, none_passes}
 use Rattle.bm_base.proofs.MapEntries.{Holds, same_key, get_kept, get_revised, get_removed, known_revised, get_insert_all_elsewhere}
 use Rattle.bm_base.proofs.Clusters.{same_node, as_known, same_siblings, siblings_turned, no_sibling_itself}
 use Rattle.bm_base.proofs.ClusterEvents.{IsRegistrable, registrable, fresh, same_nodes}
-use Rattle.bm_parts.proofs.RemainingHoldings.{drained_replicas}
-use Rattle.bm_parts.proofs.ReportedReplicas.{IsKept, IsPut, enter_origin, report_origin, stays_by, entered_excess}
+use Rattle.bm_parts.proofs.RemainingHoldings.{drained_replicas, other_key}
+use Rattle.bm_parts.proofs.ReportedReplicas.{IsKept, IsPut, enter_origin, report_origin, stays_by, entered_excess, sibling_fails, named_stays}
 use Rattle.bm_parts.proofs.ChosenCopies.{in_excess_usable}
 use Rattle.bm_parts.specs.PlacedLaws as law
 use Rattle.bm_parts.specs.PlacedLaws.{IsPlaced}
@@ -61,11 +61,6 @@ without_placed C D H gone stays L =
     (λ p m e. L.excess_is_good p m (get_kept H.replicas test p m e).0)
 
 -- Nodes and storages that come and go.
-
-other_key : (C : Cluster) (s t : ℕ) → contains_key C.storages s ≡ true → knows_storage C t ≡ false → (b : Bool) → eq_by_cmp nat_cmp s t ≡ b → b ≡ false
-unfolding knows_storage
-other_key C s t known unknown true e = absurd (true≢false (sym known ∙ ap (contains_key C.storages) (same_key by_number s t e) ∙ unknown))
-other_key C s t known unknown false e = refl
 
 after_registration : (C : Cluster) (H : Holdings) (n rack : ℕ) (ss : List ℕ) → IsRegistrable C n ss → IsPlaced C H → IsPlaced (register C n rack ss) H
 unfolding register
@@ -139,10 +134,6 @@ module _ (C : Cluster) (H G : Holdings) (s : ℕ) (named : ℕ → Bool) (stays 
     excess_is_good = λ q m e. good_in_excess q m (from q m e);
   }
 
-sibling_fails : (a b : Bool) → not (a && b) ≡ true → a ≡ true → b ≡ false
-sibling_fails true b e h = not-true b e
-sibling_fails false b e h = cc
-
 enter_apart : (C : Cluster) (p q : ReplicaId) → not (replaces C p q) ≡ true → (q.block == p.block) ≡ true → are_siblings C p.storage q.storage ≡ false
 unfolding replaces
 enter_apart C p q e h = sibling_fails (q.block == p.block) (are_siblings C p.storage q.storage) e h
@@ -153,11 +144,6 @@ enter_keeps_placed C P p stamp known L =
 
 abbrev leaves_by : Bool → Bool → Bool → Bool
 leaves_by here named siblings = if here then not named else named && siblings
-
-named_stays : (here named siblings : Bool) → (here ≡ true → siblings ≡ false) → not (leaves_by here named siblings) ≡ true → named ≡ true → siblings ≡ false
-named_stays true named siblings own e h = own refl
-named_stays false true siblings own e h = not-true siblings e
-named_stays false false siblings own e h = cc
 
 report_apart : (C : Cluster) (s : ℕ) (ts : List ReportedBlock) (q : ReplicaId) → not (leaves_by_report C s ts q) ≡ true → is_named ts q.block ≡ true → are_siblings C s q.storage ≡ false
 unfolding leaves_by_report

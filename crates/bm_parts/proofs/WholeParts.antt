@@ -51,7 +51,7 @@ module _ {K X : Type 0} {o : Order K} where
 apart : (i j shards b : ℕ) → (i ≡ j → ⊥) → (shard_of b shards == i) ≡ true → (shard_of b shards == j) ≡ false
 apart i j shards b other e = ne_eqb (shard_of b shards) j (λ f. other (sym (eqb-true (shard_of b shards) i e) ∙ f))
 
-cut_empty : (i shards : ℕ) → cut empty_holdings i shards ≡ empty_holdings
+pub cut_empty : (i shards : ℕ) → cut empty_holdings i shards ≡ empty_holdings
 unfolding cut empty_holdings
 cut_empty i shards = λ j. record { blocks = part_empty (own i shards) j; replicas = part_empty (own_replica i shards) j; pending = part_empty (own_replica i shards) j }
 

@@ -11,7 +11,9 @@ use Rattle.bm_base.specs.Words.{Cluster, has, has_repeats, least, remaining, sha
 use Rattle.bm_base.proofs.ListTests.{filter_filter}
 use Rattle.bm_place.specs.Least.{IsLeastOf}
 use Rattle.bm_place.proofs.Best.{least-bears}
-use Rattle.bm_place.proofs.Surplus.{count_cons, all_pass, excess_cmp_total}
+use Rattle.bm_place.proofs.Surplus.{all_pass, excess_cmp_total}
+use Rattle.bm_topo.proofs.RackCount.{has_counted}
+use Rattle.bm_topo.proofs.RackChanges.{count_cons}
 
 -- The least number is determined by its properties, if only equal numbers tie.
 
@@ -79,14 +81,6 @@ counted_filter p q xs = sym (length-filter p (filter q xs)) ∙ ap length (filte
 
 alike_filter : (q : ℕ → Bool) (xs ys : List ℕ) → HaveAlike xs ys → HaveAlike (filter q xs) (filter q ys)
 alike_filter q xs ys alike p = counted_filter p q xs ∙ alike (λ x. q x && p x) ∙ sym (counted_filter p q ys)
-
-has_counted : (xs : List ℕ) (x : ℕ) → has xs x ≡ nat_lt 0 (count_by (λ y. y == x) xs)
-has_counted [] x = refl
-has_counted (y ∷ xs) x = by (y == x) (has_counted xs x) ∙ ap (nat_lt 0) (sym (count_cons (λ y. y == x) y xs))
-  where
-    by : (b : Bool) → has xs x ≡ nat_lt 0 (count_by (λ y. y == x) xs) → (b || has xs x) ≡ nat_lt 0 (cond b 1 0 + count_by (λ y. y == x) xs)
-    by true rest = grind arith
-    by false rest = rest ∙ ap (nat_lt 0) (omega arith)
 
 alike_has : (xs ys : List ℕ) → HaveAlike xs ys → (x : ℕ) → has xs x ≡ has ys x
 alike_has xs ys alike x = has_counted xs x ∙ ap (nat_lt 0) (alike (λ y. y == x)) ∙ sym (has_counted ys x)

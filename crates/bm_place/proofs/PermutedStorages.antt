@@ -12,7 +12,7 @@ use Rattle.bm_place.specs.Holders.{holder_at, count_among}
 use Rattle.bm_place.specs.ReplicaSpread.{is_rack}
 use Rattle.bm_place.specs.Tables.{count_at}
 use Rattle.bm_place.proofs.OrderIndependence.{HaveAlike}
-use Rattle.bm_place.proofs.Surplus.{count_cons}
+use Rattle.bm_topo.proofs.RackChanges.{count_cons}
 
 count_mapped : {X Y : Type 0} (f : X → Y) (p : Y → Bool) (xs : List X) → count_by p (map f xs) ≡ count_by (λ x. p (f x)) xs
 count_mapped f p [] = refl

@@ -12,7 +12,7 @@ use Rattle.std.proofs.lemmas.List.Sums.{sum_by-append}
 use Rattle.std.proofs.lemmas.List.Folds.{list_any-append}
 use Rattle.std.proofs.lemmas.Option.{same_Some, slice_get-map}
 use Rattle.bm_base.specs.Words.{Map, by_number, Cluster, has, has_repeats, least, rack_of, share_rack, has_rack_mate, excess_cmp, excess_among}
-use Rattle.bm_base.proofs.ListTests.{once_filter, same_again}
+use Rattle.bm_base.proofs.ListTests.{once_filter, same_again, kept_all_by}
 use Rattle.bm_place.specs.declared.holders.Holder.{Holder}
 use Rattle.bm_place.specs.RackCounts.{is_on, CountsRacks}
 use Rattle.bm_place.specs.Holders.{holder_at}
@@ -20,8 +20,9 @@ use Rattle.bm_place.specs.SortedExcess.{cmp_in_class, AreReady}
 use Rattle.bm_place.specs.Tables.{count_at}
 use Rattle.bm_place.proofs.InClass.{is_better_than, InOrder, order_without, order_behind, not_itself, sorted_order}
 use Rattle.bm_place.proofs.OrderIndependence.{least_is, excess_apart}
-use Rattle.bm_place.proofs.Surplus.{count_cons, excess_cmp_total, mate_as}
+use Rattle.bm_place.proofs.Surplus.{excess_cmp_total, mate_as}
 use Rattle.bm_place.proofs.Tables.{drop-next}
+use Rattle.bm_topo.proofs.RackChanges.{count_cons}
 
 -- A number of a list, and the list without it.
 
@@ -38,18 +39,10 @@ in_parts P xs ys x y there before here behind = by (has xs y) refl (x == y) refl
     by false e true f h = subst P (eqb-true x y f) here
     by false e false f h = behind h
 
-all_others : (x : ℕ) (xs : List ℕ) → has xs x ≡ false → filter (λ s. not (s == x)) xs ≡ xs
-all_others x [] none = refl
-all_others x (y ∷ xs) none = by (y == x) none (all_others x xs)
-  where
-    by : (b : Bool) → (b || has xs x) ≡ false → (has xs x ≡ false → filter (λ s. not (s == x)) xs ≡ xs) → cond (not b) (y ∷ filter (λ s. not (s == x)) xs) (filter (λ s. not (s == x)) xs) ≡ y ∷ xs
-    by true none rest = absurd (true≢false none)
-    by false none rest = ap (λ ys. y ∷ ys) (rest none)
-
 -- if each occurs once, the others are those before it and those after it
 pub others_are : (xs ys : List ℕ) (x : ℕ) → has_repeats (xs ++ x ∷ ys) ≡ false → filter (λ s. not (s == x)) (xs ++ x ∷ ys) ≡ xs ++ ys
 others_are [] ys x once =
-    ap (λ b. cond (not b) (x ∷ filter (λ s. not (s == x)) ys) (filter (λ s. not (s == x)) ys)) (same_again x) ∙ all_others x ys (or_parts (has ys x) (has_repeats ys) once).0
+    ap (λ b. cond (not b) (x ∷ filter (λ s. not (s == x)) ys) (filter (λ s. not (s == x)) ys)) (same_again x) ∙ kept_all_by x ys (or_parts (has ys x) (has_repeats ys) once).0
 others_are (z ∷ xs) ys x once =
     let parts = or_parts (has (xs ++ x ∷ ys) z) (has_repeats (xs ++ x ∷ ys)) once in
     by (z == x) refl parts.0 (others_are xs ys x parts.1)

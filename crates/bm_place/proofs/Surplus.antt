@@ -11,6 +11,7 @@ use Rattle.bm_place.specs.RackCounts.{is_on}
 use Rattle.bm_place.specs.ReplicaSpread.{is_rack}
 use Rattle.bm_place.proofs.TransferCounts.{count_none}
 use Rattle.bm_place.proofs.Tables.{count-insert}
+use Rattle.bm_topo.proofs.RackChanges.{count_cons}
 
 pub excess_cmp_total : (C : Cluster) (left : List ℕ) → IsTotalOrder (excess_cmp C left)
 unfolding excess_cmp
@@ -29,9 +30,6 @@ all_pass [] = refl
 all_pass (x ∷ xs) = ap (λ ys. x ∷ ys) (all_pass xs)
 
 -- Counting.
-
-pub count_cons : {X : Type 0} (p : X → Bool) (x : X) (xs : List X) → count_by p (x ∷ xs) ≡ cond (p x) 1 0 + count_by p xs
-count_cons p x xs = sum_by-cons (λ y. cond (p y) 1 0) x xs
 
 -- Counting the racks of looked up storages.
 

@@ -14,10 +14,11 @@ use Rattle.bm_base.specs.declared.storage.StorageInfo.{StorageInfo}
 use Rattle.bm_base.proofs.ForEach.{Each, each_then}
 use Rattle.bm_base.proofs.MapEntries.{each_entry, each_found, key_itself}
 use Rattle.bm_base.proofs.MapLaws.{find_below}
+use Rattle.bm_base.proofs.Sets.{has_keys}
 use Rattle.bm_place.specs.declared.scheduled_bytes.TargetRow.{TargetRow}
 use Rattle.bm_place.specs.Targets.{target_at, target_table}
 use Rattle.bm_place.specs.BestTargets.{AreOf, IsMember, AreBestTargets, IsKept, CanReplace, are_of_one_node, with_firsts, AreBestInOrder}
-use Rattle.bm_place.proofs.Tables.{get-table, has-keys}
+use Rattle.bm_place.proofs.Tables.{get-table}
 use Rattle.bm_place.proofs.SameNodeTargets.{IsLike, like, alike}
 use Rattle.bm_place.proofs.BestTargets.{AreFirst, covered}
 use Rattle.bm_place.proofs.SortedTargets.{AreApart, sorted_in_order}
@@ -122,7 +123,7 @@ row_made C s t is = let h = cond_some (has (keys C.storages) s) (target_at C (λ
 
 on_node : (C : Cluster) (s : ℕ) → has (keys C.storages) s ≡ true → (n : ℕ) × (node_of C s ≡ Some n)
 unfolding node_of
-on_node C s there = by (get C.storages s) (sym (has-keys C.storages s) ∙ there)
+on_node C s there = by (get C.storages s) (sym (has_keys C.storages s) ∙ there)
   where
     by : (o : Option StorageInfo) → is_some o ≡ true → (n : ℕ) × (option_map (λ (i : StorageInfo). i.node) o ≡ Some n)
     by None none = cc

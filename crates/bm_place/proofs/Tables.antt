@@ -11,6 +11,7 @@ use Rattle.std.proofs.lemmas.Bool.Decides.{nat_tests}
 use Rattle.bm_base.specs.Words.{has, Map, by_number, empty, entries, get, insert, insert_all, keys, len, revise_at, contains_key, Cluster, node_of, node_number}
 use Rattle.bm_base.proofs.MapLaws.{same_map, get-insert, get-empty, get-revise}
 use Rattle.bm_base.proofs.Ties.{number_tie}
+use Rattle.bm_base.proofs.Sets.{has_keys}
 use Rattle.bm_base.specs.declared.storage.StorageInfo.{StorageInfo}
 use Rattle.bm_place.specs.Tables.{listed, table, count_at}
 
@@ -58,14 +59,10 @@ has-bare (e ∷ es) q =
     some_or true o y = refl
     some_or false o y = refl
 
-pub has-keys : {Y : Type 0} (m : Map by_number Y) (q : ℕ) → has (keys m) q ≡ contains_key m q
-unfolding keys entries get
-has-keys m q = has-bare m.list q
-
 -- the node of a storage, as a table of the nodes has it
 pub node_table : (C : Cluster) (s : ℕ) → get (table (node_number C) (keys C.storages)) s ≡ node_of C s
 unfolding node_number node_of
-node_table C s = get-table (node_number C) (keys C.storages) s ∙ ap (λ b. cond b (Some (node_number C s)) None) (has-keys C.storages s) ∙ by (get C.storages s)
+node_table C s = get-table (node_number C) (keys C.storages) s ∙ ap (λ b. cond b (Some (node_number C s)) None) (has_keys C.storages s) ∙ by (get C.storages s)
   where
     by : (o : Option StorageInfo) → cond (is_some o) (Some (unwrap_or (option_map (λ (i : StorageInfo). i.node) o) 0)) None ≡ option_map (λ (i : StorageInfo). i.node) o
     by None = refl

@@ -15,11 +15,12 @@ use Rattle.bm_base.specs.declared.storage.StorageInfo.{StorageInfo}
 use Rattle.bm_base.specs.Words.{has, Map, by_number, get, keys, revise_at, Cluster, node_of, has_storage, is_draining, node_number, streams_from, scheduled_to, stream_limit}
 use Rattle.bm_base.proofs.MapLaws.{same_map, get-revise}
 use Rattle.bm_base.proofs.Ties.{number_tie}
+use Rattle.bm_base.proofs.Sets.{has_keys}
 use Rattle.bm_place.specs.Tables.{table, count_at}
 use Rattle.bm_place.specs.Least.{IsLeastOf}
 use Rattle.bm_place.specs.Sources.{max_transfers, Senders, sender_table, transfers_by, streams_by, with_one_from}
 use Rattle.bm_place.specs.Targets.{target_at, target_table}
-use Rattle.bm_place.proofs.Tables.{get-table, has-keys, equal_back}
+use Rattle.bm_place.proofs.Tables.{get-table, equal_back, node_table}
 
 -- A changed row.
 
@@ -94,7 +95,7 @@ node_listed : (C : Cluster) (s n : ℕ) → node_of C s ≡ Some n → has (map 
 unfolding node_of node_number
 node_listed C s n e =
     ap (λ m. has (map (node_number C) (keys C.storages)) m) (sym (ap (λ o. unwrap_or o 0) e))
-    ∙ has_mapped (node_number C) (keys C.storages) s (has-keys C.storages s ∙ some_mapped (get C.storages s) n e)
+    ∙ has_mapped (node_number C) (keys C.storages) s (has_keys C.storages s ∙ some_mapped (get C.storages s) n e)
 
 -- the count in the table for the node of a storage
 pub count_as : (C : Cluster) (sends : ℕ → ℕ) (s : ℕ) → streams_by C (count_at (sender_table C sends).counts) s ≡ streams_by C sends s
@@ -115,15 +116,6 @@ streams_as C chosen s = by (node_of C s)
     by None = sym (count_none chosen)
     by (Some n) = refl
 
-node_in_table : (C : Cluster) (s : ℕ) → get (table (node_number C) (keys C.storages)) s ≡ node_of C s
-unfolding node_of node_number
-node_in_table C s =
-    get-table (node_number C) (keys C.storages) s ∙ ap (λ b. cond b (Some (node_number C s)) None) (has-keys C.storages s) ∙ by (get C.storages s)
-  where
-    by : (o : Option StorageInfo) → cond (is_some o) (Some (unwrap_or (option_map (λ (i : StorageInfo). i.node) o) 0)) None ≡ option_map (λ (i : StorageInfo). i.node) o
-    by None = refl
-    by (Some i) = refl
-
 pub sent-more : (C : Cluster) (chosen : List Transfer) (t : Transfer) (n : ℕ) → transfers_by C (chosen ++ t ∷ []) n ≡ transfers_by C chosen n + cond (has_storage C n t.source) 1 0
 unfolding transfers_by
 sent-more C chosen t n = sum_by_push (λ u. if has_storage C n u.source then 1 else 0) chosen t
@@ -131,7 +123,7 @@ sent-more C chosen t n = sum_by_push (λ u. if has_storage C n u.source then 1 e
 more_node : (C : Cluster) (sends more : ℕ → ℕ) (s : ℕ) → ((n : ℕ) → more n ≡ sends n + cond (has_storage C n s) 1 0) → with_one_from s (sender_table C sends) ≡ sender_table C more
 unfolding with_one_from has_storage
 more_node C sends more s is =
-    ap (λ o. option_map_or (λ n. record (sender_table C sends) { counts = revise_at (sender_table C sends).counts n (λ k. k + 1) }) o (sender_table C sends)) (node_in_table C s)
+    ap (λ o. option_map_or (λ n. record (sender_table C sends) { counts = revise_at (sender_table C sends).counts n (λ k. k + 1) }) o (sender_table C sends)) (node_table C s)
     ∙ by (node_of C s) (λ n. is n)
   where
     none_more : (n : ℕ) → n ≡ n + 0
@@ -185,5 +177,5 @@ pub countable : (C : Cluster) (sends : ℕ → ℕ) (urgency : Level) (R : ℕ �
 countable C sends urgency R usable None h = tt
 countable C sends urgency R usable (Some s) h =
     let limit = stream_limit urgency (is_draining C s) in
-    subst (λ o. IfSome o (λ n. count_at (sender_table C sends).counts n < max_transfers)) (sym (node_in_table C s))
+    subst (λ o. IfSome o (λ n. count_at (sender_table C sends).counts n < max_transfers)) (sym (node_table C s))
     (few_at (sender_table C sends).counts (node_of C s) limit (limit_most urgency (is_draining C s)) (subst (λ k. k < limit) (sym (count_as C sends s)) (ltb-true (streams_by C sends s) limit h.0)))

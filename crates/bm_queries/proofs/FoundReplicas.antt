@@ -23,6 +23,7 @@ use Rattle.bm_parts.specs.QueryLaws.{replica_key}
 use Rattle.bm_parts.proofs.Filters.{any_shown, all_each, filter_all}
 use Rattle.std.proofs.lemmas.Simd.{map-map}
 use Rattle.bm_parts.proofs.JoinedReplicas.{listed_ascends}
+use Rattle.bm_parts.proofs.FoundLists.{any_flat_at}
 use Rattle.bm_levels.specs.IndexedLevels.{indexed_slots}
 use Rattle.bm_queries.specs.Listed.{replica_view, listed_at, listed_on, replicas_passing}
 use Rattle.bm_queries.proofs.DistinctKeys.{AreApart, IsNew, apart_append, sorted_alike}
@@ -82,15 +83,6 @@ module _ (p : Marks → Bool) (id : ℕ) where
 
   those_of : (rs : List (ℕ × Marks)) → Each (λ (y : Replica). y.block ≡ id) (those p id rs)
   those_of rs = each_mapped (λ (y : Replica). y.block ≡ id) (replica_view id) (filter (λ (r : ℕ × Marks). p r.1) rs) (each_of (λ (r : ℕ × Marks). id ≡ id) (filter (λ (r : ℕ × Marks). p r.1) rs) (λ _. refl))
-
--- an element of one of several lists
-pub any_on : {Y : Type 0} (t : Y → Bool) (f : ℕ → List Y) (ss : List ℕ) (s : ℕ) → has ss s ≡ true → list_any t (f s) ≡ true → list_any t (flat_map f ss) ≡ true
-any_on t f [] s e h = cc
-any_on t f (u ∷ ss) s e h = list_any-append t (f u) (flat_map f ss) ∙ by (u == s) refl e (any_on t f ss s)
-  where
-    by : (b : Bool) → (u == s) ≡ b → (b || has ss s) ≡ true → (has ss s ≡ true → list_any t (f s) ≡ true → list_any t (flat_map f ss) ≡ true) → (list_any t (f u) || list_any t (flat_map f ss)) ≡ true
-    by true is e rest = or_left (list_any t (f u)) (list_any t (flat_map f ss)) (ap (λ k. list_any t (f k)) (eqb-true u s is) ∙ h)
-    by false is e rest = or_right (list_any t (f u)) (list_any t (flat_map f ss)) (rest e h)
 
 -- Replicas of all blocks.
 
@@ -157,7 +149,7 @@ module _ (p : Marks → Bool) (a : Contents) (lawful : IsLawful a) where
       let f = lawful.found x.block h.0 h.1 in
       let b = f.1 in
       let marks : find_marks b.replicas x.storage ≡ Some is.0 = sym (ap (λ o. option_and_then (λ (z : Block). find_marks z.replicas x.storage) o) f.2) ∙ h.2 in
-      any_on test at_slot (indexed_slots a) h.0 (has_led a lawful x.block h.0 h.1)
+      any_flat_at test at_slot (indexed_slots a) h.0 (has_led a lawful x.block h.0 h.1)
       (ap (λ o. list_any test (listed_at p o)) f.2
       ∙ any_shown test (replica_view b.id) (λ (r : ℕ × Marks). p r.1) b.replicas
       ∙ marks_pass (λ (r : ℕ × Marks). p r.1 && test (replica_view b.id r)) b.replicas x.storage is.0 marks

@@ -20,7 +20,7 @@ use Rattle.bm_base.proofs.ForEach.{Each, each_all, each_then, each_both, each_ma
 use Rattle.bm_base.proofs.ListTests.{any_map}
 use Rattle.bm_base.proofs.MapEntries.{key_itself, not_tied, each_entry}
 use Rattle.bm_base.proofs.Options.{chained}
-use Rattle.bm_base.proofs.Sets.{has_keys}
+use Rattle.bm_base.proofs.Sets.{has_keys, passing_some}
 use Rattle.bm_arena.specs.Contents.{Contents, slot_of, IsLawful}
 use Rattle.bm_arena.specs.HeldMaps.{info_at, blocks_of, id_at}
 use Rattle.bm_arena.proofs.HeldReplicas.{get-blocks_of}
@@ -51,14 +51,6 @@ put_known a xs slots rest slot e =
     by : (b : Bool) → map pair (cond b (slot ∷ []) []) ++ known_on a rest ≡ map pair (cond b (slot ∷ filter (λ slot. is_some (info_at a slot)) rest) (filter (λ slot. is_some (info_at a slot)) rest))
     by true = refl
     by false = refl
-
-any_has : (q : ℕ → Bool) (xs : List ℕ) (x : ℕ) → has xs x ≡ true → q x ≡ true → list_any q xs ≡ true
-any_has q [] x there pass = cc
-any_has q (y ∷ ys) x there pass = by (y == x) refl there (any_has q ys x)
-  where
-    by : (b : Bool) → (y == x) ≡ b → (b || has ys x) ≡ true → (has ys x ≡ true → q x ≡ true → list_any q ys ≡ true) → (q y || list_any q ys) ≡ true
-    by true same there rest = or_left (q y) (list_any q ys) (ap q (eqb-true y x same) ∙ pass)
-    by false same there rest = or_right (q y) (list_any q ys) (rest there pass)
 
 module _ (a : Contents) (lawful : IsLawful a) where
   abbrev is_known : ℕ → Bool
@@ -101,7 +93,7 @@ module _ (a : Contents) (lawful : IsLawful a) where
   all_known x is =
       let test : ℕ × ℕ → Bool = λ y. eq_by_cmp nat_cmp x.0 y.0 in
       any_shown test pair is_known (indexed_slots a)
-      ∙ any_has (λ slot. is_known slot && test (pair slot)) (indexed_slots a) x.1 (has_led a lawful x.0 x.1 is.0)
+      ∙ passing_some (λ slot. is_known slot && test (pair slot)) (indexed_slots a) x.1 (has_led a lawful x.0 x.1 is.0)
       (and_from (is_known x.1) (test (pair x.1)) is.1 (ap (λ k. eq_by_cmp nat_cmp x.0 k) (id_found a lawful x.0 x.1 is.0) ∙ key_itself by_number x.0))
 
   one_known : (x y : ℕ × ℕ) → IsKnown x → IsKnown y → x.0 ≡ y.0 → x ≡ y

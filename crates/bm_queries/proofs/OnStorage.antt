@@ -16,7 +16,7 @@ use Rattle.bm_base.proofs.Clusters.{eqb_turned}
 use Rattle.bm_base.proofs.ListTests.{any_map, any_filter, any_agree, has_filter}
 use Rattle.bm_base.proofs.Options.{there, chained}
 use Rattle.bm_base.proofs.SortedParts.{lesser_block}
-use Rattle.bm_base.proofs.Sets.{has_keys}
+use Rattle.bm_base.proofs.Sets.{has_keys, some_is}
 use Rattle.bm_base.proofs.Membership.{any_replica}
 use Rattle.bm_base.proofs.Ties.{replica_tie}
 use Rattle.bm_parts.proofs.Filters.{map_filter}
@@ -37,10 +37,6 @@ swapped true false = refl
 swapped false true = refl
 swapped false false = refl
 
-whether : {X : Type 0} (o : Option X) → option_map_or (λ _. true) o false ≡ is_some o
-whether None = refl
-whether (Some x) = refl
-
 at_key : (b s : ℕ) (e : ReplicaId × Marks) → ((e.0.storage == s) && (e.0.block == b)) ≡ (eq_by_cmp replica_cmp (replica_at b s) e.0 && true)
 at_key b s e =
     swapped (e.0.storage == s) (e.0.block == b) ∙ (λ i. (eqb_turned e.0.block b i && eqb_turned e.0.storage s i) && true) ∙ ap (λ t. t && true) (sym (replica_tie (replica_at b s) e.0))
@@ -55,7 +51,7 @@ module _ (m : Map by_replica Marks) (s : ℕ) where
       ∙ any_filter (λ (e : ReplicaId × Marks). e.0.block == b) (λ e. e.0.storage == s) (entries m)
       ∙ any_agree (λ (e : ReplicaId × Marks). (e.0.storage == s) && (e.0.block == b)) (λ e. eq_by_cmp replica_cmp (replica_at b s) e.0 && true) (at_key b s) (entries m)
       ∙ any_replica m (replica_at b s) (λ _. true)
-      ∙ whether (get m (replica_at b s))
+      ∙ some_is (get m (replica_at b s))
 
   of_storage_ascend : Rise of_storage
   unfolding entries

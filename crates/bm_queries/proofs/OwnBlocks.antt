@@ -89,7 +89,3 @@ module _ (v : Leveled) (lawful : IsLawful v.arena) (leveled : IsLeveled v) where
 -- the slot of an iteration is one of those that are iterated over
 pub among_turn : (all yielded : List ℕ) (slot : ℕ) → (length yielded < length all) × (slot ≡ get_or all (length yielded) slot) → IsMember slot all
 among_turn all yielded slot turn = let P : ℕ → Type 0 = λ x. IsMember x all in subst P (sym turn.1) (among_at all (length yielded) slot turn.0)
-
-pub same_map : (xs : List ℕ) → map (λ x. x) xs ≡ xs
-same_map [] = refl
-same_map (x ∷ xs) = ap (λ ys. x ∷ ys) (same_map xs)

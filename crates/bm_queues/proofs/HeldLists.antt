@@ -18,7 +18,7 @@ link_below links i v is =
       | inr past ↦ absurd (none-some v (sym (get_or_past links i None past) ∙ is))
     ]
 
-first_among : (xs : List ℕ) (x : ℕ) → first_of xs ≡ Some x → IsMember x xs
+pub first_among : (xs : List ℕ) (x : ℕ) → first_of xs ≡ Some x → IsMember x xs
 first_among [] x is = absurd (none-some x is)
 first_among (y ∷ ys) x is = inl (sym (same_Some y x is))
 

@@ -7,20 +7,17 @@ use Rattle.std.proofs.lemmas.Option.{none-some, same_Some}
 use Rattle.bm_maps.specs.SlotLists.{IsMember, Distinct, without, first_of, slot_after}
 use Rattle.bm_maps.proofs.SlotLists.{dec_among, slot_after-absent, without-absent, Among-without_other}
 use Rattle.bm_queues.specs.Walks.{slots_from, IsOn, IsPast}
+use Rattle.bm_queues.proofs.HeldLists.{first_among}
 
 if_some : (r : Option ℕ) (P : ℕ → Type 0) → ((z : ℕ) → r ≡ Some z → P z) → IfSome r P
 if_some None P h = tt
 if_some (Some z) P h = h z refl
 
-first-among : (xs : List ℕ) (z : ℕ) → first_of xs ≡ Some z → IsMember z xs
-first-among [] z e = absurd (none-some z e)
-first-among (x ∷ xs) z e = inl (sym (same_Some x z e))
-
 after-among : (x : ℕ) (xs : List ℕ) (z : ℕ) → slot_after x xs ≡ Some z → IsMember z xs
 after-among x [] z e = absurd (none-some z e)
 after-among x (y ∷ ys) z e =
     elim (cases_Bool (eqb y x)) [
-      | inl same ↦ inr (first-among ys z (rw same at e))
+      | inl same ↦ inr (first_among ys z (rw same at e))
       | inr other ↦ inr (after-among x ys z (rw other at e))
     ]
 
@@ -37,7 +34,7 @@ from-next x [] distinct there = absurd there
 from-next x (y ∷ ys) distinct there =
     elim (cases_Bool (eqb y x)) [
       | inl same ↦
-          let rest : slots_from (y ∷ ys) (first_of ys) ≡ ys = from-skip y ys (first_of ys) (λ e. distinct.0 (first-among ys y e)) ∙ from-first ys in
+          let rest : slots_from (y ∷ ys) (first_of ys) ≡ ys = from-skip y ys (first_of ys) (λ e. distinct.0 (first_among ys y e)) ∙ from-first ys in
           rw same (λ j. eqb-true y x same j ∷ sym rest j)
       | inr other ↦
           let later : IsMember x ys = elim there [ inl here ↦ absurd (eqb-false y x other (sym here)) | inr later ↦ later ] in
@@ -85,7 +82,7 @@ module _ (xs : List ℕ) (r : Option ℕ) where
   all-from is = ap (slots_from xs) is ∙ from-first xs
 
   pub first-is_on : r ≡ first_of xs → IsOn r xs
-  first-is_on is = if_some r (λ z. IsMember z xs) (λ z e. first-among xs z (sym is ∙ e))
+  first-is_on is = if_some r (λ z. IsMember z xs) (λ z e. first_among xs z (sym is ∙ e))
 
   module _ (x : ℕ) (is : r ≡ slot_after x xs) where
     pub next-is_on : IsOn r xs

@@ -15,8 +15,7 @@ use Rattle.bm_base.proofs.MapLaws.{same_map, get-insert, get-keep, get-remove}
 use Rattle.bm_base.proofs.Ties.{replica_tie}
 use Rattle.bm_report.specs.declared.types.ReportedSlot.{ReportedSlot}
 use Rattle.bm_report.specs.DuringReport.{marks_during_report, without_invalid_excess, entered_one, entered_all, out_all, invalid_excess_out_one, invalid_excess_out_all, reported_of}
-use Rattle.bm_arena.proofs.Words.{eqb_turned}
-use Rattle.bm_base.proofs.Clusters.{no_sibling_itself}
+use Rattle.bm_base.proofs.Clusters.{no_sibling_itself, eqb_turned}
 use Rattle.bm_report.proofs.Maps.{Held, tie, tied}
 use Rattle.bm_report.proofs.OncePerNode.{get-entered_at}
 use Rattle.bm_report.proofs.EnteredChain.{entered_one_is}

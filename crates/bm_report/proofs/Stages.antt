@@ -6,6 +6,7 @@ use Rattle.std.specs.List.{list_any}
 use Rattle.std.specs.Option.{option_and_then, option_or}
 use Rattle.std.specs.Map.{lookup}
 use Rattle.std.proofs.lemmas.Bool.{cases_Bool, cases_eq, eqb-false, false≢true}
+use Rattle.std.proofs.lemmas.Option.{same_Some}
 use Rattle.bm_base.specs.declared.replica.ReplicaId.{ReplicaId}
 use Rattle.bm_base.specs.declared.replica.Marks.{Marks}
 use Rattle.bm_base.specs.declared.replica.Stamp.{Stamp}
@@ -29,9 +30,6 @@ use Rattle.bm_report.proofs.PartialReport.{listed-chain}
 use Rattle.bm_report.proofs.InvalidExcess.{here-ids}
 use Rattle.bm_report.proofs.ReportResult.{last_stamp, reported}
 use Rattle.bm_report.proofs.ReplicaCounts.{came, came_and_went, len-lost_excess_out}
-
-same_slot : (x y : ℕ) → Some x ≡ Some y → x ≡ y
-same_slot x y e = cc
 
 -- changing the delimiter's block does not change replicas
 pub replicas-kept : (a c : Contents) → IsLawful a → c.ids ≡ a.ids → ((other : ℕ) → other ≢ a.delimiter → block_at c other ≡ block_at a other) → replicas_of c ≡ replicas_of a
@@ -63,7 +61,7 @@ gone-named a [] b here named x at l d m = absurd (false≢true named)
 gone-named a (n ∷ ns) b here named x at l d m =
     elim (cases_Bool (eqb n.id b)) [
       | inl this ↦
-          let same : n.slot ≡ x = same_slot n.slot x (sym here.0 ∙ ap (slot_of a) (eqb-true n.id b this) ∙ at) in
+          let same : n.slot ≡ x = same_Some n.slot x (sym here.0 ∙ ap (slot_of a) (eqb-true n.id b this) ∙ at) in
           let P : ℕ → Type 0 = λ k. IsMember x (without k l) in
           without-gone x l d (subst P same (sub-without_all ns x (without n.slot l) m))
       | inr other ↦ gone-named a ns b here.1 (rest (last_stamp ns b) (sym (ap (λ t. is_some (option_or (last_stamp ns b) (cond t (Some n.stamp) None))) other) ∙ named)) x at (without n.slot l) (Distinct-without n.slot l d) m

@@ -8,6 +8,7 @@ use Rattle.std.specs.FinMap.{is_sorted}
 use Rattle.std.specs.FinMap.Entries.{below_all}
 use Rattle.std.proofs.lemmas.Bool.{eqb-true, eq-eqb, ltb-true, ltb-false, false≢true}
 use Rattle.std.proofs.lemmas.Bool.Decides.{nat_tests}
+use Rattle.std.proofs.lemmas.Option.{same_Some}
 use Rattle.bm_base.specs.Maps.Conjunction.{first, second}
 use Rattle.bm_base.specs.declared.commands.Transfer.{Transfer}
 use Rattle.bm_base.specs.declared.commands.Delete.{Delete}
@@ -45,9 +46,6 @@ place_below p (n ∷ ns) i e = by (p n) (index_where p ns) e (place_below p ns)
     by true o e rest = let z = same 0 i e in omega (arith, z)
     by false None e rest = absurd (false≢true (ap is_some e))
     by false (Some j) e rest = let z = same (suc j) i e in let less = rest j refl in omega (arith, z, less)
-
-same_some : (a b : ℕ) → Some a ≡ Some b → a ≡ b
-same_some a b e = ap (λ o. option_map_or (λ x. x) o a) e
 
 module _ {X : Type 0} where
   abbrev numbers : List (ℕ × X) → List ℕ
@@ -111,13 +109,13 @@ module _ {Y : Type 0} (f g : ℕ → Y) (h : Y → Y) (m : ℕ) (others : (n : �
       → ((j : ℕ) → index_where (λ n. m == n) (numbers es) ≡ Some j → x ≡ get_or (map f (numbers es)) j x → set (map f (numbers es)) j (h x) ≡ map g (numbers es))
       → set (map f (numbers (e ∷ es))) i (h x) ≡ map g (numbers (e ∷ es))
   changed_if e es sorted i x true same o at is read rest =
-      let here : i ≡ 0 = sym (same_some 0 i is) in
+      let here : i ≡ 0 = sym (same_Some 0 i is) in
       let none = unchanged f g h (λ n. m == n) others its_own (numbers es) (none_above m e.0 es (first _ _ sorted) same) in
       ap (λ k. set (map f (numbers (e ∷ es))) k (h x)) here
       ∙ (λ k. (ap h (read ∙ ap (λ k. get_or (map f (numbers (e ∷ es))) k x) here) ∙ its_own e.0 same) k ∷ none k)
   changed_if e es sorted i x false other None at is read rest = absurd (false≢true (ap is_some is))
   changed_if e es sorted i x false other (Some j) at is read rest =
-      let here : i ≡ suc j = sym (same_some (suc j) i is) in
+      let here : i ≡ suc j = sym (same_Some (suc j) i is) in
       ap (λ k. set (map f (numbers (e ∷ es))) k (h x)) here
       ∙ (λ k. others e.0 other k ∷ rest j at (read ∙ ap (λ k. get_or (map f (numbers (e ∷ es))) k x) here) k)
 

@@ -18,7 +18,7 @@ use Rattle.bm_base.specs.declared.level.Level.{Level}
 use Rattle.bm_base.specs.Words.{Map, get, entries, contains_key, Cluster, Holdings, by_replica, replica_cmp, replica_at, has, has_enough_live, level, level_number, is_at, without_expired, without_unordered_excess, excess_in, with_surplus_marked, is_deletable}
 use Rattle.bm_base.specs.Ordered.{by_pair, pair_cmp}
 use Rattle.bm_base.specs.RoundParts.{holdings_at_choice, wish_at, wish_key, delete_key}
-use Rattle.bm_base.proofs.MapLaws.{get-revise}
+use Rattle.bm_base.proofs.MapLaws.{get-revise, not_equal}
 use Rattle.bm_base.proofs.AtLevel.{at_level}
 use Rattle.bm_base.proofs.ForEach.{Each, each_mapped, each_then, each_both, each_filtered, each_passing, each_optional}
 use Rattle.bm_base.proofs.MapEntries.{get_kept, get_keeps, get_revised, each_entry, passes_entry, key_itself}
@@ -34,11 +34,6 @@ use Rattle.bm_round_scan.proofs.CollectedFindings.{IsListed}
 use Rattle.bm_round_scan.proofs.SortedElements.{tie}
 
 -- Elements that are made of entries with different keys differ.
-
-not_equal : (r : Ordering) → T (is_lt r) → is_eq r ≡ false
-not_equal Less h = refl
-not_equal Equal h = absurd h
-not_equal Greater h = absurd h
 
 module _ {K X Y : Type 0} (R : K → K → Ordering) (e : Y → Y → Bool) (g : K × X → Y) (same : (c d : K × X) → e (g c) (g d) ≡ eq_by_cmp R c.0 d.0) (p : K × X → Bool) where
   below_differ : (c : K × X) (es : List (K × X)) → T (below_all R c.0 es) → AllByRecursion (λ y. e (g c) y ≡ false) (map g (filter p es))

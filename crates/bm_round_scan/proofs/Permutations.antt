@@ -8,6 +8,7 @@ use Rattle.std.proofs.lemmas.Map.Keys.{IsDistinct-IsPermutation}
 use Rattle.std.proofs.lemmas.List.Sorted.{list_any-IsPermutation}
 use Rattle.bm_maps.specs.SlotLists.{IsMember, Distinct}
 use Rattle.bm_levels.proofs.EqualLists.{has_among, among_has}
+use Rattle.bm_base.proofs.Clusters.{eqb_turned}
 
 module _ (xs ys : List ℕ) (moved : IsPermutation xs ys) where
   pub among_moved : (x : ℕ) → IsMember x xs → IsMember x ys
@@ -34,9 +35,6 @@ unfolding IsDistinct
 of_ties [] d = tt
 of_ties (x ∷ xs) d = (not_among x xs d.0, of_ties xs d.1)
 
-flipped : (x y : ℕ) → (x == y) ≡ (y == x)
-flipped x y = grind (arith, nat_tests)
-
 -- the other order has no duplicates either
 pub distinct_moved : (xs ys : List ℕ) → IsPermutation xs ys → Distinct xs → Distinct ys
-distinct_moved xs ys moved d = of_ties ys (IsDistinct-IsPermutation (λ (x y : ℕ). x == y) flipped xs ys moved (as_ties xs d))
+distinct_moved xs ys moved d = of_ties ys (IsDistinct-IsPermutation (λ (x y : ℕ). x == y) eqb_turned xs ys moved (as_ties xs d))

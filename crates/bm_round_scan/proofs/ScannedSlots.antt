@@ -18,8 +18,10 @@ use Rattle.bm_levels.specs.IndexedLevels.{IndexedLevels, level_of_slot, IsUnsett
 use Rattle.bm_levels.specs.Leveled.{Leveled, IsLeveled}
 use Rattle.bm_levels.proofs.EqualLists.{has_among, among_has}
 use Rattle.bm_levels.proofs.ManySlots.{marker_settled}
+use Rattle.bm_levels.proofs.StatusUpdates.{among_back}
 use Rattle.bm_parts.specs.Before.{is_before}
 use Rattle.bm_round_scan.specs.ScannedSlots.{scanned_slots, key_at, is_settled_to_scan}
+use Rattle.bm_base.proofs.ListTests.{and_first, and_second}
 
 -- Lists with no slot in common.
 
@@ -30,10 +32,6 @@ distinct_appended : (xs ys : List ℕ) → Distinct xs → Distinct ys → AreAp
 distinct_appended [] ys d e apart = e
 distinct_appended (x ∷ xs) ys d e apart =
     (λ h. elim (Among-append x xs ys h) [ inl l ↦ d.0 l | inr r ↦ apart x (inl refl) r ], distinct_appended xs ys d.1 e (λ z h. apart z (inr h)))
-
-pub among_right : (x : ℕ) (xs ys : List ℕ) → IsMember x ys → IsMember x (xs ++ ys)
-among_right x [] ys h = h
-among_right x (z ∷ zs) ys h = inr (among_right x zs ys h)
 
 module _ (p : ℕ → Bool) where
   pub among_filtered : (x : ℕ) (xs : List ℕ) → IsMember x (filter p xs) → IsMember x xs × (p x ≡ true)
@@ -94,14 +92,6 @@ needs_copies_at UnderReplicated wanted = refl
 needs_copies_at BadlyDistributed wanted = refl
 needs_copies_at NoUsableReplica wanted = absurd (wanted refl)
 
-latter : (s t : Bool) → (s && t) ≡ true → t ≡ true
-latter true t e = e
-latter false t e = absurd (true≢false (sym e))
-
-former : (s t : Bool) → (s && t) ≡ true → s ≡ true
-former true t e = refl
-former false t e = absurd (true≢false (sym e))
-
 -- the properties of the sets of slots
 pub record AreListed (K : IndexedLevels) : Type 0 where
   pub unsettled : Distinct K.unsettled.slots
@@ -123,7 +113,7 @@ module _ (K : IndexedLevels) (is : AreListed K) where
     settled = filter to_scan (slots_needing_copies K)
 
     settled_apart : AreApart u settled
-    settled_apart z here there = true≢false (sym (among_has u z here) ∙ not-true (has u z) (former (not (has u z)) (not (has_enough z)) (latter (is_before bound (key_at K a z)) (not (has u z) && not (has_enough z)) (among_filtered to_scan z (slots_needing_copies K) there).1)))
+    settled_apart z here there = true≢false (sym (among_has u z here) ∙ not-true (has u z) (and_first (not (has u z)) (not (has_enough z)) (and_second (is_before bound (key_at K a z)) (not (has u z) && not (has_enough z)) (among_filtered to_scan z (slots_needing_copies K) there).1)))
 
     pub scanned_once : Distinct slots
     scanned_once = distinct_appended u settled is.unsettled (distinct_filtered to_scan (slots_needing_copies K) is.once) settled_apart
@@ -136,7 +126,7 @@ module _ (K : IndexedLevels) (is : AreListed K) where
         elim (cases_Bool (has u slot)) [
           | inl there ↦ unsettled_scanned slot (has_among u slot there)
           | inr none ↦
-              among_right slot u settled (among_passing to_scan slot (slots_needing_copies K) ((is.needing_copies slot).1 (ap needs_copies at ∙ needs_copies_at l wanted))
+              among_back slot u settled (among_passing to_scan slot (slots_needing_copies K) ((is.needing_copies slot).1 (ap needs_copies at ∙ needs_copies_at l wanted))
               (and_from (is_before bound (key_at K a slot)) (not (has u slot) && not (has_enough slot)) early (and_from (not (has u slot)) (not (has_enough slot)) (ap not none) (ap not lacks))))
         ]
 

@@ -9,18 +9,14 @@ use Rattle.bm_base.specs.declared.replica.ReplicaId.{ReplicaId}
 use Rattle.bm_base.specs.Words.{Map, Order, get, entries, keep, revise, remove, len, by_replica, new_replicas}
 use Rattle.bm_base.proofs.MapLaws.{same_map, get-revise, get-remove, get-keep}
 use Rattle.bm_base.proofs.Differences.{none_new, none_came, some_left}
-
--- a key that is found among some entries is found among more
-found_more : {X : Type 0} (b : Bool) (x : X) (o : Option X) → is_some o ≡ true → is_some (cond b (Some x) o) ≡ true
-found_more true x o h = refl
-found_more false x o h = h
+use Rattle.bm_base.proofs.MapEntries.{still_some}
 
 none_missing : {K X : Type 0} (o : Order K) (es fs : List (K × X)) → ((q : K) → is_some (find o.cmp q es) ≡ true → is_some (find o.cmp q fs) ≡ true)
     → count_by (λ e. not (is_some (find o.cmp e.0 fs))) es ≡ 0
 none_missing o [] fs h = refl
 none_missing o (e ∷ es) fs h =
     let here : is_some (find o.cmp e.0 (e ∷ es)) ≡ true = ap (λ r. is_some (cond (is_eq r) (Some e.1) (find o.cmp e.0 es))) (tied_itself o.total e.0) in
-    let rest : count_by (λ x. not (is_some (find o.cmp x.0 fs))) es ≡ 0 = none_missing o es fs (λ q found. h q (found_more (eq_by_cmp o.cmp q e.0) e.1 (find o.cmp q es) found)) in
+    let rest : count_by (λ x. not (is_some (find o.cmp x.0 fs))) es ≡ 0 = none_missing o es fs (λ q found. h q (still_some (eq_by_cmp o.cmp q e.0) e.1 (find o.cmp q es) found)) in
     ap (λ b. fold (λ a x. a + cond (not (is_some (find o.cmp x.0 fs))) 1 0) (0 + cond (not b) 1 0) es) (h e.0 here) ∙ rest
 
 pub same_replicas : (m : Map by_replica Marks) → new_replicas m m ≡ 0

@@ -17,12 +17,7 @@ use Rattle.bm_arena.specs.HeldMaps.{holdings_of}
 use Rattle.bm_levels.specs.Held.{holdings_with}
 use Rattle.bm_levels.specs.LevelsBy.{IsSameForHeld}
 use Rattle.bm_levels.proofs.UpToDate.{register_is_same}
-
-is_new : (C : Cluster) (n rack : ℕ) (ss : List ℕ) → first_of (cluster_checks C (Register n rack ss)) ≡ None → (contains_key C.nodes n ≡ false) × (list_any (knows_storage C) ss ≡ false)
-unfolding cluster_checks knows_node
-is_new C n rack ss e =
-    let fails = all_fail NodeKnown StorageKnown TooMany (contains_key C.nodes n) (has_repeats ss || list_any (knows_storage C) ss) _ e in
-    (fails.0, (or_parts (has_repeats ss) (list_any (knows_storage C) ss) fails.1).1)
+use Rattle.bm_parts.proofs.ReplicaRacks.{register_unrefused}
 
 -- a known storage is on a rack
 on_rack : (C : Cluster) (s : ℕ) → IsLawfulCluster C → IsSome (get C.storages s) → IsSome (rack_of C s)
@@ -37,4 +32,4 @@ placed_on_racks C a P lawful placed q here = on_rack C q.storage lawful (placed.
 
 pub same_next_to : (C : Cluster) (a : Contents) (P : Map by_replica ℕ) (n rack : ℕ) (ss : List ℕ) → IsLawfulCluster C → IsPlaced C (holdings_with a P)
     → first_of (cluster_checks C (Register n rack ss)) ≡ None → IsSameForHeld C (register C n rack ss) a
-same_next_to C a P n rack ss lawful placed unrefused = let new = is_new C n rack ss unrefused in register_is_same C n rack ss a new.0 new.1 (placed_on_racks C a P lawful placed)
+same_next_to C a P n rack ss lawful placed unrefused = let new = register_unrefused C n rack ss unrefused in register_is_same C n rack ss a new.0 new.1 (placed_on_racks C a P lawful placed)

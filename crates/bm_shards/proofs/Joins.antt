@@ -13,6 +13,7 @@ use Rattle.bm_base.specs.Ordered.{ordered_by}
 use Rattle.bm_base.specs.Shards.{shard_of, cut}
 use Rattle.bm_base.proofs.ForEach.{Each, each_then, each_appended}
 use Rattle.bm_base.proofs.MapEntries.{not_tied}
+use Rattle.bm_base.proofs.MapLaws.{not_equal}
 use Rattle.bm_parts.specs.Whole.{parts, whole_of, AreOwn}
 use Rattle.bm_parts.proofs.WholeParts.{whole_has_its_parts}
 use Rattle.bm_parts.proofs.SortedLists.{sorted_is_ordered}
@@ -24,15 +25,10 @@ use Rattle.bm_shards.proofs.SameShards.{count_of}
 
 -- A list with ascending keys has elements with different keys.
 
-untied : (r : Ordering) → T (is_lt r) → is_eq r ≡ false
-untied Less h = refl
-untied Equal h = absurd h
-untied Greater h = absurd h
-
 module _ {K X : Type 0} (o : Order K) (key : X → K) where
   others : (k : K) (xs : List X) → T (below_all o.cmp k (map (λ x. (key x, x)) xs)) → Each (λ y. eq_by_cmp o.cmp k (key y) ≡ false) xs
   others k [] h = tt
-  others k (x ∷ xs) h = (untied (o.cmp k (key x)) (first _ _ h), others k xs (second _ _ h))
+  others k (x ∷ xs) h = (not_equal (o.cmp k (key x)) (first _ _ h), others k xs (second _ _ h))
 
   ascending_apart : (xs : List X) → T (is_sorted o.cmp (map (λ x. (key x, x)) xs)) → AreApart o key xs
   ascending_apart [] h = tt

@@ -10,6 +10,7 @@ use Rattle.bm_base.proofs.MapLaws.{get-empty}
 use Rattle.bm_parts.specs.Whole.{joined_with, AreOwn}
 use Rattle.bm_parts.proofs.PartMaps.{part, part_is}
 use Rattle.bm_parts.proofs.JoinedShares.{own_entries}
+use Rattle.bm_parts.proofs.WholeParts.{cut_empty}
 use Rattle.bm_shard.specs.Seen.{Seen}
 use Rattle.bm_shards.specs.Whole.{parts_of, held_by, AreIndexed, AreShards, AreUpToDate, HaveTaken}
 use Rattle.bm_shards.specs.Worked.{IsNew, AreNew}
@@ -17,12 +18,6 @@ use Rattle.bm_shards.specs.Worked.{IsNew, AreNew}
 part_empty : {K X : Type 0} {o : Order K} (p : K → Bool) → part p (empty {X = X} {o = o}) ≡ empty
 part_empty {K} {X} {o} p = part_is p (empty {X = X} {o = o}) empty (λ q _. refl) (λ q _. get-empty {X = X} o q)
 
-cut_empty : (index shards : ℕ) → cut empty_holdings index shards ≡ empty_holdings
-unfolding cut empty empty_holdings
-cut_empty index shards = λ j. record {
-  blocks = part_empty (λ b. shard_of b shards == index) j;
-  replicas = part_empty (λ q. shard_of q.block shards == index) j;
-  pending = part_empty (λ q. shard_of q.block shards == index) j;
 }
 
 next_to_empty : joined_with empty_holdings empty_holdings ≡ empty_holdings

@@ -24,25 +24,25 @@ use Rattle.bm_base.proofs.Sets.{has_keys}
 use Rattle.bm_topo.proofs.SpotTable.{entry_there, same_count}
 use Rattle.bm_topo.specs.ByNode.{node_in, AreByNode, AreAllByNode}
 
--- Elements before and from a place on.
+-- Elements before an index, and from it on.
 module _ {X : Type 0} (P : X → Type 0) where
-  each_before : (xs : List X) (i : ℕ) → ((k : ℕ) (d : X) → k < i → P (get_or xs k d)) → Each P (take i xs)
+  pub each_before : (xs : List X) (i : ℕ) → ((k : ℕ) (d : X) → k < i → P (get_or xs k d)) → Each P (take i xs)
   each_before xs zero h = tt
   each_before [] (suc i) h = tt
   each_before (x ∷ xs) (suc i) h = (h 0 x (omega arith), each_before xs i (λ k d lt. h (suc k) d (omega arith)))
 
-  each_from : (xs : List X) (i : ℕ) → ((k : ℕ) (d : X) → i ≤ k → k < length xs → P (get_or xs k d)) → Each P (drop i xs)
+  pub each_from : (xs : List X) (i : ℕ) → ((k : ℕ) (d : X) → i ≤ k → k < length xs → P (get_or xs k d)) → Each P (drop i xs)
   each_from xs zero h = each_all P xs (λ k d lt. h k d (omega arith) lt)
   each_from [] (suc i) h = tt
   each_from (x ∷ xs) (suc i) h = each_from xs i (λ k d le lt. h (suc k) d (omega arith) (omega arith))
 
 -- Filters that leave nothing, or all, or the same.
 module _ {X : Type 0} (p : X → Bool) where
-  none_left : (xs : List X) → Each (λ x. p x ≡ false) xs → filter p xs ≡ []
+  pub none_left : (xs : List X) → Each (λ x. p x ≡ false) xs → filter p xs ≡ []
   none_left [] h = refl
   none_left (x ∷ xs) h = ap (λ b. cond b (x ∷ filter p xs) (filter p xs)) h.0 ∙ none_left xs h.1
 
-  all_left : (xs : List X) → Each (λ x. p x ≡ true) xs → filter p xs ≡ xs
+  pub all_left : (xs : List X) → Each (λ x. p x ≡ true) xs → filter p xs ≡ xs
   all_left [] h = refl
   all_left (x ∷ xs) h = ap (λ b. cond b (x ∷ filter p xs) (filter p xs)) h.0 ∙ ap (λ ys. x ∷ ys) (all_left xs h.1)
 
@@ -50,7 +50,7 @@ module _ {X : Type 0} (p : X → Bool) where
   same_left q [] h = refl
   same_left q (x ∷ xs) h = λ i. cond (h.0 i) (x ∷ same_left q xs h.1 i) (same_left q xs h.1 i)
 
-  parted : (xs : List X) (i : ℕ) → filter p (take i xs) ++ filter p (drop i xs) ≡ filter p xs
+  pub parted : (xs : List X) (i : ℕ) → filter p (take i xs) ++ filter p (drop i xs) ≡ filter p xs
   parted xs i = sym (filter_append p (take i xs) (drop i xs)) ∙ ap (filter p) (take-append-drop i xs)
 
 -- Tests of numbers.
@@ -58,14 +58,14 @@ module _ {X : Type 0} (p : X → Bool) where
 above : (a m n : ℕ) → nat_le a m ≡ false → m ≡ n → (a == n) ≡ false
 above a m n h e = grind (arith, h, e, nat_tests)
 
-below : (a n : ℕ) → nat_lt a n ≡ true → (a == n) ≡ false
-below a n h = grind (arith, h, nat_tests)
+pub differs_below : (a n : ℕ) → nat_lt a n ≡ true → (a == n) ≡ false
+differs_below a n h = grind (arith, h, nat_tests)
 
-behind : (a n : ℕ) → nat_le a n ≡ false → (a == n) ≡ false
-behind a n h = grind (arith, h, nat_tests)
+pub differs_above : (a n : ℕ) → nat_le a n ≡ false → (a == n) ≡ false
+differs_above a n h = grind (arith, h, nat_tests)
 
-here : (a n : ℕ) → nat_lt a n ≡ false → nat_le a n ≡ true → (a == n) ≡ true
-here a n h g = grind (arith, h, g, nat_tests)
+pub same_between : (a n : ℕ) → nat_lt a n ≡ false → nat_le a n ≡ true → (a == n) ≡ true
+same_between a n h g = grind (arith, h, g, nat_tests)
 
 at_most : (a n : ℕ) → nat_le a n ≡ true → a ≤ n
 at_most a n h = grind (arith, h, nat_tests)
@@ -113,13 +113,13 @@ module _ (key : ℕ → ℕ) where
       → IsPartitionPoint (λ t. nat_le (key t) n ≡ true) (λ t. nat_le (key t) n ≡ false) rest count → take count rest ≡ filter (λ t. key t == n) ss
   found_of ss rest n first count is start end =
       let p : ℕ → Bool = λ t. key t == n in
-      let before : filter p (take first ss) ≡ [] = none_left p (take first ss) (each_before (λ x. p x ≡ false) ss first (λ k d lt. below (key (get_or ss k d)) n (start.0 k d (omega arith) lt))) in
+      let before : filter p (take first ss) ≡ [] = none_left p (take first ss) (each_before (λ x. p x ≡ false) ss first (λ k d lt. differs_below (key (get_or ss k d)) n (start.0 k d (omega arith) lt))) in
       let not_less : Each (λ t. nat_lt (key t) n ≡ false) rest = subst (Each (λ t. nat_lt (key t) n ≡ false)) (sym is) (each_from (λ t. nat_lt (key t) n ≡ false) ss first start.1) in
       let no_more : Each (λ t. nat_le (key t) n ≡ true) (take count rest) = each_before (λ t. nat_le (key t) n ≡ true) rest count (λ k d lt. end.0 k d (omega arith) lt) in
       let own : Each (λ t. p t ≡ true) (take count rest) =
       each_then (λ t. (nat_lt (key t) n ≡ false) × (nat_le (key t) n ≡ true)) (λ t. p t ≡ true) (take count rest)
-      (each_both (λ t. nat_lt (key t) n ≡ false) (λ t. nat_le (key t) n ≡ true) (take count rest) (each_take (λ t. nat_lt (key t) n ≡ false) count rest not_less) no_more) (λ t h. here (key t) n h.0 h.1) in
-      let after : filter p (drop count rest) ≡ [] = none_left p (drop count rest) (each_from (λ x. p x ≡ false) rest count (λ k d le lt. behind (key (get_or rest k d)) n (end.1 k d le lt))) in
+      (each_both (λ t. nat_lt (key t) n ≡ false) (λ t. nat_le (key t) n ≡ true) (take count rest) (each_take (λ t. nat_lt (key t) n ≡ false) count rest not_less) no_more) (λ t h. same_between (key t) n h.0 h.1) in
+      let after : filter p (drop count rest) ≡ [] = none_left p (drop count rest) (each_from (λ x. p x ≡ false) rest count (λ k d le lt. differs_above (key (get_or rest k d)) n (end.1 k d le lt))) in
       sym (append-nil (take count rest)) ∙ (λ i. sym (all_left p (take count rest) own) i ++ sym after i) ∙ parted p rest count ∙ ap (filter p) is ∙ (λ i. sym before i ++ filter p (drop first ss)) ∙ parted p ss first
 
 none_by_node : (key : ℕ → ℕ) → AreByNode key [] []
@@ -156,27 +156,27 @@ count_keys m = length-map (entries m) (λ e. e.0)
 module _ (m : Map by_number StorageInfo) (es : List (ℕ × StorageInfo)) (i : ℕ) (is : es ≡ entries m) where
   next_key : (e : ℕ × StorageInfo) → i < length es → e ≡ get_or es i e → take (i + 1) (keys m) ≡ take i (keys m) ++ e.0 ∷ []
   unfolding keys
-  next_key e below read =
+  next_key e differs_below read =
       let many : length (map (λ (x : ℕ × StorageInfo). x.0) (entries m)) ≡ length es = length-map (entries m) (λ (x : ℕ × StorageInfo). x.0) ∙ ap length (sym is) in
-      take_more (map (λ (x : ℕ × StorageInfo). x.0) (entries m)) i e.0 (omega (arith, many, below))
+      take_more (map (λ (x : ℕ × StorageInfo). x.0) (entries m)) i e.0 (omega (arith, many, differs_below))
       ∙ ap (λ k. take i (map (λ (x : ℕ × StorageInfo). x.0) (entries m)) ++ k ∷ [])
       (get_or-map (λ (x : ℕ × StorageInfo). x.0) (entries m) i e ∙ ap (λ (x : ℕ × StorageInfo). x.0) (ap (λ xs. get_or xs i e) (sym is) ∙ sym read))
 
   pub placed : (ss seen new : List ℕ) (e : ℕ × StorageInfo) (index : ℕ) → seen ≡ ss → i < length es → e ≡ get_or es i e → index ≤ length seen
       → (IsNonDecreasingBy (node_in m) seen → IsPartitionPoint (λ t. nat_le (node_in m t) e.1.node ≡ true) (λ t. nat_le (node_in m t) e.1.node ≡ false) seen index)
       → new ≡ insert ss index e.0 → AreByNode (node_in m) (take i (keys m)) ss → AreByNode (node_in m) (take (i + 1) (keys m)) new
-  placed ss seen new e index same below read within parts made h =
+  placed ss seen new e index same differs_below read within parts made h =
       let key = node_in m in
-      let node = node_there m e.0 e.1 (entry_there m es i e is below read) in
+      let node = node_there m e.0 e.1 (entry_there m es i e is differs_below read) in
       let before = subst (AreByNode key (take i (keys m))) (sym same) h in
       let after = one_more m (take i (keys m)) seen e.0 index e.1.node node within (parts before.in_order) before in
-      subst (λ xs. AreByNode key xs new) (sym (next_key e below read)) (subst (AreByNode key (take i (keys m) ++ e.0 ∷ [])) (ap (λ xs. insert xs index e.0) same ∙ sym made) after)
+      subst (λ xs. AreByNode key xs new) (sym (next_key e differs_below read)) (subst (AreByNode key (take i (keys m) ++ e.0 ∷ [])) (ap (λ xs. insert xs index e.0) same ∙ sym made) after)
 
   pub capacity_left : (ss : List ℕ) (bound : ℕ) → i < length es → len m ≤ bound → AreByNode (node_in m) (take i (keys m)) ss → length ss < bound
-  capacity_left ss bound below few h =
+  capacity_left ss bound differs_below few h =
       let count = same_count m es is in
-      let long = length-take-le i (keys m) (omega (arith, count, count_keys m, below)) in
-      omega (arith, h.many, long, count, below, few)
+      let long = length-take-le i (keys m) (omega (arith, count, count_keys m, differs_below)) in
+      omega (arith, h.many, long, count, differs_below, few)
 
   pub all_placed : (ss : List ℕ) → length es ≤ i → AreByNode (node_in m) (take i (keys m)) ss → AreAllByNode m ss
   all_placed ss past h = let count = same_count m es is in subst (λ xs. AreByNode (node_in m) xs ss) (take_all i (keys m) (omega (arith, count, count_keys m, past))) h

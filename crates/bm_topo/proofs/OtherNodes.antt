@@ -7,6 +7,7 @@ use Rattle.std.specs.FinMap.{put}
 use Rattle.std.specs.FinMap.Entries.{by_order}
 use Rattle.std.proofs.lemmas.Bool.{eq-eqb}
 use Rattle.std.proofs.Math.Bool.{or-true}
+use Rattle.std.proofs.lemmas.Option.{same_Some}
 use Rattle.bm_base.specs.Words.{has, Map, by_number, entries, insert, remove, alter}
 use Rattle.bm_base.specs.Maps.Altered.{with_value, alter_values}
 use Rattle.bm_base.proofs.Ties.{number_tie}
@@ -14,9 +15,6 @@ use Rattle.bm_topo.specs.Racks.{racks_of, first_other_rack}
 
 abbrev dropped : ℕ → ℕ → ℕ → Option ℕ
 dropped k q x = cond (eq_by_cmp nat_cmp q k) None (Some x)
-
-inside : (a b : ℕ) → Some a ≡ Some b → a ≡ b
-inside a b e = cc
 
 head_there : (r : ℕ) (x : ℕ) (xs : List ℕ) → x ≡ r → list_any (λ y. y == r) (x ∷ xs) ≡ true
 head_there r x xs e = ap (λ b. b || list_any (λ y. y == r) xs) (eq-eqb x r e)
@@ -28,7 +26,7 @@ other-among n r (e ∷ es) h =
       | true ↦ λ t h. ap (λ b. list_any (λ y. y == r) (map (λ e. e.1) (with_value e.0 (cond b None (Some e.1)) (alter_values (dropped n) es)))) (number_tie e.0 n ∙ t) ∙ other-among n r es h
       | false ↦ λ t h.
           ap (λ b. list_any (λ y. y == r) (map (λ e. e.1) (with_value e.0 (cond b None (Some e.1)) (alter_values (dropped n) es)))) (number_tie e.0 n ∙ t)
-          ∙ head_there r e.1 (map (λ e. e.1) (alter_values (dropped n) es)) (inside e.1 r h)
+          ∙ head_there r e.1 (map (λ e. e.1) (alter_values (dropped n) es)) (same_Some e.1 r h)
     ] refl h
 
 no_other : (n : ℕ) (es : List (ℕ × ℕ)) → first_other_rack n es ≡ None → alter_values (dropped n) es ≡ []

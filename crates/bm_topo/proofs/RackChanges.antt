@@ -15,22 +15,18 @@ use Rattle.bm_base.specs.Maps.Altered.{with_value, alter_values}
 use Rattle.bm_base.proofs.MapLaws.{same_map, get-insert, get-remove, get-revise, find_below}
 use Rattle.bm_base.proofs.Differences.{len-insert}
 use Rattle.bm_base.proofs.Ties.{number_tie}
+use Rattle.bm_base.proofs.Clusters.{eqb_turned}
+use Rattle.bm_base.proofs.ListTests.{same_again}
 use Rattle.bm_topo.specs.Racks.{on_rack, racks_of, positive_or_none, CountsRacks, without_one}
-
-eq_itself : (k : ℕ) → (k == k) ≡ true
-eq_itself k = eq-eqb k k refl
-
-pub eq_turned : (k q : ℕ) → (k == q) ≡ (q == k)
-eq_turned k q = both_ways (k == q) (q == k) (λ e. eq-eqb q k (sym (eqb-true k q e))) (λ e. eq-eqb k q (sym (eqb-true q k e)))
 
 abbrev dropped : {X : Type 0} → ℕ → ℕ → X → Option X
 dropped k q x = cond (eq_by_cmp nat_cmp q k) None (Some x)
 
 turned : (q k : ℕ) (b : Bool) → eq_by_cmp nat_cmp q k ≡ b → eq_by_cmp nat_cmp k q ≡ b
-turned q k b e = number_tie k q ∙ eq_turned k q ∙ sym (number_tie q k) ∙ e
+turned q k b e = number_tie k q ∙ eqb_turned k q ∙ sym (number_tie q k) ∙ e
 
-one_more : {X : Type 0} (p : X → Bool) (x : X) (xs : List X) → count_by p (x ∷ xs) ≡ cond (p x) 1 0 + count_by p xs
-one_more p x xs = sum_by-cons (λ y. cond (p y) 1 0) x xs
+pub count_cons : {X : Type 0} (p : X → Bool) (x : X) (xs : List X) → count_by p (x ∷ xs) ≡ cond (p x) 1 0 + count_by p xs
+count_cons p x xs = sum_by-cons (λ y. cond (p y) 1 0) x xs
 
 abbrev passes : {X : Type 0} → (X → Bool) → Option X → ℕ
 passes p v = cond (option_map_or p v false) 1 0
@@ -49,13 +45,13 @@ module _ {X : Type 0} (p : X → Bool) (k : ℕ) where
             let here : eq_by_cmp nat_cmp k e.0 ≡ true = turned e.0 k true t in
             let none_passes : passes p (find nat_cmp k es) ≡ 0 = ap (passes p) none in
             let this : passes p (cond (eq_by_cmp nat_cmp k e.0) (Some e.1) (find nat_cmp k es)) ≡ cond (p e.1) 1 0 = ap (λ b. passes p (cond b (Some e.1) (find nat_cmp k es))) here in
-            omega (arith, rest, none_passes, this, one_more p e.1 (map (λ e. e.1) es))
+            omega (arith, rest, none_passes, this, count_cons p e.1 (map (λ e. e.1) es))
         | false ↦ λ t.
             let this : passes p (cond (eq_by_cmp nat_cmp k e.0) (Some e.1) (find nat_cmp k es)) ≡ passes p (find nat_cmp k es) =
             ap (λ b. passes p (cond b (Some e.1) (find nat_cmp k es))) (turned e.0 k false t) in
             let now : count_by p (map (λ e. e.1) (with_value e.0 (cond false None (Some e.1)) (alter_values (dropped k) es))) ≡ cond (p e.1) 1 0 + count_by p (map (λ e. e.1) (alter_values (dropped k) es)) =
-            one_more p e.1 (map (λ e. e.1) (alter_values (dropped k) es)) in
-            omega (arith, rest, this, now, one_more p e.1 (map (λ e. e.1) es))
+            count_cons p e.1 (map (λ e. e.1) (alter_values (dropped k) es)) in
+            omega (arith, rest, this, now, count_cons p e.1 (map (λ e. e.1) es))
       ] refl
 
 -- the nodes on a rack are the others there, and this one if it is there
@@ -69,7 +65,7 @@ on_rack-remove_there nodes n v r there = on_rack-remove nodes n r ∙ ap (λ w. 
 pub stands_there : (nodes : Map by_number ℕ) (n v : ℕ) → get nodes n ≡ Some v → 1 ≤ on_rack nodes v
 stands_there nodes n v there =
     let more = on_rack-remove_there nodes n v v there in
-    let one : ◌≡◌ {A = ℕ} (cond (v == v) 1 0) 1 = ap (λ b. cond b 1 0) (eq_itself v) in
+    let one : ◌≡◌ {A = ℕ} (cond (v == v) 1 0) 1 = ap (λ b. cond b 1 0) (same_again v) in
     omega (arith, more, one)
 
 pub on_rack-le : (nodes : Map by_number ℕ) (r : ℕ) → on_rack nodes r ≤ len nodes
@@ -81,7 +77,7 @@ on_rack-le nodes r =
 
 module _ {X : Type 0} (m : Map by_number X) (k : ℕ) where
   no_longer : get (remove m k) k ≡ None
-  no_longer = get-remove m k k ∙ ap (λ b. cond b None (get m k)) (number_tie k k ∙ eq_itself k)
+  no_longer = get-remove m k k ∙ ap (λ b. cond b None (get m k)) (number_tie k k ∙ same_again k)
 
   pub remove_absent : get m k ≡ None → remove m k ≡ m
   remove_absent none =
@@ -108,7 +104,7 @@ module _ {X : Type 0} (m : Map by_number X) (k : ℕ) where
       ∙ sym (get-remove m k q))
 
   pub get_inserted : (v : X) → get (insert m k v) k ≡ Some v
-  get_inserted v = get-insert m k v k ∙ ap (λ b. cond b (Some v) (get m k)) (number_tie k k ∙ eq_itself k)
+  get_inserted v = get-insert m k v k ∙ ap (λ b. cond b (Some v) (get m k)) (number_tie k k ∙ same_again k)
 
   put_back : (v : X) → get m k ≡ Some v → insert (remove m k) k v ≡ m
   put_back v there =
@@ -132,7 +128,7 @@ on_rack-insert nodes n v r =
     all ∙ (λ i. on_rack (remove_inserted nodes n v i) r + passes (λ x. x == r) (get_inserted nodes n v i))
 
 pub on_rack-insert_there : (nodes : Map by_number ℕ) (n v : ℕ) → on_rack (insert nodes n v) v ≡ on_rack (remove nodes n) v + 1
-on_rack-insert_there nodes n v = on_rack-insert nodes n v v ∙ ap (λ b. on_rack (remove nodes n) v + cond b 1 0) (eq_itself v)
+on_rack-insert_there nodes n v = on_rack-insert nodes n v v ∙ ap (λ b. on_rack (remove nodes n) v + cond b 1 0) (same_again v)
 
 -- The counts stay right.
 
@@ -148,11 +144,11 @@ counts-insert racks nodes n v none counts r =
     ∙ elim (r == v) as (λ b. (r == v) ≡ b → cond b (Some (on_rack nodes v + 1)) (get racks r) ≡ positive_or_none (on_rack (insert nodes n v) r)) [
       | true ↦ λ t.
           let is : r ≡ v = eqb-true r v t in
-          let same : (v == r) ≡ true = ap (λ x. v == x) is ∙ eq_itself v in
+          let same : (v == r) ≡ true = ap (λ x. v == x) is ∙ same_again v in
           let more : on_rack (insert nodes n v) r ≡ on_rack nodes v + 1 = others ∙ ap (λ b. on_rack nodes r + cond b 1 0) same ∙ ap (λ x. on_rack nodes x + 1) is in
           sym (ap positive_or_none more ∙ positive (on_rack nodes v + 1) (omega arith))
       | false ↦ λ t.
-          let apart : (v == r) ≡ false = eq_turned v r ∙ t in
+          let apart : (v == r) ≡ false = eqb_turned v r ∙ t in
           counts r ∙ sym (ap positive_or_none (others ∙ ap (λ b. on_rack nodes r + cond b 1 0) apart ∙ omega arith))
     ] refl
 
@@ -183,7 +179,7 @@ module _ (racks nodes : Map by_number ℕ) (n v : ℕ) (there : get nodes n ≡ 
 
   counts_here : (r : ℕ) → r ≡ v → get (without_one racks v (on_rack nodes v)) r ≡ positive_or_none (on_rack (remove nodes n) r)
   counts_here r is =
-      let more : on_rack nodes v ≡ on_rack (remove nodes n) v + 1 = left_on v ∙ ap (λ b. on_rack (remove nodes n) v + cond b 1 0) (eq_itself v) in
+      let more : on_rack nodes v ≡ on_rack (remove nodes n) v + 1 = left_on v ∙ ap (λ b. on_rack (remove nodes n) v + cond b 1 0) (same_again v) in
       let here : (r == v) ≡ true = eq-eqb r v is in
       elim (on_rack nodes v == 1) as (λ b. (on_rack nodes v == 1) ≡ b → get (without_one racks v (on_rack nodes v)) r ≡ positive_or_none (on_rack (remove nodes n) r)) [
         | true ↦ λ t.
@@ -199,7 +195,7 @@ module _ (racks nodes : Map by_number ℕ) (n v : ℕ) (there : get nodes n ≡ 
 
   counts_there : (r : ℕ) → (r == v) ≡ false → get (without_one racks v (on_rack nodes v)) r ≡ positive_or_none (on_rack (remove nodes n) r)
   counts_there r apart =
-      let same : on_rack nodes r ≡ on_rack (remove nodes n) r = left_on r ∙ ap (λ b. on_rack (remove nodes n) r + cond b 1 0) (eq_turned v r ∙ apart) ∙ omega arith in
+      let same : on_rack nodes r ≡ on_rack (remove nodes n) r = left_on r ∙ ap (λ b. on_rack (remove nodes n) r + cond b 1 0) (eqb_turned v r ∙ apart) ∙ omega arith in
       elim (on_rack nodes v == 1) as (λ b. (on_rack nodes v == 1) ≡ b → get (without_one racks v (on_rack nodes v)) r ≡ positive_or_none (on_rack (remove nodes n) r)) [
         | true ↦ λ t. fewer_one racks v (on_rack nodes v) r (eqb-true _ 1 t) ∙ ap (λ b. cond b None (get racks r)) apart ∙ counts r ∙ ap positive_or_none same
         | false ↦ λ t.

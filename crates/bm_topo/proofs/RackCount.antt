@@ -9,8 +9,8 @@ use Rattle.bm_base.specs.Words.{has, distinct, Map, by_number, empty, entries, g
 use Rattle.bm_base.proofs.MapLaws.{same_map, get-insert, get-empty}
 use Rattle.bm_base.proofs.Ties.{number_tie}
 use Rattle.bm_base.proofs.Differences.{len-insert}
+use Rattle.bm_base.proofs.Clusters.{eqb_turned}
 use Rattle.bm_topo.specs.Racks.{on_rack, racks_of, positive_or_none, CountsRacks}
-use Rattle.bm_topo.proofs.RackChanges.{eq_turned}
 
 abbrev listed : (ℕ → ℕ) → List ℕ → List (ℕ × ℕ)
 listed f xs = map (λ x. (x, f x)) xs
@@ -27,7 +27,7 @@ get-listed : (f : ℕ → ℕ) (xs : List ℕ) (m : Map by_number ℕ) (r : ℕ)
 get-listed f [] m r = refl
 get-listed f (x ∷ xs) m r =
     get-listed f xs (insert m x (f x)) r
-    ∙ ap (cond (has xs r) (Some (f r))) (get-insert m x (f x) r ∙ ap (λ b. cond b (Some (f x)) (get m r)) (number_tie r x ∙ eq_turned r x))
+    ∙ ap (cond (has xs r) (Some (f r))) (get-insert m x (f x) r ∙ ap (λ b. cond b (Some (f x)) (get m r)) (number_tie r x ∙ eqb_turned r x))
     ∙ elim (x == r) as (λ b. (x == r) ≡ b → cond (has xs r) (Some (f r)) (cond b (Some (f x)) (get m r)) ≡ cond (b || has xs r) (Some (f r)) (get m r)) [
       | true ↦ λ t. ap (λ n. cond (has xs r) (Some (f r)) (Some n)) (ap f (eqb-true x r t)) ∙ same_either (has xs r) (Some (f r))
       | false ↦ λ t. refl
@@ -45,12 +45,12 @@ len-listed f (x ∷ xs) m u e h =
     len-listed f xs (insert m x (f x)) (insert u x tt) (len-insert m x (f x) ∙ (λ i. cond (h x i) (e i) (e i + 1)) ∙ sym (len-insert u x tt)) (λ q.
     ap is_some (get-insert m x (f x) q) ∙ there_either (eq_by_cmp nat_cmp q x) (f x) tt (get m q) (get u q) (h q) ∙ sym (ap is_some (get-insert u x tt q)))
 
-one_more : (r x : ℕ) (xs : List ℕ) → count_by (λ y. y == r) (x ∷ xs) ≡ cond (x == r) 1 0 + count_by (λ y. y == r) xs
+pub one_more : (r x : ℕ) (xs : List ℕ) → count_by (λ y. y == r) (x ∷ xs) ≡ cond (x == r) 1 0 + count_by (λ y. y == r) xs
 one_more r x xs = sum_by-cons (λ y. cond (y == r) 1 0) x xs
 
-has-counted : (xs : List ℕ) (r : ℕ) → has xs r ≡ nat_lt 0 (count_by (λ y. y == r) xs)
-has-counted [] r = refl
-has-counted (x ∷ xs) r =
+pub has_counted : (xs : List ℕ) (r : ℕ) → has xs r ≡ nat_lt 0 (count_by (λ y. y == r) xs)
+has_counted [] r = refl
+has_counted (x ∷ xs) r =
     elim (x == r) as (λ b. (x == r) ≡ b → (b || has xs r) ≡ nat_lt 0 (count_by (λ y. y == r) (x ∷ xs))) [
       | true ↦ λ t.
           let more : count_by (λ y. y == r) (x ∷ xs) ≡ 1 + count_by (λ y. y == r) xs = one_more r x xs ∙ ap (λ b. cond b 1 0 + count_by (λ y. y == r) xs) t in
@@ -58,7 +58,7 @@ has-counted (x ∷ xs) r =
       | false ↦ λ t.
           let same : count_by (λ y. y == r) (x ∷ xs) ≡ 0 + count_by (λ y. y == r) xs = one_more r x xs ∙ ap (λ b. cond b 1 0 + count_by (λ y. y == r) xs) t in
           let back : count_by (λ y. y == r) xs ≡ count_by (λ y. y == r) (x ∷ xs) = omega (arith, same) in
-          has-counted xs r ∙ ap (nat_lt 0) back
+          has_counted xs r ∙ ap (nat_lt 0) back
     ] refl
 
 some_counted : (n : ℕ) → cond (nat_lt 0 n) (Some n) None ≡ positive_or_none n
@@ -82,5 +82,5 @@ racks_counted racks nodes counts =
     let all = listed (on_rack nodes) (racks_of nodes) in
     let same : racks ≡ insert_all empty all = same_map racks (insert_all empty all) (λ r.
     counts r
-    ∙ sym (get-listed (on_rack nodes) (racks_of nodes) empty r ∙ (λ i. cond (has-counted (racks_of nodes) r i) (Some (on_rack nodes r)) (get-empty by_number r i)) ∙ some_counted (on_rack nodes r))) in
+    ∙ sym (get-listed (on_rack nodes) (racks_of nodes) empty r ∙ (λ i. cond (has_counted (racks_of nodes) r i) (Some (on_rack nodes r)) (get-empty by_number r i)) ∙ some_counted (on_rack nodes r))) in
     ap len same ∙ len-listed (on_rack nodes) (racks_of nodes) empty empty none_both none_each ∙ sym (length-distinct (racks_of nodes))

@@ -10,9 +10,7 @@ use Rattle.bm_base.specs.Words.{has, Map, by_number, entries, len}
 use Rattle.bm_base.specs.Spread.{spread, spread_after}
 use Rattle.bm_base.proofs.Distinct.{capped_spread, is_two}
 use Rattle.bm_topo.specs.Racks.{on_rack, racks_of, is_multi}
-
-one_more : (r x : ℕ) (xs : List ℕ) → count_by (λ y. y == r) (x ∷ xs) ≡ cond (x == r) 1 0 + count_by (λ y. y == r) xs
-one_more r x xs = sum_by-cons (λ y. cond (y == r) 1 0) x xs
+use Rattle.bm_topo.proofs.RackCount.{one_more}
 
 at_most : (r : ℕ) (xs : List ℕ) → count_by (λ y. y == r) xs ≤ length xs
 at_most r xs = count_by-le-length (λ y. y == r) xs

@@ -10,12 +10,12 @@ use Rattle.std.proofs.lemmas.List.Elements.{All-from_get_or}
 use Rattle.std.proofs.lemmas.List.Sorted.{IsPermutation-sym, list_any-IsPermutation, searched}
 use Rattle.std.proofs.lemmas.Map.Keys.{IsDistinct-IsPermutation, IsDistinct-from_apart, apart_from_distinct, sorted_from_strictly_increasing, below_from_sorted}
 use Rattle.bm_base.specs.Maps.Lists.{has, has_repeats}
-use Rattle.bm_topo.proofs.RackChanges.{eq_turned}
+use Rattle.bm_base.proofs.Clusters.{eqb_turned}
 
 abbrev same : ℕ → ℕ → Bool
 same x y = x == y
 
-or_first : (a b : Bool) → (a || b) ≡ false → a ≡ false
+pub or_first : (a b : Bool) → (a || b) ≡ false → a ≡ false
 or_first a b = elim a as (λ a. (a || b) ≡ false → a ≡ false) [ true ↦ λ e. e | false ↦ λ _. refl ]
 
 or_second : (a b : Bool) → (a || b) ≡ false → b ≡ false
@@ -23,11 +23,11 @@ or_second a b = elim a as (λ a. (a || b) ≡ false → b ≡ false) [ true ↦ 
 
 all_differ : (x : ℕ) (ys : List ℕ) → has ys x ≡ false → AllByRecursion (λ y. same x y ≡ false) ys
 all_differ x [] e = tt
-all_differ x (y ∷ ys) e = (eq_turned x y ∙ or_first (y == x) (has ys x) e, all_differ x ys (or_second (y == x) (has ys x) e))
+all_differ x (y ∷ ys) e = (eqb_turned x y ∙ or_first (y == x) (has ys x) e, all_differ x ys (or_second (y == x) (has ys x) e))
 
 has_none : (x : ℕ) (ys : List ℕ) → AllByRecursion (λ y. same x y ≡ false) ys → has ys x ≡ false
 has_none x [] h = refl
-has_none x (y ∷ ys) h = ap (λ b. b || has ys x) (eq_turned y x ∙ h.0) ∙ has_none x ys h.1
+has_none x (y ∷ ys) h = ap (λ b. b || has ys x) (eqb_turned y x ∙ h.0) ∙ has_none x ys h.1
 
 distinct_from_no_repeats : (xs : List ℕ) → has_repeats xs ≡ false → IsDistinct same xs
 unfolding IsDistinct
@@ -40,7 +40,7 @@ no_repeats_from_distinct [] h = refl
 no_repeats_from_distinct (x ∷ xs) h = ap (λ b. b || has_repeats xs) (has_none x xs h.0) ∙ no_repeats_from_distinct xs h.1
 
 no_repeats_moved : (xs ys : List ℕ) → IsPermutation xs ys → has_repeats xs ≡ false → has_repeats ys ≡ false
-no_repeats_moved xs ys p e = no_repeats_from_distinct ys (IsDistinct-IsPermutation same eq_turned xs ys p (distinct_from_no_repeats xs e))
+no_repeats_moved xs ys p e = no_repeats_from_distinct ys (IsDistinct-IsPermutation same eqb_turned xs ys p (distinct_from_no_repeats xs e))
 
 bool_cases : (a b : Bool) → (a ≡ false → b ≡ false) → (b ≡ false → a ≡ false) → a ≡ b
 bool_cases a b = elim a as (λ a. (a ≡ false → b ≡ false) → (b ≡ false → a ≡ false) → a ≡ b) [

@@ -13,6 +13,7 @@ use Rattle.bm_base.proofs.MapEntries.{not_tied, key_itself, get_kept, known_befo
 use Rattle.bm_base.proofs.ClusterEvents.{registrable, registered, storage_failed, heartbeat_reported, began_to_drain, ceased_to_drain}
 use Rattle.bm_base.proofs.MapLaws.{same_map, get-keep, get-empty, get-remove}
 use Rattle.bm_base.proofs.Differences.{len-keep-le}
+use Rattle.bm_base.proofs.Options.{not_there}
 use Rattle.bm_topo.specs.Keys.{HasSmallKeys}
 use Rattle.bm_topo.specs.NewStorages.{new_storages}
 use Rattle.bm_topo.specs.Racks.{on_rack, CountsRacks, without_one}
@@ -144,10 +145,6 @@ none_here : {X : Type 0} (b : Bool) (x : X) (r : Option X) → cond b (Some x) r
 none_here true x r h = cc
 none_here false x r h = (refl, h)
 
-unknown : {X : Type 0} (v : Option X) → is_some v ≡ false → v ≡ None
-unknown None h = refl
-unknown (Some x) h = cc
-
 pub record IsNew (C : Cluster) (n : ℕ) (ss : List ℕ) : Type 0 where
   pub absent : get C.nodes n ≡ None
   pub few_nodes : len C.nodes + 1 ≤ MAX_NODES
@@ -162,7 +159,7 @@ registration_is_new C n rack ss h =
     let few = or_parts _ _ third.0 in
     let nodes = leb-false MAX_NODES (len C.nodes) few.0 in
     let storages = ltb-false MAX_STORAGES (len C.storages + length ss) few.1 in
-    record { absent = unknown _ first.0; few_nodes = omega (arith, nodes); few_storages = omega (arith, storages) }
+    record { absent = not_there _ first.0; few_nodes = omega (arith, nodes); few_storages = omega (arith, storages) }
 
 -- where a node registers
 pub sound-joined : (nodes racks more counts : Map by_number ℕ) (draining left : Set by_number) (storages all : Map by_number StorageInfo) (n v count : ℕ) (ss : List ℕ) → n < 2 ^ 32

@@ -2,14 +2,11 @@
 use Rattle.std.proofs.Common.{◌≡◌, ◌≢◌, ◌↔◌, ◌⊎◌, ℕ, List, [], ◌∷◌, ◌++◌, refl, inl, inr}
 use Rattle.std.proofs.lemmas.Bool.{cases_eq}
 use Rattle.bm_maps.specs.SlotLists.{IsMember}
+use Rattle.bm_arena.proofs.Replicas.{Among-last}
 
 among_front : (x y : ℕ) (xs : List ℕ) → IsMember x xs → IsMember x (xs ++ y ∷ [])
 among_front x y [] there = absurd there
 among_front x y (z ∷ zs) there = elim there [ inl here ↦ inl here | inr later ↦ inr (among_front x y zs later) ]
-
-among_end : (x : ℕ) (xs : List ℕ) → IsMember x (xs ++ x ∷ [])
-among_end x [] = inl refl
-among_end x (z ∷ zs) = inr (among_end x zs)
 
 among_either : (x y : ℕ) (xs : List ℕ) → IsMember x (xs ++ y ∷ []) → IsMember x xs ⊎ (x ≡ y)
 among_either x y [] there = elim there [ inl here ↦ inr here | inr later ↦ absurd later ]
@@ -24,7 +21,7 @@ pub one_more : (x : ℕ) (xs before after : List ℕ) → ((slot : ℕ) → IsMe
     → ((slot : ℕ) → slot ≢ x → IsMember slot after ↔ IsMember slot before) → (slot : ℕ) → IsMember slot after ↔ IsMember slot (xs ++ x ∷ [])
 one_more x xs before after same held others slot =
     elim (cases_eq slot x) [
-      | inl here ↦ rw here (λ h. among_end x xs, λ h. held)
+      | inl here ↦ rw here (λ h. Among-last x xs, λ h. held)
       | inr differs ↦ (
         λ h. among_front slot x xs ((same slot).0 ((others slot differs).0 h)),
         λ h. elim (among_either slot x xs h) [ inl front ↦ (others slot differs).1 ((same slot).1 front) | inr last ↦ absurd (differs last) ],

@@ -19,6 +19,7 @@ use Rattle.fsck_cluster.specs.declared.rows.Held.{Held}
 use Rattle.fsck_cluster.specs.declared.rows.Row.{Row}
 use Rattle.fsck_import.specs.CallsFor.{entry, received, reports}
 use Rattle.cluster_input.specs.MadeCalls.{Makes}
+use Rattle.fsck_import.proofs.WriteLemmas.{take_next, take_more, map-append, filter-push}
 
 state_after-append : (M : State) (calls more : List Call) → state_after M (calls ++ more) ≡ state_after (state_after M calls) more
 state_after-append M [] more = refl
@@ -54,19 +55,6 @@ not_refused k a e = none_only (is_refused a) (answer_text k a) e
 pub one_made : (k : Call) (M N : State) → N ≡ (step M k).1 → None ≡ refusal_text_of k (step M k).0 → Makes (k ∷ []) M N
 one_made k M N state refusal_text = record { state = state; accepted = rw (not_refused k (step M k).0 (sym refusal_text)) refl }
 
-take_next : {A : Type 0} (xs : List A) (i : ℕ) → take (suc i) xs ≡ take i xs ++ option_to_list (slice_get xs i)
-take_next {A} [] zero = refl
-take_next {A} [] (suc i) = sym (ap (λ (o : Option A). take (suc i) [] ++ option_to_list o) (slice_get_past {X = A} [] (suc i) (omega arith)))
-take_next (x ∷ xs) zero = refl
-take_next (x ∷ xs) (suc i) = ap (λ ys. x ∷ ys) (take_next xs i)
-
-take_more : {A : Type 0} (xs : List A) (i : ℕ) → take (i + 1) xs ≡ take i xs ++ option_to_list (slice_get xs i)
-take_more xs i = let next : i + 1 ≡ suc i = omega arith in ap (λ n. take n xs) next ∙ take_next xs i
-
-map-append : {A : Type 0} (f : A → Call) (xs ys : List A) → map f (xs ++ ys) ≡ map f xs ++ map f ys
-map-append f [] ys = refl
-map-append f (x ∷ xs) ys = ap (λ zs. f x ∷ zs) (map-append f xs ys)
-
 -- with the element at an index, if there is one
 pub adds_more : {A : Type 0} (f : A → Call) (xs : List A) (i : ℕ) (a b c : State) → Makes (map f (take i xs)) a b
     → Makes (map f (option_to_list (slice_get xs i))) b c → Makes (map f (take (i + 1) xs)) a c
@@ -98,14 +86,6 @@ pub called_at : {A : Type 0} (f : A → Call) (xs items : List A) (i : ℕ) (d :
 called_at f xs items i d k a b c e lt is first second =
     subst (λ ys. Makes (map f (take (i + 1) ys)) a c) e
     (called_next f items i d k a b c lt is (subst (λ ys. Makes (map f (take i ys)) a b) (sym e) first) second)
-
-filter-push : {A : Type 0} (t : A → Bool) (xs : List A) (x : A) → filter t (xs ++ x ∷ []) ≡ filter t xs ++ filter t (x ∷ [])
-filter-push t [] x = refl
-filter-push t (y ∷ xs) x = by (t y) (filter-push t xs x)
-  where
-    by : (b : Bool) → filter t (xs ++ x ∷ []) ≡ filter t xs ++ filter t (x ∷ []) → cond b (y ∷ filter t (xs ++ x ∷ [])) (filter t (xs ++ x ∷ [])) ≡ cond b (y ∷ filter t xs) (filter t xs) ++ filter t (x ∷ [])
-    by true h = ap (λ ys. y ∷ ys) h
-    by false h = h
 
 -- with one more element, if it passes the test
 pub kept_more : {A : Type 0} (f : A → Call) (t : A → Bool) (xs : List A) (x : A) (a b c : State) → Makes (map f (filter t xs)) a b

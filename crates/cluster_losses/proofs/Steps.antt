@@ -10,10 +10,7 @@ use Rattle.cluster_lost.specs.Losses.{is_loss, are_losses, AreMissing}
 use Rattle.cluster_report.specs.declared.book.Book.{Book}
 use Rattle.cluster_report.specs.Catalogues.{Lists}
 use Rattle.cluster_report.specs.Sessions.{Follows}
-
-first_none : (x y : Option Refusal) → (x before y) ≡ None → x ≡ None
-first_none None y e = refl
-first_none (Some r) y e = cc
+use Rattle.cluster_report.proofs.StepLemmas.{first_none}
 
 pub accepted_by_cluster : (M : State) (C : Cluster) (e : Event) → C ≡ M.cluster → refusal_of M e ≡ None → first_of (cluster_checks C e) ≡ None
 unfolding refusal_of

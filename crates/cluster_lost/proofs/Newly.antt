@@ -13,7 +13,7 @@ use Rattle.bm_base.proofs.MapLaws.{get-insert}
 use Rattle.bm_base.proofs.Options.{there, is_there}
 use Rattle.bm_base.proofs.Ties.{number_tie}
 use Rattle.bm_base.proofs.Clusters.{eqb_turned}
-use Rattle.bm_base.proofs.ListTests.{any_map, any_filter, filter_filter, same_again}
+use Rattle.bm_base.proofs.ListTests.{any_map, any_filter, filter_filter, same_again, has_filter}
 use Rattle.cluster_lost.specs.Losses.{after_losses, is_missing, is_lost, has_replica, has_replica_left, lost_blocks, AreMissing}
 use Rattle.cluster_lost.proofs.Tests.{none_if_empty}
 use Rattle.cluster_lost.proofs.Left.{left_law, blocks_stay, missing_is_unusable}
@@ -38,9 +38,6 @@ any_tied : (p : ℕ → Bool) (xs : List ℕ) (b : ℕ) → list_any (λ x. p x 
 any_tied p [] b = false_and (p b)
 any_tied p (x ∷ xs) b = ap (λ z. (p x && (x == b)) || z) (any_tied p xs b) ∙ by_tie p x b (has xs b) (x == b) refl
 
-has_filtered : (p : ℕ → Bool) (xs : List ℕ) (b : ℕ) → has (filter p xs) b ≡ (p b && has xs b)
-has_filtered p xs b = any_filter (λ x. x == b) p xs ∙ any_tied p xs b
-
 filter_each : {X : Type 0} (f g : X → Bool) (xs : List X) → Each (λ x. f x ≡ g x) xs → filter f xs ≡ filter g xs
 filter_each f g [] h = refl
 filter_each f g (x ∷ xs) h = λ i. cond (h.0 i) (x ∷ filter_each f g xs h.1 i) (filter_each f g xs h.1 i)
@@ -62,7 +59,7 @@ module _ (M : State) (es : List Event) (before after : List ℕ) (h : AreMissing
   was_missing b known =
       let i = there (get blocks b) known in
       ap (λ bs. not (has bs b)) h.missing_before
-      ∙ ap not (has_filtered (is_missing M) (keys blocks) b ∙ ap (λ z. is_missing M b && z) (has_known blocks b known) ∙ and-true (is_missing M b) ∙ missing_is_unusable M b i.0 i.1 (h.lawful.replicated b i.0 i.1).0)
+      ∙ ap not (has_filter (is_missing M) (keys blocks) b ∙ ap (λ z. is_missing M b && z) (has_known blocks b known) ∙ and-true (is_missing M b) ∙ missing_is_unusable M b i.0 i.1 (h.lawful.replicated b i.0 i.1).0)
       ∙ ap not (sym (none_if_empty (usable M.holdings b)))
 
   pub newly_missing : (known : Map by_number Bool) → ((b : ℕ) → contains_key known b ≡ has before b) → filter (λ b. not (contains_key known b)) after ≡ lost_blocks M es

@@ -17,6 +17,7 @@ use Rattle.cluster_report.specs.Catalogues.{len_in}
 use Rattle.cluster_repair.specs.declared.free.FreeBytes.{FreeBytes}
 use Rattle.cluster_repair.specs.declared.reasons.Unmended.{Unmended}
 use Rattle.cluster_repair.specs.Reasons.{HasReason, HaveReasons, reason_for}
+use Rattle.bm_topo.proofs.ByNode.{each_before, each_from, none_left, all_left, parted, differs_below, differs_above, same_between}
 
 -- Reasons, one after another.
 
@@ -51,38 +52,6 @@ pub blocks_ascend : (rs all : List Replica) → rs ≡ all → AllPairs (λ q r.
 blocks_ascend rs all are pairs =
     subst (IsNonDecreasingBy (λ (r : Replica). r.block)) (sym are) (λ i j d le within. blocks_at all pairs i j d within (same_or_less i j le))
 
-module _ {X : Type 0} (P : X → Type 0) where
-  each_before : (xs : List X) (i : ℕ) → ((k : ℕ) (d : X) → k < i → P (get_or xs k d)) → Each P (take i xs)
-  each_before xs zero h = tt
-  each_before [] (suc i) h = tt
-  each_before (x ∷ xs) (suc i) h = (h 0 x (omega arith), each_before xs i (λ k d lt. h (suc k) d (omega arith)))
-
-  each_from : (xs : List X) (i : ℕ) → ((k : ℕ) (d : X) → i ≤ k → k < length xs → P (get_or xs k d)) → Each P (drop i xs)
-  each_from xs zero h = each_all P xs (λ k d lt. h k d (omega arith) lt)
-  each_from [] (suc i) h = tt
-  each_from (x ∷ xs) (suc i) h = each_from xs i (λ k d le lt. h (suc k) d (omega arith) (omega arith))
-
-module _ {X : Type 0} (p : X → Bool) where
-  none_left : (xs : List X) → Each (λ x. p x ≡ false) xs → filter p xs ≡ []
-  none_left [] h = refl
-  none_left (x ∷ xs) h = ap (λ b. cond b (x ∷ filter p xs) (filter p xs)) h.0 ∙ none_left xs h.1
-
-  all_left : (xs : List X) → Each (λ x. p x ≡ true) xs → filter p xs ≡ xs
-  all_left [] h = refl
-  all_left (x ∷ xs) h = ap (λ b. cond b (x ∷ filter p xs) (filter p xs)) h.0 ∙ ap (λ ys. x ∷ ys) (all_left xs h.1)
-
-  parted : (xs : List X) (i : ℕ) → filter p (take i xs) ++ filter p (drop i xs) ≡ filter p xs
-  parted xs i = sym (filter_append p (take i xs) (drop i xs)) ∙ ap (filter p) (take-append-drop i xs)
-
-below : (a n : ℕ) → nat_lt a n ≡ true → (a == n) ≡ false
-below a n h = grind (arith, h, nat_tests)
-
-behind : (a n : ℕ) → nat_le a n ≡ false → (a == n) ≡ false
-behind a n h = grind (arith, h, nat_tests)
-
-here : (a n : ℕ) → nat_lt a n ≡ false → nat_le a n ≡ true → (a == n) ≡ true
-here a n h g = grind (arith, h, g, nat_tests)
-
 -- two binary searches find those of a block
 pub found_of : (rs rest : List Replica) (b first count : ℕ) → rest ≡ drop first rs → IsPartitionPoint (λ r. nat_lt r.block b ≡ true) (λ r. nat_lt r.block b ≡ false) rs first
     → IsPartitionPoint (λ r. nat_le r.block b ≡ true) (λ r. nat_le r.block b ≡ false) rest count → take count rest ≡ filter (λ r. r.block == b) rs
@@ -91,13 +60,13 @@ found_of rs rest b first count is start end =
     let NotLess : Replica → Type 0 = λ r. nat_lt r.block b ≡ false in
     let NoMore : Replica → Type 0 = λ r. nat_le r.block b ≡ true in
     let before : filter p (take first rs) ≡ [] =
-    none_left p (take first rs) (each_before (λ r. p r ≡ false) rs first (λ k d lt. below (get_or rs k d).block b (start.0 k d (omega arith) lt))) in
+    none_left p (take first rs) (each_before (λ r. p r ≡ false) rs first (λ k d lt. differs_below (get_or rs k d).block b (start.0 k d (omega arith) lt))) in
     let not_less : Each NotLess rest = subst (Each NotLess) (sym is) (each_from NotLess rs first start.1) in
     let no_more : Each NoMore (take count rest) = each_before NoMore rest count (λ k d lt. end.0 k d (omega arith) lt) in
     let own : Each (λ r. p r ≡ true) (take count rest) =
     each_then (λ r. NotLess r × NoMore r) (λ r. p r ≡ true) (take count rest)
-    (each_both NotLess NoMore (take count rest) (each_take NotLess count rest not_less) no_more) (λ r h. here r.block b h.0 h.1) in
+    (each_both NotLess NoMore (take count rest) (each_take NotLess count rest not_less) no_more) (λ r h. same_between r.block b h.0 h.1) in
     let after : filter p (drop count rest) ≡ [] =
-    none_left p (drop count rest) (each_from (λ r. p r ≡ false) rest count (λ k d le lt. behind (get_or rest k d).block b (end.1 k d le lt))) in
+    none_left p (drop count rest) (each_from (λ r. p r ≡ false) rest count (λ k d le lt. differs_above (get_or rest k d).block b (end.1 k d le lt))) in
     sym (append-nil (take count rest)) ∙ (λ i. sym (all_left p (take count rest) own) i ++ sym after i) ∙ parted p rest count ∙ ap (filter p) is
     ∙ (λ i. sym before i ++ filter p (drop first rs)) ∙ parted p rs first

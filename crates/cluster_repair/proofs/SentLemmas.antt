@@ -20,16 +20,13 @@ use Rattle.cluster_repair.specs.declared.datanodes.DataNodes.{DataNodes}
 use Rattle.cluster_repair.specs.Copies.{is_copy_of, is_among}
 use Rattle.cluster_repair.specs.Sending.{most, micros_for, sends_until, receives_until, sent_at, received_at, arrival, free_on}
 use Rattle.cluster_repair.specs.Sent.{AreCounted, AreBegun, IsSent, AreSent, AreNumbered, bytes_of, bytes_to, is_one_of, receiver, sender, to_begin, transfers_of}
+use Rattle.bm_topo.proofs.Repeats.{or_first}
 
 -- Membership.
 
-or_false : (a b : Bool) → (a || b) ≡ false → a ≡ false
-or_false false b e = refl
-or_false true b e = e
-
 among_front : (xs ys zs : List Sent) (t : Transfer) → zs ≡ xs ++ ys → is_among zs t ≡ false → is_among xs t ≡ false
 among_front xs ys zs t is none =
-    or_false (is_among xs t) (is_among ys t) (sym (list_any-append (is_copy_of t.block t.target) xs ys) ∙ ap (λ ss. is_among ss t) (sym is) ∙ none)
+    or_first (is_among xs t) (is_among ys t) (sym (list_any-append (is_copy_of t.block t.target) xs ys) ∙ ap (λ ss. is_among ss t) (sym is) ∙ none)
 
 still_among : (xs ys zs : List Sent) (t : Transfer) → zs ≡ xs ++ ys → is_among xs t ≡ true → is_among zs t ≡ true
 still_among xs ys zs t is there =

@@ -19,6 +19,7 @@ use Rattle.bm_base.proofs.ForEach.{Each, each_of, each_mapped, each_flat, each_a
 use Rattle.bm_base.proofs.ListTests.{and_second, any_filter, any_map, any_weaker, any_agree}
 use Rattle.cluster_report.specs.Copies.{commanded_to}
 use Rattle.cluster_report.proofs.SentLemmas.{each_sent}
+use Rattle.bm_parts.proofs.HeldBack.{any_flat}
 
 first_or_later : {X : Type 0} (a b : Bool) (v : X) (old : Option X) → cond b (Some v) (cond a (Some v) old) ≡ cond (a || b) (Some v) old
 first_or_later true true v old = refl
@@ -69,10 +70,6 @@ module _ {K X : Type 0} {o : Order K} where
 or_second : (a b : Bool) → a ≡ false → (a || b) ≡ true → b ≡ true
 or_second true b e h = cc
 or_second false b e h = h
-
-any_flat : {X Y : Type 0} (p : Y → Bool) (f : X → List Y) (xs : List X) → list_any p (flat_map f xs) ≡ list_any (λ x. list_any p (f x)) xs
-any_flat p f [] = refl
-any_flat p f (x ∷ xs) = list_any-append p (f x) (flat_map f xs) ∙ ap (λ b. list_any p (f x) || b) (any_flat p f xs)
 
 module _ (C : Cluster) (ns : List ℕ) (p : Transfer → Bool) where
   abbrev sent_to : List Transfer → ℕ → Bool

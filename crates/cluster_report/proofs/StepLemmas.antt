@@ -23,7 +23,7 @@ use Rattle.cluster_report.proofs.CopyLemmas.{round_copies}
 
 -- ---- an event that is accepted
 
-first_none : (x y : Option Refusal) → (x before y) ≡ None → x ≡ None
+pub first_none : (x y : Option Refusal) → (x before y) ≡ None → x ≡ None
 first_none None y e = refl
 first_none (Some r) y e = cc
 

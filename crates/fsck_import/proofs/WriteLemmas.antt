@@ -85,17 +85,17 @@ still_written calls a b d writes kept = record { written = flushed a b d _ write
 pub all_flushed : (calls more : List Call) (a b c d : Option Text) → Written calls a b → Written more b c → Keeps c d → WritesCalls (calls ++ more) a d
 all_flushed calls more a b c d first second kept = still_written (calls ++ more) a c d (all_written (calls ++ more) a c (written_more calls more a b c first second)) kept
 
-take_next : {A : Type 0} (xs : List A) (i : ℕ) → take (suc i) xs ≡ take i xs ++ option_to_list (slice_get xs i)
+pub take_next : {A : Type 0} (xs : List A) (i : ℕ) → take (suc i) xs ≡ take i xs ++ option_to_list (slice_get xs i)
 take_next {A} [] zero = refl
 take_next {A} [] (suc i) = sym (ap (λ (o : Option A). take (suc i) [] ++ option_to_list o) (slice_get_past {X = A} [] (suc i) (omega arith)))
 take_next (x ∷ xs) zero = refl
 take_next (x ∷ xs) (suc i) = ap (λ ys. x ∷ ys) (take_next xs i)
 
 -- one more element of a list, if there is one
-take_more : {A : Type 0} (xs : List A) (i : ℕ) → take (i + 1) xs ≡ take i xs ++ option_to_list (slice_get xs i)
+pub take_more : {A : Type 0} (xs : List A) (i : ℕ) → take (i + 1) xs ≡ take i xs ++ option_to_list (slice_get xs i)
 take_more xs i = let next : i + 1 ≡ suc i = omega arith in ap (λ n. take n xs) next ∙ take_next xs i
 
-map-append : {A : Type 0} (f : A → Call) (xs ys : List A) → map f (xs ++ ys) ≡ map f xs ++ map f ys
+pub map-append : {A : Type 0} (f : A → Call) (xs ys : List A) → map f (xs ++ ys) ≡ map f xs ++ map f ys
 map-append f [] ys = refl
 map-append f (x ∷ xs) ys = ap (λ zs. f x ∷ zs) (map-append f xs ys)
 
@@ -104,7 +104,7 @@ pub adds_more : {A : Type 0} (f : A → Call) (xs : List A) (i : ℕ) (a b c : O
 adds_more f xs i a b c first second =
     subst (λ calls. Written calls a c) (sym (ap (map f) (take_more xs i) ∙ map-append f (take i xs) (option_to_list (slice_get xs i)))) (written_more _ _ a b c first second)
 
-filter-push : {A : Type 0} (t : A → Bool) (xs : List A) (x : A) → filter t (xs ++ x ∷ []) ≡ filter t xs ++ filter t (x ∷ [])
+pub filter-push : {A : Type 0} (t : A → Bool) (xs : List A) (x : A) → filter t (xs ++ x ∷ []) ≡ filter t xs ++ filter t (x ∷ [])
 filter-push t [] x = refl
 filter-push t (y ∷ xs) x = by (t y) (filter-push t xs x)
   where

@@ -8,8 +8,8 @@ use Rattle.bm_base.proofs.MapLaws.{same_map, get-insert, get-remove}
 use Rattle.bm_base.proofs.Options.{not_there}
 use Rattle.bm_base.proofs.MapEntries.{same_key, get_here, get_other, get_taken, get_left}
 use Rattle.bm_parts.proofs.RemainingHoldings.{fewer_sent, same_either, drained_blocks, drained_replicas}
+use Rattle.bm_parts.proofs.OneShard.{nothing_done}
 use Rattle.laws_of_events.proofs.NodeChanges.{gone_there, still_there, on_it, not_on_it}
-use Rattle.laws_of_events.proofs.ReportLaws.{none_done}
 use Rattle.laws_of_events.specs.Draining as law
 
 -- Which nodes drain.
@@ -58,7 +58,7 @@ others_leave M (FullReport s es) e = refl
 -- no replica came or went if the replicas are the same
 none_came : (H G : Holdings) → G.replicas ≡ H.replicas → done H G ≡ record { added = 0; removed = 0 }
 unfolding done
-none_came H G e = (λ i. record { added = new_replicas H.replicas (e i); removed = new_replicas (e i) H.replicas }) ∙ none_done H
+none_came H G e = (λ i. record { added = new_replicas H.replicas (e i); removed = new_replicas (e i) H.replicas }) ∙ nothing_done H
 
 pub drain_takes : law.drain_takes_transfers
 unfolding after_event done_by change_cluster change_holdings drain begin_drain

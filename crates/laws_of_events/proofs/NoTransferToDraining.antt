@@ -96,7 +96,7 @@ drained_still C n s off other = off_where (drain C n) s (λ m e. ap is_some (get
 abbrev Spares : Cluster → Holdings → Type 0
 Spares C H = (p : ReplicaId) → is_some (get H.pending p) ≡ true → is_draining C p.storage ≡ false
 
-sent_before : (C : Cluster) (H : Holdings) (e : Event) (p : ReplicaId) → is_some (get (change_holdings C H e).pending p) ≡ true → is_some (get H.pending p) ≡ true
+pub sent_before : (C : Cluster) (H : Holdings) (e : Event) (p : ReplicaId) → is_some (get (change_holdings C H e).pending p) ≡ true → is_some (get H.pending p) ≡ true
 sent_before C H e p is = let r = there (get (change_holdings C H e).pending p) is in is_there (get H.pending p) r.0 (pending_before C H e p r.0 r.1)
 
 at_node : (C : Cluster) (s m : ℕ) → node_of C s ≡ Some m → has_storage C m s ≡ true

@@ -32,6 +32,7 @@ use Rattle.bm_parts.proofs.ReportedReplicas.{IsKept, IsPut, enter_origin, enter_
 use Rattle.laws_of_events.proofs.ReportLaws.{held_report, held_received}
 use Rattle.laws_of_events.proofs.BlockChanges.{transfers_reported, transfer_received}
 use Rattle.laws_of_events.proofs.ReportedReplicas.{named_numbers}
+use Rattle.laws_of_events.proofs.NoTransferToDraining.{sent_before}
 use Rattle.laws_of_events.specs.LawfulForEver as law
 
 -- Lists with a test.
@@ -136,9 +137,6 @@ revised_before m f p e = sym (known_revised m f p) ∙ e
 
 removed_before : (m : Map by_replica Marks) (k p : ReplicaId) → is_some (get (remove m k) p) ≡ true → is_some (get m p) ≡ true
 removed_before m k p e = let x = there (get (remove m k) p) e in is_there (get m p) x.0 (get_removed m k p x.0 x.1).1
-
-sent_before : (C : Cluster) (H : Holdings) (e : Event) (p : ReplicaId) → is_some (get (change_holdings C H e).pending p) ≡ true → is_some (get H.pending p) ≡ true
-sent_before C H e p is = let r = there (get (change_holdings C H e).pending p) is in is_there (get H.pending p) r.0 (pending_before C H e p r.0 r.1)
 
 none_there : (z : Option Marks) → ((m : Marks) → z ≡ Some m → ⊥) → z ≡ None
 none_there None f = refl

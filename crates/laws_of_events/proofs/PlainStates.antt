@@ -13,6 +13,7 @@ use Rattle.bm_base.proofs.Clusters.{node_is, is_on}
 use Rattle.laws_of_states.proofs.OrderlyStates.{calls_orderly}
 use Rattle.laws_of_events.proofs.PendingTargets.{still_to_come}
 use Rattle.laws_of_events.proofs.NoTransferToDraining.{node_off, none_sent_there}
+use Rattle.laws_of_events.proofs.ReportedMarks.{found_good}
 use Rattle.laws_of_events.specs.PlainWords as law
 
 alive_node : (C : Cluster) → IsLawfulCluster C → (s : ℕ) → contains_key C.storages s ≡ true → law.IsOnAliveNode C s
@@ -39,12 +40,6 @@ stray_is Stale never = refl
 stray_is Bad never = refl
 stray_is Stray never = absurd (never refl)
 
-good_is : (t : Tag) → is_good t ≡ true → t ≡ Good
-good_is Good e = refl
-good_is Stale e = cc
-good_is Bad e = cc
-good_is Stray e = cc
-
 undone : (a b : Bool) → a ≡ not b → a ≡ true → b ≡ false
 undone a true e h = absurd (true≢false (sym h ∙ e))
 undone a false e h = refl
@@ -68,7 +63,7 @@ plainly M L coming spares =
           λ k. record { block = block k; storage = sym storage k };
       stray_unknown = λ p m e stray. not_there (get M.holdings.blocks p.block) (undone (is_stray m.tag) (contains_key M.holdings.blocks p.block) (H.strays p m e) (ap is_stray stray));
       others_known = λ p m e never. redone (is_stray m.tag) (contains_key M.holdings.blocks p.block) (H.strays p m e) (stray_is m.tag never);
-      excess_good = λ p m e h. good_is m.tag (H.excess_is_good p m e h);
+      excess_good = λ p m e h. found_good m.tag (H.excess_is_good p m e h);
       transfers_known = H.pending_known;
       transfers_to_come = coming;
       nodes = L.cluster.few_nodes;

@@ -26,6 +26,7 @@ use Rattle.bm_base.proofs.ForEach.{Each, each_then}
 use Rattle.bm_base.proofs.MapEntries.{each_entry, get_here}
 use Rattle.bm_base.proofs.Clusters.{no_siblings}
 use Rattle.bm_parts.proofs.ReportedReplicas.{IsKept, IsPut, enter_origin, report_origin, stays_by}
+use Rattle.bm_parts.proofs.OneShard.{none_came, nothing_done}
 use Rattle.laws_of_events.proofs.ReportedMarks.{tag_where, reported_marks}
 use Rattle.laws_of_events.proofs.ReportedReplicas.{named_since, named_numbers, last_is, put_or, reported_here, reported_elsewhere}
 use Rattle.laws_of_events.specs.Reports as law
@@ -186,15 +187,6 @@ none_left p (x ∷ xs) h = ap (λ b. length (cond b (x ∷ filter p xs) (filter 
 none_counted : {X : Type 0} (p : X → Bool) (xs : List X) → Each (λ x. p x ≡ false) xs → count_by p xs ≡ 0
 none_counted p xs h = sym (length-filter p xs) ∙ none_left p xs h
 
-none_new : (m : Map by_replica Marks) → new_replicas m m ≡ 0
-unfolding new_replicas
-none_new m =
-    none_counted (λ e. not (contains_key m e.0)) (entries m) (each_then (λ e. get m e.0 ≡ Some e.1) (λ e. not (contains_key m e.0) ≡ false) (entries m) (each_entry m) (λ e is. ap (λ o. not (is_some o)) is))
-
-pub none_done : (G : Holdings) → done G G ≡ record { added = 0; removed = 0 }
-unfolding done
-none_done G = λ i. record { added = none_new G.replicas i; removed = none_new G.replicas i }
-
 same_answer : (M : State) (s : ℕ) (es : List Entry) → done_by (after_event M (FullReport s es)) (FullReport s es) ≡ done (report M.cluster M.holdings s (expanded es)) (report M.cluster (report M.cluster M.holdings s (expanded es)) s (expanded es))
 unfolding done_by after_event change_holdings change_cluster
 same_answer M s es = refl
@@ -206,7 +198,7 @@ held_again M s es = refl
 pub second_changes_nothing : law.second_report_changes_nothing
 second_changes_nothing M s es =
     let again = report_again M.cluster M.holdings s (expanded es) in
-    (held_again M s es ∙ again ∙ sym (held_report M s es), same_answer M s es ∙ ap (done (report M.cluster M.holdings s (expanded es))) again ∙ none_done (report M.cluster M.holdings s (expanded es)))
+    (held_again M s es ∙ again ∙ sym (held_report M s es), same_answer M s es ∙ ap (done (report M.cluster M.holdings s (expanded es))) again ∙ nothing_done (report M.cluster M.holdings s (expanded es)))
 
 -- Other nodes.
 

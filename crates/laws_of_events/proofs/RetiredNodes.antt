@@ -21,6 +21,7 @@ use Rattle.bm_parts.proofs.Storages.{storages_left}
 use Rattle.bm_parts.proofs.Deaths.{draining_elsewhere}
 use Rattle.laws_of_events.proofs.ListedReplicas.{stored_where, usable_marks, marks_usable, missing_is, is_missing}
 use Rattle.laws_of_events.specs.Draining as law
+use Rattle.laws_of_states.proofs.LiveAfterRound.{some_first}
 
 -- Draining storages.
 
@@ -34,11 +35,6 @@ second_fails : (a b : Bool) → (a && not b) ≡ false → a ≡ true → b ≡ 
 second_fails true true e h = refl
 second_fails true false e h = cc
 second_fails false b e h = cc
-
--- the first of some numbers is one of them
-first_has : (xs : List ℕ) → 1 ≤ length xs → (s : ℕ) × (has xs s ≡ true)
-first_has [] h = absurd (omega arith)
-first_has (x ∷ xs) h = (x, ap (λ b. b || has xs x) (eq-eqb x x refl))
 
 module _ (C : Cluster) (H : Holdings) (n : ℕ) where
   enough_is : (b : ℕ) (i : BlockInfo) → get H.blocks b ≡ Some i → has_enough_live C H b ≡ nat_le i.repl (length (live C H b))
@@ -140,7 +136,7 @@ module _ (C : Cluster) (H : Holdings) (n : ℕ) (retired : is_retired C H n ≡ 
   had_none L b i info never s m is usable true on =
       let some : i.repl ≤ length (live C H b) = enough C H n retired b s i m info on is usable in
       let wanted : 1 ≤ i.repl = (L.replicated b i info).0 in
-      let one = first_has (live C H b) (omega (arith, some, wanted)) in
+      let one = some_first (live C H b) (omega (arith, some, wanted)) in
       let k = stored_where (is_live_on (without_node C n)) left b one.0 (ap (λ xs. has xs one.0) (live_stays b) ∙ one.1) in
       never one.0 k.0 k.1 (and_parts (is_usable k.0) (not (is_draining (without_node C n) one.0)) k.2).0
   had_none L b i info never s m is usable false off = never s m (left_there b s off ∙ is) usable

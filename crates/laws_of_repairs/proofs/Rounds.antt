@@ -18,7 +18,7 @@ use Rattle.laws_of_states.proofs.LawfulRounds.{round_orderly}
 use Rattle.laws_of_states.proofs.MarkedReplicas.{after_marked}
 use Rattle.laws_of_rounds.specs.Levels.{need, AreOnOneRack, HasTwoRacks}
 use Rattle.laws_of_rounds.proofs.Needs.{short, level_unknown}
-use Rattle.laws_of_rounds.proofs.OneRack.{level_three}
+use Rattle.laws_of_rounds.proofs.OneRack.{level_three, second_there, two_apart, two_has}
 use Rattle.laws_of_rounds.proofs.MarkedRacks.{last_stays}
 use Rattle.laws_of_rounds.proofs.DeleteReasons.{live_before_is, leaves_enough}
 use Rattle.laws_of_rounds.proofs.NodeCommands.{same_rest}
@@ -60,22 +60,6 @@ no_other (Some VeryUnderReplicated) short bad = absurd (short (omega arith))
 no_other (Some Highest) short bad = absurd (short (omega arith))
 no_other (Some NoUsableReplica) short bad = absurd (short (omega arith))
 
-second_there : (x y : ℕ) (xs : List ℕ) → has (x ∷ y ∷ xs) y ≡ true
-second_there x y xs = elim (x == y) as (λ c. (c || ((y == y) || has xs y)) ≡ true) [ true ↦ refl | false ↦ or_left (y == y) (has xs y) (same_again y) ]
-
-two_apart : (x y : ℕ) (xs : List ℕ) → has_repeats (x ∷ y ∷ xs) ≡ false → x ≡ y → ⊥
-two_apart x y xs once e = by_test (has (y ∷ xs) x) refl once
-  where
-    by_test : (c : Bool) → has (y ∷ xs) x ≡ c → (c || has_repeats (y ∷ xs)) ≡ false → ⊥
-    by_test true f g = true≢false g
-    by_test false f g = true≢false (sym (or_left (y == x) (has xs x) (ap (λ z. z == x) (sym e) ∙ same_again x)) ∙ f)
-
--- a list without repeats and two elements of it
-two_of : (xs : List ℕ) → has_repeats xs ≡ false → 2 ≤ length xs → (a : ℕ) × (b : ℕ) × (has xs a ≡ true) × (has xs b ≡ true) × (a ≡ b → ⊥)
-two_of [] once h = absurd (omega arith)
-two_of (x ∷ []) once h = absurd (omega (arith, h))
-two_of (x ∷ y ∷ xs) once h = (x, y, or_left (x == x) (has (y ∷ xs) x) (same_again x), second_there x y xs, two_apart x y xs once)
-
 module _ (M : State) (O : IsOrderly M) (b : ℕ) (i : BlockInfo) (known : get M.holdings.blocks b ≡ Some i) (none : level M.cluster M.holdings b ≡ None) where
   abbrev N : State
   N = after_round M
@@ -103,7 +87,7 @@ module _ (M : State) (O : IsOrderly M) (b : ℕ) (i : BlockInfo) (known : get M.
       subst (AreOnOneRack M.cluster) (after_marked M b) (subst (λ C. AreOnOneRack C (live C N.holdings b)) (same_rest M).0 h.2) in
       let count = ap length (after_marked M b) in
       let wanted = h.0 in
-      let two = two_of (live_marked M b) (once_where (is_live_on M.cluster) (state_at_choice M).holdings b) (omega (arith, count, wanted, enough_after)) in
+      let two = two_has (live_marked M b) (once_where (is_live_on M.cluster) (state_at_choice M).holdings b) (omega (arith, count, wanted, enough_after)) in
       let rack_as : (s : ℕ) → has (live M.cluster M.holdings b) s ≡ true → rack_of M.cluster s ≡ rack_of M.cluster two.0 = λ s at.
       let v = last_stays M b s two.0 two.1 O (still_live M b s at) two.2 two.3 two.4 (one two.0 two.1 two.2 two.3) in
       sym v.2 ∙ one v.0 two.0 v.1 two.2 in

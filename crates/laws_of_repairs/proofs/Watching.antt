@@ -94,7 +94,6 @@ covers_leveled M xs covers b none = by_test (has_level M b) refl
 pub leveled_all : (M : State) (xs : List ℕ) → Covers M xs → (b : ℕ) → has (filter (has_level M) xs) b ≡ has_level M b
 leveled_all M xs covers b = has_filter (has_level M) xs b ∙ by_test (has xs b) refl
   where
-
     and_false : (a : Bool) → a ≡ false → (a && false) ≡ a
     and_false a e = ap (λ c. c && false) e ∙ sym e
 

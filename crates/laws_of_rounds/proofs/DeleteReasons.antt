@@ -20,6 +20,7 @@ use Rattle.laws_of_states.proofs.Surpluses.{kept_of, chosen_among}
 use Rattle.laws_of_states.proofs.MarkedReplicas.{marked_unmarked, marked_count, marked_is, after_marked, excess_known, unordered_dropped}
 use Rattle.laws_of_states.proofs.RoundCommands.{IsTested, deleted_is}
 use Rattle.laws_of_states.proofs.LiveAfterRound.{deleted_marks, marks_before, marks_started, remarked_excess, remarked, remarked_ordered, remarked_tag, surplus_of, weaker_kind}
+use Rattle.laws_of_states.proofs.LawfulRounds.{cleared_excess}
 
 pub may_be_deleted : (M : State) (q : ReplicaId) → IsTested M q → MayBeDeleted M q
 may_be_deleted M q h =
@@ -73,17 +74,13 @@ surplus_good M b s n found h =
     (sym (ap (λ o. option_map_or (is_live_on M.cluster s) o false) (marks_unmarked M (replica_at b s) ∙ ap (option_map unordered_dropped) found))
     ∙ sym (has_where (is_live_on M.cluster) (unmarked M).holdings b s) ∙ surplus_live M b s h))
 
-dropped_excess : (o : Bool) (m : Marks) → (if o then m else record m { excess = false }).excess ≡ true → m.excess ≡ true
-dropped_excess true m e = e
-dropped_excess false m e = absurd (false≢true e)
-
 -- in a lawful state, a replica that is in excess once a round has marked is good
 excess_good : (M : State) (q : ReplicaId) (n : Marks) → IsOrderly M → get M.holdings.replicas q ≡ Some n → (remarked (surplus_of M q.block) q.storage n).excess ≡ true → is_good n.tag ≡ true
 excess_good M q n lawful found e = by_choice (has (surplus_of M q.block) q.storage) refl e
   where
     by_choice : (c : Bool) → has (surplus_of M q.block) q.storage ≡ c → (if c then record (unordered_dropped n) { excess = true } else unordered_dropped n).excess ≡ true → is_good n.tag ≡ true
     by_choice true h f = surplus_good M q.block q.storage n found h
-    by_choice false h f = lawful.holdings.excess_is_good q n found (dropped_excess n.ordered n f)
+    by_choice false h f = lawful.holdings.excess_is_good q n found (cleared_excess n.ordered n f)
 
 corrupt_only : (tag : Tag) (excess enough : Bool) → is_corrupt tag ≡ true → (excess ≡ true → is_good tag ≡ true)
     → (is_stray tag ≡ true) ⊎ ((excess ≡ true) ⊎ ((is_corrupt tag ≡ true) × (enough ≡ true))) → enough ≡ true

@@ -29,6 +29,7 @@ use Rattle.laws_of_rounds.proofs.UsableReplicas.{live_once}
 use Rattle.laws_of_rounds.proofs.DuringObedience.{IsUsable, HasSameBlocks, get_copied, get_without, same_after_copy, same_after_erasure, same_after_round, live_now, live_usable, stays_live, target_elsewhere, through}
 use Rattle.laws_of_rounds.proofs.LiveTargets.{target_live}
 use Rattle.laws_of_rounds.proofs.DistinctTargets.{OfTwo, GoApart, commanded_apart}
+use Rattle.laws_of_rounds.proofs.TransferLaws.{any_at}
 
 -- Lists without repeats.
 
@@ -78,15 +79,11 @@ one_target ts b s h =
     let one = any_chosen (λ (t : Transfer). (t.block == b) && (t.target == s)) ts (sym (has_target ts b s) ∙ h) in
     (one.0, one.1, eqb-true one.0.block b (and_first (one.0.block == b) (one.0.target == s) one.2), eqb-true one.0.target s (and_second (one.0.block == b) (one.0.target == s) one.2))
 
-any_among : {X : Type 0} (p : X → Bool) (front back : List X) (x : X) → p x ≡ true → list_any p (front ++ x ∷ back) ≡ true
-any_among p [] back x e = or_left (p x) (list_any p back) e
-any_among p (y ∷ front) back x e = or_right (p y) (list_any p (front ++ x ∷ back)) (any_among p front back x e)
-
 target_among : (ts : List Transfer) (t : Transfer) → IsAmong ts t → has (block_targets ts t.block) t.target ≡ true
 target_among ts t at =
     has_target ts t.block t.target
     ∙ ap (list_any (λ (u : Transfer). (u.block == t.block) && (u.target == t.target))) at.2
-    ∙ any_among (λ (u : Transfer). (u.block == t.block) && (u.target == t.target)) at.0 at.1 t (and_from (t.block == t.block) (t.target == t.target) (same_again t.block) (same_again t.target))
+    ∙ any_at (λ (u : Transfer). (u.block == t.block) && (u.target == t.target)) at.0 at.1 t (and_from (t.block == t.block) (t.target == t.target) (same_again t.block) (same_again t.target))
 
 -- Nothing else becomes usable.
 

@@ -22,7 +22,7 @@ use Rattle.bm_base.proofs.Options.{revised}
 use Rattle.laws_of_states.proofs.MarkedReplicas.{ordered_by}
 use Rattle.laws_of_states.proofs.AfterRound.{marks_after}
 use Rattle.laws_of_rounds.proofs.DeleteReasons.{not_ordered}
-use Rattle.laws_of_rounds.proofs.TransferLaws.{fresh_node}
+use Rattle.laws_of_rounds.proofs.TransferLaws.{fresh_node, any_at}
 
 -- Members of a list.
 
@@ -135,10 +135,6 @@ pending_started M q r e young =
     ∙ ap (option_and_then (λ t. cond (not (nat_le M.limits.pend ((M.round + 1) - t))) (Some t) None)) e
     ∙ ap (λ b. cond (not b) (Some r) None) (lt-leb M.limits.pend ((M.round + 1) - r) young)
 
-any_among : {X : Type 0} (p : X → Bool) (front back : List X) (x : X) → p x ≡ true → list_any p (front ++ x ∷ back) ≡ true
-any_among p [] back x e = or_left (p x) (list_any p back) e
-any_among p (y ∷ front) back x e = or_right (p y) (list_any p (front ++ x ∷ back)) (any_among p front back x e)
-
 replica_again : (k : ReplicaId) → eq_by_cmp replica_cmp k k ≡ true
 replica_again k = replica_tie k k ∙ ap (λ b. b && (k.storage == k.storage)) (same_again k.block) ∙ same_again k.storage
 
@@ -146,7 +142,7 @@ pub pending_now : (M : State) (t : Transfer) → IsAmong (transfers_chosen M) t 
 pending_now M t at =
     pending_after M (key_of t)
     ∙ ap (λ b. cond b (Some (M.round + 1)) (get (state_at_choice M).holdings.pending (key_of t)))
-    (ap (list_any (λ u. eq_by_cmp replica_cmp (key_of t) (key_of u))) at.2 ∙ any_among (λ u. eq_by_cmp replica_cmp (key_of t) (key_of u)) at.0 at.1 t (replica_again (key_of t)))
+    (ap (list_any (λ u. eq_by_cmp replica_cmp (key_of t) (key_of u))) at.2 ∙ any_at (λ u. eq_by_cmp replica_cmp (key_of t) (key_of u)) at.0 at.1 t (replica_again (key_of t)))
 
 -- while a transfer is pending, no transfer of its block is chosen to its target's node
 pub none_chosen : (M : State) (q : ReplicaId) (r : ℕ) (u : Transfer) → get M.holdings.pending q ≡ Some r → (M.round + 1) - r < M.limits.pend → IsAmong (transfers_chosen M) u

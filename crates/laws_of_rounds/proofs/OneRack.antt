@@ -22,6 +22,7 @@ use Rattle.laws_of_rounds.proofs.RequestedCopies.{badly_counted}
 use Rattle.laws_of_rounds.proofs.NodeCommands.{among_map, has_among, passing_there}
 use Rattle.bm_base.proofs.Options.{there}
 use Rattle.laws_of_rounds.proofs.DeferredDeletes.{among_found}
+use Rattle.laws_of_states.proofs.LiveAfterRound.{some_first}
 
 -- Lists without repeats.
 
@@ -34,10 +35,10 @@ one_has (x ∷ []) a b h e f = sym (eqb-true x a (alone (x == a) e)) ∙ eqb-tru
     alone false g = g
 one_has (x ∷ y ∷ xs) a b h e f = absurd (omega (arith, h))
 
-second_there : (x y : ℕ) (xs : List ℕ) → has (x ∷ y ∷ xs) y ≡ true
+pub second_there : (x y : ℕ) (xs : List ℕ) → has (x ∷ y ∷ xs) y ≡ true
 second_there x y xs = elim (x == y) as (λ c. (c || ((y == y) || has xs y)) ≡ true) [ true ↦ refl | false ↦ or_left (y == y) (has xs y) (same_again y) ]
 
-two_apart : (x y : ℕ) (xs : List ℕ) → has_repeats (x ∷ y ∷ xs) ≡ false → x ≡ y → ⊥
+pub two_apart : (x y : ℕ) (xs : List ℕ) → has_repeats (x ∷ y ∷ xs) ≡ false → x ≡ y → ⊥
 two_apart x y xs once e = by_test (has (y ∷ xs) x) refl once
   where
     by_test : (c : Bool) → has (y ∷ xs) x ≡ c → (c || has_repeats (y ∷ xs)) ≡ false → ⊥
@@ -53,7 +54,7 @@ one_of_all [] once all h = absurd (omega arith)
 one_of_all (x ∷ []) once all h = omega arith
 one_of_all (x ∷ y ∷ xs) once all h = absurd (two_apart x y xs once (all x y (or_left (x == x) (has (y ∷ xs) x) (same_again x)) (second_there x y xs)))
 
-two_has : (xs : List ℕ) → has_repeats xs ≡ false → 2 ≤ length xs → (a : ℕ) × (b : ℕ) × (has xs a ≡ true) × (has xs b ≡ true) × (a ≡ b → ⊥)
+pub two_has : (xs : List ℕ) → has_repeats xs ≡ false → 2 ≤ length xs → (a : ℕ) × (b : ℕ) × (has xs a ≡ true) × (has xs b ≡ true) × (a ≡ b → ⊥)
 two_has [] once h = absurd (omega arith)
 two_has (x ∷ []) once h = absurd (omega (arith, h))
 two_has (x ∷ y ∷ xs) once h = (x, y, or_left (x == x) (has (y ∷ xs) x) (same_again x), second_there x y xs, two_apart x y xs once)
@@ -157,10 +158,6 @@ live_rack M b s lawful h =
     let storage = there (get M.cluster.storages s) (lawful.holdings.stored (replica_at b s) known) in
     let node = there (get M.cluster.nodes storage.0.node) (lawful.cluster.alive s storage.0 storage.1) in
     (node.0, ap (λ o. option_and_then (λ n. get M.cluster.nodes n) (option_map (λ i. i.node) o)) storage.1 ∙ node.1)
-
-some_first : (xs : List ℕ) → 1 ≤ length xs → (s : ℕ) × (has xs s ≡ true)
-some_first [] h = absurd (omega arith)
-some_first (x ∷ xs) h = (x, or_left (x == x) (has xs x) (same_again x))
 
 pub level_three : (M : State) (b : ℕ) (i : BlockInfo) → IsOrderly M → get M.holdings.blocks b ≡ Some i
     → (level M.cluster M.holdings b ≡ Some BadlyDistributed)

@@ -305,7 +305,7 @@ excluded_target H front b s e =
     list_any-append (λ y. y == s) (storages_where (λ _ _. true) H b ++ pending_targets H b) (targets_of front b)
     ∙ or_right (has (storages_where (λ _ _. true) H b ++ pending_targets H b) s) (has (targets_of front b) s) e
 
-any_at : {X : Type 0} (p : X → Bool) (front back : List X) (x : X) → p x ≡ true → list_any p (front ++ x ∷ back) ≡ true
+pub any_at : {X : Type 0} (p : X → Bool) (front back : List X) (x : X) → p x ≡ true → list_any p (front ++ x ∷ back) ≡ true
 any_at p [] back x e = or_left (p x) (list_any p back) e
 any_at p (y ∷ front) back x e = or_right (p y) (list_any p (front ++ x ∷ back)) (any_at p front back x e)
 

@@ -45,7 +45,7 @@ pub cleared_tag : (b : Bool) (m : Marks) → (if b then m else record m { excess
 cleared_tag true m = refl
 cleared_tag false m = refl
 
-cleared_excess : (b : Bool) (m : Marks) → (if b then m else record m { excess = false }).excess ≡ true → m.excess ≡ true
+pub cleared_excess : (b : Bool) (m : Marks) → (if b then m else record m { excess = false }).excess ≡ true → m.excess ≡ true
 cleared_excess true m e = e
 cleared_excess false m e = cc
 

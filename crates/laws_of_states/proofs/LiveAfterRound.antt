@@ -145,7 +145,7 @@ live_stays M b t there h =
     live_is_kept is.0.tag is.0.excess (and_first (is_usable is.0) (not (is_draining M.cluster t)) live_mark) (weaker_kind is.0 (has_enough_live M.cluster (state_at_choice M).holdings b) marks.1)
 
 -- a list that is not empty has a member
-some_first : (xs : List ℕ) → 1 ≤ length xs → (t : ℕ) × (has xs t ≡ true)
+pub some_first : (xs : List ℕ) → 1 ≤ length xs → (t : ℕ) × (has xs t ≡ true)
 some_first [] h = absurd (omega arith)
 some_first (x ∷ xs) h = (x, or_left (x == x) (has xs x) (same_again x))
 

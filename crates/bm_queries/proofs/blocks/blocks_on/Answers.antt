@@ -5,8 +5,9 @@ use Rattle.std.proofs.lemmas.List.{map-append}
 use Rattle.bm_arena.specs.Contents.{Contents, list_of, IsLawful}
 use Rattle.bm_arena.specs.HeldMaps.{id_at}
 use Rattle.bm_queries.proofs.IndexedSlots.{IsOwn}
-use Rattle.bm_queries.proofs.OwnBlocks.{among_turn, same_map, own_listed, answered_id}
+use Rattle.bm_queries.proofs.OwnBlocks.{among_turn, own_listed, answered_id}
 use Rattle.bm_queries.proofs.OnStorage.{on_storage}
+use Rattle.bm_parts.proofs.JoinedBlocks.{map_same}
 use Rattle.bm_queries.proofs.blocks.blocks_on.Goals as goal
 
 own_turn : (c : goal.After-ids-1) → IsOwn c.args.blocks.now.arena c.in-Some.slot
@@ -42,6 +43,6 @@ returns-clause-blocks c pending =
     let all = list_of v.arena c.args.storage in
     let road = YieldsList-from_first (λ (x : ℕ). x) (λ (rest : List ℕ). rest) all (c.into_iter-slot-iterator.ensures.into_iter_gives ∙ c.walk-slot-items.ensures ∙ ap (λ (a : Contents). list_of a c.args.storage) c.arena-arena.ensures) in
     let end = YieldsList-end road c.loop-slot.yielded _ c.loop-slot.yielded_by _ _ c.in-None.is c.next.ensures.steps in
-    let ids : c.loop-slot.ids.items ≡ map (id_at v.arena) all = c.loop-slot.invariant ∙ (λ i. map (id_at (c.arena-arena.ensures i)) (sym (same_map c.loop-slot.yielded) i)) ∙ ap (map (id_at v.arena)) end.0 in
+    let ids : c.loop-slot.ids.items ≡ map (id_at v.arena) all = c.loop-slot.invariant ∙ (λ i. map (id_at (c.arena-arena.ensures i)) (sym (map_same c.loop-slot.yielded) i)) ∙ ap (map (id_at v.arena)) end.0 in
     let P : List ℕ → Type 0 = λ xs. IsPermutation xs c.sort.new.self.items in
     c.from_vec.ensures ∙ on_storage v lawful c.show_invariant.ensures pending c.args.storage c.sort.new.self.items (subst P ids c.sort.ensures.permutation) c.in_ok-sort.ensures.sorted

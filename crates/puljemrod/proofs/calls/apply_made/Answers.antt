@@ -1,11 +1,11 @@
 use Rattle.std.proofs.Common.{◌≡◌, inl, refl, sym, ◌∙◌}
 use Rattle.puljemrod.proofs.Listed.{listed}
-use Rattle.puljemrod.proofs.Somes.{some_of}
+use Rattle.bm_base.proofs.Options.{there}
 use Rattle.puljemrod.proofs.calls.apply_made.Goals as goal
 
 pub returns-in-Err : goal.returns-in-Err
 returns-in-Err c = λ e none.
-    let kept = some_of c.args.slot.now.handle.kept (sym c.args.slot.now.open_if_kept ∙ c.if-slot.true) in
+    let kept = there c.args.slot.now.handle.kept (sym c.args.slot.now.open_if_kept ∙ c.if-slot.true) in
     rw kept.1 (kept.0, refl, inl (refl, refl))
 
 pub returns-in-Ok : goal.returns-in-Ok

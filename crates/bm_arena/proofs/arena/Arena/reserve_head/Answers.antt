@@ -3,8 +3,9 @@ use Rattle.std.proofs.Common.{sym, refl, ◌∙◌, ◌+◌, None}
 use Rattle.std.specs.Prelude.{nat_eq}
 use Rattle.std.proofs.lemmas.Bool.{false≢true}
 use Rattle.indexmap.proofs.CallerLemmas.{insert_entry-new}
-use Rattle.bm_arena.proofs.Heads.{head-seen, no_lookup, enlarged-arena, enlarged-kept, headed-arena, headed-here, headed-kept, headed-named, enlarged-named}
+use Rattle.bm_arena.proofs.Heads.{head-seen, enlarged-arena, enlarged-kept, headed-arena, headed-here, headed-kept, headed-named, enlarged-named}
 use Rattle.bm_arena.proofs.Bounds.{below-changed}
+use Rattle.bm_base.proofs.Options.{not_there}
 use Rattle.bm_arena.proofs.arena.Arena.reserve_head.Goals as goal
 
 pub returns-then-contains_key-clause-head : goal.returns-then-contains_key-clause-head
@@ -39,7 +40,7 @@ pub invariant_of-self-2 : goal.invariant_of-self-2
 invariant_of-self-2 c =
     record {
       arena =
-          headed-arena c.self.inside.slots c.reserve_triplets.new.slots c.self.inside.ids c.self.inside.heads.entries c.self.inside.delimiter c.reserve_triplets.ensures.rest c.reserve_triplets.ensures.grows c.self.invariant.arena c.self.inside.steps c.self.inside.bound c.storage.inside.0 (no_lookup _ (sym c.contains_key.ensures ∙ c.if-contains_key.false)) c.insert.new.self.entries (c.in_ok-insert.ensures.entries ∙ insert_entry-new nat_eq c.self.inside.heads c.storage.inside.0 None (no_lookup _ (sym c.contains_key.ensures ∙ c.if-contains_key.false)))
+          headed-arena c.self.inside.slots c.reserve_triplets.new.slots c.self.inside.ids c.self.inside.heads.entries c.self.inside.delimiter c.reserve_triplets.ensures.rest c.reserve_triplets.ensures.grows c.self.invariant.arena c.self.inside.steps c.self.inside.bound c.storage.inside.0 (not_there _ (sym c.contains_key.ensures ∙ c.if-contains_key.false)) c.insert.new.self.entries (c.in_ok-insert.ensures.entries ∙ insert_entry-new nat_eq c.self.inside.heads c.storage.inside.0 None (not_there _ (sym c.contains_key.ensures ∙ c.if-contains_key.false)))
           c.insert.ensures.unique c.len-capacity.result (c.len-capacity.result + 1) c.len-capacity.ensures.len refl c.in_ok-reserve_triplets.ensures.capacity;
       bounded = below-changed _ c.self.inside.slots c.reserve_triplets.new.slots c.self.inside.delimiter c.self.inside.bound c.reserve_triplets.ensures.rest c.self.invariant.bounded;
     }
@@ -47,12 +48,12 @@ invariant_of-self-2 c =
 pub returns-clause-head : goal.returns-clause-head
 returns-clause-head c =
     rw (← c.storage.view_is)
-    (headed-here c.self.inside.slots c.reserve_triplets.new.slots c.self.inside.ids c.self.inside.heads.entries c.self.inside.delimiter c.reserve_triplets.ensures.rest c.reserve_triplets.ensures.grows c.self.invariant.arena c.self.inside.steps c.self.inside.bound c.storage.inside.0 (no_lookup _ (sym c.contains_key.ensures ∙ c.if-contains_key.false)) c.insert.new.self.entries (c.in_ok-insert.ensures.entries ∙ insert_entry-new nat_eq c.self.inside.heads c.storage.inside.0 None (no_lookup _ (sym c.contains_key.ensures ∙ c.if-contains_key.false))))
+    (headed-here c.self.inside.slots c.reserve_triplets.new.slots c.self.inside.ids c.self.inside.heads.entries c.self.inside.delimiter c.reserve_triplets.ensures.rest c.reserve_triplets.ensures.grows c.self.invariant.arena c.self.inside.steps c.self.inside.bound c.storage.inside.0 (not_there _ (sym c.contains_key.ensures ∙ c.if-contains_key.false)) c.insert.new.self.entries (c.in_ok-insert.ensures.entries ∙ insert_entry-new nat_eq c.self.inside.heads c.storage.inside.0 None (not_there _ (sym c.contains_key.ensures ∙ c.if-contains_key.false))))
 
 pub returns-clause-kept : goal.returns-clause-kept
 returns-clause-kept c =
     rw (← c.self.view_is)
-    (headed-kept c.self.inside.slots c.reserve_triplets.new.slots c.self.inside.ids c.self.inside.heads.entries c.self.inside.delimiter c.reserve_triplets.ensures.rest c.reserve_triplets.ensures.grows c.self.invariant.arena c.self.inside.steps c.self.inside.bound c.storage.inside.0 (no_lookup _ (sym c.contains_key.ensures ∙ c.if-contains_key.false)) c.insert.new.self.entries (c.in_ok-insert.ensures.entries ∙ insert_entry-new nat_eq c.self.inside.heads c.storage.inside.0 None (no_lookup _ (sym c.contains_key.ensures ∙ c.if-contains_key.false))))
+    (headed-kept c.self.inside.slots c.reserve_triplets.new.slots c.self.inside.ids c.self.inside.heads.entries c.self.inside.delimiter c.reserve_triplets.ensures.rest c.reserve_triplets.ensures.grows c.self.invariant.arena c.self.inside.steps c.self.inside.bound c.storage.inside.0 (not_there _ (sym c.contains_key.ensures ∙ c.if-contains_key.false)) c.insert.new.self.entries (c.in_ok-insert.ensures.entries ∙ insert_entry-new nat_eq c.self.inside.heads c.storage.inside.0 None (not_there _ (sym c.contains_key.ensures ∙ c.if-contains_key.false))))
 
 pub returns-then-contains_key-clause-lawful : goal.returns-then-contains_key-clause-lawful
 returns-then-contains_key-clause-lawful c = rw (← c.self.view_is) (IsLawful-arena c.self.inside.slots _ _ _ _ c.self.invariant _)
@@ -76,7 +77,7 @@ returns-in_err-insert-clause-named c q differs some =
 
 pub returns-clause-named : goal.returns-clause-named
 returns-clause-named c q differs some =
-    let absent = no_lookup _ (sym c.contains_key.ensures ∙ c.if-contains_key.false) in
+    let absent = not_there _ (sym c.contains_key.ensures ∙ c.if-contains_key.false) in
     let other = rw (← c.storage.view_is) at differs in
     rw (← c.self.view_is)
     (headed-named c.self.inside.slots c.reserve_triplets.new.slots c.self.inside.ids c.self.inside.heads.entries c.self.inside.delimiter c.reserve_triplets.ensures.rest c.reserve_triplets.ensures.grows c.self.invariant.arena c.self.inside.steps c.self.inside.bound c.storage.inside.0 absent c.insert.new.self.entries (c.in_ok-insert.ensures.entries ∙ insert_entry-new nat_eq c.self.inside.heads c.storage.inside.0 None absent) q other some)
