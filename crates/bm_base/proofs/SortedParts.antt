@@ -24,6 +24,7 @@ use Rattle.bm_base.specs.declared.round.Wish.{Wish}
 use Rattle.bm_base.specs.Ordered.{pair_cmp}
 use Rattle.bm_base.specs.RoundParts.{wish_of, wish_at, wishes_by_block, deletable, wish_key, delete_key}
 use Rattle.bm_base.proofs.ForEach.{Each}
+use Rattle.bm_base.proofs.Orderings.{lesser_block}
 
 -- The fields of a wish that exists.
 
@@ -142,17 +143,6 @@ wishes_ascend C H =
     (Highest ∷ VeryUnderReplicated ∷ UnderReplicated ∷ BadlyDistributed ∷ []) tt
 
 -- Deletes are ascending.
-
--- of two replicas on one storage the lesser is of the lesser block
-pub lesser_block : (p q : ReplicaId) → p.storage ≡ q.storage → T (is_lt (replica_cmp p q)) → T (is_lt (nat_cmp p.block q.block))
-lesser_block p q same h =
-    let tied : nat_cmp p.storage q.storage ≡ Equal = ap (λ x. nat_cmp p.storage x) (sym same) ∙ tied_itself nat_cmp_total p.storage in
-    by (nat_cmp p.block q.block) (nat_cmp p.storage q.storage) tied h
-  where
-    by : (r t : Ordering) → t ≡ Equal → T (is_lt (ordering_then r t)) → T (is_lt r)
-    by Less t e g = tt
-    by Equal t e g = subst (λ u. T (is_lt u)) e g
-    by Greater t e g = absurd g
 
 module _ (C : Cluster) (H : Holdings) (s : ℕ) where
   abbrev made_delete : ReplicaId × Marks → Delete

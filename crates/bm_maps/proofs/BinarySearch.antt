@@ -10,11 +10,7 @@ use Rattle.std.proofs.lemmas.List.{get_or-take, get_or-drop, length-drop, length
 use Rattle.bm_base.specs.Maps.Conjunction.{both, first, second}
 use Rattle.bm_maps.specs.KeyIndex.{key_index, distance_to}
 use Rattle.bm_base.proofs.MapLaws.{find_below}
-
-less : (r : Ordering) → T (is_lt r) → r ≡ Less
-less Less h = refl
-less Equal h = absurd h
-less Greater h = absurd h
+use Rattle.bm_base.proofs.Orderings.{is_less}
 
 greater : (r : Ordering) → is_gt r ≡ true → r ≡ Greater
 greater Less h = cc
@@ -38,7 +34,7 @@ module _ {K X : Type 0} (R : K → K → Ordering) (o : IsTotalOrder R) where
   -- a key below all keys of a list is below each of them
   below_there : (x : K) (es : List (K × X)) (i : ℕ) (d : K × X) → T (below_all R x es) → i < length es → R x (get_or es i d).0 ≡ Less
   below_there x [] i d h lt = absurd (omega (arith, lt))
-  below_there x (e ∷ es) zero d h lt = less _ (first _ _ h)
+  below_there x (e ∷ es) zero d h lt = is_less _ (first _ _ h)
   below_there x (e ∷ es) (suc i) d h lt = below_there x es i d (second _ _ h) (omega (arith, lt))
 
   -- an entry that the key is greater than is before the key's index
@@ -136,7 +132,7 @@ module _ {K X : Type 0} (R : K → K → Ordering) (o : IsTotalOrder R) where
   below_further : (k x : K) (es : List (K × X)) → R k x ≡ Less → T (below_all R x es) → T (below_all R k es)
   below_further k x [] p h = tt
   below_further k x (e ∷ es) p h =
-      both _ _ (subst (λ r. T (is_lt r)) (sym (o.trans k x e.0 p (less _ (first _ _ h)))) tt) (below_further k x es p (second _ _ h))
+      both _ _ (subst (λ r. T (is_lt r)) (sym (o.trans k x e.0 p (is_less _ (first _ _ h)))) tt) (below_further k x es p (second _ _ h))
 
   pub find_index : (k : K) (es : List (K × X)) (d : K × X) → key_index R k es < length es → R k (get_or es (key_index R k es) d).0 ≡ Equal → find R k es ≡ Some (get_or es (key_index R k es) d).1
   find_index k [] d lt is = absurd (omega (arith, lt))

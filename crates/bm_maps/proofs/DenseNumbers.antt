@@ -11,14 +11,12 @@ use Rattle.bm_base.specs.Maps.Conjunction.{first, second}
 use Rattle.bm_maps.specs.KeyIndex.{key_index, distance_to}
 use Rattle.bm_maps.proofs.PutLaws.{key_index-le}
 use Rattle.bm_maps.proofs.BinarySearch.{index_behind, index_before}
+use Rattle.bm_base.proofs.Orderings.{less_number}
 
 less_by : (a b : ℕ) (lt eq : Bool) → nat_lt a b ≡ lt → T (is_lt (cond lt Less (cond eq Equal Greater))) → a < b
 less_by a b true eq is h = ltb-true a b is
 less_by a b false true is h = absurd h
 less_by a b false false is h = absurd h
-
-less : (a b : ℕ) → T (is_lt (nat_cmp a b)) → a < b
-less a b h = less_by a b (nat_lt a b) (a == b) refl h
 
 -- what the order of two numbers implies
 abbrev OrderImplies : ℕ → ℕ → Ordering → Type 0
@@ -51,7 +49,7 @@ module _ {X : Type 0} where
       ] (order_implies k e.0)
   index_upto k e (f ∷ fs) h =
       let rest : key_index nat_cmp k (f ∷ fs) ≤ k - f.0 = index_upto k f fs (second _ _ h) in
-      let rise : e.0 < f.0 = less e.0 f.0 (first _ _ (first _ _ h)) in
+      let rise : e.0 < f.0 = less_number e.0 f.0 (first _ _ (first _ _ h)) in
       elim (nat_cmp k e.0) as (λ r. OrderImplies k e.0 r → distance_to r (key_index nat_cmp k (f ∷ fs)) ≤ k - e.0) [
         | Less ↦ λ b. omega arith
         | Equal ↦ λ b. omega arith
@@ -62,7 +60,7 @@ module _ {X : Type 0} where
   spread e [] d h = omega arith
   spread e (f ∷ fs) d h =
       let rest : length fs + f.0 ≤ (get_or (f ∷ fs) (length fs) d).0 = spread f fs d (second _ _ h) in
-      let rise : e.0 < f.0 = less e.0 f.0 (first _ _ (first _ _ h)) in
+      let rise : e.0 < f.0 = less_number e.0 f.0 (first _ _ (first _ _ h)) in
       omega (arith, rest, rise)
 
   pub index_from : (k : ℕ) (e : ℕ × X) (es : List (ℕ × X)) (d : ℕ × X) → T (is_sorted nat_cmp (e ∷ es)) → k ≤ (get_or (e ∷ es) (length es) d).0

@@ -19,7 +19,7 @@ use Rattle.bm_parts.proofs.Filters.{filter_swap, map_filter, filter_all}
 use Rattle.std.proofs.lemmas.List.Folds.{flat_map-map}
 use Rattle.bm_parts.proofs.CutParts.{replicas_cut}
 use Rattle.bm_parts.proofs.WholeChoices.{flat_map_same}
-use Rattle.bm_base.proofs.SortedParts.{lesser_block}
+use Rattle.bm_base.proofs.Orderings.{lesser_block}
 
 -- Results for sorted entries, each with its entry's key, are sorted.
 module _ {K X Y : Type 0} (R : K → K → Ordering) (f : K × X → Y) (p : K × X → Bool) (key : Y → K) (is : (e : K × X) → key (f e) ≡ e.0) where

@@ -3,7 +3,7 @@
 use Rattle.std.proofs.Common.{◌≡◌, ℕ, Bool, true, false, not, ◌&&◌, Some, None, is_some, IsTrue, List, [], ◌∷◌, refl, sym, ap, subst, ◌∙◌, ◌⊎◌, inl, inr, eqb-true}
 use Rattle.std.specs.Prelude.{◌==◌, if◌then◌else◌}
 use Rattle.std.specs.Ordering.{eq_by_cmp, nat_cmp}
-use Rattle.std.proofs.lemmas.Bool.{and_parts, false≢true, true≢false, not-true, not_from_false, not-false}
+use Rattle.std.proofs.lemmas.Bool.{and_parts, false≢true, not-true, not_from_false, not-false}
 use Rattle.bm_base.specs.declared.event.Event.TheVariants.{Register, Dead, StorageFailed, Heartbeat, Drain, Undrain, AddBlock, DeleteBlock, SetReplication, Restamp, Received, Deleted, Corrupt, FullReport}
 use Rattle.bm_base.specs.declared.event.Remaining.{Remaining}
 use Rattle.bm_base.specs.declared.refusal.Refusal.{Refusal}
@@ -11,7 +11,7 @@ use Rattle.bm_base.specs.declared.refusal.Refusal.TheVariants.{TooMany, UnknownS
 use Rattle.bm_base.specs.declared.replica.ReplicaId.{ReplicaId}
 use Rattle.bm_base.specs.declared.replica.Marks.{Marks}
 use Rattle.bm_base.specs.declared.replica.Stamp.{Stamp}
-use Rattle.bm_base.specs.Words.{by_number, get, keep, revise, revise_at, contains_key, Cluster, Holdings, replica_at, replica_cmp, has, node_of, has_storage, is_good, are_siblings, ReportedBlock, expanded, register, heartbeat, without_node, without_storage, drain, undrain, without_storages, begin_drain, replaces, enter, is_named, leaves_by_report, report, without_pending, change_marks_of_block, add_block, delete_block, set_replication, restamp, make_bad, remove_replica, as_stray, as_restamped, as_bad, change_cluster, change_holdings, without_expired, without_unordered_excess, excess_in, with_surplus_marked, end_round, is_commanded, first_of, cluster_checks, knows_storage, is_too_long}
+use Rattle.bm_base.specs.Words.{get, keep, revise, revise_at, contains_key, Cluster, Holdings, replica_at, replica_cmp, has, node_of, has_storage, is_good, are_siblings, ReportedBlock, expanded, register, heartbeat, without_node, without_storage, drain, undrain, without_storages, begin_drain, replaces, enter, is_named, leaves_by_report, report, without_pending, change_marks_of_block, add_block, delete_block, set_replication, restamp, make_bad, remove_replica, as_stray, as_restamped, as_bad, change_cluster, change_holdings, without_expired, without_unordered_excess, excess_in, with_surplus_marked, end_round, is_commanded, first_of, cluster_checks, knows_storage, is_too_long}
 use Rattle.bm_base.specs.Shards.{shard_of}
 use Rattle.bm_base.specs.RoundParts.{holdings_at_choice, own_transfers, own_deletes}
 use Rattle.bm_base.proofs.MapLaws.{get-remove}
@@ -20,7 +20,7 @@ use Rattle.bm_base.proofs.Ties.{number_tie}
 use Rattle.bm_base.proofs.Checks.{first_fails}
 use Rattle.bm_base.proofs.Options.{there, is_there, not_taken}
 use Rattle.bm_base.proofs.ForEach.{each_mapped, each_then, none_passes}
-use Rattle.bm_base.proofs.MapEntries.{Holds, same_key, get_kept, get_revised, get_removed, known_revised, get_insert_all_elsewhere}
+use Rattle.bm_base.proofs.MapEntries.{Holds, get_kept, get_revised, get_removed, known_revised, get_insert_all_elsewhere}
 use Rattle.bm_base.proofs.Clusters.{same_node, as_known, same_siblings, siblings_turned, no_sibling_itself}
 use Rattle.bm_base.proofs.ClusterEvents.{IsRegistrable, registrable, fresh, same_nodes}
 use Rattle.bm_parts.proofs.RemainingHoldings.{drained_replicas, other_key}

@@ -11,9 +11,9 @@ use Rattle.std.specs.Cmp.{nat_eq_equiv}
 use Rattle.std.proofs.lemmas.Map.Entries.{lookup-filter-values, option_filter}
 use Rattle.std.proofs.Common.{refl, sym, ap, subst, ◌∙◌, arith, eqb-true, true≢false}
 use Rattle.std.proofs.lemmas.List.{nil_from_length}
-use Rattle.std.proofs.lemmas.List.Sums.{length-filter, count_by-le-length}
 use Rattle.std.proofs.lemmas.Map.Made.{lookup-map_values, is_some-lookup}
 use Rattle.bm_base.proofs.Options.{not_there}
+use Rattle.bm_base.proofs.Slices.{filter_shorter}
 use Rattle.bm_pending.specs.Inside.{PendingTargets, targets_at, capacity_left, capacity_at}
 
 abbrev pub items_or : Option PendingTargets → List (ℕ × ℕ)
@@ -62,12 +62,9 @@ module _ (es : List (ℕ × PendingTargets)) (b : ℕ) where
       by true e = let empty : targets_at es q ≡ [] = ap (targets_at es) (sym (eqb-true b q e)) ∙ ap items_or none in empty ∙ sym (ap f empty ∙ nothing)
       by false e = refl
 
-fewer : {X : Type 0} (p : X → Bool) (xs : List X) → length (filter p xs) ≤ length xs
-fewer p xs = omega (arith, length-filter p xs, count_by-le-length p xs)
-
 -- removing targets keeps at least the spare capacity
 pub filtered-capacity : (v w : PendingTargets) (p : ℕ × ℕ → Bool) → w.items ≡ filter p v.items → w.capacity ≡ v.capacity → capacity_left v ≤ capacity_left w
-filtered-capacity v w p items capacity = omega (arith, subst (λ xs. length xs ≤ length v.items) (sym items) (fewer p v.items), capacity)
+filtered-capacity v w p items capacity = omega (arith, subst (λ xs. length xs ≤ length v.items) (sym items) (filter_shorter p v.items), capacity)
 
 length-put : (k v : ℕ) (es : List (ℕ × ℕ)) → length (put nat_cmp k v es) ≤ length es + 1
 length-put k v [] = omega arith

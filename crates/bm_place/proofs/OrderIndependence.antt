@@ -9,9 +9,10 @@ use Rattle.std.proofs.lemmas.Bool.{eqb-true, eq-eqb, or_parts}
 use Rattle.std.proofs.lemmas.List.Sums.{length-filter}
 use Rattle.bm_base.specs.Words.{Cluster, has, has_repeats, least, remaining, share_rack, has_rack_mate, excess_cmp, excess_among}
 use Rattle.bm_base.proofs.ListTests.{filter_filter}
+use Rattle.bm_base.proofs.Slices.{all_pass}
 use Rattle.bm_place.specs.Least.{IsLeastOf}
 use Rattle.bm_place.proofs.Best.{least-bears}
-use Rattle.bm_place.proofs.Surplus.{all_pass, excess_cmp_total}
+use Rattle.bm_place.proofs.Surplus.{excess_cmp_total}
 use Rattle.bm_topo.proofs.RackCount.{has_counted}
 use Rattle.bm_topo.proofs.RackChanges.{count_cons}
 

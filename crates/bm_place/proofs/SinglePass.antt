@@ -7,12 +7,13 @@ use Rattle.std.proofs.Common.{append-nil, append_assoc}
 use Rattle.std.proofs.Common.{◌≡◌, ◌+◌, ◌==◌, ℕ, zero, suc, Bool, true, false, cond, not, ◌||◌, nat_lt, List, [], ◌∷◌, ◌++◌, filter, map, take, drop, count_by, Option, Some, None, refl, sym, ap, subst, ◌∙◌, arith, true≢false}
 use Rattle.std.specs.declared.cmp.Ordering.{Ordering}
 use Rattle.std.specs.Ordering.{is_lt, nat_cmp, ordering_then}
-use Rattle.std.proofs.lemmas.Bool.{eqb-true, false≢true, or_parts, or_left, or_right}
+use Rattle.std.proofs.lemmas.Bool.{eqb-true, false≢true, or_parts, or_right}
 use Rattle.std.proofs.lemmas.List.Sums.{sum_by-append}
 use Rattle.std.proofs.lemmas.List.Folds.{list_any-append}
 use Rattle.std.proofs.lemmas.Option.{same_Some, slice_get-map}
 use Rattle.bm_base.specs.Words.{Map, by_number, Cluster, has, has_repeats, least, rack_of, share_rack, has_rack_mate, excess_cmp, excess_among}
 use Rattle.bm_base.proofs.ListTests.{once_filter, same_again, kept_all_by}
+use Rattle.bm_base.proofs.Slices.{has_middle, drop_next}
 use Rattle.bm_place.specs.declared.holders.Holder.{Holder}
 use Rattle.bm_place.specs.RackCounts.{is_on, CountsRacks}
 use Rattle.bm_place.specs.Holders.{holder_at}
@@ -21,14 +22,9 @@ use Rattle.bm_place.specs.Tables.{count_at}
 use Rattle.bm_place.proofs.InClass.{is_better_than, InOrder, order_without, order_behind, not_itself, sorted_order}
 use Rattle.bm_place.proofs.OrderIndependence.{least_is, excess_apart}
 use Rattle.bm_place.proofs.Surplus.{excess_cmp_total, mate_as}
-use Rattle.bm_place.proofs.Tables.{drop-next}
 use Rattle.bm_topo.proofs.RackChanges.{count_cons}
 
 -- A number of a list, and the list without it.
-
-has_middle : (xs ys : List ℕ) (x : ℕ) → has (xs ++ x ∷ ys) x ≡ true
-has_middle [] ys x = or_left (x == x) (has ys x) (same_again x)
-has_middle (z ∷ xs) ys x = or_right (z == x) (has (xs ++ x ∷ ys) x) (has_middle xs ys x)
 
 -- a member of the list is before x, is x, or is after x
 in_parts : (P : ℕ → Type 0) (xs ys : List ℕ) (x y : ℕ) → has (xs ++ x ∷ ys) y ≡ true → (has xs y ≡ true → P y) → P x → (has ys y ≡ true → P y) → P y
@@ -207,4 +203,4 @@ next_looked_up C ss i h at = by (slice_get ss i) refl (sym (slice_get-map (holde
     by (Some s) e f =
         let same : holder_at C s ≡ h = same_Some (holder_at C s) h f in
         let storage : s ≡ h.storage = ap (λ (g : Holder). g.storage) same in
-        (sym same ∙ ap (holder_at C) storage, drop-next ss i s e ∙ ap (λ t. t ∷ drop (i + 1) ss) storage)
+        (sym same ∙ ap (holder_at C) storage, drop_next ss i s e ∙ ap (λ t. t ∷ drop (i + 1) ss) storage)

@@ -1,10 +1,10 @@
 -- Excess: its order, and the counts of racks.
 use Rattle.std.specs.Option.{option_map_or}
-use Rattle.std.proofs.Common.{◌≡◌, ◌≤◌, ◌+◌, ℕ, Bool, true, false, cond, nat_lt, List, [], ◌∷◌, drop, filter, length, count_by, Option, Some, None, refl, sym, ap, ◌∙◌, ◌==◌, arith}
+use Rattle.std.proofs.Common.{◌≡◌, ◌≤◌, ◌+◌, ℕ, Bool, true, false, cond, nat_lt, List, ◌∷◌, drop, length, count_by, Option, Some, None, refl, sym, ap, ◌∙◌, ◌==◌, arith}
 use Rattle.std.specs.Cmp.{IsTotalOrder, nat_cmp_total}
 use Rattle.std.proofs.lemmas.Cmp.{on_total, then_total, back_total}
 use Rattle.std.proofs.lemmas.Bool.{eqb-true, eq-eqb}
-use Rattle.std.proofs.lemmas.List.Sums.{sum_by-cons, count_by-le-length}
+use Rattle.std.proofs.lemmas.List.Sums.{count_by-le-length}
 use Rattle.bm_base.specs.Words.{Map, by_number, insert, Cluster, rack_of, remaining, share_rack, has_rack_mate, excess_cmp}
 use Rattle.bm_place.specs.Tables.{count_at}
 use Rattle.bm_place.specs.RackCounts.{is_on}
@@ -24,10 +24,6 @@ mate_as C left count counted s = by (rack_of C s)
     by : (o : Option ℕ) → option_map_or (λ r. nat_lt 1 (count r)) o false ≡ nat_lt 1 (count_by (λ t. option_map_or (λ r. option_map_or (λ q. q == r) (rack_of C t) false) o false) left)
     by None = sym (ap (λ n. nat_lt 1 n) (count_none left))
     by (Some r) = ap (λ n. nat_lt 1 n) (counted r)
-
-pub all_pass : {X : Type 0} (xs : List X) → filter (λ _. true) xs ≡ xs
-all_pass [] = refl
-all_pass (x ∷ xs) = ap (λ ys. x ∷ ys) (all_pass xs)
 
 -- Counting.
 

@@ -8,10 +8,11 @@ use Rattle.std.proofs.lemmas.Bool.{eqb-true}
 use Rattle.std.proofs.lemmas.List.{length-map}
 use Rattle.std.proofs.lemmas.Option.{slice_get_past, same_Some}
 use Rattle.std.proofs.lemmas.Bool.Decides.{nat_tests}
-use Rattle.bm_base.specs.Words.{has, Map, by_number, empty, entries, get, insert, insert_all, keys, len, revise_at, contains_key, Cluster, node_of, node_number}
+use Rattle.bm_base.specs.Words.{has, Map, by_number, empty, entries, get, insert, insert_all, keys, len, revise_at, Cluster, node_of, node_number}
 use Rattle.bm_base.proofs.MapLaws.{same_map, get-insert, get-empty, get-revise}
 use Rattle.bm_base.proofs.Ties.{number_tie}
 use Rattle.bm_base.proofs.Sets.{has_keys}
+use Rattle.bm_base.proofs.Slices.{drop_next}
 use Rattle.bm_base.specs.declared.storage.StorageInfo.{StorageInfo}
 use Rattle.bm_place.specs.Tables.{listed, table, count_at}
 
@@ -107,10 +108,6 @@ next [] i x h = cc
 next (y ∷ xs) zero x h = ap (λ z. z ∷ xs) (same_Some y x h)
 next (y ∷ xs) (suc i) x h = next xs i x h
 
--- the rest of a list at an index is the element there and the rest after it
-pub drop-next : {A : Type 0} (xs : List A) (i : ℕ) (x : A) → slice_get xs i ≡ Some x → drop i xs ≡ x ∷ drop (i + 1) xs
-drop-next xs i x h = let one : suc i ≡ i + 1 = omega arith in next xs i x h ∙ ap (λ n. x ∷ drop n xs) one
-
 none_past : {A : Type 0} (xs : List A) (i : ℕ) → slice_get xs i ≡ None → drop i xs ≡ []
 none_past [] zero h = refl
 none_past [] (suc i) h = refl
@@ -124,13 +121,13 @@ module _ {X : Type 0} (f : ℕ → X) (ks : List ℕ) (i : ℕ) (whole : Map by_
   pub row_made : (m more : Map by_number X) (s k : ℕ) (v : X) → slice_get ks i ≡ Some s → k ≡ s → v ≡ f s → more ≡ insert m k v
       → insert_all m (listed f (drop i ks)) ≡ whole → insert_all more (listed f (drop (i + 1) ks)) ≡ whole
   row_made m more s k v at same value is inv =
-      ap (λ n. insert_all n (listed f (drop (i + 1) ks))) (is ∙ (λ j. insert m (same j) (value j))) ∙ sym (ap (λ xs. insert_all m (listed f xs)) (drop-next ks i s at)) ∙ inv
+      ap (λ n. insert_all n (listed f (drop (i + 1) ks))) (is ∙ (λ j. insert m (same j) (value j))) ∙ sym (ap (λ xs. insert_all m (listed f xs)) (drop_next ks i s at)) ∙ inv
 
   -- the same if the rows are of numbers that are computed from these
   pub row_made_of : (g : ℕ → ℕ) (m more : Map by_number X) (s k : ℕ) (v : X) → slice_get ks i ≡ Some s → k ≡ g s → v ≡ f (g s) → more ≡ insert m k v
       → insert_all m (listed f (map g (drop i ks))) ≡ whole → insert_all more (listed f (map g (drop (i + 1) ks))) ≡ whole
   row_made_of g m more s k v at same value is inv =
-      ap (λ n. insert_all n (listed f (map g (drop (i + 1) ks)))) (is ∙ (λ j. insert m (same j) (value j))) ∙ sym (ap (λ xs. insert_all m (listed f (map g xs))) (drop-next ks i s at)) ∙ inv
+      ap (λ n. insert_all n (listed f (map g (drop (i + 1) ks)))) (is ∙ (λ j. insert m (same j) (value j))) ∙ sym (ap (λ xs. insert_all m (listed f (map g xs))) (drop_next ks i s at)) ∙ inv
 
   all_made : (m : Map by_number X) → drop i ks ≡ [] → insert_all m (listed f (drop i ks)) ≡ whole → m ≡ whole
   all_made m none inv = sym (ap (λ xs. insert_all m (listed f xs)) none) ∙ inv

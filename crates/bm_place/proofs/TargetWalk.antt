@@ -20,7 +20,7 @@ use Rattle.bm_place.specs.Targets.{free_bytes_on, cmp_targets, is_available, is_
 use Rattle.bm_place.specs.BestTargets.{IsMember, IsInOrder, is_better_than, cmp_of_one_node}
 use Rattle.bm_place.proofs.SameNodeTargets.{more_free_bytes}
 use Rattle.bm_place.proofs.SortedTargets.{behind_at}
-use Rattle.bm_place.proofs.Tables.{drop-next}
+use Rattle.bm_base.proofs.Slices.{drop_next}
 
 -- a scan of elements that do not pass changes nothing
 scan_none : {X : Type 0} (R : X → X → Ordering) (p : X → Bool) (best : Option X) (xs : List X) → ((x : X) → IsMember xs x → p x ≡ false) → scan R p best xs ≡ best
@@ -62,7 +62,7 @@ module _ (C : Cluster) (w : ReplicaSpread) (urgency : Level) (excluded : List �
   module _ (cs : List TargetRow) (ordered : IsInOrder cs) (i : ℕ) (t : TargetRow) (at : slice_get cs i ≡ Some t) (best : Option TargetRow) (inv : scan order may best (drop i cs) ≡ scan order may None cs) where
     -- no target from t on is eligible if t has too few free bytes
     pub ends_below_len : free_bytes_on t < len → scan order may None cs ≡ best
-    ends_below_len less = sym inv ∙ ap (scan order may best) (drop-next cs i t at) ∙ scan_none order may best (t ∷ drop (i + 1) cs) (λ x there. none x there)
+    ends_below_len less = sym inv ∙ ap (scan order may best) (drop_next cs i t at) ∙ scan_none order may best (t ∷ drop (i + 1) cs) (λ x there. none x there)
       where
         none : (x : TargetRow) → IsMember (t ∷ drop (i + 1) cs) x → may x ≡ false
         none x (inl e) = subst (λ x. may x ≡ false) e (too_full t less)
@@ -75,7 +75,7 @@ module _ (C : Cluster) (w : ReplicaSpread) (urgency : Level) (excluded : List �
     pub ends_at_first : (may t && is_better order best t) ≡ true → class_by_spread w t.rack ≡ 0 → scan order may None cs ≡ Some t
     ends_at_first taken first =
         sym inv
-        ∙ ap (scan order may best) (drop-next cs i t at)
+        ∙ ap (scan order may best) (drop_next cs i t at)
         ∙ ap (λ b. scan order may (cond b (Some t) best) (drop (i + 1) cs)) taken
         ∙ scan_best order may t (drop (i + 1) cs) (λ x there.
         let one : i + 1 ≡ suc i = omega arith in
@@ -93,15 +93,15 @@ pub record IsWalked (R : TargetRow → TargetRow → Ordering) (p : TargetRow �
 
 module _ (R : TargetRow → TargetRow → Ordering) (p : TargetRow → Bool) (cs : List TargetRow) (i : ℕ) (t : TargetRow) (at : slice_get cs i ≡ Some t) (best : Option TargetRow) (walked : IsWalked R p cs i best) where
   pub here_behind : IfSome best (λ b. is_better_than t b ≡ false)
-  here_behind = walked.behind t (subst (λ xs. IsMember xs t) (sym (drop-next cs i t at)) (inl refl))
+  here_behind = walked.behind t (subst (λ xs. IsMember xs t) (sym (drop_next cs i t at)) (inl refl))
 
   one_further : scan R p (cond (p t && is_better R best t) (Some t) best) (drop (i + 1) cs) ≡ scan R p None cs
-  one_further = sym (ap (scan R p best) (drop-next cs i t at)) ∙ walked.scanned
+  one_further = sym (ap (scan R p best) (drop_next cs i t at)) ∙ walked.scanned
 
   pub walked_past : (p t && is_better R best t) ≡ false → IsWalked R p cs (i + 1) best
   walked_past not_taken = record {
     scanned = ap (λ b. scan R p (cond b (Some t) best) (drop (i + 1) cs)) (sym not_taken) ∙ one_further;
-    behind = λ d there. walked.behind d (subst (λ xs. IsMember xs d) (sym (drop-next cs i t at)) (inr there));
+    behind = λ d there. walked.behind d (subst (λ xs. IsMember xs d) (sym (drop_next cs i t at)) (inr there));
   }
 
   pub walked_with : IsInOrder cs → (p t && is_better R best t) ≡ true → IsWalked R p cs (i + 1) (Some t)

@@ -1,11 +1,11 @@
 -- The tables of sources and targets have the counts of each storage, and one more transfer keeps
 -- them right.
 use Rattle.std.specs.Prelude.{unwrap_or, option_map, if◌then◌else◌}
-use Rattle.std.proofs.Common.{◌≡◌, ◌<◌, ◌≤◌, nat_lt, subst, ℕ, ◌+◌, Bool, true, false, cond, ◌||◌, List, [], ◌∷◌, ◌++◌, map, sum_by, count_by, Option, Some, None, is_some, refl, sym, ap, ◌∙◌, ◌==◌, arith}
+use Rattle.std.proofs.Common.{◌≡◌, ◌<◌, ◌≤◌, nat_lt, subst, ℕ, ◌+◌, Bool, true, false, cond, ◌||◌, List, [], ◌∷◌, ◌++◌, map, count_by, Option, Some, None, is_some, refl, sym, ap, ◌∙◌, ◌==◌, arith}
 use Rattle.std.specs.Ordering.{eq_by_cmp, nat_cmp}
 use Rattle.std.specs.declared.cmp.Ordering.{Ordering}
 use Rattle.std.specs.Option.{option_map_or, IfSome}
-use Rattle.std.proofs.lemmas.List.Sums.{sum_by-append, sum_by_push}
+use Rattle.std.proofs.lemmas.List.Sums.{sum_by_push}
 use Rattle.std.proofs.lemmas.Bool.{eqb-true, eq-eqb, ltb-true}
 use Rattle.std.proofs.Math.Bool.{or-true}
 use Rattle.bm_base.specs.declared.commands.Transfer.{Transfer}

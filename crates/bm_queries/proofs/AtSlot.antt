@@ -14,6 +14,7 @@ use Rattle.bm_maps.specs.SlotLists.{Distinct}
 use Rattle.bm_base.proofs.ForEach.{each_any}
 use Rattle.bm_base.proofs.MapEntries.{each_entry, passes_entry}
 use Rattle.bm_base.proofs.Membership.{has_where}
+use Rattle.bm_base.proofs.Orderings.{lesser_storage}
 use Rattle.bm_arena.specs.Triplets.{Block}
 use Rattle.bm_arena.specs.Contents.{Contents, block_at, slot_of, marks_at, find_marks, IsLawful}
 use Rattle.bm_arena.specs.HeldMaps.{replicas_of, replicas_at, info_at}
@@ -23,7 +24,7 @@ use Rattle.bm_levels.specs.Held.{holdings_with}
 use Rattle.bm_levels.proofs.EqualLists.{among_has, has_among, passing_distinct}
 use Rattle.bm_levels.proofs.Levels.{alike}
 use Rattle.bm_queries.proofs.FoundReplicas.{each_marks, marks_pass}
-use Rattle.bm_queries.proofs.Numbers.{Rise, numbers_ascend, lesser_storage, same_numbers}
+use Rattle.bm_queries.proofs.Numbers.{Rise, numbers_ascend, same_numbers}
 
 -- the storages of the good replicas of a block
 abbrev pub good_storages : Contents → ℕ → List ℕ

@@ -1,18 +1,18 @@
 -- The known blocks found at the slots of an arena are, once sorted, those of its map, each with its
 -- slot.
-use Rattle.std.proofs.Common.{◌≡◌, ◌≢◌, ℕ, Bool, true, false, cond, ◌&&◌, ◌||◌, List, [], ◌∷◌, ◌++◌, map, filter, Option, Some, is_some, refl, sym, ap, subst, inl, inr, ◌∙◌, eqb-true, append_assoc, T, ◌+◌, ◌<◌, ◌≤◌, take, length, zero, suc, arith}
-use Rattle.std.specs.Prelude.{◌==◌, option_and_then, slice_index_or}
+use Rattle.std.proofs.Common.{◌≡◌, ◌≢◌, ℕ, Bool, true, false, cond, ◌&&◌, List, [], ◌∷◌, ◌++◌, map, filter, Option, Some, is_some, refl, sym, ap, subst, inl, inr, ◌∙◌, append_assoc, T, ◌+◌, ◌<◌, ◌≤◌, take, length, suc, arith}
+use Rattle.std.specs.Prelude.{option_and_then, slice_index_or}
 use Rattle.std.specs.Option.{unwrap_or}
 use Rattle.std.specs.Ordering.{nat_cmp, eq_by_cmp}
 use Rattle.std.specs.FinMap.{is_sorted}
 use Rattle.std.specs.List.{All, list_any}
 use Rattle.std.specs.List.Sorted.{IsSortedByKey, IsPermutation}
-use Rattle.std.proofs.lemmas.Bool.{and_from, or_left, or_right}
+use Rattle.std.proofs.lemmas.Bool.{and_from}
 use Rattle.std.proofs.lemmas.Simd.{map-map}
-use Rattle.std.proofs.lemmas.List.{map-append}
+use Rattle.std.proofs.lemmas.List.{map-append, take_all}
 use Rattle.std.proofs.Math.Seq.{take-suc}
 use Rattle.bm_base.specs.declared.replica.BlockInfo.{BlockInfo}
-use Rattle.bm_base.specs.Words.{Map, by_number, get, entries, keys, by_replica, places, has}
+use Rattle.bm_base.specs.Words.{Map, by_number, get, entries, keys, by_replica, places}
 use Rattle.bm_base.specs.declared.limits.TheConstants.{MAX_PLACES}
 use Rattle.bm_base.specs.Promises.Versions.{Row, table}
 use Rattle.bm_maps.specs.SlotLists.{IsMember, Distinct}
@@ -152,15 +152,9 @@ row_put f ps i p lt is =
     next : i + 1 ≡ suc i
     next = omega arith
 
-whole : {X : Type 0} (n : ℕ) (xs : List X) → length xs ≤ n → take n xs ≡ xs
-whole zero [] far = refl
-whole (suc n) [] far = refl
-whole zero (x ∷ xs) far = absurd (omega arith)
-whole (suc n) (x ∷ xs) far = ap (λ ys. x ∷ ys) (whole n xs (omega arith))
-
 -- the rows of all known blocks are the table
 pub all_rows : (a : Contents) (pending : Map by_replica ℕ) (n : ℕ) (ps : List (ℕ × ℕ)) → length ps ≤ n → ps ≡ map (with_slot a) (keys (blocks_of a)) → map (row_in a pending) (take n ps) ≡ table (holdings_with a pending)
 unfolding table holdings_with
 all_rows a pending n ps far is =
-    ap (map (row_in a pending)) (whole n ps far ∙ is)
+    ap (map (row_in a pending)) (take_all n ps far ∙ is)
     ∙ map-map (row_in a pending) (with_slot a) (keys (blocks_of a))

@@ -1,16 +1,14 @@
 -- Sorted numbers: an ascending list is determined by its members, if each occurs once.
-use Rattle.std.proofs.Common.{◌≡◌, ℕ, Bool, true, false, cond, List, [], ◌∷◌, map, filter, Ordering, Equal, refl, sym, ap, subst, inl, inr, ◌∙◌, T}
+use Rattle.std.proofs.Common.{◌≡◌, ℕ, Bool, true, false, cond, List, [], ◌∷◌, map, filter, Ordering, refl, inl, inr, ◌∙◌, T}
 use Rattle.std.specs.Prelude.{◌==◌}
-use Rattle.std.specs.Ordering.{nat_cmp, eq_by_cmp, is_lt, ordering_then}
-use Rattle.std.specs.Cmp.{tied_itself, nat_cmp_total}
+use Rattle.std.specs.Ordering.{nat_cmp, eq_by_cmp, is_lt}
 use Rattle.std.specs.FinMap.{is_sorted}
 use Rattle.std.specs.FinMap.Entries.{below_all}
 use Rattle.std.specs.List.{list_any}
 use Rattle.std.specs.List.Sorted.{IsSortedByKey, IsPermutation}
 use Rattle.std.proofs.lemmas.Bool.{or_left, or_right}
 use Rattle.bm_base.specs.Maps.Conjunction.{both, first, second}
-use Rattle.bm_base.specs.declared.replica.ReplicaId.{ReplicaId}
-use Rattle.bm_base.specs.Words.{by_number, replica_cmp, has}
+use Rattle.bm_base.specs.Words.{by_number, has}
 use Rattle.bm_maps.specs.SlotLists.{IsMember, Distinct}
 use Rattle.bm_base.proofs.Clusters.{eqb_turned}
 use Rattle.bm_base.proofs.ForEach.{Each}
@@ -45,12 +43,6 @@ module _ {K X : Type 0} (R : K → K → Ordering) (number : K → ℕ) (q : K �
       by : (b : Bool) → q e ≡ b → Rise (numbers es) → Rise (map (λ e. number e.0) (cond b (e ∷ filter q es) (filter q es)))
       by true t rest = both _ _ (below_numbers e t es (first _ _ h)) rest
       by false t rest = rest
-
--- of two replicas of one block the lesser is on the lesser storage
-pub lesser_storage : (p q : ReplicaId) → p.block ≡ q.block → T (is_lt (replica_cmp p q)) → T (is_lt (nat_cmp p.storage q.storage))
-lesser_storage p q same h =
-    let tied : nat_cmp p.block q.block ≡ Equal = ap (λ x. nat_cmp p.block x) (sym same) ∙ tied_itself nat_cmp_total p.block in
-    subst (λ r. T (is_lt (ordering_then r (nat_cmp p.storage q.storage)))) tied h
 
 other_numbers : (x : ℕ) (xs : List ℕ) → (IsMember x xs → ⊥) → Each (λ y. eq_by_cmp nat_cmp x y ≡ false) xs
 other_numbers x [] absent = tt

@@ -1,7 +1,6 @@
 -- The blocks of a storage's list, and those of a level, are those of the query's definition.
 use Rattle.std.proofs.Common.{◌≡◌, ℕ, Bool, true, false, ◌&&◌, List, map, filter, Option, Some, None, is_some, refl, sym, ap, subst, ◌∙◌, eqb-true}
 use Rattle.std.specs.Prelude.{◌==◌, ◌↔◌, option_and_then}
-use Rattle.std.specs.Option.{option_map_or}
 use Rattle.std.specs.Ordering.{nat_cmp, eq_by_cmp}
 use Rattle.std.specs.List.Sorted.{IsSortedByKey, IsPermutation}
 use Rattle.std.proofs.lemmas.Bool.{and_parts, and_from, false≢true}
@@ -15,10 +14,10 @@ use Rattle.bm_maps.specs.SlotLists.{IsMember, Distinct}
 use Rattle.bm_base.proofs.Clusters.{eqb_turned}
 use Rattle.bm_base.proofs.ListTests.{any_map, any_filter, any_agree, has_filter}
 use Rattle.bm_base.proofs.Options.{there, chained}
-use Rattle.bm_base.proofs.SortedParts.{lesser_block}
 use Rattle.bm_base.proofs.Sets.{has_keys, some_is}
 use Rattle.bm_base.proofs.Membership.{any_replica}
 use Rattle.bm_base.proofs.Ties.{replica_tie}
+use Rattle.bm_base.proofs.Orderings.{lesser_block}
 use Rattle.bm_parts.proofs.Filters.{map_filter}
 use Rattle.bm_arena.specs.Contents.{block_at, slot_of, marks_at, list_of, IsLawful}
 use Rattle.bm_arena.specs.HeldMaps.{replicas_of, id_at}

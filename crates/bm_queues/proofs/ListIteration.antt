@@ -3,7 +3,7 @@
 use Rattle.std.proofs.Common.{◌≡◌, ◌≢◌, ℕ, eqb, List, [], ◌∷◌, Option, Some, None, inl, inr, subst, sym, ap, ◌∙◌, refl}
 use Rattle.std.specs.Option.{IfSome}
 use Rattle.std.proofs.lemmas.Bool.{cases_Bool, eq-eqb, ne_eqb, eqb-true, eqb-false}
-use Rattle.std.proofs.lemmas.Option.{none-some, same_Some}
+use Rattle.std.proofs.lemmas.Option.{none-some}
 use Rattle.bm_maps.specs.SlotLists.{IsMember, Distinct, without, first_of, slot_after}
 use Rattle.bm_maps.proofs.SlotLists.{dec_among, slot_after-absent, without-absent, Among-without_other}
 use Rattle.bm_queues.specs.Walks.{slots_from, IsOn, IsPast}

@@ -1,7 +1,7 @@
 -- Numbers entered, and their lost excess dropped, one after another, each with its slot.
 use Rattle.std.proofs.Common.{◌≡◌, ℕ, ◌≤◌, List, [], ◌∷◌, ◌++◌, length, map, Option, Some, None, refl, subst, inl, inr, sym, ap, ◌∙◌, arith, length-append}
-use Rattle.std.proofs.Common.{Bool, true, false, ◌||◌, cond, eqb}
-use Rattle.std.specs.Prelude.{nat_eq, filter, ◌==◌, IsTrue, IsSomeAnd}
+use Rattle.std.proofs.Common.{Bool, true, false, ◌||◌, eqb}
+use Rattle.std.specs.Prelude.{nat_eq, ◌==◌, IsTrue, IsSomeAnd}
 use Rattle.std.proofs.lemmas.Bool.{eq-eqb}
 use Rattle.std.specs.Option.{unwrap_or}
 use Rattle.std.specs.Map.{lookup}
@@ -13,6 +13,7 @@ use Rattle.bm_base.specs.Shards.{shard_of}
 use Rattle.bm_maps.specs.SlotLists.{IsMember}
 use Rattle.bm_arena.specs.Contents.{Contents, slot_of, marks_at, HasCapacity}
 use Rattle.bm_base.proofs.Entries.{length-expanded}
+use Rattle.bm_base.proofs.Slices.{filter_shorter}
 use Rattle.bm_report.specs.declared.types.ReportedSlot.{ReportedSlot}
 use Rattle.bm_report.specs.declared.report_counts.ReportCounts.{ReportCounts}
 use Rattle.bm_report.specs.DuringReport.{AreAtSlots, HaveCapacity, IsEntered, IsCounted, FitsCounters, DropsInvalidExcess, reported_of, slot_in}
@@ -74,17 +75,8 @@ counted_as C s ts a b c t u e f = let P : List ReportedSlot → Type 0 = λ l. I
 pub drops_as : (s : ℕ) (ts : List ReportedBlock) (a b c : Contents) → b.ids ≡ a.ids → DropsInvalidExcess s (named_of b ts) b c → DropsInvalidExcess s (named_of a ts) b c
 drops_as s ts a b c e f = let P : List ReportedSlot → Type 0 = λ l. DropsInvalidExcess s l b c in subst P (named-ids a b ts e) f
 
--- the reported numbers of a part are at most those that the entries name
-length-filter_le : {X : Type 0} (p : X → Bool) (xs : List X) → length (filter p xs) ≤ length xs
-length-filter_le p [] = omega arith
-length-filter_le p (x ∷ xs) = by (p x) (filter p xs) (length-filter_le p xs)
-  where
-    by : (b : Bool) (ys : List _) → length ys ≤ length xs → length (cond b (x ∷ ys) ys) ≤ length (x ∷ xs)
-    by true ys h = omega (arith, h)
-    by false ys h = omega (arith, h)
-
 pub few_reported : (p : Part) (es : List Entry) (n : ℕ) → numbers_in es ≤ n → length (reported_to_part p es) ≤ n
-few_reported p es n few = let h = length-filter_le (λ (t : ReportedBlock). shard_of t.id p.shards == p.index) (expanded es) in let e = length-expanded es in omega (arith, few, h, e)
+few_reported p es n few = let h = filter_shorter (λ (t : ReportedBlock). shard_of t.id p.shards == p.index) (expanded es) in let e = length-expanded es in omega (arith, few, h, e)
 
 -- `rest` are the numbers of `all` that are still to be entered
 module _ (C : Cluster) (s : ℕ) (all : List ReportedBlock) (first : Contents) (t : ReportCounts) where

@@ -1,5 +1,5 @@
 -- The numbers of a shard in runs, one after another.
-use Rattle.std.proofs.Common.{◌≡◌, ◌≢◌, ℕ, zero, suc, ◌+◌, ◌-◌, ◌<◌, ◌≤◌, ◌%◌, ◌*◌, ◌/◌, inl, inr, cond, List, [], ◌∷◌, ◌++◌, map, drop, Some, refl, sym, ap, ◌∙◌, arith, append_assoc, add-one}
+use Rattle.std.proofs.Common.{◌≡◌, ◌≢◌, ℕ, zero, suc, ◌+◌, ◌-◌, ◌<◌, ◌≤◌, ◌%◌, ◌*◌, ◌/◌, inl, inr, cond, List, [], ◌∷◌, ◌++◌, map, drop, Some, sym, ap, ◌∙◌, arith, append_assoc, add-one}
 use Rattle.std.specs.Prelude.{slice_get, length}
 use Rattle.std.proofs.lemmas.Bool.{ne_eqb, eq-eqb, cases_lt}
 use Rattle.std.proofs.lemmas.Nat.{div-add-mod'}
@@ -7,6 +7,7 @@ use Rattle.std.proofs.Math.Nat.{mul-add-mod_self_right, mod-eq_of_lt}
 use Rattle.std.specs.List.{flat_map}
 use Rattle.std.proofs.lemmas.List.Elements.{filter-append}
 use Rattle.std.proofs.lemmas.Grind.{flat_map-append}
+use Rattle.std.proofs.lemmas.List.{append-nil}
 use Rattle.bm_base.specs.declared.event.Entry.{Entry}
 use Rattle.bm_base.specs.declared.ids.Part.{Part}
 use Rattle.bm_base.specs.declared.replica.Stamp.{Stamp}
@@ -18,10 +19,6 @@ use Rattle.bm_report.specs.Expanded.{of_part, reported_to_part}
 -- the numbers of an entry from b on, with its stamp
 abbrev pub reported_from : Entry → ℕ → List ReportedBlock
 reported_from e b = map (λ n. record { id = n; stamp = e.stamp }) (range_from b (e.to + 1 - b))
-
-pub nothing : {X : Type 0} (l : List X) → l ++ [] ≡ l
-nothing [] = refl
-nothing (x ∷ l) = ap (λ t. x ∷ t) (nothing l)
 
 abbrev reported_of_all : Stamp → List ℕ → List ReportedBlock
 reported_of_all t bs = map (λ n. record { id = n; stamp = t }) bs
@@ -123,7 +120,7 @@ reported_on p es i e xs ys all at so_far is =
 
 pub reported_end : (p : Part) (es : List Entry) (i : ℕ) (xs all : List ReportedBlock) → length es ≤ i → xs ++ of_part p (expanded (drop i es)) ≡ all → xs ≡ all
 unfolding expanded
-reported_end p es i xs all past so_far = sym (nothing xs) ∙ sym (ap (λ l. xs ++ of_part p (expanded l)) (drop_all es i past)) ∙ so_far
+reported_end p es i xs all past so_far = sym (append-nil xs) ∙ sym (ap (λ l. xs ++ of_part p (expanded l)) (drop_all es i past)) ∙ so_far
 
 -- the reported numbers of two lists of entries are those of the one and those of the other
 pub reported_both : (p : Part) (es fs : List Entry) → reported_to_part p (es ++ fs) ≡ reported_to_part p es ++ reported_to_part p fs
@@ -138,7 +135,7 @@ chunk_on p es fs xs ys all so_far is =
 
 pub chunks_end : (p : Part) (xs all : List ReportedBlock) → xs ++ reported_to_part p [] ≡ all → xs ≡ all
 unfolding expanded
-chunks_end p xs all so_far = sym (nothing xs) ∙ so_far
+chunks_end p xs all so_far = sym (append-nil xs) ∙ so_far
 
 -- an entry of one number reports this number to its part
 pub reported_one : (p : Part) (b : ℕ) (t : Stamp) → shard_of b p.shards ≡ p.index → reported_to_part p (record { from = b; to = b; stamp = t } ∷ []) ≡ record { id = b; stamp = t } ∷ []

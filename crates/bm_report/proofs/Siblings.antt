@@ -1,5 +1,5 @@
 -- Storages of one node.
-use Rattle.std.proofs.Common.{◌≡◌, ◌≢◌, ℕ, Bool, true, false, not, ◌&&◌, Option, Some, None, IsSome, sym, subst, ap, ◌∙◌, eq-eqb, eqb-true, ne_eqb}
+use Rattle.std.proofs.Common.{◌≡◌, ◌≢◌, ℕ, true, false, not, Option, Some, None, IsSome, sym, subst, ap, ◌∙◌, eq-eqb, eqb-true, ne_eqb}
 use Rattle.std.specs.Prelude.{◌==◌}
 use Rattle.std.specs.Option.{option_map_or, IfSome, IfNone}
 use Rattle.std.proofs.lemmas.Bool.{false≢true, and_parts, and_from, not_from_false}

@@ -1,5 +1,5 @@
 -- An unchanged report changes no block.
-use Rattle.std.proofs.Common.{false, ◌≡◌, ◌≢◌, ℕ, List, [], ◌∷◌, ◌++◌, length, map, Option, Some, refl, subst, sym, ap, ◌∙◌, slice_get, zero, suc, arith}
+use Rattle.std.proofs.Common.{false, ◌≡◌, ◌≢◌, ℕ, List, [], ◌∷◌, ◌++◌, map, Option, Some, subst, sym, ap, ◌∙◌, slice_get, zero, suc}
 use Rattle.std.specs.Option.{option_and_then, option_map_or}
 use Rattle.bm_base.specs.declared.replica.BlockInfo.{BlockInfo}
 use Rattle.bm_base.specs.Machine.State.{Cluster}

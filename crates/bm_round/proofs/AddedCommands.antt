@@ -15,14 +15,12 @@ use Rattle.bm_base.specs.declared.commands.Delete.{Delete}
 use Rattle.bm_base.specs.declared.commands.NodeCommands.{NodeCommands}
 use Rattle.bm_base.specs.Words.{keys, entries, Cluster, node_of, has_storage, node_commands}
 use Rattle.bm_round.specs.NodeIndex.{index_where}
+use Rattle.bm_base.proofs.Orderings.{less_number}
 
 less_is : (a b : ℕ) (lt eq : Bool) → nat_lt a b ≡ lt → T (is_lt (cond lt Less (cond eq Equal Greater))) → a < b
 less_is a b true eq e h = ltb-true a b e
 less_is a b false true e h = absurd h
 less_is a b false false e h = absurd h
-
-below_is : (a b : ℕ) → T (is_lt (nat_cmp a b)) → a < b
-below_is a b h = less_is a b (nat_lt a b) (a == b) refl h
 
 -- and where it found none
 pub place_missed : (m : ℕ) (ns : List ℕ) → ((k : ℕ) → k < length ns → get_or ns k 0 ≡ m → ⊥) → None ≡ index_where (λ n. m == n) ns
@@ -53,7 +51,7 @@ module _ {X : Type 0} where
 
   below_at : (k : ℕ) (es : List (ℕ × X)) (j : ℕ) → T (below_all nat_cmp k es) → j < length (numbers es) → k < get_or (numbers es) j 0
   below_at k [] j h inside = absurd (omega (arith, inside))
-  below_at k (e ∷ es) zero h inside = below_is k e.0 (first _ _ h)
+  below_at k (e ∷ es) zero h inside = less_number k e.0 (first _ _ h)
   below_at k (e ∷ es) (suc j) h inside = below_at k es j (second _ _ h) (omega (arith, inside))
 
   pub rise : (es : List (ℕ × X)) → T (is_sorted nat_cmp es) → (i j : ℕ) → i ≤ j → j < length (numbers es) → get_or (numbers es) i 0 ≤ get_or (numbers es) j 0
@@ -67,7 +65,7 @@ module _ {X : Type 0} where
   none_above : (m k : ℕ) (es : List (ℕ × X)) → T (below_all nat_cmp k es) → (m == k) ≡ true → index_where (λ n. m == n) (numbers es) ≡ None
   none_above m k [] h same = refl
   none_above m k (e ∷ es) h same =
-      let less = below_is k e.0 (first _ _ h) in
+      let less = less_number k e.0 (first _ _ h) in
       let equal = eqb-true m k same in
       let other : (m == e.0) ≡ false = differ m e.0 (omega (arith, less, equal)) in
       ap (λ b. cond b (Some 0) (option_map suc (index_where (λ n. m == n) (numbers es)))) other ∙ ap (option_map suc) (none_above m k es (second _ _ h) same)

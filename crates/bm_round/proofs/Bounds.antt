@@ -14,6 +14,7 @@ use Rattle.bm_base.specs.Words.{keys, len, RoundLimits, Cluster, has, has_repeat
 use Rattle.bm_base.specs.Choices.{merged_wishes, merged_deletes, one_by_one, transfer_by, transfers_over, chosen_transfers, first_of_each_node, chosen_deletes}
 use Rattle.bm_base.proofs.ForEach.{Each, each_passing, each_then}
 use Rattle.bm_base.proofs.OneWish.{once_keys}
+use Rattle.bm_base.proofs.Slices.{filter_shorter}
 
 -- Transfers.
 
@@ -48,14 +49,6 @@ length_take : {X : Type 0} (n : ℕ) (xs : List X) → length (take n xs) ≤ n
 length_take zero xs = omega arith
 length_take (suc n) [] = omega arith
 length_take (suc n) (x ∷ xs) = let h = length_take n xs in omega (arith, h)
-
-filter_less : {X : Type 0} (p : X → Bool) (xs : List X) → length (filter p xs) ≤ length xs
-filter_less p [] = omega arith
-filter_less p (x ∷ xs) = by (p x) (filter_less p xs)
-  where
-    by : (b : Bool) → length (filter p xs) ≤ length xs → length (cond b (x ∷ filter p xs) (filter p xs)) ≤ suc (length xs)
-    by true h = omega (arith, h)
-    by false h = omega (arith, h)
 
 filter_none : {X : Type 0} (p : X → Bool) (xs : List X) → Each (λ x. p x ≡ false) xs → filter p xs ≡ []
 filter_none p [] h = refl
@@ -107,7 +100,7 @@ module _ (limits : RoundLimits) (C : Cluster) (ds : List Delete) where
           let rest = none_among n ks (ap (has ks) (sym (eqb-true k n same)) ∙ none) in
           let whole : length (filter (is_on n) (first_of k) ++ filter (is_on n) (flat_map first_of ks)) ≡ length (filter (is_on n) (first_of k)) =
           ap (λ xs. length (filter (is_on n) (first_of k) ++ xs)) rest ∙ ap length (append-nil (filter (is_on n) (first_of k))) in
-          let less = filter_less (is_on n) (first_of k) in
+          let less = filter_shorter (is_on n) (first_of k) in
           let taken = length_take limits.invalidate (filter (is_on k) ds) in
           omega (arith, whole, less, taken)
 

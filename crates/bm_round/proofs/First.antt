@@ -1,5 +1,5 @@
 -- If the wishes before a bound fill the round, all wishes give the same transfers.
-use Rattle.std.proofs.Common.{◌≡◌, ℕ, Bool, true, false, cond, List, [], ◌∷◌, ◌++◌, map, filter, flat_map, replicate, length, Some, refl, sym, ap, ◌∙◌, T, true≢false, append_assoc}
+use Rattle.std.proofs.Common.{◌≡◌, ℕ, Bool, true, false, cond, List, [], ◌∷◌, ◌++◌, map, filter, replicate, length, Some, refl, sym, ap, ◌∙◌, T, true≢false}
 use Rattle.std.specs.Prelude.{◌*◌, nat_le}
 use Rattle.std.specs.declared.cmp.Ordering.{Ordering}
 use Rattle.std.specs.declared.cmp.Ordering.TheVariants.{Less, Equal, Greater}
@@ -15,6 +15,7 @@ use Rattle.bm_base.specs.Ordered.{pair_cmp, by_pair}
 use Rattle.bm_base.specs.RoundParts.{wish_key}
 use Rattle.bm_base.specs.Choices.{merged_wishes, one_by_one, transfers_over, chosen_transfers}
 use Rattle.bm_base.proofs.ForEach.{Each}
+use Rattle.bm_base.proofs.Orderings.{is_less}
 use Rattle.bm_parts.specs.Before.{part_before}
 use Rattle.bm_parts.proofs.Before.{merged_before}
 use Rattle.bm_parts.proofs.Filters.{filter_none}
@@ -27,11 +28,6 @@ less_is : (o : Ordering) → is_lt o ≡ true → o ≡ Less
 less_is Less e = refl
 less_is Equal e = absurd (true≢false (sym e))
 less_is Greater e = absurd (true≢false (sym e))
-
-is_less : (o : Ordering) → T (is_lt o) → o ≡ Less
-is_less Less h = refl
-is_less Equal h = absurd h
-is_less Greater h = absurd h
 
 module _ {X : Type 0} (key : X → ℕ × ℕ) (bound : ℕ × ℕ) where
   abbrev before : X → Bool

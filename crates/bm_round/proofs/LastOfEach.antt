@@ -19,6 +19,7 @@ use Rattle.bm_base.proofs.MapEntries.{same_key}
 use Rattle.bm_base.proofs.MapLaws.{same_map, get-insert, get-empty}
 use Rattle.bm_base.proofs.Ties.{number_tie, then_tie}
 use Rattle.bm_base.proofs.OfSorted.{entries-of_sorted, get-of_sorted}
+use Rattle.bm_base.proofs.Options.{or_none}
 
 pub pair_tie : (p q : ℕ × ℕ) → ((p.0 == q.0) && (p.1 == q.1)) ≡ eq_by_cmp pair_cmp p q
 pair_tie p q = (λ i. sym (number_tie p.0 q.0) i && sym (number_tie p.1 q.1) i) ∙ sym (then_tie (nat_cmp p.0 q.0) (nat_cmp p.1 q.1))
@@ -27,10 +28,6 @@ neither_less : (r : Ordering) → (not (is_lt r) && not (is_lt (ordering_reverse
 neither_less Less = refl
 neither_less Equal = refl
 neither_less Greater = refl
-
-or_none : {Y : Type 0} (a : Option Y) → option_or a None ≡ a
-or_none None = refl
-or_none (Some y) = refl
 
 -- elements are compared by the keys of what they stand for
 module _ {K X Y : Type 0} (o : Order K) (f : X → Y) (key : Y → K) where

@@ -1,6 +1,6 @@
 -- The copies of one wish, chosen one after another.
 use Rattle.std.proofs.Common.{◌≡◌, ◌<◌, ℕ, zero, suc, ◌+◌, ◌-◌, Bool, true, false, cond, List, [], ◌∷◌, ◌++◌, map, filter, drop, get_or, replicate, length, Option, Some, None, refl, sym, ap, ◌∙◌, arith, append_assoc, append-nil}
-use Rattle.std.specs.Prelude.{◌==◌, ◌*◌, ◌||◌, nat_le, option_to_list, option_and_then, option_map, is_some}
+use Rattle.std.specs.Prelude.{◌==◌, ◌*◌, nat_le, option_to_list, option_and_then, option_map, is_some}
 use Rattle.std.specs.Option.{option_map_or}
 use Rattle.std.proofs.lemmas.List.{at_drop_more}
 use Rattle.std.proofs.lemmas.Bool.Decides.{nat_tests}

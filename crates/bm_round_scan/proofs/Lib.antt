@@ -1,6 +1,5 @@
 -- Lemmas on a round's findings: which blocks are scanned, and what is found in each.
 pub mod RacksSpared
-pub mod NoneKept
 pub mod NoTransfers
 pub mod OwnReplicas
 pub mod OwnWish

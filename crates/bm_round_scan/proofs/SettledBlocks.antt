@@ -14,6 +14,7 @@ use Rattle.bm_base.specs.RoundParts.{holdings_at_choice}
 use Rattle.bm_base.proofs.ForEach.{each_then}
 use Rattle.bm_base.proofs.ListTests.{filter_filter}
 use Rattle.bm_base.proofs.MapEntries.{each_entry, get_kept}
+use Rattle.bm_base.proofs.Slices.{none_pass}
 use Rattle.bm_parts.specs.Before.{wishes_before}
 use Rattle.bm_parts.specs.Settled.{IsSettled}
 use Rattle.bm_parts.proofs.Filters.{filtered_alike, filter_none, map_filter}
@@ -32,7 +33,6 @@ use Rattle.bm_round_scan.specs.declared.scan.Findings.{Findings}
 use Rattle.bm_round_scan.specs.BlockScans.{own_replicas, replicas_on, needs_delete}
 use Rattle.bm_round_scan.specs.Requests.{wish_by}
 use Rattle.bm_round_scan.specs.BlockFindings.{excess_at, wishes_at, deletes_at, HasFound}
-use Rattle.bm_round_scan.proofs.NoneKept.{none_kept}
 use Rattle.bm_round_scan.proofs.OwnWish.{wish_known}
 use Rattle.bm_round_scan.proofs.SortedStorages.{sorted_where}
 
@@ -85,7 +85,7 @@ module _ (C : Cluster) (pend r : ℕ) (a : Contents) (way : PendingMap) (lawful 
   none_excess : excess_at C pend r H b ≡ []
   none_excess =
       ap (λ ss. replicas_on ss (entries (own_replicas G b))) (settled_is_left C pend r H b settled).0
-      ∙ ap (map (λ (e : ReplicaId × Marks). e.0)) (none_kept (entries (own_replicas G b)))
+      ∙ ap (map (λ (e : ReplicaId × Marks). e.0)) (none_pass (entries (own_replicas G b)))
 
   stays : (q : ReplicaId) (m : Marks) → q.block ≡ b → get G.replicas q ≡ Some m → needs_delete (has_enough_live C G b) m ≡ false
   unfolding is_deletable

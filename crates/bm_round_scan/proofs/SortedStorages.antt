@@ -1,14 +1,12 @@
 -- The storages at a slot, sorted, are those of its block's replicas.
 use Rattle.std.specs.Prelude.{◌≡◌, ℕ, Bool, true, false, Some, ◌&&◌, ◌==◌, List, [], ◌∷◌, map, filter, T}
-use Rattle.std.specs.Ordering.{nat_cmp, eq_by_cmp, is_lt, ordering_then}
+use Rattle.std.specs.Ordering.{nat_cmp, eq_by_cmp, is_lt}
 use Rattle.std.specs.declared.cmp.Ordering.{Ordering}
-use Rattle.std.specs.declared.cmp.Ordering.TheVariants.{Equal}
-use Rattle.std.specs.Cmp.{tied_itself, nat_cmp_total}
 use Rattle.std.specs.FinMap.{is_sorted}
 use Rattle.std.specs.FinMap.Entries.{below_all}
 use Rattle.std.specs.List.{list_any, IsDistinct}
 use Rattle.std.specs.List.Sorted.{IsPermutation, IsSortedByKey}
-use Rattle.std.proofs.Common.{cond, refl, sym, ap, subst, ◌∙◌, eqb-true}
+use Rattle.std.proofs.Common.{cond, refl, sym, subst, ◌∙◌, eqb-true}
 use Rattle.std.proofs.lemmas.Bool.{and_parts, or_left, or_right}
 use Rattle.bm_base.specs.Maps.Conjunction.{both, first, second}
 use Rattle.bm_base.specs.declared.replica.ReplicaId.{ReplicaId}
@@ -19,6 +17,7 @@ use Rattle.bm_base.proofs.Clusters.{eqb_turned}
 use Rattle.bm_base.proofs.ForEach.{Each}
 use Rattle.bm_base.proofs.ListTests.{any_agree, same_again}
 use Rattle.bm_base.proofs.Ties.{number_tie}
+use Rattle.bm_base.proofs.Orderings.{lesser_storage}
 use Rattle.bm_parts.proofs.Filters.{all_each}
 use Rattle.bm_parts.proofs.EqualLists.{gathered_alike}
 use Rattle.bm_arena.specs.Triplets.{Block}
@@ -51,12 +50,6 @@ module _ {K X : Type 0} (R : K → K → Ordering) (number : K → ℕ) (q : K �
       by : (b : Bool) → q e ≡ b → T (is_sorted nat_cmp (map (λ n. (n, n)) (numbers es))) → T (is_sorted nat_cmp (map (λ n. (n, n)) (map (λ e. number e.0) (cond b (e ∷ filter q es) (filter q es)))))
       by true t rest = both _ _ (below_numbers e t es (first _ _ h)) rest
       by false t rest = rest
-
--- of two replicas of one block the lesser is on the lesser storage
-lesser_storage : (p q : ReplicaId) → p.block ≡ q.block → T (is_lt (replica_cmp p q)) → T (is_lt (nat_cmp p.storage q.storage))
-lesser_storage p q same h =
-    let tied : nat_cmp p.block q.block ≡ Equal = ap (λ x. nat_cmp p.block x) (sym same) ∙ tied_itself nat_cmp_total p.block in
-    subst (λ r. T (is_lt (ordering_then r (nat_cmp p.storage q.storage)))) tied h
 
 where_ascend : (p : ℕ → Marks → Bool) (H : Holdings) (b : ℕ) → T (is_sorted nat_cmp (map (λ n. (n, n)) (storages_where p H b)))
 unfolding storages_where entries

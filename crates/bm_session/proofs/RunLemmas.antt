@@ -1,8 +1,8 @@
 -- A whole run: the bytes that were read, and those that were passed to the session.
-use Rattle.std.proofs.Common.{◌≡◌, ℕ, Bool, true, zero, suc, ◌+◌, ◌<◌, ◌≤◌, List, [], ◌∷◌, ◌++◌, length, take, drop, refl, sym, ap, ◌∙◌, append_assoc, append-nil, arith, inl, inr}
+use Rattle.std.proofs.Common.{◌≡◌, ℕ, Bool, true, zero, suc, ◌+◌, ◌<◌, ◌≤◌, List, [], ◌∷◌, ◌++◌, length, take, drop, refl, ap, ◌∙◌, append-nil, arith, inl, inr}
 use Rattle.std.specs.Prelude.{Option, Some, None, Result, Ok, Err, IfOk, IfErr, IfSome, OnOk}
-use Rattle.std.specs.Io.KnownBytes.{Appends, Consumes, Keeps, IsAtEnd}
-use Rattle.std.proofs.lemmas.List.{take-append-drop}
+use Rattle.std.specs.Io.KnownBytes.{Appends, Consumes, IsAtEnd}
+use Rattle.std.proofs.lemmas.List.{take-append-drop, take_all}
 use Rattle.std.proofs.lemmas.Result.{IfOk-weaker, IfErr-weaker, MatchResult-from_both}
 use Rattle.std.proofs.Math.Seq.{take-append-add}
 use Rattle.std.proofs.KnownBytes.{Appends-nil}
@@ -24,12 +24,6 @@ use Rattle.bm_session.proofs.ProgressLemmas.{answered_more}
 -- ---- known bytes
 
 -- ---- parts of lists
-
-pub take_whole : {A : Type 0} (n : ℕ) (xs : List A) → length xs ≤ n → take n xs ≡ xs
-take_whole zero [] h = refl
-take_whole (suc n) [] h = refl
-take_whole zero (x ∷ xs) h = absurd (omega arith)
-take_whole (suc n) (x ∷ xs) h = ap (λ ys. x ∷ ys) (take_whole n xs (omega arith))
 
 pub take-take : (m n : ℕ) (xs : List ℕ) → m ≤ n → take m (take n xs) ≡ take m xs
 take-take zero n xs h = refl
@@ -131,7 +125,7 @@ counts_of_piece M start new state done piece reads reads' before now fault.TooMu
 pub too_many_bytes : (config : Config) (all bytes : List ℕ) (last : ℕ) (old new : Option (List ℕ)) (s : Session) → take MAX_BYTES all ≡ bytes → MAX_BYTES < length all
     → Progress (first_state config) old new s bytes → Faulted config all last old new fault.TooMuch
 too_many_bytes config all bytes last old new s t many p =
-    (inl many, rw (t, whole_lines-split p.splits, take_whole MAX_LINES p.lines (omega (arith, p.count, s.few))) p.wrote)
+    (inl many, rw (t, whole_lines-split p.splits, take_all MAX_LINES p.lines (omega (arith, p.count, s.few))) p.wrote)
 
 pub finished_leaves : (config : Config) (input : List ℕ) (last : ℕ) (left old new : Option (List ℕ)) (state : State) (before now : ℕ) (result : Result Summary Fault) → IsAtEnd left → length input ≤ MAX_BYTES
     → IfOk result (λ summary. Appends old new (texts (first_state config) (lines_of input)) × IsSummary (first_state config) (lines_of input) summary)
@@ -139,7 +133,7 @@ pub finished_leaves : (config : Config) (input : List ℕ) (last : ℕ) (left ol
 finished_leaves config input last left old new state before now result at_end bounded ok err =
     MatchResult-from_both result _ _
     (IfOk-weaker result _ _ (λ summary h. record { at_end = at_end; bounded = bounded; wrote = h.0; counted = h.1 }) ok)
-    (IfErr-weaker result _ _ (λ f h. rw append-nil at (faulted_of_piece config input [] [] last old new state before now f (rw append-nil (take_whole MAX_BYTES input bounded)) (omega arith) (omega arith) h)) err)
+    (IfErr-weaker result _ _ (λ f h. rw append-nil at (faulted_of_piece config input [] [] last old new state before now f (rw append-nil (take_all MAX_BYTES input bounded)) (omega arith) (omega arith) h)) err)
 
 pub finished_causes : (M : State) (start new : Option (List ℕ)) (state : State) (done piece : List ℕ) (reads reads' before now : ℕ) (result : Result Summary Fault) → reads' ≡ reads → OnOk result (now ≡ before)
     → IfErr result (PieceFault M start new state done piece before now) → HasCause reads reads' before now result

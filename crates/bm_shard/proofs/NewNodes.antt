@@ -1,14 +1,10 @@
 -- A new node leaves the replicas on their storages.
-use Rattle.std.proofs.Common.{◌≡◌, ℕ, false, None, List, is_some, ap, ◌∙◌}
-use Rattle.std.specs.Prelude.{◌||◌, IsSome, option_map, option_and_then}
-use Rattle.std.specs.List.{list_any}
-use Rattle.std.proofs.lemmas.Bool.{or_parts}
+use Rattle.std.proofs.Common.{◌≡◌, ℕ, None, List, is_some, ap, ◌∙◌}
+use Rattle.std.specs.Prelude.{IsSome, option_map, option_and_then}
 use Rattle.bm_base.specs.declared.event.Event.TheVariants.{Register}
-use Rattle.bm_base.specs.declared.refusal.Refusal.TheVariants.{NodeKnown, StorageKnown, TooMany}
 use Rattle.bm_base.specs.declared.storage.StorageInfo.{StorageInfo}
-use Rattle.bm_base.specs.Words.{Map, get, contains_key, Cluster, by_replica, has_repeats, rack_of, node_of, register, first_of, cluster_checks, knows_node, knows_storage}
+use Rattle.bm_base.specs.Words.{Map, get, Cluster, by_replica, rack_of, node_of, register, first_of, cluster_checks}
 use Rattle.bm_base.specs.Promises.Lawful.{IsLawfulCluster}
-use Rattle.bm_base.proofs.Checks.{all_fail}
 use Rattle.bm_base.proofs.Options.{there}
 use Rattle.bm_parts.specs.LevelLaws.{IsRacked}
 use Rattle.bm_parts.specs.PlacedLaws.{IsPlaced}

@@ -1,9 +1,9 @@
 -- New shards.
-use Rattle.std.specs.Prelude.{◌≡◌, ℕ, suc, ◌+◌, ◌≤◌, Bool, true, false, not, ◌&&◌, nat_le, None, List, [], ◌∷◌, ◌++◌, length, ◌==◌}
+use Rattle.std.specs.Prelude.{◌≡◌, ℕ, suc, ◌+◌, ◌≤◌, Bool, true, false, not, ◌&&◌, nat_le, None, List, [], ◌∷◌, ◌++◌, length}
 use Rattle.std.proofs.Common.{refl, sym, subst, ◌∙◌, arith}
 use Rattle.bm_base.specs.declared.config.Config.{Config}
 use Rattle.bm_base.specs.Words.{Order, empty, Cluster, empty_holdings, config_refusal, is_up_to, first_of, ◌when◌}
-use Rattle.bm_base.specs.Shards.{shard_of, cut}
+use Rattle.bm_base.specs.Shards.{cut}
 use Rattle.bm_base.specs.declared.refusal.Refusal.TheVariants.{BadConfig}
 use Rattle.std.proofs.lemmas.Bool.{leb-true}
 use Rattle.bm_base.proofs.MapLaws.{get-empty}

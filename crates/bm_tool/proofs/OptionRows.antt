@@ -2,13 +2,14 @@
 use Rattle.std.proofs.Common.{◌≡◌, ◌∙◌, ap, Bool, true, false, List, [], ◌∷◌, ◌++◌, fold, Option, Some, None, refl, sym}
 use Rattle.std.specs.Prelude.{find, slice_get}
 use Rattle.std.specs.List.{list_any}
-use Rattle.std.specs.Option.{option_map_or, option_or}
+use Rattle.std.specs.Option.{option_map_or}
 use Rattle.std.specs.Str.{bytes_eq}
 use Rattle.std.proofs.lemmas.List.Folds.{find-append}
 use Rattle.std.proofs.lemmas.List.Sums.{fold-append}
 use Rattle.clap.specs.Walk.{Row, Rule, Text, at_row, default_rows, first_of, has_row, more_values, reading_by, with_default}
 use Rattle.clap.specs.declared.parser.matches.ValueSource.TheVariants.{DefaultValue}
 use Rattle.bm_tool.specs.Options.{number_of}
+use Rattle.bm_base.proofs.Options.{or_none}
 
 abbrev pub has_name : Text → Rule → Bool
 has_name name a = bytes_eq a.id name
@@ -38,10 +39,6 @@ nothing_found id (r ∷ rs) none = go (bytes_eq r.id id) refl (nothing_found id 
     go false e rest =
         let tail : has_row id rs ≡ false = rw e at none in
         rw e (rest tail)
-
-or_none : {X : Type 0} (o : Option X) → option_or o None ≡ o
-or_none None = refl
-or_none (Some x) = refl
 
 -- a row at the end for another name
 other_row : (name : Text) (rows : List Row) (row : Row) → bytes_eq row.id name ≡ false → first_of name (rows ++ row ∷ []) ≡ first_of name rows

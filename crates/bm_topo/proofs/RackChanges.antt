@@ -8,7 +8,6 @@ use Rattle.std.specs.FinMap.Entries.{below_all}
 use Rattle.std.proofs.lemmas.List.{length-map}
 use Rattle.std.proofs.lemmas.List.Sums.{sum_by-cons, count_by-le-length}
 use Rattle.std.proofs.lemmas.Bool.{eqb-true, eqb-false, eq-eqb, ne_eqb}
-use Rattle.std.specs.Cmp.{both_ways}
 use Rattle.bm_base.specs.Maps.Conjunction.{first, second}
 use Rattle.bm_base.specs.Maps.Map.{Map, by_number, entries, get, insert, remove, alter, revise, revise_at, len}
 use Rattle.bm_base.specs.Maps.Altered.{with_value, alter_values}

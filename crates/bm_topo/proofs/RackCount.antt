@@ -10,6 +10,7 @@ use Rattle.bm_base.proofs.MapLaws.{same_map, get-insert, get-empty}
 use Rattle.bm_base.proofs.Ties.{number_tie}
 use Rattle.bm_base.proofs.Differences.{len-insert}
 use Rattle.bm_base.proofs.Clusters.{eqb_turned}
+use Rattle.bm_base.proofs.Options.{cond_same}
 use Rattle.bm_topo.specs.Racks.{on_rack, racks_of, positive_or_none, CountsRacks}
 
 abbrev listed : (ℕ → ℕ) → List ℕ → List (ℕ × ℕ)
@@ -18,10 +19,6 @@ listed f xs = map (λ x. (x, f x)) xs
 abbrev marked : List ℕ → List (ℕ × Unit {0})
 marked xs = map (λ x. (x, tt)) xs
 
-same_either : {X : Type 0} (b : Bool) (v : X) → cond b v v ≡ v
-same_either true v = refl
-same_either false v = refl
-
 -- what is read once each of the numbers has its value
 get-listed : (f : ℕ → ℕ) (xs : List ℕ) (m : Map by_number ℕ) (r : ℕ) → get (insert_all m (listed f xs)) r ≡ cond (has xs r) (Some (f r)) (get m r)
 get-listed f [] m r = refl
@@ -29,7 +26,7 @@ get-listed f (x ∷ xs) m r =
     get-listed f xs (insert m x (f x)) r
     ∙ ap (cond (has xs r) (Some (f r))) (get-insert m x (f x) r ∙ ap (λ b. cond b (Some (f x)) (get m r)) (number_tie r x ∙ eqb_turned r x))
     ∙ elim (x == r) as (λ b. (x == r) ≡ b → cond (has xs r) (Some (f r)) (cond b (Some (f x)) (get m r)) ≡ cond (b || has xs r) (Some (f r)) (get m r)) [
-      | true ↦ λ t. ap (λ n. cond (has xs r) (Some (f r)) (Some n)) (ap f (eqb-true x r t)) ∙ same_either (has xs r) (Some (f r))
+      | true ↦ λ t. ap (λ n. cond (has xs r) (Some (f r)) (Some n)) (ap f (eqb-true x r t)) ∙ cond_same (has xs r) (Some (f r))
       | false ↦ λ t. refl
     ] refl
 

@@ -1,12 +1,12 @@
 -- The head of a text ends with the first line that is not blank, or is the whole text.
-use Rattle.std.proofs.Common.{◌≡◌, ℕ, zero, suc, Bool, true, false, cond, not, ◌||◌, List, [], ◌∷◌, ◌++◌, drop, length, Option, Some, None, IfSome, refl, sym, ap, subst, ◌∙◌, append_assoc, append-nil}
+use Rattle.std.proofs.Common.{◌≡◌, ℕ, zero, suc, Bool, true, false, cond, not, ◌||◌, List, [], ◌∷◌, ◌++◌, drop, length, Option, Some, None, IfSome, refl, sym, ap, subst, ◌∙◌, append-nil}
 use Rattle.std.specs.List.{find, list_any}
 use Rattle.std.specs.Io.{StartsWith, appended_bytes}
 use Rattle.std.specs.Io.KnownBytes.{Consumes, IsAtEnd}
 use Rattle.std.proofs.lemmas.List.{take-append-drop}
 use Rattle.std.proofs.KnownBytes.{Consumes-trans}
 use Rattle.std.proofs.lemmas.Bool.{or_right}
-use Rattle.cluster_input.specs.Kinds.{is_blank, is_brace, are_lines, IsHead, IsHeadOf}
+use Rattle.cluster_input.specs.Kinds.{is_blank, is_brace, are_lines, IsHeadOf}
 
 -- the first byte that is not blank in the front is the first in the whole
 find_in : (p : ℕ → Bool) (xs ys : List ℕ) → list_any p xs ≡ true → find p (xs ++ ys) ≡ find p xs

@@ -1,6 +1,6 @@
 -- Clusters with the same nodes and storages, seen one by one, are the same.
 use Rattle.std.proofs.Common.{◌≡◌, ◌∙◌, ℕ, inl, inr, Bool, true, false, cond, ◌||◌, List, [], ◌∷◌, Option, Some, None, refl, sym, ap, map}
-use Rattle.std.specs.Prelude.{◌==◌, if◌then◌else◌, is_some, unwrap_or, option_map}
+use Rattle.std.specs.Prelude.{◌==◌, if◌then◌else◌, unwrap_or, option_map}
 use Rattle.std.specs.Option.{option_map_or}
 use Rattle.std.proofs.lemmas.Bool.{cases_Bool, eqb-true, false≢true}
 use Rattle.bm_base.specs.declared.storage.StorageInfo.{StorageInfo}
@@ -12,6 +12,7 @@ use Rattle.bm_base.proofs.ForEach.{Each}
 use Rattle.bm_base.proofs.MapEntries.{each_entry}
 use Rattle.bm_base.proofs.MapLaws.{same_map}
 use Rattle.bm_base.proofs.Sets.{has_keys}
+use Rattle.bm_base.proofs.Options.{same_unit}
 use Rattle.cluster_losses.specs.Alike.{seen_node, seen_nodes, seen_storage, seen_storages}
 use Rattle.cluster_losses.specs.declared.snapshot.SeenNode.{SeenNode}
 use Rattle.cluster_losses.specs.declared.snapshot.SeenStorage.{SeenStorage}
@@ -56,12 +57,6 @@ agree_at f g (k ∷ ks) n e h =
       | false ↦ λ _ later. agree_at f g ks n (ap rest_of e) later
     ]) refl h
 
-same_members : (o p : Option (Unit {0})) → is_some o ≡ is_some p → o ≡ p
-same_members None None e = refl
-same_members None (Some y) e = cc
-same_members (Some x) None e = cc
-same_members (Some x) (Some y) e = refl
-
 drains_nowhere : (E : Cluster) → IsLawfulCluster E → (n : ℕ) → contains_key E.nodes n ≡ false → drains E n ≡ false
 drains_nowhere E lawful n none = elim (cases_Bool (drains E n)) [
   | inl does ↦ absurd (false≢true (sym none ∙ lawful.draining_alive n does))
@@ -92,7 +87,7 @@ module _ (C D : Cluster) (lawful_C : IsLawfulCluster C) (lawful_D : IsLawfulClus
 
   draining_same : ((n : ℕ) → drains C n ≡ drains D n) → C.draining ≡ D.draining
   unfolding drains
-  draining_same same = same_map C.draining D.draining (λ n. same_members (get C.draining n) (get D.draining n) (same n))
+  draining_same same = same_map C.draining D.draining (λ n. same_unit (get C.draining n) (get D.draining n) (same n))
 
   pub same_cluster : seen_nodes C ≡ seen_nodes D → seen_storages C ≡ seen_storages D → C ≡ D
   same_cluster by_node by_storage =

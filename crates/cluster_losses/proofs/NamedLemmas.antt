@@ -1,9 +1,8 @@
 -- What words name, one after another.
-use Rattle.std.proofs.Common.{◌≡◌, ◌∙◌, ℕ, Bool, true, false, cond, List, [], ◌∷◌, ◌++◌, Some, None, refl, sym, ap, drop, length, get_or, option_map, arith}
-use Rattle.std.specs.Prelude.{◌==◌, ◌||◌, ◌+◌, ◌<◌, zero, suc, slice_get, if◌then◌else◌}
+use Rattle.std.proofs.Common.{◌≡◌, ◌∙◌, ℕ, Bool, true, false, cond, List, [], ◌∷◌, ◌++◌, Some, None, refl, sym, ap, drop, option_map}
+use Rattle.std.specs.Prelude.{◌==◌, ◌+◌, zero, suc, slice_get, if◌then◌else◌}
 use Rattle.std.specs.List.{find}
-use Rattle.std.proofs.lemmas.Bool.{false≢true, or_from, or_parts}
-use Rattle.std.proofs.lemmas.Option.{slice_get-get_or}
+use Rattle.std.proofs.lemmas.Bool.{or_from, or_parts}
 use Rattle.std.proofs.lemmas.List.Folds.{list_any-append}
 use Rattle.std.proofs.lemmas.List.Sums.{fold-append}
 use Rattle.bm_base.specs.Words.{Cluster, has, has_repeats}
@@ -80,12 +79,6 @@ module _ (C : Cluster) (names : Names) where
   fault_stays ls rest l faults.Excess same is = is
   fault_stays ls rest l faults.NotSetBack same is = is
   fault_stays ls rest l (faults.Refused r) same is = is
-
-next_word : {X : Type 0} (xs : List X) (i : ℕ) (x : X) → slice_get xs i ≡ Some x → drop i xs ≡ x ∷ drop (i + 1) xs
-next_word xs i x h = by xs i h ∙ ap (λ n. x ∷ drop n xs) (one i)
-  where
-    one : (i : ℕ) → suc i ≡ i + 1
-    one i = omega arith
 
     by : (xs : List _) (i : ℕ) → slice_get xs i ≡ Some x → drop i xs ≡ x ∷ drop (suc i) xs
     by [] zero h = cc

@@ -1,9 +1,8 @@
 -- What a book has after an event that is accepted, and lists of losses.
-use Rattle.std.proofs.Common.{◌≡◌, ℕ, Bool, true, false, not, ◌||◌, Option, Some, None, List, [], ◌∷◌, ◌++◌, refl, sym, ap, subst, ◌∙◌}
+use Rattle.std.proofs.Common.{◌≡◌, ℕ, Bool, true, false, not, ◌||◌, None, List, [], ◌∷◌, ◌++◌, refl, sym, ap, subst, ◌∙◌}
 use Rattle.std.specs.List.{fold, list_any}
 use Rattle.std.proofs.lemmas.List.Folds.{list_any-append}
 use Rattle.bm_base.specs.declared.event.Event.{Event}
-use Rattle.bm_base.specs.declared.refusal.Refusal.{Refusal}
 use Rattle.bm_base.specs.Words.{Cluster, Holdings, State, change_cluster, change_holdings, ◌before◌, first_of, cluster_checks, refusal_of, after_event, missing_blocks}
 use Rattle.bm_base.specs.Promises.Lawful.{IsLawful}
 use Rattle.cluster_lost.specs.Losses.{is_loss, are_losses, AreMissing}

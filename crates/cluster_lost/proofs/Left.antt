@@ -1,9 +1,8 @@
 -- The replicas that remain after losses.
-use Rattle.std.proofs.Common.{◌≡◌, ℕ, ◌≤◌, Bool, true, false, cond, not, ◌&&◌, ◌||◌, Option, Some, None, List, [], ◌∷◌, map, filter, length, refl, sym, ap, ◌∙◌, eqb-true, eq-eqb}
+use Rattle.std.proofs.Common.{◌≡◌, ℕ, ◌≤◌, Bool, true, false, cond, not, ◌&&◌, ◌||◌, Some, None, List, [], ◌∷◌, map, filter, length, refl, sym, ap, ◌∙◌}
 use Rattle.std.specs.Prelude.{◌==◌, if◌then◌else◌, option_and_then, option_map}
 use Rattle.std.specs.Option.{option_map_or}
-use Rattle.std.specs.List.{fold, list_any}
-use Rattle.std.proofs.lemmas.Bool.{and_parts}
+use Rattle.std.specs.List.{list_any}
 use Rattle.std.proofs.Math.Bool.{and-true}
 use Rattle.bm_base.specs.declared.replica.ReplicaId.{ReplicaId}
 use Rattle.bm_base.specs.declared.replica.Marks.{Marks}
@@ -11,15 +10,14 @@ use Rattle.bm_base.specs.declared.replica.BlockInfo.{BlockInfo}
 use Rattle.bm_base.specs.declared.storage.StorageInfo.{StorageInfo}
 use Rattle.bm_base.specs.declared.event.Event.{Event}
 use Rattle.bm_base.specs.declared.event.Event.TheVariants.{Register, Dead, StorageFailed, Heartbeat, Drain, Undrain, AddBlock, DeleteBlock, SetReplication, Restamp, Received, Deleted, Corrupt, FullReport}
-use Rattle.bm_base.specs.Words.{Map, entries, get, keep, remove, contains_key, Cluster, Holdings, State, by_replica, is_usable, is_live_on, is_drained_on, is_draining, node_of, has_storage, storages_where, usable, live, drained, racks, is_multi_rack, level, level_of, is_at, change_cluster, change_holdings, without_node, without_storage, without_storages, drain, begin_drain, after_event}
+use Rattle.bm_base.specs.Words.{entries, get, keep, remove, Cluster, Holdings, State, by_replica, is_usable, is_live_on, is_drained_on, is_draining, node_of, has_storage, storages_where, usable, live, drained, racks, is_multi_rack, level, level_of, is_at, change_cluster, change_holdings, without_node, without_storage, without_storages, drain, begin_drain, after_event}
 use Rattle.bm_base.specs.declared.level.Level.TheVariants.{NoUsableReplica}
-use Rattle.bm_base.specs.Promises.Lawful.{IsLawfulHoldings}
 use Rattle.bm_base.proofs.MapLaws.{get-keep, get-remove, entries-keep}
 use Rattle.bm_base.proofs.Options.{there, all_stays}
 use Rattle.bm_base.proofs.Ties.{number_tie}
 use Rattle.bm_base.proofs.ListTests.{any_map, any_filter, any_agree}
 use Rattle.cluster_lost.specs.Losses as losses
-use Rattle.cluster_lost.specs.Losses.{is_loss, are_losses, after_losses, takes, is_taken, is_missing, has_replica_left}
+use Rattle.cluster_lost.specs.Losses.{is_loss, are_losses, after_losses, takes, is_taken, is_missing}
 use Rattle.cluster_lost.proofs.Tests.{none_if_empty, any_either, neither, level_is_missing}
 
 -- a test of the storages of a block's replicas, as a test of one of the entries

@@ -1,19 +1,19 @@
 -- The lost blocks are those that are missing after the losses and not before.
-use Rattle.std.proofs.Common.{◌≡◌, ℕ, ◌+◌, ◌<◌, Bool, true, false, not, ◌&&◌, ◌||◌, cond, Option, is_some, Some, None, List, [], ◌∷◌, map, filter, take, get_or, length, refl, sym, ap, ◌∙◌, eqb-true}
+use Rattle.std.proofs.Common.{◌≡◌, ℕ, ◌+◌, ◌<◌, Bool, true, false, not, ◌&&◌, ◌||◌, cond, Option, is_some, Some, None, List, [], ◌∷◌, filter, take, get_or, length, refl, sym, ap, ◌∙◌, eqb-true}
 use Rattle.std.specs.Prelude.{◌==◌}
 use Rattle.std.specs.List.{list_any}
 use Rattle.std.proofs.lemmas.List.Folds.{list_any_more}
 use Rattle.std.proofs.Math.Bool.{and-true, and_comm}
 use Rattle.bm_base.specs.declared.replica.BlockInfo.{BlockInfo}
 use Rattle.bm_base.specs.declared.event.Event.{Event}
-use Rattle.bm_base.specs.Words.{has, Map, by_number, get, insert, entries, keys, contains_key, Cluster, Holdings, State, usable, missing_blocks}
+use Rattle.bm_base.specs.Words.{has, Map, by_number, get, insert, entries, keys, contains_key, State, usable, missing_blocks}
 use Rattle.bm_base.proofs.ForEach.{Each, each_mapped, each_then}
 use Rattle.bm_base.proofs.MapEntries.{each_entry, passes_entry}
 use Rattle.bm_base.proofs.MapLaws.{get-insert}
 use Rattle.bm_base.proofs.Options.{there, is_there}
 use Rattle.bm_base.proofs.Ties.{number_tie}
 use Rattle.bm_base.proofs.Clusters.{eqb_turned}
-use Rattle.bm_base.proofs.ListTests.{any_map, any_filter, filter_filter, same_again, has_filter}
+use Rattle.bm_base.proofs.ListTests.{any_map, filter_filter, same_again, has_filter}
 use Rattle.cluster_lost.specs.Losses.{after_losses, is_missing, is_lost, has_replica, has_replica_left, lost_blocks, AreMissing}
 use Rattle.cluster_lost.proofs.Tests.{none_if_empty}
 use Rattle.cluster_lost.proofs.Left.{left_law, blocks_stay, missing_is_unusable}

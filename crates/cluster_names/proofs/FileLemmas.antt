@@ -1,7 +1,6 @@
 -- Laws of paths in a set of texts, and of blocks in a map.
-use Rattle.std.proofs.Common.{◌≡◌, ℕ, suc, ◌+◌, Bool, true, false, not, cond, List, [], ◌∷◌, ◌++◌, ◌||◌, map, length, nat_lt, Option, Some, None, is_some, position, String, string_bytes, refl, sym, ap, ◌∙◌}
+use Rattle.std.proofs.Common.{◌≡◌, ℕ, ◌+◌, Bool, true, false, not, cond, List, [], ◌∷◌, ◌++◌, ◌||◌, map, Some, None, position, String, string_bytes, refl, sym, ap, ◌∙◌}
 use Rattle.std.specs.List.{list_any, position_or_len}
-use Rattle.std.specs.Map.{lookup}
 use Rattle.std.specs.Str.{bytes_eq}
 use Rattle.std.specs.String.{string_eq}
 use Rattle.std.proofs.lemmas.List.{map_push}
@@ -9,7 +8,6 @@ use Rattle.indexmap.specs.IndexSet.{insert_key}
 use Rattle.cluster_names.specs.Rows.{Text}
 use Rattle.cluster_names.specs.FileTable.{FileTable, path_index, with_path}
 use Rattle.cluster_names.specs.declared.files.FilePlace.{FilePlace}
-use Rattle.cluster_names.proofs.RowLemmas.{none_if}
 
 module _ {A B : Type 0} (p : B → Bool) (f : A → B) where
   list_any-map : (xs : List A) → list_any p (map f xs) ≡ list_any (λ x. p (f x)) xs

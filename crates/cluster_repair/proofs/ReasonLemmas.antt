@@ -1,13 +1,11 @@
 -- Why blocks stay as they are.
-use Rattle.std.proofs.Common.{◌≡◌, ◌∙◌, ◌++◌, ◌∷◌, [], ◌<◌, ◌≤◌, ℕ, zero, suc, Bool, true, false, cond, List, refl, sym, ap, subst, arith, length, take, drop, filter, get_or, inl, inr, ⊎_elim}
+use Rattle.std.proofs.Common.{◌≡◌, ◌∙◌, ◌++◌, ◌∷◌, [], ◌<◌, ◌≤◌, ℕ, Bool, true, false, List, sym, ap, subst, arith, length, take, drop, filter, get_or, inl, inr, ⊎_elim}
 use Rattle.std.specs.Prelude.{◌==◌, ◌⊎◌, AllPairs, nat_lt, nat_le}
 use Rattle.std.specs.List.Sorted.{IsNonDecreasingBy, IsPartitionPoint}
 use Rattle.std.proofs.lemmas.Bool.{cases_lt}
-use Rattle.std.proofs.lemmas.Bool.Decides.{nat_tests}
-use Rattle.std.proofs.lemmas.List.{append-nil, take-append-drop}
+use Rattle.std.proofs.lemmas.List.{append-nil}
 use Rattle.std.proofs.lemmas.List.Elements.{All-nil, All-same, All-push}
-use Rattle.bm_base.proofs.ForEach.{Each, each_all, each_take, each_both, each_then}
-use Rattle.bm_base.proofs.ListTests.{filter_append}
+use Rattle.bm_base.proofs.ForEach.{Each, each_take, each_both, each_then}
 use Rattle.bm_base.specs.declared.replica.Replica.{Replica}
 use Rattle.bm_base.specs.Words.{Holdings, all_replicas}
 use Rattle.bm_parts.specs.QueryLaws.{replica_key}

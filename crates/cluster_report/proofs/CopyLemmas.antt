@@ -6,7 +6,6 @@ use Rattle.std.specs.Cmp.{both_ways}
 use Rattle.std.specs.List.{flat_map, list_any}
 use Rattle.std.proofs.lemmas.Bool.{lt-ltb, or_left, and_from, or_right}
 use Rattle.std.proofs.lemmas.List.{take_more, map-append}
-use Rattle.std.proofs.lemmas.List.Folds.{list_any-append}
 use Rattle.std.proofs.lemmas.Grind.{flat_map-append}
 use Rattle.std.proofs.Math.Bool.{and-false}
 use Rattle.bm_base.specs.declared.replica.ReplicaId.{ReplicaId}

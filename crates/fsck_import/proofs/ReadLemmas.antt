@@ -1,5 +1,5 @@
 -- Reading a known text line by line gives the state after all its lines, or its first refused line.
-use Rattle.std.proofs.Common.{◌≡◌, ℕ, ◌+◌, ◌<◌, [], ◌∷◌, ◌++◌, Option, Some, None, IfSome, Result, Ok, length, arith, refl, sym, ap, subst, ◌∙◌}
+use Rattle.std.proofs.Common.{◌≡◌, ℕ, ◌+◌, ◌<◌, [], ◌∷◌, ◌++◌, Option, Some, IfSome, Result, Ok, length, arith, refl, sym, ap, subst, ◌∙◌}
 use Rattle.std.specs.Io.BufRead.{take_through, drop_through}
 use Rattle.std.specs.Io.KnownBytes.{IsAtEnd}
 use Rattle.bm_lines.specs.Lines.{lines_of}
@@ -11,13 +11,7 @@ use Rattle.fsck_import.specs.declared.fault.Unread.{Unread}
 use Rattle.fsck_import.specs.declared.fault.Fault.{Fault}
 use Rattle.fsck_import.specs.declared.fault.Fault.TheVariants as fault
 use Rattle.fsck_import.proofs.TextLemmas.{lines_of-through}
-
-pub each_some : {A : Type 0} {P : A → Type 0} (o : Option A) → ((x : A) → o ≡ Some x → P x) → IfSome o P
-each_some None h = tt
-each_some (Some x) h = h x refl
-
-pub at_some : {A : Type 0} (P : A → Type 0) (o : Option A) (x : A) → o ≡ Some x → IfSome o P → P x
-at_some P o x e h = subst (λ p. IfSome p P) e h
+use Rattle.bm_base.proofs.Options.{at_some}
 
 lines_of-none : lines_of [] ≡ []
 unfolding lines_of

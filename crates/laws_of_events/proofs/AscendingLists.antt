@@ -1,5 +1,5 @@
 -- The lists of queries are strictly ascending.
-use Rattle.std.proofs.Common.{◌≡◌, ℕ, zero, suc, ◌<◌, Bool, true, false, cond, ◌&&◌, List, [], ◌∷◌, map, filter, length, AllPairs, inl, inr, refl, sym, subst, ◌∙◌, map-id, T, Ordering, Less, Equal, Greater, is_lt, eqb-true, arith}
+use Rattle.std.proofs.Common.{◌≡◌, ℕ, zero, suc, ◌<◌, Bool, true, false, cond, ◌&&◌, List, [], ◌∷◌, map, filter, length, AllPairs, inl, inr, refl, sym, subst, ◌∙◌, map-id, T, Ordering, Less, Equal, Greater, eqb-true, arith}
 use Rattle.bm_parts.specs.QueryLaws.{replica_key}
 use Rattle.std.specs.Prelude.{◌==◌, slice_index_or}
 use Rattle.std.specs.Ordering.{nat_cmp, ordering_then}
@@ -13,6 +13,7 @@ use Rattle.bm_base.specs.Maps.Conjunction.{first, second}
 use Rattle.bm_base.specs.declared.level.Level.TheVariants.{NoUsableReplica}
 use Rattle.bm_base.specs.Words.{Map, Order, by_number, entries, keys, Cluster, Holdings, by_replica, replica_cmp, is_good, is_corrupt, storages_where, level, is_at, all_replicas, replicas_where, missing_blocks, blocks_on}
 use Rattle.bm_base.proofs.ForEach.{Each, each_mapped, each_then, each_filtered, each_passing, each_both}
+use Rattle.bm_base.proofs.Orderings.{is_less}
 use Rattle.laws_of_events.specs.Queries as law
 
 -- each item is before all later ones
@@ -50,15 +51,10 @@ ascend_filtered B p (x ∷ xs) h = passing_head B p x (p x) (filter p xs) refl (
 
 -- Entries are ascending.
 
-less : (r : Ordering) → T (is_lt r) → r ≡ Less
-less Less h = refl
-less Equal h = absurd h
-less Greater h = absurd h
-
 module _ {K X : Type 0} (R : K → K → Ordering) where
   below_each : (k : K) (es : List (K × X)) → T (below_all R k es) → Each (λ e. R k e.0 ≡ Less) es
   below_each k [] h = tt
-  below_each k (e ∷ es) h = (less (R k e.0) (first _ _ h), below_each k es (second _ _ h))
+  below_each k (e ∷ es) h = (is_less (R k e.0) (first _ _ h), below_each k es (second _ _ h))
 
   sorted_ascend : (es : List (K × X)) → T (is_sorted R es) → Rise (λ e f. R e.0 f.0 ≡ Less) es
   sorted_ascend [] h = tt

@@ -2,7 +2,6 @@
 use Rattle.std.proofs.Common.{◌≡◌, ℕ, Bool, true, false, cond, ◌&&◌, ◌||◌, Option, Some, is_some, List, [], ◌∷◌, map, filter, refl, sym, ap, subst, ◌∙◌, T, Ordering, Less, Equal, Greater, is_lt, eqb-true}
 use Rattle.std.specs.Prelude.{◌==◌}
 use Rattle.std.specs.Ordering.{eq_by_cmp, nat_cmp, ordering_then}
-use Rattle.std.specs.Cmp.{nat_cmp_total, tied_itself}
 use Rattle.std.specs.FinMap.{find, is_sorted}
 use Rattle.std.specs.FinMap.Entries.{same_entries, below_all}
 use Rattle.std.proofs.Math.Bool.{or-false}
@@ -14,7 +13,8 @@ use Rattle.bm_base.specs.Words.{Map, by_number, get, insert, insert_all, empty, 
 use Rattle.bm_base.proofs.MapLaws.{get-insert, get-empty}
 use Rattle.bm_base.proofs.Ties.{number_tie, replica_tie}
 use Rattle.bm_base.proofs.Clusters.{eqb_turned}
-use Rattle.laws_of_events.proofs.EventCounts.{same_unit}
+use Rattle.bm_base.proofs.Orderings.{lesser_block}
+use Rattle.bm_base.proofs.Options.{same_unit}
 use Rattle.laws_of_events.proofs.ReportLaws.{is_exact}
 use Rattle.laws_of_events.specs.Reports as law
 
@@ -35,11 +35,6 @@ module _ (s : ℕ) where
   block_first Equal h = h
   block_first Greater h = h
 
-  less_block : (p q : ReplicaId) → p.storage ≡ q.storage → T (is_lt (replica_cmp p q)) → T (is_lt (nat_cmp p.block q.block))
-  less_block p q e h =
-      block_first (nat_cmp p.block q.block)
-      (subst (λ r. T (is_lt (ordering_then (nat_cmp p.block q.block) r))) (ap (nat_cmp p.storage) (sym e) ∙ tied_itself nat_cmp_total p.storage) h)
-
   below_head : (k b : ℕ) (t : Bool) (bs : List ℕ) → (t ≡ true → T (is_lt (nat_cmp k b))) → T (below_all nat_cmp k (marked_all bs)) → T (below_all nat_cmp k (marked_all (cond t (b ∷ bs) bs)))
   below_head k b true bs h g = both _ _ (h refl) g
   below_head k b false bs h g = g
@@ -55,7 +50,7 @@ module _ (s : ℕ) where
   below_blocks q [] is h = tt
   below_blocks q (e ∷ es) is h =
       subst (λ bs. T (below_all nat_cmp q.block (marked_all bs))) (sym (blocks_head e es))
-      (below_head q.block e.0.block (e.0.storage == s) (blocks_in es) (λ t. less_block q e.0 (is ∙ sym (eqb-true e.0.storage s t)) (first _ _ h)) (below_blocks q es is (second _ _ h)))
+      (below_head q.block e.0.block (e.0.storage == s) (blocks_in es) (λ t. lesser_block q e.0 (is ∙ sym (eqb-true e.0.storage s t)) (first _ _ h)) (below_blocks q es is (second _ _ h)))
 
   sorted_head : (b : ℕ) (t : Bool) (bs : List ℕ) → (t ≡ true → T (below_all nat_cmp b (marked_all bs))) → T (is_sorted nat_cmp (marked_all bs)) → T (is_sorted nat_cmp (marked_all (cond t (b ∷ bs) bs)))
   sorted_head b true bs h g = both _ _ (h refl) g

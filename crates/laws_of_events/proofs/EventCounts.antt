@@ -11,6 +11,7 @@ use Rattle.bm_base.specs.declared.replica.Marks.{Marks}
 use Rattle.bm_base.specs.Words.{Map, Order, get, keep, len, entries, contains_key, Holdings, by_replica, new_replicas, done, done_by, after_event}
 use Rattle.bm_base.proofs.Differences.{both_parts}
 use Rattle.bm_base.proofs.MapLaws.{get-keep, entries-keep}
+use Rattle.bm_base.proofs.Options.{same_unit}
 use Rattle.laws_of_events.specs.Changes as law
 use Rattle.laws_of_events.specs.Reports.{held_after}
 
@@ -34,12 +35,6 @@ module _ {K X : Type 0} (R : K → K → Ordering) where
   find_key : (q : K) (es : List (K × X)) → is_some (find R q (keys_only es)) ≡ is_some (find R q es)
   find_key q [] = refl
   find_key q (e ∷ es) = some_key (eq_by_cmp R q e.0) e.1 (find R q (keys_only es)) (find R q es) (find_key q es)
-
-pub same_unit : (x y : Option (Unit {0})) → is_some x ≡ is_some y → x ≡ y
-same_unit None None e = refl
-same_unit None (Some y) e = cc
-same_unit (Some x) None e = cc
-same_unit (Some x) (Some y) e = refl
 
 module _ {K X Y : Type 0} {o : Order K} where
   -- maps with the same keys have the same length

@@ -27,7 +27,6 @@ use Rattle.bm_base.proofs.Clusters.{some_node}
 use Rattle.bm_parts.proofs.RemainingHoldings.{drained_replicas}
 use Rattle.bm_parts.proofs.ChosenCopies.{made_of, unless}
 use Rattle.laws_of_states.proofs.LawfulRounds.{all_pending}
-use Rattle.laws_of_states.proofs.AcceptedEvents.{pending_before}
 use Rattle.bm_parts.proofs.ReportedReplicas.{IsKept, IsPut, enter_origin, enter_pending, report_origin, report_pending, stays_by}
 use Rattle.laws_of_events.proofs.ReportLaws.{held_report, held_received}
 use Rattle.laws_of_events.proofs.BlockChanges.{transfers_reported, transfer_received}

@@ -6,7 +6,7 @@ use Rattle.bm_base.specs.declared.replica.ReplicaId.{ReplicaId}
 use Rattle.bm_base.specs.declared.replica.Tag.{Tag}
 use Rattle.bm_base.specs.declared.replica.Tag.TheVariants.{Good, Stale, Bad, Stray}
 use Rattle.bm_base.specs.declared.storage.StorageInfo.{StorageInfo}
-use Rattle.bm_base.specs.Words.{get, contains_key, Cluster, State, first_state, state_after, is_good, is_stray, drains, is_draining, node_of, has_storage, are_siblings}
+use Rattle.bm_base.specs.Words.{get, contains_key, Cluster, State, first_state, state_after, is_stray, drains, is_draining, node_of, has_storage, are_siblings}
 use Rattle.bm_base.specs.Promises.Lawful.{IsOrderly, IsLawfulCluster}
 use Rattle.bm_base.proofs.Options.{there, not_there}
 use Rattle.bm_base.proofs.Clusters.{node_is, is_on}

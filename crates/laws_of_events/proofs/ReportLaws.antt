@@ -16,17 +16,17 @@ use Rattle.bm_base.specs.declared.replica.Stamp.{Stamp}
 use Rattle.bm_base.specs.declared.replica.BlockInfo.{BlockInfo}
 use Rattle.bm_base.specs.declared.event.Entry.{Entry}
 use Rattle.bm_base.specs.declared.event.Event.TheVariants.{Received, FullReport}
-use Rattle.bm_base.specs.Words.{Map, get, keep, contains_key, entries, has, Cluster, Holdings, State, by_replica, replica_at, replica_cmp, is_good, is_bad, is_stray, are_siblings, ReportedBlock, range_from, expanded, was_bad, was_excess, same_stamp, entered_tag, entered_marks, replaces, enter, is_named, leaves_by_report, report, change_cluster, change_holdings, new_replicas, done, done_by, after_event}
+use Rattle.bm_base.specs.Words.{Map, get, keep, contains_key, has, Cluster, Holdings, State, by_replica, replica_at, replica_cmp, is_good, is_bad, is_stray, are_siblings, ReportedBlock, range_from, expanded, was_bad, was_excess, same_stamp, entered_tag, entered_marks, replaces, enter, is_named, leaves_by_report, report, change_cluster, change_holdings, done, done_by, after_event}
 use Rattle.bm_base.specs.Promises.Lawful.{IsLawfulHoldings, IsOrderly}
 use Rattle.bm_base.proofs.MapLaws.{same_map, get-keep, get-insert}
 use Rattle.bm_base.proofs.Ties.{replica_tie}
 use Rattle.bm_base.proofs.Entries.{expanded-++, reported_by-around, ids_reported, has-count_up}
 use Rattle.bm_base.proofs.Options.{there, staying, none_stays, all_stays, stays_twice}
-use Rattle.bm_base.proofs.ForEach.{Each, each_then}
-use Rattle.bm_base.proofs.MapEntries.{each_entry, get_here}
+use Rattle.bm_base.proofs.ForEach.{Each}
+use Rattle.bm_base.proofs.MapEntries.{get_here}
 use Rattle.bm_base.proofs.Clusters.{no_siblings}
 use Rattle.bm_parts.proofs.ReportedReplicas.{IsKept, IsPut, enter_origin, report_origin, stays_by}
-use Rattle.bm_parts.proofs.OneShard.{none_came, nothing_done}
+use Rattle.bm_parts.proofs.OneShard.{nothing_done}
 use Rattle.laws_of_events.proofs.ReportedMarks.{tag_where, reported_marks}
 use Rattle.laws_of_events.proofs.ReportedReplicas.{named_since, named_numbers, last_is, put_or, reported_here, reported_elsewhere}
 use Rattle.laws_of_events.specs.Reports as law

@@ -1,10 +1,9 @@
 -- What DataNodes report keeps the levels of other blocks.
-use Rattle.std.specs.Prelude.{◌≡◌, ℕ, Bool, true, false, not, ◌==◌, Some}
+use Rattle.std.specs.Prelude.{◌≡◌, ℕ, true, not, ◌==◌}
 use Rattle.std.proofs.Common.{refl, sym, ap, ◌∙◌}
 use Rattle.std.proofs.lemmas.Bool.{false≢true, true≢false, not-true}
-use Rattle.bm_base.specs.declared.event.Event.{Event}
 use Rattle.bm_base.specs.declared.event.Event.TheVariants.{Register, Dead, StorageFailed, Heartbeat, Drain, Undrain, AddBlock, DeleteBlock, SetReplication, Restamp, Received, Deleted, Corrupt, FullReport}
-use Rattle.bm_base.specs.Words.{State, level, change_cluster, change_holdings, after_event}
+use Rattle.bm_base.specs.Words.{change_cluster, change_holdings, after_event}
 use Rattle.bm_base.proofs.ListTests.{same_again}
 use Rattle.bm_parts.proofs.OneBlock.{event_leaves_other_levels}
 use Rattle.bm_parts.proofs.ClusterLevels.{heartbeat_leaves_levels}

@@ -1,16 +1,15 @@
 -- A round gives no block a level that had none: enough live replicas stay, and on two racks.
-use Rattle.std.specs.Prelude.{◌≡◌, ℕ, ◌≤◌, ◌<◌, Bool, true, false, not, ◌&&◌, ◌||◌, ◌==◌, nat_lt, if◌then◌else◌, List, [], ◌∷◌, map, filter, length, Option, Some, None, is_some}
+use Rattle.std.specs.Prelude.{◌≡◌, ℕ, ◌≤◌, Bool, true, false, not, ◌&&◌, nat_lt, if◌then◌else◌, length, Option, Some, None, is_some}
 use Rattle.std.proofs.Common.{refl, sym, ap, subst, ◌∙◌, arith}
-use Rattle.std.proofs.lemmas.Bool.{false≢true, true≢false, ltb-true, or_left}
+use Rattle.std.proofs.lemmas.Bool.{false≢true, ltb-true}
 use Rattle.bm_base.specs.declared.level.Level.{Level}
 use Rattle.bm_base.specs.declared.level.Level.TheVariants.{Highest, VeryUnderReplicated, UnderReplicated, BadlyDistributed, NoUsableReplica}
-use Rattle.bm_base.specs.declared.replica.ReplicaId.{ReplicaId}
 use Rattle.bm_base.specs.declared.replica.Marks.{Marks}
 use Rattle.bm_base.specs.declared.replica.BlockInfo.{BlockInfo}
-use Rattle.bm_base.specs.Words.{get, Cluster, Holdings, State, has, has_repeats, live, is_live_on, is_usable, is_good, is_draining, rack_of, level, storages_where, with_excess_reset, state_at_choice, state_after_expiry, without_expired, without_unordered_excess}
+use Rattle.bm_base.specs.Words.{get, Cluster, State, has, live, is_live_on, is_usable, is_good, is_draining, rack_of, level, storages_where, with_excess_reset, state_at_choice, state_after_expiry, without_expired, without_unordered_excess}
 use Rattle.bm_base.specs.Promises.Lawful.{IsOrderly}
-use Rattle.bm_base.specs.Promises.NextRound.{after_round, unmarked, live_unmarked, live_marked, live_after}
-use Rattle.bm_base.proofs.ListTests.{same_again, and_first, and_second}
+use Rattle.bm_base.specs.Promises.NextRound.{after_round, live_unmarked, live_marked, live_after}
+use Rattle.bm_base.proofs.ListTests.{and_first, and_second}
 use Rattle.bm_base.proofs.Membership.{once_where, revised_where}
 use Rattle.bm_parts.proofs.Storages.{fewer_where}
 use Rattle.laws_of_states.proofs.LiveReplicas.{live_is}
@@ -18,7 +17,7 @@ use Rattle.laws_of_states.proofs.LawfulRounds.{round_orderly}
 use Rattle.laws_of_states.proofs.MarkedReplicas.{after_marked}
 use Rattle.laws_of_rounds.specs.Levels.{need, AreOnOneRack, HasTwoRacks}
 use Rattle.laws_of_rounds.proofs.Needs.{short, level_unknown}
-use Rattle.laws_of_rounds.proofs.OneRack.{level_three, second_there, two_apart, two_has}
+use Rattle.laws_of_rounds.proofs.OneRack.{level_three, two_has}
 use Rattle.laws_of_rounds.proofs.MarkedRacks.{last_stays}
 use Rattle.laws_of_rounds.proofs.DeleteReasons.{live_before_is, leaves_enough}
 use Rattle.laws_of_rounds.proofs.NodeCommands.{same_rest}

@@ -1,6 +1,6 @@
 -- Lists that have all blocks with a level.
-use Rattle.std.specs.Prelude.{◌≡◌, ℕ, ◌+◌, ◌≤◌, Bool, true, false, not, ◌&&◌, ◌||◌, ◌==◌, nat_eq, if◌then◌else◌, List, [], ◌∷◌, ◌++◌, filter, length, count_by, Option, Some, None, is_some}
-use Rattle.std.specs.List.{list_any, dedup}
+use Rattle.std.specs.Prelude.{◌≡◌, ℕ, ◌+◌, ◌≤◌, Bool, true, false, not, ◌&&◌, ◌||◌, ◌==◌, nat_eq, List, [], ◌∷◌, ◌++◌, filter, length, Option, Some, None, is_some}
+use Rattle.std.specs.List.{dedup}
 use Rattle.std.specs.List.Sorted.{IsPermutation}
 use Rattle.std.proofs.Common.{cond, refl, sym, ap, subst, ◌∙◌, arith}
 use Rattle.std.proofs.lemmas.Bool.{false≢true, true≢false, eqb-true, or_left, or_parts, or_right}
@@ -13,7 +13,7 @@ use Rattle.bm_base.specs.declared.level.Level.{Level}
 use Rattle.bm_base.specs.declared.replica.BlockInfo.{BlockInfo}
 use Rattle.bm_base.specs.Words.{get, keys, State, has, has_repeats, level, is_at, after_event, whole_round, count_call}
 use Rattle.bm_base.specs.Promises.Lawful.{IsLawful}
-use Rattle.bm_base.proofs.ListTests.{and_second, same_again, count_without, has_filter, once_filter}
+use Rattle.bm_base.proofs.ListTests.{same_again, count_without, has_filter, once_filter}
 use Rattle.bm_base.proofs.OneWish.{once_keys}
 use Rattle.bm_base.proofs.Options.{is_there}
 use Rattle.bm_base.proofs.Sets.{has_keys, has_once}

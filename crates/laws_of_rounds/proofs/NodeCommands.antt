@@ -3,7 +3,7 @@ use Rattle.std.specs.Prelude.{◌≡◌, ℕ, ◌+◌, ◌≤◌, ◌<◌, ◌�
 use Rattle.std.specs.Option.{option_map_or}
 use Rattle.std.specs.List.{All}
 use Rattle.std.proofs.Common.{cond, refl, sym, ap, subst, ◌∙◌, arith, inl, inr, append_assoc}
-use Rattle.std.proofs.lemmas.Bool.{eqb-true, lt-ltb, false≢true, or_left, or_right}
+use Rattle.std.proofs.lemmas.Bool.{eqb-true, lt-ltb, false≢true}
 use Rattle.bm_base.specs.declared.replica.ReplicaId.{ReplicaId}
 use Rattle.bm_base.specs.declared.replica.Marks.{Marks}
 use Rattle.bm_base.specs.declared.level.Level.TheVariants.{Highest}
@@ -16,7 +16,6 @@ use Rattle.bm_base.specs.Promises.NextRound.{IsAmong, IsTransferCommanded, delet
 use Rattle.std.proofs.lemmas.Option.{same_Some}
 use Rattle.bm_base.proofs.Options.{there}
 use Rattle.bm_base.proofs.ForEach.{Each, each_of, each_then, each_filter_by, each_flat_map, each_any}
-use Rattle.bm_base.proofs.ListTests.{same_again}
 use Rattle.bm_base.proofs.Membership.{has_where}
 use Rattle.laws_of_rounds.proofs.UsableReplicas.{sources_usable}
 use Rattle.laws_of_rounds.proofs.NodeGroups.{each_node, each_on_node, all_of_each}
@@ -24,6 +23,7 @@ use Rattle.bm_base.proofs.Sets.{has_keys}
 use Rattle.laws_of_states.proofs.RoundCommands.{IsTested, chosen_deletes_of, deleted_is}
 use Rattle.laws_of_states.proofs.LiveAfterRound.{marks_started, marks_before, remarked, remarked_ordered, surplus_of}
 use Rattle.bm_base.proofs.Options.{revised}
+use Rattle.bm_base.proofs.Slices.{has_middle}
 use Rattle.laws_of_states.proofs.MarkedReplicas.{ordered_by}
 use Rattle.laws_of_states.proofs.CommandedDeletes.{commanded_among}
 use Rattle.laws_of_rounds.proofs.TransferLaws.{node_is, storage_is, streams_of_node, two_below, source_usable}
@@ -213,12 +213,8 @@ chosen_commanded M t lawful at =
 abbrev IsOnAlive : Cluster → Delete → Type 0
 IsOnAlive C d = (n : ℕ) × (has (keys C.nodes) n ≡ true) × (has_storage C n d.storage ≡ true)
 
-has_at : (front back : List ℕ) (n : ℕ) → has (front ++ n ∷ back) n ≡ true
-has_at [] back n = or_left (n == n) (has back n) (same_again n)
-has_at (x ∷ front) back n = or_right (x == n) (has (front ++ n ∷ back) n) (has_at front back n)
-
 pub has_among : (xs : List ℕ) (n : ℕ) → IsAmong xs n → has xs n ≡ true
-has_among xs n h = ap (λ zs. has zs n) h.2 ∙ has_at h.0 h.1 n
+has_among xs n h = ap (λ zs. has zs n) h.2 ∙ has_middle h.0 h.1 n
 
 deletes_alive : (limits : RoundLimits) (C : Cluster) (H : Holdings) → Each (IsOnAlive C) (deletes limits C H)
 unfolding deletes

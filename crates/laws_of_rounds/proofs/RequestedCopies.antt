@@ -3,7 +3,7 @@ use Rattle.std.specs.Prelude.{◌≡◌, ℕ, zero, suc, ◌+◌, ◌*◌, ◌�
 use Rattle.std.specs.Option.{option_map_or}
 use Rattle.std.proofs.Common.{cond, refl, sym, ap, ◌∙◌, arith, inl, inr, append-nil}
 use Rattle.std.proofs.lemmas.Bool.{eqb-true, leb-true, false≢true, true≢false}
-use Rattle.std.proofs.lemmas.List.{length-map, nil_from_length}
+use Rattle.std.proofs.lemmas.List.{length-map, nil_from_length, length-replicate}
 use Rattle.std.proofs.lemmas.List.{length-append}
 use Rattle.bm_base.specs.declared.level.Level.{Level}
 use Rattle.bm_base.specs.declared.level.Level.TheVariants.{Highest, VeryUnderReplicated, UnderReplicated, BadlyDistributed, NoUsableReplica}
@@ -35,10 +35,6 @@ each_about : (b : ℕ) (n : ℕ) (w : RequestedCopy) → (w.block == b) ≡ true
 each_about b zero w e = tt
 each_about b (suc n) w e = (e, each_about b n w e)
 
-length_replicate : {X : Type 0} (n : ℕ) (x : X) → length (replicate n x) ≡ n
-length_replicate zero x = refl
-length_replicate (suc n) x = let rest = length_replicate n x in omega (arith, rest)
-
 module _ (C : Cluster) (H : Holdings) where
   about_if : (urgency : Level) (b : ℕ) (t : Bool) (o : Option BlockInfo)
       → Each (λ w. about b w ≡ true) (if t then option_map_or (λ i. replicate (requested_count C H urgency i.repl b) (record { urgency = urgency; block = b })) o [] else [])
@@ -66,7 +62,7 @@ module _ (C : Cluster) (H : Holdings) where
         let wish : RequestedCopy = record { urgency = urgency; block = b } in
         ap (λ o. length (if is_at urgency (level C H b) then option_map_or (λ j. replicate (requested_count C H urgency j.repl b) wish) o [] else [])) known
         ∙ (elim (is_at urgency (level C H b)) as (λ t. length (if t then replicate (requested_count C H urgency i.repl b) wish else []) ≡ cond t (requested_count C H urgency i.repl b) 0) [
-          | true ↦ length_replicate (requested_count C H urgency i.repl b) wish
+          | true ↦ length-replicate (requested_count C H urgency i.repl b) wish
           | false ↦ refl
         ])
 

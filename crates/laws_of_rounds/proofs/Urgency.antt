@@ -1,12 +1,10 @@
 -- Requested copies ascend by level and block, and so do the transfers that are chosen for them.
-use Rattle.std.specs.Prelude.{◌≡◌, ℕ, zero, suc, ◌≤◌, ◌<◌, ◌⊎◌, Bool, true, false, ◌==◌, nat_lt, if◌then◌else◌, List, [], ◌∷◌, ◌++◌, map, flat_map, replicate, Option, Some, None, option_to_list, T}
+use Rattle.std.specs.Prelude.{◌≡◌, ℕ, zero, suc, ◌≤◌, ◌<◌, ◌⊎◌, Bool, true, false, if◌then◌else◌, List, [], ◌∷◌, ◌++◌, map, flat_map, replicate, Option, Some, None, option_to_list, T}
 use Rattle.std.specs.Option.{option_map_or}
-use Rattle.std.specs.Ordering.{nat_cmp, is_lt}
-use Rattle.std.specs.declared.cmp.Ordering.TheVariants.{Less, Equal, Greater}
+use Rattle.std.specs.Ordering.{nat_cmp}
 use Rattle.std.specs.FinMap.{is_sorted}
 use Rattle.std.specs.FinMap.Entries.{below_all}
-use Rattle.std.proofs.Common.{cond, refl, sym, ap, subst, ◌∙◌, arith, inl, inr, append-nil}
-use Rattle.std.proofs.lemmas.Bool.{ltb-true}
+use Rattle.std.proofs.Common.{refl, sym, ap, subst, ◌∙◌, arith, inl, inr, append-nil}
 use Rattle.bm_base.specs.Maps.Conjunction.{first, second}
 use Rattle.bm_base.specs.declared.level.Level.{Level}
 use Rattle.bm_base.specs.declared.level.Level.TheVariants.{Highest, VeryUnderReplicated, UnderReplicated, BadlyDistributed}
@@ -16,6 +14,7 @@ use Rattle.bm_base.specs.Words.{Map, by_number, get, keys, entries, RoundLimits,
 use Rattle.bm_base.specs.Promises.NextRound.{transfers_chosen}
 use Rattle.std.proofs.lemmas.Option.{same_Some}
 use Rattle.bm_base.proofs.ForEach.{Each, each_of, each_appended, each_then, each_flat_map}
+use Rattle.bm_base.proofs.Orderings.{less_number}
 use Rattle.laws_of_rounds.proofs.ChosenTransfers.{EachAfter, after_push, after_split, IsOfLevel, each_wish, each_replicate}
 use Rattle.laws_of_rounds.proofs.NextRounds.{each_at}
 use Rattle.laws_of_rounds.proofs.RequestedCopies.{of_wish}
@@ -40,20 +39,9 @@ module _ {X : Type 0} (R : X → X → Type 0) where
 
 -- Keys are ascending.
 
-lt_of : (a b : ℕ) → T (is_lt (nat_cmp a b)) → a < b
-lt_of a b =
-    elim (nat_lt a b) as (λ c. nat_lt a b ≡ c → T (is_lt (cond c Less (cond (a == b) Equal Greater))) → a < b) [
-      | true ↦ λ e _. ltb-true a b e
-      | false ↦ λ _ h. absurd (never (a == b) h)
-    ] refl
-  where
-    never : (e : Bool) → T (is_lt (cond e Equal Greater)) → ⊥
-    never true h = h
-    never false h = h
-
 below_each : {X : Type 0} (k : ℕ) (es : List (ℕ × X)) → T (below_all nat_cmp k es) → Each (λ n. k < n) (map (λ e. e.0) es)
 below_each k [] h = tt
-below_each k (e ∷ es) h = (lt_of k e.0 (first _ _ h), below_each k es (second _ _ h))
+below_each k (e ∷ es) h = (less_number k e.0 (first _ _ h), below_each k es (second _ _ h))
 
 ascending : {X : Type 0} (es : List (ℕ × X)) → T (is_sorted nat_cmp es) → Rises (λ k n. k < n) (map (λ e. e.0) es)
 ascending [] h = tt

@@ -1,5 +1,5 @@
 -- The surplus of some storages, and the rest.
-use Rattle.std.specs.Prelude.{◌≡◌, ℕ, zero, suc, ◌+◌, ◌≤◌, Bool, true, false, not, ◌&&◌, ◌||◌, ◌==◌, if◌then◌else◌, List, [], ◌∷◌, filter, length, Option, Some, None, is_some}
+use Rattle.std.specs.Prelude.{◌≡◌, ℕ, zero, suc, ◌+◌, ◌≤◌, Bool, true, false, not, ◌&&◌, ◌||◌, ◌==◌, if◌then◌else◌, List, [], ◌∷◌, filter, length, Option, Some, None}
 use Rattle.std.specs.declared.cmp.Ordering.{Ordering}
 use Rattle.std.specs.Ordering.{is_lt}
 use Rattle.std.specs.Option.{option_map_or}
@@ -9,10 +9,7 @@ use Rattle.bm_base.specs.Words.{Cluster, has, has_repeats, least, excess_cmp, ex
 use Rattle.bm_base.proofs.Clusters.{eqb_turned}
 use Rattle.std.proofs.lemmas.Option.{same_Some, none-some}
 use Rattle.bm_base.proofs.ListTests.{count_without, has_filter, once_filter, filter_filter, same_again, and_second}
-
-all_pass : {X : Type 0} (xs : List X) → filter (λ _. true) xs ≡ xs
-all_pass [] = refl
-all_pass (x ∷ xs) = ap (λ ys. x ∷ ys) (all_pass xs)
+use Rattle.bm_base.proofs.Slices.{all_pass}
 
 -- The least of a list is in the list, and nothing in it comes before the least by the order's first
 -- part.

@@ -5,7 +5,7 @@ use Rattle.bm_base.specs.Maps.Map.{get}
 use Rattle.bm_place.specs.BestTargets.{cmp_of_one_node, are_of_one_node, better_of}
 use Rattle.bm_place.specs.Scan.{scan}
 use Rattle.bm_place.proofs.ScanStart.{scan-more}
-use Rattle.bm_place.proofs.Tables.{drop-next}
+use Rattle.bm_base.proofs.Slices.{drop_next}
 use Rattle.bm_place.proofs.best_targets.best_on_node.Goals as goal
 
 pub loop-storage-preserved : goal.loop-storage-preserved
@@ -21,5 +21,5 @@ loop-storage-preserved c =
     let best = c.better_of-best.ensures ∙ ap (better_of b t) (c.get.ensures ∙ ap (get rows) (c.from.ensures ∙ c.storage.view_is)) in
     ap (λ b. scan cmp_of_one_node (λ c. are_of_one_node c t) (Some b) (filter_map f (drop (i + 1) xs))) best
     ∙ sym (scan-more t b (f e) (filter_map f (drop (i + 1) xs)))
-    ∙ ap (λ ys. scan cmp_of_one_node (λ c. are_of_one_node c t) (Some b) (filter_map f ys)) (sym (drop-next xs i e at))
+    ∙ ap (λ ys. scan cmp_of_one_node (λ c. are_of_one_node c t) (Some b) (filter_map f ys)) (sym (drop_next xs i e at))
     ∙ c.loop-storage.invariant

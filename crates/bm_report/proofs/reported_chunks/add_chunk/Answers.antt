@@ -1,5 +1,5 @@
-use Rattle.std.proofs.Common.{◌≡◌, suc, length, drop, ◌∷◌, [], false, refl, subst, ◌∙◌, arith, add-one}
-use Rattle.std.proofs.Common.{Bool, true, ◌||◌, List, ℕ, map, inl, inr, sym}
+use Rattle.std.proofs.Common.{suc, length, drop, ◌∷◌, [], false, refl, subst, ◌∙◌, arith, add-one}
+use Rattle.std.proofs.Common.{true, List, ℕ, map, inl, inr, sym}
 use Rattle.std.proofs.lemmas.Option.{slice_get_read}
 use Rattle.std.proofs.lemmas.Bool.{or_parts}
 use Rattle.bm_report.specs.declared.types.ReportedSlot.{ReportedSlot}

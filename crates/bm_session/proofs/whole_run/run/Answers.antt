@@ -1,12 +1,12 @@
 use Rattle.std.proofs.Common.{◌≡◌, ◌-◌, List, [], ◌++◌, ℕ, take, drop, refl, ◌∙◌, append-nil, arith, length-append}
-use Rattle.std.proofs.lemmas.List.{length-take-le}
+use Rattle.std.proofs.lemmas.List.{length-take-le, take_all}
 use Rattle.std.proofs.lemmas.Result.{err_from_is_err_and, IfOk-weaker, IfErr-weaker}
 use Rattle.std.proofs.KnownBytes.{Consumes-nil, Consumes-trans, Consumes-kept}
 use Rattle.bm_base.specs.Machine.State.{State, first_state}
 use Rattle.bm_session.specs.declared.limits.TheConstants.{MAX_BYTES}
 use Rattle.bm_session.proofs.LineLemmas.{whole_lines-split}
 use Rattle.bm_session.proofs.ProgressLemmas.{few_lines}
-use Rattle.bm_session.proofs.RunLemmas.{take_whole, take_within, take_split, faulted_at_start, counts_at_start, config_at_start, config_of_piece, config_of_finished, faulted_of_piece, faulted_of_whole, counts_of_piece, too_many_bytes, finished_leaves, finished_causes, text_of_known, flushed_at_start, flushed_of_piece}
+use Rattle.bm_session.proofs.RunLemmas.{take_within, take_split, faulted_at_start, counts_at_start, config_at_start, config_of_piece, config_of_finished, faulted_of_piece, faulted_of_whole, counts_of_piece, too_many_bytes, finished_leaves, finished_causes, text_of_known, flushed_at_start, flushed_of_piece}
 use Rattle.bm_session.proofs.whole_run.run.Goals as goal
 
 pub returns-in_err-session-clause-leaves : goal.returns-in_err-session-clause-leaves
@@ -119,7 +119,7 @@ returns-in_err-take_piece-2-clause-leaves g c =
       q.0 ++ read,
       Consumes-trans _ _ _ _ _ q.1 c.in-Ok.ensures.bytes.0,
       rw (e.1, e.2) (faulted_of_whole c.args.config.now q.0 read _ _ _ _ _ _ _
-          (take_whole MAX_BYTES (q.0 ++ read) (omega (arith, length-append q.0 read, length-take-le c.in-Ok.n c.read.new.buf c.in-Ok.ensures.bound.0, q.2, c.loop-n.invariant.few)))
+          (take_all MAX_BYTES (q.0 ++ read) (omega (arith, length-append q.0 read, length-take-le c.in-Ok.n c.read.new.buf c.in-Ok.ensures.bound.0, q.2, c.loop-n.invariant.few)))
           (omega (arith, length-take-le c.in-Ok.n c.read.new.buf c.in-Ok.ensures.bound.0, c.in-Ok.ensures.last))
           (omega (arith, length-take-le c.in-Ok.n c.read.new.buf c.in-Ok.ensures.bound.0, c.in-Ok.ensures.bound.0, c.loop-n.invariant.buffer_len))
           (c.in_err-take_piece-2.ensures.err (first_state c.args.config.now) _ q.0 q.3)),

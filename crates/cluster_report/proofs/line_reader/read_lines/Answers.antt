@@ -1,7 +1,8 @@
 use Rattle.std.proofs.Common.{◌≡◌, ◌<◌, ◌&&◌, length, arith}
-use Rattle.cluster_report.proofs.ReadLemmas.{Reads, each_some, reads_line, taken_line, taken_all, both_where, neither_where}
+use Rattle.cluster_report.proofs.ReadLemmas.{Reads, reads_line, taken_line, taken_all, both_where, neither_where}
 use Rattle.cluster_report.proofs.line_reader.read_lines.Goals as goal
 use Rattle.cluster_report.proofs.line_reader.read_lines.Goals.{then-all_accepted, else-all_accepted}
+use Rattle.bm_base.proofs.Options.{each_some}
 
 pub returns-in-Ok-eq0-clause-state : goal.returns-in-Ok-eq0-clause-state
 returns-in-Ok-eq0-clause-state g c =

@@ -1,6 +1,7 @@
 use Rattle.std.proofs.Common.{◌++◌, [], ◌∷◌, ap, sym, ◌∙◌, arith}
 use Rattle.bm_base.specs.Maps.Map.{keys}
-use Rattle.cluster_report.proofs.TakenKeys.{take_next, take_keys}
+use Rattle.cluster_report.proofs.TakenKeys.{take_keys}
+use Rattle.bm_base.proofs.Slices.{take_next}
 use Rattle.cluster_report.proofs.nodes.all_storages.Goals as goal
 
 pub loop-place-preserved : goal.loop-place-preserved

@@ -1,7 +1,8 @@
 use Rattle.std.proofs.Common.{◌<◌, length, subst, sym, ◌∙◌, arith}
 use Rattle.std.specs.Io.BufRead.{drop_through}
 use Rattle.fsck_import.specs.Lines.{IsReadFault}
-use Rattle.fsck_import.proofs.ReadLemmas.{Reads, each_some, end_read, reads_line, read_more, refused_more}
+use Rattle.fsck_import.proofs.ReadLemmas.{Reads, end_read, reads_line, read_more, refused_more}
+use Rattle.bm_base.proofs.Options.{each_some}
 use Rattle.fsck_import.proofs.lines.take_lines.Goals as goal
 
 pub returns-in-Ok-eq0-clause-text : goal.returns-in-Ok-eq0-clause-text
