@@ -42,7 +42,7 @@ def are_counted():
     """The pages that say how many there are."""
     count = len(names())
     for page, words in (
-        ("README.md", f"each of {count} changed definitions"),
+        ("README.md", f"{count} changed definitions"),
         ("docs/DEFINITIONS.md", f"has {count} changes of single rules"),
     ):
         want(words in (TOP / page).read_text(), f"{page} does not say {words!r}")
