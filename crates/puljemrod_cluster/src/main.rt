@@ -7,9 +7,9 @@
 //! ```
 //!
 //! `--help` in place of the word names the words, and after a word its options with examples. The
-//! exit status is 0; or 1 after a fault, or if `report` met a refused line; or 2 for invalid
-//! options.
-//! The stored run is a report, which `crates/cluster_report` explains.
+//! exit status is 0. It is 1 after a fault, if `report` or `what-if` met a refused line, or if
+//! `what-if` was asked about a name that the cluster does not have. It is 2 for invalid options.
+//! The stored run is a report, which `crates/cluster_pages/src/lib.rt` explains.
 #![tactic(auto)]
 
 use cluster_pages::report_by_words;
