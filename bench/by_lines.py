@@ -30,7 +30,7 @@ def mix_bits(number):
 
 
 def storages_of(i):
-    """One on a node, and two on different nodes of another rack."""
+    """The storages of block i: one, and two on different nodes of another rack."""
     bits = mix_bits(i)
     first = bits % 256
     rack = (first // 16 + 1 + (bits >> 8) % 256 % 15) % 16
@@ -76,7 +76,8 @@ def heartbeat(node, free):
 
 
 def reports(blocks, is_shuffled):
-    """Of each storage, by ascending number or each in an order of its own."""
+    """A full report of each storage, as a line: its blocks by ascending number, or in an order of
+    the storage's own."""
     held = [[] for _ in range(STORAGES)]
     for i in range(blocks):
         for storage in storages_of(i):
@@ -92,7 +93,7 @@ def reports(blocks, is_shuffled):
 
 
 def drawn_replicas(blocks, count):
-    """Replicas of blocks at equal distances, one each."""
+    """Blocks at equal distances, each with one of its storages."""
     distance = blocks // max(count, 1)
     drawn = []
     for k in range(count):
@@ -103,7 +104,7 @@ def drawn_replicas(blocks, count):
 
 
 def often(blocks):
-    """How many passes of reports, cycles of notices, heartbeats and questions."""
+    """How often each step is done: passes of reports, cycles of notices, heartbeats, questions."""
     if blocks < 10_000:
         return 2, 1, 2_000, 10_000
     return (9 if blocks < 500_000 else 4), (7 if blocks < 500_000 else 3), 200_000, 1_000_000
@@ -162,7 +163,7 @@ class Bench:
         self.put_rate("d_heartbeats_per_s", beats, statistics.median_high(times))
 
     def put_rounds(self):
-        """Of storages with 4 TiB and some more, which the number draws."""
+        """Rounds. Each storage has 4 TiB free and some more bytes, which its number draws."""
         free = [(1 << 42) + (mix_bits(it << 32 | 1) >> 24) for it in range(STORAGES)]
         beats = [[free[it] for it in storages_of_node(node)] for node in range(NODES)]
         self.tool.feed([heartbeat(*it) for it in enumerate(beats)])
@@ -176,7 +177,7 @@ class Bench:
             self.put_millis("e_rounds2to10_ms", statistics.median_high(times))
 
     def put_memory(self):
-        """Of a tool to which replicas come one by one."""
+        """The memory of a tool that got its replicas one by one."""
         held = self.tool.resident_bytes()
         for first in range(0, self.blocks, 100_000):
             lines = []
@@ -189,7 +190,7 @@ class Bench:
 
 
 def figures_by_lines(tool, blocks):
-    """The figures of a run, and the memory of another, by name."""
+    """The figures by name: times of one run, and the memory of another."""
     passes, cycles, beats, questions = often(blocks)
     calls, memory = Bench(tool, blocks), Bench(tool, blocks)
     lines = [add(FIRST_BLOCK + i) for i in range(blocks)]

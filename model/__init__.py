@@ -1,1 +1,1 @@
-"""A model of the line tool, written from docs/RULES.md and docs/FORMATS.md."""
+"""A model of the line tool, by docs/RULES.md and docs/FORMATS.md."""

@@ -22,9 +22,10 @@ class TooMuch(Exception):
 
 
 def lines_of(read):
-    """Each line without its end; `read` answers the next bytes, at most as many as asked for.
+    """Each line without its end. `read(n)` answers the next bytes, at most n.
 
-    A rest that is not empty is a line too. Of a line that is too long, the rest is not kept.
+    A last line without an end counts, unless it is empty. Of a line that is too long, the rest is
+    not kept.
     """
     byte_count = line_count = 0
     rest = b""
@@ -54,8 +55,8 @@ class Pairs(list):
 def value_of(line):
     """The value that `serde_json` reads of the line, or a refusal.
 
-    Python's `json` takes more than `serde_json`: names of no number as NaN, numbers past the
-    floats, halves of pairs of surrogates, and values deep within one another.
+    Python's `json` takes more than `serde_json`: NaN and its like, numbers past the floats, single
+    halves of surrogate pairs, and deeply nested values.
     """
     try:
         value = json.loads(
@@ -71,7 +72,7 @@ def value_of(line):
 
 
 def whole_number(text):
-    """What is not below 2^64 or has a sign is no `u64`: `serde_json` reads it, and it is none."""
+    """The number of a `u64`. A number with a sign, or from 2^64 on, counts as a fraction."""
     is_short = len(text) <= len(str(2**64))
     if not text.startswith("-") and is_short and int(text) < 2**64:
         return int(text)

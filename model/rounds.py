@@ -8,7 +8,7 @@ from model.state import LAST, Stamp, need
 
 
 class Wish(NamedTuple):
-    """For one copy of a block. Tuples are ordered by level, then block number."""
+    """A wish for one copy of a block. Tuples are ordered by level, then block number."""
 
     level: int
     block: int
@@ -140,8 +140,8 @@ def transfers(state):
 
 
 def transfer_for(state, chosen, wish):
-    """A list of one transfer, or of none: T has as many as `work` times the alive nodes, draining
-    ones included, or there is no source, or no target."""
+    """The wish's transfer, in a list. The list is empty if T has `work` transfers for each alive
+    node, draining ones included, or if there is no source or no target."""
     if len(chosen) >= state.limits.work * len(state.nodes):
         return []
     source = least_source(state, chosen, wish)

@@ -127,11 +127,11 @@ class State:
         return {at for at in self.usable(block) if self.is_on_draining_node(at)}
 
     def has_enough_live(self, block):
-        """As many live replicas as wanted, or more."""
+        """Whether at least the wanted number of replicas is live."""
         return len(self.live(block)) >= self.blocks[block].wanted
 
     def has_several_racks(self):
-        """The alive nodes are on two racks or more; draining nodes count."""
+        """Whether the alive nodes are on two racks or more; draining nodes count."""
         return len({node.rack for node in self.nodes.values()}) >= 2
 
     def level(self, block):

@@ -30,9 +30,8 @@
  *   - The calling thread has one MiB of stack left.
  *   - The processor has the instructions of x86-64-v2 (from about 2009 on).
  *
- * What is trusted, next to the proof of what the functions do: the compiler that built the library,
- * the malloc, realloc and free of the process, and that this header says the same as
- * crates/puljemrod.
+ * Trusted, next to the proof of what the functions do: the compiler that built the library; malloc,
+ * realloc and free of the process; that this header says the same as crates/puljemrod.
  */
 #ifndef PULJEMROD_H
 #define PULJEMROD_H
@@ -143,11 +142,11 @@ uint32_t puljemrod_close(puljemrod *handle);
  * next round orders its delete. So add all blocks before the first report, and start rounds after
  * it.
  *
- * PULJEMROD_MEMORY comes only where nothing else refuses the event, but for puljemrod_register,
- * puljemrod_heartbeat and puljemrod_full_report: their lists are copied first, that of a heartbeat
- * into memory kept from earlier ones, if it is large enough. It never comes from
- * puljemrod_delete_block, puljemrod_set_replication, puljemrod_restamp, puljemrod_deleted and
- * puljemrod_corrupt, which take no memory. */
+ * PULJEMROD_MEMORY comes only where nothing else refuses the event. Exceptions are
+ * puljemrod_register, puljemrod_heartbeat and puljemrod_full_report, whose lists are copied first:
+ * that of a heartbeat into memory kept from earlier ones, if it is large enough. PULJEMROD_MEMORY
+ * never comes from puljemrod_delete_block, puljemrod_set_replication, puljemrod_restamp,
+ * puljemrod_deleted and puljemrod_corrupt, which take no memory. */
 
 /* The blocks from `from` to `to`, all with one generation and length. A run that ends before it
  * begins names none. */

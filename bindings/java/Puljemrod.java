@@ -16,7 +16,7 @@ import java.util.Objects;
  *     manager.line("{\"op\":\"register\",\"node\":1,\"rack\":1,\"storages\":[11]}");   // "ok 0 0"
  *     manager.line("{\"op\":\"add\",\"id\":7,\"gen\":1,\"len\":64,\"repl\":1}");
  *     manager.line("{\"op\":\"received\",\"storage\":11,\"id\":7,\"gen\":1,\"len\":64}");
- *     manager.line("{\"op\":\"list_places\",\"id\":7}");                               // "places 7; 11"
+ *     manager.line("{\"op\":\"list_places\",\"id\":7}");   // "places 7; 11"
  * }
  * </pre>
  *
@@ -46,7 +46,7 @@ public final class Puljemrod implements AutoCloseable {
     }
 
     /**
-     * Why a manager could not be opened, or a line not be answered: the number is that of
+     * A manager could not be opened, or a line not be answered. The number is that of
      * docs/FORMATS.md.
      */
     public static final class RefusedException extends RuntimeException {
@@ -62,7 +62,7 @@ public final class Puljemrod implements AutoCloseable {
     private static final int OK = 0;
     private static final int MEMORY = 14;
 
-    /** Where the handle of the C library is; 0 once it is closed. */
+    /** The address of the C library's handle; 0 once it is closed. */
     private long handle;
 
     /**
@@ -81,14 +81,14 @@ public final class Puljemrod implements AutoCloseable {
     /**
      * Answers a line, without a line end. A refusal is an answer too ("refused 5 UnknownBlock").
      * Throws where memory was refused (14): then nothing has changed. After an OutOfMemoryError the
-     * line counts, and only its answer is lost: it has no place in Java's memory, or more bytes
-     * than an array.
+     * line counts, and only its answer is lost: Java has no memory for it, or it has more bytes
+     * than an array can hold.
      */
     public String line(String line) {
         return new String(line(line.getBytes(StandardCharsets.UTF_8)), StandardCharsets.US_ASCII);
     }
 
-    /** The same of bytes. */
+    /** The same for bytes. */
     public synchronized byte[] line(byte[] line) {
         Objects.requireNonNull(line);
         if (handle == 0) {

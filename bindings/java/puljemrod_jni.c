@@ -5,7 +5,7 @@
 #include <jni.h>
 #include <stdlib.h>
 
-/* What an array of Java can hold. */
+/* The most bytes of an array of Java. */
 static const size_t MOST_BYTES = 0x7ffffff7;
 
 JNIEXPORT jlong JNICALL Java_Puljemrod_open(JNIEnv *env, jclass class, jint shards, jint work, jint invalidate,
@@ -26,8 +26,8 @@ JNIEXPORT jlong JNICALL Java_Puljemrod_open(JNIEnv *env, jclass class, jint shar
     return (jlong)(intptr_t)handle;
 }
 
-/* NULL where memory was refused, and then nothing has changed; or where Java cannot hold the answer
- * of a call that counts, and then an OutOfMemoryError is pending. */
+/* Returns NULL where memory was refused, and then nothing has changed. Returns it also where the
+ * call counts but Java cannot hold its answer; then an OutOfMemoryError is pending. */
 JNIEXPORT jbyteArray JNICALL Java_Puljemrod_answer(JNIEnv *env, jclass class, jlong at, jbyteArray line) {
     (void)class;
     puljemrod *handle = (puljemrod *)(intptr_t)at;

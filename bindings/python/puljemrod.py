@@ -40,13 +40,13 @@ STANDARD = {"shards": 1, "work": 2, "invalidate": 1000, "pend": 100}
 
 
 class Fault(Exception):
-    """A line has no answer; the reason is the text. By the tool, the manager has ended and its
-    state is lost."""
+    """A line has no answer; the text is the reason. If the engine is the tool, the manager has
+    ended and its state is lost."""
 
 
 class OutOfMemory(Fault):
-    """Memory was refused. The lines before were answered. By the library, this one changed
-    nothing."""
+    """Memory was refused. The lines before were answered. If the engine is the library, this one
+    changed nothing."""
 
 
 class TooMuch(Fault):
@@ -54,15 +54,15 @@ class TooMuch(Fault):
 
 
 class TextOwed(Fault):
-    """The line is answered, and memory was refused for the text of the answer: `Library.retry`
+    """The line is answered, but memory was refused for the text of the answer. `Library.retry`
     makes it."""
 
 
 class Manager:
     """One block manager. Not for several threads at once.
 
-    Its engine is the library, or the line tool as a child process: the one that is named by its
-    path, else the library if it is built, else the tool. `options` are those of the tool: shards,
+    Its engine is the library, or the line tool as a child process. A path names the engine; without
+    one it is the library if that is built, else the tool. `options` are those of the tool: shards,
     workers, work, invalidate, pend; the library also takes first_round and first_call, and works
     with one thread."""
 
@@ -144,9 +144,9 @@ def load(path):
 class Library:
     """One block manager. Not for several threads at once.
 
-    Options are shards, work, invalidate, pend, first_round and first_call; `workers` is passed
-    over, since the calling thread does all work. Without a `secret`, which only the time of a call
-    depends on, one is drawn."""
+    Options are shards, work, invalidate, pend, first_round and first_call. `workers` is ignored,
+    since the calling thread does all work. A `secret` is drawn if none is given: only the time of a
+    call depends on it."""
 
     def __init__(self, path=LIBRARY, **options):
         self.library, self.handle, self.len = load(path), Handle(), ctypes.c_size_t()
@@ -233,7 +233,7 @@ class Pipe:
         ready.register(source, select.POLLIN)
         ready.register(target, select.POLLOUT)
         rest, answers = memoryview(block), []
-        # The tool reads no further before its answers are taken: so both ends move in one loop.
+        # The tool reads no further until its answers are taken, so one loop serves both pipes.
         while left:
             for end, _ in ready.poll():
                 if end == source:

@@ -2,7 +2,7 @@
 
 Its key exists as long as the lease, and every transaction of a leader compares when that key was
 created. So a deposed leader can write nothing, however late it notices: no clock takes part. Each
-transaction also moves `done`, the position up to which the output is written: so every value is
+transaction also moves `done`, the position up to which the output is written. So every value is
 written once, and a new leader goes on where the old one ended."""
 
 import json
@@ -12,13 +12,14 @@ import time
 from log import LEADER, Batch, Deposed, Stop, append, number_of, numbered, position_of, value_of
 from store import LeaseGone, Store, StoreError, absent, after, created, get, modified, put
 
-# Seconds between two turns of the keeper, and for which a leader's reading may hang.
+# Seconds between two turns of the keeper. Seconds after which a leader whose reader hangs gives
+# way.
 TURN, HANG = 0.25, 60
 # Seconds in which a leader whose manager has ended writes the output that it still has.
 FINISH = 10
 # Bytes and values of one transaction: etcd takes 1.5 MiB and 128 operations.
 MOST_BYTES, MOST_VALUES = (1 << 20) + (1 << 16), 100
-# A page of hashes.
+# The most hashes that are read at once.
 HASHES = 1_000
 
 
@@ -33,14 +34,14 @@ class Leadership:
         self.lease = None
         # When this replica's key as the leader was created; 0 if it does not lead.
         self.epoch = 0
-        # Set where the lease is gone: the publisher then lets etcd decide.
+        # Set once the lease is gone: then the publisher lets etcd decide.
         self.doubt = False
         self.read_at = time.monotonic()
         self.confirmed = 0
         self.status_at = 0
-        # A round is sent when `round_at` has come, and all up to `sent_round` were sent.
+        # The next round is due at `round_at`; those up to `sent_round` were sent.
         self.round_at, self.sent_round = 0, -1
-        # The lease of answers and commands, and until when new ones are written under it.
+        # The lease of answers and commands, and the time until which new ones are put under it.
         self.keep_lease = self.keep_until = 0
         self.threads = [threading.Thread(target=self.run, args=(turn,), daemon=True)
                         for turn in (self.keep_turn, self.publish_turn)]
@@ -97,7 +98,7 @@ class Leadership:
             self.confirmed = number
         if not self.epoch:
             replica.written(position)
-        # A leader must have applied whatever is answered, and agree with it.
+        # A leader must have applied all that is answered, and agree with its hashes.
         ready = applied + 1 >= position[0] and hashes.count <= HASHES and not hangs
         holder = leader.entries[0] if leader.entries else None
         if holder is None and ready and not self.epoch:

@@ -110,15 +110,16 @@ def batch_of(value):
 
 
 class Sessions:
-    """What was taken of each writer. A replica takes a writer's next line and no other: so a line
-    that is sent again is taken once, and lines are taken in the writer's order."""
+    """The lines that were taken from each writer. A replica takes a writer's next line and no
+    other. So a line that is sent again is taken once, and lines are taken in the writer's order."""
 
     def __init__(self):
         self.next = {}
         self.parts = {}
 
     def take(self, batch):
-        """The lines of a batch that are the writer's next ones: the first's count, and the text."""
+        """Takes the writer's next lines from a batch; returns the count of the first, and the
+        text."""
         at = self.next.get(batch.writer, 0)
         if batch.parts:
             return at, self.take_part(batch, at)
@@ -239,16 +240,17 @@ def new_writer(store, keys):
             return number, outcome.revision
 
 
-# Keys of one answer where they are small, and where they may be batches of full size: etcd gives
-# some megabytes a second.
+# Keys in one answer, if their values are small and if they may be full batches. etcd sends some
+# megabytes a second.
 MANY, FEW = 32, 4
 
 
 def follow(store, prefix, revision=0, say=print, dense=False):
-    """Yields the entries below a prefix, first those that are there by their keys, then those that
-    come; None after each second without any, to which the caller may send that there are more.
-    With a revision only those that come after it. While etcd does not answer it goes on trying.
-    Keys that are numbered without gaps are `dense`: a range spans no more than are asked for."""
+    """Yields the entries below a prefix: first those that exist, by key, then new ones as they
+    come. With a revision it yields only those that come after it. It yields None after each second
+    without any; the caller may then send that there are more. While etcd does not answer it goes on
+    trying. `dense` keys are numbered without gaps: a range spans no more of them than it asks
+    for."""
     start, last, more, limit = prefix, 0, not revision, FEW
     away = False
     while True:
@@ -257,7 +259,7 @@ def follow(store, prefix, revision=0, say=print, dense=False):
                 end = numbered(prefix, last + 1 + limit) if dense else after(prefix)
                 entries, _, revision = store.range(start, end, limit=limit)
                 yield from entries
-                # Behind the keys that have no gap there may be others.
+                # There may be others after the first gap.
                 full = len(entries) == limit
                 more, dense = full or dense, full and dense
                 if entries:
@@ -278,7 +280,7 @@ def follow(store, prefix, revision=0, say=print, dense=False):
                 entries, revision = changes[0], max(revision, changes[1])
                 yield from entries
         except Unreachable as error:
-            # Or what was asked for takes too long.
+            # The range may be too large for the time.
             limit = 1
             if not away:
                 say(str(error))
@@ -302,8 +304,8 @@ def is_behind(store, keys, index, newest):
 
 
 def read(store, keys, say=print):
-    """Yields the number and the value of each log key from the first on, in order; None after each
-    second without any. Stops at a gap, at a changed key, and where the store has gone back."""
+    """Yields the number and the value of each log key, in order from the first; None after each
+    second without any. Stops at a gap, at a changed key, and if the store has gone back."""
     checks = Store(store.urls)
     index = newest = 0
     entries = follow(store, keys.log, say=say, dense=True)

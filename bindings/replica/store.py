@@ -17,7 +17,7 @@ Range = namedtuple("Range", "entries count revision")
 # `certain` is false where the transaction was sent more than once: one of these may have succeeded.
 Outcome = namedtuple("Outcome", "succeeded ranges revision certain")
 
-# Seconds to wait for one server, and for any; bytes of a request for which a second is added.
+# Seconds to wait for one server, and for any. Bytes of a request that add a second.
 ANSWER, PATIENCE, BYTES = 3, 10, 200_000
 SPACE = "mvcc: database space exceeded"
 
@@ -75,7 +75,7 @@ def range_of(answer):
 
 
 def get(key, end=None, limit=0, **words):
-    """A range: one key, or the first ones below an end, of which all are counted. etcd walks over
+    """A range: one key, or the first keys below an end, with the number of all. etcd iterates over
     the keys up to the end, whatever the limit, and reads all values to find the last one."""
     if end:
         words["range_end"] = packed(end)
@@ -213,8 +213,9 @@ class Store:
         self.call("lease/revoke", {"ID": lease})
 
     def watch(self, key, end, revision, silence=1.0):
-        """Yields the changes of keys from a revision on: a list of entries (None for the value of
-        a deleted key) and the revision up to which there are no others; None after a silence."""
+        """Yields the changes of keys from a revision on, as pairs: a list of entries, where a
+        deleted key has the value None, and the revision up to which it is complete. Yields None
+        after a silence."""
         words = {"key": packed(key), "range_end": packed(end), "start_revision": revision,
                  "fragment": True, "progress_notify": True}
         data = json.dumps({"create_request": words}).encode()

@@ -14,7 +14,7 @@ from store import Compacted, Store, StoreError, after
 GATHER = 0.005
 # Seconds without etcd after which a writer that has begun gives up.
 PATIENCE = 60
-# Silent seconds, with answers that are written but do not come, after which they are gone.
+# Seconds of silence after which answers that are written but do not come count as gone.
 MISSED = 10
 
 
@@ -51,7 +51,7 @@ class Lines:
         return block
 
     def long_line(self):
-        """A line that is longer than any that is read: its first bytes, the rest is dropped."""
+        """The first bytes of a line that is longer than the limit; drops the rest of it."""
         block = self.cut(LONGEST) + b"\n"
         while True:
             end = self.text.find(b"\n") + 1
@@ -89,8 +89,8 @@ class Writer:
         self.appended += block.count(b"\n")
 
     def due(self):
-        """How many lines have answers in the store, where some were not seen, and a revision by
-        which these were written; else zeros."""
+        """If some answers in the store were not seen: the number of lines that have answers there,
+        and a revision by which these were written. Else zeros."""
         appended, last = self.appended, self.last
         with contextlib.suppress(StoreError):
             done = self.answers_store.value(self.keys.done)

@@ -170,7 +170,7 @@ impl<F: Form> Manager<F> {
             let mut queue = self.queues[level].clone();
             let mut later = &mut queue[..];
             while !later.is_empty() && !choice.is_full() {
-                // Only as many are sorted as are likely to be needed.
+                // Sorts only the number that is likely to be needed.
                 let count = later.len().min(2 * (most - choice.chosen.len()) + 64);
                 if count < later.len() {
                     later.select_nth_unstable(count);
