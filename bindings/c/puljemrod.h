@@ -30,8 +30,8 @@
  *   - The calling thread has one MiB of stack left.
  *   - The processor has the instructions of x86-64-v2 (from about 2009 on).
  *
- * Trusted, next to the proof of what the functions do: the compiler that built the library; malloc,
- * realloc and free of the process; that this header says the same as crates/puljemrod.
+ * What the functions do is proved. Next to that one trusts the compiler that built the library,
+ * malloc, realloc and free of the process, and that this header says the same as crates/puljemrod.
  */
 #ifndef PULJEMROD_H
 #define PULJEMROD_H

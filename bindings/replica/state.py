@@ -1,7 +1,7 @@
 """A replica: makes the calls of the log, and keeps its output until that is in the store.
 
-All that it computes is a function of the log and of the manager's options: the lines taken from each
-writer, the answers, the commands, and the running hash of lines and answers."""
+All that it computes is a function of the log and of the manager's options. It computes the lines
+that are taken from each writer, the answers, the commands, and the hash of lines and answers."""
 
 import hashlib
 import threading

@@ -213,9 +213,9 @@ class Store:
         self.call("lease/revoke", {"ID": lease})
 
     def watch(self, key, end, revision, silence=1.0):
-        """Yields the changes of keys from a revision on, as pairs: a list of entries, where a
-        deleted key has the value None, and the revision up to which it is complete. Yields None
-        after a silence."""
+        """Yields the changes of keys from a revision on, as pairs: a list of entries, and the
+        revision up to which it is complete. A deleted key has the value None. Yields None after a
+        silence."""
         words = {"key": packed(key), "range_end": packed(end), "start_revision": revision,
                  "fragment": True, "progress_notify": True}
         data = json.dumps({"create_request": words}).encode()

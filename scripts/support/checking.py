@@ -1,4 +1,4 @@
-"""What the checks on built programs share."""
+"""Functions that the checks on built programs share."""
 
 import os
 import re
@@ -22,7 +22,7 @@ SHARDS_AND_WORKERS = [
 
 
 class Failed(Exception):
-    """What a check found wrong."""
+    """A check found something wrong; the text is the reason."""
 
 
 def want(is_so, why):
@@ -43,7 +43,7 @@ def block_that_begins(page, start):
 
 
 class Report:
-    """A line for each check, and the count of both kinds at the end."""
+    """Prints a line for each check, and at the end how many passed, failed and were skipped."""
 
     def __init__(self):
         self.passed = 0
@@ -72,7 +72,7 @@ class Report:
 
 
 def uses_of_crates():
-    """By crate what it depends on, as crates.txt lists it."""
+    """The dependencies of each crate, as crates.txt lists them."""
     lines = [line.split(":") for line in (TOP / "crates.txt").read_text().splitlines() if line and not line.startswith("#")]
     return {head.split()[0]: uses.split() for head, uses in lines}
 
@@ -90,7 +90,7 @@ def below_crate(crate):
 
 
 def program(crate):
-    """The program of a crate, which is built only if it is missing."""
+    """The path of the program of a crate, which is built only if it is missing."""
     path = TOP / "crates" / crate / "out" / crate
     if not path.exists():
         print(f"{crate} is not built: proves and builds it first", file=sys.stderr, flush=True)
@@ -109,8 +109,8 @@ def program(crate):
 
 
 class Proved:
-    """A static library that is proved over the libraries that are there: once for both compilers,
-    as `rt ci` does for a program."""
+    """A static library, proved over the built libraries below it: once for both compilers, as `rt
+    ci` does for a program."""
 
     def __init__(self, crate, below):
         kit = Path(ended_well(["rt", "doc"]).decode().strip()).parent
@@ -187,8 +187,8 @@ def stored_output(crate, part=None):
 
 
 class Watch:
-    """Runs programs with a library of this folder before the C library. It writes to the file that
-    the variable names."""
+    """Runs programs with a library of this folder in front of the C library. It writes to the file
+    that the variable names."""
 
     def __init__(self, name, variable):
         self.folder = tempfile.TemporaryDirectory()
@@ -201,7 +201,8 @@ class Watch:
         )
 
     def run(self, command, stdin=subprocess.DEVNULL, timeout=60, **settings):
-        """The ended process, and the lines of the log, each a list of words."""
+        """Runs a command; returns the ended process, and the lines of the log, each a list of
+        words."""
         Path(self.log).write_text("")
         words = {**os.environ, "LD_PRELOAD": self.library, self.variable: self.log}
         words.update((name, str(value)) for name, value in settings.items())
@@ -212,21 +213,22 @@ class Watch:
 
 
 class MemoryWatch(Watch):
-    """With memory_watch.c before the allocator."""
+    """Runs programs with memory_watch.c in front of the allocator."""
 
     def __init__(self):
         super().__init__("memory_watch", "MEMORY_LOG")
 
 
 class ThreadWatch(Watch):
-    """With thread_watch.c before what makes threads."""
+    """Runs programs with thread_watch.c in front of the functions that make threads."""
 
     def __init__(self):
         super().__init__("thread_watch", "THREAD_LOG")
 
 
 class StreamWatch(Watch):
-    """With stream_watch.c before the reads and writes of the standard streams."""
+    """Runs programs with stream_watch.c in front of the reads and writes of the standard
+    streams."""
 
     def __init__(self):
         super().__init__("stream_watch", "STREAM_LOG")

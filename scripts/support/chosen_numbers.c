@@ -1,5 +1,5 @@
-// Numbers that an attacker may choose if a table hashes without a secret: they share few of its
-// groups, so that a look-up of one walks past all that came before it.
+// Numbers that an attacker may choose if a table hashes without a secret. They share few of its
+// groups, so a look-up of one passes all that were added before it.
 //
 //     chosen_numbers FIRST COUNT STEP SHIFT BITS TAG
 //

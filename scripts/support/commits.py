@@ -11,7 +11,8 @@ def said(*words):
 
 
 def commit_here():
-    """Ends in `-dirty` if a file was changed since, but for figures and the page of them."""
+    """The commit of the work tree, with `-dirty` if a file was changed since, other than figures
+    and their page."""
     changed = said("status", "--porcelain", "--", ".", ":!figures", ":!docs/FIGURES.md")
     commit = said("rev-parse", "--short=8", "HEAD") or "unknown"
     return f"{commit}-dirty" if changed else commit

@@ -13,7 +13,7 @@ EDITS_OF_MODEL = MODEL / "mutants"
 
 
 def names():
-    """Those of the edits, sorted. Each has to be in both folders."""
+    """The names of the edits, sorted. Each edit has to be in both folders."""
     of_definitions = {path.stem for path in EDITS_OF_DEFINITIONS.glob("*.edit")}
     of_model = {path.stem for path in EDITS_OF_MODEL.glob("*.edit")}
     want(of_definitions == of_model, f"in one folder alone: {sorted(of_definitions ^ of_model)}")
@@ -39,7 +39,7 @@ def edited(edit, folder):
 
 
 def are_counted():
-    """The pages that say how many there are."""
+    """The pages have the right number of edits."""
     count = len(names())
     for page, words in (
         ("README.md", f"{count} changed definitions"),

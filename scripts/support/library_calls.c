@@ -375,7 +375,7 @@ static void rounds(void) {
     puljemrod_close(&h);
 }
 
-/* Two nodes have a block each; only the third has room. */
+/* Two nodes have a block each; only the third has free bytes. */
 static void commands_of_several_nodes(void) {
     puljemrod h = PULJEMROD_CLOSED_HANDLE;
     const uint32_t storage[] = {11, 21, 31};
@@ -518,7 +518,7 @@ static void *opens_in_a_thread(void *handle) {
     return handle;
 }
 
-/* With as many nested values as a line may have, of lists and of objects. */
+/* With the most nested values that a line may have, of lists and of objects. */
 static void *answers_deep_lines(void *handle) {
     const char *begins[] = {"[", "{\"a\":"}, *ends[] = {"]", "}"};
     bool are = are_answered(handle);

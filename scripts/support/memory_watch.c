@@ -1,5 +1,5 @@
-// Comes before a program's allocator (LD_PRELOAD): refuses the allocations that it is asked to, and
-// counts the bytes that are held. What it sees goes to the file that MEMORY_LOG names, a line each.
+// Comes before a program's allocator (LD_PRELOAD): refuses allocations on request, and counts the
+// bytes that are held. It writes lines to the file that MEMORY_LOG names.
 //
 // The program reports where it is by lines on standard error:
 //     begun NAME     from here on every allocation is refused
@@ -13,9 +13,9 @@
 // `exit` or, in a program that may start threads, `_exit`.
 // With COUNT=1 it gets `made` there, and how many allocations were made.
 //
-// With LAST_TURN=k the log gets a further line when `refuse k NAME` ends: `sizes NAME T M B1 B2 ..`
-// has the number of threads started since then, how many threads met (see below), and the bytes of
-// each allocation.
+// With LAST_TURN=k the log gets `sizes NAME T M B1 B2 ..` when `refuse k NAME` ends. T threads
+// were started since then, M threads met (see below), and B1, B2 and so on are the bytes of each
+// allocation.
 // With MEET=NAME the started threads and their starter meet after each `refuse K NAME`: each waits
 // at its first allocation until the others are at theirs, or have ended. This shows whether one
 // thread does all the work.
@@ -65,7 +65,8 @@ static atomic_long started;
 static atomic_long ended;
 static atomic_long met;
 static atomic_int is_meeting;
-// Whether this thread, which was started in a meeting or starts threads there, has still to meet.
+// Whether this thread has still to meet others. It was started in a meeting, or starts threads
+// there.
 static __thread int has_to_meet __attribute__((tls_model("initial-exec")));
 
 static void tell(const char *what, const char *name, long number) {

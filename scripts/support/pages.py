@@ -1,4 +1,4 @@
-"""What the checks on pages share."""
+"""Functions that the checks on pages share."""
 
 from html.parser import HTMLParser
 
@@ -8,8 +8,9 @@ BYTE_UNITS = ["B", "KiB", "MiB", "GiB", "TiB", "PiB", "EiB", "ZiB", "YiB"]
 
 
 class Page(HTMLParser):
-    """The cells of a page by the title above their table, its facts and items, what the page asks
-    others for, the bars outside tables and what they say when a pointer is over them."""
+    """The content of a page: the cells under each title of a table, the facts, the items. The bars
+    outside tables come with the texts that a pointer over them shows. `asks` is what the page asks
+    others for."""
 
     def __init__(self, text):
         super().__init__()
@@ -62,7 +63,7 @@ class Page(HTMLParser):
 
 
 def stands_alone(page):
-    """All tags are closed, and the page asks for nothing from elsewhere."""
+    """All tags are closed, and the page loads nothing from elsewhere."""
     want(not page.open, f"not closed: {page.open}")
     want(not page.asks, f"the page asks for {page.asks}")
 

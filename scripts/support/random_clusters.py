@@ -26,14 +26,14 @@ def random_lines(chance):
 
 
 def replica(chance, block, storage, generation, length):
-    """A replica of the block's stamp, or now and then of another."""
+    """The line of a replica, mostly with the block's stamp."""
     if chance.random() < 0.15:
         generation += 1
     return {"op": "received", "storage": storage, "id": block, "gen": generation, "len": length}
 
 
 def changes(chance, nodes, blocks, lines):
-    """Corrupt replicas, a stray one, draining nodes, blocks that changed."""
+    """Adds lines for corrupt replicas, a stray one, draining nodes, and blocks that change."""
     stored = [(it["storage"], it["id"]) for it in lines if it["op"] == "received"]
     more = [{"op": "corrupt", "storage": s, "id": b} for s, b in stored if chance.random() < 0.1]
     more += [{"op": "drain", "node": node} for node in nodes if chance.random() < 0.15]

@@ -23,7 +23,8 @@ OPTIONS = {
     "pend": [1, 2, 3, 5, 1_000_000],
 }
 
-# How often each call is drawn, or what takes several. `obey` does what a round commanded.
+# How often each call is drawn, or each method that makes several. `obey` obeys a command of a
+# round.
 WEIGHTS = {
     "obey": 24,
     "round": 12,
@@ -141,14 +142,14 @@ class Script:
         return self.random.choice(sorted(items))
 
     def known_or_not(self, known, others):
-        """Mostly what is known; else what may not be."""
+        """Mostly one of the known numbers; at times one of the others, which may be unknown."""
         return self.one_of(known) if known and self.chance(0.93) else self.random.choice(others)
 
     def draw_options(self):
         return {name: self.random.choice(of) for name, of in OPTIONS.items() if self.chance(0.7)}
 
     def draw_cluster(self):
-        """The numbers that are used: of nodes with their racks and storages, and of blocks."""
+        """Draws the numbers of nodes, with their racks and storages, and of blocks."""
         node_count = self.random.choice([1, 2, 3, 3, 4, 5, 6, 6, 8, 8, 12, 20, 40])
         numbers = self.random.sample(range(1, 10 * node_count + 10), node_count)
         if self.chance(0.1):
@@ -210,7 +211,7 @@ class Script:
         self.answers.append(answer)
 
     def other_form(self, op, fields):
-        """The same value as the canonical line has, or almost: written in another form."""
+        """The value of the canonical line, or almost that value, written in another form."""
         pairs = [(json.dumps(key), json.dumps(value)) for key, value in fields.items()]
         pairs.append(('"op"', json.dumps(op)))
         self.random.shuffle(pairs)
@@ -230,7 +231,7 @@ class Script:
         return f"{space}{{{space}{inner}{space}}}{space}"
 
     def odd(self):
-        """A line that asks for nothing, or is broken, or is at a limit."""
+        """Sends a line that asks for nothing, is broken, or is at a limit."""
         kind = self.random.randrange(42)
         if kind < 16:
             self.send(self.random.choice(ODD_LINES))
@@ -256,7 +257,7 @@ class Script:
         return line[:at] + bytes([byte]) + line[at:]
 
     def too_many(self):
-        """A call past a limit."""
+        """Sends a call past a limit."""
         kind = self.random.randrange(12)
         storage = self.known_or_not(self.state.storages, self.all_storages)
         if kind == 0:
@@ -306,7 +307,8 @@ class Script:
         self.ask_of_node("drain", self.state.nodes)
 
     def drain_all_racks_but_one(self):
-        """And undrain after a round, so that most rounds have nodes to copy to."""
+        """Drains all nodes of all racks but one. After a round it undrains them, so that most
+        rounds have nodes to copy to."""
         racks = {node: it.rack for node, it in self.state.nodes.items()}
         kept = self.random.choice(sorted(racks.values()) or [0])
         nodes = [node for node in racks if racks[node] != kept]
@@ -344,7 +346,8 @@ class Script:
         self.ask("add", id=block, gen=1, len=self.length_of(block), repl=wanted)
 
     def length_of(self, block):
-        """Mostly the same for a block, so that runs have the stamps of what they name."""
+        """Mostly the same length for a block, so that runs have the stamps of the blocks that they
+        name."""
         if self.stamp_is_kept:
             return self.lengths[0]
         return self.lengths[block % len(self.lengths)]
@@ -367,8 +370,8 @@ class Script:
         self.ask("restamp", id=block, gen=generation, len=self.random.choice(self.lengths))
 
     def add_again(self):
-        """A block, if it can be one with a pending transfer, is deleted, loses its replicas, and
-        is added again."""
+        """Deletes a block, with a pending transfer if there is one, removes its replicas, and adds
+        it again."""
         awaited = {block for block, _ in self.state.pending} & self.state.blocks.keys()
         block = self.known_or_not(awaited or self.state.blocks, self.block_numbers)
         self.ask("delete", id=block)
@@ -388,7 +391,7 @@ class Script:
     # Replicas
 
     def stamp_for(self, block):
-        """The block's stamp, or that which it would have; at times another."""
+        """The block's stamp, or the one that it would get; at times another."""
         known = self.state.blocks.get(block)
         generation, length = known.stamp if known else (1, self.length_of(block))
         if self.chance(0.06):
@@ -402,7 +405,8 @@ class Script:
         self.ask("received", storage=storage, id=block, gen=generation, len=length)
 
     def received(self):
-        """On any storage; at times on another of a node that is the target of a transfer."""
+        """Sends a notice for any storage; at times for another storage of the node that a transfer
+        goes to."""
         storage = self.known_or_not(self.state.storages, self.all_storages)
         block = self.known_or_not(self.state.blocks, self.block_numbers)
         if self.state.pending and self.chance(0.15):
@@ -424,7 +428,7 @@ class Script:
         self.ask(op, storage=storage, id=block)
 
     def obey(self):
-        """Does what was commanded: a delete, or a copy."""
+        """Obeys a command, a delete or a copy; takes a round if there is none."""
         ordered = [pair for pair, it in self.state.replicas.items() if it.ordered]
         if ordered and self.chance(0.4):
             block, storage = self.one_of(ordered)
@@ -436,7 +440,7 @@ class Script:
             self.ask("round")
 
     def report(self):
-        """Mostly what is on the storage, with a few changes."""
+        """Reports mostly what is on the storage, with a few changes."""
         storage = self.known_or_not(self.state.storages, self.all_storages)
         on_it = {block for block, at in self.state.replicas if at == storage}
         named = {block for block in on_it if self.chance(0.9)}
@@ -444,7 +448,8 @@ class Script:
         self.ask("report", storage=storage, blocks=self.items_of(named))
 
     def items_of(self, named):
-        """Items for these numbers: runs where neighbours have one stamp; some numbers twice."""
+        """Items for these numbers. Neighbours with one stamp are in a run; some numbers come
+        twice."""
         items = []
         for block in sorted(named):
             stamp = self.stamp_for(block)
@@ -466,7 +471,7 @@ class Script:
     # Beginning and end
 
     def set_up(self):
-        """The nodes come, most blocks are added, and replicas of them are reported."""
+        """Registers the nodes, adds most blocks, and reports replicas of them."""
         for node in self.racks:
             self.ask("register", node=node, rack=self.racks[node], storages=self.storages_of[node])
             remaining = [[it, self.random.choice(self.free_bytes)] for it in self.storages_of[node]]
@@ -492,7 +497,7 @@ class Script:
         return [self.one_of(storages) for storages in listed if storages]
 
     def show_all(self):
-        """All that can be seen of the state; rounds show which transfers are pending."""
+        """Asks for all that can be seen of the state; rounds show which transfers are pending."""
         for block in self.block_numbers:
             self.ask("level", id=block)
         for node in sorted(self.racks):

@@ -6,7 +6,7 @@ from model.lines import CALLS
 from model.rounds import stream_limit
 from model.state import REFUSALS
 
-# What the scripts of a run have to reach. Rounds and calls run out only past what a run can make.
+# What the scripts of a run have to reach. No run makes enough calls to spend the rounds and calls.
 HAS_TO_REACH = [
     *[f"refused {it}" for name, it in REFUSALS.items() if name not in ("RoundsSpent", "CallsSpent")],
     *[f"{op} answered" for op in CALLS],
@@ -52,7 +52,7 @@ class Reached(Counter):
         self[" ".join(answer.split()[:2])] += 1
 
     def note(self, before, after, op, fields, result):
-        """An accepted call, by the states around it and its result."""
+        """Notes an accepted call, by the states before and after it and its result."""
         self[f"{op} answered"] += 1
         if op in ("level", "retired"):
             self[f"{op} {result[0][0]}"] += 1
@@ -125,7 +125,7 @@ class Reached(Counter):
 
 
 def shape(state, held):
-    """Of the holders of a block, as the table of classes has it."""
+    """The class of a block's holders, as the table of classes has it."""
     racks = {state.rack_of(holder) for holder in held}
     if not held:
         return "no holders"

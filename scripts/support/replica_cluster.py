@@ -24,13 +24,13 @@ import log as replica_log
 from store import Store, StoreError, after
 
 
-# Names a variable that every process has which was started in a scratch folder.
+# A variable of each process that was started in a scratch folder; its value is the folder.
 MARK = "PULJEMROD_SCRATCH"
 ENDED = threading.Event()
 
 
 def wait_for(what, is_so, seconds=20):
-    """What `is_so` answers, once that is true."""
+    """Waits until `is_so` answers something true, and returns that."""
     until = time.monotonic() + seconds
     while not (found := is_so()):
         if time.monotonic() > until or ENDED.is_set():
@@ -50,8 +50,8 @@ def marked(folder):
 
 @contextlib.contextmanager
 def scratch(seconds=0):
-    """A scratch folder. At its end, also after a signal or `seconds` seconds, it is removed, and no
-    process is left that was started in it."""
+    """A scratch folder. It is removed at the end, also after a signal or `seconds` seconds, and the
+    processes that were started in it are killed."""
 
     def ends(number, _):
         raise Failed(f"not within {seconds} seconds" if number == signal.SIGALRM else "ended by a signal")
@@ -65,7 +65,7 @@ def scratch(seconds=0):
             yield Path(name)
         finally:
             signal.alarm(0)
-            # Other threads may still be at work: they start nothing from here on.
+            # From here on other threads start nothing.
             ENDED.set()
             while left := list(marked(name)):
                 for process in left:
@@ -111,7 +111,7 @@ class Process:
         self.child.wait()
 
     def ended(self, seconds=20):
-        """The status, once the process has ended by itself."""
+        """Waits until the process ends by itself, and returns its status."""
         try:
             return self.child.wait(seconds)
         except subprocess.TimeoutExpired:
@@ -152,7 +152,7 @@ class Servers:
             return None
 
     def leading(self):
-        """The number of the server that leads, once one does."""
+        """Waits until a server leads, and returns its number."""
         return wait_for("a server leads", lambda: [it for it in range(len(self.urls)) if self.leads(it)])[0]
 
     def leads(self, number):
@@ -192,7 +192,7 @@ class Manager:
         return process
 
     def writer(self, name, lines=None, *options, urls=None):
-        """A writer of lines; without any its input is left open."""
+        """A writer of lines. Without lines its input stays open."""
         path = self.folder / f"{self.prefix}-{name}"
         source = subprocess.PIPE
         if lines is not None:
@@ -206,7 +206,7 @@ class Manager:
         return process
 
     def write(self, lines, *options, seconds=20):
-        """The answers to some lines."""
+        """Writes some lines, and returns their answers."""
         writer = self.writer(f"writer{len(self.processes)}", lines, *options)
         want(writer.ended(seconds) == 0, f"a writer failed: {writer.printed()[-300:]}")
         return writer.output.read_bytes().splitlines(keepends=True)
@@ -229,13 +229,13 @@ class Manager:
         return status["answered"] == status["log"]
 
     def has_stopped(self, name, why):
-        """The replica has ended with status 1 and a reason that has these words."""
+        """Waits until the replica has ended with status 1, for a reason with these words."""
         process = self.processes[name]
         want(process.ended() == 1, f"status {process.child.returncode}")
         want(why in process.printed(), f"it printed: {process.printed()[-300:]}")
 
     def end_in_order(self):
-        """Ends the rounds and waits until all of the log is answered."""
+        """Ends the rounds, and waits until all of the log is answered."""
         for process in self.processes.values():
             process.send(signal.SIGTERM)
         for process in self.processes.values():
@@ -264,7 +264,7 @@ class Manager:
         return entries
 
     def taken(self):
-        """By the rules of README: for each log key its writer, and the lines that count."""
+        """For each log key its writer and the lines that count, by the rules of the README."""
         counts, parts = {}, {}
         for number, entry in enumerate(self.all(self.keys.log), 1):
             want(int(entry.key.rsplit("/", 1)[1]) == number, f"{entry.key} is key {number}")
@@ -347,7 +347,7 @@ class Manager:
 
 
 def lines_of(count, seed, base=0):
-    """Lines for the tool: with base 0 they begin with 20 nodes; blocks have numbers past base."""
+    """Lines for the tool. With base 0 they begin with 20 nodes. Block numbers are past the base."""
     draw = random.Random(seed)
     storages = [100 + 2 * node + side for node in range(1, 21) for side in (0, 1)]
     lines = []
@@ -400,8 +400,7 @@ def etcd_is_there():
 
 
 def archive():
-    """The library for C, which is built only if it is missing; None where there is no linker for
-    it."""
+    """The library for C, which is built only if it is missing; None if there is no linker."""
     if not shutil.which("cc"):
         return None
     path = TOP / "crates/puljemrod/out/libpuljemrod.a"
@@ -409,7 +408,8 @@ def archive():
 
 
 def options_of_library(path, folder):
-    """For a replica over the shared library, which is made below a folder of the library for C."""
+    """The options of a replica over the shared library. That is made below the folder, of the
+    library for C."""
     if not path:
         return ()
     dist = folder / "dist"

@@ -1,6 +1,6 @@
 """The report on a cluster once more, from the model's state: its text and its JSON value.
 
-It was written from docs/CLUSTERS.md, without the crates.
+It follows docs/CLUSTERS.md, not the crates.
 """
 
 import sys
@@ -24,8 +24,7 @@ FIRST = 10
 
 
 class Known:
-    """A cluster after lines, which are bytes, with the names of the tables that the import
-    writes."""
+    """A cluster after lines, which are bytes, with the names of the import's tables."""
 
     def __init__(self, lines, names="", files=""):
         self.state, self.notes = State(), []
@@ -54,19 +53,19 @@ class Known:
         return known.stamp.length if known else 0
 
     def amount(self, blocks):
-        """How many there are, and their bytes."""
+        """The number of these blocks, and their bytes."""
         blocks = list(blocks)
         return len(blocks), sum(map(self.length, blocks))
 
     def levels(self):
-        """The blocks of each level, ascending."""
+        """By level, its blocks, ascending."""
         found = {name: [] for name in LEVELS.values()}
         for block in sorted(self.state.blocks):
             found[LEVELS[self.state.level(block)]].append(block)
         return found
 
     def tags(self):
-        """The block of each replica of a tag."""
+        """By tag, the block of each replica."""
         found = {tag: [] for tag in TAGS}
         for (block, _), replica in sorted(self.state.replicas.items()):
             found[replica.tag].append(block)
@@ -93,7 +92,7 @@ class Known:
         return [(block, LEVELS[level]) for level in range(4) for block in levels[LEVELS[level]]]
 
     def files_with(self, blocks):
-        """By path how many of these blocks a file has, in the order of the table."""
+        """By path, how many of these blocks the file has, in the order of the table."""
         held = [self.places[block][0] for block in blocks if block in self.places]
         return {path: held.count(path) for path in self.paths if path in held}
 
@@ -110,7 +109,7 @@ def per_mille(part, total):
 
 
 def share(part, total):
-    """In per cent, to a tenth."""
+    """A part in per cent, to a tenth."""
     tenths = per_mille(part, total)
     return f"{tenths // 10}.{tenths % 10}%"
 
@@ -161,7 +160,7 @@ def text_of(known, most=FIRST):
 
 
 def json_of(known, most=FIRST):
-    """The same as a value of JSON."""
+    """The report as a value of JSON."""
     state, all_replicas = known.state, len(known.state.replicas)
 
     def amount(blocks):

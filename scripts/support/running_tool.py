@@ -1,4 +1,4 @@
-"""A running line tool, which is asked one line after another, and what that costs the processor."""
+"""A running line tool, which is asked one line after another, and the CPU time that this takes."""
 
 import os
 import subprocess
@@ -17,7 +17,7 @@ class RunningTool:
         self.rest = b""
 
     def processor_seconds(self):
-        """Of the process's first thread; with one worker it has no other."""
+        """The CPU seconds of the process's first thread; with one worker it has no other."""
         words = Path(f"/proc/{self.running.pid}/schedstat").read_text().split()
         return int(words[0]) / 1e9
 
@@ -30,7 +30,7 @@ class RunningTool:
         return state == "S"
 
     def answers(self, count):
-        """The next answers."""
+        """Reads this number of answers."""
         pieces, found = [self.rest], self.rest.count(b"\n")
         while found < count:
             piece = os.read(self.running.stdout.fileno(), 1 << 20)
@@ -47,7 +47,8 @@ class RunningTool:
             view = view[os.write(self.running.stdin.fileno(), view) :]
 
     def ask_all(self, lines):
-        """The answers to these lines, and the processor's seconds until the tool waits for more."""
+        """Sends these lines; returns the answers, and the CPU seconds until the tool waits for
+        more."""
         before = self.processor_seconds()
         sender = threading.Thread(target=self.send, args=(lines,))
         sender.start()
@@ -62,7 +63,7 @@ class RunningTool:
         return answers[0], seconds
 
     def feed(self, lines):
-        """Sends lines that are each answered by `ok`, and answers the processor's seconds."""
+        """Sends lines that must each be answered by `ok`; returns the CPU seconds."""
         answers, seconds = self.ask_all(lines)
         for answer in answers:
             want(answer.startswith(b"ok "), f"{answer!r}")

@@ -32,7 +32,8 @@ class Dice:
         return mixed >> turn | mixed << 32 - turn & 0xFFFFFFFF
 
     def below(self, count):
-        """The upper half of a word's product with the count, and a carry from the next word's."""
+        """A number below the count: the upper half of a word's product with the count, and a carry
+        from the next word's."""
         number, rest = divmod(self.word() * count, 2**32)
         carries = rest > 2**32 - count and rest + (self.word() * count >> 32) >= 2**32
         return number + carries
@@ -91,8 +92,8 @@ class SimulatedCluster:
             self.state = events.received(self.state, storage, block, *STAMP)
 
     def next_node(self, start, nodes):
-        """The second replica is on another rack than the first, and the third on the rack of the
-        second, if there is such a node."""
+        """The node of the next replica. The second replica is on another rack than the first, and
+        the third on the rack of the second, if there is such a node."""
         racks = [node % self.asked.racks for node in nodes]
         free = [node for node in [*range(start, self.asked.nodes), *range(start)] if node not in nodes]
         suited = free
@@ -103,7 +104,8 @@ class SimulatedCluster:
         return (suited or free)[0]
 
     def report_what_is_free(self):
-        """Each disk has capacity for twice its share of the replicas, and for 4 TiB at least."""
+        """Sends what is free. Each disk has capacity for twice its share of the replicas, and for 4
+        TiB at least."""
         storages = self.asked.nodes * self.asked.storages
         capacity = max(2 * -(-self.asked.blocks * self.asked.replication // storages), 2**15) * LENGTH
         self.free = dict.fromkeys(range(storages), capacity)
@@ -117,7 +119,8 @@ class SimulatedCluster:
             self.state = events.heartbeat(self.state, node, free)
 
     def go_wrong(self):
-        """What is lost has each node and disk once; then good replicas are found corrupt."""
+        """Loses what is to be lost, each node and disk once; then good replicas are found
+        corrupt."""
         lost = [word.split(":") for word in self.asked.lose]
         named = {kind: {int(it) for of, it in lost if of == kind} for kind in ("rack", "node", "storage")}
         dead = [it for it in range(self.asked.nodes) if it in named["node"] or it % self.asked.racks in named["rack"]]
@@ -138,8 +141,8 @@ class SimulatedCluster:
                 self.state = events.corrupt(self.state, good[self.dice.below(len(good))], block)
 
     def next_time(self):
-        """When the next round comes: after as many intervals as are needed for fewer copies to be
-        on their way than a round may command, at least one."""
+        """The time of the next round. Intervals pass until fewer copies are on their way than a
+        round may command, at least one interval."""
         interval, most = self.asked.interval * 10**6, max(self.state.limits.work * len(self.state.nodes), 1)
         time = self.times[-1] + interval
         while sum(end > time for end, _, _ in self.on_way) >= most:

@@ -1,7 +1,7 @@
 // Intercepts a program's reads of standard input and its writes of standard output and standard
-// error (LD_PRELOAD), and lets them fail where the variables say. At the end, which is `exit` or
-// `_exit`, the file that STREAM_LOG names gets a line `reads N writes M`: how many reads of
-// standard input and writes of standard output there were, those that failed among them.
+// error (LD_PRELOAD), and lets them fail as the variables say. At the end, which is `exit` or
+// `_exit`, the file that STREAM_LOG names gets a line `reads N writes M`. These are the numbers of
+// reads of standard input and of writes of standard output, failed ones included.
 //
 // With READ_BYTES=n a read gives n bytes at most, and with WRITE_BYTES=n a write takes n bytes at
 // most.
