@@ -15,7 +15,6 @@ use Rattle.bm_base.proofs.ForEach.{Each, none_passes}
 use Rattle.bm_base.proofs.MapEntries.{get_insert_all_elsewhere, get_left, get_other}
 use Rattle.bm_base.proofs.ClusterEvents.{same_nodes}
 use Rattle.bm_parts.specs.LevelLaws as law
-use Rattle.bm_parts.specs.LevelLaws.{IsRacked}
 use Rattle.bm_parts.proofs.Storages.{storages_left, none_leaves, each_where, usable_fails}
 use Rattle.bm_parts.proofs.Deaths.{draining_elsewhere, rack_elsewhere, rack_left, draining_left}
 
@@ -52,10 +51,6 @@ module _ (C D : Cluster) (H : Holdings) (gone : ℕ → Bool) (b : ℕ) (stay : 
       by_test : (u : Bool) → is_usable m ≡ u → (not (gone s) && (u && f (is_draining D s))) ≡ (u && f (is_draining C s))
       by_test true e = let at = stay s m there e in λ i. not (at.0 i) && f (at.1.1 i)
       by_test false e = fails (gone s)
-
-  usable_of : (u : Bool) (d : Bool) → (u && d) ≡ true → u ≡ true
-  usable_of true d e = refl
-  usable_of false d e = cc
 
   known_left : get (without_storages H gone).blocks b ≡ get H.blocks b
   unfolding without_storages

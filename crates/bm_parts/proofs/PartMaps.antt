@@ -12,7 +12,7 @@ mapped_same : {X : Type 0} (f : X → X) → ((x : X) → f x ≡ x) → (z : Op
 mapped_same f same None = refl
 mapped_same f same (Some x) = ap Some (same x)
 
-mapped_none : {X : Type 0} (f : X → X) (z : Option X) → z ≡ None → option_map f z ≡ None
+pub mapped_none : {X : Type 0} (f : X → X) (z : Option X) → z ≡ None → option_map f z ≡ None
 mapped_none f None e = refl
 mapped_none f (Some x) e = cc
 

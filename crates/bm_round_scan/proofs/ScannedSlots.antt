@@ -74,9 +74,6 @@ module _ (f : ℕ → ℕ) where
         d.0 (let P : ℕ → Type 0 = λ w. IsMember w xs in subst P (sym (same x one.0 (sym (back x (inl refl)) ∙ ap g one.2 ∙ back one.0 (inr one.1)))) one.1),
     distinct_mapped g xs d.1 (λ y h. back y (inr h)),
   )
-    where
-      same : (x y : ℕ) → Some x ≡ Some y → x ≡ y
-      same x y e = cc
 
 -- The slots that a round scans.
 
