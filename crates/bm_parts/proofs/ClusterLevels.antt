@@ -14,6 +14,7 @@ use Rattle.bm_base.proofs.Ties.{number_tie}
 use Rattle.bm_base.proofs.ForEach.{Each, none_passes}
 use Rattle.bm_base.proofs.MapEntries.{get_insert_all_elsewhere, get_left, get_other}
 use Rattle.bm_base.proofs.ClusterEvents.{same_nodes}
+use Rattle.bm_base.proofs.ListTests.{and_first}
 use Rattle.bm_parts.specs.LevelLaws as law
 use Rattle.bm_parts.proofs.Storages.{storages_left, none_leaves, each_where, usable_fails}
 use Rattle.bm_parts.proofs.Deaths.{draining_elsewhere, rack_elsewhere, rack_left, draining_left}
@@ -60,7 +61,7 @@ module _ (C D : Cluster) (H : Holdings) (gone : ℕ → Bool) (b : ℕ) (stay : 
   level_left multi =
       level_by C D H (without_storages H gone) b known_left
       (storages_left H gone (is_live_on D) (is_live_on C) b (tested not)) (storages_left H gone (is_drained_on D) (is_drained_on C) b (tested (λ d. d)))
-      (each_where (λ s. rack_of D s ≡ rack_of C s) (is_live_on C) H b (λ s m there h. (stay s m there (usable_of (is_usable m) (not (is_draining C s)) h)).1.0)) multi
+      (each_where (λ s. rack_of D s ≡ rack_of C s) (is_live_on C) H b (λ s m there h. (stay s m there (and_first (is_usable m) (not (is_draining C s)) h)).1.0)) multi
 
 -- the same if all replicas stay
 pub level_alike : (C D : Cluster) (H : Holdings) (b : ℕ) → ((s : ℕ) (m : Marks) → get H.replicas (replica_at b s) ≡ Some m → is_usable m ≡ true → StandsAlike C D s)

@@ -10,6 +10,7 @@ use Rattle.std.proofs.lemmas.Bool.{eqb-true}
 use Rattle.std.proofs.Math.Bool.{or-true}
 use Rattle.bm_base.specs.Maps.Lists.{has, least}
 use Rattle.bm_place.specs.Least.{IsLeastOf}
+use Rattle.bm_base.proofs.ListTests.{same_again}
 
 module _ (R : ℕ → ℕ → Ordering) (o : IsStrictWeakOrder (λ x y. is_lt (R x y))) (p : ℕ → Bool) where
   itself : (x : ℕ) (b : Bool) → is_lt (R x x) ≡ b → is_lt (R x x) ≡ false
@@ -24,7 +25,7 @@ module _ (R : ℕ → ℕ → Ordering) (o : IsStrictWeakOrder (λ x y. is_lt (R
   after_none : (x : ℕ) (xs : List ℕ) → p x ≡ true → IsLeastOf R p xs None → IsLeastOf R p (x ∷ xs) (Some x)
   after_none x xs passes rest = (
     passes,
-    ap (λ b. b || has xs x) (same x),
+    ap (λ b. b || has xs x) (same_again x),
     λ y h e. first_or (λ z. p z ≡ true → is_lt (R z x) ≡ false) x y xs (x == y) refl h (λ _. itself x (is_lt (R x x)) refl) (λ there e. absurd (true≢false (sym e ∙ rest y there))) e,
   )
 
@@ -36,7 +37,7 @@ module _ (R : ℕ → ℕ → Ordering) (o : IsStrictWeakOrder (λ x y. is_lt (R
   )
   after_some x b xs false e passes rest = (
     passes,
-    ap (λ t. t || has xs x) (same x),
+    ap (λ t. t || has xs x) (same_again x),
     λ y h f. first_or (λ z. p z ≡ true → is_lt (R z x) ≡ false) x y xs (x == y) refl h (λ _. itself x (is_lt (R x x)) refl) (λ there f. o.chain y b x (rest.2 y there f) e) f,
   )
 

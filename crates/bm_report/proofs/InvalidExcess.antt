@@ -114,7 +114,7 @@ module _ (s : ℕ) (n : ReportedSlot) (a : Contents) (lawful : IsLawful a) (here
         elim (cases_eq x n.slot) [
           | inl same ↦
               let at_k : marks_at a n.slot s ≡ Some k = rw same at e in
-              let is : m ≡ k = one m k (sym at ∙ at_k) in
+              let is : m ≡ k = same_Some m k (sym at ∙ at_k) in
               absurd (false≢true (sym bad ∙ ap is_excess_good is ∙ h))
           | inr differs ↦ set-elsewhere a n.slot s (without_invalid_excess m) x differs
         ];

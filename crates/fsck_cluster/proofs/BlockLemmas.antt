@@ -2,6 +2,7 @@
 use Rattle.std.proofs.Common.{◌≡◌, Bool, true, false, cond, List, [], ◌∷◌, ◌||◌, Some, None, is_some, refl, sym}
 use Rattle.std.specs.List.{list_any}
 use Rattle.std.specs.Map.{lookup}
+use Rattle.bm_base.proofs.Options.{not_there}
 
 module _ {K X : Type 0} (test : K → Bool) where
   -- a look-up finds an entry exactly if a key passes the test
@@ -14,4 +15,4 @@ module _ {K X : Type 0} (test : K → Bool) where
       by false same = same
 
   pub none-lookup : (es : List (K × X)) → false ≡ is_some (lookup test es) → lookup test es ≡ None
-  none-lookup es e = none_of (lookup test es) (sym e)
+  none-lookup es e = not_there (lookup test es) (sym e)
