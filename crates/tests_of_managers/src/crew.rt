@@ -306,7 +306,7 @@ fn a_renewed_pass_takes_too(rt: HostRuntime) -> Result<(), Fail> {
     let mut mine = passes.remove(0);
     let other = passes.remove(0);
     bag.put(&rt, &mut mine, 4, 5);
-    let mut renewed = bag.renew_pass(&rt, &mut mine, other);
+    let mut renewed = bag.renew_pass(&mut mine, other);
     let first = bag.take(&rt, &mut renewed);
     let second = bag.take(&rt, &mut renewed);
     bag.join(&rt, &mut mine, renewed);
