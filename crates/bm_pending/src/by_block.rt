@@ -88,7 +88,7 @@ pub(crate) fn drop_block(blocks: &mut Blocks, block: u64)
     blocks.swap_remove(&block);
 }
 
-/// Takes the transfers out that are given up.
+/// Removes the expired transfers of all blocks.
 pub(crate) fn drop_expired_targets(blocks: &mut Blocks, pend: u32, round: u64)
     ensures targets { (q : ℕ)
         → targets_at blocks.new.entries q

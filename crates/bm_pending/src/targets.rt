@@ -45,14 +45,14 @@ pub(crate) fn drop_target(targets: &mut PendingTargets, storage: u32)
     targets.retain(|target| target.0 != storage);
 }
 
-/// Whether a transfer that was commanded in this round is given up.
+/// Whether a transfer that was commanded in round `commanded` is expired in this round.
 pub(crate) fn is_expired(commanded: u64, pend: u32, round: u64) -> bool
     ensures { result ≡ is_expired pend round commanded }
 {
     u64::from(pend) <= round.saturating_sub(commanded)
 }
 
-/// Takes the transfers out that are given up.
+/// Removes the expired transfers.
 pub(crate) fn drop_expired(targets: &mut PendingTargets, pend: u32, round: u64)
     ensures { targets.new
         ≡ record targets.old {

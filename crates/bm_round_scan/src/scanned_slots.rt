@@ -19,8 +19,8 @@ const CHUNK: usize = 64;
 /// The slots of a level are sorted if there are more than this number.
 const MAX_UNSORTED: usize = 512;
 
-/// The unsettled slots, and the settled ones before the bound at a level at which copies are wanted
-/// that lack pending transfers; each of them once, with its key, in any order.
+/// The slots to scan, each once, with its key, in any order: the unsettled slots, and settled ones
+/// below the bound. The latter have a level at which copies are wanted and lack pending transfers.
 pub(crate) fn slots_to_scan(
     alloc: Global,
     start: &RoundScan,

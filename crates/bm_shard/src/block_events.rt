@@ -18,8 +18,8 @@ pub(crate) const NO_CHANGE: Done = Done {
 };
 
 impl Shard {
-    /// A file has a new block. Its number has its entry, whatever was prepared; other preparations
-    /// are given up.
+    /// Adds a new block of a file. Uses the entry that is reserved for its number; drops other
+    /// reservations.
     pub(crate) fn add_block(
         &mut self,
         topology: &Topology,

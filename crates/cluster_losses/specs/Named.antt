@@ -72,7 +72,7 @@ fails _ = false
 abbrev pub all_named : Cluster → Names → (Kind → Bool) → List Loss → List ℕ
 all_named C names p ls = flat_map (λ l. if p l.kind then named_by C names l.kind l.name.now else []) ls
 
--- with a number, unless it is there; and with several
+-- with one number added, and with several; a number that is there is not added again
 abbrev pub with_one : List ℕ → ℕ → List ℕ
 with_one xs x = if has xs x then xs else xs ++ x ∷ []
 

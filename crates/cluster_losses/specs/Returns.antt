@@ -17,7 +17,7 @@ abbrev pub AreReports : List Event → Type 0
 AreReports [] = Unit {0}
 AreReports (e ∷ es) = (is_report e ≡ true) × AreReports es
 
--- reports come behind these events
+-- the new events are the old ones, then reports
 pub record AreReported (old new : List Event) : Type 0 where
   pub reports : List Event
   pub are : AreReports reports

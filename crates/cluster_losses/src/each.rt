@@ -78,7 +78,8 @@ pub fn make_rows<H: Threads + Wait + Sync>(
     Ok(rows)
 }
 
-/// Loses each of these, and makes it come back. `first` is what the session has before.
+/// For each rack or node: loses it, makes its row, and makes it come back. `first` is the state
+/// before, which must be the same after each return.
 fn lose_each<H: Threads + Wait + Sync>(
     rt: &H,
     alloc: Global,

@@ -1,4 +1,4 @@
-// The cluster without what is lost.
+// The cluster after losses, before any round.
 ghost use Rattle.std.specs.Prelude.{◌≡◌, true, IfOk, OnOk};
 ghost use Rattle.bm_base.specs.Machine.Queries.{missing_blocks};
 ghost use Rattle.cluster_lost.specs.Losses.{are_losses, after_losses};
@@ -14,7 +14,7 @@ use std::alloc::Global;
 use std::sync::Wait;
 use std::thread::Threads;
 
-/// The cluster without what is lost, where no round came between.
+/// The cluster after losses, before any round.
 #[derive(Drop)]
 pub struct Outcome {
     pub after: ClusterCounts,

@@ -84,7 +84,8 @@ pub record AreLeveled (M : State) (bs : List ℕ) : Type 0 where
   pub ascending : IsStrictlyIncreasing bs
   pub all : (b : ℕ) → has bs b ≡ is_some (level M.cluster M.holdings b)
 
--- The same with the row of the last round; and the watched blocks are those with a level.
+-- As `IsUnderWay`, and the last row is that of the last round; the watched blocks are those with a
+-- level.
 pub record IsNoted (ticks : Ticks) (M : State) (d : DataNodes) (N : State) (r : Repair) : Type 0 where
   pub under_way : IsUnderWay ticks M d N r
   pub last : Row

@@ -105,7 +105,7 @@ impl OnWay {
     }
 }
 
-/// When it arrives, and which it is of all copies.
+/// Sort key: arrival time, then the copy's index.
 fn when(sent: &Sent) -> (u64, u64)
     ensures { result ≡ when sent.now }
 {

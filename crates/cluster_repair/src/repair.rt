@@ -314,7 +314,7 @@ impl Repair {
         Ok(())
     }
 
-    /// Notes which nodes are retired after the last round, where the next one would come.
+    /// Notes which nodes are retired after the last round, at the time of the next one.
     fn note_retired_at_end(&mut self, manager: &Manager, facts: &Facts<'_>) -> Result<(), Refusal>
         ensures rounds { self.new.rounds ≡ self.old.rounds }
         ensures datanodes { self.new.datanodes ≡ self.old.datanodes }
@@ -371,7 +371,8 @@ fn note_retired(
     Ok(())
 }
 
-/// Notes a yes unless the answer before was one; a no drops the note.
+/// Notes that a node is retired, with the round and the time, unless it is noted already. Drops its
+/// note if it is not retired.
 fn note_answer(
     manager: &Manager,
     node: NodeId,

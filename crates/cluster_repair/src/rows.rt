@@ -8,10 +8,10 @@ ghost use Rattle.cluster_repair.specs.declared.datanodes.DataNodes.{DataNodes};
 use cluster_report::levels::LevelCounts;
 use std::alloc::{AllocError, Global};
 
-/// There are at most this number of rows: before one more comes, every second goes.
+/// The most rows. If there are as many, every second row is dropped before the next is added.
 const MOST_KEPT: usize = 64;
 
-/// Beyond this stride no row goes. A repair has no more rounds.
+/// Above this stride no row is dropped: a repair takes at most this number of rounds.
 const MOST_STRIDE: u32 = 1_000_000;
 
 /// The counts after a round.

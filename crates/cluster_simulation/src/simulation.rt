@@ -34,7 +34,7 @@ pub struct Simulation {
 }
 
 impl Simulation {
-    /// No node.
+    /// An empty cluster with the standard configuration. Refused only if out of memory.
     pub fn new(alloc: Global) -> Result<Simulation, Refusal>
         ensures { IfOk result (λ s. IsInStep s.cluster.session) }
     {

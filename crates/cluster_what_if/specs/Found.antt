@@ -79,8 +79,8 @@ IsFoundFor question.EachRack pace before after (found.Table t) = IsTableOfRacks 
 IsFoundFor question.EachNode pace before after (found.Table t) = IsTableOfNodes before after t
 IsFoundFor _ pace before after _ = ⊥
 
--- Why nothing is found. Of losses a word names nothing, or a loss is refused. Of a table a replica
--- is in excess, or a rack or node does not come back. And memory may be refused.
+-- Why a question has no answer. For losses: a name is unknown, or a loss is refused. For a table: a
+-- replica is in excess, or a rack or node does not come back. For both: out of memory.
 abbrev pub IsFindFault : Question → Loaded → Loaded → Fault → Type 0
 IsFindFault (question.Losses ls) before after f = IsFaultOf (first_unknown before.session.book.topology.cluster before.names ls.items) f ⊎ IsRefusal f
 IsFindFault _ before after f = IsRowsFault before.session.manager after.session.manager f

@@ -63,7 +63,7 @@ const FAULTED: u8 = 1;
 
 const MISUSED: u8 = 2;
 
-/// The program's name, in what it says.
+/// The program's name, in its messages.
 const PROGRAM: &str = "what-if";
 
 /// Answers what the words of a command line ask, the program's name first, on standard output, with
