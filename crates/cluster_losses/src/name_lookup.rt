@@ -21,6 +21,8 @@ pub fn nodes_in(alloc: Global, loaded: &Loaded, name: &str) -> Result<Vec<NodeId
     }
 }
 
+/// Returns the storage of this name or, if no storage is named, of this number. The cluster need
+/// not know it.
 pub fn storage_named(loaded: &Loaded, name: &str) -> Option<StorageId>
     ensures { result ≡ number_named loaded.now.names.storages name.now }
 {

@@ -32,6 +32,7 @@ pub struct OnWay {
 }
 
 impl OnWay {
+    /// Makes an empty list of copies. Takes no memory.
     pub fn new(alloc: Global) -> OnWay
         ensures sent { result.sent.items ≡ [] }
         ensures next { result.next ≡ 0 }
@@ -43,12 +44,14 @@ impl OnWay {
         }
     }
 
+    /// Returns the number of copies on their way.
     pub fn len(&self) -> usize
         ensures { result ≡ length self.now.sent.items }
     {
         self.sent.len()
     }
 
+    /// Returns whether no copy is on its way.
     pub fn is_empty(&self) -> bool
         ensures { result ≡ (length self.now.sent.items == 0) }
     {

@@ -37,6 +37,7 @@ pub struct Rows {
 }
 
 impl Rows {
+    /// Makes an empty table with stride 1. Takes no memory.
     pub fn new(alloc: Global) -> Rows
         ensures none { result.rows.items ≡ [] }
         ensures stride { result.stride ≡ 1 }

@@ -46,6 +46,7 @@ impl Transfers {
         }
     }
 
+    /// Returns the number of pending copies.
     pub fn count(&self) -> usize
         ensures { result ≡ map_of.len self.now.copies }
     {

@@ -256,6 +256,7 @@ fn write_unmended_line(
     write_end(text, files.path_of(unmended.block))
 }
 
+/// Returns the word for a reason.
 pub fn reason_word(reason: Reason) -> &'static str
     ensures { result.now ≡ reason_word reason }
 {
