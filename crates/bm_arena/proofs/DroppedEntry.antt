@@ -1,4 +1,4 @@
--- An arena's invariant after an entry without replicas is dropped.
+-- Dropping an entry without replicas keeps an arena's invariant, all other entries and all lists.
 use Rattle.std.proofs.Common.{◌≡◌, ◌≢◌, ℕ, List, [], ◌∷◌, map, length, get_or, set, false, cond, eqb, Option, Some, None, IsSomeAnd, refl, subst, inl, inr, sym, ap, ◌∙◌}
 use Rattle.std.specs.Option.{option_map}
 use Rattle.std.specs.Map.{lookup, keys_of}

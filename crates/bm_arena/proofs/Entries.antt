@@ -1,4 +1,4 @@
--- An arena's invariant after a new entry without triplets, a new head and more capacity.
+-- A new entry without triplets, a new head and more capacity keep an arena's invariant.
 use Rattle.std.proofs.Common.{◌≡◌, ◌≢◌, ◌⊎◌, ℕ, ◌<◌, List, [], ◌∷◌, ◌++◌, map, get_or, false, cond, eqb, Option, Some, None, refl, subst, inl, inr, sym, ap, ◌∙◌, arith, max, ◌+◌}
 use Rattle.std.specs.Option.{option_map}
 use Rattle.std.specs.Map.{lookup, keys_of}

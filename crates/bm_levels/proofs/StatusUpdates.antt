@@ -1,4 +1,5 @@
--- Classifying one slot after another.
+-- Classifying one slot after another classifies all of them, and keeps the status of all other
+-- slots.
 use Rattle.std.specs.Prelude.{◌≡◌, ◌≢◌, ℕ, zero, suc, Bool, List, [], ◌∷◌, ◌++◌, drop, slice_get, Option, Some}
 use Rattle.std.proofs.Common.{refl, sym, ap, subst, ◌∙◌, inl, inr, ◌⊎◌}
 use Rattle.std.proofs.lemmas.Bool.{cases_eq}

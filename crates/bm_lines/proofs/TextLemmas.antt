@@ -1,4 +1,4 @@
--- Concatenated texts.
+-- Writing three parts one after another appends their concatenation.
 use Rattle.std.proofs.Common.{◌≡◌, ℕ, List, ◌++◌, append_assoc}
 
 -- a text is written in three parts: before, body and behind

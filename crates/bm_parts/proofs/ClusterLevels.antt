@@ -1,4 +1,5 @@
--- Which levels stay under events on the cluster.
+-- A heartbeat, a registration, a death or a failure keeps the levels of blocks without a usable
+-- replica on its storages.
 use Rattle.std.proofs.Common.{◌≡◌, ◌≢◌, ℕ, Bool, true, false, not, ◌&&◌, Option, Some, None, is_some, List, [], ◌∷◌, map, length, refl, sym, ap, ◌∙◌, true≢false}
 use Rattle.std.specs.Prelude.{◌==◌, option_map, option_and_then, filter_map}
 use Rattle.std.specs.Option.{option_map_or}

@@ -1,5 +1,5 @@
--- Changes by which replicas and transfers only leave: each one after the change was there before,
--- on a storage that stays on its node.
+-- A change by which replicas and transfers only leave, on storages that stay on their nodes, keeps
+-- holdings lawful.
 use Rattle.std.proofs.Common.{◌≡◌, ℕ, ◌≤◌, Bool, true, false, not, Some, List, is_some, IsTrue, refl, sym, ap, ◌∙◌, true≢false}
 use Rattle.std.specs.Prelude.{◌==◌, if◌then◌else◌}
 use Rattle.std.specs.Ordering.{eq_by_cmp, nat_cmp}

@@ -1,4 +1,5 @@
--- The indices of blocks.
+-- The blocks in the order of their indices are the keys of the hash table, and each block with a
+-- transfer is one of them.
 use Rattle.std.proofs.Common.{◌≡◌, ℕ, Bool, true, false, cond, ◌||◌, List, [], ◌∷◌, map, Option, Some, None, is_some, refl, sym, ap, ◌∙◌, nat_eq}
 use Rattle.std.specs.Prelude.{◌==◌, IsSome, slice_get, option_map}
 use Rattle.std.specs.Option.{option_map_or}

@@ -1,4 +1,4 @@
--- What the map of the transfers becomes where the targets of one block change.
+-- A change of one block's targets changes the map of the transfers at that block alone.
 use Rattle.std.specs.Prelude.{◌≡◌, ◌≤◌, ◌<◌, ◌+◌, ℕ, Bool, true, false, cond, not, ◌==◌, ◌&&◌, List, [], filter, nat_eq, Option, None, Some, option_and_then, option_map, T}
 use Rattle.std.specs.Option.{option_map_or, unwrap_or}
 use Rattle.std.specs.Ordering.{nat_cmp}

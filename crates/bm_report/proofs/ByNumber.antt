@@ -1,4 +1,5 @@
--- Numbers entered, and their lost excess dropped, one after another, each with its slot.
+-- Entering numbers one after another, each with its slot, and dropping their lost excess, does so
+-- for all of them.
 use Rattle.std.proofs.Common.{◌≡◌, ℕ, ◌≤◌, List, [], ◌∷◌, ◌++◌, length, map, Option, Some, None, refl, subst, inl, inr, sym, ap, ◌∙◌, arith, length-append}
 use Rattle.std.proofs.Common.{Bool, true, false, ◌||◌, eqb}
 use Rattle.std.specs.Prelude.{nat_eq, ◌==◌, IsTrue, IsSomeAnd}

@@ -1,4 +1,5 @@
--- Elements in the order of their keys.
+-- Merged wishes and deletes are in the order of their keys, and those of a single part stay as they
+-- are.
 use Rattle.std.proofs.Common.{◌≡◌, ℕ, List, [], ◌∷◌, map, flat_map, length, get_or, refl, sym, ap, subst, ◌∙◌, append-nil, arith, T}
 use Rattle.std.specs.FinMap.{is_sorted}
 use Rattle.std.proofs.lemmas.List.Sorted.{IsPermutation-refl}

@@ -1,4 +1,4 @@
--- Shards after the preparation of an event, and after the event, all together.
+-- After an event for which all shards are ready, they hold together what the definition gives.
 use Rattle.std.specs.Prelude.{◌≡◌, ℕ, suc, ◌+◌, ◌≤◌, List, [], ◌∷◌, map, length, Ok}
 use Rattle.std.specs.List.{All}
 use Rattle.std.proofs.Common.{refl, sym, ap, subst, ◌∙◌, arith}

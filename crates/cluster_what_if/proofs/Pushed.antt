@@ -1,4 +1,4 @@
--- Text that is pushed.
+-- A text that is pushed without a fault is appended.
 use Rattle.std.proofs.Common.{◌≡◌, ℕ, List, ◌++◌, OnOk}
 use Rattle.std.specs.Prelude.{Result, Ok, Err, if◌then◌else◌}
 use Rattle.std.specs.Result.{is_ok}

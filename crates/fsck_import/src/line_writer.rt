@@ -121,8 +121,8 @@ fn write_heartbeats<W: Write>(
     Ok(())
 }
 
-/// Makes the heartbeat of a node: `remaining` is the free bytes of all its storages, unless its row
-/// has them. Refused only if out of memory.
+/// Makes the heartbeat of a node: each storage has `remaining` free bytes, or its share of the
+/// node's bytes if the row has them. Refused only if out of memory.
 pub fn heartbeat(
     alloc: Global,
     rows: &[Row],
