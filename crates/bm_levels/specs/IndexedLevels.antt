@@ -69,7 +69,7 @@ pub record IsClassified (rack : ℕ → Option ℕ) (draining : ℕ → Bool) (m
   pub level : level_of_slot K slot ≡ level_by rack draining multi o
   pub unsettled : IsUnsettled K slot ↔ (is_settled_at o ≡ false)
 
--- the same in a cluster, and of each of these slots
+-- as `IsClassified`, in a cluster, and of each of these slots
 abbrev pub IsClassifiedIn : Cluster → Option Block → IndexedLevels → ℕ → Type 0
 IsClassifiedIn C o K slot = IsClassified (rack_of C) (is_draining C) (is_multi_rack C) o K slot
 

@@ -67,7 +67,8 @@ impl Manager {
         Manager::with_secret(alloc, config, HashSecret::none())
     }
 
-    /// The same, whose tables hash by this secret. No answer, refusal or command depends on it.
+    /// As [`Manager::new`], but the tables hash by this secret. No answer, refusal or command
+    /// depends on it.
     pub fn with_secret(
         alloc: Global,
         config: Config,

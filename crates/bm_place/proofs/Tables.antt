@@ -123,7 +123,7 @@ module _ {X : Type 0} (f : ℕ → X) (ks : List ℕ) (i : ℕ) (whole : Map by_
   row_made m more s k v at same value is inv =
       ap (λ n. insert_all n (listed f (drop (i + 1) ks))) (is ∙ (λ j. insert m (same j) (value j))) ∙ sym (ap (λ xs. insert_all m (listed f xs)) (drop_next ks i s at)) ∙ inv
 
-  -- the same if the rows are of numbers that are computed from these
+  -- `row_made` if the rows are of numbers that are computed from these
   pub row_made_of : (g : ℕ → ℕ) (m more : Map by_number X) (s k : ℕ) (v : X) → slice_get ks i ≡ Some s → k ≡ g s → v ≡ f (g s) → more ≡ insert m k v
       → insert_all m (listed f (map g (drop i ks))) ≡ whole → insert_all more (listed f (map g (drop (i + 1) ks))) ≡ whole
   row_made_of g m more s k v at same value is inv =

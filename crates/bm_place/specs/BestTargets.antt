@@ -37,11 +37,11 @@ abbrev pub first_at : Map by_number TargetRow → ℕ → TargetRow → Option T
 first_at firsts n t None = insert firsts n t
 first_at firsts n t (Some c) = if is_better_than t c then insert firsts n t else firsts
 
--- the same with one more target; nothing changes for one without a node
+-- the best targets of the nodes with one more target; nothing changes for one without a node
 abbrev pub with_first : Map by_number TargetRow → TargetRow → Map by_number TargetRow
 with_first firsts t = option_map_or (λ n. first_at firsts n t (get firsts n)) t.node firsts
 
--- the same with each of these targets
+-- the best targets of the nodes with each of these targets
 abbrev pub with_firsts : Map by_number TargetRow → List TargetRow → Map by_number TargetRow
 with_firsts firsts [] = firsts
 with_firsts firsts (t ∷ ts) = with_firsts (with_first firsts t) ts

@@ -73,7 +73,7 @@ distinct-reverse xs apart = distinct_apart (reverse xs) (apart-reverse xs apart)
 pub first-taken : (xs : List ℕ) (k : ℕ) → k < length xs → first_of (reverse (take (k + 1) xs)) ≡ Some (get_or xs k 0)
 first-taken xs k low = ap first_of (ap reverse (take_more xs k 0 low) ∙ reverse-append (take k xs) (get_or xs k 0 ∷ []))
 
--- the same, as the code reads it
+-- `first-taken` as the code reads it
 pub first-read : (xs ys : List ℕ) (z : ℕ) → ys ≡ reverse xs → slice_get ys (length ys - 1) ≡ Some z → Some z ≡ first_of xs
 first-read [] ys z is at = absurd (none-some z (rw is at at))
 first-read (x ∷ xs) ys z is at =

@@ -110,7 +110,7 @@ fn push_settled(
     Ok(())
 }
 
-/// The same for a chunk of the slots.
+/// As `push_settled`, for a chunk of the slots.
 fn push_settled_chunk(
     start: &RoundScan,
     level: Level,
@@ -134,8 +134,8 @@ fn push_settled_chunk(
     Ok(())
 }
 
-/// The same for one slot, whose block has this number. The bound is compared first: mostly few
-/// slots come before it.
+/// As `push_settled`, for one slot, whose block has this number. The bound is compared first:
+/// mostly few slots come before it.
 fn push_if_settled(
     start: &RoundScan,
     level: Level,

@@ -28,8 +28,8 @@ impl Shard {
         self.round_part_before(round, topology, None)
     }
 
-    /// The same, but only with the wishes before a bound, if there is one, by level and block.
-    /// Other settled blocks are not scanned.
+    /// As [`Shard::round_part`], but only with the wishes before a bound, if there is one, by level
+    /// and block. Other settled blocks are not scanned.
     pub fn round_part_before(
         &self,
         round: u64,

@@ -88,7 +88,7 @@ module _ (C : Cluster) (e : Event) where
         done_is ss cs each ∙ done_adds_up C e shards Ps Qs h.some long h.own changed,
       )
 
-  -- The same, in the form of a function's goals.
+  -- The facts above, in the form of a function's goals.
 
   as_long : (ss : List (ℕ × Seen)) (cs : List (ℕ × Answered Done)) → EachBecame (IsCommitted C e) ss cs → length cs ≡ length ss
   as_long [] [] each = refl

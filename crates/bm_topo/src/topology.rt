@@ -181,7 +181,7 @@ impl Topology {
         self.find_spot(storage)
     }
 
-    /// The same by look-ups, where the hint is wrong.
+    /// As `spot_of`, by look-ups: for a wrong hint.
     #[inline(never)]
     fn find_spot(&self, storage: StorageId) -> Option<Spot>
         ensures node { option_map (λ p. p.node) result ≡ replicas.node_of self.now.cluster storage }

@@ -42,7 +42,7 @@ arrival l source target bytes now = max (sent_at l source bytes now) (received_a
 abbrev pub free_on : FreeBytes → ℕ → ℕ
 free_on f s = unwrap_or (get nat_eq f.free s) 0
 
--- the same as the last heartbeat had it
+-- the free bytes of a storage as its last heartbeat reported them; 0 if it is not known
 abbrev pub free_in : Cluster → ℕ → ℕ
 free_in C s = unwrap_or (option_map (λ i. i.remaining) (map_of.get C.storages s)) 0
 

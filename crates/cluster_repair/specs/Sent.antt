@@ -59,7 +59,7 @@ pub record IsSent (C : Cluster) (now : ℕ) (old new : Links) (s : Sent) : Type 
   pub receiving : (n : ℕ) → receives_until new n ≡ (if nat_eq (receiver C s) n then received_at old (receiver C s) (bytes_of s) now else receives_until old n)
   pub bandwidth : new.bandwidth ≡ old.bandwidth
 
--- the same of these copies, one after another
+-- `IsSent` for these copies, one after another
 abbrev pub AreSent : Cluster → ℕ → Links → Links → List Sent → Type 0
 AreSent C now old new [] = new ≡ old
 AreSent C now old new (s ∷ ss) = (mid : Links) × (IsSent C now old mid s × AreSent C now mid new ss)

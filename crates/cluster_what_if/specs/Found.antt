@@ -40,7 +40,7 @@ pub record IsMended (pace : Pace) (nodes : List ℕ) (book : Book) (M N : State)
   pub unmended : AreUnmended N m.unmended.items
   pub reasons : HaveReasons book N.holdings m.repair.datanodes.free m.unmended.items
 
--- the same if there is a pace; else no round is taken
+-- `IsMended` if there is a pace; else no round is taken
 abbrev pub IsMendedAt : Option Pace → List ℕ → Book → State → State → Option Mended → Type 0
 IsMendedAt None nodes book M N None = N ≡ M
 IsMendedAt (Some pace) nodes book M N (Some m) = IsMended pace nodes book M N m
@@ -52,7 +52,7 @@ pub record AreFound (before after : Loaded) (pace : Option Pace) (lost : Lost) (
   pub answer : IsAnswer before.files before.session.manager (events_of lost) it.answer
   pub mended : IsMendedAt pace lost.drained.items after.session.book (after_losses before.session.manager (events_of lost)) after.session.manager it.mended
 
--- the same of all that some words name
+-- `AreFound` for all losses that some words name
 pub record AreFoundOf (before after : Loaded) (pace : Option Pace) (ls : List Loss) (it : Losses) : Type 0 where
   pub lost : Lost
   pub named : AreNamed before.session.book.topology.cluster before.names ls lost

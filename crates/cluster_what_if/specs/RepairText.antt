@@ -60,7 +60,7 @@ copies_text r =
 unfoldable pub retired_text : Retirement → List ℕ
 retired_text t = codes " retired after " ++ (decimal t.rounds ++ (codes " rounds, " ++ (decimal t.seconds ++ codes " seconds\n")))
 
--- the same, if it can be
+-- after how many rounds and seconds a node can be switched off, if it can
 abbrev pub retirement_text : Option Retirement → List ℕ
 retirement_text None = codes " not retired\n"
 retirement_text (Some t) = retired_text t

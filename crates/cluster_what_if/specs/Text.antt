@@ -18,7 +18,7 @@ unfoldable pub node_words : List ℕ → Names → ℕ → ℕ → List ℕ
 node_words what names n rack =
     what ++ (codes " node " ++ (name_or_number [] names.nodes n ++ (codes " rack " ++ (name_or_number [] names.racks rack ++ codes "\n"))))
 
--- the same, where the cluster has the rack of the node
+-- a node that is lost or drained, with its rack in the cluster
 abbrev pub node_line : List ℕ → Names → Cluster → ℕ → List ℕ
 node_line what names C n = node_words what names n (unwrap_or (get C.nodes n) 0)
 
