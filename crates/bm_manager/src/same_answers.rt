@@ -46,7 +46,7 @@ pub fn answers_alike<R: Threads + Wait + Sync>(
 }
 
 /// [`answers_alike`], where the second manager has `shards` shards, and the calling thread alone
-/// works its calls.
+/// processes its calls.
 pub fn answers_alike_alone<R: Threads + Wait + Sync>(
     alloc: Global,
     rt: &R,

@@ -15,7 +15,7 @@ use Rattle.bm_pending.specs.Inside.{PendingTargets, map_of, capacities_of}
 use Rattle.bm_pending.specs.PendingMap.{PendingMap, blocks_in}
 use Rattle.bm_pending.proofs.TargetViews.{get-map_of}
 
--- what is seen of the indices
+-- the view of the indices
 pub places-seen : (es : List (ℕ × PendingTargets)) → map (λ (e : ℕ × ℕ). e.0) (capacities_of es) ≡ keys_of es
 places-seen [] = refl
 places-seen (e ∷ es) = ap (λ ks. e.0 ∷ ks) (places-seen es)

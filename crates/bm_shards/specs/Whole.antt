@@ -5,7 +5,7 @@ use Rattle.bm_parts.specs.Whole.{whole_of, AreOwn}
 use Rattle.bm_shard.specs.Seen.{Seen}
 use Rattle.bm_shard.specs.UpToDate as shard
 
--- what is seen of all shards: what they hold together, and each of them with its index
+-- the view of all shards: what they hold together, and each of them with its index
 pub record Whole : Type 0 where
   pub holdings : Holdings
   pub shards : List (ℕ × Seen)

@@ -35,7 +35,7 @@ pub fn without<H: Threads + Wait + Sync>(
     requires losses { are_losses losses.now ≡ true }
     requires missing { let M = session.old.manager in
         missing.now ≡ missing_blocks M.cluster M.holdings }
-    // The lost blocks are those whose usable replicas were all on what is lost.
+    // The lost blocks are those whose usable replicas were all on lost storages.
     ensures outcome { IfOk result (IsOutcome session.old.manager losses.now) }
     ensures state { OnOk result (session.new.manager
         ≡ after_losses session.old.manager losses.now) }

@@ -24,7 +24,7 @@ use std::alloc::{AllocError, Global};
 use std::sync::Wait;
 use std::thread::Threads;
 
-/// The pending and the finished work of DataNodes.
+/// The copies and deletes that DataNodes have to do, and what they have done.
 #[derive(Drop)]
 pub struct DataNodes {
     pub links: Links,

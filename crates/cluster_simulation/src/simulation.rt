@@ -90,8 +90,8 @@ impl Simulation {
         Ok(counts)
     }
 
-    /// The planned incidents happen: first what is lost, then what is found corrupt. Returns the
-    /// DataNodes as they are then; what was commanded before never comes.
+    /// Makes the planned incidents happen: first the losses, then the corruptions. Returns the
+    /// DataNodes after them; copies that were commanded before never arrive.
     pub fn go_wrong<R: Threads + Wait + Sync>(
         &mut self,
         rt: &R,

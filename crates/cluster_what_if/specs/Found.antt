@@ -46,7 +46,7 @@ IsMendedAt None nodes book M N None = N ≡ M
 IsMendedAt (Some pace) nodes book M N (Some m) = IsMended pace nodes book M N m
 IsMendedAt _ nodes book M N _ = ⊥
 
--- What is lost by name, the answer about these losses, and what is copied again after them.
+-- The losses by name, the answer about them, and their repair.
 pub record AreFound (before after : Loaded) (pace : Option Pace) (lost : Lost) (it : Losses) : Type 0 where
   pub named : string_bytes it.named ≡ lost_text before.names before.session.book.topology.cluster lost
   pub answer : IsAnswer before.files before.session.manager (events_of lost) it.answer

@@ -15,12 +15,12 @@ use Rattle.cluster_what_if.specs.declared.found.Found.TheVariants as found
 use Rattle.cluster_what_if.specs.declared.found.Losses.{Losses}
 use Rattle.cluster_what_if.specs.declared.found.Mended.{Mended}
 
--- what is copied again, if that was asked for
+-- the repair, if one was asked for
 abbrev pub mended_text : Names → FileTable → ℕ → Option Mended → List ℕ
 mended_text names f most None = []
 mended_text names f most (Some m) = repair_text names f most m
 
--- what is lost by name, the answer, and what is copied again
+-- the losses by name, the answer, and the repair
 unfoldable pub losses_text : Names → FileTable → ℕ → Losses → List ℕ
 losses_text names f most it = string_bytes it.named ++ (answer_text f most it.answer ++ mended_text names f most it.mended)
 

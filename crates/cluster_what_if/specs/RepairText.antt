@@ -1,4 +1,4 @@
--- The text of what is copied again: a table of rounds, and a line for each fact.
+-- The text of a repair: a table of rounds, and a line for each fact.
 use Rattle.std.specs.Prelude.{ℕ, nat_eq, Bool, true, false, if◌then◌else◌, List, [], ◌++◌, Option, Some, None, codes, count_by, decimal, length, take}
 use Rattle.std.specs.List.{flat_map}
 use Rattle.std.specs.Int.{div_ceil}
@@ -104,7 +104,7 @@ unmended_line f u =
 unfoldable pub unmended_text : FileTable → ℕ → List Unmended → List ℕ
 unmended_text f most us = reasons_text us ++ flat_map (unmended_line f) (take most us)
 
--- all that is printed of what is copied again
+-- the whole text of a repair
 unfoldable pub repair_text : Names → FileTable → ℕ → Mended → List ℕ
 repair_text names f most m =
     model_line m.pace

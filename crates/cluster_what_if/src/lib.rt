@@ -1,7 +1,6 @@
-//! Answers what is lost with racks, nodes and storages. Reads lines of the line tool or a text of
-//! `hdfs fsck`, and makes their calls on one manager. Then it writes the state of the cluster
-//! without what is lost, with no round between. It may go on with rounds until nothing more is
-//! copied.
+//! Shows the losses if racks, nodes and storages fail. Reads lines of the line tool or a text of
+//! `hdfs fsck`, and makes their calls on one manager. Then it prints the state of the cluster after
+//! the losses, before any round. With `--mend` it goes on with rounds until nothing more is copied.
 //!
 //! ```text
 //! puljemrod_cluster what-if --lose rack:1 cluster.jsonl

@@ -126,7 +126,7 @@ fn write_name(text: &mut String, name: Option<&str>, number: u32) -> Result<(), 
     }
 }
 
-/// The blocks before and after, what is lost, and what is to be copied.
+/// The blocks before and after, the lost blocks, and the bytes to copy.
 #[tactic(auto, unfolding(crate::specs::Text::answer_text))]
 pub fn write_answer(
     text: &mut String,
