@@ -34,7 +34,7 @@ impl FourStorages {
         }
     }
 
-    /// Drops the first storage, and adds one; only that one, if it begins again.
+    /// Drops the first storage and adds one; if `begins`, all four become that one.
     fn push_next(&mut self, storage: StorageId, begins: bool)
         ensures { self.new.fourth ≡ storage }
     {

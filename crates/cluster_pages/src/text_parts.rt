@@ -191,7 +191,7 @@ pub fn bytes_on(rows: &[StorageRow]) -> u128
     total
 }
 
-/// The bytes that are left on these storages.
+/// The free bytes on these storages.
 pub fn remaining_on(rows: &[StorageRow]) -> u128
     ensures { result ≡ sum_by (λ s. s.remaining) rows.now }
 {

@@ -90,7 +90,8 @@ impl OnWay {
         }
     }
 
-    /// Takes out what has arrived by now, by arrival and then by command.
+    /// Removes and returns the copies that have arrived by `now`, sorted by arrival and then by
+    /// command.
     pub fn take_due(&mut self, alloc: Global, now: u64) -> Result<Vec<Sent>, AllocError>
         ensures due { IfOk result (λ v.
             IsPermutation (filter (has_arrived now) self.old.sent.items) v.items) }

@@ -180,7 +180,7 @@ impl LeveledBlock<'_> {
         self.would_count(storage) && self.length <= free.of(storage)
     }
 
-    /// Whether a copy on the storage would count, free bytes aside.
+    /// Whether a copy on the storage could count for the block, whatever the storage's free bytes.
     fn would_count(&self, storage: StorageId) -> bool
         ensures { result ≡ would_count self.now.topology.now.cluster self.now.replicas.now
             self.now.level storage }

@@ -48,7 +48,7 @@ impl Rows {
         }
     }
 
-    /// Whether a round has a row, the last one aside.
+    /// Whether a round has a row even if it is not the last one.
     pub fn is_due(&self, round: u32) -> bool
         ensures { result ≡ is_on_stride round self.now.stride }
     {

@@ -85,7 +85,7 @@ impl From<AllocError> for ClusterFault {
 }
 
 impl Cluster {
-    /// Nothing was read.
+    /// An empty cluster. Takes no memory.
     pub fn new(alloc: Global) -> Cluster
         ensures { result ≡ no_cluster }
     {
