@@ -103,8 +103,8 @@ IsSameOutside slots old new = (slot : ℕ) → (IsMember slot slots → ⊥) →
 abbrev pub indexed_slots : Contents → List ℕ
 indexed_slots a = map (λ (p : ℕ × ℕ). p.1) a.ids
 
--- if an iteration over a list has left a slot behind, a change keeps its position and the slots
--- still to come
+-- if an iteration over a list has passed a slot, a change keeps its position and the remaining
+-- slots
 pub record KeepsAhead (slot : ℕ) (old new : List ℕ) : Type 0 where
   pub rest : (at : Option ℕ) → IsPast slot at old → slots_from new at ≡ slots_from old at
   pub on : (at : Option ℕ) → IsPast slot at old → IsOn at old → IsOn at new

@@ -1,4 +1,4 @@
-// Transfers as lists: those of a block, and all that are given up, in order.
+// Transfers as lists: those of a block, and all that are expired, in order.
 ghost use Rattle.std.specs.Prelude.{◌≡◌, ◌≤◌, ◌+◌, ℕ, [], false, nat_eq, map, length, ◌++◌, OnOk, OnErr, IfOk, IfErr, IsOk, T, vec_len, vec_capacity};
 ghost use Rattle.std.specs.Ordering.{nat_cmp};
 ghost use Rattle.std.specs.FinMap as list;

@@ -115,7 +115,7 @@ module _ (xs : List ℕ) (apart : AreApart xs) (i : ℕ) (low : i < length xs) w
       let same : i + 1 + found.0 ≡ i = apart (i + 1 + found.0) i (grind (arith, common_steps, inside)) low at in
       absurd (omega (arith, same))
 
-  -- from a slot on, the slots before it in the array are to come
+  -- from a slot on, the slots before it in the array remain
   pub from-index : slots_from (reverse xs) (Some z) ≡ reverse (take (i + 1) xs)
   from-index = ap (λ ys. slots_from ys (Some z)) cut-reverse ∙ from-cut z (reverse (drop (i + 1) xs)) (reverse (take i xs)) not-later ∙ sym taken-reverse
 
@@ -191,7 +191,7 @@ module _ (xs : List ℕ) (apart : AreApart xs) (slot place : ℕ) (low : place <
   taken-rest i below =
       take-take (i + 1) last (set xs place (get_or xs last slot)) (omega (arith, below, low)) ∙ take-set-le (i + 1) xs place (get_or xs last slot) (omega (arith, below))
 
-  -- the slots still to come stay the same if the slot was left behind
+  -- the remaining slots stay the same if the slot was passed
   pub rest-from : (p : Option ℕ) → IsPast slot p (reverse xs) → slots_from (reverse rest) p ≡ slots_from (reverse xs) p
   rest-from None past = refl
   rest-from (Some y) past =

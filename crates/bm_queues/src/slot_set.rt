@@ -136,7 +136,8 @@ impl SlotSet {
         self.count
     }
 
-    /// The slot at the front; none if the set is empty. From there on all slots are to come.
+    /// The slot at the front; none if the set is empty. An iteration from there on visits all
+    /// slots.
     pub fn first(&self) -> Option<usize>
         ensures slot { result ≡ first_of self.now.slots }
         ensures on { IsOn result self.now.slots }

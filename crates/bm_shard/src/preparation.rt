@@ -21,8 +21,8 @@ use bm_topo::Topology;
 impl Shard {
     /// Takes the memory that [`Shard::commit`] of the event needs. A contract sees no other change,
     /// whether it is refused or not, if the shard is up to date in some cluster. It may be called
-    /// again: what was prepared before is given up. `Memory`, if a block is added, a replica
-    /// received or a storage reports; other events take none.
+    /// again: earlier reservations are dropped. `Memory`, if a block is added, a replica received
+    /// or a storage reports; other events take none.
     #[tactic(auto, unfolding(crate::specs::Seen::IsReadyFor))]
     pub fn prepare(&mut self, event: &Event, topology: &Topology) -> Result<(), Refusal>
         ensures ready { OnOk result (IsReadyFor event.now self.new) }

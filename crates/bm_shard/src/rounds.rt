@@ -86,7 +86,7 @@ impl Shard {
     /// Takes the shard's next round, in which all shards together chose this. Expired transfers
     /// leave, excess is marked again from scratch, the shard's own chosen deletes are ordered and
     /// its own chosen transfers become pending. Every shard takes every round, also one in which
-    /// nothing was chosen. What was prepared for an event is given up. Takes no memory.
+    /// nothing was chosen. Reservations for an event are dropped. Takes no memory.
     pub fn round_commit(&mut self, part: &RoundPart, chosen: &Chosen, topology: &Topology)
         requires up_to_date { IsUpToDate topology.now.cluster self.old }
         requires part { part.now.excess ≡ (next_part topology.now.cluster self.old).excess }

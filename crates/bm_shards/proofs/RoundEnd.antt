@@ -37,7 +37,7 @@ module _ (C : Cluster) (limits : RoundLimits) (last : ℕ) (ss : List (ℕ × Se
     end_held all_ts all_ds =
         held_after C chosen last limits.pend ss ts each h took ∙ (λ i. end_round (last + 1) (holdings_at_choice C limits.pend (last + 1) (held_by ss)) (all_ts i) (all_ds i))
 
-  -- The round was given up.
+  -- The round was aborted.
   module _ (back ts : List (ℕ × Seen)) (o : Result (Unit {0}) Refusal) (e : Refusal) (from : back ≡ ss) (same : OnErr o (AllZip IsSame back ts)) (is : o ≡ Err e) where
     still : AllZip IsSame ss ts
     still = subst (λ (xs : List (ℕ × Seen)). AllZip IsSame xs ts) from (subst (λ r. OnErr r (AllZip IsSame back ts)) is same)

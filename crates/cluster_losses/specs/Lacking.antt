@@ -1,4 +1,4 @@
--- The bytes that are still to be copied, and the bytes that are free for them.
+-- The bytes to copy, and the free bytes for them.
 use Rattle.std.specs.Prelude.{ℕ, ◌-◌, ◌*◌, ◌^◌, ◌==◌, min, if◌then◌else◌, length, sum_by}
 use Rattle.std.specs.Option.{option_map_or}
 use Rattle.bm_base.specs.declared.replica.BlockInfo.{BlockInfo}

@@ -1,4 +1,4 @@
--- What is answered about losses.
+-- The answer about losses.
 use Rattle.std.specs.Prelude.{List, []}
 use Rattle.bm_base.specs.declared.event.Event.{Event}
 use Rattle.bm_base.specs.Words.{State}

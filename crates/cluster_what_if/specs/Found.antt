@@ -1,4 +1,4 @@
--- What is found about losses.
+-- The findings about losses.
 use Rattle.std.specs.Prelude.{◌≡◌, ◌⊎◌, ℕ, List, Option, Some, None, filter, map, string_bytes}
 use Rattle.bm_base.specs.Words.{State, keys, knows_node}
 use Rattle.cluster_input.specs.declared.loaded_cluster.Loaded.{Loaded}
@@ -72,7 +72,7 @@ pub record IsTableOfNodes (before after : Loaded) (t : Table) : Type 0 where
   pub kind_is : t.kind ≡ kind.Node
   pub like : IsLike before.session.manager after.session.manager
 
--- what a question asks for
+-- the findings for a question
 abbrev pub IsFoundFor : Question → Option Pace → Loaded → Loaded → Found → Type 0
 IsFoundFor (question.Losses ls) pace before after (found.Losses it) = AreFoundOf before after pace ls.items it
 IsFoundFor question.EachRack pace before after (found.Table t) = IsTableOfRacks before after t

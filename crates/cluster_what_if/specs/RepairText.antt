@@ -29,7 +29,7 @@ model_line pace =
 unfoldable pub rounds_heading : List ℕ
 rounds_heading = codes "   round    seconds " ++ (level_heads ++ codes "  missing commanded    on_way\n")
 
--- a round, when it was, and what it leaves
+-- a round, its time, and the counts after it
 unfoldable pub round_line : Row → List ℕ
 round_line r =
     number_in 8 r.round ++ (codes " "
@@ -69,7 +69,7 @@ retirement_text (Some t) = retired_text t
 unfoldable pub retirement_line : Names → List Retirement → ℕ → List ℕ
 retirement_line names ts n = codes "node " ++ (name_or_number [] names.nodes n ++ retirement_text (retirement_of ts n))
 
--- why a block stays as it is
+-- why a block stays unrepaired
 abbrev pub reason_word : Reason → List ℕ
 reason_word NoSource = codes "no source"
 reason_word NoTarget = codes "no target"
@@ -81,11 +81,11 @@ same_reason NoTarget NoTarget = true
 same_reason NoSpace NoSpace = true
 same_reason _ _ = false
 
--- how many of these blocks stay as they are for a reason
+-- how many of these blocks stay unrepaired for a reason
 unfoldable pub count_with : Reason → List Unmended → ℕ
 count_with reason us = count_by (λ u. same_reason u.reason reason) us
 
--- how many blocks stay as they are, and how many of them for each reason
+-- how many blocks stay unrepaired, and how many of them for each reason
 unfoldable pub reasons_text : List Unmended → List ℕ
 reasons_text us =
     count_line (codes "unmended blocks") (length us)
@@ -93,14 +93,14 @@ reasons_text us =
     ++ (count_line (codes "no target") (count_with NoTarget us)
     ++ count_line (codes "no space") (count_with NoSpace us)))
 
--- a block that stays as it is
+-- a block that stays unrepaired
 unfoldable pub unmended_line : FileTable → Unmended → List ℕ
 unmended_line f u =
     codes "unmended block " ++ (decimal u.block
     ++ (codes " level " ++ (level_word u.level
     ++ (codes " " ++ (reason_word u.reason ++ end_with (path_of f u.block))))))
 
--- the blocks that stay as they are, and the first of them by name
+-- the blocks that stay unrepaired, and the first of them by name
 unfoldable pub unmended_text : FileTable → ℕ → List Unmended → List ℕ
 unmended_text f most us = reasons_text us ++ flat_map (unmended_line f) (take most us)
 

@@ -13,7 +13,7 @@ use Rattle.cluster_what_if.specs.Columns.{number_in, word_in, word_first, level_
 use Rattle.cluster_what_if.specs.Text.{yes_or_no}
 use Rattle.cluster_what_if.specs.declared.found.Table.{Table}
 
--- what the names of the rows are of
+-- the kind of the rows: rack or node
 abbrev pub kind_word : Kind → List ℕ
 kind_word Rack = codes "rack"
 kind_word _ = codes "node"
