@@ -1,4 +1,5 @@
--- The calling thread and its helpers, step by step.
+-- Each step of the calling thread and of its helpers keeps the facts about the pieces taken and
+-- their results.
 use Rattle.std.proofs.Common.{◌≡◌, ℕ, ◌+◌, ◌<◌, ◌≤◌, true, false, List, [], ◌∷◌, ◌++◌, length, arith, ap, ◌∙◌, sym, subst, set, vec_len, vec_capacity, length-append, Global}
 use Rattle.std.specs.Prelude.{Option, Some, None, Vec}
 use Rattle.std.proofs.lemmas.List.{append-nil}

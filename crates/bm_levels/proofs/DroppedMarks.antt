@@ -1,5 +1,4 @@
--- Dropping marks at one unsettled slot after another, and marking the replicas of a list one after
--- another.
+-- Dropping marks at one unsettled slot after another drops them at all, and keeps all other slots.
 use Rattle.std.specs.Prelude.{◌≡◌, ◌≢◌, ℕ, zero, suc, true, ◌==◌, List, [], ◌∷◌, drop}
 use Rattle.std.specs.Option.{option_map_or}
 use Rattle.std.specs.List.{list_any}

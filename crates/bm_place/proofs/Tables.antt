@@ -1,4 +1,5 @@
--- Entries of a table, and the effect of a change of a count.
+-- A table has an entry for each of its keys and no other, and a change of one count changes no
+-- other.
 use Rattle.std.specs.Prelude.{unwrap_or, option_map}
 use Rattle.std.proofs.Common.{◌≡◌, ◌≤◌, ℕ, ◌+◌, suc, zero, Bool, true, false, cond, ◌||◌, List, [], ◌∷◌, map, drop, Option, Some, None, is_some, refl, sym, ap, ◌∙◌, arith}
 use Rattle.std.specs.Prelude.{◌==◌, slice_get}

@@ -1,4 +1,4 @@
--- Slots of a list by their index, and the same list from its end.
+-- The slots of a list from its end are those of its array by descending index.
 use Rattle.std.proofs.Common.{◌≡◌, ◌≢◌, ◌⊎◌, ℕ, zero, suc, ◌<◌, ◌+◌, ◌-◌, ◌++◌, List, [], ◌∷◌, length, get_or, set, take, drop, reverse, Option, Some, None, inl, inr, subst, sym, ap, ◌∙◌, refl, arith}
 use Rattle.std.specs.Prelude.{◌↔◌, slice_get}
 use Rattle.std.specs.List.{swap_remove}

@@ -147,8 +147,8 @@ impl SlotSet {
     }
 
     /// The next slot after a slot; none after the last one, and if the slot is not in the set. A
-    /// caller that iterates may remove the slot that it has left, or insert it again: the slots
-    /// still to come stay the same.
+    /// caller that iterates may remove the slot that it has passed, or insert it again: the
+    /// remaining slots stay the same.
     pub fn next(&self, slot: usize) -> Option<usize>
         requires { slot < self.now.capacity }
         ensures slot { result ≡ slot_after slot self.now.slots }

@@ -1,4 +1,5 @@
--- The end of a round of all shards.
+-- After a round of all shards they hold what the definition gives; after an aborted one they hold
+-- what they held.
 use Rattle.std.specs.Prelude.{◌≡◌, ℕ, ◌+◌, List, length, Result, Ok, Err, OnOk, OnErr}
 use Rattle.std.specs.List.{AllZip}
 use Rattle.std.proofs.Common.{subst, ◌∙◌}
