@@ -27,7 +27,7 @@ cmp_of_one_node s t = ordering_then (nat_cmp (free_bytes_on t) (free_bytes_on s)
 abbrev pub is_better_than : TargetRow → TargetRow → Bool
 is_better_than s t = is_lt (cmp_of_one_node s t)
 
--- the other one, if it is of the target's node and better than the best so far; else that
+-- the better of two targets, if the other one is of the target's node; else the best so far
 abbrev pub better_of : TargetRow → TargetRow → Option TargetRow → TargetRow
 better_of best t None = best
 better_of best t (Some c) = if are_of_one_node c t && is_better_than c best then c else best

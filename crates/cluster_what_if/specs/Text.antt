@@ -33,7 +33,7 @@ lost_text names C lost =
     ++ (flat_map (storage_line names) lost.storages.items
     ++ flat_map (node_line (codes "lose") names C) lost.nodes.items)
 
--- what is counted, before the losses and after them
+-- a count, before the losses and after them
 unfoldable pub change_line : List ℕ → ℕ → ℕ → List ℕ
 change_line what before after = what ++ (codes " before " ++ (decimal before ++ (codes " after " ++ (decimal after ++ codes "\n"))))
 
@@ -71,11 +71,11 @@ abbrev pub yes_or_no : Bool → List ℕ
 yes_or_no true = codes "yes"
 yes_or_no false = codes "no"
 
--- whether the free bytes suffice for what is to be copied
+-- whether the free bytes suffice for the bytes to copy
 unfoldable pub fits_line : ClusterCounts → List ℕ
 fits_line after = codes "free bytes suffice " ++ (yes_or_no (nat_le after.lacking after.free) ++ codes "\n")
 
--- the bytes that are to be copied, those that are free, and whether they suffice
+-- the bytes to copy, the free bytes, and whether these suffice
 unfoldable pub copies_text : ClusterCounts → List ℕ
 copies_text after =
     count_line (codes "bytes to copy") after.lacking

@@ -17,7 +17,7 @@ use cluster_pages::text_parts::thousandths;
 use cluster_report::levels::LevelCounts;
 use std::alloc::{AllocError, Global};
 
-/// The page of what is found, with at most `most` blocks and files of each list.
+/// The page of the findings, with at most `most` blocks and files of each list.
 pub fn found_page(
     alloc: Global,
     names: &Names,
