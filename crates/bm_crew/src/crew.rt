@@ -140,7 +140,7 @@ impl<T: Drop, U: Drop> Ready<T, U> {
     }
 }
 
-/// Works each item in turn, and moves the results into the capacity of `results`.
+/// Processes each item in turn, and moves the results into the capacity of `results`.
 fn work_in_turn<T: Drop, U: Drop, J: Fn(u32, T) -> U>(
     items: Vec<(u32, T)>,
     mut results: Vec<(u32, U)>,

@@ -13,7 +13,7 @@ use crate::leveled_blocks::LeveledBlocks;
 use bm_arena::{Arena, Slot};
 use bm_base::StorageId;
 
-/// Takes out the replicas on a storage of the first blocks in its list.
+/// Removes the replicas on a storage of the first blocks in its list.
 fn unlink_all(arena: &mut Arena, storage: StorageId, slots: &[Slot])
     requires free { marks_at arena.old arena.old.delimiter storage ≡ None }
     requires first { HasFirstSlots arena.old storage slots.now }

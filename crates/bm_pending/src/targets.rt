@@ -37,7 +37,7 @@ pub(crate) fn put(targets: &mut PendingTargets, storage: u32, round: u64)
     }
 }
 
-/// Takes the transfer to a storage out.
+/// Removes the transfer to a storage.
 pub(crate) fn drop_target(targets: &mut PendingTargets, storage: u32)
     ensures items { targets.new.items ≡ filter (λ t. not (t.0 == storage)) targets.old.items }
     ensures capacity { targets.new.capacity ≡ targets.old.capacity }
@@ -63,7 +63,7 @@ pub(crate) fn drop_expired(targets: &mut PendingTargets, pend: u32, round: u64)
     targets.retain(|target| !is_expired(target.1, pend, round));
 }
 
-/// Takes the transfers to these storages out.
+/// Removes the transfers to these storages.
 pub(crate) fn drop_storages(targets: &mut PendingTargets, storages: &[StorageId])
     ensures { targets.new
         ≡ record targets.old {

@@ -142,7 +142,7 @@ impl LevelLists {
         }
     }
 
-    /// Takes a slot out of its list, if it is in one: it has no level then.
+    /// Removes a slot from its list, if it is in one: it has no level then.
     fn leave(&mut self, slot: usize)
         requires { slot < length self.old.levels }
         ensures left { (l : Level) → level_at self.old slot ≡ Some l

@@ -101,7 +101,7 @@ impl SlotSet {
         self.count += 1;
     }
 
-    /// Takes a slot out, if it is in the set. Takes no memory.
+    /// Removes a slot, if it is in the set. Takes no memory.
     pub fn remove(&mut self, slot: usize)
         requires { slot < self.old.capacity }
         ensures after { self.new ≡ record self.old { slots = without slot self.old.slots } }

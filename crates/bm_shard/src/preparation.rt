@@ -1,4 +1,4 @@
-// Takes the memory that an event needs, or gives it up.
+// Takes the memory that an event needs, or releases it.
 ghost use Rattle.std.specs.Prelude.{◌≡◌, ◌==◌, ◌<◌, ◌∷◌, [], ℕ, None, Some, IfErr, OnOk, OnErr};
 ghost use Rattle.bm_base.specs.declared.refusal.Refusal.TheVariants.{Memory};
 ghost use Rattle.bm_base.specs.Words.{Refuses, Cluster, is_named};
@@ -126,7 +126,7 @@ impl Shard {
         Ok(())
     }
 
-    /// Gives up what was prepared: entries that were made for it and have neither a block nor a
+    /// Releases what was prepared: entries that were made for it and have neither a block nor a
     /// replica are dropped. A contract sees no change but of capacity, if the shard is up to date
     /// in some cluster. Takes no memory.
     pub fn abort(&mut self)

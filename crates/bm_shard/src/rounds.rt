@@ -140,7 +140,7 @@ impl Shard {
         self.round = round;
     }
 
-    /// Gives up what was reserved for a round. A contract sees no change but of capacity, if the
+    /// Releases what was reserved for a round. A contract sees no change but of capacity, if the
     /// shard is up to date in some cluster. Takes no memory.
     pub fn round_abort(&mut self)
         ensures same { IsSameButCapacity self.old self.new }

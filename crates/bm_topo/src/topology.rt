@@ -114,7 +114,7 @@ impl Topology {
         let _ = &self.nodes;
     }
 
-    /// What is known of a storage: one read at the hint, and else a look-up.
+    /// The node and the free bytes of a storage: one read at the hint, and else a look-up.
     fn info_of(&self, storage: StorageId) -> Option<StorageInfo>
         ensures { result ≡ map.get self.now.cluster.storages storage }
     {
