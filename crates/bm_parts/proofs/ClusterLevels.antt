@@ -1,5 +1,5 @@
--- A heartbeat, a registration, a death or a failure keeps the levels of blocks without a usable
--- replica on its storages.
+-- Events on nodes and storages keep the levels of blocks without a usable replica there, unless the
+-- cluster gains or loses its second rack.
 use Rattle.std.proofs.Common.{◌≡◌, ◌≢◌, ℕ, Bool, true, false, not, ◌&&◌, Option, Some, None, is_some, List, [], ◌∷◌, map, length, refl, sym, ap, ◌∙◌, true≢false}
 use Rattle.std.specs.Prelude.{◌==◌, option_map, option_and_then, filter_map}
 use Rattle.std.specs.Option.{option_map_or}
