@@ -1,4 +1,5 @@
--- What a line asks, by its length.
+-- A line above the length limit is refused as too long; any other asks for the call that is read of
+-- it.
 use Rattle.std.proofs.Common.{◌≡◌, Option, None, Some, ℕ, ◌<◌, ◌≤◌, List, length, Result, Ok, Err, refl, ◌∙◌}
 use Rattle.std.proofs.lemmas.Bool.{lt-ltb, le-ltb}
 use Rattle.std.specs.Prelude.{OnErr}

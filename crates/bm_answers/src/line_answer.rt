@@ -90,7 +90,7 @@ pub fn make_call<H: Threads + Wait + Sync>(
     }
 }
 
-/// The same on the calling thread alone.
+/// As [`make_call`], on the calling thread alone.
 pub fn make_call_alone(manager: &mut Manager, asked: Asked) -> Result<LineAnswer, AllocError>
     ensures answer { IfOk result (λ a. a ≡ answer_to manager.old asked) }
     ensures memory { IfOk result (λ a. number_of a ≡ 14 → ⊥) }

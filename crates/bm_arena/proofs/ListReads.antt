@@ -1,4 +1,4 @@
--- What walking a list, reserving capacity and inserting the delimiter depend on.
+-- A walk visits the slots of a list, and reserving capacity keeps an arena's invariant and lists.
 use Rattle.std.proofs.Common.{◌≡◌, ℕ, zero, suc, ◌<◌, ◌≤◌, ◌+◌, map, List, [], ◌∷◌, length, get_or, eqb, Bool, true, false, not, is_some, Option, Some, None, IsSome, IsSomeAnd, refl, subst, inl, inr, sym, ap, ◌∙◌, arith}
 use Rattle.std.specs.Option.{option_map, option_and_then, option_map_or, unwrap_or}
 use Rattle.std.specs.Map.{lookup, keys_of}

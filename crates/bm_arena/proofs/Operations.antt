@@ -1,5 +1,5 @@
--- An arena's lists, and what is seen of it, after a replica is linked, unlinked or moved to the
--- front.
+-- Linking, unlinking and moving a replica change an arena's lists and its view as the operations
+-- define.
 use Rattle.std.proofs.Common.{◌≡◌, ◌≢◌, ℕ, List, [], ◌∷◌, ◌++◌, length, get_or, eqb, Option, Some, None, refl, subst, inl, inr, sym, ap, ◌∙◌}
 use Rattle.std.specs.Option.{option_map}
 use Rattle.std.specs.Map.{lookup, set_value, keys_of}

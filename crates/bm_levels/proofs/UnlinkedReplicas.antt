@@ -1,4 +1,5 @@
--- Unlinking the first replicas of a storage's list, one after another.
+-- Unlinking the first replicas of a storage's list one after another removes them, and keeps all
+-- other replicas.
 use Rattle.std.specs.Prelude.{◌≡◌, ◌≢◌, ℕ, ◌+◌, ◌==◌, Bool, List, ◌∷◌, ◌++◌, Option, Some, None, IsSome, option_and_then}
 use Rattle.std.proofs.Common.{cond, refl, sym, ap, subst, ◌∙◌, inl, inr, ◌⊎◌}
 use Rattle.std.proofs.lemmas.Bool.{cases_eq, eq-eqb}

@@ -1,4 +1,4 @@
--- The slots at a level at which copies are wanted: those of four levels.
+-- The slots at a level at which copies are wanted are those of four levels, each once.
 use Rattle.std.specs.Prelude.{◌≡◌, ℕ, true, List, [], ◌∷◌, ◌++◌, Option, Some, None}
 use Rattle.std.proofs.Common.{◌⊎◌, inl, inr, sym, ap, ◌∙◌, refl}
 use Rattle.std.proofs.lemmas.Bool.{true≢false}

@@ -87,8 +87,8 @@ impl LevelIndex {
         }
     }
 
-    /// Whether all blocks of a chunk have the stored status. All are compared, whatever the first
-    /// gives.
+    /// Whether all blocks of a chunk have the stored status. Compares all of them, even after a
+    /// difference.
     fn keeps_all(&self, chunk: &[Slot], status: &[BlockStatus]) -> bool
         requires few { length chunk.now ≤ length status.now }
         requires capacity { HasCapacityForEach self.now chunk.now }

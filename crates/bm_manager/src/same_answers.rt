@@ -46,7 +46,7 @@ pub fn answers_alike<R: Threads + Wait + Sync>(
 }
 
 /// [`answers_alike`], where the second manager has `shards` shards, and the calling thread alone
-/// works its calls.
+/// processes its calls.
 pub fn answers_alike_alone<R: Threads + Wait + Sync>(
     alloc: Global,
     rt: &R,
@@ -87,7 +87,7 @@ fn answers_of<R: Threads + Wait + Sync>(
     }
 }
 
-/// The same by the calling thread alone.
+/// As `answers_of`, by the calling thread alone.
 fn answers_alone(alloc: Global, config: Config, calls: &[Call]) -> Result<Items<Answer>, Refusal>
     ensures answers { IfOk result (λ r. MayAnswerAll step (first_state config) calls.now r) }
     ensures allowed { OnOk result (config_refusal config ≡ None) }

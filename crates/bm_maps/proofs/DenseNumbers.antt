@@ -70,7 +70,7 @@ module _ {X : Type 0} where
         | Greater ↦ λ b. omega (arith, rest)
       ] (order_implies k e.0)
 
-  -- the same for reads of the first and of the last entry
+  -- the bounds of the index, for reads of the first and of the last entry
   pub upto_read : (k : ℕ) (es : List (ℕ × X)) (d : ℕ × X) → T (is_sorted nat_cmp es) → 0 < length es → key_index nat_cmp k es ≤ k - (get_or es 0 d).0
   upto_read k [] d h some = absurd (omega (arith, some))
   upto_read k (e ∷ es) d h some = index_upto k e es h

@@ -1,4 +1,4 @@
--- Lemmas on lists of slots.
+-- Taking a slot out of a list without duplicates removes this slot alone.
 use Rattle.std.proofs.Common.{◌≡◌, ◌≢◌, ◌⊎◌, ℕ, zero, suc, ◌<◌, ◌≤◌, ◌+◌, eqb, List, [], ◌∷◌, length, None, inl, inr, subst, sym, ap, ◌∙◌, refl, arith}
 use Rattle.std.proofs.lemmas.Bool.{cases_eq, cases_Bool, ne_eqb, eqb-true, eqb-false}
 use Rattle.bm_maps.specs.SlotLists.{IsMember, Distinct, without, slot_after}

@@ -1,4 +1,5 @@
--- Which levels stay under events on the cluster.
+-- Events on nodes and storages keep the levels of blocks without a usable replica there, unless the
+-- cluster gains or loses its second rack.
 use Rattle.std.proofs.Common.{◌≡◌, ◌≢◌, ℕ, Bool, true, false, not, ◌&&◌, Option, Some, None, is_some, List, [], ◌∷◌, map, length, refl, sym, ap, ◌∙◌, true≢false}
 use Rattle.std.specs.Prelude.{◌==◌, option_map, option_and_then, filter_map}
 use Rattle.std.specs.Option.{option_map_or}
@@ -63,7 +64,7 @@ module _ (C D : Cluster) (H : Holdings) (gone : ℕ → Bool) (b : ℕ) (stay : 
       (storages_left H gone (is_live_on D) (is_live_on C) b (tested not)) (storages_left H gone (is_drained_on D) (is_drained_on C) b (tested (λ d. d)))
       (each_where (λ s. rack_of D s ≡ rack_of C s) (is_live_on C) H b (λ s m there h. (stay s m there (and_first (is_usable m) (not (is_draining C s)) h)).1.0)) multi
 
--- the same if all replicas stay
+-- `level_left` if all replicas stay
 pub level_alike : (C D : Cluster) (H : Holdings) (b : ℕ) → ((s : ℕ) (m : Marks) → get H.replicas (replica_at b s) ≡ Some m → is_usable m ≡ true → StandsAlike C D s)
     → is_multi_rack D ≡ is_multi_rack C → level D H b ≡ level C H b
 level_alike C D H b stay multi =

@@ -1,4 +1,4 @@
--- Which levels stay when nodes begin or cease to drain.
+-- A node that begins or ceases to drain keeps the levels of blocks without a usable replica on it.
 use Rattle.std.proofs.Common.{◌≡◌, ◌≢◌, ℕ, Bool, true, false, not, Option, Some, None, is_some, refl, ap, ◌∙◌}
 use Rattle.std.specs.Prelude.{◌==◌, if◌then◌else◌}
 use Rattle.std.specs.Option.{option_map_or}

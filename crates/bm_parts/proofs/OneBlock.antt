@@ -1,4 +1,5 @@
--- Properties of a block that depend only on its own replicas: an event on another block keeps them.
+-- The level of a block, and whether it is settled, depend only on its own replicas, so an event on
+-- another block keeps both.
 use Rattle.std.proofs.Common.{◌≡◌, ◌≢◌, ℕ, ◌+◌, ◌%◌, Bool, true, false, List, Some, length, sym, ap, ◌∙◌, arith, mod-eq_of_lt, refl}
 use Rattle.std.specs.Prelude.{if◌then◌else◌, option_and_then}
 use Rattle.bm_base.specs.declared.commands.Transfer.{Transfer}

@@ -1,4 +1,4 @@
--- The part of a map with the keys that pass, under changes of the map.
+-- The part of a map with the keys that pass a test changes as the map does at these keys.
 use Rattle.std.proofs.Common.{◌≡◌, Bool, true, false, cond, List, [], ◌∷◌, filter, Option, Some, None, refl, sym, ap, ◌∙◌, true≢false}
 use Rattle.std.specs.Prelude.{option_and_then, option_map}
 use Rattle.std.specs.Ordering.{eq_by_cmp}

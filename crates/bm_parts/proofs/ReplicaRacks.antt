@@ -30,7 +30,7 @@ use Rattle.bm_parts.proofs.ClusterLevels.{rack_heard, stands_before}
 racked_alike : (C D : Cluster) (H : Holdings) → ((s : ℕ) → is_some (rack_of C s) ≡ true → rack_of D s ≡ rack_of C s) → IsRacked C H → IsRacked D H
 racked_alike C D H same racked q here = let was = racked q here in ap is_some (same q.storage was) ∙ was
 
--- the same if the storages that stay keep their racks
+-- `racked_alike` if the storages that stay keep their racks
 racked_left : (C D : Cluster) (H : Holdings) (gone : ℕ → Bool) → ((s : ℕ) → gone s ≡ false → rack_of D s ≡ rack_of C s) → IsRacked C H → IsRacked D (without_storages H gone)
 unfolding without_storages
 racked_left C D H gone same racked q here =

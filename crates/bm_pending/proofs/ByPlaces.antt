@@ -1,4 +1,5 @@
--- The indices of blocks.
+-- The blocks in the order of their indices are the keys of the hash table, and each block with a
+-- transfer is one of them.
 use Rattle.std.proofs.Common.{◌≡◌, ℕ, Bool, true, false, cond, ◌||◌, List, [], ◌∷◌, map, Option, Some, None, is_some, refl, sym, ap, ◌∙◌, nat_eq}
 use Rattle.std.specs.Prelude.{◌==◌, IsSome, slice_get, option_map}
 use Rattle.std.specs.Option.{option_map_or}
@@ -14,7 +15,7 @@ use Rattle.bm_pending.specs.Inside.{PendingTargets, map_of, capacities_of}
 use Rattle.bm_pending.specs.PendingMap.{PendingMap, blocks_in}
 use Rattle.bm_pending.proofs.TargetViews.{get-map_of}
 
--- what is seen of the indices
+-- the view of the indices
 pub places-seen : (es : List (ℕ × PendingTargets)) → map (λ (e : ℕ × ℕ). e.0) (capacities_of es) ≡ keys_of es
 places-seen [] = refl
 places-seen (e ∷ es) = ap (λ ks. e.0 ∷ ks) (places-seen es)

@@ -61,6 +61,6 @@ module _ (R : ℕ → ℕ → Ordering) (o : IsStrictWeakOrder (λ x y. is_lt (R
         | false ↦ λ e. passed_over x xs (least R (filter p xs)) e (least_of xs)
       ] refl
 
--- the same for a total order
+-- `least_of` for a total order
 pub least-bears : (R : ℕ → ℕ → Ordering) → IsTotalOrder R → (p : ℕ → Bool) (xs : List ℕ) → IsLeastOf R p xs (least R (filter p xs))
 least-bears R total p xs = least_of R (ranks_by total (λ x. x)) p xs

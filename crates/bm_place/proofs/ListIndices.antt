@@ -1,4 +1,4 @@
--- Elements of a list and their indices.
+-- Each element of a list has an index, also in a list in another order.
 use Rattle.std.specs.Prelude.{◌==◌, ◌||◌, filter_map, slice_get}
 use Rattle.std.specs.List.{cons_option}
 use Rattle.std.specs.List.Sorted.{IsPermutation}

@@ -1,4 +1,5 @@
--- Entries of a table, and the effect of a change of a count.
+-- A table has an entry for each of its keys and no other, and a change of one count changes no
+-- other.
 use Rattle.std.specs.Prelude.{unwrap_or, option_map}
 use Rattle.std.proofs.Common.{◌≡◌, ◌≤◌, ℕ, ◌+◌, suc, zero, Bool, true, false, cond, ◌||◌, List, [], ◌∷◌, map, drop, Option, Some, None, is_some, refl, sym, ap, ◌∙◌, arith}
 use Rattle.std.specs.Prelude.{◌==◌, slice_get}
@@ -107,7 +108,7 @@ module _ {X : Type 0} (f : ℕ → X) (ks : List ℕ) (i : ℕ) (whole : Map by_
   row_made m more s k v at same value is inv =
       ap (λ n. insert_all n (listed f (drop (i + 1) ks))) (is ∙ (λ j. insert m (same j) (value j))) ∙ sym (ap (λ xs. insert_all m (listed f xs)) (drop_next ks i s at)) ∙ inv
 
-  -- the same if the rows are of numbers that are computed from these
+  -- `row_made` if the rows are of numbers that are computed from these
   pub row_made_of : (g : ℕ → ℕ) (m more : Map by_number X) (s k : ℕ) (v : X) → slice_get ks i ≡ Some s → k ≡ g s → v ≡ f (g s) → more ≡ insert m k v
       → insert_all m (listed f (map g (drop i ks))) ≡ whole → insert_all more (listed f (map g (drop (i + 1) ks))) ≡ whole
   row_made_of g m more s k v at same value is inv =

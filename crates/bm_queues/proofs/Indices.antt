@@ -1,4 +1,4 @@
--- Slots of a list by their index, and the same list from its end.
+-- The slots of a list from its end are those of its array by descending index.
 use Rattle.std.proofs.Common.{◌≡◌, ◌≢◌, ◌⊎◌, ℕ, zero, suc, ◌<◌, ◌+◌, ◌-◌, ◌++◌, List, [], ◌∷◌, length, get_or, set, take, drop, reverse, Option, Some, None, inl, inr, subst, sym, ap, ◌∙◌, refl, arith}
 use Rattle.std.specs.Prelude.{◌↔◌, slice_get}
 use Rattle.std.specs.List.{swap_remove}
@@ -73,7 +73,7 @@ distinct-reverse xs apart = distinct_apart (reverse xs) (apart-reverse xs apart)
 pub first-taken : (xs : List ℕ) (k : ℕ) → k < length xs → first_of (reverse (take (k + 1) xs)) ≡ Some (get_or xs k 0)
 first-taken xs k low = ap first_of (ap reverse (take_more xs k 0 low) ∙ reverse-append (take k xs) (get_or xs k 0 ∷ []))
 
--- the same, as the code reads it
+-- `first-taken` as the code reads it
 pub first-read : (xs ys : List ℕ) (z : ℕ) → ys ≡ reverse xs → slice_get ys (length ys - 1) ≡ Some z → Some z ≡ first_of xs
 first-read [] ys z is at = absurd (none-some z (rw is at at))
 first-read (x ∷ xs) ys z is at =
@@ -115,7 +115,7 @@ module _ (xs : List ℕ) (apart : AreApart xs) (i : ℕ) (low : i < length xs) w
       let same : i + 1 + found.0 ≡ i = apart (i + 1 + found.0) i (grind (arith, common_steps, inside)) low at in
       absurd (omega (arith, same))
 
-  -- from a slot on, the slots before it in the array are to come
+  -- from a slot on, the slots before it in the array remain
   pub from-index : slots_from (reverse xs) (Some z) ≡ reverse (take (i + 1) xs)
   from-index = ap (λ ys. slots_from ys (Some z)) cut-reverse ∙ from-cut z (reverse (drop (i + 1) xs)) (reverse (take i xs)) not-later ∙ sym taken-reverse
 
@@ -191,7 +191,7 @@ module _ (xs : List ℕ) (apart : AreApart xs) (slot place : ℕ) (low : place <
   taken-rest i below =
       take-take (i + 1) last (set xs place (get_or xs last slot)) (omega (arith, below, low)) ∙ take-set-le (i + 1) xs place (get_or xs last slot) (omega (arith, below))
 
-  -- the slots still to come stay the same if the slot was left behind
+  -- the remaining slots stay the same if the slot was passed
   pub rest-from : (p : Option ℕ) → IsPast slot p (reverse xs) → slots_from (reverse rest) p ≡ slots_from (reverse xs) p
   rest-from None past = refl
   rest-from (Some y) past =

@@ -1,5 +1,5 @@
--- Iteration over a list of slots, also while slots that were left behind are removed or moved to
--- the front.
+-- Iteration over a list of slots keeps its remaining slots while slots that it has passed are
+-- removed or moved to the front.
 use Rattle.std.proofs.Common.{◌≡◌, ◌≢◌, ℕ, eqb, List, [], ◌∷◌, Option, Some, None, inl, inr, subst, sym, ap, ◌∙◌, refl}
 use Rattle.std.specs.Option.{IfSome}
 use Rattle.std.proofs.lemmas.Bool.{cases_Bool, eq-eqb, ne_eqb, eqb-true, eqb-false}
@@ -57,7 +57,7 @@ past-next x xs distinct =
       | inr absent ↦ rw (slot_after-absent x xs absent) (λ e. none-some x e, λ h. h)
     ]
 
--- the removal of a slot that was left behind keeps the slots still to come
+-- the removal of a slot that was passed keeps the remaining slots
 pub from-without : (x : ℕ) (xs : List ℕ) (at : Option ℕ) → IsPast x at xs → slots_from (without x xs) at ≡ slots_from xs at
 from-without x xs None past = refl
 from-without x [] (Some z) past = refl

@@ -1,4 +1,4 @@
--- The one list of a set.
+-- The members of a set are the slots of its one list.
 use Rattle.std.proofs.Common.{◌≡◌, ◌≢◌, ℕ, ◌<◌, List, Option, None, inl, inr, subst, sym, ◌∙◌, arith}
 use Rattle.std.specs.Prelude.{◌↔◌}
 use Rattle.bm_maps.specs.SlotLists.{IsMember, Distinct, without, slot_after}

@@ -1,4 +1,4 @@
--- Blocks entered so far, and the rest.
+-- Entering the rest of the blocks after those entered so far enters all blocks of a report.
 use Rattle.std.proofs.Common.{◌≡◌, ◌≢◌, ℕ, zero, suc, ◌+◌, ◌≤◌, List, [], ◌∷◌, ◌++◌, length, drop, Some, refl, subst, inl, inr, sym, ap, ◌∙◌, arith, length-append, eqb}
 use Rattle.std.specs.Prelude.{slice_get, nat_eq, ◌⊎◌}
 use Rattle.std.specs.Map.{lookup}

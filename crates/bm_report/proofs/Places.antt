@@ -1,4 +1,5 @@
--- The slots of a report's numbers, and the length of a storage's list.
+-- Each number that was looked up has its entry, and no list of a storage is longer than the bound
+-- of the slots.
 use Rattle.std.proofs.Common.{◌≡◌, ℕ, ◌<◌, ◌≤◌, Bool, true, false, ◌||◌, List, [], ◌∷◌, length, map, Option, Some, None, IsSome, refl, subst, sym, ap, ◌∙◌, eqb-true}
 use Rattle.std.specs.Prelude.{◌==◌, IsTrue, IsSomeAnd}
 use Rattle.std.specs.Option.{option_and_then}

@@ -1,5 +1,5 @@
--- The phases of a report: insert the delimiter, enter blocks, sweep out the unreported ones, remove
--- the delimiter, drop lost excess.
+-- Each phase of a report keeps what the next one needs: delimiter in, blocks entered, unreported
+-- ones swept, delimiter out, lost excess dropped.
 use Rattle.std.proofs.Common.{◌≡◌, ◌≢◌, ℕ, ◌<◌, ◌≤◌, Bool, true, false, cond, List, [], ◌∷◌, length, map, Option, Some, None, is_some, IsSome, refl, subst, inl, inr, sym, ap, ◌∙◌, arith, eqb, eq-eqb, eqb-true, ne_eqb}
 use Rattle.std.specs.Prelude.{◌==◌, nat_eq, IsSomeAnd, ◌⊎◌}
 use Rattle.std.specs.List.{list_any}

@@ -1,4 +1,4 @@
--- The slots after the delimiter are removed one after another.
+-- Removing the slots after the delimiter one after another removes all of them.
 use Rattle.std.proofs.Common.{◌≡◌, ◌≢◌, ℕ, ◌+◌, ◌<◌, ◌^◌, List, [], ◌∷◌, ◌++◌, length, map, Option, Some, None, IsSome, refl, subst, inl, inr, sym, ap, ◌∙◌, arith, eqb, add-one, eq-eqb}
 use Rattle.std.specs.Option.{option_map_or, option_and_then}
 use Rattle.std.proofs.lemmas.Bool.{cases_Bool, cases_eq, eqb-true}

@@ -15,7 +15,7 @@ use Rattle.bm_arena.specs.Contents.{Contents, block_at, marks_at, find_marks, Is
 use Rattle.bm_report.specs.declared.types.ReportedSlot.{ReportedSlot}
 use Rattle.bm_report.specs.DuringReport.{marks_during_report, without_invalid_excess, reported_of, IsAlreadyThere, AllAlreadyThere, AreAtSlots}
 
--- the same, by the block in a slot
+-- `IsAlreadyThere`, by the block in a slot
 abbrev HasReplica : ℕ → Stamp → Option Block → Type 0
 HasReplica s t o =
     option_and_then (λ (b : Block). find_marks b.replicas s) o

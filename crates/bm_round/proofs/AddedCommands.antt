@@ -1,4 +1,4 @@
--- One more command for the node of a storage.
+-- A command that is added for a storage is added to the commands of its node, and to no others.
 use Rattle.std.proofs.Common.{◌≡◌, ◌<◌, ◌≤◌, ℕ, zero, suc, Bool, true, false, cond, List, [], ◌∷◌, ◌++◌, map, filter, get_or, set, length, Option, Some, None, is_some, refl, sym, ap, subst, ◌∙◌, arith, nat_lt, append-nil, T}
 use Rattle.std.specs.Prelude.{◌==◌, option_map}
 use Rattle.std.specs.Option.{option_map_or}

@@ -1,4 +1,5 @@
--- The copies of one wish, chosen one after another.
+-- Choosing the copies of one wish one after another chooses as many as the definition, until one
+-- finds no source or target.
 use Rattle.std.proofs.Common.{◌≡◌, ◌<◌, ℕ, zero, suc, ◌+◌, ◌-◌, Bool, true, false, cond, List, [], ◌∷◌, ◌++◌, map, filter, drop, get_or, replicate, length, Option, Some, None, refl, sym, ap, ◌∙◌, arith, append_assoc, append-nil}
 use Rattle.std.specs.Prelude.{◌==◌, ◌*◌, nat_le, option_to_list, option_and_then, option_map, is_some}
 use Rattle.std.specs.Option.{option_map_or}

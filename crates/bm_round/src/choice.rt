@@ -121,7 +121,7 @@ fn deletes_of(
     Ok(first_of_each_node(alloc, deletes.as_slice(), topology, config)?)
 }
 
-/// Of deletes, the first `invalidate` on the storages of each node, by node.
+/// For each node, the first `invalidate` deletes on its storages; sorted by node.
 fn first_of_each_node(
     alloc: Global,
     deletes: &[Delete],

@@ -1,4 +1,4 @@
--- The slots that a round scans: each occurs once, and no other block has findings.
+-- A round scans each slot at most once, and no other block has findings.
 use Rattle.std.specs.Prelude.{◌≡◌, ◌≢◌, ℕ, Bool, true, false, not, ◌&&◌, List, [], ◌∷◌, ◌++◌, map, filter, Option, Some, None, option_and_then}
 use Rattle.std.specs.Option.{option_map_or}
 use Rattle.std.proofs.Common.{◌⊎◌, cond, inl, inr, refl, sym, ap, subst, ◌∙◌}

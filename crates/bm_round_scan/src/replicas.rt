@@ -154,7 +154,7 @@ fn is_storage_at(storages: &[StorageId], storage: StorageId, at: usize) -> bool
     at < storages.len() && storages[at] == storage
 }
 
-/// Whether a storage would be at an index, between a lesser and a greater one.
+/// Whether a storage is missing: `at` is between a lesser storage and a greater one.
 fn is_missing_at(storages: &[StorageId], storage: StorageId, at: usize) -> bool
     requires { IsNonDecreasing storages.now }
     ensures { result ≡ true → has storages.now storage ≡ false }

@@ -1,4 +1,4 @@
--- The progress of a run, step by step.
+-- After each step of a run, the lines answered so far are the first lines of the bytes read.
 use Rattle.std.proofs.Common.{◌≡◌, ℕ, zero, suc, ◌+◌, ◌-◌, ◌<◌, ◌≤◌, ◌==◌, Bool, true, false, List, [], ◌∷◌, ◌++◌, length, take, refl, sym, ap, ◌∙◌, append_assoc, append-nil, add-one, arith, length-append, inl, inr, ◌⊎◌, if◌then◌else◌}
 use Rattle.std.specs.Prelude.{Option, Result, Ok, Err, is_err, OnOk}
 use Rattle.std.specs.Int.{from_bool}

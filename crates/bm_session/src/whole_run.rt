@@ -16,9 +16,9 @@ use std::thread::Threads;
 
 /// Answers each line of the input by a line of the output. The tables hash by a secret that is
 /// drawn here, so that nobody can make slow lines by colliding numbers. No clause states that,
-/// since no answer depends on it. A crew of threads, with the configured number of workers, works a
-/// call on all shards, and the calling thread waits for the others. So the clauses state what holds
-/// if a run returns.
+/// since no answer depends on it. A crew of threads, with the configured number of workers,
+/// processes a call on all shards, and the calling thread waits for the others. So the clauses
+/// state what holds if a run returns.
 pub fn run<R: Source, W: Sink, H: Threads + Wait + RandomSource + Sync>(
     rt: &H,
     alloc: Global,

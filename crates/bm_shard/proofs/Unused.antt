@@ -1,4 +1,4 @@
--- Numbers with an unused entry as contracts see them, and when there are none.
+-- A number has an unused entry as contracts see the shard exactly if it has one in the arena.
 use Rattle.std.proofs.Common.{◌≡◌, ℕ, Bool, true, false, cond, List, [], ◌∷◌, map, take, drop, Option, Some, None, Result, Ok, Err, is_some, refl, sym, ap, subst, inl, inr, ◌∙◌}
 use Rattle.std.specs.Prelude.{◌≢◌, ◌==◌, ◌||◌, IsTrue, OnErr, option_map}
 use Rattle.std.proofs.lemmas.Bool.{cases_eq, eqb-true, eq-eqb, false≢true}
@@ -37,7 +37,7 @@ use Rattle.bm_shard.proofs.Arrivals.{named_there}
 use Rattle.bm_shard.proofs.Numbers.{entered, has_entry}
 use Rattle.bm_shard.proofs.SameHoldings.{seen_of}
 
--- The same for the fields of a shard.
+-- Unused entries by the fields of a shard.
 module _ (v : Leveled) (P : Map by_replica ℕ) (part : Part) (round pend : ℕ) (report : Option LookUp) (transfers : List (ℕ × ℕ)) where
   abbrev seen : Seen
   seen = seen_of v P part round pend (record { entries = numbers_of v.arena; lists = heads_of v.arena; report = report; transfers = transfers })

@@ -1,4 +1,4 @@
--- The gathered answers of shards that were worked one by one.
+-- Gathering the answers of shards one by one gives the answers of all, or the first fault.
 use Rattle.std.specs.Prelude.{◌≡◌, ℕ, ◌+◌, List, [], ◌∷◌, ◌++◌, map, Some, Result, Ok, Err, IfOk, IfErr, OnOk, OnErr}
 use Rattle.std.specs.Result.{result_and, result_ok}
 use Rattle.std.specs.List.{All, AllZip, filter_map, cons_option}

@@ -1,4 +1,4 @@
--- New shards.
+-- New shards hold nothing, are up to date, and are the shards of their configuration.
 use Rattle.std.specs.Prelude.{◌≡◌, ℕ, suc, ◌+◌, ◌≤◌, Bool, true, false, not, ◌&&◌, nat_le, None, List, [], ◌∷◌, ◌++◌, length}
 use Rattle.std.proofs.Common.{refl, sym, subst, ◌∙◌, arith}
 use Rattle.bm_base.specs.declared.config.Config.{Config}

@@ -1,4 +1,5 @@
--- Shards after the preparation of a round, and after the round.
+-- After a round for which all shards are ready, they are up to date and hold what the definition
+-- gives.
 use Rattle.std.specs.Prelude.{◌≡◌, ℕ, suc, ◌+◌, ◌<◌, ◌^◌, List, [], ◌∷◌, map, length, Some, Ok, option_map, slice_get}
 use Rattle.std.specs.List.{All, AllZip}
 use Rattle.std.proofs.Common.{sym, ap, subst, ◌∙◌}

@@ -1,4 +1,4 @@
--- Shards after the preparation of an event, and after the event, all together.
+-- After an event for which all shards are ready, they hold together what the definition gives.
 use Rattle.std.specs.Prelude.{◌≡◌, ℕ, suc, ◌+◌, ◌≤◌, List, [], ◌∷◌, map, length, Ok}
 use Rattle.std.specs.List.{All}
 use Rattle.std.proofs.Common.{refl, sym, ap, subst, ◌∙◌, arith}
@@ -88,7 +88,7 @@ module _ (C : Cluster) (e : Event) where
         done_is ss cs each ∙ done_adds_up C e shards Ps Qs h.some long h.own changed,
       )
 
-  -- The same, in the form of a function's goals.
+  -- The facts above, in the form of a function's goals.
 
   as_long : (ss : List (ℕ × Seen)) (cs : List (ℕ × Answered Done)) → EachBecame (IsCommitted C e) ss cs → length cs ≡ length ss
   as_long [] [] each = refl

@@ -1,4 +1,5 @@
--- The answers of shards that were worked one by one, each with its index, and the gathered answers.
+-- The answers of shards that were processed one by one, each with its index, and the gathered
+-- answers.
 use Rattle.std.specs.Prelude.{◌≡◌, ℕ, ◌+◌, ◌<◌, ◌^◌, List, [], ◌∷◌, map, Result, Ok, Err, IfOk, IfErr, Vec}
 use Rattle.std.specs.Result.{result_and}
 use Rattle.std.specs.List.{AllZip}

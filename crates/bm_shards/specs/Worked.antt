@@ -30,8 +30,8 @@ AreNew config index (s ∷ ss) = IsNew config index s × AreNew config (suc inde
 abbrev pub IsSame : ℕ × Seen → ℕ × Seen → Type 0
 IsSame s t = (t.0 ≡ s.0) × IsSameButCapacity s.1 t.1
 
--- the reservations for an event or a round are given up: no number has an unused entry, no block
--- unused capacity for transfers
+-- the reservations for an event or a round are released: no number has an unused entry, and no
+-- block has unused capacity for transfers
 pub record HasGivenUp (S : Seen) : Type 0 where
   pub unused : HasNoUnused S
   pub freed : HasNoUnusedCapacity S

@@ -1,4 +1,4 @@
-// The answers of shards that the workers worked one by one. Nothing here takes memory.
+// The answers of shards that the workers processed one by one. Nothing here takes memory.
 ghost use Rattle.std.specs.Prelude.{◌≡◌, ◌≤◌, ◌<◌, ◌+◌, ◌++◌, ℕ, [], List, map, length, vec_len, vec_capacity};
 ghost use Rattle.std.specs.Result.{result_and, result_ok};
 ghost use Rattle.std.specs.List.{All, filter_map, cons_option};
@@ -8,7 +8,7 @@ ghost use Rattle.bm_shards.specs.Answers.{EachBecame, HasAnswered, HasGathered, 
 use bm_base::{Done, Refusal};
 use bm_shard::Shard;
 
-/// A shard that was worked, and what it answered.
+/// A shard that was processed, and its answer.
 #[derive(Drop)]
 pub struct Answered<A> {
     pub shard: Shard,

@@ -19,7 +19,7 @@ use bm_parts::merge::Key;
 use bm_shard::Shard;
 use bm_topo::Topology;
 
-/// Works all shards, by a crew of threads or by the calling thread alone. No answer depends on
+/// Processes all shards, by a crew of threads or by the calling thread alone. No answer depends on
 /// which.
 ///
 /// Each kind of work has a method of its own: the checker takes no method of a trait that is

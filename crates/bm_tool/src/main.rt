@@ -42,7 +42,7 @@ fn end_of_run<R: Env + Input + Print + Eprint + AllocGlobal + Threads + Wait + R
     }
 }
 
-/// The words of the command line. Each is pushed, so that no refused growth is passed over.
+/// The words of the command line. Each is pushed, so that no refused growth is ignored.
 fn words_of<R: Env + AllocGlobal>(rt: &R) -> io::Result<Vec<String>> {
     let mut words = Vec::new(rt.alloc());
     for word in env::args(rt)? {

@@ -1,4 +1,4 @@
--- Members of a list to which slots are appended.
+-- A set that holds the slots of a list still does after one more slot is added to both.
 use Rattle.std.proofs.Common.{◌≡◌, ◌≢◌, ◌↔◌, ◌⊎◌, ℕ, List, [], ◌∷◌, ◌++◌, inl, inr}
 use Rattle.std.proofs.lemmas.Bool.{cases_eq}
 use Rattle.bm_maps.specs.SlotLists.{IsMember}

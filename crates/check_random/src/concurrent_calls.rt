@@ -162,7 +162,7 @@ fn read_pair<R: Threads + Wait + Sync>(
     reads
 }
 
-/// The same with two locators of the publisher; from here on a brand names their view.
+/// As `read_pair`, with two locators of the publisher; from here on a brand names their view.
 fn read_with<R: Threads + Wait + Sync>(
     rt: &R,
     alloc: Global,

@@ -74,7 +74,7 @@ called_next f xs i d k a b c lt is first second =
     (subst (λ calls. Makes calls a c) (sym (map-append f (take i xs) (get_or xs i d ∷ [])))
     (made_more (map f (take i xs)) (f (get_or xs i d) ∷ []) a b c first (subst (λ j. Makes (j ∷ []) b c) is second)))
 
--- the same, where the loop goes through a slice of the list
+-- `called_next` where the loop goes through a slice of the list
 pub called_at : {A : Type 0} (f : A → Call) (xs items : List A) (i : ℕ) (d : A) (k : Call) (a b c : State)
     → items ≡ xs
     → i < length items
@@ -92,7 +92,7 @@ pub kept_more : {A : Type 0} (f : A → Call) (t : A → Bool) (xs : List A) (x 
 kept_more f t xs x a b c first second =
     subst (λ calls. Makes calls a c) (sym (ap (map f) (filter-push t xs x) ∙ map-append f (filter t xs) (filter t (x ∷ [])))) (made_more _ _ a b c first second)
 
--- the same for the element at an index of a loop
+-- `kept_more` for the element at an index of a loop
 pub status_at : {A : Type 0} (f : A → Call) (t : A → Bool) (xs items : List A) (i : ℕ) (d : A) (a b c : State)
     → items ≡ xs
     → i < length items

@@ -1,4 +1,4 @@
--- Sums over blocks, while their replicas are counted.
+-- Counting replicas block by block sums the bytes that all blocks lack.
 use Rattle.std.proofs.Common.{◌≡◌, ◌∙◌, ℕ, ◌+◌, ◌<◌, ◌≤◌, Bool, true, false, cond, not, List, [], ◌∷◌, Option, Some, None, refl, sym, ap, subst, map, filter, length, drop, arith, T, ⊎_elim}
 use Rattle.std.specs.Prelude.{◌==◌, ◌&&◌, ◌||◌, ◌-◌, ◌^◌, zero, suc, nat_lt, min, sum_by, slice_get, if◌then◌else◌}
 use Rattle.std.specs.Option.{option_map_or}
@@ -212,7 +212,7 @@ module _ (C : Cluster) (m : Map by_number BlockInfo) where
       ∙ sum_both (only t (value m t l u)) (rest_of C m e.0.block 0 0 (e ∷ es)) (keys m)
       ∙ ap (λ n. n + rest_bytes C m e.0.block 0 0 (e ∷ es)) (all_of_one t (value m t l u) (value_of_none t l u))
 
--- before the first replica all are still to come
+-- before the first replica all remain
 start_of : (M : State) (b : ℕ) → rest_of M.cluster M.holdings.blocks 0 0 0 (entries M.holdings.replicas) b ≡ lacking_of M b
 start_of M b =
     not_earlier M.cluster M.holdings.blocks 0 0 0 (entries M.holdings.replicas) b _ _ (omega arith)

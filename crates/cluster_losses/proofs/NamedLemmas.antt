@@ -1,4 +1,4 @@
--- What words name, one after another.
+-- Adding the losses of words one after another gives the losses of all words, each once.
 use Rattle.std.proofs.Common.{◌≡◌, ◌∙◌, ℕ, Bool, true, false, cond, List, [], ◌∷◌, ◌++◌, Some, None, refl, sym, ap, drop, option_map}
 use Rattle.std.specs.Prelude.{◌==◌, ◌+◌, zero, suc, slice_get, if◌then◌else◌}
 use Rattle.std.specs.List.{find}

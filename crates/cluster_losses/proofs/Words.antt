@@ -1,4 +1,4 @@
--- The losses of the words that are left.
+-- The losses read so far, with those of the words that are left, are the losses of all words.
 use Rattle.std.proofs.Common.{◌≡◌, ◌∙◌, List, ◌++◌, Option, Some, None, refl, sym, ap, map}
 use Rattle.std.specs.Prelude.{option_map}
 use Rattle.cluster_names.specs.Rows.{Text}

@@ -1,4 +1,4 @@
--- What the words of a command line ask.
+-- The question of a command line.
 use Rattle.std.specs.Prelude.{◌==◌, ◌||◌, Bool, true, false, List, [], ◌∷◌, ◌++◌, map, length, nat_lt, Option, Some, None, option_map, option_and_then, if◌then◌else◌, codes}
 use Rattle.std.specs.List.{after_first, before_first, position_or_len}
 use Rattle.std.specs.Str.{bytes_eq}
@@ -43,7 +43,7 @@ abbrev pub losses_named : List Text → Option (List Named)
 losses_named [] = Some []
 losses_named (w ∷ ws) = option_and_then (λ l. option_map (λ ls. l ∷ ls) (losses_named ws)) (loss_named w)
 
--- a node that is to be taken away
+-- a node that is to be decommissioned
 abbrev pub drain_named : Text → Named
 drain_named name = (kind.Drain, name)
 
@@ -51,7 +51,7 @@ drain_named name = (kind.Drain, name)
 abbrev pub drains_and_losses : List Text → List Text → Option (List Named)
 drains_and_losses lose drain = option_map (λ ls. map drain_named drain ++ ls) (losses_named lose)
 
--- what a question asks: each rack, each node, or losses that happen together
+-- what a question is about: each rack, each node, or losses that happen together
 pub data Asked : Type 0 where
   each_rack : Asked
   each_node : Asked

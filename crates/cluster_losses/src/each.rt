@@ -1,4 +1,4 @@
-// A table: each rack or each node is lost alone, and comes back.
+// A table of the losses if each rack or each node fails alone, and then comes back.
 ghost use Rattle.std.specs.Prelude.{◌≡◌, [], IfOk, IfErr, OnOk};
 ghost use Rattle.std.specs.List.{AllZip};
 ghost use Rattle.std.specs.List.Sorted.{IsPermutation, IsSorted};
@@ -28,7 +28,7 @@ use std::cmp::Ordering;
 use std::sync::Wait;
 use std::thread::Threads;
 
-/// What is lost with one rack or node alone.
+/// The losses if one rack or node fails alone.
 #[derive(Drop)]
 pub struct Row {
     /// The number of the rack or node.
@@ -39,10 +39,10 @@ pub struct Row {
     pub without: Outcome,
 }
 
-/// The losses with each of these racks or nodes alone, the worst first: by lost blocks, then by the
-/// blocks at the first three levels, then by number. Each comes back before the next is lost, and
-/// the cluster is then compared with that before. `Excess` if a replica is in excess; `NotSetBack`
-/// if the cluster differs from that before.
+/// The losses if each of these racks or nodes fails alone, the worst first: by lost blocks, then by
+/// the blocks at the first three levels, then by number. Each comes back before the next is lost,
+/// and the cluster is then compared with that before. `Excess` if a replica is in excess;
+/// `NotSetBack` if the cluster differs from that before.
 pub fn make_rows<H: Threads + Wait + Sync>(
     rt: &H,
     alloc: Global,
@@ -78,7 +78,8 @@ pub fn make_rows<H: Threads + Wait + Sync>(
     Ok(rows)
 }
 
-/// Loses each of these, and makes it come back. `first` is what the session has before.
+/// For each rack or node: loses it, makes its row, and makes it come back. `first` is the state
+/// before, which must be the same after each return.
 fn lose_each<H: Threads + Wait + Sync>(
     rt: &H,
     alloc: Global,
@@ -138,7 +139,7 @@ fn make_row<H: Threads + Wait + Sync>(
     })
 }
 
-/// Makes its nodes come back.
+/// Restores the nodes of a rack or node, by the events of their returns.
 #[tactic(auto, using(crate::proofs::Reached::no_way, crate::proofs::Reached::way_and))]
 fn set_back<H: Threads + Wait + Sync>(
     rt: &H,
@@ -165,7 +166,7 @@ fn sort_worst_first(rows: &mut Vec<Row>) -> Result<(), AllocError>
     rows.sort_by(|one, other| compare(one, other))
 }
 
-/// The worse one comes first.
+/// Sort order: the worse row first.
 fn compare(one: &Row, other: &Row) -> Ordering
     ensures { result ≡ row_cmp one.now other.now }
 {

@@ -16,11 +16,11 @@ struct Summed {
     /// The bytes that the blocks before the current one lack.
     bytes: u128,
     block: BlockId,
-    /// The usable replicas of this block so far.
+    /// The usable replicas of the current block so far.
     usable: u64,
-    /// Those of them that are live.
+    /// How many of them are live.
     live: u64,
-    /// How many replicas in excess have come.
+    /// Cursor: how many replicas in excess were passed.
     passed: usize,
 }
 
@@ -37,7 +37,7 @@ impl Summed {
         }
     }
 
-    /// The sum, with what the present block lacks.
+    /// The sum, with what the current block lacks.
     fn whole(&self, info: Option<BlockInfo>) -> u128
         ensures { result ≡ in_128_bits (self.now.bytes + in_128_bits
             (option_map_or (λ i. bytes_to_copy i self.now.live self.now.usable) info 0)) }
@@ -73,7 +73,8 @@ impl Summed {
         self.count(is_usable, is_live);
     }
 
-    /// Goes on with this block, which may be the present one.
+    /// Switches to `block`: adds what the current block lacks and resets the counts. Does nothing
+    /// if it is the current block.
     fn turn_to(&mut self, info: Option<BlockInfo>, block: BlockId)
         ensures { self.new ≡ turned info block self.old }
     {
@@ -85,7 +86,7 @@ impl Summed {
         }
     }
 
-    /// Whether a replica is the next one in excess, which is then passed.
+    /// Whether a replica is the next one in excess. If so, the cursor in `excess` moves past it.
     fn passes_excess(&mut self, excess: &[ReplicaId], id: ReplicaId) -> bool
         ensures is { result ≡ is_next excess.now self.old.passed id }
         ensures passed { self.new ≡ record self.old {
@@ -99,7 +100,7 @@ impl Summed {
         is_it
     }
 
-    /// Counts a replica of the present block.
+    /// Counts a replica of the current block.
     fn count(&mut self, is_usable: bool, is_live: bool)
         requires usable { self.old.usable < 2 ^ 63 }
         requires live { self.old.live < 2 ^ 63 }

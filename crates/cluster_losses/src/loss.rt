@@ -5,13 +5,13 @@ ghost use Rattle.cluster_losses.specs.Questions.{alone_named, asked_by, at_colon
 use std::alloc::{AllocError, Global};
 use std::fmt;
 
-/// The kind of a named thing.
+/// The kind of a loss.
 #[derive(Clone, Copy, Debug)]
 pub enum Kind {
     Rack,
     Node,
     Storage,
-    /// A node that is to be taken away.
+    /// A node that is to be decommissioned.
     Drain,
 }
 
@@ -30,7 +30,7 @@ impl fmt::Display for Kind {
     }
 }
 
-/// One thing that is lost, by its name.
+/// A loss, by its kind and its name.
 #[derive(Clone, Copy)]
 pub struct Loss<'a> {
     pub kind: Kind,
@@ -57,8 +57,8 @@ impl Question<'_> {
     }
 }
 
-/// The question of these words: the values of `--lose` and those of `--drain`. `None` if nothing is
-/// lost, a word is none that is known, or `each-rack` or `each-node` has another word next to it.
+/// The question of these words: the values of `--lose` and those of `--drain`. `None` if there is
+/// no word, a word is unknown, or `each-rack` or `each-node` is not alone.
 pub fn question_of<'a>(
     alloc: Global,
     lose: &[&'a str],
@@ -105,7 +105,7 @@ fn losses_of<'a>(
     Ok(Some(Question::Losses(losses)))
 }
 
-/// A loss for each node that is to be taken away.
+/// A loss for each node of `--drain`.
 fn drains_of<'a>(alloc: Global, drain: &[&'a str]) -> Result<Vec<Loss<'a>>, AllocError>
     ensures { IfOk result (λ v. map named_of v.items
         ≡ map drain_named (map (λ w. w.now) drain.now)) }

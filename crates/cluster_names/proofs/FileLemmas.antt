@@ -1,4 +1,4 @@
--- Laws of paths in a set of texts, and of blocks in a map.
+-- A path that is put into a set of texts has the index at which look-ups find it.
 use Rattle.std.proofs.Common.{◌≡◌, ℕ, ◌+◌, Bool, true, false, not, cond, List, [], ◌∷◌, ◌++◌, ◌||◌, map, Some, None, position, String, string_bytes, refl, sym, ap, ◌∙◌}
 use Rattle.std.specs.List.{list_any, position_or_len}
 use Rattle.std.specs.Str.{bytes_eq}

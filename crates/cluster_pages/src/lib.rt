@@ -7,8 +7,8 @@
 //! ```
 //!
 //! The report has a line for each fact (docs/CLUSTERS.md). An input line that asks for no call, or
-//! whose call is refused, gets a note with its number on standard error. The report is printed all
-//! the same.
+//! whose call is refused, gets a note with its number on standard error. The report is printed
+//! nevertheless.
 //!
 //! The numbers of the stored run of `puljemrod_cluster` follow from the rules. Nodes 1, 2 and 5 are
 //! on rack 1, nodes 3 and 4 on rack 2. Nodes 2 and 5 drain; node 5 has no replica, so it is

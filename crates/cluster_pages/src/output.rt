@@ -79,7 +79,7 @@ impl From<AllocError> for PrintFault {
     }
 }
 
-/// Says why a text was not printed; nothing if its reader went away.
+/// Prints why the report was not printed; nothing if the reader of the pipe went away.
 pub fn say_print_fault<R: Eprint>(rt: &R, program: &str, fault: &PrintFault) {
     let is_unread = match fault {
         PrintFault::Write(error) => error.kind() == io::ErrorKind::BrokenPipe,

@@ -1,4 +1,4 @@
--- Rounds that are taken, from one to the next.
+-- Each round of a repair extends its history by one round, at its tick.
 use Rattle.std.proofs.Common.{◌≡◌, ◌∙◌, ◌++◌, ℕ, ◌+◌, Bool, true, false, Option, Some, None, List, [], ◌∷◌, refl, sym, ap, subst, length, arith}
 use Rattle.std.specs.Prelude.{◌<◌, ◌/◌, ◌==◌, ◌&&◌, ◌||◌, is_some, nat_le, if◌then◌else◌}
 use Rattle.std.specs.Option.{option_map_or}

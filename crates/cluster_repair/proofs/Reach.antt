@@ -1,4 +1,5 @@
--- How reports and rounds lead from one state to another, and what is noted on the way.
+-- Reports and rounds, one after another, lead from the first state to the last, and rows and notes
+-- hold of the states between.
 use Rattle.std.proofs.Common.{◌≡◌, ◌∙◌, ◌++◌, ℕ, ◌+◌, ◌≤◌, true, not, List, [], ◌∷◌, None, refl, sym, ap, subst, length, map, take, take_all, get_or, arith}
 use Rattle.std.specs.Prelude.{◌<◌, ◌/◌, ◌&&◌, false, nat_le}
 use Rattle.std.specs.List.{filter}

@@ -1,4 +1,4 @@
--- Notes about retired nodes.
+-- The note of a node after a round follows from its note before and from the manager's answer.
 use Rattle.std.proofs.Common.{◌≡◌, ◌∙◌, ◌++◌, ◌+◌, ◌<◌, ◌≤◌, ℕ, Bool, true, false, not, cond, List, [], ◌∷◌, Option, Some, None, refl, sym, ap, eqb, length, take, take_all, get_or, filter}
 use Rattle.std.specs.Prelude.{◌==◌, ◌||◌, nat_eq, is_some, if◌then◌else◌}
 use Rattle.std.specs.Option.{option_or}

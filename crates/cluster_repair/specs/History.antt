@@ -34,12 +34,12 @@ abbrev pub datanodes_of : DataNodes → List Taken → DataNodes
 datanodes_of d [] = d
 datanodes_of d (last ∷ before) = last.datanodes
 
--- when the last was
+-- the time of the last round
 abbrev pub time_of : List Taken → ℕ
 time_of [] = 0
 time_of (last ∷ before) = last.time
 
--- how many copies the last commanded
+-- the number of copies that the last round commanded
 abbrev pub commanded_of : List Taken → ℕ
 commanded_of [] = 0
 commanded_of (last ∷ before) = copies_in (whole_round last.state).0
@@ -54,7 +54,7 @@ abbrev pub ComesAt : Ticks → List Taken → ℕ → Type 0
 ComesAt ticks [] t = t ≡ 0
 ComesAt ticks (last ∷ before) t = IsNextTick ticks last.datanodes.on_way.sent.items last.time t
 
--- for how many rounds a manager awaits these pending copies
+-- the number of rounds after which these pending copies have expired
 abbrev pub awaited_rounds : Map by_replica ℕ → ℕ → ℕ
 awaited_rounds pending pend = if len pending == 0 then 0 else pend
 
@@ -62,8 +62,8 @@ awaited_rounds pending pend = if len pending == 0 then 0 else pend
 abbrev pub are_idle : DataNodes → Bool
 are_idle d = (length d.on_way.sent.items == 0) && (length d.deletes.items == 0)
 
--- another round comes after these: a copy is awaited that was commanded before, or DataNodes have
--- something to do
+-- another round comes after these: an older copy is still pending, or DataNodes have something to
+-- do
 abbrev pub GoesOn : State → List Taken → Type 0
 GoesOn M [] = Unit {0}
 GoesOn M (last ∷ before) = (nat_le (awaited_rounds M.holdings.pending M.limits.pend) (length (last ∷ before)) && are_idle last.datanodes) ≡ false
@@ -98,7 +98,7 @@ numbers_of n = (n.node, n.storages.items)
 abbrev pub node_among : Cluster → List ℕ → ℕ → ℕ × List ℕ
 node_among C ss n = (n, filter (has_storage C n) ss)
 
--- DataNodes before the first round: they have nothing to do, and know what is free in the cluster
+-- DataNodes before the first round: they have nothing to do, and the free bytes of the cluster
 pub record AreAtStart (C : Cluster) (d : DataNodes) : Type 0 where
   pub free : (s : ℕ) → free_on d.free s ≡ free_in C s
   pub nodes : map numbers_of d.free.nodes.items ≡ map (node_among C (keys C.storages)) (keys C.nodes)

@@ -1,4 +1,4 @@
--- Since when nodes are retired.
+-- The notes about retired nodes.
 use Rattle.std.specs.Prelude.{◌≡◌, ℕ, ◌/◌, Bool, true, false, nat_eq, if◌then◌else◌, List, [], ◌∷◌, length, Option, Some, None, is_some}
 use Rattle.std.specs.List.{find}
 use Rattle.bm_base.specs.Words.{State, has, is_retired}
@@ -7,7 +7,8 @@ use Rattle.cluster_repair.specs.declared.repair.Retirement.{Retirement}
 use Rattle.cluster_repair.specs.declared.ticks.Ticks.{Ticks}
 use Rattle.cluster_repair.specs.History.{Taken, ComesAt}
 
--- the note that a node is retired since a number of rounds, as the next comes in a second
+-- the note that a node is retired since a number of rounds, with the time of the next round in
+-- seconds
 abbrev pub note_at : ℕ → ℕ → ℕ → Retirement
 note_at n rounds seconds = record { node = n; rounds = rounds; seconds = seconds }
 
@@ -19,7 +20,7 @@ retirement_of ts n = find (λ t. nat_eq t.node n) ts
 abbrev pub is_retired_in : State → ℕ → Bool
 is_retired_in M n = is_retired M.cluster M.holdings n
 
--- A note after one more answer: a no drops it, and a yes is noted unless the one before it was.
+-- A note after one more answer: a no drops it, and a yes is noted unless the note exists.
 abbrev pub noted : Bool → Option Retirement → Retirement → Option Retirement
 noted false before now = None
 noted true None now = Some now

@@ -32,6 +32,7 @@ pub struct OnWay {
 }
 
 impl OnWay {
+    /// Makes an empty list of copies. Takes no memory.
     pub fn new(alloc: Global) -> OnWay
         ensures sent { result.sent.items ≡ [] }
         ensures next { result.next ≡ 0 }
@@ -43,12 +44,14 @@ impl OnWay {
         }
     }
 
+    /// Returns the number of copies on their way.
     pub fn len(&self) -> usize
         ensures { result ≡ length self.now.sent.items }
     {
         self.sent.len()
     }
 
+    /// Returns whether no copy is on its way.
     pub fn is_empty(&self) -> bool
         ensures { result ≡ (length self.now.sent.items == 0) }
     {
@@ -87,7 +90,8 @@ impl OnWay {
         }
     }
 
-    /// Takes out what has arrived by now, by arrival and then by command.
+    /// Removes and returns the copies that have arrived by `now`, sorted by arrival and then by
+    /// command.
     pub fn take_due(&mut self, alloc: Global, now: u64) -> Result<Vec<Sent>, AllocError>
         ensures due { IfOk result (λ v.
             IsPermutation (filter (has_arrived now) self.old.sent.items) v.items) }
@@ -105,7 +109,7 @@ impl OnWay {
     }
 }
 
-/// When it arrives, and which it is of all copies.
+/// Sort key: arrival time, then the copy's index.
 fn when(sent: &Sent) -> (u64, u64)
     ensures { result ≡ when sent.now }
 {

@@ -8,10 +8,10 @@ ghost use Rattle.cluster_repair.specs.declared.datanodes.DataNodes.{DataNodes};
 use cluster_report::levels::LevelCounts;
 use std::alloc::{AllocError, Global};
 
-/// There are at most this number of rows: before one more comes, every second goes.
+/// The most rows. If there are as many, every second row is dropped before the next is added.
 const MOST_KEPT: usize = 64;
 
-/// Beyond this stride no row goes. A repair has no more rounds.
+/// Above this stride no row is dropped: a repair takes at most this number of rounds.
 const MOST_STRIDE: u32 = 1_000_000;
 
 /// The counts after a round.
@@ -37,6 +37,7 @@ pub struct Rows {
 }
 
 impl Rows {
+    /// Makes an empty table with stride 1. Takes no memory.
     pub fn new(alloc: Global) -> Rows
         ensures none { result.rows.items ≡ [] }
         ensures stride { result.stride ≡ 1 }
@@ -47,7 +48,7 @@ impl Rows {
         }
     }
 
-    /// Whether a round has a row, the last one aside.
+    /// Whether a round has a row even if it is not the last one.
     pub fn is_due(&self, round: u32) -> bool
         ensures { result ≡ is_on_stride round self.now.stride }
     {

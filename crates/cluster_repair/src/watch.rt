@@ -11,15 +11,15 @@ use cluster_report::catalogue::Catalogue;
 use cluster_report::levels::{LevelCounts, Leveled, count_levels, levels_of};
 use std::alloc::{AllocError, Global};
 
-/// The numbers of blocks, among them all that have a level. While nothing more is lost no other
-/// block gets one, if each block of a report is added.
+/// The numbers of blocks, among them all that have a level. Without further losses no other block
+/// gets a level, if each block of a report is added.
 #[derive(Drop)]
 pub struct Watch {
     pub blocks: Vec<u64>,
 }
 
 impl Watch {
-    /// The known blocks that have a level, by a question for each known block.
+    /// The known blocks that have a level, by a query for each known block.
     pub fn new(alloc: Global, manager: &Manager, blocks: &Catalogue) -> Result<Watch, AllocError>
         requires { Lists blocks.now manager.now.holdings.blocks }
         ensures { IfOk result (λ w. Covers manager.now w.blocks.items) }
@@ -30,7 +30,7 @@ impl Watch {
         Ok(Watch { blocks })
     }
 
-    /// DataNodes report a replica of this block.
+    /// Adds a block of which DataNodes report a replica.
     pub fn add(&mut self, block: BlockId) -> Result<(), AllocError>
         ensures { OnOk result (self.new.blocks.items ≡ self.old.blocks.items ++ block ∷ []) }
     {
@@ -38,8 +38,8 @@ impl Watch {
         Ok(())
     }
 
-    /// Counts all known blocks by level, by a question for each watched block, and forgets those
-    /// that have no level.
+    /// Counts all known blocks by level, by a query for each watched block, and forgets those that
+    /// have no level.
     pub fn count(&mut self, alloc: Global, manager: &Manager) -> Result<LevelCounts, Refusal>
         requires { Covers manager.now self.old.blocks.items }
         ensures counts { IfOk result (AreCounts manager.now) }

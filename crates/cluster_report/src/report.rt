@@ -47,7 +47,7 @@ pub fn report_of(alloc: Global, manager: &Manager, book: &Book) -> Result<Report
     report_on(alloc, manager, book, replicas.as_slice())
 }
 
-/// The same, given all replicas.
+/// As [`report_of`], given all replicas.
 fn report_on(
     alloc: Global,
     manager: &Manager,
@@ -72,8 +72,8 @@ fn report_on(
     )
 }
 
-/// The same, given the levels of the blocks that have a replica, the number of replicas in excess,
-/// and the missing blocks.
+/// As [`report_of`], given the levels of the blocks that have a replica, the number of replicas in
+/// excess, and the missing blocks.
 fn with_levels(
     alloc: Global,
     manager: &Manager,

@@ -1,4 +1,4 @@
--- What a round leaves: the blocks with a level, and the book.
+-- After a round the watched blocks cover all with a level, and the book follows the manager.
 use Rattle.std.proofs.Common.{◌≡◌, ◌∙◌, ◌-◌, ℕ, List, None, not, refl, sym, ap, inl}
 use Rattle.std.specs.Prelude.{nat_le}
 use Rattle.std.specs.List.{flat_map}

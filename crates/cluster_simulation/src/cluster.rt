@@ -69,7 +69,7 @@ impl Cluster {
     }
 }
 
-/// One more where there is a message about a refused call.
+/// The number of refused calls, with one more if there is a message; it stops at 2^64 - 1.
 fn counted(refused: u64, message: &Option<String>) -> u64
     ensures { result ≡ (if is_some message.now then min (refused + 1) (2 ^ 64 - 1) else refused) }
 {

@@ -7,7 +7,7 @@ use std::alloc::Global;
 
 /// Reports one good replica as corrupt for each of `count` blocks, which are at equal distances
 /// among all `blocks`. The first block and the replicas are drawn. A block without a good replica
-/// is passed over.
+/// is skipped.
 pub fn corrupt_calls(
     alloc: Global,
     dice: &mut Dice,

@@ -1,4 +1,4 @@
--- What is found about losses, put together.
+-- The parts of an answer, each by the contract of its call, make up the answer to a question.
 use Rattle.std.proofs.Common.{◌≡◌, ℕ, List, [], Option, map, sym, subst}
 use Rattle.std.specs.Prelude.{filter, string_bytes}
 use Rattle.std.specs.Io.KnownBytes.{Appends}

@@ -1,4 +1,4 @@
-// Finds what the losses of a command line lead to: all of them together, or each alone.
+// Computes the effects of the losses of a command line: of all together, or of each alone.
 ghost use Rattle.std.specs.Prelude.{◌≡◌, IfErr, IfOk, OnOk};
 ghost use Rattle.cluster_report.specs.Sessions.{IsInStep};
 ghost use Rattle.cluster_losses.specs.Faults.{IsRefusal};
@@ -38,7 +38,7 @@ pub struct Losses {
     pub mended: Option<Mended>,
 }
 
-/// A repair: the copies, and the blocks that get none.
+/// A repair: its rounds and copies, and the blocks that stay unrepaired.
 #[derive(Drop)]
 pub struct Mended {
     pub pace: Pace,
@@ -54,7 +54,7 @@ pub struct Table {
     pub rows: Vec<Row>,
 }
 
-/// Finds what is asked for. The losses stay made; after a table the cluster is as before.
+/// Answers a question. The losses stay in the cluster; after a table the cluster is as before.
 #[tactic(auto, using(crate::proofs::Findings::found_of, crate::proofs::Findings::racks_found, crate::proofs::Findings::nodes_found))]
 pub fn find<R: Eprint + Threads + Wait + Sync>(
     rt: &R,
@@ -91,7 +91,7 @@ pub fn find<R: Eprint + Threads + Wait + Sync>(
     }
 }
 
-/// Makes the losses, and then mends at this pace, if there is one.
+/// Makes the losses, and then repairs the cluster at this pace, if there is one.
 #[tactic(auto, using(crate::proofs::Findings::found_at_once))]
 fn find_losses<R: Eprint + Threads + Wait + Sync>(
     rt: &R,
@@ -121,7 +121,7 @@ fn find_losses<R: Eprint + Threads + Wait + Sync>(
     })
 }
 
-/// Mends at this pace, if there is one.
+/// Repairs the cluster at this pace, if there is one.
 fn mend_at<R: Eprint + Threads + Wait + Sync>(
     rt: &R,
     alloc: Global,
@@ -140,7 +140,8 @@ fn mend_at<R: Eprint + Threads + Wait + Sync>(
     }
 }
 
-/// Takes rounds until nothing more is copied, and asks why blocks stay as they are.
+/// Takes rounds until nothing more is copied, and finds the reason for each block that stays
+/// unrepaired.
 #[tactic(auto, using(crate::proofs::Findings::mended_at_pace))]
 fn mend<R: Eprint + Threads + Wait + Sync>(
     rt: &R,

@@ -1,7 +1,6 @@
-//! Answers what is lost with racks, nodes and storages. Reads lines of the line tool or a text of
-//! `hdfs fsck`, and makes their calls on one manager. Then it writes the state of the cluster
-//! without what is lost, with no round between. It may go on with rounds until nothing more is
-//! copied.
+//! Shows the losses if racks, nodes and storages fail. Reads lines of the line tool or a text of
+//! `hdfs fsck`, and makes their calls on one manager. Then it prints the state of the cluster after
+//! the losses, before any round. With `--mend` it goes on with rounds until nothing more is copied.
 //!
 //! ```text
 //! puljemrod_cluster what-if --lose rack:1 cluster.jsonl
@@ -11,8 +10,8 @@
 //! The answer has a line for each fact (docs/WHAT_IF.md). For `each-rack` and `each-node` it is a
 //! table: each is lost alone, and comes back before the next.
 //!
-//! Ends with status 0. The status is 1 if a line was refused, a name is not of the cluster, or a
-//! read, a write or memory failed. It is 2 if the words ask for nothing that exists.
+//! The exit status is 0. It is 1 if a line was refused, a name is unknown, a read or a write
+//! failed, or if out of memory. It is 2 for invalid options.
 #![tactic(auto)]
 
 mod answers;
@@ -63,11 +62,11 @@ const FAULTED: u8 = 1;
 
 const MISUSED: u8 = 2;
 
-/// The program's name, in what it says.
+/// The program's name, in its messages.
 const PROGRAM: &str = "what-if";
 
-/// Answers what the words of a command line ask, the program's name first, on standard output, with
-/// refused lines on `notes`. The result is the exit status.
+/// Runs a command line, the program's name first. Prints the answer to standard output, and notes
+/// on refused lines to `notes`. Returns the exit status.
 pub fn losses_by_words<
     R: Input + Print + Eprint + Files + AllocGlobal + Threads + Wait + Sync,
     N: Print,
@@ -91,7 +90,7 @@ pub fn losses_by_words<
     }
 }
 
-/// Says why there is no answer.
+/// Prints why there is no answer.
 fn say_error<R: Print + Eprint>(rt: &R, error: &Error) -> u8 {
     if matches!(error.kind(), ErrorKind::OutOfMemory) {
         return say_fault(rt, Fault::Memory);
@@ -134,7 +133,7 @@ fn answer<R: Eprint + Files + AllocGlobal + Threads + Wait + Sync, W: Write>(
     }
 }
 
-/// Says why nothing is found: which name is unknown, if one is.
+/// Prints why there is no answer: which name is unknown, if one is.
 fn say_find_fault<R: Eprint + AllocGlobal>(
     rt: &R,
     loaded: &Loaded,

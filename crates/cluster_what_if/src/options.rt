@@ -16,7 +16,7 @@ pub const MOST_NAMED: usize = 10;
 pub struct Asked<'a> {
     pub input: input::Asked<'a>,
     pub question: Question<'a>,
-    /// How fast it is mended, if that is asked for.
+    /// The speed of the repair, if one is asked for.
     pub pace: Option<Pace>,
     /// Whether the answer is a picture.
     pub is_picture: bool,
@@ -65,7 +65,7 @@ pub fn asked_of<'a>(alloc: Global, matches: &ArgMatches<'a>) -> Result<Asked<'a>
     })
 }
 
-/// A table is of losses alone, and a picture of what is mended.
+/// A table is of losses alone, and a picture of the repair.
 fn may_ask(question: &Question<'_>, pace: Option<Pace>, is_picture: bool) -> bool {
     match pace {
         Some(_) => question.is_one(),
@@ -73,7 +73,7 @@ fn may_ask(question: &Question<'_>, pace: Option<Pace>, is_picture: bool) -> boo
     }
 }
 
-/// How fast it is mended, if that is asked for, by a manager with this `work`.
+/// The speed of the repair, if one is asked for, by a manager with this `work`.
 fn pace_in(matches: &ArgMatches<'_>, work: u32) -> Option<Pace> {
     if !matches.get_flag("mend") {
         return None;
@@ -94,7 +94,7 @@ pub fn command<'a>(alloc: Global) -> Result<Command<'a>, AllocError> {
     Ok(command.after_help(EXAMPLES))
 }
 
-/// The command with what is lost.
+/// The command with the options for losses.
 fn with_losses<'a>(alloc: Global, command: Command<'a>) -> Result<Command<'a>, AllocError> {
     let lose = several(alloc, "lose", "WHAT").help(
         "rack:NAME, node:HOST, storage:ID, each-rack or each-node, the last two alone",
@@ -117,7 +117,7 @@ fn page<'a>(alloc: Global) -> Arg<'a> {
         .help("writes the answer to FILE too, as one page that stands alone")
 }
 
-/// The command with how it is repaired.
+/// The command with the options for the repair.
 fn with_repair<'a>(alloc: Global, command: Command<'a>) -> Result<Command<'a>, AllocError> {
     let mend = flag(alloc, "mend").help("goes on in rounds until nothing more is copied");
     let svg = flag(alloc, "svg").help("with --mend: a picture of the rounds");

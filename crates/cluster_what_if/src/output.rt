@@ -13,7 +13,7 @@ use cluster_pages::output::{PrintFault, write_flushed};
 use std::alloc::{AllocError, Global};
 use std::io::Write;
 
-/// Prints the lines of what is found, with at most `most` blocks and files of each list. Nothing is
+/// Prints the lines of the findings, with at most `most` blocks and files of each list. Nothing is
 /// written before all of the text was made.
 pub fn print_lines<W: Write>(
     alloc: Global,
@@ -61,7 +61,7 @@ fn picture_text(alloc: Global, found: &Found) -> Result<String, AllocError> {
     }
 }
 
-/// The lines of what is found.
+/// The lines of the findings.
 fn found_text(
     alloc: Global,
     names: &Names,

@@ -17,7 +17,7 @@ use cluster_pages::text_parts::thousandths;
 use cluster_report::levels::LevelCounts;
 use std::alloc::{AllocError, Global};
 
-/// The page of what is found, with at most `most` blocks and files of each list.
+/// The page of the findings, with at most `most` blocks and files of each list.
 pub fn found_page(
     alloc: Global,
     names: &Names,
@@ -80,7 +80,7 @@ fn write_facts(text: &mut String, files: &Files, losses: &Losses) -> Result<(), 
     text.push_str("</dl>\n")
 }
 
-/// The bytes that are to be copied, those that are free, and whether they suffice.
+/// The bytes to copy, the free bytes, and whether these suffice.
 fn write_needs(text: &mut String, after: &ClusterCounts) -> Result<(), AllocError> {
     write_bytes_fact(text, "bytes to copy", after.lacking)?;
     write_bytes_fact(text, "free bytes", after.free)?;

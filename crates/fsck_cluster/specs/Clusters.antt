@@ -50,7 +50,7 @@ abbrev pub fits_rack : Cluster → Option Text → NodeRow → Bool
 fits_rack c (Some rack) row = bytes_eq (name_of c.racks row.rack) rack
 fits_rack c None row = c.knows_nodes || bytes_eq (name_of c.racks row.rack) (codes "/default-rack")
 
--- the same for the node at an index
+-- `fits_rack` for the node at an index
 abbrev pub is_on_rack : Cluster → ℕ → Option Text → Bool
 is_on_rack c index rack = option_map_or (fits_rack c rack) (slice_get c.node_rows index) false
 
@@ -150,7 +150,7 @@ after_spare c node =
     else (if not (is_new c.storages (name_of c.nodes node)) then Err why.Elsewhere
     else (if nat_lt (length c.storages) 4096 then Ok (with_spare c node) else Err why.TooManyStorages))
 
--- the same for several nodes
+-- adds a storage for each of several nodes without one
 abbrev pub after_spares : Cluster → List NodeRow → After
 after_spares c [] = Ok c
 after_spares c (row ∷ rows) = after_ok (λ d. after_spares d rows) (after_spare c row.number)

@@ -85,7 +85,7 @@ impl From<AllocError> for ClusterFault {
 }
 
 impl Cluster {
-    /// Nothing was read.
+    /// An empty cluster. Takes no memory.
     pub fn new(alloc: Global) -> Cluster
         ensures { result ≡ no_cluster }
     {
@@ -286,7 +286,7 @@ impl Cluster {
         self.add_spares_of(alloc, nodes.as_slice())
     }
 
-    /// The same for several nodes.
+    /// Gives each of these nodes without a storage one of the node's name.
     fn add_spares_of(&mut self, alloc: Global, nodes: &[NodeRow]) -> Result<(), ClusterFault>
         ensures ok { OnOk result (after_spares self.old nodes.now ≡ Ok self.new) }
         ensures refused { IfErr result (λ f. IsCause f (after_spares self.old nodes.now)) }
@@ -297,7 +297,7 @@ impl Cluster {
         Ok(())
     }
 
-    /// The same for one node.
+    /// Gives a node without a storage one of the node's name.
     fn add_spare(&mut self, alloc: Global, node: u32) -> Result<(), ClusterFault>
         ensures ok { OnOk result (after_spare self.old node ≡ Ok self.new) }
         ensures refused { IfErr result (λ f. IsCause f (after_spare self.old node)) }

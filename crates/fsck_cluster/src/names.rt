@@ -29,6 +29,7 @@ pub struct Numbered {
 }
 
 impl Names {
+    /// Makes an empty set of names. Takes no memory.
     pub fn new(alloc: Global) -> Names
         ensures { result ≡ [] }
     {
@@ -37,6 +38,7 @@ impl Names {
         }
     }
 
+    /// Returns the number of names.
     pub fn len(&self) -> usize
         ensures { result ≡ length self.now }
     {

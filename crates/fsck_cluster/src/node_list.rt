@@ -81,6 +81,7 @@ impl<'a> From<Wrong<'a>> for NodeFault<'a> {
 }
 
 impl NodeList {
+    /// Makes an empty list of nodes. Takes no memory.
     pub fn new(alloc: Global) -> NodeList
         ensures { result ≡ no_list }
     {

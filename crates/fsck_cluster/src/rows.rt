@@ -49,6 +49,7 @@ impl Row {
 }
 
 impl Rows {
+    /// Makes an empty list of storages. Takes no memory.
     pub fn new(alloc: Global) -> Rows
         ensures { result ≡ [] }
     {
@@ -86,12 +87,14 @@ impl Rows {
         self.rows.as_slice().iter().any(|row| row.node == node)
     }
 
+    /// Returns the storages, by ascending number.
     pub fn as_slice(&self) -> &[Row]
         ensures { result.now ≡ self.now }
     {
         self.rows.as_slice()
     }
 
+    /// Returns the vector of the storages; copies nothing.
     pub fn into_vec(self) -> Vec<Row>
         ensures { result.items ≡ self }
     {

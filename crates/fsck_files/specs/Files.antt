@@ -244,7 +244,7 @@ by_count s b repl listed live =
     if are_unmarked (has_number s.corrupt b.id) listed then emitted s b repl listed
     else by_places s b repl listed (claims (has_number s.corrupt b.id) listed) live
 
--- the same if fsck counts live replicas; else the block is missing
+-- Compares the count of live replicas if fsck has one; else the block is missing.
 abbrev pub by_live : Files → BlockLine → ℕ → List Listed → Option ℕ → Taken
 by_live s b repl listed None = emitted (record s { counts = with_missing s.counts false }) b repl listed
 by_live s b repl listed (Some live) = by_count s b repl listed live

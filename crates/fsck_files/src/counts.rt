@@ -17,6 +17,7 @@ pub struct Counts {
 }
 
 impl Counts {
+    /// Makes counts that are all 0.
     pub fn new() -> Counts
         ensures { result ≡ no_counts }
     {
@@ -115,6 +116,7 @@ pub struct Summed {
 }
 
 impl Summed {
+    /// Makes a record in which no summary is read.
     pub fn new() -> Summed
         ensures { result ≡ none_summed }
     {

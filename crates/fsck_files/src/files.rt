@@ -146,7 +146,7 @@ impl<'a> From<Fault<'a>> for LineFault<'a> {
 }
 
 impl Files {
-    /// Nothing was read.
+    /// The state before the first line. Takes no memory.
     pub fn new(alloc: Global, skips: Skips, unclear: Unclear) -> Files
         ensures { result ≡ no_files skips unclear }
     {
@@ -227,7 +227,7 @@ impl Files {
         Ok(())
     }
 
-    /// Why the next heading or the summary may not come here.
+    /// Why no heading and no summary may come here, if so.
     fn unended(&self) -> Option<Why>
         ensures { result ≡ unended self.now }
     {

@@ -81,6 +81,7 @@ pub fn plus(count: u64, more: u64) -> u64
 }
 
 impl Skips {
+    /// Returns whether files of a kind are left out.
     pub fn has(self, kind: Kind) -> bool
         ensures { result ≡ skips self kind }
     {

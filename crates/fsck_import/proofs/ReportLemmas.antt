@@ -27,7 +27,7 @@ use Rattle.fsck_import.proofs.CallLemmas.{none-append, none-map, none-flat, none
 use Rattle.fsck_import.proofs.StorageLemmas.{reported_of, on_storage, on_row, on_rows, Fit}
 use Rattle.fsck_import.proofs.BadLemmas.{by_name, node_number, DrainsAs}
 
--- what the calls after the adds say of a kind, if those before say nothing
+-- what the calls after the adds give for a kind, if those before give nothing
 module _ {X : Type 0} (g : Call → List X) (c : Cluster) (remaining : ℕ) where
   pub after_parts : ((x : NodeRow) → g (register c.rows x) ≡ []) → ((x : NodeRow) → g (heartbeat c.rows remaining x) ≡ []) → ((x : _) → g (add x) ≡ [])
       → flat_map g (calls_for c remaining) ≡ (flat_map g (flat_map reports c.rows) ++ flat_map g (map corrupt c.bad)) ++ flat_map g (map drain (draining c))

@@ -79,6 +79,8 @@ fn write_registers<W: Write>(alloc: Global, writer: &mut W, cluster: &Cluster) -
     Ok(())
 }
 
+/// Makes the call that registers a node, with its storages among these rows. Refused only if out of
+/// memory.
 pub fn register(alloc: Global, rows: &[Row], node: &NodeRow) -> Result<Call, AllocError>
     ensures { IfOk result (λ call. call ≡ register rows.now node.now) }
 {
@@ -119,6 +121,8 @@ fn write_heartbeats<W: Write>(
     Ok(())
 }
 
+/// Makes the heartbeat of a node: each storage has `remaining` free bytes, or its share of the
+/// node's bytes if the row has them. Refused only if out of memory.
 pub fn heartbeat(
     alloc: Global,
     rows: &[Row],

@@ -43,6 +43,7 @@ impl Listing {
         }
     }
 
+    /// Returns the files read so far.
     pub fn files(&self) -> &Files
         ensures { result.now ≡ self.now.files }
     {

@@ -46,7 +46,7 @@ live_of word text =
 abbrev pub bracketed : Text → Option Text
 bracketed list = option_and_then (before_last 93) (after_first 91 list)
 
--- the same after at most one more space, 32; empty for no text
+-- the text between the brackets of a list, after at most one more space, 32; empty for no text
 abbrev pub list_text : Text → Result Text Wrong
 list_text text =
     let list = unwrap_or (after_first 32 text) text in

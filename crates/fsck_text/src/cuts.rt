@@ -103,7 +103,7 @@ fn with_digit(value: u64, digit: u8) -> Option<u64>
     value.checked_mul(10)?.checked_add(u64::from(digit - b'0'))
 }
 
-/// The same, below 2^32.
+/// The number in a text of decimal digits, if it is below 2^32.
 pub fn small_number_of(text: &str) -> Option<u32>
     ensures { result ≡ small_number_of text.now }
 {

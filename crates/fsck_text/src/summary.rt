@@ -39,7 +39,7 @@ fn blocks_named(name: &str) -> Option<Count>
     }
 }
 
-/// The same for a line about erasure coded files.
+/// The count that a line about erasure coded files has, from its text before the colon.
 fn groups_named(name: &str) -> Option<Count>
     ensures { result ≡ groups_named name.now }
 {

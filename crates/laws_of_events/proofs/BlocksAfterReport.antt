@@ -1,4 +1,5 @@
--- The answer of a query for a storage's blocks after a full report.
+-- After a full report, a query for the storage's blocks answers exactly the numbers of the report,
+-- ascending.
 use Rattle.std.proofs.Common.{◌≡◌, ℕ, Bool, true, false, cond, ◌&&◌, ◌||◌, Option, Some, is_some, List, [], ◌∷◌, map, filter, refl, sym, ap, subst, ◌∙◌, T, is_lt, eqb-true}
 use Rattle.std.specs.Prelude.{◌==◌}
 use Rattle.std.specs.Ordering.{eq_by_cmp, nat_cmp}

@@ -1,4 +1,5 @@
--- Lists that have all blocks with a level.
+-- A list that has all blocks with a level still has them after heartbeats, reports of listed blocks
+-- and rounds.
 use Rattle.std.specs.Prelude.{◌≡◌, ℕ, ◌+◌, ◌≤◌, Bool, true, false, not, ◌&&◌, ◌||◌, ◌==◌, nat_eq, List, [], ◌∷◌, ◌++◌, filter, length, Option, Some, None, is_some}
 use Rattle.std.specs.List.{dedup}
 use Rattle.std.specs.List.Sorted.{IsPermutation}

@@ -1,5 +1,5 @@
--- The live replicas once a round is obeyed: those that were live, and the targets of its copies,
--- each on a node of its own.
+-- Once a round is obeyed, the live replicas are those that were live and the targets of the copies,
+-- each on its own node.
 use Rattle.std.specs.Prelude.{◌≡◌, true, false, ◌==◌, List, [], ◌∷◌, ◌++◌, Option, Some, None, is_some}
 use Rattle.std.specs.Option.{option_map_or}
 use Rattle.std.proofs.Common.{refl, sym, ap, subst, ◌∙◌}

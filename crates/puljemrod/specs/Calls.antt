@@ -79,13 +79,13 @@ IsMade k c now code = IsAsked k.manager (Asks c) now × (code ≡ now.number)
 abbrev pub IsCall : HandleState → Call → HandleState → ℕ → Type 0
 IsCall k c now code = ((code ≡ MEMORY) × (now ≡ k) × IsTrue (may_run_out_of_memory step k.manager c)) ⊎ IsMade k c now code
 
--- The same for an event with a list, which is copied first: memory may be refused for the copy,
+-- As `IsCall`, for an event with a list, which is copied first: memory may be refused for the copy,
 -- whatever the event.
 abbrev pub IsListed : HandleState → Call → HandleState → ℕ → Type 0
 IsListed k c now code = ((code ≡ MEMORY) × (now ≡ k)) ⊎ IsMade k c now code
 
--- The same for a heartbeat, whose list is copied into memory that the handle keeps: memory may be
--- refused only if that is too small for the list.
+-- As `IsCall`, for a heartbeat, whose list is copied into memory that the handle keeps: memory may
+-- be refused only if that is too small for the list.
 abbrev pub IsBeat : HandleState → ℕ → List Remaining → HandleState → ℕ → Type 0
 IsBeat k node rs now code = ((code ≡ MEMORY) × (now ≡ k) × (k.spare < length rs)) ⊎ IsMade k (Apply (Heartbeat node rs)) now code
 

@@ -1,6 +1,6 @@
 //! Tools for clusters, chosen by the first word. `import` converts the output of `hdfs fsck` to
 //! lines of the line tool. `report` prints the health of the cluster of such lines. `what-if`
-//! prints what is lost with a part of it. `simulate` shows how a simulated cluster recovers.
+//! prints the losses if a part of it fails. `simulate` shows how a simulated cluster recovers.
 //!
 //! ```text
 //! puljemrod_cluster report < cluster.jsonl

@@ -270,8 +270,8 @@ fn workers_run_at_once(rt: HostRuntime) {
     }
 }
 
-/// Whichever piece holds up its worker, the other worker works the other three. With fixed shares
-/// one of these would wait for a worker that waits for it.
+/// Whichever piece holds up its worker, the other worker processes the other three. With fixed
+/// shares one of these would wait for a worker that waits for it.
 #[test]
 fn pieces_are_not_shared_out_beforehand(rt: HostRuntime) {
     for shard in 0..4 {
