@@ -10,7 +10,7 @@ use Rattle.bm_maps.specs.SlotLists.{IsMember}
 use Rattle.bm_base.proofs.ForEach.{Each, each_then}
 use Rattle.bm_parts.specs.LevelLaws.{IsRacked}
 use Rattle.bm_parts.proofs.Deaths.{rack_elsewhere, draining_elsewhere, rack_left, draining_left}
-use Rattle.bm_parts.proofs.ClusterLevels.{heartbeat_leaves_racks, stands_before}
+use Rattle.bm_parts.proofs.ClusterLevels.{heartbeat_leaves_racks, same_after_register}
 use Rattle.bm_arena.specs.Triplets.{Block}
 use Rattle.bm_arena.specs.Contents.{Contents, block_at, list_of, marks_at, find_marks, slot_of, IsLawful}
 use Rattle.bm_arena.specs.HeldMaps.{replicas_of, holdings_of}
@@ -95,8 +95,8 @@ pub register_is_same : (C : Cluster) (n rack : ℕ) (ss : List ℕ) (a : Content
     → IsSameForHeld C (register C n rack ss) a
 unfolding holdings_of
 register_is_same C n rack ss a new unknown racked = record {
-  rack = λ q there. (stands_before C n rack ss new unknown q.storage (racked q there)).0;
-  draining = λ q there. (stands_before C n rack ss new unknown q.storage (racked q there)).1;
+  rack = λ q there. (same_after_register C n rack ss new unknown q.storage (racked q there)).0;
+  draining = λ q there. (same_after_register C n rack ss new unknown q.storage (racked q there)).1;
 }
 
 -- Storages and nodes that leave.

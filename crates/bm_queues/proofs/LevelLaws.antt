@@ -20,7 +20,7 @@ use Rattle.bm_queues.specs.DenseLevels.{AreDense, seen, level_in, array_of, leve
 use Rattle.bm_queues.specs.Walks.{slots_from, IsOn, IsPast, GoesOn}
 use Rattle.bm_queues.proofs.Visits.{walk-after}
 use Rattle.bm_queues.proofs.ListIteration.{next-is_on, rest-next, past-is}
-use Rattle.bm_queues.proofs.Indices.{AreApart, place_among, among_here, distinct_apart, among-reverse, distinct-reverse, first-taken, after-index, rest-length, rest-at, rest-place, rest-from, rest-on, permutation-reverse}
+use Rattle.bm_queues.proofs.Indices.{AreApart, index_among, among_here, distinct_apart, among-reverse, distinct-reverse, first-taken, after-index, rest-length, rest-at, rest-place, rest-from, rest-on, permutation-reverse}
 
 -- Levels and their numbers.
 
@@ -111,7 +111,7 @@ module _ (levels : List (Option Level)) (indices : List ℕ) (arrays : List (Lis
 
   pub array-exact : (l : Level) (slot : ℕ) → IsMember slot (array_of arrays l) ↔ (level_in levels slot ≡ Some l)
   array-exact l slot = (
-    λ h. let found = place_among slot (array_of arrays l) h in
+    λ h. let found = index_among slot (array_of arrays l) h in
         ap (λ x. level_in levels x) (sym found.2) ∙ are.level l found.0 found.1,
     λ is. among_here slot (array_of arrays l) (get_or indices slot 0) (are.inside l slot is) (are.there l slot is),
   )

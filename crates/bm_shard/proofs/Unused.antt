@@ -18,7 +18,7 @@ use Rattle.bm_base.proofs.Ties.{number_tie}
 use Rattle.bm_arena.specs.Contents.{Contents, block_at, slot_of, IsLawful}
 use Rattle.bm_arena.specs.HeldMaps.{replicas_of, blocks_of}
 use Rattle.bm_arena.proofs.HeldReplicas.{one_number}
-use Rattle.bm_arena.proofs.Replicas.{Among-append}
+use Rattle.bm_arena.proofs.Replicas.{IsMember-append}
 use Rattle.bm_maps.specs.SlotLists.{IsMember}
 use Rattle.std.proofs.lemmas.List.{take-append-drop}
 use Rattle.bm_report.specs.declared.types.ReportedSlot.{ReportedSlot}
@@ -154,7 +154,7 @@ none_reported C H s ns a m c changed came lawful ids others reported_blocks is o
     in_neither : (slot : ℕ) → (IsMember slot (take came changed) → ⊥) → (IsMember slot (drop came changed) → ⊥) → IsMember slot changed → ⊥
     in_neither slot front back h =
         let P : List ℕ → Type 0 = λ l. IsMember slot l in
-        elim (Among-append slot (take came changed) (drop came changed) (subst P (sym (take-append-drop came changed)) h)) [ inl x ↦ front x | inr y ↦ back y ]
+        elim (IsMember-append slot (take came changed) (drop came changed) (subst P (sym (take-append-drop came changed)) h)) [ inl x ↦ front x | inr y ↦ back y ]
 
 -- The reservation of an event.
 

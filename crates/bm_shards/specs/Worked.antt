@@ -10,7 +10,7 @@ use Rattle.bm_shard.specs.Seen.{Seen, IsReadyFor}
 use Rattle.bm_shard.specs.Unused.{HasNoUnused, HasNoUnusedCapacity}
 use Rattle.bm_shard.specs.UpToDate.{IsUpToDate, IsSameButCapacity}
 use Rattle.bm_shards.specs.declared.answers.Answered.{Answered}
-use Rattle.bm_shards.specs.Answers.{Asked}
+use Rattle.bm_shards.specs.Answers.{ShardResult}
 
 -- a new shard of this index
 pub record IsNew (config : Config) (i : ℕ) (s : ℕ × Seen) : Type 0 where
@@ -37,7 +37,7 @@ pub record HasGivenUp (S : Seen) : Type 0 where
   pub freed : HasNoUnusedCapacity S
 
 -- the same shard in all but capacity, which is ready, or out of memory
-pub record IsPrepared (IsReady : Seen → Type 0) (S : Seen) (made : Asked (Unit {0})) : Type 0 where
+pub record IsPrepared (IsReady : Seen → Type 0) (S : Seen) (made : ShardResult (Unit {0})) : Type 0 where
   pub same : IsSameButCapacity S made.shard
   pub ready : OnOk made.answer (IsReady made.shard)
   pub refused : IfErr made.answer (λ e. e ≡ Memory)

@@ -52,8 +52,8 @@ abbrev pub rest_bytes : Cluster → Map by_number BlockInfo → ℕ → ℕ → 
 rest_bytes C blocks t l u es = sum_by (rest_of C blocks t l u es) (keys blocks)
 
 -- the current block adds the bytes that it lacks, and the next one begins
-abbrev pub turned : Option BlockInfo → ℕ → Summed → Summed
-turned info next s = if s.block == next then s else record s {
+abbrev pub switched : Option BlockInfo → ℕ → Summed → Summed
+switched info next s = if s.block == next then s else record s {
   bytes = in_128_bits (s.bytes + in_128_bits (option_map_or (λ i. bytes_to_copy i s.live s.usable) info 0));
   block = next;
   usable = 0;

@@ -14,7 +14,7 @@ pub use crate::failure_domains::{nodes_of, racks_of};
 use crate::fault::Fault;
 use crate::loss_events::Lost;
 use crate::returns::Return;
-use crate::set_back::returns_of;
+use crate::set_back::make_returns;
 use crate::snapshot::Snapshot;
 use crate::without::{Outcome, without};
 use bm_base::Refusal;
@@ -64,7 +64,7 @@ pub fn make_rows<H: Threads + Wait + Sync>(
     if !first.excess.is_empty() {
         return Err(Fault::Excess);
     }
-    let returns = returns_of(alloc, &loaded.session.book, first.replicas.as_slice())?;
+    let returns = make_returns(alloc, &loaded.session.book, first.replicas.as_slice())?;
     let mut rows = lose_each(
         rt,
         alloc,
@@ -154,7 +154,7 @@ fn set_back<H: Threads + Wait + Sync>(
     ensures in_step { OnOk result (IsInStep session.new) }
 {
     for node in returns {
-        node.make(rt, session, domain.nodes.as_slice())?;
+        node.restore(rt, session, domain.nodes.as_slice())?;
     }
     Ok(())
 }

@@ -5,7 +5,7 @@ ghost use Rattle.bm_base.specs.Machine.Replicas.{is_good};
 ghost use Rattle.bm_base.specs.Machine.Queries.{all_replicas, excess_replicas};
 ghost use Rattle.cluster_report.specs.Sessions.{IsInStep};
 ghost use Rattle.cluster_losses.specs.Lacking.{bytes_to_copy, lacking_bytes, in_128_bits};
-ghost use Rattle.cluster_losses.specs.Summing.{Marked, IsSummed, replica_of, turned, is_next};
+ghost use Rattle.cluster_losses.specs.Summing.{Marked, IsSummed, replica_of, switched, is_next};
 
 use bm_base::{BlockId, BlockInfo, Replica, ReplicaId, Tag};
 use cluster_report::session::Session;
@@ -38,7 +38,7 @@ impl Summed {
     }
 
     /// The sum, with what the current block lacks.
-    fn whole(&self, info: Option<BlockInfo>) -> u128
+    fn total(&self, info: Option<BlockInfo>) -> u128
         ensures { result ≡ in_128_bits (self.now.bytes + in_128_bits
             (option_map_or (λ i. bytes_to_copy i self.now.live self.now.usable) info 0)) }
     {
@@ -62,7 +62,7 @@ impl Summed {
     {
         let book = &session.book;
         let info = book.blocks.get(self.block);
-        self.turn_to(info, replica.block);
+        self.switch_block(info, replica.block);
         let id = ReplicaId {
             block: replica.block,
             storage: replica.storage,
@@ -75,11 +75,11 @@ impl Summed {
 
     /// Switches to `block`: adds what the current block lacks and resets the counts. Does nothing
     /// if it is the current block.
-    fn turn_to(&mut self, info: Option<BlockInfo>, block: BlockId)
-        ensures { self.new ≡ turned info block self.old }
+    fn switch_block(&mut self, info: Option<BlockInfo>, block: BlockId)
+        ensures { self.new ≡ switched info block self.old }
     {
         if self.block != block {
-            self.bytes = self.whole(info);
+            self.bytes = self.total(info);
             self.block = block;
             self.usable = 0;
             self.live = 0;
@@ -131,7 +131,7 @@ pub(crate) fn bytes_lacking(session: &Session, replicas: &[Replica], excess: &[R
     for replica in replicas {
         summed.take(session, excess, replica);
     }
-    summed.whole(session.book.blocks.get(summed.block))
+    summed.total(session.book.blocks.get(summed.block))
 }
 
 fn bytes_to_copy(info: BlockInfo, live: u64, usable: u64) -> u128

@@ -21,7 +21,7 @@ pub struct Return {
 impl Return {
     /// Makes the node come back, if it is one of these.
     #[tactic(auto, using(crate::proofs::Reached::no_way, crate::proofs::Reached::way_by))]
-    pub fn make<H: Threads + Wait + Sync>(
+    pub fn restore<H: Threads + Wait + Sync>(
         &self,
         rt: &H,
         session: &mut Session,

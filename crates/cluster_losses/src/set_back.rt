@@ -18,7 +18,7 @@ use std::alloc::{AllocError, Global};
 
 /// The return of each node of a cluster with these replicas.
 #[tactic(auto, using(crate::proofs::Returned::return_keeps))]
-pub fn returns_of(
+pub fn make_returns(
     alloc: Global,
     book: &Book,
     replicas: &[Replica],

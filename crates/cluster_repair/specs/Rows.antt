@@ -14,7 +14,7 @@ use Rattle.cluster_repair.specs.declared.repair.Pace.{Pace}
 use Rattle.cluster_repair.specs.declared.repair.Repair.{Repair}
 use Rattle.cluster_repair.specs.declared.ticks.Ticks.{Ticks}
 use Rattle.cluster_repair.specs.Reports.{IsReached, after_events}
-use Rattle.cluster_repair.specs.History.{Taken, AreAtStart, HasTaken, are_idle, awaited_rounds, commanded_of, datanodes_of, state_of, time_of}
+use Rattle.cluster_repair.specs.History.{RoundRecord, AreAtStart, HasTaken, are_idle, awaited_rounds, commanded_of, datanodes_of, state_of, time_of}
 use Rattle.cluster_repair.specs.Retirements.{AreRetired, retired_since, retirement_of}
 use Rattle.cluster_repair.specs.Ticks.{ticks_of}
 
@@ -34,7 +34,7 @@ pub record AreCounts (M : State) (c : LevelCounts) : Type 0 where
   pub missing : c.missing ≡ length (missing_blocks M.cluster M.holdings)
 
 -- a row has the counts after the last of some rounds
-pub record IsRowOf (M : State) (d : DataNodes) (taken : List Taken) (row : Row) : Type 0 where
+pub record IsRowOf (M : State) (d : DataNodes) (taken : List RoundRecord) (row : Row) : Type 0 where
   pub some : 0 < row.round
   pub round : row.round ≡ length taken
   pub seconds : row.seconds ≡ time_of taken / 1000000
@@ -44,14 +44,14 @@ pub record IsRowOf (M : State) (d : DataNodes) (taken : List Taken) (row : Row) 
 
 -- A row has the counts after one of these rounds. The list has the last round first, so it ends
 -- with this one and those before it.
-pub record IsRowAmong (M : State) (d : DataNodes) (taken : List Taken) (row : Row) : Type 0 where
-  pub later : List Taken
-  pub before : List Taken
+pub record IsRowAmong (M : State) (d : DataNodes) (taken : List RoundRecord) (row : Row) : Type 0 where
+  pub later : List RoundRecord
+  pub before : List RoundRecord
   pub parts : taken ≡ later ++ before
   pub reached : IsReached row.round M (state_of M before)
   pub is : IsRowOf M d before row
 
-pub record AreRowsAmong (M : State) (d : DataNodes) (taken : List Taken) (rows : List Row) : Type 0 where
+pub record AreRowsAmong (M : State) (d : DataNodes) (taken : List RoundRecord) (rows : List Row) : Type 0 where
   pub all : All (IsRowAmong M d taken) rows
 
 -- whether a round is one of 1, 1 + stride and so on

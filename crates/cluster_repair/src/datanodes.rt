@@ -169,7 +169,7 @@ fn give_back_deleted(
     ensures storages { free.new.storages ≡ free.old.storages }
 {
     for delete in deletes {
-        free.give_back(delete.storage, blocks.len_of(delete.block))?;
+        free.release(delete.storage, blocks.len_of(delete.block))?;
     }
     Ok(())
 }

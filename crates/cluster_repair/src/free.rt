@@ -68,7 +68,7 @@ impl FreeBytes {
     }
 
     /// Adds bytes to a storage's free bytes, up to 2^64 - 1. Refused only if out of memory.
-    pub fn give_back(&mut self, storage: StorageId, bytes: u64) -> Result<(), AllocError>
+    pub fn release(&mut self, storage: StorageId, bytes: u64) -> Result<(), AllocError>
         ensures free { OnOk result ((s : ℕ) → free_on self.new s
             ≡ (if nat_eq storage s then min (free_on self.old storage + bytes) most
             else free_on self.old s)) }

@@ -100,9 +100,9 @@ impl OnWay {
             ≡ filter (λ s. nat_lt now s.arrival) self.old.sent.items) }
         ensures next { self.new.next ≡ self.old.next }
     {
-        let mut due = due_by(alloc, self.sent.as_slice(), now)?;
-        due.sort_by_key(|sent| when(sent))?;
-        let left = left_by(alloc, self.sent.as_slice(), now)?;
+        let mut due = arrived_until(alloc, self.sent.as_slice(), now)?;
+        due.sort_by_key(|sent| arrival_key(sent))?;
+        let left = still_pending(alloc, self.sent.as_slice(), now)?;
         forget(&mut self.targets, due.as_slice());
         self.sent = left;
         Ok(due)
@@ -110,7 +110,7 @@ impl OnWay {
 }
 
 /// Sort key: arrival time, then the copy's index.
-fn when(sent: &Sent) -> (u64, u64)
+fn arrival_key(sent: &Sent) -> (u64, u64)
     ensures { result ≡ when sent.now }
 {
     (sent.arrival, sent.order)
@@ -132,7 +132,7 @@ fn key_of(transfer: &Transfer) -> (u64, u32)
     (transfer.block.0, transfer.target.0)
 }
 
-fn due_by(alloc: Global, sent: &[Sent], now: u64) -> Result<Vec<Sent>, AllocError>
+fn arrived_until(alloc: Global, sent: &[Sent], now: u64) -> Result<Vec<Sent>, AllocError>
     ensures { IfOk result (λ v. v.items ≡ filter (has_arrived now) sent.now) }
 {
     sent.iter()
@@ -141,7 +141,7 @@ fn due_by(alloc: Global, sent: &[Sent], now: u64) -> Result<Vec<Sent>, AllocErro
         .collect(alloc)
 }
 
-fn left_by(alloc: Global, sent: &[Sent], now: u64) -> Result<Vec<Sent>, AllocError>
+fn still_pending(alloc: Global, sent: &[Sent], now: u64) -> Result<Vec<Sent>, AllocError>
     ensures { IfOk result (λ v. v.items ≡ filter (λ s. nat_lt now s.arrival) sent.now) }
 {
     sent.iter()

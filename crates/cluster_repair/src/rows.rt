@@ -1,7 +1,7 @@
 // A row of counts for every round; if there are many rounds, for every second, fourth and so on.
 ghost use Rattle.std.specs.Prelude.{◌≡◌, ℕ, ◌+◌, ◌≤◌, List, [], filter, length, IfOk, OnOk};
 ghost use Rattle.bm_base.specs.Machine.State.{State};
-ghost use Rattle.cluster_repair.specs.History.{Taken};
+ghost use Rattle.cluster_repair.specs.History.{RoundRecord};
 ghost use Rattle.cluster_repair.specs.Rows.{IsRowAmong, AreRowsAmong, AreInOrder, EndsWith, is_on_stride};
 ghost use Rattle.cluster_repair.specs.declared.datanodes.DataNodes.{DataNodes};
 
@@ -57,7 +57,7 @@ impl Rows {
 
     /// Adds the row of a round.
     pub fn push(&mut self, alloc: Global, row: Row) -> Result<(), AllocError>
-        ensures rows { OnOk result ((M : State) (d : DataNodes) (taken : List Taken)
+        ensures rows { OnOk result ((M : State) (d : DataNodes) (taken : List RoundRecord)
             → AreRowsAmong M d taken self.old.rows.items
             → IsRowAmong M d taken row → AreRowsAmong M d taken self.new.rows.items) }
         ensures last { OnOk result (EndsWith self.new.rows.items row) }
@@ -71,7 +71,7 @@ impl Rows {
 
     /// Drops every second row if there are too many for one more.
     fn thin_if_full(&mut self, alloc: Global) -> Result<(), AllocError>
-        ensures rows { OnOk result ((M : State) (d : DataNodes) (taken : List Taken)
+        ensures rows { OnOk result ((M : State) (d : DataNodes) (taken : List RoundRecord)
             → AreRowsAmong M d taken self.old.rows.items
             → AreRowsAmong M d taken self.new.rows.items) }
         ensures in_order { OnOk result ((next : ℕ)
@@ -81,16 +81,16 @@ impl Rows {
         if self.rows.len() < MOST_KEPT || self.stride > MOST_STRIDE {
             return Ok(());
         }
-        self.thin(alloc)?;
+        self.drop_every_second(alloc)?;
         Ok(())
     }
 
     /// Drops every second row.
     #[tactic(auto, using(crate::proofs::Reach::rows_among))]
-    fn thin(&mut self, alloc: Global) -> Result<(), AllocError>
+    fn drop_every_second(&mut self, alloc: Global) -> Result<(), AllocError>
         requires full { 64 ≤ length self.old.rows.items }
         requires few { self.old.stride ≤ 1000000 }
-        ensures rows { OnOk result ((M : State) (d : DataNodes) (taken : List Taken)
+        ensures rows { OnOk result ((M : State) (d : DataNodes) (taken : List RoundRecord)
             → AreRowsAmong M d taken self.old.rows.items
             → AreRowsAmong M d taken self.new.rows.items) }
         ensures in_order { OnOk result ((next : ℕ)

@@ -8,7 +8,7 @@ ghost use Rattle.cluster_repair.specs.Rows.{AreCounts, AreLeveled};
 use bm_base::{BlockId, Refusal};
 use bm_manager::Manager;
 use cluster_report::catalogue::Catalogue;
-use cluster_report::levels::{LevelCounts, Leveled, count_levels, levels_of};
+use cluster_report::levels::{LevelCounts, Leveled, count_levels, query_levels};
 use std::alloc::{AllocError, Global};
 
 /// The numbers of blocks, among them all that have a level. Without further losses no other block
@@ -25,7 +25,7 @@ impl Watch {
         ensures { IfOk result (λ w. Covers manager.now w.blocks.items) }
     {
         let numbers = numbers_in(alloc, blocks)?;
-        let levels = levels_of(alloc, manager, numbers.as_slice())?;
+        let levels = query_levels(alloc, manager, numbers.as_slice())?;
         let blocks = with_level(alloc, levels.as_slice())?;
         Ok(Watch { blocks })
     }
@@ -48,7 +48,7 @@ impl Watch {
         self.blocks.sort()?;
         self.blocks.dedup();
         let missing = manager.missing()?;
-        let levels = levels_of(alloc, manager, self.blocks.as_slice())?;
+        let levels = query_levels(alloc, manager, self.blocks.as_slice())?;
         let counts = count_levels(levels.as_slice(), missing.as_slice().len());
         self.blocks = with_level(alloc, levels.as_slice())?;
         Ok(counts)

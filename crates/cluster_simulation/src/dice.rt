@@ -21,7 +21,7 @@ impl Dice {
     }
 
     /// A number below `count`.
-    pub fn below(&mut self, count: u32) -> u32
+    pub fn draw_below(&mut self, count: u32) -> u32
         requires { 0 < count }
         ensures { result < count }
     {

@@ -23,8 +23,8 @@ use Rattle.cluster_report.specs.Sessions.{Follows}
 use Rattle.cluster_report.specs.declared.book.Book.{Book}
 use Rattle.cluster_what_if.specs.Answers.{IsAnswer}
 use Rattle.cluster_what_if.specs.Text.{lost_text}
-use Rattle.cluster_what_if.specs.declared.found.Found.{Found}
-use Rattle.cluster_what_if.specs.declared.found.Found.TheVariants as found
+use Rattle.cluster_what_if.specs.declared.found.Findings.{Findings}
+use Rattle.cluster_what_if.specs.declared.found.Findings.TheVariants as found
 use Rattle.cluster_what_if.specs.declared.found.Losses.{Losses}
 use Rattle.cluster_what_if.specs.declared.found.Mended.{Mended}
 use Rattle.cluster_what_if.specs.declared.found.Table.{Table}
@@ -73,7 +73,7 @@ pub record IsTableOfNodes (before after : Loaded) (t : Table) : Type 0 where
   pub like : IsLike before.session.manager after.session.manager
 
 -- the findings for a question
-abbrev pub IsFoundFor : Question → Option Pace → Loaded → Loaded → Found → Type 0
+abbrev pub IsFoundFor : Question → Option Pace → Loaded → Loaded → Findings → Type 0
 IsFoundFor (question.Losses ls) pace before after (found.Losses it) = AreFoundOf before after pace ls.items it
 IsFoundFor question.EachRack pace before after (found.Table t) = IsTableOfRacks before after t
 IsFoundFor question.EachNode pace before after (found.Table t) = IsTableOfNodes before after t

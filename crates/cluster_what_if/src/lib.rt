@@ -42,11 +42,11 @@ use cluster_input::sources::load;
 use cluster_losses::fault::Fault;
 use cluster_losses::loss::{Loss, Question};
 use cluster_losses::loss_events::unknown_of;
-use cluster_pages::output::say_print_fault;
+use cluster_pages::output::print_output_fault;
 use cluster_pages::page_file::write_page;
 use cluster_progress::Progress;
-use found::{Found, find};
-use options::{Asked, asked_of, matches_of};
+use found::{Findings, find};
+use options::{Arguments, matches_of, parse_arguments};
 use output::{print_lines, print_picture};
 use page::found_page;
 use std::alloc::Global;
@@ -74,11 +74,11 @@ pub fn losses_by_words<
     let alloc: Global = rt.alloc();
     let matches = match matches_of(alloc, words) {
         Ok(matches) => matches,
-        Err(error) => return say_error(rt, &error),
+        Err(error) => return print_error(rt, &error),
     };
-    let asked = match asked_of(alloc, &matches) {
+    let asked = match parse_arguments(alloc, &matches) {
         Ok(asked) => asked,
-        Err(error) => return say_error(rt, &error),
+        Err(error) => return print_error(rt, &error),
     };
     match load(rt, notes, PROGRAM, &asked.input, files_of(&matches)) {
         Some((mut loaded, all_accepted)) => {
@@ -91,15 +91,15 @@ pub fn losses_by_words<
 }
 
 /// Prints why there is no answer.
-fn say_error<R: Print + Eprint>(rt: &R, error: &Error) -> u8 {
+fn print_error<R: Print + Eprint>(rt: &R, error: &Error) -> u8 {
     if matches!(error.kind(), ErrorKind::OutOfMemory) {
-        return say_fault(rt, Fault::Memory);
+        return print_fault(rt, Fault::Memory);
     }
     let _ = error.print(rt);
     if error.use_stderr() { MISUSED } else { DONE }
 }
 
-fn say_fault<R: Eprint>(rt: &R, fault: Fault) -> u8
+fn print_fault<R: Eprint>(rt: &R, fault: Fault) -> u8
     ensures { result ≡ 1 }
 {
     let _ = rt.eprintln(format_args!("{PROGRAM}: {fault}"));
@@ -113,7 +113,7 @@ fn answer<R: Eprint + Files + AllocGlobal + Threads + Wait + Sync, W: Write>(
     rt: &R,
     writer: &mut W,
     loaded: &mut Loaded,
-    asked: &Asked<'_>,
+    asked: &Arguments<'_>,
 ) -> u8
     requires { IsInStep loaded.old.session }
     ensures { result ≡ 0 → asked.now.is_picture ≡ false
@@ -129,12 +129,12 @@ fn answer<R: Eprint + Files + AllocGlobal + Threads + Wait + Sync, W: Write>(
             drop(found);
             status
         }
-        Err(fault) => say_find_fault(rt, loaded, &asked.question, fault),
+        Err(fault) => print_find_fault(rt, loaded, &asked.question, fault),
     }
 }
 
 /// Prints why there is no answer: which name is unknown, if one is.
-fn say_find_fault<R: Eprint + AllocGlobal>(
+fn print_find_fault<R: Eprint + AllocGlobal>(
     rt: &R,
     loaded: &Loaded,
     question: &Question<'_>,
@@ -149,7 +149,7 @@ fn say_find_fault<R: Eprint + AllocGlobal>(
             ));
             FAULTED
         }
-        None => say_fault(rt, fault),
+        None => print_fault(rt, fault),
     }
 }
 
@@ -158,8 +158,8 @@ fn write_found<R: Eprint + Files + AllocGlobal, W: Write>(
     rt: &R,
     writer: &mut W,
     loaded: &Loaded,
-    asked: &Asked<'_>,
-    found: &Found,
+    asked: &Arguments<'_>,
+    found: &Findings,
 ) -> u8
     ensures { result ≡ 0 → asked.now.is_picture ≡ false
         → Appends (W.contents writer.old) (W.contents writer.new)
@@ -169,7 +169,7 @@ fn write_found<R: Eprint + Files + AllocGlobal, W: Write>(
     let (names, files, most) = (&loaded.names, &loaded.files, asked.most);
     if let Some(path) = asked.page {
         let Ok(page) = found_page(alloc, names, files, most, found) else {
-            return say_fault(rt, Fault::Memory);
+            return print_fault(rt, Fault::Memory);
         };
         if !write_page(rt, PROGRAM, path, page) {
             return FAULTED;
@@ -183,7 +183,7 @@ fn write_found<R: Eprint + Files + AllocGlobal, W: Write>(
     match printed {
         Ok(()) => DONE,
         Err(fault) => {
-            say_print_fault(rt, PROGRAM, &fault);
+            print_output_fault(rt, PROGRAM, &fault);
             FAULTED
         }
     }

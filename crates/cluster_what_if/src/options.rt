@@ -3,7 +3,7 @@ use crate::help::{EXAMPLES, wrong_question, wrong_value};
 use clap::{Arg, ArgAction, ArgMatches, Command, Error, value_parser};
 use cluster_input::options as input;
 use cluster_input::options::with_input;
-use cluster_losses::loss::{Question, question_of};
+use cluster_losses::loss::{Question, parse_question};
 use cluster_repair::repair::Pace;
 use cluster_report::options::with;
 use std::alloc::{AllocError, Global};
@@ -13,8 +13,8 @@ pub const MOST_NAMED: usize = 10;
 
 /// The request of a command line.
 #[derive(Drop)]
-pub struct Asked<'a> {
-    pub input: input::Asked<'a>,
+pub struct Arguments<'a> {
+    pub input: input::LoadOptions<'a>,
     pub question: Question<'a>,
     /// The speed of the repair, if one is asked for.
     pub pace: Option<Pace>,
@@ -35,15 +35,18 @@ pub fn matches_of<'a>(alloc: Global, words: &'a [String]) -> Result<ArgMatches<'
 }
 
 /// The request of these words.
-pub fn asked_of<'a>(alloc: Global, matches: &ArgMatches<'a>) -> Result<Asked<'a>, Error> {
-    let Some(input) = input::asked_of(matches) else {
+pub fn parse_arguments<'a>(
+    alloc: Global,
+    matches: &ArgMatches<'a>,
+) -> Result<Arguments<'a>, Error> {
+    let Some(input) = input::parse_load_options(matches) else {
         return Err(wrong_value(alloc)?);
     };
     let lose = matches.get_strs("lose").unwrap_or(&[]);
     let drain = matches.get_strs("drain").unwrap_or(&[]);
-    let pace = pace_in(matches, input.config.work);
+    let pace = parse_pace(matches, input.config.work);
     let is_picture = matches.get_flag("svg");
-    let Some(question) = question_of(alloc, lose, drain)? else {
+    let Some(question) = parse_question(alloc, lose, drain)? else {
         return Err(wrong_question(alloc)?);
     };
     if !may_ask(&question, pace, is_picture) {
@@ -54,7 +57,7 @@ pub fn asked_of<'a>(alloc: Global, matches: &ArgMatches<'a>) -> Result<Asked<'a>
     } else {
         MOST_NAMED
     };
-    Ok(Asked {
+    Ok(Arguments {
         input,
         question,
         pace,
@@ -74,7 +77,7 @@ fn may_ask(question: &Question<'_>, pace: Option<Pace>, is_picture: bool) -> boo
 }
 
 /// The speed of the repair, if one is asked for, by a manager with this `work`.
-fn pace_in(matches: &ArgMatches<'_>, work: u32) -> Option<Pace> {
+fn parse_pace(matches: &ArgMatches<'_>, work: u32) -> Option<Pace> {
     if !matches.get_flag("mend") {
         return None;
     }

@@ -1,6 +1,6 @@
 // The findings as one self-contained page with tables, bars and a picture.
 use crate::answers::Answer;
-use crate::found::{Found, Losses};
+use crate::found::{Findings, Losses};
 use crate::page_rounds::{write_mended, write_mended_facts};
 use crate::page_table::write_table_page;
 use crate::text::fits_word;
@@ -23,12 +23,12 @@ pub fn found_page(
     names: &Names,
     files: &Files,
     most: usize,
-    found: &Found,
+    found: &Findings,
 ) -> Result<String, AllocError> {
     let mut text = String::new(alloc);
     match found {
-        Found::Losses(losses) => write_losses(alloc, &mut text, names, files, most, losses)?,
-        Found::Table(table) => write_table_page(alloc, &mut text, names, files, table)?,
+        Findings::Losses(losses) => write_losses(alloc, &mut text, names, files, most, losses)?,
+        Findings::Table(table) => write_table_page(alloc, &mut text, names, files, table)?,
     }
     write_foot(&mut text)?;
     Ok(text)

@@ -20,7 +20,7 @@ use Rattle.bm_base.specs.Words.{Map, get, keep, contains_key, has, Cluster, Hold
 use Rattle.bm_base.specs.Promises.Lawful.{IsLawfulHoldings, IsOrderly}
 use Rattle.bm_base.proofs.MapLaws.{same_map, get-keep, get-insert}
 use Rattle.bm_base.proofs.Ties.{replica_tie}
-use Rattle.bm_base.proofs.Entries.{expanded-++, reported_by-around, ids_reported, has-count_up}
+use Rattle.bm_base.proofs.Entries.{expanded-++, reported_by-around, ids_reported, has-range_from}
 use Rattle.bm_base.proofs.Options.{there, staying, none_stays, all_stays, stays_twice}
 use Rattle.bm_base.proofs.MapEntries.{get_here}
 use Rattle.bm_base.proofs.Clusters.{no_siblings}
@@ -81,7 +81,7 @@ around front e behind b low high h =
     ap (λ ts. last_stamp ts b) list ∙ last_is (expanded front ++ before) (tell b) (after ++ expanded behind) none
   where
     past : has (map (λ (t : ReportedBlock). t.id) (map {B = ReportedBlock} (λ c. record { id = c; stamp = e.stamp }) (range_from (b + 1) (e.to - b)))) b ≡ false
-    past = ap (λ xs. has xs b) (ids_reported e.stamp (range_from (b + 1) (e.to - b))) ∙ has-count_up (b + 1) (e.to - b) b ∙ not_past b (b + 1 + (e.to - b))
+    past = ap (λ xs. has xs b) (ids_reported e.stamp (range_from (b + 1) (e.to - b))) ∙ has-range_from (b + 1) (e.to - b) b ∙ not_past b (b + 1 + (e.to - b))
 
 pub last_decides : law.last_entry_decides
 last_decides M s front e behind b low high h =

@@ -49,7 +49,7 @@ fn status_of<
     R: Env + Input + Print + Eprint + Files + AllocGlobal + Threads + Wait + Sync,
     N: Print,
 >(rt: &R, notes: &N) -> u8 {
-    match words_of(rt) {
+    match read_arguments(rt) {
         Ok(words) => status_by_words(rt, notes, words.get(1..).unwrap_or(&[])),
         Err(error) if error.kind() == io::ErrorKind::OutOfMemory => {
             let _ = rt.eprintln("puljemrod_cluster: memory fault");
@@ -63,7 +63,7 @@ fn status_of<
 }
 
 /// The words of the command line. Each is pushed, so that no refused growth is ignored.
-fn words_of<R: Env + AllocGlobal>(rt: &R) -> io::Result<Vec<String>> {
+fn read_arguments<R: Env + AllocGlobal>(rt: &R) -> io::Result<Vec<String>> {
     let mut words = Vec::new(rt.alloc());
     for word in env::args(rt)? {
         if words.push(word).is_err() {
