@@ -1,7 +1,6 @@
 -- The answer to one line: the call that it asks for is made, and the answer is a line.
 use Rattle.std.specs.Prelude.{ℕ, Bool, true, false, List, length, if◌then◌else◌, nat_lt, Option, Some, None, codes}
 use Rattle.bm_base.specs.declared.call.Call.{Call}
-use Rattle.bm_base.specs.declared.call.Answer.{Answer}
 use Rattle.bm_base.specs.declared.call.Answer.TheVariants as answer
 use Rattle.bm_base.specs.Words.{State, step, is_refused, may_run_out_of_memory, refusal_number}
 use Rattle.bm_lines.specs.declared.limits.TheConstants.{MAX_LINE}

@@ -151,7 +151,6 @@ module _ (a c : Contents) (lawful_a : IsLawful a) (lawful_c : IsLawful c) (prepa
             let leads = lawful_c.known slot (with_entry_capacity (entry_capacity c slot) k) now (λ same. differs (same ∙ sym delimiter)) in
             case (named k.id && is_unused_number c k.id) refl leads now
           where
-
             sure : {k : Block} → Some k ≡ None → ⊥
             sure f = cc
 

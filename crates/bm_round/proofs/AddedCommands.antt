@@ -31,7 +31,6 @@ pub place_below : (p : ℕ → Bool) (ns : List ℕ) (i : ℕ) → index_where p
 place_below p [] i e = absurd (false≢true (ap is_some e))
 place_below p (n ∷ ns) i e = by (p n) (index_where p ns) e (place_below p ns)
   where
-
     by : (b : Bool) (o : Option ℕ) → cond b (Some 0) (option_map suc o) ≡ Some i → ((j : ℕ) → o ≡ Some j → j < length ns) → i < suc (length ns)
     by true o e rest = let z = same_Some 0 i e in omega (arith, z)
     by false None e rest = absurd (false≢true (ap is_some e))

@@ -14,8 +14,6 @@ use Rattle.bm_shard.specs.Seen.{Seen}
 use Rattle.bm_shards.specs.Whole.{parts_of, held_by, AreIndexed, AreShards, AreUpToDate, HaveTaken}
 use Rattle.bm_shards.specs.Worked.{IsNew, AreNew}
 
-}
-
 next_to_empty : joined_with empty_holdings empty_holdings ≡ empty_holdings
 unfolding joined_with empty empty_holdings
 next_to_empty = λ j. record { blocks = own_entries empty j; replicas = own_entries empty j; pending = own_entries empty j }

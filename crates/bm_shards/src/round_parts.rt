@@ -115,7 +115,9 @@ fn find_parts<W: Workers>(
 {
     let answers = Vec::with_capacity(alloc, shards.len())?;
     let (asking, back) = reserve_pass::<ShardResult<RoundPart>>(
-        alloc, shards.len(), workers.count(),
+        alloc,
+        shards.len(),
+        workers.count(),
     )?;
     let items = mem::replace(shards, back);
     let found = workers.find_all(asking, items, round, topology, bound);

@@ -1,5 +1,5 @@
 -- The nodes and storages that the words of a command line name.
-use Rattle.std.specs.Prelude.{◌≡◌, ⊤, ℕ, Bool, true, false, ◌^◌, ◌==◌, ◌&&◌, nat_eq, nat_lt, List, [], ◌∷◌, ◌++◌, filter, fold, length, if◌then◌else◌, Option, Some, None, option_map}
+use Rattle.std.specs.Prelude.{◌≡◌, ⊤, ℕ, Bool, true, false, ◌^◌, ◌==◌, ◌&&◌, nat_lt, List, [], ◌∷◌, ◌++◌, filter, fold, length, if◌then◌else◌, Option, Some, None, option_map}
 use Rattle.std.specs.Option.{option_map_or}
 use Rattle.std.specs.List.{find, flat_map}
 use Rattle.std.specs.Str.{all_ascii_digits, bytes_eq}

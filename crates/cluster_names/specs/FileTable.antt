@@ -1,6 +1,6 @@
 -- The file of each block.
 use Rattle.std.specs.Prelude.{ℕ, Bool, nat_eq, is_some, List, [], ◌∷◌, ◌++◌, slice_get, Option, option_map, option_and_then, if◌then◌else◌}
-use Rattle.std.specs.List.{list_any, position_or_len, filter_map}
+use Rattle.std.specs.List.{list_any, position_or_len}
 use Rattle.std.specs.Map.{lookup}
 use Rattle.std.specs.Str.{bytes_eq}
 use Rattle.cluster_names.specs.Rows.{Text}

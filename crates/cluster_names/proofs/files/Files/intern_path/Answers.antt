@@ -1,4 +1,4 @@
-use Rattle.std.proofs.Common.{◌∙◌, sym}
+use Rattle.std.proofs.Common.{◌∙◌}
 use Rattle.cluster_names.proofs.FileLemmas.{index_found, paths_found, index_put, paths_put}
 use Rattle.cluster_names.proofs.files.Files.intern_path.Goals as goal
 
