@@ -1,4 +1,5 @@
--- What a line asks, by its length.
+-- A line above the length limit is refused as too long; any other asks for the call that is read of
+-- it.
 use Rattle.std.proofs.Common.{◌≡◌, Option, None, Some, ℕ, ◌<◌, ◌≤◌, List, length, Result, Ok, Err, refl, ◌∙◌}
 use Rattle.std.proofs.lemmas.Bool.{lt-ltb, le-ltb}
 use Rattle.std.specs.Prelude.{OnErr}
@@ -6,7 +7,7 @@ use Rattle.bm_base.specs.declared.call.Call.{Call}
 use Rattle.bm_lines.specs.Parser.CallOf.{call_of}
 use Rattle.bm_lines.specs.declared.limits.TheConstants.{MAX_LINE}
 use Rattle.bm_answers.specs.OneLine.{asked, asked_by}
-use Rattle.bm_answers.specs.declared.request.Asked.TheVariants.{Long, Asks, Bad}
+use Rattle.bm_answers.specs.declared.request.Request.TheVariants.{Long}
 
 pub asked-long : (line : List ℕ) → MAX_LINE < length line → Long ≡ asked line
 unfolding asked

@@ -9,4 +9,4 @@ mod line_answer;
 mod request;
 
 pub use line_answer::{LineAnswer, make_call, make_call_alone};
-pub use request::{Asked, asked_by, asked_of};
+pub use request::{Request, parse_held_line, parse_request};

@@ -4,7 +4,7 @@ ghost use Rattle.bm_base.specs.Machine.Answering.{is_out_of_memory};
 ghost use Rattle.bm_answers.specs.declared.line_answer.LineAnswer.TheVariants.{Answered};
 ghost use Rattle.bm_answers.specs.OneLine.{answer_to, asked_next, asked_may_lack, text_of, is_refusal, number_of};
 
-use crate::request::Asked;
+use crate::request::Request;
 use bm_base::{Answer, Call};
 use bm_crew::NoGate;
 use bm_lines::answer_line;
@@ -72,7 +72,7 @@ fn number(answer: &Answer) -> u32
 pub fn make_call<H: Threads + Wait + Sync>(
     rt: &H,
     manager: &mut Manager,
-    asked: Asked,
+    asked: Request,
 ) -> Result<LineAnswer, AllocError>
     ensures answer { IfOk result (λ a. a ≡ answer_to manager.old asked) }
     ensures memory { IfOk result (λ a. number_of a ≡ 14 → ⊥) }
@@ -81,17 +81,17 @@ pub fn make_call<H: Threads + Wait + Sync>(
     ensures lacked { OnErr result (IsTrue (asked_may_lack manager.old asked)) }
 {
     match asked {
-        Asked::Long => Ok(LineAnswer::Long),
-        Asked::Bad => Ok(LineAnswer::Bad),
-        Asked::Asks(call) => {
+        Request::Long => Ok(LineAnswer::Long),
+        Request::Bad => Ok(LineAnswer::Bad),
+        Request::Asks(call) => {
             let answer = manager.answer(rt, &NoGate, &call);
             answered(call, answer)
         }
     }
 }
 
-/// The same on the calling thread alone.
-pub fn make_call_alone(manager: &mut Manager, asked: Asked) -> Result<LineAnswer, AllocError>
+/// As [`make_call`], on the calling thread alone.
+pub fn make_call_alone(manager: &mut Manager, asked: Request) -> Result<LineAnswer, AllocError>
     ensures answer { IfOk result (λ a. a ≡ answer_to manager.old asked) }
     ensures memory { IfOk result (λ a. number_of a ≡ 14 → ⊥) }
     ensures next { OnOk result (manager.new ≡ asked_next manager.old asked) }
@@ -99,9 +99,9 @@ pub fn make_call_alone(manager: &mut Manager, asked: Asked) -> Result<LineAnswer
     ensures lacked { OnErr result (IsTrue (asked_may_lack manager.old asked)) }
 {
     match asked {
-        Asked::Long => Ok(LineAnswer::Long),
-        Asked::Bad => Ok(LineAnswer::Bad),
-        Asked::Asks(call) => {
+        Request::Long => Ok(LineAnswer::Long),
+        Request::Bad => Ok(LineAnswer::Bad),
+        Request::Asks(call) => {
             let answer = manager.answer_alone(&call);
             answered(call, answer)
         }

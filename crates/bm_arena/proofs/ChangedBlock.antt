@@ -1,4 +1,4 @@
--- What one changed block changes, and what it keeps.
+-- A change of the block at one slot keeps the blocks at all others.
 use Rattle.std.proofs.Common.{◌≡◌, ◌≢◌, ℕ, Option, Some, None, refl, inl, inr, ap, ◌∙◌}
 use Rattle.std.specs.Option.{option_map, option_map_or}
 use Rattle.std.proofs.lemmas.Bool.{cases_eq}

@@ -1,4 +1,4 @@
--- An arena's invariant after an entry without replicas is dropped.
+-- Dropping an entry without replicas keeps an arena's invariant, all other entries and all lists.
 use Rattle.std.proofs.Common.{◌≡◌, ◌≢◌, ℕ, List, [], ◌∷◌, map, length, get_or, set, false, cond, eqb, Option, Some, None, IsSomeAnd, refl, subst, inl, inr, sym, ap, ◌∙◌}
 use Rattle.std.specs.Option.{option_map}
 use Rattle.std.specs.Map.{lookup, keys_of}
@@ -110,7 +110,7 @@ id-seen slots x id is b seen =
     let e = entry_seen slots x b seen in
     is e.0 e.1 ∙ ap (λ (c : Block). c.id) e.2
 
--- the same, from the contracts of the calls of `drop_entry`
+-- the invariant and the view after `drop_entry`, from the contracts of its calls
 module _ (slots new : Slab BlockEntry) (x id : ℕ) (removed : Some id ≡ option_map (λ (e : BlockEntry). e.id) (get slots x)) (is : new.slots ≡ set slots.slots x None)
     (no_replicas : IsSomeAnd (get_or (slot_views slots) x None) (λ (b : Block). b.replicas ≡ []))
     (ids after : List (ℕ × ℕ)) (heads : List (ℕ × Option ℕ)) (delimiter : ℕ) (arena : IsArena slots ids heads delimiter) (differs : x ≢ delimiter)

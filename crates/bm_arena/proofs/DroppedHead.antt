@@ -1,4 +1,4 @@
--- An arena's invariant after the head of an empty list is dropped.
+-- Dropping the head of an empty list keeps an arena's invariant and all lists.
 use Rattle.std.proofs.Common.{◌≡◌, ◌≢◌, ℕ, ◌≤◌, ◌-◌, List, [], ◌∷◌, map, length, get_or, set, take, swap_remove, position, Bool, true, false, cond, eqb, Option, Some, None, IsSome, refl, subst, inl, inr, sym, ap, ◌∙◌, arith}
 use Rattle.std.specs.Option.{option_map, option_map_or, unwrap_or}
 use Rattle.std.specs.Map.{lookup, keys_of}

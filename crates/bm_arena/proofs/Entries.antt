@@ -1,4 +1,4 @@
--- An arena's invariant after a new entry without triplets, a new head and more capacity.
+-- A new entry without triplets, a new head and more capacity keep an arena's invariant.
 use Rattle.std.proofs.Common.{◌≡◌, ◌≢◌, ◌⊎◌, ℕ, ◌<◌, List, [], ◌∷◌, ◌++◌, map, get_or, false, cond, eqb, Option, Some, None, refl, subst, inl, inr, sym, ap, ◌∙◌, arith, max, ◌+◌}
 use Rattle.std.specs.Option.{option_map}
 use Rattle.std.specs.Map.{lookup, keys_of}
@@ -245,8 +245,8 @@ module _ (old new : Slab BlockEntry) (key : ℕ) (e : BlockEntry) (empty : old.s
         };
       })
 
--- the same, from the contracts of the calls of `add_entry`: the slab got capacity, the number was
--- listed with the slot, and the entry was inserted there
+-- the invariant and the view after `add_entry`, from the contracts of its calls: the slab got
+-- capacity, the number was listed with the slot, and the entry was inserted there
 module _ (slots mid new : Slab BlockEntry) (capacity key slot : ℕ) (e : BlockEntry) (ids entries : List (ℕ × ℕ)) (heads : List (ℕ × Option ℕ)) (delimiter : ℕ)
     (grown : mid ≡ record slots { capacity = capacity }) (key_is : key ≡ mid.vacant_key) (slot_is : slot ≡ mid.vacant_key)
     (vacant : get mid key ≡ None) (up : Updates mid new key (Some e)) (no_replicas : e.triplets.items ≡ [])

@@ -1,4 +1,4 @@
--- What is seen of the entries of a slab: marks, blocks, storages.
+-- The marks, blocks and storages that contracts see of a slab are those of its entries.
 use Rattle.std.proofs.Common.{◌≡◌, ℕ, zero, suc, List, [], ◌∷◌, map, get_or, eqb, Option, Some, None, refl, subst, inl, inr, sym, ap, ◌∙◌}
 use Rattle.std.specs.Option.{option_map, option_and_then}
 use Rattle.std.specs.Map.{lookup}

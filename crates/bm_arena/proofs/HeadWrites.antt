@@ -1,4 +1,4 @@
--- A storage's head at an index: what a read finds, and the heads after a write.
+-- A read or a write at the index of a storage's key reads or writes that storage's head.
 use Rattle.std.proofs.Common.{◌≡◌, ℕ, zero, suc, true, false, eqb, List, [], ◌∷◌, get_or, Option, Some, slice_get, position, refl, sym, ap, ◌∙◌, subst}
 use Rattle.std.specs.Prelude.{nat_eq}
 use Rattle.std.specs.Map.{set_value, keys_of}

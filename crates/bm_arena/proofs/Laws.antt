@@ -1,4 +1,5 @@
--- Lists, marks and blocks after each list operation, for the layers above.
+-- Each list operation changes the list of one storage and the marks of one replica, and keeps all
+-- others: for the layers above.
 use Rattle.std.proofs.Common.{◌≡◌, ◌≢◌, ℕ, List, [], ◌∷◌, ◌++◌, cond, eqb, Option, Some, None, IsSome, refl, subst, inl, inr, sym, ap, ◌∙◌}
 use Rattle.std.specs.Option.{option_map, option_and_then, option_map_or, unwrap_or}
 use Rattle.std.specs.Map.{lookup, set_value}

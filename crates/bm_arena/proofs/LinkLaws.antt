@@ -1,4 +1,5 @@
--- The links of a storage's list after a slot is linked at the head, and after one is unlinked.
+-- After a slot is linked at the head of a storage's list, or unlinked, the links lead through the
+-- new list.
 use Rattle.std.proofs.Common.{◌≡◌, ◌≢◌, ℕ, List, ◌∷◌, length, cond, Option, Some, None, is_some, refl, subst, inl, inr, sym, ap, ◌∙◌}
 use Rattle.std.specs.Option.{option_map}
 use Rattle.std.proofs.lemmas.Option.{none-some, same_Some}

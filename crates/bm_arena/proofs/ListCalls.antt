@@ -1,4 +1,4 @@
--- The invariant after each list operation, from the contracts of the calls.
+-- Each list operation keeps the invariant, by the contracts of its calls.
 use Rattle.std.proofs.Common.{◌≡◌, ℕ, suc, ◌<◌, ◌≤◌, List, [], ◌∷◌, length, get_or, eqb, Option, Some, None, IsSome, IsSomeAnd, refl, subst, inl, inr, sym, ap, ◌∙◌, arith}
 use Rattle.std.specs.Option.{option_map}
 use Rattle.std.specs.Map.{lookup, set_value, keys_of}
@@ -69,7 +69,7 @@ AreIds-change blocks ids delimiter heads x h keeps_id keeps_capacity are = recor
         inside_of None e = absurd (none-some c e)
         inside_of (Some b) e = (b, refl, sym (keeps_id b) ∙ ap (λ (d : Block). d.id) (same_Some (h b) c e))
 
--- the same, from a contract of `link_front`
+-- the invariant and the view after a slot is linked, from a contract of `link_front`
 module _ (slots : Slab BlockEntry) (heads : List (ℕ × Option ℕ)) (first : Option ℕ) (storage x : ℕ) (marks : Marks)
     (ids : List (ℕ × ℕ)) (delimiter : ℕ) (arena : IsArena slots ids heads delimiter) (known : Some first ≡ lookup (nat_eq storage) heads)
     (capacity : IsSomeAnd (get_or (slot_views slots) x None) (λ (b : Block). length b.replicas < b.capacity))
@@ -112,7 +112,8 @@ no_head slots heads storage none some =
     let P : Option (List ℕ) → Type 0 = λ o. IsSome o in
     false≢true (subst P nothing some)
 
--- the same, from the contracts of `unlink` and `move_front`
+-- the invariant and the view after a slot is unlinked or moved, from the contracts of `unlink` and
+-- `move_front`
 module _ (slots : Slab BlockEntry) (heads : List (ℕ × Option ℕ)) (first : Option ℕ) (storage x : ℕ) (t : Triplet)
     (ids : List (ℕ × ℕ)) (delimiter : ℕ) (arena : IsArena slots ids heads delimiter) (known : Some first ≡ lookup (nat_eq storage) heads) (own : Some t ≡ triplet_at slots x storage) where
   holder : (e : BlockEntry) × (get slots x ≡ Some e)

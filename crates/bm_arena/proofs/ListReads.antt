@@ -1,4 +1,4 @@
--- What walking a list, reserving capacity and inserting the delimiter depend on.
+-- A walk visits the slots of a list, and reserving capacity keeps an arena's invariant and lists.
 use Rattle.std.proofs.Common.{◌≡◌, ℕ, zero, suc, ◌<◌, ◌≤◌, ◌+◌, map, List, [], ◌∷◌, length, get_or, eqb, Bool, true, false, not, is_some, Option, Some, None, IsSome, IsSomeAnd, refl, subst, inl, inr, sym, ap, ◌∙◌, arith}
 use Rattle.std.specs.Option.{option_map, option_and_then, option_map_or, unwrap_or}
 use Rattle.std.specs.Map.{lookup, keys_of}
@@ -17,7 +17,7 @@ use Rattle.bm_maps.specs.SlotLists.{IsMember, Distinct, without}
 use Rattle.bm_arena.specs.Lists.{walk, Chain}
 use Rattle.bm_arena.specs.Contents.{Contents, with_entry_capacity, entry_capacity}
 use Rattle.bm_arena.specs.Inside.{list_from, lists_from, storages_of, IsSound, IsArena}
-use Rattle.bm_maps.proofs.SlotLists.{length-distinct_below, length-without, Among-without_other}
+use Rattle.bm_maps.proofs.SlotLists.{length-distinct_below, length-without, IsMember-without_other}
 use Rattle.bm_arena.proofs.Lists.{walk-chain}
 use Rattle.bm_arena.proofs.Triplets.{read}
 use Rattle.bm_arena.proofs.Replicas.{keys, none-absent}
@@ -85,7 +85,7 @@ length-subset [] ys distinct inside = omega arith
 length-subset (x ∷ xs) ys distinct inside =
     let fewer : length xs ≤ length (without x ys) =
     length-subset xs (without x ys) distinct.1 (λ z h.
-    Among-without_other x z ys (inside z (inr h)) (λ e. distinct.0 (let P : ℕ → Type 0 = λ w. IsMember w xs in subst P e h))) in
+    IsMember-without_other x z ys (inside z (inr h)) (λ e. distinct.0 (let P : ℕ → Type 0 = λ w. IsMember w xs in subst P e h))) in
     omega (arith, fewer, length-without x ys (inside x (inl refl)))
 
 lookup-among : (s : ℕ) (v : Option ℕ) (es : List (ℕ × Option ℕ)) → lookup (nat_eq s) es ≡ Some v → IsMember s (keys_of es)

@@ -1,4 +1,4 @@
--- The arena once the marks of a replica are set, however its triplet was found.
+-- Setting the marks of a replica changes nothing else in the arena.
 use Rattle.std.proofs.Common.{◌≡◌, ◌≢◌, ℕ, Some, IsSome, refl, sym, subst}
 use Rattle.bm_base.specs.declared.replica.Marks.{Marks}
 use Rattle.bm_base.specs.Words.{insert, replica_at}

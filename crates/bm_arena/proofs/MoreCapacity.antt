@@ -1,4 +1,4 @@
--- What stays when a block's replicas get more capacity.
+-- More capacity for the replicas of a block keeps all marks and what is known of blocks.
 use Rattle.std.proofs.Common.{◌≡◌, ◌≢◌, ℕ, Option, Some, None, refl, ap, ◌∙◌}
 use Rattle.std.specs.Option.{option_map, option_and_then}
 use Rattle.bm_arena.specs.Triplets.{Block, change_block}

@@ -1,5 +1,5 @@
--- An arena's lists, and what is seen of it, after a replica is linked, unlinked or moved to the
--- front.
+-- Linking, unlinking and moving a replica change an arena's lists and its view as the operations
+-- define.
 use Rattle.std.proofs.Common.{◌≡◌, ◌≢◌, ℕ, List, [], ◌∷◌, ◌++◌, length, get_or, eqb, Option, Some, None, refl, subst, inl, inr, sym, ap, ◌∙◌}
 use Rattle.std.specs.Option.{option_map}
 use Rattle.std.specs.Map.{lookup, set_value, keys_of}
@@ -17,7 +17,7 @@ use Rattle.bm_maps.specs.SlotLists.{IsMember, Distinct, without}
 use Rattle.bm_arena.specs.Lists.{IsList}
 use Rattle.bm_arena.specs.Contents.{Contents, with_replica, without_replica, linked_front, unlinked, moved_front, saturating_next}
 use Rattle.bm_arena.specs.Inside.{list_from, lists_from, storages_of, IsSound}
-use Rattle.bm_maps.proofs.SlotLists.{Among-without_other, without-gone}
+use Rattle.bm_maps.proofs.SlotLists.{IsMember-without_other, without-gone}
 use Rattle.bm_arena.proofs.Lists.{next-apart, previous-apart}
 use Rattle.bm_arena.proofs.Triplets.{read, triplet_at-elsewhere, triplet_at-kept, triplet_at-change_same, triplet_at-change_storage, get-at_slot, length-at_slot, length-change, seen-change}
 use Rattle.bm_arena.proofs.Replicas.{seen-added, seen-removed, keys, none-absent, found-push_here, found-push_other, found-fill_first_here, found-fill_first_other, Distinct-push, Distinct-fill_first, map-fill_first}
@@ -147,7 +147,7 @@ module _ (slots : Slab BlockEntry) (heads : List (ℕ × Option ℕ)) (first : O
     out-all y u is =
         let before = same_presence gone out y storage u (seen-detached gone t storage) is in
         let differs : y ≢ x = λ same. none-some before.0 (sym gone-own ∙ (let P : ℕ → Type 0 = λ w. triplet_at gone w storage ≡ Some before.0 in subst P same before.1)) in
-        Among-without_other x y old_list (in_list y before.0 (sym (triplet_at-elsewhere _ slots x y storage differs) ∙ before.1)) differs
+        IsMember-without_other x y old_list (in_list y before.0 (sym (triplet_at-elsewhere _ slots x y storage differs) ∙ before.1)) differs
 
     out-once : (y : ℕ) (b : Block) → get_or (slot_views out) y None ≡ Some b → Distinct (storages_of b)
     out-once y b is =
@@ -210,7 +210,7 @@ module _ (slots : Slab BlockEntry) (heads : List (ℕ × Option ℕ)) (first : O
           | inl same ↦ inl same
           | inr differs ↦
               let before = same_presence slots moved y storage u moved-seen is in
-              inr (Among-without_other x y old_list (in_list y before.0 before.1) differs)
+              inr (IsMember-without_other x y old_list (in_list y before.0 before.1) differs)
         ]
 
     pub moved-sound : IsSound moved (set_value (nat_eq storage) heads (Some x))

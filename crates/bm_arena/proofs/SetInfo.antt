@@ -1,4 +1,5 @@
--- What stays when the information on a block is set, and when a number gets an entry.
+-- Setting the information on a block keeps all replicas, and a new entry for a number keeps all
+-- blocks and replicas.
 use Rattle.std.proofs.Common.{◌≡◌, ◌≢◌, ℕ, Bool, true, false, cond, eqb, eq-eqb, eqb-true, Option, Some, None, is_some, IsSome, refl, subst, inl, inr, sym, ap, ◌∙◌}
 use Rattle.std.specs.Option.{option_map, option_and_then}
 use Rattle.std.proofs.lemmas.Bool.{cases_eq, false≢true}

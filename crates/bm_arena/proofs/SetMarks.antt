@@ -1,4 +1,4 @@
--- What setting a replica's marks changes, and what it keeps.
+-- Setting the marks of a replica keeps those of all others.
 use Rattle.std.proofs.Common.{◌≡◌, ◌≢◌, ℕ, List, [], ◌∷◌, eqb, cond, false, Option, Some, None, IsSome, refl, inl, inr, sym, ap, ◌∙◌}
 use Rattle.std.specs.Option.{option_map, option_and_then}
 use Rattle.std.proofs.lemmas.Bool.{cases_Bool, eqb-true, ne_eqb, false≢true}

@@ -8,7 +8,7 @@ use Rattle.bm_base.specs.declared.replica.BlockInfo.{BlockInfo}
 use Rattle.bm_arena.specs.declared.types.Triplet.{Triplet}
 use Rattle.bm_arena.specs.declared.types.BlockEntry.{BlockEntry}
 
--- what is seen of a block: its number, its information, each replica's storage and marks, and its
+-- the view of a block: its number, its information, each replica's storage and marks, and its
 -- capacity
 pub record Block : Type 0 where
   pub id : ℕ
@@ -96,7 +96,7 @@ removed slots x storage = at_slot (λ (e : BlockEntry). with_triplets e (fill_fi
 abbrev pub links_of : Slab BlockEntry → ℕ → ℕ → Option Triplet
 links_of slots storage x = triplet_at slots x storage
 
--- what is seen of a replica: its storage and its marks
+-- the view of a replica: its storage and its marks
 abbrev pub triplet_view : Triplet → ℕ × Marks
 triplet_view t = (t.storage, t.marks)
 
@@ -104,7 +104,7 @@ triplet_view t = (t.storage, t.marks)
 abbrev pub storages_in : List Triplet → List ℕ
 storages_in ts = map (λ r. r.0) (map triplet_view ts)
 
--- what is seen of a block
+-- the view of a block's entry
 abbrev pub entry_view : BlockEntry → Block
 entry_view e = record { id = e.id; info = e.info; replicas = map triplet_view e.triplets.items; capacity = e.triplets.capacity }
 

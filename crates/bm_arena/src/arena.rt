@@ -96,8 +96,8 @@ impl Arena {
         Arena::with_secret(alloc, HashSecret::none())
     }
 
-    /// The same, whose tables hash by this secret: for numbers that may have been chosen so that
-    /// they collide. Nothing that a contract sees depends on it. `Memory`.
+    /// As [`Arena::new`], but the tables hash by this secret: for numbers that may have been chosen
+    /// so that they collide. Nothing that a contract sees depends on it. `Memory`.
     pub fn with_secret(alloc: Global, secret: HashSecret) -> Result<Arena, Refusal>
         ensures ids { IfOk result (λ a. a.ids ≡ []) }
         ensures lists { IfOk result (λ a. a.lists ≡ []) }

@@ -135,9 +135,9 @@ impl Arena {
         links::set_marks(&mut self.slots, slot, storage.0, marks);
     }
 
-    /// The same, with a guess of that replica's index among the block's, from 0 on as `triplet_at`
-    /// has them. Any guess will do: a right one saves a scan of all of them, and after a wrong one
-    /// they are scanned. Takes no memory.
+    /// As `set_marks`, with a guess of that replica's index among the block's, from 0 on as
+    /// `triplet_at` has them. Any guess will do: a right one saves a scan of all of them, and after
+    /// a wrong one they are scanned. Takes no memory.
     pub fn set_marks_near(&mut self, slot: Slot, storage: StorageId, marks: Marks, guess: usize)
         ensures after { self.new
             ≡ record self.old {

@@ -215,7 +215,7 @@ pub(crate) fn set_marks(slots: &mut Slab<BlockEntry>, slot: usize, storage: u32,
     }
 }
 
-// The same, with a guess of the triplet's index.
+// As `set_marks`, with a guess of the triplet's index.
 pub(crate) fn set_marks_near(
     slots: &mut Slab<BlockEntry>,
     slot: usize,

@@ -154,7 +154,8 @@ impl Arena {
         }
     }
 
-    /// Puts the delimiter, which is not in it, at the head of a storage's list. Takes no memory.
+    /// Puts the delimiter at the head of a storage's list, which does not have it yet. Takes no
+    /// memory.
     pub fn put_delimiter(&mut self, storage: StorageId)
         requires head { HasHead self.old storage }
         requires absent { marks_at self.old self.old.delimiter storage ≡ None }
@@ -168,7 +169,7 @@ impl Arena {
         self.link_front(slot, storage, NO_MARKS);
     }
 
-    /// Takes the delimiter, which is in it, out of a storage's list. Takes no memory.
+    /// Removes the delimiter from a storage's list, which has it. Takes no memory.
     pub fn take_delimiter(&mut self, storage: StorageId)
         requires { IsSome (marks_at self.old self.old.delimiter storage) }
         ensures after { self.new ≡ unlinked self.old self.old.delimiter storage }

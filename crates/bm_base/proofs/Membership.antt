@@ -1,4 +1,5 @@
--- Membership in a map and in a block's lists of storages.
+-- A storage is in a block's list exactly if its replica of the block passes the list's test, and it
+-- is there once.
 use Rattle.std.specs.Prelude.{◌≡◌, ℕ, Bool, true, false, ◌&&◌, ◌||◌, ◌==◌, List, [], ◌∷◌, map, filter, Some, None, T}
 use Rattle.std.specs.Option.{option_map_or}
 use Rattle.std.specs.List.{list_any}

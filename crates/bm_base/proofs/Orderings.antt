@@ -1,4 +1,5 @@
--- What an ordering of two keys says of them.
+-- Of two replicas of one block, the lesser is on the lesser storage; of two on one storage, it is
+-- of the lesser block.
 use Rattle.std.proofs.Common.{◌≡◌, ℕ, ◌<◌, nat_cmp, Ordering, Less, Equal, Greater, refl, sym, ap, subst, ◌∙◌, T, arith}
 use Rattle.std.specs.Ordering.{is_lt, ordering_then}
 use Rattle.std.specs.Cmp.{tied_itself, nat_cmp_total}

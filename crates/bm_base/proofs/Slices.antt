@@ -1,4 +1,4 @@
--- Parts of a list: before an index, from it on, and those that pass a test.
+-- The element at an index ends the part of the list up to it, and begins the rest.
 use Rattle.std.proofs.Common.{◌≡◌, ℕ, ◌+◌, ◌≤◌, Bool, true, false, List, [], ◌∷◌, ◌++◌, Some, filter, length, take, drop, slice_get, arith, refl, ap, ◌∙◌}
 use Rattle.std.proofs.lemmas.List.{take_more, drop_more}
 use Rattle.std.proofs.lemmas.List.Sums.{length-filter, count_by-le-length}

@@ -1,6 +1,5 @@
 -- The wishes and the deletes of holdings are ascending by their keys.
 use Rattle.std.proofs.Common.{◌≡◌, ℕ, Bool, true, false, cond, ◌&&◌, List, [], ◌∷◌, ◌++◌, map, filter, flat_map, Option, Some, None, Ordering, Less, Equal, Greater, refl, sym, ap, subst, ◌∙◌, eqb-true, T}
-use Rattle.std.proofs.lemmas.Bool.{false≢true}
 use Rattle.std.proofs.lemmas.List.Elements.{filter-append}
 use Rattle.std.specs.Prelude.{◌==◌, if◌then◌else◌, nat_lt, option_and_then, filter_map}
 use Rattle.std.specs.Ordering.{is_lt, nat_cmp, ordering_then}
@@ -25,6 +24,7 @@ use Rattle.bm_base.specs.Ordered.{pair_cmp}
 use Rattle.bm_base.specs.RoundParts.{wish_of, wish_at, wishes_by_block, deletable, wish_key, delete_key}
 use Rattle.bm_base.proofs.ForEach.{Each}
 use Rattle.bm_base.proofs.Orderings.{lesser_block}
+use Rattle.bm_base.proofs.ListTests.{and_first}
 
 -- The fields of a wish that exists.
 
@@ -151,10 +151,6 @@ module _ (C : Cluster) (H : Holdings) (s : ℕ) where
   abbrev wanted : ReplicaId × Marks → Bool
   wanted e = (e.0.storage == s) && is_deletable C H e.0 e.1
 
-  on_storage : (b t : Bool) → (b && t) ≡ true → b ≡ true
-  on_storage true t e = refl
-  on_storage false t e = absurd (false≢true e)
-
   below_deletes : (p : ReplicaId) (es : List (ReplicaId × Marks)) → p.storage ≡ s → T (below_all replica_cmp p es) → Below delete_key (s, p.block) (map made_delete (filter wanted es))
   below_deletes p [] at h = tt
   below_deletes p (e ∷ es) at h = by (wanted e) refl (below_deletes p es at (second _ _ h))
@@ -162,7 +158,7 @@ module _ (C : Cluster) (H : Holdings) (s : ℕ) where
       by : (b : Bool) → wanted e ≡ b → Below delete_key (s, p.block) (map made_delete (filter wanted es)) → Below delete_key (s, p.block) (map made_delete (cond b (e ∷ filter wanted es) (filter wanted es)))
       by false t rest = rest
       by true t rest =
-          let here : e.0.storage ≡ s = eqb-true e.0.storage s (on_storage (e.0.storage == s) (is_deletable C H e.0 e.1) t) in
+          let here : e.0.storage ≡ s = eqb-true e.0.storage s (and_first (e.0.storage == s) (is_deletable C H e.0 e.1) t) in
           both _ _ (subst (λ r. T (is_lt r)) (sym (same_then s (nat_cmp p.block e.0.block))) (lesser_block p e.0 (at ∙ sym here) (first _ _ h))) rest
 
   deletes_on_ascend : (es : List (ReplicaId × Marks)) → T (is_sorted replica_cmp es) → Rises delete_key (map made_delete (filter wanted es))
@@ -172,7 +168,7 @@ module _ (C : Cluster) (H : Holdings) (s : ℕ) where
       by : (b : Bool) → wanted e ≡ b → Rises delete_key (map made_delete (filter wanted es)) → Rises delete_key (map made_delete (cond b (e ∷ filter wanted es) (filter wanted es)))
       by false t rest = rest
       by true t rest =
-          let here : e.0.storage ≡ s = eqb-true e.0.storage s (on_storage (e.0.storage == s) (is_deletable C H e.0 e.1) t) in
+          let here : e.0.storage ≡ s = eqb-true e.0.storage s (and_first (e.0.storage == s) (is_deletable C H e.0 e.1) t) in
           both _ _ (below_deletes e.0 es here (first _ _ h)) rest
 
   each_on : (es : List (ReplicaId × Marks)) → Each (λ (d : Delete). d.storage ≡ s) (map made_delete es)

@@ -1,4 +1,4 @@
--- What contracts and laws say of states, calls and rounds.
+-- What contracts and laws state about states, calls and rounds.
 pub mod Lawful
 pub mod AllStates
 pub mod Fitting

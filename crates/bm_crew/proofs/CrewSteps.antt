@@ -1,4 +1,5 @@
--- The calling thread and its helpers, step by step.
+-- Each step of the calling thread and of its helpers keeps the facts about the pieces taken and
+-- their results.
 use Rattle.std.proofs.Common.{◌≡◌, ℕ, ◌+◌, ◌<◌, ◌≤◌, true, false, List, [], ◌∷◌, ◌++◌, length, arith, ap, ◌∙◌, sym, subst, set, vec_len, vec_capacity, length-append, Global}
 use Rattle.std.specs.Prelude.{Option, Some, None, Vec}
 use Rattle.std.proofs.lemmas.List.{append-nil}
@@ -22,7 +23,7 @@ use Rattle.bm_crew.proofs.AppendedLists.{all_left, all_right}
 use Rattle.bm_crew.proofs.FilledSlots.{filled_none, filled_more, filled_moved, made_places, enumerated_all, enumerated_below}
 
 module _ {T U : Type 0} (post : ℕ → T → U → Type 0) where
-  -- a helper took and worked a piece
+  -- a helper took and processed a piece
   pub helped_one : (bag : Bag (ℕ × T)) (old new : Helper T U) (x : ℕ × (ℕ × T)) (m : ℕ × (ℕ × U)) → IsHelping post bag old → IsHelperOf bag new.pass → view_of new.pass ≡ after_take (view_of old.pass) x → IsPlacedResultOf post x m → new.done.items ≡ old.done.items ++ m ∷ [] → IsHelping post bag new
   helped_one bag old new x m was is took made done = record {
     of = is;
@@ -30,7 +31,7 @@ module _ {T U : Type 0} (post : ℕ → T → U → Type 0) where
   }
 
   module _ (pre : ℕ → T → Type 0) where
-    -- the calling thread took and worked a piece
+    -- the calling thread took and processed a piece
     pub collected_one : (bag : Bag (ℕ × T)) (old new : Collector T U) (x : ℕ × (ℕ × T)) (m : ℕ × (ℕ × U)) → IsCollecting pre post bag old → IsCallerOf bag new.pass → view_of new.pass ≡ after_take (view_of old.pass) x → Contains (given_of old.pass) x → IsPlacedResultOf post x m → new.slots.items ≡ set old.slots.items m.0 (Some m.1) → vec_len new.slots ≡ vec_len old.slots → IsCollecting pre post bag new
     collected_one bag old new x m was is took known made put len =
         let given : given_of new.pass ≡ given_of old.pass = ap (λ (v : PassView (ℕ × T)). v.given) took in

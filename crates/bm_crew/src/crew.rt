@@ -82,12 +82,12 @@ impl Crew {
 }
 
 impl<T: Send + Drop, U: Send + Drop> Ready<T, U> {
-    /// Works each item, a shard with its piece. Returns the results in the order of items, each
+    /// Processes each item, a shard with its piece. Returns the results in the order of items, each
     /// with its shard and with what `work` promises for that shard and that piece.
     ///
     /// Refuses nothing: there are no more items than the crew is ready for, and `work` may be
     /// called on each. Asks the allocator for nothing; starting a thread takes memory of the
-    /// system. The others do the share of a worker that cannot be started. `gate.at(shard)` is
+    /// system. If a worker cannot be started, the others process its pieces. `gate.at(shard)` is
     /// called before the work of each piece.
     pub fn run<R: Threads + Wait + Sync, F: Fn(u32, T) -> U + Sync, G: Gate + Sync>(
         self,
@@ -140,7 +140,7 @@ impl<T: Drop, U: Drop> Ready<T, U> {
     }
 }
 
-/// Works each item in turn, and moves the results into the capacity of `results`.
+/// Processes each item in turn, and moves the results into the capacity of `results`.
 fn work_in_turn<T: Drop, U: Drop, J: Fn(u32, T) -> U>(
     items: Vec<(u32, T)>,
     mut results: Vec<(u32, U)>,

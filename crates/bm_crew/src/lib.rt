@@ -1,11 +1,11 @@
 //! One piece of work for each shard, by a crew of workers that share a bag of pieces.
 //!
-//! [`Crew::ready`] takes all memory. [`Ready::run`] then works every item and refuses nothing: one
-//! result for each item, in the order of items, whatever the threads do and however few can be
+//! [`Crew::ready`] takes all memory. [`Ready::run`] then processes every item and refuses nothing:
+//! one result for each item, in the order of items, whatever the threads do and however few can be
 //! started. [`Ready::run_alone`] returns the same by the calling thread alone, for callers without
 //! a runtime.
 //!
-//! With one worker or one item, `run` works the items in turn, and uses no bag.
+//! With one worker or one item, `run` processes the items in turn, and uses no bag.
 //!
 //! Pieces are in a [`Bag`], and a free worker takes the next one, so no worker waits while there is
 //! a piece. It goes on until it finds the bag empty. Each worker has a [`BagPass`], the right to

@@ -1,4 +1,5 @@
--- The marks of all replicas of one block, changed one after another, each by its storage.
+-- Changing the marks of the replicas of one block one after another, each by its storage, changes
+-- all of them:
 --     changed_first, change_next, change_end      the first n changed, one more, and all
 --     change_none, unchanged_step                 one more, with marks that stay as they are
 --     keeps_itself, keeps_then                    what a change of one block keeps, and two of them

@@ -1,4 +1,4 @@
--- The number of replicas at a slot that pass, counted one after another.
+-- Each replica at a slot that passes a test adds one to the number of those that pass.
 use Rattle.std.specs.Prelude.{◌≡◌, ◌+◌, ℕ, Bool, true, false, List, ◌∷◌, map, filter, length}
 use Rattle.std.proofs.Common.{cond, ap, ◌∙◌, arith}
 use Rattle.bm_base.specs.declared.replica.Marks.{Marks}

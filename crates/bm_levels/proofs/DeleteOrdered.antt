@@ -81,7 +81,6 @@ some_marked : (rs : List (ℕ × Marks)) (s : ℕ) (m : Marks) → find_marks rs
 some_marked [] s m e f = cc
 some_marked (r ∷ rs) s m e f = by (r.0 == s) (λ g. some_marked rs s m g f) e
   where
-
     by : (b : Bool) → (find_marks rs s ≡ Some m → list_any (λ (x : ℕ × Marks). not (is_good_and_unmarked x.1)) rs ≡ true) → cond b (Some r.1) (find_marks rs s) ≡ Some m
         → (not (is_good_and_unmarked r.1) || list_any (λ (r : ℕ × Marks). not (is_good_and_unmarked r.1)) rs) ≡ true
     by true rest g =

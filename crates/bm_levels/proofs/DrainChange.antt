@@ -1,4 +1,5 @@
--- A node that begins or ceases to drain.
+-- When a node begins or ceases to drain, all blocks have their levels once the slots on its
+-- storages are classified.
 use Rattle.std.specs.Prelude.{◌≡◌, ℕ, Bool, true, false, ◌==◌, if◌then◌else◌, Option, Some, None, IsSome, is_some}
 use Rattle.std.specs.Option.{option_map_or}
 use Rattle.std.proofs.Common.{cond, refl, sym, ap, subst, ◌∙◌, inl, inr, ◌⊎◌}

@@ -1,5 +1,4 @@
--- Dropping marks at one unsettled slot after another, and marking the replicas of a list one after
--- another.
+-- Dropping marks at one unsettled slot after another drops them at all, and keeps all other slots.
 use Rattle.std.specs.Prelude.{◌≡◌, ◌≢◌, ℕ, zero, suc, true, ◌==◌, List, [], ◌∷◌, drop}
 use Rattle.std.specs.Option.{option_map_or}
 use Rattle.std.specs.List.{list_any}
@@ -13,8 +12,8 @@ use Rattle.bm_arena.specs.HeldMaps.{replicas_at}
 use Rattle.bm_base.specs.Machine.Excess.{with_excess_reset}
 use Rattle.bm_levels.specs.Changes.{all_changed, has_block}
 
--- `left` are the slots still to come of `all`: each other one of them has its new marks, and each
--- other slot is as before
+-- `left` are the remaining slots of `all`: each other one of them has its new marks, and each other
+-- slot is as before
 pub IsBegun : Contents → Contents → List ℕ → List ℕ → Type 0
 IsBegun a now all left =
     (slot : ℕ) → (IsMember slot all × (IsMember slot left → ⊥) × (replicas_at now slot ≡ all_changed with_excess_reset (replicas_at a slot))) ⊎ ((IsMember slot all → IsMember slot left) × (block_at now slot ≡ block_at a slot))

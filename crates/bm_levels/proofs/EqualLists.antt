@@ -1,4 +1,4 @@
--- Lists with the same members, each once.
+-- Lists with the same members, each once, have the same length.
 use Rattle.std.specs.Prelude.{◌≡◌, ℕ, Bool, true, false, ◌||◌, ◌==◌, List, [], ◌∷◌, length, map, filter, Some, if◌then◌else◌}
 use Rattle.std.specs.Option.{option_map_or}
 use Rattle.std.proofs.Common.{cond, refl, sym, ap, subst, ◌∙◌, arith, inl, inr, ◌⊎◌}
@@ -6,7 +6,7 @@ use Rattle.std.proofs.lemmas.Bool.{eqb-true, eq-eqb, cases_Bool, true≢false, o
 use Rattle.bm_base.specs.declared.replica.Marks.{Marks}
 use Rattle.bm_base.specs.Maps.Lists.{has, has_repeats}
 use Rattle.bm_maps.specs.SlotLists.{IsMember, Distinct, without}
-use Rattle.bm_maps.proofs.SlotLists.{Among-without, Among-without_other, Distinct-without, length-without, without-gone}
+use Rattle.bm_maps.proofs.SlotLists.{IsMember-without, IsMember-without_other, Distinct-without, length-without, without-gone}
 use Rattle.bm_arena.specs.Contents.{find_marks}
 use Rattle.bm_levels.specs.Status.{storages_at}
 
@@ -16,8 +16,8 @@ same_length [] (y ∷ ys) d e f g = absurd (g y (inl refl))
 same_length (x ∷ xs) ys d e f g =
     let there = f x (inl refl) in
     let rest = same_length xs (without x ys) d.1 (Distinct-without x ys e)
-    (λ z h. Among-without_other x z ys (f z (inr h)) (λ same. d.0 (let P : ℕ → Type 0 = λ w. IsMember w xs in subst P same h)))
-    (λ z h. elim (g z (Among-without x z ys h)) [
+    (λ z h. IsMember-without_other x z ys (f z (inr h)) (λ same. d.0 (let P : ℕ → Type 0 = λ w. IsMember w xs in subst P same h)))
+    (λ z h. elim (g z (IsMember-without x z ys h)) [
       | inl same ↦ absurd (without-gone x ys e (let P : ℕ → Type 0 = λ w. IsMember w (without x ys) in subst P same h))
       | inr later ↦ later
     ]) in

@@ -1,4 +1,4 @@
--- The replicas of a list, those of one block together.
+-- Marking the replicas of a list block by block marks each of them:
 --     storage_searched, storage_there     a binary search for a storage, and one read
 --     listed_marks, other_marks       the marks of a replica by that result
 --     of_one_block, group_marks       replicas in a list of one block, and their marks

@@ -1,4 +1,4 @@
--- Replicas that leave one after another.
+-- If replicas leave in two steps, the numbers that leave add up.
 use Rattle.std.specs.Prelude.{◌≡◌, ◌≢◌, ℕ, ◌+◌, ◌-◌, ◌<◌, ◌≤◌, length, Bool, true, false, not, ◌==◌, List, [], Option, Some, None, IsSome, is_some, option_and_then}
 use Rattle.std.proofs.Common.{cond, refl, sym, ap, subst, ◌∙◌, arith}
 use Rattle.std.proofs.lemmas.Bool.{eqb-false, eqb-true, false≢true}

@@ -1,4 +1,4 @@
--- A change of the marks of the replicas of a list, made one after another.
+-- Changing the marks of the replicas of a list one after another changes the marks of all of them:
 --     flag_none, flag_next      no replica, and one before others
 --     order_own, order_other, order_end      the deletes of a part
 --     excess_next, excess_end                the surplus replicas

@@ -82,7 +82,7 @@ module _ (rack : ℕ → Option ℕ) (draining : ℕ → Bool) (multi : Bool) (o
     | inr differs ↦ elim (each z differs) [ inl status ↦ status.level | inr g ↦ g.1.level ∙ h z ∙ sym (ap (level_by rack draining multi) g.0) ]
   ]
 
--- the same for the levels in a cluster
+-- levels and statuses after the slots are classified, by one cluster
 module _ (C : Cluster) (old : Leveled) (a : Contents) (K : IndexedLevels) (delimiter : a.delimiter ≡ old.arena.delimiter)
     (free : (t : ℕ) → marks_at a a.delimiter t ≡ marks_at old.arena old.arena.delimiter t)
     (known : (slot : ℕ) → known_of (block_at a slot) ≡ known_of (block_at old.arena slot))

@@ -56,7 +56,7 @@ module _ (rack : ℕ → Option ℕ) (draining : ℕ → Bool) (multi : Bool) (o
     | inr differs ↦ (others z differs).level ∙ h z ∙ sym (ap (level_by rack draining multi) (changed.blocks z differs))
   ]
 
--- the same for the levels in a cluster
+-- levels and statuses after the slot is classified, by one cluster
 module _ (C : Cluster) (old : Leveled) (a : Contents) (K : IndexedLevels) (slot : ℕ) (changed : IsChangedAt old.arena a slot)
     (status : IsClassified (rack_of C) (is_draining C) (is_multi_rack C) (block_at a slot) K slot)
     (others : (other : ℕ) → other ≢ slot → IsSameAt old.level_index K other) where

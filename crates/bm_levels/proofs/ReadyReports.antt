@@ -20,6 +20,7 @@ use Rattle.bm_levels.specs.IndexedLevels.{IndexedLevels, HasCapacityFor, KeepsCa
 use Rattle.bm_levels.specs.Leveled.{Leveled, IsLeveled, AreLevels}
 use Rattle.bm_levels.proofs.StatusByCounts.{level_unknown}
 use Rattle.bm_levels.proofs.ManySlots.{no_replicas, marker_settled}
+use Rattle.bm_base.proofs.ListTests.{and_second}
 
 -- a slot has no known block and no replica
 pub record IsUnusedAt (o : Option Block) : Type 0 where
@@ -150,16 +151,12 @@ module _ (a c : Contents) (lawful_a : IsLawful a) (lawful_c : IsLawful c) (prepa
             let leads = lawful_c.known slot (with_entry_capacity (entry_capacity c slot) k) now (λ same. differs (same ∙ sym delimiter)) in
             case (named k.id && is_unused_number c k.id) refl leads now
           where
-            and_right : (x y : Bool) → (x && y) ≡ true → y ≡ true
-            and_right true y f = f
-            and_right false y f = cc
-
             sure : {k : Block} → Some k ≡ None → ⊥
             sure f = cc
 
             case : (t : Bool) → (named k.id && is_unused_number c k.id) ≡ t → slot_of c k.id ≡ Some slot → block_at c slot ≡ Some (with_entry_capacity (entry_capacity c slot) k) → IsUnusedAt (block_at a slot)
             case true f leads now =
-                let parts = unused_parts k (sym (has_no_replicas k.id slot (with_entry_capacity (entry_capacity c slot) k) leads now) ∙ and_right (named k.id) (is_unused_number c k.id) f) in
+                let parts = unused_parts k (sym (has_no_replicas k.id slot (with_entry_capacity (entry_capacity c slot) k) leads now) ∙ and_second (named k.id) (is_unused_number c k.id) f) in
                 record {
                   info = ap (λ x. option_and_then (λ (b : Block). b.info) x) e ∙ parts.0;
                   marks = λ t. ap (λ x. option_and_then (λ (b : Block). find_marks b.replicas t) x) e ∙ ap (λ rs. find_marks rs t) parts.1;

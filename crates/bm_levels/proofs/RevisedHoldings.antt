@@ -1,4 +1,5 @@
--- The maps of blocks and of replicas after the change of one block or of one replica.
+-- The change of one block or of one replica changes the maps of blocks and of replicas at its key
+-- alone:
 --     remove_absent         nothing is removed without a value
 --     known_revised         a known block has its information changed
 --     block_absent, replica_absent, replicas_absent      a number without an entry holds nothing

@@ -1,4 +1,5 @@
--- The replicas after a round has dropped and set marks of excess at unsettled slots.
+-- The marks of excess that a round drops and sets at unsettled slots are those that the definition
+-- drops and sets:
 --     begun_replicas         dropping marks of excess at unsettled slots drops all of them
 --     none_marked            a settled block has no surplus
 --     marked_replicas        marking the surplus replicas marks what the round marks

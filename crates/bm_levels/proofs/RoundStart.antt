@@ -1,4 +1,5 @@
--- Blocks, replicas and status after a round's first marks.
+-- A round's first marks change replicas as the definition does, and keep blocks, entries and
+-- settled slots.
 use Rattle.std.specs.Prelude.{◌≡◌, ℕ, ◌+◌, true, false, if◌then◌else◌, List, Option, Some, None, IsSome, nat_eq, option_and_then}
 use Rattle.std.specs.Map.{lookup}
 use Rattle.std.proofs.Common.{refl, sym, ap, ◌∙◌, inl, inr}

@@ -1,4 +1,5 @@
--- Classifying one slot after another.
+-- Classifying one slot after another classifies all of them, and keeps the status of all other
+-- slots.
 use Rattle.std.specs.Prelude.{◌≡◌, ◌≢◌, ℕ, zero, suc, Bool, List, [], ◌∷◌, ◌++◌, drop, slice_get, Option, Some}
 use Rattle.std.proofs.Common.{refl, sym, ap, subst, ◌∙◌, inl, inr, ◌⊎◌}
 use Rattle.std.proofs.lemmas.Bool.{cases_eq}
@@ -42,8 +43,8 @@ module _ (rack : ℕ → Option ℕ) (draining : ℕ → Bool) (multi : Bool) wh
   pub classified_as : (o : Option Block) (K : IndexedLevels) (slot : ℕ) (j : BlockStatus) → HasStatus K slot j → IsStatusOf rack draining multi o j → IsClassified rack draining multi o K slot
   classified_as o K slot j h g = record { level = h.level ∙ g.level; unsettled = (λ u. sym g.settled ∙ h.unsettled.0 u, λ s. h.unsettled.1 (g.settled ∙ s)) }
 
-  -- `left` are the slots still to come of `all`: each other one of them is classified, and each
-  -- other slot is as before
+  -- `left` are the remaining slots of `all`: each other one of them is classified, and each other
+  -- slot is as before
   pub IsUnderway : Contents → List ℕ → List ℕ → IndexedLevels → IndexedLevels → Type 0
   IsUnderway a all left K L = (slot : ℕ) → (IsMember slot all × IsClassified rack draining multi (block_at a slot) L slot) ⊎ ((IsMember slot all → IsMember slot left) × IsSameAt K L slot)
 

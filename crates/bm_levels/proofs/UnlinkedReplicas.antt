@@ -1,4 +1,5 @@
--- Unlinking the first replicas of a storage's list, one after another.
+-- Unlinking the first replicas of a storage's list one after another removes them, and keeps all
+-- other replicas.
 use Rattle.std.specs.Prelude.{◌≡◌, ◌≢◌, ℕ, ◌+◌, ◌==◌, Bool, List, ◌∷◌, ◌++◌, Option, Some, None, IsSome, option_and_then}
 use Rattle.std.proofs.Common.{cond, refl, sym, ap, subst, ◌∙◌, inl, inr, ◌⊎◌}
 use Rattle.std.proofs.lemmas.Bool.{cases_eq, eq-eqb}
@@ -9,7 +10,7 @@ use Rattle.bm_base.proofs.Options.{there}
 use Rattle.bm_arena.specs.Triplets.{Block}
 use Rattle.bm_arena.specs.Contents.{Contents, block_at, slot_of, list_of, marks_at, find_marks, known_of, unlinked, IsLawful, KeepsOthers}
 use Rattle.bm_arena.specs.HeldMaps.{replicas_of, blocks_of}
-use Rattle.bm_arena.proofs.Replicas.{Among-left}
+use Rattle.bm_arena.proofs.Replicas.{IsMember-left}
 use Rattle.bm_levels.specs.Unused.{MakesNoUnused, HasNoUnusedAt, KeepsSlots}
 use Rattle.bm_levels.specs.IndexedLevels.{IndexedLevels, HasCapacityFor, IsClassified, IsSameAt}
 use Rattle.bm_levels.specs.LeavingReplicas.{IsLeaving, MakesNoHead}
@@ -83,7 +84,7 @@ module _ (s : ℕ) (all left rest : List ℕ) (a b : Contents) (n x : ℕ) (h : 
 
 -- the first slots of a list are in the list
 pub listed_in : (l slots rest : List ℕ) → l ≡ slots ++ rest → (slot : ℕ) → IsMember slot slots → IsMember slot l
-listed_in l slots rest e slot there = let P : List ℕ → Type 0 = λ l. IsMember slot l in subst P (sym e) (Among-left slot slots rest there)
+listed_in l slots rest e slot there = let P : List ℕ → Type 0 = λ l. IsMember slot l in subst P (sym e) (IsMember-left slot slots rest there)
 
 -- If the blocks at the first slots of a list are reclassified after their replicas have left, the
 -- invariant holds again.

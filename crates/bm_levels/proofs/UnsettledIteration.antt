@@ -1,5 +1,5 @@
--- An iteration over the unsettled slots that drops marks at each, and reads the next slot before
--- the block is reclassified.
+-- An iteration over the unsettled slots drops the marks at each once, if it reads the next slot
+-- before it reclassifies the block.
 use Rattle.std.specs.Prelude.{◌≡◌, ◌≢◌, ◌+◌, ◌<◌, ◌≤◌, ℕ, List, [], ◌∷◌, length, Option, Some, None}
 use Rattle.std.proofs.Common.{refl, sym, ap, subst, ◌∙◌, arith, inl, inr}
 use Rattle.bm_base.specs.Machine.Excess.{with_excess_reset}

@@ -1,4 +1,5 @@
--- Unused entries, with neither a block nor a replica: which changes make none, and which drop them.
+-- A change that loses no block and no replica of a number makes no unused entry; dropping an entry
+-- leaves none there.
 use Rattle.std.specs.Prelude.{◌≡◌, ◌≢◌, ℕ, Bool, true, false, not, ◌&&◌, ◌==◌, if◌then◌else◌, nat_eq, List, [], ◌∷◌, length, Option, Some, None, IsSome, IsTrue, is_some, option_and_then}
 use Rattle.std.specs.Option.{option_map_or}
 use Rattle.std.specs.Map.{lookup, set_value}

@@ -10,7 +10,7 @@ use Rattle.bm_maps.specs.SlotLists.{IsMember}
 use Rattle.bm_base.proofs.ForEach.{Each, each_then}
 use Rattle.bm_parts.specs.LevelLaws.{IsRacked}
 use Rattle.bm_parts.proofs.Deaths.{rack_elsewhere, draining_elsewhere, rack_left, draining_left}
-use Rattle.bm_parts.proofs.ClusterLevels.{heartbeat_leaves_racks, stands_before}
+use Rattle.bm_parts.proofs.ClusterLevels.{heartbeat_leaves_racks, same_after_register}
 use Rattle.bm_arena.specs.Triplets.{Block}
 use Rattle.bm_arena.specs.Contents.{Contents, block_at, list_of, marks_at, find_marks, slot_of, IsLawful}
 use Rattle.bm_arena.specs.HeldMaps.{replicas_of, holdings_of}
@@ -44,11 +44,11 @@ module _ (rack rack' : ℕ → Option ℕ) (draining draining' : ℕ → Bool) (
   level_alike None h = refl
   level_alike (Some k) h = levels_agree rack rack' draining draining' multi k (each_then (λ (r : ℕ × Marks). Alike r.0) _ k.replicas (each_found Alike k.replicas h) (λ r same usable. same))
 
-  -- the same for all levels of an arena
+  -- `level_alike` for all slots of an arena
   pub levels_alike : (v : Leveled) → ((slot s : ℕ) → IsSome (marks_at v.arena slot s) → Alike s) → AreLevelsBy rack draining multi v → AreLevelsBy rack' draining' multi v
   levels_alike v h g slot = g slot ∙ level_alike (block_at v.arena slot) (h slot)
 
-  -- the same if the storages on which they disagree have empty lists
+  -- `levels_alike` if the storages on which they disagree have empty lists
   pub levels_elsewhere : (v : Leveled) (left : ℕ → Bool) → IsLawful v.arena → ((s : ℕ) → left s ≡ true → list_of v.arena s ≡ []) → ((s : ℕ) → left s ≡ false → Alike s)
       → AreLevelsBy rack draining multi v → AreLevelsBy rack' draining' multi v
   levels_elsewhere v left lawful empty h = levels_alike v (λ slot s there. by slot s there (left s) refl)
@@ -62,7 +62,7 @@ pub still_levels : (C D : Cluster) (t : Option DrainChange) (multi : Bool) (v : 
 unfolding drains_after_change
 still_levels C D t multi v e f g h slot = h slot ∙ sym (λ i. level_by (rack_of (e i)) (drains_after_change (e i) (f i)) (g i) (block_at v.arena slot))
 
--- the same if whether the alive nodes are on two racks or more may change
+-- `still_levels` if whether the alive nodes are on two racks or more may change
 pub still_by : (C D : Cluster) (t : Option DrainChange) (multi m : Bool) (v : Leveled) → D ≡ C → t ≡ None → m ≡ multi → AreLevelsBy (rack_of D) (drains_after_change D t) m v → AreLevelsBy (rack_of C) (is_draining C) multi v
 unfolding drains_after_change
 still_by C D t multi m v e f g h slot = h slot ∙ (λ i. level_by (rack_of (e i)) (drains_after_change (e i) (f i)) (g i) (block_at v.arena slot))
@@ -95,8 +95,8 @@ pub register_is_same : (C : Cluster) (n rack : ℕ) (ss : List ℕ) (a : Content
     → IsSameForHeld C (register C n rack ss) a
 unfolding holdings_of
 register_is_same C n rack ss a new unknown racked = record {
-  rack = λ q there. (stands_before C n rack ss new unknown q.storage (racked q there)).0;
-  draining = λ q there. (stands_before C n rack ss new unknown q.storage (racked q there)).1;
+  rack = λ q there. (same_after_register C n rack ss new unknown q.storage (racked q there)).0;
+  draining = λ q there. (same_after_register C n rack ss new unknown q.storage (racked q there)).1;
 }
 
 -- Storages and nodes that leave.

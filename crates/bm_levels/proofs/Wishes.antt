@@ -1,18 +1,18 @@
--- The slots at a level at which copies are wanted: those of four levels.
+-- The slots at a level at which copies are wanted are those of four levels, each once.
 use Rattle.std.specs.Prelude.{◌≡◌, ℕ, true, List, [], ◌∷◌, ◌++◌, Option, Some, None}
 use Rattle.std.proofs.Common.{◌⊎◌, inl, inr, sym, ap, ◌∙◌, refl}
 use Rattle.std.proofs.lemmas.Bool.{true≢false}
 use Rattle.bm_base.specs.declared.level.Level.{Level}
 use Rattle.bm_base.specs.declared.level.Level.TheVariants.{Highest, VeryUnderReplicated, UnderReplicated, BadlyDistributed, NoUsableReplica}
 use Rattle.bm_maps.specs.SlotLists.{IsMember, Distinct}
-use Rattle.bm_arena.proofs.Replicas.{Among-append, Among-left}
+use Rattle.bm_arena.proofs.Replicas.{IsMember-append, IsMember-left}
 use Rattle.bm_levels.specs.IndexedLevels.{IndexedLevels, level_of_slot, slots_at, slots_needing_copies, needs_copies, AreSlotsAt, NeedCopies}
 use Rattle.bm_levels.proofs.StatusUpdates.{among_back}
 
 distinct_both : (xs ys : List ℕ) → Distinct xs → Distinct ys → ((z : ℕ) → IsMember z xs → IsMember z ys → ⊥) → Distinct (xs ++ ys)
 distinct_both [] ys d e apart = e
 distinct_both (x ∷ xs) ys d e apart =
-    (λ h. elim (Among-append x xs ys h) [ inl l ↦ d.0 l | inr r ↦ apart x (inl refl) r ], distinct_both xs ys d.1 e (λ z h. apart z (inr h)))
+    (λ h. elim (IsMember-append x xs ys h) [ inl l ↦ d.0 l | inr r ↦ apart x (inl refl) r ], distinct_both xs ys d.1 e (λ z h. apart z (inr h)))
 
 module _ (K : IndexedLevels) (listed : (l : Level) → AreSlotsAt K l (slots_at K l)) where
   abbrev second : List ℕ
@@ -22,10 +22,10 @@ module _ (K : IndexedLevels) (listed : (l : Level) → AreSlotsAt K l (slots_at 
   first = slots_at K VeryUnderReplicated ++ second
 
   in_list : (slot : ℕ) (l : Level) → level_of_slot K slot ≡ Some l → needs_copies (Some l) ≡ true → IsMember slot (slots_needing_copies K)
-  in_list slot Highest at wishes = Among-left slot (slots_at K Highest) first ((listed Highest slot).1 at)
-  in_list slot VeryUnderReplicated at wishes = among_back slot (slots_at K Highest) first (Among-left slot (slots_at K VeryUnderReplicated) second ((listed VeryUnderReplicated slot).1 at))
+  in_list slot Highest at wishes = IsMember-left slot (slots_at K Highest) first ((listed Highest slot).1 at)
+  in_list slot VeryUnderReplicated at wishes = among_back slot (slots_at K Highest) first (IsMember-left slot (slots_at K VeryUnderReplicated) second ((listed VeryUnderReplicated slot).1 at))
   in_list slot UnderReplicated at wishes =
-      among_back slot (slots_at K Highest) first (among_back slot (slots_at K VeryUnderReplicated) second (Among-left slot (slots_at K UnderReplicated) (slots_at K BadlyDistributed) ((listed UnderReplicated slot).1 at)))
+      among_back slot (slots_at K Highest) first (among_back slot (slots_at K VeryUnderReplicated) second (IsMember-left slot (slots_at K UnderReplicated) (slots_at K BadlyDistributed) ((listed UnderReplicated slot).1 at)))
   in_list slot BadlyDistributed at wishes =
       among_back slot (slots_at K Highest) first (among_back slot (slots_at K VeryUnderReplicated) second (among_back slot (slots_at K UnderReplicated) (slots_at K BadlyDistributed) ((listed BadlyDistributed slot).1 at)))
   in_list slot NoUsableReplica at wishes = absurd (true≢false (sym wishes))
@@ -38,11 +38,11 @@ module _ (K : IndexedLevels) (listed : (l : Level) → AreSlotsAt K l (slots_at 
   level_in : (slot : ℕ) → IsMember slot (slots_needing_copies K)
       → (level_of_slot K slot ≡ Some Highest) ⊎ ((level_of_slot K slot ≡ Some VeryUnderReplicated) ⊎ ((level_of_slot K slot ≡ Some UnderReplicated) ⊎ (level_of_slot K slot ≡ Some BadlyDistributed)))
   level_in slot h =
-      elim (Among-append slot (slots_at K Highest) first h) [
+      elim (IsMember-append slot (slots_at K Highest) first h) [
         | inl a ↦ inl ((listed Highest slot).0 a)
-        | inr g ↦ elim (Among-append slot (slots_at K VeryUnderReplicated) second g) [
+        | inr g ↦ elim (IsMember-append slot (slots_at K VeryUnderReplicated) second g) [
           | inl b ↦ inr (inl ((listed VeryUnderReplicated slot).0 b))
-          | inr f ↦ elim (Among-append slot (slots_at K UnderReplicated) (slots_at K BadlyDistributed) f) [
+          | inr f ↦ elim (IsMember-append slot (slots_at K UnderReplicated) (slots_at K BadlyDistributed) f) [
             | inl d ↦ inr (inr (inl ((listed UnderReplicated slot).0 d)))
             | inr e ↦ inr (inr (inr ((listed BadlyDistributed slot).0 e)))
           ]
@@ -69,13 +69,13 @@ module _ (K : IndexedLevels) (listed : (l : Level) → AreSlotsAt K l (slots_at 
         (distinct_both (slots_at K VeryUnderReplicated) second (once VeryUnderReplicated)
         (distinct_both (slots_at K UnderReplicated) (slots_at K BadlyDistributed) (once UnderReplicated) (once BadlyDistributed)
         (λ z h g. not_both UnderReplicated BadlyDistributed z (λ e. cc) h ((listed BadlyDistributed z).0 g)))
-        (λ z h g. elim (Among-append z (slots_at K UnderReplicated) (slots_at K BadlyDistributed) g) [
+        (λ z h g. elim (IsMember-append z (slots_at K UnderReplicated) (slots_at K BadlyDistributed) g) [
           | inl b ↦ not_both VeryUnderReplicated UnderReplicated z (λ e. cc) h ((listed UnderReplicated z).0 b)
           | inr d ↦ not_both VeryUnderReplicated BadlyDistributed z (λ e. cc) h ((listed BadlyDistributed z).0 d)
         ]))
-        (λ z h g. elim (Among-append z (slots_at K VeryUnderReplicated) second g) [
+        (λ z h g. elim (IsMember-append z (slots_at K VeryUnderReplicated) second g) [
           | inl a ↦ not_both Highest VeryUnderReplicated z (λ e. cc) h ((listed VeryUnderReplicated z).0 a)
-          | inr f ↦ elim (Among-append z (slots_at K UnderReplicated) (slots_at K BadlyDistributed) f) [
+          | inr f ↦ elim (IsMember-append z (slots_at K UnderReplicated) (slots_at K BadlyDistributed) f) [
             | inl b ↦ not_both Highest UnderReplicated z (λ e. cc) h ((listed UnderReplicated z).0 b)
             | inr d ↦ not_both Highest BadlyDistributed z (λ e. cc) h ((listed BadlyDistributed z).0 d)
           ]

@@ -27,7 +27,7 @@ at_round_start a = without_unordered_excess (holdings_of a)
 abbrev pub all_changed : (Marks → Marks) → List (ℕ × Marks) → List (ℕ × Marks)
 all_changed f rs = map (λ r. (r.0, f r.1)) rs
 
--- the same for a change that depends on the replica's storage
+-- as `all_changed`, for a change that depends on the replica's storage
 abbrev pub each_changed : (ℕ → Marks → Marks) → List (ℕ × Marks) → List (ℕ × Marks)
 each_changed f rs = map (λ r. (r.0, f r.0 r.1)) rs
 

@@ -58,6 +58,6 @@ AreClassifiedOnNode A node a old new =
 abbrev pub AreLevelsAfter : ClusterAfter → Leveled → Type 0
 AreLevelsAfter A v = AreLevelsBy (rack_after A) (drains_after A) A.multi v
 
--- a change keeps this
+-- a change keeps the level of each slot that of its block
 abbrev pub KeepsLevelsAfter : ClusterAfter → Leveled → Leveled → Type 0
 KeepsLevelsAfter A old new = AreLevelsAfter A old → AreLevelsAfter A new

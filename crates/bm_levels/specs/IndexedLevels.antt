@@ -69,7 +69,7 @@ pub record IsClassified (rack : ℕ → Option ℕ) (draining : ℕ → Bool) (m
   pub level : level_of_slot K slot ≡ level_by rack draining multi o
   pub unsettled : IsUnsettled K slot ↔ (is_settled_at o ≡ false)
 
--- the same in a cluster, and of each of these slots
+-- as `IsClassified`, in a cluster, and of each of these slots
 abbrev pub IsClassifiedIn : Cluster → Option Block → IndexedLevels → ℕ → Type 0
 IsClassifiedIn C o K slot = IsClassified (rack_of C) (is_draining C) (is_multi_rack C) o K slot
 
@@ -103,8 +103,8 @@ IsSameOutside slots old new = (slot : ℕ) → (IsMember slot slots → ⊥) →
 abbrev pub indexed_slots : Contents → List ℕ
 indexed_slots a = map (λ (p : ℕ × ℕ). p.1) a.ids
 
--- if an iteration over a list has left a slot behind, a change keeps its position and the slots
--- still to come
+-- if an iteration over a list has passed a slot, a change keeps its position and the remaining
+-- slots
 pub record KeepsAhead (slot : ℕ) (old new : List ℕ) : Type 0 where
   pub rest : (at : Option ℕ) → IsPast slot at old → slots_from new at ≡ slots_from old at
   pub on : (at : Option ℕ) → IsPast slot at old → IsOn at old → IsOn at new

@@ -10,7 +10,7 @@ pub record Leveled : Type 0 where
   pub arena : Contents
   pub level_index : IndexedLevels
 
--- what holds between calls
+-- the invariant between calls
 pub record IsLeveled (v : Leveled) : Type 0 where
   -- no list has the delimiter in it, and it is no known block
   pub free : (storage : ℕ) → marks_at v.arena v.arena.delimiter storage ≡ None

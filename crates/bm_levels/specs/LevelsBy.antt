@@ -14,8 +14,8 @@ use Rattle.bm_levels.specs.Leveled.{Leveled}
 abbrev pub AreLevelsBy : (ℕ → Option ℕ) → (ℕ → Bool) → Bool → Leveled → Type 0
 AreLevelsBy rack draining multi v = (slot : ℕ) → level_of_slot v.level_index slot ≡ level_by rack draining multi (block_at v.arena slot)
 
--- the same by the racks and the draining nodes of a cluster; whether its alive nodes are on two
--- racks or more is a separate argument
+-- as `AreLevelsBy`, by the racks and the draining nodes of a cluster; whether its alive nodes are
+-- on two racks or more is a separate argument
 abbrev pub AreLevelsWith : Cluster → Bool → Leveled → Type 0
 AreLevelsWith C multi v = AreLevelsBy (rack_of C) (is_draining C) multi v
 

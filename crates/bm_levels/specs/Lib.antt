@@ -1,3 +1,5 @@
+-- Definitions of the contracts of levels: the status of each block, and its changes by events and
+-- rounds.
 pub mod Status
 pub mod ReplicaCounts
 pub mod IndexedLevels

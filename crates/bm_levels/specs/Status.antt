@@ -35,7 +35,7 @@ level_by rack draining multi o =
     level_of (length (storages_at (is_live_by draining) k.replicas)) (length (storages_at (is_drained_by draining) k.replicas)) i.repl
     (spread (filter_map rack (storages_at (is_live_by draining) k.replicas))) multi) k.info) o
 
--- the same in a cluster
+-- as `level_by`, in a cluster
 abbrev pub level_in : Cluster → Option Block → Option Level
 level_in C o = level_by (rack_of C) (is_draining C) (is_multi_rack C) o
 

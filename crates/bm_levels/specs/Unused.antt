@@ -44,6 +44,6 @@ KeepsSlots old new = (b : ℕ) → IsSome (slot_of new b) → slot_of new b ≡ 
 abbrev pub KeepsBlocksOutside : List ℕ → Contents → Contents → Type 0
 KeepsBlocksOutside slots old new = (slot : ℕ) → (IsMember slot slots → ⊥) → block_at new slot ≡ block_at old slot
 
--- the same of all slots but the delimiter
+-- as `KeepsBlocksOutside`, of all slots but the delimiter
 abbrev pub IsSameButDelimiter : List ℕ → Contents → Contents → Type 0
 IsSameButDelimiter slots old new = (slot : ℕ) → slot ≢ old.delimiter → (IsMember slot slots → ⊥) → block_at new slot ≡ block_at old slot

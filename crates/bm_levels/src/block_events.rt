@@ -15,7 +15,7 @@ use bm_base::{BlockId, BlockInfo, Marks, Stamp, StorageId, Tag};
 use bm_topo::Topology;
 
 impl LeveledBlocks {
-    /// The block is known from now on. Its number has an entry (`ready_block`). Takes no memory.
+    /// Makes a block known, whose number has an entry (`ready_block`). Takes no memory.
     pub fn add_block(&mut self, topology: &Topology, id: BlockId, info: BlockInfo)
         requires entry { IsSome (slot_of self.old.arena id) }
         ensures blocks { blocks_of self.new.arena ≡ insert (blocks_of self.old.arena) id info }

@@ -79,7 +79,7 @@ impl LevelIndex {
         ensures capacity { KeepsCapacity self.old self.new }
     {
         let status = classify_chunk(arena, chunk, cluster_after);
-        if self.keeps_all(chunk, status.as_slice()) {
+        if self.have_same_status(chunk, status.as_slice()) {
             return;
         }
         for (index, slot) in chunk.iter().enumerate() {
@@ -87,9 +87,9 @@ impl LevelIndex {
         }
     }
 
-    /// Whether all blocks of a chunk have the stored status. All are compared, whatever the first
-    /// gives.
-    fn keeps_all(&self, chunk: &[Slot], status: &[BlockStatus]) -> bool
+    /// Whether all blocks of a chunk have the stored status. Compares all of them, even after a
+    /// difference.
+    fn have_same_status(&self, chunk: &[Slot], status: &[BlockStatus]) -> bool
         requires few { length chunk.now ≤ length status.now }
         requires capacity { HasCapacityForEach self.now chunk.now }
         ensures { result ≡ true → HaveStatuses self.now chunk.now status.now }

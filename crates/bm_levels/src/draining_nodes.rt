@@ -15,9 +15,8 @@ use bm_base::{NodeId, StorageId};
 use bm_topo::Topology;
 
 impl LeveledBlocks {
-    /// A node begins or ceases to drain: the blocks with a replica on its storages are
-    /// reclassified. All blocks and replicas stay. Takes no memory. Reads the blocks on the
-    /// storages of the node.
+    /// Reclassifies the blocks with a replica on a node that begins or ceases to drain. All blocks
+    /// and replicas stay. Takes no memory. Reads the blocks on the storages of the node.
     pub fn set_draining(&mut self, topology: &Topology, node: NodeId, drains: bool)
         ensures arena { self.new.arena ≡ self.old.arena }
         ensures levels { AreLevels topology.now.cluster self.old

@@ -34,7 +34,7 @@ impl FourStorages {
         }
     }
 
-    /// Drops the first storage, and adds one; only that one, if it begins again.
+    /// Drops the first storage and adds one; if `begins`, all four become that one.
     fn push_next(&mut self, storage: StorageId, begins: bool)
         ensures { self.new.fourth ≡ storage }
     {
@@ -194,8 +194,8 @@ impl LeveledBlocks {
         first + second + third + fourth
     }
 
-    /// Takes out the replicas on a storage of the first blocks in its list, if the storage is the
-    /// node's and was not done before; answers how many left.
+    /// Removes the replicas on a storage of these first blocks of its list, unless `is_done` or the
+    /// storage is not the node's. Returns how many replicas left.
     fn remove_first_once(
         &mut self,
         cluster_after: &ClusterAfter<'_>,

@@ -109,7 +109,7 @@ impl LeveledBlocks {
         self.level_index.update_level(topology, &self.arena, slot);
     }
 
-    /// Takes out the replica on a storage of the block at the slot of a number. Takes no memory.
+    /// Removes the replica on a storage of the block at the slot of a number. Takes no memory.
     pub fn remove(&mut self, topology: &Topology, slot: Slot, storage: StorageId)
         requires slot { (id : ℕ) × (slot_of self.old.arena id ≡ Some slot) }
         requires replica { IsSome (marks_at self.old.arena slot storage) }

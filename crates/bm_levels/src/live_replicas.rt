@@ -8,7 +8,7 @@ use bm_arena::Triplet;
 use bm_base::{Marks, StorageId};
 use bm_topo::Topology;
 
-/// The number of live ones among these replicas.
+/// The number of live replicas among these.
 pub fn count_live(topology: &Topology, triplets: &[Triplet]) -> usize
     ensures { result ≡ length (storages_at (replicas.is_live_on topology.now.cluster)
         (map triplet_view triplets.now)) }

@@ -69,7 +69,8 @@ impl LeveledBlocks {
         removed
     }
 
-    /// The replicas on all storages of a node leave, and their lists; answers how many.
+    /// Removes the replicas on all storages of a node, and the storages' lists. Returns how many
+    /// replicas left.
     fn clear_node(&mut self, cluster_after: &ClusterAfter<'_>, node: NodeId) -> u128
         ensures left { IsLeaving (is_on_node cluster_after.now node) self.old.arena self.new.arena result }
         ensures few { result < 2 ^ 100 }

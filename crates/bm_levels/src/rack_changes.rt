@@ -10,8 +10,8 @@ use crate::leveled_blocks::LeveledBlocks;
 use bm_topo::Topology;
 
 impl LeveledBlocks {
-    /// The cluster changes in no other way for the replicas: all blocks are reclassified if the
-    /// alive nodes get onto two racks or more, or back onto one. Takes no memory.
+    /// Reclassifies all blocks if the alive nodes get onto two racks or more, or back onto one.
+    /// Nothing else in the cluster changes for the replicas. Takes no memory.
     pub fn reclassify_for_racks(&mut self, topology: &Topology, multi: bool)
         ensures arena { self.new.arena ≡ self.old.arena }
         ensures levels { (D : Cluster) → multi ≡ replicas.is_multi_rack D

@@ -25,8 +25,8 @@ impl LevelIndex {
         );
     }
 
-    /// The same, with the old status read by the caller before the change, so that the two cache
-    /// misses overlap.
+    /// As `classify`, with the old status read by the caller before the change, so that the two
+    /// cache misses overlap.
     pub(crate) fn classify_from(
         &mut self,
         arena: &Arena,
@@ -59,7 +59,7 @@ impl LevelIndex {
         self.classify(arena, slot, &ClusterAfter::unchanged(topology));
     }
 
-    /// The same, with the old status read by the caller before the change.
+    /// As `update_level`, with the old status read by the caller before the change.
     #[tactic(auto, unfolding(crate::specs::Status::drains_after_change))]
     pub(crate) fn update_from(
         &mut self,

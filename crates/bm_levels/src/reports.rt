@@ -61,7 +61,7 @@ impl LeveledBlocks {
     }
 
     /// Finds the slot of one number, gives it an entry if it has none, and reserves what `receive`
-    /// needs. Nothing that is held changes. `Memory`: then no new entry stays.
+    /// needs. All blocks and replicas stay. `Memory`: then no new entry stays.
     pub fn ready_notice(
         &mut self,
         report: &mut Report,

@@ -121,7 +121,8 @@ impl LeveledBlocks {
         }
     }
 
-    /// The same for several: the block is looked up, scanned and reclassified once.
+    /// Marks several replicas of a block as excess: the block is looked up, scanned and
+    /// reclassified once.
     fn mark_together(&mut self, topology: &Topology, block: BlockId, group: &[ReplicaId])
         requires some { 0 < length group.now }
         requires block { AreOfBlock block group.now }

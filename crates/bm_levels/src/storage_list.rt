@@ -13,7 +13,7 @@ use crate::leveled_blocks::LeveledBlocks;
 use bm_arena::{Arena, Slot};
 use bm_base::StorageId;
 
-/// Takes out the replicas on a storage of the first blocks in its list.
+/// Removes the replicas on a storage of the first blocks in its list.
 fn unlink_all(arena: &mut Arena, storage: StorageId, slots: &[Slot])
     requires free { marks_at arena.old arena.old.delimiter storage ≡ None }
     requires first { HasFirstSlots arena.old storage slots.now }
@@ -33,7 +33,7 @@ fn unlink_all(arena: &mut Arena, storage: StorageId, slots: &[Slot])
 }
 
 impl LeveledBlocks {
-    /// The replicas on a storage leave, and its list; answers how many.
+    /// Removes the replicas on a storage, and its list. Returns how many replicas left.
     pub(crate) fn clear(&mut self, cluster_after: &ClusterAfter<'_>, storage: StorageId) -> usize
         ensures left { IsLeavingStorage storage self.old.arena self.new.arena result }
         ensures none { list_of self.new.arena storage ≡ [] }

@@ -17,7 +17,7 @@ impl LevelIndex {
         self.unsettled.len()
     }
 
-    /// The first of the unsettled slots, from which on all are to come.
+    /// The first unsettled slot, at which an iteration over all of them begins.
     pub(crate) fn first_unsettled(&self) -> Option<Slot>
         ensures on { IsOn result self.now.unsettled.slots }
         ensures rest { slots_from self.now.unsettled.slots result ≡ self.now.unsettled.slots }

@@ -1,4 +1,4 @@
--- What serde_json reads of a line, where it is a text and where it is none.
+-- The data of a line are what serde_json reads of it; there are none if it reads nothing.
 use Rattle.std.proofs.Common.{◌≡◌, ℕ, List, Bool, true, false, cond, refl, sym}
 use Rattle.std.specs.Prelude.{Some, None, IsUtf8}
 use Rattle.std.specs.Str.{is_utf8}

@@ -1,4 +1,4 @@
--- The object that asks for a call, its members in the order in which they are written.
+-- Defines the object that asks for a call, its members in the order in which they are written.
 use Rattle.std.proofs.Common.{ℕ, ◌==◌, Bool, true, false, List, [], ◌∷◌, codes}
 use Rattle.serde_json.specs.Data.{Data, number, string, array, object, unsigned, Items, no_items, item, Members, no_members, member}
 use Rattle.bm_base.specs.declared.replica.Stamp.{Stamp}

@@ -1,4 +1,5 @@
--- Texts read from their beginning: numbers, entries of a report, and whole lines.
+-- If the reader of canonical lines accepts a number, an entry or a line, its text is what is
+-- written for it.
 use Rattle.std.proofs.Common.{◌≡◌, ◌≢◌, ℕ, ◌+◌, ◌-◌, ◌*◌, ◌<◌, ◌≤◌, ◌^◌, List, ◌++◌, Option, Some, None, IfSome, decimal, length, get_or, take, drop, refl, ap, sym, ◌∙◌, arith, codes, append_assoc}
 use Rattle.bm_base.specs.declared.event.Entry.{Entry}
 use Rattle.bm_lines.specs.CallText.{call_fields, line_text, entry_text}

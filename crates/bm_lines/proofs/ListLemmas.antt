@@ -1,4 +1,4 @@
--- Lists of values, and the item that each represents.
+-- A list of values is read, item by item, as the data that they represent.
 use Rattle.std.proofs.Common.{◌≡◌, ℕ, List, [], ◌∷◌, Option, refl, ap}
 use Rattle.std.specs.Prelude.{Some, None, map, option_and_then}
 use Rattle.serde_json.specs.Data.{Data}

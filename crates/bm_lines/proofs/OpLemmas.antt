@@ -1,4 +1,4 @@
--- Which calls have a list.
+-- Only registrations, heartbeats and reports have a list.
 use Rattle.std.proofs.Common.{◌≡◌, ◌≢◌, false, refl}
 use Rattle.bm_lines.specs.declared.parser.op.Op.{Op}
 use Rattle.bm_lines.specs.declared.parser.op.Op.TheVariants.{Register, Heartbeat, Report}

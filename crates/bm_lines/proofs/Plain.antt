@@ -1,4 +1,4 @@
--- Texts of printable ASCII: each is UTF-8, and has no line end.
+-- A text of printable ASCII is UTF-8 and has no line end.
 use Rattle.std.proofs.Common.{◌≡◌, ℕ, suc, ◌<◌, ◌≤◌, ◌^◌, Bool, true, ◌&&◌, nat_lt, nat_le, List, [], ◌∷◌, ◌++◌, length, get_or, decimal, IsUtf8, refl, arith, lt-ltb, le-leb, ne_eqb}
 use Rattle.std.proofs.lemmas.Bool.{and_parts, and_from, leb-true}
 use Rattle.std.proofs.lemmas.Fmt.{decimal_is_IsNumeral}

@@ -63,6 +63,6 @@ after f h (Some x) = h x
 pub call_in-has_op : (d : Data) → HasOp (call_in d)
 call_in-has_op d = after (λ o. call_for o d) (call_for_has d) _
 
--- the same for an option that is the call in an object
+-- an option that is the call in an object has an op
 pub read_has_op : (d : Data) (o : Option Call) → o ≡ call_in d → HasOp o
 read_has_op d o e = subst HasOp (sym e) (call_in-has_op d)

@@ -20,6 +20,7 @@ pub struct Line {
 impl Line {
     ghost use Rattle.bm_lines.specs.Held.{Holds, is_begun};
 
+    /// Makes an empty line. Takes no memory.
     pub fn new(alloc: Global) -> Line
         ensures holds { Holds result [] }
         ensures begun { is_begun result ≡ false }
@@ -48,6 +49,7 @@ impl Line {
         self.bytes.extend_from_slice(part)
     }
 
+    /// Empties the line for the next one, and keeps its buffer.
     pub fn clear(&mut self)
         ensures holds { Holds self.new [] }
         ensures begun { is_begun self.new ≡ false }
@@ -56,6 +58,7 @@ impl Line {
         self.is_long = false;
     }
 
+    /// Returns whether the line has no bytes so far.
     pub fn is_empty(&self) -> bool
         ensures holds { (rest : List ℕ) → Holds self.now rest → IsTrue result ↔ (rest ≡ []) }
         ensures begun { result ≡ not (is_begun self.now) }

@@ -1,4 +1,5 @@
--- Checks one after another.
+-- An event is refused by the first check of the cluster or of the blocks that fails, and passes if
+-- none does.
 use Rattle.std.proofs.Common.{◌≡◌, ◌<◌, Option, Some, None, Ok, Err, refl, ap, ◌∙◌, arith, cond}
 use Rattle.std.specs.Prelude.{nat_le}
 use Rattle.std.proofs.lemmas.Bool.Decides.{nat_tests}

@@ -1,4 +1,5 @@
--- One call against the definition.
+-- The answer of each call and the state after it are those of the definition's step, or the call
+-- was out of memory.
 use Rattle.std.proofs.Common.{◌≡◌, ℕ, Bool, true, false, Option, Some, None, refl, sym, ap, ◌∙◌, inl, inr}
 use Rattle.std.specs.Prelude.{not, ◌&&◌, if◌then◌else◌}
 use Rattle.bm_base.specs.declared.event.Event.{Event}

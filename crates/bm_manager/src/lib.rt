@@ -24,12 +24,13 @@
 //! - [`Manager::apply`] takes an event, [`Manager::round`] a round. `places`, `level`, `replicas`,
 //!   `corrupt`, `excess`, `missing`, `blocks_on` and `retired` are queries. [`Manager::answer`]
 //!   takes any of these as a value.
-//! - `apply`, `round` and `answer` work the shards by a crew of threads. `apply_alone`,
-//!   `round_alone` and `answer_alone` work them on the calling thread. No answer depends on that.
+//! - `apply`, `round` and `answer` process the shards by a crew of threads. `apply_alone`,
+//!   `round_alone` and `answer_alone` process them on the calling thread. No answer depends on
+//!   that.
 //! - [`Manager::publish`] publishes a version of the state to the readers of `bm_view`, which wait
 //!   for no one.
 //! - [`answers_alike`] makes the same calls on two managers with different numbers of shards and
-//!   workers; its contract says that the answers are alike.
+//!   workers; its contract guarantees that the answers are alike.
 //!
 //! `CALLING.md` has a whole program, a proved caller and the contracts. `docs/GUARANTEES.md` lists
 //! what is guaranteed, what that assumes, and what is not covered.

@@ -16,8 +16,8 @@ use std::thread::Threads;
 ///
 /// A contract sees it as the state of the definitions: the limits of its configuration, the
 /// cluster, the blocks and their replicas, the round and the number of accepted calls. The blocks
-/// are cut into shards. A crew of threads, or the calling thread alone, works a call that concerns
-/// all shards; no answer depends on that.
+/// are cut into shards. A crew of threads, or the calling thread alone, processes a call that
+/// concerns all shards; no answer depends on that.
 ///
 /// ```text
 /// let mut manager = Manager::new(alloc, Config::standard())?;
@@ -67,7 +67,8 @@ impl Manager {
         Manager::with_secret(alloc, config, HashSecret::none())
     }
 
-    /// The same, whose tables hash by this secret. No answer, refusal or command depends on it.
+    /// As [`Manager::new`], but the tables hash by this secret. No answer, refusal or command
+    /// depends on it.
     pub fn with_secret(
         alloc: Global,
         config: Config,
@@ -93,7 +94,7 @@ impl Manager {
     /// nothing. Heartbeat, DeleteBlock, SetReplication, Restamp, Deleted and Corrupt take no
     /// memory, so they are accepted if no check refuses them.
     ///
-    /// Register, Dead, StorageFailed, FullReport, Drain and Undrain are worked by the crew, as
+    /// Register, Dead, StorageFailed, FullReport, Drain and Undrain are processed by the crew, as
     /// rounds are, so these calls may wait for other threads; AddBlock and Received touch one
     /// shard. All memory is taken before the first change.
     pub fn apply<R: Threads + Wait + Sync>(

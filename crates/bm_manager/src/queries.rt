@@ -67,7 +67,7 @@ impl Manager {
             (λ v. v ≡ queries.missing_blocks self.now.cluster self.now.holdings) }
         ensures refused { IfErr result (λ e. e ≡ Memory) }
     {
-        self.shards.missing(&self.topology)
+        self.shards.missing()
     }
 
     /// The storages of the block's good replicas, in excess or not, ascending. `UnknownBlock`;

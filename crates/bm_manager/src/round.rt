@@ -24,7 +24,7 @@ impl Manager {
     /// replicas after the round. At least one is wanted, and the round commands the delete of no
     /// live one.
     ///
-    /// A round is worked by the crew, so the call may wait for other threads. All memory is taken
+    /// The crew processes a round, so the call may wait for other threads. All memory is taken
     /// before the first change.
     pub fn round<R: Threads + Wait + Sync>(
         &mut self,

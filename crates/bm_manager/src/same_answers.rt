@@ -40,13 +40,13 @@ pub fn answers_alike<R: Threads + Wait + Sync>(
         workers,
         ..config
     };
-    let answers = answers_of(alloc, rt, gate, config, calls)?;
-    let other_answers = answers_of(alloc, rt, gate, other, calls)?;
+    let answers = run_calls(alloc, rt, gate, config, calls)?;
+    let other_answers = run_calls(alloc, rt, gate, other, calls)?;
     Ok((answers, other_answers))
 }
 
 /// [`answers_alike`], where the second manager has `shards` shards, and the calling thread alone
-/// works its calls.
+/// processes its calls.
 pub fn answers_alike_alone<R: Threads + Wait + Sync>(
     alloc: Global,
     rt: &R,
@@ -63,13 +63,13 @@ pub fn answers_alike_alone<R: Threads + Wait + Sync>(
     ensures refused { IfErr result (λ e. Refuses (config_refusal config) true e
         ⊎ Refuses (config_refusal (record config { shards = shards })) true e) }
 {
-    let answers = answers_of(alloc, rt, gate, config, calls)?;
+    let answers = run_calls(alloc, rt, gate, config, calls)?;
     let other_answers = answers_alone(alloc, Config { shards, ..config }, calls)?;
     Ok((answers, other_answers))
 }
 
 /// Makes the calls on a new manager of this configuration, and returns their answers.
-fn answers_of<R: Threads + Wait + Sync>(
+fn run_calls<R: Threads + Wait + Sync>(
     alloc: Global,
     rt: &R,
     gate: &(dyn Gate + Sync),
@@ -87,7 +87,7 @@ fn answers_of<R: Threads + Wait + Sync>(
     }
 }
 
-/// The same by the calling thread alone.
+/// As `run_calls`, by the calling thread alone.
 fn answers_alone(alloc: Global, config: Config, calls: &[Call]) -> Result<Items<Answer>, Refusal>
     ensures answers { IfOk result (λ r. MayAnswerAll step (first_state config) calls.now r) }
     ensures allowed { OnOk result (config_refusal config ≡ None) }

@@ -1,4 +1,4 @@
--- What a binary search finds in entries with strictly ascending keys.
+-- In entries with strictly ascending keys, a binary search finds the entry that `find` finds.
 use Rattle.std.proofs.Common.{◌≡◌, ℕ, ◌<◌, ◌≤◌, ◌+◌, ◌-◌, suc, zero, Bool, true, false, ltb, List, [], ◌∷◌, length, get_or, take, drop, cond, Option, Some, None, is_some, IsTrue, T, arith, refl, sym, ap, subst, ◌∙◌, Ordering, Less, Equal, Greater, is_eq}
 use Rattle.std.specs.Ordering.{is_lt, is_gt, ordering_reverse}
 use Rattle.std.specs.Cmp.{IsTotalOrder}

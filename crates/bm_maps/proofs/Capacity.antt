@@ -1,4 +1,4 @@
--- The capacity of the table that a sorted vector represents.
+-- The table that a sorted vector represents has the vector's capacity.
 use Rattle.std.proofs.Common.{◌≡◌, ℕ, ◌-◌, ◌≤◌, List, is_some, IsTrue, T, arith, sym, ap, subst, ◌∙◌, vec_len, vec_capacity}
 use Rattle.std.specs.declared.vec.Vec.{Vec}
 use Rattle.std.specs.FinMap.{is_sorted, find}

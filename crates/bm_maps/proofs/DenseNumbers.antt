@@ -2,7 +2,7 @@
 -- from the last.
 use Rattle.std.proofs.Common.{◌≡◌, ℕ, ◌<◌, ◌≤◌, ◌+◌, ◌-◌, suc, zero, Bool, true, false, cond, List, [], ◌∷◌, length, get_or, T, arith, refl, subst, Ordering, Less, Equal, Greater}
 use Rattle.std.specs.Prelude.{◌==◌, nat_lt}
-use Rattle.std.specs.Ordering.{nat_cmp, is_lt}
+use Rattle.std.specs.Ordering.{nat_cmp}
 use Rattle.std.specs.Cmp.{nat_cmp_total}
 use Rattle.std.specs.FinMap.{is_sorted}
 use Rattle.std.proofs.lemmas.Bool.{eqb-true, ltb-true}
@@ -12,11 +12,6 @@ use Rattle.bm_maps.specs.KeyIndex.{key_index, distance_to}
 use Rattle.bm_maps.proofs.PutLaws.{key_index-le}
 use Rattle.bm_maps.proofs.BinarySearch.{index_behind, index_before}
 use Rattle.bm_base.proofs.Orderings.{less_number}
-
-less_by : (a b : ℕ) (lt eq : Bool) → nat_lt a b ≡ lt → T (is_lt (cond lt Less (cond eq Equal Greater))) → a < b
-less_by a b true eq is h = ltb-true a b is
-less_by a b false true is h = absurd h
-less_by a b false false is h = absurd h
 
 -- what the order of two numbers implies
 abbrev OrderImplies : ℕ → ℕ → Ordering → Type 0
@@ -75,7 +70,7 @@ module _ {X : Type 0} where
         | Greater ↦ λ b. omega (arith, rest)
       ] (order_implies k e.0)
 
-  -- the same for reads of the first and of the last entry
+  -- the bounds of the index, for reads of the first and of the last entry
   pub upto_read : (k : ℕ) (es : List (ℕ × X)) (d : ℕ × X) → T (is_sorted nat_cmp es) → 0 < length es → key_index nat_cmp k es ≤ k - (get_or es 0 d).0
   upto_read k [] d h some = absurd (omega (arith, some))
   upto_read k (e ∷ es) d h some = index_upto k e es h

@@ -37,7 +37,7 @@ module _ {K X : Type 0} (R : K → K → Ordering) where
     | Greater ↦ omega (arith, key_index-le k es)
   ]
 
-  -- the same for a write through two reads
+  -- a write through two reads, at the index of the key, is a `put`
   pub put-set_read : (k : K) (v : X) (es : List (K × X)) (i : ℕ) (x y : K × X) → i ≡ key_index R k es → i < length es → x ≡ get_or es i x → y ≡ get_or es i y → R k y.0 ≡ Equal
       → set es i (x.0, v) ≡ put R k v es
   put-set_read k v es i x y is lt at_x at_y tie =

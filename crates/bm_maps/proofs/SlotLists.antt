@@ -1,4 +1,4 @@
--- Lemmas on lists of slots.
+-- Taking a slot out of a list without duplicates removes this slot alone.
 use Rattle.std.proofs.Common.{◌≡◌, ◌≢◌, ◌⊎◌, ℕ, zero, suc, ◌<◌, ◌≤◌, ◌+◌, eqb, List, [], ◌∷◌, length, None, inl, inr, subst, sym, ap, ◌∙◌, refl, arith}
 use Rattle.std.proofs.lemmas.Bool.{cases_eq, cases_Bool, ne_eqb, eqb-true, eqb-false}
 use Rattle.bm_maps.specs.SlotLists.{IsMember, Distinct, without, slot_after}
@@ -6,21 +6,21 @@ use Rattle.bm_maps.specs.SlotLists.{IsMember, Distinct, without, slot_after}
 pub apart : (x z : ℕ) (xs : List ℕ) → (IsMember x xs → ⊥) → IsMember z xs → z ≢ x
 apart x z xs absent there same = absent (let P : ℕ → Type 0 = λ w. IsMember w xs in subst P same there)
 
-pub Among-without : (x z : ℕ) (xs : List ℕ) → IsMember z (without x xs) → IsMember z xs
-Among-without x z [] there = absurd there
-Among-without x z (y ∷ ys) there =
+pub IsMember-without : (x z : ℕ) (xs : List ℕ) → IsMember z (without x xs) → IsMember z xs
+IsMember-without x z [] there = absurd there
+IsMember-without x z (y ∷ ys) there =
     elim (cases_Bool (eqb y x)) [
       | inl same ↦ inr (rw same at there)
       | inr other ↦
-          elim (let h : (z ≡ y) ⊎ IsMember z (without x ys) = rw other at there in h) [ inl here ↦ inl here | inr later ↦ inr (Among-without x z ys later) ]
+          elim (let h : (z ≡ y) ⊎ IsMember z (without x ys) = rw other at there in h) [ inl here ↦ inl here | inr later ↦ inr (IsMember-without x z ys later) ]
     ]
 
-pub Among-without_other : (x z : ℕ) (xs : List ℕ) → IsMember z xs → z ≢ x → IsMember z (without x xs)
-Among-without_other x z [] there differs = absurd there
-Among-without_other x z (y ∷ ys) there differs =
+pub IsMember-without_other : (x z : ℕ) (xs : List ℕ) → IsMember z xs → z ≢ x → IsMember z (without x xs)
+IsMember-without_other x z [] there differs = absurd there
+IsMember-without_other x z (y ∷ ys) there differs =
     elim (cases_Bool (eqb y x)) [
       | inl same ↦ rw same (elim there [ inl here ↦ absurd (differs (here ∙ eqb-true y x same)) | inr later ↦ later ])
-      | inr other ↦ rw other (elim there [ inl here ↦ inl here | inr later ↦ inr (Among-without_other x z ys later differs) ])
+      | inr other ↦ rw other (elim there [ inl here ↦ inl here | inr later ↦ inr (IsMember-without_other x z ys later differs) ])
     ]
 
 pub without-gone : (x : ℕ) (xs : List ℕ) → Distinct xs → IsMember x (without x xs) → ⊥
@@ -42,7 +42,7 @@ Distinct-without x [] distinct = tt
 Distinct-without x (y ∷ ys) distinct =
     elim (cases_Bool (eqb y x)) [
       | inl same ↦ rw same distinct.1
-      | inr other ↦ rw other (λ h. distinct.0 (Among-without x y ys h), Distinct-without x ys distinct.1)
+      | inr other ↦ rw other (λ h. distinct.0 (IsMember-without x y ys h), Distinct-without x ys distinct.1)
     ]
 
 pub length-without : (x : ℕ) (xs : List ℕ) → IsMember x xs → length (without x xs) + 1 ≡ length xs
@@ -74,7 +74,7 @@ length-distinct_below (suc n) xs distinct below =
       | inl there ↦
           let shorter : length (without n xs) ≤ n = length-distinct_below n (without n xs) (Distinct-without n xs distinct) (λ z h.
           let ne : z ≢ n = λ e. without-gone n xs distinct (let P : ℕ → Type 0 = λ w. IsMember w (without n xs) in subst P e h) in
-          omega (arith, below z (Among-without n z xs h), ne)) in
+          omega (arith, below z (IsMember-without n z xs h), ne)) in
           omega (arith, shorter, length-without n xs there)
       | inr absent ↦
           let all : length xs ≤ n = length-distinct_below n xs distinct (λ z h.

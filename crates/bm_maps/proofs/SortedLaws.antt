@@ -15,7 +15,7 @@ module _ {K X : Type 0} (o : Order K) where
   unfolding insert
   of_sorted-put es k v h = same_entries_map _ _ (list-of_sorted o (put o.cmp k v es) (is_sorted-put o.cmp o.total k v es h) ∙ ap (put o.cmp k v) (sym (list-of_sorted o es h)))
 
-  -- the same for a list that was changed by `put`
+  -- a list that was changed by `put` is still sorted
   pub sorted_by-put : (es fs : List (K × X)) (k : K) (v : X) → fs ≡ put o.cmp k v es → T (is_sorted o.cmp es) → T (is_sorted o.cmp fs)
   sorted_by-put es fs k v e h = subst (λ xs. T (is_sorted o.cmp xs)) (sym e) (is_sorted-put o.cmp o.total k v es h)
 

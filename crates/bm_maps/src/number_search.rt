@@ -33,7 +33,7 @@ pub(crate) fn index_of_number<V: Copy>(entries: &[(u64, V)], key: u64) -> usize
     index_between(entries, &key, low, high)
 }
 
-/// The same, trying an index first: two comparisons if it is right.
+/// As `index_of_number`, trying an index first: two comparisons if it is right.
 pub(crate) fn index_by_guess<V: Copy>(entries: &[(u64, V)], key: u64, guess: usize) -> usize
     requires { T (list.is_sorted nat_cmp entries.now) }
     ensures { result ≡ key_index nat_cmp key entries.now }

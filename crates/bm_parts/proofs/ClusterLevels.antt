@@ -1,4 +1,5 @@
--- Which levels stay under events on the cluster.
+-- Events on nodes and storages keep the levels of blocks without a usable replica there, unless the
+-- cluster gains or loses its second rack.
 use Rattle.std.proofs.Common.{◌≡◌, ◌≢◌, ℕ, Bool, true, false, not, ◌&&◌, Option, Some, None, is_some, List, [], ◌∷◌, map, length, refl, sym, ap, ◌∙◌, true≢false}
 use Rattle.std.specs.Prelude.{◌==◌, option_map, option_and_then, filter_map}
 use Rattle.std.specs.Option.{option_map_or}
@@ -14,8 +15,8 @@ use Rattle.bm_base.proofs.Ties.{number_tie}
 use Rattle.bm_base.proofs.ForEach.{Each, none_passes}
 use Rattle.bm_base.proofs.MapEntries.{get_insert_all_elsewhere, get_left, get_other}
 use Rattle.bm_base.proofs.ClusterEvents.{same_nodes}
+use Rattle.bm_base.proofs.ListTests.{and_first}
 use Rattle.bm_parts.specs.LevelLaws as law
-use Rattle.bm_parts.specs.LevelLaws.{IsRacked}
 use Rattle.bm_parts.proofs.Storages.{storages_left, none_leaves, each_where, usable_fails}
 use Rattle.bm_parts.proofs.Deaths.{draining_elsewhere, rack_elsewhere, rack_left, draining_left}
 
@@ -37,10 +38,10 @@ level_by C D H G b known lives spent each multi =
     λ j. option_and_then (λ (i : BlockInfo). level_of (length (lives j)) (length (spent j)) i.repl (length ((ap (racks D) lives ∙ racks_of_each D C (live C H b) each) j)) (multi j)) (known j)
 
 -- a storage is on the same rack in D as in C, and drains in D exactly if it does in C
-abbrev pub StandsAlike : Cluster → Cluster → ℕ → Type 0
-StandsAlike C D s = (rack_of D s ≡ rack_of C s) × (is_draining D s ≡ is_draining C s)
+abbrev pub HasSameRackAndDrain : Cluster → Cluster → ℕ → Type 0
+HasSameRackAndDrain C D s = (rack_of D s ≡ rack_of C s) × (is_draining D s ≡ is_draining C s)
 
-module _ (C D : Cluster) (H : Holdings) (gone : ℕ → Bool) (b : ℕ) (stay : (s : ℕ) (m : Marks) → get H.replicas (replica_at b s) ≡ Some m → is_usable m ≡ true → (gone s ≡ false) × StandsAlike C D s) where
+module _ (C D : Cluster) (H : Holdings) (gone : ℕ → Bool) (b : ℕ) (stay : (s : ℕ) (m : Marks) → get H.replicas (replica_at b s) ≡ Some m → is_usable m ≡ true → (gone s ≡ false) × HasSameRackAndDrain C D s) where
   -- a test of usable replicas and of whether their storages drain
   tested : (f : Bool → Bool) (s : ℕ) (m : Marks) → get H.replicas (replica_at b s) ≡ Some m → (not (gone s) && (is_usable m && f (is_draining D s))) ≡ (is_usable m && f (is_draining C s))
   tested f s m there = by_test (is_usable m) refl
@@ -53,10 +54,6 @@ module _ (C D : Cluster) (H : Holdings) (gone : ℕ → Bool) (b : ℕ) (stay : 
       by_test true e = let at = stay s m there e in λ i. not (at.0 i) && f (at.1.1 i)
       by_test false e = fails (gone s)
 
-  usable_of : (u : Bool) (d : Bool) → (u && d) ≡ true → u ≡ true
-  usable_of true d e = refl
-  usable_of false d e = cc
-
   known_left : get (without_storages H gone).blocks b ≡ get H.blocks b
   unfolding without_storages
   known_left = refl
@@ -65,10 +62,10 @@ module _ (C D : Cluster) (H : Holdings) (gone : ℕ → Bool) (b : ℕ) (stay : 
   level_left multi =
       level_by C D H (without_storages H gone) b known_left
       (storages_left H gone (is_live_on D) (is_live_on C) b (tested not)) (storages_left H gone (is_drained_on D) (is_drained_on C) b (tested (λ d. d)))
-      (each_where (λ s. rack_of D s ≡ rack_of C s) (is_live_on C) H b (λ s m there h. (stay s m there (usable_of (is_usable m) (not (is_draining C s)) h)).1.0)) multi
+      (each_where (λ s. rack_of D s ≡ rack_of C s) (is_live_on C) H b (λ s m there h. (stay s m there (and_first (is_usable m) (not (is_draining C s)) h)).1.0)) multi
 
--- the same if all replicas stay
-pub level_alike : (C D : Cluster) (H : Holdings) (b : ℕ) → ((s : ℕ) (m : Marks) → get H.replicas (replica_at b s) ≡ Some m → is_usable m ≡ true → StandsAlike C D s)
+-- `level_left` if all replicas stay
+pub level_alike : (C D : Cluster) (H : Holdings) (b : ℕ) → ((s : ℕ) (m : Marks) → get H.replicas (replica_at b s) ≡ Some m → is_usable m ≡ true → HasSameRackAndDrain C D s)
     → is_multi_rack D ≡ is_multi_rack C → level D H b ≡ level C H b
 level_alike C D H b stay multi =
     ap (λ G. level D G b) (sym (none_leaves H)) ∙ level_left C D H (λ _. false) b (λ s m there u. (refl, stay s m there u)) multi
@@ -131,13 +128,13 @@ module _ (C : Cluster) (n rack : ℕ) (ss : List ℕ) (new : contains_key C.node
   )
 
   -- a storage that had a rack keeps it, and drains as before
-  pub stands_before : (s : ℕ) → is_some (rack_of C s) ≡ true → StandsAlike C (register C n rack ss) s
+  pub same_after_register : (s : ℕ) → is_some (rack_of C s) ≡ true → HasSameRackAndDrain C (register C n rack ss) s
   unfolding rack_of is_draining node_of
-  stands_before s h = alike_by s (get C.storages s) refl h
+  same_after_register s h = alike_by s (get C.storages s) refl h
 
 pub register_leaves_levels : law.register_leaves_levels
 register_leaves_levels C H n rack ss b new unknown racked multi =
-    level_alike C (register C n rack ss) H b (λ s m there u. stands_before C n rack ss new unknown s (racked (replica_at b s) (ap is_some there))) multi
+    level_alike C (register C n rack ss) H b (λ s m there u. same_after_register C n rack ss new unknown s (racked (replica_at b s) (ap is_some there))) multi
 
 -- Deaths and failures.
 

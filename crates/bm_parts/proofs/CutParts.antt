@@ -1,5 +1,5 @@
--- What a round finds in a part is what it finds in the whole about the part's blocks.
-use Rattle.std.proofs.Common.{◌≡◌, ℕ, ◌-◌, Bool, true, false, cond, not, ◌&&◌, ◌||◌, List, [], ◌∷◌, map, filter, length, Option, Some, None, refl, sym, ap, ◌∙◌, eqb-true}
+-- A round finds in a part what it finds in the whole about the part's blocks.
+use Rattle.std.proofs.Common.{◌≡◌, ℕ, ◌-◌, Bool, true, false, cond, not, ◌&&◌, ◌||◌, List, [], ◌∷◌, map, filter, length, refl, sym, ap, ◌∙◌, eqb-true}
 use Rattle.std.proofs.lemmas.Bool.{false≢true}
 use Rattle.std.specs.Prelude.{◌==◌, if◌then◌else◌, nat_le, option_map, option_and_then}
 use Rattle.std.specs.Option.{option_map_or}
@@ -16,7 +16,7 @@ use Rattle.bm_base.proofs.MapLaws.{entries-keep, get-revise}
 use Rattle.bm_base.specs.RoundParts.{holdings_at_choice, own_transfers, own_deletes, round_on_part}
 use Rattle.bm_parts.specs.RoundLaws as law
 use Rattle.bm_parts.proofs.Filters.{filter_within, map_filter}
-use Rattle.bm_parts.proofs.PartMaps.{part, part_is, get_in, get_out, part_revised, part_inserted_all}
+use Rattle.bm_parts.proofs.PartMaps.{part, part_is, get_in, get_out, part_revised, part_inserted_all, mapped_none}
 use Rattle.bm_parts.proofs.Parts.{own, cut_to}
 
 -- The part of a map in which each value changes by its key.
@@ -24,11 +24,7 @@ part_revised_by : {K X : Type 0} {o : Order K} (p : K → Bool) (m : Map o X) (f
 part_revised_by p m f g same =
     part_is p (revise m f) (revise (part p m) g)
     (λ q t. get-revise m f q ∙ (λ i. option_map (same q t i) (sym (get_in p m q t) i)) ∙ sym (get-revise (part p m) g q))
-    (λ q t. get-revise (part p m) g q ∙ mapped (g q) (get (part p m) q) (get_out p m q t))
-  where
-    mapped : {X : Type 0} (f : X → X) (z : Option X) → z ≡ None → option_map f z ≡ None
-    mapped f None e = refl
-    mapped f (Some x) e = cc
+    (λ q t. get-revise (part p m) g q ∙ mapped_none (g q) (get (part p m) q) (get_out p m q t))
 
 module _ (index shards : ℕ) where
   abbrev mine : ℕ → Bool

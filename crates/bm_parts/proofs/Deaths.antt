@@ -1,4 +1,5 @@
--- Racks and draining of the storages that remain after a death, or after a storage's failure.
+-- A storage that remains after a death, or after a storage's failure, keeps its rack and drains as
+-- before.
 use Rattle.std.proofs.Common.{◌≡◌, ◌≢◌, ℕ, false, not, Option, Some, None, is_some, refl, ap, ◌∙◌}
 use Rattle.std.specs.Prelude.{◌==◌, option_and_then}
 use Rattle.std.specs.Option.{option_map_or}

@@ -1,4 +1,4 @@
--- Which levels stay when nodes begin or cease to drain.
+-- A node that begins or ceases to drain keeps the levels of blocks without a usable replica on it.
 use Rattle.std.proofs.Common.{◌≡◌, ◌≢◌, ℕ, Bool, true, false, not, Option, Some, None, is_some, refl, ap, ◌∙◌}
 use Rattle.std.specs.Prelude.{◌==◌, if◌then◌else◌}
 use Rattle.std.specs.Option.{option_map_or}
@@ -7,7 +7,7 @@ use Rattle.bm_base.specs.Words.{Map, keep, Cluster, Holdings, by_replica, node_o
 use Rattle.bm_base.proofs.MapEntries.{get_left, get_other}
 use Rattle.bm_parts.specs.LevelLaws as law
 use Rattle.bm_parts.proofs.Storages.{usable_fails}
-use Rattle.bm_parts.proofs.ClusterLevels.{StandsAlike, level_alike}
+use Rattle.bm_parts.proofs.ClusterLevels.{HasSameRackAndDrain, level_alike}
 
 module _ (C D : Cluster) (n s : ℕ) (storages : node_of D s ≡ node_of C s) (elsewhere : (m : ℕ) → m ≢ n → drains D m ≡ drains C m) where
   draining_by : (z : Option ℕ) → option_map_or (λ m. m == n) z false ≡ false → option_map_or (drains D) z false ≡ option_map_or (drains C) z false
@@ -28,11 +28,11 @@ module _ (C : Cluster) (n : ℕ) where
   unfolding undrain drains
   undrained_elsewhere m other = ap is_some (get_left C.draining n m other)
 
-  drain_alike : (s : ℕ) → has_storage C n s ≡ false → StandsAlike C (drain C n) s
+  drain_alike : (s : ℕ) → has_storage C n s ≡ false → HasSameRackAndDrain C (drain C n) s
   unfolding drain rack_of node_of
   drain_alike s off = (refl, still_drains C (drain C n) n s refl drained_elsewhere off)
 
-  undrain_alike : (s : ℕ) → has_storage C n s ≡ false → StandsAlike C (undrain C n) s
+  undrain_alike : (s : ℕ) → has_storage C n s ≡ false → HasSameRackAndDrain C (undrain C n) s
   unfolding undrain rack_of node_of
   undrain_alike s off = (refl, still_drains C (undrain C n) n s refl undrained_elsewhere off)
 

@@ -1,4 +1,5 @@
--- Lists that are filtered twice, and lists of elements that pass.
+-- Tests that agree on the elements of a list filter it alike, and two filters may be applied in
+-- either order.
 use Rattle.std.proofs.Common.{◌≡◌, ◌≤◌, Bool, true, false, cond, ◌&&◌, List, [], ◌∷◌, map, filter, length, arith, refl, sym, ap, ◌∙◌}
 use Rattle.std.specs.List.{All, list_any}
 use Rattle.std.proofs.lemmas.List.Elements.{All-nil, All-cons}

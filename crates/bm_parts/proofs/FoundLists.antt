@@ -1,4 +1,4 @@
--- What a round finds, by the elements of its lists.
+-- A round part has exactly the elements that a round finds, each once and in order.
 use Rattle.std.proofs.Common.{◌≡◌, ℕ, ◌-◌, Bool, true, false, ◌&&◌, ◌||◌, List, [], ◌∷◌, ◌++◌, map, filter, flat_map, Option, Some, None, is_some, refl, sym, ap, ◌∙◌, eqb-true, eq-eqb}
 use Rattle.std.specs.Prelude.{◌==◌, nat_le, nat_lt, if◌then◌else◌, option_and_then, filter_map}
 use Rattle.std.specs.Ordering.{eq_by_cmp}

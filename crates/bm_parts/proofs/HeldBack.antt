@@ -1,4 +1,4 @@
--- Whether some part holds a node back.
+-- The whole holds a node back from retirement exactly if some part does.
 use Rattle.std.proofs.Common.{◌≡◌, ℕ, ◌<◌, ◌≤◌, Bool, true, false, cond, not, ◌&&◌, ◌||◌, List, [], ◌∷◌, filter, flat_map, refl, sym, ap, ◌∙◌, arith, mod-lt}
 use Rattle.std.specs.Prelude.{◌==◌}
 use Rattle.std.specs.List.{list_any}

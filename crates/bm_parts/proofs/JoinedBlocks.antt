@@ -1,4 +1,4 @@
--- The blocks that shards list, joined.
+-- The blocks that the shards list, merged in order, are those that the whole lists.
 use Rattle.std.proofs.Common.{◌≡◌, ℕ, Bool, true, false, cond, List, [], ◌∷◌, map, filter, refl, sym, ap, subst, ◌∙◌, T}
 use Rattle.std.specs.Prelude.{◌==◌, take}
 use Rattle.std.specs.Ordering.{nat_cmp}

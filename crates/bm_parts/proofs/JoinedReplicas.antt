@@ -1,4 +1,4 @@
--- The replicas that shards list, joined.
+-- The replicas that the shards list, merged in order, are those that the whole lists.
 use Rattle.std.proofs.Common.{◌≡◌, ℕ, ◌≤◌, Bool, true, false, cond, List, [], ◌∷◌, map, filter, flat_map, Ordering, refl, sym, ap, subst, ◌∙◌, eqb-true, mod-lt, T}
 use Rattle.std.specs.Prelude.{◌==◌}
 use Rattle.std.specs.Ordering.{is_lt, nat_cmp}

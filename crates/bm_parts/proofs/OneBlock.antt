@@ -1,4 +1,5 @@
--- Properties of a block that depend only on its own replicas: an event on another block keeps them.
+-- The level of a block, and whether it is settled, depend only on its own replicas, so an event on
+-- another block keeps both.
 use Rattle.std.proofs.Common.{◌≡◌, ◌≢◌, ℕ, ◌+◌, ◌%◌, Bool, true, false, List, Some, length, sym, ap, ◌∙◌, arith, mod-eq_of_lt, refl}
 use Rattle.std.specs.Prelude.{if◌then◌else◌, option_and_then}
 use Rattle.bm_base.specs.declared.commands.Transfer.{Transfer}
@@ -6,12 +7,11 @@ use Rattle.bm_base.specs.declared.commands.Delete.{Delete}
 use Rattle.bm_base.specs.declared.event.Event.{Event}
 use Rattle.bm_base.specs.declared.replica.Marks.{Marks}
 use Rattle.bm_base.specs.declared.replica.BlockInfo.{BlockInfo}
-use Rattle.bm_base.specs.Words.{get, Cluster, Holdings, replica_at, is_usable, is_live_on, is_drained_on, storages_where, racks, is_multi_rack, usable, level, level_of, change_holdings, is_commanded, end_round}
+use Rattle.bm_base.specs.Words.{get, Cluster, Holdings, replica_at, is_usable, is_live_on, is_drained_on, storages_where, racks, is_multi_rack, level, level_of, change_holdings, is_commanded, end_round}
 use Rattle.bm_base.specs.Shards.{shard_of, cut}
 use Rattle.bm_parts.specs.Parts.{IsSameOf, block_of}
 use Rattle.bm_parts.specs.LevelLaws as law
 use Rattle.bm_parts.specs.Settled as settled_law
-use Rattle.bm_parts.specs.Settled.{IsSettled}
 use Rattle.bm_parts.proofs.Parts.{cut_is_part, one_part_changed}
 use Rattle.bm_parts.proofs.Storages.{storages_of_same, storages_revised}
 

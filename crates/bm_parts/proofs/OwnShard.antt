@@ -1,4 +1,4 @@
--- Queries that one shard answers about its block.
+-- The shard of a block answers a query about it, and checks an event on it, as the whole does.
 use Rattle.std.proofs.Common.{◌≡◌, ℕ, Bool, true, false, ◌&&◌, [], ◌∷◌, Some, refl, ap, subst, ◌∙◌, eqb-true, eq-eqb}
 use Rattle.std.specs.Prelude.{◌==◌, not, is_some, nat_le}
 use Rattle.std.specs.Option.{option_map_or}

@@ -1,4 +1,4 @@
--- The part of a map with the keys that pass, under changes of the map.
+-- The part of a map with the keys that pass a test changes as the map does at these keys.
 use Rattle.std.proofs.Common.{◌≡◌, Bool, true, false, cond, List, [], ◌∷◌, filter, Option, Some, None, refl, sym, ap, ◌∙◌, true≢false}
 use Rattle.std.specs.Prelude.{option_and_then, option_map}
 use Rattle.std.specs.Ordering.{eq_by_cmp}
@@ -12,7 +12,7 @@ mapped_same : {X : Type 0} (f : X → X) → ((x : X) → f x ≡ x) → (z : Op
 mapped_same f same None = refl
 mapped_same f same (Some x) = ap Some (same x)
 
-mapped_none : {X : Type 0} (f : X → X) (z : Option X) → z ≡ None → option_map f z ≡ None
+pub mapped_none : {X : Type 0} (f : X → X) (z : Option X) → z ≡ None → option_map f z ≡ None
 mapped_none f None e = refl
 mapped_none f (Some x) e = cc
 

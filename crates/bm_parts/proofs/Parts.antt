@@ -1,4 +1,4 @@
--- Events and the parts of holdings.
+-- An event changes each part of the holdings by itself, and the parts give back the whole.
 use Rattle.std.proofs.Common.{◌≡◌, ℕ, ◌<◌, ◌≤◌, Bool, true, false, cond, not, ◌&&◌, ◌||◌, List, [], ◌∷◌, map, filter, Some, refl, sym, ap, ◌∙◌, eqb-true, eq-eqb, ne_eqb, true≢false, mod-lt}
 use Rattle.std.specs.Prelude.{◌==◌, if◌then◌else◌}
 use Rattle.std.specs.Ordering.{eq_by_cmp, nat_cmp}

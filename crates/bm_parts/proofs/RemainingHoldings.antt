@@ -1,5 +1,5 @@
--- Changes by which replicas and transfers only leave: each one after the change was there before,
--- on a storage that stays on its node.
+-- A change by which replicas and transfers only leave, on storages that stay on their nodes, keeps
+-- holdings lawful.
 use Rattle.std.proofs.Common.{◌≡◌, ℕ, ◌≤◌, Bool, true, false, not, Some, List, is_some, IsTrue, refl, sym, ap, ◌∙◌, true≢false}
 use Rattle.std.specs.Prelude.{◌==◌, if◌then◌else◌}
 use Rattle.std.specs.Ordering.{eq_by_cmp, nat_cmp}
@@ -49,7 +49,7 @@ lawful_among C D H G L A S = record {
   replicated = S.replicated;
 }
 
--- the same if the cluster does not change
+-- `lawful_among` if the cluster does not change
 pub among_here : (C : Cluster) (H G : Holdings) → ((p : ReplicaId) → is_some (get G.replicas p) ≡ true → is_some (get H.replicas p) ≡ true)
     → ((p : ReplicaId) → is_some (get G.pending p) ≡ true → is_some (get H.pending p) ≡ true) → IsRemainder C C H G
 among_here C H G r t = record { replicas = r; pending = t; replica_nodes = λ _ _. refl; pending_nodes = λ _ _. refl }

@@ -24,13 +24,13 @@ use Rattle.bm_parts.specs.LevelLaws as law
 use Rattle.bm_parts.specs.LevelLaws.{IsRacked}
 use Rattle.bm_parts.specs.Parts.{reported_of}
 use Rattle.bm_parts.proofs.Deaths.{rack_elsewhere, rack_left}
-use Rattle.bm_parts.proofs.ClusterLevels.{rack_heard, stands_before}
+use Rattle.bm_parts.proofs.ClusterLevels.{rack_heard, same_after_register}
 
 -- all replicas stay on racks if each storage with a rack keeps it
 racked_alike : (C D : Cluster) (H : Holdings) → ((s : ℕ) → is_some (rack_of C s) ≡ true → rack_of D s ≡ rack_of C s) → IsRacked C H → IsRacked D H
 racked_alike C D H same racked q here = let was = racked q here in ap is_some (same q.storage was) ∙ was
 
--- the same if the storages that stay keep their racks
+-- `racked_alike` if the storages that stay keep their racks
 racked_left : (C D : Cluster) (H : Holdings) (gone : ℕ → Bool) → ((s : ℕ) → gone s ≡ false → rack_of D s ≡ rack_of C s) → IsRacked C H → IsRacked D (without_storages H gone)
 unfolding without_storages
 racked_left C D H gone same racked q here =
@@ -39,7 +39,7 @@ racked_left C D H gone same racked q here =
     ap is_some (same q.storage (not-true (gone q.storage) was.1)) ∙ racked q (is_there (get H.replicas q) stayed.0 was.0)
 
 pub register_keeps_racked : (C : Cluster) (H : Holdings) (n rack : ℕ) (ss : List ℕ) → contains_key C.nodes n ≡ false → list_any (knows_storage C) ss ≡ false → IsRacked C H → IsRacked (register C n rack ss) H
-register_keeps_racked C H n rack ss new unknown racked = racked_alike C (register C n rack ss) H (λ s was. (stands_before C n rack ss new unknown s was).0) racked
+register_keeps_racked C H n rack ss new unknown racked = racked_alike C (register C n rack ss) H (λ s was. (same_after_register C n rack ss new unknown s was).0) racked
 
 pub heartbeat_keeps_racked : (C : Cluster) (H : Holdings) (rs : List Remaining) → IsRacked C H → IsRacked (heartbeat C rs) H
 heartbeat_keeps_racked C H rs racked = racked_alike C (heartbeat C rs) H (λ s was. rack_heard C rs s) racked

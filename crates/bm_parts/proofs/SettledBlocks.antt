@@ -1,4 +1,4 @@
--- Settled blocks: a round keeps them as they are, and most changes keep them settled.
+-- A round keeps settled blocks as they are, and most changes keep them settled.
 use Rattle.std.proofs.Common.{◌≡◌, ℕ, ◌-◌, ◌≤◌, Bool, true, false, not, ◌&&◌, List, [], ◌∷◌, length, Option, Some, None, refl, sym, ap, ◌∙◌, arith}
 use Rattle.std.specs.Prelude.{◌==◌, ◌||◌, if◌then◌else◌, option_map, option_and_then}
 use Rattle.std.specs.Option.{option_map_or}

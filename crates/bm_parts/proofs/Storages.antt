@@ -1,4 +1,5 @@
--- The storages of a block's replicas, under changes that keep the replicas' marks.
+-- The storages of a block's replicas depend only on its own replicas, and stay under changes of
+-- marks that the test ignores.
 use Rattle.std.proofs.Common.{◌≡◌, ℕ, ◌≤◌, Bool, true, false, not, ◌&&◌, Option, Some, None, map, filter, length, arith, refl, sym, ap, ◌∙◌, eqb-true, eq-eqb, true≢false}
 use Rattle.std.specs.Prelude.{◌==◌, option_and_then}
 use Rattle.std.specs.List.{list_any}

@@ -1,6 +1,6 @@
 -- Replicas stay on known storages, a node keeps at most one replica of a block, and only good ones
 -- are in excess.
-use Rattle.std.proofs.Common.{◌≡◌, ℕ, Bool, true, false, not, ◌&&◌, Some, None, is_some, IsTrue, List, [], ◌∷◌, refl, sym, ap, subst, ◌∙◌, ◌⊎◌, inl, inr, eqb-true}
+use Rattle.std.proofs.Common.{◌≡◌, ℕ, Bool, true, false, not, Some, None, is_some, IsTrue, List, [], ◌∷◌, refl, sym, ap, subst, ◌∙◌, ◌⊎◌, inl, inr, eqb-true}
 use Rattle.std.specs.Prelude.{◌==◌, if◌then◌else◌}
 use Rattle.std.specs.Ordering.{eq_by_cmp, nat_cmp}
 use Rattle.std.proofs.lemmas.Bool.{and_parts, false≢true, not-true, not_from_false, not-false}
@@ -141,9 +141,6 @@ enter_apart C p q e h = sibling_fails (q.block == p.block) (are_siblings C p.sto
 enter_keeps_placed : (C : Cluster) (P : Holdings) (p : ReplicaId) (stamp : Stamp) → contains_key C.storages p.storage ≡ true → IsPlaced C P → IsPlaced C (enter C P p stamp)
 enter_keeps_placed C P p stamp known L =
     placed_entered C P (enter C P p stamp) p.storage (λ b. b == p.block) (λ q. not (replaces C p q)) L known (enter_apart C p) (enter_origin C P p stamp)
-
-abbrev leaves_by : Bool → Bool → Bool → Bool
-leaves_by here named siblings = if here then not named else named && siblings
 
 report_apart : (C : Cluster) (s : ℕ) (ts : List ReportedBlock) (q : ReplicaId) → not (leaves_by_report C s ts q) ≡ true → is_named ts q.block ≡ true → are_siblings C s q.storage ≡ false
 unfolding leaves_by_report

@@ -20,7 +20,8 @@ replica_key r = replica_at r.block r.storage
 abbrev pub replicas_join : Type 0
 replicas_join = (H : Holdings) (shards : ℕ) → 1 ≤ shards → ordered_by by_replica replica_key (flat_map all_replicas (parts H shards)) ≡ all_replicas H
 
--- the same of the replicas whose marks pass a test, like corrupt ones and those in excess
+-- as `replicas_join`, for the replicas whose marks pass a test, like corrupt ones and those in
+-- excess
 abbrev pub marked_replicas_join : Type 0
 marked_replicas_join =
     (p : Marks → Bool) (H : Holdings) (shards : ℕ) → 1 ≤ shards → ordered_by by_replica (λ (q : ReplicaId). q) (flat_map (replicas_where p) (parts H shards)) ≡ replicas_where p H

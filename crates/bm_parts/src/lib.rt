@@ -11,7 +11,7 @@
 //! - `settled_blocks`: blocks that a round need not scan
 //! - `levels`: events on the cluster after which a shard need not reclassify its blocks
 //! - `replica_storages`: the storages of replicas, and which are in excess
-//! - `merge`: what lists are merged by
+//! - `merge`: the keys by which lists are merged
 //!
 //! Only `events::block_of` computes something; the contract of each other function is a law.
 #![tactic(auto)]

@@ -1,4 +1,4 @@
-// What lists are merged by.
+// The keys by which lists are merged.
 
-/// What entries are sorted by: the first number, and then the second.
+/// The sort key of entries: the first number, then the second.
 pub type Key = (u64, u64);

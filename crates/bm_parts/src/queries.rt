@@ -8,7 +8,8 @@ pub fn replicas_join()
     ensures { law.replicas_join }
 {}
 
-/// So are those whose marks pass a test, like the corrupt ones, and those in excess.
+/// The replicas of the parts whose marks pass a test, like the corrupt ones and those in excess,
+/// are those of the whole.
 pub fn marked_replicas_join()
     ensures { law.marked_replicas_join }
 {}

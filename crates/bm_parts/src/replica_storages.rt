@@ -14,12 +14,12 @@ pub fn event_keeps_placed()
     ensures { law.event_keeps_placed }
 {}
 
-/// So does a report of a known storage, whatever its entries.
+/// A report of a known storage keeps these laws in a part, whatever its entries.
 pub fn report_keeps_placed()
     ensures { law.report_keeps_placed }
 {}
 
-/// So does a round.
+/// A round keeps these laws in a part.
 pub fn round_keeps_placed()
     ensures { law.round_keeps_placed }
 {}

@@ -1,4 +1,5 @@
--- The targets and the capacity of each block, where one block changes.
+-- A change of one block's targets keeps the targets of all other blocks, and does not reduce their
+-- capacity.
 use Rattle.std.specs.Prelude.{◌≡◌, ◌≢◌, ◌≤◌, ◌+◌, ◌||◌, ◌++◌, ℕ, Bool, true, false, cond, List, [], ◌∷◌, length, filter, map, not, ◌==◌, nat_eq, Option, None, Some, option_map}
 use Rattle.std.specs.Option.{option_map_or}
 use Rattle.std.specs.Ordering.{nat_cmp}

@@ -1,4 +1,4 @@
--- What the map of the transfers becomes where the targets of one block change.
+-- A change of one block's targets changes the map of the transfers at that block alone.
 use Rattle.std.specs.Prelude.{◌≡◌, ◌≤◌, ◌<◌, ◌+◌, ℕ, Bool, true, false, cond, not, ◌==◌, ◌&&◌, List, [], filter, nat_eq, Option, None, Some, option_and_then, option_map, T}
 use Rattle.std.specs.Option.{option_map_or, unwrap_or}
 use Rattle.std.specs.Ordering.{nat_cmp}
@@ -28,7 +28,7 @@ opened : {X : Type 0} (f : X → ℕ) (o : Option X) → unwrap_or (option_map f
 opened f None = refl
 opened f (Some x) = refl
 
--- what is seen of a block's capacity
+-- the view of a block's capacity
 pub capacity-seen : (m : Map by_replica ℕ) (es : List (ℕ × PendingTargets)) (b : ℕ) → capacity (record { map = m; capacities = capacities_of es }) b ≡ capacity_at es b
 capacity-seen m es b = ap (λ o. unwrap_or o 0) (lookup-map_values capacity_left (nat_eq b) es) ∙ opened capacity_left (lookup (nat_eq b) es)
 
@@ -125,7 +125,7 @@ module _ (es fs : List (ℕ × PendingTargets)) (p : ℕ → ℕ → Bool) (chan
   pub ascending-kept : IsPending fs
   ascending-kept = record { ascending = λ q. subst (λ xs. T (is_sorted nat_cmp xs)) (sym (changed q)) (is_sorted-filter p (targets_at es q) (rise q)) }
 
--- What is seen of the capacity.
+-- The view of the capacity.
 
 abbrev pub shown : List (ℕ × PendingTargets) → PendingMap
 shown es = record { map = map_of es; capacities = capacities_of es }

@@ -1,4 +1,4 @@
--- Lists after `retain` and after a write through a slice.
+-- `retain` filters a list, and a write through a slice of the same length leaves what was written.
 use Rattle.std.specs.Prelude.{◌≡◌, ℕ, Bool, cond, List, [], ◌∷◌, ◌++◌, filter, length, take}
 use Rattle.std.specs.List.{refill}
 use Rattle.std.specs.List.Retain.{RetainsInTurn}

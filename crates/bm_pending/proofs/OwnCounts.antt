@@ -1,4 +1,5 @@
--- Counting the transfers of a part's own blocks, one after another.
+-- Counting the transfers of a part's own blocks one after another counts all of them, and reserves
+-- capacity for each.
 use Rattle.std.proofs.Common.{◌≡◌, ℕ, zero, suc, ◌≤◌, ◌+◌, Bool, true, false, cond, List, [], ◌∷◌, ◌++◌, filter, length, take, nat_eq, arith, refl, sym, ap, subst, ◌∙◌}
 use Rattle.std.specs.Prelude.{◌==◌}
 use Rattle.std.proofs.lemmas.List.{length-append}

@@ -1,4 +1,4 @@
--- The remaining targets of a block, as they are seen.
+-- The remaining targets of a block are its targets whose transfers are not expired.
 use Rattle.std.specs.Prelude.{◌≡◌, ℕ, Bool, not, ◌==◌, List, map, filter, T}
 use Rattle.std.specs.Ordering.{nat_cmp}
 use Rattle.std.specs.FinMap.{is_sorted}

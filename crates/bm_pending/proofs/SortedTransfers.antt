@@ -119,7 +119,7 @@ abbrev pub named : ℕ → List (ℕ × ℕ) → List ReplicaId
 named b ts = map (λ t. replica_at b t.0) ts
 
 module _ (es : List (ℕ × PendingTargets)) (rise : (b : ℕ) → T (is_sorted nat_cmp (targets_at es b))) where
-  -- the names of those that are given up
+  -- the names of those that are expired
   module _ (pend r : ℕ) where
     abbrev old : ℕ → List (ℕ × ℕ)
     old b = filter (λ e. is_expired pend r e.1) (targets_at es b)

@@ -1,4 +1,4 @@
--- The map of the transfers answers by the targets of the block.
+-- The map of the transfers has a replica exactly if its storage is among the targets of its block.
 use Rattle.std.specs.Prelude.{◌≡◌, ℕ, Bool, true, false, cond, not, ◌==◌, ◌&&◌, List, [], ◌∷◌, nat_eq, Option, Some}
 use Rattle.std.specs.Option.{option_map_or}
 use Rattle.std.specs.Ordering.{nat_cmp}

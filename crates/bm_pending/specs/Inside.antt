@@ -25,7 +25,7 @@ map_of (e ∷ es) = with_block e.0 e.1.items (map_of es)
 abbrev pub targets_at : List (ℕ × PendingTargets) → ℕ → List (ℕ × ℕ)
 targets_at es b = option_map_or (λ (v : PendingTargets). v.items) (lookup (nat_eq b) es) []
 
--- of the targets of a block, those whose transfers are given up as round r begins
+-- the targets of a block whose transfers are expired as round r begins
 abbrev pub expired_among : ℕ → ℕ → List (ℕ × ℕ) → List (ℕ × ℕ)
 expired_among pend r ts = filter (λ t. is_expired pend r t.1) ts
 

@@ -1,3 +1,4 @@
+-- Definitions of the contracts of pending transfers.
 pub mod PendingMap
 pub mod Inside
 pub mod RemainingTargets

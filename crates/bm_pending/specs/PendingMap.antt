@@ -23,6 +23,6 @@ blocks_in p = map (λ e. e.0) p.capacities
 abbrev pub targets_of : PendingMap → ℕ → List ℕ
 targets_of p b = map (λ e. e.0.storage) (filter (λ e. e.0.block == b) (entries p.map))
 
--- the transfers that are given up as round r begins, by block and then by target
+-- the transfers that are expired as round r begins, by block and then by target
 abbrev pub expired_of : ℕ → ℕ → Map by_replica ℕ → List ReplicaId
 expired_of pend r m = map (λ e. e.0) (filter (λ e. is_expired pend r e.1) (entries m))

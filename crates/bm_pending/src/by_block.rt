@@ -60,7 +60,7 @@ pub(crate) fn put_target(blocks: &mut Blocks, block: u64, storage: u32, round: u
     }
 }
 
-/// Takes a target of a block out.
+/// Removes a target of a block.
 pub(crate) fn drop_pending(blocks: &mut Blocks, block: u64, storage: u32)
     ensures keys { keys_of blocks.new.entries ≡ keys_of blocks.old.entries }
     ensures targets { (q : ℕ)
@@ -76,7 +76,7 @@ pub(crate) fn drop_pending(blocks: &mut Blocks, block: u64, storage: u32)
     }
 }
 
-/// Takes a block out.
+/// Removes a block.
 pub(crate) fn drop_block(blocks: &mut Blocks, block: u64)
     ensures targets { (q : ℕ)
         → targets_at blocks.new.entries q
@@ -88,7 +88,7 @@ pub(crate) fn drop_block(blocks: &mut Blocks, block: u64)
     blocks.swap_remove(&block);
 }
 
-/// Takes the transfers out that are given up.
+/// Removes the expired transfers of all blocks.
 pub(crate) fn drop_expired_targets(blocks: &mut Blocks, pend: u32, round: u64)
     ensures targets { (q : ℕ)
         → targets_at blocks.new.entries q
@@ -102,7 +102,7 @@ pub(crate) fn drop_expired_targets(blocks: &mut Blocks, pend: u32, round: u64)
     });
 }
 
-/// Takes the transfers to these storages out.
+/// Removes the transfers to these storages.
 pub(crate) fn drop_targets_on(blocks: &mut Blocks, storages: &[StorageId])
     ensures targets { (q : ℕ)
         → targets_at blocks.new.entries q
@@ -116,7 +116,7 @@ pub(crate) fn drop_targets_on(blocks: &mut Blocks, storages: &[StorageId])
     });
 }
 
-/// Takes the blocks with no target out.
+/// Removes the blocks without a target.
 pub(crate) fn release_unused(blocks: &mut Blocks)
     ensures targets { (q : ℕ) → targets_at blocks.new.entries q ≡ targets_at blocks.old.entries q }
     ensures kept { (q : ℕ) → targets_at blocks.old.entries q ≢ []

@@ -81,7 +81,7 @@ impl PendingTransfers {
         put_target(&mut self.by_block, block.0, storage.0, round);
     }
 
-    /// Takes a transfer out, if it is there. Takes no memory.
+    /// Removes a transfer, if it exists. Takes no memory.
     pub fn remove(&mut self, block: BlockId, storage: StorageId)
         ensures map { self.new.map ≡ map.remove self.old.map (replica_at block storage) }
         ensures places { blocks_in self.new ≡ blocks_in self.old }

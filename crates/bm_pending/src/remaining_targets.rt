@@ -25,7 +25,7 @@ pub(crate) fn remaining_among(
     Ok(left)
 }
 
-/// How many there are of these.
+/// The number of targets whose transfers have not expired.
 pub(crate) fn count_remaining_among(targets: &[(u32, u64)], pend: u32, round: u64) -> usize
     ensures { result ≡ count_by (λ t. not (is_expired pend round t.1)) targets.now }
 {

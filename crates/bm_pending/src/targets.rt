@@ -37,7 +37,7 @@ pub(crate) fn put(targets: &mut PendingTargets, storage: u32, round: u64)
     }
 }
 
-/// Takes the transfer to a storage out.
+/// Removes the transfer to a storage.
 pub(crate) fn drop_target(targets: &mut PendingTargets, storage: u32)
     ensures items { targets.new.items ≡ filter (λ t. not (t.0 == storage)) targets.old.items }
     ensures capacity { targets.new.capacity ≡ targets.old.capacity }
@@ -45,14 +45,14 @@ pub(crate) fn drop_target(targets: &mut PendingTargets, storage: u32)
     targets.retain(|target| target.0 != storage);
 }
 
-/// Whether a transfer that was commanded in this round is given up.
+/// Whether a transfer that was commanded in round `commanded` is expired in this round.
 pub(crate) fn is_expired(commanded: u64, pend: u32, round: u64) -> bool
     ensures { result ≡ is_expired pend round commanded }
 {
     u64::from(pend) <= round.saturating_sub(commanded)
 }
 
-/// Takes the transfers out that are given up.
+/// Removes the expired transfers.
 pub(crate) fn drop_expired(targets: &mut PendingTargets, pend: u32, round: u64)
     ensures { targets.new
         ≡ record targets.old {
@@ -63,7 +63,7 @@ pub(crate) fn drop_expired(targets: &mut PendingTargets, pend: u32, round: u64)
     targets.retain(|target| !is_expired(target.1, pend, round));
 }
 
-/// Takes the transfers to these storages out.
+/// Removes the transfers to these storages.
 pub(crate) fn drop_storages(targets: &mut PendingTargets, storages: &[StorageId])
     ensures { targets.new
         ≡ record targets.old {

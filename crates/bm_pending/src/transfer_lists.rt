@@ -1,4 +1,4 @@
-// Transfers as lists: those of a block, and all that are given up, in order.
+// Transfers as lists: those of a block, and all that are expired, in order.
 ghost use Rattle.std.specs.Prelude.{◌≡◌, ◌≤◌, ◌+◌, ℕ, [], false, nat_eq, map, length, ◌++◌, OnOk, OnErr, IfOk, IfErr, IsOk, T, vec_len, vec_capacity};
 ghost use Rattle.std.specs.Ordering.{nat_cmp};
 ghost use Rattle.std.specs.FinMap as list;
@@ -40,7 +40,7 @@ fn replica_id(block: u64, storage: u32) -> ReplicaId
     }
 }
 
-/// Whether a target's transfer is given up.
+/// Whether some transfer of a block is expired.
 fn has_expired(targets: &[(u32, u64)], pend: u32, round: u64) -> bool
     ensures { result ≡ list_any (λ t. is_expired pend round t.1) targets.now }
 {
@@ -92,7 +92,7 @@ fn push_expired(
     Ok(())
 }
 
-/// All transfers that are given up, by block and then by storage.
+/// All expired transfers, by block and then by storage.
 pub(crate) fn list_expired(
     blocks: &Blocks,
     alloc: Global,

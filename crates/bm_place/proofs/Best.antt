@@ -1,7 +1,7 @@
 -- The least of a filtered list passes the filter, and what that implies for a target.
 use Rattle.std.specs.Prelude.{◌||◌}
 use Rattle.std.specs.Option.{option_map_or}
-use Rattle.std.proofs.Common.{◌≡◌, ℕ, Bool, true, false, cond, List, [], ◌∷◌, filter, Option, Some, None, refl, sym, ap, subst, ◌∙◌, ◌==◌, arith, true≢false}
+use Rattle.std.proofs.Common.{◌≡◌, ℕ, Bool, true, false, cond, List, [], ◌∷◌, filter, Option, Some, None, refl, sym, ap, subst, ◌∙◌, ◌==◌, true≢false}
 use Rattle.std.specs.declared.cmp.Ordering.{Ordering}
 use Rattle.std.specs.Ordering.{is_lt}
 use Rattle.std.specs.Cmp.{IsTotalOrder, IsStrictWeakOrder}
@@ -10,6 +10,7 @@ use Rattle.std.proofs.lemmas.Bool.{eqb-true}
 use Rattle.std.proofs.Math.Bool.{or-true}
 use Rattle.bm_base.specs.Maps.Lists.{has, least}
 use Rattle.bm_place.specs.Least.{IsLeastOf}
+use Rattle.bm_base.proofs.ListTests.{same_again}
 
 module _ (R : ℕ → ℕ → Ordering) (o : IsStrictWeakOrder (λ x y. is_lt (R x y))) (p : ℕ → Bool) where
   itself : (x : ℕ) (b : Bool) → is_lt (R x x) ≡ b → is_lt (R x x) ≡ false
@@ -24,12 +25,9 @@ module _ (R : ℕ → ℕ → Ordering) (o : IsStrictWeakOrder (λ x y. is_lt (R
   after_none : (x : ℕ) (xs : List ℕ) → p x ≡ true → IsLeastOf R p xs None → IsLeastOf R p (x ∷ xs) (Some x)
   after_none x xs passes rest = (
     passes,
-    ap (λ b. b || has xs x) (same x),
+    ap (λ b. b || has xs x) (same_again x),
     λ y h e. first_or (λ z. p z ≡ true → is_lt (R z x) ≡ false) x y xs (x == y) refl h (λ _. itself x (is_lt (R x x)) refl) (λ there e. absurd (true≢false (sym e ∙ rest y there))) e,
   )
-    where
-      same : (x : ℕ) → (x == x) ≡ true
-      same x = grind arith
 
   after_some : (x b : ℕ) (xs : List ℕ) (t : Bool) → is_lt (R b x) ≡ t → p x ≡ true → IsLeastOf R p xs (Some b) → IsLeastOf R p (x ∷ xs) (Some (cond t b x))
   after_some x b xs true e passes rest = (
@@ -39,12 +37,9 @@ module _ (R : ℕ → ℕ → Ordering) (o : IsStrictWeakOrder (λ x y. is_lt (R
   )
   after_some x b xs false e passes rest = (
     passes,
-    ap (λ t. t || has xs x) (same x),
+    ap (λ t. t || has xs x) (same_again x),
     λ y h f. first_or (λ z. p z ≡ true → is_lt (R z x) ≡ false) x y xs (x == y) refl h (λ _. itself x (is_lt (R x x)) refl) (λ there f. o.chain y b x (rest.2 y there f) e) f,
   )
-    where
-      same : (x : ℕ) → (x == x) ≡ true
-      same x = grind arith
 
   passed_over : (x : ℕ) (xs : List ℕ) (m : Option ℕ) → p x ≡ false → IsLeastOf R p xs m → IsLeastOf R p (x ∷ xs) m
   passed_over x xs None fails rest = λ y h. first_or (λ z. p z ≡ false) x y xs (x == y) refl h fails (rest y)
@@ -66,6 +61,6 @@ module _ (R : ℕ → ℕ → Ordering) (o : IsStrictWeakOrder (λ x y. is_lt (R
         | false ↦ λ e. passed_over x xs (least R (filter p xs)) e (least_of xs)
       ] refl
 
--- the same for a total order
+-- `least_of` for a total order
 pub least-bears : (R : ℕ → ℕ → Ordering) → IsTotalOrder R → (p : ℕ → Bool) (xs : List ℕ) → IsLeastOf R p xs (least R (filter p xs))
 least-bears R total p xs = least_of R (ranks_by total (λ x. x)) p xs

@@ -133,12 +133,12 @@ unfolding distinct keys entries empty
 class_distinct xs two rack =
     class_shape (insert_all (empty {o = by_number}) (marked xs)).list two rack ∙ ap (λ w. class_on w two rack) (shape-all xs empty)
 
-pub class_standing : (C : Cluster) (holders : List ℕ) (s : ℕ) → class_of C holders s ≡ class_by_spread (replica_spread_of C holders) (rack_of C s)
+pub class_by_rack : (C : Cluster) (holders : List ℕ) (s : ℕ) → class_of C holders s ≡ class_by_spread (replica_spread_of C holders) (rack_of C s)
 unfolding class_of racks is_on_racks replica_spread_of
-class_standing C holders s =
+class_by_rack C holders s =
     class_distinct (filter_map (rack_of C) holders) (length (distinct holders) == 2) (rack_of C s)
     ∙ (λ i. class_on (sym (racks_with C no_spread holders) i) ((two_distinct holders ∙ ap are_two (sym (storages_with C no_spread holders))) i) (rack_of C s))
 
-pub one_standing : (C : Cluster) (holders : List ℕ) → (length (racks C holders) == 1) ≡ is_one (replica_spread_of C holders).racks
+pub one_rack_by_spread : (C : Cluster) (holders : List ℕ) → (length (racks C holders) == 1) ≡ is_one (replica_spread_of C holders).racks
 unfolding racks replica_spread_of
-one_standing C holders = one_distinct (filter_map (rack_of C) holders) ∙ ap is_one (sym (racks_with C no_spread holders))
+one_rack_by_spread C holders = one_distinct (filter_map (rack_of C) holders) ∙ ap is_one (sym (racks_with C no_spread holders))

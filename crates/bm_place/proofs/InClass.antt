@@ -1,4 +1,4 @@
--- Storages in the order of choice of those of one class.
+-- Sorted storages of one class are in the order of choice, and stay so if one is taken out.
 use Rattle.std.specs.List.Sorted.{IsSorted}
 use Rattle.std.proofs.Common.{◌≡◌, ◌+◌, ◌==◌, ℕ, suc, Bool, true, false, ◌||◌, List, [], ◌∷◌, ◌++◌, map, slice_index_or, refl, subst, arith}
 use Rattle.std.specs.Ordering.{is_lt, nat_cmp, ordering_then}

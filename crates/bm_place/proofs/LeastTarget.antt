@@ -1,4 +1,5 @@
--- What it implies that a target is the least eligible one.
+-- The least eligible target has enough free bytes, is on an allowed node that does not drain, and
+-- leaves the rack if it has to.
 use Rattle.std.specs.Prelude.{◌||◌}
 use Rattle.std.specs.Option.{option_map_or, IfSome}
 use Rattle.std.specs.List.{list_any}

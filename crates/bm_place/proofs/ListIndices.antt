@@ -1,4 +1,4 @@
--- Elements of a list and their indices.
+-- Each element of a list has an index, also in a list in another order.
 use Rattle.std.specs.Prelude.{◌==◌, ◌||◌, filter_map, slice_get}
 use Rattle.std.specs.List.{cons_option}
 use Rattle.std.specs.List.Sorted.{IsPermutation}
@@ -9,10 +9,10 @@ use Rattle.std.proofs.lemmas.Option.{same_Some, slice_get-get_or, slice_get_with
 use Rattle.bm_base.specs.Maps.Lists.{has}
 use Rattle.bm_place.specs.BestTargets.{IsMember}
 
-pub place_among : {X : Type 0} (xs : List X) (x : X) → IsMember xs x → (i : ℕ) × (slice_get xs i ≡ Some x)
-place_among [] x none = absurd none
-place_among (y ∷ xs) x (inl e) = (0, ap Some e)
-place_among (y ∷ xs) x (inr there) = let h = place_among xs x there in (suc h.0, h.1)
+pub index_among : {X : Type 0} (xs : List X) (x : X) → IsMember xs x → (i : ℕ) × (slice_get xs i ≡ Some x)
+index_among [] x none = absurd none
+index_among (y ∷ xs) x (inl e) = (0, ap Some e)
+index_among (y ∷ xs) x (inr there) = let h = index_among xs x there in (suc h.0, h.1)
 
 among_place : {X : Type 0} (xs : List X) (i : ℕ) (x : X) → slice_get xs i ≡ Some x → IsMember xs x
 among_place [] i x at = cc
@@ -21,7 +21,7 @@ among_place (y ∷ xs) (suc i) x at = inr (among_place xs i x at)
 
 pub moved_among : {X : Type 0} (xs ys : List X) (x : X) → IsPermutation xs ys → IsMember xs x → IsMember ys x
 moved_among xs ys x moved there =
-    let p = place_among xs x there in
+    let p = index_among xs x there in
     let within = slice_get_within xs p.0 x p.1 in
     let at = same_Some (get_or xs p.0 x) x (sym (slice_get-get_or xs p.0 x within) ∙ p.1) in
     let q = Contains-permutation xs ys x moved (p.0, within, at) in

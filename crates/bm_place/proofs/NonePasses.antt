@@ -1,4 +1,4 @@
--- Lists of which no element passes a test.
+-- If a search finds no index, no element of the list passes the test.
 use Rattle.std.specs.Prelude.{position}
 use Rattle.std.specs.List.{position_or_len}
 use Rattle.std.proofs.Common.{◌≡◌, ◌≤◌, Bool, false, List, [], ◌∷◌, length, None, inl, inr, sym, subst, ◌∙◌, arith}

@@ -1,4 +1,4 @@
--- Targets of one node, and which of them is better.
+-- Targets of one node share its rack and whether it drains, and one order ranks them all.
 use Rattle.std.specs.Bool.{beq}
 use Rattle.std.specs.Option.{option_eq}
 use Rattle.std.specs.Ordering.{is_lt, nat_cmp, ordering_then}

@@ -178,7 +178,7 @@ one_kept C counts after more x chosen kept rest whole p none as_before =
       all = ap (λ ss. chosen ++ excess_among C more ss) (sym same) ∙ p.all;
     }
 
--- the same for equal lists and numbers
+-- a pass with equal lists and numbers is the pass
 pub same_passes : (C : Cluster) (counts : Map by_number ℕ) (more n : ℕ) (chosen xs kept ys rest whole : List ℕ) → n ≡ more → xs ≡ chosen → ys ≡ kept
     → Passes C counts more chosen kept rest whole → Passes C counts n xs ys rest whole
 same_passes C counts more n chosen xs kept ys rest whole e f g p =

@@ -1,4 +1,4 @@
--- Sorted targets, and the insertion of one.
+-- Inserting or moving a target keeps sorted targets sorted, and keeps all others.
 use Rattle.std.specs.Prelude.{◌⊎◌, slice_get}
 use Rattle.std.specs.List.{count_by}
 use Rattle.std.specs.List.Sorted.{IsPermutation, IsSorted}

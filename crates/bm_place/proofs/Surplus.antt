@@ -1,4 +1,4 @@
--- Excess: its order, and the counts of racks.
+-- The order in which excess is chosen is total, and the table counts the storages on each rack.
 use Rattle.std.specs.Option.{option_map_or}
 use Rattle.std.proofs.Common.{◌≡◌, ◌≤◌, ◌+◌, ℕ, Bool, true, false, cond, nat_lt, List, ◌∷◌, drop, length, count_by, Option, Some, None, refl, sym, ap, ◌∙◌, ◌==◌, arith}
 use Rattle.std.specs.Cmp.{IsTotalOrder, nat_cmp_total}

@@ -1,12 +1,12 @@
--- Entries of a table, and the effect of a change of a count.
+-- A table has an entry for each of its keys and no other, and a change of one count changes no
+-- other.
 use Rattle.std.specs.Prelude.{unwrap_or, option_map}
 use Rattle.std.proofs.Common.{◌≡◌, ◌≤◌, ℕ, ◌+◌, suc, zero, Bool, true, false, cond, ◌||◌, List, [], ◌∷◌, map, drop, Option, Some, None, is_some, refl, sym, ap, ◌∙◌, arith}
 use Rattle.std.specs.Prelude.{◌==◌, slice_get}
 use Rattle.std.specs.Ordering.{nat_cmp, eq_by_cmp}
-use Rattle.std.specs.FinMap.{find}
 use Rattle.std.proofs.lemmas.Bool.{eqb-true}
 use Rattle.std.proofs.lemmas.List.{length-map}
-use Rattle.std.proofs.lemmas.Option.{slice_get_past, same_Some}
+use Rattle.std.proofs.lemmas.Option.{slice_get_past}
 use Rattle.std.proofs.lemmas.Bool.Decides.{nat_tests}
 use Rattle.bm_base.specs.Words.{has, Map, by_number, empty, entries, get, insert, insert_all, keys, len, revise_at, Cluster, node_of, node_number}
 use Rattle.bm_base.proofs.MapLaws.{same_map, get-insert, get-empty, get-revise}
@@ -49,16 +49,6 @@ same_inserted m k v is = same_map m (insert m k v) (λ q. by q (eq_by_cmp nat_cm
     by : (q : ℕ) (b : Bool) → eq_by_cmp nat_cmp q k ≡ b → get m q ≡ cond b (Some v) (get m q)
     by q true e = ap (get m) (eqb-true q k (sym (number_tie q k) ∙ e)) ∙ is
     by q false e = refl
-
--- a number is among the keys exactly if the map has it
-has-bare : {Y : Type 0} (es : List (ℕ × Y)) (q : ℕ) → has (map (λ e. e.0) es) q ≡ is_some (find nat_cmp q es)
-has-bare [] q = refl
-has-bare (e ∷ es) q =
-    (λ i. equal_back q e.0 (q == e.0) refl i || has-bare es q i) ∙ some_or (q == e.0) (find nat_cmp q es) e.1 ∙ ap (λ b. is_some (cond b (Some e.1) (find nat_cmp q es))) (sym (number_tie q e.0))
-  where
-    some_or : {Y : Type 0} (b : Bool) (o : Option Y) (y : Y) → (b || is_some o) ≡ is_some (cond b (Some y) o)
-    some_or true o y = refl
-    some_or false o y = refl
 
 -- the node of a storage, as a table of the nodes has it
 pub node_table : (C : Cluster) (s : ℕ) → get (table (node_number C) (keys C.storages)) s ≡ node_of C s
@@ -103,11 +93,6 @@ count-empty q = ap (λ o. unwrap_or o 0) (get-empty by_number q)
 
 -- Lists in loops.
 
-next : {A : Type 0} (xs : List A) (i : ℕ) (x : A) → slice_get xs i ≡ Some x → drop i xs ≡ x ∷ drop (suc i) xs
-next [] i x h = cc
-next (y ∷ xs) zero x h = ap (λ z. z ∷ xs) (same_Some y x h)
-next (y ∷ xs) (suc i) x h = next xs i x h
-
 none_past : {A : Type 0} (xs : List A) (i : ℕ) → slice_get xs i ≡ None → drop i xs ≡ []
 none_past [] zero h = refl
 none_past [] (suc i) h = refl
@@ -123,7 +108,7 @@ module _ {X : Type 0} (f : ℕ → X) (ks : List ℕ) (i : ℕ) (whole : Map by_
   row_made m more s k v at same value is inv =
       ap (λ n. insert_all n (listed f (drop (i + 1) ks))) (is ∙ (λ j. insert m (same j) (value j))) ∙ sym (ap (λ xs. insert_all m (listed f xs)) (drop_next ks i s at)) ∙ inv
 
-  -- the same if the rows are of numbers that are computed from these
+  -- `row_made` if the rows are of numbers that are computed from these
   pub row_made_of : (g : ℕ → ℕ) (m more : Map by_number X) (s k : ℕ) (v : X) → slice_get ks i ≡ Some s → k ≡ g s → v ≡ f (g s) → more ≡ insert m k v
       → insert_all m (listed f (map g (drop i ks))) ≡ whole → insert_all more (listed f (map g (drop (i + 1) ks))) ≡ whole
   row_made_of g m more s k v at same value is inv =

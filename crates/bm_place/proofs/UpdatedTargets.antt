@@ -186,7 +186,7 @@ module _ (rows : Map by_number TargetRow) (target len : ℕ) where
       let n = placed s h.0 h.1 in
       (n.0, ap (λ (u : TargetRow). u.node) (sym h.2) ∙ (like_before (s == target) h.0).node ∙ n.1, n.2)
 
--- the same for equal lists, if the best target is found among the storages of the node
+-- what is kept, for equal lists, if the best target is found among the storages of the node
 pub kept_renewed : (C : Cluster) (old new : Map by_number TargetRow) (target len : ℕ) (cs ds : List TargetRow) (near : List ℕ) (row best : TargetRow) (place : ℕ) → IsKept old cs → IfSome (get old target) (λ t. len + t.scheduled ≤ t.remaining)
     → new ≡ revise_at old target (sent_more len) → get new target ≡ Some row → position (λ c. c.storage == target) cs ≡ Some place → AreOf C new → ((n s : ℕ) → row.node ≡ Some n → has near s ≡ has_storage C n s)
     → scan cmp_of_one_node (λ c. are_of_one_node c row) (Some row) (filter_map (λ s. get new s) near) ≡ Some best → ds ≡ reposition best place cs → IsKept new ds

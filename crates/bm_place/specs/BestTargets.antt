@@ -27,7 +27,7 @@ cmp_of_one_node s t = ordering_then (nat_cmp (free_bytes_on t) (free_bytes_on s)
 abbrev pub is_better_than : TargetRow → TargetRow → Bool
 is_better_than s t = is_lt (cmp_of_one_node s t)
 
--- the other one, if it is of the target's node and better than the best so far; else that
+-- the better of two targets, if the other one is of the target's node; else the best so far
 abbrev pub better_of : TargetRow → TargetRow → Option TargetRow → TargetRow
 better_of best t None = best
 better_of best t (Some c) = if are_of_one_node c t && is_better_than c best then c else best
@@ -37,11 +37,11 @@ abbrev pub first_at : Map by_number TargetRow → ℕ → TargetRow → Option T
 first_at firsts n t None = insert firsts n t
 first_at firsts n t (Some c) = if is_better_than t c then insert firsts n t else firsts
 
--- the same with one more target; nothing changes for one without a node
+-- the best targets of the nodes with one more target; nothing changes for one without a node
 abbrev pub with_first : Map by_number TargetRow → TargetRow → Map by_number TargetRow
 with_first firsts t = option_map_or (λ n. first_at firsts n t (get firsts n)) t.node firsts
 
--- the same with each of these targets
+-- the best targets of the nodes with each of these targets
 abbrev pub with_firsts : Map by_number TargetRow → List TargetRow → Map by_number TargetRow
 with_firsts firsts [] = firsts
 with_firsts firsts (t ∷ ts) = with_firsts (with_first firsts t) ts

@@ -18,7 +18,7 @@ three_of Equal _ p q = Two p q
 three_of Greater Equal p q = Two p q
 three_of _ _ p q = More
 
--- the same with one number more, which may be among them
+-- with one more number, which may be among them
 abbrev pub with_number : UpToTwo → ℕ → UpToTwo
 with_number Nothing n = One n
 with_number (One p) n = two_of (nat_cmp n p) n p

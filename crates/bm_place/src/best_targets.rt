@@ -90,7 +90,7 @@ pub fn best_on_node(target: TargetRow, rows: &NumberMap<TargetRow>, near: &[Stor
     best
 }
 
-/// The other one, if it is of the target's node and better than the best so far; else that.
+/// The better of `best` and `other`, if `other` is of the node of `target`; otherwise `best`.
 fn better_of(best: &TargetRow, target: &TargetRow, other: Option<TargetRow>) -> TargetRow
     ensures { result ≡ nodes.better_of best.now target.now other }
 {

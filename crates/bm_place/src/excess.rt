@@ -16,7 +16,7 @@ use std::alloc::{AllocError, Global};
 pub struct ExcessScratch {
     /// The live replicas, looked up, in order.
     holders: Vec<Holder>,
-    /// Those that had their rack for themselves when the pass reached them.
+    /// The replicas that were alone on their rack when the pass reached them.
     kept: Vec<StorageId>,
     /// The number of remaining ones on each rack.
     racks: NumberMap<usize>,

@@ -114,7 +114,7 @@ fn push_from_shared_racks(
     Ok(more)
 }
 
-/// Whether a rack counts more than one; not none. If so it counts one fewer from now on.
+/// Whether a rack counts more than one; false without a rack. If so, its count falls by one.
 fn take_one_if_shared(racks: &mut NumberMap<usize>, rack: Option<Rack>) -> bool
     ensures more { result
         ≡ option_map_or (λ r. nat_lt 1 (tables.count_at racks.old.map r)) rack false }

@@ -48,7 +48,7 @@ pub fn least_target(
     least_fitting(held, excluded, len, level, topology, scheduled)
 }
 
-/// The same, in the order of the best targets: it ends at the first eligible one of the better
+/// Chooses among the best targets in their order: ends at the first eligible one of the better
 /// class, or at one with too few free bytes.
 fn least_fitting(
     held: &[StorageId],

@@ -15,7 +15,7 @@ pub enum UpToTwo {
 }
 
 impl UpToTwo {
-    /// The same with one number more, which may be among them.
+    /// As `self`, with one more number, which may be among them.
     pub fn with(&self, number: u32) -> UpToTwo
         ensures { result ≡ numbers.with_number self.now number }
     {
@@ -42,7 +42,7 @@ impl UpToTwo {
         matches!(self, UpToTwo::One(_))
     }
 
-    /// Whether they are just two.
+    /// Whether there are exactly two numbers.
     pub fn are_two(&self) -> bool
         ensures { result ≡ numbers.are_two self.now }
     {

@@ -1,4 +1,4 @@
--- The slots of the numbers of an arena: each once, each with the block of its number.
+-- Each number of an arena has one slot, which has the block of the number.
 use Rattle.std.proofs.Common.{◌≡◌, ℕ, Bool, true, false, cond, ◌||◌, List, [], ◌∷◌, map, Some, refl, sym, ap, subst, inl, inr, ◌∙◌, eq-eqb}
 use Rattle.std.specs.Prelude.{◌==◌, nat_eq}
 use Rattle.std.specs.Map.{lookup, keys_of}

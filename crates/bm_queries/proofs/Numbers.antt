@@ -1,4 +1,4 @@
--- Sorted numbers: an ascending list is determined by its members, if each occurs once.
+-- An ascending list is determined by its members, if each occurs once.
 use Rattle.std.proofs.Common.{◌≡◌, ℕ, Bool, true, false, cond, List, [], ◌∷◌, map, filter, Ordering, refl, inl, inr, ◌∙◌, T}
 use Rattle.std.specs.Prelude.{◌==◌}
 use Rattle.std.specs.Ordering.{nat_cmp, eq_by_cmp, is_lt}

@@ -1,1 +1,2 @@
+-- Definitions of the contracts of queries: the elements listed at slots, and their ascending lists.
 pub mod Listed

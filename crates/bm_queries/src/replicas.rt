@@ -12,7 +12,7 @@ use bm_base::{Marks, Refusal, Replica, ReplicaId};
 use bm_levels::LeveledBlocks;
 use std::alloc::{AllocError, Global};
 
-/// Which replicas are listed.
+/// The replicas that a query lists.
 #[derive(Clone, Copy, Debug)]
 pub enum ReplicaFilter {
     All,

@@ -1,4 +1,5 @@
--- The cell of a slot and the array of its level, as the calls read and write them.
+-- The cell of a slot holds the slot's level and its index in the array of that level, before and
+-- after each call.
 use Rattle.std.proofs.Common.{◌≡◌, ℕ, ◌<◌, ◌-◌, ◌++◌, List, [], ◌∷◌, length, get_or, set, Option, Some, None, vec_capacity, vec_len, sym, ap, ◌∙◌, arith}
 use Rattle.std.specs.List.{swap_remove}
 use Rattle.std.specs.declared.vec.Vec.{Vec}

@@ -1,5 +1,4 @@
--- Properties of links that hold lists, and the effect of unlinking a slot or linking one at the
--- front.
+-- Links that hold lists still hold them after a slot is unlinked or linked at the front.
 use Rattle.std.proofs.Common.{◌≡◌, ◌≢◌, ◌⊎◌, ℕ, zero, suc, ◌<◌, ◌≤◌, ◌+◌, ◌-◌, List, [], ◌∷◌, ◌++◌, length, get_or, set, take, replicate, Option, Some, None, inl, inr, subst, sym, ap, ◌∙◌, refl, arith}
 use Rattle.std.proofs.lemmas.Bool.{cases_eq, cases_lt, eq-eqb, ne_eqb}
 use Rattle.std.proofs.lemmas.Option.{none-some, same_Some}
@@ -8,7 +7,7 @@ use Rattle.std.specs.Prelude.{if◌then◌else◌, ◌==◌}
 use Rattle.bm_maps.specs.SlotLinks.{end_of_links}
 use Rattle.bm_maps.specs.SlotLists.{IsMember, Distinct, without, first_of, slot_after}
 use Rattle.bm_queues.specs.Links.{link_at, Chain, list_from, HoldLists, AreLinks, back_set}
-use Rattle.bm_maps.proofs.SlotLists.{Among-without, Among-without_other, without-absent, Distinct-without, length-distinct_below}
+use Rattle.bm_maps.proofs.SlotLists.{IsMember-without, IsMember-without_other, without-absent, Distinct-without, length-distinct_below}
 use Rattle.bm_queues.proofs.Chains.{Off, Chain-frame, walk-chain, first-chain, after-chain, back-chain, before-chain, next_among, not_itself, Chain-front, Chain-without}
 
 link_below : (links : List (Option ℕ)) (i v : ℕ) → link_at links i ≡ Some v → i < length links
@@ -235,8 +234,8 @@ module _ (k : ℕ) (next back : List (Option ℕ)) (f : ℕ → List ℕ) (held 
     cut-complete y c is =
         let differs : y ≢ x = λ e. none-some c (sym cut_back-own ∙ ap (link_at cut_back) (sym e) ∙ is) in
         elim (link_is y differs after refl) [
-          | inl t ↦ (home.0, home.1, Among-without_other x y (f home.0) t.0 differs)
-          | inr t ↦ (let found = held.complete y c (sym t ∙ is) in (found.0, found.1, Among-without_other x y (f found.0) found.2 differs))
+          | inl t ↦ (home.0, home.1, IsMember-without_other x y (f home.0) t.0 differs)
+          | inr t ↦ (let found = held.complete y c (sym t ∙ is) in (found.0, found.1, IsMember-without_other x y (f found.0) found.2 differs))
         ]
 
     cut-clear : (y : ℕ) → link_at cut_back y ≡ None → link_at cut (k + y) ≡ None
@@ -266,7 +265,7 @@ module _ (k : ℕ) (next back : List (Option ℕ)) (f : ℕ → List ℕ) (held 
       small = rw length-cut_back held.small;
       chain = cut-chain;
       distinct = λ l low. Distinct-without x (f l) (held.distinct l low);
-      once = λ l m z low low' a b. held.once l m z low low' (Among-without x z (f l) a) (Among-without x z (f m) b);
+      once = λ l m z low low' a b. held.once l m z low low' (IsMember-without x z (f l) a) (IsMember-without x z (f m) b);
       complete = cut-complete;
       clear = cut-clear;
     }

@@ -1,4 +1,4 @@
--- Slots of a list by their index, and the same list from its end.
+-- The slots of a list from its end are those of its array by descending index.
 use Rattle.std.proofs.Common.{◌≡◌, ◌≢◌, ◌⊎◌, ℕ, zero, suc, ◌<◌, ◌+◌, ◌-◌, ◌++◌, List, [], ◌∷◌, length, get_or, set, take, drop, reverse, Option, Some, None, inl, inr, subst, sym, ap, ◌∙◌, refl, arith}
 use Rattle.std.specs.Prelude.{◌↔◌, slice_get}
 use Rattle.std.specs.List.{swap_remove}
@@ -12,12 +12,12 @@ use Rattle.bm_maps.specs.SlotLists.{IsMember, Distinct, first_of, slot_after}
 use Rattle.bm_maps.proofs.SlotLists.{dec_among}
 use Rattle.bm_queues.specs.Walks.{slots_from, IsOn, IsPast}
 
-pub place_among : (x : ℕ) (xs : List ℕ) → IsMember x xs → (i : ℕ) × (i < length xs) × (get_or xs i 0 ≡ x)
-place_among x [] there = absurd there
-place_among x (y ∷ ys) there =
+pub index_among : (x : ℕ) (xs : List ℕ) → IsMember x xs → (i : ℕ) × (i < length xs) × (get_or xs i 0 ≡ x)
+index_among x [] there = absurd there
+index_among x (y ∷ ys) there =
     elim there [
       | inl here ↦ (zero, omega arith, sym here)
-      | inr later ↦ (let found = place_among x ys later in (suc found.0, (let low = found.1 in omega (arith, low)), found.2))
+      | inr later ↦ (let found = index_among x ys later in (suc found.0, (let low = found.1 in omega (arith, low)), found.2))
     ]
 
 pub among_at : (xs : List ℕ) (i : ℕ) → i < length xs → IsMember (get_or xs i 0) xs
@@ -35,7 +35,7 @@ AreApart xs = (i j : ℕ) → i < length xs → j < length xs → get_or xs i 0 
 pub distinct_apart : (xs : List ℕ) → AreApart xs → Distinct xs
 distinct_apart [] apart = tt
 distinct_apart (x ∷ xs) apart = (
-  λ there. let found = place_among x xs there in
+  λ there. let found = index_among x xs there in
       let low = found.1 in
       let same : suc found.0 ≡ zero = apart (suc found.0) zero (omega (arith, low)) (omega arith) found.2 in
       absurd (omega (arith, same)),
@@ -48,7 +48,7 @@ distinct_apart (x ∷ xs) apart = (
 
 among-reversed : (x : ℕ) (xs : List ℕ) → IsMember x xs → IsMember x (reverse xs)
 among-reversed x xs there =
-    let found = place_among x xs there in
+    let found = index_among x xs there in
     let low = found.1 in
     let long = length-reverse xs in
     let back : length xs - 1 - (length xs - 1 - found.0) ≡ found.0 = omega (arith, low) in
@@ -73,7 +73,7 @@ distinct-reverse xs apart = distinct_apart (reverse xs) (apart-reverse xs apart)
 pub first-taken : (xs : List ℕ) (k : ℕ) → k < length xs → first_of (reverse (take (k + 1) xs)) ≡ Some (get_or xs k 0)
 first-taken xs k low = ap first_of (ap reverse (take_more xs k 0 low) ∙ reverse-append (take k xs) (get_or xs k 0 ∷ []))
 
--- the same, as the code reads it
+-- `first-taken` as the code reads it
 pub first-read : (xs ys : List ℕ) (z : ℕ) → ys ≡ reverse xs → slice_get ys (length ys - 1) ≡ Some z → Some z ≡ first_of xs
 first-read [] ys z is at = absurd (none-some z (rw is at at))
 first-read (x ∷ xs) ys z is at =
@@ -109,13 +109,13 @@ module _ (xs : List ℕ) (apart : AreApart xs) (i : ℕ) (low : i < length xs) w
 
   not-later : IsMember z (reverse (drop (i + 1) xs)) → ⊥
   not-later there =
-      let found = place_among z (drop (i + 1) xs) ((among-reverse z (drop (i + 1) xs)).0 there) in
+      let found = index_among z (drop (i + 1) xs) ((among-reverse z (drop (i + 1) xs)).0 there) in
       let inside = found.1 in
       let at : get_or xs (i + 1 + found.0) 0 ≡ z = sym (get_or-drop (i + 1) xs found.0 0) ∙ found.2 in
       let same : i + 1 + found.0 ≡ i = apart (i + 1 + found.0) i (grind (arith, common_steps, inside)) low at in
       absurd (omega (arith, same))
 
-  -- from a slot on, the slots before it in the array are to come
+  -- from a slot on, the slots before it in the array remain
   pub from-index : slots_from (reverse xs) (Some z) ≡ reverse (take (i + 1) xs)
   from-index = ap (λ ys. slots_from ys (Some z)) cut-reverse ∙ from-cut z (reverse (drop (i + 1) xs)) (reverse (take i xs)) not-later ∙ sym taken-reverse
 
@@ -142,13 +142,13 @@ module _ (xs : List ℕ) (apart : AreApart xs) (slot place : ℕ) (low : place <
 
   pub others_stay : (other : ℕ) → other ≢ slot → IsMember other rest ↔ IsMember other xs
   others_stay other differs = (
-    λ there. let found = place_among other rest there in
+    λ there. let found = index_among other rest there in
         let below : found.0 < last = (let f = found.1 in omega (arith, f, rest-length)) in
         elim (cases_eq found.0 place) [
           | inl same ↦ among_here other xs last (omega (arith, low)) (sym (rest-place (omega (arith, below, same))) ∙ ap (λ i. get_or rest i 0) (sym same) ∙ found.2)
           | inr away ↦ among_here other xs found.0 (omega (arith, below)) (sym (rest-at found.0 below away) ∙ found.2)
         ],
-    λ there. let found = place_among other xs there in
+    λ there. let found = index_among other xs there in
         let apart_p : found.0 ≢ place = λ e. differs (sym found.2 ∙ ap (λ i. get_or xs i 0) e ∙ at) in
         elim (cases_eq found.0 last) [
           | inl end ↦
@@ -191,7 +191,7 @@ module _ (xs : List ℕ) (apart : AreApart xs) (slot place : ℕ) (low : place <
   taken-rest i below =
       take-take (i + 1) last (set xs place (get_or xs last slot)) (omega (arith, below, low)) ∙ take-set-le (i + 1) xs place (get_or xs last slot) (omega (arith, below))
 
-  -- the slots still to come stay the same if the slot was left behind
+  -- the remaining slots stay the same if the slot was passed
   pub rest-from : (p : Option ℕ) → IsPast slot p (reverse xs) → slots_from (reverse rest) p ≡ slots_from (reverse xs) p
   rest-from None past = refl
   rest-from (Some y) past =
@@ -201,7 +201,7 @@ module _ (xs : List ℕ) (apart : AreApart xs) (slot place : ℕ) (low : place <
             from-absent y (reverse rest) (λ h. absent ((others_stay y other).0 ((among-reverse y rest).0 h)))
             ∙ sym (from-absent y (reverse xs) (λ h. absent ((among-reverse y xs).0 h)))
         | inl there ↦
-            let found = place_among y xs there in
+            let found = index_among y xs there in
             let i : ℕ = found.0 in
             let inside : i < length xs = found.1 in
             let whole : slots_from (reverse xs) (Some y) ≡ reverse (take (i + 1) xs) = ap (λ w. slots_from (reverse xs) (Some w)) (sym found.2) ∙ from-index xs apart i inside in

@@ -1,4 +1,4 @@
--- The invariant of level lists in arrays; a growth and a change of level keep it.
+-- A growth and a change of level keep the invariant of level lists in arrays.
 use Rattle.std.proofs.Common.{◌≡◌, ◌≢◌, ◌⊎◌, ℕ, zero, suc, ◌<◌, ◌≤◌, ◌+◌, ◌-◌, ◌++◌, List, [], ◌∷◌, length, get_or, set, map, take, reverse, replicate, Option, Some, None, inl, inr, subst, sym, ap, ◌∙◌, refl, arith}
 use Rattle.std.specs.Prelude.{if◌then◌else◌, ◌==◌, ◌↔◌, option_and_then}
 use Rattle.std.specs.List.{swap_remove, All}
@@ -20,7 +20,7 @@ use Rattle.bm_queues.specs.DenseLevels.{AreDense, seen, level_in, array_of, leve
 use Rattle.bm_queues.specs.Walks.{slots_from, IsOn, IsPast, GoesOn}
 use Rattle.bm_queues.proofs.Visits.{walk-after}
 use Rattle.bm_queues.proofs.ListIteration.{next-is_on, rest-next, past-is}
-use Rattle.bm_queues.proofs.Indices.{AreApart, place_among, among_here, distinct_apart, among-reverse, distinct-reverse, first-taken, after-index, rest-length, rest-at, rest-place, rest-from, rest-on, permutation-reverse}
+use Rattle.bm_queues.proofs.Indices.{AreApart, index_among, among_here, distinct_apart, among-reverse, distinct-reverse, first-taken, after-index, rest-length, rest-at, rest-place, rest-from, rest-on, permutation-reverse}
 
 -- Levels and their numbers.
 
@@ -111,7 +111,7 @@ module _ (levels : List (Option Level)) (indices : List ℕ) (arrays : List (Lis
 
   pub array-exact : (l : Level) (slot : ℕ) → IsMember slot (array_of arrays l) ↔ (level_in levels slot ≡ Some l)
   array-exact l slot = (
-    λ h. let found = place_among slot (array_of arrays l) h in
+    λ h. let found = index_among slot (array_of arrays l) h in
         ap (λ x. level_in levels x) (sym found.2) ∙ are.level l found.0 found.1,
     λ is. among_here slot (array_of arrays l) (get_or indices slot 0) (are.inside l slot is) (are.there l slot is),
   )

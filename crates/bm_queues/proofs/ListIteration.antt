@@ -1,11 +1,11 @@
--- Iteration over a list of slots, also while slots that were left behind are removed or moved to
--- the front.
+-- Iteration over a list of slots keeps its remaining slots while slots that it has passed are
+-- removed or moved to the front.
 use Rattle.std.proofs.Common.{◌≡◌, ◌≢◌, ℕ, eqb, List, [], ◌∷◌, Option, Some, None, inl, inr, subst, sym, ap, ◌∙◌, refl}
 use Rattle.std.specs.Option.{IfSome}
 use Rattle.std.proofs.lemmas.Bool.{cases_Bool, eq-eqb, ne_eqb, eqb-true, eqb-false}
 use Rattle.std.proofs.lemmas.Option.{none-some}
 use Rattle.bm_maps.specs.SlotLists.{IsMember, Distinct, without, first_of, slot_after}
-use Rattle.bm_maps.proofs.SlotLists.{dec_among, slot_after-absent, without-absent, Among-without_other}
+use Rattle.bm_maps.proofs.SlotLists.{dec_among, slot_after-absent, without-absent, IsMember-without_other}
 use Rattle.bm_queues.specs.Walks.{slots_from, IsOn, IsPast}
 use Rattle.bm_queues.proofs.HeldLists.{first_among}
 
@@ -57,7 +57,7 @@ past-next x xs distinct =
       | inr absent ↦ rw (slot_after-absent x xs absent) (λ e. none-some x e, λ h. h)
     ]
 
--- the removal of a slot that was left behind keeps the slots still to come
+-- the removal of a slot that was passed keeps the remaining slots
 pub from-without : (x : ℕ) (xs : List ℕ) (at : Option ℕ) → IsPast x at xs → slots_from (without x xs) at ≡ slots_from xs at
 from-without x xs None past = refl
 from-without x [] (Some z) past = refl
@@ -73,7 +73,7 @@ from-without x (y ∷ ys) (Some z) past =
 
 pub on-without : (x : ℕ) (xs : List ℕ) (at : Option ℕ) → IsPast x at xs → IsOn at xs → IsOn at (without x xs)
 on-without x xs None past on = tt
-on-without x xs (Some z) past on = Among-without_other x z xs on (λ e. past.0 (ap Some e))
+on-without x xs (Some z) past on = IsMember-without_other x z xs on (λ e. past.0 (ap Some e))
 
 -- The first slot and the next slot, in the form of the calls.
 

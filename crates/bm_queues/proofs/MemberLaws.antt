@@ -1,9 +1,9 @@
--- The one list of a set.
+-- The members of a set are the slots of its one list.
 use Rattle.std.proofs.Common.{◌≡◌, ◌≢◌, ℕ, ◌<◌, List, Option, None, inl, inr, subst, sym, ◌∙◌, arith}
 use Rattle.std.specs.Prelude.{◌↔◌}
 use Rattle.bm_maps.specs.SlotLists.{IsMember, Distinct, without, slot_after}
 use Rattle.bm_queues.specs.Links.{list_from}
-use Rattle.bm_maps.proofs.SlotLists.{dec_among, slot_after-absent, without-gone, Among-without, Among-without_other}
+use Rattle.bm_maps.proofs.SlotLists.{dec_among, slot_after-absent, without-gone, IsMember-without, IsMember-without_other}
 
 module _ (k : ℕ) (next back : List (Option ℕ)) (one : k ≡ 1) where
   pub only_list : (slot : ℕ) → (l : ℕ) × (l < k) × IsMember slot (list_from k next back l) → IsMember slot (list_from k next back 0)
@@ -26,4 +26,4 @@ pub gone-without : (slot : ℕ) (xs ys : List ℕ) → ys ≡ without slot xs �
 gone-without slot xs ys is distinct there = without-gone slot xs distinct (rw is at there)
 
 pub others-without : (slot : ℕ) (xs ys : List ℕ) → ys ≡ without slot xs → (other : ℕ) → other ≢ slot → IsMember other ys ↔ IsMember other xs
-others-without slot xs ys is other differs = rw is (λ h. Among-without slot other xs h, λ h. Among-without_other slot other xs h differs)
+others-without slot xs ys is other differs = rw is (λ h. IsMember-without slot other xs h, λ h. IsMember-without_other slot other xs h differs)

@@ -1,4 +1,4 @@
--- One of the arrays of the levels: the result of a read, and the effect of a change on all arrays.
+-- A read of one level's array gives its slots, and a change of it changes no other array.
 use Rattle.std.proofs.Common.{◌≡◌, ℕ, ◌+◌, ◌<◌, ◌≤◌, List, [], length, get_or, set, take, vec_capacity, subst, sym, ap, ◌∙◌, arith}
 use Rattle.std.specs.List.{All}
 use Rattle.std.specs.declared.vec.Vec.{Vec}

@@ -1,4 +1,4 @@
--- Iteration over a list of slots by `next`.
+-- An iteration by `next` visits all slots of a list, in order.
 use Rattle.std.proofs.Common.{◌≡◌, ◌≢◌, ℕ, zero, suc, ◌≤◌, List, [], ◌∷◌, length, Option, inl, inr, subst, sym, ap, ◌∙◌, refl, arith}
 use Rattle.std.proofs.lemmas.Bool.{eq-eqb, ne_eqb}
 use Rattle.bm_maps.specs.SlotLists.{IsMember, Distinct, first_of, slot_after}

@@ -1,3 +1,4 @@
+-- Definitions of the contracts of lists and sets of slots.
 pub mod Links
 pub mod Walks
 pub mod Linked

@@ -142,7 +142,7 @@ impl LevelLists {
         }
     }
 
-    /// Takes a slot out of its list, if it is in one: it has no level then.
+    /// Removes a slot from its list, if it is in one: it has no level then.
     fn leave(&mut self, slot: usize)
         requires { slot < length self.old.levels }
         ensures left { (l : Level) → level_at self.old slot ≡ Some l
@@ -217,8 +217,8 @@ impl LevelLists {
     }
 
     /// The next slot in the list of a slot's level; none after the last one, and if the slot has no
-    /// level. A caller that iterates may change the level of the slot that it has left: the slots
-    /// still to come stay the same.
+    /// level. A caller that iterates may change the level of the slot that it has passed: the
+    /// remaining slots stay the same.
     pub fn next(&self, slot: usize) -> Option<usize>
         requires { slot < length self.now.levels }
         ensures slot { result ≡ next_of self.now slot }

@@ -89,7 +89,7 @@ impl SlotLists {
         self.previous.resize(bound, NO_LINK)
     }
 
-    /// Takes a slot out of its list, if it is in one.
+    /// Removes a slot from its list, if it is in one.
     pub(crate) fn unlink(&mut self, slot: usize)
         requires lawful { AreLinked self.old }
         requires slot { slot < capacity_of self.old }

@@ -101,7 +101,7 @@ impl SlotSet {
         self.count += 1;
     }
 
-    /// Takes a slot out, if it is in the set. Takes no memory.
+    /// Removes a slot, if it is in the set. Takes no memory.
     pub fn remove(&mut self, slot: usize)
         requires { slot < self.old.capacity }
         ensures after { self.new ≡ record self.old { slots = without slot self.old.slots } }
@@ -136,7 +136,8 @@ impl SlotSet {
         self.count
     }
 
-    /// The slot at the front; none if the set is empty. From there on all slots are to come.
+    /// The slot at the front; none if the set is empty. An iteration from there on visits all
+    /// slots.
     pub fn first(&self) -> Option<usize>
         ensures slot { result ≡ first_of self.now.slots }
         ensures on { IsOn result self.now.slots }
@@ -146,8 +147,8 @@ impl SlotSet {
     }
 
     /// The next slot after a slot; none after the last one, and if the slot is not in the set. A
-    /// caller that iterates may remove the slot that it has left, or insert it again: the slots
-    /// still to come stay the same.
+    /// caller that iterates may remove the slot that it has passed, or insert it again: the
+    /// remaining slots stay the same.
     pub fn next(&self, slot: usize) -> Option<usize>
         requires { slot < self.now.capacity }
         ensures slot { result ≡ slot_after slot self.now.slots }

@@ -1,4 +1,4 @@
--- The slots after the delimiter when slots are linked, or moved, before it.
+-- Only a slot that is linked or moved before the delimiter leaves the slots after it.
 use Rattle.std.proofs.Common.{◌≡◌, ◌≢◌, ℕ, List, [], ◌∷◌, eqb, false, refl, inl, inr, sym, ◌∙◌}
 use Rattle.std.proofs.lemmas.Bool.{cases_Bool, eqb-true, ne_eqb}
 use Rattle.bm_maps.specs.SlotLists.{IsMember, Distinct, without}
@@ -6,10 +6,10 @@ use Rattle.bm_maps.proofs.SlotLists.{without-absent}
 use Rattle.bm_arena.specs.Contents.{Contents, list_of}
 use Rattle.bm_report.specs.DuringReport.{after, behind}
 
-pub Among-after : (d x : ℕ) (xs : List ℕ) → IsMember x (after d xs) → IsMember x xs
-Among-after d x [] m = m
-Among-after d x (y ∷ ys) m =
-    elim (cases_Bool (eqb y d)) [ inl here ↦ inr (rw here at m) | inr other ↦ inr (Among-after d x ys (rw other at m)) ]
+pub IsMember-after : (d x : ℕ) (xs : List ℕ) → IsMember x (after d xs) → IsMember x xs
+IsMember-after d x [] m = m
+IsMember-after d x (y ∷ ys) m =
+    elim (cases_Bool (eqb y d)) [ inl here ↦ inr (rw here at m) | inr other ↦ inr (IsMember-after d x ys (rw other at m)) ]
 
 pub after-front : (d x : ℕ) (xs : List ℕ) → x ≢ d → after d (x ∷ xs) ≡ after d xs
 after-front d x xs apart = rw (ne_eqb x d apart) refl
@@ -24,7 +24,7 @@ after-without d x (y ∷ ys) apart distinct =
       | inr behind_it ↦
           elim (cases_Bool (eqb y x)) [
             | inl here ↦
-                let gone : IsMember x (after d ys) → ⊥ = λ m. distinct.0 (rw (eqb-true y x here) (Among-after d x ys m)) in
+                let gone : IsMember x (after d ys) → ⊥ = λ m. distinct.0 (rw (eqb-true y x here) (IsMember-after d x ys m)) in
                 rw (here, behind_it) (sym (without-absent x (after d ys) gone))
             | inr other ↦ rw (other, behind_it) (after-without d x ys apart distinct.1)
           ]
@@ -35,7 +35,7 @@ module _ (old new : Contents) (s slot : ℕ) (delimiter : new.delimiter ≡ old.
   pub behind-linked : (IsMember slot (list_of old s) → ⊥) → list_of new s ≡ slot ∷ list_of old s → behind new s ≡ without slot (behind old s)
   behind-linked absent list =
       (λ i. after (delimiter i) (list i)) ∙ after-front old.delimiter slot (list_of old s) apart
-      ∙ sym (without-absent slot (behind old s) (λ m. absent (Among-after old.delimiter slot (list_of old s) m)))
+      ∙ sym (without-absent slot (behind old s) (λ m. absent (IsMember-after old.delimiter slot (list_of old s) m)))
 
   -- a slot is moved to the head
   pub behind-moved : Distinct (list_of old s) → list_of new s ≡ slot ∷ without slot (list_of old s) → behind new s ≡ without slot (behind old s)

@@ -1,4 +1,5 @@
--- Numbers entered, and their lost excess dropped, one after another, each with its slot.
+-- Entering numbers one after another, each with its slot, and dropping their lost excess, does so
+-- for all of them.
 use Rattle.std.proofs.Common.{◌≡◌, ℕ, ◌≤◌, List, [], ◌∷◌, ◌++◌, length, map, Option, Some, None, refl, subst, inl, inr, sym, ap, ◌∙◌, arith, length-append}
 use Rattle.std.proofs.Common.{Bool, true, false, ◌||◌, eqb}
 use Rattle.std.specs.Prelude.{nat_eq, ◌==◌, IsTrue, IsSomeAnd}
@@ -65,7 +66,7 @@ pub reported_back : (a : Contents) (ts : List ReportedBlock) → map reported_of
 reported_back a [] = refl
 reported_back a (t ∷ ts) = ap (λ l. t ∷ l) (reported_back a ts)
 
--- the same with the slots of an arena that has the same numbers
+-- entered blocks, with the slots of an arena that has the same numbers
 pub entered_as : (C : Cluster) (s : ℕ) (ts : List ReportedBlock) (a b c : Contents) → b.ids ≡ a.ids → IsEntered C s (named_of b ts) b c → IsEntered C s (named_of a ts) b c
 entered_as C s ts a b c e f = let P : List ReportedSlot → Type 0 = λ l. IsEntered C s l b c in subst P (named-ids a b ts e) f
 

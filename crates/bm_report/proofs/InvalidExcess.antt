@@ -4,7 +4,7 @@ use Rattle.std.specs.Option.{option_map_or, option_and_then}
 use Rattle.std.specs.Map.{lookup}
 use Rattle.std.specs.Prelude.{nat_eq}
 use Rattle.std.proofs.lemmas.Bool.{cases_eq, false≢true}
-use Rattle.std.proofs.lemmas.Option.{none-some}
+use Rattle.std.proofs.lemmas.Option.{none-some, same_Some}
 use Rattle.bm_base.specs.declared.replica.Marks.{Marks}
 use Rattle.bm_base.specs.Words.{get, insert, replica_at, is_good}
 use Rattle.bm_arena.specs.Triplets.{Block}
@@ -96,10 +96,7 @@ module _ (s : ℕ) (n : ReportedSlot) (a : Contents) (lawful : IsLawful a) (here
 
   pub drops-good : (m : Marks) → marks_at a n.slot s ≡ Some m → is_excess_good m ≡ true → DropsInvalidExcess s (n ∷ []) a a
   drops-good m at good =
-      drops-same s (n ∷ []) a (kept_one s n.id (replicas_of a) (λ k e. let same : m ≡ k = one m k (sym (got ∙ at) ∙ e) in sym (ap is_excess_good same) ∙ good))
-    where
-      one : (m k : Marks) → Some m ≡ Some k → m ≡ k
-      one m k e = cc
+      drops-same s (n ∷ []) a (kept_one s n.id (replicas_of a) (λ k e. let same : m ≡ k = same_Some m k (sym (got ∙ at) ∙ e) in sym (ap is_excess_good same) ∙ good))
 
   pub drops-set : (m : Marks) → marks_at a n.slot s ≡ Some m → is_excess_good m ≡ false → DropsInvalidExcess s (n ∷ []) a (set_at a n.slot s (without_invalid_excess m))
   drops-set m at bad = record {
@@ -117,7 +114,7 @@ module _ (s : ℕ) (n : ReportedSlot) (a : Contents) (lawful : IsLawful a) (here
         elim (cases_eq x n.slot) [
           | inl same ↦
               let at_k : marks_at a n.slot s ≡ Some k = rw same at e in
-              let is : m ≡ k = one m k (sym at ∙ at_k) in
+              let is : m ≡ k = same_Some m k (sym at ∙ at_k) in
               absurd (false≢true (sym bad ∙ ap is_excess_good is ∙ h))
           | inr differs ↦ set-elsewhere a n.slot s (without_invalid_excess m) x differs
         ];
@@ -128,6 +125,3 @@ module _ (s : ℕ) (n : ReportedSlot) (a : Contents) (lawful : IsLawful a) (here
         ];
     entries = set-entries a n.slot s (without_invalid_excess m);
   }
-    where
-      one : (m k : Marks) → Some m ≡ Some k → m ≡ k
-      one m k e = cc

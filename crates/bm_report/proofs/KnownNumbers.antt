@@ -1,4 +1,4 @@
--- Numbers that have a replica on the storage already: their look-up changes nothing.
+-- Looking up a number that has a replica on the storage changes nothing.
 use Rattle.std.proofs.Common.{◌≡◌, ℕ, Option, Some, None, IsSome, refl, subst, sym, ◌∙◌}
 use Rattle.std.specs.Option.{option_and_then}
 use Rattle.std.proofs.lemmas.Bool.{false≢true}

@@ -4,6 +4,7 @@ use Rattle.std.proofs.Common.{◌≡◌, ℕ, Bool, true, false, cond, ◌&&◌,
 use Rattle.std.specs.Prelude.{◌==◌}
 use Rattle.std.specs.Option.{option_map}
 use Rattle.std.proofs.lemmas.Bool.{cases_Bool, false≢true, and_parts}
+use Rattle.std.proofs.lemmas.Option.{same_Some}
 use Rattle.bm_base.specs.declared.replica.ReplicaId.{ReplicaId}
 use Rattle.bm_base.specs.declared.replica.Marks.{Marks}
 use Rattle.bm_base.specs.declared.replica.Stamp.{Stamp}
@@ -68,14 +69,11 @@ module _ (C : Cluster) (H : Holdings) (s : ℕ) (ns : List ReportedSlot) where
       was true e = cc
       was false e = e
 
-      one : (x y : Marks) → Some x ≡ Some y → x ≡ y
-      one x y e = cc
-
       entered_good : (l : Option Stamp) → option_map (entered_marks H p) l ≡ Some m → IsTrue (is_good m.tag)
       entered_good None e = cc
       entered_good (Some st) e =
           let x = marks_during_report (get H.blocks p.block) (get H.replicas p) st in
-          let same : without_invalid_excess x ≡ m = entered_without_lost_excess C H s p st ∙ one (entered_marks H p st) m e in
+          let same : without_invalid_excess x ≡ m = entered_without_lost_excess C H s p st ∙ same_Some (entered_marks H p st) m e in
           let P : Marks → Type 0 = λ k. IsTrue k.excess → IsTrue (is_good k.tag) in
           subst P same (λ h. (and_parts (is_good x.tag) x.excess h).0) excess
 

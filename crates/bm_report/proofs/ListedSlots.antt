@@ -4,7 +4,7 @@ use Rattle.std.specs.Prelude.{slice_get}
 use Rattle.std.proofs.lemmas.Option.{none-some, same_Some}
 use Rattle.bm_maps.specs.SlotLists.{IsMember}
 use Rattle.bm_arena.specs.Contents.{Contents}
-use Rattle.bm_arena.proofs.Replicas.{Among-append}
+use Rattle.bm_arena.proofs.Replicas.{IsMember-append}
 use Rattle.bm_report.specs.declared.types.ReportedSlot.{ReportedSlot}
 use Rattle.bm_report.specs.DuringReport.{AreAtSlots, slot_in, reported_of}
 use Rattle.bm_report.specs.Ready.{IsReportedAt}
@@ -32,7 +32,7 @@ slots-back (n ∷ ns) ms slot h = inr (slots-back ns ms slot h)
 pub came-push : (slot : ℕ) (xs ys : List ℕ) → ys ≡ xs ++ slot ∷ [] → (x : ℕ) → IsMember x ys → IsMember x xs ⊎ (x ≡ slot)
 came-push slot xs ys is x m =
     let P : List ℕ → Type 0 = λ l. IsMember x l in
-    elim (Among-append x xs (slot ∷ []) (subst P is m)) [ inl was ↦ inl was | inr (inl same) ↦ inr same | inr (inr none) ↦ absurd none ]
+    elim (IsMember-append x xs (slot ∷ []) (subst P is m)) [ inl was ↦ inl was | inr (inl same) ↦ inr same | inr (inr none) ↦ absurd none ]
 
 -- the slot of a named number is that of a reported number
 pub slot-reported : (a : Contents) (ns : List ReportedSlot) (slot : ℕ) → AreAtSlots a ns → IsMember slot (map slot_in ns) → IsReportedAt a (map reported_of ns) slot

@@ -1,4 +1,4 @@
--- Which numbers the rest of a report names.
+-- Each number that the rest of a report names is one that the whole report names.
 use Rattle.std.proofs.Common.{◌≡◌, ℕ, true, false, ◌+◌, ◌<◌, ◌≤◌, ◌||◌, List, ◌∷◌, ◌++◌, drop, Some, sym, ap, ◌∙◌, eq-eqb}
 use Rattle.std.specs.Prelude.{◌==◌, slice_get}
 use Rattle.std.proofs.lemmas.Bool.{false≢true}

@@ -1,4 +1,4 @@
--- The numbers of a shard in runs, one after another.
+-- The numbers of a shard, taken run by run, are all of its numbers in a report.
 use Rattle.std.proofs.Common.{◌≡◌, ◌≢◌, ℕ, zero, suc, ◌+◌, ◌-◌, ◌<◌, ◌≤◌, ◌%◌, ◌*◌, ◌/◌, inl, inr, cond, List, [], ◌∷◌, ◌++◌, map, drop, Some, sym, ap, ◌∙◌, arith, append_assoc, add-one}
 use Rattle.std.specs.Prelude.{slice_get, length}
 use Rattle.std.proofs.lemmas.Bool.{ne_eqb, eq-eqb, cases_lt}

@@ -12,7 +12,7 @@ use Rattle.bm_report.specs.DuringReport.{entered_at, entered_one, entered_all, i
 use Rattle.bm_base.proofs.Clusters.{siblings_turned, no_sibling_itself}
 use Rattle.bm_report.proofs.Maps.{Held, tie, tied}
 
-kept_as : (b : Bool) (z : Option Marks) → option_and_then (λ x. cond b (Some x) None) z ≡ cond b z None
+pub kept_as : (b : Bool) (z : Option Marks) → option_and_then (λ x. cond b (Some x) None) z ≡ cond b z None
 kept_as true None = refl
 kept_as true (Some x) = refl
 kept_as false None = refl

@@ -1,4 +1,4 @@
--- Blocks entered so far, and the rest.
+-- Entering the rest of the blocks after those entered so far enters all blocks of a report.
 use Rattle.std.proofs.Common.{◌≡◌, ◌≢◌, ℕ, zero, suc, ◌+◌, ◌≤◌, List, [], ◌∷◌, ◌++◌, length, drop, Some, refl, subst, inl, inr, sym, ap, ◌∙◌, arith, length-append, eqb}
 use Rattle.std.specs.Prelude.{slice_get, nat_eq, ◌⊎◌}
 use Rattle.std.specs.Map.{lookup}
@@ -7,7 +7,7 @@ use Rattle.std.proofs.lemmas.Option.{none-some}
 use Rattle.bm_base.specs.Machine.State.{Cluster}
 use Rattle.bm_maps.specs.SlotLists.{IsMember}
 use Rattle.bm_arena.specs.Contents.{Contents, block_at, IsEntry, HasHead}
-use Rattle.bm_arena.proofs.Replicas.{Among-left, Among-last}
+use Rattle.bm_arena.proofs.Replicas.{IsMember-left, IsMember-last}
 use Rattle.bm_report.specs.declared.types.ReportedSlot.{ReportedSlot}
 use Rattle.bm_report.specs.declared.report_counts.ReportCounts.{ReportCounts}
 use Rattle.bm_arena.specs.HeldMaps.{replicas_of, blocks_of}
@@ -51,10 +51,10 @@ listed-push a b slot xs ys others is entry ids =
     (record {
       same = λ x out.
           elim (cases_Bool (eqb x slot)) [
-            | inl here ↦ absurd (out (let Q : ℕ → Type 0 = λ k. IsMember k (xs ++ slot ∷ []) in subst Q (sym (eqb-true x slot here)) (Among-last slot xs)))
+            | inl here ↦ absurd (out (let Q : ℕ → Type 0 = λ k. IsMember k (xs ++ slot ∷ []) in subst Q (sym (eqb-true x slot here)) (IsMember-last slot xs)))
             | inr other ↦ others x (eqb-false x slot other)
           ];
-      more = λ x m. Among-left x xs (slot ∷ []) m;
+      more = λ x m. IsMember-left x xs (slot ∷ []) m;
       only = λ x m. last x xs m;
       ids = ids;
     })

@@ -1,4 +1,5 @@
--- The slots of a report's numbers, and the length of a storage's list.
+-- Each number that was looked up has its entry, and no list of a storage is longer than the bound
+-- of the slots.
 use Rattle.std.proofs.Common.{◌≡◌, ℕ, ◌<◌, ◌≤◌, Bool, true, false, ◌||◌, List, [], ◌∷◌, length, map, Option, Some, None, IsSome, refl, subst, sym, ap, ◌∙◌, eqb-true}
 use Rattle.std.specs.Prelude.{◌==◌, IsTrue, IsSomeAnd}
 use Rattle.std.specs.Option.{option_and_then}
@@ -23,10 +24,10 @@ pub list_within : (a : Contents) (s : ℕ) → IsLawful a → length (list_of a 
 list_within a s lawful = length-distinct_below a.bound (list_of a s) (lawful.distinct s) (λ x among. held_below a s x lawful ((lawful.exact x s).0 among))
 
 -- each number that was looked up has its entry
-pub places_of : (a : Contents) (s : ℕ) (ns : List ReportedSlot) → AreAtSlots a ns → HaveCapacity a s ns → (b : ℕ) → IsTrue (is_named (map reported_of ns) b) → HasSlotFor a s b
+pub slots_of : (a : Contents) (s : ℕ) (ns : List ReportedSlot) → AreAtSlots a ns → HaveCapacity a s ns → (b : ℕ) → IsTrue (is_named (map reported_of ns) b) → HasSlotFor a s b
 unfolding is_named
-places_of a s [] here capacity b named = absurd (false≢true named)
-places_of a s (n ∷ ns) here capacity b named = by (n.id == b) refl named (places_of a s ns here.1 capacity.1 b)
+slots_of a s [] here capacity b named = absurd (false≢true named)
+slots_of a s (n ∷ ns) here capacity b named = by (n.id == b) refl named (slots_of a s ns here.1 capacity.1 b)
   where
     by : (t : Bool) → (n.id == b) ≡ t → IsTrue (t || is_named (map reported_of ns) b) → (IsTrue (is_named (map reported_of ns) b) → HasSlotFor a s b) → HasSlotFor a s b
     by true same named later =

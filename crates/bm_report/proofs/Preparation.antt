@@ -1,4 +1,4 @@
--- What a look-up keeps.
+-- A look-up keeps the slots and the capacity of the numbers that were looked up before it.
 use Rattle.std.proofs.Common.{◌≡◌, ◌≢◌, ℕ, ◌<◌, ◌≤◌, List, [], ◌∷◌, ◌++◌, length, Option, Some, None, is_some, IsSome, refl, subst, inl, inr, sym, ap, ◌∙◌, arith}
 use Rattle.std.specs.Prelude.{nat_eq, IsSomeAnd}
 use Rattle.std.specs.Option.{option_map, option_map_or, option_and_then, unwrap_or}

@@ -1,4 +1,4 @@
--- How many replicas came and went in a report.
+-- A report counts exactly the replicas that came and those that went.
 use Rattle.std.proofs.Common.{◌≡◌, ◌≢◌, ℕ, ◌+◌, Bool, true, false, cond, not, ◌&&◌, ◌||◌, List, [], ◌∷◌, length, Option, Some, None, is_some, refl, sym, ap, ◌∙◌, arith}
 use Rattle.std.specs.Prelude.{◌==◌}
 use Rattle.std.specs.List.{list_any}
@@ -15,6 +15,7 @@ use Rattle.bm_base.specs.declared.replica.BlockInfo.{BlockInfo}
 use Rattle.bm_base.specs.Words.{Map, by_number, get, insert, keep, revise, len, entries, contains_key, Cluster, by_replica, replica_at, replaces, new_replicas}
 use Rattle.bm_base.proofs.MapLaws.{same_map, get-insert, get-keep, get-revise, entries-keep, entries-revise}
 use Rattle.bm_base.proofs.Differences.{both_parts, none_new}
+use Rattle.bm_base.proofs.Options.{not_there}
 use Rattle.bm_report.specs.declared.types.ReportedSlot.{ReportedSlot}
 use Rattle.bm_report.specs.DuringReport.{entered_at, entered_one, entered_all, fresh, out_all, without_invalid_excess, invalid_excess_out_all, marks_during_report}
 use Rattle.bm_report.proofs.Siblings.{siblings_apart}
@@ -76,16 +77,12 @@ new-more K L M p m not_k not_l more =
     ∙ len-same (apart_from K M) (insert (apart_from K L) p m) (λ q.
     has-kept M (λ k. not (has K k)) q ∙ by q (has K q) refl
     ∙ sym (ap is_some (get-insert (apart_from K L) p m q) ∙ some_cond (tie q p) (get (apart_from K L) q) ∙ ap (λ x. tie q p || x) (has-kept L (λ k. not (has K k)) q)))
-    ∙ len-put_new (apart_from K L) p m (none (get (apart_from K L) p) (has-kept L (λ k. not (has K k)) p ∙ ap (λ x. not (has K p) && x) not_l ∙ and-false (not (has K p))))
+    ∙ len-put_new (apart_from K L) p m (not_there (get (apart_from K L) p) (has-kept L (λ k. not (has K k)) p ∙ ap (λ x. not (has K p) && x) not_l ∙ and-false (not (has K p))))
     ∙ ap (λ n. n + 1) (sym (new-is K L))
   where
     some_cond : (t : Bool) (z : Option Marks) → is_some (cond t (Some m) z) ≡ (t || is_some z)
     some_cond true z = refl
     some_cond false z = refl
-
-    none : (z : Option Marks) → is_some z ≡ false → z ≡ None
-    none None e = refl
-    none (Some x) e = cc
 
     by : (q : ReplicaId) (b : Bool) → has K q ≡ b → (not b && has M q) ≡ (tie q p || (not b && has L q))
     by q true e = sym (not_tied (tie q p) refl)

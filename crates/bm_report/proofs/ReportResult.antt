@@ -2,7 +2,7 @@
 use Rattle.std.proofs.Common.{◌≡◌, ℕ, Bool, true, false, cond, not, ◌&&◌, ◌||◌, List, [], ◌∷◌, map, Option, Some, None, is_some, IsSome, refl, inl, inr, sym, ap, ◌∙◌, eqb-true, eqb}
 use Rattle.std.specs.Prelude.{◌==◌, if◌then◌else◌}
 use Rattle.std.specs.List.{list_any}
-use Rattle.std.specs.Option.{option_map, option_map_or, option_or, option_and_then}
+use Rattle.std.specs.Option.{option_map, option_map_or, option_or}
 use Rattle.std.proofs.lemmas.Bool.{cases_Bool}
 use Rattle.std.proofs.Math.Bool.{and-true, and-false, and_self_left}
 use Rattle.bm_base.specs.declared.replica.ReplicaId.{ReplicaId}
@@ -17,7 +17,7 @@ use Rattle.bm_report.specs.declared.types.ReportedSlot.{ReportedSlot}
 use Rattle.bm_report.specs.DuringReport.{marks_during_report, without_invalid_excess, entered_one, entered_all, out_all, invalid_excess_out_one, invalid_excess_out_all, reported_of}
 use Rattle.bm_base.proofs.Clusters.{no_sibling_itself, eqb_turned}
 use Rattle.bm_report.proofs.Maps.{Held, tie, tied}
-use Rattle.bm_report.proofs.OncePerNode.{get-entered_at}
+use Rattle.bm_report.proofs.OncePerNode.{get-entered_at, kept_as}
 use Rattle.bm_report.proofs.EnteredChain.{entered_one_is}
 
 -- the stamp that counts for a named block: that of its last entry
@@ -242,12 +242,6 @@ module _ (C : Cluster) (H : Holdings) (s : ℕ) where
       joined None false = refl
       joined (Some x) true = refl
       joined (Some x) false = refl
-
-  kept_as : (b : Bool) (z : Option Marks) → option_and_then (λ x. cond b (Some x) None) z ≡ cond b z None
-  kept_as true None = refl
-  kept_as true (Some x) = refl
-  kept_as false None = refl
-  kept_as false (Some x) = refl
 
   get-report : (ns : List ReportedSlot) (q : ReplicaId) → get (report C H s (map reported_of ns)).replicas q
       ≡ option_or (last_of (map put_by (map reported_of ns)) q) (cond (not (leaves_by_report C s (map reported_of ns) q)) (get H.replicas q) None)

@@ -1,4 +1,5 @@
--- Storages of one node.
+-- Two siblings of a storage are siblings of each other, and a search for one finds a replica on a
+-- sibling if there is one.
 use Rattle.std.proofs.Common.{◌≡◌, ◌≢◌, ℕ, true, false, not, Option, Some, None, IsSome, sym, subst, ap, ◌∙◌, eq-eqb, eqb-true, ne_eqb}
 use Rattle.std.specs.Prelude.{◌==◌}
 use Rattle.std.specs.Option.{option_map_or, IfSome, IfNone}

@@ -1,5 +1,5 @@
--- The phases of a report: insert the delimiter, enter blocks, sweep out the unreported ones, remove
--- the delimiter, drop lost excess.
+-- Each phase of a report keeps what the next one needs: delimiter in, blocks entered, unreported
+-- ones swept, delimiter out, lost excess dropped.
 use Rattle.std.proofs.Common.{◌≡◌, ◌≢◌, ℕ, ◌<◌, ◌≤◌, Bool, true, false, cond, List, [], ◌∷◌, length, map, Option, Some, None, is_some, IsSome, refl, subst, inl, inr, sym, ap, ◌∙◌, arith, eqb, eq-eqb, eqb-true, ne_eqb}
 use Rattle.std.specs.Prelude.{◌==◌, nat_eq, IsSomeAnd, ◌⊎◌}
 use Rattle.std.specs.List.{list_any}
@@ -15,14 +15,14 @@ use Rattle.bm_base.proofs.MapLaws.{same_map, get-remove}
 use Rattle.bm_arena.specs.Triplets.{Block}
 use Rattle.bm_maps.specs.SlotLists.{IsMember, Distinct, without}
 use Rattle.bm_arena.specs.Contents.{Contents, block_at, slot_of, marks_at, list_of, find_marks, IsLawful, KeepsOthers, KeepsEntries, IsEntry}
-use Rattle.bm_maps.proofs.SlotLists.{Among-without, Among-without_other, without-gone, Distinct-without}
+use Rattle.bm_maps.proofs.SlotLists.{IsMember-without, IsMember-without_other, without-gone, Distinct-without}
 use Rattle.bm_report.specs.declared.types.ReportedSlot.{ReportedSlot}
 use Rattle.bm_report.specs.declared.report_counts.ReportCounts.{ReportCounts}
 use Rattle.bm_arena.specs.HeldMaps.{replicas_of, blocks_of, holdings_of, id_at}
 use Rattle.bm_report.specs.DuringReport.{after, behind, without_all, slot_in, entered_all, fresh, out_all, invalid_excess_out_all, reported_of, AreAtSlots, HaveCapacity, IsOncePerNode, IsExcessGood, IsEntered, IsCounted, IsSwept, DropsInvalidExcess, IsListed}
 use Rattle.bm_arena.proofs.HeldReplicas.{get-replicas_of, blocks-kept, one_number}
 use Rattle.bm_arena.proofs.StableEntries.{entries-chain, entries-others}
-use Rattle.bm_report.proofs.AfterDelimiter.{Among-after}
+use Rattle.bm_report.proofs.AfterDelimiter.{IsMember-after}
 use Rattle.bm_report.proofs.Frames.{some_there}
 use Rattle.bm_report.proofs.Maps.{Held, tie, get-here, some_is}
 use Rattle.bm_report.proofs.SweptSlots.{delimiter_before, number-leads}
@@ -53,7 +53,7 @@ length-without_all (n ∷ ns) l = let rest = length-without_all ns (without n.sl
 
 sub-without_all : (ns : List ReportedSlot) (x : ℕ) (l : List ℕ) → IsMember x (without_all ns l) → IsMember x l
 sub-without_all [] x l m = m
-sub-without_all (n ∷ ns) x l m = Among-without n.slot x l (sub-without_all ns x (without n.slot l) m)
+sub-without_all (n ∷ ns) x l m = IsMember-without n.slot x l (sub-without_all ns x (without n.slot l) m)
 
 -- the slot of a named block does not stay
 gone-named : (a : Contents) (ns : List ReportedSlot) (b : ℕ) → AreAtSlots a ns → is_some (last_stamp ns b) ≡ true → (x : ℕ) → slot_of a b ≡ Some x → (l : List ℕ) → Distinct l → IsMember x (without_all ns l) → ⊥
@@ -80,7 +80,7 @@ kept-other a lawful (n ∷ ns) b here named x at l m =
       | inr other ↦
           let apart : x ≢ n.slot = λ same. (eqb-false n.id b other) (one_number a lawful n.id b n.slot here.0 (at ∙ ap (λ k. Some k) same)) in
           kept-other a lawful ns b here.1 (rest (last_stamp ns b) (sym (ap (λ t. is_some (option_or (last_stamp ns b) (cond t (Some n.stamp) None))) other) ∙ named)) x at (without n.slot l)
-          (Among-without_other n.slot x l m apart)
+          (IsMember-without_other n.slot x l m apart)
     ]
   where
     some : (o : Option Stamp) → is_some (option_or o (Some n.stamp)) ≡ true
@@ -168,7 +168,7 @@ module _ (C : Cluster) (s : ℕ) (ns : List ReportedSlot) (a0 a1 : Contents) (la
     leads2 x m =
         let P : ℕ → Type 0 = λ k. IsMember k (behind a2 s) in
         number-leads a2 lawful2 x s (λ same. delimiter_before a2.delimiter (list_of a2 s) (lawful2.distinct s) (subst P same m))
-        ((lawful2.exact x s).0 (Among-after a2.delimiter x (list_of a2 s) m))
+        ((lawful2.exact x s).0 (IsMember-after a2.delimiter x (list_of a2 s) m))
 
     named_stay : (b : ℕ) → is_some (last_stamp ns b) ≡ true → list_any (λ k. k == b) bs ≡ false
     unfolding bs
@@ -262,7 +262,7 @@ module _ (C : Cluster) (s : ℕ) (ns : List ReportedSlot) (a0 a1 : Contents) (la
           let found : Option Block → Option Marks = λ o. option_and_then (λ (b : Block). find_marks b.replicas s) o in
           let still : block_at a2 slot ≡ block_at a0 slot = entered.others slot out ∙ others1.blocks slot apart in
           let not_behind : IsMember slot (behind a2 s) → ⊥ = λ m.
-          some_there (marks_at a2 slot s) ((lawful2.exact slot s).0 (Among-after a2.delimiter slot (list_of a2 s) m)) (ap found still ∙ absent) in
+          some_there (marks_at a2 slot s) ((lawful2.exact slot s).0 (IsMember-after a2.delimiter slot (list_of a2 s) m)) (ap found still ∙ absent) in
           let same4 : block_at a4 slot ≡ block_at a0 slot = others4.blocks slot (λ e. apart (e ∙ delimiter3)) ∙ swept.others slot not_behind ∙ still in
           drops.absent slot (ap found same4 ∙ absent) ∙ same4
 

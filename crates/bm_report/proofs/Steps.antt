@@ -1,4 +1,4 @@
--- Entering one named block that is on the storage, or that is not.
+-- Entering a named block, on the storage or not, enters its replica as defined and keeps all else.
 use Rattle.std.proofs.Common.{◌≡◌, ◌≢◌, ℕ, ◌+◌, ◌∷◌, true, Option, Some, None, IsSome, refl, subst, sym, ap, ◌∙◌, arith}
 use Rattle.std.specs.Prelude.{nat_eq}
 use Rattle.std.specs.Map.{lookup}

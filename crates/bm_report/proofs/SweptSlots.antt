@@ -1,4 +1,4 @@
--- The slots after the delimiter are removed one after another.
+-- Removing the slots after the delimiter one after another removes all of them.
 use Rattle.std.proofs.Common.{◌≡◌, ◌≢◌, ℕ, ◌+◌, ◌<◌, ◌^◌, List, [], ◌∷◌, ◌++◌, length, map, Option, Some, None, IsSome, refl, subst, inl, inr, sym, ap, ◌∙◌, arith, eqb, add-one, eq-eqb}
 use Rattle.std.specs.Option.{option_map_or, option_and_then}
 use Rattle.std.proofs.lemmas.Bool.{cases_Bool, cases_eq, eqb-true}
@@ -14,7 +14,7 @@ use Rattle.bm_arena.specs.HeldMaps.{replicas_of, id_at}
 use Rattle.bm_report.specs.DuringReport.{IsListed, after, behind, out_all, saturating_sum, counts_after_sweep, IsSwept}
 use Rattle.bm_arena.proofs.HeldReplicas.{replicas-out, blocks-kept}
 use Rattle.bm_arena.proofs.StableEntries.{entries-none, entries-chain, entries-others}
-use Rattle.bm_report.proofs.AfterDelimiter.{after-without, Among-after}
+use Rattle.bm_report.proofs.AfterDelimiter.{after-without, IsMember-after}
 use Rattle.bm_report.proofs.Frames.{some_there}
 use Rattle.bm_report.proofs.Maps.{get-here, len-out}
 use Rattle.bm_report.proofs.PartialReport.{listed-none, listed-chain, listed-push}
@@ -125,7 +125,7 @@ pub next-there : (s x : ℕ) (a : Contents) → IsLawful a → slot_after a.deli
 next-there s x a lawful next =
     let P : List ℕ → Type 0 = λ l. IsMember x l in
     let is : behind a s ≡ x ∷ rest_of (behind a s) = first_and_rest (behind a s) x (sym (first-after a.delimiter (list_of a s)) ∙ next) in
-    (lawful.exact x s).0 (Among-after a.delimiter x (list_of a s) (subst P (sym is) (inl refl)))
+    (lawful.exact x s).0 (IsMember-after a.delimiter x (list_of a s) (subst P (sym is) (inl refl)))
 
 module _ (s x : ℕ) (a b : Contents) (lawful : IsLawful a) (next : slot_after a.delimiter (list_of a s) ≡ Some x)
     (others : KeepsOthers a b x s) (gone : marks_at b x s ≡ None) (list : list_of b s ≡ without x (list_of a s)) where
@@ -142,7 +142,7 @@ module _ (s x : ℕ) (a b : Contents) (lawful : IsLawful a) (next : slot_after a
   swept-apart same = delimiter_before a.delimiter (list_of a s) (lawful.distinct s) (let P : ℕ → Type 0 = λ k. IsMember k (behind a s) in subst P same among_behind)
 
   pub swept-there : IsSome (marks_at a x s)
-  swept-there = (lawful.exact x s).0 (Among-after a.delimiter x (list_of a s) among_behind)
+  swept-there = (lawful.exact x s).0 (IsMember-after a.delimiter x (list_of a s) among_behind)
 
   leads : slot_of a (id_at a x) ≡ Some x
   leads = number-leads a lawful x s swept-apart swept-there

@@ -15,7 +15,7 @@ use Rattle.bm_arena.specs.Contents.{Contents, block_at, marks_at, find_marks, Is
 use Rattle.bm_report.specs.declared.types.ReportedSlot.{ReportedSlot}
 use Rattle.bm_report.specs.DuringReport.{marks_during_report, without_invalid_excess, reported_of, IsAlreadyThere, AllAlreadyThere, AreAtSlots}
 
--- the same, by the block in a slot
+-- `IsAlreadyThere`, by the block in a slot
 abbrev HasReplica : ℕ → Stamp → Option Block → Type 0
 HasReplica s t o =
     option_and_then (λ (b : Block). find_marks b.replicas s) o
@@ -57,8 +57,8 @@ excess_kept info was t is =
     let kept : (marks_during_report info was t).excess ≡ (without_invalid_excess (marks_during_report info was t)).excess = ap (λ o. option_map_or (λ (m : Marks). m.excess) o false) is in
     is ∙ (λ i. Some (record (marks_during_report info was t) { excess = sym kept i }))
 
-pub stand_already : (C : Cluster) (a : Contents) (s : ℕ) (ns : List ReportedSlot) → AreAtSlots a ns → AreAlreadyThere (holdings_of a) s (map reported_of ns) → AllAlreadyThere a s ns
+pub all_already_there : (C : Cluster) (a : Contents) (s : ℕ) (ns : List ReportedSlot) → AreAtSlots a ns → AreAlreadyThere (holdings_of a) s (map reported_of ns) → AllAlreadyThere a s ns
 unfolding holdings_of
-stand_already C a s [] here h = tt
-stand_already C a s (n ∷ ns) here h =
-    (excess_kept (info_at a n.slot) (marks_at a n.slot s) n.stamp (sym (get-here a n.id n.slot s here.0) ∙ h.0 ∙ ap Some (sym (marks_are C a s n here.0))), stand_already C a s ns here.1 h.1)
+all_already_there C a s [] here h = tt
+all_already_there C a s (n ∷ ns) here h =
+    (excess_kept (info_at a n.slot) (marks_at a n.slot s) n.stamp (sym (get-here a n.id n.slot s here.0) ∙ h.0 ∙ ap Some (sym (marks_are C a s n here.0))), all_already_there C a s ns here.1 h.1)

@@ -97,8 +97,8 @@ impl Report {
     }
 
     /// Finds the slot of one number, gives it an entry if it has none, and reserves what
-    /// `apply_received` needs, but no list of slots. Nothing that is held changes, and what was
-    /// looked up before is forgotten. `Memory`: then `abort` drops an entry that is new.
+    /// `apply_received` needs, but no list of slots. All blocks and replicas stay, and an earlier
+    /// look-up is forgotten. `Memory`: then `abort` drops an entry that is new.
     pub fn prepare_notice(
         &mut self,
         arena: &mut Arena,
@@ -229,7 +229,7 @@ impl Report {
         self.changed.as_slice()
     }
 
-    /// The slots that `apply_full` listed when it took out what was not reported.
+    /// The slots that `apply_full` listed when it removed the unreported replicas.
     pub fn swept_slots(&self) -> &[Slot]
         requires { self.now.came ≤ length self.now.changed }
         ensures { result.now ≡ drop self.now.came self.now.changed }

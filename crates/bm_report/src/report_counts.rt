@@ -13,7 +13,7 @@ pub(crate) struct ReportCounts {
 }
 
 impl ReportCounts {
-    /// A block was moved to the head of the list.
+    /// Counts a block that was moved to the head of the list.
     pub(crate) fn count_move(&mut self, is_excess_good: bool)
         requires { FitsCounters self.old 1 }
         ensures { self.new ≡ counts_after_move self.old is_excess_good }
@@ -22,7 +22,7 @@ impl ReportCounts {
         self.has_invalid_excess |= !is_excess_good;
     }
 
-    /// A block was linked, and perhaps unlinked from another storage of the node.
+    /// Counts a block that was linked, and perhaps unlinked from another storage of the node.
     pub(crate) fn count_link(&mut self, left_sibling: bool, is_excess_good: bool)
         requires { FitsCounters self.old 1 }
         ensures { self.new ≡ counts_after_link self.old left_sibling is_excess_good }
@@ -33,7 +33,7 @@ impl ReportCounts {
         self.has_invalid_excess |= !is_excess_good;
     }
 
-    /// A block was unlinked that was not reported.
+    /// Counts a block that was unlinked, since the report did not name it.
     pub(crate) fn count_sweep(&mut self)
         requires removed { self.old.removed < 2 ^ 127 }
         requires steps { self.old.steps < 2 ^ 127 }

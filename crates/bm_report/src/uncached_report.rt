@@ -1,6 +1,4 @@
 // A full report without a `Report`: nothing is kept between the look-up of its numbers and its end.
-// Only tests make these calls; they stay, and `uncached_numbers.rt` for them, as part of this
-// crate's public surface.
 ghost use Rattle.std.specs.Prelude.{◌≡◌, ◌<◌, ◌≤◌, ◌+◌, ℕ, length, None, Some, OnOk, IfErr, IsTrue, false, ◌≢◌};
 ghost use Rattle.bm_base.specs.declared.refusal.Refusal.TheVariants.{Memory};
 ghost use Rattle.bm_base.specs.declared.limits.TheConstants.{MAX_NUMBERS};

@@ -1,9 +1,8 @@
--- One more command for the node of a storage.
+-- A command that is added for a storage is added to the commands of its node, and to no others.
 use Rattle.std.proofs.Common.{◌≡◌, ◌<◌, ◌≤◌, ℕ, zero, suc, Bool, true, false, cond, List, [], ◌∷◌, ◌++◌, map, filter, get_or, set, length, Option, Some, None, is_some, refl, sym, ap, subst, ◌∙◌, arith, nat_lt, append-nil, T}
 use Rattle.std.specs.Prelude.{◌==◌, option_map}
 use Rattle.std.specs.Option.{option_map_or}
-use Rattle.std.specs.Ordering.{is_lt, nat_cmp}
-use Rattle.std.specs.declared.cmp.Ordering.TheVariants.{Less, Equal, Greater}
+use Rattle.std.specs.Ordering.{nat_cmp}
 use Rattle.std.specs.FinMap.{is_sorted}
 use Rattle.std.specs.FinMap.Entries.{below_all}
 use Rattle.std.proofs.lemmas.Bool.{eqb-true, eq-eqb, ltb-true, ltb-false, false≢true}
@@ -16,11 +15,6 @@ use Rattle.bm_base.specs.declared.commands.NodeCommands.{NodeCommands}
 use Rattle.bm_base.specs.Words.{keys, entries, Cluster, node_of, has_storage, node_commands}
 use Rattle.bm_round.specs.NodeIndex.{index_where}
 use Rattle.bm_base.proofs.Orderings.{less_number}
-
-less_is : (a b : ℕ) (lt eq : Bool) → nat_lt a b ≡ lt → T (is_lt (cond lt Less (cond eq Equal Greater))) → a < b
-less_is a b true eq e h = ltb-true a b e
-less_is a b false true e h = absurd h
-less_is a b false false e h = absurd h
 
 -- and where it found none
 pub place_missed : (m : ℕ) (ns : List ℕ) → ((k : ℕ) → k < length ns → get_or ns k 0 ≡ m → ⊥) → None ≡ index_where (λ n. m == n) ns
@@ -37,13 +31,10 @@ pub place_below : (p : ℕ → Bool) (ns : List ℕ) (i : ℕ) → index_where p
 place_below p [] i e = absurd (false≢true (ap is_some e))
 place_below p (n ∷ ns) i e = by (p n) (index_where p ns) e (place_below p ns)
   where
-    same : (a b : ℕ) → Some a ≡ Some b → a ≡ b
-    same a b e = ap (λ o. option_map_or (λ x. x) o a) e
-
     by : (b : Bool) (o : Option ℕ) → cond b (Some 0) (option_map suc o) ≡ Some i → ((j : ℕ) → o ≡ Some j → j < length ns) → i < suc (length ns)
-    by true o e rest = let z = same 0 i e in omega (arith, z)
+    by true o e rest = let z = same_Some 0 i e in omega (arith, z)
     by false None e rest = absurd (false≢true (ap is_some e))
-    by false (Some j) e rest = let z = same (suc j) i e in let less = rest j refl in omega (arith, z, less)
+    by false (Some j) e rest = let z = same_Some (suc j) i e in let less = rest j refl in omega (arith, z, less)
 
 module _ {X : Type 0} where
   abbrev numbers : List (ℕ × X) → List ℕ

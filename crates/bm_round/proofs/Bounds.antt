@@ -1,4 +1,5 @@
--- Bounds on what is chosen: n transfers in all, n deletes for each node.
+-- A round chooses at most `work` transfers for each alive node, and at most `invalidate` deletes
+-- for each node.
 use Rattle.std.proofs.Common.{◌≡◌, ℕ, zero, suc, ◌≤◌, ◌<◌, Bool, true, false, cond, List, [], ◌∷◌, ◌++◌, filter, flat_map, take, length, Option, Some, None, refl, sym, ap, subst, ◌∙◌, arith, append-nil}
 use Rattle.std.specs.Prelude.{◌==◌, ◌*◌, if◌then◌else◌, nat_le, option_to_list}
 use Rattle.std.specs.Option.{option_map_or}

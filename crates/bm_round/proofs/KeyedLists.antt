@@ -1,4 +1,5 @@
--- Elements in the order of their keys.
+-- Merged wishes and deletes are in the order of their keys, and those of a single part stay as they
+-- are.
 use Rattle.std.proofs.Common.{◌≡◌, ℕ, List, [], ◌∷◌, map, flat_map, length, get_or, refl, sym, ap, subst, ◌∙◌, append-nil, arith, T}
 use Rattle.std.specs.FinMap.{is_sorted}
 use Rattle.std.proofs.lemmas.List.Sorted.{IsPermutation-refl}
@@ -56,7 +57,7 @@ deletes_alone_are [] p one sorted = absurd (omega (arith, one))
 deletes_alone_are (q ∷ []) p one sorted = sym (ap (ordered_by by_pair delete_key) (append-nil q.deletes) ∙ sorted_is_ordered (ℕ × ℕ) _ by_pair delete_key q.deletes q.deletes sorted.0 (IsPermutation-refl q.deletes))
 deletes_alone_are (q ∷ r ∷ ps) p one sorted = absurd (omega (arith, one))
 
--- the same for the wishes of one part
+-- the wishes of one part are in order as they are
 pub wishes_alone_are : (ps : List RoundPart) (p : RoundPart) → length ps ≡ 1 → AreSorted (map keyed_wishes ps) → (get_or ps 0 p).wishes ≡ merged_wishes ps
 unfolding merged_wishes
 wishes_alone_are [] p one sorted = absurd (omega (arith, one))

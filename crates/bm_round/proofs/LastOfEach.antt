@@ -1,5 +1,5 @@
--- A list that is reversed and sorted by a key, and keeps the first element of each key. It has
--- the elements in the order of their keys, of equal keys the last.
+-- Reversing a list, sorting it by a stable sort and keeping the first element of each key gives the
+-- last element of each key, in order.
 use Rattle.std.proofs.Common.{◌≡◌, ℕ, Bool, true, false, cond, not, ◌&&◌, List, [], ◌∷◌, ◌++◌, map, filter, reverse, Option, Some, None, Ordering, Less, Equal, Greater, refl, sym, ap, subst, ◌∙◌, T}
 use Rattle.std.specs.Prelude.{◌==◌}
 use Rattle.std.specs.Ordering.{is_lt, is_eq, eq_by_cmp, nat_cmp, ordering_reverse}

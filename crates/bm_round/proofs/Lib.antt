@@ -3,7 +3,6 @@ pub mod WishCopies
 pub mod KeyedLists
 pub mod LastOfEach
 pub mod AddedCommands
-pub mod TakeAll
 pub mod FirstDeletes
 pub mod Bounds
 pub mod WishedCopies

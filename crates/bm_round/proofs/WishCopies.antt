@@ -1,14 +1,15 @@
--- The copies of one wish, chosen one after another.
+-- Choosing the copies of one wish one after another chooses as many as the definition, until one
+-- finds no source or target.
 use Rattle.std.proofs.Common.{◌≡◌, ◌<◌, ℕ, zero, suc, ◌+◌, ◌-◌, Bool, true, false, cond, List, [], ◌∷◌, ◌++◌, map, filter, drop, get_or, replicate, length, Option, Some, None, refl, sym, ap, ◌∙◌, arith, append_assoc, append-nil}
 use Rattle.std.specs.Prelude.{◌==◌, ◌*◌, nat_le, option_to_list, option_and_then, option_map, is_some}
 use Rattle.std.specs.Option.{option_map_or}
 use Rattle.std.proofs.lemmas.List.{at_drop_more}
-use Rattle.std.proofs.lemmas.Bool.Decides.{nat_tests}
 use Rattle.std.proofs.lemmas.Bool.{eq-eqb, false≢true, or_parts}
 use Rattle.bm_base.specs.declared.commands.Transfer.{Transfer}
 use Rattle.bm_base.specs.declared.round.Wish.{Wish}
 use Rattle.bm_base.specs.Words.{len, RoundLimits, Cluster, has, targets_of, least_source, least_target}
 use Rattle.bm_base.specs.Choices.{transfer_by, transfers_over, one_by_one, sources_by, holders_by, excluded_by}
+use Rattle.bm_place.proofs.Tables.{equal_back}
 
 module _ (limits : RoundLimits) (C : Cluster) where
   -- where one copy finds nothing, no later one does
@@ -125,9 +126,6 @@ module _ (limits : RoundLimits) (C : Cluster) where
   other_block (suc n) chosen w b other =
       other_block n (chosen ++ option_to_list (transfer_by limits C chosen w)) w b other
       ∙ other_one chosen w b (transfer_by limits C chosen w) other (λ t e. wish_block chosen w t e)
-
-  equal_back : (q k : ℕ) (b : Bool) → (q == k) ≡ b → (k == q) ≡ b
-  equal_back q k b e = grind (arith, nat_tests)
 
   pub fresh_past : (n : ℕ) (chosen : List Transfer) (w : Wish) (ws : List Wish) → has (map (λ (v : Wish). v.block) ws) w.block ≡ false → AreFresh chosen ws
       → AreFresh (transfers_over limits C chosen (replicate n w)) ws

@@ -55,8 +55,8 @@ pub fn choose(
         (λ c. HasFewDeletes topology.now.cluster config.now.invalidate c.deletes) }
     ensures refused { IfErr result (λ e. e ≡ Memory) }
 {
-    let transfers = transfers_of(alloc, parts, topology, config)?;
-    let deletes = deletes_of(alloc, parts, topology, config)?;
+    let transfers = choose_from_parts(alloc, parts, topology, config)?;
+    let deletes = choose_deletes(alloc, parts, topology, config)?;
     Ok(Chosen {
         transfers: Items::from_vec(transfers),
         deletes: Items::from_vec(deletes),
@@ -78,7 +78,7 @@ pub fn is_full(chosen: &Chosen, topology: &Topology, config: &Config) -> bool
 
 /// Returns the chosen transfers. The wishes of a single part are sorted already.
 #[tactic(auto, unfolding(bm_base::specs::Choices::chosen_transfers))]
-fn transfers_of(
+fn choose_from_parts(
     alloc: Global,
     parts: &[RoundPart],
     topology: &Topology,
@@ -101,7 +101,7 @@ fn transfers_of(
 
 /// Returns the chosen deletes. Those of a single part are sorted already, and are not copied.
 #[tactic(auto, unfolding(bm_base::specs::Choices::chosen_deletes))]
-fn deletes_of(
+fn choose_deletes(
     alloc: Global,
     parts: &[RoundPart],
     topology: &Topology,
@@ -121,7 +121,7 @@ fn deletes_of(
     Ok(first_of_each_node(alloc, deletes.as_slice(), topology, config)?)
 }
 
-/// Of deletes, the first `invalidate` on the storages of each node, by node.
+/// For each node, the first `invalidate` deletes on its storages; sorted by node.
 fn first_of_each_node(
     alloc: Global,
     deletes: &[Delete],

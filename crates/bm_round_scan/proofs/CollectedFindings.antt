@@ -1,4 +1,5 @@
--- The findings of several blocks, if each block's list has only its own elements.
+-- If each block's list has exactly the block's elements, the lists of several blocks have all of
+-- theirs, each once.
 use Rattle.std.specs.Prelude.{◌≡◌, ℕ, Bool, true, false, ◌==◌, List, [], ◌∷◌, ◌++◌}
 use Rattle.std.specs.List.{flat_map, list_any, IsDistinct, AllByRecursion}
 use Rattle.std.proofs.Common.{inl, inr, sym, ap, ◌∙◌, ne_eqb}

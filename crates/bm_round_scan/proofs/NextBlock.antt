@@ -1,4 +1,4 @@
--- The findings of one more block.
+-- Scanning one more block adds exactly its findings.
 use Rattle.std.specs.Prelude.{◌≡◌, ℕ, Bool, true, false, nat_le, length, map, filter, List, [], ◌∷◌, ◌++◌, Option, option_and_then, option_to_list}
 use Rattle.std.specs.Option.{option_map_or}
 use Rattle.std.specs.List.{flat_map}

@@ -1,4 +1,4 @@
--- The wish of one block, from its own replicas and transfers.
+-- The wish of a block follows from its own replicas and transfers.
 use Rattle.std.specs.Prelude.{◌≡◌, ℕ, nat_lt, if◌then◌else◌, true, length, Option, Some, None, option_and_then}
 use Rattle.std.proofs.Common.{refl}
 use Rattle.bm_base.specs.declared.level.Level.{Level}

@@ -1,4 +1,4 @@
--- The findings of one block and of all blocks, reduced to the elements whose keys pass a test.
+-- Filtering the findings of blocks by their keys gives all findings whose keys pass.
 use Rattle.std.specs.Prelude.{◌≡◌, ℕ, Bool, true, false, ◌||◌, List, [], ◌∷◌, filter}
 use Rattle.std.specs.List.{list_any, IsDistinct, AllByRecursion}
 use Rattle.std.proofs.Common.{cond, refl, sym, ap, ◌∙◌, true≢false}

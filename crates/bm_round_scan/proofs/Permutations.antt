@@ -1,4 +1,4 @@
--- Lists of numbers in another order.
+-- A list in another order has the same members, and no duplicates if the first has none.
 use Rattle.std.specs.Prelude.{◌≡◌, ℕ, ◌==◌, false, List, [], ◌∷◌}
 use Rattle.std.specs.List.{IsDistinct, AllByRecursion}
 use Rattle.std.specs.List.Sorted.{IsPermutation}

@@ -1,4 +1,4 @@
--- The slots that a round scans: each occurs once, and no other block has findings.
+-- A round scans each slot at most once, and no other block has findings.
 use Rattle.std.specs.Prelude.{◌≡◌, ◌≢◌, ℕ, Bool, true, false, not, ◌&&◌, List, [], ◌∷◌, ◌++◌, map, filter, Option, Some, None, option_and_then}
 use Rattle.std.specs.Option.{option_map_or}
 use Rattle.std.proofs.Common.{◌⊎◌, cond, inl, inr, refl, sym, ap, subst, ◌∙◌}
@@ -12,7 +12,7 @@ use Rattle.bm_base.specs.Maps.Lists.{has}
 use Rattle.bm_arena.specs.Triplets.{Block}
 use Rattle.bm_arena.specs.Contents.{Contents, block_at, slot_of, IsLawful}
 use Rattle.bm_arena.specs.HeldMaps.{info_at, id_at}
-use Rattle.bm_arena.proofs.Replicas.{Among-append, Among-left}
+use Rattle.bm_arena.proofs.Replicas.{IsMember-append, IsMember-left}
 use Rattle.bm_levels.specs.Status.{is_settled_at}
 use Rattle.bm_levels.specs.IndexedLevels.{IndexedLevels, level_of_slot, IsUnsettled, NeedCopies, slots_needing_copies, needs_copies}
 use Rattle.bm_levels.specs.Leveled.{Leveled, IsLeveled}
@@ -31,7 +31,7 @@ AreApart xs ys = (z : ℕ) → IsMember z xs → IsMember z ys → ⊥
 distinct_appended : (xs ys : List ℕ) → Distinct xs → Distinct ys → AreApart xs ys → Distinct (xs ++ ys)
 distinct_appended [] ys d e apart = e
 distinct_appended (x ∷ xs) ys d e apart =
-    (λ h. elim (Among-append x xs ys h) [ inl l ↦ d.0 l | inr r ↦ apart x (inl refl) r ], distinct_appended xs ys d.1 e (λ z h. apart z (inr h)))
+    (λ h. elim (IsMember-append x xs ys h) [ inl l ↦ d.0 l | inr r ↦ apart x (inl refl) r ], distinct_appended xs ys d.1 e (λ z h. apart z (inr h)))
 
 module _ (p : ℕ → Bool) where
   pub among_filtered : (x : ℕ) (xs : List ℕ) → IsMember x (filter p xs) → IsMember x xs × (p x ≡ true)
@@ -74,9 +74,6 @@ module _ (f : ℕ → ℕ) where
         d.0 (let P : ℕ → Type 0 = λ w. IsMember w xs in subst P (sym (same x one.0 (sym (back x (inl refl)) ∙ ap g one.2 ∙ back one.0 (inr one.1)))) one.1),
     distinct_mapped g xs d.1 (λ y h. back y (inr h)),
   )
-    where
-      same : (x y : ℕ) → Some x ≡ Some y → x ≡ y
-      same x y e = cc
 
 -- The slots that a round scans.
 
@@ -119,7 +116,7 @@ module _ (K : IndexedLevels) (is : AreListed K) where
     scanned_once = distinct_appended u settled is.unsettled (distinct_filtered to_scan (slots_needing_copies K) is.once) settled_apart
 
     pub unsettled_scanned : (slot : ℕ) → IsUnsettled K slot → IsMember slot slots
-    unsettled_scanned slot h = Among-left slot u settled h
+    unsettled_scanned slot h = IsMember-left slot u settled h
 
     pub level_scanned : (l : Level) (slot : ℕ) → l ≢ NoUsableReplica → level_of_slot K slot ≡ Some l → is_before bound (key_at K a slot) ≡ true → has_enough slot ≡ false → IsMember slot slots
     level_scanned l slot wanted at early lacks =
@@ -133,7 +130,7 @@ module _ (K : IndexedLevels) (is : AreListed K) where
     -- each scanned slot is unsettled, or has a level
     scanned_is : (slot : ℕ) → IsMember slot slots → IsUnsettled K slot ⊎ ((l : Level) × (level_of_slot K slot ≡ Some l))
     scanned_is slot h =
-        elim (Among-append slot u settled h) [
+        elim (IsMember-append slot u settled h) [
           | inl loose ↦ inl loose
           | inr needing_copies ↦ inr (level_needing_copies (level_of_slot K slot) ((is.needing_copies slot).0 (among_filtered to_scan slot (slots_needing_copies K) needing_copies).0))
         ]

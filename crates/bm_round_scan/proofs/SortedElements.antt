@@ -1,4 +1,4 @@
--- A list of elements with different keys that is sorted by them.
+-- Elements with different keys, sorted by them, are an ascending list of the same elements.
 use Rattle.std.specs.Prelude.{get_or, ◌≡◌, suc, ◌+◌, Bool, true, false, List, [], ◌∷◌, map, T}
 use Rattle.std.specs.declared.cmp.Ordering.{Ordering}
 use Rattle.std.specs.declared.cmp.Ordering.TheVariants.{Less, Equal, Greater}

@@ -50,9 +50,9 @@ impl BlockScan {
     }
 
     /// Scans the block of a number with this slot, and returns the storages of its usable replicas.
-    /// It costs a few reads of each of its replicas, and O(n log n) steps for n of them. It takes
-    /// memory only if more than four are live or drained, if it has more replicas than each block
-    /// before, or if a list of surplus grows past its capacity.
+    /// For n replicas it costs a few reads each, and O(n log n) steps. It takes memory in three
+    /// cases: more than four replicas are live or drained; the block has more replicas than each
+    /// block before; a list of surplus exceeds its capacity.
     pub(crate) fn scan_block(
         &mut self,
         alloc: Global,
@@ -126,7 +126,7 @@ impl BlockScan {
         Ok(())
     }
 
-    /// Appends the replicas that are to be deleted, whether enough of the block are live or not.
+    /// Appends the deletes of this block's replicas. `enough` is whether enough of them are live.
     pub(crate) fn push_deletes(
         &self,
         enough: bool,

@@ -10,9 +10,9 @@ use bm_base::BlockId;
 use bm_levels::count_live;
 
 impl<'a> RoundScan<'a> {
-    /// Whether a transfer to the block at a slot stays pending, and with the pending ones at least
-    /// the wanted number of replicas are live. A settled block has no wish then, at any level. Its
-    /// replicas are scanned only if a transfer is pending. Takes no memory.
+    /// Whether the block at a slot has a transfer that stays pending, and its live replicas and
+    /// pending transfers reach the wanted number. A settled block has no wish then, at any level.
+    /// Its replicas are scanned only if a transfer is pending. Takes no memory.
     pub(crate) fn has_enough_pending(&self, slot: Slot, id: BlockId) -> bool
         requires { id ≡ id_at self.now.arena.now slot }
         ensures { result

@@ -139,7 +139,7 @@ pub(crate) fn contains_near(storages: &[StorageId], storage: StorageId, near: &m
         *near = behind;
         return true;
     }
-    if is_missing_at(storages, storage, behind) {
+    if is_insertion_point(storages, storage, behind) {
         return false;
     }
     let found = storages.binary_search(&storage);
@@ -154,8 +154,8 @@ fn is_storage_at(storages: &[StorageId], storage: StorageId, at: usize) -> bool
     at < storages.len() && storages[at] == storage
 }
 
-/// Whether a storage would be at an index, between a lesser and a greater one.
-fn is_missing_at(storages: &[StorageId], storage: StorageId, at: usize) -> bool
+/// Whether a storage is missing: `at` is between a lesser storage and a greater one.
+fn is_insertion_point(storages: &[StorageId], storage: StorageId, at: usize) -> bool
     requires { IsNonDecreasing storages.now }
     ensures { result ≡ true → has storages.now storage ≡ false }
 {

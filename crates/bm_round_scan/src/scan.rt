@@ -70,7 +70,7 @@ impl<'a> RoundScan<'a> {
         Ok(found)
     }
 
-    /// Whether the block at a slot is settled. If all are, nothing is read of the slot.
+    /// Whether the block at a slot is settled. Reads nothing of the slot if all blocks are.
     pub(crate) fn is_settled(&self, slot: Slot) -> bool
         ensures { result ≡ not (has self.now.level_index.now.unsettled.slots slot) }
     {

@@ -19,8 +19,8 @@ const CHUNK: usize = 64;
 /// The slots of a level are sorted if there are more than this number.
 const MAX_UNSORTED: usize = 512;
 
-/// The unsettled slots, and the settled ones before the bound at a level at which copies are wanted
-/// that lack pending transfers; each of them once, with its key, in any order.
+/// The slots to scan, each once, with its key, in any order: the unsettled slots, and settled ones
+/// below the bound. The latter have a level at which copies are wanted and lack pending transfers.
 pub(crate) fn slots_to_scan(
     alloc: Global,
     start: &RoundScan,
@@ -110,7 +110,7 @@ fn push_settled(
     Ok(())
 }
 
-/// The same for a chunk of the slots.
+/// As `push_settled`, for a chunk of the slots.
 fn push_settled_chunk(
     start: &RoundScan,
     level: Level,
@@ -134,8 +134,8 @@ fn push_settled_chunk(
     Ok(())
 }
 
-/// The same for one slot, whose block has this number. The bound is compared first: mostly few
-/// slots come before it.
+/// As `push_settled`, for one slot, whose block has this number. The bound is compared first:
+/// mostly few slots come before it.
 fn push_if_settled(
     start: &RoundScan,
     level: Level,

@@ -84,7 +84,7 @@ impl<'a> RoundScan<'a> {
     }
 }
 
-/// The same storages.
+/// A copy of these storages.
 fn copy_of(alloc: Global, storages: &[StorageId]) -> Result<StorageIds, AllocError>
     ensures { IfOk result (λ v. v ≡ storages.now) }
 {

@@ -1,4 +1,4 @@
--- Bytes that are split into lines and a rest.
+-- Splitting bytes piece by piece gives the lines of the whole, and a rest without a line end.
 use Rattle.std.proofs.Common.{◌≡◌, ℕ, List, [], ◌∷◌, ◌++◌, refl, sym, ap, ◌∙◌, append_assoc, append-nil}
 use Rattle.std.specs.List.{flat_map, AllByRecursion}
 use Rattle.std.proofs.lemmas.List.Concat.{flat_map-append}

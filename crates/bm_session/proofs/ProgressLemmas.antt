@@ -1,4 +1,4 @@
--- The progress of a run, step by step.
+-- After each step of a run, the lines answered so far are the first lines of the bytes read.
 use Rattle.std.proofs.Common.{◌≡◌, ℕ, zero, suc, ◌+◌, ◌-◌, ◌<◌, ◌≤◌, ◌==◌, Bool, true, false, List, [], ◌∷◌, ◌++◌, length, take, refl, sym, ap, ◌∙◌, append_assoc, append-nil, add-one, arith, length-append, inl, inr, ◌⊎◌, if◌then◌else◌}
 use Rattle.std.specs.Prelude.{Option, Result, Ok, Err, is_err, OnOk}
 use Rattle.std.specs.Int.{from_bool}
@@ -8,7 +8,7 @@ use Rattle.std.proofs.KnownBytes.{Appends-nil, Appends-trans, Appends-kept}
 use Rattle.bm_base.specs.Machine.State.{State}
 use Rattle.bm_session.specs.declared.limits.TheConstants.{MAX_LINES}
 use Rattle.bm_session.specs.declared.session.Session.{Session}
-use Rattle.bm_answers.specs.declared.request.Asked.{Asked}
+use Rattle.bm_answers.specs.declared.request.Request.{Request}
 use Rattle.bm_answers.specs.OneLine.{asked, answer_to, asked_next, text_of, is_refusal, line_text, line_next, line_refused}
 use Rattle.bm_session.specs.declared.fault.Fault.{Fault}
 use Rattle.bm_session.specs.declared.fault.Fault.TheVariants.{Config, Read, Write, Memory, TooMuch}
@@ -43,7 +43,7 @@ progress_none M start s empty first lines refused = record {
 }
 
 -- after a line end, the line was answered
-pub progress_end : (M : State) (start old new : Option (List ℕ)) (s t : Session) (bytes : List ℕ) (a : Asked) → Progress M start old s bytes
+pub progress_end : (M : State) (start old new : Option (List ℕ)) (s t : Session) (bytes : List ℕ) (a : Request) → Progress M start old s bytes
     → ((rest : List ℕ) → Holds s.line rest → a ≡ asked rest) → Appends old new (ended (text_of (answer_to s.manager a))) → t.manager ≡ asked_next s.manager a
     → t.lines ≡ s.lines + 1 → t.refused ≡ s.refused + (if is_refusal (answer_to s.manager a) then 1 else 0) → Holds t.line [] → Progress M start new t (bytes ++ line_end ∷ [])
 unfolding line_text line_next line_refused
@@ -132,7 +132,7 @@ interrupted_rest M start now s state done p some h = record {
   worked = rw (append-nil, lines_of-split p.splits, nonempty_line p.rest some) (worked_line M p.lines p.rest [] s.manager state p.state h);
 }
 
-pub may_be_worked : (M : State) (a : Asked) (line : List ℕ) (now : State) → a ≡ asked line → (now ≡ M) ⊎ (now ≡ asked_next M a) → MayBeWorked M line now
+pub may_be_worked : (M : State) (a : Request) (line : List ℕ) (now : State) → a ≡ asked line → (now ≡ M) ⊎ (now ≡ asked_next M a) → MayBeWorked M line now
 unfolding line_next
 may_be_worked M a line now e h = rw (← e) h
 

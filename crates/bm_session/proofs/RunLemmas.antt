@@ -1,4 +1,5 @@
--- A whole run: the bytes that were read, and those that were passed to the session.
+-- A run passes to the session the bytes that it read, up to the limit; its fault is that of the
+-- last piece.
 use Rattle.std.proofs.Common.{◌≡◌, ℕ, Bool, true, zero, suc, ◌+◌, ◌<◌, ◌≤◌, List, [], ◌∷◌, ◌++◌, length, take, drop, refl, ap, ◌∙◌, append-nil, arith, inl, inr}
 use Rattle.std.specs.Prelude.{Option, Some, None, Result, Ok, Err, IfOk, IfErr, IfSome, OnOk}
 use Rattle.std.specs.Io.KnownBytes.{Appends, Consumes, IsAtEnd}
@@ -107,7 +108,7 @@ faulted_of_piece config done piece more last old new state before now fault.Writ
 faulted_of_piece config done piece more last old new state before now fault.Memory t l b h = record { done = done; piece = piece ++ more; read = refl; is_last = l; bounded = b; answered = h.1.answered; written = answered_more _ old new done piece more _ h.1.written }
 faulted_of_piece config done piece more last old new state before now fault.TooMuch t l b h = (inr (rw t h.1.0), rw t h.1.1)
 
--- the same if all bytes were passed on
+-- `faulted_of_piece` if all bytes were passed on
 pub faulted_of_whole : (config : Config) (done piece : List ℕ) (last : ℕ) (old new : Option (List ℕ)) (state : State) (before now : ℕ) (f : Fault) → take MAX_BYTES (done ++ piece) ≡ done ++ piece
     → length piece ≤ last → length piece ≤ PIECE → PieceFault (first_state config) old new state done piece before now f → Faulted config (done ++ piece) last old new f
 faulted_of_whole config done piece last old new state before now f t l b h =

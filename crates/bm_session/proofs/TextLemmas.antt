@@ -1,4 +1,4 @@
--- Text with one more line.
+-- One more line appends its answer, and counts one more refusal if it is refused.
 use Rattle.std.proofs.Common.{◌≡◌, ℕ, ◌+◌, List, [], ◌∷◌, ◌++◌, refl, sym, append_assoc, append-nil, arith, if◌then◌else◌}
 use Rattle.bm_base.specs.Machine.State.{State}
 use Rattle.bm_lines.specs.Lines.{ended}

@@ -23,9 +23,8 @@ pub record Finished (config : Config) (input : List ℕ) (left old new : Option 
   pub wrote : Appends old new (text config input)
   pub counted : IsSummary (first_state config) (lines_of input) summary
 
--- Memory was refused. The input is what was read before, and the last piece, which is no longer
--- than the last read. All lines that ended before the piece are answered, of those that end in it
--- some first ones, and no more is written.
+-- Out of memory: every line that ended before the last piece is answered, and a prefix of those
+-- that end in it; nothing else is written. The piece is at most as long as the last read.
 pub record IsOutOfMemory (config : Config) (input : List ℕ) (last : ℕ) (old new : Option (List ℕ)) : Type 0 where
   pub done : List ℕ
   pub piece : List ℕ
@@ -66,7 +65,7 @@ ConfigOfFault config _ = config_refusal config ≡ None
 abbrev pub ChecksConfig : Config → Result Summary Fault → Type 0
 ChecksConfig config result = MatchResult result (λ _. config_refusal config ≡ None) (ConfigOfFault config)
 
--- After a read error, all output so far is flushed, if it was so at the start. That it is flushed
--- before each read, and not only at the end, no clause about the end of a run can state.
+-- After a read error all output is flushed, if it was at the start. A clause about a run's end
+-- cannot say that each read came after a flush.
 abbrev pub IsFlushedAtRead : Bool → Bool → Result Summary Fault → Type 0
 IsFlushedAtRead old new result = IfErr result (λ f. f ≡ fault.Read → old ≡ true → new ≡ true)

@@ -35,8 +35,8 @@ pub record Answered (M : State) (start now : Option (List ℕ)) (done piece : Li
 abbrev pub MayBeWorked : State → List ℕ → State → Type 0
 MayBeWorked M line now = (now ≡ M) ⊎ (now ≡ line_next M line)
 
--- Memory was refused within the piece. The worked lines are the answered ones, and at most one
--- more: the one at which memory was refused. So no answer to an earlier line is lost.
+-- Out of memory within the piece. The processed lines are the answered ones, and at most the next
+-- one, at which the call was out of memory. So no answer to an earlier line is lost.
 pub record Interrupted (M : State) (start now : Option (List ℕ)) (state : State) (done piece : List ℕ) : Type 0 where
   pub answered : ℕ
   pub written : Answered M start now done piece answered

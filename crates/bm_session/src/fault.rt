@@ -13,7 +13,7 @@ pub enum Fault {
     Read,
     /// A write or a flush failed.
     Write,
-    /// Memory was refused.
+    /// Out of memory.
     Memory,
     /// There are more lines or bytes than a run accepts.
     TooMuch,

@@ -79,6 +79,7 @@ impl<T> FaultCounting<T> {
         }
     }
 
+    /// Returns the wrapped reader or writer.
     pub fn into_inner(self) -> T
         ensures { result ≡ inner_of self }
     {

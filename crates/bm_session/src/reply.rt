@@ -3,7 +3,7 @@ ghost use Rattle.std.specs.Prelude.{◌≡◌, ◌⊎◌, IfOk, OnOk, OnErr, str
 ghost use Rattle.bm_lines.specs.Lines.{ended};
 ghost use Rattle.bm_answers.specs.OneLine.{answer_to, asked_next, text_of, is_refusal};
 
-use bm_answers::{Asked, LineAnswer, make_call};
+use bm_answers::{LineAnswer, Request, make_call};
 use bm_manager::Manager;
 use std::alloc::{AllocError, Global};
 use std::sync::Wait;
@@ -21,7 +21,7 @@ pub fn reply_to<H: Threads + Wait + Sync>(
     rt: &H,
     alloc: Global,
     manager: &mut Manager,
-    asked: Asked,
+    asked: Request,
 ) -> Result<Reply, AllocError>
     ensures text { IfOk result
         (λ r. string_bytes r.text ≡ ended (text_of (answer_to manager.old asked))) }

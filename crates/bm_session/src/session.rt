@@ -9,7 +9,7 @@ use crate::fault::{Fault, Summary};
 use crate::fault_counting::Sink;
 use crate::limits::MAX_LINES;
 use crate::reply::reply_to;
-use bm_answers::asked_by;
+use bm_answers::parse_held_line;
 use bm_base::{Config, HashSecret, Refusal};
 use bm_lines::{Line, line_end};
 use bm_manager::Manager;
@@ -43,7 +43,7 @@ impl Session {
             → Progress (first_state config.now) start start s []) }
         ensures err { IfErr result (StartFault config.now) }
     {
-        let manager = manager_of(alloc, config, secret)?;
+        let manager = new_manager(alloc, config, secret)?;
         Ok(Session {
             alloc,
             manager,
@@ -70,7 +70,7 @@ impl Session {
         ensures worked { OnErr result ((rest : List ℕ) → Holds self.old.line rest
             → MayBeWorked self.old.manager rest self.new.manager) }
     {
-        let asked = asked_by(self.alloc, &self.line)?;
+        let asked = parse_held_line(self.alloc, &self.line)?;
         let reply = reply_to(rt, self.alloc, &mut self.manager, asked)?;
         if writer.write_all(reply.text.as_bytes()).is_err() {
             return Err(Fault::Write);
@@ -179,7 +179,7 @@ impl Session {
 }
 
 /// A manager with this configuration, which is checked here and nowhere else.
-fn manager_of(alloc: Global, config: &Config, secret: HashSecret) -> Result<Manager, Fault>
+fn new_manager(alloc: Global, config: &Config, secret: HashSecret) -> Result<Manager, Fault>
     ensures allowed { OnOk result (config_refusal config.now ≡ None) }
     ensures ok { IfOk result (λ m. m ≡ first_state config.now) }
     ensures err { IfErr result (StartFault config.now) }

@@ -16,9 +16,9 @@ use std::thread::Threads;
 
 /// Answers each line of the input by a line of the output. The tables hash by a secret that is
 /// drawn here, so that nobody can make slow lines by colliding numbers. No clause states that,
-/// since no answer depends on it. A crew of threads, with the configured number of workers, works a
-/// call on all shards, and the calling thread waits for the others. So the clauses state what holds
-/// if a run returns.
+/// since no answer depends on it. A crew of threads, with the configured number of workers,
+/// processes a call on all shards, and the calling thread waits for the others. So the clauses
+/// state what holds if a run returns.
 pub fn run<R: Source, W: Sink, H: Threads + Wait + RandomSource + Sync>(
     rt: &H,
     alloc: Global,
@@ -46,7 +46,7 @@ pub fn run<R: Source, W: Sink, H: Threads + Wait + RandomSource + Sync>(
     ensures cause { HasCause (R.faults reader.old) (R.faults reader.new)
         (W.faults writer.old) (W.faults writer.new) result }
 {
-    let mut session = Session::new(alloc, config, secret_of(rt))?;
+    let mut session = Session::new(alloc, config, draw_secret(rt))?;
     let mut buffer = [0u8; PIECE];
     let mut count = 0usize;
     loop {
@@ -67,7 +67,7 @@ pub fn run<R: Source, W: Sink, H: Threads + Wait + RandomSource + Sync>(
 }
 
 /// Random bytes of the system; no secret if it gives none.
-fn secret_of<H: RandomSource>(rt: &H) -> HashSecret {
+fn draw_secret<H: RandomSource>(rt: &H) -> HashSecret {
     let mut bytes = [0; 8];
     match rt.fill_bytes(&mut bytes) {
         Ok(()) => HashSecret::of(u64::from_le_bytes(bytes)),

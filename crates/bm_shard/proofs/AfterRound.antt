@@ -1,4 +1,4 @@
--- The content of a shard after a round, as contracts see it.
+-- After a round a shard holds, as contracts see it, what the definition of a round gives.
 use Rattle.std.proofs.Common.{◌≡◌, ℕ, not, List, map, refl, ap, subst, ◌∙◌}
 use Rattle.std.specs.Prelude.{true, if◌then◌else◌}
 use Rattle.bm_base.specs.declared.commands.Transfer.{Transfer}

@@ -1,4 +1,4 @@
--- Transfers that leave as their replicas arrive.
+-- Dropping the arrived transfers of one block after another drops all that have arrived.
 use Rattle.std.proofs.Common.{◌≡◌, ℕ, zero, suc, ◌+◌, ◌<◌, arith, Bool, true, false, cond, not, ◌&&◌, ◌||◌, List, [], ◌∷◌, map, length, drop, Option, Some, None, is_some, refl, sym, ap, ◌∙◌, eqb-true}
 use Rattle.std.specs.Prelude.{◌==◌, IsSome, slice_get, option_and_then, option_map}
 use Rattle.std.specs.Option.{option_or}

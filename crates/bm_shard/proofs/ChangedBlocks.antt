@@ -1,4 +1,4 @@
--- An event that changes blocks, replicas and transfers, with the levels of the blocks, as contracts
+-- An event that changes blocks, replicas and transfers leaves the shard up to date, as contracts
 -- see it.
 use Rattle.std.proofs.Common.{◌≡◌, ℕ, refl, sym, ap, subst, ◌∙◌}
 use Rattle.bm_base.specs.declared.ids.Part.{Part}

@@ -1,4 +1,4 @@
--- The look-up of a notice or a report.
+-- A shard shows a looked-up notice or report only if one for that storage was prepared.
 use Rattle.std.proofs.Common.{◌≡◌, ℕ, List, Some}
 use Rattle.bm_base.specs.Machine.Entries.{ReportedBlock}
 use Rattle.bm_report.specs.Ready.{LookedUpReport, reported_blocks}

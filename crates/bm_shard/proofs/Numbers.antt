@@ -1,4 +1,4 @@
--- The numbers that have an entry.
+-- A number is among those of an arena exactly if it has an entry.
 use Rattle.std.proofs.Common.{◌≡◌, ℕ, Bool, true, false, cond, List, [], ◌∷◌, map, Some, refl, inl, inr, sym, ◌∙◌}
 use Rattle.std.specs.Prelude.{nat_eq, IsSome, ◌==◌}
 use Rattle.std.specs.Map.{lookup}

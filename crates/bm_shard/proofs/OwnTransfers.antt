@@ -1,4 +1,5 @@
--- The insertion of the transfers of a shard's own blocks, one after another.
+-- Inserting the transfers of a shard's own blocks one after another makes all of them pending,
+-- within the reserved capacity.
 use Rattle.std.proofs.Common.{◌≡◌, ℕ, ◌≤◌, ◌<◌, ◌+◌, Bool, true, false, cond, List, ◌∷◌, filter, map, length, arith, refl, sym, ap, subst, ◌∙◌}
 use Rattle.std.specs.Prelude.{◌==◌, suc, if◌then◌else◌}
 use Rattle.std.proofs.lemmas.Bool.{false≢true, eqb-true, eq-eqb}

@@ -1,4 +1,5 @@
--- The reservations of events and rounds.
+-- A shard is ready for an event that needs no reservation, and stays ready for a round if only
+-- other capacity changes.
 use Rattle.std.proofs.Common.{◌≡◌, ℕ, List, false, true≢false, sym, ap, subst}
 use Rattle.bm_base.specs.declared.event.Event.{Event}
 use Rattle.bm_base.specs.declared.event.Event.TheVariants.{AddBlock, Received, FullReport}

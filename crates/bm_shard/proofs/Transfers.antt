@@ -1,4 +1,5 @@
--- What is held, and what is on its way, where a node begins or ceases to drain.
+-- When a node begins to drain, only the transfers to its storages leave; when it ceases, nothing
+-- does.
 use Rattle.std.proofs.Common.{◌≡◌, ℕ, Bool, true, false, not, Some, None, refl, sym, ap, ◌∙◌}
 use Rattle.std.specs.Prelude.{◌&&◌, if◌then◌else◌}
 use Rattle.std.specs.Option.{unwrap_or}

@@ -1,4 +1,4 @@
--- Numbers with an unused entry as contracts see them, and when there are none.
+-- A number has an unused entry as contracts see the shard exactly if it has one in the arena.
 use Rattle.std.proofs.Common.{◌≡◌, ℕ, Bool, true, false, cond, List, [], ◌∷◌, map, take, drop, Option, Some, None, Result, Ok, Err, is_some, refl, sym, ap, subst, inl, inr, ◌∙◌}
 use Rattle.std.specs.Prelude.{◌≢◌, ◌==◌, ◌||◌, IsTrue, OnErr, option_map}
 use Rattle.std.proofs.lemmas.Bool.{cases_eq, eqb-true, eq-eqb, false≢true}
@@ -18,7 +18,7 @@ use Rattle.bm_base.proofs.Ties.{number_tie}
 use Rattle.bm_arena.specs.Contents.{Contents, block_at, slot_of, IsLawful}
 use Rattle.bm_arena.specs.HeldMaps.{replicas_of, blocks_of}
 use Rattle.bm_arena.proofs.HeldReplicas.{one_number}
-use Rattle.bm_arena.proofs.Replicas.{Among-append}
+use Rattle.bm_arena.proofs.Replicas.{IsMember-append}
 use Rattle.bm_maps.specs.SlotLists.{IsMember}
 use Rattle.std.proofs.lemmas.List.{take-append-drop}
 use Rattle.bm_report.specs.declared.types.ReportedSlot.{ReportedSlot}
@@ -37,7 +37,7 @@ use Rattle.bm_shard.proofs.Arrivals.{named_there}
 use Rattle.bm_shard.proofs.Numbers.{entered, has_entry}
 use Rattle.bm_shard.proofs.SameHoldings.{seen_of}
 
--- The same for the fields of a shard.
+-- Unused entries by the fields of a shard.
 module _ (v : Leveled) (P : Map by_replica ℕ) (part : Part) (round pend : ℕ) (report : Option LookUp) (transfers : List (ℕ × ℕ)) where
   abbrev seen : Seen
   seen = seen_of v P part round pend (record { entries = numbers_of v.arena; lists = heads_of v.arena; report = report; transfers = transfers })
@@ -154,7 +154,7 @@ none_reported C H s ns a m c changed came lawful ids others reported_blocks is o
     in_neither : (slot : ℕ) → (IsMember slot (take came changed) → ⊥) → (IsMember slot (drop came changed) → ⊥) → IsMember slot changed → ⊥
     in_neither slot front back h =
         let P : List ℕ → Type 0 = λ l. IsMember slot l in
-        elim (Among-append slot (take came changed) (drop came changed) (subst P (sym (take-append-drop came changed)) h)) [ inl x ↦ front x | inr y ↦ back y ]
+        elim (IsMember-append slot (take came changed) (drop came changed) (subst P (sym (take-append-drop came changed)) h)) [ inl x ↦ front x | inr y ↦ back y ]
 
 -- The reservation of an event.
 

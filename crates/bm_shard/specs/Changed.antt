@@ -1,4 +1,4 @@
--- The effect of an event on what is seen of a shard.
+-- The effect of an event on the view of a shard.
 use Rattle.std.specs.Prelude.{◌≡◌, ℕ, Bool, true, ◌==◌}
 use Rattle.std.specs.Option.{option_map_or}
 use Rattle.bm_base.specs.declared.ids.Part.{Part}

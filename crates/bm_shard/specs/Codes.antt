@@ -1,4 +1,4 @@
--- Codes, by which proofs distinguish what is seen of a shard.
+-- Codes, by which proofs distinguish views of a shard.
 use Rattle.std.specs.Prelude.{◌≡◌, ◌⊎◌, ℕ, refl, List, Option}
 use Rattle.std.proofs.Common.{inl, inr}
 use Rattle.std.specs.Coded.{Coded, code_by, coded×, coded⊎, coded_ℕ, coded_list, coded_option}

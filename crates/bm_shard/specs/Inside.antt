@@ -1,4 +1,4 @@
--- How the fields of a shard represent what is seen of it.
+-- How the fields of a shard represent the view of it.
 use Rattle.std.specs.Prelude.{◌≡◌, ◌==◌, ℕ, ◌<◌, Bool, false, IsTrue, List, [], ◌∷◌, map, Option, Some, None}
 use Rattle.std.specs.Option.{option_map_or}
 use Rattle.bm_base.specs.declared.level.Level.{Level}

@@ -1,3 +1,4 @@
+-- Definitions of the contracts of a shard: what it holds, its invariants and its changes.
 pub mod Seen
 pub mod Codes
 pub mod Unused

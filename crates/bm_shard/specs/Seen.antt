@@ -32,7 +32,7 @@ pub record Seen : Type 0 where
   pub holdings : Holdings
   -- the index of the shard, and the number of shards
   pub part : Part
-  -- the number of the last round, and the number of rounds after which a transfer is given up
+  -- the number of the last round, and the number of rounds after which a transfer expires
   pub round : ℕ
   pub pend : ℕ
   -- the stored level of each known block that has one

@@ -12,8 +12,8 @@ pub record IsUpToDate (C : Cluster) (S : Seen) : Type 0 where
   pub levels : HasLevels C S
   pub placed : IsPlaced C S.holdings
 
--- The same in all but capacity. Levels are stored by slots, which may change; if they were right in
--- a cluster, they are the same too.
+-- Two views of a shard differ only in capacity. Levels are stored by slots, which may change; if
+-- they were right in a cluster, they still are.
 pub record IsSameButCapacity (old new : Seen) : Type 0 where
   pub rest : new ≡ record old { levels = new.levels; reserved = new.reserved }
   pub levels : (C : Cluster) → IsUpToDate C old → new.levels ≡ old.levels

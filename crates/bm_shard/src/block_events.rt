@@ -18,8 +18,8 @@ pub(crate) const NO_CHANGE: Done = Done {
 };
 
 impl Shard {
-    /// A file has a new block. Its number has its entry, whatever was prepared; other preparations
-    /// are given up.
+    /// Adds a new block of a file. Uses the entry that is reserved for its number; drops other
+    /// reservations.
     pub(crate) fn add_block(
         &mut self,
         topology: &Topology,
@@ -92,7 +92,7 @@ impl Shard {
         NO_CHANGE
     }
 
-    /// A replica is bad, if it exists.
+    /// Makes a replica bad, if it exists.
     pub(crate) fn make_bad(&mut self, topology: &Topology, storage: StorageId, id: BlockId) -> Done
         requires none { HasNoUnused self.old }
         ensures changed { HasChanged topology.now.cluster topology.now.cluster self.old self.new
@@ -107,7 +107,7 @@ impl Shard {
         NO_CHANGE
     }
 
-    /// A replica leaves, if it exists.
+    /// Removes a replica, if it exists.
     pub(crate) fn delete_replica(
         &mut self,
         topology: &Topology,

@@ -82,7 +82,7 @@ impl Shard {
         }
     }
 
-    /// What is known of a block.
+    /// The stamp and the wanted replicas of a block, if it is known.
     fn info_of(&self, id: BlockId) -> Option<BlockInfo>
         ensures { result ≡ get self.now.holdings.blocks id }
     {

@@ -19,8 +19,8 @@ impl Shard {
     /// Changes the shard by an event that no check on the cluster refuses, in the capacity that
     /// [`Shard::prepare`] reserved. `topology` is the cluster before the event, `multi` is whether
     /// the alive nodes are on two racks or more after it. Returns how many replicas came and went.
-    /// An event on a block of another shard changes nothing. What was prepared for another event is
-    /// given up. Takes no memory.
+    /// An event on a block of another shard changes nothing. Reservations for another event are
+    /// dropped. Takes no memory.
     pub fn commit(&mut self, event: &Event, topology: &Topology, multi: bool) -> Done
         requires cluster { first_of (cluster_checks topology.now.cluster event.now) ≡ None }
         requires multi { multi ≡ is_multi_rack (change_cluster topology.now.cluster event.now) }
@@ -99,7 +99,7 @@ impl Shard {
     }
 }
 
-/// Whether an event needs a reservation. Any other event first gives up what was prepared.
+/// Whether an event needs a reservation. Any other event first drops earlier reservations.
 fn needs_reservation(event: &Event) -> bool
     ensures { result ≡ needs_reservation event.now }
 {

@@ -2,7 +2,7 @@
 //! cluster, their pending transfers, and how urgently each block needs replicas.
 //!
 //! An event is checked ([`Shard::check`]), all its memory is taken ([`Shard::prepare`]), and then
-//! it is made ([`Shard::commit`]), which refuses nothing; or it is given up ([`Shard::abort`]). So
+//! it is made ([`Shard::commit`]), which refuses nothing; or it is aborted ([`Shard::abort`]). So
 //! is a round: [`Shard::round_part`] finds what all shards choose from, [`Shard::round_ready`]
 //! takes the memory, [`Shard::round_commit`] ends it.
 #![tactic(auto)]

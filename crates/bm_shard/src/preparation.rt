@@ -1,4 +1,4 @@
-// Takes the memory that an event needs, or gives it up.
+// Takes the memory that an event needs, or releases it.
 ghost use Rattle.std.specs.Prelude.{◌≡◌, ◌==◌, ◌<◌, ◌∷◌, [], ℕ, None, Some, IfErr, OnOk, OnErr};
 ghost use Rattle.bm_base.specs.declared.refusal.Refusal.TheVariants.{Memory};
 ghost use Rattle.bm_base.specs.Words.{Refuses, Cluster, is_named};
@@ -21,8 +21,8 @@ use bm_topo::Topology;
 impl Shard {
     /// Takes the memory that [`Shard::commit`] of the event needs. A contract sees no other change,
     /// whether it is refused or not, if the shard is up to date in some cluster. It may be called
-    /// again: what was prepared before is given up. `Memory`, if a block is added, a replica
-    /// received or a storage reports; other events take none.
+    /// again: earlier reservations are dropped. `Memory`, if a block is added, a replica received
+    /// or a storage reports; other events take none.
     #[tactic(auto, unfolding(crate::specs::Seen::IsReadyFor))]
     pub fn prepare(&mut self, event: &Event, topology: &Topology) -> Result<(), Refusal>
         ensures ready { OnOk result (IsReadyFor event.now self.new) }
@@ -126,7 +126,7 @@ impl Shard {
         Ok(())
     }
 
-    /// Gives up what was prepared: entries that were made for it and have neither a block nor a
+    /// Releases what was prepared: entries that were made for it and have neither a block nor a
     /// replica are dropped. A contract sees no change but of capacity, if the shard is up to date
     /// in some cluster. Takes no memory.
     pub fn abort(&mut self)

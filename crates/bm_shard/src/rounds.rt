@@ -28,8 +28,8 @@ impl Shard {
         self.round_part_before(round, topology, None)
     }
 
-    /// The same, but only with the wishes before a bound, if there is one, by level and block.
-    /// Other settled blocks are not scanned.
+    /// As [`Shard::round_part`], but only with the wishes before a bound, if there is one, by level
+    /// and block. Other settled blocks are not scanned.
     pub fn round_part_before(
         &self,
         round: u64,
@@ -86,7 +86,7 @@ impl Shard {
     /// Takes the shard's next round, in which all shards together chose this. Expired transfers
     /// leave, excess is marked again from scratch, the shard's own chosen deletes are ordered and
     /// its own chosen transfers become pending. Every shard takes every round, also one in which
-    /// nothing was chosen. What was prepared for an event is given up. Takes no memory.
+    /// nothing was chosen. Reservations for an event are dropped. Takes no memory.
     pub fn round_commit(&mut self, part: &RoundPart, chosen: &Chosen, topology: &Topology)
         requires up_to_date { IsUpToDate topology.now.cluster self.old }
         requires part { part.now.excess ≡ (next_part topology.now.cluster self.old).excess }
@@ -140,7 +140,7 @@ impl Shard {
         self.round = round;
     }
 
-    /// Gives up what was reserved for a round. A contract sees no change but of capacity, if the
+    /// Releases what was reserved for a round. A contract sees no change but of capacity, if the
     /// shard is up to date in some cluster. Takes no memory.
     pub fn round_abort(&mut self)
         ensures same { IsSameButCapacity self.old self.new }

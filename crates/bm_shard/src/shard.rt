@@ -86,8 +86,8 @@ impl Shard {
         Shard::with_secret(alloc, index, config, HashSecret::none())
     }
 
-    /// The same, whose tables hash by this secret: for numbers that may have been chosen so that
-    /// they collide. `Memory`.
+    /// As [`Shard::new`], but the tables hash by this secret: for numbers that may have been chosen
+    /// so that they collide. `Memory`.
     pub fn with_secret(
         alloc: Global,
         index: u32,

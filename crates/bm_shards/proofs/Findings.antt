@@ -1,4 +1,5 @@
--- The parts of shards for a round, and their indices.
+-- Shards that are up to date can find their parts for a round, and each part is at its shard's
+-- index.
 use Rattle.std.specs.Prelude.{◌≡◌, ℕ, zero, suc, ◌+◌, List, [], ◌∷◌, ◌++◌, map, length, Some, option_map, slice_get}
 use Rattle.std.specs.List.{All}
 use Rattle.std.proofs.Common.{refl, sym, ap, ◌∙◌, arith}

@@ -1,4 +1,4 @@
--- The gathered answers of shards that were worked one by one.
+-- Gathering the answers of shards one by one gives the answers of all, or the first fault.
 use Rattle.std.specs.Prelude.{◌≡◌, ℕ, ◌+◌, List, [], ◌∷◌, ◌++◌, map, Some, Result, Ok, Err, IfOk, IfErr, OnOk, OnErr}
 use Rattle.std.specs.Result.{result_and, result_ok}
 use Rattle.std.specs.List.{All, AllZip, filter_map, cons_option}
@@ -8,7 +8,7 @@ use Rattle.bm_base.specs.declared.event.Done.{Done}
 use Rattle.bm_base.specs.declared.refusal.Refusal.{Refusal}
 use Rattle.bm_base.specs.declared.refusal.Refusal.TheVariants.{Memory}
 use Rattle.bm_shard.specs.Seen.{Seen}
-use Rattle.bm_shards.specs.Answers.{EachBecame, Asked, HasAnswered, shard_answered, fault_in, first_fault, done_of}
+use Rattle.bm_shards.specs.Answers.{EachBecame, ShardResult, HasAnswered, shard_answered, fault_in, first_fault, done_of}
 use Rattle.bm_shards.specs.Worked.{IsSame, IsPrepared}
 use Rattle.bm_shards.specs.declared.answers.Answered.{Answered}
 
@@ -57,21 +57,21 @@ fault_alone (Ok x) = refl
 fault_alone (Err e) = refl
 
 module _ {A : Type 0} where
-  pub fault_push : (fs : List (ℕ × Asked A)) (f : ℕ × Asked A) → first_fault (fs ++ f ∷ []) ≡ result_and (first_fault fs) (fault_in f.1.answer)
+  pub fault_push : (fs : List (ℕ × ShardResult A)) (f : ℕ × ShardResult A) → first_fault (fs ++ f ∷ []) ≡ result_and (first_fault fs) (fault_in f.1.answer)
   fault_push [] f = or_else_ok (fault_in f.1.answer)
   fault_push (g ∷ fs) f = ap (result_and (fault_in g.1.answer)) (fault_push fs f) ∙ or_else_again (fault_in g.1.answer) (first_fault fs) (fault_in f.1.answer)
 
-  abbrev pub answers_in : List (ℕ × Asked A) → List A
-  answers_in fs = filter_map (λ (f : ℕ × Asked A). result_ok f.1.answer) fs
+  abbrev pub answers_in : List (ℕ × ShardResult A) → List A
+  answers_in fs = filter_map (λ (f : ℕ × ShardResult A). result_ok f.1.answer) fs
 
-  pub answers_push : (fs : List (ℕ × Asked A)) (f : ℕ × Asked A) → answers_in (fs ++ f ∷ []) ≡ answers_in fs ++ cons_option (result_ok f.1.answer) []
-  answers_push fs f = filter_map-append (λ (f : ℕ × Asked A). result_ok f.1.answer) fs (f ∷ [])
+  pub answers_push : (fs : List (ℕ × ShardResult A)) (f : ℕ × ShardResult A) → answers_in (fs ++ f ∷ []) ≡ answers_in fs ++ cons_option (result_ok f.1.answer) []
+  answers_push fs f = filter_map-append (λ (f : ℕ × ShardResult A). result_ok f.1.answer) fs (f ∷ [])
 
   -- Facts about all answers.
 
   -- if each refusal is `Memory`, so is the first
-  pub memory_refused : (R : Seen → Asked A → Type 0) → ((S : Seen) (m : Asked A) → R S m → IfErr m.answer (λ e. e ≡ Memory))
-      → (ss : List (ℕ × Seen)) (fs : List (ℕ × Asked A)) (r : Refusal) → EachBecame R ss fs → first_fault fs ≡ Err r → r ≡ Memory
+  pub memory_refused : (R : Seen → ShardResult A → Type 0) → ((S : Seen) (m : ShardResult A) → R S m → IfErr m.answer (λ e. e ≡ Memory))
+      → (ss : List (ℕ × Seen)) (fs : List (ℕ × ShardResult A)) (r : Refusal) → EachBecame R ss fs → first_fault fs ≡ Err r → r ≡ Memory
   memory_refused R by [] [] r each e = cc
   memory_refused R by [] (m ∷ fs) r each e = absurd each
   memory_refused R by (s ∷ ss) [] r each e = absurd each
@@ -83,7 +83,7 @@ module _ {A : Type 0} where
 
   module _ (f : Seen → A) where
     -- no shard has changed
-    pub same_shards : (ss : List (ℕ × Seen)) (fs : List (ℕ × Asked A)) → EachBecame (HasAnswered f) ss fs → map shard_answered fs ≡ ss
+    pub same_shards : (ss : List (ℕ × Seen)) (fs : List (ℕ × ShardResult A)) → EachBecame (HasAnswered f) ss fs → map shard_answered fs ≡ ss
     same_shards [] [] each = refl
     same_shards [] (m ∷ fs) each = absurd each
     same_shards (s ∷ ss) [] each = absurd each
@@ -94,7 +94,7 @@ module _ {A : Type 0} where
     answered_ok (Err r) n e h = cc
 
     -- if no shard refused, the answers are those of the shards
-    pub all_answers : (ss : List (ℕ × Seen)) (fs : List (ℕ × Asked A)) → EachBecame (HasAnswered f) ss fs → first_fault fs ≡ Ok tt → answers_in fs ≡ map (λ (s : ℕ × Seen). f s.1) ss
+    pub all_answers : (ss : List (ℕ × Seen)) (fs : List (ℕ × ShardResult A)) → EachBecame (HasAnswered f) ss fs → first_fault fs ≡ Ok tt → answers_in fs ≡ map (λ (s : ℕ × Seen). f s.1) ss
     all_answers [] [] each fine = refl
     all_answers [] (m ∷ fs) each fine = absurd each
     all_answers (s ∷ ss) [] each fine = absurd each
@@ -104,17 +104,17 @@ module _ {A : Type 0} where
 
 -- After a preparation each shard is ready or was refused.
 module _ (IsReady : Seen → Type 0) where
-  pub prepared_same : (ss : List (ℕ × Seen)) (ps : List (ℕ × Asked (Unit {0}))) → EachBecame (IsPrepared IsReady) ss ps → AllZip IsSame ss (map shard_answered ps)
+  pub prepared_same : (ss : List (ℕ × Seen)) (ps : List (ℕ × ShardResult (Unit {0}))) → EachBecame (IsPrepared IsReady) ss ps → AllZip IsSame ss (map shard_answered ps)
   prepared_same [] [] each = tt
   prepared_same [] (p ∷ ps) each = absurd each
   prepared_same (s ∷ ss) [] each = absurd each
   prepared_same (s ∷ ss) (p ∷ ps) each = ((each.0.0, each.0.1.same), prepared_same ss ps each.1)
 
-  pub prepared_refused : (ss : List (ℕ × Seen)) (ps : List (ℕ × Asked (Unit {0}))) (r : Refusal) → EachBecame (IsPrepared IsReady) ss ps → first_fault ps ≡ Err r → r ≡ Memory
+  pub prepared_refused : (ss : List (ℕ × Seen)) (ps : List (ℕ × ShardResult (Unit {0}))) (r : Refusal) → EachBecame (IsPrepared IsReady) ss ps → first_fault ps ≡ Err r → r ≡ Memory
   prepared_refused = memory_refused (IsPrepared IsReady) (λ s p h. h.refused)
 
   -- if no preparation was refused, each shard is ready
-  pub prepared_ready : (ss : List (ℕ × Seen)) (ps : List (ℕ × Asked (Unit {0}))) → EachBecame (IsPrepared IsReady) ss ps → first_fault ps ≡ Ok tt
+  pub prepared_ready : (ss : List (ℕ × Seen)) (ps : List (ℕ × ShardResult (Unit {0}))) → EachBecame (IsPrepared IsReady) ss ps → first_fault ps ≡ Ok tt
       → All (λ (s : ℕ × Seen). IsReady s.1) (map shard_answered ps)
   prepared_ready [] [] each fine = All-nil (λ (s : ℕ × Seen). IsReady s.1)
   prepared_ready [] (p ∷ ps) each fine = absurd each

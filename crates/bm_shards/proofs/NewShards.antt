@@ -1,24 +1,18 @@
--- New shards.
+-- New shards hold nothing, are up to date, and are the shards of their configuration.
 use Rattle.std.specs.Prelude.{◌≡◌, ℕ, suc, ◌+◌, ◌≤◌, Bool, true, false, not, ◌&&◌, nat_le, None, List, [], ◌∷◌, ◌++◌, length}
 use Rattle.std.proofs.Common.{refl, sym, subst, ◌∙◌, arith}
 use Rattle.bm_base.specs.declared.config.Config.{Config}
-use Rattle.bm_base.specs.Words.{Order, empty, Cluster, empty_holdings, config_refusal, is_up_to, first_of, ◌when◌}
+use Rattle.bm_base.specs.Words.{empty, Cluster, empty_holdings, config_refusal, is_up_to, first_of, ◌when◌}
 use Rattle.bm_base.specs.Shards.{cut}
 use Rattle.bm_base.specs.declared.refusal.Refusal.TheVariants.{BadConfig}
 use Rattle.std.proofs.lemmas.Bool.{leb-true}
-use Rattle.bm_base.proofs.MapLaws.{get-empty}
 use Rattle.bm_parts.specs.Whole.{joined_with, AreOwn}
-use Rattle.bm_parts.proofs.PartMaps.{part, part_is}
+use Rattle.bm_parts.proofs.PartMaps.{part}
 use Rattle.bm_parts.proofs.JoinedShares.{own_entries}
 use Rattle.bm_parts.proofs.WholeParts.{cut_empty}
 use Rattle.bm_shard.specs.Seen.{Seen}
 use Rattle.bm_shards.specs.Whole.{parts_of, held_by, AreIndexed, AreShards, AreUpToDate, HaveTaken}
 use Rattle.bm_shards.specs.Worked.{IsNew, AreNew}
-
-part_empty : {K X : Type 0} {o : Order K} (p : K → Bool) → part p (empty {X = X} {o = o}) ≡ empty
-part_empty {K} {X} {o} p = part_is p (empty {X = X} {o = o}) empty (λ q _. refl) (λ q _. get-empty {X = X} o q)
-
-}
 
 next_to_empty : joined_with empty_holdings empty_holdings ≡ empty_holdings
 unfolding joined_with empty empty_holdings

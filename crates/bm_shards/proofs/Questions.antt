@@ -1,4 +1,4 @@
--- Questions to all shards, to one of them or to each.
+-- A question to the block's shard, to each shard or to all is answered as the whole answers it.
 use Rattle.std.specs.Prelude.{◌≡◌, ℕ, ◌≤◌, ◌||◌, Bool, List, [], ◌∷◌, map, flat_map, length, Some, None}
 use Rattle.std.specs.List.{list_any}
 use Rattle.std.specs.List.Sorted.{IsPermutation, IsSortedByKey}

@@ -1,4 +1,5 @@
--- The end of a round of all shards.
+-- After a round of all shards they hold what the definition gives; after an aborted one they hold
+-- what they held.
 use Rattle.std.specs.Prelude.{◌≡◌, ℕ, ◌+◌, List, length, Result, Ok, Err, OnOk, OnErr}
 use Rattle.std.specs.List.{AllZip}
 use Rattle.std.proofs.Common.{subst, ◌∙◌}
@@ -37,7 +38,7 @@ module _ (C : Cluster) (limits : RoundLimits) (last : ℕ) (ss : List (ℕ × Se
     end_held all_ts all_ds =
         held_after C chosen last limits.pend ss ts each h took ∙ (λ i. end_round (last + 1) (holdings_at_choice C limits.pend (last + 1) (held_by ss)) (all_ts i) (all_ds i))
 
-  -- The round was given up.
+  -- The round was aborted.
   module _ (back ts : List (ℕ × Seen)) (o : Result (Unit {0}) Refusal) (e : Refusal) (from : back ≡ ss) (same : OnErr o (AllZip IsSame back ts)) (is : o ≡ Err e) where
     still : AllZip IsSame ss ts
     still = subst (λ (xs : List (ℕ × Seen)). AllZip IsSame xs ts) from (subst (λ r. OnErr r (AllZip IsSame back ts)) is same)

@@ -1,4 +1,5 @@
--- Shards after the preparation of a round, and after the round.
+-- After a round for which all shards are ready, they are up to date and hold what the definition
+-- gives.
 use Rattle.std.specs.Prelude.{◌≡◌, ℕ, suc, ◌+◌, ◌<◌, ◌^◌, List, [], ◌∷◌, map, length, Some, Ok, option_map, slice_get}
 use Rattle.std.specs.List.{All, AllZip}
 use Rattle.std.proofs.Common.{sym, ap, subst, ◌∙◌}
@@ -13,7 +14,7 @@ use Rattle.bm_crew.specs.Work.{IsResultOf}
 use Rattle.bm_shard.specs.Seen.{Seen, IsReadyForRound}
 use Rattle.bm_shard.specs.UpToDate.{next_part}
 use Rattle.bm_shards.specs.Whole.{parts_of, held_by, AreIndexed, AreShards, AreUpToDate, HaveTaken}
-use Rattle.bm_shards.specs.Answers.{EachBecame, Asked, shard_answered, first_fault}
+use Rattle.bm_shards.specs.Answers.{EachBecame, ShardResult, shard_answered, first_fault}
 use Rattle.bm_shards.specs.Worked.{IsSame, IsPrepared}
 use Rattle.bm_shards.specs.RoundWorked.{HasPart, CanCommitRound, HasTakenRound}
 use Rattle.bm_shards.proofs.Gathered.{prepared_same, prepared_ready}
@@ -34,7 +35,7 @@ module _ (C : Cluster) (chosen : Chosen) where
       (can_commit_round all ss (All-tail (HasPart C all) s ss has) up_to_date.1 (All-tail IsCounted s ss few) (All-tail (λ (s : ℕ × Seen). IsReadyForRound chosen s.1) s ss ready))
 
   -- if no preparation was refused, each shard may take the round
-  pub all_ready_for_round : (all : List RoundPart) (ss : List (ℕ × Seen)) (ps : List (ℕ × Asked (Unit {0}))) → EachBecame (IsPrepared (IsReadyForRound chosen)) ss ps → All (HasPart C all) ss
+  pub all_ready_for_round : (all : List RoundPart) (ss : List (ℕ × Seen)) (ps : List (ℕ × ShardResult (Unit {0}))) → EachBecame (IsPrepared (IsReadyForRound chosen)) ss ps → All (HasPart C all) ss
       → AreUpToDate C ss → All IsCounted ss → first_fault ps ≡ Ok tt → All (CanCommitRound C all chosen) (map shard_answered ps)
   all_ready_for_round all ss ps each has up_to_date few fine =
       let same = prepared_same (IsReadyForRound chosen) ss ps each in

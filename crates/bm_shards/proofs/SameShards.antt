@@ -1,4 +1,4 @@
--- Shards that change only their capacity.
+-- Shards that change only their capacity keep what they hold, and stay up to date.
 use Rattle.std.specs.Prelude.{◌≡◌, ℕ, zero, suc, List, [], ◌∷◌, length}
 use Rattle.std.specs.List.{All, AllZip}
 use Rattle.std.proofs.Common.{refl, sym, ap, subst, ◌∙◌, get_or}

@@ -1,4 +1,4 @@
--- Shards after the preparation of an event, and after the event, all together.
+-- After an event for which all shards are ready, they hold together what the definition gives.
 use Rattle.std.specs.Prelude.{◌≡◌, ℕ, suc, ◌+◌, ◌≤◌, List, [], ◌∷◌, map, length, Ok}
 use Rattle.std.specs.List.{All}
 use Rattle.std.proofs.Common.{refl, sym, ap, subst, ◌∙◌, arith}
@@ -11,7 +11,7 @@ use Rattle.bm_parts.specs.Whole.{EachPart, done_of_all}
 use Rattle.bm_parts.proofs.PartChanges.{whole_changes_by_event, done_adds_up}
 use Rattle.bm_shard.specs.Seen.{Seen, IsReadyFor}
 use Rattle.bm_shards.specs.Worked.{IsPrepared, CanCommit, IsCommitted}
-use Rattle.bm_shards.specs.Answers.{EachBecame, Asked, shard_answered, first_fault, done_of, IsFew}
+use Rattle.bm_shards.specs.Answers.{EachBecame, ShardResult, shard_answered, first_fault, done_of, IsFew}
 use Rattle.bm_shards.specs.Whole.{parts_of, held_by, AreIndexed, AreShards, AreUpToDate, HaveTaken}
 use Rattle.bm_shards.specs.declared.answers.Answered.{Answered}
 use Rattle.bm_shards.proofs.Gathered.{prepared_same, prepared_ready}
@@ -27,7 +27,7 @@ module _ (C : Cluster) (e : Event) where
       (can_commit ss up_to_date.1 (All-tail (λ (s : ℕ × Seen). IsReadyFor e s.1) s ss ready))
 
   -- if no preparation was refused, each shard may be changed
-  pub all_ready : (ss : List (ℕ × Seen)) (ps : List (ℕ × Asked (Unit {0}))) → EachBecame (IsPrepared (IsReadyFor e)) ss ps → AreUpToDate C ss → first_fault ps ≡ Ok tt
+  pub all_ready : (ss : List (ℕ × Seen)) (ps : List (ℕ × ShardResult (Unit {0}))) → EachBecame (IsPrepared (IsReadyFor e)) ss ps → AreUpToDate C ss → first_fault ps ≡ Ok tt
       → All (λ (s : ℕ × Seen). CanCommit C e s.1) (map shard_answered ps)
   all_ready ss ps each up_to_date fine =
       can_commit (map shard_answered ps) (same_up_to_date C ss (map shard_answered ps) (prepared_same (IsReadyFor e) ss ps each) up_to_date) (prepared_ready (IsReadyFor e) ss ps each fine)
@@ -88,7 +88,7 @@ module _ (C : Cluster) (e : Event) where
         done_is ss cs each ∙ done_adds_up C e shards Ps Qs h.some long h.own changed,
       )
 
-  -- The same, in the form of a function's goals.
+  -- The facts above, in the form of a function's goals.
 
   as_long : (ss : List (ℕ × Seen)) (cs : List (ℕ × Answered Done)) → EachBecame (IsCommitted C e) ss cs → length cs ≡ length ss
   as_long [] [] each = refl

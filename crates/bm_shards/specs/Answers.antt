@@ -1,4 +1,5 @@
--- The answers of shards that were worked one by one, each with its index, and the gathered answers.
+-- The answers of shards that were processed one by one, each with its index, and the gathered
+-- answers.
 use Rattle.std.specs.Prelude.{◌≡◌, ℕ, ◌+◌, ◌<◌, ◌^◌, List, [], ◌∷◌, map, Result, Ok, Err, IfOk, IfErr, Vec}
 use Rattle.std.specs.Result.{result_and}
 use Rattle.std.specs.List.{AllZip}
@@ -14,11 +15,11 @@ abbrev pub EachBecame : {U : Type 0} → (Seen → U → Type 0) → List (ℕ �
 EachBecame R ss us = AllZip (IsResultOf (λ _. R)) ss us
 
 -- a shard that answered, or refused
-abbrev pub Asked : Type 0 → Type 0
-Asked A = Answered (Result A Refusal)
+abbrev pub ShardResult : Type 0 → Type 0
+ShardResult A = Answered (Result A Refusal)
 
 -- the same shard, with its answer, or out of memory
-pub record HasAnswered {A : Type 0} (f : Seen → A) (S : Seen) (made : Asked A) : Type 0 where
+pub record HasAnswered {A : Type 0} (f : Seen → A) (S : Seen) (made : ShardResult A) : Type 0 where
   pub shard : made.shard ≡ S
   pub answer : IfOk made.answer (λ a. a ≡ f S)
   pub refused : IfErr made.answer (λ e. e ≡ Memory)
@@ -42,7 +43,7 @@ fault_in (Ok a) = Ok tt
 fault_in (Err e) = Err e
 
 -- the first refusal
-abbrev pub first_fault : {A : Type 0} → List (ℕ × Asked A) → Result (Unit {0}) Refusal
+abbrev pub first_fault : {A : Type 0} → List (ℕ × ShardResult A) → Result (Unit {0}) Refusal
 first_fault [] = Ok tt
 first_fault (f ∷ fs) = result_and (fault_in f.1.answer) (first_fault fs)
 

@@ -1,4 +1,4 @@
--- A code, by which proofs distinguish what is seen of all shards.
+-- A code, by which proofs distinguish views of all shards.
 use Rattle.std.specs.Prelude.{ℕ, List, refl}
 use Rattle.std.specs.Coded.{Coded, code_by, coded×, coded_ℕ, coded_list}
 use Rattle.bm_base.specs.Machine.State.{Holdings}

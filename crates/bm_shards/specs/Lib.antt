@@ -1,3 +1,4 @@
+-- Definitions of the contracts of all shards: the whole that they hold, events, queries and rounds.
 pub mod Whole
 pub mod Codes
 pub mod Answers

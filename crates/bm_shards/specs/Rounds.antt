@@ -4,7 +4,7 @@ use Rattle.bm_base.specs.declared.commands.Commands.{Commands}
 use Rattle.bm_base.specs.Words.{RoundLimits, Cluster, Holdings, transfers, deletes, commands_of, end_round}
 use Rattle.bm_base.specs.RoundParts.{holdings_at_choice}
 
--- what round r commands
+-- the commands of round r
 abbrev pub commands_in : RoundLimits → Cluster → ℕ → Holdings → Commands
 commands_in limits C r H = let G = holdings_at_choice C limits.pend r H in commands_of C r (transfers limits C G) (deletes limits C G)
 

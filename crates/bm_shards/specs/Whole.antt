@@ -5,7 +5,7 @@ use Rattle.bm_parts.specs.Whole.{whole_of, AreOwn}
 use Rattle.bm_shard.specs.Seen.{Seen}
 use Rattle.bm_shard.specs.UpToDate as shard
 
--- what is seen of all shards: what they hold together, and each of them with its index
+-- the view of all shards: what they hold together, and each of them with its index
 pub record Whole : Type 0 where
   pub holdings : Holdings
   pub shards : List (ℕ × Seen)
@@ -40,7 +40,8 @@ abbrev pub HaveTaken : ℕ → ℕ → List (ℕ × Seen) → Type 0
 HaveTaken round pend [] = Unit {0}
 HaveTaken round pend (s ∷ ss) = (s.1.round ≡ round) × (s.1.pend ≡ pend) × HaveTaken round pend ss
 
--- the same for all shards together: the facts that a caller passes on from call to call
+-- `AreUpToDate` and `HaveTaken` for all shards together: the facts that a caller passes on from
+-- call to call
 
 unfoldable pub IsUpToDate : Cluster → Whole → Type 0
 IsUpToDate C F = AreUpToDate C F.shards

@@ -10,7 +10,7 @@ use Rattle.bm_shard.specs.Seen.{Seen, IsReadyFor}
 use Rattle.bm_shard.specs.Unused.{HasNoUnused, HasNoUnusedCapacity}
 use Rattle.bm_shard.specs.UpToDate.{IsUpToDate, IsSameButCapacity}
 use Rattle.bm_shards.specs.declared.answers.Answered.{Answered}
-use Rattle.bm_shards.specs.Answers.{Asked}
+use Rattle.bm_shards.specs.Answers.{ShardResult}
 
 -- a new shard of this index
 pub record IsNew (config : Config) (i : ℕ) (s : ℕ × Seen) : Type 0 where
@@ -30,14 +30,14 @@ AreNew config index (s ∷ ss) = IsNew config index s × AreNew config (suc inde
 abbrev pub IsSame : ℕ × Seen → ℕ × Seen → Type 0
 IsSame s t = (t.0 ≡ s.0) × IsSameButCapacity s.1 t.1
 
--- the reservations for an event or a round are given up: no number has an unused entry, no block
--- unused capacity for transfers
+-- the reservations for an event or a round are released: no number has an unused entry, and no
+-- block has unused capacity for transfers
 pub record HasGivenUp (S : Seen) : Type 0 where
   pub unused : HasNoUnused S
   pub freed : HasNoUnusedCapacity S
 
 -- the same shard in all but capacity, which is ready, or out of memory
-pub record IsPrepared (IsReady : Seen → Type 0) (S : Seen) (made : Asked (Unit {0})) : Type 0 where
+pub record IsPrepared (IsReady : Seen → Type 0) (S : Seen) (made : ShardResult (Unit {0})) : Type 0 where
   pub same : IsSameButCapacity S made.shard
   pub ready : OnOk made.answer (IsReady made.shard)
   pub refused : IfErr made.answer (λ e. e ≡ Memory)

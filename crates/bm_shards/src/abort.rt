@@ -1,11 +1,11 @@
-// Gives up what the shards reserved for an event or a round.
+// Releases what the shards reserved for an event or a round.
 ghost use Rattle.std.specs.List.{All, AllZip};
 ghost use Rattle.bm_shard.specs.UpToDate.{IsSameButCapacity};
 ghost use Rattle.bm_shards.specs.Worked.{IsSame, HasGivenUp};
 
 use bm_shard::Shard;
 
-/// Has each shard give up what it reserved for an event or a round.
+/// Has each shard release what it reserved for an event or a round.
 pub(crate) fn abort_all(shards: &mut Vec<(u32, Shard)>)
     ensures each { AllZip IsSame shards.old.items shards.new.items }
     ensures given_up { All (λ s. HasGivenUp s.1) shards.new.items }
@@ -15,7 +15,7 @@ pub(crate) fn abort_all(shards: &mut Vec<(u32, Shard)>)
     }
 }
 
-/// Has a shard give up what it reserved for an event or a round.
+/// Has a shard release what it reserved for an event or a round.
 fn abort_shard(shard: &mut Shard)
     ensures same { IsSameButCapacity shard.old shard.new }
     ensures given_up { HasGivenUp shard.new }

@@ -1,4 +1,4 @@
-// The answers of shards that the workers worked one by one. Nothing here takes memory.
+// The answers of shards that the workers processed one by one. Nothing here takes memory.
 ghost use Rattle.std.specs.Prelude.{◌≡◌, ◌≤◌, ◌<◌, ◌+◌, ◌++◌, ℕ, [], List, map, length, vec_len, vec_capacity};
 ghost use Rattle.std.specs.Result.{result_and, result_ok};
 ghost use Rattle.std.specs.List.{All, filter_map, cons_option};
@@ -8,7 +8,7 @@ ghost use Rattle.bm_shards.specs.Answers.{EachBecame, HasAnswered, HasGathered, 
 use bm_base::{Done, Refusal};
 use bm_shard::Shard;
 
-/// A shard that was worked, and what it answered.
+/// A shard that was processed, and its answer.
 #[derive(Drop)]
 pub struct Answered<A> {
     pub shard: Shard,
@@ -16,12 +16,12 @@ pub struct Answered<A> {
 }
 
 /// A shard that answered, or refused.
-pub type Asked<A> = Answered<Result<A, Refusal>>;
+pub type ShardResult<A> = Answered<Result<A, Refusal>>;
 
 /// Moves the unchanged shards into `back`, and their answers into `answers`, or returns the first
 /// refusal. Both lists have the capacity.
 pub(crate) fn gather_answers<A: Drop>(
-    asked: Vec<(u32, Asked<A>)>,
+    asked: Vec<(u32, ShardResult<A>)>,
     back: &mut Vec<(u32, Shard)>,
     mut answers: Vec<A>,
 ) -> Result<Vec<A>, Refusal>
@@ -38,7 +38,7 @@ pub(crate) fn gather_answers<A: Drop>(
 
 /// Moves the shards into `back` and their answers into `answers`, and returns the first refusal.
 fn split_answers<A: Drop>(
-    asked: Vec<(u32, Asked<A>)>,
+    asked: Vec<(u32, ShardResult<A>)>,
     back: &mut Vec<(u32, Shard)>,
     answers: &mut Vec<A>,
 ) -> Result<(), Refusal>
@@ -77,7 +77,7 @@ fn put_answer<A: Drop>(answers: &mut Vec<A>, answer: Result<A, Refusal>) -> Resu
 /// Moves the prepared shards into `back`, which has capacity for them, and returns the first
 /// refusal. It needs no list of answers: one of `()` would take memory too.
 pub(crate) fn gather_prepared(
-    prepared: Vec<(u32, Asked<()>)>,
+    prepared: Vec<(u32, ShardResult<()>)>,
     back: &mut Vec<(u32, Shard)>,
 ) -> Result<(), Refusal>
     requires capacity { (back.old.items ≡ []) × (vec_len prepared ≤ vec_capacity back.old) }

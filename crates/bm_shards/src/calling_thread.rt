@@ -10,7 +10,7 @@ ghost use Rattle.bm_shards.specs.Rows.{rows_of};
 ghost use Rattle.bm_shards.specs.Worked.{IsPrepared, CanCommit, IsCommitted};
 ghost use Rattle.bm_shards.specs.RoundWorked.{CanFind, HasPart, CanCommitRound, HasTakenRound};
 
-use crate::answers::{Answered, Asked};
+use crate::answers::{Answered, ShardResult};
 use crate::shard_work::{
     commit_round_one, commit_shard, find_in_shard, prepare_round_one, prepare_shard, rows_of_one,
 };
@@ -33,12 +33,12 @@ impl Workers for CallingThread {
 
     fn prepare_all(
         &self,
-        ready: Ready<Shard, Asked<()>>,
+        ready: Ready<Shard, ShardResult<()>>,
         shards: Vec<(u32, Shard)>,
         event: &Event,
         topology: &Topology,
-    ) -> Vec<(u32, Asked<()>)> {
-        let work = |_: u32, shard: Shard| -> Asked<()>
+    ) -> Vec<(u32, ShardResult<()>)> {
+        let work = |_: u32, shard: Shard| -> ShardResult<()>
             ensures { IsPrepared (IsReadyFor event.entry.now) shard result }
         { prepare_shard(shard, event, topology) };
         ready.run_alone(shards, &work)
@@ -64,13 +64,13 @@ impl Workers for CallingThread {
 
     fn find_all(
         &self,
-        ready: Ready<Shard, Asked<RoundPart>>,
+        ready: Ready<Shard, ShardResult<RoundPart>>,
         shards: Vec<(u32, Shard)>,
         round: u64,
         topology: &Topology,
         bound: Option<Key>,
-    ) -> Vec<(u32, Asked<RoundPart>)> {
-        let work = |_: u32, shard: Shard| -> Asked<RoundPart>
+    ) -> Vec<(u32, ShardResult<RoundPart>)> {
+        let work = |_: u32, shard: Shard| -> ShardResult<RoundPart>
             requires { CanFind topology.now.cluster round shard }
             ensures { HasAnswered
                 (λ S. part_before bound (next_part topology.entry.now.cluster S)) shard result }
@@ -80,13 +80,13 @@ impl Workers for CallingThread {
 
     fn prepare_round_all(
         &self,
-        ready: Ready<Shard, Asked<()>>,
+        ready: Ready<Shard, ShardResult<()>>,
         shards: Vec<(u32, Shard)>,
         parts: &[RoundPart],
         chosen: &Chosen,
         topology: &Topology,
-    ) -> Vec<(u32, Asked<()>)> {
-        let work = |index: u32, shard: Shard| -> Asked<()>
+    ) -> Vec<(u32, ShardResult<()>)> {
+        let work = |index: u32, shard: Shard| -> ShardResult<()>
             requires { HasPart topology.now.cluster parts.now (index, shard) }
             ensures { IsPrepared (IsReadyForRound chosen.entry.now) shard result }
         { prepare_round_one(index, shard, parts, chosen, topology) };
@@ -110,10 +110,10 @@ impl Workers for CallingThread {
 
     fn rows_of_all(
         &self,
-        ready: Ready<Shard, Asked<Rows>>,
+        ready: Ready<Shard, ShardResult<Rows>>,
         shards: Vec<(u32, Shard)>,
-    ) -> Vec<(u32, Asked<Rows>)> {
-        let work = |_: u32, shard: Shard| -> Asked<Rows>
+    ) -> Vec<(u32, ShardResult<Rows>)> {
+        let work = |_: u32, shard: Shard| -> ShardResult<Rows>
             ensures { HasAnswered rows_of shard result }
         { rows_of_one(shard) };
         ready.run_alone(shards, &work)

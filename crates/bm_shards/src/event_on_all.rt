@@ -8,7 +8,7 @@ ghost use Rattle.bm_shards.specs.Worked.{CanCommit, IsSame, HasGivenUp};
 ghost use Rattle.bm_shards.specs.Whole.{AreShards, AreUpToDate, HaveTaken, held_by};
 
 use crate::abort::abort_all;
-use crate::answers::{Answered, Asked, gather_done, gather_prepared};
+use crate::answers::{Answered, ShardResult, gather_done, gather_prepared};
 use crate::pass_buffers::{PassBuffers, reserve_pass};
 use crate::workers::Workers;
 use bm_base::{Done, Event, Refusal};
@@ -74,7 +74,7 @@ fn prepare_for_event<W: Workers>(
         (λ r. (r.1.items ≡ []) × (vec_len shards.new ≤ vec_capacity r.1)) }
     ensures refused { IfErr result (λ e. e ≡ Memory) }
 {
-    let (preparing, back) = reserve_pass::<Asked<()>>(alloc, shards.len(), workers.count())?;
+    let (preparing, back) = reserve_pass::<ShardResult<()>>(alloc, shards.len(), workers.count())?;
     let items = mem::replace(shards, back);
     let made = workers.prepare_all(preparing, items, event, topology);
     match gather_prepared(made, shards) {

@@ -1,4 +1,4 @@
-//! All shards of a block manager, worked by a crew of threads or by the calling thread alone
+//! All shards of a block manager, processed by a crew of threads or by the calling thread alone
 //! ([`Workers`]). What they hold together changes as the definitions change the whole.
 //!
 //! An event on a block is made on the block's shard alone, any other on every shard or on none

@@ -2,13 +2,13 @@
 ghost use Rattle.std.specs.Prelude.{◌≡◌, IfOk, IfErr};
 ghost use Rattle.bm_base.specs.declared.refusal.Refusal.TheVariants.{Memory};
 ghost use Rattle.bm_base.specs.Machine.Queries as queries;
+ghost use Rattle.bm_base.specs.Words.{Cluster};
 ghost use Rattle.bm_queries.specs.Listed.{wants, replicas_passing};
 ghost use Rattle.bm_shards.specs.Whole.{IsUpToDate};
 
 use crate::all_shards::AllShards;
 use bm_base::{BlockId, Items, Refusal, Replica, ReplicaId, StorageId};
 use bm_queries::{ReplicaFilter, replica_key, replica_keys};
-use bm_topo::Topology;
 
 impl AllShards {
     /// The replicas of the given kind, by block and storage. `Memory`.
@@ -54,10 +54,9 @@ impl AllShards {
 
     /// The known blocks without a usable replica, ascending. `Memory`.
     #[tactic(auto, unfolding(crate::specs::Whole::IsUpToDate))]
-    pub fn missing(&self, topology: &Topology) -> Result<Items<BlockId>, Refusal>
-        requires { IsUpToDate topology.now.cluster self.now }
-        ensures missing { IfOk result
-            (λ v. v ≡ queries.missing_blocks topology.now.cluster self.now.holdings) }
+    pub fn missing(&self) -> Result<Items<BlockId>, Refusal>
+        ensures missing { (C : Cluster) → IsUpToDate C self.now
+            → IfOk result (λ v. v ≡ queries.missing_blocks C self.now.holdings) }
         ensures refused { IfErr result (λ e. e ≡ Memory) }
     {
         let mut all = Vec::new(self.alloc);

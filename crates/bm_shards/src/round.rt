@@ -11,7 +11,7 @@ ghost use Rattle.bm_shards.specs.RoundWorked.{HasPart, CanCommitRound, HasTakenR
 
 use crate::abort::abort_all;
 use crate::all_shards::AllShards;
-use crate::answers::{Asked, gather_prepared};
+use crate::answers::{ShardResult, gather_prepared};
 use crate::pass_buffers::reserve_pass;
 use crate::round_parts::{find_round, lacks_transfers};
 use crate::workers::Workers;
@@ -158,7 +158,7 @@ fn prepare_for_round<W: Workers>(
     ensures capacity { IfOk result (λ r. r.capacity ≡ vec_len shards.new) }
     ensures refused { IfErr result (λ e. e ≡ Memory) }
 {
-    let (preparing, back) = reserve_pass::<Asked<()>>(alloc, shards.len(), workers.count())?;
+    let (preparing, back) = reserve_pass::<ShardResult<()>>(alloc, shards.len(), workers.count())?;
     let items = mem::replace(shards, back);
     let made = workers.prepare_round_all(preparing, items, parts, chosen, topology);
     match gather_prepared(made, shards) {

@@ -9,7 +9,7 @@ ghost use Rattle.bm_parts.specs.Before.{part_before};
 ghost use Rattle.bm_shards.specs.RoundWorked.{CanFind};
 ghost use Rattle.bm_shards.specs.RoundChosen.{next_parts, next_parts_before, HasExcess, IsChosen};
 
-use crate::answers::{Asked, gather_answers};
+use crate::answers::{ShardResult, gather_answers};
 use crate::pass_buffers::reserve_pass;
 use crate::round_choice::{ChosenCommands, choose_commands};
 use crate::workers::Workers;
@@ -114,7 +114,11 @@ fn find_parts<W: Workers>(
     ensures refused { IfErr result (λ e. e ≡ Memory) }
 {
     let answers = Vec::with_capacity(alloc, shards.len())?;
-    let (asking, back) = reserve_pass::<Asked<RoundPart>>(alloc, shards.len(), workers.count())?;
+    let (asking, back) = reserve_pass::<ShardResult<RoundPart>>(
+        alloc,
+        shards.len(),
+        workers.count(),
+    )?;
     let items = mem::replace(shards, back);
     let found = workers.find_all(asking, items, round, topology, bound);
     gather_answers(found, shards, answers)

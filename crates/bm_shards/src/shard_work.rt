@@ -10,7 +10,7 @@ ghost use Rattle.bm_shards.specs.Rows.{rows_of};
 ghost use Rattle.bm_shards.specs.Worked.{IsPrepared, CanCommit, IsCommitted};
 ghost use Rattle.bm_shards.specs.RoundWorked.{CanFind, HasPart, CanCommitRound, HasTakenRound};
 
-use crate::answers::{Answered, Asked};
+use crate::answers::{Answered, ShardResult};
 use crate::table::Rows;
 use bm_base::{Chosen, Done, Event, RoundPart};
 use bm_parts::merge::Key;
@@ -18,7 +18,7 @@ use bm_shard::Shard;
 use bm_topo::Topology;
 
 /// Takes the memory of an event in one shard.
-pub(crate) fn prepare_shard(mut shard: Shard, event: &Event, topology: &Topology) -> Asked<()>
+pub(crate) fn prepare_shard(mut shard: Shard, event: &Event, topology: &Topology) -> ShardResult<()>
     ensures { IsPrepared (IsReadyFor event.now) shard result }
 {
     let answer = shard.prepare(event, topology);
@@ -48,7 +48,7 @@ pub(crate) fn find_in_shard(
     round: u64,
     topology: &Topology,
     bound: Option<Key>,
-) -> Asked<RoundPart>
+) -> ShardResult<RoundPart>
     requires { CanFind topology.now.cluster round shard }
     ensures { HasAnswered (λ S. part_before bound (next_part topology.now.cluster S)) shard result }
 {
@@ -63,7 +63,7 @@ pub(crate) fn prepare_round_one(
     parts: &[RoundPart],
     chosen: &Chosen,
     topology: &Topology,
-) -> Asked<()>
+) -> ShardResult<()>
     requires { HasPart topology.now.cluster parts.now (index, shard) }
     ensures { IsPrepared (IsReadyForRound chosen.now) shard result }
 {
@@ -97,7 +97,7 @@ pub(crate) fn commit_round_one(
 }
 
 /// Asks one shard for its rows.
-pub(crate) fn rows_of_one(shard: Shard) -> Asked<Rows>
+pub(crate) fn rows_of_one(shard: Shard) -> ShardResult<Rows>
     ensures { HasAnswered rows_of shard result }
 {
     let answer = shard.table_rows();

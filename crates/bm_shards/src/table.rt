@@ -8,7 +8,7 @@ ghost use Rattle.bm_shards.specs.Rows.{rows_of};
 ghost use Rattle.bm_shards.specs.Whole.{AreShards, held_by};
 
 use crate::all_shards::AllShards;
-use crate::answers::{Asked, gather_answers};
+use crate::answers::{ShardResult, gather_answers};
 use crate::pass_buffers::reserve_pass;
 use crate::workers::Workers;
 use bm_base::{BlockId, Items, Places, Refusal};
@@ -63,7 +63,7 @@ fn gather_tables<W: Workers>(
     ensures refused { IfErr result (λ e. e ≡ Memory) }
 {
     let answers = Vec::with_capacity(alloc, shards.len())?;
-    let (asking, back) = reserve_pass::<Asked<Rows>>(alloc, shards.len(), workers.count())?;
+    let (asking, back) = reserve_pass::<ShardResult<Rows>>(alloc, shards.len(), workers.count())?;
     let items = mem::replace(shards, back);
     let made = workers.rows_of_all(asking, items);
     gather_answers(made, shards, answers)

@@ -11,7 +11,7 @@ ghost use Rattle.bm_shards.specs.Rows.{rows_of};
 ghost use Rattle.bm_shards.specs.Worked.{IsPrepared, CanCommit, IsCommitted};
 ghost use Rattle.bm_shards.specs.RoundWorked.{CanFind, HasPart, CanCommitRound, HasTakenRound};
 
-use crate::answers::{Answered, Asked};
+use crate::answers::{Answered, ShardResult};
 use crate::table::Rows;
 use bm_base::{Chosen, Done, Event, RoundPart};
 use bm_crew::Ready;
@@ -19,7 +19,7 @@ use bm_parts::merge::Key;
 use bm_shard::Shard;
 use bm_topo::Topology;
 
-/// Works all shards, by a crew of threads or by the calling thread alone. No answer depends on
+/// Processes all shards, by a crew of threads or by the calling thread alone. No answer depends on
 /// which.
 ///
 /// Each kind of work has a method of its own: the checker takes no method of a trait that is
@@ -33,11 +33,11 @@ pub trait Workers {
     /// refused.
     fn prepare_all(
         &self,
-        ready: Ready<Shard, Asked<()>>,
+        ready: Ready<Shard, ShardResult<()>>,
         shards: Vec<(u32, Shard)>,
         event: &Event,
         topology: &Topology,
-    ) -> Vec<(u32, Asked<()>)>
+    ) -> Vec<(u32, ShardResult<()>)>
         requires capacity { vec_len shards ≤ ready.capacity }
         ensures len { vec_len result ≡ vec_len shards }
         ensures each { EachBecame (IsPrepared (IsReadyFor event.now)) shards.items
@@ -65,12 +65,12 @@ pub trait Workers {
     /// changes.
     fn find_all(
         &self,
-        ready: Ready<Shard, Asked<RoundPart>>,
+        ready: Ready<Shard, ShardResult<RoundPart>>,
         shards: Vec<(u32, Shard)>,
         round: u64,
         topology: &Topology,
         bound: Option<Key>,
-    ) -> Vec<(u32, Asked<RoundPart>)>
+    ) -> Vec<(u32, ShardResult<RoundPart>)>
         requires capacity { vec_len shards ≤ ready.capacity }
         requires shards { All (λ s. CanFind topology.now.cluster round s.1) shards.items }
         ensures len { vec_len result ≡ vec_len shards }
@@ -82,12 +82,12 @@ pub trait Workers {
     /// or it was refused.
     fn prepare_round_all(
         &self,
-        ready: Ready<Shard, Asked<()>>,
+        ready: Ready<Shard, ShardResult<()>>,
         shards: Vec<(u32, Shard)>,
         parts: &[RoundPart],
         chosen: &Chosen,
         topology: &Topology,
-    ) -> Vec<(u32, Asked<()>)>
+    ) -> Vec<(u32, ShardResult<()>)>
         requires capacity { vec_len shards ≤ ready.capacity }
         requires shards { All (HasPart topology.now.cluster parts.now) shards.items }
         ensures len { vec_len result ≡ vec_len shards }
@@ -112,9 +112,9 @@ pub trait Workers {
     /// Asks each shard for its rows. No shard changes.
     fn rows_of_all(
         &self,
-        ready: Ready<Shard, Asked<Rows>>,
+        ready: Ready<Shard, ShardResult<Rows>>,
         shards: Vec<(u32, Shard)>,
-    ) -> Vec<(u32, Asked<Rows>)>
+    ) -> Vec<(u32, ShardResult<Rows>)>
         requires capacity { vec_len shards ≤ ready.capacity }
         ensures len { vec_len result ≡ vec_len shards }
         ensures each { EachBecame (HasAnswered rows_of) shards.items result.items };

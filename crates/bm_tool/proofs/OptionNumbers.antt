@@ -1,4 +1,5 @@
--- The number that is found for an option.
+-- The number of an option is the one that the words give, or else its default, and is in the
+-- option's range.
 use Rattle.std.proofs.Common.{zero, suc, ◌||◌, fold, ◌≡◌, ◌∙◌, ◌<◌, ◌≤◌, ◌^◌, drop, take, ap, map, ℕ, Bool, true, false, not, List, [], ◌∷◌, ◌++◌, length, Option, Some, None, refl, sym, subst, inl, inr, arith, codes, true≢false, is_some}
 use Rattle.std.specs.List.{list_any, slice_index_or}
 use Rattle.std.specs.Option.{option_map_or}
@@ -65,12 +66,12 @@ none_at p (x ∷ xs) none (suc j) d lt is = go (p x) refl (λ h. none_at p xs h 
         cc
     go false e rest = rest (rw e at none)
 
-only_place : {X : Type 0} (p : X → Bool) (before : List X) (x : X) (after : List X) → list_any p before ≡ false → list_any p after ≡ false
+only_index : {X : Type 0} (p : X → Bool) (before : List X) (x : X) (after : List X) → list_any p before ≡ false → list_any p after ≡ false
     → (j : ℕ) (d : X) → j < length (before ++ x ∷ after) → p (slice_index_or (before ++ x ∷ after) j d) ≡ true → j ≡ length before
-only_place p [] x after none_before none_after zero d lt is = refl
-only_place p [] x after none_before none_after (suc j) d lt is = absurd (none_at p after none_after j d (omega arith) is)
-only_place p (y ∷ before) x after none_before none_after zero d lt is = absurd (none_at p (y ∷ before) none_before 0 d (omega arith) is)
-only_place p (y ∷ before) x after none_before none_after (suc j) d lt is = go (p y) refl (λ h. only_place p before x after h none_after j d (omega arith) is)
+only_index p [] x after none_before none_after zero d lt is = refl
+only_index p [] x after none_before none_after (suc j) d lt is = absurd (none_at p after none_after j d (omega arith) is)
+only_index p (y ∷ before) x after none_before none_after zero d lt is = absurd (none_at p (y ∷ before) none_before 0 d (omega arith) is)
+only_index p (y ∷ before) x after none_before none_after (suc j) d lt is = go (p y) refl (λ h. only_index p before x after h none_after j d (omega arith) is)
   where
     go : (b : Bool) → p y ≡ b → (list_any p before ≡ false → j ≡ length before) → suc j ≡ suc (length before)
     go true e rest =
@@ -177,7 +178,7 @@ pub record Place (name d : Text) (most : ℕ) : Type 0 where
 only_named : (name d : Text) (most : ℕ) (w : Place name d most) (j : ℕ) → j < 5 → bytes_eq (slice_index_or options j blank).id name ≡ true → j ≡ w.place
 only_named name d most w j lt same =
     let apart = or_parts _ _ w.alone in
-    only_place (has_name name) w.before (option_rule name d most) w.after apart.0 apart.1 j blank
+    only_index (has_name name) w.before (option_rule name d most) w.after apart.0 apart.1 j blank
     (subst (λ (l : List Rule). j < length l) w.rules lt) (subst (λ (l : List Rule). bytes_eq (slice_index_or l j blank).id name ≡ true) w.rules same)
     ∙ w.count
 
@@ -286,17 +287,17 @@ place_at name d most i rules count below alone filled_rules filled_alone filled_
   fits = fits;
 }
 
-pub shards_place : Place (codes "shards") (codes "1") 64
-shards_place = place_at _ _ _ 0 refl refl (omega arith) refl refl refl refl refl refl (omega arith)
+pub shards_index : Place (codes "shards") (codes "1") 64
+shards_index = place_at _ _ _ 0 refl refl (omega arith) refl refl refl refl refl refl (omega arith)
 
-pub workers_place : Place (codes "workers") (codes "1") 16
-workers_place = place_at _ _ _ 1 refl refl (omega arith) refl refl refl refl refl refl (omega arith)
+pub workers_index : Place (codes "workers") (codes "1") 16
+workers_index = place_at _ _ _ 1 refl refl (omega arith) refl refl refl refl refl refl (omega arith)
 
-pub work_place : Place (codes "work") (codes "2") 1000
-work_place = place_at _ _ _ 2 refl refl (omega arith) refl refl refl refl refl refl (omega arith)
+pub work_index : Place (codes "work") (codes "2") 1000
+work_index = place_at _ _ _ 2 refl refl (omega arith) refl refl refl refl refl refl (omega arith)
 
-pub invalidate_place : Place (codes "invalidate") (codes "1000") 1000000
-invalidate_place = place_at _ _ _ 3 refl refl (omega arith) refl refl refl refl refl refl (omega arith)
+pub invalidate_index : Place (codes "invalidate") (codes "1000") 1000000
+invalidate_index = place_at _ _ _ 3 refl refl (omega arith) refl refl refl refl refl refl (omega arith)
 
-pub pend_place : Place (codes "pend") (codes "100") 1000000
-pend_place = place_at _ _ _ 4 refl refl (omega arith) refl refl refl refl refl refl (omega arith)
+pub pend_index : Place (codes "pend") (codes "100") 1000000
+pend_index = place_at _ _ _ 4 refl refl (omega arith) refl refl refl refl refl refl (omega arith)

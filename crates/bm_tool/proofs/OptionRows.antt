@@ -100,7 +100,7 @@ own_default d a rows t own defaults found = go (has_row a.id rows) refl
         let none : first_of a.id rows ≡ None = rw (nothing_found a.id rows e) refl in
         rw none (ap (λ (o : Option Text). option_map_or number_of o 0) end)
 
--- the same, where other arguments have standard values before and after
+-- `own_default` where other arguments have standard values before and after
 pub given_or_standard : (d : Text) (before : List Rule) (a : Rule) (after : List Rule) (rows : List Row) (t : Text)
     → bytes_eq a.id a.id ≡ true → a.defaults ≡ d ∷ [] → list_any (has_name a.id) before ≡ false → list_any (has_name a.id) after ≡ false
     → first_of a.id (fold with_default rows (before ++ a ∷ after)) ≡ Some t

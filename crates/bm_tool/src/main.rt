@@ -32,9 +32,9 @@ fn main(rt: HostRuntime) -> ExitCode {
 fn end_of_run<R: Env + Input + Print + Eprint + AllocGlobal + Threads + Wait + RandomSource + Sync>(
     rt: &R,
 ) -> End {
-    match words_of(rt) {
+    match read_arguments(rt) {
         Ok(words) => run_of_words(rt, words.as_slice()),
-        Err(error) if error.kind() == io::ErrorKind::OutOfMemory => tell_fault(rt, Fault::Memory),
+        Err(error) if error.kind() == io::ErrorKind::OutOfMemory => print_fault(rt, Fault::Memory),
         Err(_) => {
             let _ = rt.eprintln("error: an argument is not UTF-8");
             End::Misused
@@ -42,8 +42,8 @@ fn end_of_run<R: Env + Input + Print + Eprint + AllocGlobal + Threads + Wait + R
     }
 }
 
-/// The words of the command line. Each is pushed, so that no refused growth is passed over.
-fn words_of<R: Env + AllocGlobal>(rt: &R) -> io::Result<Vec<String>> {
+/// The words of the command line. Each is pushed, so that no refused growth is ignored.
+fn read_arguments<R: Env + AllocGlobal>(rt: &R) -> io::Result<Vec<String>> {
     let mut words = Vec::new(rt.alloc());
     for word in env::args(rt)? {
         if words.push(word).is_err() {
@@ -62,18 +62,18 @@ fn run_of_words<R: Input + Print + Eprint + AllocGlobal + Threads + Wait + Rando
     match config_of(rt.alloc(), words) {
         Ok(config) => match run_on_streams(rt, &config) {
             Ok(_) => End::Answered,
-            Err(fault) => tell_fault(rt, fault),
+            Err(fault) => print_fault(rt, fault),
         },
-        Err(error) => tell_error(rt, &error),
+        Err(error) => print_error(rt, &error),
     }
 }
 
 /// Writes why there is no run.
-fn tell_error<R: Print + Eprint>(rt: &R, error: &Error) -> End
+fn print_error<R: Print + Eprint>(rt: &R, error: &Error) -> End
     ensures { result ≡ end_of (kind_of error.now) }
 {
     if matches!(error.kind(), ErrorKind::OutOfMemory) {
-        return tell_fault(rt, Fault::Memory);
+        return print_fault(rt, Fault::Memory);
     }
     let _ = error.print(rt);
     if error.use_stderr() {
@@ -83,7 +83,7 @@ fn tell_error<R: Print + Eprint>(rt: &R, error: &Error) -> End
     }
 }
 
-fn tell_fault<R: Eprint>(rt: &R, fault: Fault) -> End
+fn print_fault<R: Eprint>(rt: &R, fault: Fault) -> End
     ensures { result ≡ End.Faulted fault }
 {
     let _ = rt.eprintln(fault_text(fault));

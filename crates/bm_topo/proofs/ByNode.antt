@@ -1,4 +1,4 @@
--- Storages sorted by node: those of a node are adjacent, in the order of the table.
+-- In storages sorted by node, those of a node are adjacent, in the order of the table.
 use Rattle.std.specs.Prelude.{◌==◌, ◌&&◌, nat_lt, nat_le, option_map, unwrap_or}
 use Rattle.std.specs.Option.{option_map_or}
 use Rattle.std.specs.List.{insert}

@@ -1,4 +1,5 @@
--- What the tables of a topology can hold, as contracts see it.
+-- Changes within the capacity of the tables keep the capacity that contracts see; if no table gets
+-- longer, the spare capacity does not shrink.
 use Rattle.std.proofs.Common.{◌≡◌, ℕ, ◌≤◌, ◌-◌, true, false, cond, arith, refl, subst}
 use Rattle.std.specs.Prelude.{◌==◌}
 use Rattle.bm_base.specs.declared.storage.StorageInfo.{StorageInfo}

@@ -1,4 +1,4 @@
--- Keys that fit an identifier of 32 bits, as maps grow.
+-- A map keeps keys below 2^32 through each change, if a new key is below 2^32.
 use Rattle.std.proofs.Common.{◌≡◌, ℕ, ◌<◌, ◌^◌, Bool, List, [], ◌∷◌, Option, Some, None, sym, subst, Less, Equal, Greater}
 use Rattle.std.specs.List.{AllByRecursion}
 use Rattle.std.specs.Ordering.{nat_cmp}

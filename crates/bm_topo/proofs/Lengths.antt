@@ -1,4 +1,4 @@
--- How many entries a table has after each change.
+-- Removing or changing an entry makes no table longer.
 use Rattle.std.proofs.Common.{ℕ, ◌+◌, ◌≤◌, List, [], ◌∷◌, length, Option, Some, None, arith}
 use Rattle.bm_base.specs.Maps.Map.{Map, by_number, entries, len, alter, remove, revise, revise_at}
 use Rattle.bm_base.specs.Maps.Altered.{with_value, alter_values}

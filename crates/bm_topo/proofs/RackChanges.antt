@@ -1,4 +1,4 @@
--- How the counts of nodes on racks change as nodes come and go.
+-- The count of a rack falls by one when a node leaves it, and grows by one when a node comes.
 use Rattle.std.proofs.Common.{◌≡◌, ℕ, zero, suc, ◌+◌, ◌-◌, ◌≤◌, Bool, true, false, cond, List, [], ◌∷◌, length, map, count_by, Option, Some, None, is_some, T, arith, refl, sym, ap, subst, ◌∙◌}
 use Rattle.std.specs.Prelude.{◌==◌, option_map}
 use Rattle.std.specs.Option.{option_map_or}
@@ -61,8 +61,8 @@ on_rack-remove nodes n r = count-dropped (λ x. x == r) n nodes.list nodes.sorte
 pub on_rack-remove_there : (nodes : Map by_number ℕ) (n v r : ℕ) → get nodes n ≡ Some v → on_rack nodes r ≡ on_rack (remove nodes n) r + cond (v == r) 1 0
 on_rack-remove_there nodes n v r there = on_rack-remove nodes n r ∙ ap (λ w. on_rack (remove nodes n) r + passes (λ x. x == r) w) there
 
-pub stands_there : (nodes : Map by_number ℕ) (n v : ℕ) → get nodes n ≡ Some v → 1 ≤ on_rack nodes v
-stands_there nodes n v there =
+pub rack_has_node : (nodes : Map by_number ℕ) (n v : ℕ) → get nodes n ≡ Some v → 1 ≤ on_rack nodes v
+rack_has_node nodes n v there =
     let more = on_rack-remove_there nodes n v v there in
     let one : ◌≡◌ {A = ℕ} (cond (v == v) 1 0) 1 = ap (λ b. cond b 1 0) (same_again v) in
     omega (arith, more, one)

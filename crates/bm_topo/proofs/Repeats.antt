@@ -1,4 +1,5 @@
--- Whether a list has duplicates, decided by its sorted first part and what follows.
+-- A list has duplicates exactly if its sorted front has some, the rest repeats a number of the
+-- front, or the rest has some.
 use Rattle.std.proofs.Common.{◌≡◌, ℕ, ◌<◌, ◌≤◌, Bool, true, false, ltb, List, [], ◌∷◌, ◌++◌, length, get_or, Result, Ok, Err, is_ok, MatchResult, arith, refl, sym, ap, ◌∙◌}
 use Rattle.std.specs.Prelude.{◌==◌, ◌||◌}
 use Rattle.std.specs.Ordering.{nat_cmp}

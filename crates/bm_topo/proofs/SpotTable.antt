@@ -1,4 +1,4 @@
--- The spots of a topology: a heartbeat keeps them right, and each is right once it is set.
+-- A heartbeat keeps the spots of a topology right, and each spot is right once it is set.
 use Rattle.std.proofs.Common.{◌≡◌, ℕ, ◌<◌, ◌+◌, false, List, length, Some, None, inl, inr, refl, sym, ap, subst, ◌∙◌, arith, get_or, get_or-set_same}
 use Rattle.std.specs.Prelude.{slice_get, slice_set, option_map, option_and_then}
 use Rattle.std.specs.Option.{option_map_or}

@@ -1,3 +1,4 @@
+-- Definitions of the contracts of a topology: the cluster, its tables and their capacity.
 pub mod Seen
 pub mod Racks
 pub mod Keys

@@ -87,7 +87,7 @@ fn read_node(storages: &NumberMap<StorageInfo>, hints: &IndexHints, storage: Sto
     node_near(storages, storage, hints.of_storage(u64::from(storage.0)))
 }
 
-/// The same, with a guess of the storage's index in the table.
+/// As `read_node`, with a guess of the storage's index in the table.
 #[tactic(auto, unfolding(crate::specs::ByNode::node_in))]
 fn node_near(storages: &NumberMap<StorageInfo>, storage: StorageId, guess: usize) -> u32
     ensures { result ≡ node_in storages.now.map storage }

@@ -103,7 +103,7 @@ impl Topology {
         }
     }
 
-    /// Gives up what was prepared. Nothing changes: reserved capacity is kept for later events. The
+    /// Aborts a prepared event. Nothing changes: reserved capacity is kept for later events. The
     /// call may be left out.
     pub fn abort(&mut self)
         ensures { self.new ≡ self.old }

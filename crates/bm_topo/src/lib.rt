@@ -1,5 +1,5 @@
-//! The cluster: which DataNodes are alive, on which racks they are, which storages they have and
-//! how much is free there.
+//! The cluster: which DataNodes are alive, on which racks they are, which storages they have, and
+//! the free bytes of each.
 #![tactic(auto)]
 
 mod by_node;

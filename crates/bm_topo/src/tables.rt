@@ -11,7 +11,7 @@ use crate::index_hints::IndexHints;
 use bm_base::{NodeId, Rack, Remaining, StorageId, StorageInfo};
 use bm_maps::NumberMap;
 
-/// Adds the storages of a node, with nothing free there yet.
+/// Adds the storages of a node, with no free bytes yet.
 pub(crate) fn add_storages(
     storages: &mut NumberMap<StorageInfo>,
     node: NodeId,

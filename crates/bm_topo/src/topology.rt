@@ -114,7 +114,7 @@ impl Topology {
         let _ = &self.nodes;
     }
 
-    /// What is known of a storage: one read at the hint, and else a look-up.
+    /// The node and the free bytes of a storage: one read at the hint, and else a look-up.
     fn info_of(&self, storage: StorageId) -> Option<StorageInfo>
         ensures { result ≡ map.get self.now.cluster.storages storage }
     {
@@ -181,7 +181,7 @@ impl Topology {
         self.find_spot(storage)
     }
 
-    /// The same by look-ups, where the hint is wrong.
+    /// As `spot_of`, by look-ups: for a wrong hint.
     #[inline(never)]
     fn find_spot(&self, storage: StorageId) -> Option<Spot>
         ensures node { option_map (λ p. p.node) result ≡ replicas.node_of self.now.cluster storage }

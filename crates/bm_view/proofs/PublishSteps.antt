@@ -1,4 +1,4 @@
--- The effect of a publish on the journal, and the value that it shows.
+-- A publish appends its version to those of the journal, or is refused and leaves them as they are.
 use Rattle.std.proofs.Common.{◌≡◌, ◌≤◌, ℕ, ◌+◌, ◌*◌, true, false, true≢false, List, [], ◌∷◌, ◌++◌, length, Result, Ok, Err, is_err, MatchResult, refl, sym, ap, ◌∙◌, subst, arith, length-append}
 use Rattle.bm_view.specs.declared.journal.JournalEntry.{JournalEntry}
 use Rattle.bm_base.specs.Promises.Versions.{Version}

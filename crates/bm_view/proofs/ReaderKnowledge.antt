@@ -1,4 +1,4 @@
--- The knowledge of a reader after a read.
+-- A read extends what a reader knows: each list that it learnt is a prefix of the new one.
 use Rattle.std.proofs.Math.Seq.{get_or-append_seam}
 use Rattle.std.proofs.Common.{ℕ, IfSome, length, arith, length-append, ◌≤◌, [], ◌∷◌, ◌++◌, All, ◌≡◌, List, Option, Some, None, sym, ◌∙◌, subst, refl}
 use mathlib.Core.List.{IsPrefix}

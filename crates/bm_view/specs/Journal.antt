@@ -1,9 +1,6 @@
--- The journal of proposals, as lines in a log of the crate `logbook`, next to its cells.
---
--- Anyone may have a pen of a cell that is away. A line is written with a pen, which brings its cell
--- home; so each pen writes one line. A line names the pen of the next line of its journal. So only
--- the owner of a journal's last pen can extend it, and while that pen's cell is away, the owner
--- knows the whole journal.
+-- Each line is written with a one-shot token, its pen, and names the pen of the journal's next
+-- line. So only the owner of a journal's last pen can extend it, and until then the owner knows the
+-- whole journal.
 use Rattle.std.specs.Prelude.{◌≡◌, ℕ, ◌<◌, ◌==◌, Bool, true, false, List, [], ◌∷◌, ◌++◌, length}
 use Rattle.logbook.specs.Pages.{Cell, cell, Step, View, Book, Named, nib, may_make}
 use Rattle.bm_view.specs.declared.journal.JournalEntry.{JournalEntry}

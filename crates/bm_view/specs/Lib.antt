@@ -1,3 +1,5 @@
+-- Definitions of the contracts of a view: the journal of versions, and what publishers and locators
+-- know.
 pub mod Version
 pub mod Journal
 pub mod History

@@ -23,7 +23,7 @@ abbrev pub BeginsShown : Option Evidence → Evidence → Type 0
 BeginsShown None shown = Unit {0}
 BeginsShown (Some seen) shown = Extends seen shown
 
--- the same for each slot
+-- `BeginsShown` for each slot
 abbrev pub Kept : Evidence → List (Option Evidence) → Type 0
 Kept shown views = (slot : ℕ) (v : Option Evidence) → get_elem? views slot ≡ some v → BeginsShown v shown
 

@@ -167,8 +167,8 @@ impl Locator {
     /// It is `None` if the publisher has ended, and then the list stays; tests show that, no clause
     /// does. It would be `None` too if the current table were of an earlier proposal than the last
     /// version of a learnt receipt. That does not happen, since a receipt is made after its version
-    /// is published. But the contracts of `left_right` do not say which table a reader has once it
-    /// has entered. So no proof ties what it reads to what was in the journal by then.
+    /// is published. But the contracts of `left_right` do not state which table a reader has once
+    /// it has entered. So no proof ties what it reads to what was in the journal by then.
     pub fn locate(&mut self, id: BlockId) -> Option<Located>
         ensures same { (self.new.home ≡ self.old.home) × (self.new.learnt ≡ self.old.learnt) }
         ensures none { IfNone result (self.new.list ≡ self.old.list) }

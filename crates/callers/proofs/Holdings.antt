@@ -1,4 +1,4 @@
--- Holdings of an arena.
+-- Arenas with equal blocks and equal replicas have equal holdings.
 use Rattle.std.proofs.Common.{◌≡◌}
 use Rattle.bm_base.specs.Maps.Map.{empty}
 use Rattle.bm_arena.specs.Contents.{Contents}

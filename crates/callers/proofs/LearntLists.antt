@@ -1,4 +1,4 @@
--- What a locator knows after it learned of a list of versions.
+-- The version of a state has the state's number of calls.
 use Rattle.std.proofs.Common.{◌≡◌, refl}
 use Rattle.bm_base.specs.Machine.State.{State}
 use Rattle.bm_base.specs.Promises.Versions.{version}

@@ -1,8 +1,8 @@
--- Members of a list to which slots are appended.
+-- A set that holds the slots of a list still does after one more slot is added to both.
 use Rattle.std.proofs.Common.{◌≡◌, ◌≢◌, ◌↔◌, ◌⊎◌, ℕ, List, [], ◌∷◌, ◌++◌, inl, inr}
 use Rattle.std.proofs.lemmas.Bool.{cases_eq}
 use Rattle.bm_maps.specs.SlotLists.{IsMember}
-use Rattle.bm_arena.proofs.Replicas.{Among-last}
+use Rattle.bm_arena.proofs.Replicas.{IsMember-last}
 
 among_front : (x y : ℕ) (xs : List ℕ) → IsMember x xs → IsMember x (xs ++ y ∷ [])
 among_front x y [] there = absurd there
@@ -21,7 +21,7 @@ pub one_more : (x : ℕ) (xs before after : List ℕ) → ((slot : ℕ) → IsMe
     → ((slot : ℕ) → slot ≢ x → IsMember slot after ↔ IsMember slot before) → (slot : ℕ) → IsMember slot after ↔ IsMember slot (xs ++ x ∷ [])
 one_more x xs before after same held others slot =
     elim (cases_eq slot x) [
-      | inl here ↦ rw here (λ h. Among-last x xs, λ h. held)
+      | inl here ↦ rw here (λ h. IsMember-last x xs, λ h. held)
       | inr differs ↦ (
         λ h. among_front slot x xs ((same slot).0 ((others slot differs).0 h)),
         λ h. elim (among_either slot x xs h) [ inl front ↦ (others slot differs).1 ((same slot).1 front) | inr last ↦ absurd (differs last) ],

@@ -1,4 +1,4 @@
--- An event that the definition refuses, or that runs out of memory.
+-- The refusal of an event is `Memory`, or the one that the definition gives.
 use Rattle.std.specs.Prelude.{◌≡◌, true, ◌⊎◌, Option, Some, None}
 use Rattle.std.proofs.Common.{sym, ap, inl, inr}
 use Rattle.bm_base.specs.declared.refusal.Refusal.{Refusal}

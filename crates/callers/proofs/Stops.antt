@@ -1,4 +1,4 @@
--- The event at which changes stop.
+-- Changes stop at the first event that is refused, and all events before it are made.
 use Rattle.std.proofs.Common.{◌≡◌, ◌⊎◌, ◌<◌, ◌+◌, ◌∙◌, ℕ, Bool, true, false, List, Option, Some, None, fold, take, get_or, length, sym, ap, subst, refl, inl, inr}
 use Rattle.std.proofs.lemmas.List.{drop_more}
 use Rattle.std.proofs.lemmas.List.Sums.{fold_more}

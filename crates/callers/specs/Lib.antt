@@ -1,3 +1,4 @@
+-- Definitions of the contracts of the callers.
 pub mod ConcurrentReader
 pub mod FirstCopy
 pub mod PrintedAnswers

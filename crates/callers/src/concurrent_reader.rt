@@ -172,12 +172,12 @@ fn apply_all<J: Home, R: Threads + Wait + Sync>(
 {
     for event in events {
         manager.apply(rt, &NoGate, event)?;
-        publish_and_tell::<J, R>(rt, manager, publisher, &to)?;
+        publish_and_send::<J, R>(rt, manager, publisher, &to)?;
     }
     Ok(())
 }
 
-fn publish_and_tell<J: Home, R: Threads + Wait + Sync>(
+fn publish_and_send<J: Home, R: Threads + Wait + Sync>(
     rt: &R,
     manager: &mut Manager,
     publisher: &mut Publisher,

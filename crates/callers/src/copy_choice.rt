@@ -30,7 +30,7 @@ pub fn first_copy(
     Ok(copy_by(live, level, block, stamp, topology, &streams, &scheduled))
 }
 
-/// The same, with tables to which no transfer has been added.
+/// As [`first_copy`], with tables to which no transfer has been added.
 fn copy_by(
     live: &[StorageId],
     level: Level,

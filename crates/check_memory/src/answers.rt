@@ -49,7 +49,7 @@ pub fn ask<R: Eprint + Threads + Wait + Sync>(
     }
 }
 
-/// The same for a call in its full form.
+/// As [`ask`], for a call in its full form.
 pub fn ask_full<R: Threads + Wait + Sync>(
     rt: &R,
     manager: &mut Manager,

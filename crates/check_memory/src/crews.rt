@@ -34,7 +34,7 @@ pub fn watch<R: Eprint + Threads + Wait + Sync>(
     Ok(())
 }
 
-/// The number of pieces that crews of two workers worked.
+/// The number of pieces that crews of two workers processed.
 pub fn repeat<R: Eprint + Threads + Wait + Sync>(rt: &R, alloc: Global, tally: &mut Tally) -> u64 {
     let mut worked = 0u64;
     for _ in 0..MARKS {

@@ -78,7 +78,7 @@ fn watch<R: Eprint + Threads + Wait + Sync>(rt: &R, bench: &mut Bench, group: Gr
     }
 }
 
-/// The same for groups that make their own tables.
+/// As `watch`, for groups that make their own tables.
 fn watch_owned<R: Eprint + Threads + Wait + Sync>(
     rt: &R,
     alloc: Global,

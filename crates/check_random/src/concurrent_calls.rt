@@ -45,21 +45,21 @@ pub fn are_all_alike<R: Threads + Wait + Sync>(
         let reads = read_list(rt, host.alloc(), &mut run)?;
         let wrong = reads.wrong;
         if wrong > 0 {
-            tell_wrong(host, time, wrong);
+            print_wrong_answers(host, time, wrong);
             return Ok(false);
         }
         later = later.saturating_add(reads.later);
     }
     run.counts.print(host);
-    tell_later(host, later);
+    print_late_reads(host, later);
     Ok(run.counts.are_enough() && later >= LEAST_LATER)
 }
 
-fn tell_wrong(rt: &HostRuntime, time: u32, wrong: u32) {
+fn print_wrong_answers(rt: &HostRuntime, time: u32, wrong: u32) {
     let _ = eprintln!(rt; "list {time}: {wrong} answers or reads are wrong");
 }
 
-fn tell_later(rt: &HostRuntime, later: u32) {
+fn print_late_reads(rt: &HostRuntime, later: u32) {
     let _ = eprintln!(rt; "{later} times a reader found a later version than at its read before");
 }
 
@@ -162,7 +162,7 @@ fn read_pair<R: Threads + Wait + Sync>(
     reads
 }
 
-/// The same with two locators of the publisher; from here on a brand names their view.
+/// As `read_pair`, with two locators of the publisher; from here on a brand names their view.
 fn read_with<R: Threads + Wait + Sync>(
     rt: &R,
     alloc: Global,

@@ -38,7 +38,7 @@ const TIMES: u32 = 200;
 
 /// The command line: `count` calls, or `count` lists with readers, and the seed.
 #[derive(Clone, Copy)]
-struct Asked {
+struct Arguments {
     is_concurrent: bool,
     count: u32,
     seed: u64,
@@ -48,7 +48,7 @@ fn main(rt: HostRuntime) -> ExitCode {
     let Some(asked) = read_words(&rt) else {
         return ExitCode::FAILURE;
     };
-    let Asked { count, seed, .. } = asked;
+    let Arguments { count, seed, .. } = asked;
     if asked.is_concurrent {
         let done = concurrent_calls::are_all_alike(&rt, &rt, count, seed);
         exit_code_of(&rt, done, count, "lists alike with concurrent readers")
@@ -73,13 +73,13 @@ fn exit_code_of(rt: &HostRuntime, done: Result<bool, Refusal>, count: u32, what:
 }
 
 /// Reads the command line. `None` if an argument is no number.
-fn read_words(rt: &HostRuntime) -> Option<Asked> {
+fn read_words(rt: &HostRuntime) -> Option<Arguments> {
     let mut words = env::args(rt).ok()?;
     let _program = words.next();
     read_all(&mut words)
 }
 
-fn read_all(words: &mut Args<Global>) -> Option<Asked> {
+fn read_all(words: &mut Args<Global>) -> Option<Arguments> {
     let first = words.next();
     let is_concurrent = is_concurrent(&first);
     let (word, otherwise) = if is_concurrent {
@@ -88,7 +88,7 @@ fn read_all(words: &mut Args<Global>) -> Option<Asked> {
         (first, pair::LIST)
     };
     let count = number_in(word, u64::from(otherwise))?;
-    Some(Asked {
+    Some(Arguments {
         is_concurrent,
         count: u32::try_from(count).ok()?,
         seed: number_in(words.next(), SEED)?,

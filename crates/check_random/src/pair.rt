@@ -158,7 +158,7 @@ impl Pair {
         if is_fine {
             run.counts.add(call, &answer);
         } else {
-            tell_apart(run.host, &self.config, number, call, &answer, &other);
+            print_difference(run.host, &self.config, number, call, &answer, &other);
         }
         drop(answer);
         drop(other);
@@ -167,7 +167,7 @@ impl Pair {
 }
 
 /// Prints where two answers differ. A failed write is ignored.
-fn tell_apart(
+fn print_difference(
     rt: &HostRuntime,
     config: &Config,
     number: u32,

@@ -14,7 +14,7 @@ use Rattle.bm_base.specs.declared.call.Answer.{Answer}
 use Rattle.bm_base.specs.Words.{State, step, answers, state_after, is_refused}
 use Rattle.bm_lines.specs.Print.{answer_text}
 use Rattle.cluster_report.specs.LineNotes.{refusal_text_of}
-use Rattle.fsck_cluster.specs.declared.rows.Held.{Held}
+use Rattle.fsck_cluster.specs.declared.rows.StoredReplica.{StoredReplica}
 use Rattle.fsck_cluster.specs.declared.rows.Row.{Row}
 use Rattle.fsck_import.specs.CallsFor.{entry, received, reports}
 use Rattle.cluster_input.specs.MadeCalls.{Makes}
@@ -74,7 +74,7 @@ called_next f xs i d k a b c lt is first second =
     (subst (λ calls. Makes calls a c) (sym (map-append f (take i xs) (get_or xs i d ∷ [])))
     (made_more (map f (take i xs)) (f (get_or xs i d) ∷ []) a b c first (subst (λ j. Makes (j ∷ []) b c) is second)))
 
--- the same, where the loop goes through a slice of the list
+-- `called_next` where the loop goes through a slice of the list
 pub called_at : {A : Type 0} (f : A → Call) (xs items : List A) (i : ℕ) (d : A) (k : Call) (a b c : State)
     → items ≡ xs
     → i < length items
@@ -92,7 +92,7 @@ pub kept_more : {A : Type 0} (f : A → Call) (t : A → Bool) (xs : List A) (x 
 kept_more f t xs x a b c first second =
     subst (λ calls. Makes calls a c) (sym (ap (map f) (filter-push t xs x) ∙ map-append f (filter t xs) (filter t (x ∷ [])))) (made_more _ _ a b c first second)
 
--- the same for the element at an index of a loop
+-- `kept_more` for the element at an index of a loop
 pub status_at : {A : Type 0} (f : A → Call) (t : A → Bool) (xs items : List A) (i : ℕ) (d : A) (a b c : State)
     → items ≡ xs
     → i < length items
@@ -120,7 +120,7 @@ rows_at f xs i x a b c lt is first second =
     subst (λ ys. Makes (flat_map f ys) a c) taken (rows_more f (take i xs) x a b c first second)
 
 -- the report of a storage, and then the replicas that do not fit into it
-pub reports_made : (row : Row) (entries : List Entry) (first others held : List Held) (a b c : State) → entries ≡ map entry first
+pub reports_made : (row : Row) (entries : List Entry) (first others held : List StoredReplica) (a b c : State) → entries ≡ map entry first
     → first ≡ take MAX_ENTRIES held → others ≡ drop MAX_ENTRIES held → held ≡ row.held
     → Makes (call.Apply (FullReport row.number entries) ∷ []) a b → Makes (map (received row.number) others) b c → Makes (reports row) a c
 reports_made row entries first others held a b c entries_are first_is others_are held_is one more =

@@ -8,8 +8,8 @@ ghost use Rattle.cluster_input.specs.MadeCalls.{Makes};
 use crate::fault::Fault;
 use bm_base::{Call, Event, Items, NodeId, StorageId};
 use cluster_report::session::Session;
-use fsck_cluster::{Cluster, Held, NodeRow, Row};
-use fsck_import::line_writer::{entries_of, heartbeat, parts_of, register};
+use fsck_cluster::{Cluster, NodeRow, Row, StoredReplica};
+use fsck_import::line_writer::{entries_of, heartbeat, register, split_at_report_limit};
 use std::sync::Wait;
 use std::thread::Threads;
 
@@ -164,7 +164,7 @@ fn make_row<H: Threads + Wait + Sync>(rt: &H, session: &mut Session, row: &Row) 
         session.old.manager session.new.manager) }
     ensures in_step { OnOk result (IsInStep session.new) }
 {
-    let (first, rest) = parts_of(row.held.as_slice());
+    let (first, rest) = split_at_report_limit(row.held.as_slice());
     let call = Call::Apply(Event::FullReport {
         storage: StorageId(row.number),
         entries: Items::from_vec(entries_of(session.alloc, first)?),
@@ -178,7 +178,7 @@ fn make_received<H: Threads + Wait + Sync>(
     rt: &H,
     session: &mut Session,
     storage: StorageId,
-    held: &[Held],
+    held: &[StoredReplica],
 ) -> Result<(), Fault>
     requires { IsInStep session.old }
     ensures made { OnOk result (Makes (map (received storage) held.now)

@@ -7,7 +7,7 @@ use std::alloc::{AllocError, Global};
 
 /// The values of the options for loading a cluster.
 #[derive(Clone, Copy)]
-pub struct Asked<'a> {
+pub struct LoadOptions<'a> {
     pub config: Config,
     /// The options for a text of fsck.
     pub values: Values,
@@ -103,13 +103,13 @@ fn new_arg<'a>(alloc: Global, name: &'a str) -> Arg<'a> {
 }
 
 /// Reads the values of the options. `None` if a text is no value of its option.
-pub fn asked_of<'a>(matches: &ArgMatches<'a>) -> Option<Asked<'a>> {
+pub fn parse_load_options<'a>(matches: &ArgMatches<'a>) -> Option<LoadOptions<'a>> {
     let values = values_of(
         matches.get_str("remaining"),
         matches.get_str("skip"),
         matches.get_str("unclear"),
     )?;
-    Some(Asked {
+    Some(LoadOptions {
         config: config_from(matches),
         values,
         nodes: matches.get_str("nodes"),

@@ -4,10 +4,10 @@ ghost use Rattle.cluster_report.specs.Sessions.{IsInStep};
 
 use crate::fault::Fault;
 use crate::loaded_cluster::Loaded;
-use crate::options::Asked;
+use crate::options::LoadOptions;
 use cluster_progress::watched_streams::{Meter, NoteWriter, WatchedReader};
 use fsck_cluster::Cluster;
-use fsck_import::say_text_notes;
+use fsck_import::print_text_notes;
 use fsck_import::text_reader::{Reading, read_nodes};
 use std::alloc::Global;
 use std::fs::File;
@@ -33,7 +33,7 @@ pub fn load<R: Input + Eprint + Files + AllocGlobal + Threads + Wait + Sync, N: 
     rt: &R,
     notes: &N,
     program: &str,
-    asked: &Asked<'_>,
+    asked: &LoadOptions<'_>,
     files: Option<&[&str]>,
 ) -> Option<(Loaded, bool)>
     ensures { IfSome result (λ p. IsInStep p.0.session) }
@@ -44,15 +44,15 @@ pub fn load<R: Input + Eprint + Files + AllocGlobal + Threads + Wait + Sync, N: 
         program,
         meter: &meter,
     };
-    let nodes = nodes_of(&console, asked)?;
+    let nodes = read_node_list(&console, asked)?;
     let mut loaded = match Loaded::new(rt.alloc(), &asked.config) {
         Ok(loaded) => loaded,
         Err(fault) => {
             drop(nodes);
-            return said(&console, None, &fault, None);
+            return print_load_fault(&console, None, &fault, None);
         }
     };
-    let start = start_of(rt.alloc(), nodes, asked);
+    let start = initial_state(rt.alloc(), nodes, asked);
     let mut writer = NoteWriter::new(io::writer(notes), rt, &meter);
     let taken = take_all(&console, &mut loaded, start, asked, files, &mut writer);
     let Some(all_accepted) = taken else {
@@ -61,19 +61,19 @@ pub fn load<R: Input + Eprint + Files + AllocGlobal + Threads + Wait + Sync, N: 
     };
     meter.clear(rt);
     if let Some(notes) = &loaded.notes {
-        say_text_notes(rt, program, asked.values.unclear, notes);
+        print_text_notes(rt, program, asked.values.unclear, notes);
     }
     Some((loaded, all_accepted))
 }
 
 /// The state before the first line, with the known nodes.
-fn start_of(alloc: Global, nodes: Cluster, asked: &Asked<'_>) -> Reading {
+fn initial_state(alloc: Global, nodes: Cluster, asked: &LoadOptions<'_>) -> Reading {
     Reading::new(alloc, nodes, asked.values.skips, asked.values.unclear, true)
 }
 
 /// Prints a fault of a file or of standard input, with the system's message for a failed read.
 /// Nothing was loaded.
-fn said<R: Eprint, T>(
+fn print_load_fault<R: Eprint, T>(
     console: &Console<'_, R>,
     path: Option<&str>,
     fault: &Fault,
@@ -100,26 +100,26 @@ fn said<R: Eprint, T>(
 }
 
 /// Reads the nodes of the report on DataNodes, if one is named. The progress does not count it.
-fn nodes_of<R: Eprint + Files + AllocGlobal>(
+fn read_node_list<R: Eprint + Files + AllocGlobal>(
     console: &Console<'_, R>,
-    asked: &Asked<'_>,
+    asked: &LoadOptions<'_>,
 ) -> Option<Cluster> {
     let alloc: Global = console.rt.alloc();
     let Some(path) = asked.nodes else {
         return Some(Cluster::new(alloc));
     };
-    let mut reader = opened(console, None, path)?;
+    let mut reader = open_file(console, None, path)?;
     match read_nodes(alloc, &mut reader) {
         Ok(nodes) => Some(nodes),
         Err(fault) => {
             let fault = Fault::from(fault);
-            said(console, Some(path), &fault, reader.get_ref().error())
+            print_load_fault(console, Some(path), &fault, reader.get_ref().error())
         }
     }
 }
 
 /// A file, opened for reading.
-fn opened<'c, R: Eprint + Files + AllocGlobal>(
+fn open_file<'c, R: Eprint + Files + AllocGlobal>(
     console: &Console<'c, R>,
     meter: Option<&'c Meter>,
     path: &str,
@@ -128,7 +128,7 @@ fn opened<'c, R: Eprint + Files + AllocGlobal>(
     let file = file_at(console, path)?;
     let watched = WatchedReader::new(file, console.rt, meter);
     let Ok(reader) = BufReader::new(alloc, watched) else {
-        let _: Option<()> = said(console, Some(path), &Fault::Memory, None);
+        let _: Option<()> = print_load_fault(console, Some(path), &Fault::Memory, None);
         return None;
     };
     Some(reader)
@@ -152,7 +152,7 @@ fn take_all<R: Input + Eprint + Files + AllocGlobal + Threads + Wait + Sync, W: 
     console: &Console<'_, R>,
     loaded: &mut Loaded,
     start: Reading,
-    asked: &Asked<'_>,
+    asked: &LoadOptions<'_>,
     files: Option<&[&str]>,
     notes: &mut W,
 ) -> Option<bool>
@@ -170,7 +170,7 @@ fn take_input<R: Input + Eprint + AllocGlobal + Threads + Wait + Sync, W: Write>
     console: &Console<'_, R>,
     loaded: &mut Loaded,
     start: Reading,
-    asked: &Asked<'_>,
+    asked: &LoadOptions<'_>,
     notes: &mut W,
 ) -> Option<bool>
     requires { IsInStep loaded.old.session }
@@ -180,11 +180,11 @@ fn take_input<R: Input + Eprint + AllocGlobal + Threads + Wait + Sync, W: Write>
     let input = WatchedReader::new(rt.reader(), rt, Some(console.meter));
     let Ok(mut reader) = BufReader::new(rt.alloc(), input) else {
         drop(start);
-        return said(console, None, &Fault::Memory, None);
+        return print_load_fault(console, None, &Fault::Memory, None);
     };
     match loaded.take_text(rt, start, asked.values.remaining, &mut reader, notes) {
         Ok(all_accepted) => Some(all_accepted),
-        Err(fault) => said(console, None, &fault, reader.get_ref().error()),
+        Err(fault) => print_load_fault(console, None, &fault, reader.get_ref().error()),
     }
 }
 
@@ -193,7 +193,7 @@ fn take_files<R: Eprint + Files + AllocGlobal + Threads + Wait + Sync, W: Write>
     console: &Console<'_, R>,
     loaded: &mut Loaded,
     start: Reading,
-    asked: &Asked<'_>,
+    asked: &LoadOptions<'_>,
     paths: &[&str],
     notes: &mut W,
 ) -> Option<bool>
@@ -213,14 +213,14 @@ fn take_first<R: Eprint + Files + AllocGlobal + Threads + Wait + Sync, W: Write>
     console: &Console<'_, R>,
     loaded: &mut Loaded,
     start: Reading,
-    asked: &Asked<'_>,
+    asked: &LoadOptions<'_>,
     path: &str,
     notes: &mut W,
 ) -> Option<bool>
     requires { IsInStep loaded.old.session }
     ensures { IfSome result (λ all. IsInStep loaded.new.session) }
 {
-    let Some(mut reader) = opened(console, Some(console.meter), path) else {
+    let Some(mut reader) = open_file(console, Some(console.meter), path) else {
         drop(start);
         return None;
     };
@@ -232,7 +232,7 @@ fn take_first<R: Eprint + Files + AllocGlobal + Threads + Wait + Sync, W: Write>
         notes,
     ) {
         Ok(all_accepted) => Some(all_accepted),
-        Err(fault) => said(console, Some(path), &fault, reader.get_ref().error()),
+        Err(fault) => print_load_fault(console, Some(path), &fault, reader.get_ref().error()),
     }
 }
 
@@ -264,7 +264,7 @@ fn take_other<R: Eprint + Files + AllocGlobal + Threads + Wait + Sync, W: Write>
     requires { IsInStep loaded.old.session }
     ensures { IfSome result (λ all. IsInStep loaded.new.session) }
 {
-    let mut reader = opened(console, Some(console.meter), path)?;
+    let mut reader = open_file(console, Some(console.meter), path)?;
     match loaded.take_lines(console.rt, &mut reader, notes) {
         Ok(true) => Some(true),
         Ok(false) => {
@@ -276,6 +276,6 @@ fn take_other<R: Eprint + Files + AllocGlobal + Threads + Wait + Sync, W: Write>
             ));
             Some(false)
         }
-        Err(fault) => said(console, Some(path), &fault, reader.get_ref().error()),
+        Err(fault) => print_load_fault(console, Some(path), &fault, reader.get_ref().error()),
     }
 }

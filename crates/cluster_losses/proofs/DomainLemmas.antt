@@ -1,4 +1,5 @@
--- The racks of alive nodes.
+-- The racks of the alive nodes, sorted and without duplicates, are all racks with a node,
+-- ascending.
 use Rattle.std.proofs.Common.{◌≡◌, ◌∙◌, ℕ, List, map, sym, ap, subst}
 use Rattle.std.specs.Prelude.{◌==◌, nat_eq}
 use Rattle.std.specs.List.{dedup}

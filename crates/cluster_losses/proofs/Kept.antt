@@ -1,4 +1,4 @@
--- Blocks that events leave as they are.
+-- Deaths, and other events that keep blocks, leave the known blocks as they are.
 use Rattle.std.proofs.Common.{◌≡◌, ◌∙◌, ℕ, Bool, true, false, cond, List, [], ◌∷◌, refl, sym, ap, subst, map}
 use Rattle.std.specs.List.{fold, list_any}
 use Rattle.std.proofs.lemmas.Bool.{or_parts}

@@ -1,4 +1,4 @@
--- Sums over blocks, while their replicas are counted.
+-- Counting replicas block by block sums the bytes that all blocks lack.
 use Rattle.std.proofs.Common.{◌≡◌, ◌∙◌, ℕ, ◌+◌, ◌<◌, ◌≤◌, Bool, true, false, cond, not, List, [], ◌∷◌, Option, Some, None, refl, sym, ap, subst, map, filter, length, drop, arith, T, ⊎_elim}
 use Rattle.std.specs.Prelude.{◌==◌, ◌&&◌, ◌||◌, ◌-◌, ◌^◌, zero, suc, nat_lt, min, sum_by, slice_get, if◌then◌else◌}
 use Rattle.std.specs.Option.{option_map_or}
@@ -23,7 +23,7 @@ use Rattle.bm_base.proofs.MapEntries.{same_key, key_itself}
 use Rattle.bm_base.proofs.MapLaws.{equal}
 use Rattle.bm_base.proofs.Ties.{replica_tie}
 use Rattle.cluster_losses.specs.Lacking.{bytes_to_copy, lacking_of, lacking_bytes, in_128_bits}
-use Rattle.cluster_losses.specs.Summing.{Marked, count_of, is_live, counts, excess_in, replica_of, Ascends, only, value, rest_of, rest_bytes, turned, is_next, IsSummed}
+use Rattle.cluster_losses.specs.Summing.{Marked, count_of, is_live, counts, excess_in, replica_of, Ascends, only, value, rest_of, rest_bytes, switched, is_next, IsSummed}
 use Rattle.cluster_losses.specs.declared.lacking_bytes.Summed.{Summed}
 
 -- Sums.
@@ -84,12 +84,12 @@ module _ (p : Marked → Bool) where
   one_of : (e : Marked) (b : ℕ) → one b e ≡ only e.0.block (cond (p e) 1 0) b
   one_of e b = by (e.0.block == b) refl (p e)
     where
-      turned : (e.0.block == b) ≡ (b == e.0.block)
-      turned = grind (arith, nat_tests)
+      switched : (e.0.block == b) ≡ (b == e.0.block)
+      switched = grind (arith, nat_tests)
 
       by : (x : Bool) → (e.0.block == b) ≡ x → (y : Bool) → cond (x && y) 1 0 ≡ only e.0.block (cond y 1 0) b
-      by true is y = ap (λ z. cond z (cond y 1 0) 0) (sym is ∙ turned)
-      by false is y = ap (λ z. cond z (cond y 1 0) 0) (sym is ∙ turned)
+      by true is y = ap (λ z. cond z (cond y 1 0) 0) (sym is ∙ switched)
+      by false is y = ap (λ z. cond z (cond y 1 0) 0) (sym is ∙ switched)
 
 length_where : (p : ℕ → Marks → Bool) (H : Holdings) (b : ℕ) → length (storages_where p H b) ≡ count_of (λ e. p e.0.storage e.1) (entries H.replicas) b
 unfolding storages_where
@@ -212,7 +212,7 @@ module _ (C : Cluster) (m : Map by_number BlockInfo) where
       ∙ sum_both (only t (value m t l u)) (rest_of C m e.0.block 0 0 (e ∷ es)) (keys m)
       ∙ ap (λ n. n + rest_bytes C m e.0.block 0 0 (e ∷ es)) (all_of_one t (value m t l u) (value_of_none t l u))
 
--- before the first replica all are still to come
+-- before the first replica all remain
 start_of : (M : State) (b : ℕ) → rest_of M.cluster M.holdings.blocks 0 0 0 (entries M.holdings.replicas) b ≡ lacking_of M b
 start_of M b =
     not_earlier M.cluster M.holdings.blocks 0 0 0 (entries M.holdings.replicas) b _ _ (omega arith)
@@ -314,7 +314,7 @@ capped n a x y = omega arith
 
 -- the next block begins, or the same one goes on
 pub turned_summed : (M : State) (excess : List ReplicaId) (e : Marked) (es : List Marked) (info : Option BlockInfo) (s : Summed) → info ≡ get M.holdings.blocks s.block
-    → IsSummed M excess (e ∷ es) s → IsSummed M excess (e ∷ es) (turned info e.0.block s)
+    → IsSummed M excess (e ∷ es) s → IsSummed M excess (e ∷ es) (switched info e.0.block s)
 turned_summed M excess e es info s known was = by (s.block == e.0.block) refl
   where
     by : (b : Bool) → (s.block == e.0.block) ≡ b → IsSummed M excess (e ∷ es) (cond b s (record s {
@@ -338,7 +338,7 @@ turned_summed M excess e es info s known was = by (s.block == e.0.block) refl
           excess_left = was.excess_left;
         }
 
-turned_block : (info : Option BlockInfo) (next : ℕ) (s : Summed) → (turned info next s).block ≡ next
+turned_block : (info : Option BlockInfo) (next : ℕ) (s : Summed) → (switched info next s).block ≡ next
 turned_block info next s = by (s.block == next) refl
   where
     by : (b : Bool) → (s.block == next) ≡ b → (cond b s (record s {
@@ -398,7 +398,7 @@ with_counts is_excess is_usable is_live s = record s {
 
 pub taken_summed : (M : State) (excess : List ReplicaId) (e : Marked) (es : List Marked) (r : Replica) (info : Option BlockInfo) (s s1 s2 s3 : Summed) (x u l : Bool)
     → r ≡ replica_of e → info ≡ get M.holdings.blocks s.block
-    → s1 ≡ turned info r.block s
+    → s1 ≡ switched info r.block s
     → x ≡ is_next excess s1.passed (record { block = r.block; storage = r.storage })
     → s2 ≡ record s1 { passed = cond x (s1.passed + 1) s1.passed }
     → l ≡ not (is_draining M.cluster r.storage)
@@ -406,9 +406,9 @@ pub taken_summed : (M : State) (excess : List ReplicaId) (e : Marked) (es : List
     → s3 ≡ record s2 { usable = s2.usable + cond u 1 0; live = s2.live + cond (u && l) 1 0 }
     → IsSummed M excess (e ∷ es) s → IsSummed M excess es s3
 taken_summed M excess e es r info s s1 s2 s3 x u l one known turns asks passes lives uses counted was =
-    let t : Summed = turned info e.0.block s in
+    let t : Summed = switched info e.0.block s in
     let now : IsSummed M excess (e ∷ es) t = turned_summed M excess e es info s known was in
-    let first_is : s1 ≡ t = turns ∙ ap (λ (q : Replica). turned info q.block s) one in
+    let first_is : s1 ≡ t = turns ∙ ap (λ (q : Replica). switched info q.block s) one in
     let excess_is : x ≡ e.1.excess =
     asks ∙ ap (λ (z : Summed). is_next excess z.passed (record { block = r.block; storage = r.storage })) first_is
     ∙ ap (λ (q : Replica). is_next excess t.passed (record { block = q.block; storage = q.storage })) one
@@ -444,7 +444,7 @@ excess_is H = refl
 
 -- what is counted of a block is no more where the next one begins
 turned_no_more : (f : Summed → ℕ) (info : Option BlockInfo) (next : ℕ) (s : Summed) → ((b n : ℕ) → f (record s { bytes = n; block = b; usable = 0; live = 0 }) ≤ f s)
-    → f (turned info next s) ≤ f s
+    → f (switched info next s) ≤ f s
 turned_no_more f info next s less = by (s.block == next)
   where
     by : (b : Bool) → f (cond b s (record s {
@@ -456,8 +456,8 @@ turned_no_more f info next s less = by (s.block == next)
     by true = omega arith
     by false = less next (in_128_bits (s.bytes + in_128_bits (option_map_or (λ i. bytes_to_copy i s.live s.usable) info 0)))
 
-pub turned_usable : (info : Option BlockInfo) (next : ℕ) (s : Summed) → (turned info next s).usable ≤ s.usable
+pub turned_usable : (info : Option BlockInfo) (next : ℕ) (s : Summed) → (switched info next s).usable ≤ s.usable
 turned_usable info next s = turned_no_more (λ z. z.usable) info next s (λ b n. omega arith)
 
-pub turned_live : (info : Option BlockInfo) (next : ℕ) (s : Summed) → (turned info next s).live ≤ s.live
+pub turned_live : (info : Option BlockInfo) (next : ℕ) (s : Summed) → (switched info next s).live ≤ s.live
 turned_live info next s = turned_no_more (λ z. z.live) info next s (λ b n. omega arith)

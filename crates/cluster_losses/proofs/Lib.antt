@@ -1,4 +1,5 @@
--- Lemmas.
+-- Lemmas on losses: names of losses, lost blocks, lacking bytes, and clusters that come back as
+-- they were.
 pub mod Alike
 pub mod Clusters
 pub mod Kept

@@ -1,6 +1,6 @@
--- What words name, one after another.
-use Rattle.std.proofs.Common.{◌≡◌, ◌∙◌, ℕ, Bool, true, false, cond, List, [], ◌∷◌, ◌++◌, Some, None, refl, sym, ap, drop, option_map}
-use Rattle.std.specs.Prelude.{◌==◌, ◌+◌, zero, suc, slice_get, if◌then◌else◌}
+-- Adding the losses of words one after another gives the losses of all words, each once.
+use Rattle.std.proofs.Common.{◌≡◌, ◌∙◌, ℕ, Bool, true, false, cond, List, [], ◌∷◌, ◌++◌, Some, None, refl, sym, ap, option_map}
+use Rattle.std.specs.Prelude.{◌==◌, ◌+◌, if◌then◌else◌}
 use Rattle.std.specs.List.{find}
 use Rattle.std.proofs.lemmas.Bool.{or_from, or_parts}
 use Rattle.std.proofs.lemmas.List.Folds.{list_any-append}
@@ -79,12 +79,6 @@ module _ (C : Cluster) (names : Names) where
   fault_stays ls rest l faults.Excess same is = is
   fault_stays ls rest l faults.NotSetBack same is = is
   fault_stays ls rest l (faults.Refused r) same is = is
-
-    by : (xs : List _) (i : ℕ) → slice_get xs i ≡ Some x → drop i xs ≡ x ∷ drop (suc i) xs
-    by [] zero h = cc
-    by [] (suc i) h = cc
-    by (y ∷ xs) zero h = cc
-    by (y ∷ xs) (suc i) h = by xs i h
 
 pub none_left : (C : Cluster) (names : Names) (ls : List Loss) (lost : Lost) → lost.nodes.items ≡ [] → lost.drained.items ≡ [] → lost.storages.items ≡ [] → AreLeft C names ls ls lost
 none_left C names ls lost nodes drained storages = record {

@@ -1,4 +1,4 @@
--- The number that a text writes.
+-- Parsing a text gives the number that it writes, if it writes one.
 use Rattle.std.proofs.Common.{◌≡◌, ◌∙◌, ℕ, ◌^◌, ◌<◌, Bool, true, false, cond, List, length, Some, None, Result, Ok, Err, refl, sym, ap}
 use Rattle.std.specs.Prelude.{◌&&◌, nat_lt}
 use Rattle.std.specs.Result.{result_ok}

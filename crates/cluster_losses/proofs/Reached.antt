@@ -1,4 +1,4 @@
--- The states on the way.
+-- A state is reached by any list of events, and reaching is reflexive and transitive.
 use Rattle.std.proofs.Common.{◌≡◌, ◌∙◌, List, [], ◌++◌, refl, sym, ap}
 use Rattle.std.specs.Prelude.{fold}
 use Rattle.std.proofs.lemmas.List.Sums.{fold-append}

@@ -1,4 +1,5 @@
--- Events by which a node comes back: reports are added, and the known blocks stay.
+-- Events with reports added are the events and then reports, and the return of a node keeps the
+-- known blocks.
 use Rattle.std.proofs.Common.{◌≡◌, ◌∙◌, ℕ, true, false, cond, ◌||◌, List, [], ◌∷◌, ◌++◌, refl, sym, ap, subst}
 use Rattle.std.specs.List.{list_any}
 use Rattle.std.proofs.lemmas.List.{append-nil, append_assoc}

@@ -1,4 +1,4 @@
--- What `==` says of nodes, storages and replicas.
+-- `==` decides the equality of nodes, storages and replicas.
 use Rattle.std.proofs.Common.{◌≡◌, Bool, ◌&&◌, nat_eq, ap, Decides, rules}
 use Rattle.std.specs.Bool.{beq}
 use Rattle.std.specs.Cmp.{booleans_Decides, unsigned_Decides}

@@ -1,4 +1,5 @@
--- What a book has after an event that is accepted, and lists of losses.
+-- A book that follows a manager still follows it after an accepted event, and losses with one more
+-- are losses.
 use Rattle.std.proofs.Common.{◌≡◌, ℕ, Bool, true, false, not, ◌||◌, None, List, [], ◌∷◌, ◌++◌, refl, sym, ap, subst, ◌∙◌}
 use Rattle.std.specs.List.{fold, list_any}
 use Rattle.std.proofs.lemmas.List.Folds.{list_any-append}

@@ -1,4 +1,4 @@
--- States that are alike in all that lost blocks, levels and counts depend on.
+-- States that agree in everything on which lost blocks, levels and counts depend.
 use Rattle.std.specs.Prelude.{◌≡◌, ℕ, List, map, unwrap_or}
 use Rattle.bm_base.specs.Words.{State, Cluster, get, keys, drains, node_of, remaining, all_replicas, excess_replicas}
 use Rattle.bm_base.specs.Promises.Lawful.{IsLawfulCluster}
@@ -37,7 +37,7 @@ pub record IsSnapshot (M : State) (s : Snapshot) : Type 0 where
   pub replicas : s.replicas ≡ all_replicas M.holdings
   pub excess : s.excess ≡ excess_replicas M.holdings
 
--- two snapshots show the same
+-- two snapshots have the same content
 pub record AreSame (a b : Snapshot) : Type 0 where
   pub nodes : b.nodes.items ≡ a.nodes.items
   pub storages : b.storages.items ≡ a.storages.items

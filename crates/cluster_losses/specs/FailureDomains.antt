@@ -1,4 +1,4 @@
--- Racks and nodes of which each is lost alone.
+-- Failure domains: the racks or nodes of which each is lost alone.
 use Rattle.std.specs.Prelude.{◌≡◌, ℕ, ◌==◌, List, [], ◌∷◌, map, filter, unwrap_or}
 use Rattle.std.specs.List.Sorted.{IsStrictlyIncreasing}
 use Rattle.bm_base.specs.Words.{Cluster, get, has, keys}

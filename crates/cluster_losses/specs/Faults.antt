@@ -11,13 +11,13 @@ use Rattle.cluster_losses.specs.declared.fault.Fault.TheVariants.{Memory, Excess
 abbrev pub IsOfRefusal : Refusal → Fault → Type 0
 IsOfRefusal r f = ((r ≡ refusal.Memory) × (f ≡ Memory)) ⊎ (f ≡ Refused r)
 
--- memory is refused, or an event is
+-- out of memory, or an event is refused
 abbrev pub IsRefusal : Fault → Type 0
 IsRefusal Memory = ⊤
 IsRefusal (Refused r) = ⊤
 IsRefusal _ = ⊥
 
--- Besides: some replica is in excess at first, or the state at the end is not like the first one.
+-- Or some replica is in excess at first, or the state at the end is not like the first one.
 abbrev pub IsRowsFault : State → State → Fault → Type 0
 IsRowsFault M N Excess = excess_replicas M.holdings ≡ [] → ⊥
 IsRowsFault M N NotSetBack = IsLike M N → ⊥

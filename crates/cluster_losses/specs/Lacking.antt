@@ -1,4 +1,4 @@
--- The bytes that are still to be copied, and the bytes that are free for them.
+-- The bytes to copy, and the free bytes for them.
 use Rattle.std.specs.Prelude.{ℕ, ◌-◌, ◌*◌, ◌^◌, ◌==◌, min, if◌then◌else◌, length, sum_by}
 use Rattle.std.specs.Option.{option_map_or}
 use Rattle.bm_base.specs.declared.replica.BlockInfo.{BlockInfo}
@@ -9,7 +9,7 @@ use Rattle.bm_base.specs.Words.{State, Cluster, get, keys, live, usable, is_drai
 abbrev pub bytes_to_copy : BlockInfo → ℕ → ℕ → ℕ
 bytes_to_copy i live usable = if usable == 0 then 0 else (i.repl - live) * i.stamp.len
 
--- the same for a block of a state; 0 if it is not known
+-- `bytes_to_copy` of a block of a state; 0 if the block is not known
 abbrev pub lacking_of : State → ℕ → ℕ
 lacking_of M b = option_map_or (λ i. bytes_to_copy i (length (live M.cluster M.holdings b)) (length (usable M.holdings b))) (get M.holdings.blocks b) 0
 

@@ -1,4 +1,4 @@
--- Losses, and what they leave.
+-- Losses, and the cluster after them.
 pub mod Alike
 pub mod Events
 pub mod Faults

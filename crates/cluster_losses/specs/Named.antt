@@ -1,5 +1,5 @@
--- What the words of a command line name.
-use Rattle.std.specs.Prelude.{◌≡◌, ⊤, ℕ, Bool, true, false, ◌^◌, ◌==◌, ◌&&◌, nat_eq, nat_lt, List, [], ◌∷◌, ◌++◌, filter, fold, length, if◌then◌else◌, Option, Some, None, option_map}
+-- The nodes and storages that the words of a command line name.
+use Rattle.std.specs.Prelude.{◌≡◌, ⊤, ℕ, Bool, true, false, ◌^◌, ◌==◌, ◌&&◌, nat_lt, List, [], ◌∷◌, ◌++◌, filter, fold, length, if◌then◌else◌, Option, Some, None, option_map}
 use Rattle.std.specs.Option.{option_map_or}
 use Rattle.std.specs.List.{find, flat_map}
 use Rattle.std.specs.Str.{all_ascii_digits, bytes_eq}
@@ -22,7 +22,7 @@ number_written text =
     let digits = without_leading_plus text in
     if nat_lt 0 (length digits) && (all_ascii_digits digits && nat_lt (digits_value 10 digits) (2 ^ 32)) then Some (digits_value 10 digits) else None
 
--- the number that has this name; if nothing of the kind has a name, the number is the name
+-- the number with this name; without names of the kind, the name is read as a number
 abbrev pub number_named : Rows → Text → Option ℕ
 number_named rows name = if nat_lt 0 (length rows) then number_of rows name else number_written name
 
@@ -68,11 +68,11 @@ abbrev pub fails : Kind → Bool
 fails kind.Storage = true
 fails _ = false
 
--- what the words of some kinds name
+-- the nodes or storages that the words of some kinds name
 abbrev pub all_named : Cluster → Names → (Kind → Bool) → List Loss → List ℕ
 all_named C names p ls = flat_map (λ l. if p l.kind then named_by C names l.kind l.name.now else []) ls
 
--- with a number, unless it is there; and with several
+-- with one number added, and with several; a number that is there is not added again
 abbrev pub with_one : List ℕ → ℕ → List ℕ
 with_one xs x = if has xs x then xs else xs ++ x ∷ []
 
@@ -86,7 +86,7 @@ is_unknown C names l = length (named_by C names l.kind l.name.now) == 0
 abbrev pub first_unknown : Cluster → Names → List Loss → Option Kind
 first_unknown C names ls = option_map (λ l. l.kind) (find (is_unknown C names) ls)
 
--- memory is refused, or this is the kind of a word that names nothing
+-- out of memory, or this is the kind of a word that names nothing
 abbrev pub IsFaultOf : Option Kind → Fault → Type 0
 IsFaultOf unknown Memory = ⊤
 IsFaultOf unknown (Unknown k) = unknown ≡ Some k

@@ -1,4 +1,4 @@
--- How a manager came from one state to another.
+-- States that events lead to.
 use Rattle.std.specs.Prelude.{◌≡◌, List, fold}
 use Rattle.bm_base.specs.declared.event.Event.{Event}
 use Rattle.bm_base.specs.Words.{State, after_event}

@@ -1,4 +1,4 @@
--- The events by which a lost node comes back with all that it had.
+-- The events that restore a lost node with its storages and replicas.
 use Rattle.std.specs.Prelude.{◌≡◌, ℕ, Bool, true, false, List, [], ◌∷◌, ◌++◌, map, filter, if◌then◌else◌}
 use Rattle.bm_base.specs.declared.event.Event.{Event}
 use Rattle.bm_base.specs.declared.event.Event.TheVariants.{Register, Heartbeat, Drain, Received, Corrupt, FullReport}
@@ -6,7 +6,7 @@ use Rattle.bm_base.specs.declared.event.Remaining.{Remaining}
 use Rattle.bm_base.specs.Words.{Cluster, keys, has_storage, drains, remaining}
 use Rattle.cluster_losses.specs.FailureDomains.{rack_number}
 
--- whether an event reports what is stored
+-- whether an event reports replicas
 abbrev pub is_report : Event → Bool
 is_report (FullReport s es) = true
 is_report (Received s b stamp) = true
@@ -17,7 +17,7 @@ abbrev pub AreReports : List Event → Type 0
 AreReports [] = Unit {0}
 AreReports (e ∷ es) = (is_report e ≡ true) × AreReports es
 
--- reports come behind these events
+-- the new events are the old ones, then reports
 pub record AreReported (old new : List Event) : Type 0 where
   pub reports : List Event
   pub are : AreReports reports
@@ -42,8 +42,8 @@ heartbeat C n = Heartbeat n (map (free_of C) (storages_of C n))
 abbrev pub drained_again : Cluster → ℕ → List Event
 drained_again C n = if drains C n then Drain n ∷ [] else []
 
--- The events by which a node comes back: it registers with its rack and its storages, reports their
--- free bytes, reports what is stored, and drains if it did.
+-- The events that restore a node: it registers with its rack and its storages, reports their free
+-- bytes and their replicas, and drains if it did.
 pub record AreOfReturn (C : Cluster) (n : ℕ) (es : List Event) : Type 0 where
   pub reports : List Event
   pub are : AreReports reports

@@ -39,21 +39,21 @@ Ascends t (e ∷ es) = (t ≤ e.0.block) × Ascends e.0.block es
 abbrev pub only : ℕ → ℕ → ℕ → ℕ
 only t n b = if b == t then n else 0
 
--- what a block adds, by the numbers of its live and of its usable replicas
+-- the bytes that a block adds, by the numbers of its live and of its usable replicas
 abbrev pub value : Map by_number BlockInfo → ℕ → ℕ → ℕ → ℕ
 value blocks b live usable = option_map_or (λ i. bytes_to_copy i live usable) (get blocks b) 0
 
--- what block b adds, by the numbers of live and of usable replicas that block t has before these
--- ones
+-- the bytes that block b adds, by the numbers of live and of usable replicas that block t has
+-- before these ones
 abbrev pub rest_of : Cluster → Map by_number BlockInfo → ℕ → ℕ → ℕ → List Marked → ℕ → ℕ
 rest_of C blocks t l u es b = if nat_lt b t then 0 else value blocks b (only t l b + count_of (is_live C) es b) (only t u b + count_of counts es b)
 
 abbrev pub rest_bytes : Cluster → Map by_number BlockInfo → ℕ → ℕ → ℕ → List Marked → ℕ
 rest_bytes C blocks t l u es = sum_by (rest_of C blocks t l u es) (keys blocks)
 
--- the present block adds what it lacks, and the next one begins
-abbrev pub turned : Option BlockInfo → ℕ → Summed → Summed
-turned info next s = if s.block == next then s else record s {
+-- the current block adds the bytes that it lacks, and the next one begins
+abbrev pub switched : Option BlockInfo → ℕ → Summed → Summed
+switched info next s = if s.block == next then s else record s {
   bytes = in_128_bits (s.bytes + in_128_bits (option_map_or (λ i. bytes_to_copy i s.live s.usable) info 0));
   block = next;
   usable = 0;
@@ -64,8 +64,8 @@ turned info next s = if s.block == next then s else record s {
 abbrev pub is_next : List ReplicaId → ℕ → ReplicaId → Bool
 is_next excess passed id = option_map_or (λ q. (q.block == id.block) && (q.storage == id.storage)) (slice_get excess passed) false
 
--- What is summed so far, with what the present block and the replicas that are left add, is the sum
--- over all blocks.
+-- The sum so far, with what the current block and the remaining replicas add, is the sum over all
+-- blocks.
 pub record IsSummed (M : State) (excess : List ReplicaId) (left : List Marked) (s : Summed) : Type 0 where
   pub sorted : T (is_sorted replica_cmp left)
   pub later : Ascends s.block left

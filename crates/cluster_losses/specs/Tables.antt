@@ -1,4 +1,4 @@
--- A table of what is lost with each of some racks or nodes alone.
+-- A table of the losses if each of some racks or nodes dies alone.
 use Rattle.std.specs.Prelude.{◌≡◌, List, [], map, length}
 use Rattle.std.specs.declared.cmp.Ordering.{Ordering}
 use Rattle.std.specs.Ordering.{nat_cmp, ordering_then}
@@ -20,7 +20,7 @@ pub record HasLostFiles (f : FileTable) (row : Row) : Type 0 where
   pub files : AreAtRisk f row.without.lost [] risk
   pub count : row.lost_files ≡ length risk.lost
 
--- a row has what is lost if the nodes of a failure domain die in this state
+-- a row has the losses if the nodes of a failure domain die in this state
 pub record IsRowAt (f : FileTable) (M : State) (domain : FailureDomain) (row : Row) : Type 0 where
   pub number : row.number ≡ domain.number
   pub nodes : row.nodes ≡ length domain.nodes
@@ -40,7 +40,7 @@ row_cmp a b =
     ordering_then (nat_cmp (length b.without.lost) (length a.without.lost))
     (ordering_then (levels_cmp a.without.after.levels b.without.after.levels) (nat_cmp a.number b.number))
 
--- For each failure domain a row of what is lost if it alone dies in this state, the worst first.
+-- For each failure domain a row of the losses if it alone dies in this state, the worst first.
 pub record AreRows (f : FileTable) (M : State) (domains : List FailureDomain) (rows : List Row) : Type 0 where
   pub made : List Row
   pub each : AllZip (IsRowAt f M) domains made

@@ -20,7 +20,7 @@ pub struct ClusterCounts {
     pub levels: LevelCounts,
     /// The missing blocks, ascending.
     pub missing: Items<BlockId>,
-    /// The bytes of all copies that blocks lack which can be copied; at most the greatest number.
+    /// The bytes of all copies that blocks with a source lack; at most 2^128 - 1.
     pub lacking: u128,
     /// The free bytes on nodes that do not drain.
     pub free: u128,

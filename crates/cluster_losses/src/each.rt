@@ -1,4 +1,4 @@
-// A table: each rack or each node is lost alone, and comes back.
+// A table of the losses if each rack or each node fails alone, and then comes back.
 ghost use Rattle.std.specs.Prelude.{◌≡◌, [], IfOk, IfErr, OnOk};
 ghost use Rattle.std.specs.List.{AllZip};
 ghost use Rattle.std.specs.List.Sorted.{IsPermutation, IsSorted};
@@ -14,7 +14,7 @@ pub use crate::failure_domains::{nodes_of, racks_of};
 use crate::fault::Fault;
 use crate::loss_events::Lost;
 use crate::returns::Return;
-use crate::set_back::returns_of;
+use crate::set_back::make_returns;
 use crate::snapshot::Snapshot;
 use crate::without::{Outcome, without};
 use bm_base::Refusal;
@@ -28,7 +28,7 @@ use std::cmp::Ordering;
 use std::sync::Wait;
 use std::thread::Threads;
 
-/// What is lost with one rack or node alone.
+/// The losses if one rack or node fails alone.
 #[derive(Drop)]
 pub struct Row {
     /// The number of the rack or node.
@@ -39,10 +39,10 @@ pub struct Row {
     pub without: Outcome,
 }
 
-/// The losses with each of these racks or nodes alone, the worst first: by lost blocks, then by the
-/// blocks at the first three levels, then by number. Each comes back before the next is lost, and
-/// the cluster is then compared with that before. `Excess` if a replica is in excess; `NotSetBack`
-/// if the cluster differs from that before.
+/// The losses if each of these racks or nodes fails alone, the worst first: by lost blocks, then by
+/// the blocks at the first three levels, then by number. Each comes back before the next is lost,
+/// and the cluster is then compared with that before. `Excess` if a replica is in excess;
+/// `NotSetBack` if the cluster differs from that before.
 pub fn make_rows<H: Threads + Wait + Sync>(
     rt: &H,
     alloc: Global,
@@ -64,7 +64,7 @@ pub fn make_rows<H: Threads + Wait + Sync>(
     if !first.excess.is_empty() {
         return Err(Fault::Excess);
     }
-    let returns = returns_of(alloc, &loaded.session.book, first.replicas.as_slice())?;
+    let returns = make_returns(alloc, &loaded.session.book, first.replicas.as_slice())?;
     let mut rows = lose_each(
         rt,
         alloc,
@@ -78,7 +78,8 @@ pub fn make_rows<H: Threads + Wait + Sync>(
     Ok(rows)
 }
 
-/// Loses each of these, and makes it come back. `first` is what the session has before.
+/// For each rack or node: loses it, makes its row, and makes it come back. `first` is the state
+/// before, which must be the same after each return.
 fn lose_each<H: Threads + Wait + Sync>(
     rt: &H,
     alloc: Global,
@@ -138,7 +139,7 @@ fn make_row<H: Threads + Wait + Sync>(
     })
 }
 
-/// Makes its nodes come back.
+/// Restores the nodes of a rack or node, by the events of their returns.
 #[tactic(auto, using(crate::proofs::Reached::no_way, crate::proofs::Reached::way_and))]
 fn set_back<H: Threads + Wait + Sync>(
     rt: &H,
@@ -153,7 +154,7 @@ fn set_back<H: Threads + Wait + Sync>(
     ensures in_step { OnOk result (IsInStep session.new) }
 {
     for node in returns {
-        node.make(rt, session, domain.nodes.as_slice())?;
+        node.restore(rt, session, domain.nodes.as_slice())?;
     }
     Ok(())
 }
@@ -165,7 +166,7 @@ fn sort_worst_first(rows: &mut Vec<Row>) -> Result<(), AllocError>
     rows.sort_by(|one, other| compare(one, other))
 }
 
-/// The worse one comes first.
+/// Sort order: the worse row first.
 fn compare(one: &Row, other: &Row) -> Ordering
     ensures { result ≡ row_cmp one.now other.now }
 {

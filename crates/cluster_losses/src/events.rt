@@ -1,4 +1,4 @@
-// Events that happen to a cluster that was read.
+// Applies events to a loaded cluster.
 ghost use Rattle.std.specs.Prelude.{◌≡◌, None, OnOk};
 ghost use Rattle.std.specs.List.{fold};
 ghost use Rattle.bm_base.specs.Words.{after_event, refusal_of};
@@ -10,7 +10,7 @@ use cluster_report::session::Session;
 use std::sync::Wait;
 use std::thread::Threads;
 
-/// Applies an event. What is refused changes nothing.
+/// Applies an event; a refused one changes nothing.
 #[tactic(auto, using(crate::proofs::Steps::accepted_by_cluster))]
 pub fn apply<H: Threads + Wait + Sync>(
     rt: &H,

@@ -5,7 +5,7 @@ ghost use Rattle.bm_base.specs.Machine.Replicas.{is_good};
 ghost use Rattle.bm_base.specs.Machine.Queries.{all_replicas, excess_replicas};
 ghost use Rattle.cluster_report.specs.Sessions.{IsInStep};
 ghost use Rattle.cluster_losses.specs.Lacking.{bytes_to_copy, lacking_bytes, in_128_bits};
-ghost use Rattle.cluster_losses.specs.Summing.{Marked, IsSummed, replica_of, turned, is_next};
+ghost use Rattle.cluster_losses.specs.Summing.{Marked, IsSummed, replica_of, switched, is_next};
 
 use bm_base::{BlockId, BlockInfo, Replica, ReplicaId, Tag};
 use cluster_report::session::Session;
@@ -16,11 +16,11 @@ struct Summed {
     /// The bytes that the blocks before the current one lack.
     bytes: u128,
     block: BlockId,
-    /// The usable replicas of this block so far.
+    /// The usable replicas of the current block so far.
     usable: u64,
-    /// Those of them that are live.
+    /// How many of them are live.
     live: u64,
-    /// How many replicas in excess have come.
+    /// Cursor: how many replicas in excess were passed.
     passed: usize,
 }
 
@@ -37,8 +37,8 @@ impl Summed {
         }
     }
 
-    /// The sum, with what the present block lacks.
-    fn whole(&self, info: Option<BlockInfo>) -> u128
+    /// The sum, with what the current block lacks.
+    fn total(&self, info: Option<BlockInfo>) -> u128
         ensures { result ≡ in_128_bits (self.now.bytes + in_128_bits
             (option_map_or (λ i. bytes_to_copy i self.now.live self.now.usable) info 0)) }
     {
@@ -62,7 +62,7 @@ impl Summed {
     {
         let book = &session.book;
         let info = book.blocks.get(self.block);
-        self.turn_to(info, replica.block);
+        self.switch_block(info, replica.block);
         let id = ReplicaId {
             block: replica.block,
             storage: replica.storage,
@@ -73,19 +73,20 @@ impl Summed {
         self.count(is_usable, is_live);
     }
 
-    /// Goes on with this block, which may be the present one.
-    fn turn_to(&mut self, info: Option<BlockInfo>, block: BlockId)
-        ensures { self.new ≡ turned info block self.old }
+    /// Switches to `block`: adds what the current block lacks and resets the counts. Does nothing
+    /// if it is the current block.
+    fn switch_block(&mut self, info: Option<BlockInfo>, block: BlockId)
+        ensures { self.new ≡ switched info block self.old }
     {
         if self.block != block {
-            self.bytes = self.whole(info);
+            self.bytes = self.total(info);
             self.block = block;
             self.usable = 0;
             self.live = 0;
         }
     }
 
-    /// Whether a replica is the next one in excess, which is then passed.
+    /// Whether a replica is the next one in excess. If so, the cursor in `excess` moves past it.
     fn passes_excess(&mut self, excess: &[ReplicaId], id: ReplicaId) -> bool
         ensures is { result ≡ is_next excess.now self.old.passed id }
         ensures passed { self.new ≡ record self.old {
@@ -99,7 +100,7 @@ impl Summed {
         is_it
     }
 
-    /// Counts a replica of the present block.
+    /// Counts a replica of the current block.
     fn count(&mut self, is_usable: bool, is_live: bool)
         requires usable { self.old.usable < 2 ^ 63 }
         requires live { self.old.live < 2 ^ 63 }
@@ -130,7 +131,7 @@ pub(crate) fn bytes_lacking(session: &Session, replicas: &[Replica], excess: &[R
     for replica in replicas {
         summed.take(session, excess, replica);
     }
-    summed.whole(session.book.blocks.get(summed.block))
+    summed.total(session.book.blocks.get(summed.block))
 }
 
 fn bytes_to_copy(info: BlockInfo, live: u64, usable: u64) -> u128

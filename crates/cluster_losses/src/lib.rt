@@ -1,6 +1,6 @@
-//! Losses of racks, nodes and storages of a cluster that was read, with no round between them.
-//! Makes the events of the losses, and then finds the lost blocks and the counts of the cluster.
-//! Each rack or each node can be lost alone, and comes back before the next.
+//! Losses of racks, nodes and storages of a loaded cluster, with no round between them. Makes the
+//! events of the losses, and then finds the lost blocks and the counts of the cluster. Each rack or
+//! each node can be lost alone, and comes back before the next.
 #![tactic(auto)]
 
 pub mod cluster_counts;

@@ -1,17 +1,17 @@
 // The losses that the words of a command line name.
 ghost use Rattle.std.specs.Prelude.{◌≡◌, map, IfOk, option_map};
-ghost use Rattle.cluster_losses.specs.Questions.{alone_named, asked_by, at_colon, drain_named, is_together, kind_of, loss_named, named_of, question_named, together_named};
+ghost use Rattle.cluster_losses.specs.Questions.{alone_named, scenario_of, at_colon, drain_named, is_together, kind_of, loss_named, named_of, question_named, together_named};
 
 use std::alloc::{AllocError, Global};
 use std::fmt;
 
-/// The kind of a named thing.
+/// The kind of a loss.
 #[derive(Clone, Copy, Debug)]
 pub enum Kind {
     Rack,
     Node,
     Storage,
-    /// A node that is to be taken away.
+    /// A node that is to be decommissioned.
     Drain,
 }
 
@@ -30,7 +30,7 @@ impl fmt::Display for Kind {
     }
 }
 
-/// One thing that is lost, by its name.
+/// A loss, by its kind and its name.
 #[derive(Clone, Copy)]
 pub struct Loss<'a> {
     pub kind: Kind,
@@ -51,53 +51,53 @@ pub enum Question<'a> {
 impl Question<'_> {
     /// Whether all losses come at once.
     pub fn is_one(&self) -> bool
-        ensures { result ≡ is_together (asked_by self.now) }
+        ensures { result ≡ is_together (scenario_of self.now) }
     {
         matches!(self, Question::Losses(_))
     }
 }
 
-/// The question of these words: the values of `--lose` and those of `--drain`. `None` if nothing is
-/// lost, a word is none that is known, or `each-rack` or `each-node` has another word next to it.
-pub fn question_of<'a>(
+/// The question of these words: the values of `--lose` and those of `--drain`. `None` if there is
+/// no word, a word is unknown, or `each-rack` or `each-node` is not alone.
+pub fn parse_question<'a>(
     alloc: Global,
     lose: &[&'a str],
     drain: &[&'a str],
 ) -> Result<Option<Question<'a>>, AllocError>
-    ensures { IfOk result (λ o. option_map asked_by o
+    ensures { IfOk result (λ o. option_map scenario_of o
         ≡ question_named (map (λ w. w.now) lose.now) (map (λ w. w.now) drain.now)) }
 {
     if lose.len() > 1 || !drain.is_empty() {
-        return losses_of(alloc, lose, drain);
+        return parse_losses(alloc, lose, drain);
     }
     match lose.first() {
-        Some(word) => alone_of(alloc, *word),
+        Some(word) => parse_single(alloc, *word),
         None => Ok(None),
     }
 }
 
 /// The question of one value of `--lose` alone.
-fn alone_of<'a>(alloc: Global, word: &'a str) -> Result<Option<Question<'a>>, AllocError>
-    ensures { IfOk result (λ o. option_map asked_by o ≡ alone_named word.entry.now) }
+fn parse_single<'a>(alloc: Global, word: &'a str) -> Result<Option<Question<'a>>, AllocError>
+    ensures { IfOk result (λ o. option_map scenario_of o ≡ alone_named word.entry.now) }
 {
     match word {
         "each-rack" => Ok(Some(Question::EachRack)),
         "each-node" => Ok(Some(Question::EachNode)),
-        _ => losses_of(alloc, &[word], &[]),
+        _ => parse_losses(alloc, &[word], &[]),
     }
 }
 
-fn losses_of<'a>(
+fn parse_losses<'a>(
     alloc: Global,
     lose: &[&'a str],
     drain: &[&'a str],
 ) -> Result<Option<Question<'a>>, AllocError>
-    ensures { IfOk result (λ o. option_map asked_by o
+    ensures { IfOk result (λ o. option_map scenario_of o
         ≡ together_named (map (λ w. w.now) lose.now) (map (λ w. w.now) drain.now)) }
 {
-    let mut losses = drains_of(alloc, drain)?;
+    let mut losses = parse_drains(alloc, drain)?;
     for word in lose {
-        let Some(loss) = loss_of(*word) else {
+        let Some(loss) = parse_loss(*word) else {
             return Ok(None);
         };
         losses.push(loss)?;
@@ -105,8 +105,8 @@ fn losses_of<'a>(
     Ok(Some(Question::Losses(losses)))
 }
 
-/// A loss for each node that is to be taken away.
-fn drains_of<'a>(alloc: Global, drain: &[&'a str]) -> Result<Vec<Loss<'a>>, AllocError>
+/// A loss for each node of `--drain`.
+fn parse_drains<'a>(alloc: Global, drain: &[&'a str]) -> Result<Vec<Loss<'a>>, AllocError>
     ensures { IfOk result (λ v. map named_of v.items
         ≡ map drain_named (map (λ w. w.now) drain.now)) }
 {
@@ -121,7 +121,7 @@ fn drains_of<'a>(alloc: Global, drain: &[&'a str]) -> Result<Vec<Loss<'a>>, Allo
 }
 
 /// The loss that `rack:NAME`, `node:HOST` or `storage:ID` names.
-fn loss_of(word: &str) -> Option<Loss<'_>>
+fn parse_loss(word: &str) -> Option<Loss<'_>>
     ensures { option_map named_of result ≡ loss_named word.now }
 {
     let (kind, name) = at_colon(word)?;

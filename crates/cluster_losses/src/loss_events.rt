@@ -54,7 +54,7 @@ impl Lost {
         Ok(lost)
     }
 
-    /// These nodes.
+    /// The loss of these nodes.
     pub fn of_nodes(alloc: Global, nodes: &[NodeId]) -> Result<Lost, AllocError>
         ensures { IfOk result (λ it. events_of it ≡ map death nodes.now) }
     {
@@ -63,7 +63,7 @@ impl Lost {
         Ok(lost)
     }
 
-    /// Adds what a loss names.
+    /// Adds the nodes or the storage of one loss.
     fn add(&mut self, alloc: Global, loaded: &Loaded, loss: &Loss<'_>) -> Result<(), Fault>
         ensures lost { OnOk result (AreAdded (named_by loaded.now.session.book.topology.cluster
             loaded.now.names loss.now.kind loss.now.name.now) loss.now.kind
@@ -136,7 +136,7 @@ fn known_storage(loaded: &Loaded, name: &str) -> Option<StorageId>
     }
 }
 
-/// Adds a storage, which a name has to name.
+/// Adds a storage, unless it is there; `Unknown` if the name has none.
 fn add_storage(storages: &mut Vec<StorageId>, named: Option<StorageId>) -> Result<(), Fault>
     ensures added { OnOk result (storages.new.items
         ≡ with_all storages.old.items (option_to_list named)) }
@@ -151,7 +151,7 @@ fn add_storage(storages: &mut Vec<StorageId>, named: Option<StorageId>) -> Resul
     Ok(())
 }
 
-/// Adds these nodes, of which a name has to name at least one.
+/// Adds these nodes, unless they are there; `Unknown` if the name has none.
 fn add_nodes(nodes: &mut Vec<NodeId>, named: &[NodeId], kind: Kind) -> Result<(), Fault>
     ensures added { OnOk result (nodes.new.items ≡ with_all nodes.old.items named.now) }
     ensures known { OnOk result ((length named.now == 0) ≡ false) }

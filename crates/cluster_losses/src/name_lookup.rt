@@ -21,6 +21,8 @@ pub fn nodes_in(alloc: Global, loaded: &Loaded, name: &str) -> Result<Vec<NodeId
     }
 }
 
+/// Returns the storage of this name or, if no storage is named, of this number. The cluster need
+/// not know it.
 pub fn storage_named(loaded: &Loaded, name: &str) -> Option<StorageId>
     ensures { result ≡ number_named loaded.now.names.storages name.now }
 {
@@ -41,7 +43,8 @@ pub fn nodes_named(alloc: Global, loaded: &Loaded, name: &str) -> Result<Vec<Nod
         .collect(alloc)
 }
 
-/// Whether a node has this name, of which this is the number.
+/// Whether a node has this name. `number` is the node's number by the name, if it has one; else the
+/// name may be the host.
 fn is_node_named(names: &Names, number: Option<u32>, name: &str, node: NodeId) -> bool
     requires { number ≡ number_named names.now.nodes name.now }
     ensures { result ≡ is_node_named names.now name.now node }
@@ -65,7 +68,7 @@ fn is_on_host(name: &str, host: &str) -> bool
     }
 }
 
-/// The number that has this name. If nothing of the kind is named, the number is the name.
+/// The number with this name. If no name of the kind is known, the name is parsed as a number.
 fn number_named(names: &NameTable, name: &str) -> Option<u32>
     ensures { result ≡ number_named names.now name.now }
 {

@@ -1,4 +1,4 @@
-// A node that comes back.
+// The return of a node.
 ghost use Rattle.std.specs.Prelude.{◌≡◌, OnOk};
 ghost use Rattle.cluster_report.specs.Sessions.{IsInStep};
 ghost use Rattle.cluster_losses.specs.Events.{KeepBlocks};
@@ -10,7 +10,7 @@ use cluster_report::session::Session;
 use std::sync::Wait;
 use std::thread::Threads;
 
-/// A node, and the events by which it comes with all that it has.
+/// A node, and the events that restore it with its storages and replicas.
 #[derive(Drop)]
 pub struct Return {
     pub node: NodeId,
@@ -21,7 +21,7 @@ pub struct Return {
 impl Return {
     /// Makes the node come back, if it is one of these.
     #[tactic(auto, using(crate::proofs::Reached::no_way, crate::proofs::Reached::way_by))]
-    pub fn make<H: Threads + Wait + Sync>(
+    pub fn restore<H: Threads + Wait + Sync>(
         &self,
         rt: &H,
         session: &mut Session,

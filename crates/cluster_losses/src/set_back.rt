@@ -18,7 +18,7 @@ use std::alloc::{AllocError, Global};
 
 /// The return of each node of a cluster with these replicas.
 #[tactic(auto, using(crate::proofs::Returned::return_keeps))]
-pub fn returns_of(
+pub fn make_returns(
     alloc: Global,
     book: &Book,
     replicas: &[Replica],
@@ -71,7 +71,7 @@ fn push_at(lists: &mut Vec<Vec<Replica>>, at: usize, replica: Replica) -> Result
     Ok(())
 }
 
-/// The events by which a node comes: it registers, reports what is free and what is stored, and
+/// The events that restore a node: it registers, reports its free bytes and its replicas, and
 /// drains if it did.
 fn events_of(
     alloc: Global,
@@ -90,7 +90,7 @@ fn events_of(
     Ok(events)
 }
 
-/// Adds that the node drains, if it does.
+/// Adds a `Drain` event if the node drains.
 fn add_drain(events: &mut Vec<Event>, topology: &Topology, node: NodeId) -> Result<(), AllocError>
     ensures { OnOk result (events.new.items
         ≡ events.old.items ++ drained_again topology.now.cluster node) }

@@ -1,4 +1,4 @@
-// What a cluster has at one time, to compare with what it has after its nodes have come back.
+// A snapshot of a cluster, to compare with the cluster after its nodes came back.
 ghost use Rattle.std.specs.Prelude.{◌≡◌, Decides, IfOk, IfErr, OnOk};
 ghost use Rattle.bm_base.specs.Words.{State, drains};
 ghost use Rattle.cluster_report.specs.Sessions.{IsInStep};
@@ -39,7 +39,7 @@ pub struct Snapshot {
 }
 
 impl Snapshot {
-    /// What a session has now.
+    /// Takes a snapshot of a session.
     pub fn of(alloc: Global, session: &Session) -> Result<Snapshot, Refusal>
         requires { IsInStep session.now }
         ensures { IfOk result (IsSnapshot session.now.manager) }
@@ -62,7 +62,7 @@ impl Snapshot {
             && are_same_ids(self.excess.as_slice(), other.excess.as_slice())
     }
 
-    /// Compares with what a session has now. `NotSetBack` if it differs.
+    /// Compares the snapshot with a session. `NotSetBack` if they differ.
     pub fn compare(&self, alloc: Global, session: &Session) -> Result<(), Fault>
         requires { IsInStep session.now }
         ensures like { OnOk result ((M : State) → IsSnapshot M self.now

@@ -1,4 +1,4 @@
-// The cluster without what is lost.
+// The cluster after losses, before any round.
 ghost use Rattle.std.specs.Prelude.{◌≡◌, true, IfOk, OnOk};
 ghost use Rattle.bm_base.specs.Machine.Queries.{missing_blocks};
 ghost use Rattle.cluster_lost.specs.Losses.{are_losses, after_losses};
@@ -14,7 +14,7 @@ use std::alloc::Global;
 use std::sync::Wait;
 use std::thread::Threads;
 
-/// The cluster without what is lost, where no round came between.
+/// The cluster after losses, before any round.
 #[derive(Drop)]
 pub struct Outcome {
     pub after: ClusterCounts,
@@ -35,7 +35,7 @@ pub fn without<H: Threads + Wait + Sync>(
     requires losses { are_losses losses.now ≡ true }
     requires missing { let M = session.old.manager in
         missing.now ≡ missing_blocks M.cluster M.holdings }
-    // The lost blocks are those whose usable replicas were all on what is lost.
+    // The lost blocks are those whose usable replicas were all on lost storages.
     ensures outcome { IfOk result (IsOutcome session.old.manager losses.now) }
     ensures state { OnOk result (session.new.manager
         ≡ after_losses session.old.manager losses.now) }

@@ -1,7 +1,6 @@
 -- The lost blocks are those that are missing after the losses and not before.
-use Rattle.std.proofs.Common.{◌≡◌, ℕ, ◌+◌, ◌<◌, Bool, true, false, not, ◌&&◌, ◌||◌, cond, Option, is_some, Some, None, List, [], ◌∷◌, filter, take, get_or, length, refl, sym, ap, ◌∙◌, eqb-true}
+use Rattle.std.proofs.Common.{◌≡◌, ℕ, ◌+◌, ◌<◌, Bool, true, false, not, ◌&&◌, ◌||◌, cond, Option, is_some, Some, None, List, [], ◌∷◌, filter, take, get_or, length, refl, sym, ap, ◌∙◌}
 use Rattle.std.specs.Prelude.{◌==◌}
-use Rattle.std.specs.List.{list_any}
 use Rattle.std.proofs.lemmas.List.Folds.{list_any_more}
 use Rattle.std.proofs.Math.Bool.{and-true, and_comm}
 use Rattle.bm_base.specs.declared.replica.BlockInfo.{BlockInfo}
@@ -17,26 +16,6 @@ use Rattle.bm_base.proofs.ListTests.{any_map, filter_filter, same_again, has_fil
 use Rattle.cluster_lost.specs.Losses.{after_losses, is_missing, is_lost, has_replica, has_replica_left, lost_blocks, AreMissing}
 use Rattle.cluster_lost.proofs.Tests.{none_if_empty}
 use Rattle.cluster_lost.proofs.Left.{left_law, blocks_stay, missing_is_unusable}
-
-by_tie : (p : ℕ → Bool) (x b : ℕ) (rest : Bool) (t : Bool) → (x == b) ≡ t → ((p x && t) || (p b && rest)) ≡ (p b && (t || rest))
-by_tie p x b rest true e = ap (λ z. (p z && true) || (p b && rest)) (eqb-true x b e) ∙ both (p b) rest
-  where
-    both : (a c : Bool) → ((a && true) || (a && c)) ≡ (a && true)
-    both true c = refl
-    both false c = refl
-by_tie p x b rest false e = neither (p x) (p b && rest)
-  where
-    neither : (a c : Bool) → ((a && false) || c) ≡ c
-    neither true c = refl
-    neither false c = refl
-
-false_and : (a : Bool) → false ≡ (a && false)
-false_and true = refl
-false_and false = refl
-
-any_tied : (p : ℕ → Bool) (xs : List ℕ) (b : ℕ) → list_any (λ x. p x && (x == b)) xs ≡ (p b && has xs b)
-any_tied p [] b = false_and (p b)
-any_tied p (x ∷ xs) b = ap (λ z. (p x && (x == b)) || z) (any_tied p xs b) ∙ by_tie p x b (has xs b) (x == b) refl
 
 filter_each : {X : Type 0} (f g : X → Bool) (xs : List X) → Each (λ x. f x ≡ g x) xs → filter f xs ≡ filter g xs
 filter_each f g [] h = refl

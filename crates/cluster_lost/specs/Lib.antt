@@ -1,2 +1,2 @@
--- Blocks that are lost with nodes and storages.
+-- Blocks that are lost when nodes and storages are.
 pub mod Losses

@@ -1,4 +1,4 @@
--- Blocks that are lost with nodes and storages, if no round is taken between.
+-- Blocks that are lost when nodes and storages are, before any round.
 use Rattle.std.specs.Prelude.{◌≡◌, ℕ, Bool, true, false, not, ◌&&◌, ◌==◌, List, filter, length}
 use Rattle.std.specs.List.{fold, list_any}
 use Rattle.bm_base.specs.declared.event.Event.{Event}
@@ -22,13 +22,13 @@ are_losses es = not (list_any (λ e. not (is_loss e)) es)
 abbrev pub after_losses : State → List Event → State
 after_losses M es = fold after_event M es
 
--- whether an event takes storage s away
+-- whether an event removes storage s
 abbrev pub takes : Cluster → Event → ℕ → Bool
 takes C (Dead n) s = has_storage C n s
 takes C (StorageFailed t) s = s == t
 takes C _ s = false
 
--- whether one of these events takes storage s away
+-- whether one of these events removes storage s
 abbrev pub is_taken : Cluster → List Event → ℕ → Bool
 is_taken C es s = list_any (λ e. takes C e s) es
 
@@ -40,8 +40,7 @@ has_replica_left M es b = list_any (λ s. not (is_taken M.cluster es s)) (usable
 abbrev pub has_replica : State → ℕ → Bool
 has_replica M b = not (length (usable M.holdings b) == 0)
 
--- whether a block is lost: it has usable replicas, and all of them are on storages that are taken
--- away
+-- whether a block is lost: it has usable replicas, and all of them are on removed storages
 abbrev pub is_lost : State → List Event → ℕ → Bool
 is_lost M es b = has_replica M b && not (has_replica_left M es b)
 

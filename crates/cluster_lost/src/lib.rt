@@ -1,8 +1,8 @@
 //! The blocks that are lost with nodes and storages.
 //!
-//! The manager lists the missing blocks before the losses and after them. [`lost_blocks`] takes the
-//! first list from the second. Its contract states the result in an operator's words: the blocks
-//! whose usable replicas were all on lost storages.
+//! The manager lists the missing blocks before the losses and after them. [`lost_blocks`] subtracts
+//! the first list from the second. Its contract states the result in an operator's words: the
+//! blocks whose usable replicas were all on lost storages.
 #![tactic(auto)]
 
 ghost use Rattle.std.specs.Prelude.{◌≡◌, List, IfOk, not, filter};

@@ -1,4 +1,4 @@
--- Laws of paths in a set of texts, and of blocks in a map.
+-- A path that is put into a set of texts has the index at which look-ups find it.
 use Rattle.std.proofs.Common.{◌≡◌, ℕ, ◌+◌, Bool, true, false, not, cond, List, [], ◌∷◌, ◌++◌, ◌||◌, map, Some, None, position, String, string_bytes, refl, sym, ap, ◌∙◌}
 use Rattle.std.specs.List.{list_any, position_or_len}
 use Rattle.std.specs.Str.{bytes_eq}
@@ -7,7 +7,7 @@ use Rattle.std.proofs.lemmas.List.{map_push}
 use Rattle.indexmap.specs.IndexSet.{insert_key}
 use Rattle.cluster_names.specs.Rows.{Text}
 use Rattle.cluster_names.specs.FileTable.{FileTable, path_index, with_path}
-use Rattle.cluster_names.specs.declared.files.FilePlace.{FilePlace}
+use Rattle.cluster_names.specs.declared.files.FileIndex.{FileIndex}
 
 module _ {A B : Type 0} (p : B → Bool) (f : A → B) where
   list_any-map : (xs : List A) → list_any p (map f xs) ≡ list_any (λ x. p (f x)) xs
@@ -49,7 +49,7 @@ same_table f g paths places =
     ap (λ p. let t : FileTable = record { paths = p; places = f.places } in t) paths
     ∙ ap (λ q. let t : FileTable = record { paths = g.paths; places = q } in t) places
 
-pub pushed_same : (es fs : List (ℕ × FilePlace)) (block index m n : ℕ) → es ≡ fs → m ≡ n
+pub pushed_same : (es fs : List (ℕ × FileIndex)) (block index m n : ℕ) → es ≡ fs → m ≡ n
     → es ++ (block, record { file = m; index = index }) ∷ [] ≡ fs ++ (block, record { file = n; index = index }) ∷ []
 pushed_same es fs block index m n same file =
     ap (λ xs. xs ++ (block, record { file = m; index = index }) ∷ []) same

@@ -1,4 +1,4 @@
--- Laws of rows of numbers and names.
+-- Rows of numbers and names stay one to one when a new number with a new name is added.
 use Rattle.std.proofs.Common.{◌≡◌, ℕ, Bool, true, false, cond, List, [], ◌∷◌, ◌++◌, map, find, Option, Some, None, is_some, option_map, nat_eq, string_bytes, refl, sym, ap, subst, ◌∙◌}
 use Rattle.std.specs.Str.{bytes_eq}
 use Rattle.std.proofs.lemmas.Slice.Eq.{bytes_eq-Decides}

@@ -1,21 +1,21 @@
 -- The file of each block.
 use Rattle.std.specs.Prelude.{ℕ, Bool, nat_eq, is_some, List, [], ◌∷◌, ◌++◌, slice_get, Option, option_map, option_and_then, if◌then◌else◌}
-use Rattle.std.specs.List.{list_any, position_or_len, filter_map}
+use Rattle.std.specs.List.{list_any, position_or_len}
 use Rattle.std.specs.Map.{lookup}
 use Rattle.std.specs.Str.{bytes_eq}
 use Rattle.cluster_names.specs.Rows.{Text}
-use Rattle.cluster_names.specs.declared.files.FilePlace.{FilePlace}
+use Rattle.cluster_names.specs.declared.files.FileIndex.{FileIndex}
 
 -- the paths, each once, and the blocks with their places, in the order of their addition
 pub record FileTable : Type 0 where
   pub paths : List Text
-  pub places : List (ℕ × FilePlace)
+  pub places : List (ℕ × FileIndex)
 
 abbrev pub no_blocks : FileTable
 no_blocks = record { paths = []; places = [] }
 
 -- the place of a block
-abbrev pub place_of : FileTable → ℕ → Option FilePlace
+abbrev pub place_of : FileTable → ℕ → Option FileIndex
 place_of f block = lookup (nat_eq block) f.places
 
 abbrev pub has_block : FileTable → ℕ → Bool

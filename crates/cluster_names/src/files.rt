@@ -9,7 +9,7 @@ use std::marker::Model;
 
 /// The place of a block: its file, by the index of its path, and the block's index in the file.
 #[derive(Clone, Copy, Debug, PartialEq, Eq, Drop)]
-pub struct FilePlace {
+pub struct FileIndex {
     pub file: usize,
     pub index: u64,
 }
@@ -19,7 +19,7 @@ pub struct FilePlace {
 #[derive(Drop)]
 pub struct Files {
     paths: IndexSet<String>,
-    places: IndexMap<u64, FilePlace>,
+    places: IndexMap<u64, FileIndex>,
 }
 
 impl Model for Files {
@@ -70,14 +70,14 @@ impl Files {
     }
 
     /// The file of a block, and its index there.
-    pub fn place_of(&self, block: BlockId) -> Option<FilePlace>
+    pub fn find_block(&self, block: BlockId) -> Option<FileIndex>
         ensures { result ≡ place_of self.now block }
     {
         self.places.get(&block.0).copied()
     }
 
     /// The block and its place at an index, in the order of their addition.
-    pub fn get(&self, index: usize) -> Option<(BlockId, FilePlace)>
+    pub fn get(&self, index: usize) -> Option<(BlockId, FileIndex)>
         ensures { result ≡ slice_get self.now.places index }
     {
         let (block, place) = self.places.get_index(index)?;
@@ -88,7 +88,7 @@ impl Files {
     pub fn path_of(&self, block: BlockId) -> Option<(&str, u64)>
         ensures { option_map (λ p. (p.0.now, p.1)) result ≡ path_of self.now block }
     {
-        let place = self.place_of(block)?;
+        let place = self.find_block(block)?;
         let path = self.path(place.file)?;
         Some((path, place.index))
     }
@@ -108,13 +108,13 @@ impl Files {
         if self.places.contains_key(&block.0) {
             return Ok(false);
         }
-        let file = self.file_of(alloc, path)?;
-        self.places.insert(block.0, FilePlace { file, index })?;
+        let file = self.intern_path(alloc, path)?;
+        self.places.insert(block.0, FileIndex { file, index })?;
         Ok(true)
     }
 
     /// The index of a path, which is added if it is new.
-    fn file_of(&mut self, alloc: Global, path: &str) -> Result<usize, AllocError>
+    fn intern_path(&mut self, alloc: Global, path: &str) -> Result<usize, AllocError>
         ensures index { IfOk result (λ at. at ≡ path_index self.old.paths path.now) }
         ensures paths { OnOk result (self.new.paths ≡ with_path self.old.paths path.now) }
         ensures places { self.new.places ≡ self.old.places }

@@ -6,6 +6,6 @@ mod files;
 mod name_table;
 mod names;
 
-pub use files::{FilePlace, Files};
+pub use files::{FileIndex, Files};
 pub use name_table::NameTable;
 pub use names::Names;

@@ -28,18 +28,21 @@ impl Names {
         }
     }
 
+    /// Returns the host of a node, if it has a name.
     pub fn host(&self, node: NodeId) -> Option<&str>
         ensures { option_map (λ t. t.now) result ≡ name_of self.now.nodes node }
     {
         self.nodes.name(node.0)
     }
 
+    /// Returns the name of a rack, if it has one.
     pub fn rack(&self, rack: Rack) -> Option<&str>
         ensures { option_map (λ t. t.now) result ≡ name_of self.now.racks rack }
     {
         self.racks.name(rack.0)
     }
 
+    /// Returns the name of a storage, if it has one.
     pub fn storage(&self, storage: StorageId) -> Option<&str>
         ensures { option_map (λ t. t.now) result ≡ name_of self.now.storages storage }
     {

@@ -1,5 +1,5 @@
 -- The counts of blocks by file stay right as blocks are counted.
-use Rattle.std.proofs.Common.{◌≡◌, ◌≢◌, ◌≤◌, ℕ, ◌+◌, ◌-◌, ◌<◌, ◌^◌, min, Bool, true, false, cond, ◌==◌, List, [], ◌∷◌, Option, Some, None, length, take, set, get_or, replicate, arith, refl, sym, ap, subst, ◌∙◌}
+use Rattle.std.proofs.Common.{◌≡◌, ◌≢◌, ℕ, ◌+◌, ◌-◌, ◌<◌, ◌^◌, min, Bool, true, false, cond, ◌==◌, List, [], Option, Some, None, length, take, set, get_or, replicate, arith, refl, sym, ap, subst, ◌∙◌}
 use Rattle.std.specs.Prelude.{nat_lt, count_by}
 use Rattle.std.specs.Option.{option_map_or}
 use Rattle.std.proofs.lemmas.Bool.{eqb-true, eqb-false, lt-ltb}
@@ -7,7 +7,7 @@ use Rattle.std.proofs.lemmas.Grind.{get_or-set_at}
 use Rattle.std.proofs.lemmas.List.{get_or-set_other, get_or-replicate, length-set, length-take, length-replicate}
 use Rattle.std.proofs.lemmas.List.Sums.{count_by_more_yes, count_by_more_no, count_by-le-length}
 use Rattle.cluster_names.specs.FileTable.{FileTable, place_of}
-use Rattle.cluster_names.specs.declared.files.FilePlace.{FilePlace}
+use Rattle.cluster_names.specs.declared.files.FileIndex.{FileIndex}
 use Rattle.cluster_pages.specs.AtRisk.{AreCounts, is_in, with_one, with_place}
 
 module _ (counts : List ℕ) (i : ℕ) where
@@ -37,7 +37,7 @@ counted_more f blocks old new i d lt fits so_far e = by (place_of f (get_or bloc
     few : (file : ℕ) → file < length f.paths → get_or old file 0 < 2 ^ 64 - 1
     few file at = omega (arith, so_far.each file at, count_by-le-length (is_in f file) (take i blocks), length-take i blocks, fits)
 
-    here : (p : FilePlace) → place_of f (get_or blocks i d) ≡ Some p → (file : ℕ) → file < length f.paths → (same : Bool) → (p.file == file) ≡ same
+    here : (p : FileIndex) → place_of f (get_or blocks i d) ≡ Some p → (file : ℕ) → file < length f.paths → (same : Bool) → (p.file == file) ≡ same
         → get_or (with_one old p.file) file 0 ≡ count_by (is_in f file) (take (i + 1) blocks)
     here p is file at true same =
         let this : p.file ≡ file = eqb-true p.file file same in
@@ -52,7 +52,7 @@ counted_more f blocks old new i d lt fits so_far e = by (place_of f (get_or bloc
         ∙ so_far.each file at
         ∙ sym (count_by_more_no (is_in f file) blocks i d lt (ap (λ o. option_map_or (λ q. q.file == file) o false) is ∙ other))
 
-    by : (o : Option FilePlace) → place_of f (get_or blocks i d) ≡ o → new ≡ with_place o old → AreCounts f (take (i + 1) blocks) new
+    by : (o : Option FileIndex) → place_of f (get_or blocks i d) ≡ o → new ≡ with_place o old → AreCounts f (take (i + 1) blocks) new
     by None is same = record {
       all = ap length same ∙ so_far.all;
       each = λ file at.

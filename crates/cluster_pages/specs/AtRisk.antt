@@ -4,7 +4,7 @@ use Rattle.std.specs.Option.{option_map_or}
 use Rattle.std.specs.List.{enumerate_from}
 use Rattle.bm_base.specs.declared.level.Level.TheVariants.{Highest}
 use Rattle.cluster_names.specs.FileTable.{FileTable, place_of}
-use Rattle.cluster_names.specs.declared.files.FilePlace.{FilePlace}
+use Rattle.cluster_names.specs.declared.files.FileIndex.{FileIndex}
 use Rattle.cluster_report.specs.Levels.{all_at}
 use Rattle.cluster_report.specs.declared.levels.Leveled.{Leveled}
 use Rattle.cluster_pages.specs.declared.at_risk.AtRisk.{AtRisk}
@@ -15,7 +15,7 @@ abbrev pub with_one : List ℕ → ℕ → List ℕ
 with_one counts i = if nat_lt i (length counts) then set counts i (min (get_or counts i 0 + 1) (2 ^ 64 - 1)) else counts
 
 -- counts the block with this place
-abbrev pub with_place : Option FilePlace → List ℕ → List ℕ
+abbrev pub with_place : Option FileIndex → List ℕ → List ℕ
 with_place None counts = counts
 with_place (Some p) counts = with_one counts p.file
 

@@ -4,7 +4,7 @@ ghost use Rattle.bm_base.specs.Machine.Levels.{is_at};
 ghost use Rattle.cluster_pages.specs.AtRisk.{AreAtRisk, AreCounts, highest_of, rows_of, rows_without, with_one, with_place};
 
 use bm_base::{BlockId, Items, Level};
-use cluster_names::{FilePlace, Files};
+use cluster_names::{FileIndex, Files};
 use cluster_report::levels::Leveled;
 use std::alloc::{AllocError, Global};
 
@@ -77,7 +77,7 @@ fn count_by_file(alloc: Global, files: &Files, blocks: &[BlockId]) -> Result<Vec
 {
     let mut counts = no_counts(alloc, files.file_count())?;
     for block in blocks {
-        count_place(&mut counts, files.place_of(*block));
+        count_place(&mut counts, files.find_block(*block));
     }
     Ok(counts)
 }
@@ -89,7 +89,7 @@ fn no_counts(alloc: Global, files: usize) -> Result<Vec<usize>, AllocError>
 }
 
 /// Counts the block with this place, if it has one.
-fn count_place(counts: &mut Vec<usize>, place: Option<FilePlace>)
+fn count_place(counts: &mut Vec<usize>, place: Option<FileIndex>)
     ensures { counts.new.items ≡ with_place place counts.old.items }
 {
     if let Some(place) = place {

@@ -7,8 +7,8 @@
 //! ```
 //!
 //! The report has a line for each fact (docs/CLUSTERS.md). An input line that asks for no call, or
-//! whose call is refused, gets a note with its number on standard error. The report is printed all
-//! the same.
+//! whose call is refused, gets a note with its number on standard error. The report is printed
+//! nevertheless.
 //!
 //! The numbers of the stored run of `puljemrod_cluster` follow from the rules. Nodes 1, 2 and 5 are
 //! on rack 1, nodes 3 and 4 on rack 2. Nodes 2 and 5 drain; node 5 has no replica, so it is
@@ -55,12 +55,12 @@ ghost use Rattle.cluster_pages.specs.Output.{IsClusterReport};
 use clap::Error;
 use clap::error::ErrorKind;
 use cluster_input::loaded_cluster::Loaded;
-use cluster_input::options::{asked_of, files_of};
+use cluster_input::options::{files_of, parse_load_options};
 use cluster_input::sources::load;
 use json::make_json;
 use options::{Form, form_of, matches_of, wrong_value};
 use output::{
-    ClusterReport, PrintFault, make_report, print_report, say_print_fault, write_flushed,
+    ClusterReport, PrintFault, make_report, print_output_fault, print_report, write_flushed,
 };
 use page::make_page;
 use page_file::write_page;
@@ -89,12 +89,12 @@ pub fn report_by_words<
     let alloc: Global = rt.alloc();
     let matches = match matches_of(alloc, words) {
         Ok(matches) => matches,
-        Err(error) => return say_error(rt, &error),
+        Err(error) => return print_error(rt, &error),
     };
-    let Some(asked) = asked_of(&matches) else {
+    let Some(asked) = parse_load_options(&matches) else {
         return match wrong_value(alloc) {
-            Ok(error) => say_error(rt, &error),
-            Err(_) => say_memory(rt),
+            Ok(error) => print_error(rt, &error),
+            Err(_) => print_out_of_memory(rt),
         };
     };
     match load(rt, notes, PROGRAM, &asked, files_of(&matches)) {
@@ -108,15 +108,15 @@ pub fn report_by_words<
 }
 
 /// Prints why there is no report.
-fn say_error<R: Print + Eprint>(rt: &R, error: &Error) -> u8 {
+fn print_error<R: Print + Eprint>(rt: &R, error: &Error) -> u8 {
     if matches!(error.kind(), ErrorKind::OutOfMemory) {
-        return say_memory(rt);
+        return print_out_of_memory(rt);
     }
     let _ = error.print(rt);
     if error.use_stderr() { MISUSED } else { DONE }
 }
 
-fn say_memory<R: Eprint>(rt: &R) -> u8 {
+fn print_out_of_memory<R: Eprint>(rt: &R) -> u8 {
     let _ = rt.eprintln(format_args!("{PROGRAM}: memory fault"));
     FAULTED
 }
@@ -130,7 +130,7 @@ fn report_on<R: Print + Eprint + Files + AllocGlobal>(
 {
     let alloc: Global = rt.alloc();
     let Ok(cluster) = make_report(alloc, loaded) else {
-        return say_memory(rt);
+        return print_out_of_memory(rt);
     };
     let status = write_report(rt, loaded, form, &cluster);
     drop(cluster);
@@ -149,7 +149,7 @@ fn write_report<R: Print + Eprint + Files + AllocGlobal>(
     let alloc: Global = rt.alloc();
     if let Some(path) = form.page {
         let Ok(page) = make_page(alloc, loaded, form.most, cluster) else {
-            return say_memory(rt);
+            return print_out_of_memory(rt);
         };
         if !write_page(rt, PROGRAM, path, page) {
             return FAULTED;
@@ -164,7 +164,7 @@ fn write_report<R: Print + Eprint + Files + AllocGlobal>(
     match printed {
         Ok(()) => DONE,
         Err(fault) => {
-            say_print_fault(rt, PROGRAM, &fault);
+            print_output_fault(rt, PROGRAM, &fault);
             FAULTED
         }
     }

@@ -7,7 +7,7 @@ ghost use Rattle.cluster_pages.specs.Output.{IsReportOn, PrintsReport, IsCluster
 use crate::at_risk::{AtRisk, files_at_risk};
 use crate::text::report_text;
 use cluster_input::loaded_cluster::Loaded;
-use cluster_report::report::{Report, report_of};
+use cluster_report::report::{Report, build_report};
 use std::alloc::{AllocError, Global};
 use std::io;
 use std::io::Write;
@@ -25,7 +25,7 @@ pub fn make_report(alloc: Global, loaded: &Loaded) -> Result<ClusterReport, Allo
     requires { IsInStep loaded.now.session }
     ensures { IfOk result (λ s. IsClusterReport loaded.now s) }
 {
-    let Ok(report) = report_of(alloc, &loaded.session.manager, &loaded.session.book) else {
+    let Ok(report) = build_report(alloc, &loaded.session.manager, &loaded.session.book) else {
         return Err(AllocError);
     };
     let risk = files_at_risk(
@@ -79,8 +79,8 @@ impl From<AllocError> for PrintFault {
     }
 }
 
-/// Says why a text was not printed; nothing if its reader went away.
-pub fn say_print_fault<R: Eprint>(rt: &R, program: &str, fault: &PrintFault) {
+/// Prints why the report was not printed; nothing if the reader of the pipe went away.
+pub fn print_output_fault<R: Eprint>(rt: &R, program: &str, fault: &PrintFault) {
     let is_unread = match fault {
         PrintFault::Write(error) => error.kind() == io::ErrorKind::BrokenPipe,
         PrintFault::Memory => false,

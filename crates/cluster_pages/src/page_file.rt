@@ -2,7 +2,7 @@
 use std::fs;
 use std::rt::Files;
 
-/// Writes a page to the file at `path`, and says why it could not. Whether it was written.
+/// Writes a page to the file at `path`; prints why if that fails. Returns whether it succeeded.
 pub fn write_page<R: Eprint + Files>(rt: &R, program: &str, path: &str, page: String) -> bool {
     match fs::write(rt, path, page) {
         Ok(()) => true,

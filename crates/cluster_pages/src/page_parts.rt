@@ -167,7 +167,7 @@ pub fn write_file_table(
     write_rest(text, rows.len(), most)
 }
 
-/// How many of a list are named.
+/// A note if a list is empty, or is not shown whole.
 pub fn write_rest(text: &mut String, count: usize, most: usize) -> Result<(), AllocError> {
     if count == 0 {
         return text.push_str("<p class=\"none\">none</p>\n");

@@ -187,6 +187,7 @@ pub fn first_of<T>(items: &[T], most: usize) -> &[T]
     }
 }
 
+/// Returns the number of blocks, with and without a level.
 pub fn all_blocks(levels: &LevelCounts) -> u128
     ensures { result ≡ all_blocks levels.now }
 {
@@ -198,6 +199,7 @@ pub fn all_blocks(levels: &LevelCounts) -> u128
         + levels.none as u128
 }
 
+/// Returns the bytes of all blocks, each counted once; at most 2^128 - 1.
 pub fn all_block_bytes(bytes: &LevelBytes) -> u128
     ensures { result ≡ all_block_bytes bytes.now }
 {
@@ -210,6 +212,7 @@ pub fn all_block_bytes(bytes: &LevelBytes) -> u128
         .saturating_add(bytes.none)
 }
 
+/// Returns the bytes of all replicas; at most 2^128 - 1. Stray replicas count none.
 pub fn all_replica_bytes(bytes: &TagBytes) -> u128
     ensures { result ≡ all_replica_bytes bytes.now }
 {
@@ -219,6 +222,7 @@ pub fn all_replica_bytes(bytes: &TagBytes) -> u128
         .saturating_add(bytes.bad)
 }
 
+/// Returns the number of replicas of all tags.
 pub fn all_replicas(tags: &TagCounts) -> u128
     ensures { result ≡ all_replicas tags.now }
 {

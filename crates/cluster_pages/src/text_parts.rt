@@ -60,6 +60,7 @@ pub fn thousandths(count: u128, total: u128) -> u128
     count.saturating_mul(1000) / total.max(1)
 }
 
+/// Appends a line for each node and for each of its storages; `all` is the bytes of all replicas.
 pub fn write_nodes(
     text: &mut String,
     names: &Names,
@@ -157,6 +158,7 @@ fn write_held(
     write!(text, " remaining {remaining}\n")
 }
 
+/// Returns the word for a node's state.
 pub fn state_word(state: NodeState) -> &'static str
     ensures { result.now ≡ state_word state }
 {
@@ -189,7 +191,7 @@ pub fn bytes_on(rows: &[StorageRow]) -> u128
     total
 }
 
-/// The bytes that are left on these storages.
+/// The free bytes on these storages.
 pub fn remaining_on(rows: &[StorageRow]) -> u128
     ensures { result ≡ sum_by (λ s. s.remaining) rows.now }
 {
@@ -236,6 +238,7 @@ fn write_storage_line(
     )
 }
 
+/// Appends a line for each missing block, with its file if that is known.
 pub fn write_missing(text: &mut String, files: &Files, blocks: &[BlockId]) -> Result<(), AllocError>
     ensures { OnOk result (string_bytes text.new ≡ string_bytes text.old
         ++ flat_map (missing_line files.now) blocks.now) }
@@ -267,6 +270,7 @@ fn write_end(text: &mut String, place: Option<(&str, u64)>) -> Result<(), AllocE
     }
 }
 
+/// Appends a line for each block that has a level, with its file if that is known.
 pub fn write_urgent(text: &mut String, files: &Files, blocks: &[Leveled]) -> Result<(), AllocError>
     ensures { OnOk result (string_bytes text.new ≡ string_bytes text.old
         ++ flat_map (urgent_line files.now) blocks.now) }
@@ -303,6 +307,7 @@ fn write_level_line(
     write_end(text, files.path_of(block))
 }
 
+/// Returns the word for a level.
 pub fn level_word(level: Level) -> &'static str
     ensures { result.now ≡ level_word level }
 {
@@ -315,6 +320,7 @@ pub fn level_word(level: Level) -> &'static str
     }
 }
 
+/// Appends a line for each file, which begins with `what`.
 pub fn write_files(
     text: &mut String,
     what: &str,

@@ -1,4 +1,4 @@
--- Copies on their way, each once.
+-- Each copy on its way is listed once, after copies are added and after arrived ones leave.
 use Rattle.std.proofs.Common.{◌≡◌, ◌∙◌, ◌++◌, ◌∷◌, [], ◌+◌, ℕ, Bool, true, false, not, cond, List, ltb, refl, sym, ap, arith, filter}
 use Rattle.std.specs.Prelude.{◌==◌, ◌&&◌, ◌||◌, nat_lt, count_by, if◌then◌else◌}
 use Rattle.std.specs.List.{list_any}

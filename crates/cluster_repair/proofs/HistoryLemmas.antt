@@ -1,4 +1,4 @@
--- Rounds that are taken, from one to the next.
+-- Each round of a repair extends its history by one round, at its tick.
 use Rattle.std.proofs.Common.{◌≡◌, ◌∙◌, ◌++◌, ℕ, ◌+◌, Bool, true, false, Option, Some, None, List, [], ◌∷◌, refl, sym, ap, subst, length, arith}
 use Rattle.std.specs.Prelude.{◌<◌, ◌/◌, ◌==◌, ◌&&◌, ◌||◌, is_some, nat_le, if◌then◌else◌}
 use Rattle.std.specs.Option.{option_map_or}
@@ -14,7 +14,7 @@ use Rattle.cluster_repair.specs.declared.repair.Repair.{Repair}
 use Rattle.cluster_repair.specs.declared.repair.Retirement.{Retirement}
 use Rattle.cluster_repair.specs.declared.rows.Row.{Row}
 use Rattle.cluster_repair.specs.declared.ticks.Ticks.{Ticks}
-use Rattle.cluster_repair.specs.History.{AreOf, ComesAt, GoesOn, HasTaken, IsTaken, Taken, are_idle, awaited_rounds, copies_of, datanodes_of, time_of}
+use Rattle.cluster_repair.specs.History.{AreOf, ComesAt, GoesOn, HasTaken, IsTaken, RoundRecord, are_idle, awaited_rounds, copies_of, datanodes_of, time_of}
 use Rattle.cluster_repair.specs.Reports.{HaveReported}
 use Rattle.cluster_repair.specs.Retirements.{note_at, noted}
 use Rattle.cluster_repair.specs.Rows.{AreCounts, IsRowOf, is_over}
@@ -28,7 +28,7 @@ lengths : (blocks : Catalogue) (C : Cluster) (n : ℕ) (M : State) → AreOf C b
 lengths blocks C n M of = λ i b. option_map_or (λ (info : BlockInfo). info.stamp.len) (of.lists b i) 0
 
 -- a repair that is not over goes on
-goes_on_after : (M : State) (d : DataNodes) (taken : List Taken) (n rounds : ℕ) (e : DataNodes) → n ≡ awaited_rounds M.holdings.pending M.limits.pend → rounds ≡ length taken
+goes_on_after : (M : State) (d : DataNodes) (taken : List RoundRecord) (n rounds : ℕ) (e : DataNodes) → n ≡ awaited_rounds M.holdings.pending M.limits.pend → rounds ≡ length taken
     → e ≡ datanodes_of d taken → (0 < rounds → (nat_le n rounds && are_idle e) ≡ false) → GoesOn M taken
 goes_on_after M d [] n rounds e awaited number same going = tt
 goes_on_after M d (last ∷ before) n rounds e awaited number same going =
@@ -40,7 +40,7 @@ module _ (ticks : Ticks) (M : State) (d : DataNodes) (K L : State) (C : Cluster)
   abbrev pub begun_there : AreBegun M.cluster now (transfers_in (whole_round L).0) mid new.datanodes
   begun_there = subst (λ (D : Cluster). AreBegun D now (transfers_in (whole_round L).0) mid new.datanodes) of.cluster begun
 
-  abbrev pub round_taken : Taken
+  abbrev pub round_taken : RoundRecord
   round_taken = record { time = now; state = L; copies = begun_there.copies; datanodes = new.datanodes }
 
   pub is_taken : IsTaken ticks M d has_taken.taken round_taken
@@ -102,12 +102,12 @@ none_taken : (n : ℕ) → 0 < n → n ≡ 0 → ⊥
 none_taken n above none = omega (arith, above, none)
 
 -- the first round comes at once
-pub comes_first : (ticks : Ticks) (taken : List Taken) (rounds : ℕ) → rounds ≡ length taken → rounds ≡ 0 → ComesAt ticks taken 0
+pub comes_first : (ticks : Ticks) (taken : List RoundRecord) (rounds : ℕ) → rounds ≡ length taken → rounds ≡ 0 → ComesAt ticks taken 0
 comes_first ticks [] rounds number none = refl
 comes_first ticks (last ∷ before) rounds number none = absurd (none_taken rounds (omega (arith, number)) none)
 
 -- and each other at its tick
-pub comes_next : (ticks : Ticks) (d : DataNodes) (taken : List Taken) (rounds now next : ℕ) (e : DataNodes) → 0 < rounds → rounds ≡ length taken → now ≡ time_of taken
+pub comes_next : (ticks : Ticks) (d : DataNodes) (taken : List RoundRecord) (rounds now next : ℕ) (e : DataNodes) → 0 < rounds → rounds ≡ length taken → now ≡ time_of taken
     → e ≡ datanodes_of d taken → IsNextTick ticks e.on_way.sent.items now next → ComesAt ticks taken next
 comes_next ticks d [] rounds now next e above number time is = absurd (none_taken rounds above number)
 comes_next ticks d (last ∷ before) rounds now next e above number time is =

@@ -1,4 +1,4 @@
--- Lemmas.
+-- Lemmas on repairs: rounds, copies on their way, ticks, watched blocks, rows and notes.
 pub mod Reach
 pub mod NumberLemmas
 pub mod CopyLemmas

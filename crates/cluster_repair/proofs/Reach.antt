@@ -1,4 +1,5 @@
--- How reports and rounds lead from one state to another, and what is noted on the way.
+-- Reports and rounds, one after another, lead from the first state to the last, and rows and notes
+-- hold of the states between.
 use Rattle.std.proofs.Common.{◌≡◌, ◌∙◌, ◌++◌, ℕ, ◌+◌, ◌≤◌, true, not, List, [], ◌∷◌, None, refl, sym, ap, subst, length, map, take, take_all, get_or, arith}
 use Rattle.std.specs.Prelude.{◌<◌, ◌/◌, ◌&&◌, false, nat_le}
 use Rattle.std.specs.List.{filter}
@@ -24,7 +25,7 @@ use Rattle.cluster_repair.specs.declared.repair.Repair.{Repair}
 use Rattle.cluster_repair.specs.declared.on_way.Sent.{Sent}
 use Rattle.cluster_repair.specs.declared.datanodes.DataNodes.{DataNodes}
 use Rattle.cluster_repair.specs.declared.ticks.Ticks.{Ticks}
-use Rattle.cluster_repair.specs.History.{AreAtStart, AreOf, ComesAt, HasTaken, Taken, are_idle}
+use Rattle.cluster_repair.specs.History.{AreAtStart, AreOf, ComesAt, HasTaken, RoundRecord, are_idle}
 use Rattle.cluster_repair.specs.Reports.{HaveReported, IsReached, after_events, deleted, heartbeat_of, received, reports_of}
 use Rattle.cluster_repair.specs.Retirements.{AreAnswered, is_retired_in, note_at, noted, retired_since, retirement_of}
 use Rattle.cluster_repair.specs.Sending.{remaining_in}
@@ -123,27 +124,27 @@ reported_in_turn due ss ds es f K L M N xs ys zs copies deletes first second thi
 
 -- Rows.
 
-no_rows : (M : State) (d : DataNodes) (taken : List Taken) → AreRowsAmong M d taken []
+no_rows : (M : State) (d : DataNodes) (taken : List RoundRecord) → AreRowsAmong M d taken []
 no_rows M d taken = record { all = All-nil (IsRowAmong M d taken) }
 
-pub rows_and : (M : State) (d : DataNodes) (taken : List Taken) (rows new : List Row) (row : Row) → new ≡ rows ++ row ∷ [] → AreRowsAmong M d taken rows
+pub rows_and : (M : State) (d : DataNodes) (taken : List RoundRecord) (rows new : List Row) (row : Row) → new ≡ rows ++ row ∷ [] → AreRowsAmong M d taken rows
     → IsRowAmong M d taken row → AreRowsAmong M d taken new
 rows_and M d taken rows new row is before one = record {
   all = All-same (IsRowAmong M d taken) new _ is (All-push (IsRowAmong M d taken) rows row before.all one);
 }
 
-pub rows_among : (M : State) (d : DataNodes) (taken : List Taken) (rows new : List Row) (stride : ℕ) → new ≡ filter (λ r. is_on_stride r.round stride) rows
+pub rows_among : (M : State) (d : DataNodes) (taken : List RoundRecord) (rows new : List Row) (stride : ℕ) → new ≡ filter (λ r. is_on_stride r.round stride) rows
     → AreRowsAmong M d taken rows → AreRowsAmong M d taken new
 rows_among M d taken rows new stride is before = record {
   all = All-same (IsRowAmong M d taken) new _ is (All-filter (λ r. is_on_stride r.round stride) (IsRowAmong M d taken) rows before.all);
 }
 
 -- after one more round
-row_later : (M : State) (d : DataNodes) (taken : List Taken) (round : Taken) (row : Row) → IsRowAmong M d taken row → IsRowAmong M d (round ∷ taken) row
+row_later : (M : State) (d : DataNodes) (taken : List RoundRecord) (round : RoundRecord) (row : Row) → IsRowAmong M d taken row → IsRowAmong M d (round ∷ taken) row
 row_later M d taken round row among =
-    record { later = round ∷ among.later; before = among.before; parts = ap (λ (rs : List Taken). round ∷ rs) among.parts; reached = among.reached; is = among.is }
+    record { later = round ∷ among.later; before = among.before; parts = ap (λ (rs : List RoundRecord). round ∷ rs) among.parts; reached = among.reached; is = among.is }
 
-rows_later : (M : State) (d : DataNodes) (taken : List Taken) (round : Taken) (rows : List Row) → AreRowsAmong M d taken rows → AreRowsAmong M d (round ∷ taken) rows
+rows_later : (M : State) (d : DataNodes) (taken : List RoundRecord) (round : RoundRecord) (rows : List Row) → AreRowsAmong M d taken rows → AreRowsAmong M d (round ∷ taken) rows
 rows_later M d taken round rows among = record { all = λ k e below. row_later M d taken round (get_or rows k e) (among.all k e below) }
 
 -- Rounds.
@@ -186,7 +187,7 @@ under_way_by_round ticks M d C blocks most K L N old new mid k now of going acce
 -- a row
 pub noted_row : (ticks : Ticks) (M : State) (d : DataNodes) (N : State) (old new : Repair) (row : Row) → AreCounts N row.levels → row.round ≡ old.rounds → row.seconds ≡ old.time / 1000000
     → row.commanded ≡ old.commanded → row.on_way ≡ length old.datanodes.on_way.sent.items → 0 < old.rounds → AreLeveled N new.watch.blocks.items
-    → ((taken : List Taken) → AreRowsAmong M d taken old.rows.rows.items → IsRowAmong M d taken row → AreRowsAmong M d taken new.rows.rows.items) → EndsWith new.rows.rows.items row
+    → ((taken : List RoundRecord) → AreRowsAmong M d taken old.rows.rows.items → IsRowAmong M d taken row → AreRowsAmong M d taken new.rows.rows.items) → EndsWith new.rows.rows.items row
     → new.rounds ≡ old.rounds → new.time ≡ old.time → new.commanded ≡ old.commanded → new.datanodes ≡ old.datanodes → new.drained ≡ old.drained → new.retired ≡ old.retired
     → IsUnderWay ticks M d N old → IsNoted ticks M d N new
 noted_row ticks M d N old new row counts round seconds commanded on_way some blocks rows ends rounds now same_commanded same drained retired on =

@@ -1,4 +1,5 @@
--- Why blocks stay as they are.
+-- Each block that stays unrepaired gets its defined reason from its replicas, which two binary
+-- searches find.
 use Rattle.std.proofs.Common.{◌≡◌, ◌∙◌, ◌++◌, ◌∷◌, [], ◌<◌, ◌≤◌, ℕ, Bool, true, false, List, sym, ap, subst, arith, length, take, drop, filter, get_or, inl, inr, ⊎_elim}
 use Rattle.std.specs.Prelude.{◌==◌, ◌⊎◌, AllPairs, nat_lt, nat_le}
 use Rattle.std.specs.List.Sorted.{IsNonDecreasingBy, IsPartitionPoint}

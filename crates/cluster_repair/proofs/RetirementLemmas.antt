@@ -1,11 +1,12 @@
--- Notes about retired nodes.
+-- The note of a node after a round follows from its note before and from the manager's answer.
 use Rattle.std.proofs.Common.{◌≡◌, ◌∙◌, ◌++◌, ◌+◌, ◌<◌, ◌≤◌, ℕ, Bool, true, false, not, cond, List, [], ◌∷◌, Option, Some, None, refl, sym, ap, eqb, length, take, take_all, get_or, filter}
 use Rattle.std.specs.Prelude.{◌==◌, ◌||◌, nat_eq, is_some, if◌then◌else◌}
 use Rattle.std.specs.Option.{option_or}
-use Rattle.std.proofs.lemmas.Bool.{eqb-true, true≢false}
+use Rattle.std.proofs.lemmas.Bool.{eqb-true}
 use Rattle.std.proofs.lemmas.List.Folds.{find-append, list_any_more}
 use Rattle.bm_base.specs.Words.{State, has}
 use Rattle.bm_base.proofs.Clusters.{eqb_turned}
+use Rattle.bm_base.proofs.Options.{not_there}
 use Rattle.cluster_repair.specs.declared.repair.Retirement.{Retirement}
 use Rattle.cluster_repair.specs.Retirements.{is_retired_in, note_at, noted, retirement_of}
 
@@ -45,17 +46,13 @@ first_noted true said new old x t is none same added =
     added ∙ ap (λ o. option_or o (Some x)) (none refl) ∙ ap Some (same refl) ∙ sym (ap (λ b. noted b old t) (is refl) ∙ ap (λ o. noted true o t) (none refl))
 first_noted false said new old x t is none same added = added ∙ or_none old
 
-absent : (o : Option Retirement) → is_some o ≡ false → o ≡ None
-absent None e = refl
-absent (Some t) e = absurd (true≢false e)
-
 pub answered_yes : (M : State) (node n rounds seconds : ℕ) (ts new : List Retirement) → is_retired_in M node ≡ true → is_some (retirement_of ts node) ≡ false
     → new ≡ ts ++ note_at node rounds seconds ∷ []
     → retirement_of new n ≡ (if nat_eq node n then noted (is_retired_in M n) (retirement_of ts n) (note_at n rounds seconds) else retirement_of ts n)
 answered_yes M node n rounds seconds ts new said none is =
     first_noted (nat_eq node n) (is_retired_in M n) (retirement_of new n) (retirement_of ts n) (note_at node rounds seconds) (note_at n rounds seconds)
     (λ e. ap (is_retired_in M) (sym (eqb-true node n e)) ∙ said)
-    (λ e. ap (retirement_of ts) (sym (eqb-true node n e)) ∙ absent (retirement_of ts node) none)
+    (λ e. ap (retirement_of ts) (sym (eqb-true node n e)) ∙ not_there (retirement_of ts node) none)
     (λ e. ap (λ k. note_at k rounds seconds) (eqb-true node n e))
     (ap (λ us. retirement_of us n) is ∙ find-append (λ (t : Retirement). nat_eq t.node n) ts (note_at node rounds seconds ∷ []))
 

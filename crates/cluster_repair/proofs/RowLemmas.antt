@@ -1,4 +1,4 @@
--- Rows in the order of their rounds.
+-- Rows stay in the order of their rounds when one is added and when every second one is dropped.
 use Rattle.std.proofs.Common.{◌≡◌, ◌∙◌, ◌++◌, ℕ, zero, suc, ◌+◌, ◌*◌, ◌<◌, ◌≤◌, Bool, true, false, List, [], ◌∷◌, length, refl, sym, ap, subst, eq-eqb, arith}
 use Rattle.std.specs.Prelude.{◌-◌, ◌%◌, ◌==◌, ◌||◌, max}
 use Rattle.std.specs.List.{All, AllPairs, filter, list_any}

@@ -1,4 +1,4 @@
--- Copies on their way as time goes on.
+-- As time goes on no more copies are on their way, so the tick that is computed is the next one.
 use Rattle.std.proofs.Common.{◌≡◌, ℕ, ◌≤◌, ◌<◌, ◌+◌, ◌-◌, ◌*◌, List, [], ◌∷◌, ◌∙◌, false, cond, sym, ap, subst, take, length, get_or, arith}
 use Rattle.std.specs.Prelude.{nat_lt, max, min}
 use Rattle.std.specs.Int.{div_ceil}

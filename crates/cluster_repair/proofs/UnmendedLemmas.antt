@@ -1,4 +1,4 @@
--- The blocks that stay as they are.
+-- The blocks that are found to stay unrepaired are exactly the blocks with a level.
 use Rattle.std.proofs.Common.{◌≡◌, ◌∙◌, ℕ, List, [], Some, sym, ap, subst, map, filter}
 use Rattle.std.specs.Prelude.{◌&&◌}
 use Rattle.std.specs.List.Sorted.{IsStrictlyIncreasing}

@@ -21,6 +21,6 @@ holds_target targets b t = list_any (λ p. (b == p.0) && (t == p.1)) targets.key
 abbrev pub has_arrived : ℕ → Sent → Bool
 has_arrived now s = nat_le s.arrival now
 
--- when a copy arrives, and which it is of all copies
+-- sort key: arrival time, then the copy's index
 abbrev pub when : Sent → ℕ × ℕ
 when s = (s.arrival, s.order)

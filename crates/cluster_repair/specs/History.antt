@@ -15,7 +15,7 @@ use Rattle.cluster_repair.specs.Ticks.{IsNextTick}
 
 -- A round: when it came, and the manager then, after the reports; the copies that DataNodes began,
 -- and DataNodes after it.
-pub record Taken : Type 0 where
+pub record RoundRecord : Type 0 where
   pub time : ℕ
   pub state : State
   pub copies : List Sent
@@ -25,36 +25,36 @@ pub record Taken : Type 0 where
 -- DataNodes.
 
 -- the manager after these rounds
-abbrev pub state_of : State → List Taken → State
+abbrev pub state_of : State → List RoundRecord → State
 state_of M [] = M
 state_of M (last ∷ before) = count_call (whole_round last.state).1
 
 -- DataNodes after these rounds
-abbrev pub datanodes_of : DataNodes → List Taken → DataNodes
+abbrev pub datanodes_of : DataNodes → List RoundRecord → DataNodes
 datanodes_of d [] = d
 datanodes_of d (last ∷ before) = last.datanodes
 
--- when the last was
-abbrev pub time_of : List Taken → ℕ
+-- the time of the last round
+abbrev pub time_of : List RoundRecord → ℕ
 time_of [] = 0
 time_of (last ∷ before) = last.time
 
--- how many copies the last commanded
-abbrev pub commanded_of : List Taken → ℕ
+-- the number of copies that the last round commanded
+abbrev pub commanded_of : List RoundRecord → ℕ
 commanded_of [] = 0
 commanded_of (last ∷ before) = copies_in (whole_round last.state).0
 
 -- all copies that DataNodes began
-abbrev pub copies_of : List Taken → List Sent
+abbrev pub copies_of : List RoundRecord → List Sent
 copies_of [] = []
 copies_of (last ∷ before) = copies_of before ++ last.copies
 
 -- the round after these comes at this time
-abbrev pub ComesAt : Ticks → List Taken → ℕ → Type 0
+abbrev pub ComesAt : Ticks → List RoundRecord → ℕ → Type 0
 ComesAt ticks [] t = t ≡ 0
 ComesAt ticks (last ∷ before) t = IsNextTick ticks last.datanodes.on_way.sent.items last.time t
 
--- for how many rounds a manager awaits these pending copies
+-- the number of rounds after which these pending copies have expired
 abbrev pub awaited_rounds : Map by_replica ℕ → ℕ → ℕ
 awaited_rounds pending pend = if len pending == 0 then 0 else pend
 
@@ -62,15 +62,15 @@ awaited_rounds pending pend = if len pending == 0 then 0 else pend
 abbrev pub are_idle : DataNodes → Bool
 are_idle d = (length d.on_way.sent.items == 0) && (length d.deletes.items == 0)
 
--- another round comes after these: a copy is awaited that was commanded before, or DataNodes have
--- something to do
-abbrev pub GoesOn : State → List Taken → Type 0
+-- another round comes after these: an older copy is still pending, or DataNodes have something to
+-- do
+abbrev pub GoesOn : State → List RoundRecord → Type 0
 GoesOn M [] = Unit {0}
 GoesOn M (last ∷ before) = (nat_le (awaited_rounds M.holdings.pending M.limits.pend) (length (last ∷ before)) && are_idle last.datanodes) ≡ false
 
 -- A round after others: DataNodes report what they have done, the manager commands, and DataNodes
 -- begin it.
-pub record IsTaken (ticks : Ticks) (M : State) (d : DataNodes) (before : List Taken) (round : Taken) : Type 0 where
+pub record IsTaken (ticks : Ticks) (M : State) (d : DataNodes) (before : List RoundRecord) (round : RoundRecord) : Type 0 where
   pub goes_on : GoesOn M before
   pub comes : ComesAt ticks before round.time
   pub mid : DataNodes
@@ -80,7 +80,7 @@ pub record IsTaken (ticks : Ticks) (M : State) (d : DataNodes) (before : List Ta
   pub deletes : round.datanodes.deletes.items ≡ deletes_in (whole_round round.state).0
 
 -- each of these rounds was taken after those before it
-abbrev pub AreTaken : Ticks → State → DataNodes → List Taken → Type 0
+abbrev pub AreTaken : Ticks → State → DataNodes → List RoundRecord → Type 0
 AreTaken ticks M d [] = Unit {0}
 AreTaken ticks M d (round ∷ before) = IsTaken ticks M d before round × AreTaken ticks M d before
 
@@ -98,7 +98,7 @@ numbers_of n = (n.node, n.storages.items)
 abbrev pub node_among : Cluster → List ℕ → ℕ → ℕ × List ℕ
 node_among C ss n = (n, filter (has_storage C n) ss)
 
--- DataNodes before the first round: they have nothing to do, and know what is free in the cluster
+-- DataNodes before the first round: they have nothing to do, and the free bytes of the cluster
 pub record AreAtStart (C : Cluster) (d : DataNodes) : Type 0 where
   pub free : (s : ℕ) → free_on d.free s ≡ free_in C s
   pub nodes : map numbers_of d.free.nodes.items ≡ map (node_among C (keys C.storages)) (keys C.nodes)
@@ -111,7 +111,7 @@ pub record AreAtStart (C : Cluster) (d : DataNodes) : Type 0 where
 
 -- a repair has taken rounds, and its counts are those of all copies
 pub record HasTaken (ticks : Ticks) (M : State) (d : DataNodes) (N : State) (r : Repair) : Type 0 where
-  pub taken : List Taken
+  pub taken : List RoundRecord
   pub are : AreTaken ticks M d taken
   pub rounds : r.rounds ≡ length taken
   pub time : r.time ≡ time_of taken

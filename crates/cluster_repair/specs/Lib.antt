@@ -1,4 +1,5 @@
--- How what is lost is copied again.
+-- How lost replicas are repaired: the copies of rounds, the DataNodes that send them, and the rows
+-- of a repair.
 pub mod Sending
 pub mod Copies
 pub mod Sent

@@ -1,4 +1,4 @@
--- Why blocks stay as they are.
+-- Why blocks stay unrepaired.
 use Rattle.std.specs.Prelude.{◌≡◌, ℕ, Bool, true, false, not, ◌==◌, ◌&&◌, if◌then◌else◌, nat_le, List, filter, is_some}
 use Rattle.std.specs.List.{All, list_any}
 use Rattle.bm_base.specs.declared.level.Level.{Level}
@@ -35,9 +35,9 @@ is_on_their_node C rs s = list_any (λ r. share_node C s r.storage) rs
 abbrev pub is_on_their_rack : Cluster → List Replica → ℕ → Bool
 is_on_their_rack C rs s = list_any (λ r. is_good r.tag && (not (is_draining C r.storage) && share_rack C s r.storage)) rs
 
--- Whether one more copy of a block at this level, with these replicas, counts on storage s, free
--- bytes aside. It counts if the storage is known, its node does not drain and has none of the
--- replicas, and a badly distributed block gets to another rack.
+-- Whether one more copy of a block at this level, with these replicas, counts on storage s,
+-- whatever its free bytes. It counts if the storage is known, its node does not drain and has none
+-- of the replicas, and a badly distributed block gets to another rack.
 abbrev pub would_count : Cluster → List Replica → Level → ℕ → Bool
 would_count C rs urgency s =
     is_some (node_of C s) && (not (is_draining C s) && (not (is_on_their_node C rs s) && not (is_badly_distributed urgency && is_on_their_rack C rs s)))

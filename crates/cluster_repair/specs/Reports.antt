@@ -1,4 +1,4 @@
--- What DataNodes report before a round.
+-- The reports of DataNodes before a round.
 use Rattle.std.specs.Prelude.{◌≡◌, ℕ, ◌+◌, min, nat_eq, nat_lt, if◌then◌else◌, List, [], ◌++◌, map, filter}
 use Rattle.std.specs.List.{fold}
 use Rattle.std.specs.List.Sorted.{IsPermutation, IsSortedByKey}
@@ -23,11 +23,11 @@ received s = Received s.transfer.target s.transfer.block s.transfer.stamp
 abbrev pub deleted : Delete → Event
 deleted d = Deleted d.storage d.block
 
--- what is free on the storages of a node
+-- the heartbeat of a node, with the free bytes of its storages
 abbrev pub heartbeat_of : FreeBytes → NodeStorages → Event
 heartbeat_of f n = Heartbeat n.node (map (remaining_in f) n.storages.items)
 
--- the copies that are due, the deletes, and what is then free on each node
+-- the copies that are due, the deletes, and then the free bytes of each node
 abbrev pub reports_of : List Sent → List Delete → FreeBytes → List Event
 reports_of due ds f = map received due ++ (map deleted ds ++ map (heartbeat_of f) f.nodes.items)
 
@@ -50,7 +50,8 @@ pub record AreDue (now : ℕ) (ss due : List Sent) : Type 0 where
 abbrev pub free_after : (ℕ → ℕ) → ℕ → ℕ → Delete → ℕ
 free_after len s free d = if nat_eq d.storage s then min (free + len d.block) most else free
 
--- DataNodes report what they have done by now and what is free, and a manager accepts it.
+-- DataNodes report the copies that have arrived by now, the deletes and their free bytes, and a
+-- manager accepts it.
 pub record HaveReported (len : ℕ → ℕ) (now : ℕ) (old new : DataNodes) (M N : State) : Type 0 where
   pub due : List Sent
   pub are_due : AreDue now old.on_way.sent.items due

@@ -1,4 +1,4 @@
--- What rounds leave, and how a manager came there.
+-- The rows of rounds, and the states between the rounds.
 use Rattle.std.specs.Prelude.{◌≡◌, ℕ, ◌<◌, Bool, true, ◌+◌, ◌-◌, ◌/◌, ◌%◌, ◌==◌, ◌&&◌, ◌||◌, nat_le, max, List, [], ◌∷◌, ◌++◌, map, filter, length, Some, is_some}
 use Rattle.std.specs.List.{All, AllPairs, list_any}
 use Rattle.std.specs.List.Sorted.{IsStrictlyIncreasing}
@@ -14,7 +14,7 @@ use Rattle.cluster_repair.specs.declared.repair.Pace.{Pace}
 use Rattle.cluster_repair.specs.declared.repair.Repair.{Repair}
 use Rattle.cluster_repair.specs.declared.ticks.Ticks.{Ticks}
 use Rattle.cluster_repair.specs.Reports.{IsReached, after_events}
-use Rattle.cluster_repair.specs.History.{Taken, AreAtStart, HasTaken, are_idle, awaited_rounds, commanded_of, datanodes_of, state_of, time_of}
+use Rattle.cluster_repair.specs.History.{RoundRecord, AreAtStart, HasTaken, are_idle, awaited_rounds, commanded_of, datanodes_of, state_of, time_of}
 use Rattle.cluster_repair.specs.Retirements.{AreRetired, retired_since, retirement_of}
 use Rattle.cluster_repair.specs.Ticks.{ticks_of}
 
@@ -33,8 +33,8 @@ pub record AreCounts (M : State) (c : LevelCounts) : Type 0 where
   pub badly_distributed : c.badly_distributed ≡ blocks_at M BadlyDistributed (keys M.holdings.blocks)
   pub missing : c.missing ≡ length (missing_blocks M.cluster M.holdings)
 
--- a row has what the last of some rounds left
-pub record IsRowOf (M : State) (d : DataNodes) (taken : List Taken) (row : Row) : Type 0 where
+-- a row has the counts after the last of some rounds
+pub record IsRowOf (M : State) (d : DataNodes) (taken : List RoundRecord) (row : Row) : Type 0 where
   pub some : 0 < row.round
   pub round : row.round ≡ length taken
   pub seconds : row.seconds ≡ time_of taken / 1000000
@@ -42,16 +42,16 @@ pub record IsRowOf (M : State) (d : DataNodes) (taken : List Taken) (row : Row) 
   pub commanded : row.commanded ≡ commanded_of taken
   pub on_way : row.on_way ≡ length (datanodes_of d taken).on_way.sent.items
 
--- A row has what one of these rounds left. The list has the last round first, so it ends with this
--- one and those before it.
-pub record IsRowAmong (M : State) (d : DataNodes) (taken : List Taken) (row : Row) : Type 0 where
-  pub later : List Taken
-  pub before : List Taken
+-- A row has the counts after one of these rounds. The list has the last round first, so it ends
+-- with this one and those before it.
+pub record IsRowAmong (M : State) (d : DataNodes) (taken : List RoundRecord) (row : Row) : Type 0 where
+  pub later : List RoundRecord
+  pub before : List RoundRecord
   pub parts : taken ≡ later ++ before
   pub reached : IsReached row.round M (state_of M before)
   pub is : IsRowOf M d before row
 
-pub record AreRowsAmong (M : State) (d : DataNodes) (taken : List Taken) (rows : List Row) : Type 0 where
+pub record AreRowsAmong (M : State) (d : DataNodes) (taken : List RoundRecord) (rows : List Row) : Type 0 where
   pub all : All (IsRowAmong M d taken) rows
 
 -- whether a round is one of 1, 1 + stride and so on
@@ -71,7 +71,7 @@ pub record EndsWith (rows : List Row) (row : Row) : Type 0 where
   pub front : List Row
   pub is : rows ≡ front ++ row ∷ []
 
--- Rounds led from one state to another, and what was noted is what they left and were answered.
+-- Rounds led from one state to another; rows and notes have the counts and the answers after them.
 pub record IsUnderWay (ticks : Ticks) (M : State) (d : DataNodes) (N : State) (r : Repair) : Type 0 where
   pub at_start : AreAtStart M.cluster d
   pub reached : IsReached r.rounds M N
@@ -84,7 +84,8 @@ pub record AreLeveled (M : State) (bs : List ℕ) : Type 0 where
   pub ascending : IsStrictlyIncreasing bs
   pub all : (b : ℕ) → has bs b ≡ is_some (level M.cluster M.holdings b)
 
--- The same with the row of the last round; and the watched blocks are those with a level.
+-- As `IsUnderWay`, and the last row is that of the last round; the watched blocks are those with a
+-- level.
 pub record IsNoted (ticks : Ticks) (M : State) (d : DataNodes) (N : State) (r : Repair) : Type 0 where
   pub under_way : IsUnderWay ticks M d N r
   pub last : Row
@@ -92,11 +93,12 @@ pub record IsNoted (ticks : Ticks) (M : State) (d : DataNodes) (N : State) (r : 
   pub is_last : IsRowOf M d under_way.history.taken last
   pub blocks : AreLeveled N r.watch.blocks.items
 
--- a repair stops: no copy is awaited and DataNodes have nothing to do, or it took a million rounds
+-- a repair stops: no older copy is pending and DataNodes have nothing to do, or it took a million
+-- rounds
 abbrev pub is_over : ℕ → Repair → Bool
 is_over awaited r = (nat_le awaited r.rounds && are_idle r.datanodes) || (r.rounds == 1000000)
 
--- Rounds led from one state to another, and here is what was noted, up to the end.
+-- Rounds led from one state to another, and these are the rows and notes at the end.
 pub record HasEnded (ticks : Ticks) (M : State) (d : DataNodes) (N : State) (r : Repair) : Type 0 where
   pub reached : IsReached r.rounds M N
   pub history : HasTaken ticks M d N r

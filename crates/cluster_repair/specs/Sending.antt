@@ -1,5 +1,5 @@
--- When copies arrive, and what is free: a model. What a node sends and what it receives are two
--- links of one bandwidth, each of which passes one copy after another.
+-- A model of the arrival of copies and of free bytes. What a node sends and what it receives are
+-- two links of one bandwidth, each of which passes one copy after another.
 use Rattle.std.specs.Prelude.{ℕ, ◌+◌, ◌*◌, ◌-◌, ◌^◌, max, min, nat_eq, option_map, unwrap_or}
 use Rattle.std.specs.Int.{div_ceil}
 use Rattle.std.specs.HashMap.{get}
@@ -42,10 +42,10 @@ arrival l source target bytes now = max (sent_at l source bytes now) (received_a
 abbrev pub free_on : FreeBytes → ℕ → ℕ
 free_on f s = unwrap_or (get nat_eq f.free s) 0
 
--- the same as the last heartbeat had it
+-- the free bytes of a storage as its last heartbeat reported them; 0 if it is not known
 abbrev pub free_in : Cluster → ℕ → ℕ
 free_in C s = unwrap_or (option_map (λ i. i.remaining) (map_of.get C.storages s)) 0
 
--- what the node of a storage reports as free there
+-- the free bytes of a storage, as its node reports them
 abbrev pub remaining_in : FreeBytes → ℕ → Remaining
 remaining_in f s = record { storage = s; remaining = free_on f s }

@@ -19,7 +19,7 @@ transfers_in k = flat_map (λ n. n.transfers) k.nodes
 abbrev pub deletes_in : Commands → List Delete
 deletes_in k = flat_map (λ n. n.deletes) k.nodes
 
--- how many copies it commands; a count stays at the last number of its width
+-- the number of copies that it commands; a count stays at the last number of its width
 abbrev pub copies_in : Commands → ℕ
 copies_in k = min (length (transfers_in k)) (2 ^ 64 - 1)
 
@@ -59,7 +59,7 @@ pub record IsSent (C : Cluster) (now : ℕ) (old new : Links) (s : Sent) : Type 
   pub receiving : (n : ℕ) → receives_until new n ≡ (if nat_eq (receiver C s) n then received_at old (receiver C s) (bytes_of s) now else receives_until old n)
   pub bandwidth : new.bandwidth ≡ old.bandwidth
 
--- the same of these copies, one after another
+-- `IsSent` for these copies, one after another
 abbrev pub AreSent : Cluster → ℕ → Links → Links → List Sent → Type 0
 AreSent C now old new [] = new ≡ old
 AreSent C now old new (s ∷ ss) = (mid : Links) × (IsSent C now old mid s × AreSent C now mid new ss)
@@ -82,7 +82,7 @@ abbrev pub transfers_of : List Sent → List Transfer
 transfers_of ss = map (λ s. s.transfer) ss
 
 -- DataNodes begin transfers now: they send each of these that is not on its way yet, and count it.
--- It takes its bytes from those that are free on its target.
+-- It takes its bytes from the free bytes of its target.
 pub record AreBegun (C : Cluster) (now : ℕ) (ts : List Transfer) (old new : DataNodes) : Type 0 where
   pub copies : List Sent
   pub on_way : new.on_way.sent.items ≡ old.on_way.sent.items ++ copies

@@ -1,5 +1,5 @@
--- When rounds come: a model. The first comes at time 0, and each other at the first tick at which
--- DataNodes have too little to do. Times are in microseconds.
+-- A model of the times of rounds. The first comes at time 0, and each other at the first tick at
+-- which DataNodes have too little to do. Times are in microseconds.
 use Rattle.std.specs.Prelude.{◌≡◌, ℕ, ◌<◌, ◌≤◌, ◌+◌, ◌*◌, max, min, nat_lt, List, count_by}
 use Rattle.bm_base.specs.Maps.Map.{len}
 use Rattle.bm_base.specs.Words.{Cluster}
@@ -8,8 +8,8 @@ use Rattle.cluster_repair.specs.declared.repair.Pace.{Pace}
 use Rattle.cluster_repair.specs.declared.ticks.Ticks.{Ticks}
 use Rattle.cluster_repair.specs.Sending.{most}
 
--- Ticks come at the pace's interval. The copies that a round may command are enough to leave the
--- next one out.
+-- Ticks come at the pace's interval. A round is skipped while the copies on their way are at least
+-- those that it may command.
 abbrev pub ticks_of : Pace → Cluster → Ticks
 ticks_of pace C = record { interval = pace.interval * 1000000; enough = pace.work * len C.nodes }
 

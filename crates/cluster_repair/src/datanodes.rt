@@ -24,7 +24,7 @@ use std::alloc::{AllocError, Global};
 use std::sync::Wait;
 use std::thread::Threads;
 
-/// The pending and the finished work of DataNodes.
+/// The copies and deletes that DataNodes have to do, and what they have done.
 #[derive(Drop)]
 pub struct DataNodes {
     pub links: Links,
@@ -39,7 +39,7 @@ pub struct DataNodes {
 }
 
 impl DataNodes {
-    /// Nothing is on its way.
+    /// DataNodes with nothing to do, with the free bytes of the last heartbeats.
     pub fn new(alloc: Global, topology: &Topology, bandwidth: u64) -> Result<DataNodes, AllocError>
         ensures counts { IfOk result (AreCounted []) }
         ensures at_start { IfOk result (AreAtStart topology.now.cluster) }
@@ -57,14 +57,14 @@ impl DataNodes {
         })
     }
 
-    /// Whether nothing is left to be done.
+    /// Whether no copy is on its way, and no delete is left to report.
     pub fn are_idle(&self) -> bool
         ensures { result ≡ are_idle self.now }
     {
         self.on_way.is_empty() && self.deletes.is_empty()
     }
 
-    /// DataNodes report the copies that have arrived by now, the deletes, and what is free.
+    /// Reports the copies that have arrived by `now`, the deletes, and the free bytes of all nodes.
     pub fn report<H: Threads + Wait + Sync>(
         &mut self,
         rt: &H,
@@ -90,7 +90,7 @@ impl DataNodes {
         Ok(())
     }
 
-    /// DataNodes begin what a round commands.
+    /// Begins the copies and deletes that a round commands.
     pub fn obey(
         &mut self,
         topology: &Topology,
@@ -157,7 +157,7 @@ fn add_deletes(deletes: &mut Vec<Delete>, new: &[Delete]) -> Result<(), AllocErr
     Ok(())
 }
 
-/// The bytes of deleted replicas are free again.
+/// Adds the bytes of deleted replicas to the free bytes.
 fn give_back_deleted(
     free: &mut FreeBytes,
     deletes: &[Delete],
@@ -169,7 +169,7 @@ fn give_back_deleted(
     ensures storages { free.new.storages ≡ free.old.storages }
 {
     for delete in deletes {
-        free.give_back(delete.storage, blocks.len_of(delete.block))?;
+        free.release(delete.storage, blocks.len_of(delete.block))?;
     }
     Ok(())
 }
@@ -181,7 +181,7 @@ fn node_of(topology: &Topology, storage: StorageId) -> NodeId
     topology.node_of(storage).unwrap_or(NodeId(0))
 }
 
-/// Reports an event. It is refused for lack of memory alone, since no node or storage leaves.
+/// Reports an event. It is refused only if out of memory, since no node or storage leaves.
 fn apply<H: Threads + Wait + Sync>(
     rt: &H,
     manager: &mut Manager,

@@ -48,12 +48,14 @@ impl FreeBytes {
         })
     }
 
+    /// Returns the free bytes of a storage; 0 if it is unknown.
     pub fn of(&self, storage: StorageId) -> u64
         ensures { result ≡ free_on self.now storage }
     {
         self.free.get(&storage.0).copied().unwrap_or(0)
     }
 
+    /// Subtracts bytes from a storage's free bytes, down to 0. Refused only if out of memory.
     pub fn take(&mut self, storage: StorageId, bytes: u64) -> Result<(), AllocError>
         ensures free { OnOk result ((s : ℕ) → free_on self.new s
             ≡ (if nat_eq storage s then free_on self.old storage - bytes
@@ -65,7 +67,8 @@ impl FreeBytes {
         self.put(storage, left)
     }
 
-    pub fn give_back(&mut self, storage: StorageId, bytes: u64) -> Result<(), AllocError>
+    /// Adds bytes to a storage's free bytes, up to 2^64 - 1. Refused only if out of memory.
+    pub fn release(&mut self, storage: StorageId, bytes: u64) -> Result<(), AllocError>
         ensures free { OnOk result ((s : ℕ) → free_on self.new s
             ≡ (if nat_eq storage s then min (free_on self.old storage + bytes) most
             else free_on self.old s)) }

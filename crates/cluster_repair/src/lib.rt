@@ -3,9 +3,9 @@
 //!
 //! How fast DataNodes are is a model: each sends one copy after another and receives one after
 //! another, in the order of the commands. A copy takes its bytes from the target's free bytes when
-//! it is commanded. A delete is done by the next round. Copies that were commanded before never
-//! come. A round is left out while the copies on their way are at least its limit. Clients,
-//! disks and switches are not in the model.
+//! it is commanded. A delete is done by the next round. Copies that were commanded before the
+//! repair never arrive. A round is skipped while the copies on their way are at least its limit.
+//! Clients, disks and switches are not in the model.
 #![tactic(auto)]
 
 pub mod datanodes;

@@ -32,6 +32,7 @@ pub struct OnWay {
 }
 
 impl OnWay {
+    /// Makes an empty list of copies. Takes no memory.
     pub fn new(alloc: Global) -> OnWay
         ensures sent { result.sent.items ≡ [] }
         ensures next { result.next ≡ 0 }
@@ -43,12 +44,14 @@ impl OnWay {
         }
     }
 
+    /// Returns the number of copies on their way.
     pub fn len(&self) -> usize
         ensures { result ≡ length self.now.sent.items }
     {
         self.sent.len()
     }
 
+    /// Returns whether no copy is on its way.
     pub fn is_empty(&self) -> bool
         ensures { result ≡ (length self.now.sent.items == 0) }
     {
@@ -87,7 +90,8 @@ impl OnWay {
         }
     }
 
-    /// Takes out what has arrived by now, by arrival and then by command.
+    /// Removes and returns the copies that have arrived by `now`, sorted by arrival and then by
+    /// command.
     pub fn take_due(&mut self, alloc: Global, now: u64) -> Result<Vec<Sent>, AllocError>
         ensures due { IfOk result (λ v.
             IsPermutation (filter (has_arrived now) self.old.sent.items) v.items) }
@@ -96,17 +100,17 @@ impl OnWay {
             ≡ filter (λ s. nat_lt now s.arrival) self.old.sent.items) }
         ensures next { self.new.next ≡ self.old.next }
     {
-        let mut due = due_by(alloc, self.sent.as_slice(), now)?;
-        due.sort_by_key(|sent| when(sent))?;
-        let left = left_by(alloc, self.sent.as_slice(), now)?;
+        let mut due = arrived_until(alloc, self.sent.as_slice(), now)?;
+        due.sort_by_key(|sent| arrival_key(sent))?;
+        let left = still_pending(alloc, self.sent.as_slice(), now)?;
         forget(&mut self.targets, due.as_slice());
         self.sent = left;
         Ok(due)
     }
 }
 
-/// When it arrives, and which it is of all copies.
-fn when(sent: &Sent) -> (u64, u64)
+/// Sort key: arrival time, then the copy's index.
+fn arrival_key(sent: &Sent) -> (u64, u64)
     ensures { result ≡ when sent.now }
 {
     (sent.arrival, sent.order)
@@ -128,7 +132,7 @@ fn key_of(transfer: &Transfer) -> (u64, u32)
     (transfer.block.0, transfer.target.0)
 }
 
-fn due_by(alloc: Global, sent: &[Sent], now: u64) -> Result<Vec<Sent>, AllocError>
+fn arrived_until(alloc: Global, sent: &[Sent], now: u64) -> Result<Vec<Sent>, AllocError>
     ensures { IfOk result (λ v. v.items ≡ filter (has_arrived now) sent.now) }
 {
     sent.iter()
@@ -137,7 +141,7 @@ fn due_by(alloc: Global, sent: &[Sent], now: u64) -> Result<Vec<Sent>, AllocErro
         .collect(alloc)
 }
 
-fn left_by(alloc: Global, sent: &[Sent], now: u64) -> Result<Vec<Sent>, AllocError>
+fn still_pending(alloc: Global, sent: &[Sent], now: u64) -> Result<Vec<Sent>, AllocError>
     ensures { IfOk result (λ v. v.items ≡ filter (λ s. nat_lt now s.arrival) sent.now) }
 {
     sent.iter()

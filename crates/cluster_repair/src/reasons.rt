@@ -20,10 +20,10 @@ use std::alloc::Global;
 pub enum Reason {
     /// No replica can be copied.
     NoSource,
-    /// Each node that does not drain holds a replica; or, if the block is badly distributed, each
-    /// of the others is on its rack. Or else a storage with enough free bytes was given no copy.
+    /// Each node that does not drain holds a replica or, if the block is badly distributed, is on
+    /// its only rack. Otherwise a storage with enough free bytes got no copy.
     NoTarget,
-    /// There is a node where a copy would count, but no storage of one has enough free bytes.
+    /// Some node could take a copy that counts, but none of its storages has enough free bytes.
     NoSpace,
 }
 
@@ -35,7 +35,7 @@ pub struct Unmended {
     pub reason: Reason,
 }
 
-/// Why each of these blocks stays as it is, which are all that have a level.
+/// The reason for each of these blocks. `blocks` are all blocks with a level, ascending.
 #[tactic(auto, using(crate::proofs::UnmendedLemmas::none_found, crate::proofs::UnmendedLemmas::all_found, crate::proofs::ReasonLemmas::no_reasons))]
 pub fn unmended_of(
     alloc: Global,
@@ -180,7 +180,7 @@ impl LeveledBlock<'_> {
         self.would_count(storage) && self.length <= free.of(storage)
     }
 
-    /// Whether a copy on the storage would count, free bytes aside.
+    /// Whether a copy on the storage could count for the block, whatever the storage's free bytes.
     fn would_count(&self, storage: StorageId) -> bool
         ensures { result ≡ would_count self.now.topology.now.cluster self.now.replicas.now
             self.now.level storage }

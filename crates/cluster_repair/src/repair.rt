@@ -44,7 +44,7 @@ pub struct Pace {
 }
 
 impl Pace {
-    /// A round is left out while the copies on their way are at least its limit.
+    /// A round is skipped while the copies on their way are at least its limit.
     pub fn ticks(self, topology: &Topology) -> Ticks
         ensures { result ≡ ticks_of self topology.now.cluster }
     {
@@ -55,7 +55,7 @@ impl Pace {
     }
 }
 
-/// Since when a node can be switched off that is to be taken away.
+/// The time from which on a draining node is retired, so that it can be switched off.
 #[derive(Clone, Copy)]
 pub struct Retirement {
     pub node: NodeId,
@@ -71,7 +71,7 @@ pub struct Repair {
     pub datanodes: DataNodes,
     pub watch: Watch,
     pub rows: Rows,
-    /// The alive nodes that are to be taken away.
+    /// The alive nodes that drain.
     pub drained: Vec<NodeId>,
     /// Those of them that are retired, by the last answer.
     pub retired: Vec<Retirement>,
@@ -95,7 +95,7 @@ struct Facts<'a> {
 }
 
 /// Takes rounds until nothing is on its way and a round commands nothing. Copies that were
-/// commanded before never come: the manager gives them up.
+/// commanded before never arrive; they expire in the manager.
 pub fn repair_cluster<R: Eprint + Threads + Wait + Sync>(
     rt: &R,
     alloc: Global,
@@ -125,7 +125,7 @@ pub fn repair_cluster<R: Eprint + Threads + Wait + Sync>(
     Ok(repair)
 }
 
-/// After how many rounds no copy is awaited that was commanded before.
+/// The number of rounds after which all copies that were commanded before have expired.
 fn awaited_rounds(transfers: &Transfers) -> u32
     ensures { result ≡ awaited_rounds transfers.now.copies transfers.now.pend }
 {
@@ -137,7 +137,7 @@ fn awaited_rounds(transfers: &Transfers) -> u32
 }
 
 impl Repair {
-    /// No round was taken.
+    /// A repair before its first round.
     fn new(
         alloc: Global,
         session: &Session,
@@ -207,7 +207,7 @@ impl Repair {
         Ok(())
     }
 
-    /// Whether nothing more comes after the rounds that were taken.
+    /// Whether the repair ends after the rounds taken so far.
     fn is_over(&self, facts: &Facts<'_>) -> bool
         ensures { result ≡ (nat_le facts.now.awaited self.now.rounds
             && are_idle self.now.datanodes) }
@@ -215,7 +215,8 @@ impl Repair {
         self.rounds >= facts.awaited && self.datanodes.are_idle()
     }
 
-    /// One round: DataNodes report what they have done and what is free, and the manager commands.
+    /// One round: DataNodes report what they have done and their free bytes, and the manager
+    /// commands.
     fn take_round<H: Threads + Wait + Sync>(
         &mut self,
         rt: &H,
@@ -314,7 +315,7 @@ impl Repair {
         Ok(())
     }
 
-    /// Notes which nodes are retired after the last round, where the next one would come.
+    /// Notes which nodes are retired after the last round, at the time of the next one.
     fn note_retired_at_end(&mut self, manager: &Manager, facts: &Facts<'_>) -> Result<(), Refusal>
         ensures rounds { self.new.rounds ≡ self.old.rounds }
         ensures datanodes { self.new.datanodes ≡ self.old.datanodes }
@@ -371,7 +372,8 @@ fn note_retired(
     Ok(())
 }
 
-/// Notes a yes unless the answer before was one; a no drops the note.
+/// Notes that a node is retired, with the round and the time, unless it is noted already. Drops its
+/// note if it is not retired.
 fn note_answer(
     manager: &Manager,
     node: NodeId,
@@ -403,7 +405,7 @@ fn drop_note(retired: &mut Vec<Retirement>, node: NodeId)
     retired.retain(|retirement| retirement.node != node);
 }
 
-/// Since when a node is retired.
+/// The note of a node, if it is retired.
 pub fn retirement_of(retired: &[Retirement], node: NodeId) -> Option<Retirement>
     ensures { result ≡ retirement_of retired.now node }
 {

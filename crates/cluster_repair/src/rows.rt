@@ -1,17 +1,17 @@
 // A row of counts for every round; if there are many rounds, for every second, fourth and so on.
 ghost use Rattle.std.specs.Prelude.{◌≡◌, ℕ, ◌+◌, ◌≤◌, List, [], filter, length, IfOk, OnOk};
 ghost use Rattle.bm_base.specs.Machine.State.{State};
-ghost use Rattle.cluster_repair.specs.History.{Taken};
+ghost use Rattle.cluster_repair.specs.History.{RoundRecord};
 ghost use Rattle.cluster_repair.specs.Rows.{IsRowAmong, AreRowsAmong, AreInOrder, EndsWith, is_on_stride};
 ghost use Rattle.cluster_repair.specs.declared.datanodes.DataNodes.{DataNodes};
 
 use cluster_report::levels::LevelCounts;
 use std::alloc::{AllocError, Global};
 
-/// There are at most this number of rows: before one more comes, every second goes.
+/// The most rows. If there are as many, every second row is dropped before the next is added.
 const MOST_KEPT: usize = 64;
 
-/// Beyond this stride no row goes. A repair has no more rounds.
+/// Above this stride no row is dropped: a repair takes at most this number of rounds.
 const MOST_STRIDE: u32 = 1_000_000;
 
 /// The counts after a round.
@@ -37,6 +37,7 @@ pub struct Rows {
 }
 
 impl Rows {
+    /// Makes an empty table with stride 1. Takes no memory.
     pub fn new(alloc: Global) -> Rows
         ensures none { result.rows.items ≡ [] }
         ensures stride { result.stride ≡ 1 }
@@ -47,7 +48,7 @@ impl Rows {
         }
     }
 
-    /// Whether a round has a row, the last one aside.
+    /// Whether a round has a row even if it is not the last one.
     pub fn is_due(&self, round: u32) -> bool
         ensures { result ≡ is_on_stride round self.now.stride }
     {
@@ -56,7 +57,7 @@ impl Rows {
 
     /// Adds the row of a round.
     pub fn push(&mut self, alloc: Global, row: Row) -> Result<(), AllocError>
-        ensures rows { OnOk result ((M : State) (d : DataNodes) (taken : List Taken)
+        ensures rows { OnOk result ((M : State) (d : DataNodes) (taken : List RoundRecord)
             → AreRowsAmong M d taken self.old.rows.items
             → IsRowAmong M d taken row → AreRowsAmong M d taken self.new.rows.items) }
         ensures last { OnOk result (EndsWith self.new.rows.items row) }
@@ -70,7 +71,7 @@ impl Rows {
 
     /// Drops every second row if there are too many for one more.
     fn thin_if_full(&mut self, alloc: Global) -> Result<(), AllocError>
-        ensures rows { OnOk result ((M : State) (d : DataNodes) (taken : List Taken)
+        ensures rows { OnOk result ((M : State) (d : DataNodes) (taken : List RoundRecord)
             → AreRowsAmong M d taken self.old.rows.items
             → AreRowsAmong M d taken self.new.rows.items) }
         ensures in_order { OnOk result ((next : ℕ)
@@ -80,16 +81,16 @@ impl Rows {
         if self.rows.len() < MOST_KEPT || self.stride > MOST_STRIDE {
             return Ok(());
         }
-        self.thin(alloc)?;
+        self.drop_every_second(alloc)?;
         Ok(())
     }
 
     /// Drops every second row.
     #[tactic(auto, using(crate::proofs::Reach::rows_among))]
-    fn thin(&mut self, alloc: Global) -> Result<(), AllocError>
+    fn drop_every_second(&mut self, alloc: Global) -> Result<(), AllocError>
         requires full { 64 ≤ length self.old.rows.items }
         requires few { self.old.stride ≤ 1000000 }
-        ensures rows { OnOk result ((M : State) (d : DataNodes) (taken : List Taken)
+        ensures rows { OnOk result ((M : State) (d : DataNodes) (taken : List RoundRecord)
             → AreRowsAmong M d taken self.old.rows.items
             → AreRowsAmong M d taken self.new.rows.items) }
         ensures in_order { OnOk result ((next : ℕ)

@@ -1,16 +1,16 @@
-// The times of rounds: a model. A round is left out while DataNodes have enough to do. Times are in
+// The times of rounds: a model. A round is skipped while DataNodes have enough to do. Times are in
 // microseconds.
 ghost use Rattle.std.specs.Prelude.{◌≡◌, ◌≤◌, ◌<◌, ℕ};
 ghost use Rattle.cluster_repair.specs.Ticks.{IsNextTick, on_way_after};
 
 use crate::on_way::{Sent, arrives_after};
 
-/// How often rounds may come, and when one is left out.
+/// The interval of rounds, and when one is skipped.
 #[derive(Clone, Copy)]
 pub struct Ticks {
-    /// From one tick to the next; 0 counts as 1.
+    /// The time from one tick to the next; 0 counts as 1.
     pub interval: u64,
-    /// At this number of copies on their way a round is left out; 0 counts as 1.
+    /// At this number of copies on their way a round is skipped; 0 counts as 1.
     pub enough: u64,
 }
 

@@ -8,29 +8,29 @@ ghost use Rattle.cluster_repair.specs.Rows.{AreCounts, AreLeveled};
 use bm_base::{BlockId, Refusal};
 use bm_manager::Manager;
 use cluster_report::catalogue::Catalogue;
-use cluster_report::levels::{LevelCounts, Leveled, count_levels, levels_of};
+use cluster_report::levels::{LevelCounts, Leveled, count_levels, query_levels};
 use std::alloc::{AllocError, Global};
 
-/// The numbers of blocks, among them all that have a level. While nothing more is lost no other
-/// block gets one, if each block of a report is added.
+/// The numbers of blocks, among them all that have a level. Without further losses no other block
+/// gets a level, if each block of a report is added.
 #[derive(Drop)]
 pub struct Watch {
     pub blocks: Vec<u64>,
 }
 
 impl Watch {
-    /// The known blocks that have a level, by a question for each known block.
+    /// The known blocks that have a level, by a query for each known block.
     pub fn new(alloc: Global, manager: &Manager, blocks: &Catalogue) -> Result<Watch, AllocError>
         requires { Lists blocks.now manager.now.holdings.blocks }
         ensures { IfOk result (λ w. Covers manager.now w.blocks.items) }
     {
         let numbers = numbers_in(alloc, blocks)?;
-        let levels = levels_of(alloc, manager, numbers.as_slice())?;
+        let levels = query_levels(alloc, manager, numbers.as_slice())?;
         let blocks = with_level(alloc, levels.as_slice())?;
         Ok(Watch { blocks })
     }
 
-    /// DataNodes report a replica of this block.
+    /// Adds a block of which DataNodes report a replica.
     pub fn add(&mut self, block: BlockId) -> Result<(), AllocError>
         ensures { OnOk result (self.new.blocks.items ≡ self.old.blocks.items ++ block ∷ []) }
     {
@@ -38,8 +38,8 @@ impl Watch {
         Ok(())
     }
 
-    /// Counts all known blocks by level, by a question for each watched block, and forgets those
-    /// that have no level.
+    /// Counts all known blocks by level, by a query for each watched block, and forgets those that
+    /// have no level.
     pub fn count(&mut self, alloc: Global, manager: &Manager) -> Result<LevelCounts, Refusal>
         requires { Covers manager.now self.old.blocks.items }
         ensures counts { IfOk result (AreCounts manager.now) }
@@ -48,7 +48,7 @@ impl Watch {
         self.blocks.sort()?;
         self.blocks.dedup();
         let missing = manager.missing()?;
-        let levels = levels_of(alloc, manager, self.blocks.as_slice())?;
+        let levels = query_levels(alloc, manager, self.blocks.as_slice())?;
         let counts = count_levels(levels.as_slice(), missing.as_slice().len());
         self.blocks = with_level(alloc, levels.as_slice())?;
         Ok(counts)

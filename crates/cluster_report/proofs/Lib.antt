@@ -1,4 +1,4 @@
--- Lemmas.
+-- Lemmas on reports of a cluster: keys taken by index.
 pub mod TakenKeys
 -- Lines.
 pub mod NamedNumbers

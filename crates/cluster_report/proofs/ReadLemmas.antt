@@ -37,7 +37,7 @@ reads_line o left rest old line e taken dropped empty some =
 
 -- Of an input the lines before number n are taken, from the state M on: what is left of it, and
 -- what the lines that are left add.
-pub record Taken (M : State) (start : Option (List ℕ)) (input : List ℕ) (n : ℕ) (N : State) (accepted : Bool) (now left : Option (List ℕ)) : Type 0 where
+pub record LinesTaken (M : State) (start : Option (List ℕ)) (input : List ℕ) (n : ℕ) (N : State) (accepted : Bool) (now left : Option (List ℕ)) : Type 0 where
   pub rest : List ℕ
   pub left_is : left ≡ Some rest
   pub state : after_lines M (lines_of input) ≡ after_lines N (lines_of rest)
@@ -64,9 +64,9 @@ not_noted n what known none = subst (λ w. Appends known known (note_text n w)) 
 
 -- one line more was taken
 pub taken_line : (M N N' : State) (start now now' left left' : Option (List ℕ)) (input : List ℕ) (n : ℕ) (a is b : Bool) (read line : List ℕ)
-    → (t : Taken M start input n N a now left) → Reads t.rest read left' → line ≡ without_end read
+    → (t : LinesTaken M start input n N a now left) → Reads t.rest read left' → line ≡ without_end read
     → N' ≡ after_line N line → is ≡ is_none (refusal_text N line) → b ≡ (a && is) → Appends now now' (note_text n (refusal_text N line))
-    → Taken M start input (n + 1) N' b now' left'
+    → LinesTaken M start input (n + 1) N' b now' left'
 unfolding after_lines all_accepted notes_text
 taken_line M N N' start now now' left left' input n a is b read line t reads line_is next refusal_is both note =
     let ls = lines_of (drop_through 10 t.rest) in
@@ -98,7 +98,7 @@ pub record AllTaken (M : State) (start : Option (List ℕ)) (input : List ℕ) (
   pub all : accepted ≡ all_accepted M (lines_of input)
   pub noted : Appends start now (notes_text 1 M (lines_of input))
 
-pub taken_all : (M N : State) (start now left : Option (List ℕ)) (input : List ℕ) (n : ℕ) (a : Bool) → Taken M start input n N a now left → IsAtEnd left → AllTaken M start input N a now
+pub taken_all : (M N : State) (start now left : Option (List ℕ)) (input : List ℕ) (n : ℕ) (a : Bool) → LinesTaken M start input n N a now left → IsAtEnd left → AllTaken M start input N a now
 unfolding after_lines all_accepted notes_text
 taken_all M N start now left input n a t at_end =
     let none : lines_of t.rest ≡ [] = ap lines_of (subst IsAtEnd t.left_is at_end) ∙ lines_of-none in

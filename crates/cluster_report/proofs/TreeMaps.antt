@@ -1,4 +1,4 @@
--- The map that a `BTreeMap` represents, and what its changes do to the map.
+-- Each change of a `BTreeMap` changes the map that it represents alike:
 --     length-tree              the number of entries
 --     inserted, removed        a value was set at a key, or a key removed
 --     kept                     the entries that pass a test were kept

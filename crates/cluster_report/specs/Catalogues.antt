@@ -15,7 +15,7 @@ info_in c b = get nat_eq c.blocks b
 abbrev pub len_of : Map by_number BlockInfo → ℕ → ℕ
 len_of blocks b = option_map_or (λ i. i.stamp.len) (map_of.get blocks b) 0
 
--- the same by a catalogue
+-- the length of a block in bytes, by a catalogue; 0 if it does not have the block
 abbrev pub len_in : Catalogue → ℕ → ℕ
 len_in c b = option_map_or (λ i. i.stamp.len) (info_in c b) 0
 

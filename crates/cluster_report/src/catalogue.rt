@@ -24,6 +24,7 @@ impl Catalogue {
         }
     }
 
+    /// Returns the stamp and the wanted replicas of a block, if the block is known.
     pub fn get(&self, block: BlockId) -> Option<BlockInfo>
         ensures { result ≡ info_in self.now block }
     {

@@ -40,7 +40,7 @@ pub struct LevelBytes {
 }
 
 /// The level of each of these blocks. Makes one query for each.
-pub fn levels_of(
+pub fn query_levels(
     alloc: Global,
     manager: &Manager,
     blocks: &[u64],

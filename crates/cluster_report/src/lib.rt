@@ -2,7 +2,7 @@
 //! has no query, the lines of an input, and the counts at the end.
 //!
 //! A line that asks for no call, or whose call is refused, gets a note with its number. The other
-//! lines are taken.
+//! lines are processed.
 #![tactic(auto)]
 
 pub mod book;

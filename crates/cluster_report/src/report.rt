@@ -8,7 +8,7 @@ ghost use Rattle.cluster_report.specs.Sessions.{Follows};
 
 use crate::book::Book;
 use crate::levels::{
-    LevelBytes, LevelCounts, Leveled, count_levels, level_bytes, levels_of, urgent_first,
+    LevelBytes, LevelCounts, Leveled, count_levels, level_bytes, query_levels, urgent_first,
 };
 use crate::nodes::{NodeRow, all_nodes, all_storages, node_rows};
 use crate::tag_counts::{TagBytes, TagCounts, count_tags, held_blocks, tag_bytes};
@@ -39,7 +39,7 @@ pub struct Report {
 /// The report on a manager's cluster, by its book. Asks the manager for three lists: all replicas,
 /// which takes the most memory, those in excess, and the missing blocks. Also asks for the level of
 /// each block with a replica, and for the nodes as `node_rows` does.
-pub fn report_of(alloc: Global, manager: &Manager, book: &Book) -> Result<Report, Refusal>
+pub fn build_report(alloc: Global, manager: &Manager, book: &Book) -> Result<Report, Refusal>
     requires { Follows book.now manager.now }
     ensures { IfOk result (λ r. r ≡ report_of manager.now) }
 {
@@ -47,7 +47,7 @@ pub fn report_of(alloc: Global, manager: &Manager, book: &Book) -> Result<Report
     report_on(alloc, manager, book, replicas.as_slice())
 }
 
-/// The same, given all replicas.
+/// As [`build_report`], given all replicas.
 fn report_on(
     alloc: Global,
     manager: &Manager,
@@ -72,8 +72,8 @@ fn report_on(
     )
 }
 
-/// The same, given the levels of the blocks that have a replica, the number of replicas in excess,
-/// and the missing blocks.
+/// As [`build_report`], given the levels of the blocks that have a replica, the number of replicas in
+/// excess, and the missing blocks.
 fn with_levels(
     alloc: Global,
     manager: &Manager,
@@ -90,7 +90,7 @@ fn with_levels(
     requires missing { missing ≡ missing_blocks manager.now.cluster manager.now.holdings }
     ensures { IfOk result (λ r. r ≡ report_of manager.now) }
 {
-    let nodes = nodes_of(alloc, manager, book)?;
+    let nodes = list_nodes(alloc, manager, book)?;
     let urgent = urgent_first(alloc, levels)?;
     Ok(Report {
         calls: manager.calls(),
@@ -148,11 +148,11 @@ pub fn held_levels(
         ≡ map (leveled manager.now.cluster manager.now.holdings) (blocks_held replicas.now)) }
 {
     let held = held_blocks(alloc, replicas)?;
-    levels_of(alloc, manager, held.as_slice())
+    query_levels(alloc, manager, held.as_slice())
 }
 
 /// All nodes with all their storages.
-fn nodes_of(alloc: Global, manager: &Manager, book: &Book) -> Result<Items<NodeRow>, Refusal>
+fn list_nodes(alloc: Global, manager: &Manager, book: &Book) -> Result<Items<NodeRow>, Refusal>
     requires { Follows book.now manager.now }
     ensures { IfOk result (λ rows. rows ≡ (report_of manager.now).nodes) }
 {

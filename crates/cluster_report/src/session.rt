@@ -105,6 +105,7 @@ fn refusal_text_of(
     }
 }
 
+/// Copies a text. Refused only if out of memory.
 pub fn text_of(alloc: Global, text: &str) -> Result<Option<String>, AllocError>
     ensures { IfOk result (λ o. option_map string_bytes o ≡ Some text.now) }
 {

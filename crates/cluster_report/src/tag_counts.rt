@@ -62,6 +62,7 @@ pub struct TagBytes {
     pub bad: u128,
 }
 
+/// Sums the bytes of replicas by tag; each replica has the length of its block.
 pub fn tag_bytes(catalogue: &Catalogue, replicas: &[Replica]) -> TagBytes
     ensures { result ≡ tag_bytes (len_in catalogue.now) replicas.now }
 {

@@ -46,6 +46,7 @@ impl Transfers {
         }
     }
 
+    /// Returns the number of pending copies.
     pub fn count(&self) -> usize
         ensures { result ≡ map_of.len self.now.copies }
     {
@@ -132,7 +133,8 @@ impl Transfers {
         self.rounds.remove(&ReplicaId { block, storage });
     }
 
-    /// All blocks that a report names have arrived on the storage.
+    /// Removes the pending copies to a storage of all blocks that a report names: they have
+    /// arrived.
     fn arrive_all(&mut self, storage: StorageId, entries: &[Entry])
         ensures copies { self.new.copies ≡ map_of.keep self.old.copies
             (λ q _. not ((q.storage == storage) && is_named (expanded entries.now) q.block)) }

@@ -1,4 +1,4 @@
--- The message about a call.
+-- There is a message about a call exactly if one is due.
 use Rattle.std.proofs.Common.{◌≡◌, ℕ, Bool, true, false, List, Option, Some, None, option_map, is_some, refl}
 use Rattle.std.specs.Prelude.{if◌then◌else◌}
 

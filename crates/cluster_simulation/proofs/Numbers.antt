@@ -1,4 +1,4 @@
--- The numbers below n that pass a test, and the step to n + 1.
+-- The numbers below n + 1 that pass a test are those below n, and n if it passes.
 use Rattle.std.proofs.Common.{◌≡◌, ◌+◌, ℕ, zero, suc, Bool, true, false, List, [], ◌∷◌, ◌++◌, map, filter, ap, ◌∙◌, arith}
 use Rattle.std.specs.List.{range_with_len}
 use Rattle.std.proofs.lemmas.List.Elements.{filter-append}

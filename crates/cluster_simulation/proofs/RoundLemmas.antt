@@ -1,23 +1,22 @@
--- What a round leaves: the blocks with a level, and the book.
-use Rattle.std.proofs.Common.{◌≡◌, ◌∙◌, ◌-◌, ℕ, List, Option, None, not, refl, sym, ap, inl}
+-- After a round the watched blocks cover all with a level, and the book follows the manager.
+use Rattle.std.proofs.Common.{◌≡◌, ◌∙◌, ◌-◌, ℕ, List, None, not, refl, sym, ap, inl}
 use Rattle.std.specs.Prelude.{nat_le}
 use Rattle.std.specs.List.{flat_map}
 use Rattle.bm_base.specs.declared.commands.Commands.{Commands}
-use Rattle.bm_base.specs.declared.refusal.Refusal.{Refusal}
 use Rattle.bm_base.specs.declared.call.Call.TheVariants as call
 use Rattle.bm_base.specs.declared.call.Answer.TheVariants as answer
-use Rattle.bm_base.specs.Words.{State, has, level, keep, insert_all, whole_round, round_refusal, step, refused_or, count_call}
+use Rattle.bm_base.specs.Words.{State, level, keep, insert_all, whole_round, round_refusal, step, refused_or, count_call}
 use Rattle.bm_base.specs.Promises.Lawful.{IsLawful}
 use Rattle.laws_of_repairs.specs.Repairs.{Covers}
-use Rattle.laws_of_repairs.proofs.Watching.{without_level}
 use Rattle.cluster_report.specs.declared.book.Book.{Book}
 use Rattle.cluster_report.specs.Copies.{commanded_to}
 use Rattle.cluster_report.specs.Sessions.{Follows}
 use Rattle.cluster_report.proofs.StepLemmas.{follows_by}
 use Rattle.cluster_repair.specs.Rows.{AreLeveled}
+use Rattle.bm_base.proofs.Options.{not_there}
 
 pub leveled_cover : (M : State) (bs : List ℕ) → AreLeveled M bs → Covers M bs
-leveled_cover M bs are b none = without_level (level M.cluster M.holdings b) (sym (are.all b) ∙ none)
+leveled_cover M bs are b none = not_there (level M.cluster M.holdings b) (sym (are.all b) ∙ none)
 
 -- the answer to a round, and the state after it
 pub round_answer : (M : State) (k : Commands) → round_refusal M ≡ None → k ≡ (whole_round M).0 → answer.Commanded k ≡ (step M call.Round).0

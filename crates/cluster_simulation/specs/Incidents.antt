@@ -1,4 +1,4 @@
--- What a cluster loses by incidents, and the calls that report it to the manager.
+-- The losses of a cluster by incidents, and the calls that report them to the manager.
 use Rattle.std.specs.Prelude.{ℕ, Bool, false, List, ◌==◌, ◌/◌, ◌%◌, ◌*◌, ◌&&◌, not, map, filter, ◌++◌}
 use Rattle.std.specs.List.{list_any, range_with_len}
 use Rattle.bm_base.specs.declared.call.Call.{Call}

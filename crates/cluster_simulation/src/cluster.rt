@@ -30,7 +30,7 @@ impl Cluster {
         ensures in_step { OnOk result (IsInStep self.new.session) }
     {
         let message = self.session.take_call(rt, call)?;
-        let refused = counted(self.refused, &message);
+        let refused = add_if_refused(self.refused, &message);
         self.refused = refused;
         Ok(())
     }
@@ -69,8 +69,8 @@ impl Cluster {
     }
 }
 
-/// One more where there is a message about a refused call.
-fn counted(refused: u64, message: &Option<String>) -> u64
+/// The number of refused calls, with one more if there is a message; it stops at 2^64 - 1.
+fn add_if_refused(refused: u64, message: &Option<String>) -> u64
     ensures { result ≡ (if is_some message.now then min (refused + 1) (2 ^ 64 - 1) else refused) }
 {
     if message.is_some() {

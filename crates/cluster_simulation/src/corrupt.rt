@@ -7,7 +7,7 @@ use std::alloc::Global;
 
 /// Reports one good replica as corrupt for each of `count` blocks, which are at equal distances
 /// among all `blocks`. The first block and the replicas are drawn. A block without a good replica
-/// is passed over.
+/// is skipped.
 pub fn corrupt_calls(
     alloc: Global,
     dice: &mut Dice,
@@ -16,11 +16,11 @@ pub fn corrupt_calls(
     blocks: u32,
 ) -> Result<Vec<Call>, Refusal> {
     let mut calls = Vec::new(alloc);
-    let first = dice.below(blocks.max(1));
+    let first = dice.draw_below(blocks.max(1));
     for number in 0..count {
         let id = block_at(first, number, count, blocks);
         let places = manager.places(id)?;
-        if let Some(storage) = drawn(dice, places.as_slice()) {
+        if let Some(storage) = draw_storage(dice, places.as_slice()) {
             calls.push(Call::Apply(Event::Corrupt { storage, id }))?;
         }
     }
@@ -42,10 +42,10 @@ fn block_at(first: u32, number: u32, count: u32, blocks: u32) -> BlockId {
 }
 
 /// Draws one of the storages, if there are any.
-fn drawn(dice: &mut Dice, storages: &[StorageId]) -> Option<StorageId> {
+fn draw_storage(dice: &mut Dice, storages: &[StorageId]) -> Option<StorageId> {
     let count = u32::try_from(storages.len()).unwrap_or(u32::MAX);
     if count == 0 {
         return None;
     }
-    storages.get(dice.below(count) as usize).copied()
+    storages.get(dice.draw_below(count) as usize).copied()
 }

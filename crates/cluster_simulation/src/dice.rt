@@ -4,7 +4,7 @@ ghost use Rattle.std.specs.Prelude.{◌<◌};
 use rand::RngExt;
 use rand_pcg::Pcg32;
 
-/// That of the demonstration program of PCG, whose seed is 42.
+/// The stream of the demonstration program of PCG, whose seed is 42.
 const STREAM: u64 = 54;
 
 /// The generator PCG-XSH-RR 64/32.
@@ -21,7 +21,7 @@ impl Dice {
     }
 
     /// A number below `count`.
-    pub fn below(&mut self, count: u32) -> u32
+    pub fn draw_below(&mut self, count: u32) -> u32
         requires { 0 < count }
         ensures { result < count }
     {

@@ -66,7 +66,7 @@ use cluster_progress::Progress;
 use counts::Counts;
 use csv::csv_text;
 use fault::Fault;
-use options::{Asked, Form, Options, asked_by};
+use options::{Arguments, Form, Options, parse_arguments};
 use plan::Plan;
 use rounds::take_all_rounds;
 use simulation::Simulation;
@@ -89,25 +89,25 @@ pub fn simulate_by_words<R: Print + Eprint + AllocGlobal + Threads + Wait + Sync
     rt: &R,
     words: &[String],
 ) -> u8 {
-    match asked_by(rt.alloc(), words) {
+    match parse_arguments(rt.alloc(), words) {
         Ok(asked) => match simulate(rt, asked) {
             Ok(()) => DONE,
-            Err(fault) => say_fault(rt, fault),
+            Err(fault) => print_fault(rt, fault),
         },
-        Err(error) => say_error(rt, &error),
+        Err(error) => print_error(rt, &error),
     }
 }
 
 /// Reports why there is no simulation.
-fn say_error<R: Print + Eprint>(rt: &R, error: &Error) -> u8 {
+fn print_error<R: Print + Eprint>(rt: &R, error: &Error) -> u8 {
     if matches!(error.kind(), ErrorKind::OutOfMemory) {
-        return say_fault(rt, Fault::Memory);
+        return print_fault(rt, Fault::Memory);
     }
     let _ = error.print(rt);
     if error.use_stderr() { MISUSED } else { DONE }
 }
 
-fn say_fault<R: Eprint>(rt: &R, fault: Fault) -> u8 {
+fn print_fault<R: Eprint>(rt: &R, fault: Fault) -> u8 {
     if !fault.is_closed_pipe() {
         let _ = rt.eprintln(format_args!("simulate: {fault}"));
     }
@@ -116,9 +116,9 @@ fn say_fault<R: Eprint>(rt: &R, fault: Fault) -> u8 {
 
 fn simulate<R: Print + Eprint + AllocGlobal + Threads + Wait + Sync>(
     rt: &R,
-    asked: Asked,
+    asked: Arguments,
 ) -> Result<(), Fault> {
-    let text = text_of(rt, rt.alloc(), asked)?;
+    let text = write_result(rt, rt.alloc(), asked)?;
     let mut writer = io::writer(rt);
     if let Err(error) = writer.write_all(text.as_bytes()) {
         return Err(Fault::Write(error));
@@ -130,12 +130,12 @@ fn simulate<R: Print + Eprint + AllocGlobal + Threads + Wait + Sync>(
 }
 
 /// Writes the table or the picture of all rounds.
-fn text_of<R: Eprint + Threads + Wait + Sync>(
+fn write_result<R: Eprint + Threads + Wait + Sync>(
     rt: &R,
     alloc: Global,
-    asked: Asked,
+    asked: Arguments,
 ) -> Result<String, Fault> {
-    let Asked {
+    let Arguments {
         options,
         plan,
         shows_progress,

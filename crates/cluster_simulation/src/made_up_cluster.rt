@@ -14,7 +14,7 @@ use std::alloc::{AllocError, Global};
 use std::sync::Wait;
 use std::thread::Threads;
 
-/// Registers all nodes, places all blocks, and reports what is free.
+/// Registers all nodes, places all blocks, and reports the free bytes.
 pub fn make_up_cluster<R: Threads + Wait + Sync>(
     rt: &R,
     alloc: Global,

@@ -29,7 +29,7 @@ pub enum Form {
 
 /// A parsed command line.
 #[derive(Drop)]
-pub struct Asked {
+pub struct Arguments {
     pub options: Options,
     pub plan: Plan,
     /// Whether standard error shows the progress in rounds.
@@ -54,12 +54,12 @@ pub struct Options {
 
 /// Parses a command line, the program's name first. `Err` is a request for help, a refused command
 /// line, or out of memory.
-pub fn asked_by(alloc: Global, words: &[String]) -> Result<Asked, Error> {
+pub fn parse_arguments(alloc: Global, words: &[String]) -> Result<Arguments, Error> {
     let command = command(alloc)?;
     let matches = command.try_get_matches_from(words)?;
-    let options = options_in(&matches);
-    match plan_in(alloc, &matches, &options) {
-        Ok(plan) => Ok(Asked {
+    let options = parse_options(&matches);
+    match parse_plan(alloc, &matches, &options) {
+        Ok(plan) => Ok(Arguments {
             options,
             plan,
             shows_progress: matches.get_flag("progress") && !matches.get_flag("quiet"),
@@ -282,7 +282,7 @@ fn new_arg<'a>(alloc: Global, name: &'a str) -> Arg<'a> {
 }
 
 /// The parsed options. Each is within its range already, so the clamps change nothing.
-fn options_in(matches: &ArgMatches<'_>) -> Options {
+fn parse_options(matches: &ArgMatches<'_>) -> Options {
     Options {
         shape: Shape::new(
             number_in(matches, "nodes"),
@@ -311,7 +311,7 @@ fn number_in(matches: &ArgMatches<'_>, name: &str) -> u32 {
 }
 
 /// The parsed incidents, if the cluster has what they name and their round is among the rounds.
-fn plan_in<'a>(
+fn parse_plan<'a>(
     alloc: Global,
     matches: &ArgMatches<'a>,
     options: &Options,
@@ -323,14 +323,14 @@ fn plan_in<'a>(
         incidents: incidents_of(alloc, options.shape, lose, drain)?,
         corrupt: matches.get_one::<u32>("corrupt").unwrap_or(NONE_CORRUPT),
     };
-    match misuse_of(&plan, options) {
+    match find_misuse(&plan, options) {
         Some(misuse) => Err(misuse),
         None => Ok(plan),
     }
 }
 
 /// The misuse in the numbers of a plan, if any.
-fn misuse_of<'a>(plan: &Plan, options: &Options) -> Option<Misuse<'a>> {
+fn find_misuse<'a>(plan: &Plan, options: &Options) -> Option<Misuse<'a>> {
     let Options { blocks, rounds, .. } = *options;
     if plan.corrupt > blocks {
         let corrupt = plan.corrupt;

@@ -25,7 +25,7 @@ impl Wish {
         }
     }
 
-    fn suits(&self, rack: u32) -> bool {
+    fn is_suitable(&self, rack: u32) -> bool {
         match self {
             Wish::AnyRack => true,
             Wish::OtherThan(other) => rack != *other,
@@ -45,9 +45,9 @@ pub fn place(
     let mut nodes = Vec::new(alloc);
     let mut storages = Vec::new(alloc);
     for _ in 0..replication.min(shape.nodes) {
-        let start = dice.below(shape.nodes);
+        let start = dice.draw_below(shape.nodes);
         if let Some(node) = next_node(shape, start, nodes.as_slice()) {
-            let place = dice.below(shape.storages);
+            let place = dice.draw_below(shape.storages);
             nodes.push(node)?;
             storages.push(StorageId(shape.storage_at(node, place)))?;
         }
@@ -72,7 +72,7 @@ fn free_node(shape: Shape, start: u32, nodes: &[u32], wish: Wish) -> Option<u32>
 {
     for step in 0..shape.nodes {
         let node = start.wrapping_add(step) % shape.nodes;
-        if !nodes.contains(&node) && wish.suits(shape.rack_of(node)) {
+        if !nodes.contains(&node) && wish.is_suitable(shape.rack_of(node)) {
             return Some(node);
         }
     }

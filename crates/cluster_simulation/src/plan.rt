@@ -75,13 +75,13 @@ pub fn incidents_of<'a>(
         let Some(incident) = loss_of(*word) else {
             return Err(Misuse::NoLoss(*word));
         };
-        add(&mut incidents, known(shape, incident)?)?;
+        add(&mut incidents, validate(shape, incident)?)?;
     }
     for word in drain {
         let Some(node) = number_of(*word) else {
             return Err(Misuse::NoNode(*word));
         };
-        add(&mut incidents, known(shape, Incident::NodeDrains(node))?)?;
+        add(&mut incidents, validate(shape, Incident::NodeDrains(node))?)?;
     }
     Ok(incidents)
 }
@@ -108,7 +108,7 @@ fn number_of(word: &str) -> Option<u32> {
 }
 
 /// The incident, if the cluster has what it names.
-fn known<'a>(shape: Shape, incident: Incident) -> Result<Incident, Misuse<'a>> {
+fn validate<'a>(shape: Shape, incident: Incident) -> Result<Incident, Misuse<'a>> {
     let (kind, number, count) = match incident {
         Incident::RackDies(rack) => ("rack", rack, shape.used_racks()),
         Incident::NodeDies(node) | Incident::NodeDrains(node) => ("node", node, shape.nodes),

@@ -40,7 +40,7 @@ pub fn take_all_rounds<R: Eprint + Threads + Wait + Sync>(
     )
 }
 
-/// The rounds before something goes wrong.
+/// The rounds before the incidents.
 fn take_quiet_rounds<R: Eprint + Threads + Wait + Sync>(
     rt: &R,
     simulation: &mut Simulation,
@@ -62,8 +62,8 @@ fn take_quiet_rounds<R: Eprint + Threads + Wait + Sync>(
     Ok(())
 }
 
-/// The rounds from the one on in which it goes wrong, at time 0. The next comes at the first tick
-/// at which fewer copies are on their way than a round may command.
+/// The rounds from the one of the incidents on, which is at time 0. The next comes at the first
+/// tick at which fewer copies are on their way than a round may command.
 fn take_rounds<R: Eprint + Threads + Wait + Sync>(
     rt: &R,
     simulation: &mut Simulation,

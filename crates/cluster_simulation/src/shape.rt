@@ -30,6 +30,7 @@ impl Shape {
         }
     }
 
+    /// Returns the rack of a node.
     pub fn rack_of(&self, node: u32) -> u32
         ensures rack { result ≡ node % self.now.racks }
         ensures known { result < self.now.racks }
@@ -37,6 +38,7 @@ impl Shape {
         node % self.racks
     }
 
+    /// Returns the node of a storage.
     pub fn node_of(&self, storage: u32) -> u32
         ensures { result ≡ storage / self.now.storages }
     {

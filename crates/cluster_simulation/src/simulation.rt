@@ -34,7 +34,7 @@ pub struct Simulation {
 }
 
 impl Simulation {
-    /// No node.
+    /// An empty cluster with the standard configuration. Refused only if out of memory.
     pub fn new(alloc: Global) -> Result<Simulation, Refusal>
         ensures { IfOk result (λ s. IsInStep s.cluster.session) }
     {
@@ -69,8 +69,8 @@ impl Simulation {
         Ok(())
     }
 
-    /// Takes a round before something goes wrong, and returns the counts after it. DataNodes have
-    /// nothing to do.
+    /// Takes a round before the incidents, and returns the counts after it. DataNodes have nothing
+    /// to do.
     pub fn take_quiet_round<R: Threads + Wait + Sync>(
         &mut self,
         rt: &R,
@@ -90,8 +90,8 @@ impl Simulation {
         Ok(counts)
     }
 
-    /// The planned incidents happen: first what is lost, then what is found corrupt. Returns the
-    /// DataNodes as they are then; what was commanded before never comes.
+    /// Makes the planned incidents happen: first the losses, then the corruptions. Returns the
+    /// DataNodes after them; copies that were commanded before never arrive.
     pub fn go_wrong<R: Threads + Wait + Sync>(
         &mut self,
         rt: &R,
@@ -120,8 +120,8 @@ impl Simulation {
         pace.ticks(&self.cluster.session.book.topology)
     }
 
-    /// Takes a round, and returns the counts after it: DataNodes report what they have done by now,
-    /// in microseconds, and what is free; the manager commands, and DataNodes obey.
+    /// Takes a round, and returns the counts after it: DataNodes report what they have done by
+    /// `now`, in microseconds, and their free bytes; then the manager commands, and DataNodes obey.
     pub fn take_round<R: Threads + Wait + Sync>(
         &mut self,
         rt: &R,
@@ -172,7 +172,7 @@ impl Simulation {
         )
     }
 
-    /// Counts what a round leaves, and resets the count of refused calls.
+    /// Counts blocks and replicas after a round, and resets the count of refused calls.
     fn count(&mut self, counts: &mut Counts) -> Result<(), Refusal>
         requires { Covers self.old.cluster.session.manager self.old.watch.blocks.items }
         ensures counts { OnOk result (IsCounted self.new.cluster.session.manager counts.new) }

@@ -1,4 +1,4 @@
--- What is found about losses, put together.
+-- The parts of an answer, each by the contract of its call, make up the answer to a question.
 use Rattle.std.proofs.Common.{◌≡◌, ℕ, List, [], Option, map, sym, subst}
 use Rattle.std.specs.Prelude.{filter, string_bytes}
 use Rattle.std.specs.Io.KnownBytes.{Appends}
@@ -30,7 +30,7 @@ use Rattle.cluster_what_if.specs.Found.{AreFound, AreFoundOf, IsFoundFor, IsMend
 use Rattle.cluster_what_if.specs.Output.{IsPrinted, found_text}
 use Rattle.cluster_what_if.specs.Text.{lost_text}
 use Rattle.cluster_what_if.specs.declared.answers.Answer.{Answer}
-use Rattle.cluster_what_if.specs.declared.found.Found.{Found}
+use Rattle.cluster_what_if.specs.declared.found.Findings.{Findings}
 use Rattle.cluster_what_if.specs.declared.found.Losses.{Losses}
 use Rattle.cluster_what_if.specs.declared.found.Mended.{Mended}
 use Rattle.cluster_what_if.specs.declared.found.Table.{Table}
@@ -84,7 +84,7 @@ pub nodes_found : (before after : Loaded) (domains : List FailureDomain) (t : Ta
 nodes_found before after domains t is rows kind_is like =
     record { rows = subst (λ ps. AreRows before.files before.session.manager ps t.rows.items) is rows; kind_is = kind_is; like = like }
 
-pub printed : (q : Question) (pace : Option Pace) (most : ℕ) (before after : Loaded) (old new : Option (List ℕ)) (found : Found)
+pub printed : (q : Question) (pace : Option Pace) (most : ℕ) (before after : Loaded) (old new : Option (List ℕ)) (found : Findings)
     → IsFoundFor q pace before after found
     → after.names ≡ before.names
     → after.files ≡ before.files

@@ -1,4 +1,4 @@
--- Rows that are shown, one after another.
+-- Showing or leaving out one row after another gives the shown rows in order.
 use Rattle.std.proofs.Common.{◌≡◌, ℕ, ◌+◌, ◌<◌, ◌≤◌, Bool, true, false, cond, List, [], ◌∷◌, ◌++◌, length, get_or, drop, drop-cons, drop_of_length-le, append_assoc, append-nil, add-one, refl, sym, ap, ◌∙◌}
 use Rattle.cluster_repair.specs.declared.rows.Row.{Row}
 use Rattle.cluster_what_if.specs.ShownRows.{is_shown, shown_from}

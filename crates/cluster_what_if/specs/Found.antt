@@ -1,4 +1,4 @@
--- What is found about losses.
+-- The findings about losses.
 use Rattle.std.specs.Prelude.{◌≡◌, ◌⊎◌, ℕ, List, Option, Some, None, filter, map, string_bytes}
 use Rattle.bm_base.specs.Words.{State, keys, knows_node}
 use Rattle.cluster_input.specs.declared.loaded_cluster.Loaded.{Loaded}
@@ -23,8 +23,8 @@ use Rattle.cluster_report.specs.Sessions.{Follows}
 use Rattle.cluster_report.specs.declared.book.Book.{Book}
 use Rattle.cluster_what_if.specs.Answers.{IsAnswer}
 use Rattle.cluster_what_if.specs.Text.{lost_text}
-use Rattle.cluster_what_if.specs.declared.found.Found.{Found}
-use Rattle.cluster_what_if.specs.declared.found.Found.TheVariants as found
+use Rattle.cluster_what_if.specs.declared.found.Findings.{Findings}
+use Rattle.cluster_what_if.specs.declared.found.Findings.TheVariants as found
 use Rattle.cluster_what_if.specs.declared.found.Losses.{Losses}
 use Rattle.cluster_what_if.specs.declared.found.Mended.{Mended}
 use Rattle.cluster_what_if.specs.declared.found.Table.{Table}
@@ -40,19 +40,19 @@ pub record IsMended (pace : Pace) (nodes : List ℕ) (book : Book) (M N : State)
   pub unmended : AreUnmended N m.unmended.items
   pub reasons : HaveReasons book N.holdings m.repair.datanodes.free m.unmended.items
 
--- the same if there is a pace; else no round is taken
+-- `IsMended` if there is a pace; else no round is taken
 abbrev pub IsMendedAt : Option Pace → List ℕ → Book → State → State → Option Mended → Type 0
 IsMendedAt None nodes book M N None = N ≡ M
 IsMendedAt (Some pace) nodes book M N (Some m) = IsMended pace nodes book M N m
 IsMendedAt _ nodes book M N _ = ⊥
 
--- What is lost by name, the answer about these losses, and what is copied again after them.
+-- The losses by name, the answer about them, and their repair.
 pub record AreFound (before after : Loaded) (pace : Option Pace) (lost : Lost) (it : Losses) : Type 0 where
   pub named : string_bytes it.named ≡ lost_text before.names before.session.book.topology.cluster lost
   pub answer : IsAnswer before.files before.session.manager (events_of lost) it.answer
   pub mended : IsMendedAt pace lost.drained.items after.session.book (after_losses before.session.manager (events_of lost)) after.session.manager it.mended
 
--- the same of all that some words name
+-- `AreFound` for all losses that some words name
 pub record AreFoundOf (before after : Loaded) (pace : Option Pace) (ls : List Loss) (it : Losses) : Type 0 where
   pub lost : Lost
   pub named : AreNamed before.session.book.topology.cluster before.names ls lost
@@ -72,15 +72,15 @@ pub record IsTableOfNodes (before after : Loaded) (t : Table) : Type 0 where
   pub kind_is : t.kind ≡ kind.Node
   pub like : IsLike before.session.manager after.session.manager
 
--- what a question asks for
-abbrev pub IsFoundFor : Question → Option Pace → Loaded → Loaded → Found → Type 0
+-- the findings for a question
+abbrev pub IsFoundFor : Question → Option Pace → Loaded → Loaded → Findings → Type 0
 IsFoundFor (question.Losses ls) pace before after (found.Losses it) = AreFoundOf before after pace ls.items it
 IsFoundFor question.EachRack pace before after (found.Table t) = IsTableOfRacks before after t
 IsFoundFor question.EachNode pace before after (found.Table t) = IsTableOfNodes before after t
 IsFoundFor _ pace before after _ = ⊥
 
--- Why nothing is found. Of losses a word names nothing, or a loss is refused. Of a table a replica
--- is in excess, or a rack or node does not come back. And memory may be refused.
+-- Why a question has no answer. For losses: a name is unknown, or a loss is refused. For a table: a
+-- replica is in excess, or a rack or node does not come back. For both: out of memory.
 abbrev pub IsFindFault : Question → Loaded → Loaded → Fault → Type 0
 IsFindFault (question.Losses ls) before after f = IsFaultOf (first_unknown before.session.book.topology.cluster before.names ls.items) f ⊎ IsRefusal f
 IsFindFault _ before after f = IsRowsFault before.session.manager after.session.manager f

@@ -1,4 +1,4 @@
--- What is answered about losses, and its text.
+-- The answers about losses, and their text.
 pub mod Text
 pub mod Answers
 pub mod Found

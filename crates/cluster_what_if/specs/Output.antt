@@ -10,27 +10,27 @@ use Rattle.cluster_what_if.specs.Found.{IsFoundFor}
 use Rattle.cluster_what_if.specs.RepairText.{repair_text}
 use Rattle.cluster_what_if.specs.Table.{table_text}
 use Rattle.cluster_what_if.specs.Text.{answer_text}
-use Rattle.cluster_what_if.specs.declared.found.Found.{Found}
-use Rattle.cluster_what_if.specs.declared.found.Found.TheVariants as found
+use Rattle.cluster_what_if.specs.declared.found.Findings.{Findings}
+use Rattle.cluster_what_if.specs.declared.found.Findings.TheVariants as found
 use Rattle.cluster_what_if.specs.declared.found.Losses.{Losses}
 use Rattle.cluster_what_if.specs.declared.found.Mended.{Mended}
 
--- what is copied again, if that was asked for
+-- the repair, if one was asked for
 abbrev pub mended_text : Names → FileTable → ℕ → Option Mended → List ℕ
 mended_text names f most None = []
 mended_text names f most (Some m) = repair_text names f most m
 
--- what is lost by name, the answer, and what is copied again
+-- the losses by name, the answer, and the repair
 unfoldable pub losses_text : Names → FileTable → ℕ → Losses → List ℕ
 losses_text names f most it = string_bytes it.named ++ (answer_text f most it.answer ++ mended_text names f most it.mended)
 
--- the lines of what is found
-abbrev pub found_text : Names → FileTable → ℕ → Found → List ℕ
+-- the lines of the findings
+abbrev pub found_text : Names → FileTable → ℕ → Findings → List ℕ
 found_text names f most (found.Losses it) = losses_text names f most it
 found_text names f most (found.Table it) = table_text names f it
 
--- what is found is printed, with at most this number of blocks and files of each list
+-- the findings are printed, with at most this number of blocks and files of each list
 pub record IsPrinted (q : Question) (pace : Option Pace) (most : ℕ) (before after : Loaded) (old new : Option (List ℕ)) : Type 0 where
-  pub found : Found
+  pub found : Findings
   pub is : IsFoundFor q pace before after found
   pub appends : Appends old new (found_text before.names before.files most found)

@@ -2,7 +2,7 @@
 use Rattle.cluster_repair.specs.declared.rows.Row.{Row}
 use Rattle.cluster_simulation.specs.declared.counts.Counts.{Counts}
 
--- What a round leaves. A row has no other counts, so they are 0.
+-- The counts after a round. A row has no other counts, so they are 0.
 abbrev pub counts_in : Row → Counts
 counts_in r = record {
   round = r.round;

@@ -1,4 +1,4 @@
--- The text of what is copied again: a table of rounds, and a line for each fact.
+-- The text of a repair: a table of rounds, and a line for each fact.
 use Rattle.std.specs.Prelude.{ℕ, nat_eq, Bool, true, false, if◌then◌else◌, List, [], ◌++◌, Option, Some, None, codes, count_by, decimal, length, take}
 use Rattle.std.specs.List.{flat_map}
 use Rattle.std.specs.Int.{div_ceil}
@@ -29,7 +29,7 @@ model_line pace =
 unfoldable pub rounds_heading : List ℕ
 rounds_heading = codes "   round    seconds " ++ (level_heads ++ codes "  missing commanded    on_way\n")
 
--- a round, when it was, and what it leaves
+-- a round, its time, and the counts after it
 unfoldable pub round_line : Row → List ℕ
 round_line r =
     number_in 8 r.round ++ (codes " "
@@ -60,7 +60,7 @@ copies_text r =
 unfoldable pub retired_text : Retirement → List ℕ
 retired_text t = codes " retired after " ++ (decimal t.rounds ++ (codes " rounds, " ++ (decimal t.seconds ++ codes " seconds\n")))
 
--- the same, if it can be
+-- after how many rounds and seconds a node can be switched off, if it can
 abbrev pub retirement_text : Option Retirement → List ℕ
 retirement_text None = codes " not retired\n"
 retirement_text (Some t) = retired_text t
@@ -69,7 +69,7 @@ retirement_text (Some t) = retired_text t
 unfoldable pub retirement_line : Names → List Retirement → ℕ → List ℕ
 retirement_line names ts n = codes "node " ++ (name_or_number [] names.nodes n ++ retirement_text (retirement_of ts n))
 
--- why a block stays as it is
+-- why a block stays unrepaired
 abbrev pub reason_word : Reason → List ℕ
 reason_word NoSource = codes "no source"
 reason_word NoTarget = codes "no target"
@@ -81,11 +81,11 @@ same_reason NoTarget NoTarget = true
 same_reason NoSpace NoSpace = true
 same_reason _ _ = false
 
--- how many of these blocks stay as they are for a reason
+-- how many of these blocks stay unrepaired for a reason
 unfoldable pub count_with : Reason → List Unmended → ℕ
 count_with reason us = count_by (λ u. same_reason u.reason reason) us
 
--- how many blocks stay as they are, and how many of them for each reason
+-- how many blocks stay unrepaired, and how many of them for each reason
 unfoldable pub reasons_text : List Unmended → List ℕ
 reasons_text us =
     count_line (codes "unmended blocks") (length us)
@@ -93,18 +93,18 @@ reasons_text us =
     ++ (count_line (codes "no target") (count_with NoTarget us)
     ++ count_line (codes "no space") (count_with NoSpace us)))
 
--- a block that stays as it is
+-- a block that stays unrepaired
 unfoldable pub unmended_line : FileTable → Unmended → List ℕ
 unmended_line f u =
     codes "unmended block " ++ (decimal u.block
     ++ (codes " level " ++ (level_word u.level
     ++ (codes " " ++ (reason_word u.reason ++ end_with (path_of f u.block))))))
 
--- the blocks that stay as they are, and the first of them by name
+-- the blocks that stay unrepaired, and the first of them by name
 unfoldable pub unmended_text : FileTable → ℕ → List Unmended → List ℕ
 unmended_text f most us = reasons_text us ++ flat_map (unmended_line f) (take most us)
 
--- all that is printed of what is copied again
+-- the whole text of a repair
 unfoldable pub repair_text : Names → FileTable → ℕ → Mended → List ℕ
 repair_text names f most m =
     model_line m.pace

@@ -13,12 +13,12 @@ use Rattle.cluster_what_if.specs.Columns.{number_in, word_in, word_first, level_
 use Rattle.cluster_what_if.specs.Text.{yes_or_no}
 use Rattle.cluster_what_if.specs.declared.found.Table.{Table}
 
--- what the names of the rows are of
+-- the kind of the rows: rack or node
 abbrev pub kind_word : Kind → List ℕ
 kind_word Rack = codes "rack"
 kind_word _ = codes "node"
 
--- the column of lost files is there if files are known
+-- there is a column of lost files only if files are known
 abbrev pub if_files : FileTable → List ℕ → List ℕ
 if_files f text = if nat_eq (length f.paths) 0 then [] else text
 
@@ -48,7 +48,7 @@ files_number f lost = if_files f (number_in 10 lost ++ codes " ")
 unfoldable pub lost_text : Outcome → List ℕ
 lost_text w = number_in 11 (length w.lost) ++ (codes " " ++ level_numbers w.after.levels)
 
--- the bytes that are to be copied, those that are free, and whether they suffice
+-- the bytes to copy, the free bytes, and whether these suffice
 unfoldable pub needs_text : ClusterCounts → List ℕ
 needs_text s =
     number_in 20 s.lacking ++ (codes " "

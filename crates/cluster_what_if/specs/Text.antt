@@ -18,7 +18,7 @@ unfoldable pub node_words : List ℕ → Names → ℕ → ℕ → List ℕ
 node_words what names n rack =
     what ++ (codes " node " ++ (name_or_number [] names.nodes n ++ (codes " rack " ++ (name_or_number [] names.racks rack ++ codes "\n"))))
 
--- the same, where the cluster has the rack of the node
+-- a node that is lost or drained, with its rack in the cluster
 abbrev pub node_line : List ℕ → Names → Cluster → ℕ → List ℕ
 node_line what names C n = node_words what names n (unwrap_or (get C.nodes n) 0)
 
@@ -33,7 +33,7 @@ lost_text names C lost =
     ++ (flat_map (storage_line names) lost.storages.items
     ++ flat_map (node_line (codes "lose") names C) lost.nodes.items)
 
--- what is counted, before the losses and after them
+-- a count, before the losses and after them
 unfoldable pub change_line : List ℕ → ℕ → ℕ → List ℕ
 change_line what before after = what ++ (codes " before " ++ (decimal before ++ (codes " after " ++ (decimal after ++ codes "\n"))))
 
@@ -71,11 +71,11 @@ abbrev pub yes_or_no : Bool → List ℕ
 yes_or_no true = codes "yes"
 yes_or_no false = codes "no"
 
--- whether the free bytes suffice for what is to be copied
+-- whether the free bytes suffice for the bytes to copy
 unfoldable pub fits_line : ClusterCounts → List ℕ
 fits_line after = codes "free bytes suffice " ++ (yes_or_no (nat_le after.lacking after.free) ++ codes "\n")
 
--- the bytes that are to be copied, those that are free, and whether they suffice
+-- the bytes to copy, the free bytes, and whether these suffice
 unfoldable pub copies_text : ClusterCounts → List ℕ
 copies_text after =
     count_line (codes "bytes to copy") after.lacking

@@ -1,11 +1,11 @@
-// Finds what the losses of a command line lead to: all of them together, or each alone.
+// Computes the effects of the losses of a command line: of all together, or of each alone.
 ghost use Rattle.std.specs.Prelude.{◌≡◌, IfErr, IfOk, OnOk};
 ghost use Rattle.cluster_report.specs.Sessions.{IsInStep};
 ghost use Rattle.cluster_losses.specs.Faults.{IsRefusal};
 ghost use Rattle.cluster_what_if.specs.Found.{IsFindFault, IsFoundFor, AreFound, IsMended, IsMendedAt};
 
 use crate::answers::{Answer, answer_to_losses};
-use crate::options::Asked;
+use crate::options::Arguments;
 use crate::text::write_lost;
 use bm_base::{NodeId, Refusal};
 use cluster_input::loaded_cluster::Loaded;
@@ -23,7 +23,7 @@ use std::thread::Threads;
 
 /// The findings.
 #[derive(Drop)]
-pub enum Found {
+pub enum Findings {
     Losses(Losses),
     Table(Table),
 }
@@ -38,7 +38,7 @@ pub struct Losses {
     pub mended: Option<Mended>,
 }
 
-/// A repair: the copies, and the blocks that get none.
+/// A repair: its rounds and copies, and the blocks that stay unrepaired.
 #[derive(Drop)]
 pub struct Mended {
     pub pace: Pace,
@@ -54,15 +54,15 @@ pub struct Table {
     pub rows: Vec<Row>,
 }
 
-/// Finds what is asked for. The losses stay made; after a table the cluster is as before.
+/// Answers a question. The losses stay in the cluster; after a table the cluster is as before.
 #[tactic(auto, using(crate::proofs::Findings::found_of, crate::proofs::Findings::racks_found, crate::proofs::Findings::nodes_found))]
 pub fn find<R: Eprint + Threads + Wait + Sync>(
     rt: &R,
     alloc: Global,
     loaded: &mut Loaded,
-    asked: &Asked<'_>,
+    asked: &Arguments<'_>,
     progress: &mut Progress,
-) -> Result<Found, Fault>
+) -> Result<Findings, Fault>
     requires { IsInStep loaded.old.session }
     ensures answers { IfOk result (IsFoundFor asked.now.question asked.now.pace
         loaded.old loaded.new) }
@@ -74,24 +74,24 @@ pub fn find<R: Eprint + Threads + Wait + Sync>(
         Question::Losses(losses) => {
             let lost = Lost::named(alloc, loaded, losses.as_slice())?;
             let losses = find_losses(rt, alloc, loaded, &lost, asked.pace, progress)?;
-            Ok(Found::Losses(losses))
+            Ok(Findings::Losses(losses))
         }
         Question::EachRack => {
             let domains = racks_of(alloc, &loaded.session.book)?;
             let rows = make_rows(rt, alloc, loaded, domains.as_slice())?;
             let kind = Kind::Rack;
-            Ok(Found::Table(Table { kind, rows }))
+            Ok(Findings::Table(Table { kind, rows }))
         }
         Question::EachNode => {
             let domains = nodes_of(alloc, &loaded.session.book)?;
             let rows = make_rows(rt, alloc, loaded, domains.as_slice())?;
             let kind = Kind::Node;
-            Ok(Found::Table(Table { kind, rows }))
+            Ok(Findings::Table(Table { kind, rows }))
         }
     }
 }
 
-/// Makes the losses, and then mends at this pace, if there is one.
+/// Makes the losses, and then repairs the cluster at this pace, if there is one.
 #[tactic(auto, using(crate::proofs::Findings::found_at_once))]
 fn find_losses<R: Eprint + Threads + Wait + Sync>(
     rt: &R,
@@ -113,7 +113,7 @@ fn find_losses<R: Eprint + Threads + Wait + Sync>(
     let session = &mut loaded.session;
     let answer = answer_to_losses(rt, alloc, session, &loaded.files, events.as_slice())?;
     let drained = lost.drained.as_slice();
-    let mended = mend_at(rt, alloc, &mut loaded.session, pace, drained, progress)?;
+    let mended = repair_if_asked(rt, alloc, &mut loaded.session, pace, drained, progress)?;
     Ok(Losses {
         named,
         answer,
@@ -121,8 +121,8 @@ fn find_losses<R: Eprint + Threads + Wait + Sync>(
     })
 }
 
-/// Mends at this pace, if there is one.
-fn mend_at<R: Eprint + Threads + Wait + Sync>(
+/// Repairs the cluster at this pace, if there is one.
+fn repair_if_asked<R: Eprint + Threads + Wait + Sync>(
     rt: &R,
     alloc: Global,
     session: &mut Session,
@@ -135,14 +135,15 @@ fn mend_at<R: Eprint + Threads + Wait + Sync>(
         session.new.manager) }
 {
     match pace {
-        Some(pace) => Ok(Some(mend(rt, alloc, session, pace, drained, progress)?)),
+        Some(pace) => Ok(Some(repair(rt, alloc, session, pace, drained, progress)?)),
         None => Ok(None),
     }
 }
 
-/// Takes rounds until nothing more is copied, and asks why blocks stay as they are.
+/// Takes rounds until nothing more is copied, and finds the reason for each block that stays
+/// unrepaired.
 #[tactic(auto, using(crate::proofs::Findings::mended_at_pace))]
-fn mend<R: Eprint + Threads + Wait + Sync>(
+fn repair<R: Eprint + Threads + Wait + Sync>(
     rt: &R,
     alloc: Global,
     session: &mut Session,

@@ -1,7 +1,6 @@
-//! Answers what is lost with racks, nodes and storages. Reads lines of the line tool or a text of
-//! `hdfs fsck`, and makes their calls on one manager. Then it writes the state of the cluster
-//! without what is lost, with no round between. It may go on with rounds until nothing more is
-//! copied.
+//! Shows the losses if racks, nodes and storages fail. Reads lines of the line tool or a text of
+//! `hdfs fsck`, and makes their calls on one manager. Then it prints the state of the cluster after
+//! the losses, before any round. With `--mend` it goes on with rounds until nothing more is copied.
 //!
 //! ```text
 //! puljemrod_cluster what-if --lose rack:1 cluster.jsonl
@@ -11,8 +10,8 @@
 //! The answer has a line for each fact (docs/WHAT_IF.md). For `each-rack` and `each-node` it is a
 //! table: each is lost alone, and comes back before the next.
 //!
-//! Ends with status 0. The status is 1 if a line was refused, a name is not of the cluster, or a
-//! read, a write or memory failed. It is 2 if the words ask for nothing that exists.
+//! The exit status is 0. It is 1 if a line was refused, a name is unknown, a read or a write
+//! failed, or if out of memory. It is 2 for invalid options.
 #![tactic(auto)]
 
 mod answers;
@@ -43,11 +42,11 @@ use cluster_input::sources::load;
 use cluster_losses::fault::Fault;
 use cluster_losses::loss::{Loss, Question};
 use cluster_losses::loss_events::unknown_of;
-use cluster_pages::output::say_print_fault;
+use cluster_pages::output::print_output_fault;
 use cluster_pages::page_file::write_page;
 use cluster_progress::Progress;
-use found::{Found, find};
-use options::{Asked, asked_of, matches_of};
+use found::{Findings, find};
+use options::{Arguments, matches_of, parse_arguments};
 use output::{print_lines, print_picture};
 use page::found_page;
 use std::alloc::Global;
@@ -63,11 +62,11 @@ const FAULTED: u8 = 1;
 
 const MISUSED: u8 = 2;
 
-/// The program's name, in what it says.
+/// The program's name, in its messages.
 const PROGRAM: &str = "what-if";
 
-/// Answers what the words of a command line ask, the program's name first, on standard output, with
-/// refused lines on `notes`. The result is the exit status.
+/// Runs a command line, the program's name first. Prints the answer to standard output, and notes
+/// on refused lines to `notes`. Returns the exit status.
 pub fn losses_by_words<
     R: Input + Print + Eprint + Files + AllocGlobal + Threads + Wait + Sync,
     N: Print,
@@ -75,11 +74,11 @@ pub fn losses_by_words<
     let alloc: Global = rt.alloc();
     let matches = match matches_of(alloc, words) {
         Ok(matches) => matches,
-        Err(error) => return say_error(rt, &error),
+        Err(error) => return print_error(rt, &error),
     };
-    let asked = match asked_of(alloc, &matches) {
+    let asked = match parse_arguments(alloc, &matches) {
         Ok(asked) => asked,
-        Err(error) => return say_error(rt, &error),
+        Err(error) => return print_error(rt, &error),
     };
     match load(rt, notes, PROGRAM, &asked.input, files_of(&matches)) {
         Some((mut loaded, all_accepted)) => {
@@ -91,16 +90,16 @@ pub fn losses_by_words<
     }
 }
 
-/// Says why there is no answer.
-fn say_error<R: Print + Eprint>(rt: &R, error: &Error) -> u8 {
+/// Prints why there is no answer.
+fn print_error<R: Print + Eprint>(rt: &R, error: &Error) -> u8 {
     if matches!(error.kind(), ErrorKind::OutOfMemory) {
-        return say_fault(rt, Fault::Memory);
+        return print_fault(rt, Fault::Memory);
     }
     let _ = error.print(rt);
     if error.use_stderr() { MISUSED } else { DONE }
 }
 
-fn say_fault<R: Eprint>(rt: &R, fault: Fault) -> u8
+fn print_fault<R: Eprint>(rt: &R, fault: Fault) -> u8
     ensures { result ≡ 1 }
 {
     let _ = rt.eprintln(format_args!("{PROGRAM}: {fault}"));
@@ -114,7 +113,7 @@ fn answer<R: Eprint + Files + AllocGlobal + Threads + Wait + Sync, W: Write>(
     rt: &R,
     writer: &mut W,
     loaded: &mut Loaded,
-    asked: &Asked<'_>,
+    asked: &Arguments<'_>,
 ) -> u8
     requires { IsInStep loaded.old.session }
     ensures { result ≡ 0 → asked.now.is_picture ≡ false
@@ -130,12 +129,12 @@ fn answer<R: Eprint + Files + AllocGlobal + Threads + Wait + Sync, W: Write>(
             drop(found);
             status
         }
-        Err(fault) => say_find_fault(rt, loaded, &asked.question, fault),
+        Err(fault) => print_find_fault(rt, loaded, &asked.question, fault),
     }
 }
 
-/// Says why nothing is found: which name is unknown, if one is.
-fn say_find_fault<R: Eprint + AllocGlobal>(
+/// Prints why there is no answer: which name is unknown, if one is.
+fn print_find_fault<R: Eprint + AllocGlobal>(
     rt: &R,
     loaded: &Loaded,
     question: &Question<'_>,
@@ -150,7 +149,7 @@ fn say_find_fault<R: Eprint + AllocGlobal>(
             ));
             FAULTED
         }
-        None => say_fault(rt, fault),
+        None => print_fault(rt, fault),
     }
 }
 
@@ -159,8 +158,8 @@ fn write_found<R: Eprint + Files + AllocGlobal, W: Write>(
     rt: &R,
     writer: &mut W,
     loaded: &Loaded,
-    asked: &Asked<'_>,
-    found: &Found,
+    asked: &Arguments<'_>,
+    found: &Findings,
 ) -> u8
     ensures { result ≡ 0 → asked.now.is_picture ≡ false
         → Appends (W.contents writer.old) (W.contents writer.new)
@@ -170,7 +169,7 @@ fn write_found<R: Eprint + Files + AllocGlobal, W: Write>(
     let (names, files, most) = (&loaded.names, &loaded.files, asked.most);
     if let Some(path) = asked.page {
         let Ok(page) = found_page(alloc, names, files, most, found) else {
-            return say_fault(rt, Fault::Memory);
+            return print_fault(rt, Fault::Memory);
         };
         if !write_page(rt, PROGRAM, path, page) {
             return FAULTED;
@@ -184,7 +183,7 @@ fn write_found<R: Eprint + Files + AllocGlobal, W: Write>(
     match printed {
         Ok(()) => DONE,
         Err(fault) => {
-            say_print_fault(rt, PROGRAM, &fault);
+            print_output_fault(rt, PROGRAM, &fault);
             FAULTED
         }
     }

@@ -3,7 +3,7 @@ use crate::help::{EXAMPLES, wrong_question, wrong_value};
 use clap::{Arg, ArgAction, ArgMatches, Command, Error, value_parser};
 use cluster_input::options as input;
 use cluster_input::options::with_input;
-use cluster_losses::loss::{Question, question_of};
+use cluster_losses::loss::{Question, parse_question};
 use cluster_repair::repair::Pace;
 use cluster_report::options::with;
 use std::alloc::{AllocError, Global};
@@ -13,10 +13,10 @@ pub const MOST_NAMED: usize = 10;
 
 /// The request of a command line.
 #[derive(Drop)]
-pub struct Asked<'a> {
-    pub input: input::Asked<'a>,
+pub struct Arguments<'a> {
+    pub input: input::LoadOptions<'a>,
     pub question: Question<'a>,
-    /// How fast it is mended, if that is asked for.
+    /// The speed of the repair, if one is asked for.
     pub pace: Option<Pace>,
     /// Whether the answer is a picture.
     pub is_picture: bool,
@@ -35,15 +35,18 @@ pub fn matches_of<'a>(alloc: Global, words: &'a [String]) -> Result<ArgMatches<'
 }
 
 /// The request of these words.
-pub fn asked_of<'a>(alloc: Global, matches: &ArgMatches<'a>) -> Result<Asked<'a>, Error> {
-    let Some(input) = input::asked_of(matches) else {
+pub fn parse_arguments<'a>(
+    alloc: Global,
+    matches: &ArgMatches<'a>,
+) -> Result<Arguments<'a>, Error> {
+    let Some(input) = input::parse_load_options(matches) else {
         return Err(wrong_value(alloc)?);
     };
     let lose = matches.get_strs("lose").unwrap_or(&[]);
     let drain = matches.get_strs("drain").unwrap_or(&[]);
-    let pace = pace_in(matches, input.config.work);
+    let pace = parse_pace(matches, input.config.work);
     let is_picture = matches.get_flag("svg");
-    let Some(question) = question_of(alloc, lose, drain)? else {
+    let Some(question) = parse_question(alloc, lose, drain)? else {
         return Err(wrong_question(alloc)?);
     };
     if !may_ask(&question, pace, is_picture) {
@@ -54,7 +57,7 @@ pub fn asked_of<'a>(alloc: Global, matches: &ArgMatches<'a>) -> Result<Asked<'a>
     } else {
         MOST_NAMED
     };
-    Ok(Asked {
+    Ok(Arguments {
         input,
         question,
         pace,
@@ -65,7 +68,7 @@ pub fn asked_of<'a>(alloc: Global, matches: &ArgMatches<'a>) -> Result<Asked<'a>
     })
 }
 
-/// A table is of losses alone, and a picture of what is mended.
+/// A table is of losses alone, and a picture of the repair.
 fn may_ask(question: &Question<'_>, pace: Option<Pace>, is_picture: bool) -> bool {
     match pace {
         Some(_) => question.is_one(),
@@ -73,8 +76,8 @@ fn may_ask(question: &Question<'_>, pace: Option<Pace>, is_picture: bool) -> boo
     }
 }
 
-/// How fast it is mended, if that is asked for, by a manager with this `work`.
-fn pace_in(matches: &ArgMatches<'_>, work: u32) -> Option<Pace> {
+/// The speed of the repair, if one is asked for, by a manager with this `work`.
+fn parse_pace(matches: &ArgMatches<'_>, work: u32) -> Option<Pace> {
     if !matches.get_flag("mend") {
         return None;
     }
@@ -94,7 +97,7 @@ pub fn command<'a>(alloc: Global) -> Result<Command<'a>, AllocError> {
     Ok(command.after_help(EXAMPLES))
 }
 
-/// The command with what is lost.
+/// The command with the options for losses.
 fn with_losses<'a>(alloc: Global, command: Command<'a>) -> Result<Command<'a>, AllocError> {
     let lose = several(alloc, "lose", "WHAT").help(
         "rack:NAME, node:HOST, storage:ID, each-rack or each-node, the last two alone",
@@ -117,7 +120,7 @@ fn page<'a>(alloc: Global) -> Arg<'a> {
         .help("writes the answer to FILE too, as one page that stands alone")
 }
 
-/// The command with how it is repaired.
+/// The command with the options for the repair.
 fn with_repair<'a>(alloc: Global, command: Command<'a>) -> Result<Command<'a>, AllocError> {
     let mend = flag(alloc, "mend").help("goes on in rounds until nothing more is copied");
     let svg = flag(alloc, "svg").help("with --mend: a picture of the rounds");

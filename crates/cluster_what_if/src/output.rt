@@ -3,7 +3,7 @@ ghost use Rattle.std.specs.Prelude.{◌≡◌, ◌++◌, IfOk, OnOk, string_byte
 ghost use Rattle.std.specs.Io.KnownBytes.{Appends};
 ghost use Rattle.cluster_what_if.specs.Output.{losses_text, mended_text, found_text};
 
-use crate::found::{Found, Losses, Mended};
+use crate::found::{Findings, Losses, Mended};
 use crate::repair_picture::picture_of;
 use crate::repair_text::write_repair;
 use crate::table::write_table;
@@ -13,7 +13,7 @@ use cluster_pages::output::{PrintFault, write_flushed};
 use std::alloc::{AllocError, Global};
 use std::io::Write;
 
-/// Prints the lines of what is found, with at most `most` blocks and files of each list. Nothing is
+/// Prints the lines of the findings, with at most `most` blocks and files of each list. Nothing is
 /// written before all of the text was made.
 pub fn print_lines<W: Write>(
     alloc: Global,
@@ -21,7 +21,7 @@ pub fn print_lines<W: Write>(
     names: &Names,
     files: &Files,
     most: usize,
-    found: &Found,
+    found: &Findings,
 ) -> Result<(), PrintFault>
     ensures { OnOk result (Appends (W.contents writer.old) (W.contents writer.new)
         (found_text names.now files.now most found.now)) }
@@ -34,7 +34,7 @@ pub fn print_lines<W: Write>(
 pub fn print_picture<W: Write>(
     alloc: Global,
     writer: &mut W,
-    found: &Found,
+    found: &Findings,
 ) -> Result<(), PrintFault> {
     let text = picture_text(alloc, found)?;
     print_text(writer, &text)
@@ -51,30 +51,30 @@ fn print_text<W: Write>(writer: &mut W, text: &String) -> Result<(), PrintFault>
 }
 
 /// The picture of the rounds; nothing if there are none.
-fn picture_text(alloc: Global, found: &Found) -> Result<String, AllocError> {
+fn picture_text(alloc: Global, found: &Findings) -> Result<String, AllocError> {
     match found {
-        Found::Losses(losses) => match &losses.mended {
+        Findings::Losses(losses) => match &losses.mended {
             Some(mended) => picture_of(alloc, mended),
             None => Ok(String::new(alloc)),
         },
-        Found::Table(_) => Ok(String::new(alloc)),
+        Findings::Table(_) => Ok(String::new(alloc)),
     }
 }
 
-/// The lines of what is found.
+/// The lines of the findings.
 fn found_text(
     alloc: Global,
     names: &Names,
     files: &Files,
     most: usize,
-    found: &Found,
+    found: &Findings,
 ) -> Result<String, AllocError>
     ensures { IfOk result (λ s. string_bytes s ≡ found_text names.now files.now most found.now) }
 {
     let mut text = String::new(alloc);
     match found {
-        Found::Losses(losses) => write_losses(alloc, &mut text, names, files, most, losses)?,
-        Found::Table(table) => write_table(alloc, &mut text, names, files, table)?,
+        Findings::Losses(losses) => write_losses(alloc, &mut text, names, files, most, losses)?,
+        Findings::Table(table) => write_table(alloc, &mut text, names, files, table)?,
     }
     Ok(text)
 }

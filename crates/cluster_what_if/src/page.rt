@@ -1,6 +1,6 @@
 // The findings as one self-contained page with tables, bars and a picture.
 use crate::answers::Answer;
-use crate::found::{Found, Losses};
+use crate::found::{Findings, Losses};
 use crate::page_rounds::{write_mended, write_mended_facts};
 use crate::page_table::write_table_page;
 use crate::text::fits_word;
@@ -17,18 +17,18 @@ use cluster_pages::text_parts::thousandths;
 use cluster_report::levels::LevelCounts;
 use std::alloc::{AllocError, Global};
 
-/// The page of what is found, with at most `most` blocks and files of each list.
+/// The page of the findings, with at most `most` blocks and files of each list.
 pub fn found_page(
     alloc: Global,
     names: &Names,
     files: &Files,
     most: usize,
-    found: &Found,
+    found: &Findings,
 ) -> Result<String, AllocError> {
     let mut text = String::new(alloc);
     match found {
-        Found::Losses(losses) => write_losses(alloc, &mut text, names, files, most, losses)?,
-        Found::Table(table) => write_table_page(alloc, &mut text, names, files, table)?,
+        Findings::Losses(losses) => write_losses(alloc, &mut text, names, files, most, losses)?,
+        Findings::Table(table) => write_table_page(alloc, &mut text, names, files, table)?,
     }
     write_foot(&mut text)?;
     Ok(text)
@@ -80,7 +80,7 @@ fn write_facts(text: &mut String, files: &Files, losses: &Losses) -> Result<(), 
     text.push_str("</dl>\n")
 }
 
-/// The bytes that are to be copied, those that are free, and whether they suffice.
+/// The bytes to copy, the free bytes, and whether these suffice.
 fn write_needs(text: &mut String, after: &ClusterCounts) -> Result<(), AllocError> {
     write_bytes_fact(text, "bytes to copy", after.lacking)?;
     write_bytes_fact(text, "free bytes", after.free)?;

@@ -19,7 +19,7 @@ use cluster_repair::repair::{Pace, Repair, retirement_of};
 use cluster_repair::rows::Row;
 use std::alloc::{AllocError, Global};
 
-/// The rounds, all copies, and the blocks that stay as they are.
+/// The rounds, all copies, and the blocks that stay unrepaired.
 pub fn write_mended_facts(text: &mut String, mended: &Mended) -> Result<(), AllocError> {
     let datanodes = &mended.repair.datanodes;
     let seconds = datanodes.last_arrival.div_ceil(MICROS);
@@ -31,7 +31,7 @@ pub fn write_mended_facts(text: &mut String, mended: &Mended) -> Result<(), Allo
 }
 
 /// The picture and the table of the rounds, when drained nodes can be switched off, and the blocks
-/// that stay as they are.
+/// that stay unrepaired.
 pub fn write_mended(
     alloc: Global,
     text: &mut String,
@@ -128,7 +128,7 @@ fn write_when(text: &mut String, repair: &Repair, node: NodeId) -> Result<(), Al
     }
 }
 
-/// The blocks that stay as they are: how many for each reason, and the first of them.
+/// The blocks that stay unrepaired: how many for each reason, and the first of them.
 fn write_unmended(
     text: &mut String,
     files: &Files,

@@ -101,8 +101,7 @@ pub fn write_level_cells(text: &mut String, levels: &LevelCounts) -> Result<(), 
     write_number_cell(text, levels.badly_distributed as u128)
 }
 
-/// The bytes that are to be copied with a bar of them, those that are free, and whether they
-/// suffice.
+/// The bytes to copy with a bar of them, the free bytes, and whether these suffice.
 fn write_needs(text: &mut String, after: &ClusterCounts, most: u128) -> Result<(), AllocError> {
     text.push_str("<td class=\"n\">")?;
     write_bytes(text, after.lacking)?;

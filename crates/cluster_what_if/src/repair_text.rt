@@ -18,8 +18,7 @@ use cluster_repair::rows::Row;
 use cluster_report::text_parts::write_count;
 use std::alloc::{AllocError, Global};
 
-/// The table of rounds, and what comes out, with at most `most` of the blocks that stay as they
-/// are.
+/// The table of rounds, and the result, with at most `most` of the blocks that stay unrepaired.
 #[tactic(auto, unfolding(crate::specs::RepairText::repair_text))]
 pub fn write_repair(
     alloc: Global,
@@ -82,7 +81,7 @@ fn write_round_lines(text: &mut String, rows: &[Row]) -> Result<(), AllocError>
     Ok(())
 }
 
-/// A round, when it was, and what it leaves.
+/// A round, its time, and the counts after it.
 #[tactic(auto, unfolding(crate::specs::RepairText::round_line))]
 fn write_round_line(text: &mut String, row: &Row) -> Result<(), AllocError>
     ensures { OnOk result (string_bytes text.new ≡ string_bytes text.old ++ round_line row.now) }
@@ -169,7 +168,7 @@ fn write_retired(text: &mut String, retirement: Retirement) -> Result<(), AllocE
     write!(text, " retired after {rounds} rounds, {seconds} seconds\n")
 }
 
-/// The blocks that stay as they are: how many for each reason, and the first of them.
+/// The blocks that stay unrepaired: how many for each reason, and the first of them.
 #[tactic(auto, unfolding(crate::specs::RepairText::unmended_text))]
 fn write_unmended(
     text: &mut String,
@@ -198,7 +197,7 @@ fn write_reasons(text: &mut String, unmended: &[Unmended]) -> Result<(), AllocEr
     write_count(text, "no space", no_space as u128)
 }
 
-/// How many of these blocks stay as they are for this reason.
+/// How many of these blocks stay unrepaired for this reason.
 #[tactic(auto, unfolding(crate::specs::RepairText::count_with))]
 pub fn count_with(unmended: &[Unmended], reason: Reason) -> usize
     ensures { result ≡ count_with reason unmended.now }
@@ -239,7 +238,7 @@ fn write_unmended_lines(
     Ok(())
 }
 
-/// A block with its level, why it stays as it is, and its file.
+/// A block with its level, why it stays unrepaired, and its file.
 #[tactic(auto, unfolding(crate::specs::RepairText::unmended_line))]
 fn write_unmended_line(
     text: &mut String,
@@ -256,6 +255,7 @@ fn write_unmended_line(
     write_end(text, files.path_of(unmended.block))
 }
 
+/// Returns the word for a reason.
 pub fn reason_word(reason: Reason) -> &'static str
     ensures { result.now ≡ reason_word reason }
 {

@@ -159,7 +159,7 @@ fn write_lost(text: &mut String, without: &Outcome) -> Result<(), AllocError>
     write_level_numbers(text, &without.after.levels)
 }
 
-/// The bytes that are to be copied, those that are free, and whether they suffice.
+/// The bytes to copy, the free bytes, and whether these suffice.
 #[tactic(auto, unfolding(crate::specs::Table::needs_text))]
 fn write_needs(text: &mut String, after: &ClusterCounts) -> Result<(), AllocError>
     ensures { OnOk result (string_bytes text.new ≡ string_bytes text.old ++ needs_text after.now) }

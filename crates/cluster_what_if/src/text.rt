@@ -126,7 +126,7 @@ fn write_name(text: &mut String, name: Option<&str>, number: u32) -> Result<(), 
     }
 }
 
-/// The blocks before and after, what is lost, and what is to be copied.
+/// The blocks before and after, the lost blocks, and the bytes to copy.
 #[tactic(auto, unfolding(crate::specs::Text::answer_text))]
 pub fn write_answer(
     text: &mut String,
@@ -253,7 +253,7 @@ pub fn write_end(text: &mut String, place: Option<(&str, u64)>) -> Result<(), Al
     }
 }
 
-/// The bytes that are to be copied, and whether they fit.
+/// The bytes to copy, and whether they fit.
 #[tactic(auto, unfolding(crate::specs::Text::copies_text))]
 fn write_copies(text: &mut String, after: &ClusterCounts) -> Result<(), AllocError>
     ensures { OnOk result (string_bytes text.new ≡ string_bytes text.old
@@ -272,7 +272,7 @@ fn write_fits(text: &mut String, after: &ClusterCounts) -> Result<(), AllocError
     write!(text, "free bytes suffice {fits}\n")
 }
 
-/// Whether what is to be copied is no more than what is free.
+/// Whether the bytes to copy are at most the free bytes.
 pub fn fits_word(after: &ClusterCounts) -> &'static str
     ensures { result.now ≡ yes_or_no (nat_le after.now.lacking after.now.free) }
 {

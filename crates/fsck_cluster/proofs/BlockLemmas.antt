@@ -1,7 +1,8 @@
--- Laws of blocks in a map by their numbers.
-use Rattle.std.proofs.Common.{◌≡◌, Bool, true, false, cond, List, [], ◌∷◌, ◌||◌, Option, Some, None, is_some, refl, sym, true≢false}
+-- A look-up finds a block exactly if some key in the map passes the test.
+use Rattle.std.proofs.Common.{◌≡◌, Bool, true, false, cond, List, [], ◌∷◌, ◌||◌, Some, None, is_some, refl, sym}
 use Rattle.std.specs.List.{list_any}
 use Rattle.std.specs.Map.{lookup}
+use Rattle.bm_base.proofs.Options.{not_there}
 
 module _ {K X : Type 0} (test : K → Bool) where
   -- a look-up finds an entry exactly if a key passes the test
@@ -13,9 +14,5 @@ module _ {K X : Type 0} (test : K → Bool) where
       by true same = refl
       by false same = same
 
-  none_of : (r : Option X) → is_some r ≡ false → r ≡ None
-  none_of None e = refl
-  none_of (Some x) e = absurd (true≢false e)
-
   pub none-lookup : (es : List (K × X)) → false ≡ is_some (lookup test es) → lookup test es ≡ None
-  none-lookup es e = none_of (lookup test es) (sym e)
+  none-lookup es e = not_there (lookup test es) (sym e)

@@ -1,3 +1,3 @@
--- Lemmas.
+-- Lemmas on the cluster of a text: names and blocks in hash tables.
 pub mod NameLemmas
 pub mod BlockLemmas

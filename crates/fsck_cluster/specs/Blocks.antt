@@ -4,11 +4,11 @@ use Rattle.std.specs.List.{list_any}
 use Rattle.bm_base.specs.declared.replica.BlockInfo.{BlockInfo}
 
 -- blocks with their numbers
-abbrev pub Named : Type 0
-Named = List (ℕ × BlockInfo)
+abbrev pub NumberedBlocks : Type 0
+NumberedBlocks = List (ℕ × BlockInfo)
 
-abbrev pub has_block : Named → ℕ → Bool
+abbrev pub has_block : NumberedBlocks → ℕ → Bool
 has_block blocks id = list_any (λ b. nat_eq id b.0) blocks
 
-abbrev pub with_block : Named → ℕ → BlockInfo → Named
+abbrev pub with_block : NumberedBlocks → ℕ → BlockInfo → NumberedBlocks
 with_block blocks id info = blocks ++ (id, info) ∷ []

@@ -6,7 +6,7 @@ use Rattle.bm_base.specs.declared.replica.Stamp.{Stamp}
 use Rattle.fsck_text.specs.Cuts.{Text}
 use Rattle.fsck_text.specs.Wrongs.{after_ok}
 use Rattle.fsck_text.specs.declared.place.Place.{Place}
-use Rattle.fsck_text.specs.declared.list.Listed.{Listed}
+use Rattle.fsck_text.specs.declared.list.ListedReplica.{ListedReplica}
 use Rattle.fsck_files.specs.Numbers.{with_number}
 use Rattle.fsck_files.specs.Replicas.{is_corrupt, is_draining}
 use Rattle.fsck_files.specs.declared.replicas.Block.{Block}
@@ -50,7 +50,7 @@ abbrev pub fits_rack : Cluster → Option Text → NodeRow → Bool
 fits_rack c (Some rack) row = bytes_eq (name_of c.racks row.rack) rack
 fits_rack c None row = c.knows_nodes || bytes_eq (name_of c.racks row.rack) (codes "/default-rack")
 
--- the same for the node at an index
+-- `fits_rack` for the node at an index
 abbrev pub is_on_rack : Cluster → ℕ → Option Text → Bool
 is_on_rack c index rack = option_map_or (fits_rack c rack) (slice_get c.node_rows index) false
 
@@ -108,25 +108,25 @@ abbrev pub with_replica : Cluster → ℕ → ℕ → Stamp → Cluster
 with_replica c at id stamp = record c { rows = with_held_at c.rows at (record { id = id; stamp = stamp }) }
 
 -- adds a replica to the storage at an index, with the marks of the replica and of its node
-abbrev pub with_listed : Cluster → Block → Listed → ℕ → Row → Cluster
+abbrev pub with_listed : Cluster → Block → ListedReplica → ℕ → Row → Cluster
 with_listed c b l at row =
     with_draining (with_bad (with_replica c at b.id b.stamp) (record { storage = row.number; id = b.id }) (is_corrupt l.mark b.is_corrupt)) row.node (is_draining l.mark)
 
 -- a storage has at most one replica of a block
-abbrev pub on_row : Cluster → Block → Listed → ℕ → Row → After
+abbrev pub on_row : Cluster → Block → ListedReplica → ℕ → Row → After
 on_row c b l at row = if ends_with row b.id then Err why.StorageTwice else Ok (with_listed c b l at row)
 
 -- adds a replica to the storage of its place, which is known
-abbrev pub after_replica : Cluster → Block → Listed → After
+abbrev pub after_replica : Cluster → Block → ListedReplica → After
 after_replica c b l =
     option_map_or (λ at. option_map_or (on_row c b l at) (slice_get c.rows at) (Ok c)) (position (bytes_eq l.place.storage) c.storages) (Ok c)
 
 -- adds one replica, which may be the first on its rack, its node or its storage
-abbrev pub after_place : Cluster → Block → Listed → After
+abbrev pub after_place : Cluster → Block → ListedReplica → After
 after_place c b l = after_ok (λ e. after_replica e b l) (after_ok (λ d. after_storage d l.place) (after_node c l.place))
 
 -- adds the replicas of a block, one after another
-abbrev pub after_places : Cluster → Block → List Listed → After
+abbrev pub after_places : Cluster → Block → List ListedReplica → After
 after_places c b [] = Ok c
 after_places c b (l ∷ ls) = after_ok (λ d. after_places d b ls) (after_place c b l)
 
@@ -150,7 +150,7 @@ after_spare c node =
     else (if not (is_new c.storages (name_of c.nodes node)) then Err why.Elsewhere
     else (if nat_lt (length c.storages) 4096 then Ok (with_spare c node) else Err why.TooManyStorages))
 
--- the same for several nodes
+-- adds a storage for each of several nodes without one
 abbrev pub after_spares : Cluster → List NodeRow → After
 after_spares c [] = Ok c
 after_spares c (row ∷ rows) = after_ok (λ d. after_spares d rows) (after_spare c row.number)

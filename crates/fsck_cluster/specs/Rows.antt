@@ -2,7 +2,7 @@
 use Rattle.std.specs.Prelude.{ℕ, ◌-◌, ◌==◌, Bool, false, List, [], ◌∷◌, ◌++◌, length, slice_get, slice_set}
 use Rattle.std.specs.List.{list_any}
 use Rattle.std.specs.Option.{option_map_or}
-use Rattle.fsck_cluster.specs.declared.rows.Held.{Held}
+use Rattle.fsck_cluster.specs.declared.rows.StoredReplica.{StoredReplica}
 use Rattle.fsck_cluster.specs.declared.rows.Row.{Row}
 
 -- a storage with this number and this node, without replicas
@@ -14,7 +14,7 @@ abbrev pub ends_with : Row → ℕ → Bool
 ends_with row id = option_map_or (λ h. h.id == id) (slice_get row.held (length row.held - 1)) false
 
 -- adds a replica to the storage at an index
-abbrev pub with_held_at : List Row → ℕ → Held → List Row
+abbrev pub with_held_at : List Row → ℕ → StoredReplica → List Row
 with_held_at rows at held =
     option_map_or (λ row. slice_set rows at (record row { held = row.held ++ held ∷ [] })) (slice_get rows at) rows
 

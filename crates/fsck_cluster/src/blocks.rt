@@ -23,6 +23,7 @@ impl Model for Blocks {
 }
 
 impl Blocks {
+    /// Makes an empty map. Takes no memory.
     pub fn new(alloc: Global) -> Blocks
         ensures { result ≡ [] }
     {
@@ -44,6 +45,7 @@ impl Blocks {
         Ok(true)
     }
 
+    /// Returns the number of blocks.
     pub fn len(&self) -> usize
         ensures { result ≡ length self.now }
     {

@@ -4,10 +4,10 @@ ghost use Rattle.fsck_cluster.specs.Clusters.{no_cluster, is_on_rack, is_on_node
 
 use crate::blocks::Blocks;
 use crate::names::Names;
-use crate::rows::{Held, Rows};
+use crate::rows::{Rows, StoredReplica};
 use bm_base::{BlockId, BlockInfo, Items, MAX_NODES, MAX_STORAGES, StorageId};
 use fsck_files::{Block, Numbers, is_corrupt, is_draining};
-use fsck_text::{Listed, Piece, Place};
+use fsck_text::{ListedReplica, Piece, Place};
 use std::alloc::{AllocError, Global};
 use thiserror::Error;
 
@@ -85,7 +85,7 @@ impl From<AllocError> for ClusterFault {
 }
 
 impl Cluster {
-    /// Nothing was read.
+    /// An empty cluster. Takes no memory.
     pub fn new(alloc: Global) -> Cluster
         ensures { result ≡ no_cluster }
     {
@@ -133,7 +133,7 @@ impl Cluster {
         &mut self,
         alloc: Global,
         block: &Block,
-        listed: &Listed,
+        listed: &ListedReplica,
     ) -> Result<(), ClusterFault>
         ensures ok { OnOk result (after_place self.old block.now listed.now ≡ Ok self.new) }
         ensures refused { IfErr result (λ f. IsCause f (after_place self.old block.now listed.now)) }
@@ -180,8 +180,8 @@ impl Cluster {
             Some(rack) => rack.text(),
             None => DEFAULT_RACK,
         };
-        let rack = self.racks.number_of(alloc, rack)?;
-        let node = self.nodes.number_of(alloc, place.address.text())?;
+        let rack = self.racks.intern(alloc, rack)?;
+        let node = self.nodes.intern(alloc, place.address.text())?;
         self.node_rows.push(NodeRow {
             number: node.number,
             rack: rack.number,
@@ -218,13 +218,13 @@ impl Cluster {
     fn add_storage(&mut self, alloc: Global, place: &Place) -> Result<(), AllocError>
         ensures { OnOk result (self.new ≡ after_new_storage self.old place.now) }
     {
-        let node = self.nodes.number_of(alloc, place.address.text())?;
-        let storage = self.storages.number_of(alloc, place.storage.text())?;
+        let node = self.nodes.intern(alloc, place.address.text())?;
+        let storage = self.storages.intern(alloc, place.storage.text())?;
         self.rows.push(alloc, storage.number, node.number)
     }
 
     /// Adds a replica to the storage of its place, which is known.
-    fn take_replica(&mut self, block: &Block, listed: &Listed) -> Result<(), ClusterFault>
+    fn take_replica(&mut self, block: &Block, listed: &ListedReplica) -> Result<(), ClusterFault>
         ensures ok { OnOk result (after_replica self.old block.now listed.now ≡ Ok self.new) }
         ensures refused { IfErr result (λ f. IsCause f (after_replica self.old block.now listed.now)) }
     {
@@ -238,7 +238,7 @@ impl Cluster {
             return Err(ClusterFault::Refused(Why::StorageTwice));
         }
         let (storage, node) = (StorageId(row.number), row.node);
-        let held = Held {
+        let held = StoredReplica {
             id: block.id,
             stamp: block.stamp,
         };
@@ -286,7 +286,7 @@ impl Cluster {
         self.add_spares_of(alloc, nodes.as_slice())
     }
 
-    /// The same for several nodes.
+    /// Gives each of these nodes without a storage one of the node's name.
     fn add_spares_of(&mut self, alloc: Global, nodes: &[NodeRow]) -> Result<(), ClusterFault>
         ensures ok { OnOk result (after_spares self.old nodes.now ≡ Ok self.new) }
         ensures refused { IfErr result (λ f. IsCause f (after_spares self.old nodes.now)) }
@@ -297,7 +297,7 @@ impl Cluster {
         Ok(())
     }
 
-    /// The same for one node.
+    /// Gives a node without a storage one of the node's name.
     fn add_spare(&mut self, alloc: Global, node: u32) -> Result<(), ClusterFault>
         ensures ok { OnOk result (after_spare self.old node ≡ Ok self.new) }
         ensures refused { IfErr result (λ f. IsCause f (after_spare self.old node)) }
@@ -311,7 +311,7 @@ impl Cluster {
         if self.storages.len() >= MAX_STORAGES {
             return Err(ClusterFault::Refused(Why::TooManyStorages));
         }
-        let storage = self.storages.number_of(alloc, self.nodes.name(node))?;
+        let storage = self.storages.intern(alloc, self.nodes.name(node))?;
         Ok(self.rows.push(alloc, storage.number, node)?)
     }
 }

@@ -12,4 +12,4 @@ pub use blocks::Blocks;
 pub use cluster::{Bad, Cluster, ClusterFault, NodeRow, Why};
 pub use names::Names;
 pub use node_list::{NodeFault, NodeList, NodeRefusal, NodeWhy};
-pub use rows::{Held, Row, Rows};
+pub use rows::{Row, Rows, StoredReplica};

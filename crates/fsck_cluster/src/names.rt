@@ -29,6 +29,7 @@ pub struct Numbered {
 }
 
 impl Names {
+    /// Makes an empty set of names. Takes no memory.
     pub fn new(alloc: Global) -> Names
         ensures { result ≡ [] }
     {
@@ -37,6 +38,7 @@ impl Names {
         }
     }
 
+    /// Returns the number of names.
     pub fn len(&self) -> usize
         ensures { result ≡ length self.now }
     {
@@ -45,12 +47,12 @@ impl Names {
 
     /// The number of a name; a new name is added. `Err` when out of memory, or if the number does
     /// not fit into 32 bits.
-    pub fn number_of(&mut self, alloc: Global, name: &str) -> Result<Numbered, AllocError>
+    pub fn intern(&mut self, alloc: Global, name: &str) -> Result<Numbered, AllocError>
         ensures number { IfOk result (λ r. r.number ≡ name_number self.old name.now) }
         ensures new { IfOk result (λ r. r.is_new ≡ is_new self.old name.now) }
         ensures names { OnOk result (self.new ≡ with_name self.old name.now) }
     {
-        let (index, is_new) = self.index_of(alloc, name)?;
+        let (index, is_new) = self.intern_index(alloc, name)?;
         match u32::try_from(index).ok().and_then(|at| at.checked_add(1)) {
             Some(number) => Ok(Numbered { number, is_new }),
             None => Err(AllocError),
@@ -58,7 +60,7 @@ impl Names {
     }
 
     /// The index of a name, and whether it was added now.
-    fn index_of(&mut self, alloc: Global, name: &str) -> Result<(usize, bool), AllocError>
+    fn intern_index(&mut self, alloc: Global, name: &str) -> Result<(usize, bool), AllocError>
         ensures index { IfOk result (λ r. r.0 + 1 ≡ name_number self.old name.now) }
         ensures new { IfOk result (λ r. r.1 ≡ is_new self.old name.now) }
         ensures names { OnOk result (self.new ≡ with_name self.old name.now) }

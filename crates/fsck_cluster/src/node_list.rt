@@ -5,7 +5,7 @@ ghost use Rattle.fsck_cluster.specs.NodeLists.{no_list, ended_row, after_row, co
 
 use crate::cluster::{Cluster, DEFAULT_RACK, NodeRow};
 use bm_base::MAX_NODES;
-use fsck_text::{NodeLine, Wrong, node_line_of};
+use fsck_text::{NodeLine, Wrong, parse_node_line};
 use std::alloc::{AllocError, Global};
 use thiserror::Error;
 
@@ -81,6 +81,7 @@ impl<'a> From<Wrong<'a>> for NodeFault<'a> {
 }
 
 impl NodeList {
+    /// Makes an empty list of nodes. Takes no memory.
     pub fn new(alloc: Global) -> NodeList
         ensures { result ≡ no_list }
     {
@@ -101,7 +102,7 @@ impl NodeList {
         ensures ok { OnOk result (after_line self.old line.entry.now ≡ Ok self.new) }
         ensures refused { IfErr result (λ f. IsCause f (after_line self.old line.entry.now)) }
     {
-        match node_line_of(line)? {
+        match parse_node_line(line)? {
             NodeLine::Live(count) => self.take_section(alloc, true, count),
             NodeLine::NotLive => self.take_section(alloc, false, 0),
             NodeLine::Other => Ok(()),
@@ -160,7 +161,7 @@ impl NodeList {
             return Err(NodeFault::Refused(NodeRefusal::Why(NodeWhy::NoStatus)));
         }
         let rack = if row.rack == 0 {
-            self.cluster.racks.number_of(alloc, DEFAULT_RACK)?.number
+            self.cluster.racks.intern(alloc, DEFAULT_RACK)?.number
         } else {
             row.rack
         };
@@ -175,14 +176,14 @@ impl NodeList {
         ensures refused { IfErr result (λ f. IsCause f (ended_section self.old)) }
     {
         self.end_row(alloc)?;
-        match self.counted() {
+        match self.check_node_count() {
             Ok(()) => Ok(()),
             Err(why) => Err(NodeFault::Refused(NodeRefusal::Why(why))),
         }
     }
 
     /// Checks that the number of live nodes read is the one in the heading of their section.
-    fn counted(&self) -> Result<(), NodeWhy>
+    fn check_node_count(&self) -> Result<(), NodeWhy>
         ensures ok { OnOk result (counted self.now ≡ Ok self.now) }
         ensures refused { IfErr result (λ why. counted self.now ≡ Err (refusal.Why why)) }
     {
@@ -224,7 +225,7 @@ impl NodeList {
         if self.cluster.nodes.len() >= MAX_NODES {
             return Err(NodeFault::Refused(NodeRefusal::Why(NodeWhy::TooManyNodes)));
         }
-        let node = self.cluster.nodes.number_of(alloc, address)?;
+        let node = self.cluster.nodes.intern(alloc, address)?;
         self.row = Some(NodeRow {
             number: node.number,
             rack: 0,
@@ -238,7 +239,7 @@ impl NodeList {
         ensures { OnOk result (self.new ≡ after_rack self.old name.now) }
     {
         if let Some(row) = self.row {
-            let rack = self.cluster.racks.number_of(alloc, name)?.number;
+            let rack = self.cluster.racks.intern(alloc, name)?.number;
             self.row = Some(NodeRow { rack, ..row });
         }
         Ok(())

@@ -8,7 +8,7 @@ use std::marker::Model;
 
 /// A replica on a storage: its block and its stamp.
 #[derive(Clone, Copy, Drop)]
-pub struct Held {
+pub struct StoredReplica {
     pub id: BlockId,
     pub stamp: Stamp,
 }
@@ -18,7 +18,7 @@ pub struct Held {
 pub struct Row {
     pub number: u32,
     pub node: u32,
-    pub held: Items<Held>,
+    pub held: Items<StoredReplica>,
 }
 
 /// The storages in the order of their numbers.
@@ -49,6 +49,7 @@ impl Row {
 }
 
 impl Rows {
+    /// Makes an empty list of storages. Takes no memory.
     pub fn new(alloc: Global) -> Rows
         ensures { result ≡ [] }
     {
@@ -70,7 +71,7 @@ impl Rows {
     }
 
     /// Adds a replica to the storage at an index.
-    pub fn add(&mut self, at: usize, held: Held) -> Result<(), AllocError>
+    pub fn add(&mut self, at: usize, held: StoredReplica) -> Result<(), AllocError>
         ensures { OnOk result (self.new ≡ with_held_at self.old at held) }
     {
         match self.rows.get_mut(at) {
@@ -86,12 +87,14 @@ impl Rows {
         self.rows.as_slice().iter().any(|row| row.node == node)
     }
 
+    /// Returns the storages, by ascending number.
     pub fn as_slice(&self) -> &[Row]
         ensures { result.now ≡ self.now }
     {
         self.rows.as_slice()
     }
 
+    /// Returns the vector of the storages; copies nothing.
     pub fn into_vec(self) -> Vec<Row>
         ensures { result.items ≡ self }
     {

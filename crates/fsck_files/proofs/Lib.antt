@@ -1,2 +1,2 @@
--- Lemmas.
+-- Lemmas on files: the counts of live replicas of a block.
 pub mod CountLemmas

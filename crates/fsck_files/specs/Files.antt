@@ -12,7 +12,7 @@ use Rattle.fsck_text.specs.declared.heading.Layout.{Layout}
 use Rattle.fsck_text.specs.declared.heading.Layout.TheVariants as layout
 use Rattle.fsck_text.specs.declared.line.Line.{Line}
 use Rattle.fsck_text.specs.declared.line.Line.TheVariants as line
-use Rattle.fsck_text.specs.declared.list.Listed.{Listed}
+use Rattle.fsck_text.specs.declared.list.ListedReplica.{ListedReplica}
 use Rattle.fsck_text.specs.declared.summary.Count.{Count}
 use Rattle.fsck_text.specs.declared.wrong.Fault.{Fault}
 use Rattle.fsck_text.specs.declared.wrong.Fault.TheVariants as text_fault
@@ -198,23 +198,23 @@ wanted (Some count) live = count
 wanted None live = max 1 (unwrap_or live 1)
 
 -- the state after a line, and the block that it adds, if any; or why the line is refused
-abbrev pub Taken : Type 0
-Taken = Result (Files × Option Block) Refusal
+abbrev pub LineResult : Type 0
+LineResult = Result (Files × Option Block) Refusal
 
 abbrev pub refused : {A : Type 0} → Why → Result A Refusal
 refused reason = Err (refusal.Why reason)
 
 -- no block is added
-abbrev pub without : After → Taken
+abbrev pub without : After → LineResult
 without (Ok s) = Ok (s, None)
 without (Err reason) = Err (refusal.Why reason)
 
-abbrev pub without_block : Result Files Refusal → Taken
+abbrev pub without_block : Result Files Refusal → LineResult
 without_block (Ok s) = Ok (s, None)
 without_block (Err r) = Err r
 
 -- adds a block, whose replicas are clear or are taken as good
-abbrev pub emitted : Files → BlockLine → ℕ → List Listed → Taken
+abbrev pub emitted : Files → BlockLine → ℕ → List ListedReplica → LineResult
 emitted s b repl listed =
     Ok (
       record s { maintained = plus s.maintained (maintained (has_number s.corrupt b.id) listed) },
@@ -226,26 +226,26 @@ one_unclear s = record s { unclear_blocks = plus s.unclear_blocks 1 }
 
 -- if more places may be live than replicas are, the block is refused, left out, or added with each
 -- place as a good replica
-abbrev pub unclear_by : Unclear → Files → BlockLine → ℕ → List Listed → ℕ → ℕ → Taken
+abbrev pub unclear_by : Unclear → Files → BlockLine → ℕ → List ListedReplica → ℕ → ℕ → LineResult
 unclear_by unclear.Refuse s b repl listed places live = refused (why.MoreThanLive places live)
 unclear_by unclear.Omit s b repl listed places live = Ok (one_unclear s, None)
 unclear_by unclear.Good s b repl listed places live = emitted (one_unclear s) b repl listed
 
 -- compares the number of places that may be live with the number of live replicas
-abbrev pub by_places : Files → BlockLine → ℕ → List Listed → ℕ → ℕ → Taken
+abbrev pub by_places : Files → BlockLine → ℕ → List ListedReplica → ℕ → ℕ → LineResult
 by_places s b repl listed places live =
     if nat_lt places live then refused (why.FewerThanLive places live)
     else (if nat_lt live places then unclear_by s.unclear s b repl listed places live else emitted s b repl listed)
 
 -- Compares the count of live replicas. If each known replica of a block is corrupt, and the places
 -- have no marks, nothing is compared: Hadoop 2.6 writes the number of the places, later versions 0.
-abbrev pub by_count : Files → BlockLine → ℕ → List Listed → ℕ → Taken
+abbrev pub by_count : Files → BlockLine → ℕ → List ListedReplica → ℕ → LineResult
 by_count s b repl listed live =
     if are_unmarked (has_number s.corrupt b.id) listed then emitted s b repl listed
     else by_places s b repl listed (claims (has_number s.corrupt b.id) listed) live
 
--- the same if fsck counts live replicas; else the block is missing
-abbrev pub by_live : Files → BlockLine → ℕ → List Listed → Option ℕ → Taken
+-- Compares the count of live replicas if fsck has one; else the block is missing.
+abbrev pub by_live : Files → BlockLine → ℕ → List ListedReplica → Option ℕ → LineResult
 by_live s b repl listed None = emitted (record s { counts = with_missing s.counts false }) b repl listed
 by_live s b repl listed (Some live) = by_count s b repl listed live
 
@@ -256,18 +256,18 @@ with_one_read f corrupt = record f { read = f.read + 1; corrupt_read = if corrup
 abbrev pub one_read : Files → Bool → Files
 one_read s corrupt = record s { file = with_one_read s.file corrupt }
 
-abbrev pub after_listed : Files → BlockLine → ℕ → Result (List Listed) Wrong → Taken
+abbrev pub after_listed : Files → BlockLine → ℕ → Result (List ListedReplica) Wrong → LineResult
 after_listed s b repl (Ok listed) = by_live (one_read s (has_number s.corrupt b.id)) b repl listed b.live
 after_listed s b repl (Err w) = Err (refusal.Wrong w)
 
 -- more than 16 replicas of a block are wanted: its file is left out, if this is its first block
-abbrev pub after_over : Files → Taken
+abbrev pub after_over : Files → LineResult
 after_over s =
     if s.file.read == 0 then without (left_out (one_read s false) kind.OverReplicated) else refused (why.Unsupported kind.OverReplicated)
 
 -- A block whose line is understood. Hadoop 2 does not print the replication of a file without
 -- under-replicated blocks, so its first block shows whether more than 16 replicas are wanted.
-abbrev pub after_block : Files → BlockLine → Taken
+abbrev pub after_block : Files → BlockLine → LineResult
 after_block s b =
     let repl = wanted s.file.target b.live in
     if repl == 0 then refused why.NoneWanted
@@ -287,26 +287,26 @@ abbrev pub is_begun : File → ℕ → Text → Bool
 is_begun f index text = (index == f.read) && is_being_written text
 
 -- a line of a block whose file is left out
-abbrev pub after_passed : Files → ℕ → Text → Taken
+abbrev pub after_passed : Files → ℕ → Text → LineResult
 after_passed s index text =
     if is_next s.file index then Ok (passed (one_read s false) text, None)
     else (if is_begun s.file index text then Ok (s, None) else refused why.NotNext)
 
 -- a line of a block with this index
-abbrev pub after_indexed : Files → ℕ → Text → Taken
+abbrev pub after_indexed : Files → ℕ → Text → LineResult
 after_indexed s index text =
     if s.file.is_left_out then after_passed s index text
     else (if is_next s.file index then read_as (after_block s) (block_of text) else refused why.NotNext)
 
 -- a block comes after the heading of its file, and before the summary
-abbrev pub after_placed : Section → Files → ℕ → Text → Taken
+abbrev pub after_placed : Section → Files → ℕ → Text → LineResult
 after_placed section.Before s index text = refused why.NoHeading
 after_placed section.Begun s index text = refused why.NoHeading
 after_placed section.Files s index text = after_indexed s index text
 after_placed section.Summary s index text = refused why.OutOfPlace
 after_placed section.Behind s index text = refused why.OutOfPlace
 
-abbrev pub after_kind : Files → Line → Taken
+abbrev pub after_kind : Files → Line → LineResult
 after_kind s line.First = without (after_first s s.section)
 after_kind s (line.Heading h) = without (after_heading s h)
 after_kind s (line.Corrupt text) = without_block (after_corrupt s text)
@@ -319,7 +319,7 @@ after_kind s (line.Last healthy of_all) = without (after_last s healthy of_all)
 after_kind s line.Other = Ok (s, None)
 
 -- the state after one more line
-abbrev pub after_line : Files → Text → Taken
+abbrev pub after_line : Files → Text → LineResult
 after_line s text = read_as (after_kind s) (line_of text)
 
 -- the fault of a list, as the fault of its line

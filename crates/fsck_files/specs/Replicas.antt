@@ -2,7 +2,7 @@
 use Rattle.std.specs.Prelude.{ℕ, ◌==◌, ◌&&◌, Bool, true, false, not, List, if◌then◌else◌, count_by, length, nat_lt}
 use Rattle.fsck_text.specs.declared.mark.Mark.{Mark}
 use Rattle.fsck_text.specs.declared.mark.Mark.TheVariants as mark
-use Rattle.fsck_text.specs.declared.list.Listed.{Listed}
+use Rattle.fsck_text.specs.declared.list.ListedReplica.{ListedReplica}
 
 -- Whether a replica with a mark is corrupt. If fsck reports each known replica of its block as
 -- corrupt, so is one without a mark. So is one whose mark only reports that its node is
@@ -37,7 +37,7 @@ is_maintained mark.InMaintenance = true
 is_maintained _ = false
 
 -- the number of replicas that are live by their marks, or may be without a mark
-abbrev pub claims : Bool → List Listed → ℕ
+abbrev pub claims : Bool → List ListedReplica → ℕ
 claims block_is_corrupt listed = count_by (λ one. claims_live block_is_corrupt one.mark) listed
 
 abbrev pub is_marked : Mark → Bool
@@ -46,9 +46,9 @@ is_marked _ = true
 
 -- whether fsck reports each known replica of a block as corrupt, and none of the listed replicas
 -- has a mark
-abbrev pub are_unmarked : Bool → List Listed → Bool
+abbrev pub are_unmarked : Bool → List ListedReplica → Bool
 are_unmarked block_is_corrupt listed = block_is_corrupt && nat_lt 0 (length listed) && (count_by (λ one. is_marked one.mark) listed == 0)
 
 -- the number of replicas on nodes in maintenance that count as good: none of a corrupt block
-abbrev pub maintained : Bool → List Listed → ℕ
+abbrev pub maintained : Bool → List ListedReplica → ℕ
 maintained is_corrupt listed = if is_corrupt then 0 else count_by (λ one. is_maintained one.mark) listed

@@ -2,7 +2,7 @@
 ghost use Rattle.std.specs.Prelude.{◌≡◌};
 ghost use Rattle.fsck_files.specs.Counts.{no_counts, none_summed, with_blocks, with_missing, with_corrupt, is_healthy, number_of, with_sum};
 
-use crate::skips::plus;
+use crate::skips::add_saturating;
 use fsck_text::Count;
 
 /// The counts of what was read, including files that are left out.
@@ -17,6 +17,7 @@ pub struct Counts {
 }
 
 impl Counts {
+    /// Makes counts that are all 0.
     pub fn new() -> Counts
         ensures { result ≡ no_counts }
     {
@@ -37,12 +38,12 @@ impl Counts {
         let blocks = u64::from(blocks);
         if is_coded {
             Counts {
-                groups: plus(self.groups, blocks),
+                groups: add_saturating(self.groups, blocks),
                 ..self
             }
         } else {
             Counts {
-                blocks: plus(self.blocks, blocks),
+                blocks: add_saturating(self.blocks, blocks),
                 ..self
             }
         }
@@ -54,12 +55,12 @@ impl Counts {
     {
         if is_coded {
             Counts {
-                missing_groups: plus(self.missing_groups, 1),
+                missing_groups: add_saturating(self.missing_groups, 1),
                 ..self
             }
         } else {
             Counts {
-                missing: plus(self.missing, 1),
+                missing: add_saturating(self.missing, 1),
                 ..self
             }
         }
@@ -71,12 +72,12 @@ impl Counts {
     {
         if is_coded {
             Counts {
-                corrupt_groups: plus(self.corrupt_groups, 1),
+                corrupt_groups: add_saturating(self.corrupt_groups, 1),
                 ..self
             }
         } else {
             Counts {
-                corrupt: plus(self.corrupt, 1),
+                corrupt: add_saturating(self.corrupt, 1),
                 ..self
             }
         }
@@ -115,6 +116,7 @@ pub struct Summed {
 }
 
 impl Summed {
+    /// Makes a record in which no summary is read.
     pub fn new() -> Summed
         ensures { result ≡ none_summed }
     {

@@ -5,12 +5,12 @@ ghost use Rattle.fsck_files.specs.Files.{no_files, is_open, unended, is_next, is
 use crate::counts::{Counts, Summed};
 use crate::numbers::Numbers;
 use crate::refusal::{Mismatch, Refusal, Why};
-use crate::replicas::{Block, are_unmarked, claims, maintained};
-use crate::skips::{Kind, LeftOut, Skips, Unclear, kind_of, over_replicated, plus};
+use crate::replicas::{Block, are_unmarked, count_in_maintenance, count_maybe_live};
+use crate::skips::{Kind, LeftOut, Skips, Unclear, add_saturating, kind_of, over_replicated};
 use bm_base::Items;
 use fsck_text::{
-    BlockLine, Count, Fault, Heading, Layout, Line, Listed, Wrong, block_of, corrupt_block,
-    is_being_written, is_missing, line_of, list_of,
+    BlockLine, Count, Fault, Heading, Layout, Line, ListedReplica, Wrong, corrupt_block,
+    is_being_written, is_missing, parse_block, parse_line, parse_list,
 };
 use std::alloc::{AllocError, Global};
 
@@ -53,7 +53,7 @@ impl File {
         ensures { result ≡ with_one_read self is_corrupt }
     {
         let corrupt_read = if is_corrupt {
-            plus(self.corrupt_read, 1)
+            add_saturating(self.corrupt_read, 1)
         } else {
             self.corrupt_read
         };
@@ -146,7 +146,7 @@ impl<'a> From<Fault<'a>> for LineFault<'a> {
 }
 
 impl Files {
-    /// Nothing was read.
+    /// The state before the first line. Takes no memory.
     pub fn new(alloc: Global, skips: Skips, unclear: Unclear) -> Files
         ensures { result ≡ no_files skips unclear }
     {
@@ -188,7 +188,7 @@ impl Files {
         ensures ok { IfOk result (λ block. after_line self.old line.entry.now ≡ Ok (self.new, block)) }
         ensures refused { IfErr result (λ f. IsCause f (after_line self.old line.entry.now)) }
     {
-        match line_of(line)? {
+        match parse_line(line)? {
             Line::Block(index, text) => return self.take_placed(alloc, index, text.text()),
             Line::First => self.take_first()?,
             Line::Heading(heading) => self.take_heading(heading)?,
@@ -227,8 +227,8 @@ impl Files {
         Ok(())
     }
 
-    /// Why the next heading or the summary may not come here.
-    fn unended(&self) -> Option<Why>
+    /// Why no heading and no summary may come here, if so.
+    fn why_incomplete(&self) -> Option<Why>
         ensures { result ≡ unended self.now }
     {
         if matches!(self.section, Section::Summary | Section::Behind) {
@@ -246,7 +246,7 @@ impl Files {
         ensures ok { OnOk result (after_heading self.old heading ≡ Ok self.new) }
         ensures refused { IfErr result (λ why. after_heading self.old heading ≡ Err why) }
     {
-        if let Some(why) = self.unended() {
+        if let Some(why) = self.why_incomplete() {
             return Err(why);
         }
         let is_coded = matches!(heading.layout, Layout::ErasureCoded);
@@ -314,7 +314,7 @@ impl Files {
         ensures ok { OnOk result (after_status self.old is_healthy ≡ Ok self.new) }
         ensures refused { IfErr result (λ why. after_status self.old is_healthy ≡ Err why) }
     {
-        if let Some(why) = self.unended() {
+        if let Some(why) = self.why_incomplete() {
             return Err(why);
         }
         self.section = Section::Summary;
@@ -342,7 +342,7 @@ impl Files {
         ensures { self.new ≡ after_unlisted self.old files }
     {
         if matches!(self.section, Section::Summary) {
-            self.unlisted = plus(self.unlisted, files);
+            self.unlisted = add_saturating(self.unlisted, files);
         }
     }
 
@@ -400,7 +400,7 @@ impl Files {
         if !self.is_next(index) {
             return Err(LineFault::from(Why::NotNext));
         }
-        let block = block_of(text)?;
+        let block = parse_block(text)?;
         self.take_block(alloc, block)
     }
 
@@ -441,14 +441,14 @@ impl Files {
         ensures ok { IfOk result (λ taken. after_block self.old block.entry ≡ Ok (self.new, taken)) }
         ensures refused { IfErr result (λ f. IsCause f (after_block self.old block.entry)) }
     {
-        let repl = wanted(self.file.target, block.live);
+        let repl = wanted_replicas(self.file.target, block.live);
         if repl == 0 {
             return Err(LineFault::from(Why::NoneWanted));
         }
         if over_replicated(repl) {
             return self.take_over_replicated();
         }
-        let listed = list_of(alloc, block.list.text())?;
+        let listed = parse_list(alloc, block.list.text())?;
         let is_corrupt = self.corrupt.has(block.id.0);
         self.file = self.file.with_one_read(is_corrupt);
         self.take_listed(block, repl, listed)
@@ -474,14 +474,14 @@ impl Files {
         &mut self,
         block: BlockLine<'a>,
         repl: u32,
-        listed: Items<Listed<'a>>,
+        listed: Items<ListedReplica<'a>>,
     ) -> Result<Option<Block<'a>>, LineFault<'a>>
         ensures ok { IfOk result (λ taken. by_live self.old block.entry repl listed.entry block.entry.live ≡ Ok (self.new, taken)) }
         ensures refused { IfErr result (λ f. IsCause f (by_live self.old block.entry repl listed.entry block.entry.live)) }
     {
         let Some(live) = block.live else {
             self.counts = self.counts.with_missing(false);
-            return Ok(Some(self.emit(block, repl, listed)));
+            return Ok(Some(self.make_block(block, repl, listed)));
         };
         self.take_counted(block, repl, listed, live)
     }
@@ -492,7 +492,7 @@ impl Files {
         &mut self,
         block: BlockLine<'a>,
         repl: u32,
-        listed: Items<Listed<'a>>,
+        listed: Items<ListedReplica<'a>>,
         live: u32,
     ) -> Result<Option<Block<'a>>, LineFault<'a>>
         ensures ok { IfOk result (λ taken. by_count self.old block.entry repl listed.entry live ≡ Ok (self.new, taken)) }
@@ -500,9 +500,9 @@ impl Files {
     {
         let is_corrupt = self.corrupt.has(block.id.0);
         if are_unmarked(is_corrupt, listed.as_slice()) {
-            return Ok(Some(self.emit(block, repl, listed)));
+            return Ok(Some(self.make_block(block, repl, listed)));
         }
-        let places = claims(is_corrupt, listed.as_slice());
+        let places = count_maybe_live(is_corrupt, listed.as_slice());
         self.take_places(block, repl, listed, places, live)
     }
 
@@ -512,7 +512,7 @@ impl Files {
         &mut self,
         block: BlockLine<'a>,
         repl: u32,
-        listed: Items<Listed<'a>>,
+        listed: Items<ListedReplica<'a>>,
         places: usize,
         live: u32,
     ) -> Result<Option<Block<'a>>, LineFault<'a>>
@@ -531,22 +531,27 @@ impl Files {
                 }
                 Unclear::Omit => {
                     drop(listed);
-                    self.unclear_blocks = plus(self.unclear_blocks, 1);
+                    self.unclear_blocks = add_saturating(self.unclear_blocks, 1);
                     return Ok(None);
                 }
-                Unclear::Good => self.unclear_blocks = plus(self.unclear_blocks, 1),
+                Unclear::Good => self.unclear_blocks = add_saturating(self.unclear_blocks, 1),
             }
         }
-        Ok(Some(self.emit(block, repl, listed)))
+        Ok(Some(self.make_block(block, repl, listed)))
     }
 
     /// The block that is added.
-    fn emit<'a>(&mut self, block: BlockLine<'a>, repl: u32, listed: Items<Listed<'a>>) -> Block<'a>
+    fn make_block<'a>(
+        &mut self,
+        block: BlockLine<'a>,
+        repl: u32,
+        listed: Items<ListedReplica<'a>>,
+    ) -> Block<'a>
         ensures { emitted self.old block.entry repl listed.entry ≡ Ok (self.new, Some result) }
     {
         let is_corrupt = self.corrupt.has(block.id.0);
-        let maintained = maintained(is_corrupt, listed.as_slice());
-        self.maintained = plus(self.maintained, maintained as u64);
+        let maintained = count_in_maintenance(is_corrupt, listed.as_slice());
+        self.maintained = add_saturating(self.maintained, maintained as u64);
         Block {
             id: block.id,
             stamp: block.stamp,
@@ -565,7 +570,7 @@ impl Files {
 }
 
 /// The number of wanted replicas of a block.
-fn wanted(target: Option<u32>, live: Option<u32>) -> u32
+fn wanted_replicas(target: Option<u32>, live: Option<u32>) -> u32
     ensures { result ≡ wanted target live }
 {
     match target {

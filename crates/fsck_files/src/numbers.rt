@@ -21,6 +21,7 @@ impl Model for Numbers {
 }
 
 impl Numbers {
+    /// Makes an empty set. Takes no memory.
     pub fn new(alloc: Global) -> Numbers
         ensures { result ≡ [] }
     {
@@ -29,24 +30,28 @@ impl Numbers {
         }
     }
 
+    /// Returns how many numbers the set has.
     pub fn len(&self) -> usize
         ensures { result ≡ length self.now }
     {
         self.set.len()
     }
 
+    /// Removes all numbers.
     pub fn clear(&mut self)
         ensures { self.new ≡ [] }
     {
         self.set.clear();
     }
 
+    /// Returns whether the set has a number.
     pub fn has(&self, number: u64) -> bool
         ensures { result ≡ has_number self.now number }
     {
         self.set.contains(&number)
     }
 
+    /// Adds a number unless the set has it. Refused only if out of memory.
     pub fn add(&mut self, number: u64) -> Result<(), AllocError>
         ensures { OnOk result (self.new ≡ with_number self.old number) }
     {

@@ -3,7 +3,7 @@ ghost use Rattle.std.specs.Prelude.{◌≡◌};
 ghost use Rattle.fsck_files.specs.Replicas.{is_corrupt, is_draining, claims_live, is_maintained, claims, is_marked, are_unmarked, maintained};
 
 use bm_base::{BlockId, Items, Stamp};
-use fsck_text::{Listed, Mark};
+use fsck_text::{ListedReplica, Mark};
 
 /// A block that is added.
 #[derive(Drop)]
@@ -15,7 +15,7 @@ pub struct Block<'a> {
     /// Whether fsck reports each known replica as corrupt.
     pub is_corrupt: bool,
     /// The replicas in the order of the list.
-    pub replicas: Items<Listed<'a>>,
+    pub replicas: Items<ListedReplica<'a>>,
 }
 
 /// Whether a replica with a mark is corrupt. If fsck reports its block as corrupt, so is one
@@ -61,7 +61,7 @@ fn is_maintained(mark: Mark) -> bool
 }
 
 /// The number of replicas that are live by their marks, or may be without a mark.
-pub fn claims(block_is_corrupt: bool, listed: &[Listed]) -> usize
+pub fn count_maybe_live(block_is_corrupt: bool, listed: &[ListedReplica]) -> usize
     ensures { result ≡ claims block_is_corrupt listed.now }
 {
     listed
@@ -77,7 +77,7 @@ fn is_marked(mark: Mark) -> bool
 }
 
 /// Whether a block is corrupt, and none of the listed replicas has a mark.
-pub fn are_unmarked(block_is_corrupt: bool, listed: &[Listed]) -> bool
+pub fn are_unmarked(block_is_corrupt: bool, listed: &[ListedReplica]) -> bool
     ensures { result ≡ are_unmarked block_is_corrupt listed.now }
 {
     let marked = listed.iter().filter(|one| is_marked(one.mark)).count();
@@ -85,7 +85,7 @@ pub fn are_unmarked(block_is_corrupt: bool, listed: &[Listed]) -> bool
 }
 
 /// The number of replicas on nodes in maintenance that count as good: none of a corrupt block.
-pub fn maintained(is_corrupt: bool, listed: &[Listed]) -> usize
+pub fn count_in_maintenance(is_corrupt: bool, listed: &[ListedReplica]) -> usize
     ensures { result ≡ maintained is_corrupt listed.now }
 {
     if is_corrupt {

@@ -74,13 +74,14 @@ pub fn kind_of(heading: Heading) -> Option<Kind>
 }
 
 /// A counter that saturates.
-pub fn plus(count: u64, more: u64) -> u64
+pub fn add_saturating(count: u64, more: u64) -> u64
     ensures { result ≡ plus count more }
 {
     count.saturating_add(more)
 }
 
 impl Skips {
+    /// Returns whether files of a kind are left out.
     pub fn has(self, kind: Kind) -> bool
         ensures { result ≡ skips self kind }
     {
@@ -100,19 +101,19 @@ impl LeftOut {
     {
         match kind {
             Kind::ErasureCoded => LeftOut {
-                erasure_coded: plus(self.erasure_coded, 1),
+                erasure_coded: add_saturating(self.erasure_coded, 1),
                 ..self
             },
             Kind::Open => LeftOut {
-                open_files: plus(self.open_files, 1),
+                open_files: add_saturating(self.open_files, 1),
                 ..self
             },
             Kind::Snapshot => LeftOut {
-                snapshots: plus(self.snapshots, 1),
+                snapshots: add_saturating(self.snapshots, 1),
                 ..self
             },
             Kind::OverReplicated => LeftOut {
-                over_replicated: plus(self.over_replicated, 1),
+                over_replicated: add_saturating(self.over_replicated, 1),
                 ..self
             },
         }

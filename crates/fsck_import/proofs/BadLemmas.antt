@@ -261,17 +261,17 @@ numbered-push rows names row name h e = map_push node_number rows row ∙ ap (λ
 above_it : (n m : ℕ) → n ≤ m → (n == m) ≡ false → suc n ≤ m
 above_it n m h e = grind (arith, nat_tests)
 
-pub has-count_up : (n k m : ℕ) → n ≤ m → m < n + k → has_number (range_from n k) m ≡ true
-has-count_up n zero m above below = absurd (omega (arith, above, below))
-has-count_up n (suc k) m above below = by (n == m) refl (λ h. has-count_up (suc n) k m h (omega (arith, below)))
+pub has-range_from : (n k m : ℕ) → n ≤ m → m < n + k → has_number (range_from n k) m ≡ true
+has-range_from n zero m above below = absurd (omega (arith, above, below))
+has-range_from n (suc k) m above below = by (n == m) refl (λ h. has-range_from (suc n) k m h (omega (arith, below)))
   where
     by : (b : Bool) → (n == m) ≡ b → (suc n ≤ m → has_number (range_from (suc n) k) m ≡ true) → (b || has_number (range_from (suc n) k) m) ≡ true
     by true e rest = refl
     by false e rest = rest (above_it n m above e)
 
-pub in-count_up : (n k m : ℕ) → has_number (range_from n k) m ≡ true → (n ≤ m) × (m < n + k)
-in-count_up n zero m h = absurd (true≢false (sym h))
-in-count_up n (suc k) m h = by (n == m) refl h (in-count_up (suc n) k m)
+pub in-range_from : (n k m : ℕ) → has_number (range_from n k) m ≡ true → (n ≤ m) × (m < n + k)
+in-range_from n zero m h = absurd (true≢false (sym h))
+in-range_from n (suc k) m h = by (n == m) refl h (in-range_from (suc n) k m)
   where
     by : (b : Bool) → (n == m) ≡ b → (b || has_number (range_from (suc n) k) m) ≡ true → (has_number (range_from (suc n) k) m ≡ true → (suc n ≤ m) × (m < suc n + k)) → (n ≤ m) × (m < n + suc k)
     by true e h rest = let same : n ≡ m = same_number n m e in (omega (arith, same), omega (arith, same))

@@ -20,14 +20,14 @@ use Rattle.fsck_import.specs.Laws.{after_blocks, IsFresh, ids, add_of, replicas_
 use Rattle.fsck_import.proofs.CallLemmas.{adds_in-calls, adds_first}
 use Rattle.fsck_import.proofs.StorageLemmas.{Fit, Stored, on_rows}
 use Rattle.fsck_import.proofs.OnceLemmas.{Once, has_twice, rows_once}
-use Rattle.fsck_import.proofs.BadLemmas.{by_name, HasName, Corrupted, bad-more, Drained, Drains, drains_first, node_number, has-count_up}
-use Rattle.fsck_import.proofs.SoundLemmas.{OnNode, Taken, Sound}
+use Rattle.fsck_import.proofs.BadLemmas.{by_name, HasName, Corrupted, bad-more, Drained, Drains, drains_first, node_number, has-range_from}
+use Rattle.fsck_import.proofs.SoundLemmas.{OnNode, TakenBlocks, Sound}
 use Rattle.fsck_import.proofs.BlockLemmas.{numbered, with_blocks, blocks_sound, all_blocks, all_numbers, all_replicas, all_bad, all_addresses}
 use Rattle.fsck_import.proofs.ReportLemmas.{rows_reported, empty_reported, calls_report, calls_corrupt, calls_drain, drained_from, node_drains}
 use Rattle.fsck_import.proofs.SpareLemmas.{Spared, all_spared}
 
 -- no block was added; these nodes drain
-abbrev pub nothing_taken : List Text → Taken
+abbrev pub nothing_taken : List Text → TakenBlocks
 nothing_taken addresses = record { blocks = []; numbers = []; last = 0; replicas = []; bad = []; addresses = addresses }
 
 fresh_stored : (rows : List Row) (names : List Text) → rows ≡ [] → names ≡ [] → Stored rows names []
@@ -67,14 +67,14 @@ corrupt_are c d spared within =
 drained_is : (c d : Cluster) (remaining : ℕ) (address : Text) → Spared c d → map node_number c.node_rows ≡ range_from 1 (length c.nodes) → Drained c.nodes c.draining address
     → list_any (bytes_eq address) (drained d.nodes (calls_for d remaining)) ≡ true
 drained_is c d remaining address spared nodes node =
-    let known : has_number (map node_number c.node_rows) node.number ≡ true = ap (λ ns. has_number ns node.number) nodes ∙ has-count_up 1 (length c.nodes) node.number node.above (omega (arith, node.within)) in
+    let known : has_number (map node_number c.node_rows) node.number ≡ true = ap (λ ns. has_number ns node.number) nodes ∙ has-range_from 1 (length c.nodes) node.number node.above (omega (arith, node.within)) in
     let drains : has_number d.draining node.number ≡ true = ap (λ ns. has_number ns node.number) spared.draining ∙ node.drains in
     let same : has_number (map node_number d.node_rows) node.number ≡ true = ap (λ rows. has_number (map node_number rows) node.number) spared.node_rows ∙ known in
     ap (list_any (bytes_eq address)) (calls_drain d remaining d.nodes)
     ∙ node_drains d.nodes d.draining d.node_rows node.number address same drains (ap (λ ns. name_of ns node.number) spared.nodes ∙ node.name)
 
 -- a node that drains in d does in c
-drained_only : (c d : Cluster) (t : Taken) (remaining : ℕ) (address : Text) → Spared c d → Drains c.nodes c.draining t.addresses → list_any (bytes_eq address) (drained d.nodes (calls_for d remaining)) ≡ true
+drained_only : (c d : Cluster) (t : TakenBlocks) (remaining : ℕ) (address : Text) → Spared c d → Drains c.nodes c.draining t.addresses → list_any (bytes_eq address) (drained d.nodes (calls_for d remaining)) ≡ true
     → list_any (bytes_eq address) t.addresses ≡ true
 drained_only c d t remaining address spared drains e =
     let found = drained_from d.nodes d.draining d.node_rows address (sym (ap (list_any (bytes_eq address)) (calls_drain d remaining d.nodes)) ∙ e) in

@@ -17,7 +17,7 @@ use Rattle.fsck_import.specs.Laws.{after_blocks, ids, replicas_of, corrupt_of, d
 use Rattle.fsck_import.proofs.NameLemmas.{same_ok, if_not, came_of, number_is_itself}
 use Rattle.fsck_import.proofs.StorageLemmas.{all-more}
 use Rattle.fsck_import.proofs.OnceLemmas.{Once, once_next}
-use Rattle.fsck_import.proofs.SoundLemmas.{Taken, Sound}
+use Rattle.fsck_import.proofs.SoundLemmas.{TakenBlocks, Sound}
 use Rattle.fsck_import.proofs.ReplicaLemmas.{with_all, places_sound}
 
 has-push : (xs : List ℕ) (x y : ℕ) → has xs y ≡ false → (x == y) ≡ false → has (xs ++ x ∷ []) y ≡ false
@@ -38,14 +38,14 @@ abbrev pub numbered : Block → ℕ × BlockInfo
 numbered b = (b.id, record { stamp = b.stamp; repl = b.wanted })
 
 -- with the number of a block, which is then the last
-abbrev pub with_number : Taken → Block → Taken
+abbrev pub with_number : TakenBlocks → Block → TakenBlocks
 with_number t b = record t { blocks = t.blocks ++ numbered b ∷ []; numbers = t.numbers ++ b.id ∷ []; last = b.id }
 
 -- with a block and its replicas
-abbrev pub with_taken : Taken → Block → Taken
+abbrev pub with_taken : TakenBlocks → Block → TakenBlocks
 with_taken t b = with_all (with_number t b) b b.replicas
 
-block_sound : (c d : Cluster) (t : Taken) (b : Block) → after_block c b ≡ Ok d → Sound c t → Sound d (with_taken t b)
+block_sound : (c d : Cluster) (t : TakenBlocks) (b : Block) → after_block c b ≡ Ok d → Sound c t → Sound d (with_taken t b)
 block_sound c d t b e before =
     let info : BlockInfo = record { stamp = b.stamp; repl = b.wanted } in
     let m : Cluster = record c { blocks = with_block c.blocks b.id info } in
@@ -68,32 +68,32 @@ block_sound c d t b e before =
     places_sound m d (with_number t b) b b.replicas known refl parts.1 more
 
 -- with these blocks
-abbrev pub with_blocks : Taken → List Block → Taken
+abbrev pub with_blocks : TakenBlocks → List Block → TakenBlocks
 with_blocks t [] = t
 with_blocks t (b ∷ blocks) = with_blocks (with_taken t b) blocks
 
-pub blocks_sound : (c d : Cluster) (t : Taken) (blocks : List Block) → after_blocks c blocks ≡ Ok d → Sound c t → Sound d (with_blocks t blocks)
+pub blocks_sound : (c d : Cluster) (t : TakenBlocks) (blocks : List Block) → after_blocks c blocks ≡ Ok d → Sound c t → Sound d (with_blocks t blocks)
 blocks_sound c d t [] e before = subst (λ x. Sound x t) (same_ok c d e) before
 blocks_sound c d t (b ∷ blocks) e before =
     let first = came_of (λ x. after_blocks x blocks) (after_block c b) d e in
     blocks_sound first.0 d (with_taken t b) blocks first.2 (block_sound c first.0 t b first.1 before)
 
-pub all_numbers : (t : Taken) (blocks : List Block) → (with_blocks t blocks).numbers ≡ t.numbers ++ ids blocks
+pub all_numbers : (t : TakenBlocks) (blocks : List Block) → (with_blocks t blocks).numbers ≡ t.numbers ++ ids blocks
 all_numbers t [] = sym (append-nil t.numbers)
 all_numbers t (b ∷ blocks) = all_numbers (with_taken t b) blocks ∙ append_assoc t.numbers (b.id ∷ []) (ids blocks)
 
-pub all_blocks : (t : Taken) (blocks : List Block) → (with_blocks t blocks).blocks ≡ t.blocks ++ map numbered blocks
+pub all_blocks : (t : TakenBlocks) (blocks : List Block) → (with_blocks t blocks).blocks ≡ t.blocks ++ map numbered blocks
 all_blocks t [] = sym (append-nil t.blocks)
 all_blocks t (b ∷ blocks) = all_blocks (with_taken t b) blocks ∙ append_assoc t.blocks (numbered b ∷ []) (map numbered blocks)
 
-pub all_replicas : (t : Taken) (blocks : List Block) → (with_blocks t blocks).replicas ≡ t.replicas ++ flat_map replicas_of blocks
+pub all_replicas : (t : TakenBlocks) (blocks : List Block) → (with_blocks t blocks).replicas ≡ t.replicas ++ flat_map replicas_of blocks
 all_replicas t [] = sym (append-nil t.replicas)
 all_replicas t (b ∷ blocks) = all_replicas (with_taken t b) blocks ∙ append_assoc t.replicas (replicas_of b) (flat_map replicas_of blocks)
 
-pub all_bad : (t : Taken) (blocks : List Block) → (with_blocks t blocks).bad ≡ t.bad ++ flat_map corrupt_of blocks
+pub all_bad : (t : TakenBlocks) (blocks : List Block) → (with_blocks t blocks).bad ≡ t.bad ++ flat_map corrupt_of blocks
 all_bad t [] = sym (append-nil t.bad)
 all_bad t (b ∷ blocks) = all_bad (with_taken t b) blocks ∙ append_assoc t.bad (corrupt_of b) (flat_map corrupt_of blocks)
 
-pub all_addresses : (t : Taken) (blocks : List Block) → (with_blocks t blocks).addresses ≡ t.addresses ++ flat_map drained_of blocks
+pub all_addresses : (t : TakenBlocks) (blocks : List Block) → (with_blocks t blocks).addresses ≡ t.addresses ++ flat_map drained_of blocks
 all_addresses t [] = sym (append-nil t.addresses)
 all_addresses t (b ∷ blocks) = all_addresses (with_taken t b) blocks ∙ append_assoc t.addresses (drained_of b) (flat_map drained_of blocks)

@@ -6,7 +6,7 @@ use Rattle.std.proofs.lemmas.List.{append-nil}
 use Rattle.std.proofs.lemmas.List.Folds.{list_any-append}
 use Rattle.bm_base.specs.declared.call.Call.{Call}
 use Rattle.bm_base.specs.declared.limits.TheConstants.{MAX_ENTRIES}
-use Rattle.fsck_cluster.specs.Blocks.{Named}
+use Rattle.fsck_cluster.specs.Blocks.{NumberedBlocks}
 use Rattle.fsck_cluster.specs.declared.cluster.Cluster.{Cluster}
 use Rattle.fsck_cluster.specs.declared.rows.Row.{Row}
 use Rattle.fsck_import.specs.CallsFor.{register, heartbeat, add, received, reports, corrupt, drain, draining, calls_before, calls_after, calls_for}
@@ -39,7 +39,7 @@ pub none-nodes : {X : Type 0} (g : Call → List X) (c : Cluster) (remaining : �
     → flat_map g (map (register c.rows) c.node_rows ++ map (heartbeat c.rows remaining) c.node_rows) ≡ []
 none-nodes g c remaining h k = none-append g (map (register c.rows) c.node_rows) (map (heartbeat c.rows remaining) c.node_rows) (none-map g (register c.rows) h c.node_rows) (none-map g (heartbeat c.rows remaining) k c.node_rows)
 
-adds-map : (blocks : Named) → adds_in (map add blocks) ≡ map add blocks
+adds-map : (blocks : NumberedBlocks) → adds_in (map add blocks) ≡ map add blocks
 adds-map [] = refl
 adds-map (b ∷ blocks) = ap (λ calls. add b ∷ calls) (adds-map blocks)
 

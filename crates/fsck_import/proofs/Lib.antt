@@ -1,4 +1,4 @@
--- Lemmas.
+-- Lemmas on imports: reading a text, the cluster of its blocks, and the lines written for it.
 pub mod TextLemmas
 pub mod ReadLemmas
 pub mod WriteLemmas

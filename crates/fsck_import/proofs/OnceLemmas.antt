@@ -9,14 +9,14 @@ use Rattle.std.proofs.lemmas.List.Folds.{list_any-append}
 use Rattle.std.proofs.lemmas.Bool.{or_parts}
 use Rattle.fsck_text.specs.Cuts.{Text}
 use Rattle.fsck_cluster.specs.Rows.{new_row, ends_with}
-use Rattle.fsck_cluster.specs.declared.rows.Held.{Held}
+use Rattle.fsck_cluster.specs.declared.rows.StoredReplica.{StoredReplica}
 use Rattle.fsck_cluster.specs.declared.rows.Row.{Row}
 use Rattle.fsck_import.specs.Laws.{Replica, is_replica, EachOnce}
 use Rattle.fsck_import.proofs.NameLemmas.{same_number, same_name, number_is_itself}
 use Rattle.fsck_import.proofs.StorageLemmas.{Fit, on_row, on_rows, on_storage, holding}
 
 -- how many replicas of a block are among these
-abbrev pub held_of : ℕ → List Held → ℕ
+abbrev pub held_of : ℕ → List StoredReplica → ℕ
 held_of id held = count_by (λ h. nat_eq id h.id) held
 
 -- the replicas on a storage are of these blocks, each once, and one of this block is the last
@@ -32,15 +32,15 @@ new_once numbers id number node = record {
   last = λ e. refl;
 }
 
-held-push : (other : ℕ) (held : List Held) (h : Held) → held_of other (held ++ h ∷ []) ≡ held_of other held + cond (nat_eq other h.id) 1 0
+held-push : (other : ℕ) (held : List StoredReplica) (h : StoredReplica) → held_of other (held ++ h ∷ []) ≡ held_of other held + cond (nat_eq other h.id) 1 0
 held-push other held h = sum_by-append (λ x. cond (nat_eq other x.id) 1 0) held (h ∷ []) ∙ ap (λ n. held_of other held + n) (sum_by-cons (λ x. cond (nat_eq other x.id) 1 0) h [] ∙ omega arith)
 
-last_is : (held : List Held) (h : Held) → slice_get (held ++ h ∷ []) (length held) ≡ Some h
+last_is : (held : List StoredReplica) (h : StoredReplica) → slice_get (held ++ h ∷ []) (length held) ≡ Some h
 last_is [] h = refl
 last_is (x ∷ held) h = last_is held h
 
 -- a storage with one more replica of a block ends with it
-ends_with-push : (row : Row) (h : Held) → ends_with (holding row h) h.id ≡ true
+ends_with-push : (row : Row) (h : StoredReplica) → ends_with (holding row h) h.id ≡ true
 ends_with-push row h =
     let at : length (row.held ++ h ∷ []) - 1 ≡ length row.held = omega (arith, length-append row.held (h ∷ [])) in
     ap (λ o. option_map_or (λ x. x.id == h.id) o false) (ap (slice_get (row.held ++ h ∷ [])) at ∙ last_is row.held h) ∙ number_is_itself h.id
@@ -53,7 +53,7 @@ not_among numbers id other known e = by (nat_eq other id) refl
     by true same = absurd (true≢false (sym known ∙ ap (λ n. list_any (nat_eq n) numbers) (sym (same_number other id same)) ∙ e))
 
 -- one more replica of the block, where the last is none
-pub once_more : (numbers : List ℕ) (row : Row) (h : Held) → list_any (nat_eq h.id) numbers ≡ true → ends_with row h.id ≡ false → Once numbers h.id row → Once numbers h.id (holding row h)
+pub once_more : (numbers : List ℕ) (row : Row) (h : StoredReplica) → list_any (nat_eq h.id) numbers ≡ true → ends_with row h.id ≡ false → Once numbers h.id row → Once numbers h.id (holding row h)
 once_more numbers row h known e before = record {
   among = λ other none.
       held-push other row.held h ∙ ap (λ b. held_of other row.held + cond b 1 0) (not_among numbers h.id other known none) ∙ omega (arith, before.among other none);
@@ -108,7 +108,7 @@ counted : (storage : Text) (id : ℕ) (xs ys : List Replica) → count storage i
 counted storage id xs ys = sum_by-append (λ r. cond (is_replica storage id r) 1 0) xs ys
 
 -- on the storage of this name
-on_it : (storage : Text) (id : ℕ) (name : Text) (held : List Held) → bytes_eq storage name ≡ true → count storage id (map (on_storage name) held) ≡ held_of id held
+on_it : (storage : Text) (id : ℕ) (name : Text) (held : List StoredReplica) → bytes_eq storage name ≡ true → count storage id (map (on_storage name) held) ≡ held_of id held
 on_it storage id name [] e = refl
 on_it storage id name (h ∷ held) e =
     sum_by-cons (λ r. cond (is_replica storage id r) 1 0) (on_storage name h) (map (on_storage name) held)
@@ -117,7 +117,7 @@ on_it storage id name (h ∷ held) e =
     ∙ sym (sum_by-cons (λ x. cond (nat_eq id x.id) 1 0) h held)
 
 -- on a storage of another name
-on_other : (storage : Text) (id : ℕ) (name : Text) (held : List Held) → bytes_eq storage name ≡ false → count storage id (map (on_storage name) held) ≡ 0
+on_other : (storage : Text) (id : ℕ) (name : Text) (held : List StoredReplica) → bytes_eq storage name ≡ false → count storage id (map (on_storage name) held) ≡ 0
 on_other storage id name [] e = refl
 on_other storage id name (h ∷ held) e =
     sum_by-cons (λ r. cond (is_replica storage id r) 1 0) (on_storage name h) (map (on_storage name) held)

@@ -18,7 +18,7 @@ use Rattle.fsck_cluster.specs.Names.{name_of}
 use Rattle.fsck_cluster.specs.declared.cluster.Bad.{Bad}
 use Rattle.fsck_cluster.specs.declared.cluster.Cluster.{Cluster}
 use Rattle.fsck_cluster.specs.declared.cluster.NodeRow.{NodeRow}
-use Rattle.fsck_cluster.specs.declared.rows.Held.{Held}
+use Rattle.fsck_cluster.specs.declared.rows.StoredReplica.{StoredReplica}
 use Rattle.fsck_cluster.specs.declared.rows.Row.{Row}
 use Rattle.fsck_import.specs.CallsFor.{register, heartbeat, add, entry, received, reports, corrupt, drain, draining, calls_before, calls_after, calls_for}
 use Rattle.fsck_import.specs.Laws.{replica, replicas_by, replicas_reported, corrupt_by, called_corrupt, drained_by, drained}
@@ -27,7 +27,7 @@ use Rattle.fsck_import.proofs.CallLemmas.{none-append, none-map, none-flat, none
 use Rattle.fsck_import.proofs.StorageLemmas.{reported_of, on_storage, on_row, on_rows, Fit}
 use Rattle.fsck_import.proofs.BadLemmas.{by_name, node_number, DrainsAs}
 
--- what the calls after the adds say of a kind, if those before say nothing
+-- what the calls after the adds give for a kind, if those before give nothing
 module _ {X : Type 0} (g : Call → List X) (c : Cluster) (remaining : ℕ) where
   pub after_parts : ((x : NodeRow) → g (register c.rows x) ≡ []) → ((x : NodeRow) → g (heartbeat c.rows remaining x) ≡ []) → ((x : _) → g (add x) ≡ [])
       → flat_map g (calls_for c remaining) ≡ (flat_map g (flat_map reports c.rows) ++ flat_map g (map corrupt c.bad)) ++ flat_map g (map drain (draining c))
@@ -41,24 +41,24 @@ module _ {X : Type 0} (g : Call → List X) (c : Cluster) (remaining : ℕ) wher
 
 -- Replicas.
 
-one_reported : (h : Held) → blocks_of_entry (entry h) ≡ reported_of h ∷ []
+one_reported : (h : StoredReplica) → blocks_of_entry (entry h) ≡ reported_of h ∷ []
 unfolding blocks_of_entry
 one_reported h = let n : run_length (entry h) ≡ 1 = omega arith in ap (λ k. map (λ b. record { id = b; stamp = h.stamp }) (range_from h.id k)) n
 
-entries_reported : (held : List Held) → expanded (map entry held) ≡ map reported_of held
+entries_reported : (held : List StoredReplica) → expanded (map entry held) ≡ map reported_of held
 unfolding expanded
 entries_reported [] = refl
 entries_reported (h ∷ held) = ap (λ t. t ++ expanded (map entry held)) (one_reported h) ∙ ap (λ t. reported_of h ∷ t) (entries_reported held)
 
-named_reported : (name : Text) (held : List Held) → map (replica name) (map reported_of held) ≡ map (on_storage name) held
+named_reported : (name : Text) (held : List StoredReplica) → map (replica name) (map reported_of held) ≡ map (on_storage name) held
 named_reported name [] = refl
 named_reported name (h ∷ held) = ap (λ t. on_storage name h ∷ t) (named_reported name held)
 
-received_reported : (names : List Text) (number : ℕ) (held : List Held) → replicas_reported names (map (received number) held) ≡ map (on_storage (name_of names number)) held
+received_reported : (names : List Text) (number : ℕ) (held : List StoredReplica) → replicas_reported names (map (received number) held) ≡ map (on_storage (name_of names number)) held
 received_reported names number [] = refl
 received_reported names number (h ∷ held) = ap (λ t. on_storage (name_of names number) h ∷ t) (received_reported names number held)
 
-both_reported : (names : List Text) (number : ℕ) (front rest : List Held)
+both_reported : (names : List Text) (number : ℕ) (front rest : List StoredReplica)
     → replicas_reported names (call.Apply (FullReport number (map entry front)) ∷ map (received number) rest) ≡ map (on_storage (name_of names number)) (front ++ rest)
 both_reported names number front rest =
     let name = name_of names number in

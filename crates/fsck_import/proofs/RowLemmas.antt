@@ -5,13 +5,13 @@ use Rattle.bm_base.specs.declared.event.Entry.{Entry}
 use Rattle.bm_base.specs.declared.event.Event.TheVariants.{FullReport}
 use Rattle.bm_base.specs.declared.limits.TheConstants.{MAX_ENTRIES}
 use Rattle.fsck_text.specs.Cuts.{Text}
-use Rattle.fsck_cluster.specs.declared.rows.Held.{Held}
+use Rattle.fsck_cluster.specs.declared.rows.StoredReplica.{StoredReplica}
 use Rattle.fsck_cluster.specs.declared.rows.Row.{Row}
 use Rattle.fsck_import.specs.CallsFor.{entry, received, reports}
 use Rattle.fsck_import.specs.WrittenCalls.{Written}
 use Rattle.fsck_import.proofs.WriteLemmas.{written_more}
 
-pub reports_written : (row : Row) (entries : List Entry) (first rest held : List Held) (a b c : Option Text)
+pub reports_written : (row : Row) (entries : List Entry) (first rest held : List StoredReplica) (a b c : Option Text)
     → entries ≡ map entry first → first ≡ take MAX_ENTRIES held → rest ≡ drop MAX_ENTRIES held → held ≡ row.held
     → Written (call.Apply (FullReport row.number entries) ∷ []) a b → Written (map (received row.number) rest) b c → Written (reports row) a c
 reports_written row entries first rest held a b c e1 e2 e3 e4 w1 w2 =

@@ -7,7 +7,7 @@ use Rattle.std.specs.Str.{bytes_eq}
 use Rattle.bm_base.specs.Words.{range_from, has_repeats}
 use Rattle.fsck_text.specs.Cuts.{Text}
 use Rattle.fsck_text.specs.declared.place.Place.{Place}
-use Rattle.fsck_cluster.specs.Blocks.{Named}
+use Rattle.fsck_cluster.specs.Blocks.{NumberedBlocks}
 use Rattle.fsck_cluster.specs.Clusters.{rack_name, is_on_rack, after_new_node, with_new_node, at_node, after_node, is_on_node, after_new_storage, at_storage, after_storage}
 use Rattle.fsck_cluster.specs.Names.{name_number, name_of, with_name}
 use Rattle.fsck_cluster.specs.Rows.{new_row}
@@ -30,8 +30,8 @@ OnNode n row = (1 ≤ row.node) × (row.node ≤ n)
 
 -- What a cluster took so far: the blocks and their numbers, of which the last is being taken; the
 -- replicas; the corrupt ones; the nodes that drain.
-pub record Taken : Type 0 where
-  pub blocks : Named
+pub record TakenBlocks : Type 0 where
+  pub blocks : NumberedBlocks
   pub numbers : List ℕ
   pub last : ℕ
   pub replicas : List Replica
@@ -39,7 +39,7 @@ pub record Taken : Type 0 where
   pub addresses : List Text
 
 -- the cluster holds what it took, and nothing else
-pub record Sound (c : Cluster) (t : Taken) : Type 0 where
+pub record Sound (c : Cluster) (t : TakenBlocks) : Type 0 where
   pub blocks : c.blocks ≡ t.blocks
   pub numbers : numbers_of c ≡ t.numbers
   pub apart : has_repeats t.numbers ≡ false
@@ -53,7 +53,7 @@ pub record Sound (c : Cluster) (t : Taken) : Type 0 where
 
 -- The node of a place.
 
-new_node : (c : Cluster) (t : Taken) (p : Place) → list_any (bytes_eq p.address) c.nodes ≡ false → Sound c t → Sound (after_new_node c p) t
+new_node : (c : Cluster) (t : TakenBlocks) (p : Place) → list_any (bytes_eq p.address) c.nodes ≡ false → Sound c t → Sound (after_new_node c p) t
 new_node c t p new before =
     let same : with_name c.nodes p.address ≡ c.nodes ++ p.address ∷ [] = with_new c.nodes p.address new in
     let number : name_number c.nodes p.address ≡ length c.nodes + 1 = ap (λ n. n + 1) (new_position (bytes_eq p.address) c.nodes new) in
@@ -73,7 +73,7 @@ new_node c t p new before =
     }
 
 -- with the node of a place, which is then known
-pub node_sound : (c d : Cluster) (t : Taken) (p : Place) → after_node c p ≡ Ok d → Sound c t → Sound d t × (list_any (bytes_eq p.address) d.nodes ≡ true)
+pub node_sound : (c d : Cluster) (t : TakenBlocks) (p : Place) → after_node c p ≡ Ok d → Sound c t → Sound d t × (list_any (bytes_eq p.address) d.nodes ≡ true)
 node_sound c d t p e before = by (list_any (bytes_eq p.address) c.nodes) refl
   where
     by : (b : Bool) → list_any (bytes_eq p.address) c.nodes ≡ b → Sound d t × (list_any (bytes_eq p.address) d.nodes ≡ true)
@@ -117,7 +117,7 @@ with_storage_is c p known new =
     ap (λ ns. record c { nodes = ns; storages = c.storages ++ p.storage ∷ []; rows = c.rows ++ new_row (name_number c.storages p.storage) (name_number c.nodes p.address) ∷ [] }) (sym (with_known c.nodes p.address known))
     ∙ ap (λ ss. record c { nodes = with_name c.nodes p.address; storages = ss; rows = c.rows ++ new_row (name_number c.storages p.storage) (name_number c.nodes p.address) ∷ [] }) (sym (with_new c.storages p.storage new))
 
-new_storage : (c : Cluster) (t : Taken) (p : Place) → list_any (bytes_eq p.address) c.nodes ≡ true → list_any (bytes_eq p.storage) c.storages ≡ false → Sound c t → Sound (with_storage c p) t × Ready (with_storage c p) p
+new_storage : (c : Cluster) (t : TakenBlocks) (p : Place) → list_any (bytes_eq p.address) c.nodes ≡ true → list_any (bytes_eq p.storage) c.storages ≡ false → Sound c t → Sound (with_storage c p) t × Ready (with_storage c p) p
 new_storage c t p known new before =
     let row = new_row (name_number c.storages p.storage) (name_number c.nodes p.address) in
     let at : position_or_len (bytes_eq p.storage) (c.storages ++ p.storage ∷ []) ≡ length c.rows =
@@ -145,7 +145,7 @@ new_storage c t p known new before =
     )
 
 -- with the storage of a place, whose node is known
-pub storage_sound : (c d : Cluster) (t : Taken) (p : Place) → list_any (bytes_eq p.address) c.nodes ≡ true → after_storage c p ≡ Ok d → Sound c t → Sound d t × Ready d p
+pub storage_sound : (c d : Cluster) (t : TakenBlocks) (p : Place) → list_any (bytes_eq p.address) c.nodes ≡ true → after_storage c p ≡ Ok d → Sound c t → Sound d t × Ready d p
 storage_sound c d t p address e before = by (list_any (bytes_eq p.storage) c.storages) refl
   where
     by : (b : Bool) → list_any (bytes_eq p.storage) c.storages ≡ b → Sound d t × Ready d p

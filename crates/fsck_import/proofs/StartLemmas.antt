@@ -24,7 +24,7 @@ use Rattle.fsck_cluster.specs.declared.node_list.NodeWhy.TheVariants as why
 use Rattle.fsck_import.specs.Laws.{IsFresh}
 use Rattle.fsck_import.specs.Starts.{after_node_lines}
 use Rattle.fsck_import.proofs.NameLemmas.{same_ok, err_is_not_ok, if_ok, if_not, came_of, new_position, with_new}
-use Rattle.fsck_import.proofs.BadLemmas.{node_number, count_push-names, has-last, has-with_either, in-count_up}
+use Rattle.fsck_import.proofs.BadLemmas.{node_number, count_push-names, has-last, has-with_either, in-range_from}
 
 -- each node that drains is one of the nodes
 abbrev pub DrainsWithin : Cluster → Type 0
@@ -165,7 +165,7 @@ one_drains c row before n h = by (has_number c.draining n) refl
     known = has-last (map node_number c.node_rows) row.number
 
     counted : (1 ≤ row.number) × (row.number < 1 + length c.nodes)
-    counted = in-count_up 1 (length c.nodes) row.number (ap (λ ns. has_number ns row.number) (sym before.nodes) ∙ known)
+    counted = in-range_from 1 (length c.nodes) row.number (ap (λ ns. has_number ns row.number) (sym before.nodes) ∙ known)
 
     by : (b : Bool) → has_number c.draining n ≡ b → (1 ≤ n) × (n ≤ length c.nodes)
     by true k = before.draining n k

@@ -10,7 +10,7 @@ use Rattle.std.proofs.lemmas.List.{map_push}
 use Rattle.bm_base.specs.Machine.Entries.{ReportedBlock}
 use Rattle.fsck_text.specs.Cuts.{Text}
 use Rattle.fsck_cluster.specs.Rows.{new_row, with_held_at}
-use Rattle.fsck_cluster.specs.declared.rows.Held.{Held}
+use Rattle.fsck_cluster.specs.declared.rows.StoredReplica.{StoredReplica}
 use Rattle.fsck_cluster.specs.declared.rows.Row.{Row}
 use Rattle.fsck_import.specs.Laws.{Replica, replica}
 use Rattle.fsck_import.proofs.NameLemmas.{same_name, new_position}
@@ -44,10 +44,10 @@ module _ (P : Row → Type 0) where
 
 -- Storages with their replicas.
 
-abbrev pub reported_of : Held → ReportedBlock
+abbrev pub reported_of : StoredReplica → ReportedBlock
 reported_of h = record { id = h.id; stamp = h.stamp }
 
-abbrev pub on_storage : Text → Held → Replica
+abbrev pub on_storage : Text → StoredReplica → Replica
 on_storage name h = replica name (reported_of h)
 
 -- the replicas on a storage of this name
@@ -106,10 +106,10 @@ row_at n (row ∷ rows) (x ∷ names) name h known = by (bytes_eq name x) known 
         }
 
 -- one more replica on the storage at an index
-abbrev pub holding : Row → Held → Row
+abbrev pub holding : Row → StoredReplica → Row
 holding row h = record row { held = row.held ++ h ∷ [] }
 
-pub held_at : (rows : List Row) (at : ℕ) (row : Row) (h : Held) → slice_get rows at ≡ Some row → with_held_at rows at h ≡ slice_set rows at (holding row h)
+pub held_at : (rows : List Row) (at : ℕ) (row : Row) (h : StoredReplica) → slice_get rows at ≡ Some row → with_held_at rows at h ≡ slice_set rows at (holding row h)
 held_at rows at row h e = ap (λ o. option_map_or (λ r. slice_set rows at (holding r h)) o rows) e
 
 -- one more replica on the storage of a name, which is among the names
@@ -117,7 +117,7 @@ pub record Added (n : ℕ) (rows more : List Row) (names : List Text) (r : Repli
   pub reordered : IsPermutation (on_rows rows names ++ r ∷ []) (on_rows more names)
   pub fits : Fit n more names
 
-added_first : (n : ℕ) (row : Row) (rows : List Row) (x : Text) (names : List Text) (h : Held) → Fit n (row ∷ rows) (x ∷ names)
+added_first : (n : ℕ) (row : Row) (rows : List Row) (x : Text) (names : List Text) (h : StoredReplica) → Fit n (row ∷ rows) (x ∷ names)
     → Added n (row ∷ rows) (holding row h ∷ rows) (x ∷ names) (on_storage x h)
 added_first n row rows x names h fits =
     let here = on_row x row in
@@ -142,7 +142,7 @@ added_after n row rows more x names r h added = record {
 same_row : (row x : Row) → ◌≡◌ {A = Option Row} (Some row) (Some x) → row ≡ x
 same_row row x e = cc
 
-added_at : (n : ℕ) (rows : List Row) (names : List Text) (name : Text) (row : Row) (h : Held) → Fit n rows names → list_any (bytes_eq name) names ≡ true
+added_at : (n : ℕ) (rows : List Row) (names : List Text) (name : Text) (row : Row) (h : StoredReplica) → Fit n rows names → list_any (bytes_eq name) names ≡ true
     → slice_get rows (position_or_len (bytes_eq name) names) ≡ Some row
     → Added n rows (slice_set rows (position_or_len (bytes_eq name) names) (holding row h)) names (on_storage name h)
 added_at n [] [] name row h fits known e = absurd (true≢false (sym known))
@@ -182,7 +182,7 @@ stored_push rows names replicas node name new before =
     }
 
 -- one more replica
-pub stored_replica : (rows : List Row) (names : List Text) (replicas : List Replica) (name : Text) (row : Row) (h : Held) → list_any (bytes_eq name) names ≡ true
+pub stored_replica : (rows : List Row) (names : List Text) (replicas : List Replica) (name : Text) (row : Row) (h : StoredReplica) → list_any (bytes_eq name) names ≡ true
     → slice_get rows (position_or_len (bytes_eq name) names) ≡ Some row → Stored rows names replicas
     → Stored (slice_set rows (position_or_len (bytes_eq name) names) (holding row h)) names (replicas ++ on_storage name h ∷ [])
 stored_replica rows names replicas name row h known here before =

@@ -12,7 +12,7 @@ use Rattle.fsck_files.specs.Numbers.{has_number}
 use Rattle.fsck_cluster.specs.declared.cluster.Bad.{Bad}
 use Rattle.fsck_cluster.specs.declared.cluster.Cluster.{Cluster}
 use Rattle.fsck_cluster.specs.declared.cluster.NodeRow.{NodeRow}
-use Rattle.fsck_cluster.specs.declared.rows.Held.{Held}
+use Rattle.fsck_cluster.specs.declared.rows.StoredReplica.{StoredReplica}
 use Rattle.fsck_cluster.specs.declared.rows.Row.{Row}
 
 -- the numbers of the storages of a node
@@ -43,11 +43,11 @@ abbrev pub add : ℕ × BlockInfo → Call
 add b = call.Apply (AddBlock b.0 b.1.stamp b.1.repl)
 
 -- a replica, as an entry of a report
-abbrev pub entry : Held → Entry
+abbrev pub entry : StoredReplica → Entry
 entry h = record { from = h.id; to = h.id; stamp = h.stamp }
 
 -- the notice of a received replica
-abbrev pub received : ℕ → Held → Call
+abbrev pub received : ℕ → StoredReplica → Call
 received storage h = call.Apply (Received storage h.id h.stamp)
 
 -- all replicas on a storage: a report of those that fit into it, then a notice for each of the

@@ -4,7 +4,7 @@ use Rattle.std.specs.Prelude.{ℕ, List, [], ◌++◌, codes, decimal, slice_get
 use Rattle.std.specs.List.{flat_map}
 use Rattle.std.specs.Option.{option_map_or}
 use Rattle.cluster_names.specs.FileTable.{FileTable}
-use Rattle.cluster_names.specs.declared.files.FilePlace.{FilePlace}
+use Rattle.cluster_names.specs.declared.files.FileIndex.{FileIndex}
 use Rattle.fsck_text.specs.Cuts.{Text}
 
 -- the row of a block: its file's path, and its index in the file
@@ -12,7 +12,7 @@ unfoldable pub row_text : ℕ → ℕ → Text → Text
 row_text block index path = path ++ (codes "\t" ++ (decimal index ++ (codes "\t" ++ (decimal block ++ codes "\n"))))
 
 -- the row of a block with its place
-abbrev pub place_line : List Text → ℕ × FilePlace → Text
+abbrev pub place_line : List Text → ℕ × FileIndex → Text
 place_line paths p = option_map_or (row_text p.0 p.1.index) (slice_get paths p.1.file) []
 
 unfoldable pub files_text : FileTable → Text

@@ -11,7 +11,7 @@ use Rattle.bm_base.specs.declared.call.Call.TheVariants as call
 use Rattle.bm_base.specs.declared.event.Event.TheVariants.{AddBlock, FullReport, Received, Corrupt, Drain}
 use Rattle.fsck_text.specs.Cuts.{Text}
 use Rattle.fsck_text.specs.Wrongs.{after_ok}
-use Rattle.fsck_text.specs.declared.list.Listed.{Listed}
+use Rattle.fsck_text.specs.declared.list.ListedReplica.{ListedReplica}
 use Rattle.fsck_files.specs.Numbers.{has_number}
 use Rattle.fsck_files.specs.Replicas as replicas
 use Rattle.fsck_files.specs.declared.replicas.Block.{Block}
@@ -45,14 +45,14 @@ pub record Replica : Type 0 where
 abbrev pub replica : Text → ReportedBlock → Replica
 replica storage block = record { storage = storage; block = block }
 
-abbrev pub replica_at : Block → Listed → Replica
+abbrev pub replica_at : Block → ListedReplica → Replica
 replica_at b l = replica l.place.storage (record { id = b.id; stamp = b.stamp })
 
 -- the replicas of a block, in order
 abbrev pub replicas_of : Block → List Replica
 replicas_of b = map (replica_at b) b.replicas
 
-abbrev pub is_corrupt : Block → Listed → Bool
+abbrev pub is_corrupt : Block → ListedReplica → Bool
 is_corrupt b l = replicas.is_corrupt l.mark b.is_corrupt
 
 -- the corrupt replicas of a block: storage and block
@@ -60,7 +60,7 @@ abbrev pub corrupt_of : Block → List (Text × ℕ)
 corrupt_of b = map (λ l. (l.place.storage, b.id)) (filter (is_corrupt b) b.replicas)
 
 -- whether the node of a replica drains, by the replica's mark
-abbrev pub is_drained : Listed → Bool
+abbrev pub is_drained : ListedReplica → Bool
 is_drained l = replicas.is_draining l.mark
 
 -- the nodes of the drained replicas of a block

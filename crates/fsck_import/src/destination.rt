@@ -58,7 +58,7 @@ impl<'f, 'p, F: Files> TableFile<'f, 'p, F> {
     }
 
     /// Prints why the table could not be written, if that failed.
-    pub fn say_error<R: Eprint>(&self, rt: &R) {
+    pub fn print_error<R: Eprint>(&self, rt: &R) {
         if let Some(error) = &self.error {
             let (what, path) = (self.what, self.path);
             let _ = rt.eprintln(format_args!(

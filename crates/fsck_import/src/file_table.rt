@@ -4,7 +4,7 @@ ghost use Rattle.std.specs.List.{flat_map};
 ghost use Rattle.fsck_import.specs.FileTables.{place_line, row_text, files_text};
 
 use bm_base::BlockId;
-use cluster_names::{FilePlace, Files};
+use cluster_names::{FileIndex, Files};
 use std::alloc::{AllocError, Global};
 
 /// One row for each block, in the order of the text.
@@ -45,7 +45,7 @@ fn write_block(
     text: &mut String,
     files: &Files,
     block: BlockId,
-    place: FilePlace,
+    place: FileIndex,
 ) -> Result<(), AllocError>
     ensures { OnOk result (string_bytes text.new ≡ string_bytes text.old
         ++ place_line files.now.paths (block, place)) }

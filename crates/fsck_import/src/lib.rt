@@ -22,7 +22,7 @@ use fault::Fault;
 use fsck_cluster::Cluster;
 use fsck_files::{LeftOut, Unclear};
 use import::{Notes, import};
-use options::{Asked, asked_by};
+use options::{Arguments, parse_arguments};
 use std::alloc::Global;
 use std::fs::File;
 use std::io::{BufReader, BufWriter, Read};
@@ -50,23 +50,23 @@ pub fn import_by_words<R: Input + Print + Eprint + Files + AllocGlobal, N: Print
     notes: &N,
     words: &[String],
 ) -> u8 {
-    match asked_by(rt.alloc(), words) {
+    match parse_arguments(rt.alloc(), words) {
         Ok(asked) => run_status(rt, notes, &asked),
-        Err(error) => say_error(rt, &error),
+        Err(error) => print_error(rt, &error),
     }
 }
 
 /// Prints why there is no run.
-fn say_error<R: Print + Eprint>(rt: &R, error: &Error) -> u8 {
+fn print_error<R: Print + Eprint>(rt: &R, error: &Error) -> u8 {
     if matches!(error.kind(), ErrorKind::OutOfMemory) {
-        return say_fault(rt, &Fault::Memory);
+        return print_fault(rt, &Fault::Memory);
     }
     let _ = error.print(rt);
     if error.use_stderr() { MISUSED } else { DONE }
 }
 
 /// Prints why a run ended early; nothing if the reader of the output went away.
-fn say_fault<R: Eprint>(rt: &R, fault: &Fault) -> u8 {
+fn print_fault<R: Eprint>(rt: &R, fault: &Fault) -> u8 {
     if !fault.is_closed_pipe() {
         let _ = rt.eprintln(format_args!("{PROGRAM}: {fault}"));
     }
@@ -74,7 +74,7 @@ fn say_fault<R: Eprint>(rt: &R, fault: &Fault) -> u8 {
 }
 
 /// Prints why a file was not read.
-fn say_file_fault<R: Eprint, E: fmt::Display>(rt: &R, path: &str, why: &E) -> u8 {
+fn print_file_fault<R: Eprint, E: fmt::Display>(rt: &R, path: &str, why: &E) -> u8 {
     let _ = rt.eprintln(format_args!("{PROGRAM}: {path}: {why}"));
     FAULTED
 }
@@ -83,7 +83,7 @@ fn say_file_fault<R: Eprint, E: fmt::Display>(rt: &R, path: &str, why: &E) -> u8
 fn run_status<R: Input + Print + Eprint + Files + AllocGlobal, N: Print>(
     rt: &R,
     notes: &N,
-    asked: &Asked<'_>,
+    asked: &Arguments<'_>,
 ) -> u8 {
     let alloc: Global = rt.alloc();
     let Some(path) = asked.nodes else {
@@ -91,11 +91,11 @@ fn run_status<R: Input + Print + Eprint + Files + AllocGlobal, N: Print>(
     };
     let file = match File::open(rt, path) {
         Ok(file) => file,
-        Err(error) => return say_file_fault(rt, path, &error),
+        Err(error) => return print_file_fault(rt, path, &error),
     };
     match nodes_in(alloc, file) {
         Ok(nodes) => run_from(rt, notes, asked, nodes),
-        Err(fault) => say_file_fault(rt, path, &fault),
+        Err(fault) => print_file_fault(rt, path, &fault),
     }
 }
 
@@ -111,7 +111,7 @@ fn nodes_in<F: Read + Drop>(alloc: Global, file: F) -> Result<Cluster, Fault> {
 fn run_from<R: Input + Print + Eprint + Files + AllocGlobal, N: Print>(
     rt: &R,
     notes: &N,
-    asked: &Asked<'_>,
+    asked: &Arguments<'_>,
     nodes: Cluster,
 ) -> u8 {
     let mut files = match asked.files {
@@ -122,7 +122,7 @@ fn run_from<R: Input + Print + Eprint + Files + AllocGlobal, N: Print>(
         Some(path) => {
             let mut names = TableFile::new(rt, "names", path);
             let ended = run(rt, asked, nodes, &mut names, &mut files);
-            names.say_error(rt);
+            names.print_error(rt);
             ended
         }
         None => {
@@ -133,25 +133,25 @@ fn run_from<R: Input + Print + Eprint + Files + AllocGlobal, N: Print>(
         }
     };
     if let Some(table) = &files {
-        table.say_error(rt);
+        table.print_error(rt);
     }
-    said(rt, asked, ended)
+    print_outcome(rt, asked, ended)
 }
 
 /// Prints the notes, or the fault. The reason of a failed table was printed before.
-fn said<R: Eprint>(rt: &R, asked: &Asked<'_>, ended: Result<Notes, Fault>) -> u8 {
+fn print_outcome<R: Eprint>(rt: &R, asked: &Arguments<'_>, ended: Result<Notes, Fault>) -> u8 {
     match ended {
         Ok(notes) => {
-            say_notes(rt, asked, &notes);
+            print_notes(rt, asked, &notes);
             DONE
         }
         Err(Fault::Table) => FAULTED,
-        Err(fault) => say_fault(rt, &fault),
+        Err(fault) => print_fault(rt, &fault),
     }
 }
 
-fn say_notes<R: Eprint>(rt: &R, asked: &Asked<'_>, notes: &Notes) {
-    say_text_notes(rt, PROGRAM, asked.values.unclear, notes);
+fn print_notes<R: Eprint>(rt: &R, asked: &Arguments<'_>, notes: &Notes) {
+    print_text_notes(rt, PROGRAM, asked.values.unclear, notes);
     if notes.lines > MOST_LINES {
         let lines = notes.lines;
         let _ = rt.eprintln(format_args!(
@@ -162,8 +162,8 @@ fn say_notes<R: Eprint>(rt: &R, asked: &Asked<'_>, notes: &Notes) {
 }
 
 /// Prints what was left out of a text or is uncertain, each line after the program's name.
-pub fn say_text_notes<R: Eprint>(rt: &R, program: &str, unclear: Unclear, notes: &Notes) {
-    say_left_out(rt, program, &notes.left_out);
+pub fn print_text_notes<R: Eprint>(rt: &R, program: &str, unclear: Unclear, notes: &Notes) {
+    print_left_out(rt, program, &notes.left_out);
     let (block, blocks) = match unclear {
         Unclear::Good => (
             "block with more places than live replicas taken with each place as good",
@@ -174,19 +174,19 @@ pub fn say_text_notes<R: Eprint>(rt: &R, program: &str, unclear: Unclear, notes:
             "blocks with more places than live replicas left out",
         ),
     };
-    say_count(rt, program, notes.unclear_blocks, block, blocks);
-    say_count(
+    print_count(rt, program, notes.unclear_blocks, block, blocks);
+    print_count(
         rt,
         program,
         notes.maintained,
         "replica on a node in maintenance taken as live",
         "replicas on nodes in maintenance taken as live",
     );
-    say_not_in_text(rt, program, notes);
+    print_not_in_text(rt, program, notes);
 }
 
 /// Prints what the text lacks: the blocks of other files make stray replicas.
-fn say_not_in_text<R: Eprint>(rt: &R, program: &str, notes: &Notes) {
+fn print_not_in_text<R: Eprint>(rt: &R, program: &str, notes: &Notes) {
     let files = notes.unlisted;
     if files > 0 {
         let are = if files == 1 {
@@ -201,29 +201,29 @@ fn say_not_in_text<R: Eprint>(rt: &R, program: &str, notes: &Notes) {
     }
 }
 
-fn say_left_out<R: Eprint>(rt: &R, program: &str, left_out: &LeftOut) {
-    say_count(
+fn print_left_out<R: Eprint>(rt: &R, program: &str, left_out: &LeftOut) {
+    print_count(
         rt,
         program,
         left_out.erasure_coded,
         "erasure coded file left out",
         "erasure coded files left out",
     );
-    say_count(
+    print_count(
         rt,
         program,
         left_out.over_replicated,
         "file with more than 16 replicas left out",
         "files with more than 16 replicas left out",
     );
-    say_count(
+    print_count(
         rt,
         program,
         left_out.open_files,
         "file that is being written left out",
         "files that are being written left out",
     );
-    say_count(
+    print_count(
         rt,
         program,
         left_out.snapshots,
@@ -233,7 +233,7 @@ fn say_left_out<R: Eprint>(rt: &R, program: &str, left_out: &LeftOut) {
 }
 
 /// Prints a count with the words for one or for several; prints nothing for 0.
-fn say_count<R: Eprint>(rt: &R, program: &str, count: u64, one: &str, several: &str) {
+fn print_count<R: Eprint>(rt: &R, program: &str, count: u64, one: &str, several: &str) {
     if count > 0 {
         let what = if count == 1 { one } else { several };
         let _ = rt.eprintln(format_args!("{program}: {count} {what}"));
@@ -243,7 +243,7 @@ fn say_count<R: Eprint>(rt: &R, program: &str, count: u64, one: &str, several: &
 /// Runs the import from standard input to standard output.
 fn run<R: Input + Print + Eprint + AllocGlobal, N: Destination, F: Destination>(
     rt: &R,
-    asked: &Asked<'_>,
+    asked: &Arguments<'_>,
     nodes: Cluster,
     names: &mut N,
     files: &mut F,

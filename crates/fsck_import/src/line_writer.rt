@@ -12,7 +12,7 @@ use bm_base::{
     BlockId, Call, Entry, Event, Items, MAX_ENTRIES, NodeId, Rack, Remaining, StorageId,
 };
 use bm_lines::{MAX_LINE, line_of};
-use fsck_cluster::{Cluster, Held, NodeRow, Row};
+use fsck_cluster::{Cluster, NodeRow, Row, StoredReplica};
 use std::alloc::{AllocError, Global};
 use std::io::Write;
 
@@ -79,6 +79,8 @@ fn write_registers<W: Write>(alloc: Global, writer: &mut W, cluster: &Cluster) -
     Ok(())
 }
 
+/// Makes the call that registers a node, with its storages among these rows. Refused only if out of
+/// memory.
 pub fn register(alloc: Global, rows: &[Row], node: &NodeRow) -> Result<Call, AllocError>
     ensures { IfOk result (λ call. call ≡ register rows.now node.now) }
 {
@@ -119,6 +121,8 @@ fn write_heartbeats<W: Write>(
     Ok(())
 }
 
+/// Makes the heartbeat of a node: each storage has `remaining` free bytes, or its share of the
+/// node's bytes if the row has them. Refused only if out of memory.
 pub fn heartbeat(
     alloc: Global,
     rows: &[Row],
@@ -218,7 +222,7 @@ fn write_row<W: Write>(alloc: Global, writer: &mut W, row: &Row) -> Result<(), F
         (W.contents writer.new)) }
     ensures faults { IfErr result IsWriteFault }
 {
-    let (first, rest) = parts_of(row.held.as_slice());
+    let (first, rest) = split_at_report_limit(row.held.as_slice());
     let call = Call::Apply(Event::FullReport {
         storage: StorageId(row.number),
         entries: Items::from_vec(entries_of(alloc, first)?),
@@ -229,7 +233,7 @@ fn write_row<W: Write>(alloc: Global, writer: &mut W, row: &Row) -> Result<(), F
 }
 
 /// The replicas that fit into a report, and the others.
-pub fn parts_of(held: &[Held]) -> (&[Held], &[Held])
+pub fn split_at_report_limit(held: &[StoredReplica]) -> (&[StoredReplica], &[StoredReplica])
     ensures first { result.0.now ≡ take MAX_ENTRIES held.now }
     ensures others { result.1.now ≡ drop MAX_ENTRIES held.now }
 {
@@ -240,7 +244,7 @@ pub fn parts_of(held: &[Held]) -> (&[Held], &[Held])
 }
 
 /// Replicas, as the entries of a report.
-pub fn entries_of(alloc: Global, held: &[Held]) -> Result<Vec<Entry>, AllocError>
+pub fn entries_of(alloc: Global, held: &[StoredReplica]) -> Result<Vec<Entry>, AllocError>
     ensures { IfOk result (λ v. v.items ≡ map entry held.now) }
 {
     held.iter()
@@ -254,7 +258,7 @@ fn write_received<W: Write>(
     alloc: Global,
     writer: &mut W,
     storage: StorageId,
-    held: &[Held],
+    held: &[StoredReplica],
 ) -> Result<(), Fault>
     ensures written { OnOk result (Written (map (received storage) held.now) (W.contents writer.old)
         (W.contents writer.new)) }

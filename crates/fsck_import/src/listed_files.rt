@@ -4,7 +4,7 @@ ghost use Rattle.fsck_import.specs.Listings.{no_listing, headed, with_listed};
 
 use bm_base::BlockId;
 use cluster_names::Files;
-use fsck_text::path_of;
+use fsck_text::parse_path;
 use std::alloc::{AllocError, Global};
 use std::marker::Model;
 use std::mem;
@@ -43,6 +43,7 @@ impl Listing {
         }
     }
 
+    /// Returns the files read so far.
     pub fn files(&self) -> &Files
         ensures { result.now ≡ self.now.files }
     {
@@ -64,7 +65,7 @@ impl Listing {
         if !self.is_kept {
             return Ok(());
         }
-        if let Some(path) = path_of(line) {
+        if let Some(path) = parse_path(line) {
             self.path = String::from_str(alloc, path)?;
         }
         Ok(())

@@ -8,7 +8,7 @@ ghost use Rattle.fsck_import.specs.Options.{given, flag_rule, option_rule, progr
 use clap::error::ErrorKind;
 use clap::{Arg, ArgAction, ArgMatches, Command, Error};
 use fsck_files::{Skips, Unclear};
-use fsck_text::number_of;
+use fsck_text::parse_number;
 use std::alloc::{AllocError, Global};
 
 const EXAMPLES: &str = "Examples:\n  \
@@ -28,7 +28,7 @@ pub struct Values {
 
 /// The command line.
 #[derive(Clone, Copy)]
-pub struct Asked<'a> {
+pub struct Arguments<'a> {
     pub values: Values,
     /// The path of the file into which the table of names goes, if one is named.
     pub names: Option<&'a str>,
@@ -42,7 +42,7 @@ pub struct Asked<'a> {
 
 /// Parses the words of a command line, the program's name first. Each option may occur once. An
 /// `Err` is a request for help, a refused command line, or out of memory.
-pub fn asked_by<'a>(alloc: Global, words: &'a [String]) -> Result<Asked<'a>, Error>
+pub fn parse_arguments<'a>(alloc: Global, words: &'a [String]) -> Result<Arguments<'a>, Error>
     ensures values { IfOk result (λ a. Some a.values
         ≡ values_of (given (codes "remaining") (map string_bytes words.entry.now))
         (given (codes "skip") (map string_bytes words.entry.now))
@@ -63,7 +63,7 @@ pub fn asked_by<'a>(alloc: Global, words: &'a [String]) -> Result<Asked<'a>, Err
         matches.get_str("unclear"),
     );
     match values {
-        Some(values) => Ok(Asked {
+        Some(values) => Ok(Arguments {
             values,
             names: matches.get_str("names"),
             files: matches.get_str("files"),
@@ -167,7 +167,7 @@ pub fn input_bytes_of(matches: &ArgMatches<'_>) -> Option<u64> {
     if matches.get_flag("quiet") {
         return None;
     }
-    number_of(matches.get_str("progress")?)
+    parse_number(matches.get_str("progress")?)
 }
 
 /// Parses the texts of these options. `None` if a text is no value of its option.
@@ -191,7 +191,7 @@ fn remaining_for(text: Option<&str>) -> Option<u64>
     ensures { result ≡ remaining_for (option_copied text.entry) }
 {
     match text {
-        Some(text) => number_of(text),
+        Some(text) => parse_number(text),
         None => Some(1_099_511_627_776),
     }
 }

@@ -1,4 +1,4 @@
--- Laws of cuts of a text.
+-- `split_once`, `rsplit_once`, `strip_prefix` and `find` cut a text as the definitions do.
 use Rattle.std.proofs.Common.{◌≡◌, ◌≢◌, ℕ, ◌<◌, ◌≤◌, ◌+◌, [], ◌∷◌, ◌++◌, Option, Some, None, option_map, MatchOption, suc, length, get_or, take, drop, arith, refl, sym, ap, ◌∙◌, inl, inr, zero, unwrap_or}
 use Rattle.std.proofs.lemmas.Bool.{ne_eqb, eq-eqb}
 use Rattle.std.proofs.lemmas.Bool.Decides.{eqb_tells}

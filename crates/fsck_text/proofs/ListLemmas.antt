@@ -1,4 +1,5 @@
--- Laws of the items of a list.
+-- Reading the items of a list one after another gives the replicas of the whole list, or the fault
+-- of the first wrong item.
 use Rattle.std.proofs.Common.{◌≡◌, ◌≢◌, ℕ, ◌+◌, ◌<◌, ◌≤◌, Bool, true, false, List, [], ◌∷◌, ◌++◌, Option, Some, None, Result, Ok, Err, option_map, MatchOption, suc, zero, length, get_or, take, drop, arith, append_assoc, is_ok, true≢false, append-nil, refl, sym, ap, subst, IfSome, ◌∙◌, inl, inr, ◌==◌, ◌&&◌, if◌then◌else◌}
 use Rattle.std.proofs.lemmas.Bool.{eq-eqb}
 use Rattle.std.proofs.lemmas.Bool.Decides.{eqb_tells}
@@ -6,7 +7,7 @@ use Rattle.std.specs.Str.Pattern.{FindsText}
 use denote.Ref.{Bor}
 use Rattle.fsck_text.specs.Cuts.{Text, onto_cut}
 use Rattle.fsck_text.specs.Lists.{cut_item, onto_first, items_of, onto_listed, all_listed, listed_of, replicas_in, pushed}
-use Rattle.fsck_text.specs.declared.list.Listed.{Listed}
+use Rattle.fsck_text.specs.declared.list.ListedReplica.{ListedReplica}
 use Rattle.fsck_text.specs.Wrongs.{IsCause}
 use Rattle.fsck_text.specs.declared.wrong.Wrong.{Wrong}
 use Rattle.fsck_text.specs.declared.wrong.Fault.{Fault}
@@ -40,11 +41,11 @@ pub last-item : (text : Text) → cut_item text ≡ None → replicas_in text �
 last-item text h = ap all_listed (items-cut text ∙ ap (cut_items text) h)
 
 -- some replicas and then those of a list, if the list is understood
-abbrev pub prefixed : List Listed → Result (List Listed) Wrong → Result (List Listed) Wrong
+abbrev pub prefixed : List ListedReplica → Result (List ListedReplica) Wrong → Result (List ListedReplica) Wrong
 prefixed xs (Ok ys) = Ok (xs ++ ys)
 prefixed xs (Err w) = Err w
 
-pub prefixed-one : (xs : List Listed) (one : Listed) (r : Result (List Listed) Wrong) → prefixed xs (onto_listed (Ok one) r) ≡ prefixed (xs ++ one ∷ []) r
+pub prefixed-one : (xs : List ListedReplica) (one : ListedReplica) (r : Result (List ListedReplica) Wrong) → prefixed xs (onto_listed (Ok one) r) ≡ prefixed (xs ++ one ∷ []) r
 prefixed-one xs one (Ok ys) = ap Ok (sym (append_assoc xs (one ∷ []) ys))
 prefixed-one xs one (Err w) = refl
 
@@ -107,36 +108,36 @@ shorter (b ∷ c ∷ bs) = shorter-by (b == 44 && c == 32) b c bs (shorter (c �
 pub shorter_after : (text item after : Text) → cut_item text ≡ Some (item, after) → length after < length text
 shorter_after text item after e = subst (IsShorter text) e (shorter text)
 
-abbrev value : Result (List Listed) Wrong → List Listed
+abbrev value : Result (List ListedReplica) Wrong → List ListedReplica
 value (Ok list) = list
 value (Err w) = []
 
-pushed-onto : (xs ys : List Listed) (r : Result Listed Wrong) (tail : Result (List Listed) Wrong) → pushed xs r ≡ Ok ys → prefixed xs (onto_listed r tail) ≡ prefixed ys tail
+pushed-onto : (xs ys : List ListedReplica) (r : Result ListedReplica Wrong) (tail : Result (List ListedReplica) Wrong) → pushed xs r ≡ Ok ys → prefixed xs (onto_listed r tail) ≡ prefixed ys tail
 pushed-onto xs ys (Ok one) tail e = prefixed-one xs one tail ∙ ap (λ zs. prefixed zs tail) (ap value e)
 pushed-onto xs ys (Err w) tail e = absurd (true≢false (sym (ap is_ok e)))
 
 -- a step of the loop
-pub next_listed : (text rest item after : Text) (xs ys : List Listed) → replicas_in text ≡ prefixed xs (replicas_in rest) → cut_item rest ≡ Some (item, after)
+pub next_listed : (text rest item after : Text) (xs ys : List ListedReplica) → replicas_in text ≡ prefixed xs (replicas_in rest) → cut_item rest ≡ Some (item, after)
     → pushed xs (listed_of item) ≡ Ok ys → replicas_in text ≡ prefixed ys (replicas_in after)
 next_listed text rest item after xs ys so_far cut one =
     so_far ∙ ap (prefixed xs) (next-item rest item after cut) ∙ pushed-onto xs ys (listed_of item) (replicas_in after) one
 
 -- the last step of the loop
-pub last_listed : (text rest : Text) (xs ys : List Listed) → replicas_in text ≡ prefixed xs (replicas_in rest) → cut_item rest ≡ None
+pub last_listed : (text rest : Text) (xs ys : List ListedReplica) → replicas_in text ≡ prefixed xs (replicas_in rest) → cut_item rest ≡ None
     → pushed xs (listed_of rest) ≡ Ok ys → replicas_in text ≡ Ok ys
 last_listed text rest xs ys so_far cut one =
     so_far ∙ ap (prefixed xs) (last-item rest cut) ∙ pushed-onto xs ys (listed_of rest) (Ok []) one ∙ ap Ok (append-nil ys)
 
-wrong-onto : (f : Fault) (xs : List Listed) (r : Result Listed Wrong) (tail whole : Result (List Listed) Wrong) → whole ≡ prefixed xs (onto_listed r tail) → IsCause f r → IsCause f whole
+wrong-onto : (f : Fault) (xs : List ListedReplica) (r : Result ListedReplica Wrong) (tail whole : Result (List ListedReplica) Wrong) → whole ≡ prefixed xs (onto_listed r tail) → IsCause f r → IsCause f whole
 wrong-onto fault.Memory xs r tail whole e cause = tt
 wrong-onto (fault.Wrong w) xs r tail whole e cause = e ∙ ap (λ s. prefixed xs (onto_listed s tail)) cause
 
-pub item_wrong : (text rest item after : Text) (xs : List Listed) (f : Fault) → replicas_in text ≡ prefixed xs (replicas_in rest) → cut_item rest ≡ Some (item, after)
+pub item_wrong : (text rest item after : Text) (xs : List ListedReplica) (f : Fault) → replicas_in text ≡ prefixed xs (replicas_in rest) → cut_item rest ≡ Some (item, after)
     → IsCause f (listed_of item) → IsCause f (replicas_in text)
 item_wrong text rest item after xs f so_far cut cause =
     wrong-onto f xs (listed_of item) (replicas_in after) (replicas_in text) (so_far ∙ ap (prefixed xs) (next-item rest item after cut)) cause
 
-pub last_wrong : (text rest : Text) (xs : List Listed) (f : Fault) → replicas_in text ≡ prefixed xs (replicas_in rest) → cut_item rest ≡ None
+pub last_wrong : (text rest : Text) (xs : List ListedReplica) (f : Fault) → replicas_in text ≡ prefixed xs (replicas_in rest) → cut_item rest ≡ None
     → IsCause f (listed_of rest) → IsCause f (replicas_in text)
 last_wrong text rest xs f so_far cut cause =
     wrong-onto f xs (listed_of rest) (Ok []) (replicas_in text) (so_far ∙ ap (prefixed xs) (last-item rest cut)) cause

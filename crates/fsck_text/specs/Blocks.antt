@@ -5,7 +5,7 @@ use Rattle.std.specs.Str.{bytes_eq}
 use Rattle.fsck_text.specs.Cuts.{Text, is_empty, cut_at, after_prefix, after_first, before_last, word_and_rest, number_of, small_number_of}
 use Rattle.fsck_text.specs.Wrongs.{wrong, shown, after_ok, or_wrong}
 use Rattle.fsck_text.specs.declared.block.BlockLine.{BlockLine}
-use Rattle.fsck_text.specs.declared.block.Named.{Named}
+use Rattle.fsck_text.specs.declared.block.BlockName.{BlockName}
 use Rattle.fsck_text.specs.declared.block.Replicas.{Replicas}
 use Rattle.fsck_text.specs.declared.wrong.Reason.TheVariants as reason
 use Rattle.fsck_text.specs.declared.wrong.Wrong.{Wrong}
@@ -23,12 +23,12 @@ without_pool name = option_map_or (λ p. p.1) (cut_at 58 name) name
 abbrev pub numbers_of : Text → Option (Text × Text)
 numbers_of name = option_and_then (cut_at 95) (after_prefix (codes "blk_") (without_pool name))
 
-abbrev pub stamped : Text → Text → ℕ → Result Named Wrong
+abbrev pub stamped : Text → Text → ℕ → Result BlockName Wrong
 stamped name generation id = or_wrong reason.NotABlock name (option_map (λ g. record { id = id; generation = g }) (number_of generation))
 
 -- the block of a name at the start of a text: a pool and a colon, or nothing, then blk_, its number
 -- and its generation stamp
-abbrev pub block_named : Text → Text → Result Named Wrong
+abbrev pub block_named : Text → Text → Result BlockName Wrong
 block_named name text =
     option_map_or (λ p. after_ok (stamped name p.1) (id_of name p.0)) (numbers_of name) (Err (wrong reason.NotABlock (shown name text)))
 
@@ -46,7 +46,7 @@ live_of word text =
 abbrev pub bracketed : Text → Option Text
 bracketed list = option_and_then (before_last 93) (after_first 91 list)
 
--- the same after at most one more space, 32; empty for no text
+-- the text between the brackets of a list, after at most one more space, 32; empty for no text
 abbrev pub list_text : Text → Result Text Wrong
 list_text text =
     let list = unwrap_or (after_first 32 text) text in
@@ -65,7 +65,7 @@ replicas_of text =
     let p = word_and_rest text in
     if bytes_eq p.0 (codes "MISSING!") then no_replicas p.1 else after_ok (with_list p.1) (live_of p.0 text)
 
-abbrev pub block_line : Named → ℕ → Replicas → BlockLine
+abbrev pub block_line : BlockName → ℕ → Replicas → BlockLine
 block_line named len counted =
     record { id = named.id; stamp = record { generation = named.generation; len = len }; live = counted.live; list = counted.list }
 

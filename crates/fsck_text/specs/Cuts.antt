@@ -77,6 +77,6 @@ abbrev pub number_of : Text → Option ℕ
 number_of [] = None
 number_of (b ∷ bs) = number_after 0 (b ∷ bs)
 
--- the same, below 2^32
+-- the number in a text of decimal digits, if it is below 2^32
 abbrev pub small_number_of : Text → Option ℕ
 small_number_of text = option_and_then (λ n. if nat_lt n (2 ^ 32) then Some n else None) (number_of text)

@@ -8,7 +8,7 @@ use Rattle.fsck_text.specs.Wrongs.{wrong, shown, after_ok, or_wrong}
 use Rattle.fsck_text.specs.declared.heading.Layout.{Layout}
 use Rattle.fsck_text.specs.declared.heading.Layout.TheVariants as layout
 use Rattle.fsck_text.specs.declared.heading.Heading.{Heading}
-use Rattle.fsck_text.specs.declared.heading.Begun.{Begun}
+use Rattle.fsck_text.specs.declared.heading.HeadingStart.{HeadingStart}
 use Rattle.fsck_text.specs.declared.wrong.Reason.TheVariants as reason
 use Rattle.fsck_text.specs.declared.wrong.Wrong.{Wrong}
 
@@ -16,8 +16,8 @@ use Rattle.fsck_text.specs.declared.wrong.Wrong.{Wrong}
 abbrev pub after_key : Text → Text → Option (Text × Text)
 after_key key text = option_and_then (cut_at 44) (after_prefix key text)
 
-abbrev pub begun : Layout → Option ℕ → ℕ → Bool → Text → Begun
-begun layout replication blocks is_open problem =
+abbrev pub heading_start : Layout → Option ℕ → ℕ → Bool → Text → HeadingStart
+heading_start layout replication blocks is_open problem =
     record { layout = layout; replication = replication; blocks = blocks; is_open = is_open; problem = problem }
 
 -- the first of two that exists
@@ -27,27 +27,27 @@ first_of None (Some x) none = x
 first_of None None none = none
 
 -- a number of blocks, and the end of the heading of a file that is open or not
-abbrev pub ended : Layout → Option ℕ → Text → ℕ → Result Begun Wrong
+abbrev pub ended : Layout → Option ℕ → Text → ℕ → Result HeadingStart Wrong
 ended layout replication rest blocks =
-    first_of (option_map (λ problem. Ok (begun layout replication blocks false problem)) (after_prefix (codes "block(s):") rest))
-    (option_map (λ problem. Ok (begun layout replication blocks true problem)) (after_prefix (codes "block(s), OPENFORWRITE:") rest))
+    first_of (option_map (λ problem. Ok (heading_start layout replication blocks false problem)) (after_prefix (codes "block(s):") rest))
+    (option_map (λ problem. Ok (heading_start layout replication blocks true problem)) (after_prefix (codes "block(s), OPENFORWRITE:") rest))
     (Err (wrong reason.NotAHeading rest))
 
 -- the number of blocks, whether the file is open, and then the problem
-abbrev pub counted : Layout → Option ℕ → Text → Result Begun Wrong
+abbrev pub counted : Layout → Option ℕ → Text → Result HeadingStart Wrong
 counted layout replication text =
     let words = unwrap_or (after_first 32 text) text in
     let p = word_and_rest words in
     after_ok (ended layout replication p.1) (or_wrong reason.NotAHeading (shown p.0 words) (small_number_of p.0))
 
 -- Hadoop 3, a replicated file: its replication and the number of its blocks
-abbrev pub replicated : Text → Result Begun Wrong
+abbrev pub replicated : Text → Result HeadingStart Wrong
 replicated text =
     option_map_or (λ p. after_ok (λ n. counted layout.Replicated (Some n) p.1) (or_wrong reason.NotATarget (shown p.0 text) (small_number_of p.0)))
     (after_key (codes " replication=") text) (Err (wrong reason.NotAHeading text))
 
 -- Hadoop 3, an erasure coded file: its policy and the number of its blocks
-abbrev pub coded : Text → Result Begun Wrong
+abbrev pub coded : Text → Result HeadingStart Wrong
 coded text =
     option_map_or (λ p. counted layout.ErasureCoded None p.1) (after_key (codes " policy=") text) (Err (wrong reason.NotAHeading text))
 
@@ -56,20 +56,20 @@ abbrev pub last_word : Text → Text
 last_word text = option_map_or (λ p. p.1) (last_cut_at 32 text) text
 
 -- Hadoop 2: the number of blocks is the last word before block(s)
-abbrev pub old : Text → Text → Bool → Result Begun Wrong
+abbrev pub old : Text → Text → Bool → Result HeadingStart Wrong
 old front problem is_open =
-    after_ok (λ blocks. Ok (begun layout.Replicated None blocks is_open problem))
+    after_ok (λ blocks. Ok (heading_start layout.Replicated None blocks is_open problem))
     (or_wrong reason.NotAHeading (shown (last_word front) front) (small_number_of (last_word front)))
 
 -- Hadoop 2, an open file
-abbrev pub old_open : Text → Text → Result Begun Wrong
+abbrev pub old_open : Text → Text → Result HeadingStart Wrong
 old_open front problem =
     option_map_or (λ p. if bytes_eq p.1 (codes "block(s),") then old p.0 problem true else Err (wrong reason.NotAHeading front))
     (last_cut_at 32 front) (Err (wrong reason.NotAHeading front))
 
 -- the start of a heading, by the last word before the colon
-abbrev pub begun_of : Text → Text → Text → Result Begun Wrong
-begun_of front last after =
+abbrev pub heading_start_of : Text → Text → Text → Result HeadingStart Wrong
+heading_start_of front last after =
     if bytes_eq last (codes "replicated") then replicated after
     else (if bytes_eq last (codes "erasure-coded") then coded after
     else (if bytes_eq last (codes "block(s)") then old front after false
@@ -101,15 +101,15 @@ differ _ _ = false
 abbrev pub is_in_snapshot : Text → Bool
 is_in_snapshot path = list_any (bytes_eq (codes ".snapshot")) (slice_split (λ b. b == 47) path)
 
-abbrev pub heading_by : Text → Begun → Option ℕ → Result Heading Wrong
-heading_by front begun target =
-    if differ begun.replication target then Err (wrong reason.TwoTargets begun.problem)
+abbrev pub heading_by : Text → HeadingStart → Option ℕ → Result Heading Wrong
+heading_by front heading_start target =
+    if differ heading_start.replication target then Err (wrong reason.TwoTargets heading_start.problem)
     else Ok (record {
-      layout = begun.layout;
-      is_open = begun.is_open;
+      layout = heading_start.layout;
+      is_open = heading_start.is_open;
       is_snapshot = is_in_snapshot front;
-      blocks = begun.blocks;
-      target = option_or begun.replication target;
+      blocks = heading_start.blocks;
+      target = option_or heading_start.replication target;
     })
 
 -- a heading ends with nothing, with OK, or with the first problem of the file
@@ -120,14 +120,14 @@ is_ending text =
     || is_some (after_prefix (codes "  Replica placement policy is violated for ") text)
     || is_some (after_prefix (codes "  MISSING ") text)
 
-abbrev pub ended_by : Text → Begun → Result Heading Wrong
+abbrev pub ended_by : Text → HeadingStart → Result Heading Wrong
 ended_by front b =
     if is_ending b.problem then after_ok (heading_by front b) (problem_target b.problem)
     else Err (wrong reason.NotAHeading b.problem)
 
 abbrev pub heading_with : Text → Text → Text → Result Heading Wrong
 heading_with front last after =
-    after_ok (ended_by front) (begun_of front last after)
+    after_ok (ended_by front) (heading_start_of front last after)
 
 -- the heading of a file, from its text before the first colon and after it
 abbrev pub heading_of : Text → Text → Result Heading Wrong

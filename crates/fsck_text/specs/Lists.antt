@@ -8,7 +8,7 @@ use Rattle.fsck_text.specs.Wrongs.{wrong, shown}
 use Rattle.fsck_text.specs.declared.mark.Mark.{Mark}
 use Rattle.fsck_text.specs.declared.mark.Mark.TheVariants as mark
 use Rattle.fsck_text.specs.declared.place.Place.{Place}
-use Rattle.fsck_text.specs.declared.list.Listed.{Listed}
+use Rattle.fsck_text.specs.declared.list.ListedReplica.{ListedReplica}
 use Rattle.fsck_text.specs.declared.wrong.Reason.TheVariants as reason
 use Rattle.fsck_text.specs.declared.wrong.Wrong.{Wrong}
 
@@ -29,46 +29,46 @@ items_of [] = [] ∷ []
 items_of (b ∷ []) = (b ∷ []) ∷ []
 items_of (b ∷ c ∷ bs) = if b == 44 && c == 32 then [] ∷ items_of bs else onto_first b (items_of (c ∷ bs))
 
-abbrev pub listed_by : Text → Option Place → Option Mark → Result Listed Wrong
+abbrev pub listed_by : Text → Option Place → Option Mark → Result ListedReplica Wrong
 listed_by item (Some place) (Some mark) = Ok (record { place = place; mark = mark })
 listed_by item None mark = Err (wrong reason.NotAPlace item)
 listed_by item (Some place) None = Err (wrong reason.NotAMark item)
 
-abbrev pub listed_with : Text → Text → Option Mark → Result Listed Wrong
+abbrev pub listed_with : Text → Text → Option Mark → Result ListedReplica Wrong
 listed_with item place mark = listed_by item (place_of place) mark
 
 -- a replica from its item: its place, and its mark after an opening parenthesis, 40, if there is
 -- one
-abbrev pub listed_of : Text → Result Listed Wrong
+abbrev pub listed_of : Text → Result ListedReplica Wrong
 listed_of item = option_map_or (λ p. listed_with item p.0 (mark_of p.1)) (cut_at 40 item) (listed_with item item (Some mark.Absent))
 
 -- with one more replica, if it is understood
-abbrev pub pushed : List Listed → Result Listed Wrong → Result (List Listed) Wrong
+abbrev pub pushed : List ListedReplica → Result ListedReplica Wrong → Result (List ListedReplica) Wrong
 pushed list (Ok one) = Ok (list ++ one ∷ [])
 pushed list (Err w) = Err w
 
 -- the replica and then the others, if all are understood; else the fault of the first that is not
-abbrev pub onto_listed : Result Listed Wrong → Result (List Listed) Wrong → Result (List Listed) Wrong
+abbrev pub onto_listed : Result ListedReplica Wrong → Result (List ListedReplica) Wrong → Result (List ListedReplica) Wrong
 onto_listed (Err w) rest = Err w
 onto_listed (Ok one) (Err w) = Err w
 onto_listed (Ok one) (Ok rest) = Ok (one ∷ rest)
 
-abbrev pub all_listed : List Text → Result (List Listed) Wrong
+abbrev pub all_listed : List Text → Result (List ListedReplica) Wrong
 all_listed [] = Ok []
 all_listed (item ∷ items) = onto_listed (listed_of item) (all_listed items)
 
 -- the replicas of one item or more
-abbrev pub replicas_in : Text → Result (List Listed) Wrong
+abbrev pub replicas_in : Text → Result (List ListedReplica) Wrong
 replicas_in text = all_listed (items_of text)
 
 -- the fault of an item of a list; the whole list is quoted for an empty item
 abbrev pub within : Text → Wrong → Wrong
 within text w = wrong w.why (shown w.word text)
 
-abbrev pub all_within : Text → Result (List Listed) Wrong → Result (List Listed) Wrong
+abbrev pub all_within : Text → Result (List ListedReplica) Wrong → Result (List ListedReplica) Wrong
 all_within text (Ok listed) = Ok listed
 all_within text (Err w) = Err (within text w)
 
 -- the replicas of a list, in order; none from no text
-abbrev pub list_of : Text → Result (List Listed) Wrong
+abbrev pub list_of : Text → Result (List ListedReplica) Wrong
 list_of text = if is_empty text then Ok [] else all_within text (replicas_in text)

@@ -56,7 +56,7 @@ storage_at address storage type =
 abbrev pub stored_by : Text → Option Place
 stored_by parts = option_and_then (λ p. option_and_then (λ q. storage_at p.0 q.0 q.1) (cut_at 44 p.1)) (cut_at 44 parts)
 
--- the same, up to the closing bracket, 93
+-- a node and its storage, up to the closing bracket, 93
 abbrev pub stored_place : Text → Option Place
 stored_place text = option_and_then stored_by (before_last 93 text)
 

@@ -19,7 +19,7 @@ blocks_named name =
     else (if bytes_eq name (codes "  CORRUPT BLOCKS") then Some count.Corrupt
     else None))))
 
--- the same for a line about erasure coded files
+-- the count that a line about erasure coded files has, from its text before the colon
 abbrev pub groups_named : Text → Option Count
 groups_named name =
     if bytes_eq name (codes " Total block groups (validated)") then Some count.Groups

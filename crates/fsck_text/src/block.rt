@@ -3,7 +3,7 @@ ghost use Rattle.std.specs.Prelude.{◌≡◌};
 ghost use Rattle.fsck_text.specs.Blocks.{id_of, without_pool, block_named, length_of, live_of, list_text, replicas_of, block_of, after_length, is_missing, is_being_written, corrupt_block};
 
 use crate::cuts::{
-    after_first, after_prefix, before_last, cut_at, number_of, small_number_of, word_and_rest,
+    after_first, after_prefix, before_last, cut_at, parse_number, parse_small_number, word_and_rest,
 };
 use crate::wrong::{Piece, Reason, Wrong, shown};
 use bm_base::{BlockId, Gen, Stamp};
@@ -21,7 +21,7 @@ pub struct BlockLine<'a> {
 
 /// A block's name: its number and its generation stamp.
 #[derive(Clone, Copy, Drop)]
-struct Named {
+struct BlockName {
     id: BlockId,
     generation: Gen,
 }
@@ -34,14 +34,14 @@ struct Replicas<'a> {
 }
 
 /// Parses a block's line after its index.
-pub fn block_of(text: &str) -> Result<BlockLine<'_>, Wrong<'_>>
+pub fn parse_block(text: &str) -> Result<BlockLine<'_>, Wrong<'_>>
     ensures { result ≡ block_of text.now }
 {
     let (name, rest) = word_and_rest(text);
     let (len, replicas) = word_and_rest(rest);
     let named = block_named(name, text)?;
-    let len = length_of(len, rest)?;
-    let counted = replicas_of(replicas)?;
+    let len = parse_length(len, rest)?;
+    let counted = parse_replicas(replicas)?;
     Ok(BlockLine {
         id: named.id,
         stamp: Stamp {
@@ -88,19 +88,19 @@ pub fn corrupt_block(text: &str) -> Result<BlockId, Wrong<'_>>
         return Err(Wrong::new(Reason::NotABlock, shown(block, rest)));
     }
     match after_prefix(name, "blk_") {
-        Some(id) => id_of(name, id),
+        Some(id) => parse_id(name, id),
         None => Err(Wrong::new(Reason::NotABlock, name)),
     }
 }
 
 /// The number in the name of a block; a number below 0 begins with a minus.
-fn id_of<'a>(name: &'a str, id: &'a str) -> Result<BlockId, Wrong<'a>>
+fn parse_id<'a>(name: &'a str, id: &'a str) -> Result<BlockId, Wrong<'a>>
     ensures { result ≡ id_of name.entry.now id.entry.now }
 {
     if after_first(id, '-').is_some() {
         return Err(Wrong::new(Reason::NegativeBlock, name));
     }
-    match number_of(id) {
+    match parse_number(id) {
         Some(number) => Ok(BlockId(number)),
         None => Err(Wrong::new(Reason::NotABlock, name)),
     }
@@ -118,16 +118,16 @@ fn without_pool(name: &str) -> &str
 
 /// The block of a name at the start of a text: a pool and a colon, or nothing, then `blk_`, its
 /// number, `_` and its stamp.
-fn block_named<'a>(name: &'a str, text: &'a str) -> Result<Named, Wrong<'a>>
+fn block_named<'a>(name: &'a str, text: &'a str) -> Result<BlockName, Wrong<'a>>
     ensures { result ≡ block_named name.entry.now text.entry.now }
 {
     let parts = after_prefix(without_pool(name), "blk_").and_then(|text| cut_at(text, '_'));
     let Some((id, generation)) = parts else {
         return Err(Wrong::new(Reason::NotABlock, shown(name, text)));
     };
-    let id = id_of(name, id)?;
-    match number_of(generation) {
-        Some(generation) => Ok(Named {
+    let id = parse_id(name, id)?;
+    match parse_number(generation) {
+        Some(generation) => Ok(BlockName {
             id,
             generation: Gen(generation),
         }),
@@ -136,24 +136,24 @@ fn block_named<'a>(name: &'a str, text: &'a str) -> Result<Named, Wrong<'a>>
 }
 
 /// The length of the block in bytes, from the first word of the text.
-fn length_of<'a>(word: &'a str, text: &'a str) -> Result<u64, Wrong<'a>>
+fn parse_length<'a>(word: &'a str, text: &'a str) -> Result<u64, Wrong<'a>>
     ensures { result ≡ length_of word.entry.now text.entry.now }
 {
-    match after_prefix(word, "len=").and_then(number_of) {
+    match after_prefix(word, "len=").and_then(parse_number) {
         Some(len) => Ok(len),
         None => Err(Wrong::new(Reason::NotALength, shown(word, text))),
     }
 }
 
 /// The number of live replicas, from the first word of the text.
-fn live_of<'a>(word: &'a str, text: &'a str) -> Result<u32, Wrong<'a>>
+fn parse_live_count<'a>(word: &'a str, text: &'a str) -> Result<u32, Wrong<'a>>
     ensures { result ≡ live_of word.entry.now text.entry.now }
 {
     let count = match after_prefix(word, "Live_repl=") {
         Some(count) => Some(count),
         None => after_prefix(word, "repl="),
     };
-    match count.and_then(small_number_of) {
+    match count.and_then(parse_small_number) {
         Some(count) => Ok(count),
         None => Err(Wrong::new(Reason::NotACount, shown(word, text))),
     }
@@ -175,12 +175,12 @@ fn list_text(text: &str) -> Result<Piece<'_>, Wrong<'_>>
 }
 
 /// Parses the count and the list of a block's line, after its length.
-fn replicas_of(text: &str) -> Result<Replicas<'_>, Wrong<'_>>
+fn parse_replicas(text: &str) -> Result<Replicas<'_>, Wrong<'_>>
     ensures { result ≡ replicas_of text.now }
 {
     let (count, rest) = word_and_rest(text);
     if count != "MISSING!" {
-        let live = Some(live_of(count, text)?);
+        let live = Some(parse_live_count(count, text)?);
         let list = list_text(rest)?;
         return Ok(Replicas { live, list });
     }

@@ -80,7 +80,7 @@ fn first_column_of(line: &str, word: &str) -> usize
 }
 
 /// The number in a text of decimal digits, if it is below 2^64.
-pub fn number_of(text: &str) -> Option<u64>
+pub fn parse_number(text: &str) -> Option<u64>
     ensures { result ≡ number_of text.now }
 {
     if text.is_empty() {
@@ -103,9 +103,9 @@ fn with_digit(value: u64, digit: u8) -> Option<u64>
     value.checked_mul(10)?.checked_add(u64::from(digit - b'0'))
 }
 
-/// The same, below 2^32.
-pub fn small_number_of(text: &str) -> Option<u32>
+/// The number in a text of decimal digits, if it is below 2^32.
+pub fn parse_small_number(text: &str) -> Option<u32>
     ensures { result ≡ small_number_of text.now }
 {
-    u32::try_from(number_of(text)?).ok()
+    u32::try_from(parse_number(text)?).ok()
 }

@@ -1,8 +1,10 @@
 // The heading of a file.
 ghost use Rattle.std.specs.Prelude.{◌≡◌, option_map};
-ghost use Rattle.fsck_text.specs.Headings.{after_key, counted, replicated, coded, old, old_open, begun_of, number_at, target_of, problem_target, is_ending, is_in_snapshot, heading_of, differ};
+ghost use Rattle.fsck_text.specs.Headings.{after_key, counted, replicated, coded, old, old_open, heading_start_of, number_at, target_of, problem_target, is_ending, is_in_snapshot, heading_of, differ};
 
-use crate::cuts::{after_first, after_prefix, cut_at, last_cut_at, small_number_of, word_and_rest};
+use crate::cuts::{
+    after_first, after_prefix, cut_at, last_cut_at, parse_small_number, word_and_rest,
+};
 use crate::wrong::{Piece, Reason, Wrong, shown};
 
 /// The layout of a file.
@@ -29,7 +31,7 @@ pub struct Heading {
 
 /// A heading up to the problem at its end, if any.
 #[derive(Drop)]
-struct Begun<'a> {
+struct HeadingStart<'a> {
     layout: Layout,
     replication: Option<u32>,
     blocks: u32,
@@ -39,27 +41,27 @@ struct Begun<'a> {
 
 /// Parses the heading of a file from its text before the first colon and after it. A path of HDFS
 /// has no colon.
-pub fn heading_of<'a>(before: &'a str, after: &'a str) -> Result<Heading, Wrong<'a>>
+pub fn parse_heading<'a>(before: &'a str, after: &'a str) -> Result<Heading, Wrong<'a>>
     ensures { result ≡ heading_of before.entry.now after.entry.now }
 {
     let Some((front, last)) = last_cut_at(before, ' ') else {
         return Err(Wrong::new(Reason::NotAHeading, before));
     };
-    let begun = begun_of(front, last, after)?;
-    let problem = begun.problem.text();
+    let start = parse_heading_start(front, last, after)?;
+    let problem = start.problem.text();
     if !is_ending(problem) {
         return Err(Wrong::new(Reason::NotAHeading, problem));
     }
     let target = problem_target(problem)?;
-    if differ(begun.replication, target) {
+    if differ(start.replication, target) {
         return Err(Wrong::new(Reason::TwoTargets, problem));
     }
     Ok(Heading {
-        layout: begun.layout,
-        is_open: begun.is_open,
+        layout: start.layout,
+        is_open: start.is_open,
         is_snapshot: is_in_snapshot(front),
-        blocks: begun.blocks,
-        target: begun.replication.or(target),
+        blocks: start.blocks,
+        target: start.replication.or(target),
     })
 }
 
@@ -81,14 +83,18 @@ fn is_in_snapshot(path: &str) -> bool
 }
 
 /// Parses the start of a heading by the last word before the colon.
-fn begun_of<'a>(front: &'a str, last: &'a str, after: &'a str) -> Result<Begun<'a>, Wrong<'a>>
-    ensures { result ≡ begun_of front.entry.now last.entry.now after.entry.now }
+fn parse_heading_start<'a>(
+    front: &'a str,
+    last: &'a str,
+    after: &'a str,
+) -> Result<HeadingStart<'a>, Wrong<'a>>
+    ensures { result ≡ heading_start_of front.entry.now last.entry.now after.entry.now }
 {
     match last {
-        "replicated" => replicated(after),
-        "erasure-coded" => coded(after),
-        "block(s)" => old(front, after, false),
-        "OPENFORWRITE" => old_open(front, after),
+        "replicated" => parse_replicated(after),
+        "erasure-coded" => parse_erasure_coded(after),
+        "block(s)" => parse_hadoop2(front, after, false),
+        "OPENFORWRITE" => parse_open_hadoop2(front, after),
         _ => Err(Wrong::new(Reason::NotAHeading, shown(last, front))),
     }
 }
@@ -101,35 +107,39 @@ fn after_key<'a>(text: &'a str, key: &str) -> Option<(&'a str, &'a str)>
 }
 
 /// Hadoop 3, a replicated file: its replication and the number of its blocks.
-fn replicated(text: &str) -> Result<Begun<'_>, Wrong<'_>>
+fn parse_replicated(text: &str) -> Result<HeadingStart<'_>, Wrong<'_>>
     ensures { result ≡ replicated text.now }
 {
     let Some((number, rest)) = after_key(text, " replication=") else {
         return Err(Wrong::new(Reason::NotAHeading, text));
     };
-    let Some(replication) = small_number_of(number) else {
+    let Some(replication) = parse_small_number(number) else {
         return Err(Wrong::new(Reason::NotATarget, shown(number, text)));
     };
-    counted(Layout::Replicated, Some(replication), rest)
+    parse_counted(Layout::Replicated, Some(replication), rest)
 }
 
 /// Hadoop 3, an erasure coded file: its policy and the number of its blocks.
-fn coded(text: &str) -> Result<Begun<'_>, Wrong<'_>>
+fn parse_erasure_coded(text: &str) -> Result<HeadingStart<'_>, Wrong<'_>>
     ensures { result ≡ coded text.now }
 {
     match after_key(text, " policy=") {
-        Some((_, rest)) => counted(Layout::ErasureCoded, None, rest),
+        Some((_, rest)) => parse_counted(Layout::ErasureCoded, None, rest),
         None => Err(Wrong::new(Reason::NotAHeading, text)),
     }
 }
 
 /// The number of blocks, whether the file is open, and then the problem.
-fn counted(layout: Layout, replication: Option<u32>, text: &str) -> Result<Begun<'_>, Wrong<'_>>
+fn parse_counted(
+    layout: Layout,
+    replication: Option<u32>,
+    text: &str,
+) -> Result<HeadingStart<'_>, Wrong<'_>>
     ensures { result ≡ counted layout replication text.now }
 {
     let words = after_first(text, ' ').unwrap_or(text);
     let (number, rest) = word_and_rest(words);
-    let Some(blocks) = small_number_of(number) else {
+    let Some(blocks) = parse_small_number(number) else {
         return Err(Wrong::new(Reason::NotAHeading, shown(number, words)));
     };
     let (is_open, problem) = match after_prefix(rest, "block(s):") {
@@ -139,7 +149,7 @@ fn counted(layout: Layout, replication: Option<u32>, text: &str) -> Result<Begun
             None => return Err(Wrong::new(Reason::NotAHeading, rest)),
         },
     };
-    Ok(Begun {
+    Ok(HeadingStart {
         layout,
         replication,
         blocks,
@@ -149,17 +159,21 @@ fn counted(layout: Layout, replication: Option<u32>, text: &str) -> Result<Begun
 }
 
 /// Hadoop 2: the number of blocks is the last word before `block(s)`.
-fn old<'a>(front: &'a str, problem: &'a str, is_open: bool) -> Result<Begun<'a>, Wrong<'a>>
+fn parse_hadoop2<'a>(
+    front: &'a str,
+    problem: &'a str,
+    is_open: bool,
+) -> Result<HeadingStart<'a>, Wrong<'a>>
     ensures { result ≡ old front.entry.now problem.entry.now is_open }
 {
     let number = match last_cut_at(front, ' ') {
         Some((_, number)) => number,
         None => front,
     };
-    let Some(blocks) = small_number_of(number) else {
+    let Some(blocks) = parse_small_number(number) else {
         return Err(Wrong::new(Reason::NotAHeading, shown(number, front)));
     };
-    Ok(Begun {
+    Ok(HeadingStart {
         layout: Layout::Replicated,
         replication: None,
         blocks,
@@ -169,11 +183,11 @@ fn old<'a>(front: &'a str, problem: &'a str, is_open: bool) -> Result<Begun<'a>,
 }
 
 /// Hadoop 2, an open file: `block(s),` comes before the last word.
-fn old_open<'a>(front: &'a str, problem: &'a str) -> Result<Begun<'a>, Wrong<'a>>
+fn parse_open_hadoop2<'a>(front: &'a str, problem: &'a str) -> Result<HeadingStart<'a>, Wrong<'a>>
     ensures { result ≡ old_open front.entry.now problem.entry.now }
 {
     match last_cut_at(front, ' ') {
-        Some((front, word)) if word == "block(s)," => old(front, problem, true),
+        Some((front, word)) if word == "block(s)," => parse_hadoop2(front, problem, true),
         _ => Err(Wrong::new(Reason::NotAHeading, front)),
     }
 }
@@ -183,13 +197,13 @@ fn problem_target(problem: &str) -> Result<Option<u32>, Wrong<'_>>
     ensures { result ≡ problem_target problem.now }
 {
     match after_prefix(problem, "  Under replicated ") {
-        Some(text) => Ok(Some(target_of(text)?)),
+        Some(text) => Ok(Some(parse_target(text)?)),
         None => Ok(None),
     }
 }
 
 /// The number of wanted replicas of a block, from the text after `Under replicated`.
-pub fn target_of(text: &str) -> Result<u32, Wrong<'_>>
+pub fn parse_target(text: &str) -> Result<u32, Wrong<'_>>
     ensures { result ≡ target_of text.now }
 {
     let (_, rest) = word_and_rest(text);
@@ -204,7 +218,7 @@ fn number_at(text: &str) -> Result<u32, Wrong<'_>>
     ensures { result ≡ number_at text.now }
 {
     let (number, _) = word_and_rest(text);
-    match small_number_of(number) {
+    match parse_small_number(number) {
         Some(target) => Ok(target),
         None => Err(Wrong::new(Reason::NotATarget, shown(number, text))),
     }

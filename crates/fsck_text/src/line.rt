@@ -2,9 +2,9 @@
 ghost use Rattle.std.specs.Prelude.{◌≡◌, option_map};
 ghost use Rattle.fsck_text.specs.Lines.{begins, ends, health_of, last_of, is_of_all, unlisted_of, path_line, summary_line, block_line, line_of};
 
-use crate::cuts::{after_prefix, before_last, cut_at, last_cut_at, number_of};
-use crate::heading::{Heading, heading_of, target_of};
-use crate::summary::{Count, sum_of};
+use crate::cuts::{after_prefix, before_last, cut_at, last_cut_at, parse_number};
+use crate::heading::{Heading, parse_heading, parse_target};
+use crate::summary::{Count, parse_sum};
 use crate::wrong::{Piece, Wrong};
 
 /// A parsed line of fsck.
@@ -34,14 +34,14 @@ pub enum Line<'a> {
 }
 
 /// Parses a line. A line that begins with a slash and has a colon is about a file.
-pub fn line_of(line: &str) -> Result<Line<'_>, Wrong<'_>>
+pub fn parse_line(line: &str) -> Result<Line<'_>, Wrong<'_>>
     ensures { result ≡ line_of line.now }
 {
     if begins(line, "/") {
         return path_line(line);
     }
     if let Some(text) = after_prefix(line, " Under replicated ") {
-        return Ok(Line::Target(target_of(text)?));
+        return Ok(Line::Target(parse_target(text)?));
     }
     if let Some((index, text)) = block_line(line) {
         return Ok(Line::Block(index, Piece::new(text)));
@@ -68,7 +68,7 @@ fn path_line(line: &str) -> Result<Line<'_>, Wrong<'_>>
     match cut_at(line, ':') {
         Some((before, after)) => match after_prefix(after, " CORRUPT blockpool ") {
             Some(text) => Ok(Line::Corrupt(Piece::new(text))),
-            None => Ok(Line::Heading(heading_of(before, after)?)),
+            None => Ok(Line::Heading(parse_heading(before, after)?)),
         },
         None => Ok(Line::Other),
     }
@@ -79,11 +79,11 @@ fn block_line(line: &str) -> Option<(u64, &str)>
     ensures { option_map (λ p. (p.0, p.1.now)) result ≡ block_line line.now }
 {
     let (index, text) = cut_at(line, '.')?;
-    Some((number_of(index)?, after_prefix(text, " ")?))
+    Some((parse_number(index)?, after_prefix(text, " ")?))
 }
 
 /// Whether the summary begins with this line, and reports all files as healthy.
-fn health_of(line: &str) -> Option<bool>
+fn parse_health(line: &str) -> Option<bool>
     ensures { result ≡ health_of line.now }
 {
     match line {
@@ -94,7 +94,7 @@ fn health_of(line: &str) -> Option<bool>
 }
 
 /// Whether this is the last line, and reports all files as healthy.
-fn last_of(line: &str) -> Option<bool>
+fn parse_last_line(line: &str) -> Option<bool>
     ensures { result ≡ last_of line.now }
 {
     if !begins(line, "The filesystem under path '") {
@@ -116,12 +116,12 @@ fn is_of_all(line: &str) -> bool
 }
 
 /// The number of open files that are not in the text, from the end of a line.
-fn unlisted_of(line: &str) -> Option<u64>
+fn parse_unlisted_count(line: &str) -> Option<u64>
     ensures { result ≡ unlisted_of line.now }
 {
     let (_, text) = last_cut_at(line, '(')?;
     let number = after_prefix(text, "Files currently being written: ")?;
-    number_of(before_last(number, ')')?)
+    parse_number(before_last(number, ')')?)
 }
 
 /// Parses a line that is not about a file.
@@ -131,16 +131,16 @@ fn summary_line(line: &str) -> Result<Line<'_>, Wrong<'_>>
     if begins(line, "FSCK started by ") {
         return Ok(Line::First);
     }
-    if let Some(is_healthy) = health_of(line) {
+    if let Some(is_healthy) = parse_health(line) {
         return Ok(Line::Status(is_healthy));
     }
-    if let Some(is_healthy) = last_of(line) {
+    if let Some(is_healthy) = parse_last_line(line) {
         return Ok(Line::Last(is_healthy, is_of_all(line)));
     }
-    if let Some(files) = unlisted_of(line) {
+    if let Some(files) = parse_unlisted_count(line) {
         return Ok(Line::Unlisted(files));
     }
-    match sum_of(line)? {
+    match parse_sum(line)? {
         Some((count, sum)) => Ok(Line::Sum(count, sum)),
         None => Ok(Line::Other),
     }

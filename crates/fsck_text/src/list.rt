@@ -4,21 +4,21 @@ ghost use Rattle.fsck_text.specs.Lists.{cut_item, pushed, listed_with, listed_of
 ghost use Rattle.fsck_text.specs.Wrongs.{IsCause};
 
 use crate::cuts::cut_at;
-use crate::mark::{Mark, mark_of};
-use crate::place::{Place, place_of};
+use crate::mark::{Mark, parse_mark};
+use crate::place::{Place, parse_place};
 use crate::wrong::{Fault, Reason, Wrong, shown};
 use bm_base::Items;
 use std::alloc::Global;
 
 /// A replica as fsck lists it.
 #[derive(Drop)]
-pub struct Listed<'a> {
+pub struct ListedReplica<'a> {
     pub place: Place<'a>,
     pub mark: Mark,
 }
 
 /// The replicas of a list, in order, from the text between its brackets; none from no text.
-pub fn list_of<'a>(alloc: Global, text: &'a str) -> Result<Items<Listed<'a>>, Fault<'a>>
+pub fn parse_list<'a>(alloc: Global, text: &'a str) -> Result<Items<ListedReplica<'a>>, Fault<'a>>
     ensures ok { IfOk result (λ v. list_of text.entry.now ≡ Ok v) }
     ensures wrong { IfErr result (λ f. IsCause f (list_of text.entry.now)) }
 {
@@ -41,7 +41,7 @@ fn within<'a>(wrong: Wrong<'a>, text: &'a str) -> Wrong<'a>
 
 /// The replicas of one item or more.
 #[tactic(auto, using(crate::proofs::ListLemmas::next_listed, crate::proofs::ListLemmas::last_wrong))]
-fn replicas_in<'a>(alloc: Global, text: &'a str) -> Result<Items<Listed<'a>>, Fault<'a>>
+fn replicas_in<'a>(alloc: Global, text: &'a str) -> Result<Items<ListedReplica<'a>>, Fault<'a>>
     ensures ok { IfOk result (λ v. replicas_in text.entry.now ≡ Ok v) }
     ensures wrong { IfErr result (λ f. IsCause f (replicas_in text.entry.now)) }
 {
@@ -60,11 +60,11 @@ fn replicas_in<'a>(alloc: Global, text: &'a str) -> Result<Items<Listed<'a>>, Fa
 }
 
 /// Adds the replica of an item.
-fn push_item<'a>(list: &mut Items<Listed<'a>>, item: &'a str) -> Result<(), Fault<'a>>
+fn push_item<'a>(list: &mut Items<ListedReplica<'a>>, item: &'a str) -> Result<(), Fault<'a>>
     ensures ok { OnOk result (pushed list.old (listed_of item.entry.now) ≡ Ok list.new) }
     ensures wrong { IfErr result (λ f. IsCause f (listed_of item.entry.now)) }
 {
-    let one = listed_of(item)?;
+    let one = parse_listed_replica(item)?;
     Ok(list.push(one)?)
 }
 
@@ -76,11 +76,11 @@ fn cut_item(items: &str) -> Option<(&str, &str)>
 }
 
 /// A replica from its item: its place, and its mark in parentheses if there is one.
-fn listed_of(item: &str) -> Result<Listed<'_>, Wrong<'_>>
+fn parse_listed_replica(item: &str) -> Result<ListedReplica<'_>, Wrong<'_>>
     ensures { result ≡ listed_of item.now }
 {
     match cut_at(item, '(') {
-        Some((place, mark)) => listed_with(item, place, mark_of(mark)),
+        Some((place, mark)) => listed_with(item, place, parse_mark(mark)),
         None => listed_with(item, item, Some(Mark::Absent)),
     }
 }
@@ -89,11 +89,11 @@ fn listed_with<'a>(
     item: &'a str,
     place: &'a str,
     mark: Option<Mark>,
-) -> Result<Listed<'a>, Wrong<'a>>
+) -> Result<ListedReplica<'a>, Wrong<'a>>
     ensures { result ≡ listed_with item.entry.now place.entry.now mark }
 {
-    match (place_of(place), mark) {
-        (Some(place), Some(mark)) => Ok(Listed { place, mark }),
+    match (parse_place(place), mark) {
+        (Some(place), Some(mark)) => Ok(ListedReplica { place, mark }),
         (None, _) => Err(Wrong::new(Reason::NotAPlace, item)),
         (Some(_), None) => Err(Wrong::new(Reason::NotAMark, item)),
     }

@@ -40,7 +40,7 @@ fn mark_named(name: &str) -> Option<Mark>
 
 /// The mark, from the text after its opening parenthesis. An upgrade domain, `(ud=NAME)`, may come
 /// after it or in its place, and is ignored.
-pub fn mark_of(text: &str) -> Option<Mark>
+pub fn parse_mark(text: &str) -> Option<Mark>
     ensures { result ≡ mark_of text.now }
 {
     let (name, rest) = cut_at(text, ')')?;

@@ -2,7 +2,7 @@
 ghost use Rattle.std.specs.Prelude.{◌≡◌};
 ghost use Rattle.fsck_text.specs.Nodes.{live_section, section_of, address_line, rack_line, status_line, remaining_line, node_line_of, keyed_line};
 
-use crate::cuts::{after_prefix, before_last, cut_at, number_of, word_and_rest};
+use crate::cuts::{after_prefix, before_last, cut_at, parse_number, word_and_rest};
 use crate::line::ends;
 use crate::place::{is_address, is_rack};
 use crate::wrong::{Piece, Reason, Wrong};
@@ -25,7 +25,7 @@ pub enum NodeLine<'a> {
 }
 
 /// Parses a line of the report.
-pub fn node_line_of(line: &str) -> Result<NodeLine<'_>, Wrong<'_>>
+pub fn parse_node_line(line: &str) -> Result<NodeLine<'_>, Wrong<'_>>
     ensures { result ≡ node_line_of line.now }
 {
     match cut_at(line, ':') {
@@ -43,12 +43,12 @@ fn keyed_line<'a>(key: &'a str, value: &'a str) -> Result<NodeLine<'a>, Wrong<'a
         "Rack" => rack_line(value),
         "Decommission Status " => status_line(value),
         "DFS Remaining" => remaining_line(value),
-        _ => section_of(key),
+        _ => parse_section(key),
     }
 }
 
 /// A section, if this is its heading: `Live datanodes (N)`, or one of nodes in another state.
-fn section_of(key: &str) -> Result<NodeLine<'_>, Wrong<'_>>
+fn parse_section(key: &str) -> Result<NodeLine<'_>, Wrong<'_>>
     ensures { result ≡ section_of key.now }
 {
     match cut_at(key, '(') {
@@ -62,7 +62,7 @@ fn section_of(key: &str) -> Result<NodeLine<'_>, Wrong<'_>>
 fn live_section(count: &str) -> Result<NodeLine<'_>, Wrong<'_>>
     ensures { result ≡ live_section count.now }
 {
-    match before_last(count, ')').and_then(number_of) {
+    match before_last(count, ')').and_then(parse_number) {
         Some(number) => Ok(NodeLine::Live(number)),
         None => Err(Wrong::new(Reason::NotANode, count)),
     }
@@ -108,7 +108,7 @@ fn remaining_line(value: &str) -> Result<NodeLine<'_>, Wrong<'_>>
     ensures { result ≡ remaining_line value.now }
 {
     let (number, _) = word_and_rest(after_prefix(value, " ").unwrap_or(value));
-    match number_of(number) {
+    match parse_number(number) {
         Some(bytes) => Ok(NodeLine::Remaining(bytes)),
         None => Err(Wrong::new(Reason::NotANode, value)),
     }

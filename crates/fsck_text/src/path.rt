@@ -5,7 +5,7 @@ ghost use Rattle.fsck_text.specs.Paths.{without_word, before_size, heading_path,
 use crate::cuts::{after_prefix, cut_at, last_cut_at};
 
 /// The path of a file, if this line is its heading: the text before the size, which is two words.
-pub fn path_of(line: &str) -> Option<&str>
+pub fn parse_path(line: &str) -> Option<&str>
     ensures { option_map (λ t. t.now) result ≡ path_of line.now }
 {
     let (before, after) = cut_at(line, ':')?;

@@ -2,7 +2,7 @@
 ghost use Rattle.std.specs.Prelude.{◌≡◌};
 ghost use Rattle.fsck_text.specs.Places.{is_reserved, has_reserved, is_plain, is_rack, is_name, is_address, is_type, node_place, stored_place, place_of};
 
-use crate::cuts::{after_first, before_last, cut_at, last_cut_at, number_of};
+use crate::cuts::{after_first, before_last, cut_at, last_cut_at, parse_number};
 use crate::wrong::Piece;
 
 /// A node, by its host and port, with its rack if the text has it; and one of its storages, by
@@ -16,7 +16,7 @@ pub struct Place<'a> {
 
 /// Parses a place: a node by its path, with one storage of the node's name, or a node and its
 /// storage in brackets.
-pub fn place_of(text: &str) -> Option<Place<'_>>
+pub fn parse_place(text: &str) -> Option<Place<'_>>
     ensures { result ≡ place_of text.now }
 {
     match cut_at(text, '[') {
@@ -64,7 +64,7 @@ pub fn is_address(text: &str) -> bool
     ensures { result ≡ is_address text.now }
 {
     match cut_at(text, ':') {
-        Some((host, port)) => is_name(host) && number_of(port).is_some(),
+        Some((host, port)) => is_name(host) && parse_number(port).is_some(),
         None => false,
     }
 }

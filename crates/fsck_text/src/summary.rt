@@ -2,7 +2,7 @@
 ghost use Rattle.std.specs.Prelude.{◌≡◌};
 ghost use Rattle.fsck_text.specs.Summaries.{blocks_named, groups_named, sum_of, sum_at};
 
-use crate::cuts::{cut_at, last_cut_at, number_of, word_and_rest};
+use crate::cuts::{cut_at, last_cut_at, parse_number, word_and_rest};
 use crate::wrong::{Reason, Wrong};
 use thiserror::Error;
 
@@ -39,7 +39,7 @@ fn blocks_named(name: &str) -> Option<Count>
     }
 }
 
-/// The same for a line about erasure coded files.
+/// The count that a line about erasure coded files has, from its text before the colon.
 fn groups_named(name: &str) -> Option<Count>
     ensures { result ≡ groups_named name.now }
 {
@@ -52,7 +52,7 @@ fn groups_named(name: &str) -> Option<Count>
 }
 
 /// The count of a line of the summary, and its number; `None` for any other line.
-pub fn sum_of(line: &str) -> Result<Option<(Count, u64)>, Wrong<'_>>
+pub fn parse_sum(line: &str) -> Result<Option<(Count, u64)>, Wrong<'_>>
     ensures { result ≡ sum_of line.now }
 {
     let Some((name, text)) = cut_at(line, ':') else {
@@ -73,7 +73,7 @@ fn sum_at(text: &str) -> Result<u64, Wrong<'_>>
         None => text,
     };
     let (number, _) = word_and_rest(number);
-    match number_of(number) {
+    match parse_number(number) {
         Some(sum) => Ok(sum),
         None => Err(Wrong::new(Reason::NotASum, text)),
     }

@@ -58,12 +58,14 @@ impl<'a> Model for Piece<'a> {
 impl<'a> Piece<'a> {
     ghost use Rattle.std.specs.Prelude.{◌≡◌};
 
+    /// Wraps a part of a line.
     pub fn new(text: &'a str) -> Piece<'a>
         ensures { result ≡ text.entry.now }
     {
         Piece { text }
     }
 
+    /// Returns the text of the part.
     pub fn text(&self) -> &'a str
         ensures { result.now ≡ self.now }
     {
@@ -82,6 +84,7 @@ impl<'a> Wrong<'a> {
     ghost use Rattle.std.specs.Prelude.{◌≡◌};
     ghost use Rattle.fsck_text.specs.Wrongs.{wrong};
 
+    /// Makes a refusal of a word, with the reason.
     pub fn new(why: Reason, word: &'a str) -> Wrong<'a>
         ensures { result ≡ wrong why word.entry.now }
     {

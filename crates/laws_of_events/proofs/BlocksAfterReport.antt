@@ -1,7 +1,8 @@
--- The answer of a query for a storage's blocks after a full report.
-use Rattle.std.proofs.Common.{◌≡◌, ℕ, Bool, true, false, cond, ◌&&◌, ◌||◌, Option, Some, is_some, List, [], ◌∷◌, map, filter, refl, sym, ap, subst, ◌∙◌, T, Ordering, Less, Equal, Greater, is_lt, eqb-true}
+-- After a full report, a query for the storage's blocks answers exactly the numbers of the report,
+-- ascending.
+use Rattle.std.proofs.Common.{◌≡◌, ℕ, Bool, true, false, cond, ◌&&◌, ◌||◌, Option, Some, is_some, List, [], ◌∷◌, map, filter, refl, sym, ap, subst, ◌∙◌, T, is_lt, eqb-true}
 use Rattle.std.specs.Prelude.{◌==◌}
-use Rattle.std.specs.Ordering.{eq_by_cmp, nat_cmp, ordering_then}
+use Rattle.std.specs.Ordering.{eq_by_cmp, nat_cmp}
 use Rattle.std.specs.FinMap.{find, is_sorted}
 use Rattle.std.specs.FinMap.Entries.{same_entries, below_all}
 use Rattle.std.proofs.Math.Bool.{or-false}
@@ -29,11 +30,6 @@ module _ (s : ℕ) where
   -- the blocks of the entries on the storage
   abbrev blocks_in : List (ReplicaId × Marks) → List ℕ
   blocks_in es = map (λ e. e.0.block) (filter (λ e. e.0.storage == s) es)
-
-  block_first : (r : Ordering) → T (is_lt (ordering_then r Equal)) → T (is_lt r)
-  block_first Less h = tt
-  block_first Equal h = h
-  block_first Greater h = h
 
   below_head : (k b : ℕ) (t : Bool) (bs : List ℕ) → (t ≡ true → T (is_lt (nat_cmp k b))) → T (below_all nat_cmp k (marked_all bs)) → T (below_all nat_cmp k (marked_all (cond t (b ∷ bs) bs)))
   below_head k b true bs h g = both _ _ (h refl) g

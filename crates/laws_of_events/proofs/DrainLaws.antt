@@ -1,4 +1,5 @@
--- Which nodes drain after an event, and what else changes when a node begins or ceases to drain.
+-- Only events on nodes change which nodes drain; a drain also drops the pending transfers to the
+-- node.
 use Rattle.std.proofs.Common.{◌≡◌, ◌≢◌, ℕ, Bool, true, false, cond, Option, Some, None, is_some, refl, sym, ap, ◌∙◌}
 use Rattle.std.specs.Prelude.{if◌then◌else◌}
 use Rattle.std.specs.Ordering.{eq_by_cmp, nat_cmp}

@@ -1,4 +1,5 @@
--- Answers if memory is limited.
+-- With limited memory a refused call leaves the state as it is, and any other call is the
+-- definition's step.
 use Rattle.std.proofs.Common.{◌≡◌, Bool, true, false, if◌then◌else◌, refl, sym, ap, ◌∙◌, inl, inr}
 use Rattle.bm_base.specs.declared.call.Answer.{Answer}
 use Rattle.bm_base.specs.declared.call.Answer.TheVariants as answer

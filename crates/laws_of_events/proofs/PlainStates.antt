@@ -1,4 +1,4 @@
--- Orderly states in plain words.
+-- Every state after calls on a new manager is sound, in plain words.
 use Rattle.std.proofs.Common.{◌≡◌, ◌≢◌, ℕ, Bool, true, false, not, ◌&&◌, Some, None, is_some, refl, sym, ap, ◌∙◌, eqb-true, eq-eqb, true≢false}
 use Rattle.std.specs.Prelude.{◌==◌}
 use Rattle.std.specs.Option.{option_map_or}

@@ -1,10 +1,10 @@
--- The laws of reports.
-use Rattle.std.proofs.Common.{◌≡◌, ◌≢◌, ℕ, ◌+◌, ◌-◌, ◌≤◌, Bool, true, false, cond, not, ◌&&◌, ◌||◌, Option, Some, None, is_some, List, [], ◌∷◌, ◌++◌, map, filter, length, count_by, refl, sym, ap, subst, ◌∙◌, ◌⊎◌, inl, inr, eqb-true, eq-eqb, ne_eqb, arith}
+-- A full report leaves on its storage exactly the replicas that it names, and leaves other nodes as
+-- they are.
+use Rattle.std.proofs.Common.{◌≡◌, ◌≢◌, ℕ, ◌+◌, ◌-◌, ◌≤◌, Bool, true, false, cond, not, ◌&&◌, ◌||◌, Option, Some, None, is_some, List, ◌∷◌, ◌++◌, map, refl, sym, ap, subst, ◌∙◌, ◌⊎◌, inl, inr, eqb-true, eq-eqb, ne_eqb, arith}
 use Rattle.std.specs.Prelude.{◌==◌, nat_le, nat_lt, if◌then◌else◌}
 use Rattle.std.specs.Option.{option_map_or}
 use Rattle.std.specs.Ordering.{eq_by_cmp}
 use Rattle.std.proofs.lemmas.Bool.{eqb-false, and_right, not-false}
-use Rattle.std.proofs.lemmas.List.Sums.{length-filter}
 use Rattle.std.proofs.lemmas.List.{map-append, append_assoc}
 use Rattle.std.proofs.lemmas.List.Folds.{list_any-append}
 use Rattle.std.proofs.lemmas.Bool.Decides.{nat_tests}
@@ -20,9 +20,8 @@ use Rattle.bm_base.specs.Words.{Map, get, keep, contains_key, has, Cluster, Hold
 use Rattle.bm_base.specs.Promises.Lawful.{IsLawfulHoldings, IsOrderly}
 use Rattle.bm_base.proofs.MapLaws.{same_map, get-keep, get-insert}
 use Rattle.bm_base.proofs.Ties.{replica_tie}
-use Rattle.bm_base.proofs.Entries.{expanded-++, reported_by-around, ids_reported, has-count_up}
+use Rattle.bm_base.proofs.Entries.{expanded-++, reported_by-around, ids_reported, has-range_from}
 use Rattle.bm_base.proofs.Options.{there, staying, none_stays, all_stays, stays_twice}
-use Rattle.bm_base.proofs.ForEach.{Each}
 use Rattle.bm_base.proofs.MapEntries.{get_here}
 use Rattle.bm_base.proofs.Clusters.{no_siblings}
 use Rattle.bm_parts.proofs.ReportedReplicas.{IsKept, IsPut, enter_origin, report_origin, stays_by}
@@ -82,7 +81,7 @@ around front e behind b low high h =
     ap (λ ts. last_stamp ts b) list ∙ last_is (expanded front ++ before) (tell b) (after ++ expanded behind) none
   where
     past : has (map (λ (t : ReportedBlock). t.id) (map {B = ReportedBlock} (λ c. record { id = c; stamp = e.stamp }) (range_from (b + 1) (e.to - b)))) b ≡ false
-    past = ap (λ xs. has xs b) (ids_reported e.stamp (range_from (b + 1) (e.to - b))) ∙ has-count_up (b + 1) (e.to - b) b ∙ not_past b (b + 1 + (e.to - b))
+    past = ap (λ xs. has xs b) (ids_reported e.stamp (range_from (b + 1) (e.to - b))) ∙ has-range_from (b + 1) (e.to - b) b ∙ not_past b (b + 1 + (e.to - b))
 
 pub last_decides : law.last_entry_decides
 last_decides M s front e behind b low high h =
@@ -179,13 +178,6 @@ module _ (C : Cluster) (H : Holdings) (s : ℕ) (ts : List ReportedBlock) where
   report_again =
       let replicas : (report C afterwards s ts).replicas ≡ afterwards.replicas = same_map _ _ again_at in
       λ i. record { blocks = again_blocks i; replicas = replicas i; pending = again_pending i }
-
-none_left : {X : Type 0} (p : X → Bool) (xs : List X) → Each (λ x. p x ≡ false) xs → length (filter p xs) ≡ 0
-none_left p [] h = refl
-none_left p (x ∷ xs) h = ap (λ b. length (cond b (x ∷ filter p xs) (filter p xs))) h.0 ∙ none_left p xs h.1
-
-none_counted : {X : Type 0} (p : X → Bool) (xs : List X) → Each (λ x. p x ≡ false) xs → count_by p xs ≡ 0
-none_counted p xs h = sym (length-filter p xs) ∙ none_left p xs h
 
 same_answer : (M : State) (s : ℕ) (es : List Entry) → done_by (after_event M (FullReport s es)) (FullReport s es) ≡ done (report M.cluster M.holdings s (expanded es)) (report M.cluster (report M.cluster M.holdings s (expanded es)) s (expanded es))
 unfolding done_by after_event change_holdings change_cluster

@@ -1,4 +1,5 @@
--- The marks of a replica that is reported or received.
+-- A replica that is reported or received gets the marks that the law gives, by its stamp and by
+-- whether it was bad.
 use Rattle.std.proofs.Common.{◌≡◌, Bool, true, false, ◌&&◌, Option, Some, None, refl, sym, ap, ◌∙◌, eqb-true, eq-eqb}
 use Rattle.std.specs.Prelude.{◌==◌, if◌then◌else◌}
 use Rattle.std.specs.Option.{option_map_or}

@@ -1,4 +1,4 @@
--- The replicas after a full report, one by one.
+-- After a full report a replica on its storage follows from the last entry that names its number.
 use Rattle.std.proofs.Common.{◌≡◌, ◌≢◌, ℕ, Bool, true, false, cond, ◌||◌, Option, Some, None, is_some, List, [], ◌∷◌, ◌++◌, map, refl, ap, ◌∙◌, eqb-true, eq-eqb, ne_eqb}
 use Rattle.std.specs.Prelude.{◌==◌, if◌then◌else◌}
 use Rattle.std.specs.Option.{option_or, option_map_or}
@@ -14,6 +14,7 @@ use Rattle.bm_base.proofs.Ties.{replica_tie}
 use Rattle.bm_base.proofs.Clusters.{eqb_turned}
 use Rattle.bm_base.proofs.ForEach.{each_mapped, each_of}
 use Rattle.bm_base.proofs.MapEntries.{get_insert_all_elsewhere}
+use Rattle.bm_base.proofs.Options.{not_there}
 use Rattle.bm_parts.proofs.ReportedReplicas.{stays_by}
 use Rattle.laws_of_events.specs.Runs.{last_stamp}
 
@@ -38,11 +39,7 @@ named_numbers [] b = refl
 named_numbers (e ∷ ts) b = ap (λ x. (e.id == b) || x) (named_numbers ts b)
 
 none_named : (ts : List ReportedBlock) (b : ℕ) → is_some (last_stamp ts b) ≡ false → last_stamp ts b ≡ None
-none_named ts b e = none (last_stamp ts b) e
-  where
-    none : (o : Option Stamp) → is_some o ≡ false → o ≡ None
-    none None e = refl
-    none (Some x) e = cc
+none_named ts b e = not_there (last_stamp ts b) e
 
 either_here : (o : Option Stamp) (b : Bool) (stamp : Stamp) → o ≡ None → b ≡ true → option_or o (if b then Some stamp else None) ≡ Some stamp
 either_here None true stamp e h = refl

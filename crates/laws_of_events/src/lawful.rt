@@ -34,7 +34,8 @@ pub fn calls_lead_to_lawful()
     ensures { law.calls_lead_to_lawful }
 {}
 
-/// The same if memory is limited: whatever the calls may answer, the next state is lawful.
+/// As [`calls_lead_to_lawful`] if memory is limited: whatever the calls may answer, the next state
+/// is lawful.
 pub fn answered_calls_lead_to_lawful()
     ensures { law.answered_calls_lead_to_lawful }
 {}
@@ -45,7 +46,7 @@ pub fn calls_lead_to_orderly()
     ensures { law.calls_lead_to_orderly }
 {}
 
-/// The same if memory is limited.
+/// As [`calls_lead_to_orderly`] if memory is limited.
 pub fn answered_calls_lead_to_orderly()
     ensures { law.answered_calls_lead_to_orderly }
 {}

@@ -1,4 +1,4 @@
--- What DataNodes report keeps the levels of other blocks.
+-- A report of a DataNode keeps the levels of blocks that it does not name.
 use Rattle.std.specs.Prelude.{◌≡◌, ℕ, true, not, ◌==◌}
 use Rattle.std.proofs.Common.{refl, sym, ap, ◌∙◌}
 use Rattle.std.proofs.lemmas.Bool.{false≢true, true≢false, not-true}

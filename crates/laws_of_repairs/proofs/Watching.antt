@@ -1,9 +1,10 @@
--- Lists that have all blocks with a level.
+-- A list that has all blocks with a level still has them after heartbeats, reports of listed blocks
+-- and rounds.
 use Rattle.std.specs.Prelude.{◌≡◌, ℕ, ◌+◌, ◌≤◌, Bool, true, false, not, ◌&&◌, ◌||◌, ◌==◌, nat_eq, List, [], ◌∷◌, ◌++◌, filter, length, Option, Some, None, is_some}
 use Rattle.std.specs.List.{dedup}
 use Rattle.std.specs.List.Sorted.{IsPermutation}
 use Rattle.std.proofs.Common.{cond, refl, sym, ap, subst, ◌∙◌, arith}
-use Rattle.std.proofs.lemmas.Bool.{false≢true, true≢false, eqb-true, or_left, or_parts, or_right}
+use Rattle.std.proofs.lemmas.Bool.{false≢true, eqb-true, or_left, or_parts, or_right}
 use Rattle.std.proofs.lemmas.List.Folds.{list_any-append}
 use Rattle.std.proofs.lemmas.List.Sorted.{list_any-IsPermutation}
 use Rattle.std.proofs.lemmas.List.Sums.{length-filter}
@@ -15,7 +16,7 @@ use Rattle.bm_base.specs.Words.{get, keys, State, has, has_repeats, level, is_at
 use Rattle.bm_base.specs.Promises.Lawful.{IsLawful}
 use Rattle.bm_base.proofs.ListTests.{same_again, count_without, has_filter, once_filter}
 use Rattle.bm_base.proofs.OneWish.{once_keys}
-use Rattle.bm_base.proofs.Options.{is_there}
+use Rattle.bm_base.proofs.Options.{is_there, not_there}
 use Rattle.bm_base.proofs.Sets.{has_keys, has_once}
 use Rattle.laws_of_states.proofs.LawfulRounds.{orderly}
 use Rattle.laws_of_rounds.proofs.Needs.{level_unknown}
@@ -78,17 +79,13 @@ count_as_all M bs urgency once covers =
 pub covers_sorted : (M : State) (xs ys : List ℕ) → IsPermutation xs ys → Covers M xs → Covers M (dedup nat_eq ys)
 covers_sorted M xs ys same covers b none = covers b (list_any-IsPermutation (λ x. x == b) xs ys same ∙ sym (has_once ys b) ∙ none)
 
-pub without_level : (l : Option Level) → is_some l ≡ false → l ≡ None
-without_level None e = refl
-without_level (Some l) e = absurd (true≢false e)
-
 -- those with a level among them
 pub covers_leveled : (M : State) (xs : List ℕ) → Covers M xs → Covers M (filter (has_level M) xs)
 covers_leveled M xs covers b none = by_test (has_level M b) refl
   where
     by_test : (t : Bool) → has_level M b ≡ t → level M.cluster M.holdings b ≡ None
     by_test true e = covers b (ap (λ t. t && has xs b) (sym e) ∙ sym (has_filter (has_level M) xs b) ∙ none)
-    by_test false e = without_level (level M.cluster M.holdings b) e
+    by_test false e = not_there (level M.cluster M.holdings b) e
 
 -- are all of them, and no others
 pub leveled_all : (M : State) (xs : List ℕ) → Covers M xs → (b : ℕ) → has (filter (has_level M) xs) b ≡ has_level M b

@@ -47,7 +47,7 @@ copy_accepted : (N : State) (t : Transfer) → IsKnown N.cluster t.target → re
 unfolding refusal_of cluster_checks block_checks
 copy_accepted N t known = ap (λ b. first_of ((UnknownStorage when not b) ∷ []) before calls_spent N) known
 
--- The same for a new check of `deleted`.
+-- A new check of `deleted` needs a further premise here: what a command guarantees of it.
 erasure_accepted : (N : State) (d : Delete) → IsKnown N.cluster d.storage → refusal_of N (erased d) ≡ calls_spent N
 unfolding refusal_of cluster_checks block_checks
 erasure_accepted N d known = ap (λ b. first_of ((UnknownStorage when not b) ∷ []) before calls_spent N) known

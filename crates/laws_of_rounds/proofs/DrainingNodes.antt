@@ -1,5 +1,5 @@
--- Rounds and nodes that drain: a round copies from them first, puts nothing on them, and keeps
--- their replicas as they are.
+-- A round copies from draining nodes first, puts nothing on them, and keeps their replicas as they
+-- are.
 use Rattle.std.specs.Prelude.{◌≡◌, ℕ, ◌≤◌, ◌⊎◌, Bool, true, false, ◌&&◌, ◌==◌, nat_lt, if◌then◌else◌, List, ◌∷◌, ◌++◌, map, filter, length, count_by, Some}
 use Rattle.std.specs.Option.{option_map_or}
 use Rattle.std.specs.Ordering.{nat_cmp, ordering_then}

@@ -1,5 +1,5 @@
--- The live replicas while the nodes obey a round: a replica that no command touches stays usable,
--- and each copy that arrives is usable.
+-- While the nodes obey a round, a replica that no command touches stays usable, and each copy that
+-- arrives is usable.
 use Rattle.std.specs.Prelude.{◌≡◌, ℕ, Bool, true, false, not, ◌&&◌, ◌==◌, if◌then◌else◌, List, [], ◌∷◌, Option, Some, None, is_some, option_map}
 use Rattle.std.specs.Option.{option_map_or}
 use Rattle.std.specs.Ordering.{eq_by_cmp}
@@ -197,19 +197,19 @@ module _ (M N : State) (unchanged : HasSameBlocks M N) where
 
 -- Events.
 
-abbrev pub UnspoiltBeside : State → ReplicaId → State → Type 0
-UnspoiltBeside M q N = HasSameBlocks M N × IsUnspoilt N.holdings q
+abbrev pub StaysIntact : State → ReplicaId → State → Type 0
+StaysIntact M q N = HasSameBlocks M N × IsUnspoilt N.holdings q
 
-abbrev pub UsableBeside : State → ReplicaId → State → Type 0
-UsableBeside M q N = HasSameBlocks M N × IsUsable N.holdings q
+abbrev pub StaysUsable : State → ReplicaId → State → Type 0
+StaysUsable M q N = HasSameBlocks M N × IsUsable N.holdings q
 
-pub step_unspoilt : (M : State) (q : ReplicaId) (N : State) (e : Event) → UnspoiltBeside M q N → Obeys M e → UnspoiltBeside M q (after_event N e)
-step_unspoilt M q N e h (inl c) = subst (λ x. UnspoiltBeside M q (after_event N x)) (sym c.2) (same_after_copy M N h.0 c.0, copy_unspoilt M N h.0 c.0 c.1 q h.1)
-step_unspoilt M q N e h (inr c) = subst (λ x. UnspoiltBeside M q (after_event N x)) (sym c.2) (same_after_erasure M N h.0 c.0, erasure_unspoilt M N h.0 c.0 c.1 q h.1)
+pub step_unspoilt : (M : State) (q : ReplicaId) (N : State) (e : Event) → StaysIntact M q N → Obeys M e → StaysIntact M q (after_event N e)
+step_unspoilt M q N e h (inl c) = subst (λ x. StaysIntact M q (after_event N x)) (sym c.2) (same_after_copy M N h.0 c.0, copy_unspoilt M N h.0 c.0 c.1 q h.1)
+step_unspoilt M q N e h (inr c) = subst (λ x. StaysIntact M q (after_event N x)) (sym c.2) (same_after_erasure M N h.0 c.0, erasure_unspoilt M N h.0 c.0 c.1 q h.1)
 
-pub step_usable : (M : State) (q : ReplicaId) → IsSafe M q → (N : State) (e : Event) → UsableBeside M q N → Obeys M e → UsableBeside M q (after_event N e)
-step_usable M q safe N e h (inl c) = subst (λ x. UsableBeside M q (after_event N x)) (sym c.2) (same_after_copy M N h.0 c.0, copy_keeps M N h.0 c.0 c.1 q safe h.1)
-step_usable M q safe N e h (inr c) = subst (λ x. UsableBeside M q (after_event N x)) (sym c.2) (same_after_erasure M N h.0 c.0, erasure_keeps M N h.0 c.0 c.1 q safe h.1)
+pub step_usable : (M : State) (q : ReplicaId) → IsSafe M q → (N : State) (e : Event) → StaysUsable M q N → Obeys M e → StaysUsable M q (after_event N e)
+step_usable M q safe N e h (inl c) = subst (λ x. StaysUsable M q (after_event N x)) (sym c.2) (same_after_copy M N h.0 c.0, copy_keeps M N h.0 c.0 c.1 q safe h.1)
+step_usable M q safe N e h (inr c) = subst (λ x. StaysUsable M q (after_event N x)) (sym c.2) (same_after_erasure M N h.0 c.0, erasure_keeps M N h.0 c.0 c.1 q safe h.1)
 
 -- all events together keep what each event that obeys keeps
 pub through : (M : State) (P : State → Type 0) → ((N : State) (e : Event) → P N → Obeys M e → P (after_event N e)) → (N : State) → P N → (es : List Event) → Each (Obeys M) es → P (after_events N es)
@@ -265,5 +265,5 @@ module _ (M : State) (b s : ℕ) (live_there : has (live_after M b) s ≡ true) 
   pub stays_live : (es : List Event) → Each (Obeys M) es → has (live_obeying M es b) s ≡ true
   stays_live es each =
       let here = live_usable M.cluster (after_round M).holdings b s live_there in
-      let end = through M (UsableBeside M (replica_at b s)) (step_usable M (replica_at b s) live_safe) (after_round M) (same_after_round M, here.0) es each in
+      let end = through M (StaysUsable M (replica_at b s)) (step_usable M (replica_at b s) live_safe) (after_round M) (same_after_round M, here.0) es each in
       live_now (after_obeying M es).cluster (after_obeying M es).holdings b s end.1 (ap (λ C. is_draining C s) end.0.cluster ∙ here.1)

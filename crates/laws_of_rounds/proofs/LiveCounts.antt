@@ -1,5 +1,5 @@
--- The number of live replicas once a round is obeyed: those that were live, and the targets of the
--- copies.
+-- Once a round is obeyed, a block has its live replicas after the round and one more for each
+-- commanded copy.
 use Rattle.std.specs.Prelude.{◌≡◌, ℕ, ◌+◌, ◌≤◌, ◌⊎◌, Bool, true, false, not, ◌&&◌, ◌||◌, ◌==◌, List, [], ◌∷◌, ◌++◌, map, filter, length, Option, Some, None}
 use Rattle.std.specs.Option.{option_map_or}
 use Rattle.std.specs.Ordering.{eq_by_cmp}

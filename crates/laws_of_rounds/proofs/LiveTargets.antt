@@ -1,5 +1,5 @@
--- The live replicas once a round is obeyed: those that were live, and the targets of its copies,
--- each on a node of its own.
+-- Once a round is obeyed, the live replicas are those that were live and the targets of the copies,
+-- each on its own node.
 use Rattle.std.specs.Prelude.{◌≡◌, true, false, ◌==◌, List, [], ◌∷◌, ◌++◌, Option, Some, None, is_some}
 use Rattle.std.specs.Option.{option_map_or}
 use Rattle.std.proofs.Common.{refl, sym, ap, subst, ◌∙◌}
@@ -19,7 +19,7 @@ use Rattle.laws_of_rounds.proofs.DeleteReasons.{not_ordered}
 use Rattle.laws_of_rounds.proofs.TransferLaws.{fresh_node}
 use Rattle.laws_of_rounds.proofs.NextRounds.{commanded_chosen}
 use Rattle.laws_of_rounds.proofs.DistinctTargets.{one_copy}
-use Rattle.laws_of_rounds.proofs.DuringObedience.{IsUnspoilt, IsSafe, UnspoiltBeside, UsableBeside, copy_arrives, same_after_copy, same_after_round, replaced_is, live_now, step_unspoilt, step_usable, there_before, through}
+use Rattle.laws_of_rounds.proofs.DuringObedience.{IsUnspoilt, IsSafe, StaysIntact, StaysUsable, copy_arrives, same_after_copy, same_after_round, replaced_is, live_now, step_unspoilt, step_usable, there_before, through}
 
 -- Events.
 
@@ -63,17 +63,17 @@ module _ (M : State) (t : Transfer) (h : IsTransferCommanded M t) where
         true≢false (sym (same_again t.target) ∙ ap (λ (x : Transfer). t.target == x.target) one ∙ is.2));
   }
 
-  arrives_and_stays : (front back : List Event) → Each (Obeys M) (front ++ copied t ∷ back) → UsableBeside M at_target (after_obeying M (front ++ copied t ∷ back))
+  arrives_and_stays : (front back : List Event) → Each (Obeys M) (front ++ copied t ∷ back) → StaysUsable M at_target (after_obeying M (front ++ copied t ∷ back))
   arrives_and_stays front back each =
       let N : State = after_obeying M front in
-      let before : UnspoiltBeside M at_target N = through M (UnspoiltBeside M at_target) (step_unspoilt M at_target) (after_round M)
+      let before : StaysIntact M at_target N = through M (StaysIntact M at_target) (step_unspoilt M at_target) (after_round M)
       (same_after_round M, target_unspoilt) front (each_front (Obeys M) front back (copied t) each) in
-      subst (UsableBeside M at_target) (sym (split_events (after_round M) front back (copied t)))
-      (through M (UsableBeside M at_target) (step_usable M at_target target_safe) (after_event N (copied t)) (same_after_copy M N before.0 t, copy_arrives M N before.0 t h before.1) back
+      subst (StaysUsable M at_target) (sym (split_events (after_round M) front back (copied t)))
+      (through M (StaysUsable M at_target) (step_usable M at_target target_safe) (after_event N (copied t)) (same_after_copy M N before.0 t, copy_arrives M N before.0 t h before.1) back
       (each_back (Obeys M) front back (copied t) each))
 
   pub target_live : (es : List Event) → Each (Obeys M) es → IsAmong es (copied t) → has (live_obeying M es t.block) t.target ≡ true
   target_live es each at =
-      let end : UsableBeside M at_target (after_obeying M es) =
-      subst (λ xs. UsableBeside M at_target (after_obeying M xs)) (sym at.2) (arrives_and_stays at.0 at.1 (subst (Each (Obeys M)) at.2 each)) in
+      let end : StaysUsable M at_target (after_obeying M es) =
+      subst (λ xs. StaysUsable M at_target (after_obeying M xs)) (sym at.2) (arrives_and_stays at.0 at.1 (subst (Each (Obeys M)) at.2 each)) in
       live_now (after_obeying M es).cluster (after_obeying M es).holdings t.block t.target end.1 (ap (λ C. is_draining C t.target) end.0.cluster ∙ target_staying)

@@ -1,9 +1,9 @@
--- What one round leaves for the next.
+-- Rounds command no delete twice, and no copy to a node to which one of the block is pending.
 use Rattle.std.specs.Prelude.{◌≡◌, ℕ, zero, suc, ◌+◌, ◌-◌, ◌<◌, Bool, true, false, not, ◌&&◌, ◌||◌, ◌==◌, nat_le, if◌then◌else◌, List, [], ◌∷◌, ◌++◌, map, Option, Some, None, is_some, option_and_then}
 use Rattle.std.specs.List.{list_any}
 use Rattle.std.specs.Ordering.{eq_by_cmp}
 use Rattle.std.proofs.Common.{cond, refl, sym, ap, subst, ◌∙◌, arith}
-use Rattle.std.proofs.lemmas.Bool.{lt-leb, false≢true, true≢false, or_left, or_right}
+use Rattle.std.proofs.lemmas.Bool.{lt-leb, false≢true, true≢false, or_left, or_right, and_from}
 use Rattle.bm_base.specs.declared.replica.ReplicaId.{ReplicaId}
 use Rattle.bm_base.specs.declared.replica.Marks.{Marks}
 use Rattle.bm_base.specs.declared.commands.Transfer.{Transfer}
@@ -50,7 +50,7 @@ each_is_commanded : (ds es : List Delete) → ((d : Delete) → list_any (λ e. 
     → Each (λ (d : Delete). is_commanded ds (replica_at d.block d.storage) ≡ true) es
 each_is_commanded ds [] f = tt
 each_is_commanded ds (d ∷ es) f = (
-  f d (or_left ((d.storage == d.storage) && (d.block == d.block)) (list_any (λ e. (e.storage == d.storage) && (e.block == d.block)) es) (both (d.storage == d.storage) (d.block == d.block) (same_again d.storage) (same_again d.block))),
+  f d (or_left ((d.storage == d.storage) && (d.block == d.block)) (list_any (λ e. (e.storage == d.storage) && (e.block == d.block)) es) (and_from (d.storage == d.storage) (d.block == d.block) (same_again d.storage) (same_again d.block))),
   each_is_commanded ds es (λ c g. f c (or_right ((d.storage == c.storage) && (d.block == c.block)) (list_any (λ e. (e.storage == c.storage) && (e.block == c.block)) es) g)),
 )
 

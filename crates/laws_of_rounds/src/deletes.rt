@@ -1,4 +1,4 @@
-// The deletes that a round commands. The first laws say that no round takes a block's last good
+// The deletes that a round commands. The first laws state that no round takes a block's last good
 // replica.
 ghost use Rattle.bm_base.specs.Promises.AllStates.{InLawfulStates, AfterAllCalls};
 ghost use Rattle.laws_of_rounds.specs.Deletes as law;

@@ -1,4 +1,4 @@
--- The marks of a replica after a round.
+-- A round's commands change no tag, and mark only the replicas of commanded deletes.
 use Rattle.std.specs.Prelude.{◌≡◌, ℕ, List, Option, Some, None, option_map}
 use Rattle.std.proofs.Common.{refl, ap, ◌∙◌}
 use Rattle.bm_base.specs.declared.replica.ReplicaId.{ReplicaId}

@@ -1,4 +1,4 @@
--- Which deletes are commanded, as a proposition of the laws and as a test of the definitions.
+-- A delete that is commanded in the sense of the laws passes the definitions' test.
 use Rattle.std.specs.Prelude.{◌≡◌, true, ◌&&◌, ◌==◌, List, [], ◌∷◌, ◌++◌}
 use Rattle.std.specs.List.{list_any}
 use Rattle.std.proofs.Common.{sym, subst}

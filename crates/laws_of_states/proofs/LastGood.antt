@@ -29,7 +29,7 @@ only_good_stays M b s i lawful known only h =
     let was = was_good M b one.0 one.1 in
     one.3 (only one.0 was.0 was.1 was.2)
 
--- The same, in the form of a round's contract.
+-- `only_good_stays`, in the form of a round's contract.
 
 pub round_spares : (M : State) → IsOrderly M → SparesLastGood M (whole_round M).0
 round_spares M lawful b s i known only h = only_good_stays M b s i lawful known only (tested M (replica_at b s) h)

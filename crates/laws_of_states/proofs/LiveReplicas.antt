@@ -1,4 +1,5 @@
--- Lemmas on live and drained replicas.
+-- A storage is among the live or drained replicas of a block exactly if its replica is usable and
+-- its node drains or not.
 use Rattle.std.specs.Prelude.{◌≡◌, ℕ, ◌↔◌, Bool, true, false, not, ◌&&◌, Option, Some, None}
 use Rattle.std.specs.Option.{option_map_or}
 use Rattle.std.proofs.Common.{refl, sym, ap, ◌∙◌}

@@ -1,4 +1,5 @@
--- The live replicas of a block when a round marks, when it commands, and when it ends.
+-- Once a round has marked, the live replicas of a block are the earlier ones less its surplus, and
+-- commands change none of them.
 use Rattle.std.specs.Prelude.{◌≡◌, ℕ, ◌+◌, ◌-◌, Bool, true, false, not, ◌&&◌, ◌==◌, if◌then◌else◌, List, [], ◌∷◌, map, filter, length, Some}
 use Rattle.std.specs.Option.{option_map_or}
 use Rattle.std.proofs.Common.{cond, refl, sym, ap, subst, ◌∙◌, arith}

@@ -47,7 +47,7 @@ one_list old now after all r from left count copied is held lefts is_copied is_a
     ap₂ (λ a k. a ++ take k E) (sym first) (sym rest) ∙ sym (take_both (count + copied) D E) ∙ ap (take (count + copied)) (sym whole) in
     (total, is_after ∙ ap₂ (λ a b. a ++ (take copied E ++ drop copied b)) front back ∙ sym (append_assoc (take count D) (take copied E) _) ∙ ap₂ (λ a b. a ++ b) rows (drop-drop copied count old))
 
--- the same for a list of items, if the rest of `out` is borrowed for it
+-- `one_list` for a list of items, if the rest of `out` is borrowed for it
 pub one_node : {X Y : Type 0} (f : X → Y) (items : List X) (old now new : List Y) (all more : List Y) (from left count copied : ℕ)
     → more ≡ all ++ map f items
     → count ≡ min (length old) (length (drop from all)) → now ≡ take count (drop from all) ++ drop count old

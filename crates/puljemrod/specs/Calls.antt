@@ -8,8 +8,8 @@ use Rattle.bm_base.specs.declared.event.Event.TheVariants.{Heartbeat}
 use Rattle.bm_base.specs.declared.event.Remaining.{Remaining}
 use Rattle.bm_base.specs.declared.refusal.Refusal.{Refusal}
 use Rattle.bm_base.specs.Words.{State, first_state, config_refusal, step, Refuses, may_run_out_of_memory, refusal_number}
-use Rattle.bm_answers.specs.declared.request.Asked.{Asked}
-use Rattle.bm_answers.specs.declared.request.Asked.TheVariants.{Asks, Long}
+use Rattle.bm_answers.specs.declared.request.Request.{Request}
+use Rattle.bm_answers.specs.declared.request.Request.TheVariants.{Asks, Long}
 use Rattle.bm_answers.specs.declared.line_answer.LineAnswer.{LineAnswer}
 use Rattle.bm_answers.specs.OneLine.{asked, answer_to, asked_next, number_of, text_of, line_text, line_next, line_number}
 use Rattle.puljemrod.specs.declared.codes.TheConstants.{MEMORY, CLOSED, NO_TEXT}
@@ -46,7 +46,7 @@ IsOpened o code now = ((code ≡ 0) × (config_refusal (config_of o) ≡ None) �
     ⊎ ((now ≡ None) × (r : Refusal) × (code ≡ refusal_number r) × Refuses (config_refusal (config_of o)) true r)
 
 -- The call is done: its answer is stored, and its text is not made.
-pub record IsAsked (M : State) (asks : Asked) (k : HandleState) : Type 0 where
+pub record IsAsked (M : State) (asks : Request) (k : HandleState) : Type 0 where
   pub state : k.manager ≡ asked_next M asks
   pub number : k.number ≡ number_of (answer_to M asks)
   pub answer : k.answer ≡ Some (answer_to M asks)
@@ -79,13 +79,13 @@ IsMade k c now code = IsAsked k.manager (Asks c) now × (code ≡ now.number)
 abbrev pub IsCall : HandleState → Call → HandleState → ℕ → Type 0
 IsCall k c now code = ((code ≡ MEMORY) × (now ≡ k) × IsTrue (may_run_out_of_memory step k.manager c)) ⊎ IsMade k c now code
 
--- The same for an event with a list, which is copied first: memory may be refused for the copy,
+-- As `IsCall`, for an event with a list, which is copied first: memory may be refused for the copy,
 -- whatever the event.
 abbrev pub IsListed : HandleState → Call → HandleState → ℕ → Type 0
 IsListed k c now code = ((code ≡ MEMORY) × (now ≡ k)) ⊎ IsMade k c now code
 
--- The same for a heartbeat, whose list is copied into memory that the handle keeps: memory may be
--- refused only if that is too small for the list.
+-- As `IsCall`, for a heartbeat, whose list is copied into memory that the handle keeps: memory may
+-- be refused only if that is too small for the list.
 abbrev pub IsBeat : HandleState → ℕ → List Remaining → HandleState → ℕ → Type 0
 IsBeat k node rs now code = ((code ≡ MEMORY) × (now ≡ k) × (k.spare < length rs)) ⊎ IsMade k (Apply (Heartbeat node rs)) now code
 

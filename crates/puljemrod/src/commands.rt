@@ -167,7 +167,8 @@ pub extern "C" fn puljemrod_copies(
     count
 }
 
-/// The same for the commands to delete.
+/// Copies the delete commands from an index on, up to the end of the list or of the array, and
+/// returns how many it copied.
 #[unsafe(no_mangle)]
 pub extern "C" fn puljemrod_deletes(
     alloc: Global,

@@ -39,7 +39,7 @@ fn write_rows<C: Copy, T, R: Row<C, T>>(common: C, items: &[T], out: &mut [R])
     }
 }
 
-/// The same, for a contract with the rows of the whole list.
+/// As `write_rows`, for a contract with the rows of the whole list.
 pub fn copy_list<C: Copy, T, R: Row<C, T>>(
     common: C,
     items: &[T],

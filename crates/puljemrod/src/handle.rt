@@ -4,7 +4,7 @@ ghost use Rattle.puljemrod.specs.declared.handle_state.HandleState.{HandleState}
 ghost use Rattle.puljemrod.specs.Handles.{kept_coded, handle_owns};
 
 use crate::handle_state::HandleState;
-use crate::parts::Parts;
+use crate::parts::BoxParts;
 use std::alloc::Global;
 use std::marker::Model;
 use std::{mem, ptr};
@@ -34,22 +34,22 @@ impl Handle {
         }
     }
 
-    fn full(parts: Parts<HandleState, Global>) -> Handle
+    fn full(parts: BoxParts<HandleState, Global>) -> Handle
         ensures { result.kept ≡ Some parts.value }
     {
-        let Parts { ptr, alloc } = parts;
+        let BoxParts { ptr, alloc } = parts;
         Handle {
             at: ptr as *mut u8,
             alloc,
         }
     }
 
-    fn into_parts(self) -> Parts<HandleState, Global>
+    fn into_parts(self) -> BoxParts<HandleState, Global>
         requires { (x : HandleState) × (self.kept ≡ Some x) }
         ensures { self.kept ≡ Some result.value }
     {
         let Handle { at, alloc } = self;
-        Parts {
+        BoxParts {
             ptr: at as *mut HandleState,
             alloc,
         }
@@ -95,7 +95,7 @@ impl Slot {
         ensures { self.new.handle.kept ≡ Some kept.value }
     {
         *self = Slot {
-            handle: Handle::full(Parts::of(kept)),
+            handle: Handle::full(BoxParts::of(kept)),
             is_open: true,
         };
     }

@@ -1,7 +1,7 @@
 // The state of an open handle.
 ghost use Rattle.std.specs.Prelude.{◌≡◌, [], true, map, None, IfOk, IfErr, OnOk, OnErr, IsTrue};
 ghost use Rattle.bm_base.specs.Words.{config_refusal, Refuses};
-ghost use Rattle.bm_answers.specs.declared.request.Asked.TheVariants.{Long};
+ghost use Rattle.bm_answers.specs.declared.request.Request.TheVariants.{Long};
 ghost use Rattle.bm_answers.specs.OneLine.{asked, asked_may_lack};
 ghost use Rattle.puljemrod.specs.Calls.{config_of, last_text, IsFirst, IsAsked, IsAnswered, IsLine, IsCall, IsBeat, IsText};
 ghost use Rattle.puljemrod.specs.Rows.{remaining_of};
@@ -10,7 +10,7 @@ use crate::codes::{MEMORY, NO_TEXT};
 use crate::options::Options;
 use crate::rows::RemainingRow;
 use crate::spare::Spare;
-use bm_answers::{Asked, LineAnswer, asked_of, make_call_alone};
+use bm_answers::{LineAnswer, Request, make_call_alone, parse_request};
 use bm_base::{Call, Event, HashSecret, NodeId, Refusal};
 use bm_manager::Manager;
 use std::alloc::{AllocError, Global};
@@ -66,7 +66,7 @@ fn answer_line(alloc: Global, kept: &mut HandleState, line: &[u8]) -> Result<(),
     ensures unchanged { OnErr result (kept.new ≡ kept.old) }
     ensures not_long { OnErr result (asked line.now ≡ Long → ⊥) }
 {
-    let asked = asked_of(alloc, line)?;
+    let asked = parse_request(alloc, line)?;
     answer_asked(alloc, kept, asked)?;
     Ok(())
 }
@@ -75,7 +75,7 @@ fn answer_line(alloc: Global, kept: &mut HandleState, line: &[u8]) -> Result<(),
 pub fn take_call(alloc: Global, kept: &mut HandleState, call: Call) -> u32
     ensures { IsCall kept.old call kept.new result }
 {
-    match answer_asked(alloc, kept, Asked::Asks(call)) {
+    match answer_asked(alloc, kept, Request::Asks(call)) {
         Ok(()) => kept.number,
         Err(_) => MEMORY,
     }
@@ -104,7 +104,7 @@ pub fn take_heartbeat(
 }
 
 /// Makes the requested call, and keeps the answer.
-fn answer_asked(alloc: Global, kept: &mut HandleState, asked: Asked) -> Result<(), AllocError>
+fn answer_asked(alloc: Global, kept: &mut HandleState, asked: Request) -> Result<(), AllocError>
     ensures answered { OnOk result (IsAsked kept.old.manager asked kept.new) }
     ensures unchanged { OnErr result (kept.new ≡ kept.old) }
     ensures lacked { OnErr result (IsTrue (asked_may_lack kept.old.manager asked)) }

@@ -98,7 +98,8 @@ pub extern "C" fn puljemrod_replica_rows(
     count
 }
 
-/// The same for the blocks and storages of the stored list.
+/// Copies the blocks and storages of the stored list from an index on, up to the end of the list or
+/// of the array, and returns how many it copied.
 #[unsafe(no_mangle)]
 pub extern "C" fn puljemrod_pair_rows(
     alloc: Global,
@@ -120,7 +121,8 @@ pub extern "C" fn puljemrod_pair_rows(
     count
 }
 
-/// The same for the numbers of the stored list, of blocks or of storages.
+/// Copies the numbers of the stored list, blocks or storages, from an index on, up to the end of
+/// the list or of the array. Returns how many it copied.
 #[unsafe(no_mangle)]
 pub extern "C" fn puljemrod_number_rows(
     alloc: Global,

@@ -26,7 +26,7 @@ pub extern "C" fn puljemrod_level(alloc: Global, slot: &mut Slot, id: u64, level
     ask(alloc, slot, Call::LevelOf(BlockId(id)), level)
 }
 
-/// Whether a DataNode is decommissioned and can be taken away: 1 or 0.
+/// Whether a DataNode is decommissioned and can be removed: 1 or 0.
 #[unsafe(no_mangle)]
 pub extern "C" fn puljemrod_retired(
     alloc: Global,

@@ -1,6 +1,6 @@
 //! Tools for clusters, chosen by the first word. `import` converts the output of `hdfs fsck` to
 //! lines of the line tool. `report` prints the health of the cluster of such lines. `what-if`
-//! prints what is lost with a part of it. `simulate` shows how a simulated cluster recovers.
+//! prints the losses if a part of it fails. `simulate` shows how a simulated cluster recovers.
 //!
 //! ```text
 //! puljemrod_cluster report < cluster.jsonl
@@ -49,7 +49,7 @@ fn status_of<
     R: Env + Input + Print + Eprint + Files + AllocGlobal + Threads + Wait + Sync,
     N: Print,
 >(rt: &R, notes: &N) -> u8 {
-    match words_of(rt) {
+    match read_arguments(rt) {
         Ok(words) => status_by_words(rt, notes, words.get(1..).unwrap_or(&[])),
         Err(error) if error.kind() == io::ErrorKind::OutOfMemory => {
             let _ = rt.eprintln("puljemrod_cluster: memory fault");
@@ -63,7 +63,7 @@ fn status_of<
 }
 
 /// The words of the command line. Each is pushed, so that no refused growth is ignored.
-fn words_of<R: Env + AllocGlobal>(rt: &R) -> io::Result<Vec<String>> {
+fn read_arguments<R: Env + AllocGlobal>(rt: &R) -> io::Result<Vec<String>> {
     let mut words = Vec::new(rt.alloc());
     for word in env::args(rt)? {
         if words.push(word).is_err() {

@@ -75,9 +75,9 @@ enum Trial {
     StopsAtRefusal,
     FreesNothing,
     IsSeen,
-    IsSeenBeside,
-    IsSeenBesideNothing,
-    IsSeenBesideRefusal,
+    IsSeenByReader,
+    IsSeenWithoutChanges,
+    IsSeenUntilRefusal,
 }
 
 fn try_on<R: Abort + Threads + Wait + Sync>(rt: &R, alloc: Global, config: Config, trial: Trial) {
@@ -384,7 +384,7 @@ fn check_on_view<R: Abort + Threads + Wait + Sync>(
 {
     match trial {
         Trial::IsSeen => check_seen(rt, manager, publisher, locator),
-        Trial::IsSeenBeside => {
+        Trial::IsSeenByReader => {
             check_with_reader(
                 rt,
                 alloc,
@@ -396,7 +396,7 @@ fn check_on_view<R: Abort + Threads + Wait + Sync>(
                 3,
             )
         }
-        Trial::IsSeenBesideNothing => {
+        Trial::IsSeenWithoutChanges => {
             check_with_reader(rt, alloc, manager, publisher, locator, &[], Ok(()), 0)
         }
         _ => {
@@ -441,13 +441,13 @@ fn check_with_reader<R: Abort + Threads + Wait + Sync>(
 #[test]
 fn a_concurrent_reader_learns_of_each_change(rt: HostRuntime) {
     for _ in 0..100 {
-        try_on(&rt, rt.alloc(), Config::standard(), Trial::IsSeenBeside);
+        try_on(&rt, rt.alloc(), Config::standard(), Trial::IsSeenByReader);
     }
     try_on(
         &rt,
         rt.alloc(),
         Config::standard(),
-        Trial::IsSeenBesideNothing,
+        Trial::IsSeenWithoutChanges,
     );
 }
 
@@ -457,7 +457,7 @@ fn changes_with_a_concurrent_reader_stop_at_a_refusal(rt: HostRuntime) {
         &rt,
         rt.alloc(),
         Config::standard(),
-        Trial::IsSeenBesideRefusal,
+        Trial::IsSeenUntilRefusal,
     );
 }
 

@@ -270,8 +270,8 @@ fn workers_run_at_once(rt: HostRuntime) {
     }
 }
 
-/// Whichever piece holds up its worker, the other worker works the other three. With fixed shares
-/// one of these would wait for a worker that waits for it.
+/// Whichever piece holds up its worker, the other worker processes the other three. With fixed
+/// shares one of these would wait for a worker that waits for it.
 #[test]
 fn pieces_are_not_shared_out_beforehand(rt: HostRuntime) {
     for shard in 0..4 {
@@ -306,7 +306,7 @@ fn a_renewed_pass_takes_too(rt: HostRuntime) -> Result<(), Fail> {
     let mut mine = passes.remove(0);
     let other = passes.remove(0);
     bag.put(&rt, &mut mine, 4, 5);
-    let mut renewed = bag.renew_pass(&rt, &mut mine, other);
+    let mut renewed = bag.renew_pass(&mut mine, other);
     let first = bag.take(&rt, &mut renewed);
     let second = bag.take(&rt, &mut renewed);
     bag.join(&rt, &mut mine, renewed);

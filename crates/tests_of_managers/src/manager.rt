@@ -1,5 +1,5 @@
 // With ample memory each call that takes memory is accepted and has the answer that was worked out
-// by hand, for any number of shards and workers. The shards of a call are worked at the same time.
+// by hand, for any number of shards and workers. The shards of a call are processed in parallel.
 
 use crate::calls::{Case, STAMP, call_of};
 use bm_base::{
@@ -434,7 +434,7 @@ impl Gate for Meeting {
     }
 }
 
-/// Calls with their answers, and whether the crew works on them: it does for calls on all shards.
+/// Calls with their answers, and whether the crew processes them: it does for calls on all shards.
 static MET: [(Case<'static>, Must<'static>, bool); 17] = [
     (Case::Register(1, 1, &[11]), ACCEPTED, true),
     (Case::Register(2, 2, &[21]), ACCEPTED, true),
@@ -467,7 +467,7 @@ static MET: [(Case<'static>, Must<'static>, bool); 17] = [
 ];
 
 /// Whether a call has the expected answer, and the shards' pieces met at the gate exactly if the
-/// crew works on it.
+/// crew processes it.
 fn is_met<R: Abort + Threads + Wait + Sync>(
     rt: &R,
     alloc: Global,
@@ -509,8 +509,8 @@ fn the_shards_of_a_call_are_worked_at_once(rt: HostRuntime) {
     check_meetings(&rt, rt.alloc(), 4, 4, None);
 }
 
-/// Whichever shard's piece holds up its worker, the other worker works the other three shards. With
-/// fixed shares one of these would wait for a worker that waits for it.
+/// Whichever shard's piece holds up its worker, the other worker processes the other three shards.
+/// With fixed shares one of these would wait for a worker that waits for it.
 #[test]
 fn a_free_worker_takes_the_next_shard(rt: HostRuntime) {
     for shard in 0..4 {

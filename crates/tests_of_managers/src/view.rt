@@ -32,7 +32,8 @@ enum Step<'a> {
     Calls(u64),
     /// The first locator finds a block on these storages, in the version with this number of calls.
     First(u64, u64, &'a [u32]),
-    /// The same for the second locator, which learns nothing.
+    /// The second locator, which learns nothing, finds a block on these storages, in the version
+    /// with this number of calls.
     Second(u64, u64, &'a [u32]),
 }
 

@@ -17,7 +17,7 @@ enum Step {
     Ready(u64),
     /// Makes the block of an entry known, with three requested replicas.
     Know(u64),
-    /// The same, through `add_block`.
+    /// Makes the block of an entry known through `add_block`, with three requested replicas.
     Add(u64),
     /// Makes the block of an entry unknown.
     Forget(u64),

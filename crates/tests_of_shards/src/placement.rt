@@ -104,7 +104,8 @@ struct Choice<'a> {
     chosen: &'a [u32],
 }
 
-/// The same on a cluster with these free bytes on the storages of each node.
+/// The live replicas that are in excess, on a cluster with these free bytes on the storages of each
+/// node.
 #[derive(Clone, Copy)]
 struct Excess<'a> {
     free: [u64; 6],

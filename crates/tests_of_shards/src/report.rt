@@ -55,12 +55,12 @@ enum Step<'a> {
     Linked(u64, u32, bool),
     /// A storage makes a full report, in one of the ways.
     Reports(u32, &'a [Run; 3], Way),
-    /// What the last report made ready is given up.
+    /// Aborts the last prepared report.
     GivesUp,
-    /// Everything that was made ready is given up.
+    /// Aborts all prepared reports.
     GivesUpAll,
-    /// Storage 11 makes this number of reports, each of a thousand new numbers. Each is made ready
-    /// and given up.
+    /// Storage 11 makes this number of reports, each of a thousand new numbers. Each is prepared
+    /// and aborted.
     GivesUpThousands(u64),
     /// A storage has received a replica, of this generation.
     Receives(u32, u64, u64),

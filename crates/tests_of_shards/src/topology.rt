@@ -17,7 +17,7 @@ enum Case {
     ComesWithTwo(u32, u32, u32),
     /// A node sends a heartbeat: the node, a storage and its free bytes.
     Beats(u32, u32, u64),
-    /// The same with two storages.
+    /// A node sends a heartbeat with two storages, each with its free bytes.
     BeatsWithTwo(u32, u32, u64, u32, u64),
     /// A node dies.
     Dies(u32),

@@ -1,5 +1,5 @@
 -- Nodes that drain: their replicas no longer count as live, and are copied to other nodes until the
--- node can be taken away.
+-- node can be removed.
 use Rattle.std.specs.Prelude.{[], ◌∷◌}
 use Rattle.bm_base.specs.declared.level.Level.TheVariants.{Highest}
 use Rattle.bm_base.specs.declared.refusal.Refusal.TheVariants.{UnknownNode}

@@ -171,7 +171,7 @@ at_level urgency = answer.LevelIs (Some urgency)
 abbrev pub at_no_level : Answer
 at_no_level = answer.LevelIs None
 
--- a node can be taken away, or not yet
+-- a node can be removed, or not yet
 abbrev pub is_retired : Answer
 is_retired = answer.IsRetired true
 

@@ -1,5 +1,5 @@
 // Nodes that drain: their replicas no longer count as live, and are copied to other nodes until the
-// node can be taken away.
+// node can be removed.
 #![tactic(auto, unfolding(crate::specs::Runs::run_of))]
 
 ghost use Rattle.worked_examples.specs.Draining as example;
@@ -17,7 +17,7 @@ pub fn draining_node_sends_four()
     ensures { example.draining_node_sends_four }
 {}
 
-/// When a node begins to drain, the pending copy to it is given up, and commanded again to another
+/// When a node begins to drain, the pending copy to it is dropped, and commanded again to another
 /// node.
 pub fn no_copy_to_a_draining_node()
     ensures { example.no_copy_to_a_draining_node }

@@ -24,7 +24,7 @@ new_replicas old new = count_by (λ e. not (contains_key old e.0)) (entries new)
 unfoldable pub done : Holdings → Holdings → Done
 done H G = record { added = new_replicas H.replicas G.replicas; removed = new_replicas G.replicas H.replicas }
 
--- what an event answers that nothing refuses
+-- the answer to an event that nothing refuses
 unfoldable pub done_by : State → Event → Done
 done_by M e = done M.holdings (change_holdings M.cluster M.holdings e)
 

@@ -1,4 +1,4 @@
--- The effect of each event on a state. Refusals says whether it is accepted. Source: HDFS
+-- The effect of each event on a state. `Refusals` defines whether it is accepted. Source: HDFS
 -- Architecture guide, "Data Replication" and "Data Disk Failure, Heartbeats and Re-Replication";
 -- Hadoop 2's BlockManager (processReport, addStoredBlock, markBlockAsCorrupt, removeBlock) and
 -- BlockInfo; GFS paper, section 4.

@@ -77,6 +77,6 @@ with_surplus_marked C H = record H { replicas = revise H.replicas (mark_if_surpl
 unfoldable pub state_after_expiry : State → State
 state_after_expiry M = let r = M.round + 1 in record M { round = r; holdings = without_expired M.limits.pend r M.holdings }
 
--- the same with the replicas in excess marked again from scratch
+-- as `state_after_expiry`, with the replicas in excess marked again from scratch
 unfoldable pub state_at_choice : State → State
 state_at_choice M = let N = state_after_expiry M in record N { holdings = with_surplus_marked N.cluster (without_unordered_excess N.holdings) }

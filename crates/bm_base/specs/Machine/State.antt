@@ -27,7 +27,7 @@ replica_at b s = record { block = b; storage = s }
 pub record Cluster : Type 0 where
   -- the rack of each alive node
   pub nodes : Map by_number ℕ
-  -- the alive nodes that drain: they are to be taken away once their replicas are copied
+  -- the alive nodes that drain: they are to be decommissioned once their replicas are copied
   pub draining : Set by_number
   pub storages : Map by_number StorageInfo
 

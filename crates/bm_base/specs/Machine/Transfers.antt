@@ -91,7 +91,7 @@ source_cmp C streams s t =
 unfoldable pub least_source_by : Cluster → (ℕ → ℕ) → Level → List ℕ → Option ℕ
 least_source_by C streams urgency usable = least (source_cmp C streams) (filter (λ s. nat_lt (streams s) (stream_limit urgency (is_draining C s))) usable)
 
--- the same, by the transfers that were chosen
+-- as `least_source_by`, by the transfers that were chosen
 unfoldable pub least_source : Cluster → List Transfer → Level → List ℕ → Option ℕ
 least_source C chosen urgency usable = least_source_by C (streams_from C chosen) urgency usable
 
@@ -154,7 +154,7 @@ is_target C sent urgency holders excluded len s =
 unfoldable pub least_target_by : Cluster → (ℕ → ℕ) → Level → List ℕ → List ℕ → ℕ → Option ℕ
 least_target_by C sent urgency holders excluded len = least (target_cmp C sent holders) (filter (is_target C sent urgency holders excluded len) (keys C.storages))
 
--- the same, by the transfers that were chosen
+-- as `least_target_by`, by the transfers that were chosen
 unfoldable pub least_target : Cluster → List Transfer → Level → List ℕ → List ℕ → ℕ → Option ℕ
 least_target C chosen urgency holders excluded len = least_target_by C (scheduled_to chosen) urgency holders excluded len
 

@@ -1,5 +1,4 @@
-use Rattle.std.proofs.lemmas.Option.{none-some}
-use Rattle.bm_base.specs.declared.replica.Marks.{Marks}
+use Rattle.std.proofs.lemmas.Option.{none-some, same_Some}
 use Rattle.std.proofs.Common.{Some, ◌≡◌, sym, ap, ◌∙◌}
 use Rattle.bm_report.specs.DuringReport.{marks_during_report}
 use Rattle.bm_report.proofs.EnteredChain.{entered_new, counted_new, entered_known, counted_known}
@@ -31,10 +30,7 @@ pub returns-in-Some-clause-no_change : goal.returns-in-Some-clause-no_change
 returns-in-Some-clause-no_change c was_there =
     let is : Some c.in-Some.was ≡ Some c.marks_during_report-marks.result =
     sym (sym c.requires.was ∙ c.in-Some.is) ∙ was_there ∙ ap Some (sym (c.marks_during_report-marks.ensures ∙ (λ i. marks_during_report (c.info.ensures i) (c.requires.was i) c.args.named.now.stamp))) in
-    c.move_known.ensures.no_change (sym (one c.in-Some.was c.marks_during_report-marks.result is))
-  where
-    one : (x y : Marks) → Some x ≡ Some y → x ≡ y
-    one x y e = cc
+    c.move_known.ensures.no_change (sym (same_Some c.in-Some.was c.marks_during_report-marks.result is))
 
 pub returns-in-None-clause-no_change : goal.returns-in-None-clause-no_change
 returns-in-None-clause-no_change c was_there = absurd (none-some _ (sym (sym c.requires.was ∙ c.in-None.is) ∙ was_there))

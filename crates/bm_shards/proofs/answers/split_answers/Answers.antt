@@ -3,7 +3,7 @@ use Rattle.std.specs.Result.{result_and, result_ok}
 use Rattle.std.specs.List.{cons_option}
 use Rattle.std.proofs.Common.{arith, ◌∙◌, ◌∷◌, [], ◌++◌, ap, sym, length-append}
 use Rattle.std.proofs.lemmas.List.{map_push}
-use Rattle.bm_shards.specs.Answers.{Asked, shard_answered}
+use Rattle.bm_shards.specs.Answers.{ShardResult, shard_answered}
 use Rattle.bm_crew.proofs.Zips.{take_one}
 use Rattle.bm_shards.proofs.Gathered.{fault_push, answers_push}
 use Rattle.bm_shards.proofs.answers.split_answers.Goals as goal
@@ -11,7 +11,7 @@ use Rattle.bm_shards.proofs.answers.split_answers.Goals as goal
 pub loop-index-preserved : goal.loop-index-preserved
 loop-index-preserved g c =
     let inv = c.loop-index.invariant in
-    let one : ℕ × Asked _ = (c.in-Some.index, c.in-Some.one) in
+    let one : ℕ × ShardResult _ = (c.in-Some.index, c.in-Some.one) in
     record {
       rest = take_one _ _ _ _ _ inv.rest c.in-Some.ensures.steps.0;
       shards = c.push_reserved.ensures.items ∙ rw inv.shards (sym (map_push shard_answered c.loop-index.yielded one));

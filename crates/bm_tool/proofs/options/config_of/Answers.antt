@@ -7,7 +7,7 @@ use Rattle.clap.specs.Faults.{fault_of, is_simple_and_free}
 use Rattle.bm_base.specs.Machine.Configuration.{config_refusal, is_allowed, is_up_to}
 use Rattle.bm_base.specs.declared.config.Config.{Config}
 use Rattle.bm_tool.specs.Options.{configured_by, tool}
-use Rattle.bm_tool.proofs.OptionNumbers.{IsGiven, option_number, shards_place, workers_place, work_place, invalidate_place, pend_place}
+use Rattle.bm_tool.proofs.OptionNumbers.{IsGiven, option_number, shards_index, workers_index, work_index, invalidate_index, pend_index}
 use Rattle.bm_tool.proofs.options.config_of.Goals as goal
 
 record AllGiven (words : List Text) (c : Config) : Type 0 where
@@ -54,11 +54,11 @@ returns c =
     let m = c.in_ok-matches.matches in
     let read = c.config_from.ensures in
     let given : AllGiven words c.config_from.result = record {
-      shards = option_number words cmd m is parsed matches _ _ _ shards_place _ read.shards;
-      workers = option_number words cmd m is parsed matches _ _ _ workers_place _ read.workers;
-      work = option_number words cmd m is parsed matches _ _ _ work_place _ read.work;
-      invalidate = option_number words cmd m is parsed matches _ _ _ invalidate_place _ read.invalidate;
-      pend = option_number words cmd m is parsed matches _ _ _ pend_place _ read.pend;
+      shards = option_number words cmd m is parsed matches _ _ _ shards_index _ read.shards;
+      workers = option_number words cmd m is parsed matches _ _ _ workers_index _ read.workers;
+      work = option_number words cmd m is parsed matches _ _ _ work_index _ read.work;
+      invalidate = option_number words cmd m is parsed matches _ _ _ invalidate_index _ read.invalidate;
+      pend = option_number words cmd m is parsed matches _ _ _ pend_index _ read.pend;
       first_round = read.counts.0;
       first_call = read.counts.1;
     } in

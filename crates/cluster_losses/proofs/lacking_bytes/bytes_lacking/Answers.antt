@@ -41,6 +41,6 @@ returns c =
     let i = c.loop-replica.replica-index in
     let as_many = ap length (c.requires.replicas ∙ replicas_are M.holdings) ∙ length-map es replica_of in
     let past : length es ≤ i = omega (arith, as_many, c.loop-replica-test.false) in
-    c.whole.ensures
+    c.total.ensures
     ∙ all_summed M c.args.excess.now c.get.result c.loop-replica.summed (c.get.ensures ∙ c.requires.in_step.blocks c.loop-replica.summed.block)
     (subst (λ left. IsSummed M c.args.excess.now left c.loop-replica.summed) (drop_all i es past) c.loop-replica.invariant.summed)

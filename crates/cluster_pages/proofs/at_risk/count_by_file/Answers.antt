@@ -15,4 +15,4 @@ loop-block-preserved c =
     counted_more c.args.files.now c.args.blocks.now c.loop-block.counts.items c.count_place.new.counts.items
     c.loop-block.block-index c.block-item.result (omega (arith, c.loop-block-test.true)) (omega arith) c.loop-block.invariant
     (c.count_place.ensures
-    ∙ ap (λ o. with_place o c.loop-block.counts.items) (c.place_of.ensures ∙ ap (place_of c.args.files.now) c.block-item.is))
+    ∙ ap (λ o. with_place o c.loop-block.counts.items) (c.find_block.ensures ∙ ap (place_of c.args.files.now) c.block-item.is))

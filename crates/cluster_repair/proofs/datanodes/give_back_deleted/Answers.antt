@@ -7,10 +7,10 @@ use Rattle.cluster_repair.proofs.datanodes.give_back_deleted.Goals as goal
 pub loop-delete-preserved : goal.loop-delete-preserved
 loop-delete-preserved c = record {
   free = λ s.
-      freed_more (len_in c.args.blocks.now) c.args.deletes.now c.loop-delete.delete-index c.delete-item.result s c.args.free.now c.loop-delete.free c.give_back.new.self c.len_of.result
-      c.loop-delete-test.true c.delete-item.is c.len_of.ensures (c.loop-delete.invariant.free s) (c.in_ok-give_back.ensures.free s);
-  nodes = c.give_back.ensures.nodes ∙ c.loop-delete.invariant.nodes;
-  storages = c.give_back.ensures.storages ∙ c.loop-delete.invariant.storages;
+      freed_more (len_in c.args.blocks.now) c.args.deletes.now c.loop-delete.delete-index c.delete-item.result s c.args.free.now c.loop-delete.free c.release.new.self c.len_of.result
+      c.loop-delete-test.true c.delete-item.is c.len_of.ensures (c.loop-delete.invariant.free s) (c.in_ok-release.ensures.free s);
+  nodes = c.release.ensures.nodes ∙ c.loop-delete.invariant.nodes;
+  storages = c.release.ensures.storages ∙ c.loop-delete.invariant.storages;
 }
 
 pub returns-clause-free : goal.returns-clause-free

@@ -1,7 +1,7 @@
 use Rattle.std.proofs.Common.{subst, sym}
 use Rattle.cluster_losses.specs.declared.loss.Question.{Question}
 use Rattle.cluster_what_if.specs.Found.{IsFoundFor}
-use Rattle.cluster_what_if.specs.declared.found.Found.TheVariants as found
+use Rattle.cluster_what_if.specs.declared.found.Findings.TheVariants as found
 use Rattle.cluster_what_if.proofs.Findings.{found_of}
 use Rattle.cluster_what_if.proofs.found.find.Goals as goal
 

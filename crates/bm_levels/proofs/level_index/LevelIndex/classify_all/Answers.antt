@@ -3,7 +3,7 @@ use Rattle.std.specs.Slice.Iter.{chunks_rest}
 use Rattle.std.proofs.lemmas.List.{nil_from_length}
 use Rattle.bm_base.specs.Machine.Replicas.{rack_of}
 use Rattle.bm_maps.specs.SlotLists.{IsMember}
-use Rattle.bm_arena.proofs.Replicas.{Among-left}
+use Rattle.bm_arena.proofs.Replicas.{IsMember-left}
 use Rattle.bm_levels.specs.Status.{drains_after_change}
 use Rattle.bm_levels.proofs.StatusUpdates.{IsUnderway, underway_none, underway_chunk, underway_classified, underway_others, among_back}
 use Rattle.bm_levels.proofs.level_index.LevelIndex.classify_all.Goals as goal
@@ -26,7 +26,7 @@ loop-chunk-init c =
 pub reclassify_chunk-requires-clause-capacity : goal.reclassify_chunk-requires-clause-capacity
 reclassify_chunk-requires-clause-capacity c slot there =
     let P : List ℕ → Type 0 = λ l. IsMember slot l in
-    c.loop-chunk.invariant.capacity (slot + 1) (c.requires.capacity slot (c.loop-chunk.invariant.listed slot (subst P (sym c.in-Some.ensures.steps.1.0) (Among-left slot c.in-Some.chunk.now (chunks_rest c.next.new.self) there))))
+    c.loop-chunk.invariant.capacity (slot + 1) (c.requires.capacity slot (c.loop-chunk.invariant.listed slot (subst P (sym c.in-Some.ensures.steps.1.0) (IsMember-left slot c.in-Some.chunk.now (chunks_rest c.next.new.self) there))))
 
 pub loop-chunk-preserved : goal.loop-chunk-preserved
 loop-chunk-preserved c =
@@ -43,7 +43,7 @@ loop-chunk-preserved c =
     record {
       finite = tt;
       size = c.in-Some.ensures.steps.0 ∙ c.loop-chunk.invariant.size;
-      underway = underway_chunk (rack_of C) D multi a all xs ys c.args.self.now c.loop-chunk.self c.reclassify_chunk.new.self (λ slot h. listed slot (Among-left slot xs ys h)) (subst P whole c.loop-chunk.invariant.underway) c.reclassify_chunk.ensures.status c.reclassify_chunk.ensures.others;
+      underway = underway_chunk (rack_of C) D multi a all xs ys c.args.self.now c.loop-chunk.self c.reclassify_chunk.new.self (λ slot h. listed slot (IsMember-left slot xs ys h)) (subst P whole c.loop-chunk.invariant.underway) c.reclassify_chunk.ensures.status c.reclassify_chunk.ensures.others;
       listed = λ slot h. listed slot (among_back slot xs ys h);
       capacity = λ bound h. c.reclassify_chunk.ensures.capacity bound (c.loop-chunk.invariant.capacity bound h);
     }

@@ -10,14 +10,14 @@ use Rattle.bm_levels.specs.IndexedLevels.{HasStatus}
 use Rattle.bm_levels.proofs.StatusUpdates.{IsUnderway, underway_none, underway_more, underway_classified, underway_others, among_at, among_in, classified_as}
 use Rattle.bm_levels.proofs.level_index.LevelIndex.reclassify_chunk.Goals as goal
 
-pub returns-then-keeps_all-clause-status : goal.returns-then-keeps_all-clause-status
-returns-then-keeps_all-clause-status c slot there =
+pub returns-then-have_same_status-clause-status : goal.returns-then-have_same_status-clause-status
+returns-then-have_same_status-clause-status c slot there =
     let C = c.args.cluster_after.now.topology.now.cluster in
     let D = drains_after_change C c.args.cluster_after.now.drain_change in
     let at = among_at slot c.args.chunk.now there in
     let default : BlockStatus = record { level = None; is_settled = true } in
     let P : List BlockStatus → Type 0 = λ js. HasStatus c.args.self.now slot (slice_index_or js at.0 default) in
-    let kept = subst P c.as_slice.ensures (c.keeps_all.ensures c.if-keeps_all.true at.0 slot default at.1) in
+    let kept = subst P c.as_slice.ensures (c.have_same_status.ensures c.if-have_same_status.true at.0 slot default at.1) in
     classified_as (rack_of C) D c.args.cluster_after.now.multi (block_at c.args.arena.now slot) c.args.self.now slot (slice_index_or c.classify_chunk-status.result at.0 default) kept (c.classify_chunk-status.ensures at.0 slot default at.1)
 
 pub loop-index-init : goal.loop-index-init

@@ -26,7 +26,7 @@ slot_of_one-slot-requires c = one c.args.report.now.named c.requires.reported
     one : (ns : List ReportedSlot) {t : ReportedBlock} → map reported_of ns ≡ t ∷ [] → length ns ≡ 1
     one ns e = sym (length-map ns reported_of) ∙ ap length e
 
--- the same in the view of the fields
+-- the slot of the reported block, in the view of the fields
 found : (v w : Leveled) (r : LookedUpReport) (id slot : ℕ) (stamp : Stamp) → v ≡ w → reported_blocks r ≡ record { id = id; stamp = stamp } ∷ [] → map slot_in r.named ≡ slot ∷ [] → AreAtSlots w.arena r.named → slot_of v.arena id ≡ Some slot
 found v w r id slot stamp same is at here = ap (λ (x : Leveled). slot_of x.arena id) same ∙ led w.arena r.named (record { id = id; stamp = stamp }) slot is at here
 

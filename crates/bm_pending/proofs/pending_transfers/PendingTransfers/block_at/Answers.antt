@@ -1,5 +1,5 @@
 use Rattle.std.proofs.Common.{None, Some}
-use Rattle.bm_pending.proofs.ByPlaces.{index-seen}
+use Rattle.bm_pending.proofs.ByIndices.{index-seen}
 use Rattle.bm_pending.proofs.pending_transfers.PendingTransfers.block_at.Goals as goal
 
 pub returns-in-Some : goal.returns-in-Some

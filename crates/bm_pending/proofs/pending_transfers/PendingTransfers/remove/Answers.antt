@@ -1,7 +1,7 @@
 use Rattle.std.proofs.Common.{ap, sym, ◌∙◌}
 use Rattle.bm_pending.specs.PendingMap.{PendingMap, blocks_in}
 use Rattle.bm_pending.proofs.Changes.{map-removed, ascending-removed, capacity-kept}
-use Rattle.bm_pending.proofs.ByPlaces.{places-seen}
+use Rattle.bm_pending.proofs.ByIndices.{places-seen}
 use Rattle.bm_pending.proofs.pending_transfers.PendingTransfers.remove.Goals as goal
 
 pub invariant_of-self : goal.invariant_of-self

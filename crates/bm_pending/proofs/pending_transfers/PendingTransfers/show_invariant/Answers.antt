@@ -3,7 +3,7 @@ use Rattle.std.specs.Prelude.{IsSome}
 use Rattle.std.specs.List.{IsDistinct}
 use Rattle.bm_base.specs.Words.{get, has}
 use Rattle.bm_pending.specs.PendingMap.{PendingMap, blocks_in}
-use Rattle.bm_pending.proofs.ByPlaces.{places-seen, index-had, keys-seen}
+use Rattle.bm_pending.proofs.ByIndices.{places-seen, index-had, keys-seen}
 use Rattle.bm_pending.proofs.pending_transfers.PendingTransfers.show_invariant.Goals as goal
 
 pub returns-clause-listed : goal.returns-clause-listed

@@ -8,14 +8,14 @@ use Rattle.bm_report.specs.Ready.{LookedUpReport, HasGoodExcess}
 use Rattle.bm_report.proofs.ListedSlots.{slot-reported}
 use Rattle.bm_report.proofs.LastingInvariants.{once-reported, good-reported}
 use Rattle.bm_report.proofs.Maps.{Held}
-use Rattle.bm_report.proofs.UnchangedReport.{stand_already}
+use Rattle.bm_report.proofs.UnchangedReport.{all_already_there}
 use Rattle.bm_report.proofs.report.Report.apply_full.Goals as goal
 
 pub returns-clause-unchanged : goal.returns-clause-unchanged
 returns-clause-unchanged c already none =
     let named_is : c.as_slice.result.now ≡ c.args.self.now.named = c.as_slice.ensures.value ∙ ap (λ (r : LookedUpReport). r.named) c.self.view_is in
     let P : List ReportedSlot → Type 0 = λ l. AllAlreadyThere c.args.arena.now c.args.storage l in
-    c.apply.ensures.no_change (subst P (sym named_is) (stand_already c.args.topology.now.cluster c.args.arena.now c.args.storage c.args.self.now.named c.requires.ready.looked_up.here already)) none
+    c.apply.ensures.no_change (subst P (sym named_is) (all_already_there c.args.topology.now.cluster c.args.arena.now c.args.storage c.args.self.now.named c.requires.ready.looked_up.here already)) none
     ∙ ap (λ (r : LookedUpReport). r.changed) c.self.view_is
 
 pub returns-clause-once : goal.returns-clause-once

@@ -33,7 +33,7 @@ returns-then-needs_reservation-clause-up_to_date c =
       placed = subst (λ H. IsPlaced D H) (sym c.change.ensures.changed.holdings) (event_keeps_placed C old.holdings c.args.event.now old.part.index old.part.shards c.show_invariant.ensures c.requires.cluster c.requires.up_to_date.placed);
     }
 
--- an event without one, after what was reserved is given up
+-- an event without a reservation, after earlier reservations are dropped
 
 pub change-requires-2 : goal.change-requires-2
 change-requires-2 c =

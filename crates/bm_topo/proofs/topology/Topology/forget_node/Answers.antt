@@ -1,7 +1,7 @@
 use Rattle.std.proofs.Common.{◌≡◌, Some, arith, refl, ap, sym, ◌∙◌}
 use Rattle.bm_base.specs.Maps.Map.{get, contains_key, len, remove}
 use Rattle.bm_topo.specs.Racks.{on_rack, without_one}
-use Rattle.bm_topo.proofs.RackChanges.{remove_absent, stands_there}
+use Rattle.bm_topo.proofs.RackChanges.{remove_absent, rack_has_node}
 use Rattle.bm_topo.proofs.Capacity.{same_capacity, no_less, len-without_one}
 use Rattle.bm_topo.proofs.Lengths.{len-remove}
 use Rattle.bm_topo.proofs.SpotTable.{none_set}
@@ -15,7 +15,7 @@ returns-in_default-clause-after c =
 
 pub leave_rack-requires : goal.leave_rack-requires
 leave_rack-requires c =
-    let one = stands_there c.args.self.now.cluster.nodes c.args.node c.in-Some.rack (sym c.rack_of_node.ensures ∙ c.in-Some.is) in
+    let one = rack_has_node c.args.self.now.cluster.nodes c.args.node c.in-Some.rack (sym c.rack_of_node.ensures ∙ c.in-Some.is) in
     omega (arith, one, c.count_on-count.ensures)
 
 pub invariant_of-self : goal.invariant_of-self
