@@ -1,4 +1,4 @@
--- Choosing the copies of one wish one after another chooses as many as the definition, until one
+-- Choosing the copies of one wish one after another chooses those of the definition, until one
 -- finds no source or target.
 use Rattle.std.proofs.Common.{◌≡◌, ◌<◌, ℕ, zero, suc, ◌+◌, ◌-◌, Bool, true, false, cond, List, [], ◌∷◌, ◌++◌, map, filter, drop, get_or, replicate, length, Option, Some, None, refl, sym, ap, ◌∙◌, arith, append_assoc, append-nil}
 use Rattle.std.specs.Prelude.{◌==◌, ◌*◌, nat_le, option_to_list, option_and_then, option_map, is_some}

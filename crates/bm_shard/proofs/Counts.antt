@@ -1,4 +1,4 @@
--- Changing marks adds and removes no replica, and a filter removes as many as the map gets shorter.
+-- Changing marks adds and removes no replica; a filter shortens the map by what it removes.
 use Rattle.std.proofs.Common.{◌≡◌, ◌+◌, ◌-◌, fold, Bool, true, false, cond, not, List, [], ◌∷◌, Option, Some, is_some, count_by, None, refl, sym, ap, ◌∙◌, is_eq}
 use Rattle.std.specs.Prelude.{option_map, option_and_then}
 use Rattle.std.specs.FinMap.{find}

@@ -72,8 +72,8 @@ fn report_on(
     )
 }
 
-/// As [`build_report`], given the levels of the blocks that have a replica, the number of replicas in
-/// excess, and the missing blocks.
+/// As [`build_report`], given the levels of the blocks that have a replica, the number of replicas
+/// in excess, and the missing blocks.
 fn with_levels(
     alloc: Global,
     manager: &Manager,

@@ -239,9 +239,7 @@ fn several<'a>(alloc: Global, name: &'a str, value: &'a str) -> Arg<'a> {
 }
 
 fn csv<'a>(alloc: Global) -> Arg<'a> {
-    flag(alloc, "csv").help(
-        "writes the counts as a table, a line for each round, as if neither is said",
-    )
+    flag(alloc, "csv").help("writes the counts as a table, a line for each round; the default")
 }
 
 fn svg<'a>(alloc: Global) -> Result<Arg<'a>, AllocError> {
