@@ -5,6 +5,7 @@ use Rattle.std.proofs.Common.{◌⊎◌, cond, inl, inr, refl, sym, ap, subst, �
 use Rattle.std.proofs.lemmas.Bool.{cases_Bool, true≢false, and_from, not-true}
 use Rattle.std.proofs.lemmas.List.{append_assoc, map-append}
 use Rattle.std.proofs.lemmas.List.Elements.{filter-append}
+use Rattle.std.proofs.lemmas.Option.{same_Some}
 use Rattle.bm_base.specs.declared.level.Level.{Level}
 use Rattle.bm_base.specs.declared.level.Level.TheVariants.{Highest, VeryUnderReplicated, UnderReplicated, BadlyDistributed, NoUsableReplica}
 use Rattle.bm_maps.specs.SlotLists.{IsMember, Distinct}
@@ -71,7 +72,7 @@ module _ (f : ℕ → ℕ) where
   distinct_mapped g [] d back = tt
   distinct_mapped g (x ∷ xs) d back = (
     λ h. let one = among_mapped (f x) xs h in
-        d.0 (let P : ℕ → Type 0 = λ w. IsMember w xs in subst P (sym (same x one.0 (sym (back x (inl refl)) ∙ ap g one.2 ∙ back one.0 (inr one.1)))) one.1),
+        d.0 (let P : ℕ → Type 0 = λ w. IsMember w xs in subst P (sym (same_Some x one.0 (sym (back x (inl refl)) ∙ ap g one.2 ∙ back one.0 (inr one.1)))) one.1),
     distinct_mapped g xs d.1 (λ y h. back y (inr h)),
   )
 
