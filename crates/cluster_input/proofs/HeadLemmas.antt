@@ -4,7 +4,7 @@ use Rattle.std.specs.List.{find, list_any}
 use Rattle.std.specs.Io.{StartsWith, appended_bytes}
 use Rattle.std.specs.Io.KnownBytes.{Consumes, IsAtEnd}
 use Rattle.std.proofs.lemmas.List.{take-append-drop}
-use Rattle.std.proofs.KnownBytes.{Consumes-trans}
+use Rattle.std.proofs.KnownBytes.{Consumes-nil, Consumes-trans}
 use Rattle.std.proofs.lemmas.Bool.{or_right}
 use Rattle.cluster_input.specs.Kinds.{is_blank, is_brace, are_lines, IsHeadOf}
 
@@ -23,6 +23,10 @@ any_of b = not (is_blank b)
 
 alike_here : (head rest : List ℕ) → list_any any_of head ≡ true → are_lines head ≡ are_lines (head ++ rest)
 alike_here head rest h = ap is_brace (sym (find_in any_of head rest h))
+
+-- a name that an attribute can have
+pub none_read : (known : Option (List ℕ)) → Consumes known known []
+none_read = Consumes-nil
 
 -- one more line is appended to the head
 pub head_more : (known a b : Option (List ℕ)) (old new : List ℕ) → Consumes known a old → Consumes a b (appended_bytes old new) → StartsWith new old
