@@ -1,5 +1,4 @@
--- A line above the length limit is refused as too long; any other asks for the call that is read of
--- it.
+-- A line above the length limit is too long; any other asks for the call read from it, or is bad.
 use Rattle.std.proofs.Common.{◌≡◌, Option, None, Some, ℕ, ◌<◌, ◌≤◌, List, length, Result, Ok, Err, refl, ◌∙◌}
 use Rattle.std.proofs.lemmas.Bool.{lt-ltb, le-ltb}
 use Rattle.std.specs.Prelude.{OnErr}

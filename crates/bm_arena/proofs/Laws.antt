@@ -1,5 +1,4 @@
--- Each list operation changes the list of one storage and the marks of one replica, and keeps all
--- others: for the layers above.
+-- A list operation changes one storage's list and at most one replica's marks, and no others.
 use Rattle.std.proofs.Common.{◌≡◌, ◌≢◌, ℕ, List, [], ◌∷◌, ◌++◌, cond, eqb, Option, Some, None, IsSome, refl, subst, inl, inr, sym, ap, ◌∙◌}
 use Rattle.std.specs.Option.{option_map, option_and_then, option_map_or, unwrap_or}
 use Rattle.std.specs.Map.{lookup, set_value}

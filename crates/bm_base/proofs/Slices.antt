@@ -1,4 +1,4 @@
--- The element at an index ends the part of the list up to it, and begins the rest.
+-- The element at an index ends the prefix that includes it, and begins the rest from there.
 use Rattle.std.proofs.Common.{◌≡◌, ℕ, ◌+◌, ◌≤◌, Bool, true, false, List, [], ◌∷◌, ◌++◌, Some, filter, length, take, drop, slice_get, arith, refl, ap, ◌∙◌}
 use Rattle.std.proofs.lemmas.List.{take_more, drop_more}
 use Rattle.std.proofs.lemmas.List.Sums.{length-filter, count_by-le-length}
@@ -8,11 +8,11 @@ use Rattle.bm_base.specs.Maps.Lists.{has}
 use Rattle.std.proofs.lemmas.Bool.{or_left, or_right}
 use Rattle.bm_base.proofs.ListTests.{same_again}
 
--- the element at an index ends what was before it
+-- the element at an index is the last of the prefix that includes it
 pub take_next : {X : Type 0} (xs : List X) (i : ℕ) (x : X) → slice_get xs i ≡ Some x → take (i + 1) xs ≡ take i xs ++ x ∷ []
 take_next xs i x e = take_more xs i x (slice_get_within xs i x e) ∙ ap (λ y. take i xs ++ y ∷ []) (get_or_from_slice_get xs i x x e)
 
--- and is the first of the rest
+-- and the first of the rest from there
 pub drop_next : {X : Type 0} (xs : List X) (i : ℕ) (x : X) → slice_get xs i ≡ Some x → drop i xs ≡ x ∷ drop (i + 1) xs
 drop_next xs i x e = drop_more xs i x (slice_get_within xs i x e) ∙ ap (λ y. y ∷ drop (i + 1) xs) (get_or_from_slice_get xs i x x e)
 

@@ -1,4 +1,4 @@
--- Counting the replicas at a slot one by one gives the live and the drained ones.
+-- Counting replicas one by one gives the numbers of live and drained ones, and of racks up to two.
 use Rattle.std.specs.Prelude.{◌≡◌, ℕ, ◌+◌, ◌≤◌, Bool, true, false, not, ◌&&◌, ◌||◌, ◌==◌, if◌then◌else◌, List, [], ◌∷◌, length, filter, filter_map, map, Option, Some, None, is_some}
 use Rattle.std.specs.Option.{option_map_or}
 use Rattle.std.specs.Int.{from_bool}

@@ -1,5 +1,4 @@
--- When a node begins or ceases to drain, all blocks have their levels once the slots on its
--- storages are classified.
+-- When a node's drain begins or ends, classifying the slots on its storages keeps all levels right.
 use Rattle.std.specs.Prelude.{◌≡◌, ℕ, Bool, true, false, ◌==◌, if◌then◌else◌, Option, Some, None, IsSome, is_some}
 use Rattle.std.specs.Option.{option_map_or}
 use Rattle.std.proofs.Common.{cond, refl, sym, ap, subst, ◌∙◌, inl, inr, ◌⊎◌}

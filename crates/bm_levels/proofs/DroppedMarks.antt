@@ -1,4 +1,4 @@
--- Dropping marks at one unsettled slot after another drops them at all, and keeps all other slots.
+-- Resetting excess marks slot by slot resets them at each listed slot, and keeps all other slots.
 use Rattle.std.specs.Prelude.{◌≡◌, ◌≢◌, ℕ, zero, suc, true, ◌==◌, List, [], ◌∷◌, drop}
 use Rattle.std.specs.Option.{option_map_or}
 use Rattle.std.specs.List.{list_any}

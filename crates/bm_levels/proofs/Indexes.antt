@@ -1,4 +1,4 @@
--- An iteration by index over the storages of a node ends with each of them done.
+-- An iteration by index over a list of storages ends with each of them done.
 use Rattle.std.specs.Prelude.{◌≡◌, ◌⊎◌, ℕ, zero, suc, ◌+◌, ◌<◌, ◌≤◌, ◌==◌, ◌||◌, Bool, true, false, List, [], ◌∷◌, length, Option}
 use Rattle.std.proofs.Common.{get_or, refl, sym, ap, subst, ◌∙◌, arith, inl, inr, eqb-true}
 use Rattle.std.proofs.lemmas.Bool.{cases_eq, false≢true, or_left, or_right}
@@ -28,14 +28,14 @@ pub own_at : (ss : List ℕ) (i s : ℕ) → i < length ss → s ≡ get_or ss i
 own_at ss i s lt is = ap (has ss) (is ∙ get_or_default_zero ss i s lt) ∙ has_at ss i lt
 
 module _ (ss : List ℕ) (P : ℕ → Type 0) where
-  -- those at the first indexes have gone
+  -- the numbers at the indexes before this one have the property
   abbrev pub HaveGone : ℕ → Type 0
   HaveGone index = (i : ℕ) → i < index → P (get_or ss i 0)
 
   pub gone_all : (index : ℕ) → length ss ≤ index → HaveGone index → (s : ℕ) → has ss s ≡ true → P s
   gone_all index past h s there = let k = has_index ss s there in subst P k.2 (h k.0 (omega (arith, k.1, past)))
 
--- one more has gone, and those before it still have
+-- one more number has its property, and those before it have theirs
 pub gone_more : (ss : List ℕ) (P Q : ℕ → Type 0) (index s : ℕ) → index < length ss → s ≡ get_or ss index s → HaveGone ss P index → ((t : ℕ) → P t → Q t) → Q s → HaveGone ss Q (index + 1)
 gone_more ss P Q index s below is h still here i lt = elim (cases_eq i index) [
   | inl same ↦ subst Q (is ∙ get_or_default_zero ss index s below ∙ ap (λ k. get_or ss k 0) (sym same)) here

@@ -52,7 +52,7 @@ leaving_more p a b c m n f g = record {
   count = omega (arith, f.count, g.count);
 }
 
--- what leaves one storage leaves those that pass, where it does
+-- if a storage passes, the replicas that left it left storages that pass
 pub leaving_of : (p : ℕ → Bool) (a b : Contents) (s n : ℕ) → p s ≡ true → IsLeaving (λ t. t == s) a b n → IsLeaving p a b n
 leaving_of p a b s n own h = record {
   blocks = h.blocks;

@@ -1,5 +1,4 @@
--- The change of one block or of one replica changes the maps of blocks and of replicas at its key
--- alone:
+-- Inserting a changed value at its key revises the map there; an absent number holds nothing:
 --     remove_absent         nothing is removed without a value
 --     known_revised         a known block has its information changed
 --     block_absent, replica_absent, replicas_absent      a number without an entry holds nothing

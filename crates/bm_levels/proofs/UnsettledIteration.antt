@@ -1,5 +1,4 @@
--- An iteration over the unsettled slots drops the marks at each once, if it reads the next slot
--- before it reclassifies the block.
+-- An iteration that reads the next slot before it reclassifies one resets excess marks at each.
 use Rattle.std.specs.Prelude.{◌≡◌, ◌≢◌, ◌+◌, ◌<◌, ◌≤◌, ℕ, List, [], ◌∷◌, length, Option, Some, None}
 use Rattle.std.proofs.Common.{refl, sym, ap, subst, ◌∙◌, arith, inl, inr}
 use Rattle.bm_base.specs.Machine.Excess.{with_excess_reset}

@@ -1,5 +1,4 @@
--- A change that loses no block and no replica of a number makes no unused entry; dropping an entry
--- leaves none there.
+-- A change that adds no entry and loses no block or replica makes no unused entry, nor does a drop.
 use Rattle.std.specs.Prelude.{◌≡◌, ◌≢◌, ℕ, Bool, true, false, not, ◌&&◌, ◌==◌, if◌then◌else◌, nat_eq, List, [], ◌∷◌, length, Option, Some, None, IsSome, IsTrue, is_some, option_and_then}
 use Rattle.std.specs.Option.{option_map_or}
 use Rattle.std.specs.Map.{lookup, set_value}

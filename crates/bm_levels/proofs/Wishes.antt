@@ -1,4 +1,4 @@
--- The slots at a level at which copies are wanted are those of four levels, each once.
+-- The slots that need copies are those at four levels, and each is listed once.
 use Rattle.std.specs.Prelude.{◌≡◌, ℕ, true, List, [], ◌∷◌, ◌++◌, Option, Some, None}
 use Rattle.std.proofs.Common.{◌⊎◌, inl, inr, sym, ap, ◌∙◌, refl}
 use Rattle.std.proofs.lemmas.Bool.{true≢false}

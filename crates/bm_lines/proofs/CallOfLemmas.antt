@@ -1,4 +1,4 @@
--- The data of a line are what serde_json reads of it; there are none if it reads nothing.
+-- A UTF-8 line has the data that serde_json reads of it; any other line has none.
 use Rattle.std.proofs.Common.{◌≡◌, ℕ, List, Bool, true, false, cond, refl, sym}
 use Rattle.std.specs.Prelude.{Some, None, IsUtf8}
 use Rattle.std.specs.Str.{is_utf8}

@@ -1,5 +1,4 @@
--- If the reader of canonical lines accepts a number, an entry or a line, its text is what is
--- written for it.
+-- Text in the canonical form of a number, an entry or a line is the text written for its value.
 use Rattle.std.proofs.Common.{◌≡◌, ◌≢◌, ℕ, ◌+◌, ◌-◌, ◌*◌, ◌<◌, ◌≤◌, ◌^◌, List, ◌++◌, Option, Some, None, IfSome, decimal, length, get_or, take, drop, refl, ap, sym, ◌∙◌, arith, codes, append_assoc}
 use Rattle.bm_base.specs.declared.event.Entry.{Entry}
 use Rattle.bm_lines.specs.CallText.{call_fields, line_text, entry_text}

@@ -1,5 +1,4 @@
--- An object of whole numbers below 2^64, of names, and of lists of these is read back from its
--- text, whatever the order of its members.
+-- Data of numbers below 2^64 and plain strings, not too deep, are read back, their members sorted.
 use Rattle.std.proofs.Common.{◌≡◌, suc, max, ◌<◌, ◌≤◌, ◌^◌, Bool, true, false, List, [], ◌∷◌, ◌++◌, Option, Some, option_map, option_and_then, refl, sym, ap, ap₂, ◌∙◌, arith, append-nil}
 use Rattle.std.specs.Prelude.{⊤}
 use Rattle.json.specs.Json as json

@@ -1,5 +1,4 @@
--- An event is refused by the first check of the cluster or of the blocks that fails, and passes if
--- none does.
+-- An event is refused by the first cluster or block check that fails, or if no call number is left.
 use Rattle.std.proofs.Common.{◌≡◌, ◌<◌, Option, Some, None, Ok, Err, refl, ap, ◌∙◌, arith, cond}
 use Rattle.std.specs.Prelude.{nat_le}
 use Rattle.std.proofs.lemmas.Bool.Decides.{nat_tests}

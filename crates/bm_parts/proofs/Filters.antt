@@ -45,7 +45,7 @@ module _ {X : Type 0} where
   pub filter_within : (p t u : X → Bool) → ((x : X) → p x ≡ true → t x ≡ u x) → ((x : X) → u x ≡ true → p x ≡ true) → (xs : List X) → filter t (filter p xs) ≡ filter u xs
   filter_within p t u same only xs = filter_filter t p xs ∙ ap (λ (s : X → Bool). filter s xs) (λ i x. within (p x) (t x) (u x) (same x) (only x) i)
 
-  -- of two tests, one matters only for elements that pass the other
+  -- two filters may be swapped; of t and u, only the values on elements that pass p matter
   pub filter_swap : (p t u : X → Bool) → ((x : X) → p x ≡ true → t x ≡ u x) → (xs : List X) → filter t (filter p xs) ≡ filter p (filter u xs)
   filter_swap p t u same xs = filter_filter t p xs ∙ ap (λ (s : X → Bool). filter s xs) (λ i x. swapped (p x) (t x) (u x) (same x) i) ∙ sym (filter_filter p u xs)
 

@@ -1,5 +1,4 @@
--- The level of a block, and whether it is settled, depend only on its own replicas, so an event on
--- another block keeps both.
+-- A block's level, and whether it is settled, depend only on its information and its own replicas.
 use Rattle.std.proofs.Common.{◌≡◌, ◌≢◌, ℕ, ◌+◌, ◌%◌, Bool, true, false, List, Some, length, sym, ap, ◌∙◌, arith, mod-eq_of_lt, refl}
 use Rattle.std.specs.Prelude.{if◌then◌else◌, option_and_then}
 use Rattle.bm_base.specs.declared.commands.Transfer.{Transfer}

@@ -1,5 +1,4 @@
--- A change by which replicas and transfers only leave, on storages that stay on their nodes, keeps
--- holdings lawful.
+-- Holdings stay lawful if replicas or transfers leave and the others' storages keep their nodes.
 use Rattle.std.proofs.Common.{◌≡◌, ℕ, ◌≤◌, Bool, true, false, not, Some, List, is_some, IsTrue, refl, sym, ap, ◌∙◌, true≢false}
 use Rattle.std.specs.Prelude.{◌==◌, if◌then◌else◌}
 use Rattle.std.specs.Ordering.{eq_by_cmp, nat_cmp}

@@ -1,5 +1,4 @@
--- The storages of a block's replicas depend only on its own replicas, and stay under changes of
--- marks that the test ignores.
+-- The storages whose replica of a block passes a test depend only on the block's own replicas.
 use Rattle.std.proofs.Common.{◌≡◌, ℕ, ◌≤◌, Bool, true, false, not, ◌&&◌, Option, Some, None, map, filter, length, arith, refl, sym, ap, ◌∙◌, eqb-true, eq-eqb, true≢false}
 use Rattle.std.specs.Prelude.{◌==◌, option_and_then}
 use Rattle.std.specs.List.{list_any}
@@ -17,7 +16,8 @@ use Rattle.bm_base.proofs.MapEntries.{each_entry, passes_entry}
 use Rattle.bm_parts.proofs.Filters.{filtered_alike, fewer_passing, map_filter, any_shown}
 use Rattle.bm_parts.proofs.PartMaps.{part, part_same}
 
--- The storages of the replicas that stay, if p of the ones that stay comes to q of the ones before.
+-- Once storages are gone, those that pass p are those that passed q before, if q is p without the
+-- storages that are gone.
 module _ (H : Holdings) (gone : ℕ → Bool) (p q : ℕ → Marks → Bool) (b : ℕ) (same : (s : ℕ) (m : Marks) → get H.replicas (replica_at b s) ≡ Some m → (not (gone s) && p s m) ≡ q s m) where
   at_entry : (k : ReplicaId) (m : Marks) (t : Bool) → (k.block == b) ≡ t → get H.replicas k ≡ Some m → (not (gone k.storage) && (t && p k.storage m)) ≡ (t && q k.storage m)
   at_entry k m true e is = same k.storage m (ap (λ c. get H.replicas (replica_at c k.storage)) (sym (eqb-true k.block b e)) ∙ is)

@@ -101,7 +101,7 @@ module _ (es fs : List (ℕ × PendingTargets)) (p : ℕ × ℕ → Bool) (is : 
       by None = omega arith
       by (Some v) = filtered-capacity v (filtered v) p refl refl
 
--- Blocks with no target are of no account.
+-- Dropping the blocks with no target keeps all targets.
 module _ (es fs : List (ℕ × PendingTargets)) (unique : IsDistinct nat_eq (keys_of es)) (is : fs ≡ filter (λ e. not (length e.1.items == 0)) es) where
   abbrev left : Option PendingTargets → Option PendingTargets
   left o = option_filter (λ (v : PendingTargets). not (length v.items == 0)) o
@@ -140,7 +140,7 @@ module _ (es fs : List (ℕ × PendingTargets)) (unique : IsDistinct nat_eq (key
       chosen None h = refl
       chosen (Some v) h = ap (λ n. capacity_or (cond (not (n == 0)) (Some v) None)) (ap length h)
 
--- A block that passes no look is not among those that pass.
+-- A block that is not among those with a target that passes has no such target.
 module _ (es : List (ℕ × PendingTargets)) (unique : IsDistinct nat_eq (keys_of es)) where
   no_such : (ks : List ℕ) (fs : List (ℕ × PendingTargets)) → ks ≡ keys_of fs → (b : ℕ) → list_any (nat_eq b) ks ≡ false → lookup (nat_eq b) fs ≡ None
   no_such ks fs is b none = not_there (lookup (nat_eq b) fs) (is_some-lookup (nat_eq b) fs ∙ ap (list_any (nat_eq b)) (sym is) ∙ none)

@@ -1,4 +1,4 @@
--- `retain` filters a list, and a write through a slice of the same length leaves what was written.
+-- `retain` with a pure test is a filter, and a refill of a whole list leaves what was written.
 use Rattle.std.specs.Prelude.{◌≡◌, ℕ, Bool, cond, List, [], ◌∷◌, ◌++◌, filter, length, take}
 use Rattle.std.specs.List.{refill}
 use Rattle.std.specs.List.Retain.{RetainsInTurn}

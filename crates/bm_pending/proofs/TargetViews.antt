@@ -1,4 +1,4 @@
--- The map of the transfers has a replica exactly if its storage is among the targets of its block.
+-- A look-up in the map of transfers finds what a look-up among the block's targets finds.
 use Rattle.std.specs.Prelude.{◌≡◌, ℕ, Bool, true, false, cond, not, ◌==◌, ◌&&◌, List, [], ◌∷◌, nat_eq, Option, Some}
 use Rattle.std.specs.Option.{option_map_or}
 use Rattle.std.specs.Ordering.{nat_cmp}
