@@ -1,5 +1,4 @@
--- The least eligible target has enough free bytes, is on an allowed node that does not drain, and
--- leaves the rack if it has to.
+-- The best target fits, is on no excluded or draining node, and adds a second rack if any can.
 use Rattle.std.specs.Prelude.{◌||◌}
 use Rattle.std.specs.Option.{option_map_or, IfSome}
 use Rattle.std.specs.List.{list_any}
@@ -21,7 +20,7 @@ four true true false d e = cc
 four true false c d e = cc
 four false b c d e = cc
 
--- the properties of a target
+-- an eligible target fits, and its node is neither draining nor excluded
 pub parts : (C : Cluster) (sent : ℕ → ℕ) (urgency : Level) (holders excluded : List ℕ) (len s : ℕ) → is_target C sent urgency holders excluded len s ≡ true → (len + sent s ≤ remaining C s) × (is_draining C s ≡ false) × (is_excluded C excluded s ≡ false)
 unfolding is_target
 parts C sent urgency holders excluded len s e =

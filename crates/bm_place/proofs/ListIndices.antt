@@ -1,4 +1,4 @@
--- Each element of a list has an index, also in a list in another order.
+-- A member of a list has an index, and is in each reordering; its image is in the mapped list.
 use Rattle.std.specs.Prelude.{◌==◌, ◌||◌, filter_map, slice_get}
 use Rattle.std.specs.List.{cons_option}
 use Rattle.std.specs.List.Sorted.{IsPermutation}
@@ -27,7 +27,7 @@ moved_among xs ys x moved there =
     let q = Contains-permutation xs ys x moved (p.0, within, at) in
     among_place ys q.0 x (slice_get-get_or ys q.0 x q.1 ∙ ap Some q.2)
 
--- The images of some elements.
+-- The images of the elements under a partial function.
 
 module _ {X Y : Type 0} (f : X → Option Y) where
   pub made_among : (xs : List X) (x : X) (y : Y) → IsMember xs x → f x ≡ Some y → IsMember (filter_map f xs) y
@@ -48,7 +48,7 @@ module _ {X Y : Type 0} (f : X → Option Y) where
       by (Some z) is (inl e) rest = (x, is ∙ ap Some e)
       by (Some z) is (inr h) rest = rest h
 
--- a number of a list is among it
+-- a number that the test `has` finds is a member
 pub has_among : (xs : List ℕ) (x : ℕ) → has xs x ≡ true → IsMember xs x
 has_among [] x e = cc
 has_among (y ∷ xs) x e = by (y == x) refl e (λ h. has_among xs x h)

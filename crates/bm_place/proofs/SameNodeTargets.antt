@@ -1,4 +1,4 @@
--- Targets of one node share its rack and whether it drains, and one order ranks them all.
+-- Targets of one node share rack and drain state, and are totally ordered: most free bytes first.
 use Rattle.std.specs.Bool.{beq}
 use Rattle.std.specs.Option.{option_eq}
 use Rattle.std.specs.Ordering.{is_lt, nat_cmp, ordering_then}
@@ -72,13 +72,13 @@ ranks = ranks_by cmp_alike_total (λ t. t)
 pub not_before_itself : (t : TargetRow) → is_better_than t t ≡ false
 not_before_itself t = ap is_lt (tied_itself cmp_alike_total t)
 
--- a target before which another does not come has no less free bytes
+-- if t is not better than c, c has at least as many free bytes
 pub more_free_bytes : (c t : TargetRow) → is_better_than t c ≡ false → free_bytes_on t ≤ free_bytes_on c
 more_free_bytes c t e = by (nat_cmp t.storage c.storage) e
   where
     by : (r : _) → is_lt (ordering_then (nat_cmp (free_bytes_on c) (free_bytes_on t)) r) ≡ false → free_bytes_on t ≤ free_bytes_on c
     by r e = grind (arith, nat_tests)
 
--- with no more free bytes a target does not come earlier
+-- a row of a storage with no more free bytes than another row of it is not better
 pub less_free_bytes : (s t : TargetRow) → s.storage ≡ t.storage → free_bytes_on s ≤ free_bytes_on t → is_better_than s t ≡ false
 less_free_bytes s t same less = grind (arith, nat_tests)

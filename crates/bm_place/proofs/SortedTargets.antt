@@ -1,4 +1,4 @@
--- Inserting or moving a target keeps sorted targets sorted, and keeps all others.
+-- Replacing a target by no better one of its node keeps the list in order, and all other targets.
 use Rattle.std.specs.Prelude.{◌⊎◌, slice_get}
 use Rattle.std.specs.List.{count_by}
 use Rattle.std.specs.List.Sorted.{IsPermutation, IsSorted}
@@ -23,7 +23,7 @@ not_alike_back s t e = by (are_of_one_node t s) refl
     by false f = f
     by true f = absurd (true≢false (sym (alike s t (like_back t s (like t s f))) ∙ e))
 
--- a target of the same node as another is of no other node
+-- if s and t are of one node, and u is of another than s, u is of another than t
 not_alike_too : (s t u : TargetRow) → are_of_one_node s t ≡ true → are_of_one_node s u ≡ false → are_of_one_node t u ≡ false
 not_alike_too s t u same e = by (are_of_one_node t u) refl
   where
@@ -31,7 +31,7 @@ not_alike_too s t u same e = by (are_of_one_node t u) refl
     by false f = f
     by true f = absurd (true≢false (sym (alike s u (like_then s t u (like s t same) (like t u f))) ∙ e))
 
--- A target after those that come before it.
+-- A target inserted after those that are better.
 
 pub among_entered : (cs : List TargetRow) (t x : TargetRow) → IsMember (with_in_order cs t) x → (t ≡ x) ⊎ IsMember cs x
 among_entered [] t x h = h
@@ -99,7 +99,7 @@ once_alike (t ∷ ts) c apart = by (are_of_one_node c t) refl (once_alike ts c a
         let others = none_alike ts c (λ d there. not_alike_too t c d (alike t c (like_back c t (like c t e))) (apart.0 d there)) in
         omega (arith, count_first c t ts, others, ap one_if e)
 
--- no target comes before an earlier one
+-- no target is better than an earlier one
 abbrev AreRanked : List TargetRow → Type 0
 AreRanked cs = (i j : ℕ) (d : TargetRow) → i ≤ j → j < length cs → is_better_than (get_or cs j d) (get_or cs i d) ≡ false
 
@@ -182,7 +182,7 @@ only_alike i cs c x h at there same =
       | inr other ↦ absurd (true≢false (sym same ∙ apart_without i cs c x h at other))
     ]
 
--- one of the same node as the one that it replaces, which does not come before that
+-- the list stays in order if a target is replaced by one of its node that is not better
 pub put_in_order : (i : ℕ) (cs : List TargetRow) (c t : TargetRow) → IsInOrder cs → slice_get cs i ≡ Some c → are_of_one_node c t ≡ true → is_better_than t c ≡ false → IsInOrder (reposition t i cs)
 put_in_order i [] c t h at same less = tt
 put_in_order zero (d ∷ cs) c t h at same less = entered_in_order cs t h.1 (λ x there. not_alike_too c t x same (apart_without zero (d ∷ cs) c x h at there))
@@ -197,7 +197,7 @@ put_in_order (suc i) (d ∷ cs) c t h at same less = (λ x there. behind x there
           | inr old ↦ h.0 x (of_without i cs x old)
         ]
 
--- Those that move up one by one.
+-- The targets that are better than the new one move up one by one.
 
 put_moved : (i : ℕ) (cs : List TargetRow) (t d : TargetRow) → slice_get cs (suc i) ≡ Some d → is_better_than d t ≡ true → reposition t (suc i) (set cs i d) ≡ reposition t i cs
 put_moved i [] t d at before = cc
@@ -213,7 +213,7 @@ put_next i cs t d at before =
     let one : suc i ≡ i + 1 = omega arith in
     subst (λ j. reposition t j (set cs i d) ≡ reposition t i cs) one (put_moved i cs t d (ap (slice_get cs) one ∙ at) before)
 
--- at the end of the list it takes the index
+-- at the last index the target stays there
 pub put_last : (i : ℕ) (cs : List TargetRow) (t : TargetRow) → i < length cs → length cs ≤ i + 1 → reposition t i cs ≡ set cs i t
 put_last i [] t within last = refl
 put_last zero (c ∷ []) t within last = refl
@@ -226,11 +226,11 @@ put_above zero (b ∷ []) t d at not_before = refl
 put_above zero (b ∷ c ∷ cs) t d at not_before = ap (λ b. cond b (c ∷ with_in_order cs t) (t ∷ c ∷ cs)) (ap (λ c. is_better_than c t) (same_Some c d at) ∙ not_before)
 put_above (suc i) (c ∷ cs) t d at not_before = ap (λ xs. c ∷ xs) (put_above i cs t d at not_before)
 
--- it stays before one that does not come before it
+-- the target stays at an index if the next one is not better
 pub put_here : (i : ℕ) (cs : List TargetRow) (t d : TargetRow) → slice_get cs (i + 1) ≡ Some d → is_better_than d t ≡ false → reposition t i cs ≡ set cs i t
 put_here i cs t d at not_before = let one : suc i ≡ i + 1 = omega arith in put_above i cs t d (ap (slice_get cs) one ∙ at) not_before
 
--- what is after an index does not come before what is at the index
+-- no target after an index is better than the one at the index
 pub behind_at : (i : ℕ) (cs : List TargetRow) (c d : TargetRow) → IsInOrder cs → slice_get cs i ≡ Some c → IsMember (drop (suc i) cs) d → is_better_than d c ≡ false
 behind_at i [] c d h at there = cc
 behind_at zero (b ∷ cs) c d h at there = subst (λ b. is_better_than d b ≡ false) (same_Some b c at) (h.0 d there).order

@@ -1,4 +1,4 @@
--- The order in which excess is chosen is total, and the table counts the storages on each rack.
+-- The order in which excess is chosen is total, and counts by rack show which storages share one.
 use Rattle.std.specs.Option.{option_map_or}
 use Rattle.std.proofs.Common.{◌≡◌, ◌≤◌, ◌+◌, ℕ, Bool, true, false, cond, nat_lt, List, ◌∷◌, drop, length, count_by, Option, Some, None, refl, sym, ap, ◌∙◌, ◌==◌, arith}
 use Rattle.std.specs.Cmp.{IsTotalOrder, nat_cmp_total}

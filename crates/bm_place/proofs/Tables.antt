@@ -1,5 +1,4 @@
--- A table has an entry for each of its keys and no other, and a change of one count changes no
--- other.
+-- A table has entries for exactly its keys, and a change of one count changes no other.
 use Rattle.std.specs.Prelude.{unwrap_or, option_map}
 use Rattle.std.proofs.Common.{◌≡◌, ◌≤◌, ℕ, ◌+◌, suc, zero, Bool, true, false, cond, ◌||◌, List, [], ◌∷◌, map, drop, Option, Some, None, is_some, refl, sym, ap, ◌∙◌, arith}
 use Rattle.std.specs.Prelude.{◌==◌, slice_get}
@@ -42,7 +41,7 @@ module _ {X : Type 0} (f : ℕ → X) where
   unfolding table
   get-table ks q = get-listed ks empty q ∙ ap (cond (has ks q) (Some (f q))) (get-empty by_number q)
 
--- a value that is in the map already
+-- inserting the value that a key has already changes nothing
 pub same_inserted : {X : Type 0} (m : Map by_number X) (k : ℕ) (v : X) → get m k ≡ Some v → m ≡ insert m k v
 same_inserted m k v is = same_map m (insert m k v) (λ q. by q (eq_by_cmp nat_cmp q k) refl ∙ sym (get-insert m k v q))
   where
@@ -127,7 +126,7 @@ module _ {X : Type 0} (f : ℕ → X) (ks : List ℕ) (i : ℕ) (whole : Map by_
   pub made_past_of : (g : ℕ → ℕ) (m : Map by_number X) → slice_get ks i ≡ None → insert_all m (listed f (map g (drop i ks))) ≡ whole → m ≡ whole
   made_past_of g m none inv = all_made_of g m (none_past ks i none) inv
 
--- there is no storage past their number
+-- there is no key at an index past the number of keys
 pub none_behind : {Y : Type 0} (m : Map by_number Y) (i : ℕ) → len m ≤ i → slice_get (keys m) i ≡ None
 unfolding keys len
 none_behind m i h = slice_get_past (keys m) i (omega (arith, h, length-map (entries m) (λ e. e.0)))

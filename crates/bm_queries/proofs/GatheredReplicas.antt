@@ -1,4 +1,4 @@
--- An iteration over slots, and over the replicas at each, gathers all replicas that pass.
+-- Iterating over slots and the replicas at each gathers exactly the replicas that pass a test.
 use Rattle.std.proofs.Common.{◌≡◌, ℕ, Bool, true, false, cond, List, [], ◌∷◌, ◌++◌, map, filter, Option, Some, None, refl, sym, ap, ◌∙◌, append_assoc}
 use Rattle.std.specs.Prelude.{IsSome}
 use Rattle.std.specs.Option.{option_map_or}

@@ -1,4 +1,4 @@
--- Each number of an arena has one slot, which has the block of the number.
+-- Each block number of a lawful arena has one slot, and that slot holds the block of the number.
 use Rattle.std.proofs.Common.{◌≡◌, ℕ, Bool, true, false, cond, ◌||◌, List, [], ◌∷◌, map, Some, refl, sym, ap, subst, inl, inr, ◌∙◌, eq-eqb}
 use Rattle.std.specs.Prelude.{◌==◌, nat_eq}
 use Rattle.std.specs.Map.{lookup, keys_of}
@@ -76,7 +76,7 @@ module _ (a : Contents) (lawful : IsLawful a) where
           either true e = refl
           either false e = e
 
-  -- the slot of a number is one of the slots
+  -- the slot of a number is one of the indexed slots
   pub has_led : (id slot : ℕ) → slot_of a id ≡ Some slot → has (indexed_slots a) slot ≡ true
   has_led id slot e = led_by id slot a.ids e
 

@@ -22,7 +22,7 @@ use Rattle.bm_queries.proofs.DistinctKeys.{AreApart, sorted_alike}
 abbrev pub Rise : List ℕ → Type 0
 Rise xs = T (is_sorted nat_cmp (map (λ n. (n, n)) xs))
 
--- A number of each key that passes, if the numbers ascend as the keys do.
+-- The numbers of the keys that pass ascend, if they are in the order of the keys.
 module _ {K X : Type 0} (R : K → K → Ordering) (number : K → ℕ) (q : K × X → Bool)
     (less : (e f : K × X) → q e ≡ true → q f ≡ true → T (is_lt (R e.0 f.0)) → T (is_lt (nat_cmp (number e.0) (number f.0)))) where
   abbrev numbers : List (K × X) → List ℕ

@@ -1,4 +1,4 @@
--- Slots with blocks of their own have different numbers, and each number leads back to its slot.
+-- A slot with a level or in a storage's list has a block, whose number leads back to that slot.
 use Rattle.std.proofs.Common.{◌≡◌, ◌≢◌, ℕ, List, [], ◌∷◌, map, length, get_or, Option, Some, None, is_some, refl, sym, ap, subst, inl, inr, ◌∙◌, ◌<◌, arith, zero, suc}
 use Rattle.std.specs.Prelude.{IsSome}
 use Rattle.std.specs.Option.{option_map_or}

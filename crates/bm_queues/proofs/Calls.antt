@@ -1,5 +1,4 @@
--- Unlinking a slot, linking one and adding capacity leave links that hold the lists, in the form of
--- their code.
+-- The links hold the right lists after the code unlinks a slot, links one or adds capacity.
 use Rattle.std.proofs.Common.{◌≡◌, ℕ, Bool, true, false, ◌<◌, ◌≤◌, ◌+◌, ◌-◌, ◌++◌, take, replicate, List, ◌∷◌, length, set, get_or, zero, suc, refl, arith, [], Option, Some, None, ◌∙◌}
 use Rattle.bm_maps.specs.SlotLinks.{end_of_links}
 use Rattle.std.specs.Prelude.{if◌then◌else◌, ◌==◌}

@@ -1,5 +1,4 @@
--- The cell of a slot holds the slot's level and its index in the array of that level, before and
--- after each call.
+-- A slot's cell holds its level and its index in that level's array, also after its level changes.
 use Rattle.std.proofs.Common.{◌≡◌, ℕ, ◌<◌, ◌-◌, ◌++◌, List, [], ◌∷◌, length, get_or, set, Option, Some, None, vec_capacity, vec_len, sym, ap, ◌∙◌, arith}
 use Rattle.std.specs.List.{swap_remove}
 use Rattle.std.specs.declared.vec.Vec.{Vec}

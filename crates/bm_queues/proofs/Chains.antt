@@ -1,4 +1,4 @@
--- A chain of links visits the slots of its list, and stays so after writes to other links.
+-- A chain of links visits the slots of its list, also after one is added in front or removed.
 use Rattle.std.proofs.Common.{◌≡◌, ◌≢◌, ◌⊎◌, ℕ, zero, suc, ◌<◌, ◌≤◌, ◌+◌, eqb, List, [], ◌∷◌, length, Option, Some, inl, inr, subst, sym, ap, ◌∙◌, refl, arith}
 use Rattle.std.proofs.lemmas.Bool.{cases_Bool, eq-eqb, ne_eqb, eqb-true, eqb-false}
 use Rattle.std.proofs.lemmas.Option.{none-some, same_Some}
@@ -10,7 +10,7 @@ use Rattle.bm_maps.proofs.SlotLists.{apart}
 abbrev pub Off : ℕ → ℕ → List ℕ → Type 0
 Off k cell xs = (z : ℕ) → IsMember z xs → cell ≢ k + z
 
--- a slot that is not after another
+-- the cell of a slot that is not in the list is none of the cells of its slots
 off_slot : (k y : ℕ) (ys : List ℕ) → (IsMember y ys → ⊥) → Off k (k + y) ys
 off_slot k y ys absent z there e =
     let same : z ≡ y = omega (arith, e) in
@@ -85,7 +85,7 @@ next_among k next back cell (y ∷ ys) x q chain (inr there) is = inr (next_amon
 cell_apart : (k x z : ℕ) → x ≢ z → k + x ≢ k + z
 cell_apart k x z differs = omega (arith, differs)
 
--- the list after a slot that was in no list was put at its front
+-- the chain of a list after a slot that was not in it was added in front
 pub Chain-front : (k : ℕ) (next new back new_back : ℕ → Option ℕ) (l x : ℕ) (xs : List ℕ) → l < k → Chain k next back l xs → Distinct xs → (IsMember x xs → ⊥)
     → new l ≡ Some x → new (k + x) ≡ next l → ((c : ℕ) → c ≢ l → c ≢ k + x → new c ≡ next c)
     → new_back x ≡ Some l → ((y : ℕ) → y ≢ x → next l ≡ Some y → new_back y ≡ Some (k + x)) → ((z : ℕ) → z ≢ x → next l ≢ Some z → new_back z ≡ back z)

@@ -1,4 +1,4 @@
--- Links that hold lists still hold them after a slot is unlinked or linked at the front.
+-- Links still hold the right lists after a slot is unlinked or linked in front, or they grow.
 use Rattle.std.proofs.Common.{◌≡◌, ◌≢◌, ◌⊎◌, ℕ, zero, suc, ◌<◌, ◌≤◌, ◌+◌, ◌-◌, List, [], ◌∷◌, ◌++◌, length, get_or, set, take, replicate, Option, Some, None, inl, inr, subst, sym, ap, ◌∙◌, refl, arith}
 use Rattle.std.proofs.lemmas.Bool.{cases_eq, cases_lt, eq-eqb, ne_eqb}
 use Rattle.std.proofs.lemmas.Option.{none-some, same_Some}
@@ -40,7 +40,7 @@ nones zero i = refl
 nones (suc n) zero = refl
 nones (suc n) (suc i) = nones n i
 
--- links cut to n, or filled up to n with none, read as before if none is cut off
+-- links cut to n, or filled up to n with None, read as before if only None is cut off
 pub resized : {A : Type 0} (links : List (Option A)) (n c : ℕ) → (n ≤ c → get_or links c None ≡ None) → get_or (take n links ++ replicate (n - length links) None) c None ≡ get_or links c None
 resized [] zero c cut = refl
 resized [] (suc n) c cut = let e : suc n - 0 ≡ suc n = omega arith in rw e (nones (suc n) c)
@@ -90,7 +90,7 @@ module _ (k : ℕ) (next back : List (Option ℕ)) (f : ℕ → List ℕ) (held 
     clear = held.clear;
   }
 
-  -- a slot that links forward is in a list
+  -- the next link of a slot leads to a slot below the capacity
   forward : (y x : ℕ) (o : Option ℕ) → link_at back y ≡ o → link_at next (k + y) ≡ Some x → x < length back
   forward y x None none is = absurd (none-some x (sym (held.clear y none) ∙ is))
   forward y x (Some b) some is =
@@ -424,7 +424,7 @@ module _ (k : ℕ) (next back : List (Option ℕ)) (f : ℕ → List ℕ) (held 
       let cell : k + (c - k) ≡ c = omega (arith, far) in
       ap (link_at next) (sym cell) ∙ held.clear (c - k) (get_or_past back (c - k) None (omega (arith, far, more)))
 
-  -- the lists after a growth to n slots
+  -- a growth to n slots keeps the lists
   pub grown : (n : ℕ) → length back < n → k + n ≤ end_of_links → (next' back' : List (Option ℕ)) → length next' ≡ k + n
       → next' ≡ take (k + n) next ++ replicate (k + n - length next) None → back' ≡ take n back ++ replicate (n - length back) None → HoldLists k next' back' f
   grown n more small next' back' len is is_back =
@@ -433,7 +433,7 @@ module _ (k : ℕ) (next back : List (Option ℕ)) (f : ℕ → List ℕ) (held 
       (λ c. ap (λ xs. link_at xs c) is ∙ resized next (k + n) c (next_none n more c))
       (λ x. ap (λ xs. link_at xs x) is_back ∙ resized back n x (λ far. get_or_past back x None (omega (arith, far, more))))
 
-  -- only the next links grew
+  -- a growth of the next links alone keeps the lists too
   pub half_grown : (n : ℕ) → length back < n → (next' : List (Option ℕ)) → length next' ≡ k + n
       → next' ≡ take (k + n) next ++ replicate (k + n - length next) None → HoldLists k next' back f
   half_grown n more next' len is =

@@ -1,4 +1,4 @@
--- The slots of a list from its end are those of its array by descending index.
+-- An iteration from an array's end goes on at lower indices, also after a passed slot is removed.
 use Rattle.std.proofs.Common.{◌≡◌, ◌≢◌, ◌⊎◌, ℕ, zero, suc, ◌<◌, ◌+◌, ◌-◌, ◌++◌, List, [], ◌∷◌, length, get_or, set, take, drop, reverse, Option, Some, None, inl, inr, subst, sym, ap, ◌∙◌, refl, arith}
 use Rattle.std.specs.Prelude.{◌↔◌, slice_get}
 use Rattle.std.specs.List.{swap_remove}

@@ -1,4 +1,4 @@
--- A growth and a change of level keep the invariant of level lists in arrays.
+-- Growing, and setting or clearing a slot's level, keep the invariant of level lists in arrays.
 use Rattle.std.proofs.Common.{◌≡◌, ◌≢◌, ◌⊎◌, ℕ, zero, suc, ◌<◌, ◌≤◌, ◌+◌, ◌-◌, ◌++◌, List, [], ◌∷◌, length, get_or, set, map, take, reverse, replicate, Option, Some, None, inl, inr, subst, sym, ap, ◌∙◌, refl, arith}
 use Rattle.std.specs.Prelude.{if◌then◌else◌, ◌==◌, ◌↔◌, option_and_then}
 use Rattle.std.specs.List.{swap_remove, All}

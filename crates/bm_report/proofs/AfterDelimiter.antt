@@ -1,4 +1,4 @@
--- Only a slot that is linked or moved before the delimiter leaves the slots after it.
+-- Linking or moving a slot to the head removes it, and no other, from those after the delimiter.
 use Rattle.std.proofs.Common.{◌≡◌, ◌≢◌, ℕ, List, [], ◌∷◌, eqb, false, refl, inl, inr, sym, ◌∙◌}
 use Rattle.std.proofs.lemmas.Bool.{cases_Bool, eqb-true, ne_eqb}
 use Rattle.bm_maps.specs.SlotLists.{IsMember, Distinct, without}

@@ -1,5 +1,4 @@
--- Entering numbers one after another, each with its slot, and dropping their lost excess, does so
--- for all of them.
+-- Entering numbers one after another, and then dropping their lost excess, does both for all.
 use Rattle.std.proofs.Common.{◌≡◌, ℕ, ◌≤◌, List, [], ◌∷◌, ◌++◌, length, map, Option, Some, None, refl, subst, inl, inr, sym, ap, ◌∙◌, arith, length-append}
 use Rattle.std.proofs.Common.{Bool, true, false, ◌||◌, eqb}
 use Rattle.std.specs.Prelude.{nat_eq, ◌==◌, IsTrue, IsSomeAnd}

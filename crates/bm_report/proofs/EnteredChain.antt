@@ -1,4 +1,4 @@
--- Entering named blocks one after another enters all of them.
+-- Entering named blocks one after another enters and counts all of them.
 use Rattle.std.proofs.Common.{◌≡◌, ◌≢◌, map, inl, inr, ℕ, suc, ◌+◌, ◌≤◌, Bool, true, false, cond, not, ◌||◌, List, [], ◌∷◌, ◌++◌, Option, Some, None, is_some, IsSome, refl, subst, sym, ap, ◌∙◌, arith, add-one, length-append}
 use Rattle.std.specs.Option.{option_and_then}
 use Rattle.std.specs.Map.{lookup}

@@ -1,4 +1,4 @@
--- A search of a block's triplets finds a replica that passes, if there is one.
+-- Searching a block's triplets finds a replica on a storage that passes a test, if there is one.
 use Rattle.std.proofs.Common.{◌≡◌, ℕ, zero, suc, ◌<◌, List, [], ◌∷◌, map, length, eqb, Bool, true, false, Option, Some, None, IsSome, refl, inl, inr, sym, subst, ap, ◌∙◌}
 use Rattle.std.specs.Prelude.{slice_get}
 use Rattle.std.specs.Option.{option_map, option_and_then}

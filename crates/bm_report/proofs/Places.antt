@@ -1,5 +1,4 @@
--- Each number that was looked up has its entry, and no list of a storage is longer than the bound
--- of the slots.
+-- Numbers that were looked up have entries, and a storage's list is no longer than the slot bound.
 use Rattle.std.proofs.Common.{◌≡◌, ℕ, ◌<◌, ◌≤◌, Bool, true, false, ◌||◌, List, [], ◌∷◌, length, map, Option, Some, None, IsSome, refl, subst, sym, ap, ◌∙◌, eqb-true}
 use Rattle.std.specs.Prelude.{◌==◌, IsTrue, IsSomeAnd}
 use Rattle.std.specs.Option.{option_and_then}

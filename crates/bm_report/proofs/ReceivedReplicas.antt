@@ -1,5 +1,4 @@
--- A notice of a received or deleted replica changes that replica as the definition does, and counts
--- what came and went.
+-- A notice of a received or deleted replica changes replicas as defined, and counts the changes.
 use Rattle.std.proofs.Common.{◌≡◌, ◌≢◌, ℕ, ◌+◌, Bool, true, false, cond, not, ◌&&◌, ◌||◌, Option, Some, None, is_some, IsSome, refl, subst, sym, ap, ◌∙◌, arith}
 use Rattle.std.specs.Option.{option_and_then}
 use Rattle.std.proofs.Math.Bool.{and-false}

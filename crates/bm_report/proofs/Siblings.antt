@@ -1,5 +1,4 @@
--- Two siblings of a storage are siblings of each other, and a search for one finds a replica on a
--- sibling if there is one.
+-- Two siblings of a storage are siblings, and a search for a replica on a sibling finds one if any.
 use Rattle.std.proofs.Common.{◌≡◌, ◌≢◌, ℕ, true, false, not, Option, Some, None, IsSome, sym, subst, ap, ◌∙◌, eq-eqb, eqb-true, ne_eqb}
 use Rattle.std.specs.Prelude.{◌==◌}
 use Rattle.std.specs.Option.{option_map_or, IfSome, IfNone}

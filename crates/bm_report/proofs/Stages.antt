@@ -1,5 +1,4 @@
--- Each phase of a report keeps what the next one needs: delimiter in, blocks entered, unreported
--- ones swept, delimiter out, lost excess dropped.
+-- The phases of a report, one after another, give the replicas and the counts of the definition.
 use Rattle.std.proofs.Common.{◌≡◌, ◌≢◌, ℕ, ◌<◌, ◌≤◌, Bool, true, false, cond, List, [], ◌∷◌, length, map, Option, Some, None, is_some, IsSome, refl, subst, inl, inr, sym, ap, ◌∙◌, arith, eqb, eq-eqb, eqb-true, ne_eqb}
 use Rattle.std.specs.Prelude.{◌==◌, nat_eq, IsSomeAnd, ◌⊎◌}
 use Rattle.std.specs.List.{list_any}

@@ -1,4 +1,4 @@
--- Removing the slots after the delimiter one after another removes all of them.
+-- Removing the slot after the delimiter until there is none removes exactly those that were there.
 use Rattle.std.proofs.Common.{◌≡◌, ◌≢◌, ℕ, ◌+◌, ◌<◌, ◌^◌, List, [], ◌∷◌, ◌++◌, length, map, Option, Some, None, IsSome, refl, subst, inl, inr, sym, ap, ◌∙◌, arith, eqb, add-one, eq-eqb}
 use Rattle.std.specs.Option.{option_map_or, option_and_then}
 use Rattle.std.proofs.lemmas.Bool.{cases_Bool, cases_eq, eqb-true}
@@ -19,7 +19,7 @@ use Rattle.bm_report.proofs.Frames.{some_there}
 use Rattle.bm_report.proofs.Maps.{get-here, len-out}
 use Rattle.bm_report.proofs.PartialReport.{listed-none, listed-chain, listed-push}
 
--- some of the slots after the delimiter are removed, and the rest still to be
+-- some of the slots after the delimiter are removed, and the rest are still to be removed
 pub record IsSweeping (s : ℕ) (first now : Contents) (t u : ReportCounts) (listed_first listed_now : List ℕ) : Type 0 where
   pub put : IsSome (marks_at now now.delimiter s)
   pub swept : (last : Contents) (v : ReportCounts) → IsSwept s (behind now s) now last u v → IsSwept s (behind first s) first last t v

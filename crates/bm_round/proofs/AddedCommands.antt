@@ -16,7 +16,7 @@ use Rattle.bm_base.specs.Words.{keys, entries, Cluster, node_of, has_storage, no
 use Rattle.bm_round.specs.NodeIndex.{index_where}
 use Rattle.bm_base.proofs.Orderings.{less_number}
 
--- and where it found none
+-- if no number of the list is m, there is no index
 pub place_missed : (m : ℕ) (ns : List ℕ) → ((k : ℕ) → k < length ns → get_or ns k 0 ≡ m → ⊥) → None ≡ index_where (λ n. m == n) ns
 place_missed m [] h = refl
 place_missed m (n ∷ ns) h =
@@ -64,7 +64,7 @@ module _ {X : Type 0} where
       differ : (a b : ℕ) → a < b → (a == b) ≡ false
       differ a b lt = grind (arith, nat_tests, lt)
 
-  -- what a search found
+  -- the index at which the ascending numbers have m is the one that a search finds
   pub place_found : (m : ℕ) (es : List (ℕ × X)) (i : ℕ) → T (is_sorted nat_cmp es) → i < length (numbers es) → get_or (numbers es) i 0 ≡ m → Some i ≡ index_where (λ n. m == n) (numbers es)
   place_found m [] i h inside is = absurd (omega (arith, inside))
   place_found m (e ∷ es) zero h inside is = ap (λ b. cond b (Some 0) (option_map suc (index_where (λ n. m == n) (numbers es)))) (sym (eq-eqb m e.0 (sym is)))
@@ -114,7 +114,7 @@ module _ {Y : Type 0} (f g : ℕ → Y) (h : Y → Y) (m : ℕ) (others : (n : �
   changed (e ∷ es) sorted i x is read =
       changed_if e es sorted i x (m == e.0) refl (index_where (λ n. m == n) (numbers es)) refl is read (λ j at there. changed es (second _ _ sorted) j x at there)
 
--- In words of the cluster.
+-- The same for the nodes of a cluster.
 
 filter_more : {X : Type 0} (p : X → Bool) (xs : List X) (x : X) (b : Bool) → p x ≡ b → filter p (xs ++ x ∷ []) ≡ filter p xs ++ cond b (x ∷ []) []
 filter_more p [] x true e = ap (λ b. cond b (x ∷ []) []) e
@@ -157,7 +157,7 @@ module _ (C : Cluster) (s m : ℕ) (ids : List ℕ) (all : ids ≡ keys C.nodes)
       by k inside is false e = let less = high k (ltb-false k i e) inside in omega (arith, less, is)
 
 module _ (C : Cluster) (ts : List Transfer) (ds : List Delete) where
-  -- a transfer more changes what one node is commanded
+  -- a node's commands with one transfer more, or one delete more
   abbrev pub with_transfer : Transfer → NodeCommands → NodeCommands
   with_transfer t k = record k { transfers = k.transfers ++ t ∷ [] }
 

@@ -1,5 +1,4 @@
--- A round chooses at most `work` transfers for each alive node, and at most `invalidate` deletes
--- for each node.
+-- A round's transfers are at most `work` times the alive nodes, its deletes `invalidate` per node.
 use Rattle.std.proofs.Common.{◌≡◌, ℕ, zero, suc, ◌≤◌, ◌<◌, Bool, true, false, cond, List, [], ◌∷◌, ◌++◌, filter, flat_map, take, length, Option, Some, None, refl, sym, ap, subst, ◌∙◌, arith, append-nil}
 use Rattle.std.specs.Prelude.{◌==◌, ◌*◌, if◌then◌else◌, nat_le, option_to_list}
 use Rattle.std.specs.Option.{option_map_or}

@@ -36,7 +36,7 @@ first_more most xs x = by (nat_lt (length xs) most) refl
         ∙ append-nil (take most xs) ∙ sym (take-append-le most xs (x ∷ []) enough)
 
 module _ (most : ℕ) (C : Cluster) (ds : List Delete) (d : Delete) where
-  -- one more delete, where the limit allows it
+  -- one more delete, if the limit allows it
   abbrev pub with_first : NodeCommands → NodeCommands
   with_first k = record k { deletes = k.deletes ++ cond (nat_lt (length k.deletes) most) (d ∷ []) [] }
 
@@ -56,7 +56,7 @@ module _ (most : ℕ) (C : Cluster) (ds : List Delete) (d : Delete) where
       ap (λ b. record k { deletes = k.deletes ++ cond b (d ∷ []) [] }) (le-ltb (length k.deletes) most full)
       ∙ ap (λ us. record k { deletes = us }) (append-nil k.deletes)
 
--- of no deletes
+-- without deletes there are no first deletes
 pub first_of_none : (most : ℕ) (C : Cluster) (ns : List ℕ) → map (node_commands C [] []) ns ≡ map (first_commands most C []) ns
 unfolding node_commands
 first_of_none most C [] = refl

@@ -1,5 +1,4 @@
--- Merged wishes and deletes are in the order of their keys, and those of a single part stay as they
--- are.
+-- Merged wishes ascend by key, and the sorted wishes and deletes of a single part stay as they are.
 use Rattle.std.proofs.Common.{◌≡◌, ℕ, List, [], ◌∷◌, map, flat_map, length, get_or, refl, sym, ap, subst, ◌∙◌, append-nil, arith, T}
 use Rattle.std.specs.FinMap.{is_sorted}
 use Rattle.std.proofs.lemmas.List.Sorted.{IsPermutation-refl}
@@ -50,14 +49,14 @@ pub merged_wishes_ascend : (ps : List RoundPart) → T (is_sorted pair_cmp (map 
 unfolding merged_wishes
 merged_wishes_ascend ps = ordered_ascends by_pair wish_key (flat_map (λ p. p.wishes) ps)
 
--- the deletes of one part are in order as they are
+-- the merged deletes of a single part are its deletes, if they are sorted
 pub deletes_alone_are : (ps : List RoundPart) (p : RoundPart) → length ps ≡ 1 → AreSorted (map keyed_deletes ps) → (get_or ps 0 p).deletes ≡ merged_deletes ps
 unfolding merged_deletes
 deletes_alone_are [] p one sorted = absurd (omega (arith, one))
 deletes_alone_are (q ∷ []) p one sorted = sym (ap (ordered_by by_pair delete_key) (append-nil q.deletes) ∙ sorted_is_ordered (ℕ × ℕ) _ by_pair delete_key q.deletes q.deletes sorted.0 (IsPermutation-refl q.deletes))
 deletes_alone_are (q ∷ r ∷ ps) p one sorted = absurd (omega (arith, one))
 
--- the wishes of one part are in order as they are
+-- the merged wishes of a single part are its wishes, if they are sorted
 pub wishes_alone_are : (ps : List RoundPart) (p : RoundPart) → length ps ≡ 1 → AreSorted (map keyed_wishes ps) → (get_or ps 0 p).wishes ≡ merged_wishes ps
 unfolding merged_wishes
 wishes_alone_are [] p one sorted = absurd (omega (arith, one))

@@ -1,5 +1,4 @@
--- Reversing a list, sorting it by a stable sort and keeping the first element of each key gives the
--- last element of each key, in order.
+-- A list reversed, stably sorted and deduplicated has the last element of each key, in key order.
 use Rattle.std.proofs.Common.{◌≡◌, ℕ, Bool, true, false, cond, not, ◌&&◌, List, [], ◌∷◌, ◌++◌, map, filter, reverse, Option, Some, None, Ordering, Less, Equal, Greater, refl, sym, ap, subst, ◌∙◌, T}
 use Rattle.std.specs.Prelude.{◌==◌}
 use Rattle.std.specs.Ordering.{is_lt, is_eq, eq_by_cmp, nat_cmp, ordering_reverse}

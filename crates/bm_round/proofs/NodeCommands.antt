@@ -1,4 +1,4 @@
--- The commands are by ascending node, and each node has some, all of them for its own storages.
+-- Commands are listed by ascending node; each listed node has some, all for its own storages.
 use Rattle.std.proofs.Common.{◌≡◌, ℕ, Bool, true, false, cond, List, [], ◌∷◌, map, filter, refl, sym, subst, T}
 use Rattle.std.specs.List.{All}
 use Rattle.std.specs.Ordering.{is_lt, nat_cmp}

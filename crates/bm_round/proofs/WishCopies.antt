@@ -1,5 +1,4 @@
--- Choosing the copies of one wish one after another chooses those of the definition, until one
--- finds no source or target.
+-- Choosing a wish's copies one by one until none is found gives the transfers of the definition.
 use Rattle.std.proofs.Common.{◌≡◌, ◌<◌, ℕ, zero, suc, ◌+◌, ◌-◌, Bool, true, false, cond, List, [], ◌∷◌, ◌++◌, map, filter, drop, get_or, replicate, length, Option, Some, None, refl, sym, ap, ◌∙◌, arith, append_assoc, append-nil}
 use Rattle.std.specs.Prelude.{◌==◌, ◌*◌, nat_le, option_to_list, option_and_then, option_map, is_some}
 use Rattle.std.specs.Option.{option_map_or}
@@ -12,7 +11,7 @@ use Rattle.bm_base.specs.Choices.{transfer_by, transfers_over, one_by_one, sourc
 use Rattle.bm_place.proofs.Tables.{equal_back}
 
 module _ (limits : RoundLimits) (C : Cluster) where
-  -- where one copy finds nothing, no later one does
+  -- if one copy finds no source or target, no later one does
   pub none_left : (chosen : List Transfer) (w : Wish) (n : ℕ) → transfer_by limits C chosen w ≡ None → transfers_over limits C chosen (replicate n w) ≡ chosen
   none_left chosen w zero none = refl
   none_left chosen w (suc n) none =
@@ -68,7 +67,7 @@ joined_more xs zs chosen t b e is =
 
 -- The wishes one after another.
 
--- for none of these was a transfer chosen
+-- no transfer was chosen for any of these wishes
 abbrev pub AreFresh : List Transfer → List Wish → Type 0
 AreFresh chosen [] = Unit {0}
 AreFresh chosen (w ∷ ws) = (targets_of chosen w.block ≡ []) × AreFresh chosen ws
@@ -85,7 +84,7 @@ module _ (limits : RoundLimits) (C : Cluster) where
       (least_target C chosen w.level (holders_by chosen w) (excluded_by chosen w) w.stamp.len))
       (least_source C chosen w.level (sources_by w)))) full
 
-  -- where the round has reached its limit of transfers, it is at its end
+  -- once the limit of transfers is reached, no more are chosen
   pub full_stays : (chosen : List Transfer) (ws : List Wish) → nat_le (limits.work * len C.nodes) (length chosen) ≡ true → transfers_over limits C chosen ws ≡ chosen
   full_stays chosen [] full = refl
   full_stays chosen (w ∷ ws) full =

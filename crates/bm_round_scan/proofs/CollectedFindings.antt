@@ -1,5 +1,4 @@
--- If each block's list has exactly the block's elements, the lists of several blocks have all of
--- theirs, each once.
+-- The sorted findings of different blocks are all findings, each once, if no other block has any.
 use Rattle.std.specs.Prelude.{◌≡◌, ℕ, Bool, true, false, ◌==◌, List, [], ◌∷◌, ◌++◌}
 use Rattle.std.specs.List.{flat_map, list_any, IsDistinct, AllByRecursion}
 use Rattle.std.proofs.Common.{inl, inr, sym, ap, ◌∙◌, ne_eqb}

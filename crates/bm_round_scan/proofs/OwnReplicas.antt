@@ -1,5 +1,4 @@
--- The scan of a block has the storages that the definition gives for its replicas as a round
--- begins.
+-- A block's scan has the surplus and the replicas that the definition gives as a round begins.
 use Rattle.std.specs.Prelude.{◌≡◌, ℕ, Bool, true, false, ◌&&◌, ◌==◌, List, [], ◌∷◌, map, filter, Option, Some, None, option_map, option_and_then, T}
 use Rattle.std.specs.Option.{option_map_or}
 use Rattle.std.specs.Ordering.{nat_cmp, eq_by_cmp, is_lt, ordering_then}

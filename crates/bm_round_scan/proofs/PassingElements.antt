@@ -1,4 +1,4 @@
--- Filtering the findings of blocks by their keys gives all findings whose keys pass.
+-- Filtering the findings of blocks by their keys gives exactly the findings whose keys pass.
 use Rattle.std.specs.Prelude.{◌≡◌, ℕ, Bool, true, false, ◌||◌, List, [], ◌∷◌, filter}
 use Rattle.std.specs.List.{list_any, IsDistinct, AllByRecursion}
 use Rattle.std.proofs.Common.{cond, refl, sym, ap, ◌∙◌, true≢false}

@@ -1,5 +1,4 @@
--- Racks matter for a level only if enough replicas are live; whether the cluster has several
--- matters only if these are on one.
+-- Racks affect a level only if enough replicas are live, and other racks only if these share one.
 use Rattle.std.specs.Prelude.{◌≡◌, ◌≢◌, ◌<◌, ◌*◌, ℕ, Bool, true, false, ◌&&◌, ◌==◌, if◌then◌else◌, nat_lt, nat_le, Option, Some, None}
 use Rattle.std.proofs.Common.{refl, sym, ap, ◌∙◌, arith}
 use Rattle.std.proofs.lemmas.Bool.Decides.{nat_tests}
@@ -7,7 +6,7 @@ use Rattle.bm_base.specs.declared.level.Level.{Level}
 use Rattle.bm_base.specs.declared.level.Level.TheVariants.{Highest, VeryUnderReplicated, UnderReplicated, BadlyDistributed}
 use Rattle.bm_base.specs.Machine.Levels.{level_of, level_without_live}
 
--- if fewer replicas are live than are wanted, their racks do not matter
+-- if fewer replicas are live than are wanted, racks do not matter
 pub few_live : (live drained repl r s : ℕ) (m n : Bool) → live < repl → level_of live drained repl r m ≡ level_of live drained repl s n
 unfolding level_of
 few_live live drained repl r s m n few =
@@ -27,7 +26,8 @@ alike : (t m n : Bool) → (t && false && m) ≡ (t && false && n)
 alike true m n = refl
 alike false m n = refl
 
--- if they are not on exactly one rack, it does not matter whether the cluster has several racks
+-- if the live replicas are not on exactly one rack, it does not matter whether the cluster has
+-- several racks
 pub not_on_one : (live drained repl r : ℕ) (m n : Bool) → r ≢ 1 → level_of live drained repl r m ≡ level_of live drained repl r n
 unfolding level_of
 not_on_one live drained repl r m n apart =

@@ -1,4 +1,4 @@
--- A round scans each slot at most once, and no other block has findings.
+-- A round scans no slot twice, and each that is unsettled or needs more copies before the bound.
 use Rattle.std.specs.Prelude.{◌≡◌, ◌≢◌, ℕ, Bool, true, false, not, ◌&&◌, List, [], ◌∷◌, ◌++◌, map, filter, Option, Some, None, option_and_then}
 use Rattle.std.specs.Option.{option_map_or}
 use Rattle.std.proofs.Common.{◌⊎◌, cond, inl, inr, refl, sym, ap, subst, ◌∙◌}
@@ -78,7 +78,7 @@ module _ (f : ℕ → ℕ) where
 
 -- The slots that a round scans.
 
--- a block of which copies are wished for has a level
+-- a block that needs copies has a level
 level_needing_copies : (o : Option Level) → needs_copies o ≡ true → (l : Level) × (o ≡ Some l)
 level_needing_copies None e = absurd (true≢false (sym e))
 level_needing_copies (Some l) e = (l, refl)

@@ -19,7 +19,7 @@ use Rattle.bm_session.specs.Progress.{Progress, Answered, MayBeWorked, Interrupt
 use Rattle.bm_session.proofs.LineLemmas.{rest_line, lines_of-first, IsPart-append, splits_none, splits_part, splits_end, lines_of-split, whole_lines-split, lines_of-begin, whole_lines-begin}
 use Rattle.bm_session.proofs.TextLemmas.{texts-push, after-push, refusals-push}
 
--- ---- known bytes
+-- ---- calls that did not fail
 
 -- a fact about success, if a call did not fail
 pub at_success : {T E P : Type 0} (r : Result T E) (b : Bool) → b ≡ is_err r → b ≡ false → OnOk r P → P

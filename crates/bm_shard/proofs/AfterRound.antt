@@ -1,4 +1,4 @@
--- After a round a shard holds, as contracts see it, what the definition of a round gives.
+-- After a round a shard holds what the definition of a round gives for its own blocks.
 use Rattle.std.proofs.Common.{◌≡◌, ℕ, not, List, map, refl, ap, subst, ◌∙◌}
 use Rattle.std.specs.Prelude.{true, if◌then◌else◌}
 use Rattle.bm_base.specs.declared.commands.Transfer.{Transfer}

@@ -1,4 +1,4 @@
--- Dropping the arrived transfers of one block after another drops all that have arrived.
+-- Dropping arrived transfers block by block drops all, if all blocks with transfers are listed.
 use Rattle.std.proofs.Common.{◌≡◌, ℕ, zero, suc, ◌+◌, ◌<◌, arith, Bool, true, false, cond, not, ◌&&◌, ◌||◌, List, [], ◌∷◌, map, length, drop, Option, Some, None, is_some, refl, sym, ap, ◌∙◌, eqb-true}
 use Rattle.std.specs.Prelude.{◌==◌, IsSome, slice_get, option_and_then, option_map}
 use Rattle.std.specs.Option.{option_or}
@@ -63,7 +63,7 @@ module _ (a : Contents) (s : ℕ) where
       where_some x z None h = refl
       where_some x z (Some v) h = ap (λ t. pass (t && z) v) (h refl)
 
-  -- the test passes the block's transfer to s alone
+  -- of a block's transfers, the test passes only the one to s
   same_arrived : (b : ℕ) (q : ReplicaId) → ((b == q.block) && has_arrived a s q) ≡ (eq_by_cmp by_replica.cmp q (replica_at b s) && contains_key (replicas_of a) (replica_at b s))
   same_arrived b q =
       ap (λ t. t && has_arrived a s q) (eqb_turned b q.block) ∙ by (q.block == b) (q.storage == s) refl refl

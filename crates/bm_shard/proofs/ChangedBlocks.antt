@@ -1,5 +1,4 @@
--- An event that changes blocks, replicas and transfers leaves the shard up to date, as contracts
--- see it.
+-- After an event a shard has the defined holdings, and levels that were right before still are.
 use Rattle.std.proofs.Common.{◌≡◌, ℕ, refl, sym, ap, subst, ◌∙◌}
 use Rattle.bm_base.specs.declared.ids.Part.{Part}
 use Rattle.bm_base.specs.declared.event.Done.{Done}

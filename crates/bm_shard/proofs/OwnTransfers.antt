@@ -1,5 +1,4 @@
--- Inserting the transfers of a shard's own blocks one after another makes all of them pending,
--- within the reserved capacity.
+-- Inserting a shard's own transfers one by one makes all pending, within the reserved capacity.
 use Rattle.std.proofs.Common.{◌≡◌, ℕ, ◌≤◌, ◌<◌, ◌+◌, Bool, true, false, cond, List, ◌∷◌, filter, map, length, arith, refl, sym, ap, subst, ◌∙◌}
 use Rattle.std.specs.Prelude.{◌==◌, suc, if◌then◌else◌}
 use Rattle.std.proofs.lemmas.Bool.{false≢true, eqb-true, eq-eqb}

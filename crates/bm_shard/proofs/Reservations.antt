@@ -1,5 +1,4 @@
--- A shard is ready for an event that needs no reservation, and stays ready for a round if only
--- other capacity changes.
+-- A shard is ready for events that reserve nothing; a round needs only capacity for transfers.
 use Rattle.std.proofs.Common.{◌≡◌, ℕ, List, false, true≢false, sym, ap, subst}
 use Rattle.bm_base.specs.declared.event.Event.{Event}
 use Rattle.bm_base.specs.declared.event.Event.TheVariants.{AddBlock, Received, FullReport}

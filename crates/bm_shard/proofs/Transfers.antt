@@ -1,5 +1,4 @@
--- When a node begins to drain, only the transfers to its storages leave; when it ceases, nothing
--- does.
+-- When a node begins to drain, only transfers to it are dropped; when it stops draining, none are.
 use Rattle.std.proofs.Common.{◌≡◌, ℕ, Bool, true, false, not, Some, None, refl, sym, ap, ◌∙◌}
 use Rattle.std.specs.Prelude.{◌&&◌, if◌then◌else◌}
 use Rattle.std.specs.Option.{unwrap_or}

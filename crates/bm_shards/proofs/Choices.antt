@@ -1,4 +1,4 @@
--- The choice from the parts of all shards is the choice from the whole.
+-- The transfers and deletes chosen from the parts of all shards are those chosen from the whole.
 use Rattle.std.specs.Prelude.{◌≡◌, ℕ, ◌+◌, Bool, true, false, ◌==◌, ◌||◌, List, [], ◌∷◌, ◌++◌, map, filter, length, Option, None}
 use Rattle.std.specs.List.{flat_map}
 use Rattle.std.proofs.Common.{cond, refl, sym, ap, subst, ◌∙◌}

@@ -1,5 +1,4 @@
--- Shards that are up to date can find their parts for a round, and each part is at its shard's
--- index.
+-- Up-to-date shards can find their parts for a round, and each part is at its shard's index.
 use Rattle.std.specs.Prelude.{◌≡◌, ℕ, zero, suc, ◌+◌, List, [], ◌∷◌, ◌++◌, map, length, Some, option_map, slice_get}
 use Rattle.std.specs.List.{All}
 use Rattle.std.proofs.Common.{refl, sym, ap, ◌∙◌, arith}

@@ -1,4 +1,4 @@
--- Gathering the answers of shards one by one gives the answers of all, or the first fault.
+-- Gathering the answers of shards one by one gives the answers of all, or the first refusal.
 use Rattle.std.specs.Prelude.{◌≡◌, ℕ, ◌+◌, List, [], ◌∷◌, ◌++◌, map, Some, Result, Ok, Err, IfOk, IfErr, OnOk, OnErr}
 use Rattle.std.specs.Result.{result_and, result_ok}
 use Rattle.std.specs.List.{All, AllZip, filter_map, cons_option}

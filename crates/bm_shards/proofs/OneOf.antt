@@ -1,4 +1,4 @@
--- An event on one block changes only the block's shard, and keeps all shards up to date.
+-- Changing a block's shard alone suffices for an event on the block; all shards stay up to date.
 use Rattle.std.specs.Prelude.{◌≡◌, ℕ, zero, suc, ◌+◌, ◌<◌, if◌then◌else◌, List, [], ◌∷◌, map, length, Some, slice_get, slice_set, slice_index_or, Result, Ok, Err, IfOk, OnOk, OnErr}
 use Rattle.std.proofs.Common.{refl, sym, ap, subst, ◌∙◌, arith, eq-eqb}
 use Rattle.std.proofs.lemmas.Option.{same_Some, slice_get_within}

@@ -1,4 +1,4 @@
--- A question to the block's shard, to each shard or to all is answered as the whole answers it.
+-- A query asked of a block's shard, or gathered from all shards, has the answer of the whole.
 use Rattle.std.specs.Prelude.{◌≡◌, ℕ, ◌≤◌, ◌||◌, Bool, List, [], ◌∷◌, map, flat_map, length, Some, None}
 use Rattle.std.specs.List.{list_any}
 use Rattle.std.specs.List.Sorted.{IsPermutation, IsSortedByKey}

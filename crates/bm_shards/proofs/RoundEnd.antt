@@ -1,5 +1,4 @@
--- After a round of all shards they hold what the definition gives; after an aborted one they hold
--- what they held.
+-- After a round all shards hold what the definition gives; after an aborted one, what they held.
 use Rattle.std.specs.Prelude.{◌≡◌, ℕ, ◌+◌, List, length, Result, Ok, Err, OnOk, OnErr}
 use Rattle.std.specs.List.{AllZip}
 use Rattle.std.proofs.Common.{subst, ◌∙◌}

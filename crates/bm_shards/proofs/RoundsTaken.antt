@@ -1,5 +1,4 @@
--- After a round for which all shards are ready, they are up to date and hold what the definition
--- gives.
+-- After a round that all shards took, they are up to date and hold what the definition gives.
 use Rattle.std.specs.Prelude.{◌≡◌, ℕ, suc, ◌+◌, ◌<◌, ◌^◌, List, [], ◌∷◌, map, length, Some, Ok, option_map, slice_get}
 use Rattle.std.specs.List.{All, AllZip}
 use Rattle.std.proofs.Common.{sym, ap, subst, ◌∙◌}

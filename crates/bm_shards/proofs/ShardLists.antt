@@ -1,4 +1,4 @@
--- After an event for which all shards are ready, they hold together what the definition gives.
+-- After an event that all shards took, they together hold what the definition gives.
 use Rattle.std.specs.Prelude.{◌≡◌, ℕ, suc, ◌+◌, ◌≤◌, List, [], ◌∷◌, map, length, Ok}
 use Rattle.std.specs.List.{All}
 use Rattle.std.proofs.Common.{refl, sym, ap, subst, ◌∙◌, arith}

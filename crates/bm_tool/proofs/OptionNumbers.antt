@@ -1,5 +1,4 @@
--- The number of an option is the one that the words give, or else its default, and is in the
--- option's range.
+-- An option's number is the one on the command line, or its default, and is in the option's range.
 use Rattle.std.proofs.Common.{zero, suc, ◌||◌, fold, ◌≡◌, ◌∙◌, ◌<◌, ◌≤◌, ◌^◌, drop, take, ap, map, ℕ, Bool, true, false, not, List, [], ◌∷◌, ◌++◌, length, Option, Some, None, refl, sym, subst, inl, inr, arith, codes, true≢false, is_some}
 use Rattle.std.specs.List.{list_any, slice_index_or}
 use Rattle.std.specs.Option.{option_map_or}

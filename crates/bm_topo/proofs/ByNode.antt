@@ -143,7 +143,7 @@ one_more storages ks ss s index n at within parts h =
       many = length-insert ss index s within ∙ ap (λ k. k + 1) h.many ∙ sym (length_push ks s);
     }
 
--- What a loop over the entries of a table knows of the one at its place.
+-- The step of a loop over the entries of a table, for the entry at the loop's index.
 
 node_there : (m : Map by_number StorageInfo) (s : ℕ) (i : StorageInfo) → get m s ≡ Some i → node_in m s ≡ i.node
 unfolding node_in

@@ -1,5 +1,4 @@
--- Changes within the capacity of the tables keep the capacity that contracts see; if no table gets
--- longer, the spare capacity does not shrink.
+-- Changes within the tables' capacity keep it, used and spare; if no table grows, no spare is lost.
 use Rattle.std.proofs.Common.{◌≡◌, ℕ, ◌≤◌, ◌-◌, true, false, cond, arith, refl, subst}
 use Rattle.std.specs.Prelude.{◌==◌}
 use Rattle.bm_base.specs.declared.storage.StorageInfo.{StorageInfo}
