@@ -25,8 +25,6 @@ mate_as C left count counted s = by (rack_of C s)
     by None = sym (ap (λ n. nat_lt 1 n) (count_none left))
     by (Some r) = ap (λ n. nat_lt 1 n) (counted r)
 
--- Counting.
-
 -- Counting the racks of looked up storages.
 
 module _ {X : Type 0} (rack : X → Option ℕ) where

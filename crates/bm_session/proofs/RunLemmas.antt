@@ -21,8 +21,6 @@ use Rattle.bm_session.specs.Outcome.{Faulted, Leaves, FaultCounts, HasCause, Con
 use Rattle.bm_session.proofs.LineLemmas.{whole_lines-split}
 use Rattle.bm_session.proofs.ProgressLemmas.{answered_more}
 
--- ---- known bytes
-
 -- ---- parts of lists
 
 pub take-take : (m n : ℕ) (xs : List ℕ) → m ≤ n → take m (take n xs) ≡ take m xs

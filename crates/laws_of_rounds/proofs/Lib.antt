@@ -17,7 +17,7 @@ pub mod DeleteReasons
 pub mod MarkedRacks
 -- for the lemmas of TransferLaws, Urgency, RequestedCopies
 pub mod ChosenTransfers
--- for at_most_four_from_a_node, at_most_work_a_node, sent_fits, source_is_live_or_drained,
+-- for at_most_four_from_a_node, at_most_work_times_nodes, sent_fits, source_is_live_or_drained,
 -- target_is_on_fresh_node
 pub mod TransferLaws
 -- for no_more_than_lacks, second_rack

@@ -16,9 +16,9 @@ ForEachTransfer P = (M : State) (front back : List Transfer) (t : Transfer) → 
 
 -- Numbers of transfers.
 
--- a round commands at most `work` transfers for each alive node
-abbrev pub AtMostWorkANode : Type 0
-AtMostWorkANode = (M : State) → length (transfers_commanded M) ≤ M.limits.work * len M.cluster.nodes
+-- a round commands at most `work` times as many transfers as nodes are alive
+abbrev pub AtMostWorkTimesNodes : Type 0
+AtMostWorkTimesNodes = (M : State) → length (transfers_commanded M) ≤ M.limits.work * len M.cluster.nodes
 
 -- Sources.
 

@@ -2,9 +2,9 @@
 // another.
 ghost use Rattle.laws_of_rounds.specs.Transfers as law;
 
-/// A round commands at most `work` transfers for each alive node.
-pub fn at_most_work_a_node()
-    ensures { law.AtMostWorkANode }
+/// A round commands at most `work` times as many transfers as nodes are alive.
+pub fn at_most_work_times_nodes()
+    ensures { law.AtMostWorkTimesNodes }
 {}
 
 /// Each transfer is of a known block, with its stamp, from a storage with a live or drained replica
