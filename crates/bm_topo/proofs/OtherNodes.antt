@@ -1,5 +1,4 @@
--- The first rack of another node is among the racks that remain without the node; if there is none,
--- no node remains.
+-- Without node n, the first rack of another node remains; if there is none, no node remains.
 use Rattle.std.proofs.Common.{◌≡◌, ℕ, true, false, cond, ◌||◌, List, [], ◌∷◌, map, Option, Some, None, refl, ap, ◌∙◌, Less, Equal, Greater}
 use Rattle.std.specs.Prelude.{◌==◌}
 use Rattle.std.specs.List.{list_any}

@@ -135,7 +135,7 @@ positive : (n : ℕ) → 1 ≤ n → positive_or_none n ≡ Some n
 positive zero h = absurd (omega (arith, h))
 positive (suc n) h = refl
 
--- where a node comes that was not there
+-- if the node was not there before
 pub counts-insert : (racks nodes : Map by_number ℕ) (n v : ℕ) → get nodes n ≡ None → CountsRacks racks nodes → CountsRacks (insert racks v (on_rack nodes v + 1)) (insert nodes n v)
 counts-insert racks nodes n v none counts r =
     let others : on_rack (insert nodes n v) r ≡ on_rack nodes r + cond (v == r) 1 0 = on_rack-insert nodes n v r ∙ ap (λ m. on_rack m r + cond (v == r) 1 0) (remove_absent nodes n none) in

@@ -1,5 +1,4 @@
--- A list has duplicates exactly if its sorted front has some, the rest repeats a number of the
--- front, or the rest has some.
+-- A list repeats a number exactly if its front does, its rest does, or both have one in common.
 use Rattle.std.proofs.Common.{◌≡◌, ℕ, ◌<◌, ◌≤◌, Bool, true, false, ltb, List, [], ◌∷◌, ◌++◌, length, get_or, Result, Ok, Err, is_ok, MatchResult, arith, refl, sym, ap, ◌∙◌}
 use Rattle.std.specs.Prelude.{◌==◌, ◌||◌}
 use Rattle.std.specs.Ordering.{nat_cmp}

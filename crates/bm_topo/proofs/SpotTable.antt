@@ -18,7 +18,7 @@ use Rattle.bm_topo.specs.Spots.{IsSpot, AreSpots, HasSpots}
 pub none_set : (C : Cluster) (spots : List Spot) → length spots ≡ MAX_STORAGES → HasSpots C spots 0
 none_set C spots whole = record { whole = whole; few = omega arith; each = λ k p below is. absurd (omega (arith, below)) }
 
--- where storages stay on their nodes
+-- if storages stay on their nodes
 spot_stays : (nodes : Map by_number ℕ) (draining : Set by_number) (old new : Map by_number StorageInfo) (p : Spot)
     → option_map (λ (i : StorageInfo). i.node) (get new p.storage) ≡ option_map (λ (i : StorageInfo). i.node) (get old p.storage)
     → IsSpot (cluster_of nodes draining old) p → IsSpot (cluster_of nodes draining new) p
@@ -49,7 +49,7 @@ spot_is nodes draining storages p i there node rack drains_is =
       drains = drains_is ∙ sym (ap (λ o. option_map_or (λ n. contains_key draining n) o false) its);
     }
 
--- one spot more is set
+-- one more spot is set
 pub set_next : (C : Cluster) (spots : List Spot) (i : ℕ) (p : Spot) → i < length spots → AreSpots C spots i → IsSpot C p → AreSpots C (slice_set spots i p) (i + 1)
 set_next C spots i p in_list before here k q below at =
     let read = slice_get-get_or (slice_set spots i p) k q (slice_get_within (slice_set spots i p) k q at) in

@@ -1,5 +1,4 @@
--- Settling a proposal extends the versions of a journal, and the versions of a prefix are a prefix
--- of them.
+-- Settling a version appends it to a journal's versions; a journal's prefix has a prefix of them.
 use Rattle.std.proofs.Common.{◌≡◌, ℕ, ◌+◌, ◌-◌, ◌<◌, ◌≤◌, Bool, true, false, List, [], ◌∷◌, ◌++◌, length, get_or, refl, sym, ap, ◌∙◌, subst, ⊎_elim, arith, length-append}
 use Rattle.std.proofs.Math.Seq.{get_or-append_seam}
 use Rattle.std.proofs.lemmas.List.{append-nil, get_or_append_left, get_or_default}

@@ -1,4 +1,4 @@
--- Changes stop at the first event that is refused, and all events before it are made.
+-- Changes stop at a refused event or when memory runs out, with all earlier events applied.
 use Rattle.std.proofs.Common.{◌≡◌, ◌⊎◌, ◌<◌, ◌+◌, ◌∙◌, ℕ, Bool, true, false, List, Option, Some, None, fold, take, get_or, length, sym, ap, subst, refl, inl, inr}
 use Rattle.std.proofs.lemmas.List.{drop_more}
 use Rattle.std.proofs.lemmas.List.Sums.{fold_more}
@@ -28,7 +28,7 @@ stops_at M N events i x d e takes inside is state cause = record {
       (subst (λ y. (e ≡ Memory) ⊎ (refusal_of N y ≡ Some e)) is (refused_so (refusal_of N x) takes e cause));
 }
 
--- changes stop after an event that is accepted
+-- memory runs out after an accepted event, and changes stop there
 pub stops_behind : (M N : State) (events : List Event) (i : ℕ) (e : Refusal) → N ≡ fold after_event M (take (i + 1) events) → e ≡ Memory → StopsAmong M events e N
 stops_behind M N events i e state cause = record {
   taken = i + 1;

@@ -1,5 +1,4 @@
--- The racks of the alive nodes, sorted and without duplicates, are all racks with a node,
--- ascending.
+-- The alive nodes' racks, sorted and without duplicates, are the racks with nodes, ascending.
 use Rattle.std.proofs.Common.{◌≡◌, ◌∙◌, ℕ, List, map, sym, ap, subst}
 use Rattle.std.specs.Prelude.{◌==◌, nat_eq}
 use Rattle.std.specs.List.{dedup}

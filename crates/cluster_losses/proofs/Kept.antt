@@ -1,4 +1,4 @@
--- Deaths, and other events that keep blocks, leave the known blocks as they are.
+-- Events change known blocks only if they add, delete or restamp one, or set its replication.
 use Rattle.std.proofs.Common.{◌≡◌, ◌∙◌, ℕ, Bool, true, false, cond, List, [], ◌∷◌, refl, sym, ap, subst, map}
 use Rattle.std.specs.List.{fold, list_any}
 use Rattle.std.proofs.lemmas.Bool.{or_parts}

@@ -1,4 +1,4 @@
--- Counting replicas block by block sums the bytes that all blocks lack.
+-- Counting replicas block by block sums the bytes that all blocks lack, capped at 2^128 - 1.
 use Rattle.std.proofs.Common.{◌≡◌, ◌∙◌, ℕ, ◌+◌, ◌<◌, ◌≤◌, Bool, true, false, cond, not, List, [], ◌∷◌, Option, Some, None, refl, sym, ap, subst, map, filter, length, drop, arith, T, ⊎_elim}
 use Rattle.std.specs.Prelude.{◌==◌, ◌&&◌, ◌||◌, ◌-◌, ◌^◌, zero, suc, nat_lt, min, sum_by, slice_get, if◌then◌else◌}
 use Rattle.std.specs.Option.{option_map_or}
@@ -256,7 +256,7 @@ above_block e (f ∷ es) up = ascends (f ∷ es) e.0.block (second _ _ up) (λ g
 abbrev same_id : ReplicaId → ReplicaId → Bool
 same_id q p = (q.block == p.block) && (q.storage == p.storage)
 
--- no later replica has the same number
+-- a later replica differs in its block or its storage
 later_differ : (p q : ReplicaId) → T (is_lt (replica_cmp p q)) → same_id q p ≡ false
 later_differ p q h = by (same_id q p) refl
   where
@@ -388,7 +388,7 @@ all_summed M excess info s known was =
     capped_last : (n a x : ℕ) → min (a + min x n) n ≡ min (a + x) n
     capped_last n a x = omega arith
 
--- a replica that comes, by what the code makes of it
+-- the next replica, as the code counts it
 abbrev with_counts : Bool → Bool → Bool → Summed → Summed
 with_counts is_excess is_usable is_live s = record s {
   passed = cond is_excess (s.passed + 1) s.passed;
@@ -442,7 +442,7 @@ pub excess_is : (H : Holdings) → excess_replicas H ≡ excess_in (entries H.re
 unfolding replicas_where
 excess_is H = refl
 
--- what is counted of a block is no more where the next one begins
+-- the counts do not grow when the next block begins
 turned_no_more : (f : Summed → ℕ) (info : Option BlockInfo) (next : ℕ) (s : Summed) → ((b n : ℕ) → f (record s { bytes = n; block = b; usable = 0; live = 0 }) ≤ f s)
     → f (switched info next s) ≤ f s
 turned_no_more f info next s less = by (s.block == next)

@@ -1,5 +1,4 @@
--- Lemmas on losses: names of losses, lost blocks, lacking bytes, and clusters that come back as
--- they were.
+-- Lemmas on losses: their names, lost blocks, lacking bytes, and clusters restored as they were.
 pub mod Alike
 pub mod Clusters
 pub mod Kept

@@ -1,4 +1,4 @@
--- Adding the losses of words one after another gives the losses of all words, each once.
+-- Adding what each word of a command line names, in turn, gives what all words name, each once.
 use Rattle.std.proofs.Common.{◌≡◌, ◌∙◌, ℕ, Bool, true, false, cond, List, [], ◌∷◌, ◌++◌, Some, None, refl, sym, ap, option_map}
 use Rattle.std.specs.Prelude.{◌==◌, ◌+◌, if◌then◌else◌}
 use Rattle.std.specs.List.{find}

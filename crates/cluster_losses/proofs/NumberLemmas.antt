@@ -1,4 +1,4 @@
--- Parsing a text gives the number that it writes, if it writes one.
+-- Parsing a text gives the decimal number that it writes, if this fits into 32 bits.
 use Rattle.std.proofs.Common.{◌≡◌, ◌∙◌, ℕ, ◌^◌, ◌<◌, Bool, true, false, cond, List, length, Some, None, Result, Ok, Err, refl, sym, ap}
 use Rattle.std.specs.Prelude.{◌&&◌, nat_lt}
 use Rattle.std.specs.Result.{result_ok}

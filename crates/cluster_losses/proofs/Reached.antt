@@ -1,4 +1,4 @@
--- A state is reached by any list of events, and reaching is reflexive and transitive.
+-- Each list of events reaches the state after it, and reaching is reflexive and transitive.
 use Rattle.std.proofs.Common.{◌≡◌, ◌∙◌, List, [], ◌++◌, refl, sym, ap}
 use Rattle.std.specs.Prelude.{fold}
 use Rattle.std.proofs.lemmas.List.Sums.{fold-append}

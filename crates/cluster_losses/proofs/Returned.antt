@@ -1,5 +1,4 @@
--- Events with reports added are the events and then reports, and the return of a node keeps the
--- known blocks.
+-- Reports added to events one by one follow them, and a node's return keeps the known blocks.
 use Rattle.std.proofs.Common.{◌≡◌, ◌∙◌, ℕ, true, false, cond, ◌||◌, List, [], ◌∷◌, ◌++◌, refl, sym, ap, subst}
 use Rattle.std.specs.List.{list_any}
 use Rattle.std.proofs.lemmas.List.{append-nil, append_assoc}

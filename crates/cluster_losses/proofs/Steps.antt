@@ -1,5 +1,4 @@
--- A book that follows a manager still follows it after an accepted event, and losses with one more
--- are losses.
+-- A book updated for an event still follows the manager; losses with one more are losses.
 use Rattle.std.proofs.Common.{◌≡◌, ℕ, Bool, true, false, not, ◌||◌, None, List, [], ◌∷◌, ◌++◌, refl, sym, ap, subst, ◌∙◌}
 use Rattle.std.specs.List.{fold, list_any}
 use Rattle.std.proofs.lemmas.List.Folds.{list_any-append}

@@ -1,5 +1,4 @@
--- Adding the row of one more rack or node keeps a table's rows those of its racks or nodes; rows
--- can be sorted.
+-- Rows that are added one by one match their racks or nodes one by one, and can be sorted.
 use Rattle.std.proofs.Common.{◌≡◌, ℕ, List, [], ◌∷◌, ◌++◌, sym, subst, length, map}
 use Rattle.std.specs.Ordering.{is_lt}
 use Rattle.std.specs.List.{AllZip}

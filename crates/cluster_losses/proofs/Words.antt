@@ -1,4 +1,4 @@
--- The losses read so far, with those of the words that are left, are the losses of all words.
+-- The `--drain` nodes, and then the losses that the `--lose` words name, are the whole question.
 use Rattle.std.proofs.Common.{◌≡◌, ◌∙◌, List, ◌++◌, Option, Some, None, refl, sym, ap, map}
 use Rattle.std.specs.Prelude.{option_map}
 use Rattle.cluster_names.specs.Rows.{Text}

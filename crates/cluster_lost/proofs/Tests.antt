@@ -1,5 +1,4 @@
--- A block of which a replica is wanted is missing exactly if none of its replicas is live or
--- drained.
+-- A block with wanted replicas is missing exactly if none of its replicas is live or drained.
 use Rattle.std.proofs.Common.{◌≡◌, ℕ, ◌*◌, ◌≤◌, Bool, true, false, not, ◌&&◌, ◌||◌, Some, None, List, [], ◌∷◌, length, refl, sym, ap, ◌∙◌, arith}
 use Rattle.std.specs.Prelude.{◌==◌, nat_le, nat_lt, if◌then◌else◌}
 use Rattle.std.specs.List.{list_any}

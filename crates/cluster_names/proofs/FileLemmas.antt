@@ -43,7 +43,7 @@ module _ {Y : Type 0} (keys : List (String Y)) (path : Text) where
       let any : list_any (string_eq k) keys ≡ false = ap (λ t. list_any (λ x. bytes_eq t (string_bytes x)) keys) e ∙ sym none in
       rw (any, here) (map_push string_bytes keys k ∙ ap (λ t. map string_bytes keys ++ t ∷ []) e)
 
--- two tables with the same paths and the same places
+-- tables with the same paths and the same places are the same
 pub same_table : (f g : FileTable) → f.paths ≡ g.paths → f.places ≡ g.places → f ≡ g
 same_table f g paths places =
     ap (λ p. let t : FileTable = record { paths = p; places = f.places } in t) paths

@@ -28,7 +28,7 @@ positive_if : (h : Bool) → ltb 0 (if h then 1 else 0) ≡ h
 positive_if true = refl
 positive_if false = refl
 
--- what counts once or never is there if it counts once
+-- an item that occurs once or never is in the list exactly if it occurs once
 pub there_if_once : {X : Type 0} (p : X → Bool) (xs : List X) (h : Bool) → count_by p xs ≡ (if h then 1 else 0) → h ≡ list_any p xs
 there_if_once p xs h once = sym (any_as_count p xs ∙ ap (ltb 0) once ∙ positive_if h)
 
@@ -56,7 +56,7 @@ once_with xs ys s b t old new is fresh before now =
     (now ∙ ap (λ c. cond c true old) (both_turned s.transfer.block s.transfer.target b t))
     (fresh_there xs s.transfer b t old fresh (there_if_once (is_copy_of b t) xs old before))
 
--- Some fewer.
+-- Arrived copies are removed.
 
 left_over : (m n : ℕ) (h : Bool) → m + n ≡ (if h then 1 else 0) → n ≡ (if h && not (ltb 0 m) then 1 else 0)
 left_over m n true e = left m n e where
@@ -67,7 +67,7 @@ left_over m n false e = omega (arith, e)
 after_now : (now : ℕ) (s : Sent) → nat_lt now s.arrival ≡ not (has_arrived now s)
 after_now now s = grind arith
 
--- those that have arrived go
+-- the copies that have arrived are removed
 pub once_without : (xs due left : List Sent) (now b t : ℕ) (old new : Bool) → IsPermutation (filter (has_arrived now) xs) due → left ≡ filter (λ s. nat_lt now s.arrival) xs
     → count_by (is_copy_of b t) xs ≡ (if old then 1 else 0) → new ≡ (old && not (list_any (is_copy_of b t) due)) → count_by (is_copy_of b t) left ≡ (if new then 1 else 0)
 once_without xs due left now b t old new permuted is before after =
@@ -81,7 +81,7 @@ once_without xs due left now b t old new permuted is before after =
     ap (count_by p) is ∙ left_over (count_by p gone) (count_by p stay) old (both ∙ before)
     ∙ ap (λ f. if old && not f then 1 else 0) (sym found) ∙ ap (λ h. if h then 1 else 0) (sym after)
 
--- Forgotten places.
+-- The targets of arrived copies are forgotten.
 
 kept : (c h a : Bool) → cond c false (h && not a) ≡ (h && not (a || c))
 kept true true true = refl
@@ -91,7 +91,7 @@ kept false true true = refl
 kept false true false = refl
 kept false false a = refl
 
--- one more is forgotten
+-- one more target is forgotten
 pub forgotten_more : (x : Sent) (b t : ℕ) (old now next before after : Bool) → now ≡ (old && not before) → next ≡ cond ((x.transfer.block == b) && (x.transfer.target == t)) false now
     → after ≡ (before || is_copy_of b t x) → next ≡ (old && not after)
 forgotten_more x b t old now next before after have step more =

@@ -69,7 +69,7 @@ module _ (ticks : Ticks) (M : State) (d : DataNodes) (K L : State) (C : Cluster)
     counted = begun_there.counted (copies_of has_taken.taken) (same (copies_of has_taken.taken) has_taken.counted);
   }
 
--- nothing but other fields changed
+-- only other fields changed
 abbrev pub taken_alike : (ticks : Ticks) (M : State) (d : DataNodes) (N : State) (old new : Repair) → HasTaken ticks M d N old → new.rounds ≡ old.rounds → new.time ≡ old.time
     → new.commanded ≡ old.commanded → new.datanodes ≡ old.datanodes → HasTaken ticks M d N new
 taken_alike ticks M d N old new has_taken rounds now commanded same = record {

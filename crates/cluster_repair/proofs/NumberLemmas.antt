@@ -1,5 +1,4 @@
--- Filling the tables of free bytes and of nodes one number at a time gives each number its defined
--- value.
+-- Tables of free bytes and of nodes, filled one by one, match the cluster; deletes free bytes.
 use Rattle.std.proofs.Common.{◌≡◌, ◌∙◌, ◌+◌, ◌<◌, ◌≤◌, ℕ, Bool, true, false, if◌then◌else◌, List, [], ◌∷◌, ◌++◌, Option, Some, None, refl, sym, ap, length, map, take, take_all, get_or}
 use Rattle.std.specs.Prelude.{◌==◌, ◌||◌, is_some, min, nat_eq, option_map, unwrap_or}
 use Rattle.std.specs.List.{fold}

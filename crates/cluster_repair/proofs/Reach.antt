@@ -1,5 +1,4 @@
--- Reports and rounds, one after another, lead from the first state to the last, and rows and notes
--- hold of the states between.
+-- Reports and rounds lead from a repair's first state to its last; rows and notes describe them.
 use Rattle.std.proofs.Common.{◌≡◌, ◌∙◌, ◌++◌, ℕ, ◌+◌, ◌≤◌, true, not, List, [], ◌∷◌, None, refl, sym, ap, subst, length, map, take, take_all, get_or, arith}
 use Rattle.std.specs.Prelude.{◌<◌, ◌/◌, ◌&&◌, false, nat_le}
 use Rattle.std.specs.List.{filter}
@@ -113,7 +112,7 @@ reported_free M N xs f n rs are accepted after = record {
   covers = covers_heard M N (Heartbeat n.node rs) xs (λ b. refl) after;
 }
 
--- copies, deletes, and what is then free
+-- copies, deletes, and the free bytes after them
 pub reported_in_turn : (due ss : List Sent) (ds es : List Delete) (f : FreeBytes) (K L M N : State) (xs ys zs : List ℕ) → ss ≡ due → es ≡ ds → AreReported (map received ss) K L xs ys
     → AreReported (map deleted es) L M ys zs → ((bs : List ℕ) → AreReported (map (heartbeat_of f) f.nodes.items) M N bs bs) → AreReported (reports_of due ds f) K N xs zs
 reported_in_turn due ss ds es f K L M N xs ys zs copies deletes first second third =

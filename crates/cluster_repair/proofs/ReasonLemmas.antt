@@ -1,5 +1,4 @@
--- Each block that stays unrepaired gets its defined reason from its replicas, which two binary
--- searches find.
+-- Two binary searches find the replicas of an unrepaired block, which give its defined reason.
 use Rattle.std.proofs.Common.{◌≡◌, ◌∙◌, ◌++◌, ◌∷◌, [], ◌<◌, ◌≤◌, ℕ, Bool, true, false, List, sym, ap, subst, arith, length, take, drop, filter, get_or, inl, inr, ⊎_elim}
 use Rattle.std.specs.Prelude.{◌==◌, ◌⊎◌, AllPairs, nat_lt, nat_le}
 use Rattle.std.specs.List.Sorted.{IsNonDecreasingBy, IsPartitionPoint}
@@ -30,7 +29,7 @@ reason_and book H f rs us new u is are one before = record {
       (one ∙ ap (λ (qs : List Replica). reason_for book.topology.cluster (filter (λ r. r.block == u.block) qs) u.level (len_in book.blocks u.block) f) are));
 }
 
--- Replicas that come by block.
+-- Replicas in the order of their blocks.
 
 not_after : (p q : Replica) → IsBefore (replica_key p) (replica_key q) → p.block ≤ q.block
 not_after p q (inl lt) = let h : p.block < q.block = lt in omega (arith, h)

@@ -1,4 +1,4 @@
--- DataNodes that begin copies one after another begin all copies of a list, each once.
+-- DataNodes begin each copy of a list once and in order, unless it is on its way already.
 use Rattle.std.proofs.Common.{◌≡◌, ◌∙◌, ◌++◌, ◌∷◌, [], ◌+◌, ◌-◌, ◌^◌, ◌≤◌, ℕ, Bool, true, false, cond, List, min, max, filter, refl, sym, ap, subst, arith, append_assoc, append-nil, length, length-append, take, get_or}
 use Rattle.std.specs.Prelude.{◌==◌, ◌&&◌, ◌||◌, ◌<◌, nat_eq, sum_by, if◌then◌else◌}
 use Rattle.std.specs.List.{All, Contains, flat_map, fold}

@@ -1,4 +1,4 @@
--- As time goes on no more copies are on their way, so the tick that is computed is the next one.
+-- The number of copies on their way never grows with time, so the computed tick is the next one.
 use Rattle.std.proofs.Common.{◌≡◌, ℕ, ◌≤◌, ◌<◌, ◌+◌, ◌-◌, ◌*◌, List, [], ◌∷◌, ◌∙◌, false, cond, sym, ap, subst, take, length, get_or, arith}
 use Rattle.std.specs.Prelude.{nat_lt, max, min}
 use Rattle.std.specs.Int.{div_ceil}
@@ -14,7 +14,7 @@ use Rattle.cluster_repair.specs.Ticks.{on_way_after, IsNextTick}
 one_fewer : (a t u : ℕ) → t ≤ u → cond (nat_lt u a) 1 0 ≤ cond (nat_lt t a) 1 0
 one_fewer a t u h = grind (arith, h)
 
--- later no more are on their way
+-- the number of copies on their way does not grow
 pub fewer_later : (ss : List Sent) (t u : ℕ) → t ≤ u → on_way_after ss u ≤ on_way_after ss t
 fewer_later [] t u h = omega arith
 fewer_later (s ∷ ss) t u h = omega (arith, one_fewer s.arrival t u h, fewer_later ss t u h, sum_by-cons (λ (x : Sent). cond (nat_lt t x.arrival) 1 0) s ss, sum_by-cons (λ (x : Sent). cond (nat_lt u x.arrival) 1 0) s ss)

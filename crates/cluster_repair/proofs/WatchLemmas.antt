@@ -1,4 +1,4 @@
--- A watch has all blocks with a level, so counting them counts all blocks by level.
+-- The watched blocks include all with a level, so counting them counts all blocks by level.
 use Rattle.std.proofs.Common.{◌≡◌, ◌∙◌, ℕ, true, false, List, [], ◌∷◌, None, refl, sym, ap, subst, map, length, filter, cond, is_some, arith}
 use Rattle.std.specs.Prelude.{◌==◌, nat_eq}
 use Rattle.std.specs.List.{dedup, list_any}

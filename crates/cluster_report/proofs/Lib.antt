@@ -1,4 +1,4 @@
--- Lemmas on reports of a cluster: keys taken by index.
+-- Lemmas on reports of a cluster: keys by index, lines, copies on their way, and block lengths.
 pub mod TakenKeys
 -- Lines.
 pub mod NamedNumbers

@@ -1,4 +1,4 @@
--- Each change of a `BTreeMap` changes the map that it represents alike:
+-- Each change of a `BTreeMap` changes the map that it represents in the same way.
 --     length-tree              the number of entries
 --     inserted, removed        a value was set at a key, or a key removed
 --     kept                     the entries that pass a test were kept

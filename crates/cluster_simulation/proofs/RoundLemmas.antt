@@ -1,4 +1,4 @@
--- After a round the watched blocks cover all with a level, and the book follows the manager.
+-- A book updated for a round still follows the manager; a list of the leveled blocks misses none.
 use Rattle.std.proofs.Common.{◌≡◌, ◌∙◌, ◌-◌, ℕ, List, None, not, refl, sym, ap, inl}
 use Rattle.std.specs.Prelude.{nat_le}
 use Rattle.std.specs.List.{flat_map}

@@ -16,7 +16,7 @@ one_more f n old new x added before is =
 abbrev pub free_of : ℕ → ℕ → Remaining
 free_of s free = record { storage = s; remaining = free }
 
--- what a heartbeat has of a storage
+-- the free bytes of a storage in a heartbeat
 pub free_is : (M : State) (shape : Shape) (capacity n place s free : ℕ) → s ≡ storage_at shape n place → free ≡ remaining_on M capacity s
     → free_of s free ≡ free_at M shape capacity n place
 free_is M shape capacity n place s free at is = ap (free_of s) is ∙ ap (λ t. free_of t (remaining_on M capacity t)) at

@@ -1,4 +1,4 @@
--- The parts of an answer, each by the contract of its call, make up the answer to a question.
+-- If each part of an answer meets its call's contract, the whole is the answer to the question.
 use Rattle.std.proofs.Common.{◌≡◌, ℕ, List, [], Option, map, sym, subst}
 use Rattle.std.specs.Prelude.{filter, string_bytes}
 use Rattle.std.specs.Io.KnownBytes.{Appends}

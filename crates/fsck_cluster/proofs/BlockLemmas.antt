@@ -1,4 +1,4 @@
--- A look-up finds a block exactly if some key in the map passes the test.
+-- A look-up finds an entry exactly if some key in the map passes the test.
 use Rattle.std.proofs.Common.{◌≡◌, Bool, true, false, cond, List, [], ◌∷◌, ◌||◌, Some, None, is_some, refl, sym}
 use Rattle.std.specs.List.{list_any}
 use Rattle.std.specs.Map.{lookup}

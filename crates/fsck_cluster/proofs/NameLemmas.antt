@@ -1,4 +1,4 @@
--- A name that is put into a set of names, or found there, has the number of its index.
+-- A name that is put into a set of names, or found there, has its index plus 1 as its number.
 use Rattle.std.proofs.Common.{◌≡◌, ℕ, suc, ◌+◌, Bool, true, false, not, cond, List, [], ◌∷◌, ◌++◌, ◌||◌, map, length, nat_lt, Some, None, position, String, string_bytes, refl, sym, ap, ◌∙◌}
 use Rattle.std.specs.List.{list_any, position_or_len}
 use Rattle.std.specs.Str.{bytes_eq}

@@ -1,5 +1,4 @@
--- Reading the items of a list one after another gives the replicas of the whole list, or the fault
--- of the first wrong item.
+-- Reading a list item by item gives all its replicas, or the fault of the first wrong item.
 use Rattle.std.proofs.Common.{◌≡◌, ◌≢◌, ℕ, ◌+◌, ◌<◌, ◌≤◌, Bool, true, false, List, [], ◌∷◌, ◌++◌, Option, Some, None, Result, Ok, Err, option_map, MatchOption, suc, zero, length, get_or, take, drop, arith, append_assoc, is_ok, true≢false, append-nil, refl, sym, ap, subst, IfSome, ◌∙◌, inl, inr, ◌==◌, ◌&&◌, if◌then◌else◌}
 use Rattle.std.proofs.lemmas.Bool.{eq-eqb}
 use Rattle.std.proofs.lemmas.Bool.Decides.{eqb_tells}

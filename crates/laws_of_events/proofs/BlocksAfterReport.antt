@@ -1,5 +1,4 @@
--- After a full report, a query for the storage's blocks answers exactly the numbers of the report,
--- ascending.
+-- After a full report, a query for the storage's blocks lists exactly those it names, ascending.
 use Rattle.std.proofs.Common.{◌≡◌, ℕ, Bool, true, false, cond, ◌&&◌, ◌||◌, Option, Some, is_some, List, [], ◌∷◌, map, filter, refl, sym, ap, subst, ◌∙◌, T, is_lt, eqb-true}
 use Rattle.std.specs.Prelude.{◌==◌}
 use Rattle.std.specs.Ordering.{eq_by_cmp, nat_cmp}

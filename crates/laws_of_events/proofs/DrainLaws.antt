@@ -1,5 +1,4 @@
--- Only events on nodes change which nodes drain; a drain also drops the pending transfers to the
--- node.
+-- Only registration, death, drain and undrain change which nodes drain; drains end transfers there.
 use Rattle.std.proofs.Common.{◌≡◌, ◌≢◌, ℕ, Bool, true, false, cond, Option, Some, None, is_some, refl, sym, ap, ◌∙◌}
 use Rattle.std.specs.Prelude.{if◌then◌else◌}
 use Rattle.std.specs.Ordering.{eq_by_cmp, nat_cmp}

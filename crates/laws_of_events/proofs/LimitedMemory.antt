@@ -1,5 +1,4 @@
--- With limited memory a refused call leaves the state as it is, and any other call is the
--- definition's step.
+-- With limited memory a refused call keeps the state, and any other is the definition's step.
 use Rattle.std.proofs.Common.{◌≡◌, Bool, true, false, if◌then◌else◌, refl, sym, ap, ◌∙◌, inl, inr}
 use Rattle.bm_base.specs.declared.call.Answer.{Answer}
 use Rattle.bm_base.specs.declared.call.Answer.TheVariants as answer

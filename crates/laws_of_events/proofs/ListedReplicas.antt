@@ -1,4 +1,4 @@
--- Queries list exactly the replicas and the blocks that the state has.
+-- Queries list exactly those replicas and blocks of the state that they ask for.
 use Rattle.std.proofs.Common.{◌≡◌, ℕ, ◌*◌, ◌≤◌, Bool, true, false, not, ◌&&◌, ◌||◌, Some, None, List, [], ◌∷◌, map, length, ◌⊎◌, inl, inr, refl, sym, ap, ◌∙◌, eqb-true, eq-eqb, arith}
 use Rattle.std.specs.Prelude.{◌==◌, nat_le, nat_lt, if◌then◌else◌, option_and_then}
 use Rattle.std.specs.List.{list_any}

@@ -1,5 +1,4 @@
--- A registered node is there, a dead node and a failed storage leave with their replicas, and the
--- last heartbeat counts.
+-- Registration adds a node, death and failure remove replicas, and a heartbeat's last value counts.
 use Rattle.std.proofs.Common.{◌≡◌, ℕ, Bool, true, false, cond, not, ◌||◌, Option, Some, None, List, [], ◌∷◌, ◌++◌, map, refl, ap, ◌∙◌, eqb-true, eq-eqb, ne_eqb}
 use Rattle.std.specs.Prelude.{◌==◌, if◌then◌else◌, option_map}
 use Rattle.std.specs.Option.{option_map_or}

@@ -1,5 +1,4 @@
--- A replica that is reported or received gets the marks that the law gives, by its stamp and by
--- whether it was bad.
+-- The marks of a reported or received replica follow from its stamp, its block and its old marks.
 use Rattle.std.proofs.Common.{◌≡◌, Bool, true, false, ◌&&◌, Option, Some, None, refl, sym, ap, ◌∙◌, eqb-true, eq-eqb}
 use Rattle.std.specs.Prelude.{◌==◌, if◌then◌else◌}
 use Rattle.std.specs.Option.{option_map_or}

@@ -1,4 +1,4 @@
--- A retired node may die: no block gets missing, and blocks keep their live replicas.
+-- A retired node may die: no further block is missing, and blocks keep their live replicas.
 use Rattle.std.proofs.Common.{◌≡◌, ℕ, ◌<◌, ◌≤◌, Bool, true, false, not, ◌&&◌, Option, Some, None, length, refl, sym, ap, ◌∙◌, arith, eqb-true, eq-eqb, true≢false}
 use Rattle.std.specs.Prelude.{◌==◌, nat_le}
 use Rattle.std.specs.Option.{option_map_or}

@@ -1,4 +1,4 @@
--- A query leaves the state as it is, an accepted event is counted, and a round is the next round.
+-- Queries keep the state, accepted events are counted, and rounds keep all replicas and tags.
 use Rattle.std.proofs.Common.{◌≡◌, ℕ, true, false, Option, Some, None, List, refl, ap, ◌∙◌}
 use Rattle.std.specs.Prelude.{if◌then◌else◌, option_map}
 use Rattle.bm_base.specs.declared.replica.ReplicaId.{ReplicaId}

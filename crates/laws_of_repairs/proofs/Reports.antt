@@ -1,4 +1,4 @@
--- A report of a DataNode keeps the levels of blocks that it does not name.
+-- A heartbeat, or a notice of a copy or delete, keeps the levels of blocks that it does not name.
 use Rattle.std.specs.Prelude.{◌≡◌, ℕ, true, not, ◌==◌}
 use Rattle.std.proofs.Common.{refl, sym, ap, ◌∙◌}
 use Rattle.std.proofs.lemmas.Bool.{false≢true, true≢false, not-true}

@@ -1,5 +1,4 @@
--- A list that has all blocks with a level still has them after heartbeats, reports of listed blocks
--- and rounds.
+-- Heartbeats, rounds and notices of listed blocks give no unlisted block a level.
 use Rattle.std.specs.Prelude.{◌≡◌, ℕ, ◌+◌, ◌≤◌, Bool, true, false, not, ◌&&◌, ◌||◌, ◌==◌, nat_eq, List, [], ◌∷◌, ◌++◌, filter, length, Option, Some, None, is_some}
 use Rattle.std.specs.List.{dedup}
 use Rattle.std.specs.List.Sorted.{IsPermutation}
@@ -79,7 +78,7 @@ count_as_all M bs urgency once covers =
 pub covers_sorted : (M : State) (xs ys : List ℕ) → IsPermutation xs ys → Covers M xs → Covers M (dedup nat_eq ys)
 covers_sorted M xs ys same covers b none = covers b (list_any-IsPermutation (λ x. x == b) xs ys same ∙ sym (has_once ys b) ∙ none)
 
--- those with a level among them
+-- those of them with a level
 pub covers_leveled : (M : State) (xs : List ℕ) → Covers M xs → Covers M (filter (has_level M) xs)
 covers_leveled M xs covers b none = by_test (has_level M b) refl
   where
@@ -87,7 +86,7 @@ covers_leveled M xs covers b none = by_test (has_level M b) refl
     by_test true e = covers b (ap (λ t. t && has xs b) (sym e) ∙ sym (has_filter (has_level M) xs b) ∙ none)
     by_test false e = not_there (level M.cluster M.holdings b) e
 
--- are all of them, and no others
+-- the listed blocks with a level are all blocks with a level
 pub leveled_all : (M : State) (xs : List ℕ) → Covers M xs → (b : ℕ) → has (filter (has_level M) xs) b ≡ has_level M b
 leveled_all M xs covers b = has_filter (has_level M) xs b ∙ by_test (has xs b) refl
   where

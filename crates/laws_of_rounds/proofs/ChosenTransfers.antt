@@ -1,4 +1,4 @@
--- Each transfer keeps the rules of choice when it is chosen, after those chosen before it.
+-- Each transfer follows the rules of choice, given the transfers chosen before it.
 use Rattle.std.specs.Prelude.{◌≡◌, ℕ, zero, suc, ◌*◌, ◌<◌, Bool, true, false, nat_lt, nat_le, if◌then◌else◌, List, [], ◌∷◌, ◌++◌, filter, flat_map, length, replicate, Option, Some, None, is_some, option_map, option_and_then, option_to_list}
 use Rattle.std.specs.Option.{option_map_or}
 use Rattle.std.specs.declared.cmp.Ordering.{Ordering}

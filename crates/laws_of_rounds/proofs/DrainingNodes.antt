@@ -1,5 +1,4 @@
--- A round copies from draining nodes first, puts nothing on them, and keeps their replicas as they
--- are.
+-- A round copies from draining nodes first, never to them, and keeps their usable replicas.
 use Rattle.std.specs.Prelude.{◌≡◌, ℕ, ◌≤◌, ◌⊎◌, Bool, true, false, ◌&&◌, ◌==◌, nat_lt, if◌then◌else◌, List, ◌∷◌, ◌++◌, map, filter, length, count_by, Some}
 use Rattle.std.specs.Option.{option_map_or}
 use Rattle.std.specs.Ordering.{nat_cmp, ordering_then}

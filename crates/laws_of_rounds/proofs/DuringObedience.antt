@@ -1,5 +1,4 @@
--- While the nodes obey a round, a replica that no command touches stays usable, and each copy that
--- arrives is usable.
+-- While nodes obey a round, usable replicas that no command takes stay usable, and live ones live.
 use Rattle.std.specs.Prelude.{◌≡◌, ℕ, Bool, true, false, not, ◌&&◌, ◌==◌, if◌then◌else◌, List, [], ◌∷◌, Option, Some, None, is_some, option_map}
 use Rattle.std.specs.Option.{option_map_or}
 use Rattle.std.specs.Ordering.{eq_by_cmp}

@@ -1,5 +1,4 @@
--- Once a round is obeyed, a block has its live replicas after the round and one more for each
--- commanded copy.
+-- Once a round is obeyed, a block has gained one live replica for each commanded copy of it.
 use Rattle.std.specs.Prelude.{◌≡◌, ℕ, ◌+◌, ◌≤◌, ◌⊎◌, Bool, true, false, not, ◌&&◌, ◌||◌, ◌==◌, List, [], ◌∷◌, ◌++◌, map, filter, length, Option, Some, None}
 use Rattle.std.specs.Option.{option_map_or}
 use Rattle.std.specs.Ordering.{eq_by_cmp}

@@ -1,5 +1,4 @@
--- Once a round is obeyed, the live replicas are those that were live and the targets of the copies,
--- each on its own node.
+-- While nodes obey a round, the target of each copy that has arrived is live.
 use Rattle.std.specs.Prelude.{◌≡◌, true, false, ◌==◌, List, [], ◌∷◌, ◌++◌, Option, Some, None, is_some}
 use Rattle.std.specs.Option.{option_map_or}
 use Rattle.std.proofs.Common.{refl, sym, ap, subst, ◌∙◌}

@@ -1,5 +1,4 @@
--- A block is badly distributed exactly if enough replicas are live, at least two, all on one of
--- several racks.
+-- Badly distributed means 2 or more wanted, enough live, and all of them on one of several racks.
 use Rattle.std.specs.Prelude.{◌≡◌, ℕ, ◌≤◌, ◌↔◌, Bool, true, false, ◌||◌, ◌&&◌, ◌*◌, ◌==◌, nat_lt, nat_le, List, [], ◌∷◌, map, filter_map, length, Option, Some, None, is_some, option_map, option_and_then}
 use Rattle.std.specs.Option.{option_map_or}
 use Rattle.std.proofs.Common.{cond, refl, sym, ap, ◌∙◌, arith}

@@ -1,5 +1,4 @@
--- Each chosen transfer keeps the laws of transfers: a usable source, an allowed target, and the
--- limits of node and round.
+-- Each chosen transfer has a usable source and an allowed target, within node and round limits.
 use Rattle.std.specs.Prelude.{◌≡◌, ℕ, ◌+◌, ◌*◌, ◌≤◌, ◌<◌, ◌⊎◌, Bool, true, false, not, ◌&&◌, ◌||◌, ◌==◌, nat_le, if◌then◌else◌, List, [], ◌∷◌, ◌++◌, map, filter, flat_map, length, count_by, sum_by, Option, Some, None, is_some, option_map}
 use Rattle.std.specs.Option.{option_map_or}
 use Rattle.std.specs.List.{list_any, All}

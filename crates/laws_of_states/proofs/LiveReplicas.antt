@@ -1,5 +1,4 @@
--- A storage is among the live or drained replicas of a block exactly if its replica is usable and
--- its node drains or not.
+-- A usable replica is drained if its node drains, and live if not; no other replica is either.
 use Rattle.std.specs.Prelude.{◌≡◌, ℕ, ◌↔◌, Bool, true, false, not, ◌&&◌, Option, Some, None}
 use Rattle.std.specs.Option.{option_map_or}
 use Rattle.std.proofs.Common.{refl, sym, ap, ◌∙◌}

@@ -1,5 +1,4 @@
--- Once a round has marked, the live replicas of a block are the earlier ones less its surplus, and
--- commands change none of them.
+-- Marking takes a block's surplus from its live replicas, and commands change none of the rest.
 use Rattle.std.specs.Prelude.{◌≡◌, ℕ, ◌+◌, ◌-◌, Bool, true, false, not, ◌&&◌, ◌==◌, if◌then◌else◌, List, [], ◌∷◌, map, filter, length, Some}
 use Rattle.std.specs.Option.{option_map_or}
 use Rattle.std.proofs.Common.{cond, refl, sym, ap, subst, ◌∙◌, arith}
