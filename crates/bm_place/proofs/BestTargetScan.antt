@@ -1,4 +1,4 @@
--- A scan of the best targets finds what a scan of all finds.
+-- A scan of the nodes' best targets finds the least eligible target among all storages.
 use Rattle.std.specs.Prelude.{option_map, nat_le, ◌||◌}
 use Rattle.std.specs.Ordering.{is_lt, nat_cmp, ordering_then, ordering_reverse}
 use Rattle.std.specs.FinMap.{nat_cmp-IsAntisymmetric}
@@ -51,7 +51,8 @@ module _ (R : ℕ → ℕ → Ordering) (total : IsTotalOrder R) (exact : (x y :
       let above = ranked.chain y w.0 x w.3 (h.2 w.0 w.1 w.2) in
       ap Some (exact x y (no_less_both (R x y) (R y x) (g.2 x (of x h.1) h.0) above (total.antisymm x y)))
 
--- What stands for a target is eligible if the target is, and the target does not come before it.
+-- A target alike, with no fewer free bytes, is eligible if the other is; and the other, if not
+-- better, does not come before it.
 
 fits_of : (a b c d : Bool) → ((a && b && c) && d) ≡ true → b ≡ true
 fits_of true true c d e = refl
@@ -153,7 +154,7 @@ module _ (C : Cluster) (sent : ℕ → ℕ) (urgency : Level) (holders excluded 
     storage_again None = refl
     storage_again (Some s) = refl
 
-    -- the result of the scan of all is the target
+    -- a scan of all best targets finds the storage that the definition chooses
     pub target_found : (w : ReplicaSpread) (best : Option TargetRow) → w ≡ replica_spread_of C holders → scan (cmp_targets w) (is_available C w urgency excluded len) None cs ≡ best
         → option_map (λ (t : TargetRow). t.storage) best ≡ least_target_by C sent urgency holders excluded len
     target_found w best stands inv =

@@ -1,4 +1,4 @@
--- The best targets of the nodes suffice in place of all targets.
+-- Inserting targets one by one into a table by node leaves a best target of each node in it.
 use Rattle.std.specs.Prelude.{◌⊎◌}
 use Rattle.std.specs.Ordering.{eq_by_cmp, nat_cmp}
 use Rattle.std.specs.Option.{option_map_or}

@@ -1,4 +1,4 @@
--- A scan that keeps the least so far ends at the least.
+-- In a total order, a scan that keeps the least so far ends at the least element that passes.
 use Rattle.std.proofs.Common.{◌≡◌, Bool, true, false, cond, ◌&&◌, List, [], ◌∷◌, filter, Option, Some, None, refl, sym, ap, ◌∙◌}
 use Rattle.std.specs.declared.cmp.Ordering.{Ordering}
 use Rattle.std.specs.Ordering.{is_lt}

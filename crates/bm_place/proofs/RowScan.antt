@@ -1,4 +1,4 @@
--- A scan over rows that are made of numbers ends at the row of the least number.
+-- If rows compare and pass as their numbers do, a scan ends at the row of the least that passes.
 use Rattle.std.specs.Prelude.{option_map}
 use Rattle.std.proofs.Common.{◌≡◌, Bool, true, false, cond, ◌&&◌, List, [], ◌∷◌, map, filter, Option, Some, None, refl, ap, ◌∙◌}
 use Rattle.std.specs.declared.cmp.Ordering.{Ordering}

@@ -1,4 +1,4 @@
--- A scan that starts at a target ends at one that comes before all that pass.
+-- A scan from a target ends at one that neither the start nor any passing target is better than.
 use Rattle.std.specs.Prelude.{◌⊎◌}
 use Rattle.std.specs.List.{cons_option}
 use Rattle.std.proofs.Common.{◌≡◌, Bool, true, false, cond, ◌&&◌, List, [], ◌∷◌, Option, Some, None, refl, inl, inr, sym, ap, subst, ◌∙◌}

@@ -1,5 +1,4 @@
--- One pass over sorted storages finds the excess: first each one whose rack holds another at that
--- moment, then those that are kept.
+-- One pass over sorted storages finds the excess: those that still share a rack, then the kept.
 use Rattle.std.specs.Prelude.{option_map, slice_get}
 use Rattle.std.specs.Option.{option_map_or}
 use Rattle.std.specs.List.Sorted.{IsSorted}

@@ -1,4 +1,4 @@
--- The scan of the sources ends at the least one, and what that implies.
+-- A scan finds the least source that may send: a draining one if one sends fewer than four.
 use Rattle.std.specs.Prelude.{option_map, nat_lt}
 use Rattle.std.specs.Ordering.{is_lt, nat_cmp, ordering_then}
 use Rattle.std.proofs.Common.{◌≡◌, ℕ, ◌≤◌, ◌<◌, Bool, true, false, List, map, drop, filter, length, Option, Some, None, refl, sym, ap, ◌∙◌, true≢false}

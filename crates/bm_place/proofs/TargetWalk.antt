@@ -1,4 +1,4 @@
--- A walk along the sorted best targets may end before the last of them.
+-- A walk along sorted targets may stop at too few free bytes, or at a fit of the better class.
 use Rattle.std.specs.Prelude.{slice_get, nat_le}
 use Rattle.std.specs.Option.{IfSome}
 use Rattle.std.specs.Ordering.{is_lt, nat_cmp, ordering_then}

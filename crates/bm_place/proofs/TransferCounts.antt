@@ -1,5 +1,4 @@
--- The tables of sources and targets have the counts of each storage, and one more transfer keeps
--- them right.
+-- Adding a transfer to the tables of sources and targets gives the tables of all chosen ones.
 use Rattle.std.specs.Prelude.{unwrap_or, option_map, if◌then◌else◌}
 use Rattle.std.proofs.Common.{◌≡◌, ◌<◌, ◌≤◌, nat_lt, subst, ℕ, ◌+◌, Bool, true, false, cond, ◌||◌, List, [], ◌∷◌, ◌++◌, map, count_by, Option, Some, None, is_some, refl, sym, ap, ◌∙◌, ◌==◌, arith}
 use Rattle.std.specs.Ordering.{eq_by_cmp, nat_cmp}

@@ -1,4 +1,4 @@
--- One more transfer keeps the invariant of a table of storages and its best targets.
+-- Scheduling bytes that fit keeps the invariant of a table of storages and its best targets.
 use Rattle.std.specs.Prelude.{◌⊎◌, ◌+◌, ◌==◌, option_map, filter_map, position, slice_get}
 use Rattle.std.specs.Option.{IfSome}
 use Rattle.std.specs.Ordering.{eq_by_cmp, nat_cmp}

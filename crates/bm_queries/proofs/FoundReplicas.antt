@@ -1,4 +1,4 @@
--- The replicas found at the slots of an arena are exactly those of its map, each once.
+-- The passing replicas at an arena's slots, once sorted, are those of its map, each once.
 use Rattle.std.proofs.Common.{◌≡◌, ◌≢◌, ℕ, Bool, true, false, cond, ◌&&◌, ◌||◌, List, [], ◌∷◌, ◌++◌, map, filter, Some, refl, sym, ap, subst, inl, inr, ◌∙◌, eqb-true, eq-eqb}
 use Rattle.std.specs.Prelude.{◌==◌, option_and_then}
 use Rattle.std.specs.Ordering.{eq_by_cmp}

@@ -1,5 +1,4 @@
--- The known blocks found at the slots of an arena are, once sorted, those of its map, each with its
--- slot.
+-- The known blocks at an arena's slots, once sorted, are those of its map, with their slots.
 use Rattle.std.proofs.Common.{◌≡◌, ◌≢◌, ℕ, Bool, true, false, cond, ◌&&◌, List, [], ◌∷◌, ◌++◌, map, filter, Option, Some, is_some, refl, sym, ap, subst, inl, inr, ◌∙◌, append_assoc, T, ◌+◌, ◌<◌, ◌≤◌, take, length, suc, arith}
 use Rattle.std.specs.Prelude.{option_and_then, slice_index_or}
 use Rattle.std.specs.Option.{unwrap_or}

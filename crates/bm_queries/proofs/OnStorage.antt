@@ -1,4 +1,4 @@
--- The blocks of a storage's list, and those of a level, are those of the query's definition.
+-- Once sorted, a storage's listed blocks, and the missing blocks, are those of the definition.
 use Rattle.std.proofs.Common.{◌≡◌, ℕ, Bool, true, false, ◌&&◌, List, map, filter, Option, Some, None, is_some, refl, sym, ap, subst, ◌∙◌, eqb-true}
 use Rattle.std.specs.Prelude.{◌==◌, ◌↔◌, option_and_then}
 use Rattle.std.specs.Ordering.{nat_cmp, eq_by_cmp}

@@ -1,5 +1,4 @@
--- Iteration over a list of slots keeps its remaining slots while slots that it has passed are
--- removed or moved to the front.
+-- Removing a slot that an iteration over a list has passed keeps the iteration's remaining slots.
 use Rattle.std.proofs.Common.{◌≡◌, ◌≢◌, ℕ, eqb, List, [], ◌∷◌, Option, Some, None, inl, inr, subst, sym, ap, ◌∙◌, refl}
 use Rattle.std.specs.Option.{IfSome}
 use Rattle.std.proofs.lemmas.Bool.{cases_Bool, eq-eqb, ne_eqb, eqb-true, eqb-false}

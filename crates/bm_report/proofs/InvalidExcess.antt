@@ -1,4 +1,4 @@
--- Lost excess is dropped, one block after another.
+-- Dropping invalid excess marks one block after another drops those of all named blocks.
 use Rattle.std.proofs.Common.{◌≡◌, ℕ, Bool, true, false, not, ◌&&◌, List, [], ◌∷◌, ◌++◌, Option, Some, None, refl, inl, inr, sym, ap, ◌∙◌}
 use Rattle.std.specs.Option.{option_map_or, option_and_then}
 use Rattle.std.specs.Map.{lookup}

@@ -1,5 +1,4 @@
--- After a full report a node still has at most one replica of a block, and only good replicas are
--- in excess.
+-- A full report keeps nodes at one replica of a block at most, and only good ones in excess.
 use Rattle.std.proofs.Common.{◌≡◌, ℕ, Bool, true, false, cond, ◌&&◌, List, [], ◌∷◌, map, Option, Some, None, is_some, IsSome, IsTrue, refl, subst, inl, inr, sym, ap, ◌∙◌, eqb, eqb-true}
 use Rattle.std.specs.Prelude.{◌==◌}
 use Rattle.std.specs.Option.{option_map}

@@ -1,4 +1,4 @@
--- Entering the blocks of named numbers lists only their slots.
+-- A pushed slot is the only new one in a list; a named entry's slot is that of a reported number.
 use Rattle.std.proofs.Common.{◌≡◌, ◌⊎◌, ℕ, zero, suc, List, [], ◌∷◌, ◌++◌, map, Some, inl, inr, subst, sym, ap, ◌∙◌}
 use Rattle.std.specs.Prelude.{slice_get}
 use Rattle.std.proofs.lemmas.Option.{none-some, same_Some}

@@ -1,4 +1,4 @@
--- Entering blocks keeps at most one replica of a block on a node, and keeps good excess good.
+-- Entering replicas keeps one per block and node at most, and good excess if theirs is good.
 use Rattle.std.proofs.Common.{◌≡◌, ℕ, Bool, true, false, cond, not, ◌&&◌, List, [], ◌∷◌, Option, Some, None, is_some, IsSome, refl, sym, ap, ◌∙◌, eq-eqb, inl, inr}
 use Rattle.std.specs.Option.{option_and_then}
 use Rattle.std.proofs.lemmas.Bool.{cases_Bool, false≢true}

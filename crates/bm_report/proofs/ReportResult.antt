@@ -1,4 +1,4 @@
--- Entering, sweeping and dropping lost excess gives the report of the definition.
+-- Entering named blocks, sweeping others and dropping invalid excess gives a report's replicas.
 use Rattle.std.proofs.Common.{◌≡◌, ℕ, Bool, true, false, cond, not, ◌&&◌, ◌||◌, List, [], ◌∷◌, map, Option, Some, None, is_some, IsSome, refl, inl, inr, sym, ap, ◌∙◌, eqb-true, eqb}
 use Rattle.std.specs.Prelude.{◌==◌, if◌then◌else◌}
 use Rattle.std.specs.List.{list_any}
@@ -278,7 +278,7 @@ module _ (C : Cluster) (H : Holdings) (s : ℕ) where
   unfolding entered_marks entered_tag was_bad was_excess
   entered_without_lost_excess q st = refl
 
-  -- both are the same
+  -- the phases give the replicas of the report of the definition
   pub reported : (ns : List ReportedSlot) (bs : List ℕ)
       → ((b : ℕ) → is_some (last_stamp ns b) ≡ true → list_any (λ k. k == b) bs ≡ false)
       → ((b : ℕ) → is_some (last_stamp ns b) ≡ false → IsSome (get H.replicas (replica_at b s)) → list_any (λ k. k == b) bs ≡ true)

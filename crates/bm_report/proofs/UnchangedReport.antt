@@ -1,4 +1,4 @@
--- An unchanged report changes no block.
+-- If reported replicas are there already, unchanged, they are so at slots whose blocks stay.
 use Rattle.std.proofs.Common.{false, ◌≡◌, ◌≢◌, ℕ, List, [], ◌∷◌, ◌++◌, map, Option, Some, subst, sym, ap, ◌∙◌, slice_get, zero, suc}
 use Rattle.std.specs.Option.{option_and_then, option_map_or}
 use Rattle.bm_base.specs.declared.replica.BlockInfo.{BlockInfo}

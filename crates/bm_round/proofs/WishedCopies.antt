@@ -1,4 +1,4 @@
--- Each transfer is a copy that a wish asks for.
+-- Each chosen transfer copies a wish's block, with its stamp, from one of the wish's sources.
 use Rattle.std.proofs.Common.{◌≡◌, ℕ, zero, suc, Bool, true, false, cond, List, [], ◌∷◌, ◌++◌, filter, replicate, length, Option, Some, None, is_some, refl, ap, subst}
 use Rattle.std.specs.Prelude.{◌==◌, ◌*◌, ◌||◌, nat_le, nat_lt, option_to_list, option_and_then, option_map}
 use Rattle.std.specs.List.{All, Contains}

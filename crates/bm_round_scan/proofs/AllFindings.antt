@@ -1,4 +1,4 @@
--- The findings of the scanned blocks are all findings.
+-- The scanned blocks' findings, sorted, are the round's part, with the wishes before the bound.
 use Rattle.std.specs.Prelude.{◌≡◌, ◌≢◌, ℕ, Bool, true, false, nat_lt, if◌then◌else◌, List, [], ◌∷◌, map, Option, Some, None, IsSome, is_some, IsTrue, option_and_then}
 use Rattle.std.specs.List.Sorted.{IsPermutation}
 use Rattle.std.proofs.Common.{◌⊎◌, inl, inr, refl, sym, ap, subst, ◌∙◌}

@@ -1,4 +1,4 @@
--- Excess, wishes and deletes of one block belong to the block.
+-- A block's lists of excess, wishes and deletes hold exactly the block's own elements, each once.
 use Rattle.std.specs.Prelude.{◌≡◌, ℕ, Bool, true, false, ◌&&◌, ◌==◌, ◌||◌, if◌then◌else◌, List, [], ◌∷◌, map, filter, Option, Some, None, option_map, option_and_then, option_to_list, IsSome, is_some, T}
 use Rattle.std.specs.declared.cmp.Ordering.{Ordering}
 use Rattle.std.specs.Ordering.{eq_by_cmp}

@@ -1,4 +1,4 @@
--- If no block has pending transfers, the map of transfers is empty.
+-- If no block is listed with pending transfers, no transfer of any block stays pending.
 use Rattle.std.specs.Prelude.{◌≡◌, ℕ, true, [], length, not, ◌==◌, filter, map, Option, Some, None, IsSome, is_some}
 use Rattle.std.proofs.Common.{refl, sym, ap, ◌∙◌}
 use Rattle.std.proofs.lemmas.Bool.{false≢true}

@@ -1,4 +1,4 @@
--- The passing slots of a list are those of its first part, and then those of its rest.
+-- The slots of a list that pass are those of its first part that pass, then those of its rest.
 use Rattle.std.specs.Prelude.{◌≡◌, Bool, List, ◌++◌, map, filter}
 use Rattle.std.proofs.Common.{sym, ap, ◌∙◌}
 use Rattle.std.proofs.lemmas.List.{map-append}

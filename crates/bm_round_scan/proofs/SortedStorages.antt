@@ -1,4 +1,4 @@
--- The storages at a slot, sorted, are those of its block's replicas.
+-- The storages at a slot whose replicas pass, once sorted, are those that pass of its block.
 use Rattle.std.specs.Prelude.{◌≡◌, ℕ, Bool, true, false, Some, ◌&&◌, ◌==◌, List, [], ◌∷◌, map, filter, T}
 use Rattle.std.specs.Ordering.{nat_cmp, eq_by_cmp, is_lt}
 use Rattle.std.specs.declared.cmp.Ordering.{Ordering}

@@ -1,5 +1,4 @@
--- Deletes that are sorted by block, and then by storage with a stable sort, are sorted by storage
--- and block.
+-- Deletes sorted by block, then stably sorted by storage, are sorted by storage and block.
 use Rattle.std.specs.Prelude.{◌≡◌, ◌≤◌, ℕ, false, List}
 use Rattle.std.specs.declared.cmp.Ordering.{Ordering}
 use Rattle.std.specs.declared.cmp.Ordering.TheVariants.{Less, Equal, Greater}

@@ -1,4 +1,4 @@
--- The empty holdings have no block and no replica on any storage.
+-- Holdings without replicas meet the laws that a cluster sets for replicas.
 use Rattle.std.proofs.Common.{◌≡◌, Option, Some, None, sym, ap, subst, ◌∙◌}
 use Rattle.std.specs.Prelude.{IsSome}
 use Rattle.std.proofs.lemmas.Bool.{false≢true}

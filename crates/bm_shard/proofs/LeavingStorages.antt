@@ -1,4 +1,4 @@
--- A storage with a list has a head; and an event of another shard removes no storage.
+-- A storage without a head is not in the list of heads; and events on blocks remove no storage.
 use Rattle.std.proofs.Common.{◌≡◌, ℕ, Bool, true, false, cond, List, [], ◌∷◌, map, Some, refl, inl, inr, sym, ◌∙◌}
 use Rattle.std.specs.Prelude.{nat_eq, IsSome, ◌==◌}
 use Rattle.std.specs.Map.{lookup}

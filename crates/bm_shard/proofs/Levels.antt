@@ -1,4 +1,4 @@
--- The levels by number are those stored by slot.
+-- A number's level is that of its slot, so levels are right by number exactly if right by slot.
 use Rattle.std.proofs.Common.{◌≡◌, ℕ, Bool, true, false, cond, List, [], ◌∷◌, Option, Some, None, refl, inl, inr, sym, ap, ◌∙◌}
 use Rattle.std.specs.Prelude.{◌==◌, nat_eq}
 use Rattle.std.specs.Option.{option_map_or, option_and_then}

@@ -1,4 +1,4 @@
--- A new node leaves the replicas on their storages.
+-- Registering a node keeps the rack and the draining state of each storage with a replica.
 use Rattle.std.proofs.Common.{◌≡◌, ℕ, None, List, is_some, ap, ◌∙◌}
 use Rattle.std.specs.Prelude.{IsSome, option_map, option_and_then}
 use Rattle.bm_base.specs.declared.event.Event.TheVariants.{Register}

@@ -1,4 +1,4 @@
--- A removed replica counts one, if it existed.
+-- Removing a replica from a map counts as one removed replica if it was there, else as none.
 use Rattle.std.proofs.Common.{◌≡◌, ◌+◌, ◌-◌, Bool, true, false, cond, Option, Some, None, is_some, refl, sym, ap, ◌∙◌, arith}
 use Rattle.std.specs.Ordering.{eq_by_cmp}
 use Rattle.bm_base.specs.declared.replica.Marks.{Marks}

@@ -1,4 +1,4 @@
--- If the blocks and replicas stay, so does all that is seen but capacity.
+-- If blocks, replicas and right levels stay, the view of a shard changes only in capacity.
 use Rattle.std.proofs.Common.{◌≡◌, ℕ, sym, ap, subst, ◌∙◌}
 use Rattle.bm_base.specs.declared.ids.Part.{Part}
 use Rattle.bm_base.specs.Words.{Map, get, Cluster, by_replica, level}

@@ -1,4 +1,4 @@
--- A heartbeat touches no shard.
+-- A heartbeat that is not refused changes no holdings and keeps all shards up to date.
 use Rattle.std.specs.Prelude.{◌≡◌, ℕ, None, List, [], ◌∷◌}
 use Rattle.std.proofs.Common.{sym, ap, subst, ◌∙◌}
 use Rattle.bm_base.specs.declared.event.Event.{Event}

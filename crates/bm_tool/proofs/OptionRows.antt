@@ -1,4 +1,4 @@
--- The text found for an option is the one that the words give, and otherwise its default.
+-- An option's number is that of its given text, or else of its default, if its name is unique.
 use Rattle.std.proofs.Common.{◌≡◌, ◌∙◌, ap, Bool, true, false, List, [], ◌∷◌, ◌++◌, fold, Option, Some, None, refl, sym}
 use Rattle.std.specs.Prelude.{find, slice_get}
 use Rattle.std.specs.List.{list_any}

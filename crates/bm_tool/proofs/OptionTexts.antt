@@ -1,4 +1,4 @@
--- An option with a standard value has a text after a parse, which passed the option's parser.
+-- Without groups and globals, a parsed option with a default has a text that its parser accepts.
 use Rattle.std.proofs.Common.{zero, suc, ◌≡◌, ◌∙◌, ◌<◌, ◌≤◌, ap, ℕ, true, false, List, [], ◌∷◌, length, Some, None, refl, sym, subst, inl, inr, arith}
 use Rattle.std.specs.List.{All, slice_index_or}
 use Rattle.std.specs.Str.{bytes_eq}

@@ -1,4 +1,4 @@
--- A heartbeat that names storages of its node alone names none that is not known.
+-- A heartbeat of a known node that names only the node's own storages is not refused.
 use Rattle.std.specs.Prelude.{◌≡◌, ℕ, false, not, ◌||◌, ◌==◌, List, [], ◌∷◌, Option, Some, None, is_some, option_map}
 use Rattle.std.specs.Option.{option_map_or}
 use Rattle.std.specs.List.{list_any}

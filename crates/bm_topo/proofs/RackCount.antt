@@ -1,4 +1,4 @@
--- The counted racks are those with nodes: their number is that of different racks.
+-- The table of racks with node counts has one entry for each different rack of the nodes.
 use Rattle.std.proofs.Common.{◌≡◌, ℕ, zero, suc, ◌+◌, Bool, true, false, cond, ◌||◌, List, [], ◌∷◌, length, map, count_by, Option, Some, None, is_some, refl, sym, ap, ◌∙◌, arith}
 use Rattle.std.specs.Prelude.{◌==◌, nat_lt}
 use Rattle.std.specs.Ordering.{nat_cmp, eq_by_cmp}
@@ -34,7 +34,7 @@ there_either : {X Y : Type 0} (b : Bool) (x : X) (y : Y) (v : Option X) (w : Opt
 there_either true x y v w e = refl
 there_either false x y v w e = e
 
--- how many keys there are does not hang on the values
+-- the number of keys does not depend on the values
 len-listed : (f : ℕ → ℕ) (xs : List ℕ) (m : Map by_number ℕ) (u : Map by_number (Unit {0})) → len m ≡ len u → ((q : ℕ) → contains_key m q ≡ contains_key u q)
     → len (insert_all m (listed f xs)) ≡ len (insert_all u (marked xs))
 len-listed f [] m u e h = e

@@ -1,4 +1,4 @@
--- The tables stay sound.
+-- A cluster's tables stay sound as nodes join, drain and leave, and as storages leave or report.
 use Rattle.std.proofs.Common.{◌≡◌, ℕ, ◌+◌, ◌<◌, ◌≤◌, ◌^◌, Bool, true, false, cond, List, [], ◌∷◌, length, Option, Some, None, refl, sym, ap, subst, ◌∙◌, ◌≢◌, true≢false, arith}
 use Rattle.std.specs.Prelude.{◌==◌, not, option_and_then, option_map, is_some}
 use Rattle.std.specs.Option.{option_map_or}
@@ -57,7 +57,7 @@ sound-empty nodes racks draining storages n r d s =
       lawful = empty_lawful;
     })
 
--- where the storages alone change
+-- if only the storages change
 sound-storages : (nodes racks : Map by_number ℕ) (draining : Set by_number) (old new : Map by_number StorageInfo) → IsSound nodes racks draining old
     → (HasSmallKeys old → HasSmallKeys new) → IsLawfulCluster (cluster_of nodes draining new) → IsSound nodes racks draining new
 sound-storages nodes racks draining old new h small lawful = record {
@@ -73,7 +73,7 @@ sound-removed nodes racks draining old new k is h =
     sound-storages nodes racks draining old new h (λ small. subst (λ m. HasSmallKeys m) (sym is) (small_keys-remove old k small))
     (subst (λ m. IsLawfulCluster (cluster_of nodes draining m)) (sym is) (storage_failed (cluster_of nodes draining old) k h.lawful))
 
--- where a node's storages leave, and it drains no more
+-- if a node's storages leave, and it no longer drains
 pub sound-kept : (nodes racks : Map by_number ℕ) (draining left : Set by_number) (old new : Map by_number StorageInfo) (n : ℕ) → new ≡ keep old (λ _ i. not (i.node == n)) → left ≡ remove draining n
     → IsSound nodes racks draining old → IsSound nodes racks left new
 unfolding drains
@@ -118,7 +118,7 @@ sound-left nodes racks rest left draining storages n v there rest_is left_is bar
     true_false : false ≡ true → ⊥
     true_false e = cc
 
--- where a node begins to drain, and where one ceases to
+-- if a node begins to drain, and if one ceases to
 pub sound-drained : (nodes racks : Map by_number ℕ) (draining more : Set by_number) (storages : Map by_number StorageInfo) (n : ℕ) → contains_key nodes n ≡ true → more ≡ insert draining n tt
     → IsSound nodes racks draining storages → IsSound nodes racks more storages
 unfolding drain
@@ -161,7 +161,7 @@ registration_is_new C n rack ss h =
     let storages = ltb-false MAX_STORAGES (len C.storages + length ss) few.1 in
     record { absent = not_there _ first.0; few_nodes = omega (arith, nodes); few_storages = omega (arith, storages) }
 
--- where a node registers
+-- if a node registers
 pub sound-joined : (nodes racks more counts : Map by_number ℕ) (draining left : Set by_number) (storages all : Map by_number StorageInfo) (n v count : ℕ) (ss : List ℕ) → n < 2 ^ 32
     → first_of (cluster_checks (cluster_of nodes draining storages) (Register n v ss)) ≡ None → count ≡ on_rack nodes v → more ≡ insert nodes n v → counts ≡ insert racks v (count + 1)
     → left ≡ remove draining n → all ≡ insert_all storages (new_storages n ss) → (HasSmallKeys storages → HasSmallKeys all) → IsSound nodes racks draining storages → IsSound more counts left all

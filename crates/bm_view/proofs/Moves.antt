@@ -1,4 +1,4 @@
--- Each kind of step keeps the rule.
+-- Each step keeps what a slot saw a prefix of the current value, if new values extend old ones.
 use Rattle.std.proofs.Common.{◌≡◌, ◌≢◌, ℕ, List, [], ◌∷◌, ◌++◌, Option, Some, None, set, refl, sym, ◌∙◌, subst, ⊎_elim}
 use mathlib.Core.Option.{some}
 use lib.ListN.{get_elem?}

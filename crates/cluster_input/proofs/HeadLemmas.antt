@@ -1,4 +1,4 @@
--- The head of a text ends with the first line that is not blank, or is the whole text.
+-- A text's first bytes show its kind if one of them is not blank, or if they are the whole text.
 use Rattle.std.proofs.Common.{◌≡◌, ℕ, zero, suc, Bool, true, false, cond, not, ◌||◌, List, [], ◌∷◌, ◌++◌, drop, length, Option, Some, None, IfSome, refl, sym, ap, subst, ◌∙◌, append-nil}
 use Rattle.std.specs.List.{find, list_any}
 use Rattle.std.specs.Io.{StartsWith, appended_bytes}
@@ -24,7 +24,7 @@ any_of b = not (is_blank b)
 alike_here : (head rest : List ℕ) → list_any any_of head ≡ true → are_lines head ≡ are_lines (head ++ rest)
 alike_here head rest h = ap is_brace (sym (find_in any_of head rest h))
 
--- a name that an attribute can have
+-- no bytes were read so far
 pub none_read : (known : Option (List ℕ)) → Consumes known known []
 none_read = Consumes-nil
 

@@ -1,4 +1,4 @@
--- Calls that lead from state to state lead on if more calls are made.
+-- If accepted calls lead from a to b, and more from b to c, then all of them lead from a to c.
 use Rattle.std.proofs.Common.{◌≡◌, ◌<◌, ℕ, ◌+◌, suc, Bool, true, false, cond, List, [], ◌∷◌, ◌++◌, Some, None, map, filter, take, drop, length, get_or, option_to_list, slice_get, arith, refl, sym, ap, ◌∙◌, subst, append-nil}
 use Rattle.std.specs.List.{flat_map, list_any}
 use Rattle.std.proofs.Math.Seq.{take-suc}
@@ -50,7 +50,7 @@ none_only false text e = refl
 not_refused : (k : Call) (a : Answer) → refusal_text_of k a ≡ None → is_refused a ≡ false
 not_refused k a e = none_only (is_refused a) (answer_text k a) e
 
--- a call of which nothing is refusal_text
+-- one call, whose answer has no refusal text
 pub one_made : (k : Call) (M N : State) → N ≡ (step M k).1 → None ≡ refusal_text_of k (step M k).0 → Makes (k ∷ []) M N
 one_made k M N state refusal_text = record { state = state; accepted = rw (not_refused k (step M k).0 (sym refusal_text)) refl }
 

@@ -1,4 +1,4 @@
--- States that are alike have the same storages of each block, levels, counts and rows.
+-- Alike states without excess have the same storages of each block, levels, counts and rows.
 use Rattle.std.proofs.Common.{◌≡◌, ◌∙◌, ℕ, Bool, true, false, cond, not, ◌&&◌, List, [], ◌∷◌, refl, sym, ap, map, filter, length}
 use Rattle.std.specs.Prelude.{◌==◌, sum_by, option_and_then}
 use Rattle.std.specs.List.{list_any}
@@ -42,7 +42,7 @@ by_tag r = record { tag = r.tag; excess = false; ordered = false }
 abbrev excess_of : List Marked → List ReplicaId
 excess_of es = map (λ e. e.0) (filter (λ e. e.1.excess) es)
 
--- a test that asks for nothing but the tag, of what is not in excess
+-- a test that depends only on the tag of a replica that is not in excess
 abbrev AsksForTag : (ℕ → Marks → Bool) → Type 0
 AsksForTag p = (s : ℕ) (m : Marks) → m.excess ≡ false → p s m ≡ p s (record { tag = m.tag; excess = false; ordered = false })
 

@@ -1,4 +1,4 @@
--- Clusters with the same nodes and storages, seen one by one, are the same.
+-- Lawful clusters are equal if all nodes and storages are, with all that is seen of each.
 use Rattle.std.proofs.Common.{◌≡◌, ◌∙◌, ℕ, inl, inr, Bool, true, false, cond, ◌||◌, List, [], ◌∷◌, Option, Some, None, refl, sym, ap, map}
 use Rattle.std.specs.Prelude.{◌==◌, if◌then◌else◌, unwrap_or, option_map}
 use Rattle.std.specs.Option.{option_map_or}

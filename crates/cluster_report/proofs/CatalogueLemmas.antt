@@ -1,4 +1,4 @@
--- A catalogue holds the known blocks after each event.
+-- A catalogue that changes a block as an event does still lists exactly the known blocks.
 use Rattle.std.proofs.Common.{◌≡◌, ℕ, Bool, true, false, cond, ◌==◌, if◌then◌else◌, [], Option, Some, None, option_map, arith, refl, sym, ap, subst, ◌∙◌}
 use Rattle.std.specs.Prelude.{nat_eq}
 use Rattle.std.specs.Map.{lookup}

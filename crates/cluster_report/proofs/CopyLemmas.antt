@@ -1,4 +1,4 @@
--- After a round the book has the pending copies of the state.
+-- The pending copies after a round are the unexpired ones and those that its commands order.
 use Rattle.std.proofs.Common.{◌≡◌, ℕ, ◌+◌, ◌-◌, ◌<◌, Bool, true, false, cond, not, ◌&&◌, ◌||◌, Option, Some, List, [], ◌∷◌, ◌++◌, map, filter, length, take, get_or, refl, ap, sym, ◌∙◌, append-nil, arith}
 use Rattle.std.specs.Prelude.{nat_lt, nat_le}
 use Rattle.std.specs.Ordering.{eq_by_cmp}
@@ -64,7 +64,7 @@ module _ {K X : Type 0} {o : Order K} where
       same_map (insert_all m xs) (insert_all m ys) (λ q.
       get_insert_all m v xs q all_xs ∙ ap (λ b. cond b (Some v) (get m q)) (same (λ e. eq_by_cmp o.cmp q e.0)) ∙ sym (get_insert_all m v ys q all_ys))
 
--- ---- the commands of all nodes
+-- The commands of all nodes.
 
 or_second : (a b : Bool) → a ≡ false → (a || b) ≡ true → b ≡ true
 or_second true b e h = cc
