@@ -1,4 +1,4 @@
--- Entering numbers one after another, and then dropping their lost excess, does both for all.
+-- Entering numbers one after another, and then dropping their invalid excess, does both for all.
 use Rattle.std.proofs.Common.{◌≡◌, ℕ, ◌≤◌, List, [], ◌∷◌, ◌++◌, length, map, Option, Some, None, refl, subst, inl, inr, sym, ap, ◌∙◌, arith, length-append}
 use Rattle.std.proofs.Common.{Bool, true, false, ◌||◌, eqb}
 use Rattle.std.specs.Prelude.{nat_eq, ◌==◌, IsTrue, IsSomeAnd}
@@ -118,7 +118,7 @@ module _ (C : Cluster) (s : ℕ) (all : List ReportedBlock) (first : Contents) (
   pub left-last : (now : Contents) (u : ReportCounts) → IsLeft [] now u → IsEntered C s (named_of first all) first now × IsCounted C s (named_of first all) first now t u
   left-last now u f = underway-last C s (named_of first all) [] first now t u refl f.1
 
--- `rest` are the numbers of `all` whose lost excess is still to be dropped
+-- `rest` are the numbers of `all` whose invalid excess is still to be dropped
 module _ (s : ℕ) (all : List ReportedBlock) (first : Contents) where
   abbrev pub HasExcessToDrop : List ReportedBlock → Contents → Type 0
   HasExcessToDrop rest now =

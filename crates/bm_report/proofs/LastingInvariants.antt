@@ -13,7 +13,7 @@ use Rattle.bm_report.specs.DuringReport.{marks_during_report, without_invalid_ex
 use Rattle.bm_report.specs.Ready.{HasGoodExcess}
 use Rattle.bm_base.proofs.Clusters.{siblings_turned, no_sibling_itself}
 use Rattle.bm_report.proofs.Maps.{Held}
-use Rattle.bm_report.proofs.ReportResult.{last_stamp, report_own, report_other, entered_without_lost_excess}
+use Rattle.bm_report.proofs.ReportResult.{last_stamp, report_own, report_other, entered_without_invalid_excess}
 
 module _ (C : Cluster) (H : Holdings) (s : ℕ) (ns : List ReportedSlot) where
   abbrev after_it : Held
@@ -72,7 +72,7 @@ module _ (C : Cluster) (H : Holdings) (s : ℕ) (ns : List ReportedSlot) where
       entered_good None e = cc
       entered_good (Some st) e =
           let x = marks_during_report (get H.blocks p.block) (get H.replicas p) st in
-          let same : without_invalid_excess x ≡ m = entered_without_lost_excess C H s p st ∙ same_Some (entered_marks H p st) m e in
+          let same : without_invalid_excess x ≡ m = entered_without_invalid_excess C H s p st ∙ same_Some (entered_marks H p st) m e in
           let P : Marks → Type 0 = λ k. IsTrue k.excess → IsTrue (is_good k.tag) in
           subst P same (λ h. (and_parts (is_good x.tag) x.excess h).0) excess
 

@@ -11,8 +11,8 @@ use Rattle.bm_report.specs.Ready.{IsReportedAt}
 use Rattle.bm_report.proofs.ByNumber.{first_named, then_named}
 
 -- each listed slot was listed before, or is that of one of these numbers
-abbrev pub Came : List ReportedSlot → List ℕ → List ℕ → Type 0
-Came ns before after = (slot : ℕ) → IsMember slot after → IsMember slot before ⊎ IsMember slot (map slot_in ns)
+abbrev pub AddsOnlyReported : List ReportedSlot → List ℕ → List ℕ → Type 0
+AddsOnlyReported ns before after = (slot : ℕ) → IsMember slot after → IsMember slot before ⊎ IsMember slot (map slot_in ns)
 
 pub slot-listed : (ns : List ReportedSlot) (i : ℕ) (n : ReportedSlot) → slice_get ns i ≡ Some n → IsMember n.slot (map slot_in ns)
 slot-listed [] i n e = absurd (none-some n e)

@@ -18,7 +18,7 @@ use Rattle.bm_arena.proofs.HeldReplicas.{get-blocks_of, replicas-put, replicas-o
 use Rattle.bm_arena.proofs.SetMarks.{set_at, set-elsewhere, set-known, set-marks, set-others}
 use Rattle.bm_arena.proofs.StableEntries.{set-entries}
 use Rattle.bm_report.proofs.Maps.{Held, tie, tied, get-here, some_is, put-known, len-out}
-use Rattle.bm_report.proofs.ReportResult.{entered_without_lost_excess}
+use Rattle.bm_report.proofs.ReportResult.{entered_without_invalid_excess}
 use Rattle.bm_report.proofs.ReplicaCounts.{has, new-same, new-more, came_and_went, len-same, has-entered}
 
 new_none : (K : Held) → new_replicas K K ≡ 0
@@ -35,7 +35,7 @@ module _ (C : Cluster) (a : Contents) (s : ℕ) (n : ReportedSlot) (here : slot_
   marks_are =
       let i = sym (get-blocks_of a n.id ∙ ap (λ o. option_and_then (λ k. info_at a k) o) here) in
       let w = sym (get-here a n.id n.slot s here) in
-      (λ j. without_invalid_excess (marks_during_report (i j) (w j) n.stamp)) ∙ entered_without_lost_excess C (holdings_of a) s (replica_at n.id s) n.stamp
+      (λ j. without_invalid_excess (marks_during_report (i j) (w j) n.stamp)) ∙ entered_without_invalid_excess C (holdings_of a) s (replica_at n.id s) n.stamp
 
   pub entering_is : (m : Marks) → m ≡ marks_then → entered_at C (replicas_of a) (replica_at n.id s) m ≡ (enter C (holdings_of a) (replica_at n.id s) n.stamp).replicas
   unfolding enter holdings_of

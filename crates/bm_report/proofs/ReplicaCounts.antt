@@ -183,21 +183,21 @@ module _ (C : Cluster) (B : Map by_number BlockInfo) (s : ℕ) (K : Held) where
           not_in true f = absurd (false≢true (sym e ∙ between.0 (replica_at n.id s) refl f))
           not_in false f = refl
 
-  -- the sweep, and then the drop of lost excess
+  -- the sweep, and then the drop of invalid excess
   module _ (ns : List ReportedSlot) (bs : List ℕ) (named_stay : (b : ℕ) → is_some (last_stamp ns b) ≡ true → list_any (λ k. k == b) bs ≡ false) where
     abbrev entered_then : Held
     entered_then = entered_all C B s ns K
 
-    has_lost_excess_out : (q : ReplicaId) → has (invalid_excess_out_all s ns (out_all s bs entered_then)) q ≡ has (out_all s bs entered_then) q
-    has_lost_excess_out q = ap is_some (invalid_excess_out_all-at s ns (out_all s bs entered_then) q) ∙ by ((q.storage == s) && is_some (last_stamp ns q.block)) (get (out_all s bs entered_then) q)
+    has_invalid_excess_out : (q : ReplicaId) → has (invalid_excess_out_all s ns (out_all s bs entered_then)) q ≡ has (out_all s bs entered_then) q
+    has_invalid_excess_out q = ap is_some (invalid_excess_out_all-at s ns (out_all s bs entered_then) q) ∙ by ((q.storage == s) && is_some (last_stamp ns q.block)) (get (out_all s bs entered_then) q)
       where
         by : (b : Bool) (z : Option Marks) → is_some (cond b (option_map without_invalid_excess z) z) ≡ is_some z
         by true None = refl
         by true (Some x) = refl
         by false z = refl
 
-    pub len-lost_excess_out : len (invalid_excess_out_all s ns (out_all s bs entered_then)) ≡ len (out_all s bs entered_then)
-    len-lost_excess_out = len-same (invalid_excess_out_all s ns (out_all s bs entered_then)) (out_all s bs entered_then) has_lost_excess_out
+    pub len-invalid_excess_out : len (invalid_excess_out_all s ns (out_all s bs entered_then)) ≡ len (out_all s bs entered_then)
+    len-invalid_excess_out = len-same (invalid_excess_out_all s ns (out_all s bs entered_then)) (out_all s bs entered_then) has_invalid_excess_out
 
     has_out : (q : ReplicaId) → has K q ≡ false → has (out_all s bs entered_then) q ≡ has entered_then q
     has_out q out = ap is_some (out-at s bs entered_then q) ∙ by ((q.storage == s) && list_any (λ b. b == q.block) bs) refl
@@ -216,7 +216,7 @@ module _ (C : Cluster) (B : Map by_number BlockInfo) (s : ℕ) (K : Held) where
 
     pub came : new_replicas K (invalid_excess_out_all s ns (out_all s bs entered_then)) ≡ fresh C B s ns K
     came =
-        let same = new-same K (invalid_excess_out_all s ns (out_all s bs entered_then)) entered_then (λ q out. has_lost_excess_out q ∙ has_out q out) in
+        let same = new-same K (invalid_excess_out_all s ns (out_all s bs entered_then)) entered_then (λ q out. has_invalid_excess_out q ∙ has_out q out) in
         let all = fresh-new ns K (λ q own h. h, λ q other h. h) in
         let none = none_new_yet in
         omega (arith, same, all, none)

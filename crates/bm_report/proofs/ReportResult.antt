@@ -135,7 +135,7 @@ out-at s (b ∷ bs) K q =
     joined false true a z = refl
     joined false false a z = refl
 
--- The replicas after lost excess was dropped.
+-- The replicas after invalid excess was dropped.
 
 dropped_twice : (o : Option Marks) → option_map without_invalid_excess (option_map without_invalid_excess o) ≡ option_map without_invalid_excess o
 dropped_twice None = refl
@@ -274,9 +274,9 @@ module _ (C : Cluster) (H : Holdings) (s : ℕ) where
       turn true z = refl
       turn false z = refl
 
-  pub entered_without_lost_excess : (q : ReplicaId) (st : Stamp) → without_invalid_excess (marks_during_report (get H.blocks q.block) (get H.replicas q) st) ≡ entered_marks H q st
+  pub entered_without_invalid_excess : (q : ReplicaId) (st : Stamp) → without_invalid_excess (marks_during_report (get H.blocks q.block) (get H.replicas q) st) ≡ entered_marks H q st
   unfolding entered_marks entered_tag was_bad was_excess
-  entered_without_lost_excess q st = refl
+  entered_without_invalid_excess q st = refl
 
   -- the phases give the replicas of the report of the definition
   pub reported : (ns : List ReportedSlot) (bs : List ℕ)
@@ -306,7 +306,7 @@ module _ (C : Cluster) (H : Holdings) (s : ℕ) where
           → cond (is_some l) (option_map without_invalid_excess (cond (list_any (λ b. b == q.block) bs) None (enter_marks H.blocks (get H.replicas q) q.block l))) (cond (list_any (λ b. b == q.block) bs) None (enter_marks H.blocks (get H.replicas q) q.block l))
           ≡ option_map (entered_marks H q) l
       here q own (Some st) e =
-          ap (λ t. option_map without_invalid_excess (cond t None (Some (marks_during_report (get H.blocks q.block) (get H.replicas q) st)))) (named_stay q.block (ap is_some e)) ∙ ap (λ m. Some m) (entered_without_lost_excess q st)
+          ap (λ t. option_map without_invalid_excess (cond t None (Some (marks_during_report (get H.blocks q.block) (get H.replicas q) st)))) (named_stay q.block (ap is_some e)) ∙ ap (λ m. Some m) (entered_without_invalid_excess q st)
       here q own None e = gone (get H.replicas q) refl
         where
           at_s : get H.replicas q ≡ get H.replicas (replica_at q.block s)

@@ -28,7 +28,7 @@ use Rattle.bm_report.proofs.SweptSlots.{delimiter_before, number-leads}
 use Rattle.bm_report.proofs.PartialReport.{listed-chain}
 use Rattle.bm_report.proofs.InvalidExcess.{here-ids}
 use Rattle.bm_report.proofs.ReportResult.{last_stamp, reported}
-use Rattle.bm_report.proofs.ReplicaCounts.{came, came_and_went, len-lost_excess_out}
+use Rattle.bm_report.proofs.ReplicaCounts.{came, came_and_went, len-invalid_excess_out}
 
 -- changing the delimiter's block does not change replicas
 pub replicas-kept : (a c : Contents) → IsLawful a → c.ids ≡ a.ids → ((other : ℕ) → other ≢ a.delimiter → block_at c other ≡ block_at a other) → replicas_of c ≡ replicas_of a
@@ -292,7 +292,7 @@ module _ (C : Cluster) (s : ℕ) (ns : List ReportedSlot) (a0 a1 : Contents) (la
         pub removed5 : t3.removed ≡ new_replicas (replicas_of a5) (replicas_of a0)
         removed5 =
             let both = came_and_went (replicas_of a0) (replicas_of a5) in
-            let len5 : len (replicas_of a5) ≡ len (replicas_of a4) = ap len in_the_end ∙ len-lost_excess_out C (blocks_of a0) s (replicas_of a0) ns bs named_stay ∙ sym (ap len then_swept) in
+            let len5 : len (replicas_of a5) ≡ len (replicas_of a4) = ap len in_the_end ∙ len-invalid_excess_out C (blocks_of a0) s (replicas_of a0) ns bs named_stay ∙ sym (ap len then_swept) in
             let len4 = ap len replicas4 in
             let len1 = ap len replicas1 in
             let added = added5 in

@@ -28,7 +28,7 @@ marks_during_report info was stamp = record {
 }
 
 -- The marks after the report: only a good replica stays in excess. The mark "in excess" of any
--- other one is lost excess.
+-- other one is invalid excess.
 abbrev pub without_invalid_excess : Marks → Marks
 without_invalid_excess m = record m { excess = is_good m.tag && m.excess }
 
@@ -81,7 +81,7 @@ abbrev pub out_all : ℕ → List ℕ → Map by_replica Marks → Map by_replic
 out_all s [] K = K
 out_all s (b ∷ bs) K = out_all s bs (remove K (replica_at b s))
 
--- drops the lost excess of the named blocks on s
+-- drops the invalid excess of the named blocks on s
 abbrev pub invalid_excess_out_one : ℕ → ℕ → Map by_replica Marks → Map by_replica Marks
 invalid_excess_out_one s b K = option_map_or (λ m. insert K (replica_at b s) (without_invalid_excess m)) (get K (replica_at b s)) K
 
@@ -194,7 +194,7 @@ pub record IsSwept (s : ℕ) (xs : List ℕ) (old new : Contents) (t u : ReportC
   pub others : (slot : ℕ) → (IsMember slot xs → ⊥) → block_at new slot ≡ block_at old slot
   pub entries : KeepsEntries old new
 
--- the lost excess of the named blocks on s was dropped
+-- the invalid excess of the named blocks on s was dropped
 pub record DropsInvalidExcess (s : ℕ) (ns : List ReportedSlot) (old new : Contents) : Type 0 where
   pub replicas : replicas_of new ≡ invalid_excess_out_all s ns (replicas_of old)
   pub ids : new.ids ≡ old.ids
@@ -203,7 +203,7 @@ pub record DropsInvalidExcess (s : ℕ) (ns : List ReportedSlot) (old new : Cont
   pub blocks : blocks_of new ≡ blocks_of old
   pub lists : new.lists ≡ old.lists
   pub steps : new.steps ≡ old.steps
-  -- a block changes only if its replica on s has lost excess
+  -- a block changes only if its replica on s has invalid excess
   pub others : (slot : ℕ) (m : Marks) → marks_at old slot s ≡ Some m → is_excess_good m ≡ true → block_at new slot ≡ block_at old slot
   pub absent : (slot : ℕ) → marks_at old slot s ≡ None → block_at new slot ≡ block_at old slot
   pub entries : KeepsEntries old new

@@ -1,5 +1,5 @@
-// The end of a report: unreported replicas leave, and lost excess is dropped: the mark "in excess"
-// of a replica that is no longer good.
+// The end of a report: unreported replicas leave, and invalid excess is dropped: the mark "in
+// excess" of a replica that is no longer good.
 ghost use Rattle.std.specs.Prelude.{◌≡◌, ◌≤◌, ◌<◌, ◌+◌, ◌^◌, ℕ, length, vec_len, vec_capacity, ◌++◌, ◌∷◌, [], false, IsSome, None, Some};
 ghost use Rattle.bm_arena.specs.Contents.{marks_at, slot_of};
 ghost use Rattle.bm_arena.specs.HeldMaps.{replicas_of};
@@ -37,8 +37,8 @@ pub(crate) fn sweep(
     }
 }
 
-/// Drops the lost excess of the named blocks on the storage, if there is some: only a good replica
-/// stays in excess.
+/// Drops the invalid excess of the named blocks on the storage, if there is some: only a good
+/// replica stays in excess.
 pub(crate) fn drop_invalid_excess(
     arena: &mut Arena,
     storage: StorageId,

@@ -104,7 +104,7 @@ pub(crate) fn add_reported_entries(
     }
 }
 
-/// Drops the lost excess of the block of a number on the storage.
+/// Drops the invalid excess of the block of a number on the storage.
 fn drop_invalid_excess_of_number(arena: &mut Arena, storage: StorageId, id: BlockId, stamp: Stamp)
     requires { AreAtSlots arena.old (named_of arena.old (record { id = id; stamp = stamp } ∷ [])) }
     ensures { DropsInvalidExcess storage (named_of arena.old (record { id = id; stamp = stamp } ∷ []))
@@ -146,7 +146,7 @@ fn drop_invalid_excess_of_entries(
     }
 }
 
-/// Drops the lost excess of all named blocks, if there is some: only a good replica stays in
+/// Drops the invalid excess of all named blocks, if there is some: only a good replica stays in
 /// excess.
 pub(crate) fn drop_invalid_excess_by_number(
     arena: &mut Arena,

@@ -4,7 +4,7 @@ use Rattle.std.proofs.Math.Seq.{take-append_seam}
 use Rattle.bm_maps.specs.SlotLists.{IsMember}
 use Rattle.bm_report.specs.declared.report_counts.ReportCounts.{ReportCounts}
 use Rattle.bm_report.specs.DuringReport.{behind, IsExcessGood}
-use Rattle.bm_report.proofs.UnchangedReport.{already_all}
+use Rattle.bm_report.proofs.AlreadyThere.{already_all}
 use Rattle.bm_report.proofs.Maps.{Held}
 use Rattle.bm_report.proofs.Stages.{behind-fits, replicas1, here1, capacity1, once1, here4, good4, replicas5, blocks5, entries5, free5, listed5, changed5, added5, removed5}
 use Rattle.bm_report.proofs.full_report.apply.Goals as goal

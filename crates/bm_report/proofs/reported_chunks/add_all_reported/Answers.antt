@@ -5,7 +5,7 @@ use Rattle.bm_report.specs.declared.types.ReportedSlot.{ReportedSlot}
 use Rattle.bm_maps.specs.SlotLists.{IsMember}
 use Rattle.bm_report.specs.DuringReport.{AllAlreadyThere, slot_in}
 use Rattle.bm_report.proofs.ListedSlots.{slots-front, slots-back}
-use Rattle.bm_report.proofs.UnchangedReport.{all_same, front_of, back_of}
+use Rattle.bm_report.proofs.AlreadyThere.{all_same, front_of, back_of}
 use Rattle.bm_report.proofs.PartialReport.{IsUnderway, listed-chain, underway-next, underway-last, here-part, capacity-part}
 use Rattle.bm_report.proofs.reported_chunks.add_all_reported.Goals as goal
 

@@ -3,7 +3,7 @@ use Rattle.std.specs.Prelude.{vec_capacity}
 use Rattle.std.specs.Slice.Iter.{chunks_rest, chunks_size}
 use Rattle.bm_maps.specs.SlotLists.{IsMember}
 use Rattle.bm_report.specs.DuringReport.{IsListed, AllAlreadyThere, slot_in}
-use Rattle.bm_report.proofs.ListedSlots.{Came}
+use Rattle.bm_report.proofs.ListedSlots.{AddsOnlyReported}
 use Rattle.bm_report.proofs.PartialReport.{IsUnderway}
 use Rattle.bm_report.proofs.reported_chunks.add_all_reported.Given as goal
 
@@ -17,7 +17,7 @@ invariant-loop-chunk l =
       no_change : AllAlreadyThere l.initial.arena l.storage l.named → (l.arena.blocks ≡ l.initial.arena.blocks) × (l.changed.items ≡ l.initial.changed.items) × AllAlreadyThere l.initial.arena l.storage rest;
       listed : IsListed l.initial.arena l.arena l.initial.changed.items l.changed.items;
       space : vec_len l.changed + length rest ≤ vec_len l.initial.changed + length l.named;
-      came : Came l.named l.initial.changed.items l.changed.items;
+      came : AddsOnlyReported l.named l.initial.changed.items l.changed.items;
       rest : (slot : ℕ) → IsMember slot (map slot_in rest) → IsMember slot (map slot_in l.named);
       capacity : vec_capacity l.changed ≡ vec_capacity l.initial.changed;
     }

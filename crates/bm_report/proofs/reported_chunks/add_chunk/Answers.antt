@@ -6,7 +6,7 @@ use Rattle.bm_report.specs.declared.types.ReportedSlot.{ReportedSlot}
 use Rattle.bm_maps.specs.SlotLists.{IsMember}
 use Rattle.bm_report.specs.DuringReport.{slot_in}
 use Rattle.bm_report.proofs.ListedSlots.{slot-listed}
-use Rattle.bm_report.proofs.UnchangedReport.{already_same, one_of}
+use Rattle.bm_report.proofs.AlreadyThere.{already_same, one_of}
 use Rattle.bm_report.proofs.PartialReport.{IsUnderway, listed-chain, underway-next, underway-last, drop_next, drop_all}
 use Rattle.bm_report.proofs.reported_chunks.add_chunk.Goals as goal
 

@@ -8,7 +8,7 @@ use Rattle.bm_report.specs.Ready.{LookedUpReport, HasGoodExcess}
 use Rattle.bm_report.proofs.ListedSlots.{slot-reported}
 use Rattle.bm_report.proofs.LastingInvariants.{once-reported, good-reported}
 use Rattle.bm_report.proofs.Maps.{Held}
-use Rattle.bm_report.proofs.UnchangedReport.{all_already_there}
+use Rattle.bm_report.proofs.AlreadyThere.{all_already_there}
 use Rattle.bm_report.proofs.report.Report.apply_full.Goals as goal
 
 pub returns-clause-unchanged : goal.returns-clause-unchanged

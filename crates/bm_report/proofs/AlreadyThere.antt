@@ -51,7 +51,7 @@ back_of a s (n ∷ ns) ms h = back_of a s ns ms h.1
 
 -- In terms of holdings.
 
--- marks that stay without lost excess are in excess only if they are good
+-- marks that stay without invalid excess are in excess only if they are good
 excess_kept : (info : Option BlockInfo) (was : Option Marks) (t : Stamp) → was ≡ Some (without_invalid_excess (marks_during_report info was t)) → was ≡ Some (marks_during_report info was t)
 excess_kept info was t is =
     let kept : (marks_during_report info was t).excess ≡ (without_invalid_excess (marks_during_report info was t)).excess = ap (λ o. option_map_or (λ (m : Marks). m.excess) o false) is in
