@@ -1,4 +1,4 @@
--- Taking a known input line by line gives the state after all its lines, with their notes.
+-- A known input read to its end gives the state and the notes, and whether all lines are accepted.
 use Rattle.std.proofs.Common.{◌≡◌, ℕ, ◌+◌, ◌<◌, Bool, true, false, ◌&&◌, List, [], ◌∷◌, ◌++◌, Option, Some, None, IfSome, is_none, length, arith, refl, sym, ap, subst, ◌∙◌}
 use Rattle.std.specs.Io.BufRead.{take_through, drop_through}
 use Rattle.std.specs.Io.KnownBytes.{Appends, IsAtEnd}
@@ -33,10 +33,10 @@ reads_line o left rest old line e taken dropped empty some =
     not_empty [] h = h
     not_empty (x ∷ xs) h = omega arith
 
--- ---- how far the lines are taken
+-- ---- the lines taken so far
 
--- Of an input the lines before number n are taken, from the state M on: what is left of it, and
--- what the lines that are left add.
+-- The lines of an input before number n were taken, from the state M on: the rest of the input, and
+-- what its lines add.
 pub record LinesTaken (M : State) (start : Option (List ℕ)) (input : List ℕ) (n : ℕ) (N : State) (accepted : Bool) (now left : Option (List ℕ)) : Type 0 where
   pub rest : List ℕ
   pub left_is : left ≡ Some rest

@@ -1,4 +1,4 @@
--- A report with the right fields is the report on the state.
+-- A report whose fields all equal those of the defined report on a state is that report.
 use Rattle.std.proofs.Common.{◌≡◌}
 use Rattle.bm_base.specs.Machine.State.{State}
 use Rattle.cluster_report.specs.Reports.{report_of}

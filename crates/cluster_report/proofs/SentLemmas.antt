@@ -1,4 +1,4 @@
--- Each copy of a round is commanded to an alive node.
+-- In a lawful state, each copy that a round chooses has its source on an alive node.
 use Rattle.std.proofs.Common.{◌≡◌, ℕ, ◌*◌, Bool, true, false, List, [], ◌∷◌, ◌++◌, Option, Some, filter, length, option_to_list, ap, sym, ◌∙◌}
 use Rattle.std.specs.Prelude.{◌==◌, nat_lt, nat_le, option_map, option_and_then}
 use Rattle.std.specs.Option.{option_map_or}

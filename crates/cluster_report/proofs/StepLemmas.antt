@@ -1,4 +1,4 @@
--- The book follows the manager after each call.
+-- A book updated by a call's answer still follows the manager, if memory did not run out.
 use Rattle.std.proofs.Common.{◌≡◌, Bool, true, false, cond, not, ◌-◌, Option, Some, None, Result, Ok, Err, OnOk, inl, inr, refl, sym, ap, subst, ◌∙◌}
 use Rattle.std.specs.Prelude.{nat_le}
 use Rattle.std.specs.List.{flat_map}
@@ -182,7 +182,7 @@ limits_step M (call.Retired n) = other_limits M M _ (node_refusal M.cluster n) r
 limits_step M call.Calls = refl
 limits_step M call.Rounds = refl
 
--- ---- a call that was answered, where memory did not lack
+-- ---- a call that did not run out of memory
 
 answered : (M : State) (k : Call) (a : Answer) → MayAnswer step M k a → is_out_of_memory a ≡ false → a ≡ (step M k).0
 answered M k a (inl e) h = e

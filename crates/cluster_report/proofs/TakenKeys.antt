@@ -1,4 +1,4 @@
--- Taking the keys of a map by index gives all keys.
+-- The first n keys of a map are all its keys, if the map has at most n.
 use Rattle.std.proofs.Common.{◌≡◌, ℕ, ◌≤◌, take, arith}
 use Rattle.std.proofs.lemmas.List.{take_all, length-map}
 use Rattle.bm_base.specs.Maps.Map.{Order, Map, keys, len, entries}

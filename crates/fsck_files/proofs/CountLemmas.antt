@@ -1,4 +1,4 @@
--- A block is taken, left out or refused by the comparison of its places with its live replicas.
+-- Live replicas are compared with places that may be live, except in a corrupt block without marks.
 use Rattle.std.proofs.Common.{◌≡◌, ℕ, Bool, false, List, Option, Result, Ok, IfOk, IfErr, refl, subst}
 use Rattle.fsck_text.specs.declared.block.BlockLine.{BlockLine}
 use Rattle.fsck_text.specs.declared.list.ListedReplica.{ListedReplica}

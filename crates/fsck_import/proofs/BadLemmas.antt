@@ -1,4 +1,4 @@
--- Each step keeps the lists of corrupt replicas and of draining nodes right.
+-- Corrupt replicas and draining nodes stay listed exactly as names, replicas or nodes are added.
 use Rattle.std.proofs.Common.{◌≡◌, ℕ, zero, suc, ◌+◌, ◌-◌, ◌<◌, ◌≤◌, ◌==◌, ◌||◌, Bool, true, false, List, [], ◌∷◌, ◌++◌, map, length, length-append, refl, sym, ap, subst, ◌∙◌, arith, true≢false, if◌then◌else◌}
 use Rattle.std.specs.List.{list_any, AllByRecursion}
 use Rattle.std.proofs.lemmas.Bool.Decides.{nat_tests}
@@ -129,7 +129,7 @@ has-with_more numbers n m h = by (has_number numbers n)
     by true = h
     by false = list_any-append (λ k. k == m) numbers (n ∷ []) ∙ ap (λ b. b || has_number (n ∷ []) m) h
 
--- a number that is there, where one is added, was there before or is that one
+-- a number that is in a list only after another was added is the added one
 pub has-with_either : (numbers : List ℕ) (n m : ℕ) → has_number (with_number numbers n) m ≡ true → has_number numbers m ≡ false → m ≡ n
 has-with_either numbers n m h none = by (has_number numbers n) h
   where

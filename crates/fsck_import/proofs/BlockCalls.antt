@@ -1,4 +1,4 @@
--- The calls for a cluster describe the blocks that were added to it.
+-- If a cluster starts with nodes only, the calls for it describe just the blocks added to it.
 use Rattle.std.proofs.Common.{◌≡◌, ℕ, true, List, [], ◌∷◌, ◌++◌, Ok, map, length, refl, sym, ap, subst, ◌∙◌, arith}
 use Rattle.std.specs.Cmp.{both_ways}
 use Rattle.std.specs.List.{flat_map, list_any, AllByRecursion}

@@ -1,4 +1,4 @@
--- A cluster stays right as blocks are added.
+-- A cluster that holds just what was added to it still does after more blocks.
 use Rattle.std.proofs.Common.{◌≡◌, ℕ, ◌==◌, ◌||◌, true, false, nat_eq, List, [], ◌∷◌, ◌++◌, Ok, map, refl, sym, ap, subst, ◌∙◌, append_assoc}
 use Rattle.std.specs.List.{list_any, flat_map}
 use Rattle.std.proofs.lemmas.List.{append-nil, map_push}

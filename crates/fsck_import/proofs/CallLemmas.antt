@@ -12,7 +12,7 @@ use Rattle.fsck_cluster.specs.declared.rows.Row.{Row}
 use Rattle.fsck_import.specs.CallsFor.{register, heartbeat, add, received, reports, corrupt, drain, draining, calls_before, calls_after, calls_for}
 use Rattle.fsck_import.specs.Laws.{add_in, adds_in, is_about_replicas, AddsFirst}
 
--- What some calls do not have, all of them together do not have.
+-- If g gives nothing for each of several calls, it gives nothing for all of them together.
 module _ {X : Type 0} (g : Call → List X) where
   pub none-append : (xs ys : List Call) → flat_map g xs ≡ [] → flat_map g ys ≡ [] → flat_map g (xs ++ ys) ≡ []
   none-append xs ys h k = flat_map-append g xs ys ∙ ap (λ t. t ++ flat_map g ys) h ∙ k
@@ -34,7 +34,7 @@ module _ {A : Type 0} (f : A → Call) where
 no_replica-append : (xs ys : List Call) → list_any is_about_replicas xs ≡ false → list_any is_about_replicas ys ≡ false → list_any is_about_replicas (xs ++ ys) ≡ false
 no_replica-append xs ys h k = list_any-append is_about_replicas xs ys ∙ ap (λ b. b || list_any is_about_replicas ys) h ∙ k
 
--- the calls about nodes have nothing of some kind
+-- if g gives nothing for registrations and heartbeats, it gives nothing for the calls about nodes
 pub none-nodes : {X : Type 0} (g : Call → List X) (c : Cluster) (remaining : ℕ) → ((x : _) → g (register c.rows x) ≡ []) → ((x : _) → g (heartbeat c.rows remaining x) ≡ [])
     → flat_map g (map (register c.rows) c.node_rows ++ map (heartbeat c.rows remaining) c.node_rows) ≡ []
 none-nodes g c remaining h k = none-append g (map (register c.rows) c.node_rows) (map (heartbeat c.rows remaining) c.node_rows) (none-map g (register c.rows) h c.node_rows) (none-map g (heartbeat c.rows remaining) k c.node_rows)
@@ -46,7 +46,7 @@ adds-map (b ∷ blocks) = ap (λ calls. add b ∷ calls) (adds-map blocks)
 no_add-reports : (row : Row) → adds_in (reports row) ≡ []
 no_add-reports row = none-map add_in (received row.number) (λ x. refl) (drop MAX_ENTRIES row.held)
 
--- no call after the adds is one
+-- no later call adds a block
 no_add-after : (c : Cluster) → adds_in (calls_after c) ≡ []
 no_add-after c =
     none-append add_in (flat_map reports c.rows ++ map corrupt c.bad) (map drain (draining c))

@@ -1,4 +1,4 @@
--- A whole run writes the lines and tables of its text, or ends with a fault of it.
+-- A run on a known text writes its calls and tables, or ends with a fault that the text allows.
 use Rattle.std.proofs.Common.{◌≡◌, ℕ, Option, Some, None, IfSome, Result, Ok, refl, sym, subst}
 use Rattle.std.specs.Prelude.{IsOk}
 use Rattle.fsck_text.specs.Cuts.{Text}
@@ -48,7 +48,7 @@ read_run fault.LongReport outcome h = absurd h
 pub reading_refuses : (f : Fault) (start : Reading) (known : Option Text) → IsFaultOfReading start f known → IsFaultOfRun start f known
 reading_refuses f start known = each_known known (λ text h. read_run f (reading_of start text) h)
 
--- a fault of writing is one of a run on a text that is taken
+-- a fault of the output is one of a run on an accepted text
 output_run : (f : Fault) (outcome : Result Reading Unread) → IsOk outcome → IsOutputFault f → IsRunFault f outcome
 output_run (fault.Refused unread) outcome taken h = absurd h
 output_run (fault.Read error) outcome taken h = absurd h

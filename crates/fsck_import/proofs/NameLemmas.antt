@@ -1,4 +1,4 @@
--- A name keeps its number as more names are added, and each number leads back to its name.
+-- A number keeps its name as more names are added, and a known name's number leads back to it.
 use Rattle.std.proofs.Common.{◌≡◌, ℕ, suc, ◌+◌, ◌-◌, ◌<◌, ◌||◌, Bool, true, false, not, cond, nat_eq, nat_lt, List, [], ◌∷◌, ◌++◌, Some, None, Result, Ok, Err, position, length, refl, sym, ap, ◌∙◌, arith, rules, true≢false, inl, inr, if◌then◌else◌}
 use Rattle.std.specs.Prelude.{slice_index_or}
 use Rattle.std.specs.List.{list_any, position_or_len}
@@ -29,7 +29,7 @@ module _ {A E : Type 0} where
   pub err_is_not_ok : (w : E) (y : A) → ◌≡◌ {A = Result A E} (Err w) (Ok y) → ⊥
   err_is_not_ok w y e = cc
 
-  -- a value that there is only if a test passes
+  -- a result that is Ok only if a test passes
   pub if_ok : (b : Bool) (r : Result A E) (w : E) (y : A) → (if b then r else Err w) ≡ Ok y → (b ≡ true) × (r ≡ Ok y)
   if_ok true r w y e = (refl, e)
   if_ok false r w y e = absurd (err_is_not_ok w y e)
@@ -38,7 +38,7 @@ module _ {A E : Type 0} where
   if_not true r w y e = absurd (err_is_not_ok w y e)
   if_not false r w y e = (refl, e)
 
--- what came of a value came of one that there was
+-- if a step after a result is Ok, the result was Ok
 pub came_of : {A B E : Type 0} (f : A → Result B E) (r : Result A E) (y : B) → after_ok f r ≡ Ok y → (x : A) × (r ≡ Ok x) × (f x ≡ Ok y)
 came_of f (Ok x) y e = (x, refl, e)
 came_of f (Err w) y e = absurd (err_is_not_ok w y e)
@@ -118,7 +118,7 @@ name-at (x ∷ names) name h = by (bytes_eq name x) refl h (name-at names name)
         let next : suc (position_or_len (bytes_eq name) names) ≡ 1 + position_or_len (bytes_eq name) names = omega arith in
         ap (λ n. slice_index_or (x ∷ names) n []) (sym next) ∙ rest k
 
--- the name of the number that a name has
+-- the number of a known name leads back to the name
 pub name_of-number : (names : List Text) (name : Text) → list_any (bytes_eq name) names ≡ true → name_of names (name_number names name) ≡ name
 name_of-number names name h =
     let at : position_or_len (bytes_eq name) names + 1 - 1 ≡ position_or_len (bytes_eq name) names = omega arith in

@@ -1,4 +1,4 @@
--- No storage has two replicas of one block.
+-- With new blocks added one by one, a check of a storage's last replica excludes duplicates.
 use Rattle.std.proofs.Common.{◌≡◌, ℕ, ◌+◌, ◌-◌, ◌≤◌, ◌==◌, ◌&&◌, ◌||◌, Bool, true, false, cond, nat_eq, List, [], ◌∷◌, ◌++◌, Some, map, length, length-append, refl, sym, ap, ◌∙◌, arith, true≢false}
 use Rattle.std.specs.Prelude.{count_by, slice_get}
 use Rattle.std.specs.List.{list_any, AllByRecursion}
@@ -15,7 +15,7 @@ use Rattle.fsck_import.specs.Laws.{Replica, is_replica, EachOnce}
 use Rattle.fsck_import.proofs.NameLemmas.{same_number, same_name, number_is_itself}
 use Rattle.fsck_import.proofs.StorageLemmas.{Fit, on_row, on_rows, on_storage, holding}
 
--- how many replicas of a block are among these
+-- the number of these replicas that are of a block
 abbrev pub held_of : ℕ → List StoredReplica → ℕ
 held_of id held = count_by (λ h. nat_eq id h.id) held
 
@@ -52,7 +52,7 @@ not_among numbers id other known e = by (nat_eq other id) refl
     by false same = refl
     by true same = absurd (true≢false (sym known ∙ ap (λ n. list_any (nat_eq n) numbers) (sym (same_number other id same)) ∙ e))
 
--- one more replica of the block, where the last is none
+-- one more replica of the block, if the storage's last one is of another
 pub once_more : (numbers : List ℕ) (row : Row) (h : StoredReplica) → list_any (nat_eq h.id) numbers ≡ true → ends_with row h.id ≡ false → Once numbers h.id row → Once numbers h.id (holding row h)
 once_more numbers row h known e before = record {
   among = λ other none.
@@ -83,7 +83,7 @@ once_next numbers old id row new before = record {
 abbrev pub count : Text → ℕ → List Replica → ℕ
 count storage id replicas = count_by (is_replica storage id) replicas
 
--- whether a name comes twice
+-- whether a name repeats
 abbrev pub has_twice : List Text → Bool
 has_twice [] = false
 has_twice (name ∷ names) = list_any (bytes_eq name) names || has_twice names

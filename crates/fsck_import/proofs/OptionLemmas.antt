@@ -1,4 +1,4 @@
--- The value of an option is its text in the words, and words are refused for the defined reasons.
+-- A parsed option has its text in the command line, and words are refused for the defined reasons.
 use Rattle.std.proofs.Common.{◌≡◌, ◌∙◌, ap, sym, subst, true, List, [], ◌∷◌, Option, Some, None, refl, inl, inr}
 use Rattle.clap.specs.Walk.{first_of}
 use Rattle.clap.specs.Words.{first_value, found_of, kind_of}
@@ -20,8 +20,7 @@ pub found : (words : List Text) (cmd : Command) (m : ArgMatches) → app_of cmd 
 found words cmd m is h name =
     first_value-rows (found_of m) name ∙ ap (first_of name) ((h (ap is_simple is)).0 ∙ ap (λ (a : App). matches_of a words) is)
 
--- where the parse takes the words, nothing of them is refused but a value that is none of its
--- option
+-- if the parser accepts the words, only the text of an option's value can be refused
 pub taken : (words : List Text) (cmd : Command) → app_of cmd ≡ program → (is_simple_and_free (app_of cmd) ≡ true → fault_of (app_of cmd) words ≡ [])
     → (next : Kinds) → or_else (fault_of program words) next ≡ next
 taken words cmd is none next =
@@ -43,6 +42,6 @@ pub wrong_value : (n : Option Values) (e : Error) → None ≡ n → kind_of e �
 wrong_value None e none kind = inr (inl kind)
 wrong_value (Some n) e none kind = cc
 
--- values by texts that are the same
+-- equal texts give equal values
 pub values_found : (a b c d e f : Option Text) → a ≡ b → c ≡ d → e ≡ f → values_of a c e ≡ values_of b d f
 values_found a b c d e f x y z = rw (x, y, z) refl

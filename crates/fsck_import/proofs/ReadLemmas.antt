@@ -1,4 +1,4 @@
--- Reading a known text line by line gives the state after all its lines, or its first refused line.
+-- Reading a known text gives the state after all lines; a refusal is of its first refused line.
 use Rattle.std.proofs.Common.{◌≡◌, ℕ, ◌+◌, ◌<◌, [], ◌∷◌, ◌++◌, Option, Some, IfSome, Result, Ok, length, arith, refl, sym, ap, subst, ◌∙◌}
 use Rattle.std.specs.Io.BufRead.{take_through, drop_through}
 use Rattle.std.specs.Io.KnownBytes.{IsAtEnd}

@@ -1,4 +1,4 @@
--- A cluster stays right as replicas of a block are added.
+-- A cluster that holds just what was added to it still does after replicas of its last block.
 use Rattle.std.proofs.Common.{◌≡◌, ℕ, ◌-◌, ◌<◌, ◌≤◌, Bool, true, false, cond, nat_eq, List, [], ◌∷◌, ◌++◌, Ok, map, filter, length, refl, sym, ap, subst, ◌∙◌, append_assoc, arith, if◌then◌else◌}
 use Rattle.std.specs.Prelude.{slice_get, slice_set, slice_index_or}
 use Rattle.std.specs.List.{list_any, position_or_len, AllByRecursion}

@@ -1,5 +1,4 @@
--- The calls for a cluster report just its replicas, mark its corrupt ones, and decommission its
--- draining nodes.
+-- The calls for a cluster name its replicas, corrupt replicas and draining nodes, and no others.
 use Rattle.std.proofs.Common.{◌≡◌, ℕ, ◌+◌, ◌-◌, ◌==◌, ◌||◌, Bool, true, false, cond, List, [], ◌∷◌, ◌++◌, map, filter, take, drop, length, length-append, refl, sym, ap, ◌∙◌, append_assoc, arith, true≢false}
 use Rattle.std.specs.Prelude.{slice_index_or}
 use Rattle.std.specs.List.{flat_map, list_any, AllByRecursion}
@@ -27,7 +26,7 @@ use Rattle.fsck_import.proofs.CallLemmas.{none-append, none-map, none-flat, none
 use Rattle.fsck_import.proofs.StorageLemmas.{reported_of, on_storage, on_row, on_rows, Fit}
 use Rattle.fsck_import.proofs.BadLemmas.{by_name, node_number, DrainsAs}
 
--- what the calls after the adds give for a kind, if those before give nothing
+-- if g gives nothing for registrations, heartbeats and adds, only the later calls count
 module _ {X : Type 0} (g : Call → List X) (c : Cluster) (remaining : ℕ) where
   pub after_parts : ((x : NodeRow) → g (register c.rows x) ≡ []) → ((x : NodeRow) → g (heartbeat c.rows remaining x) ≡ []) → ((x : _) → g (add x) ≡ [])
       → flat_map g (calls_for c remaining) ≡ (flat_map g (flat_map reports c.rows) ++ flat_map g (map corrupt c.bad)) ++ flat_map g (map drain (draining c))

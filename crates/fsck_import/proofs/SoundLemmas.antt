@@ -1,4 +1,4 @@
--- A cluster agrees with the replicas added so far, also after a new node or a new storage.
+-- A cluster that holds just what was added to it still does after a new node or a new storage.
 use Rattle.std.proofs.Common.{◌≡◌, ℕ, suc, ◌+◌, ◌≤◌, Bool, true, false, nat_lt, List, [], ◌∷◌, ◌++◌, Some, None, Ok, Err, map, length, length-append, refl, sym, ap, subst, ◌∙◌, arith, if◌then◌else◌}
 use Rattle.std.specs.Prelude.{slice_get}
 use Rattle.std.specs.List.{list_any, position_or_len, AllByRecursion}

@@ -1,4 +1,4 @@
--- The storages added for nodes without one hold nothing, and change nothing else.
+-- Storages added for nodes without one are empty; blocks, replicas and nodes stay as they were.
 use Rattle.std.proofs.Common.{◌≡◌, ℕ, Bool, true, false, not, nat_lt, List, [], ◌∷◌, ◌++◌, Result, Ok, Err, length, refl, sym, ap, subst, ◌∙◌, append_assoc, if◌then◌else◌}
 use Rattle.std.specs.List.{list_any, AllByRecursion}
 use Rattle.std.specs.Str.{bytes_eq}

@@ -1,4 +1,4 @@
--- The storages hold just the replicas that were added, also after one more storage or replica.
+-- Storages that hold just the added replicas still do after one more storage or replica.
 use Rattle.std.proofs.Common.{◌≡◌, ℕ, zero, suc, ◌+◌, ◌||◌, Bool, true, false, not, cond, List, [], ◌∷◌, ◌++◌, Option, Some, None, map, length, refl, sym, ap, subst, ◌∙◌, append_assoc, arith, true≢false}
 use Rattle.std.specs.Prelude.{⊤, slice_get, slice_set}
 use Rattle.std.specs.List.{list_any, position_or_len, AllByRecursion}
@@ -15,7 +15,7 @@ use Rattle.fsck_cluster.specs.declared.rows.Row.{Row}
 use Rattle.fsck_import.specs.Laws.{Replica, replica}
 use Rattle.fsck_import.proofs.NameLemmas.{same_name, new_position}
 
--- Rows of which each is of a kind.
+-- Rows that all have a property.
 
 module _ (P : Row → Type 0) where
   pub all-push : (rows : List Row) (x : Row) → AllByRecursion P rows → P x → AllByRecursion P (rows ++ x ∷ [])

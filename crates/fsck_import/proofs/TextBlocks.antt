@@ -1,4 +1,4 @@
--- The calls for the cluster of a text describe the blocks of the text.
+-- If a text's cluster starts with nodes only, the calls for it describe the blocks of the text.
 use Rattle.std.proofs.Common.{◌≡◌, ℕ, ◌+◌, ◌-◌, List, [], ◌∷◌, Option, Some, None, IfSome, map, Result, Ok, Err, sym, ap, subst, ◌∙◌}
 use Rattle.std.specs.Str.{is_utf8}
 use Rattle.bm_lines.specs.Lines.{lines_of}

@@ -1,4 +1,4 @@
--- The lines of a text are its first line and the lines of the rest.
+-- The lines of a text that is not empty are its first line and the lines of the rest.
 use Rattle.std.proofs.Common.{◌≡◌, ◌≢◌, ℕ, ◌<◌, Bool, true, false, [], ◌∷◌, ◌++◌, Option, Some, None, MatchOption, unwrap_or, ◌==◌, if◌then◌else◌, length, arith, refl, sym, ap, ◌∙◌, inl, inr}
 use Rattle.std.proofs.lemmas.Bool.{ne_eqb, eq-eqb}
 use Rattle.std.proofs.lemmas.Bool.Decides.{eqb_tells}

@@ -1,4 +1,4 @@
--- The lines written for calls are read as those calls.
+-- If each written line is read as its call, the whole written text is read as those calls.
 use Rattle.std.proofs.Common.{drop, length-drop, ◌<◌, get_or, arith, ◌≡◌, ◌≤◌, List, [], ◌∷◌, ◌++◌, Option, Some, None, map, length, refl, sym, ap, ◌∙◌, subst, append_assoc, append-nil, ℕ, zero, suc, ◌+◌, Bool, true, false, cond, take, filter, option_to_list, slice_get}
 use Rattle.bm_lines.specs.declared.limits.TheConstants.{MAX_LINE}
 use Rattle.std.proofs.lemmas.Option.{slice_get_past}

@@ -1,4 +1,4 @@
--- The lists of queries are strictly ascending.
+-- The lists that queries return are strictly ascending, so none has duplicates.
 use Rattle.std.proofs.Common.{◌≡◌, ℕ, zero, suc, ◌<◌, Bool, true, false, cond, ◌&&◌, List, [], ◌∷◌, map, filter, length, AllPairs, inl, inr, refl, sym, subst, ◌∙◌, map-id, T, Ordering, Less, Equal, Greater, eqb-true, arith}
 use Rattle.bm_parts.specs.QueryLaws.{replica_key}
 use Rattle.std.specs.Prelude.{◌==◌, slice_index_or}

@@ -1,4 +1,4 @@
--- No event clears a bad tag.
+-- A bad replica stays bad through an event, if it still exists and its block is still known.
 use Rattle.std.proofs.Common.{◌≡◌, ℕ, Bool, true, false, not, Some, is_some, refl, sym, ap, ◌∙◌, eqb-true}
 use Rattle.std.specs.Prelude.{◌==◌, if◌then◌else◌}
 use Rattle.std.specs.Ordering.{eq_by_cmp}

@@ -1,4 +1,4 @@
--- The answer of an event adds up.
+-- An event's answer adds up: replicas before plus added equal replicas after plus removed.
 use Rattle.std.proofs.Common.{◌≡◌, ◌+◌, Bool, true, false, cond, not, ◌&&◌, Option, Some, None, is_some, List, [], ◌∷◌, map, length, refl, sym, ap, subst, ◌∙◌, T, arith, Ordering}
 use Rattle.std.specs.Prelude.{option_and_then}
 use Rattle.std.specs.Ordering.{eq_by_cmp, is_lt}

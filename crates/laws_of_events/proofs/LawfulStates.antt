@@ -1,4 +1,4 @@
--- Calls lead to lawful states.
+-- Calls lead to lawful states if all numbers fit their types, even where memory runs out.
 use Rattle.std.proofs.Common.{◌≡◌, Bool, true, false, if◌then◌else◌, Option, Some, None, List, [], ◌∷◌, refl}
 use Rattle.bm_base.specs.declared.config.Config.{Config}
 use Rattle.bm_base.specs.declared.refusal.Refusal.{Refusal}

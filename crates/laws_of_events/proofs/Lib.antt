@@ -1,5 +1,5 @@
--- The lemmas, each with the laws whose proofs cite it. A law's own proof is SUBJECT/LAW/Answers,
--- next to src/SUBJECT.rt.
+-- Lemmas on events, queries and whole runs, each with the laws whose proofs cite it.
+-- A law's own proof is SUBJECT/LAW/Answers, next to src/SUBJECT.rt.
 --
 -- for answered_calls_lead_to_lawful, answered_calls_lead_to_orderly, call_keeps_lawful,
 -- calls_lead_to_lawful, refusal_leaves_state

@@ -1,4 +1,4 @@
--- The notices of obeyed commands are not refused: they name known storages.
+-- The notices of obeyed commands are refused only once no further call can be counted.
 use Rattle.std.specs.Prelude.{◌≡◌, ℕ, true, not, List, [], ◌∷◌, is_some}
 use Rattle.std.proofs.Common.{sym, ap, ◌∙◌, inl, inr}
 use Rattle.bm_base.specs.declared.event.Event.{Event}

@@ -1,5 +1,4 @@
--- A replica that is to be deleted, and whose delete is not commanded, comes after at least
--- `invalidate` others of its node.
+-- A round commands each due delete, unless its node gets the limit of deletes, which is not 0.
 use Rattle.std.specs.Prelude.{◌≡◌, ℕ, zero, suc, ◌+◌, ◌≤◌, ◌⊎◌, Bool, true, false, not, ◌&&◌, ◌||◌, ◌==◌, nat_le, if◌then◌else◌, List, [], ◌∷◌, ◌++◌, map, filter, flat_map, length, take, Some, is_some, option_map}
 use Rattle.std.specs.Option.{option_map_or}
 use Rattle.std.specs.Ordering.{eq_by_cmp}

@@ -1,5 +1,4 @@
--- Any two copies of one block that a round chooses go to different nodes, and so do any two that it
--- commands.
+-- Two copies of one block that a round chooses or commands go to different nodes.
 use Rattle.std.specs.Prelude.{◌≡◌, ℕ, ◌⊎◌, Bool, true, false, List, [], ◌∷◌, ◌++◌, map, filter, flat_map}
 use Rattle.std.proofs.Common.{cond, sym, refl, ap, subst, ◌∙◌, inl, inr}
 use Rattle.std.proofs.lemmas.Bool.{true≢false, or_parts}

@@ -1,5 +1,5 @@
--- The lemmas, each with the laws whose proofs cite it. A law's own proof is SUBJECT/LAW/Answers,
--- next to src/SUBJECT.rt.
+-- Lemmas on rounds and levels, each with the laws whose proofs cite it.
+-- A law's own proof is SUBJECT/LAW/Answers, next to src/SUBJECT.rt.
 --
 -- for level_four_is_no_usable_replica, more_wanted_is_no_less_need,
 -- one_drained_replica_more_is_no_more_need, one_replica_more_is_no_more_need,

@@ -1,4 +1,4 @@
--- Keys do not repeat, so what is chosen node by node is commanded node by node.
+-- A node is commanded the deletes that were chosen for it, and so at most `invalidate` of them.
 use Rattle.std.specs.Prelude.{◌≡◌, ℕ, ◌≤◌, Bool, true, false, ◌&&◌, ◌||◌, ◌==◌, if◌then◌else◌, List, [], ◌∷◌, ◌++◌, map, filter, flat_map, length, Some, None}
 use Rattle.std.specs.Option.{option_map_or}
 use Rattle.std.specs.List.{All}

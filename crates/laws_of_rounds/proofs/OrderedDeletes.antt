@@ -1,5 +1,4 @@
--- No call makes a replica usable whose delete was commanded. It is usable again once it is
--- reported, and then the command is forgotten.
+-- A replica whose delete was commanded is unusable until reported; a known block keeps a good one.
 use Rattle.std.specs.Prelude.{◌≡◌, ℕ, Bool, true, false, not, ◌&&◌, ◌==◌, ◌⊎◌, if◌then◌else◌, List, [], ◌∷◌, map, Option, Some, None, is_some, option_and_then}
 use Rattle.std.specs.Ordering.{eq_by_cmp}
 use Rattle.std.proofs.Common.{cond, refl, sym, ap, subst, ◌∙◌}

@@ -1,4 +1,4 @@
--- A delete that passes the definitions' test is commanded in the sense of the laws.
+-- If `is_commanded` finds a replica among a round's deletes, the round commands its delete.
 use Rattle.std.specs.Prelude.{◌&&◌, ◌==◌}
 use Rattle.std.proofs.Common.{subst}
 use Rattle.bm_base.specs.declared.replica.ReplicaId.{ReplicaId}

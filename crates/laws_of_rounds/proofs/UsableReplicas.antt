@@ -1,4 +1,4 @@
--- Usable replicas are live or drained.
+-- A replica is usable exactly if it is live or drained, and copies are made from those only.
 use Rattle.std.specs.Prelude.{◌≡◌, ℕ, Bool, true, false, not, ◌&&◌, ◌||◌, ◌==◌, Option, Some, None}
 use Rattle.std.specs.Option.{option_map_or}
 use Rattle.std.proofs.Common.{refl, sym, ◌∙◌}

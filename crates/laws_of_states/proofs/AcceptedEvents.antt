@@ -1,4 +1,4 @@
--- An accepted event keeps a lawful state lawful.
+-- An accepted event whose numbers fit their types keeps a lawful state lawful.
 use Rattle.std.proofs.Common.{◌≡◌, ℕ, ◌<◌, ◌^◌, Bool, true, false, not, Some, None, List, [], map, sym, ap, ◌∙◌}
 use Rattle.std.specs.Prelude.{◌==◌}
 use Rattle.std.proofs.lemmas.Bool.{not-false}

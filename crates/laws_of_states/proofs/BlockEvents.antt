@@ -1,4 +1,4 @@
--- Events on one block keep lawful holdings lawful.
+-- Changes of a block, or a replica found bad, keep lawful holdings lawful if their checks pass.
 use Rattle.std.proofs.Common.{◌≡◌, ℕ, ◌≤◌, Bool, true, false, cond, not, ◌&&◌, Some, None, is_some, IsTrue, refl, sym, ap, subst, ◌∙◌, true≢false, eqb-true, arith, ltb-false}
 use Rattle.std.specs.Prelude.{◌==◌, if◌then◌else◌, nat_lt}
 use Rattle.std.specs.Ordering.{eq_by_cmp, nat_cmp}

@@ -1,4 +1,4 @@
--- The first state is lawful.
+-- The first state is lawful if the first numbers of rounds and calls fit 64 bits.
 use Rattle.std.proofs.Common.{◌≡◌, ℕ, true, false, Some, None, is_some, refl, sym, ap, ◌∙◌, arith}
 use Rattle.bm_base.specs.declared.config.Config.{Config}
 use Rattle.bm_base.specs.declared.replica.ReplicaId.{ReplicaId}

@@ -1,4 +1,4 @@
--- The only good replica of a block is not commanded to be deleted.
+-- A round spares a known block's only good replica; its deletes leave the block enough live ones.
 use Rattle.std.specs.Prelude.{◌≡◌, ℕ, true, Some, option_map}
 use Rattle.std.proofs.Common.{sym, ap, ◌∙◌}
 use Rattle.bm_base.specs.declared.replica.Tag.TheVariants.{Good}

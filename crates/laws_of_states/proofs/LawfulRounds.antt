@@ -1,4 +1,4 @@
--- A round keeps a lawful state lawful.
+-- An accepted round keeps a lawful state lawful.
 use Rattle.std.proofs.Common.{◌≡◌, ℕ, ◌+◌, ◌<◌, ◌≤◌, Bool, true, false, not, Some, None, List, map, is_some, refl, sym, ap, ◌∙◌, arith}
 use Rattle.std.specs.Prelude.{if◌then◌else◌, nat_le, ◌-◌}
 use Rattle.std.proofs.lemmas.Bool.{and_parts}

@@ -1,4 +1,4 @@
--- Each event and each round leaves a lawful state lawful.
+-- Lemmas: accepted events and rounds keep states lawful, and deletes leave enough live replicas.
 pub mod BlockEvents
 pub mod FirstState
 pub mod LawfulRounds

@@ -1,4 +1,4 @@
--- A round commands, node by node, what it has chosen; and the replica of each commanded delete.
+-- A round commands only what it has chosen, and deletes only replicas that are deletable.
 use Rattle.std.specs.Prelude.{◌≡◌, ℕ, Bool, true, false, ◌&&◌, ◌==◌, if◌then◌else◌, List, [], map, filter, flat_map, Some}
 use Rattle.std.proofs.Common.{subst}
 use Rattle.std.proofs.lemmas.Bool.{eqb-true}

@@ -1,4 +1,4 @@
--- A full handle and the parts of a box own what the box owns.
+-- Names the box of a handle's state, and the types of its parts and of the handle, for proofs.
 use mir.Syntax.{impl, tnil, dnil}
 use mathlib.Core.List.{[]}
 use denote.Signature.{Slot, plain}

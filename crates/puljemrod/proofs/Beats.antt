@@ -1,4 +1,4 @@
--- A heartbeat takes no memory but that for the copy of its list.
+-- A heartbeat runs out of memory only if its list exceeds the memory that the handle keeps.
 use Rattle.std.proofs.Common.{◌≡◌, ℕ, List, inl, inr, subst, rules}
 use Rattle.bm_base.specs.declared.call.Call.TheVariants.{Apply}
 use Rattle.bm_base.specs.declared.event.Event.TheVariants.{Heartbeat}

@@ -1,4 +1,4 @@
--- A line is answered if its call is made.
+-- A line has the answer of its request, and a line that is too long never runs out of memory.
 use Rattle.std.proofs.Common.{◌≡◌, ℕ, List, IsTrue, Result, Ok, Err, ap, ◌∙◌}
 use Rattle.std.specs.Prelude.{OnErr}
 use Rattle.bm_base.specs.Machine.State.{State}

@@ -1,4 +1,4 @@
--- The outcomes of an event are outcomes of an event with a list.
+-- Each result that an event may have, it may also have if its list is copied first.
 use Rattle.std.proofs.Common.{ℕ, Option, None, Some, inl, inr}
 use Rattle.bm_base.specs.declared.event.Event.{Event}
 use Rattle.puljemrod.specs.declared.handle_state.HandleState.{HandleState}

@@ -1,4 +1,4 @@
--- Rows are written one after another.
+-- After one more row or list is copied, a buffer holds the rows so far and then its old rest.
 use Rattle.std.proofs.Common.{◌≡◌, ◌<◌, ◌+◌, ◌-◌, ◌++◌, ◌∷◌, [], ℕ, zero, suc, List, arith, length, map, flat_map, take, drop, set, get_or, min, ap, ap₂, sym, ◌∙◌}
 use Rattle.std.proofs.lemmas.List.{set_at, length-map, length-take, length-drop, length-append, drop_more, map_more, take_more, take_at, drop_at, drop-drop, take_min, take_rest, drop_all, append-nil}
 use Rattle.std.proofs.lemmas.Grind.{flat_map-append}

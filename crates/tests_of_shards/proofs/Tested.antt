@@ -1,4 +1,4 @@
--- No block has two wishes in the parts of the tests.
+-- Merging no part, or one part with at most one wish, gives no two wishes of one block.
 use Rattle.std.proofs.Common.{◌≡◌, false, [], ◌∷◌, ◌++◌, map, refl, ap}
 use Rattle.bm_base.specs.declared.round.Wish.{Wish}
 use Rattle.bm_base.specs.declared.round.RoundPart.{RoundPart}

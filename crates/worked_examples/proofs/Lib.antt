@@ -1,2 +1,2 @@
--- Lemmas for what takes too many steps to compute as a whole.
+-- Lemmas for examples that take too many steps to compute as a whole.
 pub mod Storages

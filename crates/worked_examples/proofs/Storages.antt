@@ -1,4 +1,4 @@
--- One node has too many storages to compute the check for repeats. It is proved instead.
+-- The worked example at the limit of storages holds; that none repeats is proved, not computed.
 use Rattle.std.specs.Prelude.{◌≡◌, ℕ, zero, suc, ◌+◌, ◌-◌, ◌<◌, ◌≤◌, false, nat_le, nat_lt, List, ◌∷◌, ◌++◌, map, length, Option, None}
 use Rattle.std.specs.List.{list_any}
 use Rattle.std.proofs.Common.{refl, ap, ◌∙◌, arith}

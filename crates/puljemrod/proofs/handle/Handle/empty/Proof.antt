@@ -1,4 +1,4 @@
--- `empty` makes a null pointer, which owns nothing.
+-- `empty` makes a handle with a null pointer, which owns nothing.
 use mathlib.Core.Path.{refl, sym, subst}
 use mathlib.Core.List.{List, [], ◌∷◌, ◌++◌}
 use Rattle.std.proofs.Common.{None}

@@ -1,4 +1,4 @@
--- `full` moves two fields, the pointer as one to bytes, with all that they own.
+-- `full` moves the fields of the parts, the pointer cast to bytes, with all that they own.
 use mathlib.Core.Path.{refl, sym, subst}
 use mathlib.Core.List.{List, [], ◌∷◌, ◌++◌}
 use Rattle.std.proofs.Common.{Some}
