@@ -51,7 +51,7 @@ not_gone : (H : Holdings) (b c : ℕ) → contains_key (remove H.blocks b) c ≡
 not_gone H b c known true e = let gone : false ≡ true = sym (ap is_some (get_taken H.blocks b)) ∙ ap (contains_key (remove H.blocks b)) (sym (eqb-true c b e)) ∙ known in cc
 not_gone H b c known false e = refl
 
-pub bad_stays : (M : State) → IsOrderly M → law.no_event_clears_bad M
+pub bad_stays : (M : State) → IsOrderly M → law.bad_replica_stays_bad M
 unfolding after_event change_holdings without_storages add_block delete_block set_replication restamp make_bad remove_replica without_pending change_marks_of_block revise_at
 bad_stays M L (Received s b stamp) p bad is known = received_leaves_bad M L s b stamp p bad is
 bad_stays M L (FullReport s es) p bad is known = report_leaves_bad M L s es p bad is

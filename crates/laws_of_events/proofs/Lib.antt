@@ -23,7 +23,7 @@ pub mod NodeChanges
 pub mod BlockChanges
 -- for counts_add_up
 pub mod EventCounts
--- for no_event_clears_bad
+-- for bad_replica_stays_bad
 pub mod BadStays
 -- for report_is_what_is_asked
 pub mod BlocksAfterReport

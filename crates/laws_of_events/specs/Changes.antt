@@ -24,8 +24,8 @@ abbrev pub counts_add_up : Type 0
 counts_add_up = (M : State) (e : Event) → len (held_after M e).replicas + (done_by M e).removed ≡ len M.holdings.replicas + (done_by M e).added
 
 -- a bad replica stays bad as long as it exists and its block is known
-abbrev pub no_event_clears_bad : State → Type 0
-no_event_clears_bad M =
+abbrev pub bad_replica_stays_bad : State → Type 0
+bad_replica_stays_bad M =
     (e : Event) (p : ReplicaId) → IsBadIn M.holdings p → IsSome (get (held_after M e).replicas p) → IsTrue (contains_key (held_after M e).blocks p.block) → IsBadIn (held_after M e) p
 
 -- An event on one block keeps everything of any other.

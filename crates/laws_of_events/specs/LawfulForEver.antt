@@ -1,4 +1,4 @@
--- Every state that calls lead to is lawful.
+-- Calls whose numbers fit their types lead to lawful states.
 use Rattle.std.specs.Prelude.{◌≡◌, IsTrue, IsSome, List, None}
 use Rattle.bm_base.specs.declared.replica.ReplicaId.{ReplicaId}
 use Rattle.bm_base.specs.Words.{get, State, first_state, refusal_of, round_refusal, whole_round, step, after_event, count_call, state_after, is_refused, MayAnswerAll, state_after_answers}

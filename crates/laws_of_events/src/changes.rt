@@ -89,7 +89,7 @@ pub fn report_leaves_unnamed_blocks()
 {}
 
 /// A bad replica stays bad through every event, as long as it exists and its block is known.
-pub fn no_event_clears_bad()
-    ensures lawful { InLawfulStates law.no_event_clears_bad }
-    ensures reached { AfterAllCalls law.no_event_clears_bad }
+pub fn bad_replica_stays_bad()
+    ensures lawful { InLawfulStates law.bad_replica_stays_bad }
+    ensures reached { AfterAllCalls law.bad_replica_stays_bad }
 {}

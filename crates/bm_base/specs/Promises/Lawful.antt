@@ -1,4 +1,4 @@
--- The lawful states: what holds of every state that calls lead to.
+-- The lawful states: what holds of every state that calls lead to, if all numbers fit their types.
 use Rattle.std.specs.Prelude.{◌≡◌, ℕ, ◌≤◌, ◌<◌, ◌^◌, false, IsTrue, not, Some, IsSome}
 use Rattle.bm_base.specs.declared.replica.ReplicaId.{ReplicaId}
 use Rattle.bm_base.specs.declared.replica.Marks.{Marks}

@@ -2,11 +2,11 @@ use Rattle.bm_base.specs.Machine.State.{State}
 use Rattle.bm_base.specs.Promises.Lawful.{IsOrderly}
 use Rattle.laws_of_states.proofs.LawfulRounds.{orderly}
 use Rattle.laws_of_states.proofs.OrderlyStates.{calls_orderly}
-use Rattle.laws_of_events.specs.Changes.{no_event_clears_bad}
+use Rattle.laws_of_events.specs.Changes.{bad_replica_stays_bad}
 use Rattle.laws_of_events.proofs.BadStays.{bad_stays}
-use Rattle.laws_of_events.proofs.changes.no_event_clears_bad.Goals as goal
+use Rattle.laws_of_events.proofs.changes.bad_replica_stays_bad.Goals as goal
 
-in_orderly : (M : State) → IsOrderly M → no_event_clears_bad M
+in_orderly : (M : State) → IsOrderly M → bad_replica_stays_bad M
 in_orderly M O = bad_stays M O
 
 pub returns-clause-lawful : goal.returns-clause-lawful
