@@ -16,7 +16,7 @@ ForEachTransfer P = (M : State) (front back : List Transfer) (t : Transfer) → 
 
 -- Numbers of transfers.
 
--- a round commands at most `work` times as many transfers as nodes are alive
+-- the transfers of a round are at most `work` times the number of alive nodes
 abbrev pub AtMostWorkTimesNodes : Type 0
 AtMostWorkTimesNodes = (M : State) → length (transfers_commanded M) ≤ M.limits.work * len M.cluster.nodes
 

@@ -2,7 +2,7 @@
 // another.
 ghost use Rattle.laws_of_rounds.specs.Transfers as law;
 
-/// A round commands at most `work` times as many transfers as nodes are alive.
+/// The transfers of a round are at most `work` times the number of alive nodes.
 pub fn at_most_work_times_nodes()
     ensures { law.AtMostWorkTimesNodes }
 {}
