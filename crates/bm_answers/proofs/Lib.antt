@@ -1,3 +1,3 @@
--- Lemmas on answers: their lines, and refusals for memory.
+-- Lemmas on answers: how a line asks for a call, and which answers are out of memory.
 mod AskedLemmas
 mod NoMemory

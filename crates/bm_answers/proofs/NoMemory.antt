@@ -1,5 +1,4 @@
--- No definition refuses for memory. So if a manager does, the call takes memory, and nothing else
--- refuses it.
+-- Only a call that takes memory, and that nothing else refuses, may be answered out of memory.
 use Rattle.std.proofs.Common.{◌≡◌, ℕ, Bool, true, false, not, nat_le, List, [], ◌∷◌, Option, None, Some, IsTrue, ◌⊎◌, inl, inr, ap, refl}
 use Rattle.bm_base.specs.declared.event.Event.{Event}
 use Rattle.bm_base.specs.declared.event.Event.TheVariants as event

@@ -1,4 +1,4 @@
--- Each slot that is held stays below the bound, whatever a call does to the entries.
+-- Each change of entries keeps all held slots below the bound, which only an insert may raise.
 use Rattle.std.proofs.Common.{◌≡◌, ℕ, ◌<◌, ◌+◌, max, get_or, set, [], Option, Some, None, IsSome, refl, subst, inl, inr, sym, ap, ◌∙◌, arith}
 use Rattle.std.specs.Option.{option_map}
 use Rattle.std.proofs.lemmas.Bool.{cases_eq, false≢true}

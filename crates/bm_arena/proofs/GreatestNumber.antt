@@ -1,4 +1,4 @@
--- No number that has a slot is greater than the greatest that was added.
+-- If no number with a slot exceeds g, none exceeds max(g, id) once the number id gets a slot.
 use Rattle.std.proofs.Common.{ℕ, ◌≤◌, List, [], ◌∷◌, ◌++◌, max, inl, inr, arith}
 use Rattle.bm_arena.specs.Inside.{AreAtMost}
 use Rattle.bm_arena.proofs.Entries.{lookup-push_cases}

@@ -1,4 +1,4 @@
--- A new head keeps an arena's invariant, and adds an empty list to its view.
+-- A new head, if the delimiter has capacity for it, keeps the invariant and adds an empty list.
 use Rattle.std.proofs.Common.{◌≡◌, ◌≢◌, ℕ, ◌≤◌, ◌+◌, List, [], ◌∷◌, ◌++◌, length, get_or, Bool, Option, Some, None, is_some, IsSome, refl, subst, inl, inr, sym, ap, ◌∙◌, arith}
 use Rattle.std.specs.Option.{option_map, option_map_or, option_and_then, unwrap_or}
 use Rattle.std.specs.Map.{lookup, keys_of}

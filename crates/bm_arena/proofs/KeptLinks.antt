@@ -1,4 +1,4 @@
--- If each triplet keeps its links, an arena keeps its lists.
+-- If a change keeps all triplets with their links, an arena keeps its lists and its invariant.
 use Rattle.std.proofs.Common.{◌≡◌, ℕ, ◌≤◌, List, [], ◌∷◌, map, length, get_or, eqb, Option, Some, None, refl, subst, inl, inr, sym, ap, ◌∙◌, arith}
 use Rattle.std.specs.Option.{option_map}
 use Rattle.std.specs.Map.{lookup, keys_of}

@@ -1,5 +1,4 @@
--- An arena whose fields keep the invariant is lawful, and the next link leads to the slot that
--- follows.
+-- An arena whose fields keep the invariant is lawful; links lead to the next and previous slots.
 use Rattle.std.proofs.Common.{◌≡◌, ℕ, List, [], ◌∷◌, eqb, Option, Some, None, IsSome, refl, inl, inr, sym, ap, ◌∙◌}
 use Rattle.std.specs.Option.{option_map, unwrap_or}
 use Rattle.std.specs.Map.{lookup}

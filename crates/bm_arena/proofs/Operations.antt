@@ -1,5 +1,4 @@
--- Linking, unlinking and moving a replica change an arena's lists and its view as the operations
--- define.
+-- Linking or moving a replica puts it first in its list, unlinking removes it; lists stay sound.
 use Rattle.std.proofs.Common.{◌≡◌, ◌≢◌, ℕ, List, [], ◌∷◌, ◌++◌, length, get_or, eqb, Option, Some, None, refl, subst, inl, inr, sym, ap, ◌∙◌}
 use Rattle.std.specs.Option.{option_map}
 use Rattle.std.specs.Map.{lookup, set_value, keys_of}

@@ -1,4 +1,4 @@
--- Each list operation keeps an arena's invariant and changes its view as defined.
+-- If only one storage's links change, to a list of all its slots, the arena's links are sound.
 use Rattle.std.proofs.Common.{◌≡◌, ◌≢◌, ℕ, zero, suc, ◌<◌, List, [], ◌∷◌, length, get_or, false, cond, eqb, Option, Some, None, refl, subst, inl, inr, sym, ap, ◌∙◌}
 use Rattle.std.specs.Map.{lookup, set_value, keys_of}
 use Rattle.std.specs.List.{IsDistinct, AllByRecursion}

@@ -1,4 +1,4 @@
--- Entries stay under list operations and new marks.
+-- List operations and new marks keep each entry's slot, number, information and capacity.
 use Rattle.std.proofs.Common.{◌≡◌, ℕ, List, IsSome, refl, subst, inl, inr, sym, ap, ◌∙◌}
 use Rattle.std.specs.Prelude.{nat_eq}
 use Rattle.std.specs.Option.{option_map_or}

@@ -1,4 +1,4 @@
--- An entry of a changed map was there before, or was inserted.
+-- A look-up in a changed map finds what was inserted, or what the change made of the old value.
 use Rattle.std.proofs.Common.{◌≡◌, ◌+◌, ◌≤◌, Bool, true, false, cond, not, ◌||◌, List, [], ◌∷◌, length, Option, Some, None, is_some, is_eq, Ordering, Equal, refl, sym, ap, subst, ◌∙◌, arith, ◌⊎◌, inl, inr, T}
 use Rattle.std.specs.Prelude.{option_and_then, option_map}
 use Rattle.std.specs.Ordering.{eq_by_cmp}

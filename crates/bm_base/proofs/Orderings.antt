@@ -1,5 +1,4 @@
--- Of two replicas of one block, the lesser is on the lesser storage; of two on one storage, it is
--- of the lesser block.
+-- Replicas of one block are ordered by storage, and replicas on one storage by block.
 use Rattle.std.proofs.Common.{◌≡◌, ℕ, ◌<◌, nat_cmp, Ordering, Less, Equal, Greater, refl, sym, ap, subst, ◌∙◌, T, arith}
 use Rattle.std.specs.Ordering.{is_lt, ordering_then}
 use Rattle.std.specs.Cmp.{tied_itself, nat_cmp_total}

@@ -1,5 +1,4 @@
--- Adding an entry for a number changes neither blocks nor replicas, whether the entry stays or is
--- dropped again.
+-- A new entry keeps the invariant and all levels; once dropped, slots and numbers are as before.
 use Rattle.std.specs.Prelude.{◌≡◌, ◌↔◌, ℕ, ◌+◌, ◌<◌, true, false, ◌==◌, if◌then◌else◌, Option, Some, None, IsSome, option_and_then}
 use Rattle.std.proofs.Common.{refl, sym, ap, subst, ◌∙◌, arith, inl, inr}
 use Rattle.std.proofs.lemmas.Bool.{cases_eq, ne_eqb, eq-eqb, true≢false}

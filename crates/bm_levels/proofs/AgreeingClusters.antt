@@ -1,4 +1,4 @@
--- If two clusters agree on the storages of a block's usable replicas, they agree on its level.
+-- Clusters that agree on a block's usable replicas and on being multi-rack agree on its level.
 use Rattle.std.specs.Prelude.{◌≡◌, ℕ, Bool, true, false, not, ◌&&◌, List, [], ◌∷◌, length, map, filter, filter_map, Option, Some, option_and_then}
 use Rattle.std.specs.List.{cons_option}
 use Rattle.std.proofs.Common.{cond, refl, ap, ◌∙◌}

@@ -1,5 +1,4 @@
--- A block's level does not depend on whether the delete of a replica is ordered; and the block is
--- unsettled, before and after, if the replica had a mark.
+-- Ordering a delete keeps a block's level; a replica that is marked or not good unsettles a block.
 use Rattle.std.specs.Prelude.{◌≡◌, ◌↔◌, ℕ, ◌+◌, IsSome, Bool, true, false, not, ◌&&◌, ◌||◌, ◌==◌, List, [], ◌∷◌, map, filter, filter_map, length, Option, Some, None, option_map, option_and_then}
 use Rattle.std.specs.List.{list_any}
 use Rattle.std.proofs.Common.{cond, refl, sym, ap, subst, ◌∙◌, inl, inr}
@@ -76,7 +75,7 @@ not_plain_then m = by m.tag m.excess
     by Bad x = refl
     by Stray x = refl
 
--- a replica that is not plain
+-- a replica that is marked or not good unsettles its block
 some_marked : (rs : List (ℕ × Marks)) (s : ℕ) (m : Marks) → find_marks rs s ≡ Some m → is_good_and_unmarked m ≡ false → list_any (λ (r : ℕ × Marks). not (is_good_and_unmarked r.1)) rs ≡ true
 some_marked [] s m e f = cc
 some_marked (r ∷ rs) s m e f = by (r.0 == s) (λ g. some_marked rs s m g f) e

@@ -1,4 +1,4 @@
--- Dropping an unused entry keeps all blocks and replicas.
+-- Dropping an unused entry keeps all blocks, replicas and levels, and the other numbers' slots.
 use Rattle.std.specs.Prelude.{◌≡◌, ◌≢◌, ◌↔◌, ℕ, IsSome, Bool, true, false, ◌==◌, if◌then◌else◌, [], Option, Some, None, option_and_then, IsSomeAnd}
 use Rattle.std.proofs.Common.{refl, sym, ap, subst, ◌∙◌, inl, inr}
 use Rattle.std.proofs.lemmas.Option.{same_Some}
@@ -102,7 +102,7 @@ module _ (old : Leveled) (c : Contents) (slot : ℕ) (k : Block) (lawful : IsLaw
     | inr differs ↦ h z ∙ sym (ap (level_by rack draining multi) (still z differs))
   ]
 
--- what a dropped entry leaves as it was
+-- what dropping an entry keeps; only its own number loses its slot
 pub record IsEmptied (old : Leveled) (c : Contents) (slot : ℕ) : Type 0 where
   pub replicas : replicas_of c ≡ replicas_of old.arena
   pub blocks : blocks_of c ≡ blocks_of old.arena

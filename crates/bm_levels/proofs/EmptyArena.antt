@@ -1,4 +1,4 @@
--- Nothing is in a new arena.
+-- An empty arena with no levels and no unsettled slots keeps the invariant, in any cluster.
 use Rattle.std.specs.Prelude.{◌≡◌, ◌≢◌, ℕ, ◌+◌, IsSome, true, Option, Some, None, option_and_then}
 use Rattle.std.proofs.Common.{sym, ap, subst, ◌∙◌, inl, inr}
 use Rattle.std.proofs.lemmas.Bool.{cases_eq, true≢false, false≢true}

@@ -1,4 +1,4 @@
--- The level of a block is that of the block at its slot.
+-- A block's level in an arena's holdings is that of the entry at its slot; none without a slot.
 use Rattle.std.specs.Prelude.{◌≡◌, ℕ, Bool, false, List, length, filter_map, Option, Some, None, option_and_then}
 use Rattle.std.specs.Option.{option_map_or}
 use Rattle.std.proofs.Common.{refl, sym, ap, ◌∙◌}

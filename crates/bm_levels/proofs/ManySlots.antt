@@ -1,5 +1,4 @@
--- If the replicas of several blocks changed and exactly these were reclassified, the invariant
--- holds again.
+-- If each slot whose replicas changed is reclassified, the invariant and the levels hold again.
 use Rattle.std.specs.Prelude.{◌≡◌, ◌≢◌, ◌↔◌, ℕ, ◌+◌, Bool, true, false, List, [], ◌∷◌, Option, Some, None, IsSome, is_some, option_and_then}
 use Rattle.std.proofs.Common.{refl, sym, ap, subst, ◌∙◌, inl, inr, ◌⊎◌, cond}
 use Rattle.std.proofs.lemmas.Bool.{cases_eq, eq-eqb, true≢false}

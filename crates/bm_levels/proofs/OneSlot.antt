@@ -1,4 +1,4 @@
--- If one slot changed and was reclassified, the invariant holds again.
+-- If one slot changed and was reclassified, the invariant and the levels hold again.
 use Rattle.std.specs.Prelude.{◌≡◌, ◌≢◌, ◌↔◌, ℕ, ◌+◌, IsSome, Bool, false, Some, None, Option, option_and_then}
 use Rattle.std.proofs.Common.{refl, sym, ap, subst, ◌∙◌, inl, inr}
 use Rattle.std.proofs.lemmas.Bool.{cases_eq}

@@ -1,4 +1,4 @@
--- Slots are reclassified while all blocks and replicas stay.
+-- While blocks stay, reclassifying each slot whose level changes makes all levels right again.
 use Rattle.std.specs.Prelude.{◌≡◌, ℕ, ◌+◌, Bool, true, false, Option, Some, None, IsSome, List, [], ◌∷◌, map, nat_eq, slice_get, suc, option_and_then}
 use Rattle.std.specs.Map.{lookup}
 use Rattle.std.specs.Cmp.{nat_eq_equiv}

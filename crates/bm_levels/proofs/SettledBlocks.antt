@@ -1,4 +1,4 @@
--- A block that is settled at its slot is settled.
+-- A block settled at its slot has good, unmarked replicas only, and no more than are wanted.
 use Rattle.std.specs.Prelude.{◌≡◌, ℕ, ◌≤◌, Bool, true, false, not, ◌&&◌, nat_le, List, [], ◌∷◌, length, map, filter, Some, if◌then◌else◌, ◌==◌}
 use Rattle.std.specs.Option.{option_map_or}
 use Rattle.std.specs.List.{list_any}

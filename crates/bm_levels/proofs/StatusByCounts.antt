@@ -1,4 +1,4 @@
--- The counts of the replicas at a slot determine the status of its block.
+-- A count of the replicas at a slot, even one that stops early, gives the status of its block.
 use Rattle.std.specs.Prelude.{◌≡◌, ℕ, ◌≤◌, ◌<◌, Bool, true, false, not, ◌&&◌, if◌then◌else◌, nat_le, nat_lt, List, [], length, map, filter_map, Option, Some, None, is_some, option_map, option_and_then}
 use Rattle.std.specs.Int.{from_bool}
 use Rattle.std.specs.Option.{option_map_or}

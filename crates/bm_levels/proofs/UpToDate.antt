@@ -1,4 +1,4 @@
--- If two clusters agree on the storages of all replicas, levels are the same.
+-- Levels stay right in a cluster that agrees on all replicas' storages and on being multi-rack.
 use Rattle.std.specs.Prelude.{◌≡◌, ℕ, Bool, true, false, ◌==◌, List, [], ◌∷◌, Option, Some, None, IsSome, is_some, option_and_then}
 use Rattle.std.proofs.Common.{cond, refl, sym, ap, subst, ◌∙◌}
 use Rattle.std.proofs.lemmas.Bool.{eq-eqb}

@@ -1,4 +1,4 @@
--- The line that asks for a call is read as that call, and is one line.
+-- The line for a call that has an op and numbers in range is one line, and is read as that call.
 use Rattle.std.proofs.Common.{◌≡◌, true, Some, ap, ◌∙◌}
 use Rattle.std.specs.Prelude.{option_and_then}
 use Rattle.std.proofs.lemmas.Str.{is_utf8-from_IsUtf8}

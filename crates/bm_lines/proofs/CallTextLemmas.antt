@@ -1,4 +1,4 @@
--- The line that asks for a call is the text of its object.
+-- The line that asks for a call is the compact text of its JSON object.
 use Rattle.std.proofs.Common.{◌≡◌, ℕ, ◌==◌, Bool, true, false, List, [], ◌∷◌, ◌++◌, codes, decimal, refl, sym, ap, ◌∙◌, append_assoc}
 use Rattle.std.specs.List.{flat_map}
 use Rattle.json.specs.Print.{escape_byte, escape}

@@ -1,4 +1,4 @@
--- The object that asks for a call, its members in order, is read as that call.
+-- The object for a call with an op and numbers in range, its members sorted, is read as the call.
 use Rattle.std.proofs.Common.{◌≡◌, ℕ, suc, ◌==◌, ◌<◌, ◌^◌, Bool, true, false, All, List, [], ◌∷◌, Option, Some, refl, ap, arith, lt-ltb, eqb-true}
 use Rattle.serde_json.specs.Data.{Data, array}
 use Rattle.bm_base.specs.declared.replica.Stamp.{Stamp}

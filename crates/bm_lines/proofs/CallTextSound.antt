@@ -1,5 +1,4 @@
--- The object that asks for a call has whole numbers below 2^64, plain names, and nests three deep
--- at most.
+-- The object of a call with numbers in range has plain strings only, and is not too deep to read.
 use Rattle.std.proofs.Common.{◌≡◌, ℕ, suc, ◌==◌, ◌<◌, ◌≤◌, ◌^◌, Bool, true, false, All, List, [], ◌∷◌, refl, arith}
 use Rattle.json.specs.Print.{escape_byte, quoted}
 use Rattle.serde_json.specs.Data.{Data, array, Items, depth, items_depth, members_depth}

@@ -1,4 +1,4 @@
--- A call that is read of a line has an op, so a line can be written for it.
+-- A call that is read from a line has an op, so a line that asks for it can be written.
 use Rattle.std.proofs.Common.{◌≡◌, true, Option, Some, None, option_map, option_and_then, refl, sym, subst}
 use Rattle.std.specs.Prelude.{IfSome}
 use Rattle.serde_json.specs.Data.{Data}

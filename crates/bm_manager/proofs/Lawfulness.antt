@@ -1,4 +1,4 @@
--- The parts of a manager are a lawful state.
+-- A manager's state is lawful at its start, after each accepted event and after each round.
 use Rattle.std.proofs.Common.{◌≡◌, ℕ, ◌+◌, ◌<◌, None, sym, ap, subst, ◌∙◌}
 use Rattle.bm_base.specs.declared.config.Config.{Config}
 use Rattle.bm_base.specs.declared.event.Event.{Event}

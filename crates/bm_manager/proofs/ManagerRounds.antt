@@ -1,4 +1,4 @@
--- A whole round of the shards is a round of the manager's state.
+-- A round of all shards is the manager's round, and deletes no last good replica of a known block.
 use Rattle.std.proofs.Common.{◌≡◌, ◌+◌, Result, Ok, Err, refl, sym, ap, subst, ◌∙◌}
 use Rattle.std.specs.Prelude.{IfOk, OnOk}
 use Rattle.bm_base.specs.declared.refusal.Refusal.{Refusal}

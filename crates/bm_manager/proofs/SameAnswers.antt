@@ -1,4 +1,4 @@
--- Any two lists of answers that a list of calls may give are alike.
+-- Two lists of answers to the same calls are equal up to the first out-of-memory answer in either.
 use Rattle.std.proofs.Common.{◌≡◌, Bool, true, false, List, [], ◌∷◌, refl, sym, ap, subst, ◌∙◌, inl, inr}
 use Rattle.std.specs.Prelude.{◌||◌, if◌then◌else◌}
 use Rattle.bm_base.specs.declared.call.Call.{Call}
@@ -15,7 +15,7 @@ module _ (step : State → Call → Answer × State) where
   left_by_step : (M : State) (k : Call) (x : Answer) → is_out_of_memory x ≡ false → state_after_answer step M k x ≡ (step M k).1
   left_by_step M k x e = ap (λ b. if b then M else (step M k).1) e
 
-  -- where memory lacks in neither answer both leave the same state, so the lists go on alike
+  -- if neither answer is out of memory, both leave the same state, so the rest is alike
   next_alike : (M : State) (k : Call) (ks : List Call) (x y : Answer) (xs ys : List Answer) (b c : Bool) → is_out_of_memory x ≡ b → is_out_of_memory y ≡ c
       → ((N : State) → MayAnswerAll step N ks xs → MayAnswerAll step N ks ys → HaveSameAnswers xs ys)
       → MayAnswerAll step M (k ∷ ks) (x ∷ xs) → MayAnswerAll step M (k ∷ ks) (y ∷ ys) → HaveSameAnswers (x ∷ xs) (y ∷ ys)

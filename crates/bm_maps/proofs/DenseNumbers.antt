@@ -1,5 +1,4 @@
--- In strictly ascending numbers a key's index is at most its distance from the first, and likewise
--- from the last.
+-- In strictly ascending numbers, a key's index is no farther from either end than the key is.
 use Rattle.std.proofs.Common.{◌≡◌, ℕ, ◌<◌, ◌≤◌, ◌+◌, ◌-◌, suc, zero, Bool, true, false, cond, List, [], ◌∷◌, length, get_or, T, arith, refl, subst, Ordering, Less, Equal, Greater}
 use Rattle.std.specs.Prelude.{◌==◌, nat_lt}
 use Rattle.std.specs.Ordering.{nat_cmp}

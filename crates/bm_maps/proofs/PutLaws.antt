@@ -1,4 +1,4 @@
--- Writing at a key's index is inserting at the key.
+-- Setting the value at a key's index, or inserting the key there if it is new, is a map's `put`.
 use Rattle.std.proofs.Common.{◌≡◌, ℕ, ◌<◌, ◌≤◌, List, [], ◌∷◌, length, set, get_or, arith, refl, sym, ap, subst, ◌∙◌, Ordering, Less, Equal, Greater}
 use Rattle.std.specs.Prelude.{insert}
 use Rattle.std.specs.FinMap.{put}

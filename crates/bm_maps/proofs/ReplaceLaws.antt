@@ -1,4 +1,4 @@
--- Setting the value at a known key is revising the map at the key.
+-- Setting a value in a sorted vector, if its key is there, sets it in the map of the vector.
 --     same_change, no_change      equal changes of a key's value, and no change without a value
 --     set_there                   the value that was set is the old value changed
 --     replaced, sorted_by-replaced      a sorted vector in which the value at a known key was set

@@ -1,4 +1,4 @@
--- A change of a sorted vector is a change of the map that it represents.
+-- Putting an entry into a sorted vector, or filtering it, keeps it sorted and does so to its map.
 use Rattle.std.specs.Prelude.{◌≡◌, Bool, List, T}
 use Rattle.std.specs.FinMap.{put, is_sorted}
 use Rattle.std.specs.FinMap.Entries.{is_sorted-put}

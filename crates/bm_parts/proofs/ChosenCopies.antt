@@ -1,5 +1,4 @@
--- A round marks only live replicas as excess, and sends copies only of known blocks to known
--- storages.
+-- A round marks only usable replicas as excess, and copies only known blocks to known storages.
 use Rattle.std.proofs.Common.{◌≡◌, ℕ, zero, suc, ◌*◌, ◌-◌, Bool, true, false, not, ◌&&◌, Option, Some, None, List, [], ◌∷◌, ◌++◌, filter, length, option_to_list, refl, sym, ap, ◌∙◌, eqb-true}
 use Rattle.std.specs.Prelude.{◌==◌, if◌then◌else◌, nat_le, option_map, option_and_then}
 use Rattle.std.specs.Option.{option_map_or}

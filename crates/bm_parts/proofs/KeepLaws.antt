@@ -1,5 +1,4 @@
--- Laws of maps under `keep`: it commutes with an insert of what stays, with another `keep` and with
--- a removal.
+-- Filtering a map commutes with removals, other filters, and inserts of entries that pass.
 use Rattle.std.proofs.Common.{◌≡◌, Bool, true, false, cond, ◌&&◌, Option, Some, None, refl, sym, ap, ◌∙◌}
 use Rattle.std.specs.Prelude.{option_and_then}
 use Rattle.std.specs.Ordering.{eq_by_cmp}

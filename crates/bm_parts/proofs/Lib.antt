@@ -1,3 +1,4 @@
+-- Lemmas on parts of holdings: events, rounds, queries and levels, and the whole of all parts.
 -- Events on the holdings of one part.
 pub mod KeepLaws
 pub mod RemainingHoldings

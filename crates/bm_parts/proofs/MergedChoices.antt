@@ -1,4 +1,4 @@
--- The choice from the parts is the choice from the whole.
+-- A round chooses the same transfers and deletes from all parts as from the whole.
 use Rattle.std.proofs.Common.{◌≡◌, ℕ, ◌+◌, ◌≤◌, [], sym, ap, ◌∙◌, mod-lt}
 use Rattle.std.proofs.lemmas.List.Folds.{flat_map-map}
 use Rattle.bm_base.specs.declared.commands.Delete.{Delete}

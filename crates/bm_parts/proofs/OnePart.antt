@@ -1,5 +1,4 @@
--- If one part has all wishes and deletes of holdings, the choice from it is the choice from the
--- holdings.
+-- A round's wishes and deletes are sorted, and it commands what is chosen from the holdings.
 use Rattle.std.proofs.Common.{◌≡◌, ℕ, ◌+◌, [], map, refl, T}
 use Rattle.std.specs.FinMap.{is_sorted}
 use Rattle.bm_base.specs.declared.round.RoundPart.{RoundPart}

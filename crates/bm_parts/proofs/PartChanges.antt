@@ -1,4 +1,4 @@
--- Changing each part changes the whole.
+-- An event or a round applied to each part is applied to the whole; an event's counts add up.
 use Rattle.std.proofs.Common.{◌≡◌, ℕ, zero, suc, ◌+◌, ◌≤◌, List, [], ◌∷◌, length, refl, sym, ap, subst, ◌∙◌, arith}
 use Rattle.bm_base.specs.Words.{Cluster, Holdings, change_holdings, end_round, done}
 use Rattle.bm_base.specs.declared.event.Event.{Event}

@@ -1,4 +1,4 @@
--- The answers of the parts add up to that of the whole.
+-- The numbers of replicas that an event adds and removes in the parts add up to the whole's.
 use Rattle.std.proofs.Common.{◌≡◌, ℕ, zero, suc, ◌+◌, ◌<◌, ◌≤◌, Bool, true, false, cond, not, is_some, List, [], ◌∷◌, filter, count_by, refl, sym, ap, ◌∙◌, arith, mod-lt, eqb-true, ne_eqb}
 use Rattle.std.specs.Prelude.{◌==◌}
 use Rattle.std.proofs.lemmas.Bool.{eqb-false}

@@ -1,4 +1,4 @@
--- Replicas stay on storages of alive nodes.
+-- Events that the cluster accepts, and rounds, keep all replicas on storages of alive nodes.
 use Rattle.std.proofs.Common.{◌≡◌, ℕ, Bool, true, false, not, ◌||◌, Some, None, is_some, List, [], ◌∷◌, map, refl, sym, ap, ◌∙◌}
 use Rattle.std.specs.Prelude.{◌==◌, if◌then◌else◌, IsSome, option_map, option_and_then}
 use Rattle.std.specs.Ordering.{eq_by_cmp}

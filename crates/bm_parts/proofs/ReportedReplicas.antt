@@ -1,4 +1,4 @@
--- A received replica and a full report keep lawful holdings lawful.
+-- A received replica or a full report, on a known storage, keeps lawful holdings lawful.
 use Rattle.std.proofs.Common.{◌≡◌, ℕ, zero, suc, ◌+◌, ◌<◌, ◌≤◌, arith, Bool, true, false, not, ◌&&◌, Option, Some, None, List, [], ◌∷◌, map, is_some, IsTrue, refl, sym, ap, ◌∙◌, ◌⊎◌, inl, inr, eq-eqb, eqb-true}
 use Rattle.std.specs.Prelude.{◌==◌, if◌then◌else◌}
 use Rattle.std.specs.Option.{option_map_or}

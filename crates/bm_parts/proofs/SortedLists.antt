@@ -1,4 +1,4 @@
--- A list that was sorted is ascending by its keys.
+-- A permutation of a list with strictly ascending keys is that list in the order of its keys.
 use Rattle.std.proofs.Common.{◌≡◌, Some, List, map, sym, ap, subst, ◌∙◌, T}
 use Rattle.std.specs.Ordering.{eq_by_cmp}
 use Rattle.std.specs.FinMap.{is_sorted}

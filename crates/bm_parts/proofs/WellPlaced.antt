@@ -1,5 +1,4 @@
--- Replicas stay on known storages, a node keeps at most one replica of a block, and only good ones
--- are in excess.
+-- Accepted events and rounds keep the laws on where replicas are and which are in excess.
 use Rattle.std.proofs.Common.{◌≡◌, ℕ, Bool, true, false, not, Some, None, is_some, IsTrue, List, [], ◌∷◌, refl, sym, ap, subst, ◌∙◌, ◌⊎◌, inl, inr, eqb-true}
 use Rattle.std.specs.Prelude.{◌==◌, if◌then◌else◌}
 use Rattle.std.specs.Ordering.{eq_by_cmp, nat_cmp}

@@ -1,4 +1,4 @@
--- The choice from the wishes and deletes of holdings, as data, is the choice from the holdings.
+-- The transfers and deletes chosen from the holdings' lists of wishes and deletes are a round's.
 use Rattle.std.proofs.Common.{◌≡◌, ℕ, zero, suc, Bool, true, false, cond, List, [], ◌∷◌, ◌++◌, map, filter, flat_map, Option, Some, None, refl, sym, ap, subst, ◌∙◌, arith, append_assoc}
 use Rattle.std.specs.Prelude.{◌*◌, if◌then◌else◌, nat_lt, nat_le, option_and_then, option_map, option_to_list, filter_map, length, take, replicate}
 use Rattle.std.specs.Option.{option_map_or}

@@ -1,5 +1,4 @@
--- The blocks in the order of their indices are the keys of the hash table, and each block with a
--- transfer is one of them.
+-- The blocks by index are the hash table's keys, and each block with a transfer is one of them.
 use Rattle.std.proofs.Common.{◌≡◌, ℕ, Bool, true, false, cond, ◌||◌, List, [], ◌∷◌, map, Option, Some, None, is_some, refl, sym, ap, ◌∙◌, nat_eq}
 use Rattle.std.specs.Prelude.{◌==◌, IsSome, slice_get, option_map}
 use Rattle.std.specs.Option.{option_map_or}
@@ -40,7 +39,7 @@ index-had es q some = has-keys es q.block ∙ by (lookup (nat_eq q.block) es) (s
 pub keys-seen : (es : List (ℕ × PendingTargets)) (p : PendingMap) → record { map = map_of es; capacities = capacities_of es } ≡ p → keys_of es ≡ blocks_in p
 keys-seen es p view = sym (places-seen es) ∙ ap (λ (p : PendingMap). blocks_in p) view
 
--- so is the one at an index
+-- the block at an index is the key at this index
 pub index-seen : (es : List (ℕ × PendingTargets)) (p : PendingMap) → record { map = map_of es; capacities = capacities_of es } ≡ p → (o : Option (ℕ × PendingTargets)) (i : ℕ) → o ≡ slice_get es i
     → option_map (λ (e : ℕ × PendingTargets). e.0) o ≡ slice_get (blocks_in p) i
 index-seen es p view o i e = ap (option_map (λ (e : ℕ × PendingTargets). e.0)) e ∙ sym (slice_get-map (λ (e : ℕ × PendingTargets). e.0) es i) ∙ ap (λ ks. slice_get ks i) (keys-seen es p view)

@@ -1,4 +1,4 @@
--- The transfers of a block are contiguous among all, in the order of its targets.
+-- The map's transfers of a block are those to the block's targets, in the same order.
 use Rattle.std.specs.Prelude.{◌≡◌, ◌≢◌, ℕ, Bool, true, false, cond, ◌==◌, List, [], ◌∷◌, length, map, filter, Option, None, Some, option_and_then, T}
 use Rattle.std.specs.Ordering.{nat_cmp, ordering_then, is_lt}
 use Rattle.std.specs.Cmp.{tied_itself, nat_cmp_total}
@@ -66,7 +66,7 @@ storages : (b : ℕ) (ts : List (ℕ × ℕ)) → map (λ (e : ReplicaId × ℕ)
 storages b [] = refl
 storages b (t ∷ ts) = ap (λ xs. t.0 ∷ xs) (storages b ts)
 
--- the targets of a block, as they are seen
+-- the targets of a block, as contracts see them
 pub targets-seen : (es : List (ℕ × PendingTargets)) (b : ℕ) → ((q : ℕ) → T (is_sorted nat_cmp (targets_at es q))) → targets_of (record { map = map_of es; capacities = capacities_of es }) b ≡ map (λ t. t.0) (targets_at es b)
 targets-seen es b rise = ap (map (λ (e : ReplicaId × ℕ). e.0.storage)) (block-entries es b rise) ∙ storages b (targets_at es b)
 

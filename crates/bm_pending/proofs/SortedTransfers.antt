@@ -1,4 +1,4 @@
--- The transfers block by block, with ascending blocks, are the entries of a map.
+-- Listing transfers, or expired ones, by ascending block gives them in the order of the map.
 use Rattle.std.specs.Prelude.{◌≡◌, ◌<◌, ◌≤◌, ℕ, suc, Bool, true, false, cond, ◌==◌, ◌||◌, ◌++◌, List, [], ◌∷◌, length, map, filter, nat_eq, Option, None, Some, slice_index_or, ⊤, T}
 use Rattle.std.specs.Ordering.{nat_cmp, eq_by_cmp, is_lt, ordering_then}
 use Rattle.std.specs.declared.cmp.Ordering.TheVariants.{Less}
@@ -100,7 +100,7 @@ module _ (targets : ℕ → List (ℕ × ℕ)) (rise : (b : ℕ) → T (is_sorte
       ∙ (λ j. option_or (find-transfers_to k (targets k) q j) (find-transfers_of ks q j))
       ∙ found_once (q.block == k) (list_any (nat_eq q.block) ks) (find nat_cmp q.storage (targets k)) (find nat_cmp q.storage (targets q.block)) (λ e. ap (λ b. find nat_cmp q.storage (targets b)) (sym (eqb-true q.block k e)))
 
-  -- where no block but these has targets
+  -- if no block but these has targets
   module _ (ks : List ℕ) (ascending : Ascending ks) (all : (b : ℕ) → list_any (nat_eq b) ks ≡ false → targets b ≡ []) where
     in_order : Map by_replica ℕ
     in_order = record { list = transfers_of ks; sorted = is_sorted-transfers_of ks ascending }
@@ -119,7 +119,7 @@ abbrev pub named : ℕ → List (ℕ × ℕ) → List ReplicaId
 named b ts = map (λ t. replica_at b t.0) ts
 
 module _ (es : List (ℕ × PendingTargets)) (rise : (b : ℕ) → T (is_sorted nat_cmp (targets_at es b))) where
-  -- the names of those that are expired
+  -- the expired transfers, without their rounds
   module _ (pend r : ℕ) where
     abbrev old : ℕ → List (ℕ × ℕ)
     old b = filter (λ e. is_expired pend r e.1) (targets_at es b)

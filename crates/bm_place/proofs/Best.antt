@@ -1,4 +1,4 @@
--- The least of a filtered list passes the filter, and what that implies for a target.
+-- The least element of a filtered list passes the filter, and none that passes comes before it.
 use Rattle.std.specs.Prelude.{◌||◌}
 use Rattle.std.specs.Option.{option_map_or}
 use Rattle.std.proofs.Common.{◌≡◌, ℕ, Bool, true, false, cond, List, [], ◌∷◌, filter, Option, Some, None, refl, sym, ap, subst, ◌∙◌, ◌==◌, true≢false}
