@@ -16,7 +16,7 @@ use Rattle.bm_maps.specs.SlotLinks.{end_of_links}
 use Rattle.bm_arena.specs.Contents.{IsAdded, empty_block}
 use Rattle.bm_arena.specs.Inside.{list_from, lists_from, storages_of, IsSound, IsArena}
 use Rattle.bm_arena.proofs.Triplets.{read}
-use Rattle.bm_arena.proofs.SoundOperations.{list_from-list, IsList-same}
+use Rattle.bm_arena.proofs.SoundLinks.{list_from-list, IsList-same}
 use Rattle.bm_arena.proofs.EntryViews.{seen_at, storages_seen}
 
 -- a property of each key of a list holds of a key that is found

@@ -18,7 +18,7 @@ use Rattle.bm_maps.specs.SlotLists.{Distinct}
 use Rattle.bm_arena.specs.Lists.{Chain, IsList}
 use Rattle.bm_arena.specs.Inside.{list_from, lists_from, storages_of, IsSound, IsArena}
 use Rattle.bm_arena.proofs.Triplets.{find_triplet-change_same, find_triplet-change_other, read, get-at_slot, get_or-set_here, triplet_at-elsewhere, seen-at_slot}
-use Rattle.bm_arena.proofs.SoundOperations.{list_from-list}
+use Rattle.bm_arena.proofs.SoundLinks.{list_from-list}
 use Rattle.bm_arena.proofs.EntryViews.{some_inside, entry_seen}
 use Rattle.bm_arena.proofs.ListCalls.{AreIds-change}
 use Rattle.bm_arena.proofs.Entries.{lists_from-same}

@@ -14,7 +14,7 @@ use Rattle.bm_arena.specs.Lists.{Chain}
 use Rattle.bm_maps.specs.SlotLists.{slot_after, first_of}
 use Rattle.bm_arena.specs.Contents.{IsLawful, before_in, slot_before}
 use Rattle.bm_arena.specs.Inside.{list_from, lists_from, IsSound, IsBoundedArena}
-use Rattle.bm_arena.proofs.SoundOperations.{Chain-member}
+use Rattle.bm_arena.proofs.SoundLinks.{Chain-member}
 use Rattle.bm_arena.proofs.EntryViews.{marks_in, marks_of, marks-seen, entry_seen, lookup-lists_from}
 
 -- each list visits each slot once, and visits exactly the slots that have a replica on its storage

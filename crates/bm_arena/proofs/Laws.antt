@@ -15,7 +15,7 @@ use Rattle.bm_arena.specs.Contents.{Contents, block_at, list_of, HasHead, marks_
 use Rattle.bm_arena.proofs.Replicas.{keys, map-fill_first, find_marks-seen, found-fill_first_here, found-fill_first_other}
 use Rattle.bm_arena.proofs.Triplets.{get_or-set_here}
 use Rattle.bm_arena.proofs.EntryViews.{marks_of}
-use Rattle.bm_arena.proofs.SoundOperations.{lookup-set_same, lookup-set_other}
+use Rattle.bm_arena.proofs.SoundLinks.{lookup-set_same, lookup-set_other}
 
 -- the lists after that of a storage with a head was replaced
 module _ (a : Contents) (s : ℕ) (xs : List ℕ) where

@@ -21,7 +21,7 @@ use Rattle.bm_maps.proofs.SlotLists.{length-distinct_below, length-without, IsMe
 use Rattle.bm_arena.proofs.Lists.{walk-chain}
 use Rattle.bm_arena.proofs.Triplets.{read}
 use Rattle.bm_arena.proofs.Replicas.{keys, none-absent}
-use Rattle.bm_arena.proofs.SoundOperations.{Chain-member, triplet_at_within}
+use Rattle.bm_arena.proofs.SoundLinks.{Chain-member, triplet_at_within}
 use Rattle.bm_arena.proofs.EntryViews.{lookup-lists_from, marks_in, marks_of, marks-seen, none_inside, entry_seen, seen_at, storages_seen}
 use Rattle.bm_arena.proofs.KeptLinks.{reserved-arena, reserved-lists, reserved-blocks}
 

@@ -21,7 +21,7 @@ use Rattle.bm_arena.proofs.Lists.{next-apart, previous-apart}
 use Rattle.bm_arena.proofs.Triplets.{read, triplet_at-elsewhere, triplet_at-kept, triplet_at-change_same, triplet_at-change_storage, get-at_slot, length-at_slot, length-change, seen-change}
 use Rattle.bm_arena.proofs.Replicas.{seen-added, seen-removed, keys, none-absent, found-push_here, found-push_other, found-fill_first_here, found-fill_first_other, Distinct-push, Distinct-fill_first, map-fill_first}
 use Rattle.bm_arena.proofs.LinkLaws.{front-storage, front-list, seen-front, length-front, detached-storage, detached-own, detached-list, seen-detached, length-detached}
-use Rattle.bm_arena.proofs.SoundOperations.{lists-step, IsSound-step, Chain-member}
+use Rattle.bm_arena.proofs.SoundLinks.{lists-step, IsSound-step, Chain-member}
 use Rattle.bm_arena.proofs.EntryViews.{same_presence, lookup-lists_from, seen_at, storages_seen, once-change}
 
 module _ (slots : Slab BlockEntry) (heads : List (ℕ × Option ℕ)) (first : Option ℕ) (storage : ℕ)

@@ -6,7 +6,7 @@ pub mod ReportedReplicas
 -- What a round chooses of a part.
 pub mod ChosenCopies
 pub mod WholeChoices
-pub mod OnePart
+pub mod RoundParts
 -- Lists.
 pub mod Filters
 pub mod JoinedShares

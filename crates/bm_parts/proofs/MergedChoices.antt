@@ -11,7 +11,7 @@ use Rattle.bm_base.specs.RoundParts.{holdings_at_choice, wishes_by_block, deleta
 use Rattle.bm_base.specs.Choices.{merged_wishes, merged_deletes, one_by_one, transfers_over, chosen_transfers, first_of_each_node, chosen_deletes}
 use Rattle.bm_base.proofs.SortedParts.{wishes_ascend, deletes_ascend}
 use Rattle.bm_parts.proofs.WholeChoices.{flat_map_same, transfers_of_wishes, deletes_of_nodes}
-use Rattle.bm_parts.proofs.OnePart as one_part
+use Rattle.bm_parts.proofs.RoundParts as round_parts
 use Rattle.bm_parts.specs.Whole.{parts}
 use Rattle.bm_parts.specs.RoundLaws as law
 use Rattle.bm_parts.proofs.JoinedShares.{share, shares_in_order}
@@ -68,4 +68,4 @@ whole_round_is M shards some =
     let G : Holdings = holdings_at_choice M.cluster M.limits.pend r M.holdings in
     let ts = sym (parts_choose_transfers M.limits M.cluster r M.holdings shards some) in
     let ds = sym (parts_choose_deletes M.limits M.cluster r M.holdings shards some) in
-    one_part.whole_round_is M ∙ (λ i. (commands_of M.cluster r (ts i) (ds i), record M { round = r; holdings = end_round r G (ts i) (ds i) }))
+    round_parts.whole_round_is M ∙ (λ i. (commands_of M.cluster r (ts i) (ds i), record M { round = r; holdings = end_round r G (ts i) (ds i) }))

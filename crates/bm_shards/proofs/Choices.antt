@@ -11,7 +11,7 @@ use Rattle.bm_base.specs.Ordered.{by_pair, ordered_by}
 use Rattle.bm_base.specs.RoundParts.{holdings_at_choice, round_part, wish_key, delete_key}
 use Rattle.bm_base.specs.Choices.{merged_wishes, merged_deletes, first_of_each_node, chosen_transfers, chosen_deletes}
 use Rattle.bm_base.proofs.OneWish.{one_wish}
-use Rattle.bm_parts.proofs.OnePart.{round_wishes_ascend, round_deletes_ascend}
+use Rattle.bm_parts.proofs.RoundParts.{round_wishes_ascend, round_deletes_ascend}
 use Rattle.bm_parts.specs.RoundLaws.{round_parts}
 use Rattle.bm_parts.specs.Merging.{AreSorted}
 use Rattle.bm_parts.specs.Before.{is_before, part_before}

@@ -1,4 +1,4 @@
--- Need never falls if more replicas are wanted, nor rises if one more is live or drained.
+-- Need never shrinks if more replicas are wanted, nor grows if one more is live or drained.
 use Rattle.std.specs.Prelude.{◌≡◌, ℕ, ◌+◌, ◌≤◌, ◌<◌, ◌↔◌, Bool, false, ◌&&◌, length, Some, None, option_and_then, option_map}
 use Rattle.std.proofs.Common.{cond, sym, ap, subst, ◌∙◌, arith}
 use Rattle.std.proofs.lemmas.Bool.Decides.{nat_tests}
