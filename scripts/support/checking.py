@@ -89,8 +89,13 @@ def below_crate(crate):
     return found
 
 
+def sources(crate):
+    return [path for it in [*below_crate(crate), crate] for path in (TOP / "crates" / it / "src").rglob("*.rt")]
+
+
 def program(crate):
-    """The path of the program of a crate, which is built only if it is missing."""
+    """The path of the program of a crate, which is built only if it is missing. A note says that it
+    is older than its sources."""
     path = TOP / "crates" / crate / "out" / crate
     if not path.exists():
         print(f"{crate} is not built: proves and builds it first", file=sys.stderr, flush=True)
@@ -105,6 +110,9 @@ def program(crate):
         print(f"FAILED program of {crate}: it cannot be built")
         print("0 passed, 1 failed")
         sys.exit(1)
+    newest = max(sources(crate), key=lambda it: it.stat().st_mtime)
+    if newest.stat().st_mtime > path.stat().st_mtime:
+        print(f"{crate} was built before {newest.relative_to(TOP)} changed", file=sys.stderr, flush=True)
     return str(path)
 
 

@@ -26,7 +26,9 @@ def edited(edit, folder):
     texts = {}
     for line in edit.read_text().splitlines():
         key, _, text = line.partition(":")
-        text = text.removeprefix(" ").replace("\\n", "\n")
+        text = text.removeprefix(" ")
+        if edit.parent == EDITS_OF_MODEL:
+            text = text.replace("\\n", "\n")
         if key == "file":
             path = text
             texts.setdefault(path, (folder / path).read_text())
@@ -36,19 +38,3 @@ def edited(edit, folder):
         elif key == "new":
             texts[path] = texts[path].replace(old, text)
     return texts
-
-
-def are_counted():
-    """The pages have the right number of edits."""
-    count = len(names())
-    for page, words in (
-        ("README.md", f"{count} changed definitions"),
-        ("docs/DEFINITIONS.md", f"has {count} changes of single rules"),
-    ):
-        want(words in (TOP / page).read_text(), f"{page} does not say {words!r}")
-
-
-def can_be_applied():
-    for name in names():
-        edited(EDITS_OF_DEFINITIONS / f"{name}.edit", DEFINITIONS)
-        edited(EDITS_OF_MODEL / f"{name}.edit", MODEL)
