@@ -55,7 +55,7 @@ impl Model for LevelIndex {
 
 impl LevelIndex {
     /// No slot has a level, and none is unsettled.
-    pub fn new(alloc: Global) -> Result<LevelIndex, Refusal>
+    fn new(alloc: Global) -> Result<LevelIndex, Refusal>
         ensures levels { IfOk result (λ k. (slot : ℕ) → level_of_slot k slot ≡ None) }
         ensures settled { IfOk result (λ k. (slot : ℕ) → IsUnsettled k slot → ⊥) }
         ensures refused { IfErr result (λ e. e ≡ Memory) }
@@ -64,6 +64,18 @@ impl LevelIndex {
             levels: LevelLists::new(alloc)?,
             unsettled: SlotSet::new(alloc)?,
         })
+    }
+
+    /// As `new`, with capacity for all slots below a bound.
+    pub fn for_slots(alloc: Global, bound: usize) -> Result<LevelIndex, Refusal>
+        ensures capacity { IfOk result (λ k. HasCapacityFor k bound) }
+        ensures levels { IfOk result (λ k. (slot : ℕ) → level_of_slot k slot ≡ None) }
+        ensures settled { IfOk result (λ k. (slot : ℕ) → IsUnsettled k slot → ⊥) }
+        ensures refused { IfErr result (λ e. e ≡ Memory) }
+    {
+        let mut index = LevelIndex::new(alloc)?;
+        index.grow_to(bound)?;
+        Ok(index)
     }
 
     /// Reserves all slots below a bound, and some more, so that growth is amortized. Only this call

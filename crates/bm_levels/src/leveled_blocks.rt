@@ -43,9 +43,13 @@ impl LeveledBlocks {
         ensures refused { IfErr result (λ e. e ≡ Memory) }
     {
         let arena = Arena::with_secret(alloc, secret)?;
-        let mut level_index = LevelIndex::new(alloc)?;
-        level_index.grow_to(arena.slot_bound())?;
-        Ok(LeveledBlocks { arena, level_index })
+        match LevelIndex::for_slots(alloc, arena.slot_bound()) {
+            Ok(level_index) => Ok(LeveledBlocks { arena, level_index }),
+            Err(refusal) => {
+                drop(arena);
+                Err(refusal)
+            }
+        }
     }
 
     /// Gives a number an entry, with capacity for its block's status. All blocks and replicas stay.
