@@ -1,9 +1,9 @@
 -- Entering the rest of the blocks after those entered so far enters all blocks of a report.
-use Rattle.std.proofs.Common.{◌≡◌, ◌≢◌, ℕ, zero, suc, ◌+◌, ◌≤◌, List, [], ◌∷◌, ◌++◌, length, drop, Some, refl, subst, inl, inr, sym, ap, ◌∙◌, arith, length-append, eqb}
+use Rattle.std.proofs.Common.{◌≡◌, ◌≢◌, ℕ, zero, suc, ◌+◌, ◌≤◌, ◌<◌, get_or, List, [], ◌∷◌, ◌++◌, length, drop, Some, refl, subst, inl, inr, sym, ap, ◌∙◌, arith, length-append, eqb}
 use Rattle.std.specs.Prelude.{slice_get, nat_eq, ◌⊎◌}
 use Rattle.std.specs.Map.{lookup}
 use Rattle.std.proofs.lemmas.Bool.{cases_Bool, eqb-true, eqb-false}
-use Rattle.std.proofs.lemmas.Option.{none-some}
+use Rattle.std.proofs.lemmas.Option.{none-some, slice_get_read}
 use Rattle.bm_base.specs.Machine.State.{Cluster}
 use Rattle.bm_maps.specs.SlotLists.{IsMember}
 use Rattle.bm_arena.specs.Contents.{Contents, block_at, IsEntry, HasHead}
@@ -108,6 +108,18 @@ pub capacity-part : (a : Contents) (s : ℕ) (xs ys : List ReportedSlot) → Hav
 capacity-part a s [] ys h = tt
 capacity-part a s (x ∷ xs) ys h = (h.0, capacity-part a s xs ys h.1)
 
+pub drop_next : {X : Type 0} (xs : List X) (i : ℕ) (x : X) → slice_get xs i ≡ Some x → drop i xs ≡ x ∷ drop (suc i) xs
+drop_next [] i x e = absurd (none-some x e)
+drop_next (y ∷ ys) zero x e = let same : y ≡ x = cc in ap (λ z. z ∷ ys) same
+drop_next (y ∷ ys) (suc i) x e = drop_next ys i x e
+
+-- the block at an index is the first of those that are still to be entered
+pub underway-at : (C : Cluster) (s : ℕ) (all : List ReportedSlot) (i : ℕ) (n : ReportedSlot) (first now : Contents) (t u : ReportCounts) → i < length all → n ≡ get_or all i n
+    → IsUnderway C s all (drop i all) first now t u → IsUnderway C s all (n ∷ drop (suc i) all) first now t u
+underway-at C s all i n first now t u below read f =
+    let P : List ReportedSlot → Type 0 = λ r. IsUnderway C s all r first now t u in
+    subst P (drop_next all i n (slice_get_read all (length all) i n refl below read)) f
+
 pub underway-next : (C : Cluster) (s : ℕ) (all xs rest : List ReportedSlot) (first now next : Contents) (t u v : ReportCounts)
     → IsUnderway C s all (xs ++ rest) first now t u → IsEntered C s xs now next → IsCounted C s xs now next u v → IsUnderway C s all rest first next t v
 underway-next C s all xs rest first now next t u v f e k =
@@ -129,11 +141,6 @@ underway-last C s all [] first now t u none f = (f.entered now (entered-none C s
 underway-last C s all (n ∷ rest) first now t u none f = cc
 
 -- the next item of a list
-pub drop_next : {X : Type 0} (xs : List X) (i : ℕ) (x : X) → slice_get xs i ≡ Some x → drop i xs ≡ x ∷ drop (suc i) xs
-drop_next [] i x e = absurd (none-some x e)
-drop_next (y ∷ ys) zero x e = let same : y ≡ x = cc in ap (λ z. z ∷ ys) same
-drop_next (y ∷ ys) (suc i) x e = drop_next ys i x e
-
 pub drop_all : {X : Type 0} (xs : List X) (i : ℕ) → length xs ≤ i → drop i xs ≡ []
 drop_all [] zero h = refl
 drop_all [] (suc i) h = refl

@@ -1,22 +1,41 @@
-use Rattle.std.proofs.Common.{suc, length, drop, ◌∷◌, [], false, refl, subst, ◌∙◌, arith, add-one}
-use Rattle.std.proofs.Common.{true, List, ℕ, map, inl, inr, sym}
+use Rattle.std.proofs.Common.{suc, length, drop, ◌∷◌, [], refl, subst, ◌∙◌, arith, add-one}
+use Rattle.std.proofs.Common.{ℕ, map, inl, inr, sym}
 use Rattle.std.proofs.lemmas.Option.{slice_get_read}
 use Rattle.std.proofs.lemmas.Bool.{or_parts}
-use Rattle.bm_report.specs.declared.types.ReportedSlot.{ReportedSlot}
 use Rattle.bm_maps.specs.SlotLists.{IsMember}
 use Rattle.bm_report.specs.DuringReport.{slot_in}
 use Rattle.bm_report.proofs.ListedSlots.{slot-listed}
 use Rattle.bm_report.proofs.AlreadyThere.{already_same, one_of}
-use Rattle.bm_report.proofs.PartialReport.{IsUnderway, listed-chain, underway-next, underway-last, drop_next, drop_all}
+use Rattle.bm_report.proofs.PartialReport.{IsUnderway, listed-chain, listed-none, underway-first, underway-at, underway-next, underway-last, drop_all}
 use Rattle.bm_report.proofs.reported_chunks.add_chunk.Goals as goal
 
 underway_here : (c : goal.After-add_and_list-now_changed)
     → IsUnderway c.args.topology.now.cluster c.args.storage c.args.chunk.now (c.index-chunk-index.result ∷ drop (suc c.loop-index.index) c.args.chunk.now) c.args.arena.now c.loop-index.arena c.args.tally.now c.loop-index.tally
-underway_here c =
-    let P : List ReportedSlot → Type 0 = λ r.
-    IsUnderway c.args.topology.now.cluster c.args.storage c.args.chunk.now r c.args.arena.now c.loop-index.arena c.args.tally.now c.loop-index.tally in
-    subst P (drop_next c.args.chunk.now c.loop-index.index c.index-chunk-index.result (slice_get_read c.args.chunk.now (length c.args.chunk.now) c.loop-index.index c.index-chunk-index.result refl c.loop-index-test.true c.index-chunk-index.is))
-    c.loop-index.invariant.underway
+underway_here c = underway-at c.args.topology.now.cluster c.args.storage c.args.chunk.now c.loop-index.index c.index-chunk-index.result c.args.arena.now c.loop-index.arena c.args.tally.now c.loop-index.tally c.loop-index-test.true c.index-chunk-index.is c.loop-index.invariant.underway
+
+pub loop-index-init : goal.loop-index-init
+loop-index-init c = record {
+  underway = underway-first c.args.topology.now.cluster c.args.storage c.args.chunk.now c.args.arena.now c.args.tally.now c.requires.here c.requires.capacity c.requires.once c.requires.head c.requires.small;
+  no_change = λ _. (refl, refl);
+  listed = listed-none c.args.arena.now c.args.changed.now.items;
+  same = λ _. refl;
+  space = omega (arith);
+  came = λ slot m. inl m;
+  capacity = refl;
+}
+
+pub add_and_list-now_changed-requires : goal.add_and_list-now_changed-requires
+add_and_list-now_changed-requires c =
+    let next = underway-at c.args.topology.now.cluster c.args.storage c.args.chunk.now c.loop-index.index c.index-chunk-index.result c.args.arena.now c.loop-index.arena c.args.tally.now c.loop-index.tally c.loop-index-test.true c.index-chunk-index.is c.loop-index.invariant.underway in
+    record {
+      here = next.here.0;
+      was = c.marks_now-was.ensures;
+      head = next.head;
+      capacity = next.capacity.0;
+      once = next.once;
+      small = record { added = omega (arith, next.small.added); removed = omega (arith, next.small.removed); steps = omega (arith, next.small.steps) };
+      space = omega (arith, c.loop-index-test.true, c.loop-index.invariant.space, c.loop-index.invariant.capacity, c.requires.space);
+    }
 
 pub loop-index-preserved : goal.loop-index-preserved
 loop-index-preserved c = record {
