@@ -36,25 +36,40 @@ impl<'a> RoundScan<'a> {
         ensures refused { IfErr result (λ e. e ≡ Memory) }
     {
         let Some(info) = info else {
+            drop(usable);
             return Ok(());
         };
-        let UsableReplicas { live, drained } = usable;
-        let drained_count = drained.as_slice().len();
         let repl = info.repl;
-        let Some(level) = level_among(self.topology, repl, live.as_slice(), drained_count) else {
+        let drained_count = usable.drained.as_slice().len();
+        let Some(level) = level_among(self.topology, repl, usable.live.as_slice(), drained_count)
+        else {
+            drop(usable);
             return Ok(());
         };
         if !is_before(self.bound, (level.number() as u64, id.0)) {
+            drop(usable);
             return Ok(());
         }
-        let live_count = live.as_slice().len();
-        let pending = self.remaining_targets(alloc, id)?;
-        let pending_count = pending.as_slice().len();
-        let count = count_at(level, repl, live_count, pending_count);
+        let pending = match self.remaining_targets(alloc, id) {
+            Ok(pending) => pending,
+            Err(refusal) => {
+                drop(usable);
+                return Err(refusal);
+            }
+        };
+        let live_count = usable.live.as_slice().len();
+        let count = count_at(level, repl, live_count, pending.as_slice().len());
         if count == 0 {
+            drop(pending);
+            drop(usable);
             return Ok(());
         }
-        let pairs = copy_of(alloc, storages)?;
+        let Ok(pairs) = copy_of(alloc, storages) else {
+            drop(pending);
+            drop(usable);
+            return Err(Refusal::Memory);
+        };
+        let UsableReplicas { live, drained } = usable;
         into.push(Wish {
             level,
             block: id,
