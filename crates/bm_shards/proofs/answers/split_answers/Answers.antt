@@ -1,7 +1,8 @@
 use Rattle.std.specs.Prelude.{ℕ}
 use Rattle.std.specs.Result.{result_and, result_ok}
 use Rattle.std.specs.List.{cons_option}
-use Rattle.std.proofs.Common.{arith, ◌∙◌, ◌∷◌, [], ◌++◌, ap, sym, length-append}
+use Rattle.std.specs.Vec.Iter.{into_iter_items}
+use Rattle.std.proofs.Common.{arith, ◌∙◌, ◌∷◌, [], ◌++◌, length, ap, sym, length-append}
 use Rattle.std.proofs.lemmas.List.{map_push}
 use Rattle.bm_shards.specs.Answers.{ShardResult, shard_answered}
 use Rattle.bm_crew.proofs.Zips.{take_one}
@@ -21,4 +22,16 @@ loop-index-preserved g c =
       few = omega (arith, inv.few, length-append c.loop-index.yielded (one ∷ []), c.put_answer.ensures.len);
       capacity = omega (arith, inv.capacity, c.push_reserved.ensures.capacity);
       capacity_of_answers = omega (arith, inv.capacity_of_answers, c.put_answer.ensures.capacity);
+    }
+
+-- a shard is left, so there is capacity for it
+pub push_reserved-requires : goal.push_reserved-requires
+push_reserved-requires g c =
+    let inv = c.loop-index.invariant in
+    omega (arith, inv.count, inv.capacity, ap length inv.rest, length-append c.loop-index.yielded (into_iter_items c.loop-index.index-iterator), ap length c.in-Some.ensures.steps.0)
+
+pub put_answer-requires : goal.put_answer-requires
+put_answer-requires g c =
+    let inv = c.loop-index.invariant in record {
+      capacity = omega (arith, inv.few, inv.capacity_of_answers, ap length inv.rest, length-append c.loop-index.yielded (into_iter_items c.loop-index.index-iterator), ap length c.in-Some.ensures.steps.0);
     }
