@@ -46,9 +46,20 @@ fn open_writer<R: Wait>(
     ensures seen { IfOk result (λ w. HasSeen (sight w.desk.place) journal.now.home (opening ∷ [])) }
 {
     let first = Shown::new(table, journal.evidence(), Count::one(alloc));
-    let second = first.copy()?;
-    let third = first.copy()?;
-    let writer = VersionWriter::new(alloc, first, second, readers)?;
+    let (second, third) = match first.copy_twice() {
+        Ok(copies) => copies,
+        Err(error) => {
+            drop(first);
+            return Err(error);
+        }
+    };
+    let writer = match VersionWriter::new(alloc, first, second, readers) {
+        Ok(writer) => writer,
+        Err(error) => {
+            drop(third);
+            return Err(error);
+        }
+    };
     let (writer, shown) = show(writer, (rt, third));
     match shown {
         Ok(()) => Ok(writer),

@@ -64,6 +64,20 @@ impl Shown {
         })
     }
 
+    // Two more references to the same table.
+    pub fn copy_twice(&self) -> Result<(Shown, Shown), AllocError>
+        ensures { IfOk result (λ copies. (copies.0 ≡ self.now) × (copies.1 ≡ self.now)) }
+    {
+        let first = self.copy()?;
+        match self.copy() {
+            Ok(second) => Ok((first, second)),
+            Err(error) => {
+                drop(first);
+                Err(error)
+            }
+        }
+    }
+
     pub fn table(&self) -> &Arc<Table>
         ensures { arc_value result.now ≡ last_of (shown_in self.now.log) }
     {
