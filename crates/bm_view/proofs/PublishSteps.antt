@@ -1,5 +1,5 @@
 -- A publish appends its version to those of the journal, or is refused and leaves them as they are.
-use Rattle.std.proofs.Common.{◌≡◌, ◌≤◌, ℕ, ◌+◌, ◌*◌, true, false, true≢false, List, [], ◌∷◌, ◌++◌, length, Result, Ok, Err, is_err, MatchResult, refl, sym, ap, ◌∙◌, subst, arith, length-append}
+use Rattle.std.proofs.Common.{◌≡◌, ◌<◌, ◌≤◌, ℕ, ◌+◌, ◌*◌, true, false, true≢false, List, [], ◌∷◌, ◌++◌, length, Result, Ok, Err, is_err, IsErrAnd, IfOk, IfErr, OnErr, MatchResult, refl, sym, ap, ◌∙◌, subst, arith, length-append}
 use Rattle.bm_view.specs.declared.journal.JournalEntry.{JournalEntry}
 use Rattle.bm_base.specs.Promises.Versions.{Version}
 use Rattle.bm_view.specs.Journal.{proposed, settled}
@@ -15,6 +15,18 @@ was_ok (Err e) P Q fine h = absurd (true≢false fine)
 pub was_err : {A E : Type 0} (r : Result A E) (P : A → Type 0) (Q : E → Type 0) → is_err r ≡ true → MatchResult r P Q → (e : E) × (r ≡ Err e) × Q e
 was_err (Ok x) P Q bad h = absurd (true≢false (sym bad))
 was_err (Err e) P Q bad h = (e, refl, h)
+
+pub no_success : {A E : Type 0} (r : Result A E) (P : A → Type 0) → is_err r ≡ true → IfOk r P
+no_success (Ok x) P bad = absurd (true≢false (sym bad))
+no_success (Err e) P bad = tt
+
+pub on_failure : {A E : Type 0} (r : Result A E) (P : Type 0) → P → OnErr r P
+on_failure (Ok x) P h = tt
+on_failure (Err e) P h = h
+
+pub failure_is : {A E : Type 0} (r : Result A E) (P : E → Type 0) → IsErrAnd r P → IfErr r P
+failure_is (Ok x) P bad = absurd bad
+failure_is (Err e) P h = h
 
 pub match_both : {A E : Type 0} (r : Result A E) (P P' R : A → Type 0) (Q Q' S : E → Type 0) → MatchResult r P Q → MatchResult r P' Q' → ((x : A) → P x → P' x → R x) → ((e : E) → Q e → Q' e → S e) → MatchResult r R S
 match_both (Ok x) P P' R Q Q' S h k fine bad = fine x h k
@@ -37,6 +49,12 @@ goes_next s n r home log t sb sl is rb rl = subst (Extends s) (sym is) (record {
 
 pub longer : (log l1 late : List JournalEntry) (e f : JournalEntry) (n : ℕ) → length log ≡ 2 * n → l1 ≡ log ++ e ∷ [] → late ≡ l1 ++ f ∷ [] → length late ≡ 2 * (n + 1)
 longer log l1 late e f n long one two = omega (arith, long, ap length one, ap length two, length-append log (e ∷ []), length-append l1 (f ∷ []))
+
+pub some_entry : (log next : List JournalEntry) (e : JournalEntry) → next ≡ log ++ e ∷ [] → 0 < length next
+some_entry log next e is = omega (arith, ap length is, length-append log (e ∷ []))
+
+pub next_number : (log next : List JournalEntry) (e : JournalEntry) (n m : ℕ) → length log ≡ 2 * n → m ≡ n + 1 → next ≡ log ++ e ∷ [] → (2 * m ≤ length next + 1) × (0 < length next)
+next_number log next e n m long more is = (omega (arith, ap length is, length-append log (e ∷ [])), some_entry log next e is)
 
 pub refused : (log l1 late : List JournalEntry) (t u : Version) → l1 ≡ log ++ proposed t ∷ [] → late ≡ l1 ++ proposed u ∷ [] → versions late ≡ versions log
 refused log l1 late t u one two = ap versions two ∙ versions-proposed l1 u ∙ ap versions one ∙ versions-proposed log t

@@ -1,5 +1,5 @@
 //! The publisher of versions.
-ghost use Rattle.std.specs.Prelude.{◌≡◌, ◌≤◌, [], ◌∷◌, ◌++◌, IfOk, IfErr, OnOk, OnErr, MatchResult, Some};
+ghost use Rattle.std.specs.Prelude.{◌≡◌, ◌≤◌, ◌+◌, [], ◌∷◌, ◌++◌, IfOk, IfErr, OnOk, OnErr, MatchResult, Some};
 ghost use Rattle.std.specs.Arc.{arc_value};
 ghost use Rattle.left_right.specs.Sides.{view as sight};
 ghost use Rattle.bm_view.specs.Version.{opening};
@@ -67,6 +67,17 @@ pub(crate) fn show<R: Wait>(
     writer.publish_as::<Show, R>(rt)
 }
 
+// The next number: for the publisher, for the receipt and for the value that is shown.
+fn next_thrice(number: &Count) -> Result<(Count, Count, Count), AllocError>
+    ensures { IfOk result (λ next. (next.0 ≡ number.now + 1)
+        × (next.1 ≡ number.now + 1) × (next.2 ≡ number.now + 1)) }
+{
+    let next = number.next()?;
+    let receipt = next.copy()?;
+    let shown = next.copy()?;
+    Ok((next, receipt, shown))
+}
+
 impl Publisher {
     pub(crate) fn new(alloc: Global, writer: VersionWriter, journal: Journal) -> Publisher
         requires { (journal.log ≡ opening_log) × (writer.desk.shown.value.home ≡ journal.home)
@@ -106,9 +117,7 @@ impl Publisher {
     {
         let calls = table.calls();
         // All that may be refused comes before the version is shown.
-        let number = self.number.next()?;
-        let receipt = number.copy()?;
-        let shown = number.copy()?;
+        let (number, receipt, shown) = next_thrice(&self.number)?;
         self.number = number;
         self.journal.enter(false, &table);
         let next = Shown::new(table, self.journal.evidence(), shown);
