@@ -61,10 +61,13 @@ pub(crate) fn show<R: Wait>(
         (λ _. result.0.desk.shown.value ≡ writer.desk.shown.value) }
 {
     let (rt, shown) = next;
-    if writer.append(shown).is_err() {
-        return (writer, Err(AllocError));
+    match writer.append(shown) {
+        Ok(()) => writer.publish_as::<Show, R>(rt),
+        Err(shown) => {
+            drop(shown);
+            (writer, Err(AllocError))
+        }
     }
-    writer.publish_as::<Show, R>(rt)
 }
 
 // The next number: for the publisher, for the receipt and for the value that is shown.
