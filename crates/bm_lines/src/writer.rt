@@ -1,5 +1,6 @@
 // The line that asks for a call.
 ghost use Rattle.std.specs.Prelude.{◌≡◌, ◌++◌, true, Some, IfOk, OnOk, string_bytes};
+ghost use Rattle.bm_base.specs.declared.event.Event.TheVariants.{Register, Heartbeat, SetReplication, Restamp, Received, Deleted, FullReport};
 ghost use Rattle.bm_lines.specs.CallText.{has_op, event_op, call_op, event_fields, call_fields, line_text};
 ghost use Rattle.bm_lines.specs.Parser.CallOf.{call_of};
 ghost use Rattle.bm_lines.specs.Lines.{IsPart};
@@ -8,7 +9,7 @@ ghost use Rattle.bm_lines.specs.FittingNumbers.{FitsWhole, FitsWholeEvent};
 use crate::field_writer::{
     write_entries, write_number, write_remaining, write_small, write_stamp, write_storages,
 };
-use bm_base::{Call, Event};
+use bm_base::{BlockId, Call, Entry, Event, NodeId, Rack, Remaining, Stamp, StorageId};
 use std::alloc::{AllocError, Global};
 
 /// Whether there is an op that asks for the call: none asks for a number alone.
@@ -111,14 +112,9 @@ fn write_event(line: &mut String, event: &Event) -> Result<(), AllocError>
             node,
             rack,
             storages,
-        } => {
-            write_small(line, "node", node.0)?;
-            write_small(line, "rack", rack.0)?;
-            write_storages(line, storages.as_slice())
-        }
+        } => write_register(line, *node, *rack, storages.as_slice()),
         Event::Heartbeat { node, remaining } => {
-            write_small(line, "node", node.0)?;
-            write_remaining(line, remaining.as_slice())
+            write_heartbeat(line, *node, remaining.as_slice())
         }
         Event::Dead { node } | Event::Drain { node } | Event::Undrain { node } => {
             write_small(line, "node", node.0)
@@ -130,26 +126,96 @@ fn write_event(line: &mut String, event: &Event) -> Result<(), AllocError>
             write_small(line, "repl", *repl)
         }
         Event::DeleteBlock { id } => write_number(line, "id", id.0),
-        Event::SetReplication { id, repl } => {
-            write_number(line, "id", id.0)?;
-            write_small(line, "repl", *repl)
-        }
-        Event::Restamp { id, stamp } => {
-            write_number(line, "id", id.0)?;
-            write_stamp(line, stamp)
-        }
-        Event::Received { storage, id, stamp } => {
-            write_small(line, "storage", storage.0)?;
-            write_number(line, "id", id.0)?;
-            write_stamp(line, stamp)
-        }
+        Event::SetReplication { id, repl } => write_set_replication(line, *id, *repl),
+        Event::Restamp { id, stamp } => write_block(line, *id, stamp),
+        Event::Received { storage, id, stamp } => write_received(line, *storage, *id, stamp),
         Event::Deleted { storage, id } | Event::Corrupt { storage, id } => {
-            write_small(line, "storage", storage.0)?;
-            write_number(line, "id", id.0)
+            write_replica(line, *storage, *id)
         }
-        Event::FullReport { storage, entries } => {
-            write_small(line, "storage", storage.0)?;
-            write_entries(line, entries.as_slice())
-        }
+        Event::FullReport { storage, entries } => write_report(line, *storage, entries.as_slice()),
     }
+}
+
+fn write_register(
+    line: &mut String,
+    node: NodeId,
+    rack: Rack,
+    storages: &[StorageId],
+) -> Result<(), AllocError>
+    ensures text { OnOk result (string_bytes line.new ≡ string_bytes line.old
+        ++ event_fields (Register node rack storages.now)) }
+    ensures fits { OnOk result (FitsWholeEvent (Register node rack storages.now)) }
+{
+    write_small(line, "node", node.0)?;
+    write_small(line, "rack", rack.0)?;
+    write_storages(line, storages)
+}
+
+fn write_heartbeat(
+    line: &mut String,
+    node: NodeId,
+    remaining: &[Remaining],
+) -> Result<(), AllocError>
+    ensures text { OnOk result (string_bytes line.new ≡ string_bytes line.old
+        ++ event_fields (Heartbeat node remaining.now)) }
+    ensures fits { OnOk result (FitsWholeEvent (Heartbeat node remaining.now)) }
+{
+    write_small(line, "node", node.0)?;
+    write_remaining(line, remaining)
+}
+
+fn write_set_replication(line: &mut String, id: BlockId, repl: u32) -> Result<(), AllocError>
+    ensures text { OnOk result (string_bytes line.new ≡ string_bytes line.old
+        ++ event_fields (SetReplication id repl)) }
+    ensures fits { OnOk result (FitsWholeEvent (SetReplication id repl)) }
+{
+    write_number(line, "id", id.0)?;
+    write_small(line, "repl", repl)
+}
+
+fn write_received(
+    line: &mut String,
+    storage: StorageId,
+    id: BlockId,
+    stamp: &Stamp,
+) -> Result<(), AllocError>
+    ensures text { OnOk result (string_bytes line.new ≡ string_bytes line.old
+        ++ event_fields (Received storage id stamp.now)) }
+    ensures fits { OnOk result (FitsWholeEvent (Received storage id stamp.now)) }
+{
+    write_small(line, "storage", storage.0)?;
+    write_block(line, id, stamp)
+}
+
+fn write_report(
+    line: &mut String,
+    storage: StorageId,
+    entries: &[Entry],
+) -> Result<(), AllocError>
+    ensures text { OnOk result (string_bytes line.new ≡ string_bytes line.old
+        ++ event_fields (FullReport storage entries.now)) }
+    ensures fits { OnOk result (FitsWholeEvent (FullReport storage entries.now)) }
+{
+    write_small(line, "storage", storage.0)?;
+    write_entries(line, entries)
+}
+
+/// A block and its stamp.
+fn write_block(line: &mut String, id: BlockId, stamp: &Stamp) -> Result<(), AllocError>
+    ensures text { OnOk result (string_bytes line.new ≡ string_bytes line.old
+        ++ event_fields (Restamp id stamp.now)) }
+    ensures fits { OnOk result (FitsWholeEvent (Restamp id stamp.now)) }
+{
+    write_number(line, "id", id.0)?;
+    write_stamp(line, stamp)
+}
+
+/// The storage and the block of a replica.
+fn write_replica(line: &mut String, storage: StorageId, id: BlockId) -> Result<(), AllocError>
+    ensures text { OnOk result (string_bytes line.new ≡ string_bytes line.old
+        ++ event_fields (Deleted storage id)) }
+    ensures fits { OnOk result (FitsWholeEvent (Deleted storage id)) }
+{
+    write_small(line, "storage", storage.0)?;
+    write_number(line, "id", id.0)
 }
