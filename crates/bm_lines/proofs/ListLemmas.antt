@@ -1,5 +1,6 @@
 -- A list of values is read, item by item, as the data that they represent.
-use Rattle.std.proofs.Common.{◌≡◌, ℕ, List, [], ◌∷◌, Option, refl, ap}
+use Rattle.std.proofs.Common.{◌≡◌, ℕ, suc, ◌+◌, ◌<◌, ◌≤◌, List, [], ◌∷◌, ◌++◌, Option, length, get_or, drop, option_map, refl, ap, sym, ◌∙◌, add-one, append_assoc, append-nil, drop-cons}
+use Rattle.std.proofs.lemmas.List.{drop_all}
 use Rattle.std.specs.Prelude.{Some, None, map, option_and_then}
 use Rattle.serde_json.specs.Data.{Data}
 use Rattle.serde_json.specs.Find.{as_array, get}
@@ -31,3 +32,37 @@ remaining_in-items vs d e = rw (← e, listed-items) refl
 pub remaining_in-none : (d : Data) → None ≡ as_array d → None ≡ remaining_in d
 unfolding remaining_in
 remaining_in-none d e = rw (← e) refl
+
+-- Items are read one after another: `all` is what is read of all values.
+
+at_value : (values : List Value) (i : ℕ) (v : Value) → i < length values → v ≡ get_or values i v → drop i values ≡ v ∷ drop (i + 1) values
+at_value values i v less same = rw (add-one i) (drop-cons values i v less ∙ ap (λ w. w ∷ drop (suc i) values) (sym same))
+
+pushed : {A : Type 0} (items : List A) (x : A) (o : Option (List A)) → option_map (λ ys. (items ++ x ∷ []) ++ ys) o ≡ option_map (λ ys. items ++ ys) (option_map (λ ys. x ∷ ys) o)
+pushed items x (Some ys) = ap (λ l. Some l) (append_assoc items (x ∷ []) ys)
+pushed items x None = refl
+
+-- what is read of a value and of those after it
+abbrev of_value : {A : Type 0} → (Data → Option A) → List A → List Value → Option A → Option (List A)
+of_value f items others o = option_map (λ ys. items ++ ys) (option_and_then (λ y. option_map (λ ys. y ∷ ys) (each f (map view others))) o)
+
+pub none_read : {A : Type 0} (items : List A) (all : Option (List A)) → items ≡ [] → option_map (λ ys. items ++ ys) all ≡ all
+none_read items (Some ys) e = rw e refl
+none_read items None e = refl
+
+pub one_read : {A : Type 0} (f : Data → Option A) (values : List Value) (i : ℕ) (v : Value) (before items : List A) (x : A) (all : Option (List A)) → i < length values → v ≡ get_or values i v
+    → Some x ≡ f (view v) → items ≡ before ++ x ∷ [] → option_map (λ ys. before ++ ys) (each f (map view (drop i values))) ≡ all → option_map (λ ys. items ++ ys) (each f (map view (drop (i + 1) values))) ≡ all
+one_read f values i v before items x all less same read e known =
+    let others = drop (i + 1) values in
+    ap (λ xs. option_map (λ ys. xs ++ ys) (each f (map view others))) e ∙ pushed before x (each f (map view others))
+    ∙ ap (of_value f before others) read ∙ ap (λ vs. option_map (λ ys. before ++ ys) (each f (map view vs))) (sym (at_value values i v less same)) ∙ known
+
+pub not_read : {A : Type 0} (f : Data → Option A) (values : List Value) (i : ℕ) (v : Value) (items : List A) (all : Option (List A)) → i < length values → v ≡ get_or values i v
+    → None ≡ f (view v) → option_map (λ ys. items ++ ys) (each f (map view (drop i values))) ≡ all → None ≡ all
+not_read f values i v items all less same read known =
+    ap (of_value f items (drop (i + 1) values)) read ∙ ap (λ vs. option_map (λ ys. items ++ ys) (each f (map view vs))) (sym (at_value values i v less same)) ∙ known
+
+pub all_read : {A : Type 0} (f : Data → Option A) (values : List Value) (i : ℕ) (items : List A) (all : Option (List A)) → length values ≤ i
+    → option_map (λ ys. items ++ ys) (each f (map view (drop i values))) ≡ all → Some items ≡ all
+all_read f values i items all end known =
+    ap (λ l. Some l) (sym (append-nil items)) ∙ ap (λ vs. option_map (λ ys. items ++ ys) (each f (map view vs))) (sym (drop_all i values end)) ∙ known
