@@ -1,7 +1,11 @@
 -- Text in the canonical form of a number, an entry or a line is the text written for its value.
-use Rattle.std.proofs.Common.{◌≡◌, ◌≢◌, ℕ, ◌+◌, ◌-◌, ◌*◌, ◌<◌, ◌≤◌, ◌^◌, List, ◌++◌, Option, Some, None, IfSome, decimal, length, get_or, take, drop, refl, ap, sym, ◌∙◌, arith, codes, append_assoc}
+use Rattle.std.proofs.Common.{◌≡◌, ◌≢◌, ℕ, ◌+◌, ◌-◌, ◌*◌, ◌<◌, ◌≤◌, ◌^◌, List, [], ◌∷◌, ◌++◌, Bool, true, false, Option, Some, None, IfSome, All, decimal, length, length-append, get_or, take, drop, refl, ap, sym, ◌∙◌, arith, codes, append_assoc, append-nil}
 use Rattle.bm_base.specs.declared.event.Entry.{Entry}
-use Rattle.bm_lines.specs.CallText.{call_fields, line_text, entry_text}
+use Rattle.std.specs.Bool.{then_some}
+use Rattle.std.specs.List.{flat_map}
+use Rattle.std.proofs.lemmas.List.{flat_map_more}
+use Rattle.std.proofs.lemmas.List.Elements.{All-nil, All-push}
+use Rattle.bm_lines.specs.CallText.{call_fields, line_text, entry_text, with_commas}
 use Rattle.bm_lines.specs.Parser.Canonical.{Asks}
 use Rattle.bm_base.specs.declared.call.Call.{Call}
 use Rattle.std.specs.Char.{digit_value}
@@ -70,6 +74,44 @@ run_of_blocks bytes first second third fourth rest n m g l e a b c d f other fro
 pub in_list : (fields name list body after rest : List ℕ) (before mark behind : List ℕ) → fields ≡ before ++ (name ++ (mark ++ list)) → list ≡ body ++ after → after ≡ behind ++ rest
     → fields ≡ (before ++ (name ++ (mark ++ (body ++ behind)))) ++ rest
 in_list fields name list body after rest before mark behind a b c = rw (a, b, c) (simp append_assoc)
+
+-- the items of a list: none, the first, and one more behind a comma
+
+pub no_items : {A : Type 0} (text : A → List ℕ) (items : List A) (list : List ℕ) → items ≡ [] → list ≡ with_commas text items ++ list
+no_items text items list e = rw e refl
+
+pub first_item : {A : Type 0} (text : A → List ℕ) (none items : List A) (x : A) (list rest : List ℕ) → none ≡ [] → items ≡ none ++ x ∷ [] → list ≡ text x ++ rest → list ≡ with_commas text items ++ rest
+first_item text none items x list rest e f a = rw (f, e) (a ∙ ap (λ l. l ++ rest) (sym (append-nil (text x))))
+
+pub next_item : {A : Type 0} (text : A → List ℕ) (before items : List A) (x : A) (list rest next behind : List ℕ) → 0 < length before → items ≡ before ++ x ∷ []
+    → list ≡ with_commas text before ++ rest → rest ≡ codes "," ++ next → next ≡ text x ++ behind → list ≡ with_commas text items ++ behind
+next_item text [] items x list rest next behind some e a b c = absurd (omega (arith, some))
+next_item {A = A} text (y ∷ ys) items x list rest next behind some e a b c =
+    let item : A → List ℕ = λ z. codes "," ++ text z in
+    let first = text y ++ flat_map item ys in
+    a ∙ ap (λ l. first ++ l) (b ∙ ap (λ l. codes "," ++ l) c ∙ sym (append_assoc (codes ",") (text x) behind)) ∙ sym (append_assoc first (item x) behind)
+    ∙ ap (λ l. l ++ behind) (flat_map_more item (text y) ys x) ∙ ap (λ l. with_commas text l ++ behind) (sym e)
+
+pub first_fits : {A : Type 0} (P : A → Type 0) (none items : List A) (x : A) → none ≡ [] → items ≡ none ++ x ∷ [] → P x → All P items
+first_fits P none items x e f h = rw (f, e) (All-push P [] x (All-nil P) h)
+
+pub next_fits : {A : Type 0} (P : A → Type 0) (before items : List A) (x : A) → items ≡ before ++ x ∷ [] → All P before → P x → All P items
+next_fits P before items x e known h = rw e (All-push P before x known h)
+
+pub has_item : {A : Type 0} (before items : List A) (x : A) → items ≡ before ++ x ∷ [] → 0 < length items
+has_item before items x e = rw e (omega (arith, length-append before (x ∷ [])))
+
+-- a call that is answered at the end of the line alone
+
+pub at_end : (b : Bool) (op fields rest : List ℕ) (k : Call) (o : Option Call) → o ≡ then_some b k → (b ≡ true → rest ≡ codes "}") → (rest ≡ codes "}" → Asks op fields k) → IfSome o (Asks op fields)
+at_end true op fields rest k o e ends asks = rw e (asks (ends refl))
+at_end false op fields rest k o e ends asks = rw e tt
+
+pub two_fields : (fields second rest end x y : List ℕ) → fields ≡ x ++ second → second ≡ y ++ rest → rest ≡ end → fields ≡ (x ++ y) ++ end
+two_fields fields second rest end x y a b c = a ∙ ap (λ l. x ++ l) (b ∙ ap (λ l. y ++ l) c) ∙ sym (append_assoc x y end)
+
+pub three_fields : (fields second third rest end x y z : List ℕ) → fields ≡ x ++ second → second ≡ y ++ third → third ≡ z ++ rest → rest ≡ end → fields ≡ (x ++ (y ++ z)) ++ end
+three_fields fields second third rest end x y z a b c d = a ∙ ap (λ l. x ++ l) (two_fields second third rest end y z b c d) ∙ sym (append_assoc x (y ++ z) end)
 
 -- a whole line, from its op and the fields after it
 pub asked_line : (line behind fields op : List ℕ) (o : Option Call) → line ≡ codes "{\"op\":\"" ++ behind → behind ≡ (op ++ codes "\"") ++ fields
