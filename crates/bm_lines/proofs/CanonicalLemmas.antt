@@ -5,7 +5,7 @@ use Rattle.std.specs.Bool.{then_some}
 use Rattle.std.specs.List.{flat_map}
 use Rattle.std.proofs.lemmas.List.{flat_map_more}
 use Rattle.std.proofs.lemmas.List.Elements.{All-nil, All-push}
-use Rattle.bm_lines.specs.CallText.{call_fields, line_text, entry_text, with_commas}
+use Rattle.bm_lines.specs.CallText.{call_fields, line_text, entry_text, remaining_text, with_commas}
 use Rattle.bm_lines.specs.Parser.Canonical.{Asks}
 use Rattle.bm_base.specs.declared.call.Call.{Call}
 use Rattle.std.specs.Char.{digit_value}
@@ -45,7 +45,10 @@ as_written bytes count number value h within fits some plain =
     decimal-digits_value (numerals_by_value (AllDigits 10) tells_digits) (take count bytes) h (omega arith) (λ zero. long ∙ plain (sym first ∙ zero)) (omega arith) in
     rw (value, same, take_rest) (sym (take-append-drop count bytes))
 
--- three numbers in brackets, and four
+-- two numbers in brackets, three and four
+
+two : (first a comma b close rest : List ℕ) → first ++ (a ++ (comma ++ (b ++ (close ++ rest)))) ≡ (first ++ (a ++ (comma ++ (b ++ close)))) ++ rest
+two first a comma b close rest = simp append_assoc
 
 three : (first a comma b point c close rest : List ℕ)
     → first ++ (a ++ (comma ++ (b ++ (point ++ (c ++ (close ++ rest)))))) ≡ (first ++ (a ++ (comma ++ (b ++ (point ++ (c ++ close)))))) ++ rest
@@ -54,6 +57,13 @@ three first a comma b point c close rest = simp append_assoc
 four : (first a mark b comma c point d close rest : List ℕ)
     → first ++ (a ++ (mark ++ (b ++ (comma ++ (c ++ (point ++ (d ++ (close ++ rest)))))))) ≡ (first ++ ((a ++ (mark ++ b)) ++ (comma ++ (c ++ (point ++ (d ++ close)))))) ++ rest
 four first a mark b comma c point d close rest = simp append_assoc
+
+-- what remains on a storage
+
+pub free_space : (bytes first second rest : List ℕ) (s m : ℕ) → bytes ≡ codes "[" ++ (decimal s ++ first) → first ≡ codes "," ++ (decimal m ++ second) → second ≡ codes "]" ++ rest
+    → bytes ≡ remaining_text (record { storage = s; remaining = m }) ++ rest
+unfolding remaining_text
+free_space bytes first second rest s m a b c = rw (a, b, c) (two (codes "[") (decimal s) (codes ",") (decimal m) (codes "]") rest)
 
 -- an entry of one block, and one of a run
 
