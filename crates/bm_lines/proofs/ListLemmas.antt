@@ -1,5 +1,5 @@
 -- A list of values is read, item by item, as the data that they represent.
-use Rattle.std.proofs.Common.{◌≡◌, ℕ, suc, ◌+◌, ◌<◌, ◌≤◌, List, [], ◌∷◌, ◌++◌, Option, length, get_or, drop, option_map, refl, ap, sym, ◌∙◌, add-one, append_assoc, append-nil, drop-cons}
+use Rattle.std.proofs.Common.{◌≡◌, ℕ, suc, ◌+◌, ◌<◌, ◌≤◌, List, [], ◌∷◌, ◌++◌, Option, length, get_or, drop, option_map, refl, ap, sym, ◌∙◌, add-one, append_assoc, append-nil, drop-cons, arith}
 use Rattle.std.proofs.lemmas.List.{drop_all}
 use Rattle.std.specs.Prelude.{Some, None, map, option_and_then}
 use Rattle.serde_json.specs.Data.{Data}
@@ -16,6 +16,23 @@ listed-items (d ∷ ds) = ap (λ xs. d ∷ xs) (listed-items ds)
 pub list_field-items : {A : Type 0} (f : Data → Option A) (name : List ℕ) (vs : List Value) (d : Data) → Some (items_view vs) ≡ option_and_then as_array (get name d)
     → each f (map view vs) ≡ list_field f name d
 list_field-items f name vs d e = rw (← e, listed-items) refl
+
+-- a slice of three or four items
+
+pub three_values : (vs : List Value) (a b c : Value) → 3 ≤ length vs → length vs < 4 → a ≡ get_or vs 0 a → b ≡ get_or vs 1 b → c ≡ get_or vs 2 c → vs ≡ a ∷ b ∷ c ∷ []
+three_values (x ∷ y ∷ z ∷ []) a b c least below e f g = rw (e, f, g) refl
+three_values [] a b c least below e f g = absurd (omega arith)
+three_values (x ∷ []) a b c least below e f g = absurd (omega arith)
+three_values (x ∷ y ∷ []) a b c least below e f g = absurd (omega arith)
+three_values (x ∷ y ∷ z ∷ w ∷ others) a b c least below e f g = absurd (omega arith)
+
+pub four_values : (vs : List Value) (a b c d : Value) → 4 ≤ length vs → length vs < 5 → a ≡ get_or vs 0 a → b ≡ get_or vs 1 b → c ≡ get_or vs 2 c → d ≡ get_or vs 3 d → vs ≡ a ∷ b ∷ c ∷ d ∷ []
+four_values (x ∷ y ∷ z ∷ w ∷ []) a b c d least below e f g h = rw (e, f, g, h) refl
+four_values [] a b c d least below e f g h = absurd (omega arith)
+four_values (x ∷ []) a b c d least below e f g h = absurd (omega arith)
+four_values (x ∷ y ∷ []) a b c d least below e f g h = absurd (omega arith)
+four_values (x ∷ y ∷ z ∷ []) a b c d least below e f g h = absurd (omega arith)
+four_values (x ∷ y ∷ z ∷ w ∷ v ∷ others) a b c d least below e f g h = absurd (omega arith)
 
 pub entry_in-items : (vs : List Value) (d : Data) → Some (items_view vs) ≡ as_array d → entry_among (map view vs) ≡ entry_in d
 unfolding entry_in
