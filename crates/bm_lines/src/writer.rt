@@ -187,11 +187,7 @@ fn write_received(
     write_block(line, id, stamp)
 }
 
-fn write_report(
-    line: &mut String,
-    storage: StorageId,
-    entries: &[Entry],
-) -> Result<(), AllocError>
+fn write_report(line: &mut String, storage: StorageId, entries: &[Entry]) -> Result<(), AllocError>
     ensures text { OnOk result (string_bytes line.new ≡ string_bytes line.old
         ++ event_fields (FullReport storage entries.now)) }
     ensures fits { OnOk result (FitsWholeEvent (FullReport storage entries.now)) }

@@ -13,7 +13,7 @@ returns c =
     at_end c.is_end.result (codes "add") c.args.fields.now repl.fields.now (Apply (AddBlock id.id stamp.stamp repl.repl)) c.then_some.result c.then_some.ensures c.is_end.ensures (λ end. record {
       named = refl;
       same = three_fields c.args.fields.now id.fields.now stamp.fields.now repl.fields.now (codes "}") (number_text (codes "id") id.id) (stamp_text stamp.stamp) (number_text (codes "repl") repl.repl)
-      id.ensures.text stamp.ensures.text repl.ensures.text end;
+          id.ensures.text stamp.ensures.text repl.ensures.text end;
       fits = (id.ensures.fits, stamp.ensures.fits, repl.ensures.fits);
       some = refl;
     })

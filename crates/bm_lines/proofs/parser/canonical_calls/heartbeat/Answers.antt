@@ -12,7 +12,7 @@ returns c =
     rw c.from_vec.ensures (record {
       named = refl;
       same = two_fields c.args.fields.now node.fields.now read.end.now (codes "}") (number_text (codes "node") node.node) (list_text (codes "remaining") remaining_text read.remaining.items)
-      node.ensures.text text (c.is_end.ensures c.if-not-is_end.false);
+          node.ensures.text text (c.is_end.ensures c.if-not-is_end.false);
       fits = (node.ensures.fits, fits);
       some = refl;
     })

@@ -12,7 +12,7 @@ returns c =
     at_end c.is_end.result (codes "deleted") c.args.fields.now id.fields.now (Apply (Deleted storage.storage id.id)) c.then_some.result c.then_some.ensures c.is_end.ensures (λ end. record {
       named = refl;
       same = two_fields c.args.fields.now storage.fields.now id.fields.now (codes "}") (number_text (codes "storage") storage.storage) (number_text (codes "id") id.id)
-      storage.ensures.text id.ensures.text end;
+          storage.ensures.text id.ensures.text end;
       fits = (storage.ensures.fits, id.ensures.fits);
       some = refl;
     })

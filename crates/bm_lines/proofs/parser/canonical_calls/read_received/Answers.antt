@@ -13,7 +13,7 @@ returns c =
     at_end c.is_end.result (codes "received") c.args.fields.now stamp.fields.now (Apply (Received storage.storage id.id stamp.stamp)) c.then_some.result c.then_some.ensures c.is_end.ensures (λ end. record {
       named = refl;
       same = three_fields c.args.fields.now storage.fields.now id.fields.now stamp.fields.now (codes "}") (number_text (codes "storage") storage.storage) (number_text (codes "id") id.id) (stamp_text stamp.stamp)
-      storage.ensures.text id.ensures.text stamp.ensures.text end;
+          storage.ensures.text id.ensures.text stamp.ensures.text end;
       fits = (storage.ensures.fits, id.ensures.fits, stamp.ensures.fits);
       some = refl;
     })

@@ -12,7 +12,7 @@ returns c =
     rw c.from_vec.ensures (record {
       named = refl;
       same = two_fields c.args.fields.now storage.fields.now read.end.now (codes "}") (number_text (codes "storage") storage.storage) (list_text (codes "blocks") entry_text read.entries.items)
-      storage.ensures.text text (c.is_end.ensures c.if-not-is_end.false);
+          storage.ensures.text text (c.is_end.ensures c.if-not-is_end.false);
       fits = (storage.ensures.fits, fits);
       some = refl;
     })

@@ -12,7 +12,7 @@ returns c =
     at_end c.is_end.result (codes "restamp") c.args.fields.now stamp.fields.now (Apply (Restamp id.id stamp.stamp)) c.then_some.result c.then_some.ensures c.is_end.ensures (λ end. record {
       named = refl;
       same = two_fields c.args.fields.now id.fields.now stamp.fields.now (codes "}") (number_text (codes "id") id.id) (stamp_text stamp.stamp)
-      id.ensures.text stamp.ensures.text end;
+          id.ensures.text stamp.ensures.text end;
       fits = (id.ensures.fits, stamp.ensures.fits);
       some = refl;
     })

@@ -12,7 +12,7 @@ returns c =
     at_end c.is_end.result (codes "set_replication") c.args.fields.now repl.fields.now (Apply (SetReplication id.id repl.repl)) c.then_some.result c.then_some.ensures c.is_end.ensures (λ end. record {
       named = refl;
       same = two_fields c.args.fields.now id.fields.now repl.fields.now (codes "}") (number_text (codes "id") id.id) (number_text (codes "repl") repl.repl)
-      id.ensures.text repl.ensures.text end;
+          id.ensures.text repl.ensures.text end;
       fits = (id.ensures.fits, repl.ensures.fits);
       some = refl;
     })

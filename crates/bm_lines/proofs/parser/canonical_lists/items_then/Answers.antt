@@ -27,7 +27,7 @@ loop-next-preserved g c =
     let read = c.in-Some-item_then in
     let pushed = c.in_ok-push-2.ensures.items in record {
       text = next_item g.T.CanonicalItem.written before items read.item c.args.list.now c.loop-next.rest.now c.in-Some-after.next.now read.behind.now
-      known.some pushed known.text c.in-Some-after.ensures.text read.ensures.text;
+          known.some pushed known.text c.in-Some-after.ensures.text read.ensures.text;
       fits = next_fits g.T.CanonicalItem.is_fit before items read.item pushed known.fits read.ensures.fits;
       some = has_item before items read.item pushed;
     }
