@@ -24,5 +24,5 @@ loop-keyed-preserved c =
     let id : (ℕ × ℕ) × ℕ → ℕ = λ e. id_at me.arena.now e.1 in
     let Found : List ℕ → Type 0 = λ bs. HasFound me.topology.now.cluster me.pend me.round (holdings_with me.arena.now me.pending.now.map) me.bound bs c.scan_slot.new.found in
     let next : map id (take (i + 1) slots) ≡ map id (take i slots) ++ id x ∷ [] =
-        ap (map id) (take_more slots i ((0, 0), 0) c.loop-keyed-test.true) ∙ map-append id (take i slots) (x ∷ []) in
+    ap (map id) (take_more slots i ((0, 0), 0) c.loop-keyed-test.true) ∙ map-append id (take i slots) (x ∷ []) in
     subst Found (sym next) (c.in_ok-scan_slot.ensures.more (map id (take i slots)) c.loop-keyed.invariant)
