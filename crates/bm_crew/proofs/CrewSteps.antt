@@ -1,6 +1,6 @@
 -- Each step of the calling thread and of its helpers keeps the facts about the pieces taken and
 -- their results.
-use Rattle.std.proofs.Common.{◌≡◌, ℕ, ◌+◌, ◌<◌, ◌≤◌, true, false, List, [], ◌∷◌, ◌++◌, length, arith, ap, ◌∙◌, sym, subst, set, vec_len, vec_capacity, length-append, Global}
+use Rattle.std.proofs.Common.{◌≡◌, ℕ, ◌+◌, ◌<◌, ◌≤◌, true, false, List, [], ◌∷◌, ◌++◌, length, arith, refl, ap, ◌∙◌, sym, subst, set, slice_index_or, vec_len, vec_capacity, length-append, Global}
 use Rattle.std.specs.Prelude.{Option, Some, None, Vec}
 use Rattle.std.proofs.lemmas.List.{append-nil}
 use Rattle.std.proofs.lemmas.List.Elements.{All-nil, All-cons, All-push, All-head, All-weaker, All-contains}
@@ -13,10 +13,11 @@ use Rattle.bm_crew.specs.declared.bag.Bag.{Bag}
 use Rattle.bm_crew.specs.declared.bag.BagPass.{BagPass}
 use Rattle.bm_crew.specs.declared.helper.Helper.{Helper}
 use Rattle.bm_crew.specs.declared.collector.Collector.{Collector}
-use Rattle.bm_crew.specs.Rule.{helper_view, with_given, after_put, after_take, after_join, after_renewal}
-use Rattle.bm_crew.specs.Bags.{view_of, given_of, taken_of, IsCallerOf, IsHelperOf, AllJoined}
+use Rattle.bm_crew.specs.Rule.{helper_view, with_given, after_put, after_take, after_none, after_join, after_renewal}
+use Rattle.bm_crew.specs.Bags.{view_of, given_of, taken_of, found_empty_of, IsCallerOf, IsHelperOf, AllJoined, MayPut, IsOpened}
 use Rattle.bm_crew.specs.Work.{IsPlacedResultOf, AreFilled, slots_after}
 use Rattle.bm_crew.specs.Crews.{IsIdle, CanHelp, IsHelping, HasHelped, IsCollecting, JoinsSince}
+use Rattle.bm_crew.specs.Teams.{IsTeamFor}
 use Rattle.bm_crew.proofs.Moves.{enumerate_push}
 use Rattle.bm_crew.proofs.Zips.{zip_push}
 use Rattle.bm_crew.proofs.AppendedLists.{all_left, all_right}
@@ -28,6 +29,20 @@ module _ {T U : Type 0} (post : ℕ → T → U → Type 0) where
   helped_one bag old new x m was is took made done = record {
     of = is;
     done = subst (λ (y : List (ℕ × (ℕ × T)) × List (ℕ × (ℕ × U))). AllZip (IsPlacedResultOf post) y.0 y.1) (λ i. (ap (λ (v : PassView (ℕ × T)). v.taken) (sym took) i, sym done i)) (zip_push (IsPlacedResultOf post) (taken_of old.pass) old.done.items x m was.done made);
+  }
+
+  -- an idle helper has no results yet
+  pub idle_helps : (n : ℕ) (bag : Bag (ℕ × T)) (h : Helper T U) → IsIdle n bag h → IsHelping post bag h
+  idle_helps n bag h idle = record {
+    of = idle.of;
+    done = subst (λ (y : List (ℕ × (ℕ × T)) × List (ℕ × (ℕ × U))). AllZip (IsPlacedResultOf post) y.0 y.1) (λ i. (sym idle.none_taken i, sym idle.none_done i)) tt;
+  }
+
+  -- a helper found the bag empty
+  pub helper_ends : (bag : Bag (ℕ × T)) (old : Helper T U) (new : BagPass (ℕ × T)) → IsHelping post bag old → IsHelperOf bag new → view_of new ≡ after_none (view_of old.pass) → found_empty_of old.pass ≡ 0 → HasHelped post bag (record { pass = new; done = old.done })
+  helper_ends bag old new was is none first = record {
+    helping = record { of = is; done = subst (λ (v : PassView (ℕ × T)). AllZip (IsPlacedResultOf post) v.taken old.done.items) (sym none) was.done };
+    ended = ap (λ (v : PassView (ℕ × T)). v.found_empty) none ∙ ap (λ n. n + 1) first;
   }
 
   module _ (pre : ℕ → T → Type 0) where
@@ -44,6 +59,15 @@ module _ {T U : Type 0} (post : ℕ → T → U → Type 0) where
           places = subst (λ (y : List (ℕ × (ℕ × T)) × ℕ). All (λ item. item.0 < y.1) y.0) (λ i. (sym given i, sym len i)) was.places;
           filled = subst (λ (y : List (ℕ × (ℕ × T)) × List (Option (ℕ × U))). AreFilled post y.0 y.1) (λ i. (ap (λ (v : PassView (ℕ × T)). v.taken) (sym took) i, sym put i)) more;
         }
+
+    -- the calling thread found the bag empty
+    pub collected_none : (bag : Bag (ℕ × T)) (old : Collector T U) (new : BagPass (ℕ × T)) → IsCollecting pre post bag old → IsCallerOf bag new → view_of new ≡ after_none (view_of old.pass) → IsCollecting pre post bag (record { pass = new; slots = old.slots })
+    collected_none bag old new was is none = record {
+      leads = is;
+      accepts = subst (λ (v : PassView (ℕ × T)). All (λ item. pre item.1.0 item.1.1) v.given) (sym none) was.accepts;
+      places = subst (λ (v : PassView (ℕ × T)). All (λ item. item.0 < vec_len old.slots) v.given) (sym none) was.places;
+      filled = subst (λ (v : PassView (ℕ × T)). AreFilled post v.taken old.slots.items) (sym none) was.filled;
+    }
 
     -- the indices of a helper's results
     pub helper_places : (bag : Bag (ℕ × T)) (old : Collector T U) (helper : Helper T U) (new : BagPass (ℕ × T)) → IsCollecting pre post bag old → HasHelped post bag helper → view_of new ≡ after_join (view_of old.pass) (view_of helper.pass) → All (Contains (given_of new)) (taken_of new) → All (λ m. m.0 < vec_len old.slots) helper.done.items
@@ -67,12 +91,24 @@ module _ {T U : Type 0} (post : ℕ → T → U → Type 0) where
           filled = subst (λ (y : List (ℕ × (ℕ × T)) × List (Option (ℕ × U))). AreFilled post y.0 y.1) (λ i. (ap (λ (v : PassView (ℕ × T)). v.taken) (sym joined) i, sym put i)) more;
         }
 
+-- nothing was done since
+pub joins_none : {T U : Type 0} (c : Collector T U) → JoinsSince 0 c c
+joins_none c = record { given = refl; slots = refl; joins = omega arith }
+
 -- one more piece was taken since
 pub joins_on : {T U : Type 0} (first old new : Collector T U) (x : ℕ × (ℕ × T)) → JoinsSince 0 first old → view_of new.pass ≡ after_take (view_of old.pass) x → vec_len new.slots ≡ vec_len old.slots → JoinsSince 0 first new
 joins_on {T} first old new x was took len = record {
   given = ap (λ (v : PassView (ℕ × T)). v.given) took ∙ was.given;
   slots = len ∙ was.slots;
   joins = omega (arith, was.joins, ap (λ (v : PassView (ℕ × T)). v.split) took, ap (λ (v : PassView (ℕ × T)). v.joined) took);
+}
+
+-- the bag was found empty since
+pub joins_still : {T U : Type 0} (first old : Collector T U) (new : BagPass (ℕ × T)) → JoinsSince 0 first old → view_of new ≡ after_none (view_of old.pass) → JoinsSince 0 first (record { pass = new; slots = old.slots })
+joins_still {T} first old new was none = record {
+  given = ap (λ (v : PassView (ℕ × T)). v.given) none ∙ was.given;
+  slots = was.slots;
+  joins = omega (arith, was.joins, ap (λ (v : PassView (ℕ × T)). v.split) none, ap (λ (v : PassView (ℕ × T)). v.joined) none);
 }
 
 -- the last helper is split off the list
@@ -160,3 +196,19 @@ ends {T} post n before items first mid last put to_join one two all filled =
     let joined : AllJoined mid.pass = omega (arith, one.joins, to_join, ap (λ (v : PassView (ℕ × T)). v.split) put, ap (λ (v : PassView (ℕ × T)). v.joined) put) in
     let given : given_of last.pass ≡ enumerate_from 0 items = two.given ∙ one.given ∙ ap (λ (v : PassView (ℕ × T)). v.given) put in
     subst (λ l. AreFilled post l last.slots.items) given (filled_moved post (given_of last.pass) (taken_of last.pass) last.slots.items (all joined) filled)
+
+-- the bag is open, and each pass but the first has its worker
+pub staffed : {T U : Type 0} (n workers : ℕ) (bag : Bag (ℕ × T)) (all : List (BagPass (ℕ × T))) (first : BagPass (ℕ × T)) (helpers : Vec (Helper T U) Global) → IsOpened n workers bag all → first ≡ slice_index_or all 0 first → vec_len helpers + 1 ≡ workers → All (IsIdle n bag) helpers.items → IsTeamFor n (record { bag = bag; pass = first; helpers = helpers })
+staffed {T} n workers bag all first helpers opened at count idle =
+    let here : opened.caller ≡ first = sym (at ∙ ap (λ l. slice_index_or l 0 first) opened.all_are) in
+    let many : vec_len helpers ≡ length opened.others = omega (arith, count, opened.count, ap length opened.all_are) in
+    let to_join : (view_of opened.caller).split ≡ (view_of opened.caller).joined + vec_len helpers = omega (arith, many, opened.to_join) in
+    record {
+      capacity = omega (arith, opened.capacity);
+      leads = subst (λ (p : BagPass (ℕ × T)). IsCallerOf bag p) here opened.leads;
+      may_put = subst (λ (p : BagPass (ℕ × T)). MayPut p) here opened.may_put;
+      nothing_given = subst (λ (p : BagPass (ℕ × T)). given_of p ≡ []) here opened.nothing_given;
+      nothing_taken = subst (λ (p : BagPass (ℕ × T)). taken_of p ≡ []) here opened.nothing_taken;
+      to_join = subst (λ (p : BagPass (ℕ × T)). (view_of p).split ≡ (view_of p).joined + vec_len helpers) here to_join;
+      helpers = idle;
+    }
