@@ -2,7 +2,7 @@ use Rattle.std.proofs.Common.{rules, arith, ◌≡◌, ◌≤◌, refl, ap, sym,
 use Rattle.std.proofs.lemmas.Slice.Zip.{AllZip-long}
 use Rattle.std.specs.List.{AllZip}
 use Rattle.bm_crew.specs.Work.{IsResultOf}
-use Rattle.bm_crew.proofs.Zips.{take_one, zip_push, none_left, has_room}
+use Rattle.bm_crew.proofs.Zips.{take_one, zip_push, none_left, has_capacity}
 use Rattle.bm_crew.proofs.AppendedLists.{all_next}
 use Rattle.bm_crew.proofs.crew.work_in_turn.Goals as goal
 
@@ -45,7 +45,7 @@ job-requires g c = all_next (λ item. goal.J-pre g c.args.job.now item.0 item.1)
 pub push_reserved-requires : goal.push_reserved-requires
 push_reserved-requires g c =
     let inv = c.loop-shard.invariant in
-    has_room _ _ _ _ _ _ _ inv.0 c.in-Some.ensures.steps.0 inv.2 (subst (λ n. n ≤ vec_capacity c.loop-shard.results) c.args.items.ok.0 inv.3)
+    has_capacity _ _ _ _ _ _ _ inv.0 c.in-Some.ensures.steps.0 inv.2 (subst (λ n. n ≤ vec_capacity c.loop-shard.results) c.args.items.ok.0 inv.3)
 
 pub loop-shard-smaller : goal.loop-shard-smaller
 loop-shard-smaller g c = (c.in-Some.ensures.goes.on tt).2
