@@ -66,7 +66,7 @@ impl LevelIndex {
         })
     }
 
-    /// As `new`, with capacity for all slots below a bound.
+    /// No slot has a level, and none is unsettled. There is capacity for all slots below a bound.
     pub fn for_slots(alloc: Global, bound: usize) -> Result<LevelIndex, Refusal>
         ensures capacity { IfOk result (λ k. HasCapacityFor k bound) }
         ensures levels { IfOk result (λ k. (slot : ℕ) → level_of_slot k slot ≡ None) }
