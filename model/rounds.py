@@ -267,7 +267,7 @@ def deletes(state):
 
 
 def is_deletable(state, block, replica):
-    """T does not count as live."""
+    """Whether a round may command the delete. The transfers of T do not count as live replicas."""
     if replica.ordered:
         return False
     if replica.tag == "stray" or replica.excess:

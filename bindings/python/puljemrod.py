@@ -111,7 +111,7 @@ class Options(ctypes.Structure):
 
 
 def options_of(given):
-    """ctypes cuts a number that is too large, and so none comes to it."""
+    """The options with their defaults. A number that ctypes would truncate is refused."""
     given = {**STANDARD, "secret": secrets.randbits(64), **given}
     for name, kind in Options._fields_:
         most = 1 << 8 * ctypes.sizeof(kind)

@@ -1,4 +1,4 @@
-"""The comments of the sources, by language."""
+"""The comments of the sources, by language, and their texts in quotes."""
 
 import ast
 import inspect
@@ -16,7 +16,7 @@ IN_BRACES = re.compile(
     r"""
     (?P<line> //[/!]?\ ?(?P<words> [^\n]*))
     | /\*(?P<block> .*?)\*/
-    | "(?:\\.|[^"\\])*"
+    | "(?P<text> (?:\\.|[^"\\])*)"
     | '(?:\\.|[^'\\\n])'
     """,
     re.VERBOSE | re.DOTALL,
@@ -47,6 +47,21 @@ def reader_of(path):
     if not first.startswith(b"#!"):
         return None
     return of_python if b"python" in first else after_numbers
+
+
+def texts_in(path):
+    """The texts in quotes of a file, each with the number of its line; none of a file that is no
+    source."""
+    reader = reader_of(path)
+    if reader is in_braces:
+        text = path.read_text()
+        for found in IN_BRACES.finditer(text):
+            if found["text"]:
+                yield text.count("\n", 0, found.start()) + 1, found["text"]
+    elif reader is of_python:
+        for token in tokenize.generate_tokens(io.StringIO(path.read_text()).readline):
+            if token.type == tokenize.STRING and not token.string.startswith('"""'):
+                yield token.start[0], token.string
 
 
 def of_python(text):

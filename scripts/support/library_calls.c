@@ -368,7 +368,7 @@ static void rounds(void) {
               && copy->len == 64 && copy[1].block == 0, "the copy");
     check(gone->node == 2 && gone->storage == 21 && gone->block == 9 && gone[1].block == 0, "the delete");
     check(puljemrod_copies(&h, 1, copy, 2) == 0 && puljemrod_deletes(&h, SIZE_MAX, gone, 2) == 0, "past the commands");
-    check(puljemrod_copies(&h, 0, copy, 0) == 0, "no room for commands");
+    check(puljemrod_copies(&h, 0, copy, 0) == 0, "no space for commands");
     size_t len;
     check(puljemrod_text(&h, &len) == 0 && has_text(&h, "round 1; copy 1 7 1 64 11 21; delete 2 21 9"), "the round's text");
     check(puljemrod_copies(&h, 0, copy, 2) == 0, "commands after their text");
@@ -395,7 +395,7 @@ static void commands_of_several_nodes(void) {
               && copy->block == 7, "the first node's copy");
     check(copy[1].node == 2 && copy[1].source == 21 && copy[1].target == 31 && copy[1].block == 8, "the second node's");
     check(puljemrod_copies(&h, 1, copy, 3) == 1 && copy->block == 8 && copy[1].block == 8, "copies from the second on");
-    check(puljemrod_copies(&h, 0, copy, 1) == 1 && copy->block == 7 && copy[1].block == 8, "room for one copy");
+    check(puljemrod_copies(&h, 0, copy, 1) == 1 && copy->block == 7 && copy[1].block == 8, "space for one copy");
     puljemrod_close(&h);
 }
 

@@ -9,8 +9,7 @@ BYTE_UNITS = ["B", "KiB", "MiB", "GiB", "TiB", "PiB", "EiB", "ZiB", "YiB"]
 
 class Page(HTMLParser):
     """The content of a page: the cells under each title of a table, the facts, the items. The bars
-    outside tables come with the texts that a pointer over them shows. `asks` is what the page asks
-    others for."""
+    outside tables come with their tooltips. `asks` are the resources that the page would load."""
 
     def __init__(self, text):
         super().__init__()

@@ -20,8 +20,8 @@ HAS_TO_REACH = [
     "level 3, and all nodes on other racks drain",
     "copy from a draining node",
     *[f"source of {limit} copies, its limit" for limit in (2, 4)],
-    "as many copies as the round may have",
-    "as many deletes as a node may have",
+    "the limit of copies of a round",
+    "the limit of deletes of a node",
     "transfers expired",
     "transfers ended by a drain",
     "transfer that arrived",
@@ -89,14 +89,14 @@ class Reached(Counter):
             self[f"target of class {transfer.target_class}, {shape(before, transfer.held)}"] += 1
             self[f"source of {limit} copies, its limit"] += sends[transfer.node] == limit
         most = before.limits.work * len(before.nodes)
-        self["as many copies as the round may have"] += 0 < len(done.transfers) == most
+        self["the limit of copies of a round"] += 0 < len(done.transfers) == most
         self["transfers expired"] += done.expired
 
     def note_deletes(self, before, done):
         for _, storage, block in done.deletes:
             self[f"delete of a {before.replicas[block, storage].tag} replica"] += 1
         counts = Counter(node for node, _, _ in done.deletes)
-        self["as many deletes as a node may have"] += before.limits.invalidate in counts.values()
+        self["the limit of deletes of a node"] += before.limits.invalidate in counts.values()
 
     def note_items(self, items):
         runs = [item for item in items if len(item) == 4]

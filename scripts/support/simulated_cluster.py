@@ -104,8 +104,8 @@ class SimulatedCluster:
         return (suited or free)[0]
 
     def report_what_is_free(self):
-        """Sends what is free. Each disk has capacity for twice its share of the replicas, and for 4
-        TiB at least."""
+        """Sends heartbeats with the free bytes. Each disk has capacity for twice its share of the
+        replicas, and for 4 TiB at least."""
         storages = self.asked.nodes * self.asked.storages
         capacity = max(2 * -(-self.asked.blocks * self.asked.replication // storages), 2**15) * LENGTH
         self.free = dict.fromkeys(range(storages), capacity)

@@ -324,7 +324,7 @@ pub fn calls<M: Measured>(blocks: u64) {
     bench.measure_rounds();
 }
 
-/// What a manager holds in memory whose replicas came one by one.
+/// Prints the memory of a manager that got its replicas one by one.
 pub fn memory<M: Measured>(blocks: u64) {
     let held = resident_bytes();
     let mut bench: Bench<M> = Bench::new(blocks);

@@ -374,7 +374,8 @@ impl Manager {
         Ok(self.rows(puljemrod_number_rows, count).iter().map(|storage| *storage as u32).collect())
     }
 
-    /// How urgently a block wants replicas: 0 (most) to 4, or none.
+    /// The level of a block: 0 (copied first) to 3, or 4 without a usable replica; `None` if the
+    /// block needs no copy.
     pub fn level(&mut self, id: u64) -> Result<Option<u32>, Error> {
         let answer = self.query(|handle, answer| unsafe { puljemrod_level(handle, id, answer) })?;
         Ok((answer != NO_LEVEL).then_some(answer as u32))

@@ -1,6 +1,6 @@
 // The request of a line.
 ghost use Rattle.std.specs.Prelude.{◌≡◌, IfOk, OnErr, List, ℕ};
-ghost use Rattle.bm_lines.specs.Held.{Holds};
+ghost use Rattle.bm_lines.specs.LineBuffer.{Holds};
 ghost use Rattle.bm_answers.specs.declared.request.Request.TheVariants.{Long};
 ghost use Rattle.bm_answers.specs.OneLine.{asked};
 

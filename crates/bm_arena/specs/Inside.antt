@@ -31,9 +31,9 @@ pub record IsSound (slots : Slab BlockEntry) (heads : List (ℕ × Option ℕ)) 
 
 -- the invariant of the entries of an arena with this many heads
 pub record AreIds (blocks : List (Option Block)) (ids : List (ℕ × ℕ)) (delimiter heads : ℕ) : Type 0 where
-  -- each number leads to its block
+  -- the index finds a block by its number
   pub there : (id slot : ℕ) → lookup (nat_eq id) ids ≡ Some slot → (slot ≢ delimiter) × (b : Block) × (slice_index_or blocks slot None ≡ Some b) × (b.id ≡ id)
-  -- each block but the delimiter is led to by its number
+  -- the index has each block but the delimiter
   pub known : (slot : ℕ) (b : Block) → slice_index_or blocks slot None ≡ Some b → slot ≢ delimiter → lookup (nat_eq b.id) ids ≡ Some slot
   -- no number is listed twice
   pub each : IsDistinct nat_eq (keys_of ids)

@@ -161,7 +161,7 @@ fn set_next(slots: &mut Slab<BlockEntry>, slot: usize, storage: u32, next: SlotL
     }
 }
 
-// Relinks the triplet of a storage as the head of its list. Returns the triplet before that.
+// Relinks the triplet of a storage as the head of its list. Returns the triplet as it was before.
 pub(crate) fn put_first(
     slots: &mut Slab<BlockEntry>,
     slot: usize,

@@ -3,18 +3,18 @@
 use crate::arena::Slot;
 
 /// Numbers that are handed out one after another get slots one after another, so that most slots
-/// can be predicted from the number, without a read of the index. This keeps the number that would
-/// have slot 0, and the stride between the numbers of neighbouring slots: with several shards their
-/// number. Each added entry votes on it.
+/// can be predicted from the number, without a read of the index. The prediction consists of the
+/// number that would have slot 0, and the stride between the numbers of neighbouring slots. With
+/// several shards the stride is the number of shards. Each added entry votes on the prediction.
 #[derive(Clone, Copy)]
 pub(crate) struct PredictedSlots {
-    // The number of slot 0, and how much greater the number of the next slot is: at least 1.
+    // The block number predicted for slot 0, and the stride to the next slot's: at least 1.
     from: u64,
     stride: u64,
     // The number that was added last, and its slot.
     last: u64,
     last_slot: u64,
-    // How many more of the added entries have the slot that is guessed than have another one.
+    // The number of added entries with the predicted slot, less the number of those without it.
     votes: u64,
 }
 
@@ -30,8 +30,8 @@ impl PredictedSlots {
         }
     }
 
-    /// The predicted slot of a number, with this many entries; none if fewer than half of them are
-    /// predicted right.
+    /// The predicted slot of a number. None if the votes are fewer than half of the entries: too
+    /// few slots are predicted right then.
     pub(crate) fn guess(&self, id: u64, entries: usize) -> Option<Slot> {
         if self.votes < entries as u64 / 2 {
             return None;

@@ -58,8 +58,8 @@ same_then : (n : ℕ) (s : Ordering) → ordering_then (nat_cmp n n) s ≡ s
 same_then n s = ap (λ r. ordering_then r s) (tied_itself nat_cmp_total n)
 
 module _ {Y : Type 0} (key : Y → ℕ × ℕ) where
-  abbrev pub Rises : List Y → Type 0
-  Rises ys = T (is_sorted pair_cmp (map (λ y. (key y, y)) ys))
+  abbrev pub Ascends : List Y → Type 0
+  Ascends ys = T (is_sorted pair_cmp (map (λ y. (key y, y)) ys))
 
   abbrev Below : ℕ × ℕ → List Y → Type 0
   Below k ys = T (below_all pair_cmp k (map (λ y. (key y, y)) ys))
@@ -68,7 +68,7 @@ module _ {Y : Type 0} (key : Y → ℕ × ℕ) where
   below_append k [] ys h g = g
   below_append k (x ∷ xs) ys h g = both _ _ (first _ _ h) (below_append k xs ys (second _ _ h) g)
 
-  ascends_append : (xs ys : List Y) → Rises xs → Rises ys → Each (λ x. Below (key x) ys) xs → Rises (xs ++ ys)
+  ascends_append : (xs ys : List Y) → Ascends xs → Ascends ys → Each (λ x. Below (key x) ys) xs → Ascends (xs ++ ys)
   ascends_append [] ys h g each = g
   ascends_append (x ∷ xs) ys h g each = both _ _ (below_append (key x) xs ys (first _ _ h) each.0) (ascends_append xs ys (second _ _ h) g each.1)
 
@@ -79,7 +79,7 @@ module _ {Y : Type 0} (key : Y → ℕ × ℕ) where
       both _ _ (less_then (nat_cmp k.0 (key y).0) (nat_cmp k.1 (key y).1) (subst (λ a. T (is_lt (nat_cmp a (key y).0))) (sym is) (subst (λ c. T (is_lt (nat_cmp n c))) (sym each.0) less)))
       (below_group n m k is less ys each.1)
 
-  module _ {I : Type 0} (f : I → List Y) (number : I → ℕ) (each : (i : I) → Each (λ y. (key y).0 ≡ number i) (f i)) (rises : (i : I) → Rises (f i)) where
+  module _ {I : Type 0} (f : I → List Y) (number : I → ℕ) (each : (i : I) → Each (λ y. (key y).0 ≡ number i) (f i)) (ascends : (i : I) → Ascends (f i)) where
     below_groups : (i : I) (is : List I) (k : ℕ × ℕ) → k.0 ≡ number i → T (below_all nat_cmp (number i) (map (λ j. (number j, j)) is)) → Below k (flat_map f is)
     below_groups i [] k e h = tt
     below_groups i (j ∷ is) k e h = below_append k (f j) (flat_map f is) (below_group (number i) (number j) k e (first _ _ h) (f j) (each j)) (below_groups i is k e (second _ _ h))
@@ -88,9 +88,9 @@ module _ {Y : Type 0} (key : Y → ℕ × ℕ) where
     each_below i is [] h below = tt
     each_below i is (y ∷ ys) h below = (below_groups i is (key y) h.0 below, each_below i is ys h.1 below)
 
-    pub groups_ascend : (is : List I) → T (is_sorted nat_cmp (map (λ j. (number j, j)) is)) → Rises (flat_map f is)
+    pub groups_ascend : (is : List I) → T (is_sorted nat_cmp (map (λ j. (number j, j)) is)) → Ascends (flat_map f is)
     groups_ascend [] h = tt
-    groups_ascend (i ∷ is) h = ascends_append (f i) (flat_map f is) (rises i) (groups_ascend is (second _ _ h)) (each_below i is (f i) (each i) (first _ _ h))
+    groups_ascend (i ∷ is) h = ascends_append (f i) (flat_map f is) (ascends i) (groups_ascend is (second _ _ h)) (each_below i is (f i) (each i) (first _ _ h))
 
   -- The results for ascending numbers, each with its number, are ascending.
   module _ (n : ℕ) (f : ℕ → Option Y) (is : (b : ℕ) (y : Y) → f b ≡ Some y → key y ≡ (n, b)) where
@@ -102,11 +102,11 @@ module _ {Y : Type 0} (key : Y → ℕ × ℕ) where
         by None e rest = rest
         by (Some y) e rest = both _ _ (subst (λ k. T (is_lt (pair_cmp (n, b) k))) (sym (is c y e)) (subst (λ r. T (is_lt r)) (sym (same_then n (nat_cmp b c))) (first _ _ h))) rest
 
-    pub made_ascend : (bs : List ℕ) → T (is_sorted nat_cmp (map (λ c. (c, c)) bs)) → Rises (filter_map f bs)
+    pub made_ascend : (bs : List ℕ) → T (is_sorted nat_cmp (map (λ c. (c, c)) bs)) → Ascends (filter_map f bs)
     made_ascend [] h = tt
     made_ascend (b ∷ bs) h = by (f b) refl (made_ascend bs (second _ _ h))
       where
-        by : (o : Option Y) → f b ≡ o → Rises (filter_map f bs) → Rises (cons_option o (filter_map f bs))
+        by : (o : Option Y) → f b ≡ o → Ascends (filter_map f bs) → Ascends (cons_option o (filter_map f bs))
         by None e rest = rest
         by (Some y) e rest = both _ _ (subst (λ k. Below k (filter_map f bs)) (sym (is b y e)) (below_made b bs (first _ _ h))) rest
 
@@ -134,7 +134,7 @@ keys_ascend m = ascending_list m.list m.sorted
 wish_key_is : (C : Cluster) (H : Holdings) (urgency : Level) (b : ℕ) (w : Wish) → wish_at C H urgency b ≡ Some w → wish_key w ≡ (level_number urgency, b)
 wish_key_is C H urgency b w e = ap wish_key (sym (wish_is C H urgency b w e).2)
 
-pub wishes_ascend : (C : Cluster) (H : Holdings) → Rises wish_key (wishes_by_block C H)
+pub wishes_ascend : (C : Cluster) (H : Holdings) → Ascends wish_key (wishes_by_block C H)
 unfolding wishes_by_block
 wishes_ascend C H =
     groups_ascend wish_key (λ urgency. filter_map (wish_at C H urgency) (keys H.blocks)) level_number
@@ -161,11 +161,11 @@ module _ (C : Cluster) (H : Holdings) (s : ℕ) where
           let here : e.0.storage ≡ s = eqb-true e.0.storage s (and_first (e.0.storage == s) (is_deletable C H e.0 e.1) t) in
           both _ _ (subst (λ r. T (is_lt r)) (sym (same_then s (nat_cmp p.block e.0.block))) (lesser_block p e.0 (at ∙ sym here) (first _ _ h))) rest
 
-  deletes_on_ascend : (es : List (ReplicaId × Marks)) → T (is_sorted replica_cmp es) → Rises delete_key (map made_delete (filter wanted es))
+  deletes_on_ascend : (es : List (ReplicaId × Marks)) → T (is_sorted replica_cmp es) → Ascends delete_key (map made_delete (filter wanted es))
   deletes_on_ascend [] h = tt
   deletes_on_ascend (e ∷ es) h = by (wanted e) refl (deletes_on_ascend es (second _ _ h))
     where
-      by : (b : Bool) → wanted e ≡ b → Rises delete_key (map made_delete (filter wanted es)) → Rises delete_key (map made_delete (cond b (e ∷ filter wanted es) (filter wanted es)))
+      by : (b : Bool) → wanted e ≡ b → Ascends delete_key (map made_delete (filter wanted es)) → Ascends delete_key (map made_delete (cond b (e ∷ filter wanted es) (filter wanted es)))
       by false t rest = rest
       by true t rest =
           let here : e.0.storage ≡ s = eqb-true e.0.storage s (and_first (e.0.storage == s) (is_deletable C H e.0 e.1) t) in
@@ -179,10 +179,10 @@ pub each_on_storage : (C : Cluster) (H : Holdings) (s : ℕ) → Each (λ d. d.s
 unfolding deletable_on
 each_on_storage C H s = each_on C H s (filter (wanted C H s) (entries H.replicas))
 
-deletable_on_ascends : (C : Cluster) (H : Holdings) (s : ℕ) → Rises delete_key (deletable_on C H s)
+deletable_on_ascends : (C : Cluster) (H : Holdings) (s : ℕ) → Ascends delete_key (deletable_on C H s)
 unfolding deletable_on entries
 deletable_on_ascends C H s = deletes_on_ascend C H s H.replicas.list H.replicas.sorted
 
-pub deletes_ascend : (C : Cluster) (H : Holdings) → Rises delete_key (deletable C H)
+pub deletes_ascend : (C : Cluster) (H : Holdings) → Ascends delete_key (deletable C H)
 unfolding deletable
 deletes_ascend C H = groups_ascend delete_key (deletable_on C H) (λ s. s) (each_on_storage C H) (deletable_on_ascends C H) (keys C.storages) (keys_ascend C.storages)

@@ -9,7 +9,7 @@ use Rattle.bm_arena.proofs.HeldReplicas.{same_replicas, same_blocks}
 use Rattle.bm_arena.specs.HeldMaps.{replicas_of, blocks_of, info_at}
 use Rattle.bm_levels.specs.Status.{level_in, is_settled_at}
 use Rattle.bm_levels.specs.IndexedLevels.{IndexedLevels, IsUnsettled, HasCapacityFor, IsSameAt}
-use Rattle.bm_levels.specs.Leveled.{Leveled, IsLeveled, AreLevels}
+use Rattle.bm_levels.specs.LeveledBlocks.{Leveled, IsLeveled, AreLevels}
 use Rattle.bm_levels.proofs.StatusByCounts.{level_unknown}
 
 -- capacity for the slots below a bound is capacity for each of them

@@ -17,7 +17,7 @@ use Rattle.bm_arena.proofs.HeldReplicas.{info_known}
 use Rattle.bm_levels.specs.Changes.{as_ordered}
 use Rattle.bm_levels.specs.Status.{storages_at, is_live_by, is_drained_by, is_good_and_unmarked, level_by, level_in, is_settled_at}
 use Rattle.bm_levels.specs.IndexedLevels.{IsUnsettled, HasCapacityFor}
-use Rattle.bm_levels.specs.Leveled.{Leveled, IsLeveled, AreLevels}
+use Rattle.bm_levels.specs.LeveledBlocks.{Leveled, IsLeveled, AreLevels}
 use Rattle.bm_levels.proofs.OneSlot.{IsChangedAt}
 
 -- if a test passes the old and the new marks of one replica alike, the same storages pass

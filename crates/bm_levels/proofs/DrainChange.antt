@@ -9,10 +9,10 @@ use Rattle.bm_arena.specs.Contents.{Contents, block_at, marks_at, IsLawful}
 use Rattle.bm_levels.specs.declared.cluster_after.DrainChange.{DrainChange}
 use Rattle.bm_levels.specs.Status.{drains_after_change, level_by}
 use Rattle.bm_levels.specs.IndexedLevels.{IndexedLevels, IsClassified, IsSameAt}
-use Rattle.bm_levels.specs.Leveled.{Leveled, AreLevels}
+use Rattle.bm_levels.specs.LeveledBlocks.{Leveled, AreLevels}
 use Rattle.bm_levels.specs.LevelsBy.{AreLevelsBy, IsOff}
 use Rattle.bm_levels.proofs.UpToDate.{level_alike}
-use Rattle.bm_levels.proofs.Reclassified.{levels_again}
+use Rattle.bm_levels.proofs.ReclassifiedSlots.{levels_again}
 
 abbrev pub drain_change : ℕ → Bool → DrainChange
 drain_change n d = record { node = n; drains = d }

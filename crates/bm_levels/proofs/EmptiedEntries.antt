@@ -9,7 +9,7 @@ use Rattle.bm_arena.specs.HeldMaps.{replicas_of, blocks_of, info_at}
 use Rattle.bm_arena.proofs.HeldReplicas.{same_replicas, same_blocks}
 use Rattle.bm_levels.specs.Status.{level_by, is_settled_at}
 use Rattle.bm_levels.specs.IndexedLevels.{IsUnsettled}
-use Rattle.bm_levels.specs.Leveled.{Leveled, IsLeveled}
+use Rattle.bm_levels.specs.LeveledBlocks.{Leveled, IsLeveled}
 use Rattle.bm_levels.specs.LevelsBy.{AreLevelsBy}
 use Rattle.bm_levels.proofs.StatusByCounts.{level_unknown}
 

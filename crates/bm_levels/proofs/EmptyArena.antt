@@ -8,7 +8,7 @@ use Rattle.bm_arena.specs.Contents.{Contents, block_at, find_marks, empty_block}
 use Rattle.bm_arena.specs.HeldMaps.{info_at}
 use Rattle.bm_levels.specs.Status.{is_settled_at}
 use Rattle.bm_levels.specs.IndexedLevels.{IndexedLevels, level_of_slot, IsUnsettled, HasCapacityFor}
-use Rattle.bm_levels.specs.Leveled.{IsLeveled, AreLevels}
+use Rattle.bm_levels.specs.LeveledBlocks.{IsLeveled, AreLevels}
 use Rattle.bm_levels.proofs.StatusByCounts.{level_unknown}
 
 module _ (a : Contents) (K : IndexedLevels) (vacant : (slot : ℕ) → slot ≢ a.delimiter → block_at a slot ≡ None) (marker : block_at a a.delimiter ≡ Some (empty_block 0))

@@ -34,10 +34,10 @@ use Rattle.bm_levels.proofs.ListedMarks.{excess_by, excess_next, excess_end}
 nowhere : ReplicaId
 nowhere = record { block = 0; storage = 0 }
 
-module _ (ps : List ReplicaId) (rises : AreByStorage ps) (s : ℕ) where
+module _ (ps : List ReplicaId) (ascends : AreByStorage ps) (s : ℕ) where
   comparisons_ascend : IsNonDecreasingBy (λ (p : ReplicaId). ordering_index (nat_cmp p.storage s)) ps
   comparisons_ascend i j d le within =
-      let up : (get_or ps i d).storage ≤ (get_or ps j d).storage = rises i j d le within in
+      let up : (get_or ps i d).storage ≤ (get_or ps j d).storage = ascends i j d le within in
       grind (arith, nat_tests)
 
   -- a binary search finds a replica on the storage exactly if there is one

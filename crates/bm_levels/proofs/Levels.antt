@@ -13,7 +13,7 @@ use Rattle.bm_arena.specs.Triplets.{Block}
 use Rattle.bm_arena.specs.Contents.{Contents, block_at, slot_of, marks_at, find_marks, IsLawful}
 use Rattle.bm_arena.proofs.HeldReplicas.{get-replicas_of, get-blocks_of}
 use Rattle.bm_levels.specs.Status.{storages_at, level_in, level_by}
-use Rattle.bm_levels.specs.Held.{holdings_with}
+use Rattle.bm_levels.specs.SlotHoldings.{holdings_with}
 use Rattle.bm_levels.proofs.EqualLists.{same_length, has_among, among_has, once_distinct, passing_distinct, passing_found}
 
 module _ (a : Contents) (pending : Map by_replica ℕ) (lawful : IsLawful a) (b slot : ℕ) (k : Block) (here : slot_of a b ≡ Some slot) (block_there : block_at a slot ≡ Some k) where

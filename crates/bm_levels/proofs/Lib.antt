@@ -15,7 +15,7 @@ pub mod AddedEntries
 pub mod ManySlots
 pub mod ReadyReports
 pub mod UpToDate
-pub mod Reclassified
+pub mod ReclassifiedSlots
 pub mod LeavingReplicas
 pub mod Indexes
 pub mod DrainChange
@@ -27,7 +27,7 @@ pub mod RoundMarks
 pub mod DroppedMarks
 pub mod UnsettledIteration
 pub mod RoundStart
-pub mod Unused
+pub mod UnusedEntries
 pub mod UnlinkedReplicas
 pub mod Wishes
 pub mod DeleteOrdered

@@ -11,13 +11,13 @@ use Rattle.bm_arena.specs.Triplets.{Block}
 use Rattle.bm_arena.specs.Contents.{Contents, block_at, slot_of, marks_at, find_marks, entry_capacity, with_entry_capacity, IsLawful}
 use Rattle.bm_arena.specs.HeldMaps.{info_at}
 use Rattle.bm_arena.proofs.HeldReplicas.{info_in, replica_in, get-replicas_of, get-blocks_of}
-use Rattle.bm_report.specs.Expanded.{IsPrepared}
-use Rattle.bm_report.specs.Aborted.{is_unused_block, is_unused_number}
+use Rattle.bm_report.specs.ReportedBlocks.{IsPrepared}
+use Rattle.bm_report.specs.AbortedReport.{is_unused_block, is_unused_number}
 use Rattle.bm_report.proofs.Maps.{get-here}
-use Rattle.bm_levels.specs.Unused.{IsUnused}
+use Rattle.bm_levels.specs.UnusedEntries.{IsUnused}
 use Rattle.bm_levels.specs.Status.{level_in, level_by, is_settled_at}
 use Rattle.bm_levels.specs.IndexedLevels.{IndexedLevels, HasCapacityFor, KeepsCapacity, IsSameAt}
-use Rattle.bm_levels.specs.Leveled.{Leveled, IsLeveled, AreLevels}
+use Rattle.bm_levels.specs.LeveledBlocks.{Leveled, IsLeveled, AreLevels}
 use Rattle.bm_levels.proofs.StatusByCounts.{level_unknown}
 use Rattle.bm_levels.proofs.ManySlots.{no_replicas, marker_settled}
 use Rattle.bm_base.proofs.ListTests.{and_second}

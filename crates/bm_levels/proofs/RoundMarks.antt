@@ -17,14 +17,14 @@ use Rattle.bm_base.specs.Words.{Map, get, revise, entries, empty, Cluster, Holdi
 use Rattle.bm_base.specs.RoundParts.{surplus}
 use Rattle.bm_base.proofs.MapLaws.{same_map, get-revise}
 use Rattle.bm_base.proofs.MapEntries.{entry_passes, passes_entry}
-use Rattle.bm_parts.specs.Settled.{IsSettled}
+use Rattle.bm_parts.specs.SettledBlocks.{IsSettled}
 use Rattle.bm_parts.proofs.SettledBlocks.{settled_is_left}
 use Rattle.bm_arena.specs.Triplets.{Block}
 use Rattle.bm_arena.specs.Contents.{Contents, block_at, slot_of, marks_at, find_marks, IsLawful}
 use Rattle.bm_arena.specs.HeldMaps.{replicas_at, replicas_of, holdings_of}
 use Rattle.bm_arena.proofs.HeldReplicas.{get-replicas_of}
 use Rattle.bm_levels.specs.Status.{is_settled_at}
-use Rattle.bm_levels.specs.Held.{holdings_with}
+use Rattle.bm_levels.specs.SlotHoldings.{holdings_with}
 use Rattle.bm_levels.specs.Changes.{as_excess, all_changed, has_replica, has_block}
 use Rattle.bm_levels.proofs.SettledBlocks.{all_plain_at, few_at}
 use Rattle.bm_levels.proofs.AllMarks.{found_changed, marks_listed}

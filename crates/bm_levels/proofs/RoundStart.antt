@@ -14,7 +14,7 @@ use Rattle.bm_arena.proofs.HeldReplicas.{same_blocks, under, info_known}
 use Rattle.bm_arena.proofs.StableEntries.{entries-chain}
 use Rattle.bm_levels.specs.Status.{is_settled_at}
 use Rattle.bm_levels.specs.IndexedLevels.{IsUnsettled, HasCapacityFor}
-use Rattle.bm_levels.specs.Leveled.{Leveled, IsLeveled}
+use Rattle.bm_levels.specs.LeveledBlocks.{Leveled, IsLeveled}
 use Rattle.bm_levels.specs.Changes.{as_excess, all_changed, has_replica, has_block}
 use Rattle.bm_levels.proofs.ManySlots.{marker_settled}
 use Rattle.bm_levels.proofs.OneSlot.{IsChangedAt}

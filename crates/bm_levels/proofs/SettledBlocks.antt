@@ -13,7 +13,7 @@ use Rattle.bm_base.specs.Words.{Map, get, by_replica, replica_at, is_good, is_us
 use Rattle.bm_arena.specs.Triplets.{Block}
 use Rattle.bm_arena.specs.Contents.{Contents, block_at, slot_of, find_marks, IsLawful}
 use Rattle.bm_levels.specs.Status.{storages_at, is_good_and_unmarked, is_settled_at}
-use Rattle.bm_levels.specs.Held.{holdings_with}
+use Rattle.bm_levels.specs.SlotHoldings.{holdings_with}
 use Rattle.bm_levels.proofs.Levels.{found_marks, found_info, as_many}
 
 abbrev plain : Marks

@@ -11,14 +11,14 @@ use Rattle.bm_arena.specs.Triplets.{Block}
 use Rattle.bm_arena.specs.Contents.{Contents, block_at, slot_of, list_of, marks_at, find_marks, known_of, unlinked, IsLawful, KeepsOthers}
 use Rattle.bm_arena.specs.HeldMaps.{replicas_of, blocks_of}
 use Rattle.bm_arena.proofs.Replicas.{IsMember-left}
-use Rattle.bm_levels.specs.Unused.{MakesNoUnused, HasNoUnusedAt, KeepsSlots}
+use Rattle.bm_levels.specs.UnusedEntries.{MakesNoUnused, HasNoUnusedAt, KeepsSlots}
 use Rattle.bm_levels.specs.IndexedLevels.{IndexedLevels, HasCapacityFor, IsClassified, IsSameAt}
 use Rattle.bm_levels.specs.LeavingReplicas.{IsLeaving, MakesNoHead}
-use Rattle.bm_levels.specs.Leveled.{Leveled, IsLeveled}
+use Rattle.bm_levels.specs.LeveledBlocks.{Leveled, IsLeveled}
 use Rattle.bm_levels.specs.LevelsBy.{AreLevelsBy}
 use Rattle.bm_levels.proofs.LeavingReplicas.{apart_from, led_by, leaving_none, leaving_one, leaving_more}
 use Rattle.bm_levels.proofs.ManySlots.{leveled_many, levels_many}
-use Rattle.bm_levels.proofs.Unused.{heads_unlinked, unused_held, unused_elsewhere, some_before, same_numbers}
+use Rattle.bm_levels.proofs.UnusedEntries.{heads_unlinked, unused_held, unused_elsewhere, some_before, same_numbers}
 
 -- `all` are the first slots of a storage's list in a; n of them have left in b, and `left` remain
 pub record AreUnlinked (s : ℕ) (all left : List ℕ) (a b : Contents) (n : ℕ) : Type 0 where

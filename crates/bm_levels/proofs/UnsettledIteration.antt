@@ -9,7 +9,7 @@ use Rattle.bm_arena.specs.HeldMaps.{replicas_at}
 use Rattle.bm_arena.proofs.StableEntries.{entries-none, entries-chain}
 use Rattle.bm_levels.specs.Changes.{all_changed}
 use Rattle.bm_levels.specs.IndexedLevels.{KeepsAhead}
-use Rattle.bm_levels.specs.Leveled.{Leveled}
+use Rattle.bm_levels.specs.LeveledBlocks.{Leveled}
 use Rattle.bm_levels.proofs.DroppedMarks.{IsBegun, begun_none, begun_more, begun_all, begun_others}
 
 abbrev unsettled_in : Leveled → List ℕ

@@ -17,7 +17,7 @@ use Rattle.bm_arena.specs.HeldMaps.{replicas_of, holdings_of}
 use Rattle.bm_report.proofs.Maps.{get-here}
 use Rattle.bm_levels.specs.declared.cluster_after.DrainChange.{DrainChange}
 use Rattle.bm_levels.specs.Status.{drains_after_change, level_by}
-use Rattle.bm_levels.specs.Leveled.{Leveled, IsLeveled, AreLevels}
+use Rattle.bm_levels.specs.LeveledBlocks.{Leveled, IsLeveled, AreLevels}
 use Rattle.bm_levels.specs.LevelsBy.{AreLevelsBy, IsSameForHeld}
 use Rattle.bm_levels.proofs.AgreeingClusters.{levels_agree}
 use Rattle.bm_levels.proofs.LeavingReplicas.{led_by}

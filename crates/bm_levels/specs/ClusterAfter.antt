@@ -9,7 +9,7 @@ use Rattle.bm_levels.specs.declared.cluster_after.ClusterAfter.{ClusterAfter}
 use Rattle.bm_levels.specs.declared.classification.BlockStatus.{BlockStatus}
 use Rattle.bm_levels.specs.Status.{level_by, drains_after_change}
 use Rattle.bm_levels.specs.IndexedLevels.{IndexedLevels, IsClassified, IsStatusOf, IsSameAt}
-use Rattle.bm_levels.specs.Leveled.{Leveled}
+use Rattle.bm_levels.specs.LeveledBlocks.{Leveled}
 use Rattle.bm_levels.specs.LevelsBy.{AreLevelsBy, IsOff}
 
 -- the rack of a storage, whether it is on a node that drains after the event, and whether it is on

@@ -95,11 +95,11 @@ pub record IsSameAt (old new : IndexedLevels) (slot : ℕ) : Type 0 where
   pub level : level_of_slot new slot ≡ level_of_slot old slot
   pub unsettled : IsUnsettled new slot ↔ IsUnsettled old slot
 
--- and so is every slot but these
+-- every slot but these has the same status as before
 abbrev pub IsSameOutside : List ℕ → IndexedLevels → IndexedLevels → Type 0
 IsSameOutside slots old new = (slot : ℕ) → (IsMember slot slots → ⊥) → IsSameAt old new slot
 
--- the slots to which numbers lead
+-- the slots of all numbers that have an entry
 abbrev pub indexed_slots : Contents → List ℕ
 indexed_slots a = map (λ (p : ℕ × ℕ). p.1) a.ids
 

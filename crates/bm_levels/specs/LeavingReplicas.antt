@@ -5,7 +5,7 @@ use Rattle.bm_base.specs.Maps.Map.{get, len}
 use Rattle.bm_arena.specs.Contents.{Contents, HasHead, list_of}
 use Rattle.bm_arena.specs.HeldMaps.{replicas_of, blocks_of}
 
--- n replicas left, all of storages that pass
+-- n replicas are gone, all of them from storages for which `leaves` is true
 pub record IsLeaving (leaves : ℕ → Bool) (old new : Contents) (n : ℕ) : Type 0 where
   -- the blocks stay
   pub blocks : blocks_of new ≡ blocks_of old

@@ -7,7 +7,7 @@ use Rattle.bm_arena.specs.Contents.{Contents, block_at, list_of}
 use Rattle.bm_arena.specs.HeldMaps.{replicas_of}
 use Rattle.bm_levels.specs.Status.{level_by}
 use Rattle.bm_levels.specs.IndexedLevels.{level_of_slot}
-use Rattle.bm_levels.specs.Leveled.{Leveled}
+use Rattle.bm_levels.specs.LeveledBlocks.{Leveled}
 
 -- the level of each slot is that of its block, for these racks of storages, these storages on
 -- draining nodes, and one rack or several

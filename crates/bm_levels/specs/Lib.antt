@@ -3,10 +3,10 @@
 pub mod Status
 pub mod ReplicaCounts
 pub mod IndexedLevels
-pub mod Held
-pub mod Leveled
+pub mod SlotHoldings
+pub mod LeveledBlocks
 pub mod LevelsBy
 pub mod ClusterAfter
 pub mod LeavingReplicas
 pub mod Changes
-pub mod Unused
+pub mod UnusedEntries

@@ -4,9 +4,9 @@ ghost use Rattle.std.specs.Option.{option_map};
 ghost use Rattle.bm_base.specs.Words.{insert, remove, revise, revise_at, contains_key, replica_at, as_stray, as_bad, as_restamped};
 ghost use Rattle.bm_arena.specs.Contents.{slot_of, marks_at, KeepsAllBut};
 ghost use Rattle.bm_arena.specs.HeldMaps.{replicas_of, blocks_of, info_at, with_known};
-ghost use Rattle.bm_levels.specs.Unused.{HasNoEmptyEntry, MakesNoUnused};
+ghost use Rattle.bm_levels.specs.UnusedEntries.{HasNoEmptyEntry, MakesNoUnused};
 ghost use Rattle.bm_levels.specs.Changes.{changed, with_stamp, with_repl};
-ghost use Rattle.bm_levels.specs.Leveled.{KeepsLevels};
+ghost use Rattle.bm_levels.specs.LeveledBlocks.{KeepsLevels};
 
 use crate::leveled_blocks::LeveledBlocks;
 use crate::mark_changes::{MarkChange, change_marks};

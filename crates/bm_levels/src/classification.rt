@@ -17,7 +17,7 @@ use bm_base::{Level, level_of};
 pub(crate) struct BlockStatus {
     /// How urgently it needs replicas.
     pub level: Option<Level>,
-    /// Whether a round need not scan it.
+    /// Whether a round need not scan it for marks or deletes.
     pub is_settled: bool,
 }
 

@@ -3,7 +3,7 @@ ghost use Rattle.std.specs.Prelude.{◌≡◌, ℕ, ◌+◌};
 ghost use Rattle.bm_maps.specs.SlotLists.{IsMember};
 ghost use Rattle.bm_arena.specs.Contents.{list_of};
 ghost use Rattle.bm_levels.specs.IndexedLevels.{HasCapacityFor, HasCapacityForEach, KeepsCapacity};
-ghost use Rattle.bm_levels.specs.Leveled.{AreLevels};
+ghost use Rattle.bm_levels.specs.LeveledBlocks.{AreLevels};
 ghost use Rattle.bm_levels.specs.LevelsBy.{with_draining};
 ghost use Rattle.bm_levels.specs.ClusterAfter.{AreClassifiedOnStorage, AreClassifiedOnNode};
 

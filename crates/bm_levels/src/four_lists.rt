@@ -1,7 +1,7 @@
 // Removes all replicas of a node, from the lists of four storages in step, so that their cache
 // misses overlap.
 ghost use Rattle.std.specs.Prelude.{◌≡◌, ◌==◌, ◌||◌, ◌≤◌, ◌+◌, ◌^◌, false};
-ghost use Rattle.bm_levels.specs.Unused.{MakesNoUnused};
+ghost use Rattle.bm_levels.specs.UnusedEntries.{MakesNoUnused};
 ghost use Rattle.bm_levels.specs.LeavingReplicas.{IsLeaving, IsLeavingStorage, HasFirstSlots, MakesNoHead};
 ghost use Rattle.bm_levels.specs.ClusterAfter.{is_on_node, KeepsLevelsAfter};
 
@@ -92,7 +92,8 @@ fn is_one_of(storage: StorageId, a: StorageId, b: StorageId, c: StorageId) -> bo
 }
 
 impl LeveledBlocks {
-    /// Removes replicas on the storages of a node, four storages at a time. Returns how many left.
+    /// Removes replicas on the storages of a node, four storages at a time. Returns how many it
+    /// removed.
     pub(crate) fn clear_four_at_a_time(
         &mut self,
         cluster_after: &ClusterAfter<'_>,
@@ -120,8 +121,8 @@ impl LeveledBlocks {
         removed
     }
 
-    /// Removes replicas on those of four storages that are a node's, in turn some on each. Returns
-    /// how many left.
+    /// Removes replicas on four storages, some on each in turn; skips storages that are not the
+    /// node's. Returns how many it removed.
     fn clear_four(
         &mut self,
         cluster_after: &ClusterAfter<'_>,
@@ -148,7 +149,7 @@ impl LeveledBlocks {
     }
 
     /// For each of four storages that is the node's, removes the replicas of these first blocks of
-    /// its list. Returns how many left.
+    /// its list. Returns how many it removed.
     fn remove_first_of_four(
         &mut self,
         cluster_after: &ClusterAfter<'_>,
@@ -195,7 +196,7 @@ impl LeveledBlocks {
     }
 
     /// Removes the replicas on a storage of these first blocks of its list, unless `is_done` or the
-    /// storage is not the node's. Returns how many replicas left.
+    /// storage is not the node's. Returns how many replicas it removed.
     fn remove_first_once(
         &mut self,
         cluster_after: &ClusterAfter<'_>,

@@ -79,7 +79,7 @@ impl LevelIndex {
     }
 
     /// Reserves all slots below a bound, and some more, so that growth is amortized. Only this call
-    /// takes memory.
+    /// and `for_slots` take memory.
     pub fn grow_to(&mut self, bound: usize) -> Result<(), Refusal>
         ensures capacity { OnOk result (HasCapacityFor self.new bound) }
         ensures kept { KeepsCapacity self.old self.new }

@@ -4,9 +4,9 @@ ghost use Rattle.bm_base.specs.declared.refusal.Refusal.TheVariants.{Memory};
 ghost use Rattle.bm_base.specs.Words.{Map, empty, insert, remove, level, Cluster, by_replica, replica_at};
 ghost use Rattle.bm_arena.specs.Contents.{slot_of, marks_at, KeepsAllBut, KeepsEntries, KeepsOthers};
 ghost use Rattle.bm_arena.specs.HeldMaps.{replicas_of, blocks_of, with_known};
-ghost use Rattle.bm_levels.specs.Unused.{HasNoUnused, MakesNoUnused};
-ghost use Rattle.bm_levels.specs.Held.{holdings_with};
-ghost use Rattle.bm_levels.specs.Leveled.{AreLevels, KeepsLevels, IsLeveled};
+ghost use Rattle.bm_levels.specs.UnusedEntries.{HasNoUnused, MakesNoUnused};
+ghost use Rattle.bm_levels.specs.SlotHoldings.{holdings_with};
+ghost use Rattle.bm_levels.specs.LeveledBlocks.{AreLevels, KeepsLevels, IsLeveled};
 
 use crate::level_index::LevelIndex;
 use bm_arena::{Arena, Slot};
@@ -24,7 +24,7 @@ pub struct LeveledBlocks {
 }
 
 impl Model for LeveledBlocks {
-    ghost use Rattle.bm_levels.specs.Leveled.{Leveled, IsLeveled};
+    ghost use Rattle.bm_levels.specs.LeveledBlocks.{Leveled, IsLeveled};
 
     ghost Value = { Leveled };
 

@@ -4,7 +4,7 @@
 //! the level of each block, the blocks of each level, and the set of unsettled blocks. A block is
 //! unsettled if a round may mark or delete a replica of it. When the replicas of a block change,
 //! the block is reclassified from its own replicas, with one read of each. Nothing here takes
-//! memory but `new`, `grow_to`, `ready_block` and `ready_report`.
+//! memory but `new`, `for_slots`, `grow_to`, `ready_block`, `ready_report` and `ready_notice`.
 #![tactic(auto)]
 
 mod block_events;

@@ -33,9 +33,9 @@ pub(crate) fn with_excess(marks: Marks) -> Marks
     }
 }
 
-/// Whether a list has a replica on a storage. The index `near` is compared first, and is then the
-/// index after it: so storages in ascending order, all of the list, take one comparison each.
-/// Elsewhere it is a binary search.
+/// Whether a list has a replica on a storage. The replica at index `near` is compared first; if it
+/// is on another storage, a binary search follows. `near` becomes the index after the one found: so
+/// all storages of the list, in ascending order, take one comparison each.
 fn is_listed(listed: &[ReplicaId], storage: StorageId, near: &mut usize) -> bool
     requires { AreByStorage listed.now }
     ensures { result ≡ has_storage listed.now storage }

@@ -6,8 +6,8 @@ ghost use Rattle.bm_base.specs.Machine.Events as events;
 ghost use Rattle.bm_base.specs.Machine.Calls as calls;
 ghost use Rattle.bm_arena.specs.Contents.{list_of, HasHead};
 ghost use Rattle.bm_arena.specs.HeldMaps.{replicas_of, blocks_of};
-ghost use Rattle.bm_levels.specs.Unused.{MakesNoUnused};
-ghost use Rattle.bm_levels.specs.Leveled.{AreLevels};
+ghost use Rattle.bm_levels.specs.UnusedEntries.{MakesNoUnused};
+ghost use Rattle.bm_levels.specs.LeveledBlocks.{AreLevels};
 ghost use Rattle.bm_levels.specs.LeavingReplicas.{IsLeaving, HasNoHeads, MakesNoHead};
 ghost use Rattle.bm_levels.specs.ClusterAfter.{is_on_node, KeepsLevelsAfter};
 
@@ -17,9 +17,9 @@ use bm_base::{NodeId, StorageId};
 use bm_topo::Topology;
 
 impl LeveledBlocks {
-    /// Removes the replicas on a storage, and its list. Returns how many. Unused entries are
-    /// dropped, and the blocks that lose a replica are reclassified. Takes no memory. One step for
-    /// each of the replicas.
+    /// Removes the replicas on a storage, and its list. Returns the number of removed replicas.
+    /// Unused entries are dropped, and the blocks that lose a replica are reclassified. Takes no
+    /// memory, and one step for each of the replicas.
     pub fn forget_storage(&mut self, topology: &Topology, storage: StorageId) -> u128
         ensures blocks { blocks_of self.new.arena ≡ blocks_of self.old.arena }
         ensures replicas { replicas_of self.new.arena
@@ -38,10 +38,10 @@ impl LeveledBlocks {
         removed as u128
     }
 
-    /// Removes the replicas on all storages of a node, and their lists. Returns how many. `multi`
-    /// is whether the alive nodes are on two racks or more without it. If that changes, all
-    /// blocks are reclassified, else those that lose a replica. Unused entries are dropped. Takes
-    /// no memory. Takes one step for each of the replicas.
+    /// Removes the replicas on all storages of a node, and their lists. Returns the number of
+    /// removed replicas. `multi` is whether the alive nodes are on two racks or more without the
+    /// node. If that changes, all blocks are reclassified, else those that lose a replica. Unused
+    /// entries are dropped. Takes no memory. Takes one step for each of the replicas.
     pub fn forget_node(&mut self, topology: &Topology, node: NodeId, multi: bool) -> u128
         requires multi { multi
             ≡ replicas.is_multi_rack (events.without_node topology.now.cluster node) }
@@ -70,7 +70,7 @@ impl LeveledBlocks {
     }
 
     /// Removes the replicas on all storages of a node, and the storages' lists. Returns how many
-    /// replicas left.
+    /// replicas it removed.
     fn clear_node(&mut self, cluster_after: &ClusterAfter<'_>, node: NodeId) -> u128
         ensures left { IsLeaving (is_on_node cluster_after.now node) self.old.arena self.new.arena result }
         ensures few { result < 2 ^ 100 }

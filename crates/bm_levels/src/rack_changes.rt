@@ -2,7 +2,7 @@
 ghost use Rattle.std.specs.Prelude.{◌≡◌};
 ghost use Rattle.bm_base.specs.Machine.State.{Cluster};
 ghost use Rattle.bm_base.specs.Machine.Replicas as replicas;
-ghost use Rattle.bm_levels.specs.Leveled.{AreLevels};
+ghost use Rattle.bm_levels.specs.LeveledBlocks.{AreLevels};
 ghost use Rattle.bm_levels.specs.LevelsBy.{AreLevelsWith, IsSameForHeld};
 
 use crate::cluster_after::ClusterAfter;
@@ -11,7 +11,7 @@ use bm_topo::Topology;
 
 impl LeveledBlocks {
     /// Reclassifies all blocks if the alive nodes get onto two racks or more, or back onto one.
-    /// Nothing else in the cluster changes for the replicas. Takes no memory.
+    /// Each storage with a replica keeps its rack, and drains or not as before. Takes no memory.
     pub fn reclassify_for_racks(&mut self, topology: &Topology, multi: bool)
         ensures arena { self.new.arena ≡ self.old.arena }
         ensures levels { (D : Cluster) → multi ≡ replicas.is_multi_rack D

@@ -8,13 +8,13 @@ ghost use Rattle.bm_base.specs.Machine.Events as events;
 ghost use Rattle.bm_base.specs.Machine.Calls as calls;
 ghost use Rattle.bm_arena.specs.Contents.{HasHead, KeepsEntries};
 ghost use Rattle.bm_arena.specs.HeldMaps.{replicas_of, blocks_of, holdings_of};
-ghost use Rattle.bm_report.specs.Expanded.{reported_to_part};
+ghost use Rattle.bm_report.specs.ReportedBlocks.{reported_to_part};
 ghost use Rattle.bm_report.specs.DuringReport.{IsOncePerNode};
 ghost use Rattle.bm_report.specs.Ready.{reported_blocks, IsLookedUp, IsReady, IsReportedAt, HasGoodExcess, HaveReplicas};
-ghost use Rattle.bm_report.specs.Received.{HasReceived};
-ghost use Rattle.bm_levels.specs.Unused.{HasNoUnusedOf, MakesNoUnused, MakesUnusedOnly, IsSameButDelimiter};
+ghost use Rattle.bm_report.specs.ReceivedReplica.{HasReceived};
+ghost use Rattle.bm_levels.specs.UnusedEntries.{HasNoUnusedOf, MakesNoUnused, MakesUnusedOnly, IsSameButDelimiter};
 ghost use Rattle.bm_levels.specs.IndexedLevels.{HasCapacityFor};
-ghost use Rattle.bm_levels.specs.Leveled.{KeepsLevels};
+ghost use Rattle.bm_levels.specs.LeveledBlocks.{KeepsLevels};
 
 use crate::leveled_blocks::LeveledBlocks;
 use bm_base::{BlockId, Entry, Part, Refusal, Stamp, StorageId};

@@ -5,7 +5,7 @@ ghost use Rattle.bm_base.specs.RoundParts as parts;
 ghost use Rattle.bm_arena.specs.Contents.{slot_of, marks_at};
 ghost use Rattle.bm_arena.specs.HeldMaps.{replicas_of, blocks_of};
 ghost use Rattle.bm_levels.specs.Changes.{as_ordered, with_deletes_ordered};
-ghost use Rattle.bm_levels.specs.Leveled.{KeepsLevels};
+ghost use Rattle.bm_levels.specs.LeveledBlocks.{KeepsLevels};
 
 use crate::leveled_blocks::LeveledBlocks;
 use crate::replica_count::is_good_and_unmarked;
@@ -15,9 +15,9 @@ use bm_topo::Topology;
 
 impl LeveledBlocks {
     /// As a round ends: orders the commanded deletes of the part's own numbers. Each delete takes a
-    /// look-up of its block, and a read at the index of the replica before it, or else a scan of
-    /// all the block's replicas. The block is reclassified only if the replica was unmarked. Takes
-    /// no memory.
+    /// look-up of its block, and tries the index that the replica of the previous delete has in its
+    /// block. If that is wrong, all replicas of the block are scanned. The block is reclassified
+    /// only if the replica was unmarked. Takes no memory.
     pub fn mark_ordered(&mut self, topology: &Topology, deletes: &[Delete], part: Part)
         requires part { part.index < part.shards }
         ensures replicas { replicas_of self.new.arena

@@ -5,10 +5,10 @@ ghost use Rattle.bm_base.specs.Machine.Excess as excess;
 ghost use Rattle.bm_base.specs.RoundParts as parts;
 ghost use Rattle.bm_arena.specs.Contents.{block_at, slot_of, KeepsEntries};
 ghost use Rattle.bm_arena.specs.HeldMaps.{replicas_at, replicas_of, blocks_of};
-ghost use Rattle.bm_levels.specs.Unused.{KeepsBlocksOutside};
+ghost use Rattle.bm_levels.specs.UnusedEntries.{KeepsBlocksOutside};
 ghost use Rattle.bm_levels.specs.Changes.{as_excess, all_changed, has_replica, has_block, at_round_start, AreOfBlock, AreByStorage, AreInOrder};
 ghost use Rattle.bm_levels.specs.IndexedLevels.{IsUnsettled, KeepsAhead};
-ghost use Rattle.bm_levels.specs.Leveled.{KeepsLevels};
+ghost use Rattle.bm_levels.specs.LeveledBlocks.{KeepsLevels};
 
 use crate::leveled_blocks::LeveledBlocks;
 use crate::listed_replicas::{count_of_block, mark_listed, with_excess};
@@ -21,11 +21,12 @@ use bm_topo::Topology;
 const MARK_SINGLY_AT_MOST: usize = 2;
 
 impl LeveledBlocks {
-    /// As a round begins: drops the marks of excess whose delete was not ordered, and marks the
-    /// replicas of `surplus` as excess. Iterates once over the replicas of the unsettled blocks.
-    /// Looks up each replica of `surplus`. If a block has more than two, it looks that block up
-    /// once, and iterates over its replicas and the listed ones together. Only blocks whose marks
-    /// change are reclassified, and settled blocks are not scanned. Takes no memory.
+    /// As a round begins: drops the mark "in excess" of replicas whose delete was not ordered, and
+    /// marks the replicas of `surplus` as excess. Iterates once over the replicas of the unsettled
+    /// blocks. Looks up each replica of `surplus`. If more than two of them are of one block, it
+    /// looks that block up once, and iterates over its replicas and the listed ones together. Only
+    /// blocks whose marks change are reclassified, and settled blocks are not scanned. Takes no
+    /// memory.
     pub fn remark_excess(&mut self, topology: &Topology, surplus: &[ReplicaId])
         requires surplus { surplus.now
             ≡ parts.surplus topology.now.cluster (at_round_start self.old.arena) }
@@ -41,8 +42,8 @@ impl LeveledBlocks {
         self.mark_surplus(topology, surplus);
     }
 
-    /// Drops the marks of excess whose delete was not ordered at each unsettled slot. A slot leaves
-    /// the set if its block is settled then; so the next one is read before.
+    /// At each unsettled slot, drops the mark "in excess" of replicas whose delete was not ordered.
+    /// A slot leaves the set if its block becomes settled, so the next slot is read before that.
     fn clear_unordered_excess(&mut self, topology: &Topology)
         ensures begun { (slot : ℕ) → IsUnsettled self.old.level_index slot
             → replicas_at self.new.arena slot
@@ -62,8 +63,8 @@ impl LeveledBlocks {
         }
     }
 
-    /// Drops the marks of excess whose delete was not ordered at an unsettled slot; its block is
-    /// reclassified if there was one.
+    /// At an unsettled slot, drops the mark "in excess" of replicas whose delete was not ordered.
+    /// The block is reclassified if its marks changed.
     fn clear_unordered_excess_at(&mut self, topology: &Topology, slot: Slot)
         requires { IsUnsettled self.old.level_index slot }
         ensures begun { replicas_at self.new.arena slot

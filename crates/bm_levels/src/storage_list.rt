@@ -3,7 +3,7 @@
 ghost use Rattle.std.specs.Prelude.{◌≡◌, ◌<◌, ◌≤◌, ◌+◌, ℕ, [], length, take, None};
 ghost use Rattle.bm_arena.specs.Contents.{block_at, known_of, list_of, marks_at, HasHead};
 ghost use Rattle.bm_arena.specs.HeldMaps.{replicas_of, blocks_of};
-ghost use Rattle.bm_levels.specs.Unused.{KeepsBlocksOutside, MakesNoUnused};
+ghost use Rattle.bm_levels.specs.UnusedEntries.{KeepsBlocksOutside, MakesNoUnused};
 ghost use Rattle.bm_levels.specs.LeavingReplicas.{IsLeavingStorage, HasFirstSlots, DropsFirstSlots, MakesNoHead};
 ghost use Rattle.bm_levels.specs.ClusterAfter.{KeepsLevelsAfter};
 
@@ -33,7 +33,7 @@ fn unlink_all(arena: &mut Arena, storage: StorageId, slots: &[Slot])
 }
 
 impl LeveledBlocks {
-    /// Removes the replicas on a storage, and its list. Returns how many replicas left.
+    /// Removes the replicas on a storage, and its list. Returns how many replicas it removed.
     pub(crate) fn clear(&mut self, cluster_after: &ClusterAfter<'_>, storage: StorageId) -> usize
         ensures left { IsLeavingStorage storage self.old.arena self.new.arena result }
         ensures none { list_of self.new.arena storage ≡ [] }
@@ -55,7 +55,7 @@ impl LeveledBlocks {
     }
 
     /// Removes the replicas on a storage of some blocks, the first ones in its list. Returns how
-    /// many left.
+    /// many it removed.
     fn remove_next(&mut self, cluster_after: &ClusterAfter<'_>, storage: StorageId) -> usize
         ensures left { IsLeavingStorage storage self.old.arena self.new.arena result }
         ensures list { length (list_of self.old.arena storage)

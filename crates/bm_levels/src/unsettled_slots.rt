@@ -1,4 +1,4 @@
-// The slots that a round has to scan.
+// The unsettled slots: those that a round has to scan for marks and deletes.
 ghost use Rattle.std.specs.Prelude.{◌≡◌, ◌∷◌, length, Some};
 ghost use Rattle.bm_base.specs.Maps.Lists.{has};
 ghost use Rattle.bm_maps.specs.SlotLists.{Distinct};
@@ -38,7 +38,7 @@ impl LevelIndex {
         self.unsettled.next(slot)
     }
 
-    /// Whether a round has to scan a slot.
+    /// Whether a slot is unsettled: a round has to scan it for marks and deletes.
     pub fn is_unsettled(&self, slot: Slot) -> bool
         ensures { result ≡ has self.now.unsettled.slots slot }
     {
@@ -46,7 +46,7 @@ impl LevelIndex {
         slot < self.unsettled.capacity() && self.unsettled.contains(slot)
     }
 
-    /// The slots that a round has to scan, in any order.
+    /// The unsettled slots, in any order.
     pub fn unsettled_slots(&self) -> Walk<'_>
         ensures slots { result ≡ self.now.unsettled.slots }
         ensures once { Distinct result }

@@ -3,8 +3,8 @@ ghost use Rattle.std.specs.Prelude.{◌≡◌, ◌≢◌, ℕ, [], Some, None, I
 ghost use Rattle.bm_base.specs.Machine.State.{Cluster};
 ghost use Rattle.bm_arena.specs.Contents.{block_at, slot_of};
 ghost use Rattle.bm_arena.specs.HeldMaps.{replicas_at, replicas_of, blocks_of, info_at};
-ghost use Rattle.bm_levels.specs.Unused.{IsUnused, HasNoUnusedAt, MakesNoUnused, KeepsSlots};
-ghost use Rattle.bm_levels.specs.Leveled.{KeepsLevels};
+ghost use Rattle.bm_levels.specs.UnusedEntries.{IsUnused, HasNoUnusedAt, MakesNoUnused, KeepsSlots};
+ghost use Rattle.bm_levels.specs.LeveledBlocks.{KeepsLevels};
 ghost use Rattle.bm_levels.specs.LevelsBy.{KeepsAllLevels};
 
 use crate::leveled_blocks::LeveledBlocks;

@@ -8,7 +8,7 @@ use Rattle.bm_lines.specs.Lines.{IsPart}
 use Rattle.bm_lines.specs.Parser.CallOf.{call_in, view_of, call_of}
 use Rattle.bm_lines.specs.CallText.{has_op, line_text}
 use Rattle.bm_lines.specs.FittingNumbers.{FitsWhole}
-use Rattle.bm_lines.proofs.Plain.{is_plain, IsPart-plain, IsUtf8-plain}
+use Rattle.bm_lines.proofs.PlainText.{is_plain, IsPart-plain, IsUtf8-plain}
 use Rattle.bm_lines.proofs.Sound.{plain_text, read-compact_text}
 use Rattle.bm_lines.proofs.CallTextData.{asking_data}
 use Rattle.bm_lines.proofs.CallTextLemmas.{line_text-data}

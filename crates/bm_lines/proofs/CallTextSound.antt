@@ -12,7 +12,7 @@ use Rattle.bm_base.specs.declared.call.Call.{Call}
 use Rattle.bm_base.specs.declared.call.Call.TheVariants as call
 use Rattle.bm_lines.specs.CallText.{event_op, call_op}
 use Rattle.bm_lines.specs.FittingNumbers.{FitsEntry, FitsRemaining, FitsWholeEvent, FitsWhole}
-use Rattle.bm_lines.proofs.Plain.{is_plain}
+use Rattle.bm_lines.proofs.PlainText.{is_plain}
 use Rattle.bm_lines.proofs.Sound.{IsSound, AreSound, HasSound}
 use Rattle.bm_lines.proofs.CallTextData.{whole, items_by, remaining_data, run_items, stamp_items, entry_data, event_members, call_members, asking_data}
 

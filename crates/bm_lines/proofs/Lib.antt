@@ -3,7 +3,7 @@ pub mod CallOfLemmas
 pub mod ListLemmas
 pub mod OpLemmas
 pub mod TextLemmas
-pub mod Plain
+pub mod PlainText
 pub mod Sound
 pub mod CallTextData
 pub mod CallTextLemmas

@@ -14,7 +14,7 @@ use Rattle.serde_json.specs.Read.{read, max_depth, of_json, of_items, of_members
 use Rattle.serde_json.specs.Written.{outline, items_outline, members_outline, comma_if, compact_text, items_text, members_text}
 use Rattle.serde_json.proofs.Numbers.{number_of-decimal}
 use Rattle.serde_json.proofs.Texts.{print-outline}
-use Rattle.bm_lines.proofs.Plain.{is_plain, is_plain-append, is_plain-decimal}
+use Rattle.bm_lines.proofs.PlainText.{is_plain, is_plain-append, is_plain-decimal}
 
 abbrev pub FitsNumber : Num → Type 0
 FitsNumber (unsigned n) = n < 2 ^ 64

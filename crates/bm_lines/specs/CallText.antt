@@ -10,7 +10,7 @@ use Rattle.bm_base.specs.declared.event.Event.TheVariants.{Register, Heartbeat, 
 use Rattle.bm_base.specs.declared.call.Call.{Call}
 use Rattle.bm_base.specs.declared.call.Call.TheVariants as call
 
--- whether there is an op that asks for it: none asks for a number alone
+-- whether there is an op that asks for the call: there is none for `Calls` and `Rounds`
 abbrev pub has_op : Call → Bool
 has_op call.Calls = false
 has_op call.Rounds = false

@@ -71,7 +71,7 @@ head_text (call.LevelOf b) = codes "level " ++ decimal b
 head_text (call.Retired n) = codes "retired " ++ decimal n
 head_text _ = []
 
--- the text of an answer to a call; no line asks for a number alone
+-- the text of an answer to a call; no line makes a call that a number answers
 abbrev pub answer_text : Call → Answer → List ℕ
 answer_text k (answer.Done d) = done_text d
 answer_text k (answer.Refused r) = refused_text r

@@ -8,8 +8,8 @@ use std::alloc::{AllocError, Global};
 
 pub const LINE_END: u8 = b'\n';
 
-/// The bytes of a line so far, or that there are too many. It never holds more than the longest
-/// line.
+/// The bytes of a line so far. Once there are more than `MAX_LINE`, `is_long` is set, and `bytes`
+/// is empty.
 #[derive(Drop)]
 pub struct Line {
     pub bytes: Vec<u8>,
@@ -18,7 +18,7 @@ pub struct Line {
 }
 
 impl Line {
-    ghost use Rattle.bm_lines.specs.Held.{Holds, is_begun};
+    ghost use Rattle.bm_lines.specs.LineBuffer.{Holds, is_begun};
 
     /// Makes an empty line. Takes no memory.
     pub fn new(alloc: Global) -> Line

@@ -12,7 +12,7 @@ use crate::field_writer::{
 use bm_base::{BlockId, Call, Entry, Event, NodeId, Rack, Remaining, Stamp, StorageId};
 use std::alloc::{AllocError, Global};
 
-/// Whether there is an op that asks for the call: none asks for a number alone.
+/// Whether there is an op that asks for the call: there is none for `Calls` and `Rounds`.
 pub fn has_op(call: &Call) -> bool
     ensures { result ≡ has_op call.now }
 {

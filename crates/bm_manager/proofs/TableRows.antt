@@ -12,7 +12,7 @@ use Rattle.bm_base.specs.declared.limits.TheConstants.{MAX_PLACES}
 use Rattle.bm_base.specs.declared.replica.BlockInfo.{BlockInfo}
 use Rattle.bm_base.specs.Words.{keys, entries, Holdings, places}
 use Rattle.bm_base.specs.Promises.Versions.{Row, table}
-use Rattle.bm_view.specs.Version.{RisesById}
+use Rattle.bm_view.specs.Version.{AscendsById}
 use Rattle.bm_base.proofs.Orderings.{less_number}
 
 module _ (f : ℕ → List ℕ) where
@@ -23,10 +23,10 @@ module _ (f : ℕ → List ℕ) where
   below_rows b [] h = All-nil (λ (r : Row). b < r.0)
   below_rows b (e ∷ es) h = All-cons (λ (r : Row). b < r.0) (e.0, f e.0) (rows es) (less_number b e.0 (first _ _ h)) (below_rows b es (second _ _ h))
 
-  rows_ascend : (es : List (ℕ × BlockInfo)) → T (is_sorted nat_cmp es) → RisesById (rows es)
+  rows_ascend : (es : List (ℕ × BlockInfo)) → T (is_sorted nat_cmp es) → AscendsById (rows es)
   rows_ascend [] h = λ i j d lt within. absurd (omega (arith, within))
   rows_ascend (e ∷ es) h = AllPairs-cons (λ (r s : Row). r.0 < s.0) (e.0, f e.0) (rows es) (below_rows e.0 es (first _ _ h)) (rows_ascend es (second _ _ h))
 
-pub table_ascends : (H : Holdings) → RisesById (table H)
+pub table_ascends : (H : Holdings) → AscendsById (table H)
 unfolding table keys entries
 table_ascends H = rows_ascend (λ b. take MAX_PLACES (places H b)) H.blocks.list H.blocks.sorted

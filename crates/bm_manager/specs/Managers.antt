@@ -6,7 +6,7 @@ use Rattle.bm_base.specs.Words.{Cluster, Holdings, State, limits_of, config_refu
 use Rattle.bm_base.specs.Promises.Lawful.{IsLawful}
 use Rattle.bm_shards.specs.Whole.{Whole, IsUpToDate, HasTaken}
 
--- the state that they are
+-- the state that these parts represent
 abbrev pub state_of : Config → Cluster → Holdings → ℕ → ℕ → State
 state_of c C H round calls = record { limits = limits_of c; cluster = C; holdings = H; round = round; calls = calls }
 

@@ -35,7 +35,7 @@ impl Manager {
         self.answer_with(&CallingThread, call)
     }
 
-    /// Makes one call by these workers.
+    /// Makes one call with these workers.
     fn answer_with<W: Workers>(&mut self, workers: &W, call: &Call) -> Answer
         ensures answer { MayAnswer step self.old call.now result }
         ensures state { self.new ≡ state_after_answer step self.old call.now result }
@@ -106,7 +106,7 @@ impl Manager {
         self.answer_all_with(&workers, calls)
     }
 
-    /// Makes the calls one after another by these workers.
+    /// Makes the calls one after another with these workers.
     pub(crate) fn answer_all_with<W: Workers>(
         &mut self,
         workers: &W,

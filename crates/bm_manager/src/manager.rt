@@ -127,7 +127,7 @@ impl Manager {
         self.apply_with(&CallingThread, event)
     }
 
-    /// Takes one event by these workers.
+    /// Takes one event with these workers.
     #[tactic(auto, unfolding(bm_base::specs::Machine::Calls::after_event, bm_base::specs::Machine::Calls::done_by))]
     pub(crate) fn apply_with<W: Workers>(
         &mut self,

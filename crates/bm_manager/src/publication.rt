@@ -16,8 +16,8 @@ impl Manager {
     /// Publishes a version of the manager's state to the readers of a view. A version has the
     /// number of accepted calls, and for each known block, ascending, the first `MAX_PLACES`
     /// storages of its good replicas. The version is made whole before it is published; publishing
-    /// is no call, so it is not counted. The publisher's last version has no more calls, as is the
-    /// case if one publisher serves one manager.
+    /// is no call, so it is not counted. The publisher's last version must not have more calls than
+    /// the manager; it never has if one publisher serves one manager.
     ///
     /// The crew makes the rows, and the publisher waits for readers of the version before the last,
     /// so the call may wait for other threads; no reader waits for it. The cost grows with the

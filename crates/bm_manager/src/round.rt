@@ -57,7 +57,7 @@ impl Manager {
         self.run_round(&CallingThread)
     }
 
-    /// Takes one round by these workers.
+    /// Takes one round with these workers.
     pub(crate) fn run_round<W: Workers>(&mut self, workers: &W) -> Result<Commands, Refusal>
         ensures accepted { OnOk result (round_refusal self.old ≡ None) }
         ensures commands { IfOk result (λ k. k ≡ (whole_round self.old).0) }
@@ -88,7 +88,7 @@ impl Manager {
         Ok(())
     }
 
-    /// The round of all shards, which then counts.
+    /// Takes the round in all shards, and counts the round and the call.
     fn next_round<W: Workers>(&mut self, workers: &W) -> Result<Commands, Refusal>
         requires round { self.old.round < last_number }
         requires calls { self.old.calls < last_number }

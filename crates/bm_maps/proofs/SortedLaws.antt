@@ -26,11 +26,11 @@ module _ {K X : Type 0} (o : Order K) where
   entries_shown es m h is = ap entries (sym is) ∙ entries-of_sorted o es h
 
   pub sorted_by-filtered : {P : Type 0} (R : P → K × X → Bool → P → Type 0) (f : P) (es fs : List (K × X)) → IsFiltered R f es fs → T (is_sorted o.cmp es) → T (is_sorted o.cmp fs)
-  sorted_by-filtered R f es fs told h = subst (λ xs. T (is_sorted o.cmp xs)) (sym told.4) (is_sorted-items_where_true o.cmp told.0 es h)
+  sorted_by-filtered R f es fs facts h = subst (λ xs. T (is_sorted o.cmp xs)) (sym facts.4) (is_sorted-items_where_true o.cmp facts.0 es h)
 
   pub filtered_shown : {P : Type 0} (R : P → K × X → Bool → P → Type 0) (f : P) (es fs : List (K × X)) (m : Map o X) → T (is_sorted o.cmp es) → of_sorted es ≡ m
       → IsFiltered R f es fs → IsFiltered R f (entries m) (entries (of_sorted {o = o} fs))
-  filtered_shown R f es fs m h is told =
+  filtered_shown R f es fs m h is facts =
       let from : es ≡ entries m = sym (entries_shown es m h is) in
-      let to : fs ≡ entries (of_sorted {o = o} fs) = sym (entries-of_sorted o fs (sorted_by-filtered R f es fs told h)) in
-      subst (λ xs. IsFiltered R f xs (entries (of_sorted {o = o} fs))) from (subst (λ ys. IsFiltered R f es ys) to told)
+      let to : fs ≡ entries (of_sorted {o = o} fs) = sym (entries-of_sorted o fs (sorted_by-filtered R f es fs facts h)) in
+      subst (λ xs. IsFiltered R f xs (entries (of_sorted {o = o} fs))) from (subst (λ ys. IsFiltered R f es ys) to facts)

@@ -7,10 +7,11 @@ ghost use Rattle.bm_maps.specs.KeyIndex.{key_index, IsWithin};
 use crate::sorted_entries::index_between;
 use std::cmp::Ordering;
 
-/// The number of entries before a number's index. In strictly ascending numbers `a`, number `k` has
-/// an index of at most `k - a[0]`, and likewise from the end. So dense numbers need no search. With
-/// `n` numbers missing between the first and the last it is a binary search in `n + 1` indices at
-/// most. Two comparisons come first, and leave few indices where the numbers are about even.
+/// The index of a number: how many entries have lesser numbers. In strictly ascending numbers `a`
+/// the index of `k` is at most `k - a[0]`, and likewise from the end, so dense numbers need no
+/// search. If `n` numbers are missing between the first and the last, the rest is a binary search
+/// in at most `n + 1` indices. Two comparisons around the interpolated index come before it: they
+/// leave few indices if the numbers are about evenly spaced.
 pub(crate) fn index_of_number<V: Copy>(entries: &[(u64, V)], key: u64) -> usize
     requires { T (list.is_sorted nat_cmp entries.now) }
     ensures { result ≡ key_index nat_cmp key entries.now }
@@ -67,8 +68,8 @@ fn narrow_bounds<V: Copy>(entries: &[(u64, V)], key: u64, low: usize, high: usiz
     narrow(entries, key, low, high, guess.saturating_add(GUESS_MARGIN))
 }
 
-/// The index that a number would have if the numbers were even between the first and the last; any
-/// index where they are far apart. Only a guess.
+/// The index that a number would have if the numbers were evenly spaced between the first and the
+/// last; 0 if those two are 2^32 or more apart. Only a guess.
 fn interpolated_index<V: Copy>(entries: &[(u64, V)], key: u64) -> usize {
     let count = entries.len();
     if count == 0 {
@@ -83,7 +84,7 @@ fn interpolated_index<V: Copy>(entries: &[(u64, V)], key: u64) -> usize {
     (behind.wrapping_mul(count as u64) / width) as usize
 }
 
-/// Narrows the bounds of a number's index by one comparison, at `guess`, if that is within them.
+/// Narrows the bounds of a number's index by one comparison, at index `at` if that is within them.
 fn narrow<V: Copy>(
     entries: &[(u64, V)],
     key: u64,

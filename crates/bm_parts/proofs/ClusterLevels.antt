@@ -73,23 +73,23 @@ level_alike C D H b stay multi =
 -- Heartbeats.
 
 module _ (C : Cluster) (rs : List Remaining) where
-  pub rack_heard : (s : ℕ) → rack_of (heartbeat C rs) s ≡ rack_of C s
+  pub rack_after_heartbeat : (s : ℕ) → rack_of (heartbeat C rs) s ≡ rack_of C s
   unfolding rack_of node_of heartbeat
-  rack_heard s = ap (option_and_then (λ n. get C.nodes n)) (same_nodes C.storages rs s)
+  rack_after_heartbeat s = ap (option_and_then (λ n. get C.nodes n)) (same_nodes C.storages rs s)
 
-  draining_heard : (s : ℕ) → is_draining (heartbeat C rs) s ≡ is_draining C s
+  draining_after_heartbeat : (s : ℕ) → is_draining (heartbeat C rs) s ≡ is_draining C s
   unfolding is_draining drains node_of heartbeat
-  draining_heard s = ap (λ z. option_map_or (drains C) z false) (same_nodes C.storages rs s)
+  draining_after_heartbeat s = ap (λ z. option_map_or (drains C) z false) (same_nodes C.storages rs s)
 
-  multi_heard : is_multi_rack (heartbeat C rs) ≡ is_multi_rack C
+  multi_after_heartbeat : is_multi_rack (heartbeat C rs) ≡ is_multi_rack C
   unfolding is_multi_rack heartbeat
-  multi_heard = refl
+  multi_after_heartbeat = refl
 
 pub heartbeat_leaves_racks : law.heartbeat_leaves_racks
-heartbeat_leaves_racks C rs = (rack_heard C rs, draining_heard C rs, multi_heard C rs)
+heartbeat_leaves_racks C rs = (rack_after_heartbeat C rs, draining_after_heartbeat C rs, multi_after_heartbeat C rs)
 
 pub heartbeat_leaves_levels : law.heartbeat_leaves_levels
-heartbeat_leaves_levels C rs H b = level_alike C (heartbeat C rs) H b (λ s m there u. (rack_heard C rs s, draining_heard C rs s)) (multi_heard C rs)
+heartbeat_leaves_levels C rs H b = level_alike C (heartbeat C rs) H b (λ s m there u. (rack_after_heartbeat C rs s, draining_after_heartbeat C rs s)) (multi_after_heartbeat C rs)
 
 -- New nodes.
 

@@ -12,7 +12,7 @@ use Rattle.bm_base.proofs.MapLaws.{same_map}
 use Rattle.bm_base.proofs.Options.{there}
 use Rattle.bm_base.proofs.ForEach.{Each, each_all}
 use Rattle.bm_base.proofs.MapEntries.{same_key}
-use Rattle.bm_parts.specs.Found.{IsGathered}
+use Rattle.bm_parts.specs.Findings.{IsGathered}
 use Rattle.bm_parts.proofs.JoinedShares.{values_again}
 
 module _ {K X : Type 0} (o : Order K) (key : X → K) (P : X → Type 0) where
@@ -38,13 +38,13 @@ module _ {K X : Type 0} (o : Order K) (key : X → K) (P : X → Type 0) where
 
   module _ (xs : List X) (is : IsGathered o key P xs) where
     element : (q : K) (x : X) → get (gathered_map xs) q ≡ Some x → P x × (key x ≡ q)
-    element q x e = found_by xs (each_all P xs is.only) q x (sym (get-of_sorted o (map (λ x. (key x, x)) xs) q is.rises) ∙ e)
+    element q x e = found_by xs (each_all P xs is.only) q x (sym (get-of_sorted o (map (λ x. (key x, x)) xs) q is.ascends) ∙ e)
 
     has_its_key : (x : X) → P x → (y : X) × (get (gathered_map xs) (key x) ≡ Some y)
-    has_its_key x p = there (get (gathered_map xs) (key x)) (ap is_some (get-of_sorted o (map (λ x. (key x, x)) xs) (key x) is.rises) ∙ known_by xs (key x) ∙ is.all x p)
+    has_its_key x p = there (get (gathered_map xs) (key x)) (ap is_some (get-of_sorted o (map (λ x. (key x, x)) xs) (key x) is.ascends) ∙ known_by xs (key x) ∙ is.all x p)
 
     own_values : map (λ (e : K × X). e.1) (entries (gathered_map xs)) ≡ xs
-    own_values = ap (map (λ (e : K × X). e.1)) (entries-of_sorted o (map (λ x. (key x, x)) xs) is.rises) ∙ values_again o key xs
+    own_values = ap (map (λ (e : K × X). e.1)) (entries-of_sorted o (map (λ x. (key x, x)) xs) is.ascends) ∙ values_again o key xs
 
   -- an element is determined by its key
   module _ (one : (x y : X) → P x → P y → key x ≡ key y → x ≡ y) (xs ys : List X) (is : IsGathered o key P xs) (too : IsGathered o key P ys) where

@@ -22,8 +22,8 @@ use Rattle.bm_base.proofs.ForEach.{Each, each_mapped, each_then, each_both, each
 use Rattle.bm_base.proofs.MapEntries.{key_itself, each_entry, each_key, passes_entry}
 use Rattle.bm_base.proofs.Options.{is_there, there}
 use Rattle.bm_base.proofs.SortedParts.{wish_is, wishes_ascend, deletes_ascend}
-use Rattle.bm_parts.specs.Found as law
-use Rattle.bm_parts.specs.Found.{IsGathered, IsExpired, IsSurplus, IsRequested, IsDeletable, IsFound}
+use Rattle.bm_parts.specs.Findings as law
+use Rattle.bm_parts.specs.Findings.{IsGathered, IsExpired, IsSurplus, IsRequested, IsDeletable, IsFound}
 use Rattle.bm_parts.proofs.Filters.{any_shown, all_each}
 use Rattle.bm_base.proofs.ListTests.{any_map}
 use Rattle.bm_parts.proofs.JoinedReplicas.{listed_ascends}
@@ -39,7 +39,7 @@ module _ {X : Type 0} (m : Map by_replica X) (p : ReplicaId × X → Bool) where
       → IsGathered by_replica (λ (q : ReplicaId). q) P passing_keys
   unfolding entries
   keys_gathered P means shown = record {
-    rises = listed_ascends replica_cmp (λ (e : ReplicaId × X). e.0) p (λ q. q) (λ _. refl) m.list m.sorted;
+    ascends = listed_ascends replica_cmp (λ (e : ReplicaId × X). e.0) p (λ q. q) (λ _. refl) m.list m.sorted;
     only =
         all_each P passing_keys
         (each_mapped P (λ (e : ReplicaId × X). e.0) (filter p (entries m))
@@ -93,7 +93,7 @@ module _ (C : Cluster) (H : Holdings) where
   deletes_gathered : IsGathered by_pair delete_key (IsDeletable C H) (deletable C H)
   unfolding deletable deletable_on
   deletes_gathered = record {
-    rises = deletes_ascend C H;
+    ascends = deletes_ascend C H;
     only =
         all_each (IsDeletable C H) (flat_map (deletable_on C H) (keys C.storages))
         (each_flat (IsDeletable C H) (deletable_on C H) (keys C.storages)
@@ -181,7 +181,7 @@ module _ (C : Cluster) (H : Holdings) where
   wishes_gathered : IsGathered by_pair wish_key (IsRequested C H) (wishes_by_block C H)
   unfolding wishes_by_block
   wishes_gathered = record {
-    rises = wishes_ascend C H;
+    ascends = wishes_ascend C H;
     only =
         all_each (IsRequested C H) _
         (each_appended (IsRequested C H) _ _ (each_made Highest (keys H.blocks)) (each_appended (IsRequested C H) _ _ (each_made VeryUnderReplicated (keys H.blocks))

@@ -43,9 +43,9 @@ module _ {K X Y : Type 0} (R : K → K → Ordering) (f : K × X → Y) (p : K �
 pub joins : {K Y : Type 0} (o : Order K) (key : Y → K) (list : Holdings → List Y) (block : Y → ℕ) (H : Holdings) (shards : ℕ) → 1 ≤ shards
     → T (is_sorted o.cmp (map (λ y. (key y, y)) (list H))) → ((i : ℕ) → list (cut H i shards) ≡ filter (λ y. shard_of (block y) shards == i) (list H))
     → ordered_by o key (flat_map list (parts H shards)) ≡ list H
-joins o key list block H shards some rises shares =
+joins o key list block H shards some ascends shares =
     ap (ordered_by o key) (flat_map-map list (λ i. cut H i shards) (range_from 0 shards) ∙ flat_map_same _ _ shares (range_from 0 shards))
-    ∙ shares_in_order o key (list H) rises (λ y. shard_of (block y) shards) shards (λ y. mod-lt (block y) some)
+    ∙ shares_in_order o key (list H) ascends (λ y. shard_of (block y) shards) shards (λ y. mod-lt (block y) some)
 
 -- Replicas.
 

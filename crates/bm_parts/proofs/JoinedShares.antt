@@ -112,9 +112,9 @@ module _ {K X : Type 0} (o : Order K) (key : X → K) where
   pub shares_in_order : (xs : List X) → T (is_sorted o.cmp (keyed xs)) → (shard : X → ℕ) (n : ℕ) → ((x : X) → shard x < n)
       → ordered_by o key (flat_map (share shard xs) (range_from 0 n)) ≡ xs
   unfolding ordered_by
-  shares_in_order xs rises shard n below =
+  shares_in_order xs ascends shard n below =
       let m : Map o X = of_sorted (keyed xs) in
-      let es : entries m ≡ keyed xs = entries-of_sorted o (keyed xs) rises in
+      let es : entries m ≡ keyed xs = entries-of_sorted o (keyed xs) ascends in
       let zs : List X = flat_map (share shard xs) (range_from 0 n) in
       let from : Each (λ x. get m (key x) ≡ Some x) xs = each_unkeyed (λ e. get m e.0 ≡ Some e.1) xs (subst (Each (λ e. get m e.0 ≡ Some e.1)) es (each_entry m)) in
       let from_all : Each (λ x. get m (key x) ≡ Some x) zs = each_of_numbers (λ x. get m (key x) ≡ Some x) (share shard xs) 0 n (λ i. each_filtered (λ x. get m (key x) ≡ Some x) (λ x. shard x == i) xs from) in

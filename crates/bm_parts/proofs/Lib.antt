@@ -37,8 +37,8 @@ pub mod SettledBlocks
 -- Levels.
 pub mod Deaths
 pub mod ClusterLevels
-pub mod Drains
+pub mod DrainChanges
 pub mod ReplicaRacks
 -- Where replicas are.
 pub mod WellPlaced
-pub mod Before
+pub mod WishesBefore

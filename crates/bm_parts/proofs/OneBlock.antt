@@ -10,7 +10,7 @@ use Rattle.bm_base.specs.Words.{get, Cluster, Holdings, replica_at, is_usable, i
 use Rattle.bm_base.specs.Shards.{shard_of, cut}
 use Rattle.bm_parts.specs.Parts.{IsSameOf, block_of}
 use Rattle.bm_parts.specs.LevelLaws as law
-use Rattle.bm_parts.specs.Settled as settled_law
+use Rattle.bm_parts.specs.SettledBlocks as settled_law
 use Rattle.bm_parts.proofs.Parts.{cut_is_part, one_part_changed}
 use Rattle.bm_parts.proofs.Storages.{storages_of_same, storages_revised}
 

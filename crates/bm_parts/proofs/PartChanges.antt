@@ -70,11 +70,11 @@ pub done_adds_up : law.done_adds_up
 done_adds_up C e shards Ps Qs some long own each =
     let H : Holdings = whole_of Ps in
     let again : parts H shards ≡ Ps = whole_has_its_parts Ps shards own long in
-    let told = sums C e shards H 0 shards Qs (subst (λ Rs. EachPart (λ i P Q. Q ≡ change_part C P i shards e) 0 Rs Qs) (sym again) each) in
+    let facts = sums C e shards H 0 shards Qs (subst (λ Rs. EachPart (λ i P Q. Q ≡ change_part C P i shards e) 0 Rs Qs) (sym again) each) in
     let all = answers_add_up C H e shards some in
     let after : whole_of Qs ≡ change_holdings C H e = (whole_changes_by_event C e shards Ps Qs some long own each).0 in
     ap (λ Rs. done_of_all Rs Qs) (sym again)
-    ∙ (λ j. record { added = (told.0 ∙ from_zero (λ k. (done_in C H e shards k).added) shards ∙ all.0) j; removed = (told.1 ∙ from_zero (λ k. (done_in C H e shards k).removed) shards ∙ all.1) j })
+    ∙ (λ j. record { added = (facts.0 ∙ from_zero (λ k. (done_in C H e shards k).added) shards ∙ all.0) j; removed = (facts.1 ∙ from_zero (λ k. (done_in C H e shards k).removed) shards ∙ all.1) j })
     ∙ ap (done H) (sym after)
   where
     from_zero : (f : ℕ → ℕ) (n : ℕ) → sum_over n (λ i. f (0 + i)) ≡ sum_over n f

@@ -24,7 +24,7 @@ use Rattle.bm_parts.specs.LevelLaws as law
 use Rattle.bm_parts.specs.LevelLaws.{IsRacked}
 use Rattle.bm_parts.specs.Parts.{reported_of}
 use Rattle.bm_parts.proofs.Deaths.{rack_elsewhere, rack_left}
-use Rattle.bm_parts.proofs.ClusterLevels.{rack_heard, same_after_register}
+use Rattle.bm_parts.proofs.ClusterLevels.{rack_after_heartbeat, same_after_register}
 
 -- all replicas stay on racks if each storage with a rack keeps it
 racked_alike : (C D : Cluster) (H : Holdings) → ((s : ℕ) → is_some (rack_of C s) ≡ true → rack_of D s ≡ rack_of C s) → IsRacked C H → IsRacked D H
@@ -42,7 +42,7 @@ pub register_keeps_racked : (C : Cluster) (H : Holdings) (n rack : ℕ) (ss : Li
 register_keeps_racked C H n rack ss new unknown racked = racked_alike C (register C n rack ss) H (λ s was. (same_after_register C n rack ss new unknown s was).0) racked
 
 pub heartbeat_keeps_racked : (C : Cluster) (H : Holdings) (rs : List Remaining) → IsRacked C H → IsRacked (heartbeat C rs) H
-heartbeat_keeps_racked C H rs racked = racked_alike C (heartbeat C rs) H (λ s was. rack_heard C rs s) racked
+heartbeat_keeps_racked C H rs racked = racked_alike C (heartbeat C rs) H (λ s was. rack_after_heartbeat C rs s) racked
 
 pub death_keeps_racked : (C : Cluster) (H : Holdings) (n : ℕ) → IsRacked C H → IsRacked (without_node C n) (without_storages H (has_storage C n))
 death_keeps_racked C H n racked = racked_left C (without_node C n) H (has_storage C n) (rack_elsewhere C n) racked

@@ -8,8 +8,8 @@ use Rattle.bm_base.specs.declared.replica.BlockInfo.{BlockInfo}
 use Rattle.bm_base.specs.Words.{get, keep, revise, Cluster, Holdings, replica_at, has, is_usable, is_live_on, is_drained_on, is_draining, has_storage, drains, live, drained, storages_where, racks, is_multi_rack, usable, level, level_of, without_expired, without_unordered_excess, excess_among, excess_of, excess_in, with_surplus_marked, is_deletable, without_storages, begin_drain, is_commanded, end_round}
 use Rattle.bm_base.proofs.MapLaws.{get-revise}
 use Rattle.bm_base.specs.RoundParts.{holdings_at_choice}
-use Rattle.bm_parts.specs.Settled as law
-use Rattle.bm_parts.specs.Settled.{IsSettled, plain}
+use Rattle.bm_parts.specs.SettledBlocks as law
+use Rattle.bm_parts.specs.SettledBlocks.{IsSettled, plain}
 use Rattle.std.proofs.lemmas.Bool.{and_parts, and_right, or_parts}
 use Rattle.bm_parts.proofs.OneBlock.{settled_is_of_its_block}
 use Rattle.bm_parts.proofs.Storages.{storages_left, storages_revised, fewer_where}

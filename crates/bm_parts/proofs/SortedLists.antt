@@ -17,11 +17,11 @@ use Rattle.bm_parts.proofs.JoinedShares.{gathered, values_again}
 -- a permutation with strictly ascending keys is the list in the order of its keys
 pub sorted_is_ordered : (K X : Type 0) (o : Order K) (key : X → K) (xs ys : List X) → T (is_sorted o.cmp (map (λ y. (key y, y)) ys)) → IsPermutation xs ys → ordered_by o key xs ≡ ys
 unfolding ordered_by
-sorted_is_ordered K X o key xs ys rises moved =
+sorted_is_ordered K X o key xs ys ascends moved =
     let keyed : X → K × X = λ x. (key x, x) in
     let m : Map o X = of_sorted (map keyed ys) in
     let found : K × X → Type 0 = λ e. get m e.0 ≡ Some e.1 in
-    let es : entries m ≡ map keyed ys = entries-of_sorted o (map keyed ys) rises in
+    let es : entries m ≡ map keyed ys = entries-of_sorted o (map keyed ys) ascends in
     let moved_keyed : IsPermutation (map keyed xs) (map keyed ys) = IsPermutation-map keyed xs ys moved in
     let from_ys : Each found (map keyed ys) = subst (Each found) es (each_entry m) in
     let from_xs : Each found (map keyed xs) =

@@ -68,19 +68,20 @@ failure_leaves_levels = (C : Cluster) (H : Holdings) (t b : ℕ) → has (usable
 abbrev pub drain_leaves_levels : Type 0
 drain_leaves_levels = (C : Cluster) (H : Holdings) (n b : ℕ) → list_any (has_storage C n) (usable H b) ≡ false → level (drain C n) (begin_drain C H n) b ≡ level C H b
 
--- a node that ceases to drain keeps them too
+-- a node that ceases to drain keeps the levels of blocks without a usable replica on it
 abbrev pub undrain_leaves_levels : Type 0
 undrain_leaves_levels = (C : Cluster) (H : Holdings) (n b : ℕ) → list_any (has_storage C n) (usable H b) ≡ false → level (undrain C n) H b ≡ level C H b
 
 -- Replicas stay on storages of alive nodes.
 
--- an event that the cluster does not refuse keeps the replicas of a part there
+-- an event that the cluster does not refuse keeps the replicas of a part on storages of alive
+-- nodes
 abbrev pub event_keeps_racked : Type 0
 event_keeps_racked =
     (C : Cluster) (P : Holdings) (e : Event) (index shards : ℕ) → IsLawfulCluster C → first_of (cluster_checks C e) ≡ None → IsRacked C P
     → IsRacked (change_cluster C e) (change_part C P index shards e)
 
--- a round keeps them there too
+-- a round keeps the replicas of a part on storages of alive nodes
 abbrev pub round_keeps_racked : Type 0
 round_keeps_racked =
     (C : Cluster) (pend r : ℕ) (P : Holdings) (index shards : ℕ) (ts : List Transfer) (ds : List Delete) → IsRacked C P → IsRacked C (round_on_part C pend r P index shards ts ds)

@@ -2,8 +2,8 @@
 -- in each.
 pub mod Parts
 pub mod Whole
-pub mod Settled
-pub mod Found
+pub mod SettledBlocks
+pub mod Findings
 -- The laws, each as a statement that a function's contract cites.
 pub mod EventLaws
 pub mod RoundLaws
@@ -11,6 +11,6 @@ pub mod QueryLaws
 pub mod LevelLaws
 pub mod PlacedLaws
 -- Lists sorted by their keys.
-pub mod Merging
+pub mod SortedLists
 -- The first wishes of a part.
-pub mod Before
+pub mod BoundedWishes

@@ -24,17 +24,17 @@ pub record IsPlaced (C : Cluster) (H : Holdings) : Type 0 where
 abbrev pub lawful_is_placed : Type 0
 lawful_is_placed = (C : Cluster) (H : Holdings) → IsLawfulHoldings C H → IsPlaced C H
 
--- an event that the cluster does not refuse keeps them in a part
+-- an event that the cluster does not refuse keeps these laws in a part
 abbrev pub event_keeps_placed : Type 0
 event_keeps_placed =
     (C : Cluster) (P : Holdings) (e : Event) (index shards : ℕ) → IsLawfulCluster C → first_of (cluster_checks C e) ≡ None → IsPlaced C P
     → IsPlaced (change_cluster C e) (change_part C P index shards e)
 
--- a report of a known storage keeps them, whatever blocks it lists
+-- a report of a known storage keeps these laws, whatever blocks it lists
 abbrev pub report_keeps_placed : Type 0
 report_keeps_placed = (C : Cluster) (P : Holdings) (s : ℕ) (ts : List ReportedBlock) → IsTrue (contains_key C.storages s) → IsPlaced C P → IsPlaced C (report C P s ts)
 
--- a round keeps them
+-- a round keeps these laws in a part
 abbrev pub round_keeps_placed : Type 0
 round_keeps_placed =
     (C : Cluster) (pend r : ℕ) (P : Holdings) (index shards : ℕ) (ts : List Transfer) (ds : List Delete) → IsPlaced C P → IsPlaced C (round_on_part C pend r P index shards ts ds)

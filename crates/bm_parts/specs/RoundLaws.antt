@@ -63,7 +63,7 @@ whole_round_is =
     whole_round M
     ≡ (commands_of M.cluster (M.round + 1) ts ds, record M { round = M.round + 1; holdings = end_round (M.round + 1) (holdings_at_choice M.cluster M.limits.pend (M.round + 1) M.holdings) ts ds })
 
--- if a round leaves each part so, it leaves the whole so
+-- if a round leaves all parts as in `AreLeftBy`, their whole is what it leaves of the whole
 abbrev pub whole_changes_by_round : Type 0
 whole_changes_by_round =
     (C : Cluster) (pend r : ℕ) (ts : List Transfer) (ds : List Delete) (shards : ℕ) (Ps Qs : List Holdings) → 1 ≤ shards → shards ≡ length Ps → AreOwn shards 0 Ps

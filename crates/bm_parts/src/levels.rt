@@ -14,7 +14,7 @@ pub fn event_leaves_other_levels()
     ensures { law.event_leaves_other_levels }
 {}
 
-/// The end of a round keeps every level as the start of it made it.
+/// The end of a round changes no level.
 pub fn round_end_leaves_levels()
     ensures { law.round_end_leaves_levels }
 {}

@@ -11,16 +11,16 @@
 //! - `settled_blocks`: blocks that a round need not scan
 //! - `levels`: events on the cluster after which a shard need not reclassify its blocks
 //! - `replica_storages`: the storages of replicas, and which are in excess
-//! - `merge`: the keys by which lists are merged
+//! - `sort_key`: the key by which a round's lists are sorted
 //!
 //! Only `events::block_of` computes something; the contract of each other function is a law.
 #![tactic(auto)]
 
 pub mod events;
 pub mod levels;
-pub mod merge;
 pub mod queries;
 pub mod replica_storages;
 pub mod rounds;
 pub mod settled_blocks;
+pub mod sort_key;
 pub mod whole;

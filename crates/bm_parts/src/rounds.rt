@@ -1,7 +1,7 @@
 // Rounds over parts.
 #![tactic(auto)]
 
-ghost use Rattle.bm_parts.specs.Found as found;
+ghost use Rattle.bm_parts.specs.Findings as found;
 ghost use Rattle.bm_parts.specs.RoundLaws as law;
 
 /// Each list that a round finds is ascending, and has exactly the elements of its definition.
@@ -55,7 +55,7 @@ pub fn whole_round_is()
     ensures { law.whole_round_is }
 {}
 
-/// If a round leaves every part as it should, it leaves the whole as it should.
+/// If a round changes every part as defined for parts, it changes the whole as defined for wholes.
 pub fn whole_changes_by_round()
     ensures { law.whole_changes_by_round }
 {}

@@ -1,7 +1,7 @@
 // Settled blocks: each replica is good and unmarked, and there are no more than are wanted.
 #![tactic(auto)]
 
-ghost use Rattle.bm_parts.specs.Settled as law;
+ghost use Rattle.bm_parts.specs.SettledBlocks as law;
 
 /// The start of a round marks no replica of a settled block, and keeps its live and drained
 /// replicas and its level.

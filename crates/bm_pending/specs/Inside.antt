@@ -29,7 +29,7 @@ targets_at es b = option_map_or (λ (v : PendingTargets). v.items) (lookup (nat_
 abbrev pub expired_among : ℕ → ℕ → List (ℕ × ℕ) → List (ℕ × ℕ)
 expired_among pend r ts = filter (λ t. is_expired pend r t.1) ts
 
--- the storages of the others
+-- the storages of the transfers that are not expired
 abbrev pub remaining_storages : ℕ → ℕ → List (ℕ × ℕ) → List ℕ
 remaining_storages pend r ts = map (λ t. t.0) (filter (λ t. not (is_expired pend r t.1)) ts)
 

@@ -23,7 +23,7 @@ use Rattle.bm_place.specs.ReplicaSpread.{replica_spread_of, class_by_spread, is_
 use Rattle.bm_place.specs.Targets.{free_bytes_on, target_at, target_table, cmp_targets, is_available, is_excluded_by}
 use Rattle.bm_place.specs.BestTargets.{IsMember, AreBestTargets, is_better_than, cmp_of_one_node}
 use Rattle.bm_place.proofs.SameNodeTargets.{IsLike, like, more_free_bytes}
-use Rattle.bm_place.proofs.Best.{least-bears}
+use Rattle.bm_place.proofs.BestElement.{least-bears}
 use Rattle.bm_place.proofs.RowScan.{scan-found}
 use Rattle.bm_place.proofs.RowOrder.{target_cmp_total, ordered_as, tested_as}
 use Rattle.bm_place.proofs.Tables.{get-table}

@@ -2,7 +2,7 @@
 pub mod Tables
 pub mod Least
 pub mod Classes
-pub mod Best
+pub mod BestElement
 pub mod RowScan
 pub mod SameNodeTargets
 pub mod ScanStart

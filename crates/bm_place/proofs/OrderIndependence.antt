@@ -11,7 +11,7 @@ use Rattle.bm_base.specs.Words.{Cluster, has, has_repeats, least, remaining, sha
 use Rattle.bm_base.proofs.ListTests.{filter_filter}
 use Rattle.bm_base.proofs.Slices.{all_pass}
 use Rattle.bm_place.specs.Least.{IsLeastOf}
-use Rattle.bm_place.proofs.Best.{least-bears}
+use Rattle.bm_place.proofs.BestElement.{least-bears}
 use Rattle.bm_place.proofs.Surplus.{excess_cmp_total}
 use Rattle.bm_topo.proofs.RackCount.{has_counted}
 use Rattle.bm_topo.proofs.RackChanges.{count_cons}

@@ -1,10 +1,10 @@
--- Words of the contracts.
+-- Definitions for contracts.
 pub mod Least
 pub mod Tables
 pub mod Sources
 pub mod Targets
-pub mod Found
--- Words of the bodies: the same as in bm_base, for rows and counts.
+pub mod ChoiceResults
+-- Definitions for proofs: the same as in bm_base, for rows and counts.
 pub mod Scan
 pub mod UpToTwo
 pub mod ReplicaSpread

@@ -39,6 +39,6 @@ class_on (One r) two rack = if is_rack r rack then 1 else 0
 class_on (Two p q) true rack = if is_rack p rack || is_rack q rack then 0 else 1
 class_on _ two rack = 0
 
--- the class of a target on a rack, where w holds the block: the same as `class_of`
+-- the class of a target on a rack, for a block with the spread w: the same as `class_of`
 abbrev pub class_by_spread : ReplicaSpread → Option ℕ → ℕ
 class_by_spread w rack = class_on w.racks (are_two w.storages) rack

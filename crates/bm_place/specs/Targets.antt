@@ -25,7 +25,7 @@ target_table C sent = table (target_at C sent) (keys C.storages)
 abbrev pub free_bytes_on : TargetRow → ℕ
 free_bytes_on t = t.remaining - t.scheduled
 
--- the order of targets, where w holds the block: the same on rows as `target_cmp`
+-- the order of targets for a block with the spread w: the same on rows as `target_cmp`
 abbrev pub cmp_targets : ReplicaSpread → TargetRow → TargetRow → Ordering
 cmp_targets w s t =
     ordering_then (nat_cmp (class_by_spread w s.rack) (class_by_spread w t.rack)) (ordering_then (nat_cmp (free_bytes_on t) (free_bytes_on s)) (nat_cmp s.storage t.storage))

@@ -6,19 +6,19 @@ use Rattle.std.specs.Ordering.{nat_cmp}
 use Rattle.bm_place.specs.declared.up_to_two.UpToTwo.{UpToTwo}
 use Rattle.bm_place.specs.declared.up_to_two.UpToTwo.TheVariants.{Nothing, One, Two, More}
 
--- one number with another, by how they compare
+-- the set of two numbers, by how they compare
 abbrev pub two_of : Ordering → ℕ → ℕ → UpToTwo
 two_of Less n p = Two n p
 two_of Equal n p = One p
 two_of Greater n p = Two p n
 
--- two numbers, p less than q, with another, by how it compares to the lesser and to the greater
+-- the set of three numbers, of which p is less than q, by how the third compares to p and to q
 abbrev pub three_of : Ordering → Ordering → ℕ → ℕ → UpToTwo
 three_of Equal _ p q = Two p q
 three_of Greater Equal p q = Two p q
 three_of _ _ p q = More
 
--- with one more number, which may be among them
+-- adds a number, which may be in the set
 abbrev pub with_number : UpToTwo → ℕ → UpToTwo
 with_number Nothing n = One n
 with_number (One p) n = two_of (nat_cmp n p) n p

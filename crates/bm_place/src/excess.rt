@@ -18,7 +18,7 @@ pub struct ExcessScratch {
     holders: Vec<Holder>,
     /// The replicas that were alone on their rack when the pass reached them.
     kept: Vec<StorageId>,
-    /// The number of remaining ones on each rack.
+    /// For each rack, the number of its replicas that are not chosen yet.
     racks: NumberMap<usize>,
 }
 

@@ -8,7 +8,7 @@ ghost use Rattle.bm_base.specs.Maps.Map as map;
 ghost use Rattle.bm_base.specs.Machine.Transfers as transfers;
 ghost use Rattle.bm_place.specs.Tables.{none_sent};
 ghost use Rattle.bm_place.specs.Targets as targets;
-ghost use Rattle.bm_place.specs.Found.{HasFreeBytesFor, with_sent, targets_with};
+ghost use Rattle.bm_place.specs.ChoiceResults.{HasFreeBytesFor, with_sent, targets_with};
 ghost use Rattle.bm_base.specs.Maps.Lists as lists;
 ghost use Rattle.bm_place.specs.BestTargets.{AreBestTargets, IsKept, AreOf};
 ghost use Rattle.bm_place.specs.declared.scheduled_bytes.TargetRow.{TargetRow};
@@ -43,8 +43,8 @@ pub struct Scheduled<'a> {
     topology: &'a Topology,
     pub(crate) rows: NumberMap<TargetRow>,
     /// The best storage of each node: the one with most free bytes, and of these the least. No
-    /// other is the target of a copy. They are sorted by the same order, so the first eligible one
-    /// is the target.
+    /// other is the target of a copy. They are sorted by the same order, so the target is the first
+    /// eligible one of class 0, or else the first eligible one.
     best_targets: Vec<TargetRow>,
 }
 
@@ -85,10 +85,10 @@ impl<'a> Scheduled<'a> {
         })
     }
 
-    /// Counts `len` bytes more as scheduled to `target`, on which they fit, as on the target that
-    /// [`least_target`](crate::least_target) just found for this length; ignores an unknown
-    /// storage. A few look-ups, one for each storage of the node, and a scan of the best targets
-    /// before it and of those that it moves past. Takes no memory.
+    /// Counts `len` more bytes as scheduled to `target`; ignores an unknown storage. The bytes must
+    /// fit on the target, as they do if [`least_target`](crate::least_target) just found it for
+    /// this length. Costs a few look-ups, one more for each storage of the node, and at most one
+    /// scan of the best targets. Takes no memory.
     pub fn add(&mut self, target: StorageId, len: u64)
         requires fits { HasFreeBytesFor self.old len target }
         ensures after { self.new ≡ with_sent self.old target len }

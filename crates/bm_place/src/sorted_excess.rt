@@ -15,8 +15,8 @@ use bm_base::{Rack, StorageId};
 use bm_maps::NumberMap;
 use std::alloc::AllocError;
 
-/// Sorts them by the order of choice within a class: first one on whose storage fewer bytes remain,
-/// then the greater storage. Takes no memory.
+/// Sorts the live replicas by the order of choice within a class: first one on whose storage fewer
+/// bytes remain, then the greater storage. Takes no memory.
 pub(crate) fn sort_holders(holders: &mut Vec<Holder>)
     ensures moved { IsPermutation holders.old.items holders.new.items }
     ensures in_order { IsSorted pass.cmp_in_class holders.new.items }
@@ -28,7 +28,7 @@ pub(crate) fn sort_holders(holders: &mut Vec<Holder>)
     });
 }
 
-/// Counts these by rack, replacing the counts before.
+/// Counts the live replicas on each rack. The old counts are dropped.
 pub(crate) fn count_racks(
     counts: &mut NumberMap<usize>,
     holders: &[Holder],

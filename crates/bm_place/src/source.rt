@@ -4,7 +4,7 @@ ghost use Rattle.bm_base.specs.declared.commands.Transfer.{Transfer};
 ghost use Rattle.bm_base.specs.Maps.Map as map;
 ghost use Rattle.bm_base.specs.Machine.Replicas.{is_draining};
 ghost use Rattle.bm_base.specs.Machine.Transfers as transfers;
-ghost use Rattle.bm_place.specs.Found.{IsFoundSource, senders_with};
+ghost use Rattle.bm_place.specs.ChoiceResults.{IsFoundSource, senders_with};
 ghost use Rattle.bm_place.specs.Sources as sources;
 ghost use Rattle.bm_place.specs.Tables as tables;
 ghost use Rattle.bm_place.specs.Scan as scanned;

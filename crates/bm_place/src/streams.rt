@@ -6,7 +6,7 @@ ghost use Rattle.bm_base.specs.declared.commands.Transfer.{Transfer};
 ghost use Rattle.bm_base.specs.Words.{Cluster, has_storage};
 ghost use Rattle.bm_base.specs.Maps.Map as map;
 ghost use Rattle.bm_base.specs.Machine.Transfers as transfers;
-ghost use Rattle.bm_place.specs.Found.{IsCountable, senders_with};
+ghost use Rattle.bm_place.specs.ChoiceResults.{IsCountable, senders_with};
 ghost use Rattle.bm_place.specs.Sources as sources;
 ghost use Rattle.bm_place.specs.Tables as tables;
 

@@ -20,7 +20,7 @@ use Rattle.bm_arena.specs.Contents.{Contents, block_at, slot_of, marks_at, find_
 use Rattle.bm_arena.specs.HeldMaps.{replicas_of, replicas_at, info_at}
 use Rattle.bm_arena.proofs.HeldReplicas.{get-replicas_of, get-blocks_of}
 use Rattle.bm_levels.specs.Status.{storages_at}
-use Rattle.bm_levels.specs.Held.{holdings_with}
+use Rattle.bm_levels.specs.SlotHoldings.{holdings_with}
 use Rattle.bm_levels.proofs.EqualLists.{among_has, has_among, passing_distinct}
 use Rattle.bm_levels.proofs.Levels.{alike}
 use Rattle.bm_queries.proofs.FoundReplicas.{each_marks, marks_pass}

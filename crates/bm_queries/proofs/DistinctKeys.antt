@@ -13,7 +13,7 @@ use Rattle.std.proofs.lemmas.Map.Keys.{IsDistinct-IsPermutation, apart_from_dist
 use Rattle.bm_base.specs.Maps.Conjunction.{both}
 use Rattle.bm_base.specs.Maps.Map.{Order}
 use Rattle.bm_base.proofs.ForEach.{Each, each_appended}
-use Rattle.bm_parts.specs.Found.{IsGathered}
+use Rattle.bm_parts.specs.Findings.{IsGathered}
 use Rattle.bm_parts.proofs.EqualLists.{gathered_alike}
 use Rattle.bm_parts.proofs.Filters.{all_each}
 
@@ -78,7 +78,7 @@ module _ {K X : Type 0} (o : Order K) (key : X → K) where
   pub sorted_alike : (P : X → Type 0) → ((x y : X) → P x → P y → key x ≡ key y → x ≡ y) → (xs ys zs : List X) → AreApart xs → Each P xs → ((x : X) → P x → list_any (λ y. eq_by_cmp o.cmp (key x) (key y)) xs ≡ true) → IsPermutation xs ys
       → IsSortedByKey key o.cmp ys → IsGathered o key P zs → ys ≡ zs
   sorted_alike P one xs ys zs apart only all moved sorted listed = gathered_alike o key P one ys zs (record {
-    rises = sorted_ascends xs ys apart moved sorted;
+    ascends = sorted_ascends xs ys apart moved sorted;
     only = All-permutation P xs ys moved (all_each P xs only);
     all = λ x is. sym (list_any-IsPermutation (λ y. eq_by_cmp o.cmp (key x) (key y)) xs ys moved) ∙ all x is;
   }) listed

@@ -17,14 +17,14 @@ use Rattle.bm_arena.specs.Triplets.{Block}
 use Rattle.bm_arena.specs.Contents.{Contents, block_at, slot_of, marks_at, find_marks, IsLawful}
 use Rattle.bm_arena.specs.HeldMaps.{replicas_of}
 use Rattle.bm_arena.proofs.HeldReplicas.{get-replicas_of}
-use Rattle.bm_parts.specs.Found.{IsGathered}
+use Rattle.bm_parts.specs.Findings.{IsGathered}
 use Rattle.bm_parts.specs.QueryLaws.{replica_key}
 use Rattle.bm_parts.proofs.Filters.{any_shown, all_each, filter_all}
 use Rattle.std.proofs.lemmas.Simd.{map-map}
 use Rattle.bm_parts.proofs.JoinedReplicas.{listed_ascends}
 use Rattle.bm_parts.proofs.FoundLists.{any_flat_at}
 use Rattle.bm_levels.specs.IndexedLevels.{indexed_slots}
-use Rattle.bm_queries.specs.Listed.{replica_view, listed_at, listed_on, replicas_passing}
+use Rattle.bm_queries.specs.ListedElements.{replica_view, listed_at, listed_on, replicas_passing}
 use Rattle.bm_queries.proofs.DistinctKeys.{AreApart, IsNew, apart_append, sorted_alike}
 use Rattle.bm_queries.proofs.GatheredReplicas.{those}
 use Rattle.bm_queries.proofs.IndexedSlots.{IsOwn, led_once, led_own, has_led}
@@ -164,7 +164,7 @@ module _ (p : Marks → Bool) (m : Map by_replica Marks) where
       let passes : ReplicaId × Marks → Bool = λ e. p e.1 in
       let found : ReplicaId × Marks → Type 0 = λ e. get m e.0 ≡ Some e.1 in
       record {
-        rises = listed_ascends replica_cmp as_replica passes replica_key (λ _. refl) m.list m.sorted;
+        ascends = listed_ascends replica_cmp as_replica passes replica_key (λ _. refl) m.list m.sorted;
         only =
             all_each (IsListed p m) (replicas_passing p m)
             (each_mapped (IsListed p m) as_replica (filter passes (entries m))

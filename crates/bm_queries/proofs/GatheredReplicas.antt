@@ -7,7 +7,7 @@ use Rattle.bm_base.specs.declared.replica.Replica.{Replica}
 use Rattle.bm_base.specs.declared.replica.Marks.{Marks}
 use Rattle.bm_arena.specs.Triplets.{Block}
 use Rattle.bm_arena.specs.Contents.{Contents, block_at}
-use Rattle.bm_queries.specs.Listed.{replica_view, listed_at, listed_on}
+use Rattle.bm_queries.specs.ListedElements.{replica_view, listed_at, listed_on}
 
 abbrev pub those : (Marks → Bool) → ℕ → List (ℕ × Marks) → List Replica
 those p id rs = map (replica_view id) (filter (λ (r : ℕ × Marks). p r.1) rs)

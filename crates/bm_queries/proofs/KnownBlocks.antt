@@ -23,12 +23,12 @@ use Rattle.bm_base.proofs.Sets.{has_keys, passing_some}
 use Rattle.bm_arena.specs.Contents.{Contents, slot_of, IsLawful}
 use Rattle.bm_arena.specs.HeldMaps.{info_at, blocks_of, id_at}
 use Rattle.bm_arena.proofs.HeldReplicas.{get-blocks_of}
-use Rattle.bm_parts.specs.Found.{IsGathered}
+use Rattle.bm_parts.specs.Findings.{IsGathered}
 use Rattle.bm_parts.proofs.Filters.{any_shown, all_each, filter_all}
 use Rattle.bm_parts.proofs.JoinedReplicas.{listed_ascends}
 use Rattle.bm_levels.specs.IndexedLevels.{indexed_slots}
-use Rattle.bm_levels.specs.Held.{holdings_with}
-use Rattle.bm_queries.specs.Listed.{known_on, with_slot}
+use Rattle.bm_levels.specs.SlotHoldings.{holdings_with}
+use Rattle.bm_queries.specs.ListedElements.{known_on, with_slot}
 use Rattle.bm_queries.proofs.DistinctKeys.{AreApart, IsNew, sorted_alike}
 use Rattle.bm_queries.proofs.IndexedSlots.{IsOwn, led_once, led_own, has_led}
 use Rattle.bm_queries.proofs.Numbers.{any_same}
@@ -109,7 +109,7 @@ module _ (a : Contents) (lawful : IsLawful a) where
       let m = blocks_of a in
       let listed : map (λ (e : ℕ × BlockInfo). with_slot a e.0) (filter (λ _. true) m.list) ≡ map (with_slot a) (keys m) = ap (map (λ (e : ℕ × BlockInfo). with_slot a e.0)) (filter_all m.list) ∙ sym (map-map (with_slot a) (λ (e : ℕ × BlockInfo). e.0) m.list) in
       record {
-        rises = subst (λ ys. T (is_sorted nat_cmp (map (λ y. (number y, y)) ys))) listed (listed_ascends nat_cmp (λ (e : ℕ × BlockInfo). with_slot a e.0) (λ _. true) number (λ _. refl) m.list m.sorted);
+        ascends = subst (λ ys. T (is_sorted nat_cmp (map (λ y. (number y, y)) ys))) listed (listed_ascends nat_cmp (λ (e : ℕ × BlockInfo). with_slot a e.0) (λ _. true) number (λ _. refl) m.list m.sorted);
         only =
             all_each IsKnown (map (with_slot a) (keys m))
             (each_mapped IsKnown (with_slot a) (keys m)

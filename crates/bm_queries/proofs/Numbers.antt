@@ -68,4 +68,4 @@ pub same_numbers : (xs ys zs : List ℕ) → Distinct xs → ((x : ℕ) → IsMe
 same_numbers xs ys zs once only all moved sorted rise =
     let P : ℕ → Type 0 = λ x. has zs x ≡ true in
     sorted_alike by_number (λ (n : ℕ). n) P (λ _ _ _ _ same. same) xs ys zs (numbers_apart xs once) (each_of_them P xs only) (λ x is. any_same x xs ∙ among_has xs x (all x is)) moved sorted
-    (record { rises = rise; only = all_each P zs (each_has P zs (λ x t. t)); all = λ x is. any_same x zs ∙ is })
+    (record { ascends = rise; only = all_each P zs (each_has P zs (λ x t. t)); all = λ x is. any_same x zs ∙ is })

@@ -23,9 +23,9 @@ use Rattle.bm_arena.specs.Contents.{block_at, slot_of, marks_at, list_of, IsLawf
 use Rattle.bm_arena.specs.HeldMaps.{replicas_of, id_at}
 use Rattle.bm_arena.proofs.HeldReplicas.{get-replicas_of}
 use Rattle.bm_levels.specs.Status.{level_in}
-use Rattle.bm_levels.specs.Held.{holdings_with}
+use Rattle.bm_levels.specs.SlotHoldings.{holdings_with}
 use Rattle.bm_levels.specs.IndexedLevels.{level_of_slot}
-use Rattle.bm_levels.specs.Leveled.{Leveled, IsLeveled, AreLevels}
+use Rattle.bm_levels.specs.LeveledBlocks.{Leveled, IsLeveled, AreLevels}
 use Rattle.bm_levels.proofs.Levels.{level_is_at_slot}
 use Rattle.bm_queries.proofs.Numbers.{Rise, numbers_ascend, same_numbers}
 use Rattle.bm_queries.proofs.OwnBlocks.{among_map, among_from_map, id_found, led_to, ids_distinct, own_listed, own_leveled}

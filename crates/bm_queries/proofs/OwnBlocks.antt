@@ -10,7 +10,7 @@ use Rattle.bm_arena.specs.Triplets.{Block}
 use Rattle.bm_arena.specs.Contents.{Contents, block_at, slot_of, marks_at, list_of, IsLawful}
 use Rattle.bm_arena.specs.HeldMaps.{info_at, id_at}
 use Rattle.bm_levels.specs.IndexedLevels.{level_of_slot}
-use Rattle.bm_levels.specs.Leveled.{Leveled, IsLeveled}
+use Rattle.bm_levels.specs.LeveledBlocks.{Leveled, IsLeveled}
 use Rattle.bm_base.specs.declared.level.Level.{Level}
 use Rattle.bm_queries.proofs.IndexedSlots.{IsOwn}
 

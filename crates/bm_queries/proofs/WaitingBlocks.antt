@@ -20,11 +20,11 @@ use Rattle.bm_arena.specs.Contents.{block_at, slot_of, marks_at, find_marks, lis
 use Rattle.bm_arena.specs.HeldMaps.{info_at}
 use Rattle.bm_arena.proofs.HeldReplicas.{get-blocks_of}
 use Rattle.bm_levels.specs.Status.{storages_at}
-use Rattle.bm_levels.specs.Held.{holdings_with}
-use Rattle.bm_levels.specs.Leveled.{Leveled, IsLeveled}
+use Rattle.bm_levels.specs.SlotHoldings.{holdings_with}
+use Rattle.bm_levels.specs.LeveledBlocks.{Leveled, IsLeveled}
 use Rattle.bm_levels.proofs.EqualLists.{has_among}
 use Rattle.bm_levels.proofs.Levels.{found_marks, found_info, as_many}
-use Rattle.bm_queries.specs.Listed.{lacks_live, holds_back_at, holds_back_on, holds_back_node}
+use Rattle.bm_queries.specs.ListedElements.{lacks_live, holds_back_at, holds_back_on, holds_back_node}
 use Rattle.bm_queries.proofs.OwnBlocks.{own_listed}
 
 passes_some : {X : Type 0} (p : X → Bool) (o : Option X) → option_map_or p o false ≡ true → (x : X) × (o ≡ Some x) × (p x ≡ true)

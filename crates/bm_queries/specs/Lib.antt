@@ -1,2 +1,2 @@
 -- Definitions of the contracts of queries: the elements listed at slots, and their ascending lists.
-pub mod Listed
+pub mod ListedElements

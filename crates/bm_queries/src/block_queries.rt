@@ -7,7 +7,7 @@ ghost use Rattle.bm_base.specs.Machine.Queries as queries;
 ghost use Rattle.bm_base.specs.Machine.Refusals as refusals;
 ghost use Rattle.bm_base.specs.Machine.Replicas as replicas;
 ghost use Rattle.bm_arena.specs.HeldMaps.{replicas_at};
-ghost use Rattle.bm_levels.specs.Held.{holdings_with};
+ghost use Rattle.bm_levels.specs.SlotHoldings.{holdings_with};
 ghost use Rattle.bm_levels.specs.Status.{storages_at};
 
 use bm_arena::{Arena, Slot};

@@ -4,8 +4,8 @@ ghost use Rattle.std.specs.List.{list_any};
 ghost use Rattle.bm_base.specs.Words.{Map, by_replica};
 ghost use Rattle.bm_arena.specs.Contents.{block_at};
 ghost use Rattle.bm_parts.specs.QueryLaws.{holds_back};
-ghost use Rattle.bm_levels.specs.Held.{holdings_with};
-ghost use Rattle.bm_queries.specs.Listed.{lacks_live, holds_back_at, holds_back_on, holds_back_node};
+ghost use Rattle.bm_levels.specs.SlotHoldings.{holdings_with};
+ghost use Rattle.bm_queries.specs.ListedElements.{lacks_live, holds_back_at, holds_back_on, holds_back_node};
 
 use bm_arena::{Arena, Slot};
 use bm_base::{NodeId, StorageId};

@@ -4,8 +4,8 @@ ghost use Rattle.bm_base.specs.declared.refusal.Refusal.TheVariants.{Memory};
 ghost use Rattle.bm_base.specs.Words.{Map, by_replica};
 ghost use Rattle.bm_arena.specs.Contents.{block_at};
 ghost use Rattle.bm_parts.specs.QueryLaws.{replica_key};
-ghost use Rattle.bm_levels.specs.Held.{holdings_with};
-ghost use Rattle.bm_queries.specs.Listed.{wants, listed_at, replicas_passing};
+ghost use Rattle.bm_levels.specs.SlotHoldings.{holdings_with};
+ghost use Rattle.bm_queries.specs.ListedElements.{wants, listed_at, replicas_passing};
 
 use bm_arena::{Arena, Slot};
 use bm_base::{Marks, Refusal, Replica, ReplicaId};
@@ -81,7 +81,7 @@ pub fn replica_keys(alloc: Global, replicas: &[Replica]) -> Result<Vec<ReplicaId
 }
 
 /// The replicas of the given kind, by block and storage. May answer `Memory`.
-#[tactic(auto, unfolding(bm_levels::specs::Held::holdings_with))]
+#[tactic(auto, unfolding(bm_levels::specs::SlotHoldings::holdings_with))]
 pub fn list_replicas(
     alloc: Global,
     blocks: &LeveledBlocks,

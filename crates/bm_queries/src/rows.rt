@@ -9,8 +9,8 @@ ghost use Rattle.bm_base.specs.Promises.Versions as versions;
 ghost use Rattle.bm_arena.specs.Contents.{block_at, slot_of};
 ghost use Rattle.bm_arena.specs.HeldMaps.{blocks_of};
 ghost use Rattle.bm_levels.specs.IndexedLevels.{indexed_slots};
-ghost use Rattle.bm_levels.specs.Held.{holdings_with};
-ghost use Rattle.bm_queries.specs.Listed.{known_on, with_slot, HasItsSlot};
+ghost use Rattle.bm_levels.specs.SlotHoldings.{holdings_with};
+ghost use Rattle.bm_queries.specs.ListedElements.{known_on, with_slot, HasItsSlot};
 
 use crate::block_queries::push_places;
 use bm_arena::{Arena, Slot};
@@ -59,7 +59,7 @@ fn known_blocks(alloc: Global, arena: &Arena) -> Result<Vec<(BlockId, Slot)>, Re
     Ok(known)
 }
 
-/// The first of a block's places. `storages` is a scratch buffer.
+/// The first `MAX_PLACES` of a block's places. `storages` is a scratch buffer.
 fn first_places(
     arena: &Arena,
     id: BlockId,
@@ -79,8 +79,8 @@ fn first_places(
     Ok(Places::first_of(storages.as_slice()))
 }
 
-/// For each known block, ascending, the first of its places. Each row is made once, in its place.
-/// May answer `Memory`.
+/// For each known block, ascending, the first `MAX_PLACES` of its places. The blocks are sorted
+/// before the rows are made, so no row moves. May answer `Memory`.
 pub fn table_rows(
     alloc: Global,
     blocks: &LeveledBlocks,

@@ -41,5 +41,5 @@ pub record IsLawful (v : Levels) : Type 0 where
   pub exact : (l : Level) (slot : ℕ) → IsMember slot (slots_of v l) ↔ (level_at v slot ≡ Some l)
   -- they are below the capacity
   pub below : (l : Level) (slot : ℕ) → IsMember slot (slots_of v l) → slot < length v.levels
-  -- links can name all slots below the capacity
+  -- 32 bits can name all slots below the capacity
   pub small : length v.levels + 1 ≤ end_of_links

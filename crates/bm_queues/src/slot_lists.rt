@@ -3,7 +3,7 @@ ghost use Rattle.std.specs.Prelude.{◌≡◌, ◌<◌, ◌≤◌, ℕ, ◌∷�
 ghost use Rattle.bm_maps.specs.SlotLinks.{end_of_links};
 ghost use Rattle.bm_maps.specs.SlotLists.{IsMember, without, first_of, slot_after};
 ghost use Rattle.bm_queues.specs.Links.{back_set};
-ghost use Rattle.bm_queues.specs.Linked.{capacity_of, list_of, AreLinked};
+ghost use Rattle.bm_queues.specs.LinkedLists.{capacity_of, list_of, AreLinked};
 
 use crate::walk::Walk;
 use bm_maps::{END_OF_LINKS, NO_LINK, SlotLink};

@@ -18,7 +18,7 @@ use Rattle.bm_report.specs.declared.types.ReportedSlot.{ReportedSlot}
 use Rattle.bm_report.specs.declared.report_counts.ReportCounts.{ReportCounts}
 use Rattle.bm_report.specs.DuringReport.{AreAtSlots, HaveCapacity, IsEntered, IsCounted, FitsCounters, DropsInvalidExcess, reported_of, slot_in}
 use Rattle.bm_report.specs.Ready.{named_in, named_of, HasSlotFor, CanBeAdded}
-use Rattle.bm_report.specs.Expanded.{reported_to_part}
+use Rattle.bm_report.specs.ReportedBlocks.{reported_to_part}
 use Rattle.bm_report.proofs.PartialReport.{IsUnderway, underway-first, underway-next, underway-last, here-part, here-rest, capacity-part}
 use Rattle.bm_report.proofs.InvalidExcess.{drops-join, drops-same, here-ids}
 

@@ -73,7 +73,7 @@ module _ (C : Cluster) (a c : Contents) (s : ℕ) (n : ReportedSlot) (here : slo
         let P : ReportCounts → Type 0 = λ x. IsCounted C s (n ∷ []) a c t x in
         subst P (sym u_is)
         (record {
-          rises = λ k start. steps ∙ ap (saturating_sum (cond left_sibling 2 1)) start ∙ more left_sibling t.steps k;
+          adds_steps = λ k start. steps ∙ ap (saturating_sum (cond left_sibling 2 1)) start ∙ more left_sibling t.steps k;
           steps = sums left_sibling;
           added = ap (λ x. t.added + x) (sym (fresh_new (contains_key (replicas_of a) (replica_at n.id s)) absent));
           removed = omega (arith, lengths);
@@ -116,7 +116,7 @@ module _ (C : Cluster) (a c : Contents) (s : ℕ) (n : ReportedSlot) (here : slo
         let lengths : len (replicas_of c) ≡ len (replicas_of a) = ap len replicas ∙ len-put_known (replicas_of a) (replica_at n.id s) marks there in
         subst P (sym u_is)
         (record {
-          rises = λ k start. steps ∙ ap saturating_next start ∙ ap (λ y. saturating_sum y k) (sym (add-one t.steps));
+          adds_steps = λ k start. steps ∙ ap saturating_next start ∙ ap (λ y. saturating_sum y k) (sym (add-one t.steps));
           steps = omega arith;
           added = omega (arith, fresh_known (contains_key (replicas_of a) (replica_at n.id s)) there);
           removed = omega (arith, lengths);
@@ -131,7 +131,7 @@ entered-none C s a = record { replicas = refl; behind = refl; frame = framed-non
 
 pub counted-none : (C : Cluster) (s : ℕ) (a : Contents) (t : ReportCounts) → IsCounted C s [] a a t t
 counted-none C s a t = record {
-  rises = λ k start. start;
+  adds_steps = λ k start. start;
   steps = omega arith;
   added = omega arith;
   removed = refl;
@@ -176,7 +176,7 @@ module _ (C : Cluster) (s : ℕ) (xs ys : List ReportedSlot) (a b c : Contents) 
       let all = length-append xs ys in
       let both : fresh C (blocks_of b) s ys (replicas_of b) ≡ fresh C (blocks_of a) s ys (entered_all C (blocks_of a) s xs (replicas_of a)) = λ i. fresh C (f.frame.blocks i) s ys (f.replicas i) in
       record {
-        rises = λ k start. q.rises k (p.rises k start);
+        adds_steps = λ k start. q.adds_steps k (p.adds_steps k start);
         steps = omega (arith, p.steps, q.steps, all);
         added = omega (arith, p.added, q.added, both, fresh-append C (blocks_of a) s xs ys (replicas_of a));
         removed = omega (arith, p.removed, q.removed);

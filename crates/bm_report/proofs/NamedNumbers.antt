@@ -8,7 +8,7 @@ use Rattle.bm_base.specs.declared.event.Entry.{Entry}
 use Rattle.bm_base.specs.declared.ids.Part.{Part}
 use Rattle.bm_base.specs.Words.{ReportedBlock, blocks_of_entry, expanded, is_named}
 use Rattle.bm_base.specs.Shards.{shard_of}
-use Rattle.bm_report.specs.Expanded.{of_part, reported_to_part}
+use Rattle.bm_report.specs.ReportedBlocks.{of_part, reported_to_part}
 use Rattle.bm_report.proofs.NumberRuns.{reported_from, reported_next, reported_rest, reported_both}
 
 pub named_apart : (ts : List ReportedBlock) (b : ℕ) → is_named ts b ≡ false → is_named ts b ≡ true → ⊥

@@ -14,7 +14,7 @@ use Rattle.bm_base.specs.declared.replica.Stamp.{Stamp}
 use Rattle.bm_base.specs.Machine.Entries.{ReportedBlock, range_from, blocks_of_entry, expanded, run_length}
 use Rattle.bm_base.specs.Shards.{shard_of}
 use Rattle.bm_report.proofs.PartialReport.{drop_next, drop_all}
-use Rattle.bm_report.specs.Expanded.{of_part, reported_to_part}
+use Rattle.bm_report.specs.ReportedBlocks.{of_part, reported_to_part}
 
 -- the numbers of an entry from b on, with its stamp
 abbrev pub reported_from : Entry → ℕ → List ReportedBlock

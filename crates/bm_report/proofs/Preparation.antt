@@ -11,7 +11,7 @@ use Rattle.bm_arena.proofs.MoreCapacity.{capacity-here, capacity-elsewhere, capa
 use Rattle.bm_report.specs.declared.types.ReportedSlot.{ReportedSlot}
 use Rattle.bm_arena.specs.HeldMaps.{info_at}
 use Rattle.bm_report.specs.DuringReport.{AreAtSlots, HaveCapacity}
-use Rattle.bm_report.specs.Expanded.{IsPrepared}
+use Rattle.bm_report.specs.ReportedBlocks.{IsPrepared}
 use Rattle.bm_arena.proofs.HeldReplicas.{same_replicas, same_blocks, under}
 use Rattle.bm_arena.proofs.SetInfo.{added-held, added-same, added-replicas, added-blocks}
 

@@ -13,7 +13,7 @@ use Rattle.bm_report.specs.declared.types.ReportedSlot.{ReportedSlot}
 use Rattle.bm_report.specs.declared.types.Applied.{Applied}
 use Rattle.bm_arena.specs.HeldMaps.{replicas_of, blocks_of, holdings_of, info_at}
 use Rattle.bm_report.specs.DuringReport.{entered_at, marks_during_report, without_invalid_excess, saturating_sum, KeepsRest, IsOncePerNode}
-use Rattle.bm_report.specs.Received.{HasReceived}
+use Rattle.bm_report.specs.ReceivedReplica.{HasReceived}
 use Rattle.bm_arena.proofs.HeldReplicas.{get-blocks_of, replicas-put, replicas-out, blocks-kept}
 use Rattle.bm_arena.proofs.SetMarks.{set_at, set-elsewhere, set-known, set-marks, set-others}
 use Rattle.bm_arena.proofs.StableEntries.{set-entries}
@@ -90,7 +90,7 @@ pub received-new : (C : Cluster) (a c : Contents) (s : ℕ) (n : ReportedSlot) (
     → replicas_of c ≡ entered_at C (replicas_of a) (replica_at n.id s) m → KeepsRest s a c → ((slot : ℕ) → slot ≢ n.slot → block_at c slot ≡ block_at a slot)
     → (left_sibling : Bool) → cond left_sibling 1 0 + len (replicas_of c) ≡ len (replicas_of a) + 1 → c.steps ≡ saturating_sum (cond left_sibling 2 1) a.steps
     → (r : Applied) → r.added ≡ 1 → r.removed ≡ cond left_sibling 1 0 → r.steps ≡ cond left_sibling 2 1 → HasReceived C s n.id n.stamp a c r
-received-new C a c s n here absent m m_is replicas frame others left_sibling lengths rises r one left steps = record {
+received-new C a c s n here absent m m_is replicas frame others left_sibling lengths adds_steps r one left steps = record {
   replicas = replicas ∙ entering_is C a s n here m m_is;
   blocks = frame.blocks;
   others = λ x other. others x (λ e. other (here ∙ ap (λ k. Some k) (sym e)));
@@ -98,7 +98,7 @@ received-new C a c s n here absent m m_is replicas frame others left_sibling len
   added = one ∙ sym came_one;
   removed = let both = came_and_went (replicas_of a) (replicas_of c) in let e = came_one in omega (arith, both, e, lengths, left);
   steps = sums left_sibling steps left;
-  counted = rises ∙ sym (ap (λ k. saturating_sum k a.steps) steps);
+  counted = adds_steps ∙ sym (ap (λ k. saturating_sum k a.steps) steps);
   entries = frame.entries;
 }
   where

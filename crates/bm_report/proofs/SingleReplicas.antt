@@ -18,7 +18,7 @@ use Rattle.bm_arena.specs.Contents.{Contents, block_at, slot_of, marks_at, find_
 use Rattle.bm_arena.specs.HeldMaps.{replicas_of}
 use Rattle.bm_report.specs.DuringReport.{IsOncePerNode, IsExcessGood, is_excess_good}
 use Rattle.bm_report.specs.Ready.{HasGoodExcess}
-use Rattle.bm_report.specs.Tested.{IsSingle}
+use Rattle.bm_report.specs.TestedArenas.{IsSingle}
 use Rattle.bm_arena.proofs.HeldReplicas.{get-replicas_of}
 use Rattle.bm_base.proofs.Clusters.{no_sibling_itself}
 

@@ -92,7 +92,7 @@ invalid_excess_out_all s (n ∷ ns) K = invalid_excess_out_all s ns (invalid_exc
 abbrev pub reported_of : ReportedSlot → ReportedBlock
 reported_of n = record { id = n.id; stamp = n.stamp }
 
--- n more steps
+-- the count of steps n after k more; it stays at its greatest value
 abbrev pub saturating_sum : ℕ → ℕ → ℕ
 saturating_sum zero n = n
 saturating_sum (suc k) n = saturating_next (saturating_sum k n)
@@ -140,7 +140,7 @@ pub record IsEntered (C : Cluster) (s : ℕ) (ns : List ReportedSlot) (old new :
 
 -- what entering named blocks on s changes in the counts
 pub record IsCounted (C : Cluster) (s : ℕ) (ns : List ReportedSlot) (old new : Contents) (before after : ReportCounts) : Type 0 where
-  pub rises : (n : ℕ) → old.steps ≡ saturating_sum before.steps n → new.steps ≡ saturating_sum after.steps n
+  pub adds_steps : (n : ℕ) → old.steps ≡ saturating_sum before.steps n → new.steps ≡ saturating_sum after.steps n
   pub steps : after.steps + before.removed ≡ before.steps + after.removed + length ns
   pub added : after.added ≡ before.added + fresh C (blocks_of old) s ns (replicas_of old)
   pub removed : after.removed + before.added + len (replicas_of new) ≡ before.removed + after.added + len (replicas_of old)
@@ -185,7 +185,7 @@ pub record IsSwept (s : ℕ) (xs : List ℕ) (old new : Contents) (t u : ReportC
   pub blocks : blocks_of new ≡ blocks_of old
   pub known : (slot : ℕ) → known_of (block_at new slot) ≡ known_of (block_at old slot)
   pub heads : (t : ℕ) → HasHead old t → HasHead new t
-  pub rises : (n : ℕ) → old.steps ≡ saturating_sum t.steps n → new.steps ≡ saturating_sum u.steps n
+  pub adds_steps : (n : ℕ) → old.steps ≡ saturating_sum t.steps n → new.steps ≡ saturating_sum u.steps n
   pub added : u.added ≡ t.added
   pub has_invalid_excess : u.has_invalid_excess ≡ t.has_invalid_excess
   pub removed : u.removed ≡ t.removed + length xs

@@ -2,7 +2,7 @@
 ghost use Rattle.std.specs.Prelude.{◌≡◌, ℕ, if◌then◌else◌, Some, None, ◌∷◌, []};
 ghost use Rattle.bm_arena.specs.Contents.{block_at, slot_of};
 ghost use Rattle.bm_arena.specs.HeldMaps.{replicas_of, blocks_of};
-ghost use Rattle.bm_report.specs.Aborted.{IsAborted, IsDropped, is_at, is_unused_number};
+ghost use Rattle.bm_report.specs.AbortedReport.{IsAborted, IsDropped, is_at, is_unused_number};
 
 use crate::types::ReportedSlot;
 use bm_arena::{Arena, Slot};

@@ -4,8 +4,8 @@ ghost use Rattle.bm_base.specs.declared.refusal.Refusal.TheVariants.{Memory};
 ghost use Rattle.bm_arena.specs.Contents.{slot_of, HasHead};
 ghost use Rattle.bm_base.specs.Words.{blocks_of_entry, is_named};
 ghost use Rattle.bm_report.specs.DuringReport.{AreAtSlots, HaveCapacity, reported_of};
-ghost use Rattle.bm_report.specs.Aborted.{NamesNew};
-ghost use Rattle.bm_report.specs.Expanded.{IsPrepared, of_part, reported_to_part};
+ghost use Rattle.bm_report.specs.AbortedReport.{NamesNew};
+ghost use Rattle.bm_report.specs.ReportedBlocks.{IsPrepared, of_part, reported_to_part};
 ghost use Rattle.bm_report.specs.Ready.{HasReplica, HaveReplicas};
 
 use crate::first_of_part::first_of_part;
@@ -124,10 +124,10 @@ fn look_up_all(
     Ok(())
 }
 
-/// With a single shard: reads the arena's entries of a chunk's numbers, of a run only the first. It
-/// reserves capacity to name those that are known with the reported stamp. A read is so short that
-/// many cache misses overlap; a look-up is too long for that. With several shards each number would
-/// cost one more division.
+/// Prefetch, with a single shard only: reads the arena's entry of the first number of each run in a
+/// chunk. Reserves capacity in `named` for those numbers that are known with the reported stamp. A
+/// read is so short that many cache misses overlap; a look-up is too long for that. With several
+/// shards each number would cost one more division.
 fn read_ahead(
     arena: &Arena,
     chunk: &[Entry],

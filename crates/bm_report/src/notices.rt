@@ -6,7 +6,7 @@ ghost use Rattle.bm_arena.specs.Contents.{block_at, slot_of, marks_at, HasHead, 
 ghost use Rattle.bm_arena.specs.HeldMaps.{replicas_of, blocks_of};
 ghost use Rattle.bm_report.specs.DuringReport.{saturating_sum, IsOncePerNode};
 ghost use Rattle.bm_report.specs.Ready.{HasSlotFor};
-ghost use Rattle.bm_report.specs.Received.{HasReceived};
+ghost use Rattle.bm_report.specs.ReceivedReplica.{HasReceived};
 
 use crate::reported_block::link_new;
 use crate::reported_marks::{marks_during_report, without_invalid_excess};

@@ -2,7 +2,7 @@
 ghost use Rattle.std.specs.Prelude.{◌≡◌, ℕ, IsSome, IfErr, IsOk, OnOk, None};
 ghost use Rattle.bm_base.specs.declared.refusal.Refusal.TheVariants.{Memory};
 ghost use Rattle.bm_arena.specs.Contents.{block_at, slot_of, marks_at, HasCapacity};
-ghost use Rattle.bm_report.specs.Expanded.{IsPrepared};
+ghost use Rattle.bm_report.specs.ReportedBlocks.{IsPrepared};
 
 use bm_arena::{Arena, Slot};
 use bm_base::{Refusal, StorageId};

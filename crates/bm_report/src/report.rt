@@ -7,9 +7,9 @@ ghost use Rattle.bm_maps.specs.SlotLists.{IsMember};
 ghost use Rattle.bm_arena.specs.Contents.{block_at, slot_of, marks_at, HasHead, IsEntry, KeepsEntries};
 ghost use Rattle.bm_arena.specs.HeldMaps.{replicas_of, blocks_of, holdings_of};
 ghost use Rattle.bm_report.specs.DuringReport.{IsOncePerNode, saturating_sum, slot_in};
-ghost use Rattle.bm_report.specs.Expanded.{IsPrepared, reported_to_part};
-ghost use Rattle.bm_report.specs.Aborted.{is_unused_number};
-ghost use Rattle.bm_report.specs.Received.{HasReceived};
+ghost use Rattle.bm_report.specs.ReportedBlocks.{IsPrepared, reported_to_part};
+ghost use Rattle.bm_report.specs.AbortedReport.{is_unused_number};
+ghost use Rattle.bm_report.specs.ReceivedReplica.{HasReceived};
 ghost use Rattle.bm_report.specs.Ready.{reported_blocks, IsLookedUp, IsReady, IsReportedAt, HasGoodExcess, HasReplica, HaveReplicas, AreAlreadyThere};
 
 use crate::aborted_report::abort_named;
@@ -23,10 +23,11 @@ use bm_topo::Topology;
 use std::alloc::Global;
 use std::marker::Model;
 
-/// What a shard keeps of a report between `ready` and its end. It has the slots of the numbers, so
-/// that a known number is hashed at most twice. It also has a list of the slots that change, with
-/// its capacity. A contract sees both as lists. Only `ready` takes memory; a shard keeps one
-/// `Report` for all its reports, so that its capacity is allocated once.
+/// What a shard keeps of a report or a notice between the look-up and the end. It has the slots of
+/// the numbers, so that a known number is hashed at most twice. It also has a list of the slots
+/// that change, with its capacity. A contract sees both as lists. Only `ready` and `prepare_notice`
+/// take memory; a shard keeps one `Report` for all its reports, so that its capacity is allocated
+/// once.
 #[derive(Drop)]
 pub struct Report {
     named: Vec<ReportedSlot>,
@@ -36,7 +37,7 @@ pub struct Report {
 }
 
 impl Model for Report {
-    ghost use Rattle.bm_report.specs.Aborted.{is_unused_number};
+    ghost use Rattle.bm_report.specs.AbortedReport.{is_unused_number};
     ghost use Rattle.bm_report.specs.Ready.{LookedUpReport};
 
     ghost Value = { LookedUpReport };

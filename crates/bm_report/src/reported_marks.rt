@@ -41,7 +41,7 @@ fn reported_tag(info: Option<BlockInfo>, was_bad: bool, stamp: &Stamp) -> Tag
     }
 }
 
-/// Whether only a good replica has the mark "in excess".
+/// False for the marks of a replica that is in excess although it is not good.
 pub(crate) fn is_excess_good(marks: Marks) -> bool
     ensures { result ≡ during_report.is_excess_good marks }
 {

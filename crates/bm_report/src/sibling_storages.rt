@@ -8,7 +8,7 @@ use bm_arena::{Arena, Slot};
 use bm_base::{NodeId, StorageId};
 use bm_topo::Topology;
 
-/// Whether another storage than this one is of its node.
+/// Whether `other` is another storage of the node that `storage` is on.
 #[inline]
 #[tactic(auto, unfolding(bm_base::specs::Machine::Replicas::are_siblings))]
 fn is_sibling(topology: &Topology, node: NodeId, storage: StorageId, other: StorageId) -> bool

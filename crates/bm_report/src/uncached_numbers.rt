@@ -4,7 +4,7 @@ ghost use Rattle.bm_base.specs.Machine.Entries.{blocks_of_entry};
 ghost use Rattle.bm_arena.specs.Contents.{marks_at};
 ghost use Rattle.bm_arena.specs.HeldMaps.{replicas_of};
 ghost use Rattle.bm_report.specs.DuringReport.{behind, AreAtSlots, IsCounted, IsEntered, IsExcessGood, DropsInvalidExcess, IsSwept};
-ghost use Rattle.bm_report.specs.Expanded.{of_part, reported_to_part};
+ghost use Rattle.bm_report.specs.ReportedBlocks.{of_part, reported_to_part};
 ghost use Rattle.bm_report.specs.Ready.{named_of, CanBeAdded};
 
 use crate::first_of_part::first_of_part;

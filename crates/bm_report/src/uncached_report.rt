@@ -8,7 +8,7 @@ ghost use Rattle.bm_base.specs.Machine.Calls as calls;
 ghost use Rattle.bm_arena.specs.Contents.{block_at, slot_of, marks_at, KeepsEntries};
 ghost use Rattle.bm_arena.specs.HeldMaps.{replicas_of, blocks_of, holdings_of};
 ghost use Rattle.bm_report.specs.DuringReport.{IsOncePerNode, saturating_sum};
-ghost use Rattle.bm_report.specs.Expanded.{IsPrepared, reported_to_part};
+ghost use Rattle.bm_report.specs.ReportedBlocks.{IsPrepared, reported_to_part};
 ghost use Rattle.bm_report.specs.Ready.{HasSlotsFor, HasGoodExcess};
 
 use crate::look_up::look_up;

@@ -8,7 +8,7 @@ use Rattle.bm_base.specs.declared.commands.Delete.{Delete}
 use Rattle.bm_base.specs.declared.commands.NodeCommands.{NodeCommands}
 use Rattle.bm_base.specs.Words.{keys, RoundLimits, Cluster, has_storage, node_commands}
 use Rattle.bm_base.specs.Choices.{first_of_each_node}
-use Rattle.bm_round.specs.Commanded.{first_commands, first_by_node}
+use Rattle.bm_round.specs.RoundCommands.{first_commands, first_by_node}
 use Rattle.bm_round.proofs.AddedCommands.{other_delete, own_delete}
 
 pub firsts_are : (limits : RoundLimits) (C : Cluster) (ds : List Delete) → flat_map (λ (k : NodeCommands). k.deletes) (first_by_node limits.invalidate C ds) ≡ first_of_each_node limits C ds

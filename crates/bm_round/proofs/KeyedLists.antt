@@ -11,7 +11,7 @@ use Rattle.bm_base.specs.Choices.{merged_wishes, merged_deletes}
 use Rattle.bm_base.proofs.ForEach.{Each, each_then}
 use Rattle.bm_base.proofs.MapEntries.{Holds, holds_insert_all, each_entry}
 use Rattle.bm_base.proofs.MapLaws.{get-empty}
-use Rattle.bm_parts.specs.Merging.{AreSorted}
+use Rattle.bm_parts.specs.SortedLists.{AreSorted}
 use Rattle.bm_parts.proofs.SortedLists.{sorted_is_ordered}
 use Rattle.bm_round.specs.KeyedParts.{keyed_wish, keyed_wishes, keyed_deletes}
 

@@ -148,17 +148,17 @@ module _ {K X Y : Type 0} (o : Order K) (f : X → Y) (key : Y → K) where
     unfolding ordered_by
     last_of_each xs ys stable sorted =
         let once : List X = dedup E ys in
-        let rises : T (is_sorted o.cmp (keyed once)) = ascend once (IsStrictlySortedBy-dedup (on_total key_of o.total) same ys sorted) in
+        let ascends : T (is_sorted o.cmp (keyed once)) = ascend once (IsStrictlySortedBy-dedup (on_total key_of o.total) same ys sorted) in
         let all : Map o Y = insert_all (empty {X = Y} {o = o}) (keyed xs) in
         let one : Map o Y = of_sorted (keyed once) in
         let alike : one ≡ all = same_map one all (λ q.
-        get-of_sorted o (keyed once) q rises
+        get-of_sorted o (keyed once) q ascends
         ∙ found_once q ys
         ∙ found_still (reverse xs) ys stable q (found q ys) (found q (reverse xs)) refl refl
         ∙ sym (or_none (found q (reverse xs)))
         ∙ ap (option_or (found q (reverse xs))) (sym (get-empty {X = Y} o q))
         ∙ sym (get-insert_all (empty {X = Y} {o = o}) xs q)) in
         sym (values_are once)
-        ∙ ap (map (λ (e : K × Y). e.1)) (sym (entries-of_sorted o (keyed once) rises))
+        ∙ ap (map (λ (e : K × Y). e.1)) (sym (entries-of_sorted o (keyed once) ascends))
         ∙ ap (λ (m : Map o Y). map (λ (e : K × Y). e.1) (entries m)) alike
         ∙ ap (λ es. map (λ (e : K × Y). e.1) (entries (insert_all (empty {X = Y} {o = o}) es))) (sym (keyed_values xs))

@@ -8,4 +8,4 @@ pub mod Bounds
 pub mod WishedCopies
 pub mod NodeCommands
 pub mod EmptyChoice
-pub mod First
+pub mod FirstWishes

@@ -5,10 +5,10 @@ ghost use Rattle.bm_base.specs.declared.refusal.Refusal.TheVariants.{Memory};
 ghost use Rattle.bm_base.specs.Words.{limits_of, has_repeats, len};
 ghost use Rattle.bm_base.specs.Choices as choices;
 ghost use Rattle.bm_base.specs.declared.round.RoundPart.{RoundPart};
-ghost use Rattle.bm_parts.specs.Before.{part_before};
-ghost use Rattle.bm_parts.specs.Merging.{AreSorted};
+ghost use Rattle.bm_parts.specs.BoundedWishes.{part_before};
+ghost use Rattle.bm_parts.specs.SortedLists.{AreSorted};
 ghost use Rattle.bm_round.specs.Copies.{IsCopyOf};
-ghost use Rattle.bm_round.specs.Commanded.{IsChosenOf, HasFewDeletes, first_by_node, deletes_of_all};
+ghost use Rattle.bm_round.specs.RoundCommands.{IsChosenOf, HasFewDeletes, first_by_node, deletes_of_all};
 ghost use Rattle.bm_round.specs.KeyedParts as merging;
 
 use crate::chosen_so_far::is_full_count;
@@ -157,7 +157,7 @@ fn first_by_node(
     Ok(nodes)
 }
 
-/// The deletes of each.
+/// The deletes of all nodes, one node after another.
 fn all_deletes(alloc: Global, groups: &[NodeCommands]) -> Result<Vec<Delete>, AllocError>
     ensures { IfOk result (λ v. v.items ≡ deletes_of_all groups.now) }
 {

@@ -4,7 +4,7 @@ ghost use Rattle.bm_base.specs.declared.refusal.Refusal.TheVariants.{Memory};
 ghost use Rattle.bm_base.specs.Maps.Map as map;
 ghost use Rattle.bm_base.specs.Machine.State.{Cluster};
 ghost use Rattle.bm_base.specs.Choices as choices;
-ghost use Rattle.bm_place.specs.Found.{IsCountable, HasFreeBytesFor};
+ghost use Rattle.bm_place.specs.ChoiceResults.{IsCountable, HasFreeBytesFor};
 ghost use Rattle.bm_round.specs.TransferCounts.{IsCounted};
 
 use bm_base::{Config, Refusal, StorageId, Transfer, Wish};
@@ -12,18 +12,18 @@ use bm_place::{Scheduled, Streams};
 use bm_topo::Topology;
 use std::alloc::Global;
 
-/// The transfers chosen so far, with what they count to.
+/// The transfers chosen so far, and the streams and bytes that they add up to.
 #[derive(Drop)]
 pub(crate) struct ChosenSoFar<'a> {
     pub transfers: Vec<Transfer>,
     pub streams: Streams<'a>,
     pub scheduled: Scheduled<'a>,
-    /// For the current wish: the storages that may be the source, and those that hold a live
-    /// replica of the block or will. Also those on whose nodes no copy may be put. The three lists
-    /// are cleared and filled again for each wish, so they allocate only where one grows past its
-    /// capacity.
+    /// For the current wish: the storages that may be the source. This list and the next two are
+    /// filled again for each wish, so they allocate only if one grows past its capacity.
     pub sources: Vec<StorageId>,
+    /// The storages that hold a live replica of the wish's block, or will hold one.
     pub held: Vec<StorageId>,
+    /// The storages on whose nodes no copy of the block may be put.
     pub excluded: Vec<StorageId>,
 }
 
@@ -62,14 +62,11 @@ impl<'a> ChosenSoFar<'a> {
         ensures scheduled { self.new.scheduled ≡ self.old.scheduled }
         ensures refused { IfErr result (λ e. e ≡ Memory) }
     {
-        self.sources.clear();
-        self.sources.extend_from_slice(wish.live.as_slice())?;
-        self.sources.extend_from_slice(wish.drained.as_slice())?;
-        Ok(())
+        let live = wish.live.as_slice();
+        refill(&mut self.sources, live, wish.drained.as_slice())
     }
 
-    /// Goes on with a wish, for whose block nothing has been chosen yet: the storages that hold a
-    /// live replica, and those on whose nodes no copy may be put.
+    /// Fills `held` and `excluded` for a wish whose block has no chosen transfer yet.
     pub fn begin_targets(&mut self, wish: &Wish) -> Result<(), Refusal>
         ensures held { OnOk result (self.new.held.items ≡ wish.now.live ++ wish.now.pending) }
         ensures excluded { OnOk result (self.new.excluded.items ≡ wish.now.pairs ++ wish.now.pending) }
@@ -79,13 +76,9 @@ impl<'a> ChosenSoFar<'a> {
         ensures scheduled { self.new.scheduled ≡ self.old.scheduled }
         ensures refused { IfErr result (λ e. e ≡ Memory) }
     {
-        self.held.clear();
-        self.held.extend_from_slice(wish.live.as_slice())?;
-        self.held.extend_from_slice(wish.pending.as_slice())?;
-        self.excluded.clear();
-        self.excluded.extend_from_slice(wish.pairs.as_slice())?;
-        self.excluded.extend_from_slice(wish.pending.as_slice())?;
-        Ok(())
+        let pending = wish.pending.as_slice();
+        refill(&mut self.held, wish.live.as_slice(), pending)?;
+        refill(&mut self.excluded, wish.pairs.as_slice(), pending)
     }
 
     /// Adds a transfer for the current wish. Its node may send one more, and its length fits.
@@ -115,7 +108,22 @@ impl<'a> ChosenSoFar<'a> {
     }
 }
 
-/// Whether a round may have no more transfers than `count`.
+/// Replaces the elements of a list by those of two others. Its capacity stays.
+fn refill(
+    list: &mut Vec<StorageId>,
+    first: &[StorageId],
+    second: &[StorageId],
+) -> Result<(), Refusal>
+    ensures items { OnOk result (list.new.items ≡ first.now ++ second.now) }
+    ensures refused { IfErr result (λ e. e ≡ Memory) }
+{
+    list.clear();
+    list.extend_from_slice(first)?;
+    list.extend_from_slice(second)?;
+    Ok(())
+}
+
+/// Whether a round with `count` transfers is full.
 pub(crate) fn is_full_count(count: usize, config: &Config, topology: &Topology) -> bool
     ensures { result ≡ nat_le (config.now.work * map.len topology.now.cluster.nodes) count }
 {

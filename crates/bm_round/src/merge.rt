@@ -1,5 +1,5 @@
 // The wishes and deletes of all shards' parts, merged in one order: gathered in one vector, and
-// sorted once. The sort keeps each part's run.
+// sorted once. The sort makes use of the order that each part has already.
 ghost use Rattle.std.specs.Prelude.{◌≡◌, ◌++◌, map, IfOk, IfErr, OnOk, T};
 ghost use Rattle.std.specs.List.{flat_map};
 ghost use Rattle.std.specs.FinMap.{is_sorted};
@@ -10,7 +10,7 @@ ghost use Rattle.bm_base.specs.RoundParts as parts;
 ghost use Rattle.bm_round.specs.KeyedParts as merging;
 
 use bm_base::{Delete, Refusal, RoundPart, Wish};
-use bm_parts::merge::Key;
+use bm_parts::sort_key::Key;
 use std::alloc::{AllocError, Global};
 
 /// The wishes of all parts, by level and then by block; of two with one level and block the later
@@ -24,7 +24,7 @@ pub fn merge_wishes<'a>(alloc: Global, parts: &'a [RoundPart]) -> Result<Vec<&'a
     ensures refused { IfErr result (λ e. e ≡ Memory) }
 {
     let mut wishes = gather_wishes(alloc, parts)?;
-    // The later of two with one key comes first, and stays.
+    // Reversed and stably sorted, the last of equal keys comes first, and `dedup` keeps it.
     wishes.reverse();
     wishes.sort_by_key(|wish| wish_key(*wish))?;
     wishes.dedup_by_key(|wish| wish_key(*wish));

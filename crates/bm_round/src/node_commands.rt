@@ -3,7 +3,7 @@ ghost use Rattle.std.specs.Prelude.{◌≡◌, filter, IfOk, IfErr};
 ghost use Rattle.std.specs.List.{All};
 ghost use Rattle.bm_base.specs.declared.refusal.Refusal.TheVariants.{Memory};
 ghost use Rattle.bm_base.specs.Machine.Rounds as rounds;
-ghost use Rattle.bm_round.specs.Commanded as commanded;
+ghost use Rattle.bm_round.specs.RoundCommands as commanded;
 
 use crate::groups::Groups;
 use bm_base::{Chosen, Commands, Delete, Items, NodeCommands, Refusal, Transfer};

@@ -4,8 +4,8 @@ ghost use Rattle.std.specs.Option.{IfSome};
 ghost use Rattle.bm_base.specs.declared.refusal.Refusal.TheVariants.{Memory};
 ghost use Rattle.bm_base.specs.Words.{RoundLimits, limits_of, has_repeats, targets_of};
 ghost use Rattle.bm_base.specs.Choices as choices;
-ghost use Rattle.bm_place.specs.Found.{IsCountable, HasFreeBytesFor};
-ghost use Rattle.bm_round.specs.Commanded.{with_copies};
+ghost use Rattle.bm_place.specs.ChoiceResults.{IsCountable, HasFreeBytesFor};
+ghost use Rattle.bm_round.specs.RoundCommands.{with_copies};
 ghost use Rattle.bm_round.specs.TransferCounts.{IsCounted};
 ghost use Rattle.bm_round.specs.KeyedParts.{referenced_wishes};
 

@@ -11,14 +11,14 @@ module _ (xs : List ℕ) (x at : ℕ) (up : IsNonDecreasing xs) where
   lesser : (at ≡ 0) ⊎ (get_or xs (at - 1) 0 < x) → at ≤ length xs → (k : ℕ) → k < at → get_or xs k 0 < x
   lesser (inl none) within k before = absurd (omega (arith, none, before))
   lesser (inr less) within k before =
-      let rises : get_or xs k 0 ≤ get_or xs (at - 1) 0 = up k (at - 1) 0 (omega (arith, before)) (omega (arith, before, within)) in
-      omega (arith, rises, less)
+      let ascends : get_or xs k 0 ≤ get_or xs (at - 1) 0 = up k (at - 1) 0 (omega (arith, before)) (omega (arith, before, within)) in
+      omega (arith, ascends, less)
 
   greater : (length xs ≤ at) ⊎ (x < get_or xs at 0) → (k : ℕ) → at ≤ k → k < length xs → x < get_or xs k 0
   greater (inl none) k behind within = absurd (omega (arith, none, behind, within))
   greater (inr more) k behind within =
-      let rises : get_or xs at 0 ≤ get_or xs k 0 = up at k 0 behind within in
-      omega (arith, rises, more)
+      let ascends : get_or xs at 0 ≤ get_or xs k 0 = up at k 0 behind within in
+      omega (arith, ascends, more)
 
   pub missing_between : (at ≡ 0) ⊎ (get_or xs (at - 1) 0 < x) → (length xs ≤ at) ⊎ (x < get_or xs at 0) → at ≤ length xs → has xs x ≡ false
   missing_between before behind within =

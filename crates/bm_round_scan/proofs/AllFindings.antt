@@ -24,17 +24,17 @@ use Rattle.bm_arena.specs.Triplets.{Block}
 use Rattle.bm_arena.specs.Contents.{Contents, block_at, slot_of, marks_at, IsLawful}
 use Rattle.bm_arena.specs.HeldMaps.{info_at, replicas_of, id_at}
 use Rattle.bm_arena.proofs.HeldReplicas.{get-replicas_of, get-blocks_of}
-use Rattle.bm_parts.specs.Settled.{IsSettled}
-use Rattle.bm_parts.specs.Before.{is_before, wishes_before, part_before}
-use Rattle.bm_parts.specs.Found.{IsGathered, IsExpired, IsSurplus, IsRequested, IsDeletable}
+use Rattle.bm_parts.specs.SettledBlocks.{IsSettled}
+use Rattle.bm_parts.specs.BoundedWishes.{is_before, wishes_before, part_before}
+use Rattle.bm_parts.specs.Findings.{IsGathered, IsExpired, IsSurplus, IsRequested, IsDeletable}
 use Rattle.bm_parts.proofs.SettledBlocks.{settled_is_left, settled_is_kept}
 use Rattle.bm_parts.proofs.FoundLists.{one_wish, round_part_is_found, found_is_round_part}
 use Rattle.bm_parts.proofs.EqualLists.{gathered_alike}
 use Rattle.bm_pending.specs.PendingMap.{PendingMap, expired_of}
 use Rattle.bm_levels.specs.Status.{is_settled_at, level_in}
-use Rattle.bm_levels.specs.Held.{holdings_with}
+use Rattle.bm_levels.specs.SlotHoldings.{holdings_with}
 use Rattle.bm_levels.specs.IndexedLevels.{level_of_slot}
-use Rattle.bm_levels.specs.Leveled.{Leveled, IsLeveled, AreLevels}
+use Rattle.bm_levels.specs.LeveledBlocks.{Leveled, IsLeveled, AreLevels}
 use Rattle.bm_levels.proofs.Levels.{level_is_at_slot}
 use Rattle.bm_round_scan.specs.declared.scan.Findings.{Findings}
 use Rattle.bm_round_scan.specs.ScannedSlots.{scanned_slots, key_at, keyed_at, has_enough_pending}

@@ -24,7 +24,7 @@ use Rattle.bm_base.proofs.MapEntries.{get_kept, get_keeps, get_revised, each_ent
 use Rattle.bm_base.proofs.Options.{there, is_there, chained}
 use Rattle.bm_base.proofs.SortedParts.{wish_is, wish_block}
 use Rattle.bm_base.proofs.Ties.{replica_tie}
-use Rattle.bm_parts.specs.Found.{IsSurplus, IsRequested, IsDeletable}
+use Rattle.bm_parts.specs.Findings.{IsSurplus, IsRequested, IsDeletable}
 use Rattle.bm_parts.proofs.Filters.{any_shown}
 use Rattle.bm_round_scan.specs.BlockScans.{own_replicas, surplus_of, needs_delete}
 use Rattle.bm_round_scan.specs.Requests.{wish_in}

@@ -7,7 +7,7 @@ use Rattle.std.proofs.lemmas.Bool.{or_left, or_right}
 use Rattle.bm_base.specs.Maps.Map.{Order}
 use Rattle.bm_maps.specs.SlotLists.{IsMember, Distinct}
 use Rattle.bm_base.proofs.ForEach.{Each, each_of, each_then, each_appended, each_flat}
-use Rattle.bm_parts.specs.Found.{IsGathered}
+use Rattle.bm_parts.specs.Findings.{IsGathered}
 use Rattle.bm_round_scan.specs.BlockFindings.{IsInOrder}
 use Rattle.bm_round_scan.proofs.SortedElements.{tie, gathered_sorted}
 

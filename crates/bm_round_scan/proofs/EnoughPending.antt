@@ -14,12 +14,12 @@ use Rattle.bm_arena.specs.Triplets.{Block}
 use Rattle.bm_arena.specs.Contents.{Contents, slot_of, IsLawful}
 use Rattle.bm_arena.specs.HeldMaps.{id_at, info_at, replicas_at}
 use Rattle.bm_arena.proofs.HeldReplicas.{get-blocks_of}
-use Rattle.bm_parts.specs.Settled.{IsSettled}
+use Rattle.bm_parts.specs.SettledBlocks.{IsSettled}
 use Rattle.bm_parts.proofs.SettledBlocks.{settled_is_left}
 use Rattle.bm_pending.specs.PendingMap.{PendingMap}
 use Rattle.bm_pending.specs.RemainingTargets.{remaining_targets}
 use Rattle.bm_levels.specs.Status.{storages_at}
-use Rattle.bm_levels.specs.Held.{holdings_with}
+use Rattle.bm_levels.specs.SlotHoldings.{holdings_with}
 use Rattle.bm_levels.proofs.Levels.{as_many}
 use Rattle.bm_round_scan.specs.ScannedSlots.{has_enough_pending}
 

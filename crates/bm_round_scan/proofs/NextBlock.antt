@@ -10,9 +10,9 @@ use Rattle.bm_base.specs.declared.replica.ReplicaId.{ReplicaId}
 use Rattle.bm_base.specs.declared.round.Wish.{Wish}
 use Rattle.bm_base.specs.Words.{get, Cluster, Holdings, is_live_on, is_drained_on, live, drained, storages_where, has_enough_live, without_expired, without_unordered_excess, with_surplus_marked, pending_targets}
 use Rattle.bm_base.specs.RoundParts.{holdings_at_choice}
-use Rattle.bm_parts.specs.Before.{wishes_before}
+use Rattle.bm_parts.specs.BoundedWishes.{wishes_before}
 use Rattle.bm_arena.specs.Contents.{Contents}
-use Rattle.bm_levels.specs.Held.{holdings_with}
+use Rattle.bm_levels.specs.SlotHoldings.{holdings_with}
 use Rattle.bm_levels.specs.Status.{storages_at}
 use Rattle.bm_pending.specs.PendingMap.{PendingMap}
 use Rattle.bm_pending.specs.RemainingTargets.{remaining_targets}

@@ -32,7 +32,7 @@ use Rattle.bm_arena.specs.Triplets.{Block}
 use Rattle.bm_arena.specs.Contents.{Contents, block_at, slot_of, find_marks, IsLawful}
 use Rattle.bm_arena.specs.HeldMaps.{replicas_at}
 use Rattle.bm_levels.specs.Status.{storages_at}
-use Rattle.bm_levels.specs.Held.{holdings_with}
+use Rattle.bm_levels.specs.SlotHoldings.{holdings_with}
 use Rattle.bm_levels.proofs.EqualLists.{has_among, passing_listed, passing_found}
 use Rattle.bm_levels.proofs.Levels.{found_marks, found_info}
 use Rattle.bm_round_scan.specs.declared.block_scan.BlockScan.{BlockScan}

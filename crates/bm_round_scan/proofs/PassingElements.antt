@@ -5,8 +5,8 @@ use Rattle.std.proofs.Common.{cond, refl, sym, ap, ◌∙◌, true≢false}
 use Rattle.bm_base.specs.Maps.Map.{Order}
 use Rattle.bm_base.proofs.MapEntries.{same_key}
 use Rattle.bm_base.proofs.ForEach.{each_all, each_both, each_filtered, each_passing}
-use Rattle.bm_parts.specs.Found.{IsGathered}
-use Rattle.bm_parts.proofs.Before.{ascends_still}
+use Rattle.bm_parts.specs.Findings.{IsGathered}
+use Rattle.bm_parts.proofs.WishesBefore.{ascends_still}
 use Rattle.bm_parts.proofs.Filters.{all_each}
 use Rattle.bm_round_scan.proofs.CollectedFindings.{IsListed}
 use Rattle.bm_round_scan.proofs.SortedElements.{tie}
@@ -63,7 +63,7 @@ module _ {K X : Type 0} (o : Order K) (key : X → K) (q : K → Bool) where
   -- the passing elements of the gathered list
   pub passing_gathered : (P : X → Type 0) (xs : List X) → IsGathered o key P xs → IsGathered o key (Passing P) (filter passes xs)
   passing_gathered P xs is = record {
-    rises = ascends_still o key q xs is.rises;
+    ascends = ascends_still o key q xs is.ascends;
     only = all_each (Passing P) (filter passes xs) (each_both P (λ x. q (key x) ≡ true) (filter passes xs) (each_filtered P passes xs (each_all P xs is.only)) (each_passing passes xs));
     all = λ x p. still_there x xs p.1 (is.all x p.0);
   }

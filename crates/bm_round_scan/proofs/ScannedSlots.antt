@@ -16,11 +16,11 @@ use Rattle.bm_arena.specs.HeldMaps.{info_at, id_at}
 use Rattle.bm_arena.proofs.Replicas.{IsMember-append, IsMember-left}
 use Rattle.bm_levels.specs.Status.{is_settled_at}
 use Rattle.bm_levels.specs.IndexedLevels.{IndexedLevels, level_of_slot, IsUnsettled, NeedCopies, slots_needing_copies, needs_copies}
-use Rattle.bm_levels.specs.Leveled.{Leveled, IsLeveled}
+use Rattle.bm_levels.specs.LeveledBlocks.{Leveled, IsLeveled}
 use Rattle.bm_levels.proofs.EqualLists.{has_among, among_has}
 use Rattle.bm_levels.proofs.ManySlots.{marker_settled}
 use Rattle.bm_levels.proofs.StatusUpdates.{among_back}
-use Rattle.bm_parts.specs.Before.{is_before}
+use Rattle.bm_parts.specs.BoundedWishes.{is_before}
 use Rattle.bm_round_scan.specs.ScannedSlots.{scanned_slots, key_at, is_settled_to_scan}
 use Rattle.bm_base.proofs.ListTests.{and_first, and_second}
 

@@ -15,8 +15,8 @@ use Rattle.bm_base.proofs.ForEach.{each_then}
 use Rattle.bm_base.proofs.ListTests.{filter_filter}
 use Rattle.bm_base.proofs.MapEntries.{each_entry, get_kept}
 use Rattle.bm_base.proofs.Slices.{none_pass}
-use Rattle.bm_parts.specs.Before.{wishes_before}
-use Rattle.bm_parts.specs.Settled.{IsSettled}
+use Rattle.bm_parts.specs.BoundedWishes.{wishes_before}
+use Rattle.bm_parts.specs.SettledBlocks.{IsSettled}
 use Rattle.bm_parts.proofs.Filters.{filtered_alike, filter_none, map_filter}
 use Rattle.bm_parts.proofs.SettledBlocks.{settled_is_left, settled_is_kept}
 use Rattle.bm_parts.proofs.Storages.{storages_revised}
@@ -25,7 +25,7 @@ use Rattle.bm_arena.specs.Contents.{Contents, block_at, slot_of, IsLawful}
 use Rattle.bm_arena.specs.HeldMaps.{info_at, replicas_at}
 use Rattle.bm_arena.proofs.HeldReplicas.{get-blocks_of}
 use Rattle.bm_levels.specs.Status.{is_settled_at, storages_at}
-use Rattle.bm_levels.specs.Held.{holdings_with}
+use Rattle.bm_levels.specs.SlotHoldings.{holdings_with}
 use Rattle.bm_levels.proofs.SettledBlocks.{all_plain_at, few_at}
 use Rattle.bm_pending.specs.PendingMap.{PendingMap}
 use Rattle.bm_pending.specs.RemainingTargets.{remaining_targets}

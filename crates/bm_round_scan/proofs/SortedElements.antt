@@ -14,7 +14,7 @@ use Rattle.std.proofs.lemmas.List.Sorted.{ranks_by, sorted_far, All-permutation,
 use Rattle.bm_base.specs.Maps.Conjunction.{both}
 use Rattle.bm_base.specs.Maps.Map.{Order}
 use Rattle.bm_base.proofs.ForEach.{Each, each_all}
-use Rattle.bm_parts.specs.Found.{IsGathered}
+use Rattle.bm_parts.specs.Findings.{IsGathered}
 use Rattle.bm_parts.proofs.Filters.{all_each}
 use Rattle.bm_round_scan.specs.BlockFindings.{IsInOrder}
 
@@ -46,7 +46,7 @@ module _ {K X : Type 0} (o : Order K) (key : X → K) where
 
   pub gathered_sorted : (P : X → Type 0) (xs ys : List X) → IsInOrder o key xs ys → IsDistinct tie xs → Each P xs → ((x : X) → P x → list_any (tie x) xs ≡ true) → IsGathered o key P ys
   gathered_sorted P xs ys is d each all = record {
-    rises = ascends_from (λ y. y) ys is.sorted (IsDistinct-IsPermutation tie (λ x y. (eq_by_cmp_equiv o.total).symm (key x) (key y)) xs ys is.permutation d);
+    ascends = ascends_from (λ y. y) ys is.sorted (IsDistinct-IsPermutation tie (λ x y. (eq_by_cmp_equiv o.total).symm (key x) (key y)) xs ys is.permutation d);
     only = All-permutation P xs ys is.permutation (all_each P xs each);
     all = λ x p. sym (list_any-IsPermutation (tie x) xs ys is.permutation) ∙ all x p;
   }

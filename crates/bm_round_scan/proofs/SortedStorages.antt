@@ -23,7 +23,7 @@ use Rattle.bm_parts.proofs.EqualLists.{gathered_alike}
 use Rattle.bm_arena.specs.Triplets.{Block}
 use Rattle.bm_arena.specs.Contents.{Contents, block_at, slot_of, IsLawful}
 use Rattle.bm_levels.specs.Status.{storages_at}
-use Rattle.bm_levels.specs.Held.{holdings_with}
+use Rattle.bm_levels.specs.SlotHoldings.{holdings_with}
 use Rattle.bm_levels.proofs.EqualLists.{passing_distinct}
 use Rattle.bm_levels.proofs.Levels.{alike}
 use Rattle.bm_round_scan.proofs.SortedElements.{gathered_sorted}
@@ -83,4 +83,4 @@ module _ (p : ℕ → Marks → Bool) (a : Contents) (pending : Map by_replica �
       gathered_alike by_number (λ (n : ℕ). n) P (λ _ _ _ _ same. same) ys zs
       (gathered_sorted by_number (λ (n : ℕ). n) P xs ys (record { permutation = moved; sorted = sorted }) (differ xs (passing_distinct p k.replicas (lawful.once slot k block_there)))
       (each_has P xs (λ x t. same x ∙ t)) (λ x t. any_same x xs ∙ sym (same x) ∙ t))
-      (record { rises = where_ascend p H b; only = all_each P zs (each_has P zs (λ x t. t)); all = λ x t. any_same x zs ∙ t })
+      (record { ascends = where_ascend p H b; only = all_each P zs (each_has P zs (λ x t. t)); all = λ x t. any_same x zs ∙ t })

@@ -7,7 +7,7 @@ use Rattle.bm_base.specs.declared.commands.Delete.{Delete}
 use Rattle.bm_base.specs.declared.round.Wish.{Wish}
 use Rattle.bm_base.specs.Words.{Order, entries, Cluster, Holdings, has_enough_live}
 use Rattle.bm_base.specs.RoundParts.{holdings_at_choice}
-use Rattle.bm_parts.specs.Before.{wishes_before}
+use Rattle.bm_parts.specs.BoundedWishes.{wishes_before}
 use Rattle.bm_round_scan.specs.BlockScans.{own_replicas, surplus_of, replicas_on, deletes_of}
 use Rattle.bm_round_scan.specs.Requests.{wish_in}
 use Rattle.bm_round_scan.specs.declared.scan.Findings.{Findings}
@@ -16,11 +16,11 @@ use Rattle.bm_round_scan.specs.declared.scan.Findings.{Findings}
 abbrev pub excess_at : Cluster → ℕ → ℕ → Holdings → ℕ → List ReplicaId
 excess_at C pend r H b = replicas_on (surplus_of C pend r H b) (entries (own_replicas (holdings_at_choice C pend r H) b))
 
--- the wish of a block then
+-- the wish of a block as round r begins
 abbrev pub wishes_at : Cluster → ℕ → ℕ → Holdings → ℕ → List Wish
 wishes_at C pend r H b = option_to_list (wish_in C (holdings_at_choice C pend r H) b)
 
--- the block's replicas that are to be deleted then
+-- the replicas of a block that are to be deleted as round r begins
 abbrev pub deletes_at : Cluster → ℕ → ℕ → Holdings → ℕ → List Delete
 deletes_at C pend r H b = let G = holdings_at_choice C pend r H in deletes_of (has_enough_live C G b) (entries (own_replicas G b))
 

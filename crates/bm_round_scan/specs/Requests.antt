@@ -22,7 +22,8 @@ count_at _ repl live pending = repl - (live + pending)
 abbrev pub wish_if : ℕ → Wish → Option Wish
 wish_if n w = if nat_lt 0 n then Some w else None
 
--- the wish of a block with these live, drained and other replicas, and pending transfers
+-- the wish of a block, given the storages of its live replicas, of its drained ones and of all its
+-- replicas, and the targets of its pending transfers
 abbrev pub wish_by : Cluster → ℕ → BlockInfo → List ℕ → List ℕ → List ℕ → List ℕ → Option Wish
 wish_by C b i live drained pairs pending =
     option_and_then (λ urgency. let n = count_at urgency i.repl (length live) (length pending) in

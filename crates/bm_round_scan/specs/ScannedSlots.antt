@@ -2,7 +2,7 @@
 use Rattle.std.specs.Prelude.{◌≡◌, ◌↔◌, ℕ, ◌-◌, Bool, false, not, ◌&&◌, nat_lt, nat_le, List, ◌++◌, filter, length, Option}
 use Rattle.std.specs.Option.{option_map_or}
 use Rattle.bm_base.specs.Words.{Cluster, has, is_live_on, level_number}
-use Rattle.bm_parts.specs.Before.{is_before}
+use Rattle.bm_parts.specs.BoundedWishes.{is_before}
 use Rattle.bm_arena.specs.Contents.{Contents, block_at}
 use Rattle.bm_arena.specs.HeldMaps.{id_at, info_at, replicas_at}
 use Rattle.bm_pending.specs.PendingMap.{PendingMap}
@@ -22,8 +22,8 @@ key_at K a slot = (option_map_or level_number (level_of_slot K slot) 5, id_at a 
 abbrev pub keyed_at : IndexedLevels → Contents → ℕ → (ℕ × ℕ) × ℕ
 keyed_at K a slot = (key_at K a slot, slot)
 
--- whether a transfer to the block at a slot stays pending, and with the pending ones at least the
--- wanted number of replicas are live
+-- whether a transfer of the block at a slot stays pending, and its live replicas and its pending
+-- transfers reach the wanted number
 abbrev pub has_enough_pending : Cluster → ℕ → ℕ → Contents → PendingMap → ℕ → Bool
 has_enough_pending C pend r a p slot =
     let n = length (remaining_targets pend r p (id_at a slot)) in

@@ -6,7 +6,7 @@ ghost use Rattle.bm_base.specs.declared.refusal.Refusal.TheVariants.{Memory};
 ghost use Rattle.bm_base.specs.Words.{has_repeats, Map, by_replica};
 ghost use Rattle.bm_base.specs.Machine.Excess as excess;
 ghost use Rattle.bm_arena.specs.Contents.{slot_of};
-ghost use Rattle.bm_levels.specs.Held.{holdings_with};
+ghost use Rattle.bm_levels.specs.SlotHoldings.{holdings_with};
 ghost use Rattle.bm_round_scan.specs.BlockMarks.{marked_on};
 ghost use Rattle.bm_round_scan.specs.BlockScans.{IsBlockScan, AreUsable, scanned_replicas, replicas_on, needs_delete, deletes_of};
 
@@ -21,7 +21,7 @@ use std::alloc::{AllocError, Global};
 #[derive(Drop)]
 pub(crate) struct BlockScan {
     pub id: BlockId,
-    /// The block's entry; `None` for an unknown block.
+    /// The block's stamp and wanted replicas; `None` for an unknown block.
     pub info: Option<BlockInfo>,
     /// The storages of its surplus live replicas, ascending.
     pub excess: Vec<StorageId>,

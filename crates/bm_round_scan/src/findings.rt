@@ -4,17 +4,17 @@ ghost use Rattle.bm_base.specs.declared.refusal.Refusal.TheVariants.{Memory};
 ghost use Rattle.bm_base.specs.declared.replica.ReplicaId.{ReplicaId};
 ghost use Rattle.bm_base.specs.Maps.Map.{get, contains_key};
 ghost use Rattle.bm_base.specs.RoundParts.{round_part};
-ghost use Rattle.bm_parts.specs.Before.{part_before};
+ghost use Rattle.bm_parts.specs.BoundedWishes.{part_before};
 ghost use Rattle.bm_arena.specs.HeldMaps.{replicas_of};
-ghost use Rattle.bm_levels.specs.Leveled.{AreLevels};
-ghost use Rattle.bm_levels.specs.Held.{holdings_with};
+ghost use Rattle.bm_levels.specs.LeveledBlocks.{AreLevels};
+ghost use Rattle.bm_levels.specs.SlotHoldings.{holdings_with};
 
 use crate::order::{sort_deletes, sort_excess, sort_wishes};
 use crate::scan::RoundScan;
 use crate::scanned_slots::{slots_to_scan, sort_slots};
 use bm_base::{Items, Refusal, RoundPart};
 use bm_levels::LeveledBlocks;
-use bm_parts::merge::Key;
+use bm_parts::sort_key::Key;
 use bm_pending::PendingTransfers;
 use bm_topo::Topology;
 use std::alloc::Global;
@@ -23,14 +23,15 @@ use std::alloc::Global;
 /// ago or earlier. The stored levels are those of the cluster, which knows each replica's storage.
 /// If there is a bound, only the wishes before it are returned. An `Err` is out of memory.
 ///
-/// It scans the unsettled blocks, and those before the bound at a level at which copies are wanted,
-/// and iterates over the pending transfers once. So its cost does not grow with the number of the
-/// other blocks, but for those at such a level. The slots of these are copied and sorted first.
-/// Then each costs one step of dense memory, and the comparison of a level and a number. Of a
-/// settled block with a pending transfer the live replicas are counted first: it is left out if the
-/// live replicas and the pending transfers reach the number wanted. A scanned block with n replicas
-/// costs O(n log n) steps: they are sorted, and each is searched for among those in excess. The
-/// result is sorted.
+/// It iterates over the pending transfers once, and scans two kinds of blocks: the unsettled ones,
+/// and settled ones before the bound at a level at which copies are wanted. Any other block at such
+/// a level costs a read of its number and a comparison; all other blocks cost nothing. Without a
+/// bound, the slots of a level are copied and sorted first if they are many.
+///
+/// A settled block with a pending transfer is left out if its live replicas and its pending
+/// transfers reach the wanted number; its live replicas are counted for that. A scanned block with
+/// n replicas costs O(n log n) steps: they are sorted, and each is searched for among those in
+/// excess. The result is sorted.
 pub fn find_round(
     alloc: Global,
     blocks: &LeveledBlocks,

@@ -4,7 +4,7 @@ ghost use Rattle.std.specs.Prelude.{◌<◌};
 use bm_arena::Slot;
 use bm_base::Level;
 use bm_levels::LeveledBlocks;
-use bm_parts::merge::Key;
+use bm_parts::sort_key::Key;
 use bm_pending::PendingTransfers;
 use std::alloc::{AllocError, Global};
 
@@ -15,13 +15,15 @@ const REQUESTS_PER_UNSETTLED: usize = 4;
 const SAMPLES_BEFORE: usize = 128;
 
 /// A bound before which about `most` blocks have wishes; a block with a pending transfer counts as
-/// one without a wish. `None` if fewer blocks have wishes, or if unsettled blocks are more than a
-/// quarter of those at a level at which copies are wanted. A round scans all unsettled ones, bound
-/// or no bound, and twice if the wishes before a bound do not fill it. Only a guess: nothing but
-/// the time of a round may depend on it. It takes about `samples` samples, evenly spread over the
-/// slots at such a level, and up to four times that number if few come before the bound. It costs
-/// the same however many blocks there are, and takes no samples if no more than `most` are at such
-/// a level.
+/// one without a wish. Only a guess: nothing but the time of a round may depend on it.
+///
+/// `None` if fewer blocks have wishes. Also `None` if unsettled blocks are more than a quarter of
+/// those at a level at which copies are wanted. A round scans all unsettled blocks whatever the
+/// bound is, and twice if the wishes before the bound do not fill it.
+///
+/// It takes about `samples` samples, evenly spread over the slots at a level at which copies are
+/// wanted; up to four times that number if few come before the bound. So its cost does not depend
+/// on the number of blocks. It takes no sample if those slots are no more than `most`.
 pub fn likely_bound(
     alloc: Global,
     blocks: &LeveledBlocks,

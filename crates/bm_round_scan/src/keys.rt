@@ -1,11 +1,11 @@
 // The keys of slots: the level of the block, and its number.
 ghost use Rattle.std.specs.Prelude.{◌≡◌};
-ghost use Rattle.bm_parts.specs.Before as before;
+ghost use Rattle.bm_parts.specs.BoundedWishes as before;
 ghost use Rattle.bm_round_scan.specs.ScannedSlots as scanned;
 
 use bm_arena::{Arena, Slot};
 use bm_levels::LevelIndex;
-use bm_parts::merge::Key;
+use bm_parts::sort_key::Key;
 
 /// Represents the level of a block that has none: one more than the greatest.
 const NO_LEVEL: u32 = 5;

@@ -3,8 +3,8 @@
 //!
 //! A round scans the unsettled blocks and those at a level at which copies are wanted, never all
 //! blocks. A settled block has at most a wish, and none if enough transfers are pending. The
-//! replicas of any other one are marked again. The findings of each block are appended. In the end
-//! each list is sorted.
+//! replicas of an unsettled block are marked again. The findings of each block are appended. In the
+//! end each list is sorted.
 #![tactic(auto)]
 
 mod block_scan;

@@ -123,10 +123,10 @@ fn marked_if(is_excess: bool, marks: Marks) -> Marks
     }
 }
 
-/// Whether a storage is among these, which are sorted. The index `near` is compared first, and
-/// becomes the index of the storage, found or not: so each of several storages in ascending order
-/// mostly takes two comparisons. Any index will do; elsewhere it takes O(log n) steps for n of
-/// them.
+/// Whether a storage is among these, which are sorted. `near` is a hint and may be any index. The
+/// storages at this index and the next are compared first; a binary search follows only if they do
+/// not decide. `near` becomes the index of the storage, or of the last lesser one. So each of
+/// several storages in ascending order mostly takes two comparisons.
 pub(crate) fn contains_near(storages: &[StorageId], storage: StorageId, near: &mut usize) -> bool
     requires { IsNonDecreasing storages.now }
     ensures { result ≡ has storages.now storage }

@@ -6,7 +6,7 @@ ghost use Rattle.bm_base.specs.Words.{values, has};
 ghost use Rattle.bm_maps.specs.SlotLists.{IsMember};
 ghost use Rattle.bm_arena.specs.Contents.{slot_of};
 ghost use Rattle.bm_arena.specs.HeldMaps.{id_at};
-ghost use Rattle.bm_levels.specs.Held.{holdings_with};
+ghost use Rattle.bm_levels.specs.SlotHoldings.{holdings_with};
 ghost use Rattle.bm_round_scan.specs.BlockFindings.{HasFound};
 ghost use Rattle.bm_round_scan.specs.ScannedSlots.{AreMarked};
 
@@ -15,7 +15,7 @@ use crate::replicas::storages_of;
 use bm_arena::{Arena, Slot};
 use bm_base::{BlockInfo, Delete, Refusal, ReplicaId, Wish};
 use bm_levels::LevelIndex;
-use bm_parts::merge::Key;
+use bm_parts::sort_key::Key;
 use bm_pending::PendingTransfers;
 use bm_topo::Topology;
 use std::alloc::Global;

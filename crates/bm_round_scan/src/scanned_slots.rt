@@ -10,13 +10,13 @@ use crate::keys::{is_before, key_of};
 use crate::scan::RoundScan;
 use bm_arena::{Arena, Slot};
 use bm_base::{BlockId, Level};
-use bm_parts::merge::Key;
+use bm_parts::sort_key::Key;
 use std::alloc::{AllocError, Global};
 
 /// The number of slots in a chunk.
 const CHUNK: usize = 64;
 
-/// The slots of a level are sorted if there are more than this number.
+/// Without a bound, the slots of a level are sorted if there are more than this number.
 const MAX_UNSORTED: usize = 512;
 
 /// The slots to scan, each once, with its key, in any order: the unsettled slots, and settled ones
@@ -42,8 +42,8 @@ pub(crate) fn slots_to_scan(
     Ok(keyed)
 }
 
-/// The number of slots for which capacity is made at first. Without a bound, mostly all blocks that
-/// need copies are scanned; before a bound, mostly few.
+/// The initial capacity, in slots. Without a bound nearly all blocks that need copies are scanned,
+/// with a bound few of them.
 fn first_capacity(start: &RoundScan) -> usize {
     let needing_copies = match start.bound {
         Some(_) => 0,
@@ -56,8 +56,9 @@ fn first_capacity(start: &RoundScan) -> usize {
 }
 
 /// Appends the settled slots of a level that come before the bound and lack pending transfers, in
-/// any order. Without a bound, slots are sorted first: they are read in nearly sequential memory,
-/// and as block numbers mostly ascend with slots, `sort_slots` then has little to do.
+/// any order. Without a bound, more than `MAX_UNSORTED` slots are sorted first: then memory is read
+/// nearly sequentially. Since block numbers mostly ascend with slots, `sort_slots` then has little
+/// to do.
 fn push_level(
     alloc: Global,
     start: &RoundScan,

@@ -3,7 +3,7 @@ ghost use Rattle.std.specs.Prelude.{◌≡◌, length, ◌++◌, option_and_then
 ghost use Rattle.bm_base.specs.declared.refusal.Refusal.TheVariants.{Memory};
 ghost use Rattle.bm_base.specs.Machine.Replicas as replicas;
 ghost use Rattle.bm_base.specs.Machine.Levels as levels;
-ghost use Rattle.bm_parts.specs.Before.{wishes_before};
+ghost use Rattle.bm_parts.specs.BoundedWishes.{wishes_before};
 ghost use Rattle.bm_pending.specs.RemainingTargets.{remaining_targets};
 ghost use Rattle.bm_round_scan.specs.Requests.{count_at, wish_by};
 
@@ -15,9 +15,9 @@ use bm_topo::Topology;
 use std::alloc::{AllocError, Global};
 
 impl<'a> RoundScan<'a> {
-    /// Appends the wish of a block with these usable replicas, and replicas on these storages in
-    /// all: copies at its level. Appends nothing if it needs none, or if the wish is not before the
-    /// bound. The pending transfers are counted only if it is.
+    /// Appends the wish of a block, given its usable replicas and the storages of all its replicas.
+    /// Appends nothing if the block needs no copy, or if its wish is not before the bound. Its
+    /// pending transfers are counted only if its wish is before the bound.
     pub(crate) fn push_wish(
         &self,
         alloc: Global,
@@ -64,7 +64,7 @@ impl<'a> RoundScan<'a> {
             drop(usable);
             return Ok(());
         }
-        let Ok(pairs) = copy_of(alloc, storages) else {
+        let Ok(pairs) = copy_storages(alloc, storages) else {
             drop(pending);
             drop(usable);
             return Err(Refusal::Memory);
@@ -100,7 +100,7 @@ impl<'a> RoundScan<'a> {
 }
 
 /// A copy of these storages.
-fn copy_of(alloc: Global, storages: &[StorageId]) -> Result<StorageIds, AllocError>
+fn copy_storages(alloc: Global, storages: &[StorageId]) -> Result<StorageIds, AllocError>
     ensures { IfOk result (λ v. v ≡ storages.now) }
 {
     let mut copy = StorageIds::new(alloc);

@@ -14,7 +14,7 @@ use Rattle.bm_session.specs.declared.fault.Fault.{Fault}
 use Rattle.bm_session.specs.declared.fault.Fault.TheVariants.{Config, Read, Write, Memory, TooMuch}
 use Rattle.bm_lines.specs.Lines.{line_end, onto, onto_whole, IsPart, ended, lines_of, whole_lines}
 use Rattle.bm_session.specs.Text.{texts, after, refusals}
-use Rattle.bm_lines.specs.Held.{Holds}
+use Rattle.bm_lines.specs.LineBuffer.{Holds}
 use Rattle.bm_session.specs.Progress.{Progress, Answered, MayBeWorked, Interrupted, Overflows, LineFault, PieceFault, IsSummary}
 use Rattle.bm_session.proofs.LineLemmas.{rest_line, lines_of-first, IsPart-append, splits_none, splits_part, splits_end, lines_of-split, whole_lines-split, lines_of-begin, whole_lines-begin}
 use Rattle.bm_session.proofs.TextLemmas.{texts-push, after-push, refusals-push}

@@ -10,7 +10,7 @@ use Rattle.bm_session.specs.declared.fault.Fault.TheVariants.{Config, Read, Writ
 use Rattle.bm_lines.specs.Lines.{Splits, lines_of, whole_lines}
 use Rattle.bm_answers.specs.OneLine.{line_next}
 use Rattle.bm_session.specs.Text.{texts, after, refusals}
-use Rattle.bm_lines.specs.Held.{Holds}
+use Rattle.bm_lines.specs.LineBuffer.{Holds}
 
 -- the session has answered the whole lines of these bytes, from the state M on
 pub record Progress (M : State) (start now : Option (List ℕ)) (s : Session) (bytes : List ℕ) : Type 0 where

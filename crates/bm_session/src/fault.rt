@@ -35,7 +35,7 @@ impl<T: Drop> From<AllocFailed<T>> for Fault {
     }
 }
 
-/// The number of lines, and the number of refused ones.
+/// The numbers of lines, of accepted lines and of refused lines.
 #[derive(Clone, Copy, Debug, PartialEq, Eq)]
 pub struct Summary {
     pub lines: u64,

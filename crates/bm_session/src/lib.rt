@@ -4,7 +4,7 @@
 //!
 //! `run` is the whole of it. `specs/` defines the text that answers an input (`Text`), the output
 //! if a run ends early (`Outcome`), and how readers and writers count their failures (`Ends`,
-//! `FaultCounting`).
+//! `FaultCounts`).
 #![tactic(auto)]
 
 mod fault;

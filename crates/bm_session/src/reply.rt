@@ -16,7 +16,7 @@ pub struct Reply {
     pub is_refused: bool,
 }
 
-/// Makes the call, if there is one. When out of memory, the manager has made the call or not.
+/// Makes the call, if there is one. When out of memory, the manager may or may not have made it.
 pub fn reply_to<H: Threads + Wait + Sync>(
     rt: &H,
     alloc: Global,

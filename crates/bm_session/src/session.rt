@@ -1,7 +1,7 @@
 // The state of a run between two reads.
 ghost use Rattle.std.specs.Prelude.{◌≡◌, true, ◌≤◌, ◌<◌, ◌+◌, ◌^◌, ◌∷◌, [], ◌++◌, ℕ, List, Option, length, None, IfOk, OnOk, OnErr, IfErr};
 ghost use Rattle.bm_base.specs.Words.{State, first_state, config_refusal};
-ghost use Rattle.bm_lines.specs.Held.{Holds, is_begun};
+ghost use Rattle.bm_lines.specs.LineBuffer.{Holds, is_begun};
 ghost use Rattle.bm_session.specs.StartFaults.{StartFault};
 ghost use Rattle.bm_session.specs.declared.limits.TheConstants.{MAX_LINES};
 

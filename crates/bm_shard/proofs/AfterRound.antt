@@ -9,10 +9,10 @@ use Rattle.bm_base.specs.Words.{Map, revise, keep, insert_all, Cluster, by_repli
 use Rattle.bm_base.specs.RoundParts.{surplus, holdings_at_choice, round_on_part, own_transfers, own_deletes}
 use Rattle.bm_arena.specs.Contents.{Contents}
 use Rattle.bm_arena.specs.HeldMaps.{replicas_of, blocks_of, holdings_of}
-use Rattle.bm_levels.specs.Held.{holdings_with}
+use Rattle.bm_levels.specs.SlotHoldings.{holdings_with}
 use Rattle.bm_base.specs.declared.ids.Part.{Part}
-use Rattle.bm_levels.specs.Leveled.{Leveled}
-use Rattle.bm_shard.specs.Seen.{Seen, Reserved}
+use Rattle.bm_levels.specs.LeveledBlocks.{Leveled}
+use Rattle.bm_shard.specs.ShardView.{Seen, Reserved}
 use Rattle.bm_shard.specs.Inside.{levels_of}
 use Rattle.bm_shard.specs.UpToDate.{IsSameButCapacity}
 use Rattle.bm_shard.proofs.SameHoldings.{seen_of}

@@ -14,7 +14,7 @@ use Rattle.bm_arena.specs.HeldMaps.{replicas_of}
 use Rattle.bm_report.specs.declared.types.ReportedSlot.{ReportedSlot}
 use Rattle.bm_report.specs.DuringReport.{reported_of}
 use Rattle.bm_report.proofs.ReportResult.{last_stamp, report_own}
-use Rattle.bm_shard.specs.Arrived.{has_arrived}
+use Rattle.bm_shard.specs.ArrivedTransfers.{has_arrived}
 
 -- a value that stays if a test fails
 abbrev pass : Bool → ℕ → Option ℕ

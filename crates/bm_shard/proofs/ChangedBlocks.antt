@@ -5,10 +5,10 @@ use Rattle.bm_base.specs.declared.event.Done.{Done}
 use Rattle.bm_base.specs.Words.{Map, get, Cluster, Holdings, by_replica, level, done}
 use Rattle.bm_parts.specs.PlacedLaws.{IsPlaced}
 use Rattle.bm_arena.specs.Contents.{IsLawful}
-use Rattle.bm_levels.specs.Leveled.{Leveled, AreLevels, IsLeveled}
-use Rattle.bm_levels.specs.Held.{holdings_with}
-use Rattle.bm_shard.specs.Seen.{Seen, Reserved}
-use Rattle.bm_shard.specs.Changed.{HasChanged}
+use Rattle.bm_levels.specs.LeveledBlocks.{Leveled, AreLevels, IsLeveled}
+use Rattle.bm_levels.specs.SlotHoldings.{holdings_with}
+use Rattle.bm_shard.specs.ShardView.{Seen, Reserved}
+use Rattle.bm_shard.specs.EventEffects.{HasChanged}
 use Rattle.bm_shard.specs.UpToDate.{IsUpToDate, IsSameButCapacity}
 use Rattle.bm_shard.proofs.Levels.{right_by_number, right_by_slot}
 use Rattle.bm_shard.proofs.SameHoldings.{seen_of}

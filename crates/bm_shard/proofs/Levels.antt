@@ -13,9 +13,9 @@ use Rattle.bm_arena.specs.Triplets.{Block}
 use Rattle.bm_arena.specs.Contents.{block_at, slot_of, IsLawful}
 use Rattle.bm_arena.specs.HeldMaps.{info_at}
 use Rattle.bm_levels.specs.IndexedLevels.{IndexedLevels, level_of_slot}
-use Rattle.bm_levels.specs.Leveled.{Leveled, AreLevels, IsLeveled}
+use Rattle.bm_levels.specs.LeveledBlocks.{Leveled, AreLevels, IsLeveled}
 use Rattle.bm_levels.specs.Status.{level_in}
-use Rattle.bm_levels.specs.Held.{holdings_with}
+use Rattle.bm_levels.specs.SlotHoldings.{holdings_with}
 use Rattle.bm_levels.proofs.StatusByCounts.{level_unknown}
 use Rattle.bm_levels.proofs.Levels.{level_is_at_slot}
 use Rattle.bm_shard.specs.Inside.{levels_among, levels_of}

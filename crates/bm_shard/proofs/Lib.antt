@@ -14,5 +14,5 @@ mod Arrivals
 mod LookUps
 mod OwnTransfers
 mod AfterRound
-mod Unused
+mod UnusedEntries
 mod LeavingStorages

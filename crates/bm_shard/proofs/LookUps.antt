@@ -4,7 +4,7 @@ use Rattle.bm_base.specs.Machine.Entries.{ReportedBlock}
 use Rattle.bm_report.specs.Ready.{LookedUpReport, reported_blocks}
 use Rattle.bm_shard.specs.declared.shard.PreparedEvent.{PreparedEvent}
 use Rattle.bm_shard.specs.declared.shard.PreparedEvent.TheVariants as prepared
-use Rattle.bm_shard.specs.Seen.{NoticeOf, ReportOf}
+use Rattle.bm_shard.specs.ShardView.{NoticeOf, ReportOf}
 use Rattle.bm_shard.specs.Inside.{report_of}
 
 -- a report is seen only if one of that storage was prepared

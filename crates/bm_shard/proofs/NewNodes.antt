@@ -10,7 +10,7 @@ use Rattle.bm_parts.specs.LevelLaws.{IsRacked}
 use Rattle.bm_parts.specs.PlacedLaws.{IsPlaced}
 use Rattle.bm_arena.specs.Contents.{Contents}
 use Rattle.bm_arena.specs.HeldMaps.{holdings_of}
-use Rattle.bm_levels.specs.Held.{holdings_with}
+use Rattle.bm_levels.specs.SlotHoldings.{holdings_with}
 use Rattle.bm_levels.specs.LevelsBy.{IsSameForHeld}
 use Rattle.bm_levels.proofs.UpToDate.{register_is_same}
 use Rattle.bm_parts.proofs.ReplicaRacks.{register_unrefused}

@@ -10,8 +10,8 @@ use Rattle.bm_base.specs.Words.{Cluster, Holdings, get, level, done, change_clus
 use Rattle.bm_parts.specs.Parts.{block_of, change_part}
 use Rattle.bm_parts.specs.PlacedLaws.{IsPlaced}
 use Rattle.bm_parts.proofs.OneShard.{same_cluster, one_block_changes_one_part, nothing_done}
-use Rattle.bm_shard.specs.Seen.{Seen}
-use Rattle.bm_shard.specs.Changed.{HasChanged, owns}
+use Rattle.bm_shard.specs.ShardView.{Seen}
+use Rattle.bm_shard.specs.EventEffects.{HasChanged, owns}
 use Rattle.bm_shard.specs.UpToDate.{IsUpToDate, IsSameButCapacity}
 
 module _ (part : Part) (e : Event) where

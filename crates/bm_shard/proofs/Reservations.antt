@@ -9,7 +9,7 @@ use Rattle.bm_base.specs.declared.ids.Part.{Part}
 use Rattle.bm_base.specs.declared.round.Chosen.{Chosen}
 use Rattle.bm_base.specs.RoundParts.{own_transfers}
 use Rattle.bm_shard.specs.UpToDate.{IsSameButCapacity}
-use Rattle.bm_shard.specs.Seen.{Seen, IsReadyFor, IsReadyForRound, needs_reservation}
+use Rattle.bm_shard.specs.ShardView.{Seen, IsReadyFor, IsReadyForRound, needs_reservation}
 
 -- an event that needs no reservation
 pub ready_without : (e : Event) (S : Seen) → needs_reservation e ≡ false → IsReadyFor e S

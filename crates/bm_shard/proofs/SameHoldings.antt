@@ -5,9 +5,9 @@ use Rattle.bm_base.specs.Words.{Map, get, Cluster, by_replica, level}
 use Rattle.bm_base.proofs.MapLaws.{same_map}
 use Rattle.bm_arena.specs.Contents.{IsLawful}
 use Rattle.bm_arena.specs.HeldMaps.{replicas_of, blocks_of}
-use Rattle.bm_levels.specs.Leveled.{Leveled, AreLevels, IsLeveled}
-use Rattle.bm_levels.specs.Held.{holdings_with}
-use Rattle.bm_shard.specs.Seen.{Seen, Reserved}
+use Rattle.bm_levels.specs.LeveledBlocks.{Leveled, AreLevels, IsLeveled}
+use Rattle.bm_levels.specs.SlotHoldings.{holdings_with}
+use Rattle.bm_shard.specs.ShardView.{Seen, Reserved}
 use Rattle.bm_shard.specs.UpToDate.{IsSameButCapacity}
 use Rattle.bm_shard.specs.Inside.{levels_of}
 use Rattle.bm_shard.proofs.Levels.{right_by_number, right_by_slot}

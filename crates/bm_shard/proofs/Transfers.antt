@@ -6,7 +6,7 @@ use Rattle.std.proofs.lemmas.Bool.{false≢true}
 use Rattle.bm_base.specs.Words.{Map, keep, contains_key, Cluster, Holdings, by_replica, has_storage, drains, begin_drain, knows_node, done, new_replicas}
 use Rattle.bm_base.specs.Promises.Lawful.{IsLawfulCluster}
 use Rattle.bm_arena.specs.Contents.{Contents}
-use Rattle.bm_levels.specs.Held.{holdings_with}
+use Rattle.bm_levels.specs.SlotHoldings.{holdings_with}
 use Rattle.bm_shard.proofs.Counts.{same_replicas}
 
 -- whether a node drains, if it is known

@@ -9,7 +9,7 @@ use Rattle.bm_base.specs.Words.{Map, by_number, Holdings, ReportedBlock, level_n
 use Rattle.bm_base.specs.Maps.MapCode.{code}
 use Rattle.bm_base.specs.Codes.{coded_holdings, coded_stamp}
 use Rattle.bm_base.specs.LevelNumbers.{level_of_number, level_again}
-use Rattle.bm_shard.specs.Seen.{Seen, Reserved, LookUp, NoticeOf, ReportOf}
+use Rattle.bm_shard.specs.ShardView.{Seen, Reserved, LookUp, NoticeOf, ReportOf}
 
 abbrev pub coded_level : Coded Level
 coded_level = code_by ℕ coded_ℕ level_number level_of_number level_again

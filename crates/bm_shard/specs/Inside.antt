@@ -6,10 +6,10 @@ use Rattle.bm_base.specs.declared.ids.Part.{Part}
 use Rattle.bm_base.specs.Words.{Map, by_number, empty, insert, remove, is_named}
 use Rattle.bm_arena.specs.Contents.{Contents}
 use Rattle.bm_report.specs.Ready.{LookedUpReport, IsLookedUp, IsReady, reported_blocks}
-use Rattle.bm_levels.specs.Unused.{IsUnused}
+use Rattle.bm_levels.specs.UnusedEntries.{IsUnused}
 use Rattle.bm_levels.specs.IndexedLevels.{IndexedLevels, level_of_slot}
-use Rattle.bm_levels.specs.Leveled.{Leveled}
-use Rattle.bm_shard.specs.Seen.{LookUp, NoticeOf, ReportOf}
+use Rattle.bm_levels.specs.LeveledBlocks.{Leveled}
+use Rattle.bm_shard.specs.ShardView.{LookUp, NoticeOf, ReportOf}
 use Rattle.bm_shard.specs.declared.shard.PreparedEvent.{PreparedEvent}
 use Rattle.bm_shard.specs.declared.shard.PreparedEvent.TheVariants as prepared
 

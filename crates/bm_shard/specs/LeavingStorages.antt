@@ -4,7 +4,7 @@ use Rattle.bm_base.specs.declared.event.Event.{Event}
 use Rattle.bm_base.specs.declared.event.Event.TheVariants.{Dead, StorageFailed}
 use Rattle.bm_base.specs.Words.{Cluster, has_storage}
 use Rattle.bm_maps.specs.SlotLists.{IsMember}
-use Rattle.bm_shard.specs.Seen.{Seen}
+use Rattle.bm_shard.specs.ShardView.{Seen}
 
 -- whether a storage leaves by an event: those of a dead node, and one that fails
 abbrev pub leaves : Cluster → Event → ℕ → Bool

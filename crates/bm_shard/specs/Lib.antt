@@ -1,9 +1,9 @@
 -- Definitions of the contracts of a shard: what it holds, its invariants and its changes.
-pub mod Seen
+pub mod ShardView
 pub mod Codes
-pub mod Unused
+pub mod UnusedEntries
 pub mod LeavingStorages
-pub mod Changed
+pub mod EventEffects
 pub mod UpToDate
 pub mod Inside
-pub mod Arrived
+pub mod ArrivedTransfers

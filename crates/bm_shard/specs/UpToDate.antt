@@ -4,8 +4,8 @@ use Rattle.bm_base.specs.declared.round.RoundPart.{RoundPart}
 use Rattle.bm_base.specs.Machine.State.{Cluster}
 use Rattle.bm_base.specs.RoundParts.{round_part}
 use Rattle.bm_parts.specs.PlacedLaws.{IsPlaced}
-use Rattle.bm_shard.specs.Seen.{Seen}
-use Rattle.bm_shard.specs.Changed.{HasLevels}
+use Rattle.bm_shard.specs.ShardView.{Seen}
+use Rattle.bm_shard.specs.EventEffects.{HasLevels}
 
 -- the stored levels are those of this cluster, and replicas are where they may be
 pub record IsUpToDate (C : Cluster) (S : Seen) : Type 0 where

@@ -3,7 +3,7 @@ ghost use Rattle.std.specs.Prelude.{◌≡◌, ◌==◌, ◌&&◌, ℕ, not, sli
 ghost use Rattle.bm_base.specs.Words.{contains_key, keep, replica_at};
 ghost use Rattle.bm_arena.specs.HeldMaps.{replicas_of};
 ghost use Rattle.bm_pending.specs.PendingMap.{blocks_in};
-ghost use Rattle.bm_shard.specs.Arrived.{has_arrived};
+ghost use Rattle.bm_shard.specs.ArrivedTransfers.{has_arrived};
 
 use bm_arena::Arena;
 use bm_base::{BlockId, StorageId};
@@ -21,7 +21,7 @@ pub(crate) fn drop_arrived(pending: &mut PendingTransfers, arena: &Arena, storag
     }
 }
 
-/// Removes the transfer to a storage of the block at an index.
+/// Removes the transfer of the block at an index to a storage, if the block has a replica there.
 fn drop_arrived_at(pending: &mut PendingTransfers, arena: &Arena, storage: StorageId, index: usize)
     ensures places { blocks_in pending.new ≡ blocks_in pending.old }
     ensures map { (b : ℕ) → slice_get (blocks_in pending.old) index ≡ Some b

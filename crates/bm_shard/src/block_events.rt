@@ -3,8 +3,8 @@ ghost use Rattle.std.specs.Prelude.{◌≡◌, if◌then◌else◌};
 ghost use Rattle.bm_base.specs.Machine.State.{replica_at};
 ghost use Rattle.bm_base.specs.Machine.Events as events;
 ghost use Rattle.bm_maps.specs.SlotLists.{IsMember};
-ghost use Rattle.bm_shard.specs.Unused.{HasNoUnused};
-ghost use Rattle.bm_shard.specs.Changed.{HasChanged};
+ghost use Rattle.bm_shard.specs.UnusedEntries.{HasNoUnused};
+ghost use Rattle.bm_shard.specs.EventEffects.{HasChanged};
 
 use crate::preparation::drop_prepared;
 use crate::shard::{PreparedEvent, Shard};

@@ -6,9 +6,9 @@ ghost use Rattle.bm_base.specs.Machine.Events as events;
 ghost use Rattle.bm_base.specs.declared.event.Event.TheVariants as event_of;
 ghost use Rattle.bm_base.specs.declared.event.Remaining.{Remaining};
 ghost use Rattle.bm_parts.specs.PlacedLaws.{IsPlaced};
-ghost use Rattle.bm_shard.specs.Unused.{HasNoUnused};
+ghost use Rattle.bm_shard.specs.UnusedEntries.{HasNoUnused};
 ghost use Rattle.bm_shard.specs.LeavingStorages.{HasNoLists};
-ghost use Rattle.bm_shard.specs.Changed.{HasChanged};
+ghost use Rattle.bm_shard.specs.EventEffects.{HasChanged};
 
 use crate::block_events::NO_CHANGE;
 use crate::shard::{PreparedEvent, Shard};

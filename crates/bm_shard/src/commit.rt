@@ -3,10 +3,10 @@ ghost use Rattle.std.specs.Prelude.{◌≡◌, ◌<◌, ◌^◌, None, true, fal
 ghost use Rattle.bm_base.specs.Words.{is_multi_rack, change_cluster, first_of, cluster_checks, done};
 ghost use Rattle.bm_parts.specs.Parts.{block_of, change_part};
 ghost use Rattle.bm_parts.specs.PlacedLaws.{IsPlaced};
-ghost use Rattle.bm_shard.specs.Seen.{IsReadyFor, needs_reservation};
-ghost use Rattle.bm_shard.specs.Unused.{HasNoUnused};
+ghost use Rattle.bm_shard.specs.ShardView.{IsReadyFor, needs_reservation};
+ghost use Rattle.bm_shard.specs.UnusedEntries.{HasNoUnused};
 ghost use Rattle.bm_shard.specs.LeavingStorages.{leaves, HasNoLists};
-ghost use Rattle.bm_shard.specs.Changed.{HasChanged, owns};
+ghost use Rattle.bm_shard.specs.EventEffects.{HasChanged, owns};
 ghost use Rattle.bm_shard.specs.UpToDate.{IsUpToDate};
 
 use crate::block_events::NO_CHANGE;
@@ -51,7 +51,7 @@ impl Shard {
     }
 
     /// Whether an event is on a block of the shard's own numbers, or on no block.
-    #[tactic(auto, unfolding(crate::specs::Changed::owns))]
+    #[tactic(auto, unfolding(crate::specs::EventEffects::owns))]
     fn owns(&self, event: &Event) -> bool
         ensures { result ≡ owns self.now.part event.now }
     {

@@ -4,11 +4,11 @@ ghost use Rattle.bm_base.specs.declared.refusal.Refusal.TheVariants.{Memory};
 ghost use Rattle.bm_base.specs.Words.{Refuses, Cluster, is_named};
 ghost use Rattle.bm_maps.specs.SlotLists.{IsMember};
 ghost use Rattle.bm_arena.specs.HeldMaps.{replicas_of, blocks_of};
-ghost use Rattle.bm_report.specs.Expanded.{reported_to_part};
-ghost use Rattle.bm_levels.specs.Unused.{HasNoUnusedOf, MakesNoUnused};
-ghost use Rattle.bm_levels.specs.Leveled.{AreLevels};
-ghost use Rattle.bm_shard.specs.Seen.{NoticeOf, ReportOf, IsReadyFor, needs_reservation};
-ghost use Rattle.bm_shard.specs.Unused.{HasNoUnused, HasUnusedOnly, may_add_entry};
+ghost use Rattle.bm_report.specs.ReportedBlocks.{reported_to_part};
+ghost use Rattle.bm_levels.specs.UnusedEntries.{HasNoUnusedOf, MakesNoUnused};
+ghost use Rattle.bm_levels.specs.LeveledBlocks.{AreLevels};
+ghost use Rattle.bm_shard.specs.ShardView.{NoticeOf, ReportOf, IsReadyFor, needs_reservation};
+ghost use Rattle.bm_shard.specs.UnusedEntries.{HasNoUnused, HasUnusedOnly, may_add_entry};
 ghost use Rattle.bm_shard.specs.Inside.{is_prepared};
 ghost use Rattle.bm_shard.specs.UpToDate.{IsSameButCapacity};
 
@@ -23,7 +23,7 @@ impl Shard {
     /// whether it is refused or not, if the shard is up to date in some cluster. It may be called
     /// again: earlier reservations are dropped. `Memory`, if a block is added, a replica received
     /// or a storage reports; other events take none.
-    #[tactic(auto, unfolding(crate::specs::Seen::IsReadyFor))]
+    #[tactic(auto, unfolding(crate::specs::ShardView::IsReadyFor))]
     pub fn prepare(&mut self, event: &Event, topology: &Topology) -> Result<(), Refusal>
         ensures ready { OnOk result (IsReadyFor event.now self.new) }
         ensures same { IsSameButCapacity self.old self.new }

@@ -6,7 +6,7 @@ ghost use Rattle.bm_base.specs.Machine.Queries as queries;
 ghost use Rattle.bm_base.specs.Machine.Levels as levels;
 ghost use Rattle.bm_base.specs.Promises.Versions as versions;
 ghost use Rattle.bm_parts.specs.QueryLaws.{holds_back};
-ghost use Rattle.bm_queries.specs.Listed.{wants, replicas_passing};
+ghost use Rattle.bm_queries.specs.ListedElements.{wants, replicas_passing};
 ghost use Rattle.bm_shard.specs.UpToDate.{IsUpToDate};
 
 use crate::shard::Shard;

@@ -3,9 +3,9 @@ ghost use Rattle.std.specs.Prelude.{◌≡◌, ◌<◌, ◌^◌, ◌∷◌, [], 
 ghost use Rattle.bm_base.specs.Words.{ReportedBlock, replica_at};
 ghost use Rattle.bm_base.specs.Machine.Events as events;
 ghost use Rattle.bm_parts.specs.PlacedLaws.{IsPlaced};
-ghost use Rattle.bm_shard.specs.Unused.{HasNoUnused};
-ghost use Rattle.bm_shard.specs.Changed.{HasChanged};
-ghost use Rattle.bm_shard.specs.Seen.{NoticeOf, ReportOf};
+ghost use Rattle.bm_shard.specs.UnusedEntries.{HasNoUnused};
+ghost use Rattle.bm_shard.specs.EventEffects.{HasChanged};
+ghost use Rattle.bm_shard.specs.ShardView.{NoticeOf, ReportOf};
 
 use crate::arrived_transfers::drop_arrived;
 use crate::shard::{PreparedEvent, Shard};

@@ -2,15 +2,15 @@
 ghost use Rattle.std.specs.Prelude.{◌≡◌, ◌<◌, ◌+◌, ◌^◌, IfOk, IfErr, OnOk};
 ghost use Rattle.bm_base.specs.declared.refusal.Refusal.TheVariants.{Memory};
 ghost use Rattle.bm_base.specs.RoundParts.{round_on_part};
-ghost use Rattle.bm_parts.specs.Before.{part_before};
-ghost use Rattle.bm_shard.specs.Seen.{IsReadyForRound};
-ghost use Rattle.bm_shard.specs.Unused.{HasNoUnused, HasNoUnusedCapacity};
+ghost use Rattle.bm_parts.specs.BoundedWishes.{part_before};
+ghost use Rattle.bm_shard.specs.ShardView.{IsReadyForRound};
+ghost use Rattle.bm_shard.specs.UnusedEntries.{HasNoUnused, HasNoUnusedCapacity};
 ghost use Rattle.bm_shard.specs.UpToDate.{IsUpToDate, IsSameButCapacity, next_part};
 
 use crate::own_transfers::insert_own;
 use crate::shard::{PreparedEvent, Shard};
 use bm_base::{Chosen, Refusal, RoundPart};
-use bm_parts::merge::Key;
+use bm_parts::sort_key::Key;
 use bm_round_scan::{find_round, likely_bound};
 use bm_topo::Topology;
 
@@ -83,10 +83,10 @@ impl Shard {
             .reserve_own(chosen.transfers.as_slice(), self.part)
     }
 
-    /// Takes the shard's next round, in which all shards together chose this. Expired transfers
-    /// leave, excess is marked again from scratch, the shard's own chosen deletes are ordered and
-    /// its own chosen transfers become pending. Every shard takes every round, also one in which
-    /// nothing was chosen. Reservations for an event are dropped. Takes no memory.
+    /// Takes the shard's next round; `chosen` is the choice from the parts of all shards. Expired
+    /// transfers leave, excess is marked again from scratch, the shard's own chosen deletes are
+    /// ordered and its own chosen transfers become pending. Every shard takes every round, also one
+    /// in which nothing was chosen. Reservations for an event are dropped. Takes no memory.
     pub fn round_commit(&mut self, part: &RoundPart, chosen: &Chosen, topology: &Topology)
         requires up_to_date { IsUpToDate topology.now.cluster self.old }
         requires part { part.now.excess ≡ (next_part topology.now.cluster self.old).excess }

@@ -2,7 +2,7 @@
 ghost use Rattle.std.specs.Prelude.{◌≡◌, ◌<◌, ℕ, IfOk, IfErr};
 ghost use Rattle.bm_base.specs.declared.refusal.Refusal.TheVariants.{Memory};
 ghost use Rattle.bm_base.specs.Machine.State.{Cluster, empty_holdings};
-ghost use Rattle.bm_shard.specs.Unused.{HasNoUnused};
+ghost use Rattle.bm_shard.specs.UnusedEntries.{HasNoUnused};
 ghost use Rattle.bm_shard.specs.UpToDate.{IsUpToDate};
 
 use bm_base::{BlockId, Config, HashSecret, Part, Refusal, StorageId};
@@ -27,9 +27,9 @@ pub(crate) enum PreparedEvent {
 /// One shard: the blocks of the numbers `index` modulo `shards`, their replicas, their transfers,
 /// and the level of each block.
 ///
-/// A contract sees the holdings of the definitions, cut to the shard, and the stored levels. That
-/// these are the levels of a cluster is a fact about both (`IsUpToDate`), which each call passes on
-/// to the next.
+/// A contract sees the holdings of the definitions, cut to the shard, and the stored levels.
+/// Whether the levels are right depends on the cluster, too: `IsUpToDate` states that they are, and
+/// the caller passes this fact on from call to call.
 #[derive(Drop)]
 pub struct Shard {
     pub(crate) alloc: Global,
@@ -43,9 +43,9 @@ pub struct Shard {
 }
 
 impl Model for Shard {
-    ghost use Rattle.bm_shard.specs.Seen.{Seen};
+    ghost use Rattle.bm_shard.specs.ShardView.{Seen};
     ghost use Rattle.bm_shard.specs.Codes.{coded_seen};
-    ghost use Rattle.bm_levels.specs.Held.{holdings_with};
+    ghost use Rattle.bm_levels.specs.SlotHoldings.{holdings_with};
     ghost use Rattle.bm_shard.specs.Inside.{levels_of, numbers_of, heads_of, report_of, IsShard};
 
     ghost Value = { Seen };

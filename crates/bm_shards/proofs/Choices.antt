@@ -13,16 +13,16 @@ use Rattle.bm_base.specs.Choices.{merged_wishes, merged_deletes, first_of_each_n
 use Rattle.bm_base.proofs.OneWish.{one_wish}
 use Rattle.bm_parts.proofs.RoundParts.{round_wishes_ascend, round_deletes_ascend}
 use Rattle.bm_parts.specs.RoundLaws.{round_parts}
-use Rattle.bm_parts.specs.Merging.{AreSorted}
-use Rattle.bm_parts.specs.Before.{is_before, part_before}
-use Rattle.bm_parts.proofs.Before.{ascends_still, merged_before}
+use Rattle.bm_parts.specs.SortedLists.{AreSorted}
+use Rattle.bm_parts.specs.BoundedWishes.{is_before, part_before}
+use Rattle.bm_parts.proofs.WishesBefore.{ascends_still, merged_before}
 use Rattle.bm_parts.proofs.Filters.{filter_all}
 use Rattle.bm_parts.proofs.MergedChoices.{wishes_join, parts_choose_transfers, parts_choose_deletes}
 use Rattle.bm_parts.proofs.WholeParts.{whole_has_its_parts}
 use Rattle.bm_round.specs.KeyedParts.{keyed_wishes, keyed_delete, keyed_deletes}
-use Rattle.bm_shard.specs.Seen.{Seen}
+use Rattle.bm_shard.specs.ShardView.{Seen}
 use Rattle.bm_shard.specs.UpToDate.{next_part}
-use Rattle.bm_shards.specs.RoundChosen.{next_parts, next_excess, HasExcess}
+use Rattle.bm_shards.specs.RoundChoice.{next_parts, next_excess, HasExcess}
 use Rattle.bm_shards.specs.Whole.{parts_of, held_by, AreShards, HaveTaken}
 use Rattle.bm_shards.proofs.SameShards.{count_of}
 

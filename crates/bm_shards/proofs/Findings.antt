@@ -6,11 +6,11 @@ use Rattle.std.proofs.lemmas.List.Elements.{All-nil, All-cons}
 use Rattle.bm_base.specs.declared.replica.ReplicaId.{ReplicaId}
 use Rattle.bm_base.specs.declared.round.RoundPart.{RoundPart}
 use Rattle.bm_base.specs.Machine.State.{Cluster}
-use Rattle.bm_shard.specs.Seen.{Seen}
+use Rattle.bm_shard.specs.ShardView.{Seen}
 use Rattle.bm_shard.specs.UpToDate.{next_part}
 use Rattle.bm_shards.specs.Whole.{AreIndexed, AreUpToDate, HaveTaken}
-use Rattle.bm_shards.specs.RoundWorked.{CanFind, HasPart}
-use Rattle.bm_shards.specs.RoundChosen.{next_excess, HasExcess}
+use Rattle.bm_shards.specs.RoundWork.{CanFind, HasPart}
+use Rattle.bm_shards.specs.RoundChoice.{next_excess, HasExcess}
 
 excess_at : (ps : List RoundPart) (i : ℕ) → option_map (λ (p : RoundPart). p.excess) (slice_get ps i) ≡ slice_get (map (λ (p : RoundPart). p.excess) ps) i
 excess_at [] i = refl

@@ -8,7 +8,7 @@ use Rattle.bm_base.specs.Words.{Cluster, Holdings, change_cluster, change_holdin
 use Rattle.bm_base.specs.Promises.Lawful.{IsLawfulCluster}
 use Rattle.bm_parts.proofs.ClusterLevels.{heartbeat_leaves_levels}
 use Rattle.bm_parts.proofs.WellPlaced.{event_keeps_placed}
-use Rattle.bm_shard.specs.Seen.{Seen}
+use Rattle.bm_shard.specs.ShardView.{Seen}
 use Rattle.bm_shard.specs.UpToDate as shard
 use Rattle.bm_shards.specs.Whole.{Whole, AreUpToDate, IsUpToDate}
 
@@ -30,6 +30,6 @@ unfolding IsUpToDate
 heartbeat_up_to_date C e n rs F is lawful fine h =
     subst (λ x. AreUpToDate (change_cluster C x) F.shards) (sym is) (each_up_to_date C n rs lawful (subst (λ x. first_of (cluster_checks C x) ≡ None) is fine) F.shards h)
 
-pub holdings_heard : (C : Cluster) (H : Holdings) (e : Event) (n : ℕ) (rs : List Remaining) → e ≡ Heartbeat n rs → H ≡ change_holdings C H e
+pub holdings_after_heartbeat : (C : Cluster) (H : Holdings) (e : Event) (n : ℕ) (rs : List Remaining) → e ≡ Heartbeat n rs → H ≡ change_holdings C H e
 unfolding change_holdings
-holdings_heard C H e n rs is = ap (λ x. change_holdings C H x) (sym is)
+holdings_after_heartbeat C H e n rs is = ap (λ x. change_holdings C H x) (sym is)

@@ -19,7 +19,7 @@ use Rattle.bm_parts.proofs.WholeParts.{whole_has_its_parts}
 use Rattle.bm_parts.proofs.SortedLists.{sorted_is_ordered}
 use Rattle.bm_round.proofs.KeyedLists.{ordered_ascends}
 use Rattle.bm_queries.proofs.DistinctKeys.{IsNew, AreApart, apart_append, sorted_ascends}
-use Rattle.bm_shard.specs.Seen.{Seen}
+use Rattle.bm_shard.specs.ShardView.{Seen}
 use Rattle.bm_shards.specs.Whole.{Whole, parts_of, held_by, AreShards}
 use Rattle.bm_shards.proofs.SameShards.{count_of}
 

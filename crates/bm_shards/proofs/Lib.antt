@@ -1,7 +1,7 @@
 -- Lemmas on all shards: what they hold together, and what is gathered from each.
 pub mod NewShards
 pub mod SameShards
-pub mod Gathered
+pub mod GatheredAnswers
 pub mod ShardLists
 pub mod OneOf
 pub mod Findings

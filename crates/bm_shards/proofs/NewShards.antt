@@ -10,9 +10,9 @@ use Rattle.bm_parts.specs.Whole.{joined_with, AreOwn}
 use Rattle.bm_parts.proofs.PartMaps.{part}
 use Rattle.bm_parts.proofs.JoinedShares.{own_entries}
 use Rattle.bm_parts.proofs.WholeParts.{cut_empty}
-use Rattle.bm_shard.specs.Seen.{Seen}
+use Rattle.bm_shard.specs.ShardView.{Seen}
 use Rattle.bm_shards.specs.Whole.{parts_of, held_by, AreIndexed, AreShards, AreUpToDate, HaveTaken}
-use Rattle.bm_shards.specs.Worked.{IsNew, AreNew}
+use Rattle.bm_shards.specs.ShardWork.{IsNew, AreNew}
 
 next_to_empty : joined_with empty_holdings empty_holdings ≡ empty_holdings
 unfolding joined_with empty empty_holdings

@@ -11,7 +11,7 @@ use Rattle.bm_parts.specs.Parts.{block_of, change_part}
 use Rattle.bm_parts.specs.Whole.{whole_of, AreOwn}
 use Rattle.bm_parts.proofs.WholeParts.{parts_again}
 use Rattle.bm_parts.proofs.OneShard.{same_cluster, one_block_changes_one_part, one_shard_is_enough}
-use Rattle.bm_shard.specs.Seen.{Seen}
+use Rattle.bm_shard.specs.ShardView.{Seen}
 use Rattle.bm_shard.specs.UpToDate.{IsUpToDate, IsSameButCapacity}
 use Rattle.bm_shards.specs.Whole.{parts_of, held_by, AreIndexed, AreShards, AreUpToDate, HaveTaken}
 use Rattle.bm_shards.specs.OneShard.{IsChanged, IsMadeAt}

@@ -21,7 +21,7 @@ use Rattle.bm_parts.proofs.JoinedReplicas.{blocks_on_join}
 use Rattle.bm_parts.proofs.JoinedBlocks.{missing_join, tables_join}
 use Rattle.bm_parts.proofs.OwnShard.{own_shard_answers, own_shard_checks}
 use Rattle.bm_parts.proofs.WholeParts.{whole_has_its_parts}
-use Rattle.bm_shard.specs.Seen.{Seen}
+use Rattle.bm_shard.specs.ShardView.{Seen}
 use Rattle.bm_shards.specs.Rows.{rows_of}
 use Rattle.bm_shards.specs.Whole.{Whole, parts_of, held_by, AreShards, AreUpToDate, IsUpToDate}
 use Rattle.bm_shards.proofs.Joins.{sorted_lists}
@@ -94,6 +94,6 @@ module _ (ss now : List (ℕ × Seen)) (n : ℕ) (F : Whole) (are : AreShards (l
   sorted_blocks_on storage = sorted_lists by_number (λ (b : ℕ). b) (λ b. b) (λ H. blocks_on H storage) (blocks_on_join storage) (own_blocks_on storage) ss now n F are is end seen
 
 pub sorted_rows : (ss : List (ℕ × Seen)) → AreShards (length ss) ss → (ts : List (List Row)) (ys : List Row) → ts ≡ map (λ (s : ℕ × Seen). rows_of s.1) ss → IsPermutation (flat_map (λ t. t) ts) ys → IsSortedByKey (λ (r : Row). r.0) nat_cmp ys → ys ≡ table (held_by ss)
-sorted_rows ss are ts ys is moved rises =
+sorted_rows ss are ts ys is moved ascends =
     sorted_lists by_number (λ (r : Row). r.0) (λ b. b) table tables_join own_rows ss ss (length ss) (record { holdings = held_by ss; shards = ss }) are refl (omega arith) refl (flat_map (λ t. t) ts) ys
-    (ap (flat_map (λ t. t)) is ∙ flat_map-map (λ (t : List Row). t) (λ (s : ℕ × Seen). rows_of s.1) ss ∙ ap (flat_map (λ (s : ℕ × Seen). rows_of s.1)) (sym (take_all (length ss) ss (omega arith)))) moved rises
+    (ap (flat_map (λ t. t)) is ∙ flat_map-map (λ (t : List Row). t) (λ (s : ℕ × Seen). rows_of s.1) ss ∙ ap (flat_map (λ (s : ℕ × Seen). rows_of s.1)) (sym (take_all (length ss) ss (omega arith)))) moved ascends

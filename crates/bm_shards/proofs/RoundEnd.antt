@@ -7,12 +7,12 @@ use Rattle.bm_base.specs.declared.refusal.Refusal.{Refusal}
 use Rattle.bm_base.specs.declared.round.Chosen.{Chosen}
 use Rattle.bm_base.specs.Words.{RoundLimits, Cluster, transfers, deletes, commands_of, end_round}
 use Rattle.bm_base.specs.RoundParts.{holdings_at_choice}
-use Rattle.bm_shard.specs.Seen.{Seen}
+use Rattle.bm_shard.specs.ShardView.{Seen}
 use Rattle.bm_shards.specs.Whole.{held_by, AreShards, AreUpToDate, HaveTaken}
 use Rattle.bm_shards.specs.Answers.{EachBecame}
-use Rattle.bm_shards.specs.Worked.{IsSame}
+use Rattle.bm_shards.specs.ShardWork.{IsSame}
 use Rattle.bm_shards.specs.Rounds.{commands_in, left_by_round}
-use Rattle.bm_shards.specs.RoundWorked.{HasTakenRound}
+use Rattle.bm_shards.specs.RoundWork.{HasTakenRound}
 use Rattle.bm_shards.proofs.RoundsTaken.{are_after, held_after, up_to_date_after, took_after}
 use Rattle.bm_shards.proofs.SameShards.{still_shards, same_held, same_up_to_date, same_took}
 

@@ -10,13 +10,13 @@ use Rattle.bm_base.specs.RoundParts.{holdings_at_choice, round_on_part}
 use Rattle.bm_parts.specs.Whole.{EachPart}
 use Rattle.bm_parts.proofs.PartChanges.{whole_changes_by_round}
 use Rattle.bm_crew.specs.Work.{IsResultOf}
-use Rattle.bm_shard.specs.Seen.{Seen, IsReadyForRound}
+use Rattle.bm_shard.specs.ShardView.{Seen, IsReadyForRound}
 use Rattle.bm_shard.specs.UpToDate.{next_part}
 use Rattle.bm_shards.specs.Whole.{parts_of, held_by, AreIndexed, AreShards, AreUpToDate, HaveTaken}
 use Rattle.bm_shards.specs.Answers.{EachBecame, ShardResult, shard_answered, first_fault}
-use Rattle.bm_shards.specs.Worked.{IsSame, IsPrepared}
-use Rattle.bm_shards.specs.RoundWorked.{HasPart, CanCommitRound, HasTakenRound}
-use Rattle.bm_shards.proofs.Gathered.{prepared_same, prepared_ready}
+use Rattle.bm_shards.specs.ShardWork.{IsSame, IsPrepared}
+use Rattle.bm_shards.specs.RoundWork.{HasPart, CanCommitRound, HasTakenRound}
+use Rattle.bm_shards.proofs.GatheredAnswers.{prepared_same, prepared_ready}
 use Rattle.bm_shards.proofs.SameShards.{count_of, are_shards, same_all, same_up_to_date}
 
 module _ (C : Cluster) (chosen : Chosen) where

@@ -8,12 +8,12 @@ use Rattle.bm_base.specs.Words.{get, Cluster, Holdings, replica_at, level}
 use Rattle.bm_maps.specs.SlotLists.{IsMember}
 use Rattle.bm_parts.specs.Whole.{whole_of, AreOwn}
 use Rattle.bm_parts.specs.PlacedLaws.{IsPlaced}
-use Rattle.bm_shard.specs.Seen.{Seen}
-use Rattle.bm_shard.specs.Unused.{HasNoUnused}
+use Rattle.bm_shard.specs.ShardView.{Seen}
+use Rattle.bm_shard.specs.UnusedEntries.{HasNoUnused}
 use Rattle.bm_shard.specs.UpToDate.{IsUpToDate, IsSameButCapacity}
 use Rattle.bm_shards.specs.Whole.{parts_of, held_by, AreIndexed, AreShards, AreUpToDate, HaveTaken}
 use Rattle.bm_shards.specs.Answers.{EachBecame}
-use Rattle.bm_shards.specs.Worked.{IsSame}
+use Rattle.bm_shards.specs.ShardWork.{IsSame}
 
 -- each shard has one part
 pub count_of : (ss : List (ℕ × Seen)) → length (parts_of ss) ≡ length ss

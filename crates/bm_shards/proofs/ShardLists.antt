@@ -9,12 +9,12 @@ use Rattle.bm_base.specs.Words.{Cluster, Holdings, change_cluster, change_holdin
 use Rattle.bm_parts.specs.Parts.{change_part}
 use Rattle.bm_parts.specs.Whole.{EachPart, done_of_all}
 use Rattle.bm_parts.proofs.PartChanges.{whole_changes_by_event, done_adds_up}
-use Rattle.bm_shard.specs.Seen.{Seen, IsReadyFor}
-use Rattle.bm_shards.specs.Worked.{IsPrepared, CanCommit, IsCommitted}
+use Rattle.bm_shard.specs.ShardView.{Seen, IsReadyFor}
+use Rattle.bm_shards.specs.ShardWork.{IsPrepared, CanCommit, IsCommitted}
 use Rattle.bm_shards.specs.Answers.{EachBecame, ShardResult, shard_answered, first_fault, done_of, IsFew}
 use Rattle.bm_shards.specs.Whole.{parts_of, held_by, AreIndexed, AreShards, AreUpToDate, HaveTaken}
 use Rattle.bm_shards.specs.declared.answers.Answered.{Answered}
-use Rattle.bm_shards.proofs.Gathered.{prepared_same, prepared_ready}
+use Rattle.bm_shards.proofs.GatheredAnswers.{prepared_same, prepared_ready}
 use Rattle.bm_shards.proofs.SameShards.{count_of, are_shards, same_up_to_date}
 
 module _ (C : Cluster) (e : Event) where

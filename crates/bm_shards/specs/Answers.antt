@@ -7,10 +7,10 @@ use Rattle.bm_base.specs.declared.event.Done.{Done}
 use Rattle.bm_base.specs.declared.refusal.Refusal.{Refusal}
 use Rattle.bm_base.specs.declared.refusal.Refusal.TheVariants.{Memory}
 use Rattle.bm_crew.specs.Work.{IsResultOf}
-use Rattle.bm_shard.specs.Seen.{Seen}
+use Rattle.bm_shard.specs.ShardView.{Seen}
 use Rattle.bm_shards.specs.declared.answers.Answered.{Answered}
 
--- each shard keeps its index, and its result is in this relation to it
+-- each shard keeps its index, and R holds of the shard and its result
 abbrev pub EachBecame : {U : Type 0} → (Seen → U → Type 0) → List (ℕ × Seen) → List (ℕ × U) → Type 0
 EachBecame R ss us = AllZip (IsResultOf (λ _. R)) ss us
 

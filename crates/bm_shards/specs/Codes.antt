@@ -3,7 +3,7 @@ use Rattle.std.specs.Prelude.{ℕ, List, refl}
 use Rattle.std.specs.Coded.{Coded, code_by, coded×, coded_ℕ, coded_list}
 use Rattle.bm_base.specs.Machine.State.{Holdings}
 use Rattle.bm_base.specs.Codes.{coded_holdings}
-use Rattle.bm_shard.specs.Seen.{Seen}
+use Rattle.bm_shard.specs.ShardView.{Seen}
 use Rattle.bm_shard.specs.Codes.{coded_seen}
 use Rattle.bm_shards.specs.Whole.{Whole}
 

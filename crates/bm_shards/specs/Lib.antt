@@ -2,9 +2,9 @@
 pub mod Whole
 pub mod Codes
 pub mod Answers
-pub mod Worked
+pub mod ShardWork
 pub mod OneShard
 pub mod Rounds
-pub mod RoundWorked
-pub mod RoundChosen
+pub mod RoundWork
+pub mod RoundChoice
 pub mod Rows

@@ -4,7 +4,7 @@ use Rattle.bm_base.specs.declared.event.Event.{Event}
 use Rattle.bm_base.specs.declared.event.Done.{Done}
 use Rattle.bm_base.specs.Words.{Cluster, change_cluster, done}
 use Rattle.bm_parts.specs.Parts.{change_part}
-use Rattle.bm_shard.specs.Seen.{Seen}
+use Rattle.bm_shard.specs.ShardView.{Seen}
 use Rattle.bm_shard.specs.UpToDate.{IsUpToDate}
 
 -- a shard changed as the event changes it, and this was answered
@@ -16,7 +16,7 @@ pub record IsChanged (C : Cluster) (e : Event) (S T : Seen) (d : Done) : Type 0 
   pub round : T.round ≡ S.round
   pub pend : T.pend ≡ S.pend
 
--- the shard at this index became another one, in this relation to it; all others stay
+-- the shard at this index became another one, and R holds of both; all other shards stay
 pub record IsMadeAt (R : Seen → Seen → Type 0) (index : ℕ) (old new : List (ℕ × Seen)) : Type 0 where
   pub shard : ℕ × Seen
   pub made : Seen

@@ -2,7 +2,7 @@
 use Rattle.std.specs.Prelude.{◌≡◌, ℕ, suc, ◌≤◌, List, [], ◌∷◌, map, length}
 use Rattle.bm_base.specs.Machine.State.{Cluster, Holdings}
 use Rattle.bm_parts.specs.Whole.{whole_of, AreOwn}
-use Rattle.bm_shard.specs.Seen.{Seen}
+use Rattle.bm_shard.specs.ShardView.{Seen}
 use Rattle.bm_shard.specs.UpToDate as shard
 
 -- the view of all shards: what they hold together, and each of them with its index
@@ -17,7 +17,7 @@ parts_of ss = map (λ s. s.1.holdings) ss
 abbrev pub held_by : List (ℕ × Seen) → Holdings
 held_by ss = whole_of (parts_of ss)
 
--- each is paired with its index, and is that one of n
+-- each shard is paired with its index, and is the shard of this index among n
 abbrev pub AreIndexed : ℕ → ℕ → List (ℕ × Seen) → Type 0
 AreIndexed shards index [] = Unit {0}
 AreIndexed shards index (s ∷ ss) = (s.0 ≡ index) × (s.1.part ≡ record { index = index; shards = shards }) × AreIndexed shards (suc index) ss

@@ -1,7 +1,7 @@
 // Releases what the shards reserved for an event or a round.
 ghost use Rattle.std.specs.List.{All, AllZip};
 ghost use Rattle.bm_shard.specs.UpToDate.{IsSameButCapacity};
-ghost use Rattle.bm_shards.specs.Worked.{IsSame, HasGivenUp};
+ghost use Rattle.bm_shards.specs.ShardWork.{IsSame, HasGivenUp};
 
 use bm_shard::Shard;
 

@@ -3,7 +3,7 @@ ghost use Rattle.std.specs.Prelude.{◌≡◌, ℕ, None, length, vec_len, IfOk,
 ghost use Rattle.bm_base.specs.declared.refusal.Refusal.TheVariants.{Memory};
 ghost use Rattle.bm_base.specs.Words.{config_refusal, Cluster, empty_holdings};
 ghost use Rattle.bm_shards.specs.Whole.{IsUpToDate, HasTaken};
-ghost use Rattle.bm_shards.specs.Worked.{AreNew};
+ghost use Rattle.bm_shards.specs.ShardWork.{AreNew};
 
 use bm_base::{Config, HashSecret, Refusal};
 use bm_shard::Shard;
@@ -12,9 +12,9 @@ use std::marker::Model;
 
 /// All shards of a manager, each with its index.
 ///
-/// A contract sees what they hold together. That each is up to date in a cluster (`IsUpToDate`),
-/// and has taken all rounds (`HasTaken`), are facts about that, which each call passes on to the
-/// next.
+/// A contract sees what the shards hold together. Two more facts are passed on by the caller from
+/// call to call: each shard is up to date in a cluster (`IsUpToDate`), and has taken all rounds
+/// (`HasTaken`).
 #[derive(Drop)]
 pub struct AllShards {
     pub(crate) alloc: Global,

@@ -2,7 +2,7 @@
 ghost use Rattle.std.specs.Prelude.{◌≡◌, ◌≤◌, ◌<◌, ◌+◌, ◌++◌, ℕ, [], List, map, length, vec_len, vec_capacity};
 ghost use Rattle.std.specs.Result.{result_and, result_ok};
 ghost use Rattle.std.specs.List.{All, filter_map, cons_option};
-ghost use Rattle.bm_shard.specs.Seen.{Seen};
+ghost use Rattle.bm_shard.specs.ShardView.{Seen};
 ghost use Rattle.bm_shards.specs.Answers.{EachBecame, HasAnswered, HasGathered, shard_answered, fault_in, first_fault, done_of, IsFew};
 
 use bm_base::{Done, Refusal};

@@ -4,7 +4,7 @@ ghost use Rattle.std.specs.List.{All, AllZip};
 ghost use Rattle.bm_base.specs.declared.refusal.Refusal.TheVariants.{Memory};
 ghost use Rattle.bm_base.specs.Words.{is_multi_rack, change_cluster, change_holdings, first_of, cluster_checks, done};
 ghost use Rattle.bm_parts.specs.Parts.{block_of};
-ghost use Rattle.bm_shards.specs.Worked.{CanCommit, IsSame, HasGivenUp};
+ghost use Rattle.bm_shards.specs.ShardWork.{CanCommit, IsSame, HasGivenUp};
 ghost use Rattle.bm_shards.specs.Whole.{AreShards, AreUpToDate, HaveTaken, held_by};
 
 use crate::abort::abort_all;

@@ -3,8 +3,8 @@ ghost use Rattle.std.specs.Prelude.{◌≡◌, ◌<◌, ◌≤◌, ℕ, None, So
 ghost use Rattle.bm_base.specs.Words.{is_multi_rack, change_cluster, change_holdings, done, first_of, cluster_checks, Refuses, takes_memory};
 ghost use Rattle.bm_base.specs.Shards.{shard_of};
 ghost use Rattle.bm_parts.specs.Parts.{block_of};
-ghost use Rattle.bm_shard.specs.Seen.{Seen};
-ghost use Rattle.bm_shard.specs.Unused.{HasNoUnused};
+ghost use Rattle.bm_shard.specs.ShardView.{Seen};
+ghost use Rattle.bm_shard.specs.UnusedEntries.{HasNoUnused};
 ghost use Rattle.bm_shard.specs.UpToDate.{IsUpToDate, IsSameButCapacity};
 ghost use Rattle.bm_shards.specs.Whole.{AreShards, AreUpToDate, HaveTaken, held_by};
 ghost use Rattle.bm_shards.specs.OneShard.{IsChanged, IsChangedAt, IsMadeAt};

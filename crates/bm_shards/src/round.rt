@@ -5,9 +5,9 @@ ghost use Rattle.bm_base.specs.declared.refusal.Refusal.TheVariants.{Memory};
 ghost use Rattle.bm_base.specs.Words.{limits_of, config_refusal};
 ghost use Rattle.bm_shards.specs.Whole.{IsUpToDate, HasTaken, AreShards, AreUpToDate, HaveTaken, held_by};
 ghost use Rattle.bm_shards.specs.Answers.{EachBecame};
-ghost use Rattle.bm_shards.specs.Worked.{IsSame, HasGivenUp};
+ghost use Rattle.bm_shards.specs.ShardWork.{IsSame, HasGivenUp};
 ghost use Rattle.bm_shards.specs.Rounds.{commands_in, left_by_round};
-ghost use Rattle.bm_shards.specs.RoundWorked.{HasPart, CanCommitRound, HasTakenRound};
+ghost use Rattle.bm_shards.specs.RoundWork.{HasPart, CanCommitRound, HasTakenRound};
 
 use crate::abort::abort_all;
 use crate::all_shards::AllShards;
@@ -51,7 +51,7 @@ impl AllShards {
         ensures kept { OnErr result (HasTaken last config.now.pend self.new) }
         ensures refused { IfErr result (λ e. e ≡ Memory) }
     {
-        round_all(
+        take_round_in_all(
             workers,
             &mut self.shards,
             config,
@@ -63,9 +63,9 @@ impl AllShards {
 }
 
 /// Takes the round after `last` in all shards, or in none, and returns its commands. `is_scarce` is
-/// a hint: whether to ask for all wishes at once. It is not set after a refusal in the search, so
-/// that the next round needs less memory.
-fn round_all<W: Workers>(
+/// a hint: whether to ask for all wishes at once. If the search for the parts is refused, the hint
+/// is false after that, so that the next round needs less memory.
+fn take_round_in_all<W: Workers>(
     workers: &W,
     shards: &mut Vec<(u32, Shard)>,
     config: &Config,

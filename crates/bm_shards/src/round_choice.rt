@@ -3,7 +3,7 @@ ghost use Rattle.std.specs.Prelude.{◌≡◌, map, false, IfOk, IfErr};
 ghost use Rattle.bm_base.specs.declared.refusal.Refusal.TheVariants.{Memory};
 ghost use Rattle.bm_base.specs.Words.{limits_of, has_repeats, commands_of};
 ghost use Rattle.bm_base.specs.Choices as choices;
-ghost use Rattle.bm_parts.specs.Merging.{AreSorted};
+ghost use Rattle.bm_parts.specs.SortedLists.{AreSorted};
 ghost use Rattle.bm_round.specs.KeyedParts.{keyed_wishes, keyed_deletes};
 
 use bm_base::{Chosen, Commands, Config, Refusal, RoundPart};

@@ -5,16 +5,16 @@ ghost use Rattle.bm_base.specs.declared.refusal.Refusal.TheVariants.{Memory};
 ghost use Rattle.bm_base.specs.Words.{limits_of, has_repeats, config_refusal};
 ghost use Rattle.bm_base.specs.Choices as choices;
 ghost use Rattle.bm_base.specs.declared.round.RoundPart.{RoundPart};
-ghost use Rattle.bm_parts.specs.Before.{part_before};
-ghost use Rattle.bm_shards.specs.RoundWorked.{CanFind};
-ghost use Rattle.bm_shards.specs.RoundChosen.{next_parts, next_parts_before, HasExcess, IsChosen};
+ghost use Rattle.bm_parts.specs.BoundedWishes.{part_before};
+ghost use Rattle.bm_shards.specs.RoundWork.{CanFind};
+ghost use Rattle.bm_shards.specs.RoundChoice.{next_parts, next_parts_before, HasExcess, IsChosen};
 
 use crate::answers::{ShardResult, gather_answers};
 use crate::pass_buffers::reserve_pass;
 use crate::round_choice::{ChosenCommands, choose_commands};
 use crate::workers::Workers;
 use bm_base::{Chosen, Config, Refusal, RoundPart};
-use bm_parts::merge::Key;
+use bm_parts::sort_key::Key;
 use bm_round::is_full;
 use bm_shard::Shard;
 use bm_topo::Topology;
@@ -84,7 +84,7 @@ pub(crate) fn lacks_transfers(found: &FoundRound, config: &Config, topology: &To
     wishes as u64 > transfers.saturating_mul(WISHES_PER_TRANSFER[0])
 }
 
-/// Whether the choice from the wishes before a bound is the choice from all wishes.
+/// Whether the choice from the wishes before a bound is sure to be the choice from all wishes.
 fn is_of_all(chosen: &Chosen, bound: Option<Key>, topology: &Topology, config: &Config) -> bool
     ensures { (whole : List RoundPart) → result ≡ true
         → chosen.now.transfers ≡ choices.chosen_transfers (limits_of config.now)

@@ -16,7 +16,7 @@ use bm_shard::Shard;
 use std::alloc::{AllocError, Global};
 use std::mem;
 
-/// A block, and the first of its places.
+/// A block, and the first `MAX_PLACES` of its places.
 pub type Row = (BlockId, Places);
 
 /// The rows of one shard.

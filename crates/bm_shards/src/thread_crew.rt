@@ -1,14 +1,14 @@
 // A crew of threads.
 ghost use Rattle.std.specs.Prelude.{◌≡◌, None};
 ghost use Rattle.bm_base.specs.Words.{is_multi_rack, change_cluster, first_of, cluster_checks};
-ghost use Rattle.bm_parts.specs.Before.{part_before};
+ghost use Rattle.bm_parts.specs.BoundedWishes.{part_before};
 ghost use Rattle.bm_parts.specs.Parts.{block_of};
-ghost use Rattle.bm_shard.specs.Seen.{IsReadyFor, IsReadyForRound};
+ghost use Rattle.bm_shard.specs.ShardView.{IsReadyFor, IsReadyForRound};
 ghost use Rattle.bm_shard.specs.UpToDate.{next_part};
 ghost use Rattle.bm_shards.specs.Answers.{HasAnswered};
 ghost use Rattle.bm_shards.specs.Rows.{rows_of};
-ghost use Rattle.bm_shards.specs.Worked.{IsPrepared, CanCommit, IsCommitted};
-ghost use Rattle.bm_shards.specs.RoundWorked.{CanFind, HasPart, CanCommitRound, HasTakenRound};
+ghost use Rattle.bm_shards.specs.ShardWork.{IsPrepared, CanCommit, IsCommitted};
+ghost use Rattle.bm_shards.specs.RoundWork.{CanFind, HasPart, CanCommitRound, HasTakenRound};
 
 use crate::answers::{Answered, ShardResult};
 use crate::shard_work::{
@@ -18,7 +18,7 @@ use crate::table::Rows;
 use crate::workers::Workers;
 use bm_base::{Chosen, Done, Event, RoundPart};
 use bm_crew::{Gate, Ready};
-use bm_parts::merge::Key;
+use bm_parts::sort_key::Key;
 use bm_shard::Shard;
 use bm_topo::Topology;
 use std::marker::PhantomData;

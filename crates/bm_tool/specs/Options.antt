@@ -86,7 +86,7 @@ IsOfRun (Faulted fault) = ⊤
 IsOfRun Helped = ⊥
 IsOfRun Misused = ⊥
 
--- The end of the program on words that are refused for these reasons. It runs only if there is
--- none; else the end has a reason, or out of memory.
+-- How the program ends: by a run, if no reason refuses its words. Else by one of the reasons, or
+-- out of memory.
 abbrev pub EndsBy : Kinds → End → Type 0
 EndsBy reasons end = ((reasons ≡ []) × IsOfRun end) ⊎ ((k : ErrorKind) × IsAmong k (OutOfMemory ∷ reasons) × (end ≡ end_of k))

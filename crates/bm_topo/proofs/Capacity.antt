@@ -5,7 +5,7 @@ use Rattle.bm_base.specs.declared.storage.StorageInfo.{StorageInfo}
 use Rattle.bm_base.specs.Maps.Map.{Map, by_number, len, remove, revise_at}
 use Rattle.bm_maps.specs.Table.{Table, capacity}
 use Rattle.bm_topo.specs.Racks.{without_one}
-use Rattle.bm_topo.specs.Seen.{Seen, SpareCapacity, IsSameCapacity, HasNoLessCapacity}
+use Rattle.bm_topo.specs.TopologyView.{Seen, SpareCapacity, IsSameCapacity, HasNoLessCapacity}
 use Rattle.bm_topo.specs.Sound.{IsSound}
 use Rattle.bm_topo.proofs.Lengths.{len-remove, len-revise_at}
 use Rattle.bm_topo.proofs.RackCount.{racks_counted}

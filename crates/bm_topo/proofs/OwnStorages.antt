@@ -24,7 +24,7 @@ all_known C n (r ∷ rs) e =
     let both = or_parts (not (has_storage C n r.storage)) (list_any (λ (x : Remaining). not (has_storage C n x.storage)) rs) e in
     (λ i. own_known C n r.storage both.0 i || all_known C n rs both.1 i)
 
-pub heard : (C : Cluster) (n : ℕ) (rs : List Remaining) → not (knows_node C n) ≡ false → list_any (λ r. not (has_storage C n r.storage)) rs ≡ false
+pub heartbeat_accepted : (C : Cluster) (n : ℕ) (rs : List Remaining) → not (knows_node C n) ≡ false → list_any (λ r. not (has_storage C n r.storage)) rs ≡ false
     → first_of (cluster_checks C (Heartbeat n rs)) ≡ None
 unfolding cluster_checks
-heard C n rs known own = rw (known, all_known C n rs own, own) refl
+heartbeat_accepted C n rs known own = rw (known, all_known C n rs own, own) refl

@@ -66,11 +66,11 @@ has_repeats-append [] ys = ap (λ b. b || has_repeats ys) (sym (any_of_none ys))
 has_repeats-append (x ∷ xs) ys = grind (arith, list_any-append (λ y. y == x) xs ys, any_of_either (λ y. x == y) (has xs) ys, has_repeats-append xs ys)
 
 pub has_repeats-split : (xs front back : List ℕ) (r b : Bool) → xs ≡ front ++ back → r ≡ (has_repeats front || list_any (has front) back) → r ≡ b → has_repeats xs ≡ (b || has_repeats back)
-has_repeats-split xs front back r b e told is = ap has_repeats e ∙ has_repeats-append front back ∙ ap (λ a. a || has_repeats back) (sym told ∙ is)
+has_repeats-split xs front back r b e facts is = ap has_repeats e ∙ has_repeats-append front back ∙ ap (λ a. a || has_repeats back) (sym facts ∙ is)
 
 -- ascending numbers
-pub no_repeats-rising : (xs : List ℕ) → IsStrictlyIncreasing xs → has_repeats xs ≡ false
-no_repeats-rising xs up = no_repeats_from_distinct xs (IsDistinct-from_apart same xs (λ i j d lt within.
+pub no_repeats-ascending : (xs : List ℕ) → IsStrictlyIncreasing xs → has_repeats xs ≡ false
+no_repeats-ascending xs up = no_repeats_from_distinct xs (IsDistinct-from_apart same xs (λ i j d lt within.
     let below : get_or xs i d < get_or xs j d = below_from_sorted xs i j d (sorted_from_strictly_increasing xs up) lt within in
     ne_eqb (get_or xs i d) (get_or xs j d) (λ e. omega (arith, below, e))))
 

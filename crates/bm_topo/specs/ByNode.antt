@@ -8,12 +8,12 @@ use Rattle.bm_base.specs.Maps.Map.{Map, by_number, get, keys}
 unfoldable pub node_in : Map by_number StorageInfo → ℕ → ℕ
 node_in storages s = unwrap_or (option_map (λ (i : StorageInfo). i.node) (get storages s)) 0
 
--- these storages are sorted by node, and those of each node are those among `ks`, in the same order
+-- `ss` has the storages `ks`, sorted by node; the storages of one node are in the order of `ks`
 pub record AreByNode (node : ℕ → ℕ) (ks ss : List ℕ) : Type 0 where
   pub in_order : IsNonDecreasingBy node ss
   pub each : (n : ℕ) → filter (λ s. node s == n) ss ≡ filter (λ s. node s == n) ks
   pub many : length ss ≡ length ks
 
--- all storages of a table are
+-- these are all storages of a table, sorted by node
 abbrev pub AreAllByNode : Map by_number StorageInfo → List ℕ → Type 0
 AreAllByNode storages ss = AreByNode (node_in storages) (keys storages) ss

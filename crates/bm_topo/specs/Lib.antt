@@ -1,5 +1,5 @@
 -- Definitions of the contracts of a topology: the cluster, its tables and their capacity.
-pub mod Seen
+pub mod TopologyView
 pub mod Racks
 pub mod Keys
 pub mod Sound

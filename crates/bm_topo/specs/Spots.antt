@@ -10,11 +10,11 @@ pub record IsSpot (C : Cluster) (p : Spot) : Type 0 where
   pub rack : rack_of C p.storage ≡ Some p.rack
   pub drains : p.drains ≡ is_draining C p.storage
 
--- the first n of them are
+-- the first n spots match the cluster
 abbrev pub AreSpots : Cluster → List Spot → ℕ → Type 0
 AreSpots C spots n = (k : ℕ) (p : Spot) → k < n → slice_get spots k ≡ Some p → IsSpot C p
 
--- the first n of a whole table are, and the table has an index for each possible storage
+-- a table with a spot for each possible storage, of which the first n match the cluster
 pub record HasSpots (C : Cluster) (spots : List Spot) (n : ℕ) : Type 0 where
   pub whole : length spots ≡ MAX_STORAGES
   pub few : n ≤ MAX_STORAGES

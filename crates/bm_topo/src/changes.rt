@@ -6,7 +6,7 @@ ghost use Rattle.bm_base.specs.Maps.Map as map;
 ghost use Rattle.bm_base.specs.Machine.Events as events;
 ghost use Rattle.bm_base.specs.Words.{first_of, cluster_checks, Refuses};
 ghost use Rattle.bm_base.specs.declared.event.Event.TheVariants as event_of;
-ghost use Rattle.bm_topo.specs.Seen.{IsReadyFor, HasNoLessCapacity, IsSameCapacity, grows_cluster};
+ghost use Rattle.bm_topo.specs.TopologyView.{IsReadyFor, HasNoLessCapacity, IsSameCapacity, grows_cluster};
 
 use crate::by_node::sort_by_node;
 use crate::tables::{add_storages, drop_storages, leave_rack, set_remaining};
@@ -55,8 +55,8 @@ impl Topology {
     }
 
     /// Changes the cluster by an event that no check on the cluster refuses, in the capacity that
-    /// [`Topology::prepare`] of this event reserved. Takes no memory, and releases none: what
-    /// leaves the cluster leaves its capacity.
+    /// [`Topology::prepare`] of this event reserved. Takes no memory, and releases none: the
+    /// capacity of what leaves the cluster stays reserved.
     #[tactic(auto, unfolding(bm_base::specs::Machine::Events::change_cluster))]
     pub fn commit(&mut self, event: &Event)
         requires accepted { first_of (cluster_checks self.old.cluster event.now) ≡ None }
@@ -137,7 +137,7 @@ impl Topology {
         self.forget_node(node);
     }
 
-    /// A node that has no storage any more and does not drain.
+    /// Removes a node that has no storage and does not drain, and counts one node less on its rack.
     fn forget_node(&mut self, node: NodeId)
         requires storages { (storage : ℕ) (info : StorageInfo)
             → map.get self.old.cluster.storages storage ≡ Some info → info.node ≢ node }

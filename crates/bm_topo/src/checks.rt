@@ -39,7 +39,7 @@ impl Topology {
         storages.iter().any(|s| self.knows_storage(*s))
     }
 
-    /// Whether a node with these storages would be too many.
+    /// Whether one more node with these storages would exceed `MAX_NODES` or `MAX_STORAGES`.
     fn is_full(&self, storages: &[StorageId]) -> bool
         ensures { result ≡ (nat_le MAX_NODES (map.len self.now.cluster.nodes)
             || nat_lt MAX_STORAGES (map.len self.now.cluster.storages + length storages.now)) }
@@ -57,7 +57,7 @@ impl Topology {
         remaining.iter().any(|r| !self.knows_storage(r.storage))
     }
 
-    /// Whether a storage is not one of the node's; one that is not known is not.
+    /// Whether some listed storage is not the node's; an unknown storage is not.
     fn names_foreign_storage(&self, node: NodeId, remaining: &[Remaining]) -> bool
         ensures { result ≡ list_any
             (λ r. not (replicas.has_storage self.now.cluster node r.storage)) remaining.now }
@@ -202,8 +202,8 @@ fn has_repeats_among_few(storages: &[StorageId]) -> bool
     false
 }
 
-/// Sorts one part of the list after another, and searches the sorted part for all that follows. It
-/// stays a function of its own: inlined, each check of any event would touch its whole stack frame.
+/// Sorts one part of the list after another, and searches each sorted part for the storages after
+/// it. Not inlined: else each check of an event would touch this function's large stack frame.
 #[inline(never)]
 fn has_repeats_among_many(storages: &[StorageId]) -> bool
     ensures { result ≡ lists.has_repeats storages.now }
@@ -220,7 +220,7 @@ fn has_repeats_among_many(storages: &[StorageId]) -> bool
     false
 }
 
-/// Whether a storage occurs twice in a part of a list, or in it and in what follows.
+/// Whether a storage occurs twice in `part`, or both in `part` and in `others`.
 fn repeats_any(part: &[StorageId], others: &[StorageId], ordered: &mut [StorageId]) -> bool
     requires { length ordered.old ≡ length part.now }
     ensures { result ≡ (lists.has_repeats part.now || list_any (lists.has part.now) others.now) }
@@ -258,8 +258,8 @@ fn contains_sorted(ordered: &[StorageId], storage: StorageId) -> bool
     ordered.binary_search(&storage).is_ok()
 }
 
-/// How many further numbers a report may name after an entry, of `left` before it; `None` if the
-/// entry names more.
+/// How many of `left` block numbers a report may still name after an entry; `None` if the entry
+/// itself names more than `left`.
 fn numbers_left(entry: &Entry, left: u64) -> Option<u64>
     ensures { result ≡ (if nat_le (run_length entry.now) left then Some (left
         - run_length entry.now) else None) }

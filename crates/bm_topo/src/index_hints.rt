@@ -44,7 +44,7 @@ pub(crate) struct IndexHints {
     node_hash: Hash,
     storages: [u16; STORAGE_HINTS],
     nodes: [u16; NODE_HINTS],
-    // For each alive node, among those that drain.
+    // For each alive node, the hint for its index among the nodes that drain.
     draining: [u16; NODE_HINTS],
 }
 
@@ -89,8 +89,8 @@ impl IndexHints {
     }
 }
 
-/// The hash of n numbers by this factor: two to four hints for each, so that few hints mean few
-/// cache lines.
+/// The hash for `count` numbers by this factor. It uses two to four hints per number, so that few
+/// numbers touch few cache lines.
 fn hash_for(count: usize, factor: u64) -> Hash {
     let above = (count as u64).wrapping_sub(1).leading_zeros();
     Hash {
@@ -99,8 +99,8 @@ fn hash_for(count: usize, factor: u64) -> Hash {
     }
 }
 
-/// Fills the hints with the first factor under which at least three quarters of the numbers find
-/// themselves, or else the best one. Returns the hash.
+/// Fills the hints with the first factor under which at least three quarters of the numbers get a
+/// right hint, or else with the best factor. Returns the hash.
 fn fill_evenly<V: Copy>(notes: &mut [u16], entries: &[(u64, V)]) -> Hash {
     let mut best = hash_for(entries.len(), FACTORS[0]);
     let mut most = 0;

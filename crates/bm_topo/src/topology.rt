@@ -9,7 +9,7 @@ ghost use Rattle.bm_base.specs.Machine.Excess as excess;
 ghost use Rattle.bm_base.specs.Machine.Refusals.{knows_node, knows_storage};
 ghost use Rattle.bm_base.specs.Promises.Lawful.{IsLawfulCluster};
 ghost use Rattle.bm_base.specs.declared.limits.TheConstants.{MAX_NODES, MAX_STORAGES};
-ghost use Rattle.bm_topo.specs.Seen.{no_capacity};
+ghost use Rattle.bm_topo.specs.TopologyView.{no_capacity};
 
 use crate::by_node::{StoragesByNode, storages_of};
 use crate::index_hints::IndexHints;
@@ -58,7 +58,7 @@ pub struct Topology {
 }
 
 impl Model for Topology {
-    ghost use Rattle.bm_topo.specs.Seen.{Seen, coded_seen};
+    ghost use Rattle.bm_topo.specs.TopologyView.{Seen, coded_seen};
     ghost use Rattle.bm_topo.specs.Sound.{IsSound, cluster_of};
     ghost use Rattle.bm_topo.specs.Spots.{HasSpots};
     ghost use Rattle.bm_topo.specs.ByNode.{AreAllByNode};
@@ -175,8 +175,11 @@ impl Topology {
             ≡ replicas.is_draining self.now.cluster storage }
     {
         let index = self.hints.of_storage(u64::from(storage.0));
-        if index < self.spot_count && self.spots[index].storage == storage {
-            return Some(self.spots[index]);
+        if index < self.spot_count {
+            let spot = self.spots[index];
+            if spot.storage == storage {
+                return Some(spot);
+            }
         }
         self.find_spot(storage)
     }
@@ -219,7 +222,7 @@ impl Topology {
         self.spot_of(storage).is_some()
     }
 
-    /// Whether a storage is one of a node; not where it is not known.
+    /// Whether a storage is known and on this node.
     #[tactic(auto, unfolding(bm_base::specs::Machine::Replicas::has_storage))]
     pub fn has_storage(&self, node: NodeId, storage: StorageId) -> bool
         ensures { result ≡ replicas.has_storage self.now.cluster node storage }

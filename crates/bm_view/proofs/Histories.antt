@@ -18,12 +18,12 @@ last_of-push list v =
     ap (λ (k : ℕ). get_or (list ++ v ∷ []) k opening) long ∙ get_or-append_seam list v [] opening
 
 pub opening_is_history : IsHistory (opening ∷ [])
-opening_is_history = record { opens = prefix_self (opening ∷ []); rises = IsNonDecreasingBy-short (λ (v : Version). v.calls) (opening ∷ []) (omega arith) }
+opening_is_history = record { opens = prefix_self (opening ∷ []); ascends = IsNonDecreasingBy-short (λ (v : Version). v.calls) (opening ∷ []) (omega arith) }
 
 pub history_push : (list : List Version) (v : Version) → IsHistory list → (last_of list).calls ≤ v.calls → IsHistory (list ++ v ∷ [])
 history_push list v h up = record {
   opens = prefix_push (opening ∷ []) list (v ∷ []) h.opens;
-  rises = IsNonDecreasingBy-push (λ (v : Version). v.calls) list v h.rises (λ d some. subst (λ (w : Version). w.calls ≤ v.calls) (get_or_default list (length list - 1) opening d (omega arith)) up);
+  ascends = IsNonDecreasingBy-push (λ (v : Version). v.calls) list v h.ascends (λ d some. subst (λ (w : Version). w.calls ≤ v.calls) (get_or_default list (length list - 1) opening d (omega arith)) up);
 }
 
 -- a prefix of a history has no more calls
@@ -33,7 +33,7 @@ last_of-prefix (v ∷ vs) late p h =
     let early = v ∷ vs in
     let long : length late ≡ length early + length p.0 = sym (ap length p.1) ∙ length-append early p.0 in
     let same : get_or late (length early - 1) opening ≡ last_of early = ap (λ l. get_or l (length early - 1) opening) (sym p.1) ∙ get_or_append_left early p.0 opening (length early - 1) (omega arith) in
-    subst (λ (w : Version). w.calls ≤ (last_of late).calls) same (h.rises (length early - 1) (length late - 1) opening (omega arith) (omega arith))
+    subst (λ (w : Version). w.calls ≤ (last_of late).calls) same (h.ascends (length early - 1) (length late - 1) opening (omega arith) (omega arith))
 
 put_append : (b : Bool) (v : Version) (xs ys : List Version) → put_if b v (xs ++ ys) ≡ put_if b v xs ++ ys
 put_append true v xs ys = refl
@@ -88,12 +88,12 @@ settles xs v shown pre close some =
     (cases_lt (length shown) (length all))
 
 -- the learnt versions are a prefix of the current value, unless that is older
-pub heard_begins : (heard shown both : List JournalEntry) → IsPrefix heard both → IsPrefix shown both → IsSettled heard → length heard ≤ length shown + 1 → 0 < length shown → IsPrefix (versions heard) (shown_in shown)
-heard_begins heard shown both p q whole close some =
+pub log_begins : (log shown both : List JournalEntry) → IsPrefix log both → IsPrefix shown both → IsSettled log → length log ≤ length shown + 1 → 0 < length shown → IsPrefix (versions log) (shown_in shown)
+log_begins log shown both p q whole close some =
     ⊎_elim
-    (λ (lt : length shown < length heard). whole shown (prefix_shorter shown heard both q p (omega arith)) close some)
-    (λ (le : length heard ≤ length shown). prefix_trans (versions heard) (versions shown) (shown_in shown) (versions_prefix heard shown (prefix_shorter heard shown both p q le)) (versions_shown_in shown))
-    (cases_lt (length shown) (length heard))
+    (λ (lt : length shown < length log). whole shown (prefix_shorter shown log both q p (omega arith)) close some)
+    (λ (le : length log ≤ length shown). prefix_trans (versions log) (versions shown) (shown_in shown) (versions_prefix log shown (prefix_shorter log shown both p q le)) (versions_shown_in shown))
+    (cases_lt (length shown) (length log))
 
 pub opening_is_settled : IsSettled opening_log
 opening_is_settled = settles [] opening

@@ -17,7 +17,7 @@ EndsBy calls list = (last_of list).calls ≤ calls
 -- it begins with the opening version, and its calls never fall
 pub record IsHistory (list : List Version) : Type 0 where
   pub opens : IsPrefix (opening ∷ []) list
-  pub rises : IsNonDecreasingBy (λ v. v.calls) list
+  pub ascends : IsNonDecreasingBy (λ v. v.calls) list
 
 abbrev pub put_if : Bool → Version → List Version → List Version
 put_if true v vs = v ∷ vs
@@ -35,8 +35,8 @@ shown_in [] = []
 shown_in (e ∷ []) = e.table ∷ []
 shown_in (e ∷ f ∷ es) = put_if e.done e.table (shown_in (f ∷ es))
 
--- A journal that a locator may learn: its versions are a prefix of the list of certain readers.
--- These find the value of this journal, or of the journal just before its last entry. A journal
--- that ends with a settlement is one.
+-- A journal that a locator may learn. A reader may find the table of the journal's last entry, or
+-- of the entry before that: either way the journal's versions are a prefix of the reader's list.
+-- A journal that ends with a settlement is one.
 abbrev pub IsSettled : List JournalEntry → Type 0
-IsSettled heard = (shown : List JournalEntry) → IsPrefix shown heard → length heard ≤ length shown + 1 → 0 < length shown → IsPrefix (versions heard) (shown_in shown)
+IsSettled log = (shown : List JournalEntry) → IsPrefix shown log → length log ≤ length shown + 1 → 0 < length shown → IsPrefix (versions log) (shown_in shown)

@@ -26,12 +26,12 @@ pub record Known : Type 0 where
   pub home : Home
   pub log : List JournalEntry
 
--- the entry of a line and those that continue from it, if the pen was the one that had its turn
+-- the entry of a line and then `on`, if the journal's current pen wrote the line; else `off`
 abbrev pub chain_if : Bool → JournalEntry → List JournalEntry → List JournalEntry → List JournalEntry
 chain_if true e on off = e ∷ on
 chain_if false e on off = off
 
--- the entries from that pen on
+-- the entries of the journal whose current pen is this one
 abbrev pub chain : ℕ → List JournalLine → List JournalEntry
 chain pen [] = []
 chain pen (l ∷ ls) = chain_if (l.by == pen) l.entry (chain l.next ls) (chain pen ls)
@@ -40,17 +40,17 @@ abbrev pub either_pen : Bool → ℕ → ℕ → ℕ
 either_pen true on off = on
 either_pen false on off = off
 
--- the pen that has its turn after these lines
+-- the journal's current pen after these lines
 abbrev pub tip : ℕ → List JournalLine → ℕ
 tip pen [] = pen
 tip pen (l ∷ ls) = either_pen (l.by == pen) (tip l.next ls) (tip pen ls)
 
--- the first pen of the journal that the last line belongs to; without a line the one given
+-- the first pen of the journal that the last line belongs to, or `pen` if there is no line
 abbrev pub named : ℕ → List JournalLine → ℕ
 named pen [] = pen
 named pen (l ∷ ls) = named l.first ls
 
--- the word that steps are taken on
+-- the atomic word that steps change
 abbrev pub word_of : Book → Named
 word_of b = record { tracked = true; key = 0; book = b }
 

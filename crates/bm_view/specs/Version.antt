@@ -3,8 +3,8 @@ use Rattle.std.specs.Prelude.{ℕ, ◌<◌, List, [], ◌∷◌, if◌then◌els
 use Rattle.bm_base.specs.Promises.Versions.{Row, Version}
 
 -- the block numbers are strictly ascending
-abbrev pub RisesById : List Row → Type 0
-RisesById rows = AllPairs (λ r s. r.0 < s.0) rows
+abbrev pub AscendsById : List Row → Type 0
+AscendsById rows = AllPairs (λ r s. r.0 < s.0) rows
 
 -- the places in the block's row; no places if it has no row
 abbrev pub places_in : List Row → ℕ → List ℕ

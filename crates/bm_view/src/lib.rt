@@ -27,7 +27,7 @@ mod open;
 mod publisher;
 mod receipt;
 mod rule;
-mod shown;
+mod shown_value;
 mod table;
 
 pub use locator::{Located, Locator};

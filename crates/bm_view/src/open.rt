@@ -13,7 +13,7 @@ use crate::journal::Journal;
 use crate::locator::Locator;
 use crate::publisher::{Publisher, show};
 use crate::rule::{Note, VersionWriter};
-use crate::shown::Shown;
+use crate::shown_value::Shown;
 use crate::table::Table;
 use bm_base::Refusal;
 use std::alloc::{AllocError, Global};

@@ -11,7 +11,7 @@ use crate::count::Count;
 use crate::journal::Journal;
 use crate::receipt::Receipt;
 use crate::rule::{Show, VersionWriter};
-use crate::shown::Shown;
+use crate::shown_value::Shown;
 use crate::table::Table;
 use bm_base::Refusal;
 use core::mem::replace_with;
@@ -133,8 +133,8 @@ impl Publisher {
         Ok(Receipt::new(self.journal.evidence(), receipt, calls))
     }
 
-    /// Ends it. After that its locators answer `None`, which tests show and no clause. It waits for
-    /// those that are reading, takes no memory and refuses nothing.
+    /// Ends the publisher. After that its locators answer `None`; tests show that, no clause does.
+    /// It waits for locators that are reading, takes no memory and refuses nothing.
     pub fn end<R: Wait>(self, rt: &R) {
         let Publisher {
             writer,

@@ -5,7 +5,7 @@ ghost use Rattle.std.specs.Prelude.{◌≡◌, None, Some};
 ghost use Rattle.bm_view.specs.Rule.{Kept, Sees};
 
 use crate::journal::Evidence;
-use crate::shown::Shown;
+use crate::shown_value::Shown;
 use atomic_table::{Join, Split};
 use crossbeam_utils::rule::{Outcome, Protocol};
 use left_right::reader::{Reader, Reading};

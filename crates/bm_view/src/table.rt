@@ -1,6 +1,6 @@
 //! One version, as locators read it.
 ghost use Rattle.std.specs.Prelude.{◌≡◌};
-ghost use Rattle.bm_view.specs.Version.{RisesById, places_in};
+ghost use Rattle.bm_view.specs.Version.{AscendsById, places_in};
 
 use bm_base::{BlockId, Places};
 use std::marker::Model;
@@ -15,20 +15,20 @@ pub struct Table {
 
 impl Model for Table {
     ghost use Rattle.bm_base.specs.Promises.Versions.{Version};
-    ghost use Rattle.bm_view.specs.Version.{RisesById};
+    ghost use Rattle.bm_view.specs.Version.{AscendsById};
 
     ghost Value = { Version };
 
     ghost view = { λ t. record { calls = t.calls; rows = t.rows.items } };
 
-    ghost invariant = { λ t. RisesById t.rows.items };
+    ghost invariant = { λ t. AscendsById t.rows.items };
 }
 
 impl Table {
     /// The version after `calls` accepted calls, any u64, with these rows, sorted by block number.
     /// A row without places means the same as no row. Takes no memory.
     pub fn new(calls: u64, rows: Vec<(BlockId, Places)>) -> Table
-        requires { RisesById rows.items }
+        requires { AscendsById rows.items }
         ensures { result ≡ record { calls = calls; rows = rows.items } }
     {
         Table { calls, rows }

@@ -1,5 +1,5 @@
 -- Lemmas of the callers.
-mod Refused
+mod Refusals
 mod Stops
 mod LearntLists
 mod Members

@@ -4,8 +4,8 @@ ghost use Rattle.std.specs.List.{All};
 ghost use Rattle.bm_base.specs.declared.refusal.Refusal.TheVariants.{Memory};
 ghost use Rattle.bm_base.specs.Words.{limits_of, has_repeats, commands_of};
 ghost use Rattle.bm_base.specs.Choices.{merged_wishes, chosen_transfers, chosen_deletes};
-ghost use Rattle.bm_parts.specs.Merging.{AreSorted};
-ghost use Rattle.bm_round.specs.Commanded.{SendsItsOwn, DeletesItsOwn};
+ghost use Rattle.bm_parts.specs.SortedLists.{AreSorted};
+ghost use Rattle.bm_round.specs.RoundCommands.{SendsItsOwn, DeletesItsOwn};
 ghost use Rattle.bm_round.specs.KeyedParts.{keyed_wishes, keyed_deletes};
 
 use bm_base::{Commands, Config, Refusal, RoundPart};

@@ -34,8 +34,8 @@ pub struct SideBySide {
     pub seen: Result<Vec<Seen>, AllocError>,
 }
 
-/// Names the view of one `open_view` and the calls before the changes, for receipts that cross a
-/// channel. A call picks them.
+/// Names the view of one `open_view` and the number of calls before the changes, for receipts that
+/// cross a channel. The call that passes `Brand` picks both.
 trait Home {
     ghost use Rattle.std.specs.Prelude.{ℕ};
     ghost use Rattle.bm_view.specs.Holders.{Home};
@@ -154,7 +154,8 @@ fn in_two_threads<J: Home + Send + Sync, R: Threads + Wait + Sync>(
     SideBySide { changes, seen }
 }
 
-/// Drops the sender at the end, after the last receipt.
+/// Applies the events, publishes after each, and sends the receipt. Drops the sender at the end, so
+/// that the reader ends too.
 fn apply_all<J: Home, R: Threads + Wait + Sync>(
     rt: &R,
     manager: &mut Manager,

@@ -1,7 +1,7 @@
 // The source and the target of one more copy of a block.
 ghost use Rattle.std.specs.Prelude.{◌≡◌, [], IfOk, IfErr};
 ghost use Rattle.bm_base.specs.declared.refusal.Refusal.TheVariants.{Memory};
-ghost use Rattle.bm_place.specs.Found.{senders_with, targets_with};
+ghost use Rattle.bm_place.specs.ChoiceResults.{senders_with, targets_with};
 ghost use Rattle.callers.specs.FirstCopy.{first_copy, FitsOnTarget, GoesToAnotherNode};
 
 use bm_base::{BlockId, Level, Refusal, Stamp, StorageId, Transfer};

@@ -4,7 +4,7 @@ ghost use Rattle.bm_base.specs.declared.refusal.Refusal.TheVariants.{Memory};
 ghost use Rattle.bm_base.specs.Machine.Events.{report};
 ghost use Rattle.bm_arena.specs.Contents.{marks_at};
 ghost use Rattle.bm_arena.specs.HeldMaps.{replicas_of, blocks_of, holdings_of};
-ghost use Rattle.bm_report.specs.Expanded.{reported_to_part};
+ghost use Rattle.bm_report.specs.ReportedBlocks.{reported_to_part};
 ghost use Rattle.bm_report.specs.DuringReport.{IsOncePerNode};
 ghost use Rattle.bm_report.specs.Ready.{HasGoodExcess};
 

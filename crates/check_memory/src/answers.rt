@@ -1,5 +1,5 @@
-// Calls and their answers, which are dropped by `drop`. Its proof is one for all functions, while a
-// value that is dropped at the end of its scope needs a proof in each.
+// Calls and their answers. Values are dropped by `drop`, which is proved once. A value that is
+// dropped at the end of its scope would be proved in each function.
 
 use crate::marks::{OPEN, Window, begin_turn, end_turn};
 use crate::short_calls::{ShortCall, call_of};

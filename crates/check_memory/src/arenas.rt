@@ -5,7 +5,7 @@ ghost use Rattle.std.specs.Prelude.{◌≡◌, [], Some, OnOk};
 ghost use Rattle.bm_arena.specs.Contents.{block_at, empty_block};
 
 use crate::events::block;
-use crate::long::{CYCLES, MARKS};
+use crate::long_runs::{CYCLES, MARKS};
 use crate::marks::say;
 use crate::tally::Tally;
 use bm_arena::{Arena, Slot};
@@ -64,7 +64,7 @@ pub fn watch<R: Eprint>(rt: &R, alloc: Global, arena: &mut Arena, size: u32, tal
     say(rt, "ended", "arena");
 }
 
-/// The number of steps.
+/// Links and unlinks blocks over and over, with marks. Returns the number of steps.
 pub fn repeat<R: Eprint>(rt: &R, alloc: Global, arena: &mut Arena, tally: &mut Tally) -> u64 {
     tally.require(renew(alloc, arena));
     for _ in 0..MARKS {

@@ -3,7 +3,7 @@ ghost use Rattle.std.specs.Prelude.{◌≡◌, ◌<◌, IfOk, vec_len};
 
 use crate::bench::Bench;
 use crate::limits::{SHARDS, WORKERS, print_two};
-use crate::long::{CYCLES, MARKS};
+use crate::long_runs::{CYCLES, MARKS};
 use crate::managers::config;
 use crate::marks::say;
 use crate::tally::Tally;
@@ -34,7 +34,7 @@ pub fn watch<R: Eprint + Threads + Wait + Sync>(
     Ok(())
 }
 
-/// The number of pieces that crews of two workers processed.
+/// Runs crews of two workers over and over, with marks. Returns the number of pieces processed.
 pub fn repeat<R: Eprint + Threads + Wait + Sync>(rt: &R, alloc: Global, tally: &mut Tally) -> u64 {
     let mut worked = 0u64;
     for _ in 0..MARKS {

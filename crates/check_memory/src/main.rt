@@ -22,6 +22,7 @@ mod bags;
 mod bench;
 mod block_events;
 mod calls_in_turn;
+mod calls_without_memory;
 mod cases;
 mod choices;
 mod clusters;
@@ -29,7 +30,7 @@ mod crews;
 mod events;
 mod limits;
 mod lists;
-mod long;
+mod long_runs;
 mod managers;
 mod marks;
 mod publication;
@@ -42,7 +43,6 @@ mod tally;
 mod topologies;
 mod transfers;
 mod views;
-mod without;
 
 use bench::Bench;
 use bm_base::Refusal;
@@ -143,8 +143,8 @@ fn run<R: Print + Eprint + Threads + Wait + Sync>(
 ) {
     match check {
         Check::Refused => refused_allocations::run(rt, bench, turns),
-        Check::Without => without::run(rt, bench),
+        Check::Without => calls_without_memory::run(rt, bench),
         Check::Limits => limits::run(rt, bench),
-        Check::Long => long::run(rt, bench),
+        Check::Long => long_runs::run(rt, bench),
     }
 }

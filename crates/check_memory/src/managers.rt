@@ -1,5 +1,5 @@
-// Events for managers. Values are dropped by `drop` here. Its proof is one for all functions, while
-// a value that is dropped at the end of its scope needs a proof in each.
+// Events for managers. Values are dropped by `drop`, which is proved once. A value that is dropped
+// at the end of its scope would be proved in each function.
 
 use crate::tally::Tally;
 use bm_base::{Config, Done, Event, Refusal};

@@ -3,7 +3,7 @@
 ghost use Rattle.std.specs.Prelude.{◌≡◌, [], None, Some, OnOk};
 ghost use Rattle.bm_base.specs.Machine.State.{Cluster};
 ghost use Rattle.bm_arena.specs.Contents.{block_at, empty_block, marks_at};
-ghost use Rattle.bm_report.specs.Expanded.{IsPrepared};
+ghost use Rattle.bm_report.specs.ReportedBlocks.{IsPrepared};
 ghost use Rattle.bm_arena.specs.HeldMaps.{replicas_of};
 ghost use Rattle.bm_report.specs.DuringReport.{IsOncePerNode};
 ghost use Rattle.bm_report.specs.Ready.{HasGoodExcess, IsReady};

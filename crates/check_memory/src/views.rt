@@ -6,7 +6,7 @@ ghost use Rattle.bm_view.specs.History.{last_of};
 
 use crate::events::block;
 use crate::limits::print_one;
-use crate::long::{CYCLES, MARKS};
+use crate::long_runs::{CYCLES, MARKS};
 use crate::marks::say;
 use crate::tally::Tally;
 use bm_base::{Places, Refusal, StorageId};

@@ -1,8 +1,8 @@
 // Lists of random calls on a manager with five shards and four threads. The state is published
 // after each call, and two threads read in parallel. Each answer, and each read, must be that of a
-// manager with one shard and one thread, and no reader may go back. To show that reads come between
-// calls, and not all after the last one, it counts the reads that find a later version than the
-// read before.
+// manager with one shard and one thread, and no reader may go back. Reads that find a later version
+// than the read before are counted: they show that reads come between calls, and not all after the
+// last one.
 ghost use Rattle.std.specs.Prelude.{◌≡◌, All};
 ghost use Rattle.bm_view.specs.Holders.{IsNewAt};
 
@@ -115,10 +115,10 @@ fn locate_each<R: Threads + Wait + Sync>(
     located: &mut Vec<Located>,
 ) -> Result<(), AllocError> {
     let mut rng = rng;
-    located.push(locate_in(manager, block))?;
+    located.push(expected_location(manager, block))?;
     for _ in 0..LIST {
         make_next(rt, alloc, manager, &mut rng)?;
-        located.push(locate_in(manager, block))?;
+        located.push(expected_location(manager, block))?;
     }
     Ok(())
 }
@@ -138,7 +138,7 @@ fn make_next<R: Threads + Wait + Sync>(
 
 /// The locations of a block in a manager, as a locator must answer them: none of a block that was
 /// not added.
-fn locate_in(manager: &Manager, block: BlockId) -> Located {
+fn expected_location(manager: &Manager, block: BlockId) -> Located {
     let calls = manager.calls();
     let places = match manager.places(block) {
         Ok(storages) => Places::first_of(storages.as_slice()),

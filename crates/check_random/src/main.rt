@@ -87,11 +87,11 @@ fn read_all(words: &mut Args<Global>) -> Option<Arguments> {
     } else {
         (first, pair::LIST)
     };
-    let count = number_in(word, u64::from(otherwise))?;
+    let count = parse_number(word, u64::from(otherwise))?;
     Some(Arguments {
         is_concurrent,
         count: u32::try_from(count).ok()?,
-        seed: number_in(words.next(), SEED)?,
+        seed: parse_number(words.next(), SEED)?,
     })
 }
 
@@ -100,7 +100,7 @@ fn is_concurrent(word: &Option<String>) -> bool {
 }
 
 /// The number that a word has; `otherwise` if there is no word.
-fn number_in(word: Option<String>, otherwise: u64) -> Option<u64> {
+fn parse_number(word: Option<String>, otherwise: u64) -> Option<u64> {
     match word {
         Some(word) => word.as_str().parse::<u64>().ok(),
         None => Some(otherwise),

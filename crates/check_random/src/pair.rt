@@ -178,5 +178,5 @@ fn print_difference(
     let _ = eprintln!(rt; "{config:?}");
     let _ = eprintln!(rt; "call {number}: {call:?}");
     let _ = eprintln!(rt; "one shard, one worker: {answer:?}");
-    let _ = eprintln!(rt; "so many: {other:?}");
+    let _ = eprintln!(rt; "these shards and workers: {other:?}");
 }

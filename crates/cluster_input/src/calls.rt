@@ -13,8 +13,8 @@ use fsck_import::line_writer::{entries_of, heartbeat, register, split_at_report_
 use std::sync::Wait;
 use std::thread::Threads;
 
-/// Makes the calls that build a cluster in a manager. `remaining` is the free bytes of each storage
-/// whose node has no known number.
+/// Makes the calls that build a cluster in a manager. `remaining` is the free bytes of a storage if
+/// those of its node are not known.
 pub fn make_calls<H: Threads + Wait + Sync>(
     rt: &H,
     session: &mut Session,

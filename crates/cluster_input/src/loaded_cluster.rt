@@ -60,8 +60,8 @@ impl Loaded {
 
     /// Reads a text of either kind and makes its calls. Returns whether all were accepted. A
     /// refused line gets a note with its number; a refused call of a text of fsck is a fault.
-    /// `start` is the state before the first line of fsck, and `remaining` is the free bytes of
-    /// each storage whose node has no known number.
+    /// `start` is the state before the first line of fsck, and `remaining` is the free bytes of a
+    /// storage if those of its node are not known.
     pub fn take_text<R: BufRead, N: Write, H: Threads + Wait + Sync>(
         &mut self,
         rt: &H,

@@ -88,7 +88,8 @@ fn quiet<'a>(alloc: Global) -> Arg<'a> {
         .help("shows no progress on standard error")
 }
 
-/// For a caller that knows that standard error is a terminal; 0 for an unknown length of the input.
+/// The option `--progress`, for a caller that knows that standard error is a terminal. Its value is
+/// the length of the input in bytes, 0 if that is unknown.
 fn progress<'a>(alloc: Global) -> Arg<'a> {
     new_arg(alloc, "progress")
         .action(ArgAction::Set)

@@ -21,13 +21,13 @@ use Rattle.cluster_losses.specs.Alike.{IsLike, IsSnapshot, AreSame}
 use Rattle.cluster_losses.specs.Events.{death}
 use Rattle.cluster_losses.specs.Outcomes.{AreClusterCounts, IsOutcome}
 use Rattle.cluster_losses.specs.Tables.{IsRowAt}
-use Rattle.cluster_losses.specs.declared.each.Row.{Row}
+use Rattle.cluster_losses.specs.declared.single_losses.Row.{Row}
 use Rattle.cluster_losses.specs.declared.failure_domains.FailureDomain.{FailureDomain}
 use Rattle.cluster_losses.specs.declared.snapshot.Snapshot.{Snapshot}
 use Rattle.cluster_losses.specs.declared.cluster_counts.ClusterCounts.{ClusterCounts}
-use Rattle.cluster_losses.specs.declared.without.Outcome.{Outcome}
+use Rattle.cluster_losses.specs.declared.applied_losses.Outcome.{Outcome}
 use Rattle.cluster_losses.proofs.Clusters.{same_cluster}
-use Rattle.cluster_losses.specs.Lacking.{lacking_bytes, bytes_to_copy, in_128_bits, free_for_copies}
+use Rattle.cluster_losses.specs.LackingBytes.{lacking_bytes, bytes_to_copy, in_128_bits, free_for_copies}
 
 abbrev Marked : Type 0
 Marked = ReplicaId × Marks

@@ -22,8 +22,8 @@ use Rattle.bm_base.proofs.Options.{not_there}
 use Rattle.bm_base.proofs.MapEntries.{same_key, key_itself}
 use Rattle.bm_base.proofs.MapLaws.{equal}
 use Rattle.bm_base.proofs.Ties.{replica_tie}
-use Rattle.cluster_losses.specs.Lacking.{bytes_to_copy, lacking_of, lacking_bytes, in_128_bits}
-use Rattle.cluster_losses.specs.Summing.{Marked, count_of, is_live, counts, excess_in, replica_of, Ascends, only, value, rest_of, rest_bytes, switched, is_next, IsSummed}
+use Rattle.cluster_losses.specs.LackingBytes.{bytes_to_copy, lacking_of, lacking_bytes, in_128_bits}
+use Rattle.cluster_losses.specs.BlockSums.{Marked, count_of, is_live, counts, excess_in, replica_of, Ascends, only, value, rest_of, rest_bytes, switched, is_next, IsSummed}
 use Rattle.cluster_losses.specs.declared.lacking_bytes.Summed.{Summed}
 
 -- Sums.

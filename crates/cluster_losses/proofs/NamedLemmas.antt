@@ -12,7 +12,7 @@ use Rattle.cluster_losses.specs.declared.fault.Fault.{Fault}
 use Rattle.cluster_losses.specs.declared.fault.Fault.TheVariants as faults
 use Rattle.cluster_losses.specs.declared.loss.Loss.{Loss}
 use Rattle.cluster_losses.specs.declared.loss_events.Lost.{Lost}
-use Rattle.cluster_losses.specs.Named.{IsFaultOf, AreNamed, AreAdded, all_named, named_by, dies, drains, fails, is_unknown, first_unknown, with_one, with_all}
+use Rattle.cluster_losses.specs.NamedStorages.{IsFaultOf, AreNamed, AreAdded, all_named, named_by, dies, drains, fails, is_unknown, first_unknown, with_one, with_all}
 
 -- Each number once.
 

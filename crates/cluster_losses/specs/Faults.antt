@@ -17,7 +17,8 @@ IsRefusal Memory = ⊤
 IsRefusal (Refused r) = ⊤
 IsRefusal _ = ⊥
 
--- Or some replica is in excess at first, or the state at the end is not like the first one.
+-- out of memory, or an event is refused; or some replica is in excess at first, or the state at the
+-- end is not like the first one
 abbrev pub IsRowsFault : State → State → Fault → Type 0
 IsRowsFault M N Excess = excess_replicas M.holdings ≡ [] → ⊥
 IsRowsFault M N NotSetBack = IsLike M N → ⊥

@@ -5,9 +5,9 @@ use Rattle.bm_base.specs.Words.{State, missing_blocks}
 use Rattle.cluster_lost.specs.Losses.{after_losses, lost_blocks}
 use Rattle.cluster_report.specs.Levels.{levels_counted}
 use Rattle.cluster_report.specs.Reports.{levels_held}
-use Rattle.cluster_losses.specs.Lacking.{lacking_bytes, in_128_bits, free_for_copies}
+use Rattle.cluster_losses.specs.LackingBytes.{lacking_bytes, in_128_bits, free_for_copies}
 use Rattle.cluster_losses.specs.declared.cluster_counts.ClusterCounts.{ClusterCounts}
-use Rattle.cluster_losses.specs.declared.without.Outcome.{Outcome}
+use Rattle.cluster_losses.specs.declared.applied_losses.Outcome.{Outcome}
 
 -- The counts of a state: blocks at each level, missing blocks, bytes of the copies that blocks
 -- lack, and free bytes on nodes that do not drain.

@@ -38,12 +38,12 @@ free_of C s = record { storage = s; remaining = remaining C s }
 abbrev pub heartbeat : Cluster → ℕ → Event
 heartbeat C n = Heartbeat n (map (free_of C) (storages_of C n))
 
--- a node drains if it did
+-- the event by which a node drains again, if it drained before
 abbrev pub drained_again : Cluster → ℕ → List Event
 drained_again C n = if drains C n then Drain n ∷ [] else []
 
 -- The events that restore a node: it registers with its rack and its storages, reports their free
--- bytes and their replicas, and drains if it did.
+-- bytes and their replicas, and drains again if it drained before.
 pub record AreOfReturn (C : Cluster) (n : ℕ) (es : List Event) : Type 0 where
   pub reports : List Event
   pub are : AreReports reports

@@ -8,11 +8,11 @@ use Rattle.bm_base.specs.Words.{State}
 use Rattle.cluster_names.specs.FileTable.{FileTable}
 use Rattle.cluster_report.specs.declared.levels.LevelCounts.{LevelCounts}
 use Rattle.cluster_pages.specs.AtRisk.{AreAtRisk}
-use Rattle.cluster_pages.specs.declared.at_risk.AtRisk.{AtRisk}
+use Rattle.cluster_pages.specs.declared.files_at_risk.AtRisk.{AtRisk}
 use Rattle.cluster_losses.specs.Events.{death}
 use Rattle.cluster_losses.specs.Outcomes.{IsOutcome}
 use Rattle.cluster_losses.specs.declared.failure_domains.FailureDomain.{FailureDomain}
-use Rattle.cluster_losses.specs.declared.each.Row.{Row}
+use Rattle.cluster_losses.specs.declared.single_losses.Row.{Row}
 
 -- a row has the number of files of its lost blocks
 pub record HasLostFiles (f : FileTable) (row : Row) : Type 0 where

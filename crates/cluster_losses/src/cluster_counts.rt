@@ -2,7 +2,7 @@
 // and free bytes.
 ghost use Rattle.std.specs.Prelude.{◌≡◌, IfOk};
 ghost use Rattle.cluster_report.specs.Sessions.{IsInStep};
-ghost use Rattle.cluster_losses.specs.Lacking.{free_on, free_for_copies};
+ghost use Rattle.cluster_losses.specs.LackingBytes.{free_on, free_for_copies};
 ghost use Rattle.cluster_losses.specs.Outcomes.{AreClusterCounts};
 
 use crate::lacking_bytes::bytes_lacking;

@@ -4,8 +4,8 @@ ghost use Rattle.std.specs.Option.{option_map_or};
 ghost use Rattle.bm_base.specs.Machine.Replicas.{is_good};
 ghost use Rattle.bm_base.specs.Machine.Queries.{all_replicas, excess_replicas};
 ghost use Rattle.cluster_report.specs.Sessions.{IsInStep};
-ghost use Rattle.cluster_losses.specs.Lacking.{bytes_to_copy, lacking_bytes, in_128_bits};
-ghost use Rattle.cluster_losses.specs.Summing.{Marked, IsSummed, replica_of, switched, is_next};
+ghost use Rattle.cluster_losses.specs.LackingBytes.{bytes_to_copy, lacking_bytes, in_128_bits};
+ghost use Rattle.cluster_losses.specs.BlockSums.{Marked, IsSummed, replica_of, switched, is_next};
 
 use bm_base::{BlockId, BlockInfo, Replica, ReplicaId, Tag};
 use cluster_report::session::Session;
@@ -49,7 +49,7 @@ impl Summed {
         self.bytes.saturating_add(lacking)
     }
 
-    /// Takes the next replica. All come by block and storage.
+    /// Takes the next replica. The replicas are sorted by block and storage.
     fn take(&mut self, session: &Session, excess: &[ReplicaId], replica: &Replica)
         requires in_step { IsInStep session.now }
         requires usable { self.old.usable < 2 ^ 63 }
@@ -119,8 +119,8 @@ impl Summed {
 }
 
 /// The bytes of the copies that blocks lack if some replica can be copied: for each block its
-/// length, times the wanted replicas that are not live. These are all replicas of the session's
-/// manager, and those of them in excess. One pass over both.
+/// length, times the wanted replicas that are not live. `replicas` are all replicas of the
+/// session's manager, and `excess` those in excess. One pass over both lists.
 pub(crate) fn bytes_lacking(session: &Session, replicas: &[Replica], excess: &[ReplicaId]) -> u128
     requires in_step { IsInStep session.now }
     requires replicas { replicas.now ≡ all_replicas session.now.manager.holdings }

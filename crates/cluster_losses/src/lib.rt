@@ -3,8 +3,8 @@
 //! each node can be lost alone, and comes back before the next.
 #![tactic(auto)]
 
+pub mod applied_losses;
 pub mod cluster_counts;
-pub mod each;
 pub mod events;
 mod failure_domains;
 pub mod fault;
@@ -12,7 +12,7 @@ mod lacking_bytes;
 pub mod loss;
 pub mod loss_events;
 mod name_lookup;
+mod node_return;
 mod returns;
-mod set_back;
+pub mod single_losses;
 mod snapshot;
-pub mod without;

@@ -4,7 +4,7 @@ ghost use Rattle.bm_base.specs.Maps.Lists.{has, has_repeats};
 ghost use Rattle.cluster_lost.specs.Losses.{are_losses};
 ghost use Rattle.cluster_losses.specs.declared.loss.Kind.TheVariants as kind_of;
 ghost use Rattle.cluster_losses.specs.Events.{death, failure, drain, events_of};
-ghost use Rattle.cluster_losses.specs.Named.{AreNamed, AreAdded, IsFaultOf, named_by, storages_named, is_unknown, first_unknown, with_all, with_one};
+ghost use Rattle.cluster_losses.specs.NamedStorages.{AreNamed, AreAdded, IsFaultOf, named_by, storages_named, is_unknown, first_unknown, with_all, with_one};
 
 use crate::fault::Fault;
 use crate::loss::{Kind, Loss, Question};
@@ -136,7 +136,7 @@ fn known_storage(loaded: &Loaded, name: &str) -> Option<StorageId>
     }
 }
 
-/// Adds a storage, unless it is there; `Unknown` if the name has none.
+/// Adds the named storage, unless the list has it; `Unknown` if there is none.
 fn add_storage(storages: &mut Vec<StorageId>, named: Option<StorageId>) -> Result<(), Fault>
     ensures added { OnOk result (storages.new.items
         ≡ with_all storages.old.items (option_to_list named)) }
@@ -151,7 +151,7 @@ fn add_storage(storages: &mut Vec<StorageId>, named: Option<StorageId>) -> Resul
     Ok(())
 }
 
-/// Adds these nodes, unless they are there; `Unknown` if the name has none.
+/// Adds the named nodes, unless the list has them; `Unknown` if there are none.
 fn add_nodes(nodes: &mut Vec<NodeId>, named: &[NodeId], kind: Kind) -> Result<(), Fault>
     ensures added { OnOk result (nodes.new.items ≡ with_all nodes.old.items named.now) }
     ensures known { OnOk result ((length named.now == 0) ≡ false) }

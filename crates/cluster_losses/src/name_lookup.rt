@@ -1,6 +1,6 @@
 // Looks up the names of a command line: by the names of the cluster, or by number if it has none.
 ghost use Rattle.std.specs.Prelude.{◌≡◌, IfOk};
-ghost use Rattle.cluster_losses.specs.Named.{number_written, number_named, is_on_host, is_node_named, nodes_named, nodes_in};
+ghost use Rattle.cluster_losses.specs.NamedStorages.{number_written, number_named, is_on_host, is_node_named, nodes_named, nodes_in};
 
 use crate::failure_domains::nodes_on;
 use bm_base::{NodeId, Rack, StorageId};

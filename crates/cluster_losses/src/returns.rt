@@ -2,7 +2,7 @@
 ghost use Rattle.std.specs.Prelude.{◌≡◌, OnOk};
 ghost use Rattle.cluster_report.specs.Sessions.{IsInStep};
 ghost use Rattle.cluster_losses.specs.Events.{KeepBlocks};
-ghost use Rattle.cluster_losses.specs.Reached.{IsReached};
+ghost use Rattle.cluster_losses.specs.ReachedStates.{IsReached};
 
 use crate::events::apply_all;
 use bm_base::{Event, NodeId, Refusal};
@@ -20,7 +20,7 @@ pub struct Return {
 
 impl Return {
     /// Makes the node come back, if it is one of these.
-    #[tactic(auto, using(crate::proofs::Reached::no_way, crate::proofs::Reached::way_by))]
+    #[tactic(auto, using(crate::proofs::ReachedStates::no_way, crate::proofs::ReachedStates::way_by))]
     pub fn restore<H: Threads + Wait + Sync>(
         &self,
         rt: &H,

@@ -1,4 +1,4 @@
 -- Lemmas on lost blocks: which usable replicas remain after losses.
 pub mod Tests
-pub mod Left
-pub mod Newly
+pub mod RemainingReplicas
+pub mod LostBlocks

@@ -43,11 +43,11 @@ module _ {Y : Type 0} (keys : List (String Y)) (path : Text) where
       let any : list_any (string_eq k) keys ≡ false = ap (λ t. list_any (λ x. bytes_eq t (string_bytes x)) keys) e ∙ sym none in
       rw (any, here) (map_push string_bytes keys k ∙ ap (λ t. map string_bytes keys ++ t ∷ []) e)
 
--- tables with the same paths and the same places are the same
-pub same_table : (f g : FileTable) → f.paths ≡ g.paths → f.places ≡ g.places → f ≡ g
-same_table f g paths places =
-    ap (λ p. let t : FileTable = record { paths = p; places = f.places } in t) paths
-    ∙ ap (λ q. let t : FileTable = record { paths = g.paths; places = q } in t) places
+-- tables with the same paths and the same file_indices are the same
+pub same_table : (f g : FileTable) → f.paths ≡ g.paths → f.file_indices ≡ g.file_indices → f ≡ g
+same_table f g paths file_indices =
+    ap (λ p. let t : FileTable = record { paths = p; file_indices = f.file_indices } in t) paths
+    ∙ ap (λ q. let t : FileTable = record { paths = g.paths; file_indices = q } in t) file_indices
 
 pub pushed_same : (es fs : List (ℕ × FileIndex)) (block index m n : ℕ) → es ≡ fs → m ≡ n
     → es ++ (block, record { file = m; index = index }) ∷ [] ≡ fs ++ (block, record { file = n; index = index }) ∷ []

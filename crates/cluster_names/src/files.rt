@@ -1,25 +1,24 @@
 // The file of each block.
 ghost use Rattle.std.specs.Prelude.{◌≡◌, length, slice_get, option_map, not, IfOk, OnOk, if◌then◌else◌};
-ghost use Rattle.cluster_names.specs.FileTable.{has_block, with_block, with_path, path_index, place_of, path_of, no_blocks};
+ghost use Rattle.cluster_names.specs.FileTable.{has_block, with_block, with_path, path_index, file_index_of, path_of, no_blocks};
 
 use bm_base::{BlockId, Items};
 use indexmap::{IndexMap, IndexSet};
 use std::alloc::{AllocError, Global};
 use std::marker::Model;
 
-/// The place of a block: its file, by the index of its path, and the block's index in the file.
+/// Where a block is among the files: the index of its file's path, and its index in the file.
 #[derive(Clone, Copy, Debug, PartialEq, Eq, Drop)]
 pub struct FileIndex {
     pub file: usize,
     pub index: u64,
 }
 
-/// The files and their blocks. Each path is stored once, each block has one place; a look-up is by
-/// hash.
+/// The files and their blocks. Each path and each block is stored once; a look-up is by hash.
 #[derive(Drop)]
 pub struct Files {
     paths: IndexSet<String>,
-    places: IndexMap<u64, FileIndex>,
+    file_indices: IndexMap<u64, FileIndex>,
 }
 
 impl Model for Files {
@@ -30,7 +29,7 @@ impl Model for Files {
 
     ghost view = { λ f. record {
       paths = map string_bytes f.paths.keys;
-      places = f.places.entries;
+      file_indices = f.file_indices.entries;
     } };
 }
 
@@ -41,7 +40,7 @@ impl Files {
     {
         Files {
             paths: IndexSet::new(alloc),
-            places: IndexMap::new(alloc),
+            file_indices: IndexMap::new(alloc),
         }
     }
 
@@ -54,9 +53,9 @@ impl Files {
 
     /// The number of blocks that are in a file.
     pub fn block_count(&self) -> usize
-        ensures { result ≡ length self.now.places }
+        ensures { result ≡ length self.now.file_indices }
     {
-        self.places.len()
+        self.file_indices.len()
     }
 
     /// The path of a file, by its index.
@@ -71,29 +70,29 @@ impl Files {
 
     /// The file of a block, and its index there.
     pub fn find_block(&self, block: BlockId) -> Option<FileIndex>
-        ensures { result ≡ place_of self.now block }
+        ensures { result ≡ file_index_of self.now block }
     {
-        self.places.get(&block.0).copied()
+        self.file_indices.get(&block.0).copied()
     }
 
-    /// The block and its place at an index, in the order of their addition.
+    /// The block at an index, with its file, in the order of addition.
     pub fn get(&self, index: usize) -> Option<(BlockId, FileIndex)>
-        ensures { result ≡ slice_get self.now.places index }
+        ensures { result ≡ slice_get self.now.file_indices index }
     {
-        let (block, place) = self.places.get_index(index)?;
-        Some((BlockId(*block), *place))
+        let (block, file_index) = self.file_indices.get_index(index)?;
+        Some((BlockId(*block), *file_index))
     }
 
     /// The path of a block's file, and the index of the block there.
     pub fn path_of(&self, block: BlockId) -> Option<(&str, u64)>
         ensures { option_map (λ p. (p.0.now, p.1)) result ≡ path_of self.now block }
     {
-        let place = self.find_block(block)?;
-        let path = self.path(place.file)?;
-        Some((path, place.index))
+        let found = self.find_block(block)?;
+        let path = self.path(found.file)?;
+        Some((path, found.index))
     }
 
-    /// Adds a block of a file. `false` if the block has a place already; then nothing changes.
+    /// Adds a block of a file. `false` if the block is in a file already; then nothing changes.
     pub fn add(
         &mut self,
         alloc: Global,
@@ -105,11 +104,12 @@ impl Files {
         ensures blocks { IfOk result (λ added. self.new
             ≡ (if added then with_block self.old block path.now index else self.old)) }
     {
-        if self.places.contains_key(&block.0) {
+        if self.file_indices.contains_key(&block.0) {
             return Ok(false);
         }
         let file = self.intern_path(alloc, path)?;
-        self.places.insert(block.0, FileIndex { file, index })?;
+        self.file_indices
+            .insert(block.0, FileIndex { file, index })?;
         Ok(true)
     }
 
@@ -117,7 +117,7 @@ impl Files {
     fn intern_path(&mut self, alloc: Global, path: &str) -> Result<usize, AllocError>
         ensures index { IfOk result (λ at. at ≡ path_index self.old.paths path.now) }
         ensures paths { OnOk result (self.new.paths ≡ with_path self.old.paths path.now) }
-        ensures places { self.new.places ≡ self.old.places }
+        ensures file_indices { self.new.file_indices ≡ self.old.file_indices }
     {
         if let Some(index) = self.paths.get_index_of(path) {
             return Ok(index);

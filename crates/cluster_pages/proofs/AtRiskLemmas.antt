@@ -6,9 +6,9 @@ use Rattle.std.proofs.lemmas.Bool.{eqb-true, eqb-false, lt-ltb}
 use Rattle.std.proofs.lemmas.Grind.{get_or-set_at}
 use Rattle.std.proofs.lemmas.List.{get_or-set_other, get_or-replicate, length-set, length-take, length-replicate}
 use Rattle.std.proofs.lemmas.List.Sums.{count_by_more_yes, count_by_more_no, count_by-le-length}
-use Rattle.cluster_names.specs.FileTable.{FileTable, place_of}
+use Rattle.cluster_names.specs.FileTable.{FileTable, file_index_of}
 use Rattle.cluster_names.specs.declared.files.FileIndex.{FileIndex}
-use Rattle.cluster_pages.specs.AtRisk.{AreCounts, is_in, with_one, with_place}
+use Rattle.cluster_pages.specs.AtRisk.{AreCounts, is_in, with_one, with_counted}
 
 module _ (counts : List ℕ) (i : ℕ) where
   one_all : (b : Bool) → length (cond b (set counts i (min (get_or counts i 0 + 1) (2 ^ 64 - 1))) counts) ≡ length counts
@@ -31,13 +31,13 @@ none_counted f = record { all = length-replicate (length f.paths) 0; each = λ f
 
 -- one more block is counted
 pub counted_more : (f : FileTable) (blocks old new : List ℕ) (i d : ℕ) → i < length blocks → i < 2 ^ 64 - 1 → AreCounts f (take i blocks) old
-    → new ≡ with_place (place_of f (get_or blocks i d)) old → AreCounts f (take (i + 1) blocks) new
-counted_more f blocks old new i d lt fits so_far e = by (place_of f (get_or blocks i d)) refl e
+    → new ≡ with_counted (file_index_of f (get_or blocks i d)) old → AreCounts f (take (i + 1) blocks) new
+counted_more f blocks old new i d lt fits so_far e = by (file_index_of f (get_or blocks i d)) refl e
   where
     few : (file : ℕ) → file < length f.paths → get_or old file 0 < 2 ^ 64 - 1
     few file at = omega (arith, so_far.each file at, count_by-le-length (is_in f file) (take i blocks), length-take i blocks, fits)
 
-    here : (p : FileIndex) → place_of f (get_or blocks i d) ≡ Some p → (file : ℕ) → file < length f.paths → (same : Bool) → (p.file == file) ≡ same
+    here : (p : FileIndex) → file_index_of f (get_or blocks i d) ≡ Some p → (file : ℕ) → file < length f.paths → (same : Bool) → (p.file == file) ≡ same
         → get_or (with_one old p.file) file 0 ≡ count_by (is_in f file) (take (i + 1) blocks)
     here p is file at true same =
         let this : p.file ≡ file = eqb-true p.file file same in
@@ -52,7 +52,7 @@ counted_more f blocks old new i d lt fits so_far e = by (place_of f (get_or bloc
         ∙ so_far.each file at
         ∙ sym (count_by_more_no (is_in f file) blocks i d lt (ap (λ o. option_map_or (λ q. q.file == file) o false) is ∙ other))
 
-    by : (o : Option FileIndex) → place_of f (get_or blocks i d) ≡ o → new ≡ with_place o old → AreCounts f (take (i + 1) blocks) new
+    by : (o : Option FileIndex) → file_index_of f (get_or blocks i d) ≡ o → new ≡ with_counted o old → AreCounts f (take (i + 1) blocks) new
     by None is same = record {
       all = ap length same ∙ so_far.all;
       each = λ file at.

@@ -3,25 +3,25 @@ use Rattle.std.specs.Prelude.{◌≡◌, ℕ, ◌+◌, ◌-◌, ◌^◌, ◌<◌
 use Rattle.std.specs.Option.{option_map_or}
 use Rattle.std.specs.List.{enumerate_from}
 use Rattle.bm_base.specs.declared.level.Level.TheVariants.{Highest}
-use Rattle.cluster_names.specs.FileTable.{FileTable, place_of}
+use Rattle.cluster_names.specs.FileTable.{FileTable, file_index_of}
 use Rattle.cluster_names.specs.declared.files.FileIndex.{FileIndex}
 use Rattle.cluster_report.specs.Levels.{all_at}
 use Rattle.cluster_report.specs.declared.levels.Leveled.{Leveled}
-use Rattle.cluster_pages.specs.declared.at_risk.AtRisk.{AtRisk}
-use Rattle.cluster_pages.specs.declared.at_risk.FileRow.{FileRow}
+use Rattle.cluster_pages.specs.declared.files_at_risk.AtRisk.{AtRisk}
+use Rattle.cluster_pages.specs.declared.files_at_risk.FileRow.{FileRow}
 
 -- adds 1 to the count at an index, if there is one
 abbrev pub with_one : List ℕ → ℕ → List ℕ
 with_one counts i = if nat_lt i (length counts) then set counts i (min (get_or counts i 0 + 1) (2 ^ 64 - 1)) else counts
 
--- counts the block with this place
-abbrev pub with_place : Option FileIndex → List ℕ → List ℕ
-with_place None counts = counts
-with_place (Some p) counts = with_one counts p.file
+-- counts a block of this file, if it has one
+abbrev pub with_counted : Option FileIndex → List ℕ → List ℕ
+with_counted None counts = counts
+with_counted (Some p) counts = with_one counts p.file
 
 -- whether a block is in the file of this index
 abbrev pub is_in : FileTable → ℕ → ℕ → Bool
-is_in f file block = option_map_or (λ p. p.file == file) (place_of f block) false
+is_in f file block = option_map_or (λ p. p.file == file) (file_index_of f block) false
 
 -- the number of these blocks in each file
 pub record AreCounts (f : FileTable) (blocks counts : List ℕ) : Type 0 where
@@ -31,7 +31,7 @@ pub record AreCounts (f : FileTable) (blocks counts : List ℕ) : Type 0 where
 abbrev pub file_row : ℕ × ℕ → FileRow
 file_row p = record { file = p.0; blocks = p.1 }
 
--- the files with such a block, in the order of the input
+-- the files whose count is not 0, in the order of the input
 abbrev pub rows_of : List ℕ → List FileRow
 rows_of counts = filter (λ r. nat_lt 0 r.blocks) (map file_row (enumerate_from 0 counts))
 

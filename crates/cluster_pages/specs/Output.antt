@@ -5,7 +5,7 @@ use Rattle.cluster_input.specs.declared.loaded_cluster.Loaded.{Loaded}
 use Rattle.cluster_report.specs.Reports.{report_of}
 use Rattle.cluster_pages.specs.AtRisk.{AreAtRisk}
 use Rattle.cluster_pages.specs.Text.{report_text}
-use Rattle.cluster_pages.specs.declared.at_risk.AtRisk.{AtRisk}
+use Rattle.cluster_pages.specs.declared.files_at_risk.AtRisk.{AtRisk}
 use Rattle.cluster_pages.specs.declared.output.PrintFault.{PrintFault}
 use Rattle.cluster_pages.specs.declared.output.PrintFault.TheVariants as fault
 use Rattle.cluster_pages.specs.declared.output.ClusterReport.{ClusterReport}

@@ -18,8 +18,8 @@ use Rattle.cluster_report.specs.declared.nodes.NodeState.TheVariants.{Live, Drai
 use Rattle.cluster_report.specs.declared.nodes.StorageRow.{StorageRow}
 use Rattle.cluster_report.specs.declared.nodes.NodeRow.{NodeRow}
 use Rattle.cluster_report.specs.declared.report.Report.{Report}
-use Rattle.cluster_pages.specs.declared.at_risk.AtRisk.{AtRisk}
-use Rattle.cluster_pages.specs.declared.at_risk.FileRow.{FileRow}
+use Rattle.cluster_pages.specs.declared.files_at_risk.AtRisk.{AtRisk}
+use Rattle.cluster_pages.specs.declared.files_at_risk.FileRow.{FileRow}
 
 -- a sum of bytes, at most 2^128 - 1
 abbrev pub capped : ℕ → ℕ → ℕ
@@ -144,7 +144,7 @@ urgent_text f b (Some urgency) =
 unfoldable pub urgent_line : FileTable → Leveled → Text
 urgent_line f l = urgent_text f l.block l.level
 
--- a file at risk: its number of such blocks, and its path
+-- a file at risk: the number of its blocks at risk, and its path
 unfoldable pub file_line : Text → FileTable → FileRow → Text
 file_line what f r =
     what ++ (codes " blocks " ++ (decimal r.blocks ++ (codes " file " ++ (option_map_or (λ path. path) (slice_get f.paths r.file) [] ++ codes "\n"))))

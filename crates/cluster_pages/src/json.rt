@@ -1,5 +1,5 @@
 // The report as one JSON value.
-use crate::at_risk::{AtRisk, FileRow};
+use crate::files_at_risk::{AtRisk, FileRow};
 use crate::output::ClusterReport;
 use crate::text::{all_block_bytes, all_blocks, all_replica_bytes, all_replicas, first_of};
 use crate::text_parts::{

@@ -37,8 +37,8 @@
 //! not, if a read or a write failed, or if out of memory; and 2 if the words are refused.
 #![tactic(auto)]
 
-pub mod at_risk;
 mod chart;
+pub mod files_at_risk;
 pub mod json;
 pub mod options;
 pub mod output;

@@ -48,7 +48,7 @@ pub fn form_of<'a>(matches: &ArgMatches<'a>) -> Form<'a> {
 }
 
 fn command<'a>(alloc: Global) -> Result<Command<'a>, AllocError> {
-    let command = Command::new(alloc, "report").about("Prints how a cluster stands");
+    let command = Command::new(alloc, "report").about("Prints the state of a cluster");
     let command = with(
         command,
         flag(
@@ -75,7 +75,7 @@ fn page<'a>(alloc: Global) -> Arg<'a> {
         .action(ArgAction::Set)
         .long("html")
         .value_name("FILE")
-        .help("writes the report to FILE too, as one page that stands alone")
+        .help("writes the report to FILE too, as one self-contained page")
 }
 
 /// The message about a text that is no value of its option.

@@ -4,7 +4,7 @@ ghost use Rattle.std.specs.Io.KnownBytes.{Appends};
 ghost use Rattle.cluster_report.specs.Sessions.{IsInStep};
 ghost use Rattle.cluster_pages.specs.Output.{IsReportOn, PrintsReport, IsClusterReport, WritesNothing};
 
-use crate::at_risk::{AtRisk, files_at_risk};
+use crate::files_at_risk::{AtRisk, files_at_risk};
 use crate::text::report_text;
 use cluster_input::loaded_cluster::Loaded;
 use cluster_report::report::{Report, build_report};

@@ -26,7 +26,7 @@ pub fn make_page(
 ) -> Result<String, AllocError> {
     let report = &cluster.report;
     let mut text = String::new(alloc);
-    write_head(&mut text, "How the cluster stands")?;
+    write_head(&mut text, "The state of the cluster")?;
     write_summary(&mut text, &loaded.files, cluster)?;
     write_levels(&mut text, report)?;
     write_tags(&mut text, report)?;

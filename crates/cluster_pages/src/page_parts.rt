@@ -1,5 +1,5 @@
 // Facts, tables, cells and bars of a page.
-use crate::at_risk::FileRow;
+use crate::files_at_risk::FileRow;
 use crate::text::first_of;
 use crate::text_parts::{path_at, thousandths, write_share};
 use bm_base::{BlockId, NodeId, Rack};

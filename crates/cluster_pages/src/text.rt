@@ -2,7 +2,7 @@
 ghost use Rattle.std.specs.Prelude.{◌≡◌, ◌++◌, take, IfOk, OnOk, string_bytes};
 ghost use Rattle.cluster_pages.specs.Text.{report_text, cluster_text, levels_text, lacking_text, other_text, tags_text, work_text, risk_text, files_text, all_blocks, all_block_bytes, all_replicas, all_replica_bytes};
 
-use crate::at_risk::AtRisk;
+use crate::files_at_risk::AtRisk;
 use crate::text_parts::{
     write_amount, write_files, write_missing, write_nodes, write_total, write_urgent,
 };

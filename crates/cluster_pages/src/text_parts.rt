@@ -5,7 +5,7 @@ ghost use Rattle.std.specs.Option.{option_map_or};
 ghost use Rattle.cluster_names.specs.Rows.{name_or_number, shown};
 ghost use Rattle.cluster_pages.specs.Text.{amount_line, total_line, share, thousandths, bytes_on, state_word, level_word, held_text, place_text, use_text, node_line, storage_line, node_text, end_with, missing_line, urgent_line, urgent_text, file_line};
 
-use crate::at_risk::FileRow;
+use crate::files_at_risk::FileRow;
 use bm_base::{BlockId, Level};
 use cluster_names::{Files, Names};
 use cluster_report::levels::Leveled;
@@ -60,7 +60,7 @@ pub fn thousandths(count: u128, total: u128) -> u128
     count.saturating_mul(1000) / total.max(1)
 }
 
-/// Appends a line for each node and for each of its storages; `all` is the bytes of all replicas.
+/// Appends a line for each node and for each of its storages; `all` is the number of all replicas.
 pub fn write_nodes(
     text: &mut String,
     names: &Names,

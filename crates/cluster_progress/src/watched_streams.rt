@@ -4,8 +4,8 @@ use std::cell::Cell;
 use std::io;
 use std::io::{Read, Write};
 
-/// The number of bytes read, or the part of the input that they are. Standard error shows it until
-/// the input ends.
+/// Counts the bytes read, and shows them on standard error until the input ends: in per cent of the
+/// input, or in megabytes if its length is unknown.
 #[derive(Drop)]
 pub struct Meter {
     progress: Cell<Progress>,

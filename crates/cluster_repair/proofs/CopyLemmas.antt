@@ -7,7 +7,7 @@ use Rattle.std.proofs.lemmas.List.Sums.{sum_by-append, sum_by-cons, sum_by_push}
 use Rattle.std.proofs.lemmas.List.Sorted.{sum_by-IsPermutation, list_any-IsPermutation, IsPermutation-filter_both}
 use Rattle.bm_base.specs.declared.commands.Transfer.{Transfer}
 use Rattle.bm_base.proofs.Clusters.{eqb_turned}
-use Rattle.cluster_repair.specs.declared.on_way.Sent.{Sent}
+use Rattle.cluster_repair.specs.declared.awaited_copies.Sent.{Sent}
 use Rattle.cluster_repair.specs.Copies.{is_copy_of, is_among, has_arrived}
 
 -- Counts and tests.

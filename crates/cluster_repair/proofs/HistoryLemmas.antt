@@ -9,7 +9,7 @@ use Rattle.bm_base.specs.Words.{Cluster, State, count_call, whole_round}
 use Rattle.cluster_report.specs.Catalogues.{len_in, len_of}
 use Rattle.cluster_report.specs.declared.catalogue.Catalogue.{Catalogue}
 use Rattle.cluster_repair.specs.declared.datanodes.DataNodes.{DataNodes}
-use Rattle.cluster_repair.specs.declared.on_way.Sent.{Sent}
+use Rattle.cluster_repair.specs.declared.awaited_copies.Sent.{Sent}
 use Rattle.cluster_repair.specs.declared.repair.Repair.{Repair}
 use Rattle.cluster_repair.specs.declared.repair.Retirement.{Retirement}
 use Rattle.cluster_repair.specs.declared.rows.Row.{Row}
@@ -18,7 +18,7 @@ use Rattle.cluster_repair.specs.History.{AreOf, ComesAt, GoesOn, HasTaken, IsTak
 use Rattle.cluster_repair.specs.Reports.{HaveReported}
 use Rattle.cluster_repair.specs.Retirements.{note_at, noted}
 use Rattle.cluster_repair.specs.Rows.{AreCounts, IsRowOf, is_over}
-use Rattle.cluster_repair.specs.Sent.{AreBegun, AreCounted, copies_in, deletes_in, transfers_in}
+use Rattle.cluster_repair.specs.SentCopies.{AreBegun, AreCounted, count_copies, deletes_in, transfers_in}
 use Rattle.cluster_repair.specs.Ticks.{IsNextTick}
 
 pub one_longer : {X : Type 0} (m n : ℕ) (x : X) (before : List X) → m ≡ n + 1 → n ≡ length before → m ≡ length (x ∷ before)
@@ -56,14 +56,14 @@ module _ (ticks : Ticks) (M : State) (d : DataNodes) (K L : State) (C : Cluster)
     deletes = deletes ∙ ap (λ (ds : List Delete). ds ++ deletes_in (whole_round L).0) reported.deletes;
   }
 
-  abbrev pub taken_more : (N : State) (k : Commands) → N ≡ count_call (whole_round L).1 → k ≡ (whole_round L).0 → new.rounds ≡ old.rounds + 1 → new.time ≡ now → new.commanded ≡ copies_in k
+  abbrev pub taken_more : (N : State) (k : Commands) → N ≡ count_call (whole_round L).1 → k ≡ (whole_round L).0 → new.rounds ≡ old.rounds + 1 → new.time ≡ now → new.commanded ≡ count_copies k
       → ((ss : List Sent) → AreCounted ss old.datanodes → AreCounted ss mid) → HasTaken ticks M d N new
   taken_more N k after is rounds time commanded same = record {
     taken = round_taken ∷ has_taken.taken;
     are = (is_taken, has_taken.are);
     rounds = one_longer new.rounds old.rounds round_taken has_taken.taken rounds has_taken.rounds;
     time = time;
-    commanded = commanded ∙ ap copies_in is;
+    commanded = commanded ∙ ap count_copies is;
     state = after;
     datanodes = refl;
     counted = begun_there.counted (copies_of has_taken.taken) (same (copies_of has_taken.taken) has_taken.counted);

@@ -11,11 +11,11 @@ use Rattle.bm_base.specs.declared.storage.StorageInfo.{StorageInfo}
 use Rattle.bm_base.specs.Maps.Map as map_of
 use Rattle.bm_base.specs.Words.{Cluster, has, keys}
 use Rattle.bm_base.proofs.Sets.{has_keys}
-use Rattle.cluster_repair.specs.declared.free.FreeBytes.{FreeBytes}
-use Rattle.cluster_repair.specs.declared.free.NodeStorages.{NodeStorages}
+use Rattle.cluster_repair.specs.declared.free_bytes.FreeBytes.{FreeBytes}
+use Rattle.cluster_repair.specs.declared.free_bytes.NodeStorages.{NodeStorages}
 use Rattle.cluster_repair.specs.History.{numbers_of, node_among}
 use Rattle.cluster_repair.specs.Reports.{free_after}
-use Rattle.cluster_repair.specs.Sending.{most, free_on, free_in}
+use Rattle.cluster_repair.specs.LinkModel.{most, free_on, free_in}
 
 -- the number of a key, after one was put
 pub number_put : (is_it : Bool) (n : ℕ) (old new : Option ℕ) → new ≡ (if is_it then Some n else old)

@@ -14,21 +14,21 @@ use Rattle.bm_base.specs.declared.call.Call.{Call}
 use Rattle.bm_base.specs.declared.call.Call.TheVariants as call
 use Rattle.bm_base.specs.declared.call.Answer.TheVariants as answer
 use Rattle.bm_base.specs.Words.{Cluster, State, has, whole_round, refusal_of, round_refusal, step, refused_or, count_call, done_by, after_event, state_after}
-use Rattle.laws_of_repairs.proofs.Watching.{round_is_next, covers_heard, covers_reported}
+use Rattle.laws_of_repairs.proofs.WatchedBlocks.{round_is_next, covers_after_heartbeat, covers_reported}
 use Rattle.cluster_report.specs.Catalogues.{len_in}
 use Rattle.cluster_report.specs.declared.catalogue.Catalogue.{Catalogue}
-use Rattle.cluster_repair.specs.declared.free.FreeBytes.{FreeBytes}
-use Rattle.cluster_repair.specs.declared.free.NodeStorages.{NodeStorages}
+use Rattle.cluster_repair.specs.declared.free_bytes.FreeBytes.{FreeBytes}
+use Rattle.cluster_repair.specs.declared.free_bytes.NodeStorages.{NodeStorages}
 use Rattle.cluster_repair.specs.declared.rows.Row.{Row}
 use Rattle.cluster_repair.specs.declared.repair.Repair.{Repair}
-use Rattle.cluster_repair.specs.declared.on_way.Sent.{Sent}
+use Rattle.cluster_repair.specs.declared.awaited_copies.Sent.{Sent}
 use Rattle.cluster_repair.specs.declared.datanodes.DataNodes.{DataNodes}
 use Rattle.cluster_repair.specs.declared.ticks.Ticks.{Ticks}
 use Rattle.cluster_repair.specs.History.{AreAtStart, AreOf, ComesAt, HasTaken, RoundRecord, are_idle}
 use Rattle.cluster_repair.specs.Reports.{HaveReported, IsReached, after_events, deleted, heartbeat_of, received, reports_of}
 use Rattle.cluster_repair.specs.Retirements.{AreAnswered, is_retired_in, note_at, noted, retired_since, retirement_of}
-use Rattle.cluster_repair.specs.Sending.{remaining_in}
-use Rattle.cluster_repair.specs.Sent.{AreCounted, AreBegun, copies_in, deletes_in, transfers_in}
+use Rattle.cluster_repair.specs.LinkModel.{remaining_in}
+use Rattle.cluster_repair.specs.SentCopies.{AreCounted, AreBegun, count_copies, deletes_in, transfers_in}
 use Rattle.cluster_repair.specs.Rows.{AreReported, AreCounts, IsRowAmong, AreRowsAmong, EndsWith, IsUnderWay, IsNoted, HasEnded, AreLeveled, is_on_stride}
 use Rattle.cluster_repair.proofs.HistoryLemmas.{listed_if, row_of, since_more, taken_alike, taken_more}
 
@@ -109,7 +109,7 @@ pub reported_free : (M N : State) (xs : List ℕ) (f : FreeBytes) (n : NodeStora
 reported_free M N xs f n rs are accepted after = record {
   state = after ∙ ap (λ rs. after_event M (Heartbeat n.node rs)) are;
   reached = reached_by_event M N (Heartbeat n.node rs) accepted after;
-  covers = covers_heard M N (Heartbeat n.node rs) xs (λ b. refl) after;
+  covers = covers_after_heartbeat M N (Heartbeat n.node rs) xs (λ b. refl) after;
 }
 
 -- copies, deletes, and the free bytes after them
@@ -161,7 +161,7 @@ under_way_at_once ticks M r rows retired rounds now commanded at_start counted =
 -- reports and a round
 pub under_way_by_round : (ticks : Ticks) (M : State) (d : DataNodes) (C : Cluster) (blocks : Catalogue) (most : ℕ) (K L N : State) (old new : Repair) (mid : DataNodes) (k : Commands) (now : ℕ)
     → AreOf C blocks most M → (0 < old.rounds → (nat_le most old.rounds && are_idle old.datanodes) ≡ false) → round_refusal L ≡ None → N ≡ count_call (whole_round L).1 → k ≡ (whole_round L).0
-    → new.rounds ≡ old.rounds + 1 → new.time ≡ now → new.rows.rows.items ≡ old.rows.rows.items → new.commanded ≡ copies_in k → new.drained.items ≡ old.drained.items
+    → new.rounds ≡ old.rounds + 1 → new.time ≡ now → new.rows.rows.items ≡ old.rows.rows.items → new.commanded ≡ count_copies k → new.drained.items ≡ old.drained.items
     → ((history : HasTaken ticks M d K old) → ComesAt ticks history.taken now)
     → HaveReported (len_in blocks) now old.datanodes mid K L → ((ss : List Sent) → AreCounted ss old.datanodes → AreCounted ss mid)
     → AreBegun C now (transfers_in k) mid new.datanodes → new.datanodes.deletes.items ≡ mid.deletes.items ++ deletes_in k

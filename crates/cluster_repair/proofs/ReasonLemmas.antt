@@ -12,7 +12,7 @@ use Rattle.bm_parts.specs.QueryLaws.{replica_key}
 use Rattle.laws_of_events.specs.Queries.{IsBefore}
 use Rattle.cluster_report.specs.declared.book.Book.{Book}
 use Rattle.cluster_report.specs.Catalogues.{len_in}
-use Rattle.cluster_repair.specs.declared.free.FreeBytes.{FreeBytes}
+use Rattle.cluster_repair.specs.declared.free_bytes.FreeBytes.{FreeBytes}
 use Rattle.cluster_repair.specs.declared.reasons.Unmended.{Unmended}
 use Rattle.cluster_repair.specs.Reasons.{HasReason, HaveReasons, reason_for}
 use Rattle.bm_topo.proofs.ByNode.{each_before, each_from, none_left, all_left, parted, differs_below, differs_above, same_between}

@@ -12,14 +12,14 @@ use Rattle.bm_base.specs.declared.commands.NodeCommands.{NodeCommands}
 use Rattle.bm_base.specs.declared.commands.Delete.{Delete}
 use Rattle.bm_base.specs.declared.commands.Transfer.{Transfer}
 use Rattle.bm_base.specs.Words.{Cluster}
-use Rattle.cluster_repair.specs.declared.free.FreeBytes.{FreeBytes}
+use Rattle.cluster_repair.specs.declared.free_bytes.FreeBytes.{FreeBytes}
 use Rattle.cluster_repair.specs.declared.links.Links.{Links}
-use Rattle.cluster_repair.specs.declared.on_way.OnWay.{OnWay}
-use Rattle.cluster_repair.specs.declared.on_way.Sent.{Sent}
+use Rattle.cluster_repair.specs.declared.awaited_copies.OnWay.{OnWay}
+use Rattle.cluster_repair.specs.declared.awaited_copies.Sent.{Sent}
 use Rattle.cluster_repair.specs.declared.datanodes.DataNodes.{DataNodes}
 use Rattle.cluster_repair.specs.Copies.{is_copy_of, is_among}
-use Rattle.cluster_repair.specs.Sending.{most, micros_for, sends_until, receives_until, sent_at, received_at, arrival, free_on}
-use Rattle.cluster_repair.specs.Sent.{AreCounted, AreBegun, IsSent, AreSent, AreNumbered, bytes_of, bytes_to, is_one_of, receiver, sender, to_begin, transfers_of}
+use Rattle.cluster_repair.specs.LinkModel.{most, micros_for, sends_until, receives_until, sent_at, received_at, arrival, free_on}
+use Rattle.cluster_repair.specs.SentCopies.{AreCounted, AreBegun, IsSent, AreSent, AreNumbered, bytes_of, bytes_to, is_one_of, receiver, sender, to_begin, transfers_of}
 use Rattle.bm_topo.proofs.Repeats.{or_first}
 
 -- Membership.

@@ -6,9 +6,9 @@ use Rattle.std.proofs.lemmas.Grind.{div_ceil_times}
 use Rattle.std.proofs.lemmas.Nat.{mul-le}
 use Rattle.std.proofs.Math.Nat.{le_refl, le_trans}
 use Rattle.std.proofs.lemmas.List.Sums.{sum_by-cons, count_by_more_no}
-use Rattle.cluster_repair.specs.declared.on_way.Sent.{Sent}
+use Rattle.cluster_repair.specs.declared.awaited_copies.Sent.{Sent}
 use Rattle.cluster_repair.specs.declared.ticks.Ticks.{Ticks}
-use Rattle.cluster_repair.specs.Sending.{most}
+use Rattle.cluster_repair.specs.LinkModel.{most}
 use Rattle.cluster_repair.specs.Ticks.{on_way_after, IsNextTick}
 
 one_fewer : (a t u : ℕ) → t ≤ u → cond (nat_lt u a) 1 0 ≤ cond (nat_lt t a) 1 0

@@ -7,7 +7,7 @@ use Rattle.std.proofs.lemmas.List.Kept.{IsStrictlyIncreasing-filter}
 use Rattle.std.proofs.Math.Bool.{and_self}
 use Rattle.bm_base.specs.Words.{State, has, level}
 use Rattle.bm_base.proofs.ListTests.{has_filter}
-use Rattle.laws_of_repairs.proofs.Watching.{has_level}
+use Rattle.laws_of_repairs.proofs.WatchedBlocks.{has_level}
 use Rattle.cluster_repair.specs.declared.reasons.Unmended.{Unmended}
 use Rattle.cluster_repair.specs.Rows.{AreFound, AreLeveled, AreUnmended}
 

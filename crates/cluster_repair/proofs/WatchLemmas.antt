@@ -15,14 +15,14 @@ use Rattle.bm_base.specs.Words.{State, has, keys, is_at, level, missing_blocks}
 use Rattle.bm_base.proofs.Clusters.{eqb_turned}
 use Rattle.bm_base.proofs.ListTests.{any_agree}
 use Rattle.bm_base.proofs.Options.{not_there}
-use Rattle.bm_topo.proofs.Repeats.{no_repeats-rising}
+use Rattle.bm_topo.proofs.Repeats.{no_repeats-ascending}
 use Rattle.cluster_report.specs.Catalogues.{Lists, info_in}
 use Rattle.cluster_report.specs.Levels.{leveled, levels_counted, count_at}
 use Rattle.cluster_report.specs.declared.catalogue.Catalogue.{Catalogue}
 use Rattle.cluster_report.specs.declared.levels.Leveled.{Leveled}
 use Rattle.cluster_report.specs.declared.levels.LevelCounts.{LevelCounts}
 use Rattle.laws_of_repairs.specs.Repairs.{Covers, blocks_at}
-use Rattle.laws_of_repairs.proofs.Watching.{has_level, count_as_all, covers_sorted, covers_leveled, leveled_all, unknown_has_none}
+use Rattle.laws_of_repairs.proofs.WatchedBlocks.{has_level, count_as_all, covers_sorted, covers_leveled, leveled_all, unknown_has_none}
 use Rattle.cluster_repair.specs.Rows.{AreCounts, AreLeveled}
 
 -- a block that is no key is not known
@@ -69,14 +69,14 @@ covers_known M c bs kept levels lists absent asked is =
     subst (Covers M) (sym (leveled_of M bs kept levels asked is)) (covers_leveled M bs (λ b none. unknown_has_none M b (sym (lists b) ∙ absent b none)))
 
 module _ (M : State) (old ys bs : List ℕ) (levels : List Leveled) (covers : Covers M old) (same : IsPermutation old ys) (sorted : IsSorted nat_cmp ys) (once : bs ≡ dedup nat_eq ys) (asked : levels ≡ map (leveled M.cluster M.holdings) bs) where
-  rising : IsStrictlyIncreasing bs
-  rising = subst IsStrictlyIncreasing (sym once) (IsStrictlyIncreasing-dedup ys sorted)
+  increasing : IsStrictlyIncreasing bs
+  increasing = subst IsStrictlyIncreasing (sym once) (IsStrictlyIncreasing-dedup ys sorted)
 
   covered : Covers M bs
   covered = subst (Covers M) (sym once) (covers_sorted M old ys same covers)
 
   counted : (urgency : Level) → count_at urgency levels ≡ blocks_at M urgency (keys M.holdings.blocks)
-  counted urgency = ap (count_at urgency) asked ∙ count_mapped M urgency bs ∙ count_as_all M bs urgency (no_repeats-rising bs rising) covered
+  counted urgency = ap (count_at urgency) asked ∙ count_mapped M urgency bs ∙ count_as_all M bs urgency (no_repeats-ascending bs increasing) covered
 
   pub all_counted : (missing : List ℕ) (c : LevelCounts) → missing ≡ missing_blocks M.cluster M.holdings → c ≡ levels_counted levels (length missing) → AreCounts M c
   all_counted missing c are is = record {
@@ -91,6 +91,6 @@ module _ (M : State) (old ys bs : List ℕ) (levels : List Leveled) (covers : Co
   all_leveled kept is =
       let are = leveled_of M bs kept levels asked is in
       record {
-        ascending = subst IsStrictlyIncreasing (sym are) (IsStrictlyIncreasing-filter (has_level M) bs rising);
+        ascending = subst IsStrictlyIncreasing (sym are) (IsStrictlyIncreasing-filter (has_level M) bs increasing);
         all = λ b. ap (λ xs. has xs b) are ∙ leveled_all M bs covered b;
       }

@@ -3,7 +3,7 @@ use Rattle.std.specs.Prelude.{ℕ, Bool, ◌==◌, ◌&&◌, nat_le, List}
 use Rattle.std.specs.HashSet.{HashSet}
 use Rattle.std.specs.List.{list_any}
 use Rattle.bm_base.specs.declared.commands.Transfer.{Transfer}
-use Rattle.cluster_repair.specs.declared.on_way.Sent.{Sent}
+use Rattle.cluster_repair.specs.declared.awaited_copies.Sent.{Sent}
 
 -- whether it is a copy of block b to storage t
 abbrev pub is_copy_of : ℕ → ℕ → Sent → Bool

@@ -4,25 +4,25 @@ use Rattle.bm_base.specs.Words.{Cluster, Map, State, by_replica, count_call, has
 use Rattle.cluster_report.specs.Catalogues.{Lists, len_of}
 use Rattle.cluster_report.specs.declared.catalogue.Catalogue.{Catalogue}
 use Rattle.cluster_repair.specs.declared.datanodes.DataNodes.{DataNodes}
-use Rattle.cluster_repair.specs.declared.free.NodeStorages.{NodeStorages}
-use Rattle.cluster_repair.specs.declared.on_way.Sent.{Sent}
+use Rattle.cluster_repair.specs.declared.free_bytes.NodeStorages.{NodeStorages}
+use Rattle.cluster_repair.specs.declared.awaited_copies.Sent.{Sent}
 use Rattle.cluster_repair.specs.declared.repair.Repair.{Repair}
 use Rattle.cluster_repair.specs.declared.ticks.Ticks.{Ticks}
 use Rattle.cluster_repair.specs.Reports.{HaveReported}
-use Rattle.cluster_repair.specs.Sending.{sends_until, receives_until, free_in, free_on}
-use Rattle.cluster_repair.specs.Sent.{AreBegun, AreCounted, copies_in, deletes_in, transfers_in}
+use Rattle.cluster_repair.specs.LinkModel.{sends_until, receives_until, free_in, free_on}
+use Rattle.cluster_repair.specs.SentCopies.{AreBegun, AreCounted, count_copies, deletes_in, transfers_in}
 use Rattle.cluster_repair.specs.Ticks.{IsNextTick}
 
--- A round: when it came, and the manager then, after the reports; the copies that DataNodes began,
--- and DataNodes after it.
+-- A round: its time, the manager after the reports and before the commands, the copies that
+-- DataNodes began, and DataNodes after the round.
 pub record RoundRecord : Type 0 where
   pub time : ℕ
   pub state : State
   pub copies : List Sent
   pub datanodes : DataNodes
 
--- The last of these rounds comes first in their list. Before them, M and d were the manager and
--- DataNodes.
+-- A list of rounds has the last round first. M and d are the manager and DataNodes before the first
+-- round.
 
 -- the manager after these rounds
 abbrev pub state_of : State → List RoundRecord → State
@@ -42,7 +42,7 @@ time_of (last ∷ before) = last.time
 -- the number of copies that the last round commanded
 abbrev pub commanded_of : List RoundRecord → ℕ
 commanded_of [] = 0
-commanded_of (last ∷ before) = copies_in (whole_round last.state).0
+commanded_of (last ∷ before) = count_copies (whole_round last.state).0
 
 -- all copies that DataNodes began
 abbrev pub copies_of : List RoundRecord → List Sent
@@ -62,8 +62,8 @@ awaited_rounds pending pend = if len pending == 0 then 0 else pend
 abbrev pub are_idle : DataNodes → Bool
 are_idle d = (length d.on_way.sent.items == 0) && (length d.deletes.items == 0)
 
--- another round comes after these: an older copy is still pending, or DataNodes have something to
--- do
+-- another round comes after these: a copy from before the repair may be pending, or DataNodes have
+-- something to do
 abbrev pub GoesOn : State → List RoundRecord → Type 0
 GoesOn M [] = Unit {0}
 GoesOn M (last ∷ before) = (nat_le (awaited_rounds M.holdings.pending M.limits.pend) (length (last ∷ before)) && are_idle last.datanodes) ≡ false

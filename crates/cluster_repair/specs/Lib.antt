@@ -1,8 +1,8 @@
 -- How lost replicas are repaired: the copies of rounds, the DataNodes that send them, and the rows
 -- of a repair.
-pub mod Sending
+pub mod LinkModel
 pub mod Copies
-pub mod Sent
+pub mod SentCopies
 pub mod Reports
 pub mod Ticks
 pub mod History

@@ -8,11 +8,11 @@ use Rattle.bm_base.specs.Words.{Cluster, Holdings, all_replicas, is_draining, is
 use Rattle.bm_base.specs.Machine.Replicas.{share_node}
 use Rattle.cluster_report.specs.declared.book.Book.{Book}
 use Rattle.cluster_report.specs.Catalogues.{len_in}
-use Rattle.cluster_repair.specs.declared.free.FreeBytes.{FreeBytes}
+use Rattle.cluster_repair.specs.declared.free_bytes.FreeBytes.{FreeBytes}
 use Rattle.cluster_repair.specs.declared.reasons.Reason.{Reason}
 use Rattle.cluster_repair.specs.declared.reasons.Reason.TheVariants.{NoSource, NoTarget, NoSpace}
 use Rattle.cluster_repair.specs.declared.reasons.Unmended.{Unmended}
-use Rattle.cluster_repair.specs.Sending.{free_on}
+use Rattle.cluster_repair.specs.LinkModel.{free_on}
 
 -- the replicas of block b, with their tags
 abbrev pub replicas_of : Holdings → ℕ → List Replica
@@ -30,8 +30,7 @@ is_badly_distributed _ = false
 abbrev pub is_on_their_node : Cluster → List Replica → ℕ → Bool
 is_on_their_node C rs s = list_any (λ r. share_node C s r.storage) rs
 
--- whether one of these replicas, which is good and on a node that does not drain, is on the rack of
--- storage s
+-- whether a good one of these replicas, on a node that does not drain, is on the rack of storage s
 abbrev pub is_on_their_rack : Cluster → List Replica → ℕ → Bool
 is_on_their_rack C rs s = list_any (λ r. is_good r.tag && (not (is_draining C r.storage) && share_rack C s r.storage)) rs
 
@@ -42,7 +41,7 @@ abbrev pub would_count : Cluster → List Replica → Level → ℕ → Bool
 would_count C rs urgency s =
     is_some (node_of C s) && (not (is_draining C s) && (not (is_on_their_node C rs s) && not (is_badly_distributed urgency && is_on_their_rack C rs s)))
 
--- whether it counts there, and the storage has enough free bytes for this length
+-- whether the copy counts on storage s, and s has enough free bytes for this length
 abbrev pub would_fit : Cluster → List Replica → Level → ℕ → FreeBytes → ℕ → Bool
 would_fit C rs urgency len f s = would_count C rs urgency s && nat_le len (free_on f s)
 

@@ -9,11 +9,11 @@ use Rattle.bm_base.specs.declared.commands.Delete.{Delete}
 use Rattle.bm_base.specs.declared.event.Event.{Event}
 use Rattle.bm_base.specs.declared.event.Event.TheVariants.{Heartbeat, Received, Deleted}
 use Rattle.cluster_repair.specs.declared.datanodes.DataNodes.{DataNodes}
-use Rattle.cluster_repair.specs.declared.free.FreeBytes.{FreeBytes}
-use Rattle.cluster_repair.specs.declared.free.NodeStorages.{NodeStorages}
-use Rattle.cluster_repair.specs.declared.on_way.Sent.{Sent}
+use Rattle.cluster_repair.specs.declared.free_bytes.FreeBytes.{FreeBytes}
+use Rattle.cluster_repair.specs.declared.free_bytes.NodeStorages.{NodeStorages}
+use Rattle.cluster_repair.specs.declared.awaited_copies.Sent.{Sent}
 use Rattle.cluster_repair.specs.Copies.{has_arrived, when}
-use Rattle.cluster_repair.specs.Sending.{most, free_on, remaining_in}
+use Rattle.cluster_repair.specs.LinkModel.{most, free_on, remaining_in}
 
 -- a copy has arrived
 abbrev pub received : Sent → Event

@@ -26,12 +26,12 @@ noted false before now = None
 noted true None now = Some now
 noted true (Some before) now = Some before
 
--- the notes after the answers about these nodes, where the old ones are those before
+-- the notes before and after the manager answered about these nodes; the other notes stay
 abbrev pub AreAnswered : State → List ℕ → ℕ → ℕ → List Retirement → List Retirement → Type 0
 AreAnswered M nodes rounds seconds old new =
     (n : ℕ) → retirement_of new n ≡ (if has nodes n then noted (is_retired_in M n) (retirement_of old n) (note_at n rounds seconds) else retirement_of old n)
 
--- since when the manager has answered yes, as each of these rounds came
+-- the note about a node, if the manager was asked in each of these rounds before its commands
 abbrev pub retired_since : List RoundRecord → ℕ → Option Retirement
 retired_since [] n = None
 retired_since (round ∷ before) n = noted (is_retired_in round.state n) (retired_since before n) (note_at n (length before) (round.time / 1000000))

@@ -58,8 +58,8 @@ pub record AreRowsAmong (M : State) (d : DataNodes) (taken : List RoundRecord) (
 abbrev pub is_on_stride : ℕ → ℕ → Bool
 is_on_stride round stride = (round - 1) % max stride 1 == 0
 
--- The rounds of these rows ascend, and all come before this one. Each round before it that is one
--- of 1, 1 + stride and so on has a row. Before the 64th each round is one.
+-- The rounds of these rows ascend, and all come before round `next`. Each of the rounds 1,
+-- 1 + stride and so on before it has a row. The stride is 1 if `next` is below 64.
 pub record AreInOrder (next stride : ℕ) (rows : List Row) : Type 0 where
   pub ascend : AllPairs (λ a b. a.round < b.round) rows
   pub before : All (λ r. r.round < next) rows

@@ -3,13 +3,13 @@
 use Rattle.std.specs.Prelude.{◌≡◌, ℕ, ◌<◌, ◌≤◌, ◌+◌, ◌*◌, max, min, nat_lt, List, count_by}
 use Rattle.bm_base.specs.Maps.Map.{len}
 use Rattle.bm_base.specs.Words.{Cluster}
-use Rattle.cluster_repair.specs.declared.on_way.Sent.{Sent}
+use Rattle.cluster_repair.specs.declared.awaited_copies.Sent.{Sent}
 use Rattle.cluster_repair.specs.declared.repair.Pace.{Pace}
 use Rattle.cluster_repair.specs.declared.ticks.Ticks.{Ticks}
-use Rattle.cluster_repair.specs.Sending.{most}
+use Rattle.cluster_repair.specs.LinkModel.{most}
 
--- Ticks come at the pace's interval. A round is skipped while the copies on their way are at least
--- those that it may command.
+-- Ticks come at the pace's interval. A round is skipped while the number of copies on their way is
+-- at least the number that the round may command.
 abbrev pub ticks_of : Pace → Cluster → Ticks
 ticks_of pace C = record { interval = pace.interval * 1000000; enough = pace.work * len C.nodes }
 

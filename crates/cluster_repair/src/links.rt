@@ -1,7 +1,7 @@
-// The times at which copies arrive: a model. What a node sends and what it receives are two links,
-// each of which passes one copy after another.
+// The times at which copies arrive: a model. Each node has a link for sending and one for
+// receiving. A link passes one copy after another.
 ghost use Rattle.std.specs.Prelude.{◌≡◌, ℕ, nat_eq, IfOk, OnOk, if◌then◌else◌};
-ghost use Rattle.cluster_repair.specs.Sending.{micros_for, sends_until, receives_until, sent_at, received_at, arrival};
+ghost use Rattle.cluster_repair.specs.LinkModel.{micros_for, sends_until, receives_until, sent_at, received_at, arrival};
 
 use crate::numbers::put;
 use bm_base::NodeId;

@@ -8,7 +8,7 @@ ghost use Rattle.cluster_report.specs.Catalogues.{len_in};
 ghost use Rattle.cluster_repair.specs.Rows.{AreFound, AreLeveled, AreUnmended};
 ghost use Rattle.cluster_repair.specs.Reasons.{HaveReasons, reason_for, would_count, would_fit, is_on_their_node, is_on_their_rack, is_missing, is_badly_distributed};
 
-use crate::free::FreeBytes;
+use crate::free_bytes::FreeBytes;
 use bm_base::{BlockId, Level, Refusal, Replica, StorageId};
 use bm_topo::Topology;
 use cluster_report::session::Session;
@@ -21,7 +21,8 @@ pub enum Reason {
     /// No replica can be copied.
     NoSource,
     /// Each node that does not drain holds a replica or, if the block is badly distributed, is on
-    /// its only rack. Otherwise a storage with enough free bytes got no copy.
+    /// the block's only rack. Or a copy would count on a storage with enough free bytes, but the
+    /// storage got none.
     NoTarget,
     /// Some node could take a copy that counts, but none of its storages has enough free bytes.
     NoSpace,
@@ -112,7 +113,7 @@ fn reason_of(
     leveled.reason(free)
 }
 
-/// The replicas of a block among all, which come by block.
+/// The replicas of a block among all replicas, which are sorted by block.
 fn replicas_of(replicas: &[Replica], block: BlockId) -> &[Replica]
     requires { IsNonDecreasingBy (λ r. r.block) replicas.now }
     ensures { result.now ≡ filter (λ r. r.block == block) replicas.now }
@@ -159,7 +160,7 @@ impl LeveledBlock<'_> {
         false
     }
 
-    /// Whether such a storage has enough free bytes.
+    /// Whether a storage on which a copy would count has enough free bytes.
     fn has_space(&self, free: &FreeBytes) -> bool
         ensures { result ≡ list_any (would_fit self.now.topology.now.cluster
             self.now.replicas.now self.now.level self.now.length free.now)

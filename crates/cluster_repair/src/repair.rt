@@ -7,7 +7,7 @@ ghost use Rattle.laws_of_repairs.specs.Repairs.{Covers};
 ghost use Rattle.cluster_repair.specs.History.{AreAtStart, AreOf, ComesAt, HasTaken, are_idle, awaited_rounds};
 ghost use Rattle.cluster_repair.specs.Retirements.{AreAnswered, is_retired_in, note_at, noted, retirement_of};
 ghost use Rattle.cluster_repair.specs.Rows.{AreInOrder, IsUnderWay, IsNoted, HasEnded, IsDone, is_over};
-ghost use Rattle.cluster_repair.specs.Sent.{AreCounted, copies_in};
+ghost use Rattle.cluster_repair.specs.SentCopies.{AreCounted, count_copies};
 ghost use Rattle.cluster_repair.specs.Ticks.{ticks_of};
 ghost use Rattle.cluster_repair.specs.declared.datanodes.DataNodes.{DataNodes};
 ghost use Rattle.cluster_repair.specs.declared.ticks.Ticks.{Ticks};
@@ -44,7 +44,8 @@ pub struct Pace {
 }
 
 impl Pace {
-    /// A round is skipped while the copies on their way are at least its limit.
+    /// The ticks of rounds. A round is skipped while the number of copies on their way is at least
+    /// the number that it may command.
     pub fn ticks(self, topology: &Topology) -> Ticks
         ensures { result ≡ ticks_of self topology.now.cluster }
     {
@@ -73,11 +74,11 @@ pub struct Repair {
     pub rows: Rows,
     /// The alive nodes that drain.
     pub drained: Vec<NodeId>,
-    /// Those of them that are retired, by the last answer.
+    /// The nodes of `drained` that are retired, by the manager's last answer.
     pub retired: Vec<Retirement>,
     /// The rounds that were taken.
     pub rounds: u32,
-    /// When the last of them was, in microseconds from the first.
+    /// When the last round was, in microseconds from the first.
     pub time: u64,
     /// The copies that the last round commanded.
     pub commanded: usize,
@@ -90,12 +91,12 @@ struct Facts<'a> {
     topology: &'a Topology,
     blocks: &'a Catalogue,
     ticks: Ticks,
-    /// For how many rounds the manager awaits copies that were commanded before.
+    /// For how many rounds the manager awaits copies that were commanded before the repair.
     awaited: u32,
 }
 
-/// Takes rounds until nothing is on its way and a round commands nothing. Copies that were
-/// commanded before never arrive; they expire in the manager.
+/// Takes at most a million rounds, until nothing is on its way and a round commands nothing.
+/// Copies that were commanded before the repair never arrive; they expire in the manager.
 pub fn repair_cluster<R: Eprint + Threads + Wait + Sync>(
     rt: &R,
     alloc: Global,
@@ -125,7 +126,7 @@ pub fn repair_cluster<R: Eprint + Threads + Wait + Sync>(
     Ok(repair)
 }
 
-/// The number of rounds after which all copies that were commanded before have expired.
+/// The number of rounds after which all copies from before the repair have expired.
 fn awaited_rounds(transfers: &Transfers) -> u32
     ensures { result ≡ awaited_rounds transfers.now.copies transfers.now.pend }
 {
@@ -250,7 +251,7 @@ impl Repair {
         manager.show_invariant();
         let commands = manager.round(rt, &NoGate)?;
         self.datanodes.obey(facts.topology, &commands, now)?;
-        self.commanded = copies_in(&commands);
+        self.commanded = count_copies(&commands);
         self.rounds += 1;
         self.time = now;
         Ok(())
@@ -417,8 +418,8 @@ pub fn retirement_of(retired: &[Retirement], node: NodeId) -> Option<Retirement>
     None
 }
 
-fn copies_in(commands: &Commands) -> usize
-    ensures { result ≡ copies_in commands.now }
+fn count_copies(commands: &Commands) -> usize
+    ensures { result ≡ count_copies commands.now }
 {
     let mut copies = 0usize;
     for node in commands.nodes.as_slice() {

@@ -8,7 +8,7 @@ ghost use Rattle.cluster_repair.specs.declared.datanodes.DataNodes.{DataNodes};
 use cluster_report::levels::LevelCounts;
 use std::alloc::{AllocError, Global};
 
-/// The most rows. If there are as many, every second row is dropped before the next is added.
+/// The greatest number of rows. If it is reached, every second row is dropped before one is added.
 const MOST_KEPT: usize = 64;
 
 /// Above this stride no row is dropped: a repair takes at most this number of rounds.

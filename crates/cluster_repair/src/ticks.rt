@@ -3,7 +3,7 @@
 ghost use Rattle.std.specs.Prelude.{◌≡◌, ◌≤◌, ◌<◌, ℕ};
 ghost use Rattle.cluster_repair.specs.Ticks.{IsNextTick, on_way_after};
 
-use crate::on_way::{Sent, arrives_after};
+use crate::awaited_copies::{Sent, arrives_after};
 
 /// The interval of rounds, and when one is skipped.
 #[derive(Clone, Copy)]

@@ -24,7 +24,7 @@ impl Watch {
         requires { Lists blocks.now manager.now.holdings.blocks }
         ensures { IfOk result (λ w. Covers manager.now w.blocks.items) }
     {
-        let numbers = numbers_in(alloc, blocks)?;
+        let numbers = collect_numbers(alloc, blocks)?;
         let levels = query_levels(alloc, manager, numbers.as_slice())?;
         let blocks = with_level(alloc, levels.as_slice())?;
         Ok(Watch { blocks })
@@ -56,7 +56,7 @@ impl Watch {
 }
 
 /// The numbers of the known blocks.
-fn numbers_in(alloc: Global, blocks: &Catalogue) -> Result<Vec<u64>, AllocError>
+fn collect_numbers(alloc: Global, blocks: &Catalogue) -> Result<Vec<u64>, AllocError>
     ensures { IfOk result (λ v. (b : ℕ) → has v.items b ≡ false → info_in blocks.now b ≡ None) }
 {
     let numbers: Vec<u64> = blocks.blocks.keys().copied().collect(alloc)?;

@@ -43,23 +43,23 @@ module _ {K X : Type 0} (o : Order K) (old : BTreeMap K X) (m : Map o X) (is : o
 
   module _ (new : BTreeMap K X) (ordered_new : IsOrdered o.cmp new) where
     get-changed : (k : K) (v : Option X) → Updates o.cmp old new k v → (q : K) → get (of_sorted {o = o} new.entries) q ≡ cond (eq_by_cmp o.cmp q k) v (get m q)
-    get-changed k v told q =
+    get-changed k v facts q =
         get-of_sorted o new.entries q (sorted o.cmp new.entries ordered_new)
         ∙ found o.cmp q new.entries
-        ∙ told.0 q
+        ∙ facts.0 q
         ∙ ap (λ b. cond b v (tree.get o.cmp old q)) ((eq_by_cmp_equiv o.total).symm k q)
         ∙ ap (cond (eq_by_cmp o.cmp q k) v) (get-tree q)
 
     pub inserted : (k : K) (v : X) → Updates o.cmp old new k (Some v) → of_sorted {o = o} new.entries ≡ insert m k v
-    inserted k v told = same_map _ _ (λ q. get-changed k (Some v) told q ∙ sym (get-insert m k v q))
+    inserted k v facts = same_map _ _ (λ q. get-changed k (Some v) facts q ∙ sym (get-insert m k v q))
 
     pub removed : (k : K) → Updates o.cmp old new k None → of_sorted {o = o} new.entries ≡ remove m k
-    removed k told = same_map _ _ (λ q. get-changed k None told q ∙ sym (get-remove m k q))
+    removed k facts = same_map _ _ (λ q. get-changed k None facts q ∙ sym (get-remove m k q))
 
     pub kept : (p : K → X → Bool) {F : Type 0} (T : F → K → X → Bool → X → F → Type 0) (f : F)
         → ((k : K) (v : X) (b : Bool) (w : X) (g : F) → T f k v b w g → (b ≡ p k v) × (w ≡ v) × (g ≡ f)) → RetainsPairs T f old.entries new.entries → of_sorted {o = o} new.entries ≡ keep m p
-    kept p T f calls told =
+    kept p T f calls facts =
         keep-filter o m _ p
         (entries-of_sorted o new.entries (sorted o.cmp new.entries ordered_new)
-        ∙ filter_same_pairs T (λ e. p e.0 e.1) f calls old.entries new.entries told
+        ∙ filter_same_pairs T (λ e. p e.0 e.1) f calls old.entries new.entries facts
         ∙ ap (filter (λ e. p e.0 e.1)) (sym (entries-of_sorted o old.entries (sorted o.cmp old.entries ordered)) ∙ ap entries is))

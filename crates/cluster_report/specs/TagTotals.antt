@@ -32,6 +32,6 @@ tag_bytes len rs = record {
 abbrev pub known_numbers : List Replica → List ℕ
 known_numbers rs = map (λ r. r.block) (filter (λ r. not (is_stray r.tag)) rs)
 
--- one of each run of equal numbers
+-- the blocks of these replicas, without the stray ones; of equal neighbours only one
 abbrev pub blocks_held : List Replica → List ℕ
 blocks_held rs = dedup nat_eq (known_numbers rs)

@@ -51,7 +51,7 @@ pub fn query_levels(
     let mut levels = Vec::new(alloc);
     for number in blocks {
         let block = BlockId(*number);
-        let level = level_in(manager, block);
+        let level = find_level(manager, block);
         levels.push(Leveled { block, level })?;
     }
     Ok(levels)
@@ -59,7 +59,7 @@ pub fn query_levels(
 
 /// The level of a block; none of an unknown block.
 #[tactic(auto, unfolding(bm_base::specs::Machine::Levels::level, bm_base::specs::Machine::Refusals::block_refusal, bm_base::specs::Machine::Refusals::knows_block))]
-fn level_in(manager: &Manager, block: BlockId) -> Option<Level>
+fn find_level(manager: &Manager, block: BlockId) -> Option<Level>
     ensures { result ≡ level manager.now.cluster manager.now.holdings block }
 {
     match manager.level(block) {

@@ -1,5 +1,5 @@
-//! The report on a cluster after calls. It has a manager, a book of the facts for which the manager
-//! has no query, the lines of an input, and the counts at the end.
+//! The report on a cluster. It makes the calls of an input on a manager, keeps a book of the facts
+//! for which the manager has no query, and counts the state at the end.
 //!
 //! A line that asks for no call, or whose call is refused, gets a note with its number. The other
 //! lines are processed.

@@ -66,16 +66,16 @@ fn new_arg<'a>(alloc: Global, name: &'a str) -> Arg<'a> {
 pub fn config_from(matches: &ArgMatches<'_>) -> Config {
     let standard = Config::standard();
     Config {
-        shards: number_in(matches, "shards", standard.shards),
-        workers: number_in(matches, "workers", standard.workers),
-        work: number_in(matches, "work", standard.work),
-        invalidate: number_in(matches, "invalidate", standard.invalidate),
-        pend: number_in(matches, "pend", standard.pend),
+        shards: get_number(matches, "shards", standard.shards),
+        workers: get_number(matches, "workers", standard.workers),
+        work: get_number(matches, "work", standard.work),
+        invalidate: get_number(matches, "invalidate", standard.invalidate),
+        pend: get_number(matches, "pend", standard.pend),
         ..standard
     }
 }
 
 /// The number of an option. Each option has a default value, so `standard` is never used.
-fn number_in(matches: &ArgMatches<'_>, name: &str, standard: u32) -> u32 {
+fn get_number(matches: &ArgMatches<'_>, name: &str, standard: u32) -> u32 {
     matches.get_one::<u32>(name).unwrap_or(standard)
 }

@@ -1,5 +1,5 @@
 -- Definitions of the parts of a simulation.
 pub mod Nodes
-pub mod Placing
+pub mod NewBlocks
 pub mod Incidents
-pub mod Counting
+pub mod RoundCounts

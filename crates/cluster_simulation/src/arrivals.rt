@@ -1,12 +1,12 @@
-// The copies that the manager awaits, which its book lists until they arrive.
+// Removes copies that arrived from the pending copies in the manager's book.
 ghost use Rattle.std.specs.Prelude.{◌≡◌};
 
 use bm_base::{Event, Transfer};
 use bm_topo::Topology;
-use cluster_repair::on_way::Sent;
+use cluster_repair::awaited_copies::Sent;
 use cluster_report::transfers::Transfers;
 
-/// Notes the copies that arrive by now.
+/// Removes the copies that arrive by `now` from the pending ones.
 pub fn note_arrivals(awaited: &mut Transfers, topology: &Topology, sent: &[Sent], now: u64) {
     for one in sent {
         if one.arrival <= now {

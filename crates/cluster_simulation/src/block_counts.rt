@@ -2,7 +2,7 @@
 ghost use Rattle.std.specs.Prelude.{◌≡◌, length, IfOk, OnOk};
 ghost use Rattle.bm_base.specs.Words.{excess_replicas, corrupt_replicas};
 ghost use Rattle.laws_of_repairs.specs.Repairs.{Covers};
-ghost use Rattle.cluster_simulation.specs.Counting.{IsCounted};
+ghost use Rattle.cluster_simulation.specs.RoundCounts.{IsCounted};
 
 use crate::counts::Counts;
 use bm_base::Refusal;

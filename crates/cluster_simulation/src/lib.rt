@@ -15,11 +15,11 @@
 //! line of the table is a round, and no length of time. Each disk has capacity for twice its share
 //! of the replicas.
 //!
-//! After each round it counts the known blocks at each level (`missing` are those without a usable
-//! replica). It also counts the copies that the manager awaits, the replicas in excess and the
+//! After each round the known blocks at each level are counted (`missing` are those without a
+//! usable replica). So are the copies that the manager awaits, the replicas in excess and the
 //! corrupt ones. The other counts are the copies and deletes that the round commands, and the calls
-//! that the manager refused since the previous round. Dead nodes report nothing, so it has nothing
-//! to refuse.
+//! that the manager refused since the previous round. Dead nodes report nothing, so the manager has
+//! nothing to refuse.
 //!
 //! The numbers of `examples/stories/one_of_two_racks_dies.csv` follow from the rules, whatever is
 //! drawn. There are four nodes, two on each of two racks, and six blocks, each with one replica on
@@ -39,7 +39,7 @@
 mod arrivals;
 mod block_counts;
 mod cluster;
-mod corrupt;
+mod corrupt_replicas;
 pub mod counts;
 mod csv;
 mod dice;

@@ -1,7 +1,7 @@
 // A made-up cluster: its nodes, and the blocks that are placed on them.
 ghost use Rattle.std.specs.Prelude.{◌≡◌, ◌∷◌, map, IfOk, OnOk};
 ghost use Rattle.cluster_report.specs.Sessions.{IsInStep};
-ghost use Rattle.cluster_simulation.specs.Placing.{addition, notice};
+ghost use Rattle.cluster_simulation.specs.NewBlocks.{addition, notice};
 
 use crate::cluster::Cluster;
 use crate::dice::Dice;

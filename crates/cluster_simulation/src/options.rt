@@ -283,19 +283,19 @@ fn new_arg<'a>(alloc: Global, name: &'a str) -> Arg<'a> {
 fn parse_options(matches: &ArgMatches<'_>) -> Options {
     Options {
         shape: Shape::new(
-            number_in(matches, "nodes"),
-            number_in(matches, "racks"),
-            number_in(matches, "storages"),
+            get_number(matches, "nodes"),
+            get_number(matches, "racks"),
+            get_number(matches, "storages"),
         ),
-        blocks: number_in(matches, "blocks").clamp(1, MOST_BLOCKS),
-        replication: number_in(matches, "replication"),
+        blocks: get_number(matches, "blocks").clamp(1, MOST_BLOCKS),
+        replication: get_number(matches, "replication"),
         seed: matches.get_one::<u64>("seed").unwrap_or(0),
         pace: Pace {
-            bandwidth: u64::from(number_in(matches, "bandwidth")) * 1_000_000,
-            interval: number_in(matches, "interval"),
+            bandwidth: u64::from(get_number(matches, "bandwidth")) * 1_000_000,
+            interval: get_number(matches, "interval"),
             work: Config::standard().work,
         },
-        rounds: number_in(matches, "rounds").clamp(LEAST_ROUNDS, MOST_ROUNDS),
+        rounds: get_number(matches, "rounds").clamp(LEAST_ROUNDS, MOST_ROUNDS),
         form: if matches.get_flag("svg") {
             Form::Svg
         } else {
@@ -304,7 +304,7 @@ fn parse_options(matches: &ArgMatches<'_>) -> Options {
     }
 }
 
-fn number_in(matches: &ArgMatches<'_>, name: &str) -> u32 {
+fn get_number(matches: &ArgMatches<'_>, name: &str) -> u32 {
     matches.get_one::<u32>(name).unwrap_or(0)
 }
 
@@ -317,7 +317,7 @@ fn parse_plan<'a>(
     let lose = matches.get_strs("lose").unwrap_or(&[]);
     let drain = matches.get_strs("drain").unwrap_or(&[]);
     let plan = Plan {
-        round: number_in(matches, "at"),
+        round: get_number(matches, "at"),
         incidents: incidents_of(alloc, options.shape, lose, drain)?,
         corrupt: matches.get_one::<u32>("corrupt").unwrap_or(NONE_CORRUPT),
     };

@@ -62,7 +62,7 @@ fn take_quiet_rounds<R: Eprint + Threads + Wait + Sync>(
     Ok(())
 }
 
-/// The rounds from the one of the incidents on, which is at time 0. The next comes at the first
+/// The rounds from that of the incidents on, which is at time 0. Each later one comes at the first
 /// tick at which fewer copies are on their way than a round may command.
 fn take_rounds<R: Eprint + Threads + Wait + Sync>(
     rt: &R,

@@ -3,12 +3,12 @@ ghost use Rattle.std.specs.Prelude.{◌≡◌, IfOk, OnOk};
 ghost use Rattle.bm_base.specs.Maps.Map as map_of;
 ghost use Rattle.cluster_report.specs.Sessions.{IsInStep};
 ghost use Rattle.laws_of_repairs.specs.Repairs.{Covers};
-ghost use Rattle.cluster_simulation.specs.Counting.{IsCounted};
+ghost use Rattle.cluster_simulation.specs.RoundCounts.{IsCounted};
 
 use crate::arrivals::note_arrivals;
 use crate::block_counts::count_blocks;
 use crate::cluster::Cluster;
-use crate::corrupt::corrupt_calls;
+use crate::corrupt_replicas::corrupt_calls;
 use crate::counts::Counts;
 use crate::dice::Dice;
 use crate::losses::calls_of;
@@ -50,8 +50,8 @@ impl Simulation {
         })
     }
 
-    /// Registers all nodes, and places all blocks. The session stays where it is: it is too large
-    /// to be moved from frame to frame.
+    /// Registers all nodes, and places all blocks. Changes the session in place: it is too large to
+    /// be moved through stack frames.
     pub fn begin<R: Threads + Wait + Sync>(
         &mut self,
         rt: &R,

@@ -1,4 +1,4 @@
 -- Lemmas on answers about losses: the findings, and their text.
-pub mod Findings
+pub mod WholeAnswers
 pub mod ShownRows
-pub mod Pushed
+pub mod AppendedTexts

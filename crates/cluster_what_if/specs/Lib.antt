@@ -1,7 +1,7 @@
 -- The answers about losses, and their text.
 pub mod Text
 pub mod Answers
-pub mod Found
+pub mod Findings
 pub mod Columns
 pub mod Table
 pub mod ShownRows

@@ -6,14 +6,14 @@ use Rattle.cluster_losses.specs.declared.loss.Question.{Question}
 use Rattle.cluster_names.specs.FileTable.{FileTable}
 use Rattle.cluster_names.specs.declared.names.Names.{Names}
 use Rattle.cluster_repair.specs.declared.repair.Pace.{Pace}
-use Rattle.cluster_what_if.specs.Found.{IsFoundFor}
+use Rattle.cluster_what_if.specs.Findings.{IsFoundFor}
 use Rattle.cluster_what_if.specs.RepairText.{repair_text}
 use Rattle.cluster_what_if.specs.Table.{table_text}
 use Rattle.cluster_what_if.specs.Text.{answer_text}
-use Rattle.cluster_what_if.specs.declared.found.Findings.{Findings}
-use Rattle.cluster_what_if.specs.declared.found.Findings.TheVariants as found
-use Rattle.cluster_what_if.specs.declared.found.Losses.{Losses}
-use Rattle.cluster_what_if.specs.declared.found.Mended.{Mended}
+use Rattle.cluster_what_if.specs.declared.findings.Findings.{Findings}
+use Rattle.cluster_what_if.specs.declared.findings.Findings.TheVariants as found
+use Rattle.cluster_what_if.specs.declared.findings.Losses.{Losses}
+use Rattle.cluster_what_if.specs.declared.findings.Mended.{Mended}
 
 -- the repair, if one was asked for
 abbrev pub mended_text : Names → FileTable → ℕ → Option Mended → List ℕ

@@ -3,8 +3,8 @@ use Rattle.cluster_repair.specs.declared.rows.Row.{Row}
 use Rattle.cluster_simulation.specs.declared.counts.Counts.{Counts}
 
 -- The counts after a round. A row has no other counts, so they are 0.
-abbrev pub counts_in : Row → Counts
-counts_in r = record {
+abbrev pub counts_of_row : Row → Counts
+counts_of_row r = record {
   round = r.round;
   highest = r.levels.highest;
   very_under_replicated = r.levels.very_under_replicated;

@@ -18,7 +18,7 @@ use Rattle.cluster_repair.specs.declared.rows.Row.{Row}
 use Rattle.cluster_what_if.specs.Columns.{number_in, level_heads, level_numbers}
 use Rattle.cluster_what_if.specs.ShownRows.{shown_rows}
 use Rattle.cluster_what_if.specs.Text.{end_with}
-use Rattle.cluster_what_if.specs.declared.found.Mended.{Mended}
+use Rattle.cluster_what_if.specs.declared.findings.Mended.{Mended}
 
 -- how fast DataNodes are, and how often rounds come
 unfoldable pub model_line : Pace → List ℕ

@@ -4,14 +4,14 @@ use Rattle.std.specs.List.{flat_map}
 use Rattle.cluster_names.specs.FileTable.{FileTable}
 use Rattle.cluster_names.specs.Rows.{name_or_number}
 use Rattle.cluster_names.specs.declared.names.Names.{Names}
-use Rattle.cluster_losses.specs.declared.each.Row.{Row}
+use Rattle.cluster_losses.specs.declared.single_losses.Row.{Row}
 use Rattle.cluster_losses.specs.declared.loss.Kind.{Kind}
 use Rattle.cluster_losses.specs.declared.loss.Kind.TheVariants.{Rack}
 use Rattle.cluster_losses.specs.declared.cluster_counts.ClusterCounts.{ClusterCounts}
-use Rattle.cluster_losses.specs.declared.without.Outcome.{Outcome}
+use Rattle.cluster_losses.specs.declared.applied_losses.Outcome.{Outcome}
 use Rattle.cluster_what_if.specs.Columns.{number_in, word_in, word_first, level_heads, level_numbers}
 use Rattle.cluster_what_if.specs.Text.{yes_or_no}
-use Rattle.cluster_what_if.specs.declared.found.Table.{Table}
+use Rattle.cluster_what_if.specs.declared.findings.Table.{Table}
 
 -- the kind of the rows: rack or node
 abbrev pub kind_word : Kind → List ℕ

@@ -8,7 +8,7 @@ use Rattle.cluster_names.specs.FileTable.{FileTable, path_of}
 use Rattle.cluster_report.specs.Text.{count_line}
 use Rattle.cluster_report.specs.declared.levels.LevelCounts.{LevelCounts}
 use Rattle.cluster_pages.specs.Text.{file_line}
-use Rattle.cluster_pages.specs.declared.at_risk.FileRow.{FileRow}
+use Rattle.cluster_pages.specs.declared.files_at_risk.FileRow.{FileRow}
 use Rattle.cluster_losses.specs.declared.loss_events.Lost.{Lost}
 use Rattle.cluster_losses.specs.declared.cluster_counts.ClusterCounts.{ClusterCounts}
 use Rattle.cluster_what_if.specs.declared.answers.Answer.{Answer}

@@ -5,10 +5,10 @@ ghost use Rattle.cluster_report.specs.Sessions.{IsInStep};
 ghost use Rattle.cluster_what_if.specs.Answers.{IsAnswer};
 
 use bm_base::{Event, Refusal};
+use cluster_losses::applied_losses::{Outcome, apply_losses};
 use cluster_losses::cluster_counts::{ClusterCounts, count_cluster};
-use cluster_losses::without::{Outcome, without};
 use cluster_names::Files;
-use cluster_pages::at_risk::{AtRisk, files_at_risk};
+use cluster_pages::files_at_risk::{AtRisk, files_at_risk};
 use cluster_report::session::Session;
 use std::alloc::Global;
 use std::sync::Wait;
@@ -25,7 +25,7 @@ pub struct Answer {
 
 /// Makes these losses, one after another. The manager is asked twice for all replicas, those in
 /// excess, the missing blocks, and the level of each block that has a replica.
-#[tactic(auto, using(crate::proofs::Findings::answered))]
+#[tactic(auto, using(crate::proofs::WholeAnswers::answered))]
 pub fn answer_to_losses<H: Threads + Wait + Sync>(
     rt: &H,
     alloc: Global,
@@ -41,7 +41,7 @@ pub fn answer_to_losses<H: Threads + Wait + Sync>(
     ensures in_step { OnOk result (IsInStep session.new) }
 {
     let before = count_cluster(alloc, session)?;
-    let found = without(rt, alloc, session, before.missing.as_slice(), losses)?;
+    let found = apply_losses(rt, alloc, session, before.missing.as_slice(), losses)?;
     let risk = files_at_risk(alloc, files, found.lost.as_slice(), &[])?;
     Ok(Answer {
         before,

@@ -16,7 +16,7 @@
 
 mod answers;
 mod columns;
-mod found;
+mod findings;
 mod help;
 mod options;
 mod output;
@@ -45,7 +45,7 @@ use cluster_losses::loss_events::unknown_of;
 use cluster_pages::output::print_output_fault;
 use cluster_pages::page_file::write_page;
 use cluster_progress::Progress;
-use found::{Findings, find};
+use findings::{Findings, find};
 use options::{Arguments, matches_of, parse_arguments};
 use output::{print_lines, print_picture};
 use page::found_page;
@@ -108,7 +108,7 @@ fn print_fault<R: Eprint>(rt: &R, fault: Fault) -> u8
 
 /// The answer about a cluster: the page, if one is asked for, and then the lines or the picture.
 /// The status is `DONE` only if all of it is written.
-#[tactic(auto, using(crate::proofs::Findings::printed))]
+#[tactic(auto, using(crate::proofs::WholeAnswers::printed))]
 fn answer<R: Eprint + Files + AllocGlobal + Threads + Wait + Sync, W: Write>(
     rt: &R,
     writer: &mut W,

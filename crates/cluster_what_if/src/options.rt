@@ -68,7 +68,7 @@ pub fn parse_arguments<'a>(
     })
 }
 
-/// A table is of losses alone, and a picture of the repair.
+/// Whether the options fit: a repair is of losses that happen together, a picture of a repair.
 fn may_ask(question: &Question<'_>, pace: Option<Pace>, is_picture: bool) -> bool {
     match pace {
         Some(_) => question.is_one(),
@@ -117,7 +117,7 @@ fn page<'a>(alloc: Global) -> Arg<'a> {
         .action(ArgAction::Set)
         .long("html")
         .value_name("FILE")
-        .help("writes the answer to FILE too, as one page that stands alone")
+        .help("writes the answer to FILE too, as one self-contained page")
 }
 
 /// The command with the options for the repair.

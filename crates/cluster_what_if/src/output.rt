@@ -3,7 +3,7 @@ ghost use Rattle.std.specs.Prelude.{◌≡◌, ◌++◌, IfOk, OnOk, string_byte
 ghost use Rattle.std.specs.Io.KnownBytes.{Appends};
 ghost use Rattle.cluster_what_if.specs.Output.{losses_text, mended_text, found_text};
 
-use crate::found::{Findings, Losses, Mended};
+use crate::findings::{Findings, Losses, Mended};
 use crate::repair_picture::picture_of;
 use crate::repair_text::write_repair;
 use crate::table::write_table;

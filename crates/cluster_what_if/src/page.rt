@@ -1,6 +1,6 @@
 // The findings as one self-contained page with tables, bars and a picture.
 use crate::answers::Answer;
-use crate::found::{Findings, Losses};
+use crate::findings::{Findings, Losses};
 use crate::page_rounds::{write_mended, write_mended_facts};
 use crate::page_table::write_table_page;
 use crate::text::fits_word;

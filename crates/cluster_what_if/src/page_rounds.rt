@@ -1,5 +1,5 @@
 // The part of a page about the repair.
-use crate::found::Mended;
+use crate::findings::Mended;
 use crate::page::write_bytes_fact;
 use crate::page_table::write_level_cells;
 use crate::repair_picture::picture_of;

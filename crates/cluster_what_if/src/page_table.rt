@@ -1,12 +1,12 @@
 // The page of a table: a row for each rack or node that is lost alone.
-use crate::found::Table;
+use crate::findings::Table;
 use crate::page::write_part;
 use crate::table::kind_word;
 use crate::text::fits_word;
 use bm_base::{NodeId, Rack};
 use cluster_losses::cluster_counts::ClusterCounts;
-use cluster_losses::each::Row;
 use cluster_losses::loss::Kind;
+use cluster_losses::single_losses::Row;
 use cluster_names::{Files, Names};
 use cluster_pages::page_frame::write_head;
 use cluster_pages::page_parts::{
@@ -26,7 +26,7 @@ const OTHER_HEADS: &str = "<th class=\"n\">highest</th><th class=\"n\">very unde
 <th class=\"n\">under-replicated</th><th class=\"n\">badly distributed</th>\
 <th class=\"n\">bytes to copy</th><th></th><th class=\"n\">free bytes</th><th>suffice</th>";
 
-/// The most of all rows, by which the bars are drawn.
+/// The greatest numbers of all rows, to which the bars are scaled.
 #[derive(Clone, Copy)]
 struct Greatest {
     lost: u128,

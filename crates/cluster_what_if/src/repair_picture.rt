@@ -1,8 +1,8 @@
 // The repair as a picture.
 ghost use Rattle.std.specs.Prelude.{◌≡◌, map, IfOk};
-ghost use Rattle.cluster_what_if.specs.Picture.{counts_in};
+ghost use Rattle.cluster_what_if.specs.Picture.{counts_of_row};
 
-use crate::found::Mended;
+use crate::findings::Mended;
 use cluster_repair::rows::Row;
 use cluster_simulation::counts::Counts;
 use cluster_simulation::svg::picture_text;
@@ -22,17 +22,17 @@ pub fn picture_of(alloc: Global, mended: &Mended) -> Result<String, AllocError> 
 
 /// The points of the picture: one for each row.
 fn counts_of(alloc: Global, rows: &[Row]) -> Result<Vec<Counts>, AllocError>
-    ensures { IfOk result (λ v. v.items ≡ map counts_in rows.now) }
+    ensures { IfOk result (λ v. v.items ≡ map counts_of_row rows.now) }
 {
     let mut counts = Vec::new(alloc);
     for row in rows {
-        counts.push(counts_in(row))?;
+        counts.push(counts_of_row(row))?;
     }
     Ok(counts)
 }
 
-fn counts_in(row: &Row) -> Counts
-    ensures { result ≡ counts_in row.now }
+fn counts_of_row(row: &Row) -> Counts
+    ensures { result ≡ counts_of_row row.now }
 {
     Counts {
         round: row.round,

@@ -4,7 +4,7 @@ ghost use Rattle.std.specs.List.{flat_map};
 ghost use Rattle.cluster_what_if.specs.RepairText.{count_with, retired_text, same_reason, reason_word, model_line, rounds_heading, round_line, rounds_text, copies_text, left_line, retirement_text, retirement_line, reasons_text, unmended_line, unmended_text, repair_text};
 
 use crate::columns::{write_level_heads, write_level_numbers};
-use crate::found::Mended;
+use crate::findings::Mended;
 use crate::shown_rows::shown_rows;
 use crate::text::{write_end, write_node};
 use bm_base::NodeId;

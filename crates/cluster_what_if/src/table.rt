@@ -5,14 +5,14 @@ ghost use Rattle.cluster_what_if.specs.Columns.{word_first};
 ghost use Rattle.cluster_what_if.specs.Table.{kind_word, heading, files_head, end_of_heading, row_name, row_start, files_number, lost_text, needs_text, row_text, table_text};
 
 use crate::columns::{write_level_heads, write_level_numbers};
-use crate::found::Table;
+use crate::findings::Table;
 use crate::text::{fits_word, write_node, write_rack};
 use bm_base::{NodeId, Rack};
 use cluster_input::loaded_cluster::Loaded;
+use cluster_losses::applied_losses::Outcome;
 use cluster_losses::cluster_counts::ClusterCounts;
-use cluster_losses::each::Row;
 use cluster_losses::loss::Kind;
-use cluster_losses::without::Outcome;
+use cluster_losses::single_losses::Row;
 use cluster_names::{Files, Names};
 use std::alloc::{AllocError, Global};
 

@@ -10,7 +10,7 @@ use cluster_input::loaded_cluster::Loaded;
 use cluster_losses::cluster_counts::ClusterCounts;
 use cluster_losses::loss_events::Lost;
 use cluster_names::{Files, Names};
-use cluster_pages::at_risk::FileRow;
+use cluster_pages::files_at_risk::FileRow;
 use cluster_pages::text::first_of;
 use cluster_pages::text_parts::write_files;
 use cluster_report::levels::LevelCounts;

@@ -44,8 +44,8 @@ After = Result Cluster Why
 abbrev pub rack_name : Option Text → Text
 rack_name rack = unwrap_or rack (codes "/default-rack")
 
--- a rack in a place is that of its node; a place without one is on the default rack, or the report
--- on DataNodes has the rack
+-- whether a place fits its node's rack: it names this rack, or none if the report on DataNodes was
+-- read or the rack is the default one
 abbrev pub fits_rack : Cluster → Option Text → NodeRow → Bool
 fits_rack c (Some rack) row = bytes_eq (name_of c.racks row.rack) rack
 fits_rack c None row = c.knows_nodes || bytes_eq (name_of c.racks row.rack) (codes "/default-rack")

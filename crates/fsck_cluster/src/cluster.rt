@@ -159,7 +159,9 @@ impl Cluster {
         }
     }
 
-    /// Whether the rack of a place is that of the node at an index.
+    /// Whether a place fits the rack of the node at an index. A place that names a rack fits if it
+    /// names this one. A place without a rack fits if the report on DataNodes was read or the node
+    /// is on the default rack.
     fn is_on_rack(&self, index: usize, rack: &Option<Piece>) -> bool
         ensures { result ≡ is_on_rack self.now index rack.now }
     {
@@ -273,8 +275,8 @@ impl Cluster {
         }
     }
 
-    /// Gives each known node without a storage one of the node's name: no text has the names of
-    /// storages without replicas.
+    /// Adds a storage for each known node without one: no text has the names of storages without
+    /// replicas. The storage gets the node's name.
     pub fn add_spares(&mut self, alloc: Global) -> Result<(), ClusterFault>
         ensures ok { OnOk result (with_spares self.old ≡ Ok self.new) }
         ensures refused { IfErr result (λ f. IsCause f (with_spares self.old)) }
@@ -286,7 +288,7 @@ impl Cluster {
         self.add_spares_of(alloc, nodes.as_slice())
     }
 
-    /// Gives each of these nodes without a storage one of the node's name.
+    /// Adds a storage of the node's name for each of these nodes that has none.
     fn add_spares_of(&mut self, alloc: Global, nodes: &[NodeRow]) -> Result<(), ClusterFault>
         ensures ok { OnOk result (after_spares self.old nodes.now ≡ Ok self.new) }
         ensures refused { IfErr result (λ f. IsCause f (after_spares self.old nodes.now)) }
@@ -297,7 +299,7 @@ impl Cluster {
         Ok(())
     }
 
-    /// Gives a node without a storage one of the node's name.
+    /// Adds a storage of the node's name, if the node has none.
     fn add_spare(&mut self, alloc: Global, node: u32) -> Result<(), ClusterFault>
         ensures ok { OnOk result (after_spare self.old node ≡ Ok self.new) }
         ensures refused { IfErr result (λ f. IsCause f (after_spare self.old node)) }

@@ -31,7 +31,7 @@ with_corrupt c is_coded =
 abbrev pub is_healthy : Counts → Bool
 is_healthy c = c.missing == 0 && c.corrupt == 0 && c.missing_groups == 0 && c.corrupt_groups == 0
 
--- the count of what the summary counts too
+-- the number of blocks or groups read that a line of the summary counts
 abbrev pub number_of : Counts → Count → ℕ
 number_of c count.Blocks = c.blocks
 number_of c count.Missing = c.missing
@@ -40,7 +40,7 @@ number_of c count.Groups = c.groups
 number_of c count.MissingGroups = c.missing_groups
 number_of c count.CorruptGroups = c.corrupt_groups
 
--- the numbers read, with one more of the summary
+-- notes that a number of the summary was read; only the two that each summary has are kept
 abbrev pub with_sum : Summed → Count → Summed
 with_sum s count.Blocks = record s { blocks = true }
 with_sum s count.Corrupt = record s { corrupt = true }

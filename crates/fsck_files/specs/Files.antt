@@ -177,7 +177,7 @@ after_unlisted s files = if is_summary s.section then record s { unlisted = plus
 abbrev pub agrees : Bool → Bool → Bool
 agrees first second = if first then second else not second
 
--- the health in both is that of the blocks that were read
+-- the text ends if its summary and its last line report the health of the blocks that were read
 abbrev pub ended : Files → Bool → Bool → After
 ended s healthy of_all =
     if agrees (is_healthy s.counts) healthy && agrees s.is_healthy healthy
@@ -224,8 +224,8 @@ emitted s b repl listed =
 abbrev pub one_unclear : Files → Files
 one_unclear s = record s { unclear_blocks = plus s.unclear_blocks 1 }
 
--- if more places may be live than replicas are, the block is refused, left out, or added with each
--- place as a good replica
+-- a block with more places that may be live than live replicas: it is refused, left out, or added
+-- with each place as a good replica
 abbrev pub unclear_by : Unclear → Files → BlockLine → ℕ → List ListedReplica → ℕ → ℕ → LineResult
 unclear_by unclear.Refuse s b repl listed places live = refused (why.MoreThanLive places live)
 unclear_by unclear.Omit s b repl listed places live = Ok (one_unclear s, None)
@@ -237,8 +237,9 @@ by_places s b repl listed places live =
     if nat_lt places live then refused (why.FewerThanLive places live)
     else (if nat_lt live places then unclear_by s.unclear s b repl listed places live else emitted s b repl listed)
 
--- Compares the count of live replicas. If each known replica of a block is corrupt, and the places
--- have no marks, nothing is compared: Hadoop 2.6 writes the number of the places, later versions 0.
+-- Compares the places that may be live with fsck's number of live replicas, unless each known
+-- replica is corrupt and no place has a mark. In that case Hadoop 2.6 writes the number of the
+-- places, and later versions 0.
 abbrev pub by_count : Files → BlockLine → ℕ → List ListedReplica → ℕ → LineResult
 by_count s b repl listed live =
     if are_unmarked (has_number s.corrupt b.id) listed then emitted s b repl listed
@@ -282,7 +283,8 @@ passed s text = if is_missing text then record s { counts = with_missing s.count
 abbrev pub is_next : File → ℕ → Bool
 is_next f index = (index == f.read) && nat_lt f.read f.announced
 
--- a block that is being written and still empty follows those that the heading counts
+-- whether this is the next block, and is being written: while it is empty, the heading does not
+-- count it
 abbrev pub is_begun : File → ℕ → Text → Bool
 is_begun f index text = (index == f.read) && is_being_written text
 

@@ -23,7 +23,7 @@ kind_by layout.Replicated heading =
     if heading.is_open then Some kind.Open
     else (if heading.is_snapshot then Some kind.Snapshot else over_kind heading.target)
 
--- the kind of a file, if it is one of these: the first that applies
+-- the first kind that applies to a file, if any
 abbrev pub kind_of : Heading → Option Kind
 kind_of heading = kind_by heading.layout heading
 

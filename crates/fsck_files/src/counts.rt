@@ -93,7 +93,7 @@ impl Counts {
             && self.corrupt_groups == 0
     }
 
-    /// The count of what the summary counts too.
+    /// The number of blocks or groups read that a line of the summary counts.
     pub fn number_of(self, count: Count) -> u64
         ensures { result ≡ number_of self count }
     {
@@ -108,7 +108,7 @@ impl Counts {
     }
 }
 
-/// The numbers that each summary has, and whether they were read.
+/// Whether the numbers of blocks and of corrupt blocks were read, which each summary has.
 #[derive(Clone, Copy, Drop)]
 pub struct Summed {
     pub blocks: bool,
@@ -116,7 +116,7 @@ pub struct Summed {
 }
 
 impl Summed {
-    /// Makes a record in which no summary is read.
+    /// Makes a record in which neither number was read.
     pub fn new() -> Summed
         ensures { result ≡ none_summed }
     {
@@ -126,7 +126,7 @@ impl Summed {
         }
     }
 
-    /// The numbers read, with one more of the summary.
+    /// Notes that a number of the summary was read; only the two that each summary has are kept.
     pub fn with(self, count: Count) -> Summed
         ensures { result ≡ with_sum self count }
     {

@@ -404,8 +404,8 @@ impl Files {
         self.take_block(alloc, block)
     }
 
-    /// Skips a block of a file that is left out. A block that is being written and still empty
-    /// follows those that the heading counts.
+    /// Skips a block of a file that is left out. After the blocks that the heading counts, a block
+    /// may come that is being written and still empty.
     fn take_passed(&mut self, index: u64, text: &str) -> Result<(), Why>
         ensures ok { OnOk result (after_passed self.old index text.now ≡ Ok (self.new, None)) }
         ensures refused { IfErr result (λ why. after_passed self.old index text.now ≡ refused why) }
@@ -540,7 +540,7 @@ impl Files {
         Ok(Some(self.make_block(block, repl, listed)))
     }
 
-    /// The block that is added.
+    /// Makes the block that is added, and counts its replicas on nodes in maintenance.
     fn make_block<'a>(
         &mut self,
         block: BlockLine<'a>,

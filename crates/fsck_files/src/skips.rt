@@ -54,7 +54,7 @@ pub fn over_replicated(wanted: u32) -> bool
     wanted > MAX_REPLICATION
 }
 
-/// The kind of a file, if it is one of these: the first that applies.
+/// The first kind that applies to a file; `None` if the line tool has calls for the file.
 pub fn kind_of(heading: Heading) -> Option<Kind>
     ensures { result ≡ kind_of heading }
 {

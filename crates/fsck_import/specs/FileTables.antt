@@ -11,9 +11,9 @@ use Rattle.fsck_text.specs.Cuts.{Text}
 unfoldable pub row_text : ℕ → ℕ → Text → Text
 row_text block index path = path ++ (codes "\t" ++ (decimal index ++ (codes "\t" ++ (decimal block ++ codes "\n"))))
 
--- the row of a block with its place
-abbrev pub place_line : List Text → ℕ × FileIndex → Text
-place_line paths p = option_map_or (row_text p.0 p.1.index) (slice_get paths p.1.file) []
+-- the row of a block with its file
+abbrev pub file_line : List Text → ℕ × FileIndex → Text
+file_line paths p = option_map_or (row_text p.0 p.1.index) (slice_get paths p.1.file) []
 
 unfoldable pub files_text : FileTable → Text
-files_text f = flat_map (place_line f.paths) f.places
+files_text f = flat_map (file_line f.paths) f.file_indices

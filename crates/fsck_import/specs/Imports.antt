@@ -72,7 +72,8 @@ WritesNothing (fault.Refused unread) old new = new ≡ old
 WritesNothing (fault.Read error) old new = new ≡ old
 WritesNothing _ old new = ⊤
 
--- it leaves the writer of lines unchanged, and so does a run that cannot write a table
+-- a run that ends at a refused line or a failed read, or that cannot write a table, leaves the
+-- writer of lines unchanged
 abbrev pub WritesNoLine : {W : Type 0} → Fault → W → W → Type 0
 WritesNoLine (fault.Refused unread) old new = new ≡ old
 WritesNoLine (fault.Read error) old new = new ≡ old

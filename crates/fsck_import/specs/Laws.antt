@@ -1,6 +1,6 @@
--- Laws of the calls for the blocks of a text. Each block is added once, before any replica. Just
--- its replicas are reported, each once, and just the corrupt ones are marked as corrupt. Just the
--- nodes of drained replicas drain, with those that drained before.
+-- Laws of the calls for the blocks of a text. Each block is added once, before any replica. Exactly
+-- the replicas of these blocks are reported, each once, and exactly the corrupt ones are marked as
+-- corrupt. A node is decommissioned exactly if it drained at the start or has a drained replica.
 use Rattle.std.specs.Prelude.{◌≡◌, ◌≤◌, ◌&&◌, ℕ, Bool, true, false, nat_eq, List, [], ◌∷◌, ◌++◌, map, filter, length, count_by, Ok}
 use Rattle.std.specs.List.{flat_map, list_any}
 use Rattle.std.specs.List.Sorted.{IsPermutation}

@@ -18,9 +18,9 @@ abbrev pub headed : Listing → Text → Listing
 headed l line = if l.is_kept then record l { path = unwrap_or (path_of line) l.path } else l
 
 -- a block stays where it was listed first
-abbrev pub with_place : FileTable → ℕ → Text → ℕ → FileTable
-with_place files block path index = if not (has_block files block) then with_block files block path index else files
+abbrev pub with_listed_block : FileTable → ℕ → Text → ℕ → FileTable
+with_listed_block files block path index = if not (has_block files block) then with_block files block path index else files
 
 -- with one more block of the file
 abbrev pub with_listed : Listing → ℕ → ℕ → Listing
-with_listed l block index = if l.is_kept then record l { files = with_place l.files block l.path index } else l
+with_listed l block index = if l.is_kept then record l { files = with_listed_block l.files block l.path index } else l

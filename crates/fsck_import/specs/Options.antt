@@ -1,6 +1,6 @@
--- The options of the command line. The crate clap reads the words: its definitions `matches_of` and
--- `fault_of` are their form (a name and a value, as two words or as one with `=`) and their
--- refusals.
+-- The options of the command line, which the crate clap parses. Its definition `matches_of` states
+-- which forms it takes: a name and a value, as two words or as one with `=`. `fault_of` states what
+-- it refuses.
 use Rattle.std.specs.Prelude.{ℕ, ◌==◌, ◌&&◌, ◌||◌, Bool, not, List, [], ◌∷◌, Option, Some, None, unwrap_or, option_and_then, option_map, codes, if◌then◌else◌}
 use Rattle.std.specs.List.{list_any, list_all, slice_split}
 use Rattle.std.specs.Str.{bytes_eq}
@@ -16,7 +16,7 @@ use Rattle.fsck_files.specs.declared.skips.Unclear.{Unclear}
 use Rattle.fsck_files.specs.declared.skips.Unclear.TheVariants as unclear
 use Rattle.fsck_import.specs.declared.options.Values.{Values}
 
--- an option --name with one value, in the library's words
+-- an option --name with one value, as a rule of clap
 abbrev pub option_rule : Text → Rule
 option_rule name = record (new_rule name) { long = Some name; action = Some Set; value_names = 1 }
 

@@ -98,7 +98,8 @@ pub struct Unread {
     pub why: Cause,
 }
 
-/// Why a run ends early. Nothing was written; after a failed write, an unknown part was.
+/// Why a run ends early. After a refused line or a failed read nothing was written; after any other
+/// fault, a part may have been.
 #[derive(Debug, Drop, Error)]
 pub enum Fault {
     #[error("memory fault")]

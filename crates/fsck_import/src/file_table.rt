@@ -1,7 +1,7 @@
 // The table of files: the path, the index in the file and the number of each block.
 ghost use Rattle.std.specs.Prelude.{◌≡◌, ◌++◌, IfOk, OnOk, option_to_list, slice_get, string_bytes};
 ghost use Rattle.std.specs.List.{flat_map};
-ghost use Rattle.fsck_import.specs.FileTables.{place_line, row_text, files_text};
+ghost use Rattle.fsck_import.specs.FileTables.{file_line, row_text, files_text};
 
 use bm_base::BlockId;
 use cluster_names::{FileIndex, Files};
@@ -13,45 +13,45 @@ pub fn files_text(alloc: Global, files: &Files) -> Result<String, AllocError>
     ensures { IfOk result (λ s. string_bytes s ≡ files_text files.now) }
 {
     let mut text = String::new(alloc);
-    write_places(&mut text, files)?;
+    write_rows(&mut text, files)?;
     Ok(text)
 }
 
-fn write_places(text: &mut String, files: &Files) -> Result<(), AllocError>
+fn write_rows(text: &mut String, files: &Files) -> Result<(), AllocError>
     ensures { OnOk result (string_bytes text.new ≡ string_bytes text.old
-        ++ flat_map (place_line files.now.paths) files.now.places) }
+        ++ flat_map (file_line files.now.paths) files.now.file_indices) }
 {
     for index in 0..files.block_count() {
-        write_place(text, files, index)?;
+        write_row_at(text, files, index)?;
     }
     Ok(())
 }
 
 /// The row of the block at an index.
 #[tactic(auto, using(crate::proofs::WriteLemmas::with_part, crate::proofs::WriteLemmas::without_part))]
-fn write_place(text: &mut String, files: &Files, index: usize) -> Result<(), AllocError>
+fn write_row_at(text: &mut String, files: &Files, index: usize) -> Result<(), AllocError>
     ensures { OnOk result (string_bytes text.new ≡ string_bytes text.old
-        ++ flat_map (place_line files.now.paths) (option_to_list (slice_get files.now.places index))) }
+        ++ flat_map (file_line files.now.paths) (option_to_list (slice_get files.now.file_indices index))) }
 {
     match files.get(index) {
-        Some((block, place)) => write_block(text, files, block, place),
+        Some((block, found)) => write_block(text, files, block, found),
         None => Ok(()),
     }
 }
 
-/// The row of a block with its place.
+/// The row of a block with its file.
 #[tactic(auto, using(crate::proofs::WriteLemmas::without_text))]
 fn write_block(
     text: &mut String,
     files: &Files,
     block: BlockId,
-    place: FileIndex,
+    found: FileIndex,
 ) -> Result<(), AllocError>
     ensures { OnOk result (string_bytes text.new ≡ string_bytes text.old
-        ++ place_line files.now.paths (block, place)) }
+        ++ file_line files.now.paths (block, found)) }
 {
-    match files.path(place.file) {
-        Some(path) => write_row(text, path, place.index, block),
+    match files.path(found.file) {
+        Some(path) => write_row(text, path, found.index, block),
         None => Ok(()),
     }
 }

@@ -37,7 +37,7 @@ pub struct Notes {
 }
 
 /// Reads a whole text of fsck; then writes the table of names, the table of files and the lines for
-/// the cluster. `remaining` is the free bytes of each storage whose node has no known number.
+/// the cluster. `remaining` is the free bytes of a storage if those of its node are not known.
 /// Nothing is written before the whole text was read, and no line before both tables.
 #[tactic(auto, using(crate::proofs::ImportLemmas::reading_refuses, crate::proofs::ImportLemmas::output_refuses, crate::proofs::ImportLemmas::output_writes, crate::proofs::ImportLemmas::unwritten, crate::proofs::ImportLemmas::whole_text, crate::proofs::ImportLemmas::whole_names, crate::proofs::ImportLemmas::whole_files))]
 pub fn import<R: BufRead, W: Write, N: Destination, F: Destination>(

@@ -93,14 +93,14 @@ fn run_status<R: Input + Print + Eprint + Files + AllocGlobal, N: Print>(
         Ok(file) => file,
         Err(error) => return print_file_fault(rt, path, &error),
     };
-    match nodes_in(alloc, file) {
+    match read_nodes_from(alloc, file) {
         Ok(nodes) => run_from(rt, notes, asked, nodes),
         Err(fault) => print_file_fault(rt, path, &fault),
     }
 }
 
 /// The nodes of a report in a file.
-fn nodes_in<F: Read + Drop>(alloc: Global, file: F) -> Result<Cluster, Fault> {
+fn read_nodes_from<F: Read + Drop>(alloc: Global, file: F) -> Result<Cluster, Fault> {
     let Ok(mut reader) = BufReader::new(alloc, file) else {
         return Err(Fault::Memory);
     };
@@ -185,7 +185,8 @@ pub fn print_text_notes<R: Eprint>(rt: &R, program: &str, unclear: Unclear, note
     print_not_in_text(rt, program, notes);
 }
 
-/// Prints what the text lacks: the blocks of other files make stray replicas.
+/// Prints which files the text lacks: those being written, or all outside its path. Replicas of
+/// their blocks are stray.
 fn print_not_in_text<R: Eprint>(rt: &R, program: &str, notes: &Notes) {
     let files = notes.unlisted;
     if files > 0 {

@@ -16,8 +16,8 @@ use fsck_cluster::{Cluster, NodeRow, Row, StoredReplica};
 use std::alloc::{AllocError, Global};
 use std::io::Write;
 
-/// Writes the line of each call for a cluster, and flushes. `remaining` is the free bytes of each
-/// storage whose node has no known number.
+/// Writes the line of each call for a cluster, and flushes. `remaining` is the free bytes of a
+/// storage if those of its node are not known.
 pub fn write_flushed<W: Write>(
     alloc: Global,
     writer: &mut W,

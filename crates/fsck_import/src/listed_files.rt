@@ -9,8 +9,8 @@ use std::alloc::{AllocError, Global};
 use std::marker::Model;
 use std::mem;
 
-/// The path of the current file, and the files of the blocks so far. It stays empty unless a table
-/// of files is asked for.
+/// The path of the current file, and the files of the blocks so far. Both stay empty if `is_kept`
+/// is false.
 #[derive(Drop)]
 pub struct Listing {
     is_kept: bool,

@@ -16,10 +16,10 @@ const EXAMPLES: &str = "Examples:\n  \
 ./puljemrod import --nodes nodes.txt --names names.tsv fsck.txt > cluster.jsonl\n  \
 ./puljemrod import --skip open,snapshots --unclear omit fsck.txt > cluster.jsonl";
 
-/// The values of three options.
+/// The values of `--remaining`, `--skip` and `--unclear`.
 #[derive(Clone, Copy, Drop)]
 pub struct Values {
-    /// The free bytes of each storage whose node has no known number.
+    /// The free bytes of a storage if those of its node are not known.
     pub remaining: u64,
     /// The kinds of files that are left out.
     pub skips: Skips,
@@ -142,7 +142,8 @@ fn quiet<'a>(alloc: Global) -> Arg<'a>
         .help("shows no progress on standard error")
 }
 
-/// For a caller that knows that standard error is a terminal; 0 for an unknown length of the input.
+/// The option `--progress`, for a caller that knows that standard error is a terminal. Its value is
+/// the length of the input in bytes, 0 if that is unknown.
 fn progress<'a>(alloc: Global) -> Arg<'a>
     ensures rule { rule_of result ≡ option_rule (codes "progress") }
     ensures local { result.global ≡ false }

@@ -183,7 +183,7 @@ pub fn read_nodes<R: BufRead>(alloc: Global, reader: &mut R) -> Result<Cluster, 
     }
 }
 
-/// The nodes at the end of the report. The line after it would have this number.
+/// The nodes at the end of the report. A refusal gets `number`, that of the line after the last.
 fn end_nodes(alloc: Global, list: NodeList, number: u64) -> Result<Cluster, Fault>
     ensures ok { IfOk result (λ c. ended_nodes (list, number) ≡ Ok c) }
     ensures refused { IfErr result (λ f. IsReadFault f (ended_nodes (list, number))) }

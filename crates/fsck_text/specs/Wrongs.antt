@@ -9,7 +9,7 @@ use Rattle.fsck_text.specs.declared.wrong.Fault.TheVariants as fault
 abbrev pub wrong : Reason → Text → Wrong
 wrong why word = record { why = why; word = word }
 
--- the word to quote: the text in place of an empty word at its start
+-- the word to quote: a word of the text, or the whole text if the word is empty
 abbrev pub shown : Text → Text → Text
 shown word text = if is_empty word then text else word
 

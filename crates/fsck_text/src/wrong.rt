@@ -95,7 +95,7 @@ impl<'a> Wrong<'a> {
     }
 }
 
-/// The word to quote: the text in place of an empty word at its start.
+/// The word to quote: `word`, which is a part of `text`, or the whole text if `word` is empty.
 pub fn shown<'a>(word: &'a str, text: &'a str) -> &'a str
     ensures { result.now ≡ shown word.entry.now text.entry.now }
 {

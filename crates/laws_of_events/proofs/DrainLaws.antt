@@ -10,7 +10,7 @@ use Rattle.bm_base.proofs.MapEntries.{same_key, get_here, get_other, get_taken, 
 use Rattle.bm_parts.proofs.RemainingHoldings.{fewer_sent, same_either, drained_blocks, drained_replicas}
 use Rattle.bm_parts.proofs.OneShard.{nothing_done}
 use Rattle.laws_of_events.proofs.NodeChanges.{gone_there, still_there, on_it, not_on_it}
-use Rattle.laws_of_events.specs.Draining as law
+use Rattle.laws_of_events.specs.DrainingNodes as law
 
 -- Which nodes drain.
 

@@ -29,7 +29,7 @@ use Rattle.bm_parts.proofs.ChosenCopies.{made_of, unless}
 use Rattle.laws_of_states.proofs.LawfulRounds.{all_pending}
 use Rattle.laws_of_states.proofs.AcceptedEvents.{pending_before}
 use Rattle.laws_of_events.proofs.NodeChanges.{new_or, new_storages}
-use Rattle.laws_of_events.specs.Draining as law
+use Rattle.laws_of_events.specs.DrainingNodes as law
 
 -- Whether a storage's node drains.
 

@@ -20,7 +20,7 @@ use Rattle.bm_parts.proofs.Filters.{any_shown}
 use Rattle.bm_parts.proofs.Storages.{storages_left}
 use Rattle.bm_parts.proofs.Deaths.{draining_elsewhere}
 use Rattle.laws_of_events.proofs.ListedReplicas.{stored_where, usable_marks, marks_usable, missing_is, is_missing}
-use Rattle.laws_of_events.specs.Draining as law
+use Rattle.laws_of_events.specs.DrainingNodes as law
 use Rattle.laws_of_states.proofs.LiveAfterRound.{some_first}
 
 -- Draining storages.

@@ -161,8 +161,8 @@ received_ends_transfer =
     → (get (held_after M (Received s b stamp)).pending (replica_at b s) ≡ None)
     × ((p : ReplicaId) → p ≢ replica_at b s → get (held_after M (Received s b stamp)).pending p ≡ get M.holdings.pending p)
 
--- a report keeps the replicas on other storages of blocks that it does not name, those of its own
--- node included
+-- a report keeps the replicas of blocks that it does not name on all other storages, those of the
+-- same node included
 abbrev pub report_leaves_unnamed_blocks : Type 0
 report_leaves_unnamed_blocks =
     (M : State) (s : ℕ) (es : List Entry) (p : ReplicaId) → p.storage ≢ s → has (numbers_of es) p.block ≡ false → get (held_after M (FullReport s es)).replicas p ≡ get M.holdings.replicas p

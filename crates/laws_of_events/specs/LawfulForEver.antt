@@ -34,7 +34,8 @@ call_keeps_lawful = (M : State) (k : Call) → IsLawful M → FitsCall k → IsL
 abbrev pub calls_lead_to_lawful : Type 0
 calls_lead_to_lawful = (c : Config) (ks : List Call) → HasFittingStart c → FitCalls ks → IsLawful (state_after (first_state c) ks)
 
--- such calls lead to a lawful state with any answers that they may give, out of memory included
+-- calls whose numbers fit lead to a lawful state with any answers that they may give, out of memory
+-- included
 abbrev pub answered_calls_lead_to_lawful : Type 0
 answered_calls_lead_to_lawful =
     (c : Config) (ks : List Call) (answers : List Answer) → HasFittingStart c → FitCalls ks → MayAnswerAll step (first_state c) ks answers → IsLawful (state_after_answers step (first_state c) ks answers)

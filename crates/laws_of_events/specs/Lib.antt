@@ -6,4 +6,4 @@ pub mod Changes
 pub mod Calls
 pub mod Queries
 pub mod Runs
-pub mod Draining
+pub mod DrainingNodes

@@ -1,4 +1,4 @@
--- What holds after every list of calls, in no terms of the state machine but the state itself.
+-- What holds of the state after every list of calls, in terms of the state alone.
 use Rattle.std.specs.Prelude.{◌≡◌, ◌≢◌, ℕ, ◌≤◌, IsTrue, IsSome, List, Some, None}
 use Rattle.bm_base.specs.declared.config.Config.{Config}
 use Rattle.bm_base.specs.declared.call.Call.{Call}

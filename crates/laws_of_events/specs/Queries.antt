@@ -18,7 +18,7 @@ IsHeld H p P = (m : Marks) × (get H.replicas p ≡ Some m) × P m
 abbrev pub lists : List ReplicaId → ReplicaId → Bool
 lists ids p = list_any (λ q. (q.block == p.block) && (q.storage == p.storage)) ids
 
--- whatever the test, the list has a replica that passes it exactly if such a one is held
+-- for every test, the list has a replica that passes it exactly if one that passes it is held
 abbrev pub replicas_are_held : Type 0
 replicas_are_held =
     (H : Holdings) (test : Replica → Bool)

@@ -44,7 +44,7 @@ full_report_is_exact = (M : State) (s : ℕ) (es : List Entry) (b : ℕ) → con
 abbrev pub report_is_what_is_asked : Type 0
 report_is_what_is_asked = (M : State) (s : ℕ) (es : List Entry) → blocks_on (held_after M (FullReport s es)) s ≡ distinct (numbers_of es)
 
--- the last entry that names a number decides its marks, by its stamp
+-- the last entry that names a block decides the replica's marks, by the entry's stamp
 abbrev pub last_entry_decides : Type 0
 last_entry_decides =
     (M : State) (s : ℕ) (front : List Entry) (e : Entry) (behind : List Entry) (b : ℕ) → e.from ≤ b → b ≤ e.to → has (numbers_of behind) b ≡ false
@@ -92,7 +92,7 @@ received_is_there =
     (M : State) (s b : ℕ) (stamp : Stamp)
     → (m : Marks) × (get (held_after M (Received s b stamp)).replicas (replica_at b s) ≡ Some m) × HasReportedMarks M.holdings (replica_at b s) stamp m
 
--- a bad replica that is still there is bad
+-- a bad replica that exists after the event is still bad
 abbrev pub LeavesBadBad : State → Event → Type 0
 LeavesBadBad M e = (p : ReplicaId) → IsBadIn M.holdings p → IsSome (get (held_after M e).replicas p) → IsBadIn (held_after M e) p
 

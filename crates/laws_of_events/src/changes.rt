@@ -82,8 +82,8 @@ pub fn received_ends_transfer()
     ensures { law.received_ends_transfer }
 {}
 
-/// A full report keeps the replicas on other storages of blocks that it does not name, those of its
-/// own node included.
+/// A full report keeps the replicas of blocks that it does not name on all other storages, those of
+/// the same node included.
 pub fn report_leaves_unnamed_blocks()
     ensures { law.report_leaves_unnamed_blocks }
 {}

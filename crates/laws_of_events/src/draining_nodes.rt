@@ -2,7 +2,7 @@
 #![tactic(auto)]
 
 ghost use Rattle.bm_base.specs.Promises.AllStates.{InLawfulStates, AfterAllCalls};
-ghost use Rattle.laws_of_events.specs.Draining as law;
+ghost use Rattle.laws_of_events.specs.DrainingNodes as law;
 
 /// After `Drain` the node drains, and other nodes drain as before.
 pub fn node_begins_to_drain()

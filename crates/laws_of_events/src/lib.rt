@@ -1,7 +1,7 @@
 //! Laws of events: consequences of the definitions of `bm_base`, for every state, every lawful
 //! state or every list of calls.
 //!
-//! - `lawful`, `plain_words`: what holds of every state that calls lead to
+//! - `lawful_states`, `plain_words`: what holds of every state that calls lead to
 //! - `calls`: the state after each kind of call
 //! - `changes`, `reports`: what each event changes, and what it keeps
 //! - `runs`: full reports whose entries are runs of block numbers
@@ -16,7 +16,7 @@
 pub mod calls;
 pub mod changes;
 pub mod draining_nodes;
-pub mod lawful;
+pub mod lawful_states;
 pub mod plain_words;
 pub mod queries;
 pub mod reports;

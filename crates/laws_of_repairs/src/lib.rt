@@ -12,14 +12,14 @@ pub fn round_gives_no_level()
     ensures { InLawfulStates law.RoundGivesNoLevel }
 {}
 
-/// A heartbeat keeps the levels of all blocks, and a notice of a copy or a delete those of all
-/// others.
+/// A heartbeat keeps the levels of all blocks. A notice of a copy or a delete keeps the levels of
+/// all blocks but its own.
 pub fn reports_keep_levels()
     ensures { law.ReportsKeepLevels }
 {}
 
-/// If a list has all blocks with a level, each once, then as many of the list are at a level as of
-/// all known blocks.
+/// If a list has all blocks with a level, each once, then at each level the number of its blocks is
+/// that of all known blocks.
 pub fn covering_blocks_count_as_all()
     ensures { law.CoveringBlocksCountAsAll }
 {}

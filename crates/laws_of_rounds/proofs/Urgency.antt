@@ -24,16 +24,16 @@ abbrev IsBefore : RequestedCopy → RequestedCopy → Type 0
 IsBefore w v = (level_number w.urgency < level_number v.urgency) ⊎ ((w.urgency ≡ v.urgency) × (w.block ≤ v.block))
 
 -- each item of a list is before all later ones
-abbrev Rises : {X : Type 0} → (X → X → Type 0) → List X → Type 0
-Rises R [] = Unit {0}
-Rises R (x ∷ xs) = Each (R x) xs × Rises R xs
+abbrev Ascends : {X : Type 0} → (X → X → Type 0) → List X → Type 0
+Ascends R [] = Unit {0}
+Ascends R (x ∷ xs) = Each (R x) xs × Ascends R xs
 
 module _ {X : Type 0} (R : X → X → Type 0) where
-  ascends_append : (xs ys : List X) → Rises R xs → Rises R ys → Each (λ x. Each (R x) ys) xs → Rises R (xs ++ ys)
+  ascends_append : (xs ys : List X) → Ascends R xs → Ascends R ys → Each (λ x. Each (R x) ys) xs → Ascends R (xs ++ ys)
   ascends_append [] ys h k all = k
   ascends_append (x ∷ xs) ys h k all = (each_appended (R x) xs ys h.0 all.0, ascends_append xs ys h.1 k all.1)
 
-  ascends_replicate : (n : ℕ) (x : X) → R x x → Rises R (replicate n x)
+  ascends_replicate : (n : ℕ) (x : X) → R x x → Ascends R (replicate n x)
   ascends_replicate zero x h = tt
   ascends_replicate (suc n) x h = (each_replicate (R x) n x h, ascends_replicate n x h)
 
@@ -43,11 +43,11 @@ below_each : {X : Type 0} (k : ℕ) (es : List (ℕ × X)) → T (below_all nat_
 below_each k [] h = tt
 below_each k (e ∷ es) h = (less_number k e.0 (first _ _ h), below_each k es (second _ _ h))
 
-ascending : {X : Type 0} (es : List (ℕ × X)) → T (is_sorted nat_cmp es) → Rises (λ k n. k < n) (map (λ e. e.0) es)
+ascending : {X : Type 0} (es : List (ℕ × X)) → T (is_sorted nat_cmp es) → Ascends (λ k n. k < n) (map (λ e. e.0) es)
 ascending [] h = tt
 ascending (e ∷ es) h = (below_each e.0 es (first _ _ h), ascending es (second _ _ h))
 
-keys_ascend : {X : Type 0} (m : Map by_number X) → Rises (λ k n. k < n) (keys m)
+keys_ascend : {X : Type 0} (m : Map by_number X) → Ascends (λ k n. k < n) (keys m)
 unfolding keys entries
 keys_ascend m = ascending m.list m.sorted
 
@@ -68,12 +68,12 @@ module _ (C : Cluster) (H : Holdings) where
   each_for urgency b = for_if urgency b (is_at urgency (level C H b)) (get H.blocks b)
 
   ascends_if : (urgency : Level) (b : ℕ) (t : Bool) (o : Option BlockInfo)
-      → Rises IsBefore (if t then option_map_or (λ i. replicate (requested_count C H urgency i.repl b) (record { urgency = urgency; block = b })) o [] else [])
+      → Ascends IsBefore (if t then option_map_or (λ i. replicate (requested_count C H urgency i.repl b) (record { urgency = urgency; block = b })) o [] else [])
   ascends_if urgency b true None = tt
   ascends_if urgency b true (Some i) = ascends_replicate IsBefore (requested_count C H urgency i.repl b) (record { urgency = urgency; block = b }) (inr (refl, omega arith))
   ascends_if urgency b false o = tt
 
-  ascends_for : (urgency : Level) (b : ℕ) → Rises IsBefore (wishes_for C H urgency b)
+  ascends_for : (urgency : Level) (b : ℕ) → Ascends IsBefore (wishes_for C H urgency b)
   unfolding wishes_for
   ascends_for urgency b = ascends_if urgency b (is_at urgency (level C H b)) (get H.blocks b)
 
@@ -82,7 +82,7 @@ module _ (C : Cluster) (H : Holdings) where
   before_greater urgency b n w lt is =
       each_then (IsFor urgency n) (IsBefore w) (wishes_for C H urgency n) (each_for urgency n) (λ v h. let e = is.1 in let f = h.1 in inr (is.0 ∙ sym h.0, omega (arith, lt, e, f)))
 
-  ascends_at : (urgency : Level) (ks : List ℕ) → Rises (λ k n. k < n) ks → Rises IsBefore (flat_map (wishes_for C H urgency) ks)
+  ascends_at : (urgency : Level) (ks : List ℕ) → Ascends (λ k n. k < n) ks → Ascends IsBefore (flat_map (wishes_for C H urgency) ks)
   ascends_at urgency [] h = tt
   ascends_at urgency (b ∷ ks) h =
       ascends_append IsBefore (wishes_for C H urgency b) (flat_map (wishes_for C H urgency) ks) (ascends_for urgency b) (ascends_at urgency ks h.1)
@@ -101,13 +101,13 @@ module _ (C : Cluster) (H : Holdings) where
       inl (subst (λ z. level_number w.urgency < level_number z) (sym f) (subst (λ z. level_number z < level_number k) (sym e) lt))
 
   -- levels one after another, in ascending order of their numbers
-  levels_ascend : (ls : List Level) → Rises (λ l k. level_number l < level_number k) ls → Rises IsBefore (flat_map at ls)
+  levels_ascend : (ls : List Level) → Ascends (λ l k. level_number l < level_number k) ls → Ascends IsBefore (flat_map at ls)
   levels_ascend [] h = tt
   levels_ascend (l ∷ ls) h =
       ascends_append IsBefore (at l) (flat_map at ls) (ascends_at l (keys H.blocks) (keys_ascend H.blocks)) (levels_ascend ls h.1)
       (each_then (λ w. w.urgency ≡ l) (λ w. Each (IsBefore w) (flat_map at ls)) (at l) (each_urgency l) (λ w e. each_flat_map (λ k. level_number l < level_number k) (IsBefore w) at (λ k lt. each_then (λ v. v.urgency ≡ k) (IsBefore w) (at k) (each_urgency k) (λ v f. lower_before l k lt w v e f)) ls h.0))
 
-  wishes_ascend : Rises IsBefore (wishes C H)
+  wishes_ascend : Ascends IsBefore (wishes C H)
   unfolding wishes
   wishes_ascend =
       levels_ascend (Highest ∷ VeryUnderReplicated ∷ UnderReplicated ∷ BadlyDistributed ∷ [])
@@ -139,7 +139,7 @@ module _ (C : Cluster) (H : Holdings) where
     served_all front w o same of_level [] lt h = tt
     served_all front w o same of_level (v ∷ ws) lt h = (served_pushed front w v o same of_level lt.0 h.0, served_all front w o same of_level ws lt.1 h.1)
 
-    in_order : (front : List Transfer) (ws : List RequestedCopy) → Rises IsBefore ws → Each (IsOfLevel C H) ws → Each (λ v. Each (IsServedBefore v) front) ws → EachAfter IsInOrder [] front
+    in_order : (front : List Transfer) (ws : List RequestedCopy) → Ascends IsBefore ws → Each (IsOfLevel C H) ws → Each (λ v. Each (IsServedBefore v) front) ws → EachAfter IsInOrder [] front
         → EachAfter IsInOrder [] (transfers_from limits C H front ws)
     in_order front [] rise at_level before h = h
     in_order front (w ∷ ws) rise at_level before h =

@@ -75,7 +75,8 @@ IsToBeDeleted M q m =
     (is_stray m.tag ≡ true) ⊎ ((m.excess ≡ true)
     ⊎ ((is_corrupt m.tag ≡ true) × ((i : BlockInfo) × (get M.holdings.blocks q.block ≡ Some i) × (i.repl ≤ length (live_marked M q.block)))))
 
--- The delete of such a replica is commanded, unless its node is commanded the limit of deletes.
+-- The delete of a replica that is to be deleted is commanded, unless it was ordered before, or the
+-- round commands the node the limit of deletes.
 abbrev pub OnlyTheLimitDefers : State → Type 0
 OnlyTheLimitDefers M =
     (q : ReplicaId) (m : Marks) (n : ℕ) → 1 ≤ M.limits.invalidate

@@ -49,7 +49,8 @@ ShortOfReplicas =
     (M : State) (b : ℕ) (i : BlockInfo) → get M.holdings.blocks b ≡ Some i
     → (2 ≤ need (level M.cluster M.holdings b)) ↔ (length (live M.cluster M.holdings b) < i.repl)
 
--- with `live` replicas on `racks` racks, and `drained` ones; `repl` are wanted, and then `more`
+-- The need is no less if `more` replicas are wanted instead of `repl`. `live` replicas are live, on
+-- `racks` racks, and `drained` are drained.
 abbrev pub MoreWantedIsNoLessNeed : Type 0
 MoreWantedIsNoLessNeed =
     (live drained repl more racks : ℕ) (multi : Bool) → repl ≤ more → need (level_of live drained repl racks multi) ≤ need (level_of live drained more racks multi)

@@ -26,7 +26,7 @@ UsableIsLiveOrDrained = (C : Cluster) (H : Holdings) (b s : ℕ) → has (usable
 abbrev pub SourcesAreUsable : Type 0
 SourcesAreUsable = (C : Cluster) (H : Holdings) (b s : ℕ) → has (sources_of C H b) s ≡ has (usable H b) s
 
--- a storage occurs once among the live ones, and once among the drained ones
+-- no storage occurs twice among the live ones, or among the drained ones
 abbrev pub LiveIsDistinct : Type 0
 LiveIsDistinct = (C : Cluster) (H : Holdings) (b : ℕ) → has_repeats (live C H b) ≡ false
 

@@ -67,7 +67,7 @@ TargetBecomesLive = (M : State) (es : List Event) (t : Transfer) → ObeysAll M 
 abbrev pub copies_commanded : State → ℕ → ℕ
 copies_commanded M b = count_by (λ t. t.block == b) (transfers_commanded M)
 
--- Then the number of a block's live replicas is that after the round, plus one for each copy of it
--- that the round commands.
+-- Once all commands are obeyed, the number of a block's live replicas is that after the round, plus
+-- one for each copy of the block that the round commands.
 abbrev pub EachCopyIsGained : Type 0
 EachCopyIsGained = (M : State) (es : List Event) (b : ℕ) → ObeysAll M es → length (live_obeying M es b) ≡ length (live_after M b) + copies_commanded M b

@@ -1,4 +1,4 @@
--- Laws of the surplus.
+-- Laws of the surplus: the live replicas above the wanted number, which a round marks as excess.
 use Rattle.std.specs.Prelude.{◌≡◌, ℕ, ◌-◌, ◌≤◌, ◌↔◌, true, false, not, ◌&&◌, filter, length, Some}
 use Rattle.bm_base.specs.declared.replica.ReplicaId.{ReplicaId}
 use Rattle.bm_base.specs.declared.replica.Tag.TheVariants.{Good}
@@ -51,8 +51,8 @@ LastOfRackStays M =
 
 -- Marks.
 
--- A round marks no replica on a node that drains: one that is in excess there once it has marked
--- was so before, with its delete commanded.
+-- A round marks no replica on a node that drains. If a replica there is in excess once the round
+-- has marked, it was in excess before, with its delete commanded.
 abbrev pub NoneOnADrainingNodeIsMarked : Type 0
 NoneOnADrainingNodeIsMarked =
     (M : State) (q : ReplicaId) (n : Marks) → is_draining M.cluster q.storage ≡ true → get (state_at_choice M).holdings.replicas q ≡ Some n → n.excess ≡ true

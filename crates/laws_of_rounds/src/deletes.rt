@@ -73,8 +73,7 @@ pub fn ordered_replica_is_not_usable()
 
 /// Whatever calls were made: if a round commands the delete of a replica of a known block, a
 /// replica of the block remains. That one is good and not in excess, on a node that does not drain,
-/// and no round has commanded its delete since its last report. This law is stated for lawful
-/// states, as all states are that calls lead to.
+/// and no round has commanded its delete since its last report.
 pub fn good_replica_is_left_by_all_rounds()
     ensures { law.GoodReplicaIsLeftByAllRounds }
 {}

@@ -1,13 +1,13 @@
-//! The meaning of the definitions of levels and rounds in `bm_base`: laws over every lawful state,
-//! in the subject's own words. Everything else is proved against those definitions, so a slip there
-//! would be proved through the whole product. No function here computes anything: its contract is
-//! the law.
+//! Laws of levels and rounds, in the terms of HDFS. They check the definitions of `bm_base`,
+//! against which all else is proved: a slip there would be proved through the whole product. A law
+//! is over every state, every lawful state or every list of calls. No function here computes
+//! anything: its contract is the law.
 #![tactic(auto)]
 
 pub mod commands;
 pub mod deletes;
 pub mod levels;
-pub mod live;
+pub mod live_replicas;
 pub mod obedience;
 pub mod rounds;
 pub mod surplus;

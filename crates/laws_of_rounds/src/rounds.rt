@@ -6,8 +6,8 @@ pub fn no_delete_twice()
     ensures { law.NoDeleteTwice }
 {}
 
-/// Without notices, no round commands a transfer again until `pend` rounds later, to whatever
-/// storage of the target's node.
+/// Without notices, no round commands another copy of a transfer's block to any storage of its
+/// target's node, until `pend` rounds later.
 pub fn no_transfer_twice()
     ensures { law.NoTransferTwice }
 {}

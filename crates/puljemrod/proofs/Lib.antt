@@ -1,6 +1,6 @@
 -- Lemmas on handles: what one owns, heartbeats, lines, and rows that are copied out.
 mod AsBox
-mod Beats
+mod HeartbeatLemmas
 mod Lines
-mod Listed
+mod CopiedLists
 mod RowLists

@@ -4,7 +4,7 @@ use Rattle.bm_base.specs.declared.event.Done.{Done}
 use Rattle.bm_base.specs.declared.call.Answer.TheVariants as answer
 use Rattle.bm_answers.specs.declared.line_answer.LineAnswer.{LineAnswer}
 use Rattle.bm_answers.specs.declared.line_answer.LineAnswer.TheVariants.{Answered}
-use Rattle.puljemrod.specs.declared.done.DoneRow.{DoneRow}
+use Rattle.puljemrod.specs.declared.event_answer.DoneRow.{DoneRow}
 
 abbrev pub done_row : Done → DoneRow
 done_row d = record { added = d.added % 2 ^ 64; added_high = d.added / 2 ^ 64; removed = d.removed % 2 ^ 64; removed_high = d.removed / 2 ^ 64 }

@@ -17,7 +17,7 @@ tag_number Stale = 1
 tag_number Bad = 2
 tag_number Stray = 3
 
--- different kinds of rows have nothing in common
+-- the rows of these lists share no value, so the first argument is the unit
 
 abbrev pub replica_row : Unit {0} → Replica → ReplicaRow
 replica_row _ r = record { block = r.block; storage = r.storage; tag = tag_number r.tag }

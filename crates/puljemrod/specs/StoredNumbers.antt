@@ -34,7 +34,8 @@ abbrev pub number_of_state : Option HandleState → ℕ
 number_of_state None = 0
 number_of_state (Some k) = number_of_answer k.answer
 
--- A question: if its call is accepted, its result is the stored answer's; else that is as it was.
+-- A question: if its call is accepted, the result is the number of the stored answer. Otherwise the
+-- result is unchanged.
 pub record AfterQuestion (old : Option HandleState) (c : Call) (now : Option HandleState) (code before after : ℕ) : Type 0 where
   pub called : AfterCall old c now code
   pub number : after ≡ (if code == 0 then number_of_state now else before)

@@ -1,7 +1,7 @@
 // Items of a list, copied out as rows of C.
 ghost use Rattle.std.specs.Prelude.{◌≡◌, ◌++◌, ◌≤◌, length, map, take, drop, min};
 
-/// A row for an item.
+/// A row for an item. `common` is what all rows of a list share, such as the node of its commands.
 pub trait Row<C, T>: Copy {
     ghost row_of: { C → T → Self };
 
@@ -39,7 +39,7 @@ fn write_rows<C: Copy, T, R: Row<C, T>>(common: C, items: &[T], out: &mut [R])
     }
 }
 
-/// As `write_rows`, for a contract with the rows of the whole list.
+/// As [`copy_rows`], with a contract that states the rows of the whole list.
 pub fn copy_list<C: Copy, T, R: Row<C, T>>(
     common: C,
     items: &[T],

@@ -9,7 +9,7 @@ ghost use Rattle.puljemrod.specs.Rows.{remaining_of};
 use crate::codes::{MEMORY, NO_TEXT};
 use crate::options::Options;
 use crate::rows::RemainingRow;
-use crate::spare::Spare;
+use crate::spare_lists::Spare;
 use bm_answers::{LineAnswer, Request, make_call_alone, parse_request};
 use bm_base::{Call, Event, HashSecret, NodeId, Refusal};
 use bm_manager::Manager;

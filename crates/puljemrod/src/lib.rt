@@ -16,7 +16,7 @@ mod calls;
 mod codes;
 mod commands;
 mod copies;
-mod done;
+mod event_answer;
 mod events;
 mod handle;
 mod handle_state;
@@ -25,7 +25,7 @@ mod options;
 mod parts;
 mod questions;
 mod rows;
-mod spare;
+mod spare_lists;
 mod stored_number;
 
 use codes::{CLOSED, OPEN};

@@ -100,7 +100,7 @@ pub extern "C" fn puljemrod_blocks_on(
     ask(alloc, slot, Call::BlocksOn(StorageId(storage)), count)
 }
 
-/// The storages with a replica of a block.
+/// The storages of a block's good replicas, those in excess too.
 #[unsafe(no_mangle)]
 pub extern "C" fn puljemrod_places(alloc: Global, slot: &mut Slot, id: u64, count: &mut u64) -> u32
     ensures { AfterQuestion slot.old.handle.kept (call.Places id) slot.new.handle.kept result count.old count.new }

@@ -1,6 +1,7 @@
 //! Tools for clusters, chosen by the first word. `import` converts the output of `hdfs fsck` to
-//! lines of the line tool. `report` prints the health of the cluster of such lines. `what-if`
-//! prints the losses if a part of it fails. `simulate` shows how a simulated cluster recovers.
+//! lines of the line tool. `report` prints the state of a cluster, from such lines or from fsck.
+//! `what-if` prints the losses if a part of the cluster fails. `simulate` shows how a made-up
+//! cluster recovers.
 //!
 //! ```text
 //! puljemrod_cluster report < cluster.jsonl

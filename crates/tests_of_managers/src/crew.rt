@@ -198,7 +198,8 @@ static PIECES: [(u32, u64); 16] = [
     (15, 20),
 ];
 
-/// Workers on the first of the pieces, which wait for one another at a gate.
+/// Workers that process the first `pieces` of `PIECES`. At a gate each piece, or just the piece of
+/// shard `only`, waits until the pieces of `shards` have entered.
 #[derive(Clone, Copy)]
 struct Waiting {
     workers: usize,

@@ -27,7 +27,7 @@ mod noting_streams;
 #[cfg(test)]
 mod rows;
 #[cfg(test)]
-mod spent;
+mod spent_counters;
 #[cfg(test)]
 mod streams;
 #[cfg(test)]

@@ -4,7 +4,8 @@ ghost use Rattle.std.specs.Prelude.{◌≡◌};
 use bm_view::Receipt;
 use std::marker::{Brand, PhantomData};
 
-/// Names the view of one `open_view`, for receipts that cross a channel. A call picks it.
+/// Names the view of one `open_view`, for receipts that cross a channel. The call that passes
+/// `Brand` picks it.
 pub(crate) trait Home {
     ghost use Rattle.bm_view.specs.Holders.{Home};
 

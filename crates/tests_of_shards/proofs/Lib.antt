@@ -1,2 +1,2 @@
 -- A lemma for the tests: in their round parts, no block has two wishes.
-pub mod Tested
+pub mod MergedParts

@@ -5,7 +5,7 @@ ghost use Rattle.std.specs.Prelude.{◌≡◌, ◌<◌, ◌≤◌, ℕ, true};
 ghost use Rattle.bm_base.specs.declared.limits.TheConstants.{MAX_NUMBERS};
 ghost use Rattle.bm_base.specs.Machine.Entries.{numbers_in};
 ghost use Rattle.bm_report.specs.DuringReport as during_report;
-ghost use Rattle.bm_report.specs.Tested.{IsSingle};
+ghost use Rattle.bm_report.specs.TestedArenas.{IsSingle};
 
 use crate::support::{check_step, join};
 use bm_arena::{Arena, Slot};

@@ -3,7 +3,7 @@ ghost use Rattle.std.specs.Prelude.{◌≡◌, IsSome, IsTrue};
 ghost use Rattle.bm_base.specs.declared.replica.ReplicaId.{ReplicaId};
 ghost use Rattle.bm_base.specs.Words.{get, contains_key, node_of};
 ghost use Rattle.bm_arena.specs.HeldMaps.{replicas_of};
-ghost use Rattle.bm_levels.specs.Leveled.{AreLevels};
+ghost use Rattle.bm_levels.specs.LeveledBlocks.{AreLevels};
 
 use crate::support::{STAMP, four_nodes};
 use bm_base::{BlockId, BlockInfo, HashSecret, Level, RoundPart, Stamp, StorageId, Wish};
@@ -116,9 +116,9 @@ fn check_bound(
 }
 
 /// One of three requested replicas exists, so the wish is for two copies. A pending transfer counts
-/// as a replica until it expires. Block 7 alone has a wish, at the most urgent level. So its key is
-/// the bound before which no block has one, and there is no bound before which one block has one.
-/// With a pending transfer the guess counts block 7 as a block without a wish.
+/// as a replica until it expires. Block 7 alone has a wish, at level 0. So its key, (0, 7), is the
+/// bound before which no block has a wish, and there is no bound before which one block has one.
+/// With a pending transfer block 7 counts as a block without a wish, so there is no bound.
 fn check_all(rt: &impl Abort, alloc: Global, topology: &Topology, blocks: &LeveledBlocks)
     requires levels { AreLevels topology.now.cluster blocks.now }
     requires stored { (q : ReplicaId) → IsSome (get (replicas_of blocks.now.arena) q)

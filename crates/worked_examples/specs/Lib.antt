@@ -7,6 +7,6 @@ pub mod Deletes
 pub mod Reports
 pub mod Refusals
 pub mod Limits
-pub mod Draining
+pub mod DrainingNodes
 -- Choices on one small cluster.
 pub mod Choices

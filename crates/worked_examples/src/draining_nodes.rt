@@ -2,7 +2,7 @@
 // node can be removed.
 #![tactic(auto, unfolding(crate::specs::Runs::run_of))]
 
-ghost use Rattle.worked_examples.specs.Draining as example;
+ghost use Rattle.worked_examples.specs.DrainingNodes as example;
 
 /// A block whose only replica is on a node that drains is not missing, but the first to be copied.
 /// Once its copy is received, the node is retired. If the node no longer drains, both replicas

@@ -124,8 +124,8 @@ without_pending H b = record H { pending = without H.pending (λ q. q.block == b
 unfoldable pub change_marks_of_block : Holdings → ℕ → (Marks → Marks) → Holdings
 change_marks_of_block H b f = record H { replicas = revise H.replicas (λ q m. if q.block == b then f m else m) }
 
--- The marks of a replica whose block is deleted. Here and below, whether its delete was ordered
--- stays.
+-- The marks of a replica whose block is deleted. Here and in the next two changes, the mark
+-- `ordered` stays.
 abbrev pub as_stray : Marks → Marks
 as_stray m = record m { tag = Stray; excess = false }
 

@@ -16,7 +16,7 @@ use Rattle.bm_base.specs.Machine.Replicas.{live, rack_of}
 abbrev pub is_expired : ℕ → ℕ → ℕ → Bool
 is_expired pend r t = nat_le pend (r - t)
 
--- drops the transfers that were commanded in such a round
+-- drops the transfers that are expired as round r begins
 unfoldable pub without_expired : ℕ → ℕ → Holdings → Holdings
 without_expired pend r H = record H { pending = keep H.pending (λ _ t. not (is_expired pend r t)) }
 

@@ -72,7 +72,7 @@ is_old H b stamp = option_map_or (λ i. nat_le stamp.generation i.stamp.generati
 unfoldable pub is_too_long : List Entry → Bool
 is_too_long es = nat_lt MAX_ENTRIES (length es) || nat_lt MAX_NUMBERS (numbers_in es)
 
--- the greatest u64, at which rounds and calls are spent
+-- the greatest u64, 2^64 - 1, at which rounds and calls are spent
 abbrev pub last_number : ℕ
 last_number = 18446744073709551615
 

@@ -135,7 +135,7 @@ target_cmp C sent holders s t =
 unfoldable pub is_excluded : Cluster → List ℕ → ℕ → Bool
 is_excluded C excluded s = list_any (λ t. share_node C t s) excluded
 
--- whether a badly distributed block that these hold on one rack would stay on one
+-- whether a block is badly distributed, all its holders are on one rack, and s is on that rack too
 abbrev pub would_stay_on_one_rack : Cluster → Level → List ℕ → ℕ → Bool
 would_stay_on_one_rack C urgency holders s = is_at BadlyDistributed (Some urgency) && are_on_one_rack C holders && (class_of C holders s == 1)
 

@@ -14,7 +14,7 @@ pub record Version : Type 0 where
   pub calls : ℕ
   pub rows : List Row
 
--- for each block, ascending, the first of its places
+-- for each block, ascending, the first `MAX_PLACES` of its places
 unfoldable pub table : Holdings → List Row
 table H = map (λ b. (b, take MAX_PLACES (places H b))) (keys H.blocks)
 

@@ -6,7 +6,7 @@ use Rattle.bm_lines.specs.declared.parser.op.Op.TheVariants.{Register, Heartbeat
 use Rattle.bm_lines.specs.CallText.{has_op, call_op, call_fields}
 use Rattle.bm_lines.specs.FittingNumbers.{FitsWhole}
 
--- with this op, these fields are those of the call, and the end of the line
+-- the op is that of the call, and the fields are those of the call and then the end of the line
 pub record Asks (op fields : List ℕ) (k : Call) : Type 0 where
   pub named : call_op k ≡ op
   pub same : fields ≡ call_fields k ++ codes "}"

@@ -49,8 +49,8 @@ abbrev pub entry_from : Option ℕ → Option ℕ → Option Stamp → Option En
 entry_from (Some from) (Some to) (Some stamp) = Some (record { from = from; to = to; stamp = stamp })
 entry_from _ _ _ = None
 
--- three numbers, a block, its generation and its length; or four, the first and the last block of a
--- run before these
+-- three numbers: a block, its generation and its length; or four: the first and the last block of a
+-- run, their generation and their length
 abbrev pub entry_among : List Data → Option Entry
 entry_among (id ∷ generation ∷ len ∷ []) = entry_from (number_in id) (number_in id) (stamp_from (number_in generation) (number_in len))
 entry_among (from ∷ to ∷ generation ∷ len ∷ []) = entry_from (number_in from) (number_in to) (stamp_from (number_in generation) (number_in len))
@@ -59,7 +59,7 @@ entry_among _ = None
 unfoldable pub entry_in : Data → Option Entry
 entry_in d = option_and_then (λ items. entry_among (listed items)) (as_array d)
 
--- a list of such
+-- a list of the entries of a report
 abbrev pub entries_field : List ℕ → Data → Option (List Entry)
 entries_field name d = list_field entry_in name d
 
@@ -75,6 +75,6 @@ remaining_among _ = None
 unfoldable pub remaining_in : Data → Option Remaining
 remaining_in d = option_and_then (λ items. remaining_among (listed items)) (as_array d)
 
--- a list of such
+-- a list of the remaining bytes of storages
 abbrev pub remaining_field : List ℕ → Data → Option (List Remaining)
 remaining_field name d = list_field remaining_in name d

@@ -17,7 +17,7 @@ use std::alloc::{AllocError, Global};
 /// The call that a line asks for; `None` if it asks for none.
 pub fn call_of(alloc: Global, line: &[u8]) -> Result<Option<Call>, AllocError>
     ensures call { IfOk result (λ o. o ≡ call_of line.now) }
-    // It can be written again: `line_of` asks for no more.
+    // `line_of` can write the call again: it requires only this.
     ensures has_op { IfFound result (λ k. has_op k ≡ true) }
 {
     match canonical_call(alloc, line)? {
@@ -32,14 +32,14 @@ fn read_call(alloc: Global, line: &[u8]) -> Result<Option<Call>, AllocError>
     ensures call { IfOk result (λ o. o ≡ call_of line.now) }
     ensures has_op { IfFound result (λ k. has_op k ≡ true) }
 {
-    match value_of(alloc, line)? {
+    match parse_value(alloc, line)? {
         Some(value) => call_in(alloc, &value),
         None => Ok(None),
     }
 }
 
 /// The value that `serde_json` reads from a line.
-fn value_of(alloc: Global, line: &[u8]) -> Result<Option<Value>, AllocError>
+fn parse_value(alloc: Global, line: &[u8]) -> Result<Option<Value>, AllocError>
     ensures { IfOk result (λ o. option_map view o ≡ view_of line.now) }
 {
     match Value::from_slice(alloc, line) {

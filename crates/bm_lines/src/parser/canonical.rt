@@ -1,5 +1,5 @@
-// Lines as `line_of` writes them, read with no value in between. Whatever else a line may be is
-// left to `serde_json`.
+// Reads lines in canonical form, as `line_of` writes them, from their bytes alone. All other lines
+// are left to `serde_json`.
 ghost use Rattle.std.specs.Prelude.{◌≡◌, ◌++◌, true, IfSome, codes};
 ghost use Rattle.bm_lines.specs.CallText.{has_op, line_text};
 ghost use Rattle.bm_lines.specs.FittingNumbers.{FitsWhole};
@@ -16,7 +16,7 @@ use bm_base::Call;
 use std::alloc::{AllocError, Global};
 
 /// The call that a line asks for, if the line is in canonical form, as `line_of` writes it, with a
-/// frequent op. `None` implies nothing about a line.
+/// frequent op. A line for which this is `None` may still ask for a call.
 pub fn canonical_call(alloc: Global, line: &[u8]) -> Result<Option<Call>, AllocError>
     ensures text { IfFound result (λ k. line.now ≡ line_text k) }
     ensures fits { IfFound result FitsWhole }

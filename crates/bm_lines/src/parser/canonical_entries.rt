@@ -29,7 +29,7 @@ fn entry_then(bytes: &[u8]) -> Option<(Entry, &[u8])>
     if let Some(behind) = after(rest, b"]") {
         return Some((entry_of(from, from, second, third), behind));
     }
-    // A run of blocks. One of a single block is not written so.
+    // A run of blocks. Canonical form has three numbers for a run of one block.
     if from == second {
         return None;
     }

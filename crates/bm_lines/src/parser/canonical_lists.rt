@@ -6,7 +6,7 @@ ghost use Rattle.bm_base.specs.Machine.Answering.{IfFound};
 use super::canonical_numbers::after;
 use std::alloc::{AllocError, Global};
 
-/// What such a list holds.
+/// An item of a list in canonical form.
 pub trait CanonicalItem: Drop + Sized {
     /// How an item is written.
     ghost written: { Self → List ℕ };

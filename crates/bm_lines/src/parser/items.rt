@@ -38,8 +38,8 @@ impl Item for Remaining {
     }
 }
 
-/// Three numbers, a block, its generation and its length; or four, the first and the last block of
-/// a run before these.
+/// Three numbers: a block, its generation and its length. Or four: the first and the last block of
+/// a run, their generation and their length.
 impl Item for Entry {
     ghost item_in = { entry_in };
 

@@ -1,5 +1,5 @@
 use Rattle.std.proofs.Common.{◌∙◌}
-use Rattle.cluster_lost.proofs.Newly.{newly_missing}
+use Rattle.cluster_lost.proofs.LostBlocks.{newly_missing}
 use Rattle.cluster_lost.proofs.lost_blocks.Goals as goal
 
 pub returns : goal.returns

@@ -1,7 +1,7 @@
 use Rattle.std.proofs.Common.{true, is_some, ap, sym, ◌∙◌}
 use Rattle.bm_base.specs.Maps.Map.{by_number, get, insert, contains_key}
 use Rattle.bm_base.proofs.MapLaws.{get-empty}
-use Rattle.cluster_lost.proofs.Newly.{one_more}
+use Rattle.cluster_lost.proofs.LostBlocks.{one_more}
 use Rattle.cluster_lost.proofs.set_of.Goals as goal
 
 pub loop-block-init : goal.loop-block-init

@@ -1,4 +1,4 @@
-use Rattle.cluster_what_if.proofs.Findings.{printed}
+use Rattle.cluster_what_if.proofs.WholeAnswers.{printed}
 use Rattle.cluster_what_if.proofs.answer.Goals as goal
 
 pub returns-in-Ok : goal.returns-in-Ok

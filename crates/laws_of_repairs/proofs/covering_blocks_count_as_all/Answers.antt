@@ -1,4 +1,4 @@
-use Rattle.laws_of_repairs.proofs.Watching.{count_as_all}
+use Rattle.laws_of_repairs.proofs.WatchedBlocks.{count_as_all}
 use Rattle.laws_of_repairs.proofs.covering_blocks_count_as_all.Goals as goal
 
 pub returns : goal.returns

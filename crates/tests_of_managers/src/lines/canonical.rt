@@ -1,5 +1,5 @@
-// Canonical lines, which are read without a value in between, other lines of calls, lines that are
-// nearly canonical, and lines that ask for no call.
+// Canonical lines, which are read without `serde_json`, other lines of calls, lines that are nearly
+// canonical, and lines that ask for no call.
 use bm_lines::{call_of, canonical_call};
 use std::alloc::Global;
 use std::process::Abort;
@@ -60,7 +60,7 @@ static NO_CALL: [&'static str; 7] = [
     "{\"op\":\"round\"",
 ];
 
-/// Whether a call is read from a line, and whether it is read without a value in between.
+/// Whether a call is read from a line, and whether the line is read as a canonical one.
 fn is_read(rt: &impl Abort, alloc: Global, line: &str) -> (bool, bool) {
     let read = call_of(alloc, line.as_bytes())
         .expect(rt, "memory")

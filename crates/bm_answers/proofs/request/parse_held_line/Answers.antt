@@ -1,6 +1,6 @@
 use Rattle.std.proofs.Common.{◌≡◌, ℕ, List, ◌∙◌, ap}
 use Rattle.std.proofs.lemmas.Result.{IfOk-weaker}
-use Rattle.bm_lines.specs.Held.{Holds}
+use Rattle.bm_lines.specs.LineBuffer.{Holds}
 use Rattle.bm_answers.specs.OneLine.{asked}
 use Rattle.bm_answers.specs.declared.request.Request.{Request}
 use Rattle.bm_answers.proofs.AskedLemmas.{asked-long}

@@ -1,4 +1,4 @@
-use Rattle.bm_parts.proofs.Drains.{drain_leaves_levels}
+use Rattle.bm_parts.proofs.DrainChanges.{drain_leaves_levels}
 use Rattle.bm_parts.proofs.levels.drain_leaves_levels.Goals as goal
 
 pub returns : goal.returns

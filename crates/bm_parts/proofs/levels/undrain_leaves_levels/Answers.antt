@@ -1,4 +1,4 @@
-use Rattle.bm_parts.proofs.Drains.{undrain_leaves_levels}
+use Rattle.bm_parts.proofs.DrainChanges.{undrain_leaves_levels}
 use Rattle.bm_parts.proofs.levels.undrain_leaves_levels.Goals as goal
 
 pub returns : goal.returns

@@ -5,8 +5,8 @@ use Rattle.bm_base.specs.Words.{is_draining, least_source, least_source_by, sour
 use Rattle.bm_place.specs.Tables.{count_at}
 use Rattle.bm_place.specs.Sources.{streams_by, transfers_by}
 use Rattle.bm_place.specs.Least.{IsLeastOf}
-use Rattle.bm_place.specs.Found.{IsCountable}
-use Rattle.bm_place.proofs.Best.{least-bears}
+use Rattle.bm_place.specs.ChoiceResults.{IsCountable}
+use Rattle.bm_place.proofs.BestElement.{least-bears}
 use Rattle.bm_place.proofs.SourceScan.{source_found, source_cmp_total, drained_taken}
 use Rattle.bm_place.proofs.TransferCounts.{count_as, streams_as, countable}
 use Rattle.bm_place.proofs.source.least_source.Goals as goal

@@ -2,8 +2,8 @@ use Rattle.std.proofs.Common.{sym, subst}
 use Rattle.std.specs.Option.{IfSome}
 use Rattle.bm_base.specs.Words.{keys, scheduled_to, least_target, least_target_by, target_cmp, is_target}
 use Rattle.bm_place.specs.Least.{IsLeastOf}
-use Rattle.bm_place.specs.Found.{HasFreeBytesFor}
-use Rattle.bm_place.proofs.Best.{least-bears}
+use Rattle.bm_place.specs.ChoiceResults.{HasFreeBytesFor}
+use Rattle.bm_place.proofs.BestElement.{least-bears}
 use Rattle.bm_place.proofs.RowOrder.{target_cmp_total}
 use Rattle.bm_place.proofs.LeastTarget.{has_enough_bytes, fits_row, on_kept_node, on_allowed_node, on_other_rack}
 use Rattle.bm_place.proofs.target.least_target.Goals as goal

@@ -4,7 +4,7 @@ use Rattle.std.specs.List.{list_any}
 use Rattle.bm_base.specs.Words.{is_still_stored, is_stray}
 use Rattle.bm_arena.specs.Contents.{Contents}
 use Rattle.bm_arena.specs.HeldMaps.{replicas_at}
-use Rattle.bm_levels.specs.Held.{holdings_with}
+use Rattle.bm_levels.specs.SlotHoldings.{holdings_with}
 use Rattle.bm_queries.proofs.AtSlot.{still_stored}
 use Rattle.bm_queries.proofs.block_queries.is_still_stored.Goals as goal
 

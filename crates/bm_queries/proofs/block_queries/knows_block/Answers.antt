@@ -3,7 +3,7 @@ use Rattle.std.specs.Option.{option_map_or}
 use Rattle.bm_base.specs.Machine.Refusals.{knows_block}
 use Rattle.bm_arena.specs.Contents.{Contents}
 use Rattle.bm_arena.specs.HeldMaps.{info_at}
-use Rattle.bm_levels.specs.Held.{holdings_with}
+use Rattle.bm_levels.specs.SlotHoldings.{holdings_with}
 use Rattle.bm_queries.proofs.AtSlot.{known}
 use Rattle.bm_queries.proofs.block_queries.knows_block.Goals as goal
 

@@ -3,7 +3,7 @@ use Rattle.std.specs.Option.{option_map_or}
 use Rattle.bm_base.specs.Words.{places, is_good}
 use Rattle.bm_arena.specs.Contents.{Contents}
 use Rattle.bm_arena.specs.HeldMaps.{replicas_at}
-use Rattle.bm_levels.specs.Held.{holdings_with}
+use Rattle.bm_levels.specs.SlotHoldings.{holdings_with}
 use Rattle.bm_levels.specs.Status.{storages_at}
 use Rattle.bm_queries.proofs.AtSlot.{sorted_places, good_storages}
 use Rattle.bm_queries.proofs.block_queries.places.Goals as goal

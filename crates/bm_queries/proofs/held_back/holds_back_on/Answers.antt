@@ -1,7 +1,7 @@
 use Rattle.std.proofs.Common.{ℕ, List, sym, ◌∙◌}
 use Rattle.std.proofs.lemmas.Iterator.Consumers.{YieldsList-from_first, YieldsList-turn}
 use Rattle.bm_arena.specs.Contents.{list_of}
-use Rattle.bm_queries.specs.Listed.{holds_back_at}
+use Rattle.bm_queries.specs.ListedElements.{holds_back_at}
 use Rattle.bm_queries.proofs.OwnBlocks.{among_turn}
 use Rattle.bm_queries.proofs.WaitingBlocks.{any_among}
 use Rattle.bm_queries.proofs.held_back.holds_back_on.Goals as goal

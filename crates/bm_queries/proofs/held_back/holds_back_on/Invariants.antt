@@ -1,6 +1,6 @@
 use Rattle.std.proofs.Common.{◌≡◌, false}
 use Rattle.std.specs.List.{list_any}
-use Rattle.bm_queries.specs.Listed.{holds_back_at}
+use Rattle.bm_queries.specs.ListedElements.{holds_back_at}
 use Rattle.bm_queries.proofs.held_back.holds_back_on.Given as goal
 
 -- none of the slots so far does

@@ -2,7 +2,7 @@ use Rattle.std.proofs.Common.{ap, subst, ◌∙◌, filter, ℕ, List}
 use Rattle.std.specs.List.{list_any}
 use Rattle.bm_base.specs.Words.{keys, has_storage}
 use Rattle.bm_arena.specs.Contents.{Contents, IsLawful}
-use Rattle.bm_queries.specs.Listed.{holds_back_node}
+use Rattle.bm_queries.specs.ListedElements.{holds_back_node}
 use Rattle.bm_queries.proofs.WaitingBlocks.{held_back_is}
 use Rattle.bm_queries.proofs.held_back.is_held_back.Goals as goal
 

@@ -5,11 +5,11 @@ use Rattle.std.proofs.lemmas.List.Sorted.{answers_always}
 use Rattle.bm_base.specs.declared.replica.Replica.{Replica}
 use Rattle.bm_parts.specs.QueryLaws.{replica_key}
 use Rattle.bm_arena.specs.Contents.{Contents}
-use Rattle.bm_levels.specs.Held.{holdings_with}
+use Rattle.bm_levels.specs.SlotHoldings.{holdings_with}
 use Rattle.bm_levels.specs.IndexedLevels.{indexed_slots}
 use Rattle.bm_levels.proofs.StatusUpdates.{among_next}
 use Rattle.bm_levels.proofs.Slots.{led_next, led_none, led_end}
-use Rattle.bm_queries.specs.Listed.{wants, listed_on, replicas_passing}
+use Rattle.bm_queries.specs.ListedElements.{wants, listed_on, replicas_passing}
 use Rattle.bm_queries.proofs.FoundReplicas.{sorted_replicas}
 use Rattle.bm_queries.proofs.IndexedSlots.{own_among}
 use Rattle.bm_queries.proofs.GatheredReplicas.{put_slot}

@@ -1,6 +1,6 @@
 use Rattle.std.proofs.Common.{◌≡◌, ◌++◌, drop}
 use Rattle.bm_levels.specs.IndexedLevels.{indexed_slots}
-use Rattle.bm_queries.specs.Listed.{wants, listed_on}
+use Rattle.bm_queries.specs.ListedElements.{wants, listed_on}
 use Rattle.bm_queries.proofs.replicas.list_replicas.Given as goal
 
 -- those so far and those of the rest are all

@@ -3,7 +3,7 @@ use Rattle.std.proofs.lemmas.List.{append-nil}
 use Rattle.bm_arena.specs.Contents.{block_at}
 use Rattle.bm_arena.specs.HeldMaps.{replicas_at}
 use Rattle.bm_levels.proofs.Slots.{next_at, none_at, end_at}
-use Rattle.bm_queries.specs.Listed.{wants}
+use Rattle.bm_queries.specs.ListedElements.{wants}
 use Rattle.bm_queries.proofs.GatheredReplicas.{those, put_in, left_out, all_at}
 use Rattle.bm_queries.proofs.replicas.push_replicas.Goals as goal
 use Rattle.bm_queries.proofs.replicas.push_replicas.Goals.{in-Some+then-wants+in_ok-push, in-Some+else-wants, in_default}

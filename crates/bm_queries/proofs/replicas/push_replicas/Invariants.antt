@@ -1,6 +1,6 @@
 use Rattle.std.proofs.Common.{◌≡◌, ◌++◌, drop}
 use Rattle.bm_arena.specs.HeldMaps.{replicas_at}
-use Rattle.bm_queries.specs.Listed.{wants}
+use Rattle.bm_queries.specs.ListedElements.{wants}
 use Rattle.bm_queries.proofs.GatheredReplicas.{those}
 use Rattle.bm_queries.proofs.replicas.push_replicas.Given as goal
 

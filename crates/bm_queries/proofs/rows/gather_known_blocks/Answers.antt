@@ -3,7 +3,7 @@ use Rattle.std.proofs.lemmas.List.{append-nil}
 use Rattle.bm_levels.specs.IndexedLevels.{indexed_slots}
 use Rattle.bm_levels.proofs.StatusUpdates.{among_next}
 use Rattle.bm_levels.proofs.Slots.{led_next, led_none, led_end}
-use Rattle.bm_queries.specs.Listed.{known_on}
+use Rattle.bm_queries.specs.ListedElements.{known_on}
 use Rattle.bm_queries.proofs.IndexedSlots.{own_among}
 use Rattle.bm_queries.proofs.KnownBlocks.{put_known}
 use Rattle.bm_queries.proofs.rows.gather_known_blocks.Goals as goal

@@ -1,6 +1,6 @@
 use Rattle.std.proofs.Common.{◌≡◌, ◌++◌, drop}
 use Rattle.bm_levels.specs.IndexedLevels.{indexed_slots}
-use Rattle.bm_queries.specs.Listed.{known_on}
+use Rattle.bm_queries.specs.ListedElements.{known_on}
 use Rattle.bm_queries.proofs.rows.gather_known_blocks.Given as goal
 
 -- those so far and those of the rest are all

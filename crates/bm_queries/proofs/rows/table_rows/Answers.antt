@@ -1,7 +1,7 @@
 use Rattle.std.proofs.Common.{◌≡◌, ◌++◌, ◌∷◌, [], subst, ◌∙◌}
 use Rattle.bm_base.specs.Promises.Versions.{table}
 use Rattle.bm_arena.specs.Contents.{Contents}
-use Rattle.bm_levels.specs.Held.{holdings_with}
+use Rattle.bm_levels.specs.SlotHoldings.{holdings_with}
 use Rattle.bm_queries.proofs.KnownBlocks.{row_in, row_put, all_rows}
 use Rattle.bm_queries.proofs.rows.table_rows.Goals as goal
 

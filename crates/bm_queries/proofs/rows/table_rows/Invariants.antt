@@ -1,7 +1,7 @@
 use Rattle.std.proofs.Common.{◌≡◌, ℕ, map, take}
 use Rattle.bm_base.specs.declared.limits.TheConstants.{MAX_PLACES}
 use Rattle.bm_base.specs.Words.{Map, by_replica, places}
-use Rattle.bm_levels.specs.Held.{holdings_with}
+use Rattle.bm_levels.specs.SlotHoldings.{holdings_with}
 use Rattle.bm_queries.proofs.rows.table_rows.Given as goal
 
 -- the rows of the blocks so far

@@ -1,5 +1,5 @@
 use Rattle.std.proofs.Common.{true, arith}
-use Rattle.bm_report.specs.Aborted.{IsDropped}
+use Rattle.bm_report.specs.AbortedReport.{IsDropped}
 use Rattle.bm_report.proofs.Aborts.{dropped-none, dropped-next, dropped-all}
 use Rattle.bm_report.proofs.aborted_report.abort.Goals as goal
 

@@ -1,4 +1,4 @@
-use Rattle.bm_report.specs.Aborted.{IsDropped}
+use Rattle.bm_report.specs.AbortedReport.{IsDropped}
 use Rattle.bm_report.proofs.Aborts.{is_below}
 use Rattle.bm_report.proofs.aborted_report.abort.Given as goal
 

@@ -2,7 +2,7 @@ use Rattle.std.proofs.Common.{◌≡◌, suc, ◌∷◌, [], List, drop, length,
 use Rattle.std.proofs.lemmas.Option.{slice_get_read}
 use Rattle.bm_arena.specs.Contents.{Contents}
 use Rattle.bm_report.specs.declared.types.ReportedSlot.{ReportedSlot}
-use Rattle.bm_report.specs.Aborted.{IsAborted}
+use Rattle.bm_report.specs.AbortedReport.{IsAborted}
 use Rattle.bm_report.proofs.PartialReport.{drop_next, drop_all}
 use Rattle.bm_report.proofs.Aborts.{aborted-none, aborted-cons}
 use Rattle.bm_report.proofs.aborted_report.abort_named.Goals as goal

@@ -1,6 +1,6 @@
 use Rattle.std.proofs.Common.{drop}
 use Rattle.bm_arena.specs.Contents.{Contents}
-use Rattle.bm_report.specs.Aborted.{IsAborted}
+use Rattle.bm_report.specs.AbortedReport.{IsAborted}
 use Rattle.bm_report.proofs.aborted_report.abort_named.Given as goal
 
 abbrev pub invariant-loop-named : goal.invariant-loop-named

@@ -1,6 +1,6 @@
 use Rattle.std.proofs.Common.{subst, sym, ◌∙◌}
 use Rattle.bm_arena.specs.Contents.{Contents}
-use Rattle.bm_report.specs.Expanded.{reported_to_part}
+use Rattle.bm_report.specs.ReportedBlocks.{reported_to_part}
 use Rattle.bm_report.specs.Ready.{HaveReplicas}
 use Rattle.bm_report.proofs.look_up.look_up.Goals as goal
 

@@ -3,9 +3,9 @@ use Rattle.std.specs.Slice.Iter.{chunks_rest}
 use Rattle.std.proofs.lemmas.List.{nil_from_length}
 use Rattle.std.proofs.lemmas.Bool.{false_from_ne_true}
 use Rattle.bm_report.specs.declared.types.ReportedSlot.{ReportedSlot}
-use Rattle.bm_report.specs.Aborted.{NamesNew}
+use Rattle.bm_report.specs.AbortedReport.{NamesNew}
 use Rattle.bm_arena.specs.Contents.{Contents}
-use Rattle.bm_report.specs.Expanded.{reported_to_part}
+use Rattle.bm_report.specs.ReportedBlocks.{reported_to_part}
 use Rattle.bm_report.specs.DuringReport.{reported_of}
 use Rattle.bm_report.specs.Ready.{HaveReplicas}
 use Rattle.bm_report.proofs.Aborts.{naming-chain}

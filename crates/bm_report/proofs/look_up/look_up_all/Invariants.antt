@@ -3,9 +3,9 @@ use Rattle.std.specs.Slice.Iter.{chunks_rest}
 use Rattle.bm_arena.specs.Contents.{slot_of}
 use Rattle.bm_base.specs.Words.{is_named}
 use Rattle.bm_report.specs.DuringReport.{AreAtSlots, HaveCapacity, reported_of}
-use Rattle.bm_report.specs.Aborted.{NamesNew}
+use Rattle.bm_report.specs.AbortedReport.{NamesNew}
 use Rattle.bm_report.specs.Ready.{HaveReplicas}
-use Rattle.bm_report.specs.Expanded.{IsPrepared, reported_to_part}
+use Rattle.bm_report.specs.ReportedBlocks.{IsPrepared, reported_to_part}
 use Rattle.bm_report.proofs.look_up.look_up_all.Given as goal
 
 abbrev pub invariant-loop-chunk : goal.invariant-loop-chunk

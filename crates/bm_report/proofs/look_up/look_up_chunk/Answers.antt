@@ -3,7 +3,7 @@ use Rattle.std.proofs.lemmas.Option.{slice_get_read}
 use Rattle.std.proofs.lemmas.Bool.{false_from_ne_true}
 use Rattle.bm_arena.specs.Contents.{Contents}
 use Rattle.bm_base.specs.Machine.Entries.{blocks_of_entry}
-use Rattle.bm_report.specs.Expanded.{of_part}
+use Rattle.bm_report.specs.ReportedBlocks.{of_part}
 use Rattle.bm_report.specs.DuringReport.{reported_of}
 use Rattle.bm_report.specs.Ready.{HaveReplicas}
 use Rattle.bm_report.proofs.Aborts.{naming-chain}

@@ -2,9 +2,9 @@ use Rattle.std.proofs.Common.{◌≡◌, ℕ, true, false, ◌++◌, map, drop}
 use Rattle.bm_arena.specs.Contents.{slot_of}
 use Rattle.bm_base.specs.Words.{is_named, expanded}
 use Rattle.bm_report.specs.DuringReport.{AreAtSlots, HaveCapacity, reported_of}
-use Rattle.bm_report.specs.Aborted.{NamesNew}
+use Rattle.bm_report.specs.AbortedReport.{NamesNew}
 use Rattle.bm_report.specs.Ready.{HaveReplicas}
-use Rattle.bm_report.specs.Expanded.{IsPrepared, of_part, reported_to_part}
+use Rattle.bm_report.specs.ReportedBlocks.{IsPrepared, of_part, reported_to_part}
 use Rattle.bm_report.proofs.look_up.look_up_chunk.Given as goal
 
 abbrev pub invariant-loop-entry : goal.invariant-loop-entry

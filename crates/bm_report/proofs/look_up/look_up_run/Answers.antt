@@ -1,7 +1,7 @@
 use Rattle.std.proofs.Common.{◌≡◌, ◌+◌, ◌%◌, ◌≤◌, ◌++◌, ◌∷◌, [], true, map, sym, subst, ap, ◌∙◌, arith}
 use Rattle.std.proofs.Math.Nat.{add-mod_right}
 use Rattle.bm_base.specs.declared.event.Entry.{Entry}
-use Rattle.bm_report.specs.Expanded.{of_part}
+use Rattle.bm_report.specs.ReportedBlocks.{of_part}
 use Rattle.bm_base.specs.Machine.Events.{is_named}
 use Rattle.bm_arena.specs.Contents.{Contents}
 use Rattle.bm_report.specs.DuringReport.{reported_of}

@@ -3,9 +3,9 @@ use Rattle.bm_base.specs.Words.{is_named, blocks_of_entry}
 use Rattle.bm_arena.specs.Contents.{slot_of}
 use Rattle.bm_base.specs.Shards.{shard_of}
 use Rattle.bm_report.specs.DuringReport.{AreAtSlots, HaveCapacity, reported_of}
-use Rattle.bm_report.specs.Aborted.{NamesNew}
+use Rattle.bm_report.specs.AbortedReport.{NamesNew}
 use Rattle.bm_report.specs.Ready.{HaveReplicas}
-use Rattle.bm_report.specs.Expanded.{IsPrepared, of_part}
+use Rattle.bm_report.specs.ReportedBlocks.{IsPrepared, of_part}
 use Rattle.bm_report.proofs.NumberRuns.{reported_from}
 use Rattle.bm_report.proofs.look_up.look_up_run.Given as goal
 

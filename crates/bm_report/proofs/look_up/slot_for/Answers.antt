@@ -2,7 +2,7 @@ use Rattle.std.proofs.Common.{◌≡◌, ℕ, Option, Some, None, Result, Ok, Er
 use Rattle.std.specs.Prelude.{IfOk, OnErr}
 use Rattle.bm_base.specs.declared.refusal.Refusal.{Refusal}
 use Rattle.bm_arena.specs.Contents.{Contents, slot_of, IsAdded, IsLawful}
-use Rattle.bm_report.specs.Expanded.{IsPrepared}
+use Rattle.bm_report.specs.ReportedBlocks.{IsPrepared}
 use Rattle.bm_report.proofs.Maps.{some_is}
 use Rattle.bm_report.proofs.Preparation.{prepared-none, prepared-added}
 use Rattle.bm_report.proofs.look_up.slot_for.Goals as goal

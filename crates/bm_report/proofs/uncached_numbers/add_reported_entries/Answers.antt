@@ -1,7 +1,7 @@
 use Rattle.std.proofs.Common.{◌+◌, List, length, drop, refl, subst}
 use Rattle.std.proofs.lemmas.Option.{slice_get_read}
 use Rattle.bm_base.specs.Machine.Entries.{ReportedBlock, blocks_of_entry, expanded}
-use Rattle.bm_report.specs.Expanded.{of_part, reported_to_part}
+use Rattle.bm_report.specs.ReportedBlocks.{of_part, reported_to_part}
 use Rattle.bm_report.specs.Ready.{named_of}
 use Rattle.bm_report.specs.DuringReport.{IsEntered, IsCounted}
 use Rattle.bm_report.proofs.NumberRuns.{reported_rest, reported_out}

@@ -1,5 +1,5 @@
 use Rattle.bm_arena.specs.HeldMaps.{replicas_of}
-use Rattle.bm_report.specs.Expanded.{reported_to_part}
+use Rattle.bm_report.specs.ReportedBlocks.{reported_to_part}
 use Rattle.bm_report.specs.Ready.{named_of}
 use Rattle.bm_report.proofs.InvalidExcess.{drops-same, kept_all}
 use Rattle.bm_report.proofs.uncached_numbers.drop_invalid_excess_by_number.Goals as goal

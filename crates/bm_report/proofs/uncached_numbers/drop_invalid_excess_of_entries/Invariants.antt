@@ -1,6 +1,6 @@
 use Rattle.std.proofs.Common.{drop}
 use Rattle.bm_base.specs.Machine.Entries.{expanded}
-use Rattle.bm_report.specs.Expanded.{of_part, reported_to_part}
+use Rattle.bm_report.specs.ReportedBlocks.{of_part, reported_to_part}
 use Rattle.bm_report.proofs.ByNumber.{HasExcessToDrop}
 use Rattle.bm_report.proofs.uncached_numbers.drop_invalid_excess_of_entries.Given as goal
 

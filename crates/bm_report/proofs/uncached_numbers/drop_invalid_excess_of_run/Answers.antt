@@ -2,7 +2,7 @@ use Rattle.std.proofs.Common.{ℕ, ◌≡◌, ◌≤◌, ◌+◌, ◌%◌, List,
 use Rattle.std.proofs.Math.Nat.{add-mod_right}
 use Rattle.bm_base.specs.declared.event.Entry.{Entry}
 use Rattle.bm_base.specs.Machine.Entries.{ReportedBlock, blocks_of_entry}
-use Rattle.bm_report.specs.Expanded.{of_part}
+use Rattle.bm_report.specs.ReportedBlocks.{of_part}
 use Rattle.bm_report.specs.Ready.{named_of}
 use Rattle.bm_report.specs.DuringReport.{AreAtSlots, DropsInvalidExcess}
 use Rattle.bm_report.proofs.NumberRuns.{reported_from, reported_first, reported_next, reported_past}

@@ -1,7 +1,7 @@
 use Rattle.std.proofs.Common.{◌≡◌, ◌+◌, ◌-◌}
 use Rattle.bm_base.specs.Machine.Entries.{blocks_of_entry}
 use Rattle.bm_base.specs.Shards.{shard_of}
-use Rattle.bm_report.specs.Expanded.{of_part}
+use Rattle.bm_report.specs.ReportedBlocks.{of_part}
 use Rattle.bm_report.proofs.ByNumber.{HasExcessToDrop}
 use Rattle.bm_report.proofs.NumberRuns.{reported_from}
 use Rattle.bm_report.proofs.uncached_numbers.drop_invalid_excess_of_run.Given as goal

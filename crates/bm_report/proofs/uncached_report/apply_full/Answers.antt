@@ -6,7 +6,7 @@ use Rattle.bm_report.specs.declared.types.ReportedSlot.{ReportedSlot}
 use Rattle.bm_report.specs.declared.report_counts.ReportCounts.{ReportCounts}
 use Rattle.bm_arena.specs.HeldMaps.{holdings_of}
 use Rattle.bm_report.specs.DuringReport.{AreAtSlots, HaveCapacity, IsExcessGood, IsOncePerNode}
-use Rattle.bm_report.specs.Expanded.{reported_to_part}
+use Rattle.bm_report.specs.ReportedBlocks.{reported_to_part}
 use Rattle.bm_report.specs.Ready.{named_in, named_of, HasGoodExcess}
 use Rattle.bm_report.proofs.Maps.{Held}
 use Rattle.bm_report.proofs.Places.{list_within}

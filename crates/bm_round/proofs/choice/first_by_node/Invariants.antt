@@ -1,6 +1,6 @@
 use Rattle.std.proofs.Common.{◌≡◌, map, take}
 use Rattle.bm_base.specs.Maps.Map.{keys}
-use Rattle.bm_round.specs.Commanded.{first_commands}
+use Rattle.bm_round.specs.RoundCommands.{first_commands}
 use Rattle.bm_round.specs.NodeIndex.{IsLookedUp}
 use Rattle.bm_round.proofs.choice.first_by_node.Given as goal
 

@@ -1,7 +1,7 @@
 use Rattle.std.proofs.Common.{ap, sym, length, ◌∙◌}
 use Rattle.std.specs.Prelude.{◌*◌, nat_le}
 use Rattle.bm_base.specs.Words.{len, limits_of}
-use Rattle.bm_round.proofs.First.{full_by_first}
+use Rattle.bm_round.proofs.FirstWishes.{full_by_first}
 use Rattle.bm_round.proofs.choice.is_full.Goals as goal
 
 pub returns-clause-first : goal.returns-clause-first

@@ -1,6 +1,6 @@
 use Rattle.std.proofs.Common.{◌++◌, ◌∷◌, [], take, subst, sym, ap, ◌∙◌}
 use Rattle.std.proofs.lemmas.List.{take_more}
-use Rattle.bm_round.specs.Commanded.{commands_by_node}
+use Rattle.bm_round.specs.RoundCommands.{commands_by_node}
 use Rattle.bm_round.specs.NodeIndex.{IsLookedUp}
 use Rattle.bm_round.proofs.node_commands.commands_by_node.Goals as goal
 

@@ -3,7 +3,7 @@ use Rattle.bm_base.specs.declared.commands.Transfer.{Transfer}
 use Rattle.std.proofs.Common.{◌-◌, replicate, ◌+◌, ◌++◌, ap, sym, ◌∙◌}
 use Rattle.bm_base.specs.Machine.State.{limits_of}
 use Rattle.bm_base.specs.Choices.{transfers_over, holders_by, excluded_by}
-use Rattle.bm_round.specs.Commanded.{with_copies}
+use Rattle.bm_round.specs.RoundCommands.{with_copies}
 use Rattle.bm_round.proofs.WishCopies.{none_left, one_less, joined_more}
 use Rattle.bm_round.proofs.transfers.choose_copies.Goals as goal
 

@@ -8,7 +8,7 @@ use Rattle.bm_base.specs.Ordered.{by_pair}
 use Rattle.bm_base.specs.RoundParts.{wish_key, delete_key}
 use Rattle.bm_arena.specs.Contents.{Contents, slot_of, IsLawful}
 use Rattle.bm_arena.specs.HeldMaps.{id_at}
-use Rattle.bm_levels.specs.Held.{holdings_with}
+use Rattle.bm_levels.specs.SlotHoldings.{holdings_with}
 use Rattle.bm_levels.specs.IndexedLevels.{IndexedLevels}
 use Rattle.bm_round_scan.specs.ScannedSlots.{scanned_slots, keyed_at, has_enough_pending, AreMarked}
 use Rattle.bm_round_scan.specs.BlockFindings.{HasFound, IsInOrder}

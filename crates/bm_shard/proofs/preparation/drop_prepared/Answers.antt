@@ -1,7 +1,7 @@
 use Rattle.std.proofs.Common.{◌≡◌, Some, sym, ap, ◌∙◌}
 use Rattle.bm_arena.specs.Contents.{slot_of}
-use Rattle.bm_levels.proofs.Unused.{unused_gone}
-use Rattle.bm_shard.proofs.Unused.{prepared_entry}
+use Rattle.bm_levels.proofs.UnusedEntries.{unused_gone}
+use Rattle.bm_shard.proofs.UnusedEntries.{prepared_entry}
 use Rattle.bm_shard.proofs.preparation.drop_prepared.Goals as goal
 
 pub returns-in-Some-clause-left : goal.returns-in-Some-clause-left

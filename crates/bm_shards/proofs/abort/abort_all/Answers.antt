@@ -3,8 +3,8 @@ use Rattle.std.specs.Prelude.{ℕ}
 use Rattle.std.proofs.Common.{◌≡◌, ◌≤◌, ◌++◌, List, length, take, refl, sym, subst, ap, ◌∙◌, arith}
 use Rattle.std.proofs.Math.Seq.{take-append_seam}
 use Rattle.std.proofs.lemmas.List.Elements.{AllWithin-more_set}
-use Rattle.bm_shard.specs.Seen.{Seen}
-use Rattle.bm_shards.specs.Worked.{IsSame, HasGivenUp}
+use Rattle.bm_shard.specs.ShardView.{Seen}
+use Rattle.bm_shards.specs.ShardWork.{IsSame, HasGivenUp}
 use Rattle.bm_shards.proofs.SameShards.{all_same, same_set}
 use Rattle.bm_shards.proofs.abort.abort_all.Goals as goal
 

@@ -1,5 +1,5 @@
 use Rattle.std.specs.List.{AllZip, AllWithin}
-use Rattle.bm_shards.specs.Worked.{IsSame, HasGivenUp}
+use Rattle.bm_shards.specs.ShardWork.{IsSame, HasGivenUp}
 use Rattle.bm_shards.proofs.abort.abort_all.Given as goal
 
 abbrev pub invariant-loop-one : goal.invariant-loop-one

@@ -1,7 +1,7 @@
 use Rattle.std.proofs.Common.{arith, ◌∙◌, ◌∷◌, [], ap, subst, sym, length, length-append, refl}
 use Rattle.std.specs.Prelude.{ℕ}
-use Rattle.bm_shard.specs.Seen.{Seen}
-use Rattle.bm_shards.specs.Worked.{AreNew}
+use Rattle.bm_shard.specs.ShardView.{Seen}
+use Rattle.bm_shards.specs.ShardWork.{AreNew}
 use Rattle.bm_shards.proofs.NewShards.{new_push}
 use Rattle.bm_shards.proofs.all_shards.new_shards.Goals as goal
 

@@ -1,5 +1,5 @@
 use Rattle.std.proofs.Common.{◌≡◌, length}
-use Rattle.bm_shards.specs.Worked.{AreNew}
+use Rattle.bm_shards.specs.ShardWork.{AreNew}
 use Rattle.bm_shards.proofs.all_shards.new_shards.Given as goal
 
 abbrev pub invariant-loop-index : goal.invariant-loop-index

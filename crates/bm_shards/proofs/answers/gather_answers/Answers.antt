@@ -1,6 +1,6 @@
 use Rattle.std.proofs.Common.{◌∙◌, sym}
 use Rattle.bm_shards.specs.Answers.{HasAnswered}
-use Rattle.bm_shards.proofs.Gathered.{same_shards, all_answers, memory_refused}
+use Rattle.bm_shards.proofs.GatheredAnswers.{same_shards, all_answers, memory_refused}
 use Rattle.bm_shards.proofs.answers.gather_answers.Goals as goal
 
 pub returns-in-Ok : goal.returns-in-Ok

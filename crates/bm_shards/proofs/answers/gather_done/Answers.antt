@@ -6,7 +6,7 @@ use Rattle.bm_base.specs.declared.event.Done.{Done}
 use Rattle.bm_shards.specs.declared.answers.Answered.{Answered}
 use Rattle.bm_shards.specs.Answers.{shard_answered, IsFew}
 use Rattle.bm_crew.proofs.Zips.{take_one}
-use Rattle.bm_shards.proofs.Gathered.{done_push, first_left}
+use Rattle.bm_shards.proofs.GatheredAnswers.{done_push, first_left}
 use Rattle.bm_shards.proofs.answers.gather_done.Goals as goal
 
 pub overflow_add-added : goal.overflow_add-added

@@ -4,7 +4,7 @@ use Rattle.std.specs.Prelude.{ℕ}
 use Rattle.std.proofs.lemmas.List.{map_push}
 use Rattle.bm_shards.specs.Answers.{ShardResult, shard_answered}
 use Rattle.bm_crew.proofs.Zips.{take_one}
-use Rattle.bm_shards.proofs.Gathered.{fault_push, fault_alone}
+use Rattle.bm_shards.proofs.GatheredAnswers.{fault_push, fault_alone}
 use Rattle.bm_shards.proofs.answers.gather_prepared.Goals as goal
 
 pub loop-index-preserved : goal.loop-index-preserved

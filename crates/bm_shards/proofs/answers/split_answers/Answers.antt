@@ -6,7 +6,7 @@ use Rattle.std.proofs.Common.{arith, ◌∙◌, ◌∷◌, [], ◌++◌, length,
 use Rattle.std.proofs.lemmas.List.{map_push}
 use Rattle.bm_shards.specs.Answers.{ShardResult, shard_answered}
 use Rattle.bm_crew.proofs.Zips.{take_one}
-use Rattle.bm_shards.proofs.Gathered.{fault_push, answers_push}
+use Rattle.bm_shards.proofs.GatheredAnswers.{fault_push, answers_push}
 use Rattle.bm_shards.proofs.answers.split_answers.Goals as goal
 
 pub loop-index-preserved : goal.loop-index-preserved

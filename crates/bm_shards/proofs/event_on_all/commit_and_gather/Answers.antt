@@ -1,6 +1,6 @@
 use Rattle.std.proofs.Common.{ap, subst, sym}
 use Rattle.bm_shards.specs.Whole.{AreUpToDate, HaveTaken}
-use Rattle.bm_shards.specs.Worked.{IsCommitted}
+use Rattle.bm_shards.specs.ShardWork.{IsCommitted}
 use Rattle.bm_shards.proofs.ShardLists.{all_few, up_to_64, now_shards, now_held, now_done, changed_up_to_date, took_again}
 use Rattle.bm_shards.proofs.SameShards.{still_taken}
 use Rattle.bm_shards.proofs.event_on_all.commit_and_gather.Goals as goal

@@ -1,9 +1,9 @@
 use Rattle.std.proofs.Common.{◌∙◌, ap, subst, sym}
 use Rattle.std.specs.List.{All, AllZip}
-use Rattle.bm_shard.specs.Seen.{IsReadyFor}
-use Rattle.bm_shards.specs.Worked.{IsSame, IsPrepared, CanCommit}
+use Rattle.bm_shard.specs.ShardView.{IsReadyFor}
+use Rattle.bm_shards.specs.ShardWork.{IsSame, IsPrepared, CanCommit}
 use Rattle.bm_shards.proofs.ShardLists.{all_ready}
-use Rattle.bm_shards.proofs.Gathered.{on_ok, prepared_same, prepared_refused}
+use Rattle.bm_shards.proofs.GatheredAnswers.{on_ok, prepared_same, prepared_refused}
 use Rattle.bm_shards.proofs.SameShards.{all_same, still_taken}
 use Rattle.bm_shards.proofs.event_on_all.prepare_for_event.Goals as goal
 

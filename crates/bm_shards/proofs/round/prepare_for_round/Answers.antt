@@ -1,9 +1,9 @@
 use Rattle.std.proofs.Common.{◌∙◌, ap, subst, sym}
 use Rattle.std.specs.List.{All, AllZip}
-use Rattle.bm_shard.specs.Seen.{IsReadyForRound}
-use Rattle.bm_shards.specs.Worked.{IsSame, IsPrepared}
-use Rattle.bm_shards.specs.RoundWorked.{CanCommitRound}
-use Rattle.bm_shards.proofs.Gathered.{on_ok, prepared_same, prepared_refused}
+use Rattle.bm_shard.specs.ShardView.{IsReadyForRound}
+use Rattle.bm_shards.specs.ShardWork.{IsSame, IsPrepared}
+use Rattle.bm_shards.specs.RoundWork.{CanCommitRound}
+use Rattle.bm_shards.proofs.GatheredAnswers.{on_ok, prepared_same, prepared_refused}
 use Rattle.bm_shards.proofs.RoundsTaken.{all_ready_for_round}
 use Rattle.bm_shards.proofs.SameShards.{all_same, still_taken}
 use Rattle.bm_shards.proofs.round.prepare_for_round.Goals as goal

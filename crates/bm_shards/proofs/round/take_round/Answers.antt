@@ -1,5 +1,5 @@
 use Rattle.std.proofs.Common.{ap}
-use Rattle.bm_shards.specs.RoundWorked.{HasTakenRound}
+use Rattle.bm_shards.specs.RoundWork.{HasTakenRound}
 use Rattle.bm_shards.proofs.SameShards.{all_same_again, still_taken}
 use Rattle.bm_shards.proofs.RoundsTaken.{all_after_same}
 use Rattle.bm_shards.proofs.round.take_round.Goals as goal

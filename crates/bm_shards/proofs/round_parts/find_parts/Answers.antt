@@ -2,8 +2,8 @@ use Rattle.bm_base.specs.declared.round.RoundPart.{RoundPart}
 use Rattle.bm_base.specs.Machine.State.{Cluster}
 use Rattle.std.specs.Prelude.{ℕ, Option}
 use Rattle.std.proofs.Common.{ap}
-use Rattle.bm_parts.specs.Before.{part_before}
-use Rattle.bm_shard.specs.Seen.{Seen}
+use Rattle.bm_parts.specs.BoundedWishes.{part_before}
+use Rattle.bm_shard.specs.ShardView.{Seen}
 use Rattle.bm_shard.specs.UpToDate.{next_part}
 use Rattle.bm_shards.specs.Answers.{HasAnswered}
 use Rattle.bm_shards.proofs.SameShards.{still_taken}

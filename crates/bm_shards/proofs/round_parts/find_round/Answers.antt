@@ -2,7 +2,7 @@ use Rattle.std.specs.Prelude.{None}
 use Rattle.std.proofs.Common.{◌∙◌, ap}
 use Rattle.bm_base.specs.Machine.State.{limits_of}
 use Rattle.bm_base.specs.Choices.{chosen_transfers}
-use Rattle.bm_shards.specs.RoundChosen.{next_parts, next_parts_before}
+use Rattle.bm_shards.specs.RoundChoice.{next_parts, next_parts_before}
 use Rattle.bm_shards.proofs.Choices.{uncut, cut, cut_wishes_sorted, cut_deletes_sorted, cut_once, cut_excess, cut_deletes}
 use Rattle.bm_shards.proofs.round_parts.find_round.Goals as goal
 

@@ -2,7 +2,7 @@ use Rattle.std.specs.Prelude.{map}
 use Rattle.std.proofs.Common.{◌∙◌, ap}
 use Rattle.bm_base.specs.Machine.State.{limits_of}
 use Rattle.bm_base.specs.Choices.{chosen_transfers}
-use Rattle.bm_parts.specs.Before.{part_before}
+use Rattle.bm_parts.specs.BoundedWishes.{part_before}
 use Rattle.bm_shards.proofs.Choices.{uncut}
 use Rattle.bm_shards.proofs.round_parts.is_of_all.Goals as goal
 

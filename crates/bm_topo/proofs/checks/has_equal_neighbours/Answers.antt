@@ -1,7 +1,7 @@
 use Rattle.std.proofs.Common.{◌≡◌, ◌-◌, get_or, eqb, true, sym, ◌∙◌, arith}
 use Rattle.std.proofs.lemmas.Bool.{eqb-true}
 use Rattle.std.proofs.lemmas.List.{get_or_default}
-use Rattle.bm_topo.proofs.Repeats.{no_repeats-rising, repeats_from_alike}
+use Rattle.bm_topo.proofs.Repeats.{no_repeats-ascending, repeats_from_alike}
 use Rattle.bm_topo.proofs.checks.has_equal_neighbours.Goals as goal
 
 pub returns-then-eq : goal.returns-then-eq
@@ -17,4 +17,4 @@ returns-then-eq c =
     sym (repeats_from_alike xs before c.loop-later.later 0 (omega arith) c.loop-later-test.true alike)
 
 pub returns : goal.returns
-returns c = sym (no_repeats-rising c.args.ordered.now (λ k h. c.loop-later.invariant k (omega arith)))
+returns c = sym (no_repeats-ascending c.args.ordered.now (λ k h. c.loop-later.invariant k (omega arith)))

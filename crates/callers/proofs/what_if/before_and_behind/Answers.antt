@@ -1,5 +1,5 @@
 use Rattle.std.proofs.lemmas.Result.{err_from_is_err_and}
-use Rattle.callers.proofs.Refused.{refused_by}
+use Rattle.callers.proofs.Refusals.{refused_by}
 use Rattle.callers.proofs.what_if.before_and_behind.Goals as goal
 
 pub returns-in_err-apply-clause-refused : goal.returns-in_err-apply-clause-refused

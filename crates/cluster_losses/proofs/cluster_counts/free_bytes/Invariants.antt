@@ -1,5 +1,5 @@
 use Rattle.std.proofs.Common.{◌≡◌, ◌≤◌, ◌*◌, take, sum_by}
-use Rattle.cluster_losses.specs.Lacking.{free_on}
+use Rattle.cluster_losses.specs.LackingBytes.{free_on}
 use Rattle.cluster_losses.proofs.cluster_counts.free_bytes.Given as goal
 
 abbrev pub invariant-loop-storage : goal.invariant-loop-storage

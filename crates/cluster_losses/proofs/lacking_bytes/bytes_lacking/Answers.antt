@@ -3,7 +3,7 @@ use Rattle.std.proofs.lemmas.List.{drop_all, length-map}
 use Rattle.std.proofs.lemmas.Option.{slice_get_read}
 use Rattle.bm_base.specs.Words.{entries}
 use Rattle.cluster_losses.specs.declared.lacking_bytes.Summed.{Summed}
-use Rattle.cluster_losses.specs.Summing.{IsSummed, replica_of}
+use Rattle.cluster_losses.specs.BlockSums.{IsSummed, replica_of}
 use Rattle.cluster_losses.proofs.LackingLemmas.{none_summed, all_summed, next_replica, replicas_are, excess_is}
 use Rattle.cluster_losses.proofs.lacking_bytes.bytes_lacking.Goals as goal
 

@@ -1,6 +1,6 @@
 use Rattle.std.proofs.Common.{◌≤◌, drop}
 use Rattle.bm_base.specs.Words.{entries}
-use Rattle.cluster_losses.specs.Summing.{IsSummed}
+use Rattle.cluster_losses.specs.BlockSums.{IsSummed}
 use Rattle.cluster_losses.proofs.lacking_bytes.bytes_lacking.Given as goal
 
 abbrev pub invariant-loop-replica : goal.invariant-loop-replica

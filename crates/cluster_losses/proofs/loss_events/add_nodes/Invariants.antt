@@ -1,5 +1,5 @@
 use Rattle.std.proofs.Common.{◌≡◌, drop}
-use Rattle.cluster_losses.specs.Named.{with_all}
+use Rattle.cluster_losses.specs.NamedStorages.{with_all}
 use Rattle.cluster_losses.proofs.loss_events.add_nodes.Given as goal
 
 abbrev pub invariant-loop-node : goal.invariant-loop-node

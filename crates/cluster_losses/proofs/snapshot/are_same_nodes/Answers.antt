@@ -1,5 +1,5 @@
 use Rattle.std.proofs.lemmas.Slice.Eq.{slice_eq-Decides}
-use Rattle.cluster_losses.proofs.Same.{node_decides}
+use Rattle.cluster_losses.proofs.EqualityLemmas.{node_decides}
 use Rattle.cluster_losses.proofs.snapshot.are_same_nodes.Goals as goal
 
 pub returns : goal.returns

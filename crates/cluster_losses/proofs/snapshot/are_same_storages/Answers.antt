@@ -1,5 +1,5 @@
 use Rattle.std.proofs.lemmas.Slice.Eq.{slice_eq-Decides}
-use Rattle.cluster_losses.proofs.Same.{storage_decides}
+use Rattle.cluster_losses.proofs.EqualityLemmas.{storage_decides}
 use Rattle.cluster_losses.proofs.snapshot.are_same_storages.Goals as goal
 
 pub returns : goal.returns

@@ -1,6 +1,6 @@
 use Rattle.std.proofs.Common.{◌∙◌}
 use Rattle.cluster_report.specs.Catalogues.{len_in}
-use Rattle.cluster_repair.specs.Sending.{free_on}
+use Rattle.cluster_repair.specs.LinkModel.{free_on}
 use Rattle.cluster_repair.proofs.NumberLemmas.{freed_more, freed_all}
 use Rattle.cluster_repair.proofs.datanodes.give_back_deleted.Goals as goal
 

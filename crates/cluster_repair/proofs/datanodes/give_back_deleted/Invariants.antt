@@ -2,7 +2,7 @@ use Rattle.std.specs.Prelude.{◌≡◌, ℕ, take}
 use Rattle.std.specs.List.{fold}
 use Rattle.cluster_report.specs.Catalogues.{len_in}
 use Rattle.cluster_repair.specs.Reports.{free_after}
-use Rattle.cluster_repair.specs.Sending.{free_on}
+use Rattle.cluster_repair.specs.LinkModel.{free_on}
 use Rattle.cluster_repair.proofs.datanodes.give_back_deleted.Given as goal
 
 abbrev pub invariant-loop-delete : goal.invariant-loop-delete

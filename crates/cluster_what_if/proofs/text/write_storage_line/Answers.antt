@@ -1,6 +1,6 @@
 use Rattle.std.proofs.Common.{append_assoc, codes, string_bytes}
 use Rattle.cluster_what_if.specs.Text.{storage_line}
-use Rattle.cluster_what_if.proofs.Pushed.{pushed}
+use Rattle.cluster_what_if.proofs.AppendedTexts.{pushed}
 use Rattle.cluster_what_if.proofs.text.write_storage_line.Goals as goal
 
 pub returns : goal.returns

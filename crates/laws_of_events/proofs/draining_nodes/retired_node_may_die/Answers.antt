@@ -2,7 +2,7 @@ use Rattle.bm_base.specs.Machine.State.{State}
 use Rattle.bm_base.specs.Promises.Lawful.{IsOrderly}
 use Rattle.laws_of_states.proofs.LawfulRounds.{orderly}
 use Rattle.laws_of_states.proofs.OrderlyStates.{calls_orderly}
-use Rattle.laws_of_events.specs.Draining.{retired_node_may_die}
+use Rattle.laws_of_events.specs.DrainingNodes.{retired_node_may_die}
 use Rattle.laws_of_events.proofs.RetiredNodes.{may_die}
 use Rattle.laws_of_events.proofs.draining_nodes.retired_node_may_die.Goals as goal
 

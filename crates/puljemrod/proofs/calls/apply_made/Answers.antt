@@ -1,5 +1,5 @@
 use Rattle.std.proofs.Common.{◌≡◌, inl, refl, sym, ◌∙◌}
-use Rattle.puljemrod.proofs.Listed.{listed}
+use Rattle.puljemrod.proofs.CopiedLists.{listed}
 use Rattle.bm_base.proofs.Options.{there}
 use Rattle.puljemrod.proofs.calls.apply_made.Goals as goal
 

@@ -1,7 +1,7 @@
 use Rattle.std.proofs.Common.{◌≡◌, ℕ, map, refl, inl, arith, ap}
 use Rattle.std.proofs.lemmas.List.{length-map}
 use Rattle.puljemrod.specs.Rows.{remaining_of}
-use Rattle.puljemrod.proofs.Beats.{beat}
+use Rattle.puljemrod.proofs.HeartbeatLemmas.{beat}
 use Rattle.puljemrod.proofs.handle_state.take_heartbeat.Goals as goal
 
 pub returns-in-Ok : goal.returns-in-Ok

@@ -1,6 +1,6 @@
 use Rattle.std.proofs.Common.{◌≡◌, ℕ, inl, inr, subst, arith}
 use Rattle.std.proofs.lemmas.Bool.{cases_lt}
-use Rattle.bm_report.specs.Tested.{IsSingle}
+use Rattle.bm_report.specs.TestedArenas.{IsSingle}
 use Rattle.bm_report.proofs.SingleReplicas.{single-beyond}
 use Rattle.tests_of_shards.proofs.report.is_simple.Goals as goal
 

@@ -1,5 +1,5 @@
 use Rattle.std.proofs.Common.{ℕ, ◌<◌}
-use Rattle.bm_report.specs.Tested.{IsSingle}
+use Rattle.bm_report.specs.TestedArenas.{IsSingle}
 use Rattle.tests_of_shards.proofs.report.is_simple.Given as goal
 
 abbrev pub invariant-loop-slot : goal.invariant-loop-slot

@@ -4,7 +4,7 @@ use Rattle.std.proofs.Math.Nat.{mod-one}
 use Rattle.bm_base.specs.declared.ids.Part.{Part}
 use Rattle.bm_base.specs.declared.event.Entry.{Entry}
 use Rattle.bm_base.specs.Words.{ReportedBlock, is_named}
-use Rattle.bm_report.specs.Expanded.{reported_to_part}
+use Rattle.bm_report.specs.ReportedBlocks.{reported_to_part}
 use Rattle.bm_report.specs.Ready.{HasSlotsFor}
 use Rattle.bm_report.proofs.SingleReplicas.{ok_then, simple_once}
 use Rattle.bm_report.proofs.NumberRuns.{reported_one}

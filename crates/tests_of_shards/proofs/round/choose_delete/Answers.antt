@@ -1,7 +1,7 @@
 use Rattle.std.proofs.Common.{rules, ◌≡◌, ◌∷◌, [], map, ap, ◌∙◌}
 use Rattle.bm_base.specs.Maps.Lists.{has_repeats}
 use Rattle.bm_base.specs.Choices.{merged_wishes}
-use Rattle.tests_of_shards.proofs.Tested.{no_wish_once}
+use Rattle.tests_of_shards.proofs.MergedParts.{no_wish_once}
 use Rattle.tests_of_shards.proofs.round.choose_delete.Goals as goal
 
 pub choose-requires-clause-one_wish : goal.choose-requires-clause-one_wish

@@ -12,7 +12,7 @@ use Rattle.bm_base.proofs.MapEntries.{same_key, get_kept}
 use Rattle.bm_base.proofs.Options.{there, is_there}
 use Rattle.bm_arena.specs.Contents.{Contents}
 use Rattle.bm_arena.specs.HeldMaps.{replicas_of, holdings_of}
-use Rattle.bm_levels.specs.Leveled.{AreLevels}
+use Rattle.bm_levels.specs.LeveledBlocks.{AreLevels}
 use Rattle.tests_of_shards.proofs.round_scan.block_with_one.Goals as goal
 
 if_ok : {X E : Type 0} (r : Result X E) (x : X) (P : X → Type 0) → r ≡ Ok x → IfOk r P → P x

@@ -2,10 +2,10 @@ use Rattle.std.proofs.Common.{subst}
 use Rattle.bm_base.specs.Words.{Cluster, is_named}
 use Rattle.bm_report.specs.Ready.{reported_blocks}
 use Rattle.bm_report.proofs.Preparation.{prepared-none}
-use Rattle.bm_levels.specs.Leveled.{Leveled, AreLevels}
+use Rattle.bm_levels.specs.LeveledBlocks.{Leveled, AreLevels}
 use Rattle.bm_levels.proofs.StatusUpdates.{same_itself}
 use Rattle.bm_levels.proofs.ReadyReports.{leveled_again, levels_again, none_fresh}
-use Rattle.bm_levels.proofs.Unused.{unused_unnamed}
+use Rattle.bm_levels.proofs.UnusedEntries.{unused_unnamed}
 use Rattle.bm_levels.proofs.leveled_blocks.LeveledBlocks.abort_report.Goals as goal
 
 pub invariant_of-self : goal.invariant_of-self

@@ -5,7 +5,7 @@ use Rattle.bm_maps.proofs.SlotLists.{dec_among}
 use Rattle.bm_base.specs.Machine.Replicas.{rack_of, is_draining, is_multi_rack}
 use Rattle.bm_arena.specs.Contents.{block_at}
 use Rattle.bm_levels.specs.IndexedLevels.{IsClassified, IsSameAt}
-use Rattle.bm_levels.specs.Leveled.{Leveled, AreLevels}
+use Rattle.bm_levels.specs.LeveledBlocks.{Leveled, AreLevels}
 use Rattle.bm_report.specs.Ready.{IsReportedAt, reported_blocks as blocks_of_report}
 use Rattle.bm_levels.proofs.OneSlot.{held_by}
 use Rattle.bm_levels.proofs.ManySlots.{leveled_reported, levels_reported}

@@ -5,7 +5,7 @@ use Rattle.bm_base.specs.Maps.Map.{revise}
 use Rattle.bm_arena.specs.Contents.{slot_of, KeepsAllBut}
 use Rattle.bm_arena.specs.HeldMaps.{blocks_of, replicas_of, with_known}
 use Rattle.bm_levels.specs.Changes.{changed}
-use Rattle.bm_levels.specs.Leveled.{Leveled, AreLevels}
+use Rattle.bm_levels.specs.LeveledBlocks.{Leveled, AreLevels}
 use Rattle.bm_levels.proofs.AllMarks.{keeps_then, block_replicas, block_known}
 use Rattle.bm_levels.proofs.OneSlot.{IsChangedAt, held_by, leveled_after, levels_after}
 use Rattle.bm_levels.proofs.leveled_blocks.LeveledBlocks.change_block.Goals as goal

@@ -1,7 +1,7 @@
 use Rattle.std.proofs.Common.{◌≤◌, ◌+◌, length}
 use Rattle.std.specs.Prelude.{◌==◌}
 use Rattle.bm_arena.specs.Contents.{list_of}
-use Rattle.bm_levels.specs.Unused.{MakesNoUnused}
+use Rattle.bm_levels.specs.UnusedEntries.{MakesNoUnused}
 use Rattle.bm_levels.specs.LeavingReplicas.{IsLeaving, MakesNoHead}
 use Rattle.bm_levels.specs.ClusterAfter.{KeepsLevelsAfter}
 use Rattle.bm_levels.proofs.leveled_blocks.LeveledBlocks.clear.Given as goal

@@ -1,6 +1,6 @@
 use Rattle.std.proofs.Common.{◌≡◌, ◌≤◌, ◌+◌, ◌*◌, ◌^◌, []}
 use Rattle.bm_arena.specs.Contents.{list_of, HasHead}
-use Rattle.bm_levels.specs.Unused.{MakesNoUnused}
+use Rattle.bm_levels.specs.UnusedEntries.{MakesNoUnused}
 use Rattle.bm_levels.specs.LeavingReplicas.{IsLeaving, MakesNoHead}
 use Rattle.bm_levels.specs.ClusterAfter.{is_on_node, KeepsLevelsAfter}
 use Rattle.bm_levels.proofs.Indexes.{HaveGone}

@@ -3,7 +3,7 @@ use Rattle.std.specs.Prelude.{◌∷◌, Some, length}
 use Rattle.bm_maps.specs.SlotLists.{Distinct}
 use Rattle.bm_queues.specs.Walks.{slots_from, IsOn, IsPast}
 use Rattle.bm_levels.specs.IndexedLevels.{IndexedLevels}
-use Rattle.bm_levels.specs.Leveled.{Leveled, AreLevels}
+use Rattle.bm_levels.specs.LeveledBlocks.{Leveled, AreLevels}
 use Rattle.bm_levels.proofs.UnsettledIteration.{IsGoing, going_first, going_more, going_none, going_begun, going_others}
 use Rattle.bm_levels.proofs.leveled_blocks.LeveledBlocks.clear_unordered_excess.Goals as goal
 use Rattle.bm_levels.proofs.leveled_blocks.LeveledBlocks.clear_unordered_excess.Goals.{in-Some, in_default}

@@ -1,4 +1,4 @@
-use Rattle.bm_levels.specs.Leveled.{AreLevels}
+use Rattle.bm_levels.specs.LeveledBlocks.{AreLevels}
 use Rattle.bm_levels.proofs.UnsettledIteration.{IsGoing}
 use Rattle.bm_levels.proofs.leveled_blocks.LeveledBlocks.clear_unordered_excess.Given as goal
 

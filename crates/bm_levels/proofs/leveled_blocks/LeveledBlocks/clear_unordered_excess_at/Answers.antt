@@ -3,7 +3,7 @@ use Rattle.bm_base.specs.Machine.Excess.{with_excess_reset}
 use Rattle.bm_arena.specs.HeldMaps.{replicas_at}
 use Rattle.bm_levels.specs.IndexedLevels.{IsUnsettled}
 use Rattle.bm_levels.specs.Changes.{changed, all_changed}
-use Rattle.bm_levels.specs.Leveled.{Leveled, AreLevels}
+use Rattle.bm_levels.specs.LeveledBlocks.{Leveled, AreLevels}
 use Rattle.bm_levels.proofs.OneSlot.{IsChangedAt, leveled_after, levels_after}
 use Rattle.bm_levels.proofs.RoundStart.{start_capacity, changed_there}
 use Rattle.bm_levels.proofs.leveled_blocks.LeveledBlocks.clear_unordered_excess_at.Goals as goal

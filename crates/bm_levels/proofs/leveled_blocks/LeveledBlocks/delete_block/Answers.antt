@@ -6,7 +6,7 @@ use Rattle.bm_base.proofs.MapEntries.{get_taken}
 use Rattle.bm_arena.specs.Contents.{slot_of}
 use Rattle.bm_arena.specs.HeldMaps.{blocks_of, info_at}
 use Rattle.bm_levels.proofs.RevisedHoldings.{remove_absent, block_absent, replicas_absent, known_at, entry_left}
-use Rattle.bm_levels.proofs.Unused.{unused_changed}
+use Rattle.bm_levels.proofs.UnusedEntries.{unused_changed}
 use Rattle.bm_levels.proofs.leveled_blocks.LeveledBlocks.delete_block.Goals as goal
 
 pub returns-in_default-clause-blocks : goal.returns-in_default-clause-blocks

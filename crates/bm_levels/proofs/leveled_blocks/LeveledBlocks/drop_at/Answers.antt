@@ -2,9 +2,9 @@ use Rattle.std.proofs.Common.{◌≡◌, ℕ, Some, true≢false, subst, sym, �
 use Rattle.std.proofs.lemmas.Bool.{false≢true}
 use Rattle.bm_arena.specs.Contents.{slot_of}
 use Rattle.bm_report.proofs.Aborts.{held_in}
-use Rattle.bm_levels.specs.Unused.{IsUnused}
-use Rattle.bm_levels.specs.Leveled.{Leveled}
-use Rattle.bm_levels.proofs.Unused.{unused_gone}
+use Rattle.bm_levels.specs.UnusedEntries.{IsUnused}
+use Rattle.bm_levels.specs.LeveledBlocks.{Leveled}
+use Rattle.bm_levels.proofs.UnusedEntries.{unused_gone}
 use Rattle.bm_levels.proofs.ReadyReports.{unused_there}
 use Rattle.bm_levels.proofs.leveled_blocks.LeveledBlocks.drop_at.Goals as goal
 use Rattle.bm_levels.proofs.leveled_blocks.LeveledBlocks.drop_at.Goals.{else-has_no_replicas-via-then-has_no_replicas+else-not-is_delimiter, else-has_no_replicas-via-else-has_no_replicas}

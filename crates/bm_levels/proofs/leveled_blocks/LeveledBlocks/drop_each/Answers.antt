@@ -1,7 +1,7 @@
 use Rattle.std.proofs.Common.{◌≡◌, ◌<◌, ◌+◌, ℕ, refl, List, ◌∷◌, Some, length, get_or, drop, drop-cons, add-one, arith, ap, subst, inl, inr, ◌∙◌}
 use Rattle.bm_maps.specs.SlotLists.{IsMember}
-use Rattle.bm_levels.specs.Unused.{IsUnused}
-use Rattle.bm_levels.proofs.Unused.{unused_held, some_before}
+use Rattle.bm_levels.specs.UnusedEntries.{IsUnused}
+use Rattle.bm_levels.proofs.UnusedEntries.{unused_held, some_before}
 use Rattle.bm_levels.proofs.leveled_blocks.LeveledBlocks.drop_each.Goals as goal
 
 pub loop-slot-preserved : goal.loop-slot-preserved

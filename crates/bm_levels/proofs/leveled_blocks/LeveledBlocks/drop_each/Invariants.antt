@@ -2,7 +2,7 @@ use Rattle.std.proofs.Common.{◌≡◌, ℕ, Some, drop}
 use Rattle.bm_maps.specs.SlotLists.{IsMember}
 use Rattle.bm_arena.specs.Contents.{slot_of}
 use Rattle.bm_arena.specs.HeldMaps.{replicas_of, blocks_of}
-use Rattle.bm_levels.specs.Unused.{IsUnused, KeepsSlots}
+use Rattle.bm_levels.specs.UnusedEntries.{IsUnused, KeepsSlots}
 use Rattle.bm_levels.specs.LevelsBy.{KeepsAllLevels}
 use Rattle.bm_levels.proofs.leveled_blocks.LeveledBlocks.drop_each.Given as goal
 

@@ -4,10 +4,10 @@ use Rattle.bm_base.specs.Words.{Cluster, rack_of, is_draining, is_multi_rack}
 use Rattle.bm_arena.specs.Contents.{slot_of}
 use Rattle.bm_arena.specs.HeldMaps.{blocks_of, replicas_of}
 use Rattle.bm_base.proofs.Options.{not_there}
-use Rattle.bm_levels.specs.Leveled.{Leveled, AreLevels}
+use Rattle.bm_levels.specs.LeveledBlocks.{Leveled, AreLevels}
 use Rattle.bm_levels.specs.LevelsBy.{AreLevelsBy}
 use Rattle.bm_levels.proofs.EmptiedEntries.{IsEmptied, emptied}
-use Rattle.bm_levels.proofs.Unused.{slots_kept}
+use Rattle.bm_levels.proofs.UnusedEntries.{slots_kept}
 use Rattle.bm_levels.proofs.leveled_blocks.LeveledBlocks.drop_if_unused.Goals as goal
 
 done : (c : goal.After-drop_entry) → IsEmptied (record { arena = c.self.inside.arena; level_index = c.self.inside.level_index }) c.drop_entry.new.self c.args.slot

@@ -1,6 +1,6 @@
 use Rattle.std.proofs.Common.{ap, ◌∙◌}
 use Rattle.bm_arena.specs.HeldMaps.{replicas_of, blocks_of}
-use Rattle.bm_levels.specs.Leveled.{Leveled}
+use Rattle.bm_levels.specs.LeveledBlocks.{Leveled}
 use Rattle.bm_levels.proofs.LeavingReplicas.{other_lists}
 use Rattle.bm_levels.proofs.leveled_blocks.LeveledBlocks.drop_list.Goals as goal
 

@@ -2,7 +2,7 @@ use Rattle.std.proofs.Common.{◌≡◌, ℕ, [], true, subst, ap, ◌∙◌}
 use Rattle.std.specs.Prelude.{◌==◌}
 use Rattle.std.proofs.lemmas.Bool.{eqb-true}
 use Rattle.bm_base.specs.Machine.Replicas.{is_multi_rack}
-use Rattle.bm_topo.specs.Seen.{Seen}
+use Rattle.bm_topo.specs.TopologyView.{Seen}
 use Rattle.bm_arena.specs.Contents.{Contents, list_of, IsLawful}
 use Rattle.bm_levels.proofs.LeavingReplicas.{kept_others, count_is}
 use Rattle.bm_levels.proofs.UpToDate.{still_levels, still_by, levels_failed}

@@ -3,7 +3,7 @@ use Rattle.bm_base.specs.Maps.Map.{revise}
 use Rattle.bm_arena.specs.Contents.{block_at, slot_of, KeepsEntries}
 use Rattle.bm_arena.specs.HeldMaps.{replicas_of}
 use Rattle.bm_levels.specs.Changes.{has_block}
-use Rattle.bm_levels.specs.Leveled.{AreLevels}
+use Rattle.bm_levels.specs.LeveledBlocks.{AreLevels}
 use Rattle.bm_levels.proofs.ListedMarks.{excess_by}
 use Rattle.bm_levels.proofs.leveled_blocks.LeveledBlocks.mark_each.Given as goal
 

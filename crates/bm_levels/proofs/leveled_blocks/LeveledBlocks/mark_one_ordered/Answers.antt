@@ -5,7 +5,7 @@ use Rattle.bm_levels.specs.Changes.{as_ordered}
 use Rattle.bm_maps.proofs.ReplaceLaws.{no_change}
 use Rattle.bm_arena.specs.Contents.{marks_at}
 use Rattle.bm_arena.specs.HeldMaps.{replicas_of}
-use Rattle.bm_levels.specs.Leveled.{Leveled}
+use Rattle.bm_levels.specs.LeveledBlocks.{Leveled}
 use Rattle.bm_levels.proofs.RevisedHoldings.{put_changed, replica_absent}
 use Rattle.bm_levels.proofs.leveled_blocks.LeveledBlocks.mark_one_ordered.Goals as goal
 

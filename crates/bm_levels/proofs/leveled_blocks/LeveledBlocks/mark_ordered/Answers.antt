@@ -3,7 +3,7 @@ use Rattle.std.proofs.lemmas.Grind.{common_steps}
 use Rattle.std.proofs.lemmas.Bool.{eq-eqb, ne_eqb}
 use Rattle.bm_base.specs.Maps.Map.{revise}
 use Rattle.bm_arena.specs.HeldMaps.{replicas_of, blocks_of}
-use Rattle.bm_levels.specs.Leveled.{Leveled, AreLevels}
+use Rattle.bm_levels.specs.LeveledBlocks.{Leveled, AreLevels}
 use Rattle.bm_levels.proofs.ListedMarks.{with_deletes_ordered, order_own, order_other, order_end}
 use Rattle.bm_levels.proofs.leveled_blocks.LeveledBlocks.mark_ordered.Goals as goal
 use Rattle.bm_levels.proofs.leveled_blocks.LeveledBlocks.mark_ordered.Goals.{then-shard_of-part, else-shard_of-part}

@@ -1,7 +1,7 @@
 use Rattle.std.proofs.Common.{◌≡◌, drop}
 use Rattle.bm_base.specs.Maps.Map.{revise}
 use Rattle.bm_arena.specs.HeldMaps.{replicas_of, blocks_of}
-use Rattle.bm_levels.specs.Leveled.{AreLevels}
+use Rattle.bm_levels.specs.LeveledBlocks.{AreLevels}
 use Rattle.bm_levels.proofs.ListedMarks.{with_deletes_ordered}
 use Rattle.bm_levels.proofs.leveled_blocks.LeveledBlocks.mark_ordered.Given as goal
 

@@ -4,7 +4,7 @@ use Rattle.bm_base.specs.Maps.Map.{revise}
 use Rattle.bm_arena.specs.Contents.{block_at, slot_of}
 use Rattle.bm_arena.specs.HeldMaps.{replicas_of}
 use Rattle.bm_levels.specs.Changes.{excess_on, has_block}
-use Rattle.bm_levels.specs.Leveled.{Leveled, AreLevels}
+use Rattle.bm_levels.specs.LeveledBlocks.{Leveled, AreLevels}
 use Rattle.bm_levels.proofs.AllMarks.{block_replicas}
 use Rattle.bm_levels.proofs.ListedMarks.{excess_by}
 use Rattle.bm_levels.proofs.GroupedReplicas.{group_marks, some_of_block}

@@ -5,7 +5,7 @@ use Rattle.bm_arena.specs.Triplets.{change_block}
 use Rattle.bm_arena.specs.Contents.{slot_of, marks_at, with_marks}
 use Rattle.bm_levels.specs.Changes.{as_ordered}
 use Rattle.bm_levels.specs.Status.{is_good_and_unmarked}
-use Rattle.bm_levels.specs.Leveled.{Leveled, AreLevels}
+use Rattle.bm_levels.specs.LeveledBlocks.{Leveled, AreLevels}
 use Rattle.bm_levels.proofs.OneSlot.{held_by, leveled_after, levels_after}
 use Rattle.bm_levels.proofs.DeleteOrdered.{level_ordered, not_plain_then, unsettled_by, leveled_alike, levels_alike}
 use Rattle.bm_levels.proofs.leveled_blocks.LeveledBlocks.order_delete.Goals as goal

@@ -3,11 +3,11 @@ use Rattle.bm_base.specs.Machine.State.{Cluster}
 use Rattle.bm_arena.specs.Contents.{Contents, block_at, slot_of, empty_block, IsAdded}
 use Rattle.bm_arena.specs.HeldMaps.{blocks_of, replicas_of}
 use Rattle.bm_base.proofs.Options.{not_there}
-use Rattle.bm_levels.specs.Leveled.{Leveled, AreLevels}
+use Rattle.bm_levels.specs.LeveledBlocks.{Leveled, AreLevels}
 use Rattle.bm_report.proofs.SingleReplicas.{ok_then}
 use Rattle.bm_levels.proofs.AddedEntries.{capacity_below, leveled_same, levels_same, leveled_added, levels_added, dropped_again, blocks_again, replicas_again, numbers_again}
-use Rattle.bm_levels.proofs.Unused.{unused_held, some_before}
-use Rattle.bm_levels.specs.Unused.{MakesNoUnused}
+use Rattle.bm_levels.proofs.UnusedEntries.{unused_held, some_before}
+use Rattle.bm_levels.specs.UnusedEntries.{MakesNoUnused}
 use Rattle.bm_levels.proofs.leveled_blocks.LeveledBlocks.ready_block.Goals as goal
 
 abbrev first : goal.Else-is_err → Leveled

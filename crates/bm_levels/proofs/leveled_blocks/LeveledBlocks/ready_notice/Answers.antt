@@ -2,10 +2,10 @@ use Rattle.std.proofs.Common.{not, subst, ap, ◌∙◌}
 use Rattle.bm_base.specs.Words.{Cluster, is_named}
 use Rattle.bm_report.specs.Ready.{reported_blocks}
 use Rattle.bm_report.proofs.SingleReplicas.{ok_then}
-use Rattle.bm_levels.specs.Leveled.{Leveled, AreLevels}
-use Rattle.bm_levels.specs.Unused.{MakesNoUnused}
+use Rattle.bm_levels.specs.LeveledBlocks.{Leveled, AreLevels}
+use Rattle.bm_levels.specs.UnusedEntries.{MakesNoUnused}
 use Rattle.bm_levels.proofs.AddedEntries.{capacity_below}
-use Rattle.bm_levels.proofs.Unused.{unused_again}
+use Rattle.bm_levels.proofs.UnusedEntries.{unused_again}
 use Rattle.bm_levels.proofs.ReadyReports.{alike_ready, leveled_again, levels_again, leveled_alike, levels_alike}
 use Rattle.bm_levels.proofs.leveled_blocks.LeveledBlocks.ready_notice.Goals as goal
 

@@ -1,14 +1,14 @@
 use Rattle.std.proofs.Common.{◌≡◌, ℕ, not, subst, sym, ap, ◌∙◌}
 use Rattle.bm_base.specs.Words.{Cluster, is_named}
 use Rattle.bm_arena.specs.Contents.{Contents, HasHead}
-use Rattle.bm_report.specs.Expanded.{reported_to_part}
+use Rattle.bm_report.specs.ReportedBlocks.{reported_to_part}
 use Rattle.bm_report.specs.Ready.{reported_blocks, HaveReplicas}
 use Rattle.bm_levels.specs.IndexedLevels.{HasCapacityFor}
 use Rattle.bm_report.proofs.SingleReplicas.{ok_then}
-use Rattle.bm_levels.specs.Leveled.{Leveled, AreLevels}
-use Rattle.bm_levels.specs.Unused.{MakesNoUnused}
+use Rattle.bm_levels.specs.LeveledBlocks.{Leveled, AreLevels}
+use Rattle.bm_levels.specs.UnusedEntries.{MakesNoUnused}
 use Rattle.bm_levels.proofs.AddedEntries.{capacity_below}
-use Rattle.bm_levels.proofs.Unused.{unused_again}
+use Rattle.bm_levels.proofs.UnusedEntries.{unused_again}
 use Rattle.bm_levels.proofs.ReadyReports.{alike_ready, leveled_again, levels_again, leveled_alike, levels_alike}
 use Rattle.bm_levels.proofs.leveled_blocks.LeveledBlocks.ready_report.Goals as goal
 

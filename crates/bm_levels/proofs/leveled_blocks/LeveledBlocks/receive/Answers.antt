@@ -8,7 +8,7 @@ use Rattle.bm_report.specs.DuringReport.{AreAtSlots, slot_in, reported_of}
 use Rattle.bm_base.specs.declared.replica.Stamp.{Stamp}
 use Rattle.bm_report.specs.Ready.{LookedUpReport, reported_blocks}
 use Rattle.bm_levels.specs.IndexedLevels.{HasCapacityAt}
-use Rattle.bm_levels.specs.Leveled.{Leveled, IsLeveled, AreLevels}
+use Rattle.bm_levels.specs.LeveledBlocks.{Leveled, IsLeveled, AreLevels}
 use Rattle.bm_levels.proofs.OneSlot.{IsChangedAt, held_by, leveled_after, levels_after}
 use Rattle.bm_levels.proofs.leveled_blocks.LeveledBlocks.receive.Goals as goal
 

@@ -1,8 +1,8 @@
 use Rattle.std.proofs.Common.{subst}
 use Rattle.bm_base.specs.Machine.Replicas.{rack_of, is_draining}
-use Rattle.bm_levels.specs.Leveled.{Leveled, AreLevels}
+use Rattle.bm_levels.specs.LeveledBlocks.{Leveled, AreLevels}
 use Rattle.bm_levels.specs.LevelsBy.{AreLevelsBy}
-use Rattle.bm_levels.proofs.Reclassified.{led_held, leveled_each, levels_each}
+use Rattle.bm_levels.proofs.ReclassifiedSlots.{led_held, leveled_each, levels_each}
 use Rattle.bm_levels.proofs.leveled_blocks.LeveledBlocks.reclassify_if_racks_change.Goals as goal
 
 pub reclassify_every_block-requires : goal.reclassify_every_block-requires

@@ -1,6 +1,6 @@
 use Rattle.std.proofs.Common.{◌≡◌, Some, subst, sym}
 use Rattle.bm_arena.specs.Contents.{slot_of}
-use Rattle.bm_levels.specs.Leveled.{Leveled, AreLevels}
+use Rattle.bm_levels.specs.LeveledBlocks.{Leveled, AreLevels}
 use Rattle.bm_levels.proofs.OneSlot.{held_by, leveled_after, levels_after}
 use Rattle.bm_levels.proofs.leveled_blocks.LeveledBlocks.remove.Goals as goal
 

@@ -5,7 +5,7 @@ use Rattle.bm_arena.specs.Contents.{list_of}
 use Rattle.bm_levels.specs.LeavingReplicas.{IsLeaving}
 use Rattle.bm_levels.specs.ClusterAfter.{rack_after, drains_after}
 use Rattle.bm_levels.proofs.LeavingReplicas.{leaving_same, leaving_more}
-use Rattle.bm_levels.proofs.Unused.{heads_same}
+use Rattle.bm_levels.proofs.UnusedEntries.{heads_same}
 use Rattle.bm_levels.proofs.UnlinkedReplicas.{unused_taken}
 use Rattle.bm_levels.proofs.leveled_blocks.LeveledBlocks.remove_first.Goals as goal
 use Rattle.bm_levels.proofs.leveled_blocks.LeveledBlocks.remove_first.Goals.{After-drop_each}

@@ -5,7 +5,7 @@ use Rattle.bm_base.specs.Machine.Replicas.{rack_of}
 use Rattle.bm_arena.specs.Contents.{block_at, list_of, HasHead}
 use Rattle.bm_levels.specs.Status.{drains_after_change}
 use Rattle.bm_levels.specs.LeavingReplicas.{IsLeaving}
-use Rattle.bm_levels.specs.Leveled.{Leveled}
+use Rattle.bm_levels.specs.LeveledBlocks.{Leveled}
 use Rattle.bm_levels.specs.LevelsBy.{AreLevelsBy}
 use Rattle.bm_levels.specs.ClusterAfter.{rack_after, drains_after}
 use Rattle.bm_levels.proofs.LeavingReplicas.{held_on}

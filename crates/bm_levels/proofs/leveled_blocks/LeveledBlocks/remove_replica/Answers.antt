@@ -7,7 +7,7 @@ use Rattle.bm_arena.specs.HeldMaps.{replicas_of, blocks_of, info_at}
 use Rattle.bm_base.proofs.Options.{not_there}
 use Rattle.bm_report.proofs.Maps.{get-here}
 use Rattle.bm_levels.proofs.RevisedHoldings.{remove_absent, replica_absent, known_at, entry_left}
-use Rattle.bm_levels.proofs.Unused.{unused_changed}
+use Rattle.bm_levels.proofs.UnusedEntries.{unused_changed}
 use Rattle.bm_levels.proofs.leveled_blocks.LeveledBlocks.remove_replica.Goals as goal
 
 pub returns-in_default-clause-replicas : goal.returns-in_default-clause-replicas

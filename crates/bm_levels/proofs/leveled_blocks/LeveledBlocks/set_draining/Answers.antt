@@ -2,9 +2,9 @@ use Rattle.std.proofs.Common.{subst, inl, inr, Some}
 use Rattle.std.specs.Prelude.{if◌then◌else◌}
 use Rattle.bm_base.specs.Words.{rack_of, drain, undrain}
 use Rattle.bm_levels.specs.Status.{drains_after_change}
-use Rattle.bm_levels.specs.Leveled.{Leveled, AreLevels}
+use Rattle.bm_levels.specs.LeveledBlocks.{Leveled, AreLevels}
 use Rattle.bm_levels.proofs.LeavingReplicas.{held_on}
-use Rattle.bm_levels.proofs.Reclassified.{leveled_again}
+use Rattle.bm_levels.proofs.ReclassifiedSlots.{leveled_again}
 use Rattle.bm_levels.proofs.DrainChange.{drain_change, turned_all}
 use Rattle.bm_levels.proofs.leveled_blocks.LeveledBlocks.set_draining.Goals as goal
 

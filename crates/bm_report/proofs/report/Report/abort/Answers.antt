@@ -3,7 +3,7 @@ use Rattle.bm_base.specs.Machine.Events.{is_named}
 use Rattle.bm_arena.specs.Contents.{slot_of}
 use Rattle.bm_report.specs.Ready.{LookedUpReport}
 use Rattle.bm_report.specs.DuringReport.{reported_of}
-use Rattle.bm_report.specs.Aborted.{is_unused_number}
+use Rattle.bm_report.specs.AbortedReport.{is_unused_number}
 use Rattle.bm_report.proofs.Aborts.{names_reported}
 use Rattle.bm_report.proofs.report.Report.abort.Goals as goal
 

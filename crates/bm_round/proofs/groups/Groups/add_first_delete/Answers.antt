@@ -1,7 +1,7 @@
 use Rattle.std.proofs.Common.{◌≤◌, ◌<◌, ◌++◌, ◌∷◌, [], length, set, get_or, ap, sym, ◌∙◌, arith}
 use Rattle.std.proofs.lemmas.Result.{IfOk-weaker}
 use Rattle.bm_base.specs.Words.{keys, has_storage}
-use Rattle.bm_round.specs.Commanded.{first_commands, first_by_node}
+use Rattle.bm_round.specs.RoundCommands.{first_commands, first_by_node}
 use Rattle.bm_round.specs.NodeIndex.{index_where}
 use Rattle.bm_round.proofs.AddedCommands.{unchanged, command_changed, place_below}
 use Rattle.bm_round.proofs.FirstDeletes.{with_first, other_first, own_first, adds_below_most, keeps_at_most}

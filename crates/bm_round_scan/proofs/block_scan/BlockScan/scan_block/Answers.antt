@@ -3,7 +3,7 @@ use Rattle.std.specs.Option.{option_map_or}
 use Rattle.std.specs.List.Sorted.{IsNonDecreasing}
 use Rattle.std.proofs.lemmas.List.Sorted.{list_any-IsPermutation}
 use Rattle.bm_base.specs.Words.{has, has_repeats, is_live_on, excess_of}
-use Rattle.bm_levels.specs.Held.{holdings_with}
+use Rattle.bm_levels.specs.SlotHoldings.{holdings_with}
 use Rattle.bm_levels.specs.Status.{storages_at}
 use Rattle.bm_round_scan.specs.declared.block_scan.BlockScan.{BlockScan}
 use Rattle.bm_round_scan.specs.BlockScans.{IsBlockScan}

@@ -10,7 +10,7 @@ use Rattle.bm_base.specs.Machine.Replicas.{is_draining}
 use Rattle.bm_arena.specs.Triplets.{Block, triplet_view}
 use Rattle.bm_arena.specs.Contents.{block_at}
 use Rattle.bm_levels.specs.Status.{storages_at}
-use Rattle.bm_parts.specs.Before.{wishes_before}
+use Rattle.bm_parts.specs.BoundedWishes.{wishes_before}
 use Rattle.bm_pending.specs.RemainingTargets.{remaining_targets}
 use Rattle.bm_round_scan.specs.Requests.{wish_by}
 use Rattle.bm_round_scan.proofs.SettledBlocks.{wish_is}

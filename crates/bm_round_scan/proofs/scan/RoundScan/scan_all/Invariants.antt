@@ -1,6 +1,6 @@
 use Rattle.std.proofs.Common.{map, take}
 use Rattle.bm_arena.specs.HeldMaps.{id_at}
-use Rattle.bm_levels.specs.Held.{holdings_with}
+use Rattle.bm_levels.specs.SlotHoldings.{holdings_with}
 use Rattle.bm_round_scan.specs.BlockFindings.{HasFound}
 use Rattle.bm_round_scan.proofs.scan.RoundScan.scan_all.Given as goal
 

@@ -9,10 +9,10 @@ use Rattle.bm_maps.specs.SlotLists.{IsMember}
 use Rattle.bm_arena.specs.Triplets.{Block}
 use Rattle.bm_arena.specs.Contents.{block_at, slot_of}
 use Rattle.bm_arena.specs.HeldMaps.{id_at}
-use Rattle.bm_levels.specs.Held.{holdings_with}
+use Rattle.bm_levels.specs.SlotHoldings.{holdings_with}
 use Rattle.bm_round_scan.specs.declared.scan.Findings.{Findings}
 use Rattle.bm_round_scan.specs.BlockFindings.{HasFound}
-use Rattle.bm_parts.specs.Before.{wishes_before}
+use Rattle.bm_parts.specs.BoundedWishes.{wishes_before}
 use Rattle.bm_pending.specs.RemainingTargets.{remaining_targets}
 use Rattle.bm_round_scan.specs.Requests.{wish_by}
 use Rattle.bm_levels.specs.Status.{is_settled_at, storages_at}

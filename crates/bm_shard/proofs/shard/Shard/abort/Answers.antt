@@ -1,7 +1,7 @@
 use Rattle.std.proofs.Common.{subst}
 use Rattle.bm_arena.specs.Contents.{IsLawful}
-use Rattle.bm_levels.specs.Unused.{HasNoUnused}
-use Rattle.bm_shard.proofs.Unused.{none_outside}
+use Rattle.bm_levels.specs.UnusedEntries.{HasNoUnused}
+use Rattle.bm_shard.proofs.UnusedEntries.{none_outside}
 use Rattle.bm_shard.proofs.SameHoldings.{same_seen}
 use Rattle.bm_shard.proofs.shard.Shard.abort.Goals as goal
 

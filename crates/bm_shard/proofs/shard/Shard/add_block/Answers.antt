@@ -2,13 +2,13 @@ use Rattle.std.proofs.Common.{◌∙◌, subst, sym}
 use Rattle.bm_base.specs.Words.{add_block, done}
 use Rattle.bm_maps.specs.SlotLists.{IsMember}
 use Rattle.bm_arena.specs.Contents.{IsLawful}
-use Rattle.bm_levels.specs.Held.{holdings_with}
-use Rattle.bm_shard.specs.Seen.{Seen}
+use Rattle.bm_levels.specs.SlotHoldings.{holdings_with}
+use Rattle.bm_shard.specs.ShardView.{Seen}
 use Rattle.bm_shard.proofs.ChangedBlocks.{changed_seen}
 use Rattle.bm_shard.proofs.Counts.{same_replicas}
 use Rattle.bm_shard.proofs.Numbers.{has_entry}
-use Rattle.bm_levels.specs.Unused.{HasNoUnused}
-use Rattle.bm_shard.proofs.Unused.{none_outside, unused_by, none_put, same_none}
+use Rattle.bm_levels.specs.UnusedEntries.{HasNoUnused}
+use Rattle.bm_shard.proofs.UnusedEntries.{none_outside, unused_by, none_put, same_none}
 use Rattle.bm_shard.proofs.shard.Shard.add_block.Goals as goal
 
 pub add_block-requires : goal.add_block-requires

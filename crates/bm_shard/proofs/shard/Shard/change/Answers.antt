@@ -3,8 +3,8 @@ use Rattle.bm_base.specs.declared.event.Done.{Done}
 use Rattle.bm_base.specs.declared.event.Event.{Event}
 use Rattle.bm_base.specs.Words.{Cluster, is_multi_rack, change_cluster, change_holdings, first_of, cluster_checks}
 use Rattle.bm_parts.specs.Parts.{block_of, change_part}
-use Rattle.bm_shard.specs.Seen.{Seen, IsReadyFor}
-use Rattle.bm_shard.specs.Changed.{HasChanged}
+use Rattle.bm_shard.specs.ShardView.{Seen, IsReadyFor}
+use Rattle.bm_shard.specs.EventEffects.{HasChanged}
 use Rattle.bm_shard.proofs.OwnEvents.{by_own, none_few}
 use Rattle.bm_shard.proofs.shard.Shard.change.Goals as goal
 

@@ -4,8 +4,8 @@ use Rattle.bm_base.specs.Words.{Holdings, done, change_cluster}
 use Rattle.bm_parts.specs.Parts.{change_part}
 use Rattle.bm_parts.specs.PlacedLaws.{IsPlaced}
 use Rattle.bm_parts.proofs.WellPlaced.{event_keeps_placed}
-use Rattle.bm_shard.specs.Seen.{Seen}
-use Rattle.bm_shard.specs.Changed.{HasChanged, owns}
+use Rattle.bm_shard.specs.ShardView.{Seen}
+use Rattle.bm_shard.specs.EventEffects.{HasChanged, owns}
 use Rattle.bm_shard.proofs.ChangedBlocks.{changed_after, stays_up_to_date}
 use Rattle.bm_shard.proofs.OwnEvents.{left_alone, not_owned}
 use Rattle.bm_shard.proofs.Reservations.{ready_without}

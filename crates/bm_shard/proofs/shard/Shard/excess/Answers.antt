@@ -2,7 +2,7 @@ use Rattle.std.proofs.Common.{◌∙◌, map, ap}
 use Rattle.bm_base.specs.Machine.Queries.{replicas_where}
 use Rattle.bm_parts.specs.QueryLaws.{replica_key}
 use Rattle.bm_queries.specs.declared.replicas.ReplicaFilter.TheVariants.{Excess}
-use Rattle.bm_queries.specs.Listed.{wants}
+use Rattle.bm_queries.specs.ListedElements.{wants}
 use Rattle.bm_queries.proofs.FoundReplicas.{ids_passing}
 use Rattle.bm_shard.proofs.shard.Shard.excess.Goals as goal
 

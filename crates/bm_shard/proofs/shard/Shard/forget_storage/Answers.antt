@@ -3,11 +3,11 @@ use Rattle.std.specs.Prelude.{◌==◌}
 use Rattle.bm_base.specs.Words.{without_storage, without_storages, done, new_replicas}
 use Rattle.bm_arena.specs.Contents.{HasHead, IsLawful}
 use Rattle.bm_arena.specs.HeldMaps.{replicas_of}
-use Rattle.bm_levels.specs.Held.{holdings_with}
+use Rattle.bm_levels.specs.SlotHoldings.{holdings_with}
 use Rattle.bm_shard.proofs.ChangedBlocks.{changed_seen}
 use Rattle.bm_shard.proofs.Counts.{gone_by_keep}
-use Rattle.bm_levels.specs.Unused.{HasNoUnused}
-use Rattle.bm_shard.proofs.Unused.{none_kept, none_outside}
+use Rattle.bm_levels.specs.UnusedEntries.{HasNoUnused}
+use Rattle.bm_shard.proofs.UnusedEntries.{none_kept, none_outside}
 use Rattle.bm_shard.proofs.LeavingStorages.{none_listed}
 use Rattle.std.proofs.lemmas.Bool.{eqb-true}
 use Rattle.bm_shard.proofs.shard.Shard.forget_storage.Goals as goal

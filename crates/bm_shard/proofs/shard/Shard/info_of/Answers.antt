@@ -5,8 +5,8 @@ use Rattle.bm_base.specs.Maps.Map.{get}
 use Rattle.bm_arena.specs.Contents.{Contents}
 use Rattle.bm_arena.specs.HeldMaps.{blocks_of, info_at}
 use Rattle.bm_arena.proofs.HeldReplicas.{get-blocks_of}
-use Rattle.bm_levels.specs.Held.{holdings_with}
-use Rattle.bm_shard.specs.Seen.{Seen}
+use Rattle.bm_levels.specs.SlotHoldings.{holdings_with}
+use Rattle.bm_shard.specs.ShardView.{Seen}
 use Rattle.bm_shard.proofs.shard.Shard.info_of.Goals as goal
 
 pub returns-in-Some : goal.returns-in-Some

@@ -4,9 +4,9 @@ use Rattle.std.specs.List.{list_any}
 use Rattle.bm_base.specs.Words.{knows_block, is_still_stored, is_stray}
 use Rattle.bm_arena.specs.Contents.{Contents}
 use Rattle.bm_arena.specs.HeldMaps.{info_at, replicas_at}
-use Rattle.bm_levels.specs.Held.{holdings_with}
+use Rattle.bm_levels.specs.SlotHoldings.{holdings_with}
 use Rattle.bm_queries.proofs.AtSlot.{known, still_stored}
-use Rattle.bm_shard.specs.Seen.{Seen}
+use Rattle.bm_shard.specs.ShardView.{Seen}
 use Rattle.bm_shard.proofs.shard.Shard.known_or_stored.Goals as goal
 
 pub returns-in-None-clause-known : goal.returns-in-None-clause-known

@@ -2,7 +2,7 @@ use Rattle.std.proofs.Common.{◌≡◌, subst, sym}
 use Rattle.std.specs.Prelude.{IfOk}
 use Rattle.bm_base.specs.Machine.Queries.{missing_blocks}
 use Rattle.bm_arena.specs.Contents.{IsLawful}
-use Rattle.bm_shard.specs.Seen.{Seen}
+use Rattle.bm_shard.specs.ShardView.{Seen}
 use Rattle.bm_shard.specs.UpToDate.{IsUpToDate}
 use Rattle.bm_shard.proofs.Levels.{right_by_slot}
 use Rattle.bm_shard.proofs.shard.Shard.missing.Goals as goal

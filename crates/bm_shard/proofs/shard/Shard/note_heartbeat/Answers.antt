@@ -1,12 +1,12 @@
 use Rattle.std.proofs.Common.{refl, subst, sym}
 use Rattle.bm_base.specs.Words.{heartbeat, done}
 use Rattle.bm_arena.specs.Contents.{IsLawful}
-use Rattle.bm_levels.specs.Held.{holdings_with}
+use Rattle.bm_levels.specs.SlotHoldings.{holdings_with}
 use Rattle.bm_levels.proofs.UpToDate.{heartbeat_leaves}
 use Rattle.bm_shard.proofs.ChangedBlocks.{changed_seen}
 use Rattle.bm_shard.proofs.Counts.{same_replicas}
-use Rattle.bm_levels.specs.Unused.{HasNoUnused}
-use Rattle.bm_shard.proofs.Unused.{none_kept, none_outside}
+use Rattle.bm_levels.specs.UnusedEntries.{HasNoUnused}
+use Rattle.bm_shard.proofs.UnusedEntries.{none_kept, none_outside}
 use Rattle.bm_shard.proofs.shard.Shard.note_heartbeat.Goals as goal
 
 pub returns-clause-changed : goal.returns-clause-changed

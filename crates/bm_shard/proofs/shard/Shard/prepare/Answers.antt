@@ -1,4 +1,4 @@
-use Rattle.bm_shard.proofs.Unused.{may_add, may_receive}
+use Rattle.bm_shard.proofs.UnusedEntries.{may_add, may_receive}
 use Rattle.bm_shard.proofs.shard.Shard.prepare.Goals as goal
 
 pub returns-in-AddBlock-clause-unused : goal.returns-in-AddBlock-clause-unused

@@ -2,12 +2,12 @@ use Rattle.std.proofs.Common.{subst}
 use Rattle.bm_arena.specs.Contents.{IsLawful}
 use Rattle.bm_shard.proofs.SameHoldings.{same_seen}
 use Rattle.bm_shard.proofs.Numbers.{entered}
-use Rattle.bm_levels.specs.Unused.{HasNoUnused}
-use Rattle.bm_shard.proofs.Unused.{unused_inside, none_inside, none_outside, none_more, none_prepared, on_err, only_these}
+use Rattle.bm_levels.specs.UnusedEntries.{HasNoUnused}
+use Rattle.bm_shard.proofs.UnusedEntries.{unused_inside, none_inside, none_outside, none_more, none_prepared, on_err, only_these}
 use Rattle.std.specs.Prelude.{nat_eq}
 use Rattle.std.proofs.Common.{sym}
 use Rattle.std.proofs.lemmas.Bool.{eqb-false}
-use Rattle.bm_levels.proofs.Unused.{unused_apart}
+use Rattle.bm_levels.proofs.UnusedEntries.{unused_apart}
 use Rattle.bm_shard.proofs.shard.Shard.ready_entry.Goals as goal
 
 pub returns-in_err-made-clause-same : goal.returns-in_err-made-clause-same

@@ -1,8 +1,8 @@
 use Rattle.std.proofs.Common.{subst}
 use Rattle.bm_arena.specs.Contents.{IsLawful}
 use Rattle.bm_shard.proofs.SameHoldings.{same_seen}
-use Rattle.bm_levels.specs.Unused.{HasNoUnused}
-use Rattle.bm_shard.proofs.Unused.{unused_inside, none_inside, none_outside, none_more, none_prepared, named_alone, on_err, only_these}
+use Rattle.bm_levels.specs.UnusedEntries.{HasNoUnused}
+use Rattle.bm_shard.proofs.UnusedEntries.{unused_inside, none_inside, none_outside, none_more, none_prepared, named_alone, on_err, only_these}
 use Rattle.std.specs.Prelude.{nat_eq}
 use Rattle.bm_shard.proofs.shard.Shard.ready_notice.Goals as goal
 

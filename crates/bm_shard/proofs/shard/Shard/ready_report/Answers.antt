@@ -1,12 +1,12 @@
 use Rattle.std.proofs.Common.{subst}
 use Rattle.bm_arena.specs.Contents.{IsLawful}
 use Rattle.bm_shard.proofs.SameHoldings.{same_seen}
-use Rattle.bm_levels.specs.Unused.{HasNoUnused}
-use Rattle.bm_shard.proofs.Unused.{unused_inside, none_inside, none_outside, none_more, none_prepared, on_err, only_these}
+use Rattle.bm_levels.specs.UnusedEntries.{HasNoUnused}
+use Rattle.bm_shard.proofs.UnusedEntries.{unused_inside, none_inside, none_outside, none_more, none_prepared, on_err, only_these}
 use Rattle.std.proofs.Common.{List, sym}
 use Rattle.std.specs.Prelude.{IsTrue}
 use Rattle.bm_base.specs.Words.{ReportedBlock, is_named}
-use Rattle.bm_report.specs.Expanded.{reported_to_part}
+use Rattle.bm_report.specs.ReportedBlocks.{reported_to_part}
 use Rattle.bm_shard.proofs.shard.Shard.ready_report.Goals as goal
 
 pub returns-in_err-made-clause-same : goal.returns-in_err-made-clause-same

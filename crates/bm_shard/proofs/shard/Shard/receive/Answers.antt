@@ -3,14 +3,14 @@ use Rattle.bm_base.specs.Words.{replica_at, enter, entered_marks, entered_tag, w
 use Rattle.bm_arena.specs.Contents.{IsLawful}
 use Rattle.bm_arena.specs.HeldMaps.{replicas_of, holdings_of}
 use Rattle.bm_report.specs.DuringReport.{IsOncePerNode}
-use Rattle.bm_levels.specs.Held.{holdings_with}
-use Rattle.bm_shard.specs.Seen.{Seen}
+use Rattle.bm_levels.specs.SlotHoldings.{holdings_with}
+use Rattle.bm_shard.specs.ShardView.{Seen}
 use Rattle.bm_shard.proofs.ChangedBlocks.{changed_seen}
 use Rattle.bm_shard.specs.declared.shard.PreparedEvent.{PreparedEvent}
 use Rattle.bm_shard.specs.Inside.{HasPrepared}
 use Rattle.bm_shard.proofs.LookUps.{noticed}
-use Rattle.bm_levels.specs.Unused.{HasNoUnused}
-use Rattle.bm_shard.proofs.Unused.{none_outside, none_received, prepared_one}
+use Rattle.bm_levels.specs.UnusedEntries.{HasNoUnused}
+use Rattle.bm_shard.proofs.UnusedEntries.{none_outside, none_received, prepared_one}
 use Rattle.bm_shard.proofs.shard.Shard.receive.Goals as goal
 
 pub receive-applied-requires-clause-looked_up : goal.receive-applied-requires-clause-looked_up

@@ -2,13 +2,13 @@ use Rattle.std.proofs.Common.{ap, subst, sym}
 use Rattle.bm_base.specs.Words.{register, done}
 use Rattle.bm_parts.specs.PlacedLaws.{IsPlaced}
 use Rattle.bm_arena.specs.Contents.{IsLawful}
-use Rattle.bm_levels.specs.Held.{holdings_with}
-use Rattle.bm_shard.specs.Seen.{Seen}
+use Rattle.bm_levels.specs.SlotHoldings.{holdings_with}
+use Rattle.bm_shard.specs.ShardView.{Seen}
 use Rattle.bm_shard.proofs.ChangedBlocks.{changed_seen}
 use Rattle.bm_shard.proofs.Counts.{same_replicas}
 use Rattle.bm_shard.proofs.NewNodes.{same_next_to}
-use Rattle.bm_levels.specs.Unused.{HasNoUnused}
-use Rattle.bm_shard.proofs.Unused.{none_kept, none_outside, same_unused}
+use Rattle.bm_levels.specs.UnusedEntries.{HasNoUnused}
+use Rattle.bm_shard.proofs.UnusedEntries.{none_kept, none_outside, same_unused}
 use Rattle.bm_shard.proofs.shard.Shard.register.Goals as goal
 
 pub returns-clause-changed : goal.returns-clause-changed

@@ -4,9 +4,9 @@ use Rattle.bm_arena.specs.Contents.{Contents, IsLawful}
 use Rattle.bm_arena.specs.HeldMaps.{replicas_of, holdings_of}
 use Rattle.bm_report.specs.DuringReport.{IsOncePerNode}
 use Rattle.bm_report.specs.Ready.{HasGoodExcess, reported_blocks}
-use Rattle.bm_levels.specs.Held.{holdings_with}
-use Rattle.bm_shard.specs.Seen.{Seen}
-use Rattle.bm_shard.specs.Changed.{HasChanged}
+use Rattle.bm_levels.specs.SlotHoldings.{holdings_with}
+use Rattle.bm_shard.specs.ShardView.{Seen}
+use Rattle.bm_shard.specs.EventEffects.{HasChanged}
 use Rattle.bm_shard.specs.Inside.{numbers_of, heads_of}
 use Rattle.bm_shard.proofs.Arrivals.{arrived_named}
 use Rattle.bm_shard.proofs.ChangedBlocks.{changed_seen}
@@ -15,8 +15,8 @@ use Rattle.bm_shard.specs.declared.shard.PreparedEvent.TheVariants as prepared
 use Rattle.bm_shard.specs.Inside.{HasPrepared}
 use Rattle.bm_shard.proofs.LookUps.{looked_up}
 use Rattle.bm_shard.proofs.SameHoldings.{seen_of}
-use Rattle.bm_levels.specs.Unused as levels
-use Rattle.bm_shard.proofs.Unused.{none_outside, none_reported, prepared_report}
+use Rattle.bm_levels.specs.UnusedEntries as levels
+use Rattle.bm_shard.proofs.UnusedEntries.{none_outside, none_reported, prepared_report}
 use Rattle.bm_shard.proofs.shard.Shard.report.Goals as goal
 
 ready : (c : goal.After-apply_report-arg-2-1) → HasPrepared (prepared.Report c.args.storage) c.self.inside.report c.self.inside.blocks.arena

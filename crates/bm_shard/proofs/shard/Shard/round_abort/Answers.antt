@@ -1,6 +1,6 @@
 use Rattle.std.proofs.Common.{ℕ, ◌==◌, map, filter, sym, ap, ◌∙◌}
 use Rattle.bm_base.specs.Words.{Map, entries, by_replica, pending_targets}
-use Rattle.bm_levels.specs.Held.{holdings_with}
+use Rattle.bm_levels.specs.SlotHoldings.{holdings_with}
 use Rattle.bm_shard.proofs.AfterRound.{same_without_capacity}
 use Rattle.bm_shard.proofs.shard.Shard.round_abort.Goals as goal
 

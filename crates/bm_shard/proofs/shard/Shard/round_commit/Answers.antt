@@ -1,7 +1,7 @@
 use Rattle.std.proofs.Common.{◌≡◌, ◌<◌, ◌+◌, ◌^◌, ap, subst, sym, ◌∙◌}
 use Rattle.bm_base.specs.Machine.State.{Holdings}
 use Rattle.bm_base.specs.RoundParts.{round_on_part}
-use Rattle.bm_shard.specs.Seen.{Seen}
+use Rattle.bm_shard.specs.ShardView.{Seen}
 use Rattle.bm_shard.specs.UpToDate.{next_part}
 use Rattle.bm_shard.proofs.ChangedBlocks.{stays_up_to_date}
 use Rattle.bm_shard.proofs.Reservations.{ready_still}

@@ -1,7 +1,7 @@
 use Rattle.std.proofs.Common.{subst, sym}
 use Rattle.bm_arena.specs.Contents.{IsLawful}
-use Rattle.bm_levels.specs.Held.{holdings_with}
-use Rattle.bm_shard.specs.Seen.{Seen}
+use Rattle.bm_levels.specs.SlotHoldings.{holdings_with}
+use Rattle.bm_shard.specs.ShardView.{Seen}
 use Rattle.bm_shard.specs.UpToDate.{IsUpToDate}
 use Rattle.bm_shard.proofs.Levels.{right_by_slot}
 use Rattle.bm_shard.proofs.shard.Shard.round_part_before.Goals as goal

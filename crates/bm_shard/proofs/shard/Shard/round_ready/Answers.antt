@@ -3,7 +3,7 @@ use Rattle.std.specs.Prelude.{OnOk}
 use Rattle.bm_base.specs.declared.commands.Transfer.{Transfer}
 use Rattle.bm_base.specs.RoundParts.{own_transfers}
 use Rattle.bm_pending.specs.PendingMap.{capacity}
-use Rattle.bm_shard.specs.Seen.{IsReadyForRound}
+use Rattle.bm_shard.specs.ShardView.{IsReadyForRound}
 use Rattle.bm_shard.proofs.AfterRound.{same_without_capacity}
 use Rattle.bm_shard.proofs.shard.Shard.round_ready.Goals as goal
 

@@ -3,17 +3,17 @@ use Rattle.bm_base.specs.declared.commands.Transfer.{Transfer}
 use Rattle.bm_base.specs.Machine.State.{Holdings}
 use Rattle.bm_base.specs.RoundParts.{round_part, round_on_part, own_transfers}
 use Rattle.bm_arena.specs.Contents.{IsLawful}
-use Rattle.bm_levels.specs.Held.{holdings_with}
+use Rattle.bm_levels.specs.SlotHoldings.{holdings_with}
 use Rattle.bm_parts.specs.PlacedLaws.{IsPlaced}
 use Rattle.bm_parts.proofs.WellPlaced.{round_keeps_placed}
 use Rattle.bm_pending.specs.PendingMap.{capacity}
-use Rattle.bm_shard.specs.Seen.{Seen, IsReadyForRound}
+use Rattle.bm_shard.specs.ShardView.{Seen, IsReadyForRound}
 use Rattle.bm_shard.specs.UpToDate.{IsUpToDate, next_part}
 use Rattle.bm_shard.proofs.Levels.{right_by_number, right_by_slot}
 use Rattle.bm_shard.proofs.AfterRound.{same_surplus, on_part}
-use Rattle.bm_levels.specs.Unused.{HasNoUnused}
+use Rattle.bm_levels.specs.UnusedEntries.{HasNoUnused}
 use Rattle.bm_arena.specs.HeldMaps.{holdings_of}
-use Rattle.bm_shard.proofs.Unused.{unused_by, same_none, none_revised, none_marked, none_kept, none_outside}
+use Rattle.bm_shard.proofs.UnusedEntries.{unused_by, same_none, none_revised, none_marked, none_kept, none_outside}
 use Rattle.bm_shard.proofs.shard.Shard.take_round.Goals as goal
 
 pub remark_excess-requires : goal.remark_excess-requires

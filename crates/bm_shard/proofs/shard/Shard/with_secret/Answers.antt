@@ -1,10 +1,10 @@
 use Rattle.std.proofs.Common.{subst}
 use Rattle.bm_base.specs.Machine.State.{empty_holdings}
 use Rattle.bm_arena.specs.Contents.{IsLawful}
-use Rattle.bm_levels.specs.Held.{holdings_with}
+use Rattle.bm_levels.specs.SlotHoldings.{holdings_with}
 use Rattle.bm_shard.proofs.Levels.{right_by_number}
 use Rattle.bm_shard.proofs.EmptyHoldings.{none_placed}
-use Rattle.bm_shard.proofs.Unused.{none_outside}
+use Rattle.bm_shard.proofs.UnusedEntries.{none_outside}
 use Rattle.bm_shard.proofs.shard.Shard.with_secret.Goals as goal
 
 pub returns-clause-empty : goal.returns-clause-empty

@@ -1,14 +1,14 @@
 use Rattle.std.proofs.Common.{subst, sym}
 use Rattle.bm_parts.proofs.OneShard.{nothing_done}
 use Rattle.bm_shards.specs.Whole.{Whole, AreUpToDate, HaveTaken, IsUpToDate, HasTaken}
-use Rattle.bm_shards.proofs.Heartbeats.{heartbeat_up_to_date, holdings_heard}
+use Rattle.bm_shards.proofs.Heartbeats.{heartbeat_up_to_date, holdings_after_heartbeat}
 use Rattle.bm_shards.proofs.all_shards.AllShards.change.Goals as goal
 
 pub returns-in-Heartbeat-clause-done : goal.returns-in-Heartbeat-clause-done
 returns-in-Heartbeat-clause-done g c = sym (nothing_done c.args.self.now.holdings)
 
 pub returns-in-Heartbeat-clause-changed : goal.returns-in-Heartbeat-clause-changed
-returns-in-Heartbeat-clause-changed g c = holdings_heard c.args.topology.now.cluster c.args.self.now.holdings c.args.event.now c.in-Heartbeat.node c.in-Heartbeat.remaining c.in-Heartbeat.is
+returns-in-Heartbeat-clause-changed g c = holdings_after_heartbeat c.args.topology.now.cluster c.args.self.now.holdings c.args.event.now c.in-Heartbeat.node c.in-Heartbeat.remaining c.in-Heartbeat.is
 
 pub returns-in-Heartbeat-clause-up_to_date : goal.returns-in-Heartbeat-clause-up_to_date
 returns-in-Heartbeat-clause-up_to_date g c =

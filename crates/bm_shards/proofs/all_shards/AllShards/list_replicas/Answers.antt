@@ -1,7 +1,7 @@
 use Rattle.std.proofs.Common.{rules}
 use Rattle.std.proofs.lemmas.List.Sorted.{answers_always}
 use Rattle.bm_parts.specs.QueryLaws.{replica_key}
-use Rattle.bm_queries.specs.Listed.{wants}
+use Rattle.bm_queries.specs.ListedElements.{wants}
 use Rattle.bm_shards.proofs.Questions.{sorted_replicas}
 use Rattle.bm_shards.proofs.all_shards.AllShards.list_replicas.Goals as goal
 

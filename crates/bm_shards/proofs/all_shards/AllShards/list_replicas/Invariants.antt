@@ -1,6 +1,6 @@
 use Rattle.std.proofs.Common.{◌≡◌, take}
 use Rattle.std.specs.List.{flat_map}
-use Rattle.bm_queries.specs.Listed.{wants, replicas_passing}
+use Rattle.bm_queries.specs.ListedElements.{wants, replicas_passing}
 use Rattle.bm_shards.proofs.all_shards.AllShards.list_replicas.Given as goal
 
 abbrev pub invariant-loop-one : goal.invariant-loop-one

@@ -2,7 +2,7 @@ use Rattle.std.proofs.Common.{ℕ, ◌++◌, ◌∷◌, [], List, take, sym, ap,
 use Rattle.std.specs.List.{flat_map}
 use Rattle.std.proofs.lemmas.Grind.{flat_map-append}
 use Rattle.bm_base.specs.Machine.Queries.{missing_blocks}
-use Rattle.bm_shard.specs.Seen.{Seen}
+use Rattle.bm_shard.specs.ShardView.{Seen}
 use Rattle.bm_shards.specs.Whole.{AreUpToDate}
 use Rattle.bm_shards.proofs.OneOf.{item_there, up_to_date_at}
 use Rattle.bm_shards.proofs.Questions.{sorted_missing, up_to_date_inside}

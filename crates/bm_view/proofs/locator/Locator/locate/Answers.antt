@@ -3,7 +3,7 @@ use mathlib.Core.List.{IsPrefix}
 use Rattle.left_right.specs.Sides.{view as sight}
 use Rattle.bm_view.specs.History.{versions, shown_in, last_of}
 use Rattle.bm_view.specs.Holders.{Learnt}
-use Rattle.bm_view.proofs.Histories.{heard_begins}
+use Rattle.bm_view.proofs.Histories.{log_begins}
 use Rattle.bm_view.proofs.ReaderKnowledge.{later, all_begin, none_older}
 use Rattle.bm_view.proofs.locator.Locator.locate.Goals as goal
 
@@ -32,7 +32,7 @@ returns-clause-learnt c =
     let both = c.show_one_journal.ensures in
     let some = c.in-Some.ensures.1.1.1.0 in
     let close : length learnt ≤ length shown + 1 = omega (arith, c.self.invariant.1, some.1 c.if-is_older.false) in
-    subst (λ (l : Learnt). All (λ known. IsPrefix known (shown_in shown)) l.learnt) c.self.view_is (all_begin c.self.inside.learnt (versions learnt) (shown_in shown) c.self.invariant.5 (heard_begins learnt shown both.0 both.1 both.2 c.self.invariant.2 close some.0))
+    subst (λ (l : Learnt). All (λ known. IsPrefix known (shown_in shown)) l.learnt) c.self.view_is (all_begin c.self.inside.learnt (versions learnt) (shown_in shown) c.self.invariant.5 (log_begins learnt shown both.0 both.1 both.2 c.self.invariant.2 close some.0))
 
 pub returns-clause-no_older : goal.returns-clause-no_older
 returns-clause-no_older c =
@@ -41,7 +41,7 @@ returns-clause-no_older c =
     let both = c.show_one_journal.ensures in
     let some = c.in-Some.ensures.1.1.1.0 in
     let close : length learnt ≤ length shown + 1 = omega (arith, c.self.invariant.1, some.1 c.if-is_older.false) in
-    let begins = heard_begins learnt shown both.0 both.1 both.2 c.self.invariant.2 close some.0 in
+    let begins = log_begins learnt shown both.0 both.1 both.2 c.self.invariant.2 close some.0 in
     let all = all_begin c.self.inside.learnt (versions learnt) (shown_in shown) c.self.invariant.5 begins in
     let up = none_older c.self.inside.learnt (shown_in shown) all c.in-Some.ensures.1.1.1.1 in
     subst (λ (l : Learnt). All (λ known. (last_of known).calls ≤ c.in-Some.seen.found.calls) l.learnt) c.self.view_is (subst (λ n. All (λ known. (last_of known).calls ≤ n) c.self.inside.learnt) (sym c.in-Some.ensures.1.1.0.0) up)

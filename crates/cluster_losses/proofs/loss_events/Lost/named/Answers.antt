@@ -2,7 +2,7 @@ use Rattle.std.proofs.Common.{◌≡◌, ◌+◌, drop, List, sym, subst, arith}
 use Rattle.std.proofs.lemmas.List.{drop_all, drop_more}
 use Rattle.std.proofs.lemmas.Result.{err_from_is_err_and}
 use Rattle.cluster_losses.specs.declared.loss.Loss.{Loss}
-use Rattle.cluster_losses.specs.Named.{all_named, dies, drains, fails, first_unknown}
+use Rattle.cluster_losses.specs.NamedStorages.{all_named, dies, drains, fails, first_unknown}
 use Rattle.cluster_losses.proofs.NamedLemmas.{AreLeft, none_left, added, all_added, fault_stays, once}
 use Rattle.cluster_losses.proofs.loss_events.Lost.named.Goals as goal
 

@@ -1,6 +1,6 @@
 use Rattle.std.proofs.Common.{subst, sym}
 use Rattle.cluster_losses.specs.Events.{KeepBlocks}
-use Rattle.cluster_losses.proofs.Kept.{all_kept}
+use Rattle.cluster_losses.proofs.KnownBlocks.{all_kept}
 use Rattle.cluster_losses.proofs.returns.Return.restore.Goals as goal
 
 pub returns-clause-blocks : goal.returns-clause-blocks

@@ -2,7 +2,7 @@ use Rattle.std.proofs.Common.{◌≡◌, ◌∙◌, ◌++◌, ◌+◌, List, ref
 use Rattle.std.specs.List.{flat_map}
 use Rattle.bm_base.specs.declared.commands.NodeCommands.{NodeCommands}
 use Rattle.bm_base.specs.declared.commands.Transfer.{Transfer}
-use Rattle.cluster_repair.specs.Sent.{AreBegun}
+use Rattle.cluster_repair.specs.SentCopies.{AreBegun}
 use Rattle.cluster_repair.proofs.SentLemmas.{begun_none, begun_on, begun_same, transfers_more, deletes_more}
 use Rattle.cluster_repair.proofs.datanodes.DataNodes.obey.Goals as goal
 

@@ -1,6 +1,6 @@
 use Rattle.std.specs.Prelude.{◌≡◌, ◌++◌, take}
 use Rattle.std.specs.List.{flat_map}
-use Rattle.cluster_repair.specs.Sent.{AreBegun}
+use Rattle.cluster_repair.specs.SentCopies.{AreBegun}
 use Rattle.cluster_repair.proofs.datanodes.DataNodes.obey.Given as goal
 
 abbrev pub invariant-loop-node : goal.invariant-loop-node

@@ -3,7 +3,7 @@ use Rattle.std.specs.List.{fold}
 use Rattle.bm_base.specs.declared.commands.Delete.{Delete}
 use Rattle.cluster_report.specs.Catalogues.{len_in}
 use Rattle.cluster_repair.specs.Reports.{free_after}
-use Rattle.cluster_repair.specs.Sending.{free_on}
+use Rattle.cluster_repair.specs.LinkModel.{free_on}
 use Rattle.cluster_repair.proofs.Reach.{reported_in_turn}
 use Rattle.cluster_repair.proofs.datanodes.DataNodes.report.Goals as goal
 

@@ -1,5 +1,5 @@
 use Rattle.std.proofs.Common.{◌∙◌, ◌+◌, ◌-◌, ◌^◌, min, refl, sym, ap}
-use Rattle.cluster_repair.specs.declared.on_way.Sent.{Sent}
+use Rattle.cluster_repair.specs.declared.awaited_copies.Sent.{Sent}
 use Rattle.cluster_repair.proofs.SentLemmas.{begun_already, begun_one, is_sent}
 use Rattle.cluster_repair.proofs.datanodes.DataNodes.send.Goals as goal
 

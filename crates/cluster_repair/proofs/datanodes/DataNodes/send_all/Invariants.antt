@@ -1,5 +1,5 @@
 use Rattle.std.specs.Prelude.{◌≡◌, take}
-use Rattle.cluster_repair.specs.Sent.{AreBegun}
+use Rattle.cluster_repair.specs.SentCopies.{AreBegun}
 use Rattle.cluster_repair.proofs.datanodes.DataNodes.send_all.Given as goal
 
 abbrev pub invariant-loop-transfer : goal.invariant-loop-transfer

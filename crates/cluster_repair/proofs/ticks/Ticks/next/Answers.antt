@@ -1,7 +1,7 @@
 use Rattle.std.proofs.Common.{◌∙◌, ◌+◌, ap, arith}
 use Rattle.std.specs.Prelude.{min, max}
 use Rattle.std.specs.Int.{div_ceil}
-use Rattle.cluster_repair.specs.Sending.{most}
+use Rattle.cluster_repair.specs.LinkModel.{most}
 use Rattle.cluster_repair.proofs.TickLemmas.{is_next}
 use Rattle.cluster_repair.proofs.ticks.Ticks.next.Goals as goal
 

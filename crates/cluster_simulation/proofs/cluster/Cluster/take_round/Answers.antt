@@ -1,5 +1,5 @@
 use Rattle.std.proofs.Common.{refl}
-use Rattle.laws_of_repairs.proofs.Watching.{covers_round}
+use Rattle.laws_of_repairs.proofs.WatchedBlocks.{covers_round}
 use Rattle.cluster_simulation.proofs.RoundLemmas.{follows_round}
 use Rattle.cluster_simulation.proofs.cluster.Cluster.take_round.Goals as goal
 

@@ -1,5 +1,0 @@
-use Rattle.std.proofs.Common.{◌≡◌, take}
-use Rattle.bm_round_scan.proofs.wishes.copy_of.Given as goal
-
-abbrev pub invariant-loop-storage : goal.invariant-loop-storage
-invariant-loop-storage l = l.copy ≡ take l.storage-index l.storages

@@ -1,6 +1,0 @@
-use Rattle.std.proofs.Common.{◌≡◌, map, take}
-use Rattle.cluster_repair.specs.Sending.{remaining_in}
-use Rattle.cluster_repair.proofs.free.FreeBytes.remaining_on.Given as goal
-
-abbrev pub invariant-loop-storage : goal.invariant-loop-storage
-invariant-loop-storage l = l.free.items ≡ map (remaining_in l.self) (take l.storage-index l.node.storages.items)

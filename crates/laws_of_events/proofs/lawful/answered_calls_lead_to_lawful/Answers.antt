@@ -1,5 +1,0 @@
-use Rattle.laws_of_events.proofs.LawfulStates.{lawful_left_from_first}
-use Rattle.laws_of_events.proofs.lawful.answered_calls_lead_to_lawful.Goals as goal
-
-pub returns : goal.returns
-returns c = lawful_left_from_first

@@ -1,5 +1,0 @@
-use Rattle.laws_of_events.proofs.LawfulStates.{orderly_left_from_first}
-use Rattle.laws_of_events.proofs.lawful.answered_calls_lead_to_orderly.Goals as goal
-
-pub returns : goal.returns
-returns c = orderly_left_from_first

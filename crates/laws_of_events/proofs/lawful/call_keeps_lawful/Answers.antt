@@ -1,5 +1,0 @@
-use Rattle.laws_of_events.proofs.LawfulStates.{step_lawful}
-use Rattle.laws_of_events.proofs.lawful.call_keeps_lawful.Goals as goal
-
-pub returns : goal.returns
-returns c = step_lawful

@@ -1,5 +1,0 @@
-use Rattle.laws_of_states.proofs.FirstState.{first_lawful}
-use Rattle.laws_of_events.proofs.lawful.first_state_is_lawful.Goals as goal
-
-pub returns : goal.returns
-returns c = first_lawful

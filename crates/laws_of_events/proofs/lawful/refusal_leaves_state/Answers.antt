@@ -1,5 +1,0 @@
-use Rattle.laws_of_events.proofs.LawfulStates.{refusal_leaves}
-use Rattle.laws_of_events.proofs.lawful.refusal_leaves_state.Goals as goal
-
-pub returns : goal.returns
-returns c = refusal_leaves

@@ -1,5 +1,0 @@
-use Rattle.laws_of_events.proofs.PendingTargets.{still_to_come}
-use Rattle.laws_of_events.proofs.lawful.transfers_are_still_to_come.Goals as goal
-
-pub returns : goal.returns
-returns c = still_to_come

@@ -1,5 +1,0 @@
-use Rattle.laws_of_rounds.proofs.UsableReplicas.{drained_once}
-use Rattle.laws_of_rounds.proofs.live.drained_is_distinct.Goals as goal
-
-pub returns : goal.returns
-returns c = drained_once

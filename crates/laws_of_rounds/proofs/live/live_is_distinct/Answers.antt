@@ -1,5 +1,0 @@
-use Rattle.laws_of_rounds.proofs.UsableReplicas.{live_once}
-use Rattle.laws_of_rounds.proofs.live.live_is_distinct.Goals as goal
-
-pub returns : goal.returns
-returns c = live_once
