@@ -6,7 +6,7 @@ use Rattle.bm_base.specs.declared.call.Call.{Call}
 use Rattle.bm_lines.specs.Parser.CallOf.{call_of}
 use Rattle.bm_lines.specs.declared.limits.TheConstants.{MAX_LINE}
 use Rattle.bm_answers.specs.OneLine.{asked, asked_by}
-use Rattle.bm_answers.specs.declared.request.Request.TheVariants.{Long}
+use Rattle.bm_answers.specs.declared.line_answer.Request.TheVariants.{Long}
 
 pub asked-long : (line : List ℕ) → MAX_LINE < length line → Long ≡ asked line
 unfolding asked

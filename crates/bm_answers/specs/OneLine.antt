@@ -6,8 +6,8 @@ use Rattle.bm_base.specs.Words.{State, step, is_refused, may_run_out_of_memory, 
 use Rattle.bm_lines.specs.declared.limits.TheConstants.{MAX_LINE}
 use Rattle.bm_lines.specs.Print.{answer_text}
 use Rattle.bm_lines.specs.Parser.CallOf.{call_of}
-use Rattle.bm_answers.specs.declared.request.Request.{Request}
-use Rattle.bm_answers.specs.declared.request.Request.TheVariants.{Long, Bad, Asks}
+use Rattle.bm_answers.specs.declared.line_answer.Request.{Request}
+use Rattle.bm_answers.specs.declared.line_answer.Request.TheVariants.{Long, Bad, Asks}
 use Rattle.bm_answers.specs.declared.line_answer.LineAnswer.{LineAnswer}
 use Rattle.bm_answers.specs.declared.line_answer.LineAnswer.TheVariants as line
 

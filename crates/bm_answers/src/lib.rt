@@ -6,7 +6,7 @@
 #![tactic(auto)]
 
 mod line_answer;
-mod request;
 
-pub use line_answer::{LineAnswer, make_call, make_call_alone};
-pub use request::{Request, parse_held_line, parse_request};
+pub use line_answer::{
+    LineAnswer, Request, make_call, make_call_alone, parse_held_line, parse_request,
+};

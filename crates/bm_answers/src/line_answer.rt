@@ -1,13 +1,14 @@
-// Makes the call that a line asks for, and gives the answer as text.
-ghost use Rattle.std.specs.Prelude.{◌≡◌, IfOk, OnOk, OnErr, IsTrue, string_bytes, true, false};
-ghost use Rattle.bm_base.specs.Machine.Answering.{is_out_of_memory};
+// The request of a line, the call that it asks for, and the answer as text.
+ghost use Rattle.std.specs.Prelude.{◌≡◌, IfOk, OnOk, OnErr, IsTrue, string_bytes, true, false, List, ℕ};
+ghost use Rattle.bm_base.specs.Words.{is_out_of_memory};
 ghost use Rattle.bm_answers.specs.declared.line_answer.LineAnswer.TheVariants.{Answered};
-ghost use Rattle.bm_answers.specs.OneLine.{answer_to, asked_next, asked_may_lack, text_of, is_refusal, number_of};
+ghost use Rattle.bm_answers.specs.OneLine.{answer_to, asked_next, asked_may_lack, text_of, is_refusal, number_of, asked};
+ghost use Rattle.bm_lines.specs.LineBuffer.{Holds};
+ghost use Rattle.bm_answers.specs.declared.line_answer.Request.TheVariants.{Long};
 
-use crate::request::Request;
 use bm_base::{Answer, Call};
 use bm_crew::NoGate;
-use bm_lines::answer_line;
+use bm_lines::{Line, MAX_LINE, answer_line, call_of};
 use bm_manager::Manager;
 use std::alloc::{AllocError, Global};
 use std::sync::Wait;
@@ -118,4 +119,39 @@ fn answered(call: Call, answer: Answer) -> Result<LineAnswer, AllocError>
         return Err(AllocError);
     }
     Ok(LineAnswer::Answered(call, answer))
+}
+
+/// The request of a line.
+#[derive(Drop)]
+pub enum Request {
+    /// The line is too long to be read.
+    Long,
+    /// The line asks for no call.
+    Bad,
+    Asks(Call),
+}
+
+/// The request of the line that is held.
+pub fn parse_held_line(alloc: Global, line: &Line) -> Result<Request, AllocError>
+    ensures { IfOk result (λ a. (rest : List ℕ) → Holds line.now rest → a ≡ asked rest) }
+{
+    if line.is_long {
+        return Ok(Request::Long);
+    }
+    parse_request(alloc, line.bytes.as_slice())
+}
+
+/// The call that the bytes of a line ask for. `Err` if out of memory; the line is then not too
+/// long.
+pub fn parse_request(alloc: Global, line: &[u8]) -> Result<Request, AllocError>
+    ensures asked { IfOk result (λ a. a ≡ asked line.now) }
+    ensures not_long { OnErr result (asked line.now ≡ Long → ⊥) }
+{
+    if line.len() > MAX_LINE {
+        return Ok(Request::Long);
+    }
+    match call_of(alloc, line)? {
+        Some(call) => Ok(Request::Asks(call)),
+        None => Ok(Request::Bad),
+    }
 }

@@ -5,8 +5,8 @@ use Rattle.std.proofs.lemmas.Bool.{cases_eq, false≢true}
 use Rattle.std.proofs.lemmas.Option.{none-some}
 use Rattle.std.proofs.lemmas.List.{get_or-set_other}
 use Rattle.slab.specs.Slab.{Slab, get, Updates}
-use Rattle.bm_arena.specs.declared.types.BlockEntry.{BlockEntry}
-use Rattle.bm_arena.specs.declared.types.Triplet.{Triplet}
+use Rattle.bm_arena.specs.declared.arena.BlockEntry.{BlockEntry}
+use Rattle.bm_arena.specs.declared.arena.Triplet.{Triplet}
 use Rattle.bm_arena.specs.Triplets.{Block, slot_views, at_slot, change_at, as_first, added, removed, detached, previous_set, next_set}
 use Rattle.bm_arena.specs.Inside.{AllBelow}
 use Rattle.bm_arena.proofs.Triplets.{get_or-set_here}

@@ -9,8 +9,8 @@ use Rattle.std.proofs.lemmas.Option.{none-some, same_Some}
 use Rattle.std.proofs.lemmas.List.{get_or-set_same, get_or-set_other, get_or_past, map-set}
 use Rattle.std.proofs.Math.ListN.{get_or-map}
 use Rattle.slab.specs.Slab.{Slab, get}
-use Rattle.bm_arena.specs.declared.types.BlockEntry.{BlockEntry}
-use Rattle.bm_arena.specs.declared.types.Triplet.{Triplet}
+use Rattle.bm_arena.specs.declared.arena.BlockEntry.{BlockEntry}
+use Rattle.bm_arena.specs.declared.arena.Triplet.{Triplet}
 use Rattle.bm_arena.specs.Triplets.{Block, find_triplet, triplet_at, slot_views, entry_view, triplet_view}
 use Rattle.bm_arena.specs.Contents.{Contents, dropped}
 use Rattle.indexmap.specs.IndexMap.{swap_remove_entry}

@@ -10,7 +10,7 @@ use Rattle.std.proofs.lemmas.List.{length-map, take-map, map-set}
 use Rattle.std.proofs.Math.ListN.{get_or-map}
 use Rattle.indexmap.specs.IndexMap.{swap_remove_entry}
 use Rattle.slab.specs.Slab.{Slab}
-use Rattle.bm_arena.specs.declared.types.BlockEntry.{BlockEntry}
+use Rattle.bm_arena.specs.declared.arena.BlockEntry.{BlockEntry}
 use Rattle.bm_maps.specs.SlotLists.{IsMember}
 use Rattle.bm_arena.specs.Inside.{list_from, lists_from, IsArena}
 use Rattle.bm_arena.proofs.EntryViews.{lookup-lists_from}

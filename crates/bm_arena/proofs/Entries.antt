@@ -8,8 +8,8 @@ use Rattle.std.proofs.lemmas.Bool.{cases_eq, cases_Bool, eqb-true, eqb-false, ne
 use Rattle.std.proofs.lemmas.Option.{none-some, same_Some}
 use Rattle.std.proofs.Math.ListN.{get_or-map}
 use Rattle.slab.specs.Slab.{Slab, get, Updates}
-use Rattle.bm_arena.specs.declared.types.BlockEntry.{BlockEntry}
-use Rattle.bm_arena.specs.declared.types.TheConstants.{INLINE_TRIPLETS}
+use Rattle.bm_arena.specs.declared.arena.BlockEntry.{BlockEntry}
+use Rattle.bm_arena.specs.declared.arena.TheConstants.{INLINE_TRIPLETS}
 use Rattle.bm_arena.specs.Triplets.{Block, find_triplet, triplet_at, links_of, slot_views, entry_view}
 use Rattle.bm_maps.specs.SlotLists.{Distinct}
 use Rattle.bm_maps.specs.SlotLinks.{end_of_links}

@@ -8,7 +8,7 @@ use Rattle.std.proofs.lemmas.Bool.{cases_eq, false≢true}
 use Rattle.std.proofs.lemmas.Option.{none-some, same_Some}
 use Rattle.std.proofs.lemmas.List.{length-append, get_or-set_other}
 use Rattle.slab.specs.Slab.{Slab, get}
-use Rattle.bm_arena.specs.declared.types.BlockEntry.{BlockEntry}
+use Rattle.bm_arena.specs.declared.arena.BlockEntry.{BlockEntry}
 use Rattle.bm_arena.specs.Triplets.{Block, links_of, slot_views, at_slot, with_capacity, capacity_at, change_block}
 use Rattle.bm_arena.specs.Lists.{IsList}
 use Rattle.bm_arena.specs.Contents.{Contents, IsReserved, with_entry_capacity, find_marks, entry_capacity, block_at}

@@ -6,8 +6,8 @@ use Rattle.std.specs.Prelude.{nat_eq}
 use Rattle.std.proofs.lemmas.Bool.{cases_Bool, eqb-true, eqb-false, false≢true}
 use Rattle.std.proofs.lemmas.Option.{same_Some}
 use Rattle.slab.specs.Slab.{Slab}
-use Rattle.bm_arena.specs.declared.types.BlockEntry.{BlockEntry}
-use Rattle.bm_arena.specs.declared.types.Triplet.{Triplet}
+use Rattle.bm_arena.specs.declared.arena.BlockEntry.{BlockEntry}
+use Rattle.bm_arena.specs.declared.arena.Triplet.{Triplet}
 use Rattle.bm_arena.specs.Triplets.{triplet_at, links_of, slot_views}
 use Rattle.bm_maps.specs.SlotLists.{IsMember, Distinct}
 use Rattle.bm_arena.specs.Lists.{Chain}

@@ -8,7 +8,7 @@ use Rattle.indexmap.specs.IndexMap.{swap_remove_entry}
 use Rattle.bm_base.specs.declared.replica.Marks.{Marks}
 use Rattle.bm_base.specs.declared.replica.Tag.TheVariants.{Good}
 use Rattle.bm_base.specs.declared.replica.BlockInfo.{BlockInfo}
-use Rattle.bm_arena.specs.declared.types.TheConstants.{INLINE_TRIPLETS}
+use Rattle.bm_arena.specs.declared.arena.TheConstants.{INLINE_TRIPLETS}
 use Rattle.bm_arena.specs.Triplets.{Block, change_block, fill_first}
 use Rattle.bm_maps.specs.SlotLists.{IsMember, Distinct, without}
 

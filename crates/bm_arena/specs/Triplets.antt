@@ -5,8 +5,8 @@ use Rattle.std.specs.Prelude.{slice_set, slice_index_or, take, length, ◌++◌}
 use Rattle.slab.specs.Slab.{Slab, get}
 use Rattle.bm_base.specs.declared.replica.Marks.{Marks}
 use Rattle.bm_base.specs.declared.replica.BlockInfo.{BlockInfo}
-use Rattle.bm_arena.specs.declared.types.Triplet.{Triplet}
-use Rattle.bm_arena.specs.declared.types.BlockEntry.{BlockEntry}
+use Rattle.bm_arena.specs.declared.arena.Triplet.{Triplet}
+use Rattle.bm_arena.specs.declared.arena.BlockEntry.{BlockEntry}
 
 -- the view of a block: its number, its information, each replica's storage and marks, and its
 -- capacity

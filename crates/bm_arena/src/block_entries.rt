@@ -1,14 +1,13 @@
 // The entries of an arena: one for each block number that is known, reported or reserved.
 ghost use Rattle.std.specs.Prelude.{◌≡◌, ◌≢◌, ◌≤◌, ◌==◌, ℕ, if◌then◌else◌, IsSome, IsSomeAnd, None, Some, [], IfOk, IfErr, OnOk, OnErr, IsOk};
+ghost use Rattle.bm_base.specs.Words.{insert, replica_at};
 ghost use Rattle.bm_base.specs.declared.refusal.Refusal.TheVariants.{Memory};
 ghost use Rattle.bm_arena.specs.Triplets.{Block, change_block};
 ghost use Rattle.bm_arena.specs.Contents.{dropped, entry_capacity, with_entry_capacity, with_marks, with_info, block_at, marks_at, known_of, slot_of, IsAdded, HasCapacity, IsLawful, KeepsAllBut};
 ghost use Rattle.bm_arena.specs.HeldMaps.{replicas_of, blocks_of, with_known};
-ghost use Rattle.bm_base.specs.Words.{insert, replica_at};
 
-use crate::arena::{Arena, Slot};
+use crate::arena::{Arena, BlockEntry, Slot};
 use crate::links;
-use crate::types::BlockEntry;
 use bm_base::{BlockId, BlockInfo, Marks, Refusal, StorageId};
 use smallvec::SmallVec;
 

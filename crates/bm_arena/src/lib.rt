@@ -10,15 +10,12 @@
 mod arena;
 mod block_entries;
 mod links;
-mod list_heads;
 mod lookups;
 mod predicted_slots;
 mod slot_index;
 mod storage_lists;
-mod types;
 mod walk;
 
-pub use arena::{Arena, Slot};
+pub use arena::{Arena, Slot, Triplet};
 pub use bm_base::{BlockInfo, Marks};
-pub use types::Triplet;
 pub use walk::Walk;

@@ -1,16 +1,15 @@
 // Reads and writes of the triplets of one block, and the linking of one slot between its
 // neighbours.
-ghost use Rattle.std.specs.Prelude.{OnSome, OnOk, OnErr, IsOk, IsSomeAnd, if◌then◌else◌, is_some, ◌≡◌, ◌<◌, ◌≤◌, slice_get, Some, None, IsSome, slice_set, position, ◌==◌};
-ghost use Rattle.std.specs.List.{position_or_len};
-ghost use Rattle.std.specs.Option.{option_map, option_and_then};
+ghost use Rattle.std.specs.Prelude.{OnSome, OnOk, OnErr, IsOk, IsSomeAnd, if◌then◌else◌, is_some, ◌≡◌, ◌<◌, ◌≤◌, slice_get, Some, None, IsSome, position, ◌==◌, option_map, option_and_then, slice_set};
+ghost use Rattle.bm_base.specs.Words.{position_or_len};
 ghost use Rattle.slab.specs.Slab.{get};
-ghost use Rattle.bm_arena.specs.declared.types.BlockEntry.{BlockEntry};
+ghost use Rattle.bm_arena.specs.declared.arena.BlockEntry.{BlockEntry};
 ghost use Rattle.smallvec.specs.SmallVec.{HasRoomFor};
 ghost use Rattle.bm_maps.specs.SlotLinks.{end_of_links};
 ghost use Rattle.bm_maps.specs.SlotLists.{Distinct};
 ghost use Rattle.bm_arena.specs.Triplets.{triplet_view, with_capacity, capacity_at, at_slot, added, removed, fill_first, is_of, as_first, first_after, previous_set, detached, find_triplet, change_triplet, storages_in, with_previous, with_next, with_triplet_marks, triplet_at, change_at};
 
-use crate::types::{BlockEntry, INLINE_TRIPLETS, Triplet};
+use crate::arena::{BlockEntry, INLINE_TRIPLETS, Triplet};
 use bm_base::{BlockInfo, Marks, StorageId};
 use bm_maps::{NO_LINK, SlotLink};
 use slab::Slab;

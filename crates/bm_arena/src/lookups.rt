@@ -1,13 +1,12 @@
 // Look-ups in an arena. None changes anything or takes memory.
-ghost use Rattle.std.specs.Prelude.{◌≡◌, ◌<◌, ℕ, IsTrue, ◌↔◌, is_some, length, map, slice_get, IsSome, IfSome, IsSomeAnd, Some, []};
-ghost use Rattle.std.specs.Option.{option_map, option_map_or, option_and_then};
+ghost use Rattle.std.specs.Prelude.{◌≡◌, ◌<◌, ℕ, IsTrue, ◌↔◌, is_some, length, map, slice_get, IsSome, IfSome, IsSomeAnd, Some, [], option_map, option_and_then};
+ghost use Rattle.bm_base.specs.Words.{option_map_or};
 ghost use Rattle.bm_arena.specs.Triplets.{Block, triplet_view};
 ghost use Rattle.bm_arena.specs.Contents.{block_at, slot_of, HasHead, HasCapacity, marks_at, list_of};
 ghost use Rattle.bm_arena.specs.HeldMaps.{id_at};
 
-use crate::arena::{Arena, Slot};
+use crate::arena::{Arena, Slot, Triplet};
 use crate::links;
-use crate::types::Triplet;
 use bm_base::{BlockId, BlockInfo, Marks, StorageId};
 
 impl Arena {

@@ -1,14 +1,12 @@
 // Which slot a block number has, or gets.
-ghost use Rattle.std.specs.Prelude.{◌≡◌, ◌==◌, ◌<◌, ◌++◌, ◌∷◌, [], None, Some, nat_eq, if◌then◌else◌, ℕ, length, slice_get, IfOk, OnErr, IfErr, true, false, IsOk};
-ghost use Rattle.std.specs.Map.{lookup, keys_of};
-ghost use Rattle.std.specs.List.{IsDistinct};
-ghost use Rattle.std.specs.Option.{option_map};
+ghost use Rattle.std.specs.Prelude.{◌≡◌, ◌==◌, ◌<◌, ◌++◌, ◌∷◌, [], None, Some, nat_eq, if◌then◌else◌, ℕ, length, slice_get, IfOk, OnErr, IfErr, true, false, IsOk, option_map};
+ghost use Rattle.bm_base.specs.Words.{lookup, keys_of, IsDistinct};
+ghost use Rattle.bm_base.specs.declared.refusal.Refusal.TheVariants.{Memory};
 ghost use Rattle.slab.specs.Slab.{HasRoomFor};
 ghost use Rattle.indexmap.specs.IndexMap.{insert_entry, swap_remove_entry};
-ghost use Rattle.bm_base.specs.declared.refusal.Refusal.TheVariants.{Memory};
 ghost use Rattle.bm_maps.specs.SlotLinks.{end_of_links};
 
-use crate::types::BlockEntry;
+use crate::arena::BlockEntry;
 use bm_base::{HashSecret, Refusal};
 use bm_maps::fits_link;
 use indexmap::{IndexMap, map};

@@ -1,21 +1,20 @@
-// The lists of storages: one doubly linked list of slots for each storage that has a head, through
-// the triplets of the blocks.
-ghost use Rattle.std.specs.Prelude.{nat_eq, slice_index, EachIndex, ◌≡◌, ◌≢◌, ℕ, None, Some, IsSome, [], ◌∷◌, IfErr, OnOk, IsOk};
-ghost use Rattle.std.specs.Option.{unwrap_or};
-ghost use Rattle.indexmap.specs.IndexMap.{swap_remove_entry};
+// The lists of storages and their heads: one doubly linked list of slots for each storage that has
+// a head, through the triplets of the blocks.
+ghost use Rattle.std.specs.Prelude.{nat_eq, ◌≡◌, ◌≢◌, ℕ, None, Some, IsSome, [], ◌∷◌, IfErr, OnOk, IsOk, slice_get, IfSome, Option, unwrap_or, option_map, slice_index, EachIndex};
+ghost use Rattle.bm_base.specs.Words.{insert, remove, replica_at, lookup, keys_of, IsDistinct};
 ghost use Rattle.bm_base.specs.declared.refusal.Refusal.TheVariants.{Memory};
-ghost use Rattle.bm_maps.specs.SlotLists.{slot_after};
+ghost use Rattle.indexmap.specs.IndexMap.{swap_remove_entry};
+ghost use Rattle.bm_maps.specs.SlotLists.{slot_after, without};
 ghost use Rattle.bm_arena.specs.Contents.{IsReserved, no_marks, list_of, slot_before, HasHead, HasCapacity, marks_at, linked_front, unlinked, moved_front, KeepsOthers, IsLawful, slot_of};
 ghost use Rattle.bm_arena.specs.HeldMaps.{replicas_of, blocks_of};
-ghost use Rattle.bm_base.specs.Words.{insert, remove, replica_at};
-ghost use Rattle.bm_maps.specs.SlotLists.{without};
+ghost use Rattle.std.specs.Map.{set_value};
 
-use crate::arena::{Arena, Slot, saturating_next};
-use crate::types::{NO_MARKS, Triplet};
+use crate::arena::{Arena, NO_MARKS, Slot, Triplet, saturating_next};
+use crate::links;
 use crate::walk::Walk;
-use crate::{links, list_heads};
-use bm_base::{Marks, Refusal, StorageId};
-use bm_maps::NO_LINK;
+use bm_base::{HashSecret, Marks, Refusal, StorageId};
+use bm_maps::{NO_LINK, SlotLink};
+use indexmap::IndexMap;
 
 impl Arena {
     /// Makes a head for each of the storages, so that linking a block with capacity, and putting
@@ -90,7 +89,7 @@ impl Arena {
         ensures known { blocks_of self.new ≡ blocks_of self.old }
         ensures lawful { IsLawful self.new }
     {
-        if let Some(head) = list_heads::find(&self.heads, storage.0, self.last_head) {
+        if let Some(head) = find_head(&self.heads, storage.0, self.last_head) {
             let mut first = head.first;
             let triplet = Triplet {
                 storage: storage.0,
@@ -100,7 +99,7 @@ impl Arena {
             };
             links::add_triplet(&mut self.slots, slot, triplet);
             links::attach(&mut self.slots, &mut first, slot, storage.0);
-            list_heads::set(&mut self.heads, head.index, first);
+            set_head(&mut self.heads, head.index, first);
             self.last_head = head.index;
             self.steps = saturating_next(self.steps);
         }
@@ -119,11 +118,11 @@ impl Arena {
         ensures known { blocks_of self.new ≡ blocks_of self.old }
         ensures lawful { IsLawful self.new }
     {
-        if let Some(head) = list_heads::find(&self.heads, storage.0, self.last_head) {
+        if let Some(head) = find_head(&self.heads, storage.0, self.last_head) {
             let mut first = head.first;
             if let Some(triplet) = links::remove_triplet(&mut self.slots, slot, storage.0) {
                 links::detach(&mut self.slots, &mut first, triplet, storage.0);
-                list_heads::set(&mut self.heads, head.index, first);
+                set_head(&mut self.heads, head.index, first);
                 self.last_head = head.index;
                 self.steps = saturating_next(self.steps);
             }
@@ -142,12 +141,12 @@ impl Arena {
         ensures known { blocks_of self.new ≡ blocks_of self.old }
         ensures lawful { IsLawful self.new }
     {
-        if let Some(head) = list_heads::find(&self.heads, storage.0, self.last_head) {
+        if let Some(head) = find_head(&self.heads, storage.0, self.last_head) {
             let mut first = head.first;
             if let Some(triplet) = links::put_first(&mut self.slots, slot, storage.0, head.first) {
                 links::detach(&mut self.slots, &mut first, triplet, storage.0);
                 links::attach(&mut self.slots, &mut first, slot, storage.0);
-                list_heads::set(&mut self.heads, head.index, first);
+                set_head(&mut self.heads, head.index, first);
                 self.last_head = head.index;
                 self.steps = saturating_next(self.steps);
             }
@@ -224,5 +223,49 @@ impl Arena {
             next: first,
             left: self.slots.capacity(),
         }
+    }
+}
+
+// The head of a storage's list: the first slot, and the index of the head.
+#[derive(Clone, Copy)]
+struct Head {
+    index: usize,
+    first: SlotLink,
+}
+
+// The head of a storage's list. The key at index `hint` is compared first: if it is the storage's,
+// nothing is hashed.
+#[inline]
+fn find_head(heads: &IndexMap<u32, SlotLink, HashSecret>, storage: u32, hint: usize) -> Option<Head>
+    ensures first { option_map (λ h. h.first) result ≡ lookup (nat_eq storage) heads.now.entries }
+    ensures index { IfSome result (λ h. slice_get heads.now.entries h.index ≡ Some (storage, h.first)) }
+{
+    if let Some((key, first)) = heads.get_index(hint) {
+        if *key == storage {
+            return Some(Head {
+                index: hint,
+                first: *first,
+            });
+        }
+    }
+    match heads.get_full(&storage) {
+        Some((index, _, first)) => Some(Head {
+            index,
+            first: *first,
+        }),
+        None => None,
+    }
+}
+
+// Sets the first slot of the list whose head is at an index.
+#[inline]
+fn set_head(heads: &mut IndexMap<u32, SlotLink, HashSecret>, index: usize, first: SlotLink)
+    ensures entries { (storage : ℕ) (old : Option ℕ)
+        → slice_get heads.old.entries index ≡ Some (storage, old)
+        → heads.new.entries ≡ set_value (nat_eq storage) heads.old.entries first }
+    ensures unique { IsDistinct nat_eq (keys_of heads.new.entries) }
+{
+    if let Some(head) = heads.get_index_mut(index) {
+        *head = first;
     }
 }

@@ -1,8 +1,8 @@
 // The walk along a storage's list.
-ghost use Rattle.std.specs.Iterator.{YieldsFirst, item_count};
+ghost use Rattle.bm_base.specs.Words.{YieldsFirst, item_count};
 
+use crate::arena::BlockEntry;
 use crate::links;
-use crate::types::BlockEntry;
 use bm_maps::{NO_LINK, SlotLink};
 use slab::Slab;
 use std::marker::Model;

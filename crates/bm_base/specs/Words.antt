@@ -1,4 +1,14 @@
--- The definitions that most files import: maps, the state, replicas, events, rounds and calls.
+-- The definitions that most files import: maps, the state, replicas, events, rounds and calls, and
+-- those of the standard library that its own Prelude does not pass on.
+pub use Rattle.std.specs.Arc.{arc_value}
+pub use Rattle.std.specs.Io.KnownBytes.{Appends}
+pub use Rattle.std.specs.Iterator.{YieldsFirst, item_count}
+pub use Rattle.std.specs.List.{AllZip, list_any, position_or_len}
+unfoldable pub use Rattle.std.specs.List.{IsDistinct}
+pub use Rattle.std.specs.List.Sorted.{IsNonDecreasing, IsNonDecreasingBy, IsPermutation, IsSorted, IsSortedByKey}
+pub use Rattle.std.specs.Map.{keys_of, lookup}
+pub use Rattle.std.specs.Option.{option_map_or}
+pub use Rattle.std.specs.Ordering.{nat_cmp}
 pub use Rattle.bm_base.specs.Maps.Map.{Map, Order, Set, by_number, contains_key, insert_all, values}
 unfoldable pub use Rattle.bm_base.specs.Maps.Map.{alter, empty, entries, get, insert, keep, keys, len, remove, revise, revise_at}
 pub use Rattle.bm_base.specs.Maps.Lists.{has, has_repeats, least}
@@ -28,3 +38,10 @@ pub use Rattle.bm_base.specs.Machine.Configuration.{config_refusal, is_allowed, 
 pub use Rattle.bm_base.specs.Machine.Calls.{answers, count_call, refused_or, state_after}
 unfoldable pub use Rattle.bm_base.specs.Machine.Calls.{after_event, done, done_by, new_replicas, step}
 pub use Rattle.bm_base.specs.Machine.Answering.{IfFound, MayAnswer, MayAnswerAll, Refuses, call_takes_memory, checked, is_out_of_memory, is_refused, may_run_out_of_memory, state_after_answer, state_after_answers, takes_memory}
+pub use Rattle.bm_base.specs.Ordered.{by_pair}
+pub use Rattle.bm_base.specs.Promises.AllStates.{AfterAllCalls, InLawfulStates}
+pub use Rattle.bm_base.specs.Promises.Fitting.{FitsStamp}
+pub use Rattle.bm_base.specs.Promises.Lawful.{IsLawful, IsLawfulCluster}
+pub use Rattle.bm_base.specs.Promises.Sparing.{SparesLastGood}
+pub use Rattle.bm_base.specs.RoundParts.{own_transfers}
+pub use Rattle.bm_base.specs.Shards.{shard_of}

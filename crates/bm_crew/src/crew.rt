@@ -1,6 +1,6 @@
 // A crew whose workers share a bag.
-ghost use Rattle.std.specs.Prelude.{◌≡◌, ◌<◌, ◌≤◌, ◌+◌, [], IfSome, IfOk, IfErr, vec_len, vec_capacity};
-ghost use Rattle.std.specs.List.{All, AllZip};
+ghost use Rattle.std.specs.Prelude.{◌≡◌, ◌<◌, ◌≤◌, ◌+◌, [], IfSome, IfOk, IfErr, vec_len, vec_capacity, All};
+ghost use Rattle.bm_base.specs.Words.{AllZip};
 ghost use Rattle.bm_base.specs.declared.refusal.Refusal.TheVariants.{Memory};
 ghost use Rattle.bm_crew.specs.Work.{IsResultOf};
 ghost use Rattle.bm_crew.specs.Readiness.{Readiness};

@@ -7,12 +7,12 @@ use Rattle.std.proofs.Common.{cond, refl, sym, ap, ◌∙◌, arith}
 use Rattle.bm_base.specs.declared.replica.Marks.{Marks}
 use Rattle.bm_base.specs.Machine.Replicas.{is_usable}
 use Rattle.bm_base.specs.Spread.{spread_after}
-use Rattle.bm_levels.specs.declared.replica_count.Count.{Count}
+use Rattle.bm_levels.specs.declared.classification.ReplicaCount.{ReplicaCount}
 use Rattle.bm_levels.specs.Status.{is_good_and_unmarked, storages_at, is_live_by, is_drained_by}
 use Rattle.bm_levels.specs.ReplicaCounts.{none, count_rack, count_replica, count_replicas, racks_of}
 
 module _ (rack : ℕ → Option ℕ) (draining : ℕ → Bool) where
-  seen_same : (k : Count) (r : ℕ) → ((count_rack k r).live ≡ k.live) × ((count_rack k r).drained ≡ k.drained) × ((count_rack k r).is_good_and_unmarked ≡ k.is_good_and_unmarked)
+  seen_same : (k : ReplicaCount) (r : ℕ) → ((count_rack k r).live ≡ k.live) × ((count_rack k r).drained ≡ k.drained) × ((count_rack k r).is_good_and_unmarked ≡ k.is_good_and_unmarked)
   unfolding count_rack
   seen_same k r = elim k.first as (λ o. let z = option_map_or (λ f. record k { is_spread = k.is_spread || not (r == f) }) o (record k { first = Some r }) in (z.live ≡ k.live) × (z.drained ≡ k.drained) × (z.is_good_and_unmarked ≡ k.is_good_and_unmarked)) [
     | None ↦ (refl, refl, refl)
@@ -20,7 +20,7 @@ module _ (rack : ℕ → Option ℕ) (draining : ℕ → Bool) where
   ]
 
   -- one more replica increases each count by at most one
-  few_more : (k : Count) (s : ℕ) (m : Marks) → ((count_replica rack draining k s m).live ≤ k.live + 1) × ((count_replica rack draining k s m).drained ≤ k.drained + 1)
+  few_more : (k : ReplicaCount) (s : ℕ) (m : Marks) → ((count_replica rack draining k s m).live ≤ k.live + 1) × ((count_replica rack draining k s m).drained ≤ k.drained + 1)
   unfolding count_replica
   few_more k s m = by (is_usable m) (draining s) (rack s)
     where
@@ -35,19 +35,19 @@ module _ (rack : ℕ → Option ℕ) (draining : ℕ → Bool) where
           let h = seen_same (record (record k { is_good_and_unmarked = k.is_good_and_unmarked && is_good_and_unmarked m }) { live = k.live + 1 }) r in
           (omega (arith, h.0), omega (arith, h.1))
 
-  pub few_step : (k z : Count) (s : ℕ) (m : Marks) → z ≡ count_replica rack draining k s m → (z.live ≤ k.live + 1) × (z.drained ≤ k.drained + 1)
+  pub few_step : (k z : ReplicaCount) (s : ℕ) (m : Marks) → z ≡ count_replica rack draining k s m → (z.live ≤ k.live + 1) × (z.drained ≤ k.drained + 1)
   few_step k z s m e = let h = few_more k s m in (omega (arith, h.0, ap (λ x. x.live) e), omega (arith, h.1, ap (λ x. x.drained) e))
 
   -- counting the next replica leaves the rest to be counted
-  pub counted_next : (k z : Count) (rs all : List (ℕ × Marks)) (r : ℕ × Marks) (behind : List (ℕ × Marks)) → rs ≡ r ∷ behind → z ≡ count_replica rack draining k r.0 r.1
+  pub counted_next : (k z : ReplicaCount) (rs all : List (ℕ × Marks)) (r : ℕ × Marks) (behind : List (ℕ × Marks)) → rs ≡ r ∷ behind → z ≡ count_replica rack draining k r.0 r.1
       → count_replicas rack draining k rs ≡ count_replicas rack draining none all → count_replicas rack draining z behind ≡ count_replicas rack draining none all
   counted_next k z rs all r behind here counted h = ap (λ x. count_replicas rack draining x behind) counted ∙ sym (ap (count_replicas rack draining k) here) ∙ h
 
   -- the number of racks, up to two, of the counted replicas and of those of a list
-  abbrev racks_on : Count → List ℕ → ℕ
+  abbrev racks_on : ReplicaCount → List ℕ → ℕ
   racks_on k rs = if k.is_spread then 2 else spread_after k.first rs
 
-  seen_on : (k : Count) (r : ℕ) (rs : List ℕ) → racks_on (count_rack k r) rs ≡ racks_on k (r ∷ rs)
+  seen_on : (k : ReplicaCount) (r : ℕ) (rs : List ℕ) → racks_on (count_rack k r) rs ≡ racks_on k (r ∷ rs)
   unfolding count_rack
   seen_on k r rs = by k.first
     where
@@ -61,7 +61,7 @@ module _ (rack : ℕ → Option ℕ) (draining : ℕ → Bool) where
       by (Some f) = either f k.is_spread (r == f)
 
   -- z counts the replicas of a list on top of k
-  abbrev pub IsCountOf : Count → List (ℕ × Marks) → Count → Type 0
+  abbrev pub IsCountOf : ReplicaCount → List (ℕ × Marks) → ReplicaCount → Type 0
   IsCountOf k rs z =
       (z.live ≡ k.live + length (storages_at (is_live_by draining) rs))
       × (z.drained ≡ k.drained + length (storages_at (is_drained_by draining) rs))
@@ -69,21 +69,21 @@ module _ (rack : ℕ → Option ℕ) (draining : ℕ → Bool) where
       × (racks_of z ≡ racks_on k (filter_map rack (storages_at (is_live_by draining) rs)))
 
   -- z counts one more replica than k, before the rest
-  IsStep : Count → ℕ → Marks → List (ℕ × Marks) → Count → Type 0
+  IsStep : ReplicaCount → ℕ → Marks → List (ℕ × Marks) → ReplicaCount → Type 0
   IsStep k s m rs z =
       (z.live + length (storages_at (is_live_by draining) rs) ≡ k.live + length (storages_at (is_live_by draining) ((s, m) ∷ rs)))
       × (z.drained + length (storages_at (is_drained_by draining) rs) ≡ k.drained + length (storages_at (is_drained_by draining) ((s, m) ∷ rs)))
       × (z.is_good_and_unmarked ≡ (k.is_good_and_unmarked && is_good_and_unmarked m))
       × (racks_on z (filter_map rack (storages_at (is_live_by draining) rs)) ≡ racks_on k (filter_map rack (storages_at (is_live_by draining) ((s, m) ∷ rs))))
 
-  step : (k : Count) (s : ℕ) (m : Marks) (rs : List (ℕ × Marks)) → IsStep k s m rs (count_replica rack draining k s m)
+  step : (k : ReplicaCount) (s : ℕ) (m : Marks) (rs : List (ℕ × Marks)) → IsStep k s m rs (count_replica rack draining k s m)
   unfolding count_replica IsStep
   step k s m rs = by (is_usable m) (draining s)
     where
-      plain : Count
+      plain : ReplicaCount
       plain = record k { is_good_and_unmarked = k.is_good_and_unmarked && is_good_and_unmarked m }
 
-      more : Count
+      more : ReplicaCount
       more = record k { is_good_and_unmarked = k.is_good_and_unmarked && is_good_and_unmarked m; live = k.live + 1 }
 
       by_rack : (o : Option ℕ) → let z = option_map_or (count_rack more) o more in
@@ -106,7 +106,7 @@ module _ (rack : ℕ → Option ℕ) (draining : ℕ → Bool) where
       by true true = (refl, omega arith, refl, refl)
       by true false = let h = by_rack (rack s) in (omega (arith, h.0), omega (arith, h.1), h.2, h.3)
 
-  pub counted_is : (k : Count) (rs : List (ℕ × Marks)) → IsCountOf k rs (count_replicas rack draining k rs)
+  pub counted_is : (k : ReplicaCount) (rs : List (ℕ × Marks)) → IsCountOf k rs (count_replicas rack draining k rs)
   unfolding racks_of IsStep
   counted_is k [] = (omega arith, omega arith, never k.is_good_and_unmarked, racks_now k.is_spread k.first)
     where

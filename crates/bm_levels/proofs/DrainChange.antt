@@ -6,7 +6,7 @@ use Rattle.bm_base.specs.Words.{get, insert, remove, Cluster, node_of, rack_of, 
 use Rattle.bm_base.proofs.MapLaws.{get-insert, get-remove}
 use Rattle.bm_base.proofs.Ties.{number_tie}
 use Rattle.bm_arena.specs.Contents.{Contents, block_at, marks_at, IsLawful}
-use Rattle.bm_levels.specs.declared.cluster_after.DrainChange.{DrainChange}
+use Rattle.bm_levels.specs.declared.classification.DrainChange.{DrainChange}
 use Rattle.bm_levels.specs.Status.{drains_after_change, level_by}
 use Rattle.bm_levels.specs.IndexedLevels.{IndexedLevels, IsClassified, IsSameAt}
 use Rattle.bm_levels.specs.LeveledBlocks.{Leveled, AreLevels}

@@ -5,7 +5,7 @@ use Rattle.std.proofs.Common.{refl, sym, ap, ◌∙◌, arith, get_or, inl, inr,
 use Rattle.std.proofs.lemmas.Option.{slice_get_cases, slice_get-map, slice_get_read}
 use Rattle.std.proofs.lemmas.List.{length-map}
 use Rattle.bm_base.specs.declared.replica.Marks.{Marks}
-use Rattle.bm_arena.specs.declared.types.Triplet.{Triplet}
+use Rattle.bm_arena.specs.declared.arena.Triplet.{Triplet}
 use Rattle.bm_arena.specs.Triplets.{Block, triplet_view}
 use Rattle.bm_arena.specs.Contents.{Contents}
 use Rattle.bm_levels.specs.IndexedLevels.{indexed_slots}

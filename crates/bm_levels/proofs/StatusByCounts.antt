@@ -10,12 +10,12 @@ use Rattle.std.proofs.lemmas.Option.{none-some, same_Some}
 use Rattle.std.proofs.Math.Bool.{and-false}
 use Rattle.bm_base.specs.declared.replica.Marks.{Marks}
 use Rattle.bm_base.specs.declared.replica.BlockInfo.{BlockInfo}
-use Rattle.bm_base.specs.declared.level.Level.TheVariants.{BadlyDistributed}
+use Rattle.bm_base.specs.declared.replica.Level.TheVariants.{BadlyDistributed}
 use Rattle.bm_base.specs.Machine.Levels.{level_of}
 use Rattle.bm_base.specs.Spread.{spread, spread_after}
-use Rattle.bm_arena.specs.declared.types.Triplet.{Triplet}
+use Rattle.bm_arena.specs.declared.arena.Triplet.{Triplet}
 use Rattle.bm_arena.specs.Triplets.{Block, triplet_view}
-use Rattle.bm_levels.specs.declared.replica_count.Count.{Count}
+use Rattle.bm_levels.specs.declared.classification.ReplicaCount.{ReplicaCount}
 use Rattle.bm_levels.specs.Status.{storages_at, is_live_by, is_drained_by, is_good_and_unmarked, level_by, is_settled_at}
 use Rattle.bm_levels.specs.ReplicaCounts.{none, count_replicas, racks_of, IsCountOf}
 use Rattle.bm_levels.proofs.Counts.{counted_is}
@@ -27,7 +27,7 @@ abbrev info_in : Option Block → Option BlockInfo
 info_in o = option_and_then (λ (b : Block). b.info) o
 
 module _ (rack : ℕ → Option ℕ) (draining : ℕ → Bool) where
-  level_known : (multi : Bool) (o : Option Block) (i : BlockInfo) (k : Count) → info_in o ≡ Some i → k ≡ count_replicas rack draining none (listed o)
+  level_known : (multi : Bool) (o : Option Block) (i : BlockInfo) (k : ReplicaCount) → info_in o ≡ Some i → k ≡ count_replicas rack draining none (listed o)
       → level_of k.live k.drained i.repl (racks_of k) multi ≡ level_by rack draining multi o
   unfolding level_by
   level_known multi None i k e f = cc
@@ -48,10 +48,10 @@ module _ (rack : ℕ → Option ℕ) (draining : ℕ → Bool) where
       apart false = refl
 
   -- enough of the counted replicas are live, on two racks; the rest does not change the level
-  level_soon : (multi : Bool) (o : Option Block) (i : BlockInfo) (k : Count) (rs : List (ℕ × Marks)) → info_in o ≡ Some i
+  level_soon : (multi : Bool) (o : Option Block) (i : BlockInfo) (k : ReplicaCount) (rs : List (ℕ × Marks)) → info_in o ≡ Some i
       → count_replicas rack draining k rs ≡ count_replicas rack draining none (listed o) → i.repl ≤ k.live → k.is_spread ≡ true → None ≡ level_by rack draining multi o
   level_soon multi o i k rs e f many spread =
-      let z : Count = count_replicas rack draining k rs in
+      let z : ReplicaCount = count_replicas rack draining k rs in
       let h = counted_is rack draining k rs in
       let two : racks_of z ≡ 2 = h.3 ∙ ap (λ b. if b then 2 else spread_after k.first (filter_map rack (storages_at (is_live_by draining) rs))) spread in
       let enough : i.repl ≤ z.live = omega (arith, h.0, many) in
@@ -77,10 +77,10 @@ module _ (rack : ℕ → Option ℕ) (draining : ℕ → Bool) where
   level_unknown multi (Some b) e =
       sym (ap (option_and_then (λ (j : BlockInfo). level_of (length (storages_at (is_live_by draining) b.replicas)) (length (storages_at (is_drained_by draining) b.replicas)) j.repl (spread (filter_map rack (storages_at (is_live_by draining) b.replicas))) multi)) e)
 
-  plain_all : (rs : List (ℕ × Marks)) (k : Count) → k ≡ count_replicas rack draining none rs → k.is_good_and_unmarked ≡ not (list_any (λ (r : ℕ × Marks). not (is_good_and_unmarked r.1)) rs)
+  plain_all : (rs : List (ℕ × Marks)) (k : ReplicaCount) → k ≡ count_replicas rack draining none rs → k.is_good_and_unmarked ≡ not (list_any (λ (r : ℕ × Marks). not (is_good_and_unmarked r.1)) rs)
   plain_all rs k f = ap (λ z. z.is_good_and_unmarked) f ∙ (counted_is rack draining none rs).2
 
-  settled_known : (o : Option Block) (i : BlockInfo) (k : Count) → info_in o ≡ Some i → k ≡ count_replicas rack draining none (listed o)
+  settled_known : (o : Option Block) (i : BlockInfo) (k : ReplicaCount) → info_in o ≡ Some i → k ≡ count_replicas rack draining none (listed o)
       → (k.is_good_and_unmarked && nat_le (option_map_or (λ (b : Block). length b.replicas) o 0) i.repl) ≡ is_settled_at o
   unfolding is_settled_at
   settled_known None i k e f = cc
@@ -88,7 +88,7 @@ module _ (rack : ℕ → Option ℕ) (draining : ℕ → Bool) where
       (λ t. plain_all b.replicas k f t && nat_le (length b.replicas) i.repl)
       ∙ sym (ap (λ z. not (list_any (λ (r : ℕ × Marks). not (is_good_and_unmarked r.1)) b.replicas) && option_map_or (λ (j : BlockInfo). nat_le (length b.replicas) j.repl) z true) e)
 
-  settled_unknown : (o : Option Block) (k : Count) → info_in o ≡ None → k ≡ count_replicas rack draining none (listed o) → k.is_good_and_unmarked ≡ is_settled_at o
+  settled_unknown : (o : Option Block) (k : ReplicaCount) → info_in o ≡ None → k ≡ count_replicas rack draining none (listed o) → k.is_good_and_unmarked ≡ is_settled_at o
   unfolding is_settled_at
   settled_unknown None k e f = ap (λ z. z.is_good_and_unmarked) f
   settled_unknown (Some b) k e f =
@@ -100,7 +100,7 @@ module _ (rack : ℕ → Option ℕ) (draining : ℕ → Bool) where
       all false = refl
 
   -- such a count determines the level
-  level_counted : (multi : Bool) (b : Block) (i : BlockInfo) (k : Count) → b.info ≡ Some i → IsCountOf rack draining i.repl b.replicas k
+  level_counted : (multi : Bool) (b : Block) (i : BlockInfo) (k : ReplicaCount) → b.info ≡ Some i → IsCountOf rack draining i.repl b.replicas k
       → level_of k.live k.drained i.repl (racks_of k) multi ≡ level_by rack draining multi (Some b)
   unfolding racks_of
   level_counted multi b i k e h =
@@ -112,21 +112,21 @@ module _ (rack : ℕ → Option ℕ) (draining : ℕ → Bool) where
       ]
 
   -- such a count determines whether the block is settled
-  settled_counted : (b : Block) (i : BlockInfo) (k : Count) → b.info ≡ Some i → IsCountOf rack draining i.repl b.replicas k → (k.is_good_and_unmarked && nat_le (length b.replicas) i.repl) ≡ is_settled_at (Some b)
+  settled_counted : (b : Block) (i : BlockInfo) (k : ReplicaCount) → b.info ≡ Some i → IsCountOf rack draining i.repl b.replicas k → (k.is_good_and_unmarked && nat_le (length b.replicas) i.repl) ≡ is_settled_at (Some b)
   settled_counted b i k e h =
       elim h.decided [
         | inl all ↦ settled_known (Some b) i k e (sym (ap (count_replicas rack draining k) all) ∙ h.counted)
         | inr soon ↦ ap (λ t. k.is_good_and_unmarked && t) (lt-leb (length b.replicas) i.repl soon.0) ∙ and-false k.is_good_and_unmarked ∙ settled_soon (Some b) i e soon.0
       ]
 
-  pub level_classified : (multi : Bool) (o : Option Block) (ts : List Triplet) (i : BlockInfo) (k : Count) → Some (Some i) ≡ option_map (λ (b : Block). b.info) o
+  pub level_classified : (multi : Bool) (o : Option Block) (ts : List Triplet) (i : BlockInfo) (k : ReplicaCount) → Some (Some i) ≡ option_map (λ (b : Block). b.info) o
       → Some (map triplet_view ts) ≡ option_map (λ (b : Block). b.replicas) o → IsCountOf rack draining i.repl (map triplet_view ts) k
       → level_of k.live k.drained i.repl (racks_of k) multi ≡ level_by rack draining multi o
   level_classified multi None ts i k info is h = absurd (none-some _ (sym info))
   level_classified multi (Some b) ts i k info is h =
       level_counted multi b i k (sym (same_Some (Some i) b.info info)) (subst (λ rs. IsCountOf rack draining i.repl rs k) (same_Some (map triplet_view ts) b.replicas is) h)
 
-  pub settled_classified : (o : Option Block) (ts : List Triplet) (n : ℕ) (i : BlockInfo) (k : Count) → Some (Some i) ≡ option_map (λ (b : Block). b.info) o
+  pub settled_classified : (o : Option Block) (ts : List Triplet) (n : ℕ) (i : BlockInfo) (k : ReplicaCount) → Some (Some i) ≡ option_map (λ (b : Block). b.info) o
       → Some (map triplet_view ts) ≡ option_map (λ (b : Block). b.replicas) o → n ≡ option_map_or (λ (b : Block). length b.replicas) o 0
       → IsCountOf rack draining i.repl (map triplet_view ts) k → (k.is_good_and_unmarked && nat_le n i.repl) ≡ is_settled_at o
   settled_classified None ts n i k info is many h = absurd (none-some _ (sym info))
@@ -135,7 +135,7 @@ module _ (rack : ℕ → Option ℕ) (draining : ℕ → Bool) where
       ap (λ m. k.is_good_and_unmarked && nat_le m i.repl) many ∙ settled_counted b i k (sym (same_Some (Some i) b.info info)) (subst (λ xs. IsCountOf rack draining i.repl xs k) rs h)
 
   -- an unknown block needs a count of all its replicas
-  pub unknown_classified : (o : Option Block) (ts : List Triplet) (k : Count) → Some None ≡ option_map (λ (b : Block). b.info) o → Some (map triplet_view ts) ≡ option_map (λ (b : Block). b.replicas) o
+  pub unknown_classified : (o : Option Block) (ts : List Triplet) (k : ReplicaCount) → Some None ≡ option_map (λ (b : Block). b.info) o → Some (map triplet_view ts) ≡ option_map (λ (b : Block). b.replicas) o
       → IsCountOf rack draining (length ts) (map triplet_view ts) k → k.is_good_and_unmarked ≡ is_settled_at o
   unknown_classified None ts k info is h = absurd (none-some _ (sym info))
   unknown_classified (Some b) ts k info is h =

@@ -15,7 +15,7 @@ use Rattle.bm_arena.specs.Triplets.{Block}
 use Rattle.bm_arena.specs.Contents.{Contents, block_at, list_of, marks_at, find_marks, slot_of, IsLawful}
 use Rattle.bm_arena.specs.HeldMaps.{replicas_of, holdings_of}
 use Rattle.bm_report.proofs.Maps.{get-here}
-use Rattle.bm_levels.specs.declared.cluster_after.DrainChange.{DrainChange}
+use Rattle.bm_levels.specs.declared.classification.DrainChange.{DrainChange}
 use Rattle.bm_levels.specs.Status.{drains_after_change, level_by}
 use Rattle.bm_levels.specs.LeveledBlocks.{Leveled, IsLeveled, AreLevels}
 use Rattle.bm_levels.specs.LevelsBy.{AreLevelsBy, IsSameForHeld}

@@ -1,11 +1,11 @@
 -- Levels and statuses in the cluster after an event.
 use Rattle.std.specs.Prelude.{◌≡◌, ◌⊎◌, ℕ, Bool, List, Option, Some, slice_get, slice_index_or}
-use Rattle.bm_base.specs.declared.level.Level.{Level}
+use Rattle.bm_base.specs.declared.replica.Level.{Level}
 use Rattle.bm_maps.specs.SlotLists.{IsMember}
 use Rattle.bm_base.specs.Machine.Replicas.{rack_of, has_storage}
 use Rattle.bm_arena.specs.Triplets.{Block}
 use Rattle.bm_arena.specs.Contents.{Contents, block_at, list_of}
-use Rattle.bm_levels.specs.declared.cluster_after.ClusterAfter.{ClusterAfter}
+use Rattle.bm_levels.specs.declared.classification.ClusterAfter.{ClusterAfter}
 use Rattle.bm_levels.specs.declared.classification.BlockStatus.{BlockStatus}
 use Rattle.bm_levels.specs.Status.{level_by, drains_after_change}
 use Rattle.bm_levels.specs.IndexedLevels.{IndexedLevels, IsClassified, IsStatusOf, IsSameAt}

@@ -1,7 +1,7 @@
 -- The stored status of blocks, by slot.
 use Rattle.std.specs.Prelude.{◌≡◌, ◌↔◌, ℕ, ◌+◌, ◌<◌, ◌≤◌, max, Bool, true, false, List, ◌++◌, length, map, reverse, Option, Some, None, slice_get, slice_index_or}
-use Rattle.bm_base.specs.declared.level.Level.{Level}
-use Rattle.bm_base.specs.declared.level.Level.TheVariants.{Highest, VeryUnderReplicated, UnderReplicated, BadlyDistributed, NoUsableReplica}
+use Rattle.bm_base.specs.declared.replica.Level.{Level}
+use Rattle.bm_base.specs.declared.replica.Level.TheVariants.{Highest, VeryUnderReplicated, UnderReplicated, BadlyDistributed, NoUsableReplica}
 use Rattle.bm_maps.specs.SlotLists.{IsMember}
 use Rattle.bm_base.specs.Words.{Cluster, rack_of, is_draining, is_multi_rack}
 use Rattle.bm_queues.specs.Levels.{Levels, level_at, slots_of}

@@ -5,11 +5,11 @@ use Rattle.std.specs.Option.{option_map_or}
 use Rattle.std.specs.List.{list_any}
 use Rattle.bm_base.specs.declared.replica.Marks.{Marks}
 use Rattle.bm_base.specs.declared.replica.BlockInfo.{BlockInfo}
-use Rattle.bm_base.specs.declared.level.Level.{Level}
+use Rattle.bm_base.specs.declared.replica.Level.{Level}
 use Rattle.bm_base.specs.Words.{Cluster, is_good, is_usable, node_of, rack_of, drains, is_draining, is_multi_rack, level_of}
 use Rattle.bm_base.specs.Spread.{spread}
 use Rattle.bm_arena.specs.Triplets.{Block}
-use Rattle.bm_levels.specs.declared.cluster_after.DrainChange.{DrainChange}
+use Rattle.bm_levels.specs.declared.classification.DrainChange.{DrainChange}
 
 -- whether the node of a storage drains, once a node begins or ceases to
 unfoldable pub drains_after_change : Cluster → Option DrainChange → ℕ → Bool

@@ -1,6 +1,5 @@
 // Events on one block, by its number.
-ghost use Rattle.std.specs.Prelude.{◌≡◌, ◌==◌, ℕ, true, false, IsSome, Some, if◌then◌else◌};
-ghost use Rattle.std.specs.Option.{option_map};
+ghost use Rattle.std.specs.Prelude.{◌≡◌, ◌==◌, ℕ, true, false, IsSome, Some, if◌then◌else◌, option_map};
 ghost use Rattle.bm_base.specs.Words.{insert, remove, revise, revise_at, contains_key, replica_at, as_stray, as_bad, as_restamped};
 ghost use Rattle.bm_arena.specs.Contents.{slot_of, marks_at, KeepsAllBut};
 ghost use Rattle.bm_arena.specs.HeldMaps.{replicas_of, blocks_of, info_at, with_known};

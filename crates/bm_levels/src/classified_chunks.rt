@@ -1,12 +1,11 @@
 // Many blocks reclassified, a chunk at a time, so that cache misses overlap.
 ghost use Rattle.std.specs.Prelude.{◌≡◌, ◌<◌, ◌≤◌, ℕ, length, slice_get, slice_index_or, Some, true};
-ghost use Rattle.std.specs.Option.{option_map_or};
+ghost use Rattle.bm_base.specs.Words.{option_map_or};
 ghost use Rattle.bm_arena.specs.Contents.{block_at};
 ghost use Rattle.bm_levels.specs.IndexedLevels.{HasCapacityForEach, KeepsCapacity, HaveStatuses, IsSameOutside};
 ghost use Rattle.bm_levels.specs.ClusterAfter.{AreStatusesAfter, AreClassifiedAfter};
 
-use crate::classification::{BlockStatus, are_equal, classify};
-use crate::cluster_after::ClusterAfter;
+use crate::classification::{BlockStatus, ClusterAfter, are_equal, classify};
 use crate::level_index::LevelIndex;
 use bm_arena::{Arena, Slot};
 

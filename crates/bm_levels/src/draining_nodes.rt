@@ -7,7 +7,7 @@ ghost use Rattle.bm_levels.specs.LeveledBlocks.{AreLevels};
 ghost use Rattle.bm_levels.specs.LevelsBy.{with_draining};
 ghost use Rattle.bm_levels.specs.ClusterAfter.{AreClassifiedOnStorage, AreClassifiedOnNode};
 
-use crate::cluster_after::{ClusterAfter, DrainChange};
+use crate::classification::{ClusterAfter, DrainChange};
 use crate::level_index::LevelIndex;
 use crate::leveled_blocks::LeveledBlocks;
 use bm_arena::Arena;

@@ -5,8 +5,8 @@ ghost use Rattle.bm_levels.specs.UnusedEntries.{MakesNoUnused};
 ghost use Rattle.bm_levels.specs.LeavingReplicas.{IsLeaving, IsLeavingStorage, HasFirstSlots, MakesNoHead};
 ghost use Rattle.bm_levels.specs.ClusterAfter.{is_on_node, KeepsLevelsAfter};
 
+use crate::classification::ClusterAfter;
 use crate::classified_chunks::CHUNK;
-use crate::cluster_after::ClusterAfter;
 use crate::first_slots::FirstSlots;
 use crate::leveled_blocks::LeveledBlocks;
 use bm_arena::Arena;
@@ -23,7 +23,7 @@ struct FourStorages {
 
 impl FourStorages {
     /// Only one storage.
-    fn one(storage: StorageId) -> FourStorages
+    fn new(storage: StorageId) -> FourStorages
         ensures { result.fourth ≡ storage }
     {
         FourStorages {
@@ -39,7 +39,7 @@ impl FourStorages {
         ensures { self.new.fourth ≡ storage }
     {
         if begins {
-            *self = FourStorages::one(storage);
+            *self = FourStorages::new(storage);
             return;
         }
         self.first = self.second;
@@ -106,7 +106,7 @@ impl LeveledBlocks {
         ensures levels { KeepsLevelsAfter cluster_after.now self.old self.new }
     {
         let mut removed = 0;
-        let mut four = FourStorages::one(StorageId(0));
+        let mut four = FourStorages::new(StorageId(0));
         let mut count = 0usize;
         for storage in cluster_after.topology.storages_of(node) {
             four.push_next(*storage, count == 0);

@@ -1,14 +1,18 @@
-// The status of each block of a shard: its level, and whether it is settled.
+// The status of each block of a shard: its level, and whether it is settled. Blocks are
+// reclassified by their slots.
 ghost use Rattle.std.specs.Prelude.{◌≡◌, true, ◌≢◌, ℕ, ◌+◌, ◌≤◌, None, length, IfOk, IfErr, OnOk, IsOk};
 ghost use Rattle.bm_base.specs.declared.refusal.Refusal.TheVariants.{Memory};
-ghost use Rattle.bm_base.specs.declared.level.Level.{Level};
+ghost use Rattle.bm_base.specs.declared.replica.Level.{Level};
 ghost use Rattle.bm_maps.specs.SlotLists.{Distinct};
-ghost use Rattle.bm_levels.specs.IndexedLevels.{level_of_slot, IsUnsettled, HasCapacityFor, HasCapacityAt, KeepsCapacity, GrowsWithin, AreSlotsAt, NeedCopies, slots_at, slots_needing_copies, HasStatus, IsSameAt, KeepsAhead};
+ghost use Rattle.bm_levels.specs.IndexedLevels.{level_of_slot, IsUnsettled, HasCapacityFor, HasCapacityAt, KeepsCapacity, GrowsWithin, AreSlotsAt, NeedCopies, slots_at, slots_needing_copies, HasStatus, IsSameAt, KeepsAhead, HasCapacityForEach, IsClassifiedIn, AreClassifiedIn, IsSameOutside, indexed_slots};
+ghost use Rattle.bm_arena.specs.Contents.{block_at};
+ghost use Rattle.bm_levels.specs.ClusterAfter.{IsClassifiedAfter, AreClassifiedAfter};
 
-use crate::classification::BlockStatus;
-use bm_arena::Slot;
+use crate::classification::{BlockStatus, ClusterAfter, are_equal, classify};
+use bm_arena::{Arena, Slot};
 use bm_base::{Level, Refusal};
 use bm_queues::{LevelLists, SlotSet};
+use bm_topo::Topology;
 use std::alloc::Global;
 use std::marker::Model;
 
@@ -185,5 +189,98 @@ impl LevelIndex {
     {
         self.levels.show_invariant();
         self.unsettled.show_invariant();
+    }
+}
+
+impl LevelIndex {
+    /// Reclassifies the block at a slot.
+    pub(crate) fn classify(&mut self, arena: &Arena, slot: Slot, cluster_after: &ClusterAfter<'_>)
+        requires capacity { HasCapacityAt self.old slot }
+        ensures status { IsClassifiedAfter cluster_after.now (block_at arena.now slot) self.new slot }
+        ensures others { (other : ℕ) → other ≢ slot → IsSameAt self.old self.new other }
+        ensures ahead { KeepsAhead slot self.old.unsettled.slots self.new.unsettled.slots }
+        ensures capacity { KeepsCapacity self.old self.new }
+    {
+        self.set_status(
+            slot,
+            classify(arena, slot, arena.triplet_count(slot), cluster_after),
+        );
+    }
+
+    /// As `classify`, with the old status read by the caller before the change, so that the two
+    /// cache misses overlap.
+    fn classify_from(
+        &mut self,
+        arena: &Arena,
+        slot: Slot,
+        cluster_after: &ClusterAfter<'_>,
+        was: BlockStatus,
+    )
+        requires capacity { HasCapacityAt self.old slot }
+        requires was { HasStatus self.old slot was }
+        ensures status { IsClassifiedAfter cluster_after.now (block_at arena.now slot) self.new slot }
+        ensures others { (other : ℕ) → other ≢ slot → IsSameAt self.old self.new other }
+        ensures capacity { KeepsCapacity self.old self.new }
+    {
+        let status = classify(arena, slot, arena.triplet_count(slot), cluster_after);
+        if are_equal(status, was) {
+            return;
+        }
+        self.set_status(slot, status);
+    }
+
+    /// Reclassifies the block at a slot, in an unchanged cluster.
+    #[tactic(auto, unfolding(crate::specs::Status::drains_after_change))]
+    pub(crate) fn update_level(&mut self, topology: &Topology, arena: &Arena, slot: Slot)
+        requires capacity { HasCapacityAt self.old slot }
+        ensures status { IsClassifiedIn topology.now.cluster (block_at arena.now slot) self.new slot }
+        ensures others { (other : ℕ) → other ≢ slot → IsSameAt self.old self.new other }
+        ensures ahead { KeepsAhead slot self.old.unsettled.slots self.new.unsettled.slots }
+        ensures capacity { KeepsCapacity self.old self.new }
+    {
+        self.classify(arena, slot, &ClusterAfter::unchanged(topology));
+    }
+
+    /// As `update_level`, with the old status read by the caller before the change.
+    #[tactic(auto, unfolding(crate::specs::Status::drains_after_change))]
+    pub(crate) fn update_from(
+        &mut self,
+        topology: &Topology,
+        arena: &Arena,
+        slot: Slot,
+        was: BlockStatus,
+    )
+        requires capacity { HasCapacityAt self.old slot }
+        requires was { HasStatus self.old slot was }
+        ensures status { IsClassifiedIn topology.now.cluster (block_at arena.now slot) self.new slot }
+        ensures others { (other : ℕ) → other ≢ slot → IsSameAt self.old self.new other }
+        ensures capacity { KeepsCapacity self.old self.new }
+    {
+        self.classify_from(arena, slot, &ClusterAfter::unchanged(topology), was);
+    }
+
+    /// Reclassifies the blocks at these slots, in an unchanged cluster.
+    #[tactic(auto, unfolding(crate::specs::Status::drains_after_change))]
+    pub(crate) fn update_all(&mut self, topology: &Topology, arena: &Arena, slots: &[Slot])
+        requires capacity { HasCapacityForEach self.old slots.now }
+        ensures status { AreClassifiedIn topology.now.cluster arena.now slots.now self.new }
+        ensures others { IsSameOutside slots.now self.old self.new }
+        ensures capacity { KeepsCapacity self.old self.new }
+    {
+        self.classify_all(arena, slots, &ClusterAfter::unchanged(topology));
+    }
+
+    /// Reclassifies all blocks: when the alive nodes get onto two racks, or back onto one.
+    pub(crate) fn reclassify_every_block(&mut self, arena: &Arena, cluster_after: &ClusterAfter<'_>)
+        requires { HasCapacityForEach self.old (indexed_slots arena.now) }
+        ensures status { AreClassifiedAfter cluster_after.now arena.now (indexed_slots arena.now) self.new }
+        ensures others { IsSameOutside (indexed_slots arena.now) self.old self.new }
+        ensures capacity { KeepsCapacity self.old self.new }
+    {
+        for index in 0..arena.count() {
+            if let Some(slot) = arena.slot_at(index) {
+                self.classify(arena, slot, cluster_after);
+            }
+        }
     }
 }

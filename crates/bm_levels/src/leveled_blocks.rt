@@ -1,7 +1,7 @@
 // The blocks and replicas of a shard, each block with its level.
 ghost use Rattle.std.specs.Prelude.{◌≡◌, ◌≢◌, ℕ, IsSome, Some, IfOk, IfErr, OnOk, OnErr};
-ghost use Rattle.bm_base.specs.declared.refusal.Refusal.TheVariants.{Memory};
 ghost use Rattle.bm_base.specs.Words.{Map, empty, insert, remove, level, Cluster, by_replica, replica_at};
+ghost use Rattle.bm_base.specs.declared.refusal.Refusal.TheVariants.{Memory};
 ghost use Rattle.bm_arena.specs.Contents.{slot_of, marks_at, KeepsAllBut, KeepsEntries, KeepsOthers};
 ghost use Rattle.bm_arena.specs.HeldMaps.{replicas_of, blocks_of, with_known};
 ghost use Rattle.bm_levels.specs.UnusedEntries.{HasNoUnused, MakesNoUnused};

@@ -10,7 +10,6 @@
 mod block_events;
 mod classification;
 mod classified_chunks;
-mod cluster_after;
 mod draining_nodes;
 mod first_slots;
 mod four_lists;
@@ -21,8 +20,6 @@ mod live_replicas;
 mod lost_storages;
 mod mark_changes;
 mod rack_changes;
-mod reclassification;
-mod replica_count;
 mod reports;
 mod round_end;
 mod round_start;

@@ -1,6 +1,6 @@
 // Replicas of a list that are of one block, marked together.
 ghost use Rattle.std.specs.Prelude.{◌≡◌, ◌==◌, true, not, position};
-ghost use Rattle.std.specs.List.{position_or_len};
+ghost use Rattle.bm_base.specs.Words.{position_or_len};
 ghost use Rattle.bm_arena.specs.Contents.{block_at, known_of, KeepsAllBut, IsLawful};
 ghost use Rattle.bm_arena.specs.HeldMaps.{replicas_at};
 ghost use Rattle.bm_levels.specs.Changes.{as_excess, excess_on, each_changed, has_storage, AreByStorage};

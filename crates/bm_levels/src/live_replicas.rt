@@ -1,8 +1,8 @@
 // The live replicas of a block.
 ghost use Rattle.std.specs.Prelude.{◌≡◌, length, map};
-ghost use Rattle.bm_base.specs.Machine.Replicas as replicas;
 ghost use Rattle.bm_arena.specs.Triplets.{triplet_view};
 ghost use Rattle.bm_levels.specs.Status.{storages_at};
+ghost use Rattle.bm_base.specs.Machine.Replicas as replicas;
 
 use bm_arena::Triplet;
 use bm_base::{Marks, StorageId};

@@ -1,17 +1,17 @@
 // Storages and nodes that leave with all their replicas.
 ghost use Rattle.std.specs.Prelude.{◌≡◌, ◌<◌, ◌^◌, ◌==◌, not, ℕ, [], true};
-ghost use Rattle.bm_base.specs.Maps.Map.{keep};
-ghost use Rattle.bm_base.specs.Machine.Replicas as replicas;
-ghost use Rattle.bm_base.specs.Machine.Events as events;
-ghost use Rattle.bm_base.specs.Machine.Calls as calls;
+ghost use Rattle.bm_base.specs.Words.{keep};
 ghost use Rattle.bm_arena.specs.Contents.{list_of, HasHead};
 ghost use Rattle.bm_arena.specs.HeldMaps.{replicas_of, blocks_of};
 ghost use Rattle.bm_levels.specs.UnusedEntries.{MakesNoUnused};
 ghost use Rattle.bm_levels.specs.LeveledBlocks.{AreLevels};
 ghost use Rattle.bm_levels.specs.LeavingReplicas.{IsLeaving, HasNoHeads, MakesNoHead};
 ghost use Rattle.bm_levels.specs.ClusterAfter.{is_on_node, KeepsLevelsAfter};
+ghost use Rattle.bm_base.specs.Machine.Replicas as replicas;
+ghost use Rattle.bm_base.specs.Machine.Events as events;
+ghost use Rattle.bm_base.specs.Machine.Calls as calls;
 
-use crate::cluster_after::ClusterAfter;
+use crate::classification::ClusterAfter;
 use crate::leveled_blocks::LeveledBlocks;
 use bm_base::{NodeId, StorageId};
 use bm_topo::Topology;

@@ -1,7 +1,7 @@
 // Changes the marks of all replicas of one block in the same way.
 ghost use Rattle.std.specs.Prelude.{◌≡◌, false, if◌then◌else◌};
+ghost use Rattle.bm_base.specs.Words.{is_good};
 ghost use Rattle.bm_base.specs.declared.replica.Tag.TheVariants.{Stale};
-ghost use Rattle.bm_base.specs.Machine.Replicas.{is_good};
 ghost use Rattle.bm_arena.specs.Contents.{block_at, known_of, KeepsAllBut, IsLawful};
 ghost use Rattle.bm_arena.specs.HeldMaps.{replicas_at};
 ghost use Rattle.bm_levels.specs.Changes.{changed, all_changed};

@@ -1,11 +1,11 @@
 // Racks that come and go: the alive nodes get onto two racks or more, or back onto one.
 ghost use Rattle.std.specs.Prelude.{◌≡◌};
-ghost use Rattle.bm_base.specs.Machine.State.{Cluster};
-ghost use Rattle.bm_base.specs.Machine.Replicas as replicas;
+ghost use Rattle.bm_base.specs.Words.{Cluster};
 ghost use Rattle.bm_levels.specs.LeveledBlocks.{AreLevels};
 ghost use Rattle.bm_levels.specs.LevelsBy.{AreLevelsWith, IsSameForHeld};
+ghost use Rattle.bm_base.specs.Machine.Replicas as replicas;
 
-use crate::cluster_after::ClusterAfter;
+use crate::classification::ClusterAfter;
 use crate::leveled_blocks::LeveledBlocks;
 use bm_topo::Topology;
 

@@ -1,11 +1,9 @@
 // Full reports and notices of received replicas: prepared, aborted or applied, with the levels of
 // the changed blocks.
 ghost use Rattle.std.specs.Prelude.{◌≡◌, ◌==◌, ◌<◌, ◌≤◌, ◌^◌, ◌∷◌, [], ℕ, length, take, IfErr, OnOk, OnErr};
+ghost use Rattle.bm_base.specs.Words.{Cluster};
 ghost use Rattle.bm_base.specs.declared.refusal.Refusal.TheVariants.{Memory};
 ghost use Rattle.bm_maps.specs.SlotLists.{IsMember};
-ghost use Rattle.bm_base.specs.Machine.State.{Cluster};
-ghost use Rattle.bm_base.specs.Machine.Events as events;
-ghost use Rattle.bm_base.specs.Machine.Calls as calls;
 ghost use Rattle.bm_arena.specs.Contents.{HasHead, KeepsEntries};
 ghost use Rattle.bm_arena.specs.HeldMaps.{replicas_of, blocks_of, holdings_of};
 ghost use Rattle.bm_report.specs.ReportedBlocks.{reported_to_part};
@@ -15,6 +13,8 @@ ghost use Rattle.bm_report.specs.ReceivedReplica.{HasReceived};
 ghost use Rattle.bm_levels.specs.UnusedEntries.{HasNoUnusedOf, MakesNoUnused, MakesUnusedOnly, IsSameButDelimiter};
 ghost use Rattle.bm_levels.specs.IndexedLevels.{HasCapacityFor};
 ghost use Rattle.bm_levels.specs.LeveledBlocks.{KeepsLevels};
+ghost use Rattle.bm_base.specs.Machine.Events as events;
+ghost use Rattle.bm_base.specs.Machine.Calls as calls;
 
 use crate::leveled_blocks::LeveledBlocks;
 use bm_base::{BlockId, Entry, Part, Refusal, Stamp, StorageId};

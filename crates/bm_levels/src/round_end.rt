@@ -1,14 +1,14 @@
 // The end of a round: marks the replicas whose deletes it commands as ordered.
 ghost use Rattle.std.specs.Prelude.{◌≡◌, ◌<◌, ℕ, Some};
 ghost use Rattle.bm_base.specs.Words.{insert, revise, revise_at, replica_at};
-ghost use Rattle.bm_base.specs.RoundParts as parts;
 ghost use Rattle.bm_arena.specs.Contents.{slot_of, marks_at};
 ghost use Rattle.bm_arena.specs.HeldMaps.{replicas_of, blocks_of};
 ghost use Rattle.bm_levels.specs.Changes.{as_ordered, with_deletes_ordered};
 ghost use Rattle.bm_levels.specs.LeveledBlocks.{KeepsLevels};
+ghost use Rattle.bm_base.specs.RoundParts as parts;
 
+use crate::classification::is_good_and_unmarked;
 use crate::leveled_blocks::LeveledBlocks;
-use crate::replica_count::is_good_and_unmarked;
 use bm_arena::{Arena, Slot};
 use bm_base::{BlockId, Delete, Marks, Part, StorageId, shard_of};
 use bm_topo::Topology;

@@ -1,14 +1,14 @@
 // The start of a round: changes the marks of replicas in excess.
 ghost use Rattle.std.specs.Prelude.{◌≡◌, ◌≢◌, ℕ, ◌<◌, length, false, Some, if◌then◌else◌};
 ghost use Rattle.bm_base.specs.Words.{revise, revise_at, with_excess_reset};
-ghost use Rattle.bm_base.specs.Machine.Excess as excess;
-ghost use Rattle.bm_base.specs.RoundParts as parts;
 ghost use Rattle.bm_arena.specs.Contents.{block_at, slot_of, KeepsEntries};
 ghost use Rattle.bm_arena.specs.HeldMaps.{replicas_at, replicas_of, blocks_of};
 ghost use Rattle.bm_levels.specs.UnusedEntries.{KeepsBlocksOutside};
 ghost use Rattle.bm_levels.specs.Changes.{as_excess, all_changed, has_replica, has_block, at_round_start, AreOfBlock, AreByStorage, AreInOrder};
 ghost use Rattle.bm_levels.specs.IndexedLevels.{IsUnsettled, KeepsAhead};
 ghost use Rattle.bm_levels.specs.LeveledBlocks.{KeepsLevels};
+ghost use Rattle.bm_base.specs.Machine.Excess as excess;
+ghost use Rattle.bm_base.specs.RoundParts as parts;
 
 use crate::leveled_blocks::LeveledBlocks;
 use crate::listed_replicas::{count_of_block, mark_listed, with_excess};

@@ -1,13 +1,13 @@
 // Removes all replicas of a storage, some blocks of its list at a time, so that cache misses
 // overlap.
-ghost use Rattle.std.specs.Prelude.{◌≡◌, ◌<◌, ◌≤◌, ◌+◌, ℕ, [], length, take, None};
+ghost use Rattle.std.specs.Prelude.{◌≡◌, ◌<◌, ◌≤◌, ◌+◌, ℕ, [], length, None};
 ghost use Rattle.bm_arena.specs.Contents.{block_at, known_of, list_of, marks_at, HasHead};
 ghost use Rattle.bm_arena.specs.HeldMaps.{replicas_of, blocks_of};
 ghost use Rattle.bm_levels.specs.UnusedEntries.{KeepsBlocksOutside, MakesNoUnused};
 ghost use Rattle.bm_levels.specs.LeavingReplicas.{IsLeavingStorage, HasFirstSlots, DropsFirstSlots, MakesNoHead};
 ghost use Rattle.bm_levels.specs.ClusterAfter.{KeepsLevelsAfter};
 
-use crate::cluster_after::ClusterAfter;
+use crate::classification::ClusterAfter;
 use crate::first_slots::FirstSlots;
 use crate::leveled_blocks::LeveledBlocks;
 use bm_arena::{Arena, Slot};

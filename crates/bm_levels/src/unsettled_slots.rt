@@ -1,6 +1,6 @@
 // The unsettled slots: those that a round has to scan for marks and deletes.
 ghost use Rattle.std.specs.Prelude.{◌≡◌, ◌∷◌, length, Some};
-ghost use Rattle.bm_base.specs.Maps.Lists.{has};
+ghost use Rattle.bm_base.specs.Words.{has};
 ghost use Rattle.bm_maps.specs.SlotLists.{Distinct};
 ghost use Rattle.bm_queues.specs.Walks.{slots_from, IsOn, IsPast};
 ghost use Rattle.bm_levels.specs.IndexedLevels.{IsUnsettled};

@@ -1,6 +1,6 @@
 // Unused entries: those of numbers with neither a block nor a replica.
 ghost use Rattle.std.specs.Prelude.{◌≡◌, ◌≢◌, ℕ, [], Some, None, IsSomeAnd};
-ghost use Rattle.bm_base.specs.Machine.State.{Cluster};
+ghost use Rattle.bm_base.specs.Words.{Cluster};
 ghost use Rattle.bm_arena.specs.Contents.{block_at, slot_of};
 ghost use Rattle.bm_arena.specs.HeldMaps.{replicas_at, replicas_of, blocks_of, info_at};
 ghost use Rattle.bm_levels.specs.UnusedEntries.{IsUnused, HasNoUnusedAt, MakesNoUnused, KeepsSlots};
@@ -53,7 +53,7 @@ impl LeveledBlocks {
         }
     }
 
-    /// Drops the entry of a number if it is unused; others stay. Takes no memory.
+    /// Drops the entry in a slot if it is unused; others stay. Takes no memory.
     pub fn drop_if_unused(&mut self, slot: Slot)
         requires { (id : ℕ) × (slot_of self.old.arena id ≡ Some slot) }
         ensures blocks { blocks_of self.new.arena ≡ blocks_of self.old.arena }

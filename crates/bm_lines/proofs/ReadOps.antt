@@ -6,7 +6,7 @@ use Rattle.bm_base.specs.declared.event.Event.{Event}
 use Rattle.bm_base.specs.declared.call.Call.{Call}
 use Rattle.bm_lines.specs.declared.parser.op.Op.{Op}
 use Rattle.bm_lines.specs.declared.parser.op.Op.TheVariants.{Register, Heartbeat, Dead, StorageFailed, Drain, Undrain, Add, Delete, SetReplication, Restamp, Received, Deleted, Corrupt, Report, Round, ListReplicas, ListCorrupt, ListMissing, ListExcess, ListStorage, ListPlaces, Level, Retired}
-use Rattle.bm_lines.specs.Parser.CallOf.{apply_one, apply_two, apply_three, call_for, call_in}
+use Rattle.bm_lines.specs.Parser.CallOf.{apply_one, apply_two, apply_three, call_for, call_of_value}
 use Rattle.bm_lines.specs.CallText.{has_op}
 
 abbrev pub HasOp : Option Call → Type 0
@@ -60,9 +60,9 @@ after : {A : Type 0} (f : A → Option Call) → ((x : A) → HasOp (f x)) → (
 after f h None = tt
 after f h (Some x) = h x
 
-pub call_in-has_op : (d : Data) → HasOp (call_in d)
-call_in-has_op d = after (λ o. call_for o d) (call_for_has d) _
+pub call_of_value-has_op : (d : Data) → HasOp (call_of_value d)
+call_of_value-has_op d = after (λ o. call_for o d) (call_for_has d) _
 
 -- an option that is the call in an object has an op
-pub read_has_op : (d : Data) (o : Option Call) → o ≡ call_in d → HasOp o
-read_has_op d o e = subst HasOp (sym e) (call_in-has_op d)
+pub read_has_op : (d : Data) (o : Option Call) → o ≡ call_of_value d → HasOp o
+read_has_op d o e = subst HasOp (sym e) (call_of_value-has_op d)

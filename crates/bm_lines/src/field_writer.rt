@@ -1,6 +1,6 @@
 // The fields of a line, one after another.
 ghost use Rattle.std.specs.Prelude.{◌≡◌, ◌++◌, ◌<◌, ◌^◌, All, OnOk, codes, decimal, string_bytes};
-ghost use Rattle.bm_base.specs.Promises.Fitting.{FitsStamp};
+ghost use Rattle.bm_base.specs.Words.{FitsStamp};
 ghost use Rattle.bm_lines.specs.CallText.{number_text, list_text, stamp_text, with_commas, remaining_text, run_text, entry_text};
 ghost use Rattle.bm_lines.specs.FittingNumbers.{FitsRemaining, FitsEntry};
 

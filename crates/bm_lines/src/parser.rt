@@ -1,9 +1,8 @@
-// Parses a line as a call: a canonical line by its bytes, any other by the value that `serde_json`
-// reads.
+// Parses a line as a call: a canonical line with a frequent op by its bytes, any other by the value
+// that `serde_json` reads.
 
 mod call;
 mod canonical;
-mod canonical_calls;
 mod canonical_entries;
 mod canonical_lists;
 mod canonical_numbers;

@@ -1,6 +1,5 @@
 // The items of an answer's line.
-ghost use Rattle.std.specs.Prelude.{◌≡◌, ◌++◌, OnOk, string_bytes};
-ghost use Rattle.std.specs.List.{flat_map};
+ghost use Rattle.std.specs.Prelude.{◌≡◌, ◌++◌, OnOk, string_bytes, flat_map};
 ghost use Rattle.bm_lines.specs.Print.{number_item, replica_item, replica_id_item, level_item, transfer_item, delete_item, node_items};
 
 use bm_base::{

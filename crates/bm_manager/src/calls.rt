@@ -1,7 +1,6 @@
 // Calls as values: one call, and lists of calls.
 ghost use Rattle.std.specs.Prelude.{◌≡◌, IfOk, OnErr};
-ghost use Rattle.bm_base.specs.Words.{MayAnswer, MayAnswerAll, state_after_answer, state_after_answers, step};
-ghost use Rattle.bm_base.specs.Promises.Lawful.{IsLawful};
+ghost use Rattle.bm_base.specs.Words.{MayAnswer, MayAnswerAll, state_after_answer, state_after_answers, step, IsLawful};
 
 use crate::manager::Manager;
 use bm_base::{Answer, Call, Items};

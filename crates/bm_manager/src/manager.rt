@@ -1,7 +1,6 @@
 // The manager: one call after another.
 ghost use Rattle.std.specs.Prelude.{◌≡◌, ◌<◌, true, None, IfOk, IfErr, OnOk, OnErr};
-ghost use Rattle.bm_base.specs.Words.{first_state, refusal_of, first_of, cluster_checks, block_checks, last_number, config_refusal, done_by, after_event, checked, Refuses, takes_memory};
-ghost use Rattle.bm_base.specs.Promises.Lawful.{IsLawful};
+ghost use Rattle.bm_base.specs.Words.{first_state, refusal_of, first_of, cluster_checks, block_checks, last_number, config_refusal, done_by, after_event, checked, Refuses, takes_memory, IsLawful};
 
 use bm_base::{Config, Done, Event, HashSecret, Refusal};
 use bm_crew::Gate;

@@ -1,9 +1,9 @@
 // The queries of a manager. No query changes anything, and none counts as an accepted call.
 ghost use Rattle.std.specs.Prelude.{◌≡◌, true, false, None, IfOk, IfErr, OnOk};
-ghost use Rattle.bm_base.specs.Machine.Queries as queries;
-ghost use Rattle.bm_base.specs.Machine.Levels as levels;
 ghost use Rattle.bm_base.specs.Words.{node_refusal, storage_refusal, block_refusal, Refuses};
 ghost use Rattle.bm_base.specs.declared.refusal.Refusal.TheVariants.{Memory};
+ghost use Rattle.bm_base.specs.Machine.Queries as queries;
+ghost use Rattle.bm_base.specs.Machine.Levels as levels;
 
 use crate::manager::Manager;
 use bm_base::{BlockId, Items, Level, NodeId, Refusal, Replica, ReplicaId, StorageId};

@@ -1,8 +1,8 @@
 // The manager's rounds.
 ghost use Rattle.std.specs.Prelude.{◌≡◌, ◌<◌, true, None, IfOk, IfErr, OnOk, OnErr};
+ghost use Rattle.bm_base.specs.Words.{whole_round, round_refusal, last_number, count_call, checked, Refuses, SparesLastGood};
 ghost use Rattle.bm_base.specs.declared.refusal.Refusal.TheVariants.{Memory};
-ghost use Rattle.bm_base.specs.Words.{whole_round, round_refusal, last_number, count_call, checked, Refuses};
-ghost use Rattle.bm_base.specs.Promises.Sparing.{SparesLastGood, KeepsEnoughLive};
+ghost use Rattle.bm_base.specs.Promises.Sparing.{KeepsEnoughLive};
 
 use crate::manager::Manager;
 use bm_base::{Commands, Refusal};

@@ -2,7 +2,6 @@
 #![tactic(auto)]
 
 mod number_map;
-mod number_search;
 mod slot_link;
 pub mod sorted_entries;
 

@@ -1,8 +1,8 @@
-// Entries in a vector with strictly ascending keys: the base of the maps. Each look-up is a binary
-// search.
+// Entries in a vector with strictly ascending keys, looked up by binary search. The base of
+// `NumberMap`; other crates use `find` and `key_index` on lists of their own.
 ghost use Rattle.std.specs.Prelude.{◌≡◌, ◌<◌, ◌≤◌, ◌+◌, if◌then◌else◌, is_some, OnOk, OnErr, IsOk, IsTrue, T, vec_len, vec_capacity, length, insert};
-ghost use Rattle.std.specs.FinMap as list;
 ghost use Rattle.bm_maps.specs.KeyIndex.{key_index};
+ghost use Rattle.std.specs.FinMap as list;
 
 use std::alloc::AllocError;
 use std::cmp::Ordering;

@@ -7,7 +7,7 @@ use Rattle.std.proofs.lemmas.Option.{same_Some}
 use Rattle.bm_base.specs.declared.replica.ReplicaId.{ReplicaId}
 use Rattle.bm_base.specs.declared.replica.Marks.{Marks}
 use Rattle.bm_base.specs.declared.replica.BlockInfo.{BlockInfo}
-use Rattle.bm_base.specs.declared.level.Level.{Level}
+use Rattle.bm_base.specs.declared.replica.Level.{Level}
 use Rattle.bm_base.specs.declared.commands.Transfer.{Transfer}
 use Rattle.bm_base.specs.Words.{get, contains_key, entries, keys, len, RoundLimits, Cluster, Holdings, replica_at, has, least, is_usable, is_live_on, is_draining, live, sources_of, storages_where, excess_cmp, excess_among, excess_of, excess_in, RequestedCopy, least_source, least_target_by, least_target, scheduled_to, target_cmp, is_target, holders_of, excluded_for, transfer_for, transfers_from, transfers, wishes}
 use Rattle.bm_base.proofs.Options.{is_there, revised, chained}

@@ -2,8 +2,8 @@
 #![tactic(auto)]
 
 ghost use Rattle.std.specs.Prelude.{◌≡◌};
-ghost use Rattle.bm_parts.specs.EventLaws as law;
 ghost use Rattle.bm_parts.specs.Parts.{block_of};
+ghost use Rattle.bm_parts.specs.EventLaws as law;
 
 use bm_base::{BlockId, Event};
 

@@ -1,18 +1,18 @@
-// The map of blocks to their targets: changes and look-ups.
+// The map of blocks to their targets: changes and look-ups. The targets of a block are strictly
+// ascending storages, each with the round of its command.
 ghost use Rattle.std.specs.Prelude.{◌≡◌, ◌≢◌, ◌≤◌, ◌<◌, ◌+◌, ℕ, [], not, ◌==◌, nat_eq, filter, cond, OnOk, IfErr, IsOk, T};
-ghost use Rattle.std.specs.Ordering.{nat_cmp};
-ghost use Rattle.std.specs.FinMap as list;
-ghost use Rattle.std.specs.Map.{keys_of};
+ghost use Rattle.bm_base.specs.Words.{nat_cmp, keys_of, has, is_expired};
 ghost use Rattle.bm_base.specs.declared.refusal.Refusal.TheVariants.{Memory};
-ghost use Rattle.bm_base.specs.Words.{has, is_expired};
 ghost use Rattle.bm_pending.specs.Inside.{targets_at, capacity_at};
+ghost use Rattle.smallvec.specs.SmallVec.{HasRoomFor};
+ghost use Rattle.std.specs.FinMap as list;
 
-use crate::targets::{PendingTargets, drop_expired, drop_storages, drop_target, put};
 use bm_base::{HashSecret, Refusal, StorageId};
-use bm_maps::sorted_entries::find;
+use bm_maps::sorted_entries::{find, key_index};
 use indexmap::IndexMap;
 use smallvec::SmallVec;
 use std::alloc::Global;
+use std::cmp::Ordering;
 
 /// Each block with its targets, strictly ascending, and the rounds of their commands.
 pub(crate) type Blocks = IndexMap<u64, PendingTargets, HashSecret>;
@@ -145,4 +145,67 @@ pub(crate) fn find_target(blocks: &Blocks, block: u64, storage: u32) -> Option<u
     ensures { result ≡ list.find nat_cmp storage (targets_at blocks.now.entries block) }
 {
     find(list_targets(blocks, block), &storage)
+}
+
+/// Two targets are stored inline, as most blocks have no more; a third takes an allocation.
+type PendingTargets = SmallVec<(u32, u64), 2>;
+
+/// Sets the round of a storage. Takes no memory.
+fn put(targets: &mut PendingTargets, storage: u32, round: u64)
+    requires sorted { T (list.is_sorted nat_cmp targets.old.items) }
+    requires capacity { HasRoomFor targets.old 1 }
+    ensures items { targets.new.items ≡ list.put nat_cmp storage round targets.old.items }
+    ensures capacity { targets.new.capacity ≡ targets.old.capacity }
+{
+    let at = key_index(targets.as_slice(), &storage);
+    if at < targets.len() {
+        match storage.cmp(&targets.as_slice()[at].0) {
+            Ordering::Equal => {
+                targets.as_mut_slice()[at].1 = round;
+                return;
+            }
+            _ => {}
+        }
+    }
+    match targets.insert(at, (storage, round)) {
+        Ok(()) => {}
+        Err(_) => unreachable!(),
+    }
+}
+
+/// Removes the transfer to a storage.
+fn drop_target(targets: &mut PendingTargets, storage: u32)
+    ensures items { targets.new.items ≡ filter (λ t. not (t.0 == storage)) targets.old.items }
+    ensures capacity { targets.new.capacity ≡ targets.old.capacity }
+{
+    targets.retain(|target| target.0 != storage);
+}
+
+/// Whether a transfer that was commanded in round `commanded` is expired in this round.
+pub(crate) fn is_expired(commanded: u64, pend: u32, round: u64) -> bool
+    ensures { result ≡ is_expired pend round commanded }
+{
+    u64::from(pend) <= round.saturating_sub(commanded)
+}
+
+/// Removes the expired transfers.
+fn drop_expired(targets: &mut PendingTargets, pend: u32, round: u64)
+    ensures { targets.new
+        ≡ record targets.old {
+          items = filter
+              (λ t. not (is_expired pend round t.1)) targets.old.items;
+        } }
+{
+    targets.retain(|target| !is_expired(target.1, pend, round));
+}
+
+/// Removes the transfers to these storages.
+fn drop_storages(targets: &mut PendingTargets, storages: &[StorageId])
+    ensures { targets.new
+        ≡ record targets.old {
+          items = filter
+              (λ t. not (has storages.now t.0)) targets.old.items;
+        } }
+{
+    targets.retain(|target| !storages.contains(&StorageId(target.0)));
 }

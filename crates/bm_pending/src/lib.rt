@@ -10,7 +10,6 @@ mod by_block;
 mod own_transfers;
 mod pending_transfers;
 mod remaining_targets;
-mod targets;
 mod transfer_lists;
 
 pub use pending_transfers::PendingTransfers;

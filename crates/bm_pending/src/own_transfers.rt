@@ -1,7 +1,7 @@
 // Capacity for the chosen transfers of a part's own blocks.
-ghost use Rattle.std.specs.Prelude.{◌≡◌, ◌≤◌, ◌<◌, ℕ, ◌==◌, length, filter, suc, cond, nat_eq, OnOk, IfOk, IfErr};
+ghost use Rattle.std.specs.Prelude.{◌≡◌, ◌≤◌, ◌<◌, ℕ, ◌==◌, length, filter, cond, nat_eq, OnOk, IfOk, IfErr, suc};
+ghost use Rattle.bm_base.specs.Words.{own_transfers};
 ghost use Rattle.bm_base.specs.declared.refusal.Refusal.TheVariants.{Memory};
-ghost use Rattle.bm_base.specs.RoundParts.{own_transfers};
 ghost use Rattle.bm_pending.specs.PendingMap.{capacity};
 ghost use Rattle.bm_pending.specs.TargetCounts.{count_at};
 

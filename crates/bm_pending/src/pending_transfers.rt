@@ -1,12 +1,11 @@
 // The pending transfers: the fields, what a contract sees of them, and the calls.
 ghost use Rattle.std.specs.Prelude.{◌≡◌, ◌≢◌, ◌≤◌, ◌<◌, ◌+◌, ◌++◌, [], length, ℕ, not, ◌==◌, if◌then◌else◌, OnOk, OnErr, IfOk, IfErr, IsOk, IsSome, true, nat_eq, slice_get, vec_len, vec_capacity};
-ghost use Rattle.std.specs.List.{IsDistinct};
+ghost use Rattle.bm_base.specs.Words.{IsDistinct, replica_at, has, is_expired};
 ghost use Rattle.bm_base.specs.declared.refusal.Refusal.TheVariants.{Memory};
 ghost use Rattle.bm_base.specs.declared.replica.ReplicaId.{ReplicaId};
-ghost use Rattle.bm_base.specs.Maps.Map as map;
-ghost use Rattle.bm_base.specs.Words.{replica_at, has, is_expired};
-ghost use Rattle.bm_pending.specs.RemainingTargets as remaining;
 ghost use Rattle.bm_pending.specs.PendingMap.{capacity, blocks_in, targets_of, expired_of};
+ghost use Rattle.bm_base.specs.Maps.Map as map;
+ghost use Rattle.bm_pending.specs.RemainingTargets as remaining;
 
 use crate::by_block::{
     Blocks, drop_block, drop_expired_targets, drop_pending, drop_targets_on, find_target,

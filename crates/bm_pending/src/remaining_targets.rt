@@ -1,9 +1,9 @@
 // The targets of a block that remain pending after a round.
 ghost use Rattle.std.specs.Prelude.{◌≡◌, count_by, not, IfOk};
-ghost use Rattle.bm_base.specs.Machine.Excess.{is_expired};
+ghost use Rattle.bm_base.specs.Words.{is_expired};
 ghost use Rattle.bm_pending.specs.Inside.{remaining_storages};
 
-use crate::targets::is_expired;
+use crate::by_block::is_expired;
 use bm_base::{StorageId, StorageIds};
 use std::alloc::{AllocError, Global};
 

@@ -1,16 +1,12 @@
 // Transfers as lists: those of a block, and all that are expired, in order.
 ghost use Rattle.std.specs.Prelude.{◌≡◌, ◌≤◌, ◌+◌, ℕ, [], false, nat_eq, map, length, ◌++◌, OnOk, OnErr, IfOk, IfErr, IsOk, T, vec_len, vec_capacity};
-ghost use Rattle.std.specs.Ordering.{nat_cmp};
-ghost use Rattle.std.specs.FinMap as list;
-ghost use Rattle.std.specs.List.{list_any, IsDistinct};
-ghost use Rattle.std.specs.List.Sorted.{IsNonDecreasing};
+ghost use Rattle.bm_base.specs.Words.{nat_cmp, list_any, IsDistinct, IsNonDecreasing, replica_at, is_expired};
 ghost use Rattle.bm_base.specs.declared.refusal.Refusal.TheVariants.{Memory};
-ghost use Rattle.bm_base.specs.Words.{replica_at, is_expired};
 ghost use Rattle.bm_pending.specs.PendingMap.{expired_of};
 ghost use Rattle.bm_pending.specs.Inside.{targets_at, expired_among, map_of};
+ghost use Rattle.std.specs.FinMap as list;
 
-use crate::by_block::{Blocks, list_targets};
-use crate::targets::is_expired;
+use crate::by_block::{Blocks, is_expired, list_targets};
 use bm_base::{BlockId, Refusal, ReplicaId, StorageId};
 use std::alloc::Global;
 

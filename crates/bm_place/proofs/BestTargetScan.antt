@@ -12,8 +12,8 @@ use Rattle.std.proofs.lemmas.Cmp.{tied_itself}
 use Rattle.std.proofs.lemmas.List.MinMax.{ranks_by}
 use Rattle.std.proofs.lemmas.Option.{cond_some}
 use Rattle.std.proofs.Math.Bool.{or-true}
-use Rattle.bm_base.specs.declared.level.Level.{Level}
-use Rattle.bm_base.specs.declared.level.Level.TheVariants.{BadlyDistributed}
+use Rattle.bm_base.specs.declared.replica.Level.{Level}
+use Rattle.bm_base.specs.declared.replica.Level.TheVariants.{BadlyDistributed}
 use Rattle.bm_base.specs.Words.{is_at, has, least, get, keys, Cluster, free_bytes, class_of, target_cmp, is_target, least_target_by}
 use Rattle.bm_place.specs.declared.scheduled_bytes.TargetRow.{TargetRow}
 use Rattle.bm_place.specs.declared.replica_spread.ReplicaSpread.{ReplicaSpread}

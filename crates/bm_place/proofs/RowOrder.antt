@@ -4,8 +4,8 @@ use Rattle.std.proofs.Common.{◌≡◌, ℕ, ◌+◌, Bool, true, false, ◌&&�
 use Rattle.std.specs.Ordering.{nat_cmp, ordering_then}
 use Rattle.std.specs.Cmp.{IsTotalOrder, nat_cmp_total}
 use Rattle.std.proofs.lemmas.Cmp.{on_total, then_total, back_total}
-use Rattle.bm_base.specs.declared.level.Level.{Level}
-use Rattle.bm_base.specs.declared.level.Level.TheVariants.{BadlyDistributed}
+use Rattle.bm_base.specs.declared.replica.Level.{Level}
+use Rattle.bm_base.specs.declared.replica.Level.TheVariants.{BadlyDistributed}
 use Rattle.bm_base.specs.Words.{Cluster, rack_of, has_storage, is_draining, is_at, remaining, free_bytes, class_of, target_cmp, is_excluded, is_target}
 use Rattle.bm_place.specs.ReplicaSpread.{replica_spread_of, class_by_spread, is_one}
 use Rattle.bm_place.specs.Targets.{target_at, cmp_targets, is_available, is_excluded_by}

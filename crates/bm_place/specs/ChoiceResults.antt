@@ -1,7 +1,7 @@
 -- The results of the choices of a round.
 use Rattle.std.specs.Prelude.{◌≡◌, ◌<◌, ◌≤◌, ◌+◌, ℕ, true, false, nat_lt, List, Option, Some}
 use Rattle.std.specs.Option.{IfSome}
-use Rattle.bm_base.specs.declared.level.Level.{Level}
+use Rattle.bm_base.specs.declared.replica.Level.{Level}
 use Rattle.bm_base.specs.declared.commands.Transfer.{Transfer}
 use Rattle.bm_base.specs.Words.{Map, by_number, get, keys, revise_at, Cluster, has, node_of, has_storage, is_draining, remaining, least_source_by, source_cmp, stream_limit, least_target_by, target_cmp, is_target, scheduled_to}
 use Rattle.bm_place.specs.declared.scheduled_bytes.TargetRow.{TargetRow}

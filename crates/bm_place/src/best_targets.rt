@@ -1,6 +1,6 @@
 // The best targets of the nodes.
 ghost use Rattle.std.specs.Prelude.{◌≡◌, ◌<◌, ◌==◌, filter_map, length, Some, position, IfOk, OnOk};
-ghost use Rattle.std.specs.List.Sorted.{IsPermutation, IsSorted};
+ghost use Rattle.bm_base.specs.Words.{IsPermutation, IsSorted};
 ghost use Rattle.bm_base.specs.Maps.Map as table;
 ghost use Rattle.bm_place.specs.BestTargets as nodes;
 ghost use Rattle.bm_place.specs.Scan as scanned;

@@ -1,8 +1,8 @@
 // Which replicas of a block are in excess.
 ghost use Rattle.std.specs.Prelude.{◌≡◌, ◌++◌, ◌≤◌, false, length, IsOk, IfOk, IfErr, OnOk};
+ghost use Rattle.bm_base.specs.Words.{has_repeats};
 ghost use Rattle.bm_base.specs.declared.refusal.Refusal.TheVariants.{Memory};
 ghost use Rattle.bm_base.specs.Machine.Excess as excess;
-ghost use Rattle.bm_base.specs.Maps.Lists.{has_repeats};
 
 use crate::holders::{Holder, fill_holders};
 use crate::sorted_excess::{count_racks, push_in_order, sort_holders};

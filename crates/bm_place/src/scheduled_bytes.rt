@@ -1,17 +1,16 @@
 // The bytes scheduled to each storage in a round.
-ghost use Rattle.std.specs.Prelude.{◌≡◌, ◌≤◌, ◌+◌, ◌==◌, if◌then◌else◌, ℕ, List, [], ◌∷◌, ◌++◌, Some, IfOk, IfErr};
-ghost use Rattle.std.specs.Option.{IfSome};
+ghost use Rattle.std.specs.Prelude.{◌≡◌, ◌+◌, ◌==◌, if◌then◌else◌, ℕ, List, [], ◌∷◌, ◌++◌, Some, IfOk, IfErr};
+ghost use Rattle.bm_base.specs.Words.{Cluster, has_storage};
 ghost use Rattle.bm_base.specs.declared.refusal.Refusal.TheVariants.{Memory};
 ghost use Rattle.bm_base.specs.declared.commands.Transfer.{Transfer};
-ghost use Rattle.bm_base.specs.Words.{Cluster, has_storage};
-ghost use Rattle.bm_base.specs.Maps.Map as map;
-ghost use Rattle.bm_base.specs.Machine.Transfers as transfers;
 ghost use Rattle.bm_place.specs.Tables.{none_sent};
-ghost use Rattle.bm_place.specs.Targets as targets;
 ghost use Rattle.bm_place.specs.ChoiceResults.{HasFreeBytesFor, with_sent, targets_with};
-ghost use Rattle.bm_base.specs.Maps.Lists as lists;
 ghost use Rattle.bm_place.specs.BestTargets.{AreBestTargets, IsKept, AreOf};
 ghost use Rattle.bm_place.specs.declared.scheduled_bytes.TargetRow.{TargetRow};
+ghost use Rattle.bm_base.specs.Maps.Map as map;
+ghost use Rattle.bm_base.specs.Machine.Transfers as transfers;
+ghost use Rattle.bm_place.specs.Targets as targets;
+ghost use Rattle.bm_base.specs.Maps.Lists as lists;
 
 use crate::best_targets::{best_of_each_node, best_on_node, index_of_storage, reposition};
 use bm_base::{NodeId, Rack, Refusal, StorageId};

@@ -1,13 +1,11 @@
 // The choice of excess: the live replicas are sorted, and then one pass chooses.
 ghost use Rattle.std.specs.Prelude.{◌≡◌, ◌+◌, ◌-◌, ◌++◌, ◌&&◌, if◌then◌else◌, false, nat_lt, take, ℕ, List, OnOk, IfOk};
-ghost use Rattle.std.specs.Option.{option_map_or};
-ghost use Rattle.std.specs.List.Sorted.{IsPermutation, IsSorted};
+ghost use Rattle.bm_base.specs.Words.{option_map_or, IsPermutation, IsSorted, Cluster};
+ghost use Rattle.bm_place.specs.ReplicaSpread.{is_rack};
 ghost use Rattle.bm_base.specs.Machine.Excess as excess;
 ghost use Rattle.bm_base.specs.Maps.Map as map;
-ghost use Rattle.bm_base.specs.Machine.State.{Cluster};
 ghost use Rattle.bm_place.specs.Holders as looked_up;
 ghost use Rattle.bm_place.specs.SortedExcess as pass;
-ghost use Rattle.bm_place.specs.ReplicaSpread.{is_rack};
 ghost use Rattle.bm_place.specs.Tables as tables;
 
 use crate::holders::Holder;

@@ -11,7 +11,7 @@ use Rattle.bm_arena.specs.Contents.{Contents, block_at, slot_of, marks_at, list_
 use Rattle.bm_arena.specs.HeldMaps.{info_at, id_at}
 use Rattle.bm_levels.specs.IndexedLevels.{level_of_slot}
 use Rattle.bm_levels.specs.LeveledBlocks.{Leveled, IsLeveled}
-use Rattle.bm_base.specs.declared.level.Level.{Level}
+use Rattle.bm_base.specs.declared.replica.Level.{Level}
 use Rattle.bm_queries.proofs.IndexedSlots.{IsOwn}
 
 pub among_at : (xs : List ℕ) (i d : ℕ) → i < length xs → IsMember (get_or xs i d) xs

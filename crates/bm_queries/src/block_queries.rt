@@ -1,14 +1,13 @@
 // Queries of one block, at its own replicas alone.
 ghost use Rattle.std.specs.Prelude.{◌≡◌, ◌++◌, ℕ, IfOk, IfErr, OnOk};
-ghost use Rattle.std.specs.List.{list_any};
+ghost use Rattle.bm_base.specs.Words.{list_any, Map, by_replica};
 ghost use Rattle.bm_base.specs.declared.refusal.Refusal.TheVariants.{Memory};
-ghost use Rattle.bm_base.specs.Words.{Map, by_replica};
-ghost use Rattle.bm_base.specs.Machine.Queries as queries;
-ghost use Rattle.bm_base.specs.Machine.Refusals as refusals;
-ghost use Rattle.bm_base.specs.Machine.Replicas as replicas;
 ghost use Rattle.bm_arena.specs.HeldMaps.{replicas_at};
 ghost use Rattle.bm_levels.specs.SlotHoldings.{holdings_with};
 ghost use Rattle.bm_levels.specs.Status.{storages_at};
+ghost use Rattle.bm_base.specs.Machine.Queries as queries;
+ghost use Rattle.bm_base.specs.Machine.Refusals as refusals;
+ghost use Rattle.bm_base.specs.Machine.Replicas as replicas;
 
 use bm_arena::{Arena, Slot};
 use bm_base::{BlockId, Items, Refusal, StorageId};

@@ -1,10 +1,10 @@
 // Lists of blocks.
 ghost use Rattle.std.specs.Prelude.{◌≡◌, ℕ, IfOk, IfErr};
-ghost use Rattle.bm_base.specs.declared.refusal.Refusal.TheVariants.{Memory};
 ghost use Rattle.bm_base.specs.Words.{Map, Cluster, by_replica};
-ghost use Rattle.bm_base.specs.Machine.Queries as queries;
+ghost use Rattle.bm_base.specs.declared.refusal.Refusal.TheVariants.{Memory};
 ghost use Rattle.bm_levels.specs.SlotHoldings.{holdings_with};
 ghost use Rattle.bm_levels.specs.LeveledBlocks.{AreLevels};
+ghost use Rattle.bm_base.specs.Machine.Queries as queries;
 
 use bm_base::{BlockId, Items, Level, Refusal, StorageId};
 use bm_levels::LeveledBlocks;

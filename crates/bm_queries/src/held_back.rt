@@ -1,7 +1,6 @@
 // Whether a block keeps a draining node from being retired.
 ghost use Rattle.std.specs.Prelude.{◌≡◌, ℕ};
-ghost use Rattle.std.specs.List.{list_any};
-ghost use Rattle.bm_base.specs.Words.{Map, by_replica};
+ghost use Rattle.bm_base.specs.Words.{list_any, Map, by_replica};
 ghost use Rattle.bm_arena.specs.Contents.{block_at};
 ghost use Rattle.bm_parts.specs.QueryLaws.{holds_back};
 ghost use Rattle.bm_levels.specs.SlotHoldings.{holdings_with};

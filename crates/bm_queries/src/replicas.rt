@@ -1,7 +1,7 @@
 // Lists of replicas.
 ghost use Rattle.std.specs.Prelude.{◌≡◌, ◌++◌, ℕ, IsSome, IfOk, IfErr, OnOk, map};
-ghost use Rattle.bm_base.specs.declared.refusal.Refusal.TheVariants.{Memory};
 ghost use Rattle.bm_base.specs.Words.{Map, by_replica};
+ghost use Rattle.bm_base.specs.declared.refusal.Refusal.TheVariants.{Memory};
 ghost use Rattle.bm_arena.specs.Contents.{block_at};
 ghost use Rattle.bm_parts.specs.QueryLaws.{replica_key};
 ghost use Rattle.bm_levels.specs.SlotHoldings.{holdings_with};

@@ -1,16 +1,15 @@
 // The rows of the table that readers see.
-ghost use Rattle.std.specs.Prelude.{◌≡◌, ◌++◌, ◌∷◌, [], ℕ, Some, IsSome, IfOk, IfErr, OnOk, map, take};
-ghost use Rattle.std.specs.List.{All};
+ghost use Rattle.std.specs.Prelude.{◌≡◌, ◌++◌, ◌∷◌, [], ℕ, Some, IsSome, IfOk, IfErr, OnOk, map, take, All};
+ghost use Rattle.bm_base.specs.Words.{Map, keys, by_replica};
 ghost use Rattle.bm_base.specs.declared.refusal.Refusal.TheVariants.{Memory};
 ghost use Rattle.bm_base.specs.declared.limits.TheConstants.{MAX_PLACES};
-ghost use Rattle.bm_base.specs.Words.{Map, keys, by_replica};
-ghost use Rattle.bm_base.specs.Machine.Queries as queries;
-ghost use Rattle.bm_base.specs.Promises.Versions as versions;
 ghost use Rattle.bm_arena.specs.Contents.{block_at, slot_of};
 ghost use Rattle.bm_arena.specs.HeldMaps.{blocks_of};
 ghost use Rattle.bm_levels.specs.IndexedLevels.{indexed_slots};
 ghost use Rattle.bm_levels.specs.SlotHoldings.{holdings_with};
 ghost use Rattle.bm_queries.specs.ListedElements.{known_on, with_slot, HasItsSlot};
+ghost use Rattle.bm_base.specs.Machine.Queries as queries;
+ghost use Rattle.bm_base.specs.Promises.Versions as versions;
 
 use crate::block_queries::push_places;
 use bm_arena::{Arena, Slot};

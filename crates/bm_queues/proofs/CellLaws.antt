@@ -4,7 +4,7 @@ use Rattle.std.specs.List.{swap_remove}
 use Rattle.std.specs.declared.vec.Vec.{Vec}
 use Rattle.std.proofs.Math.Seq.{map-set_same}
 use Rattle.std.proofs.lemmas.List.{get_or-map, get_or_default, length-map, length-set, map-set}
-use Rattle.bm_base.specs.declared.level.Level.{Level}
+use Rattle.bm_base.specs.declared.replica.Level.{Level}
 use Rattle.bm_base.specs.Machine.Levels.{level_number}
 use Rattle.bm_queues.specs.declared.level_lists.Cell.{Cell}
 use Rattle.bm_queues.specs.DenseLevels.{AreDense, HaveCapacity, seen, level_in, array_of, levels_in, indices_in, arrays_in}

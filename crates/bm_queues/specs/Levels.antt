@@ -1,7 +1,7 @@
 -- What a contract sees of level lists.
 -- Source: the queues of Hadoop 2's UnderReplicatedBlocks.
 use Rattle.std.specs.Prelude.{◌≡◌, ◌↔◌, ℕ, ◌+◌, ◌-◌, ◌<◌, ◌≤◌, ◌++◌, List, [], length, replicate, Option, Some, None, slice_index_or, option_and_then}
-use Rattle.bm_base.specs.declared.level.Level.{Level}
+use Rattle.bm_base.specs.declared.replica.Level.{Level}
 use Rattle.bm_base.specs.Machine.Levels.{level_number}
 use Rattle.bm_maps.specs.SlotLists.{IsMember, Distinct, first_of, slot_after}
 use Rattle.bm_maps.specs.SlotLinks.{end_of_links}

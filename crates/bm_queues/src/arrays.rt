@@ -1,6 +1,5 @@
 // The arrays of the five levels.
-ghost use Rattle.std.specs.Prelude.{◌≡◌, ◌≤◌, ℕ, [], ◌∷◌, map, length, IfOk, OnOk};
-ghost use Rattle.std.specs.List.{All};
+ghost use Rattle.std.specs.Prelude.{◌≡◌, ◌≤◌, ℕ, [], ◌∷◌, length, IfOk, OnOk, All};
 ghost use Rattle.bm_queues.specs.DenseLevels.{arrays_in, HaveCapacity};
 
 use std::alloc::{AllocError, Global};

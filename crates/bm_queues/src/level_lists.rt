@@ -1,8 +1,8 @@
 // Five lists of slots, one for each level.
-ghost use Rattle.std.specs.Prelude.{◌≡◌, ◌≢◌, ◌<◌, ◌≤◌, ◌==◌, ◌↔◌, ℕ, [], ◌∷◌, length, reverse, if◌then◌else◌, Option, Some, None, IfOk, IfErr, OnOk, OnErr, IsOk};
-ghost use Rattle.std.specs.List.Sorted.{IsPermutation};
-ghost use Rattle.bm_base.specs.declared.level.Level.{Level};
+ghost use Rattle.std.specs.Prelude.{◌≡◌, ◌≢◌, ◌<◌, ◌≤◌, ◌==◌, ◌↔◌, ℕ, [], ◌∷◌, length, if◌then◌else◌, Option, Some, None, IfOk, IfErr, OnOk, OnErr, IsOk, reverse};
+ghost use Rattle.bm_base.specs.Words.{IsPermutation};
 ghost use Rattle.bm_base.specs.declared.refusal.Refusal.TheVariants.{Memory};
+ghost use Rattle.bm_base.specs.declared.replica.Level.{Level};
 ghost use Rattle.bm_maps.specs.SlotLists.{IsMember, Distinct, first_of};
 ghost use Rattle.bm_queues.specs.Levels.{level_at, slots_of, next_of, with_capacity, visited, IsLawful};
 ghost use Rattle.bm_queues.specs.Walks.{slots_from, IsOn, IsPast, GoesOn};

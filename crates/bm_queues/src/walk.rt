@@ -1,7 +1,7 @@
 // An iterator along a list.
 ghost use Rattle.std.specs.Prelude.{◌≡◌};
+ghost use Rattle.bm_base.specs.Words.{YieldsFirst, item_count};
 ghost use Rattle.bm_queues.specs.Links.{link_at};
-ghost use Rattle.std.specs.Iterator.{YieldsFirst, item_count};
 
 use bm_maps::{NO_LINK, SlotLink};
 use std::marker::Model;

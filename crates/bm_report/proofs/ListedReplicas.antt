@@ -5,7 +5,7 @@ use Rattle.std.specs.Option.{option_map, option_and_then}
 use Rattle.std.proofs.lemmas.Bool.{cases_Bool, eq-eqb, eqb-true, false≢true}
 use Rattle.std.proofs.lemmas.Option.{none-some, slice_get_within, same_Some}
 use Rattle.bm_base.specs.declared.replica.Marks.{Marks}
-use Rattle.bm_arena.specs.declared.types.Triplet.{Triplet}
+use Rattle.bm_arena.specs.declared.arena.Triplet.{Triplet}
 use Rattle.bm_arena.specs.Triplets.{Block, triplet_view}
 use Rattle.bm_arena.specs.Contents.{find_marks}
 

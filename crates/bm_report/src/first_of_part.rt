@@ -1,6 +1,6 @@
 // The numbers of an entry that are of a part.
 ghost use Rattle.std.specs.Prelude.{◌≡◌, ◌<◌, ◌≤◌, ◌+◌};
-ghost use Rattle.bm_base.specs.Shards.{shard_of};
+ghost use Rattle.bm_base.specs.Words.{shard_of};
 
 use bm_base::{BlockId, Part, shard_of};
 

@@ -1,11 +1,11 @@
 // Applies a full report by the delimiter.
 ghost use Rattle.std.specs.Prelude.{◌≡◌, ◌≢◌, ◌≤◌, ◌<◌, ◌+◌, ◌^◌, ℕ, length, map, take, vec_len, vec_capacity, None, ◌⊎◌};
-ghost use Rattle.bm_base.specs.Machine.Events as events;
-ghost use Rattle.bm_base.specs.Machine.Calls as calls;
 ghost use Rattle.bm_maps.specs.SlotLists.{IsMember};
 ghost use Rattle.bm_arena.specs.Contents.{block_at, marks_at, list_of, HasHead, IsEntry, KeepsEntries};
 ghost use Rattle.bm_arena.specs.HeldMaps.{replicas_of, blocks_of, holdings_of};
 ghost use Rattle.bm_report.specs.DuringReport.{AreAtSlots, HaveCapacity, IsOncePerNode, IsExcessGood, reported_of, slot_in, saturating_sum, AllAlreadyThere};
+ghost use Rattle.bm_base.specs.Machine.Events as events;
+ghost use Rattle.bm_base.specs.Machine.Calls as calls;
 
 use crate::report_counts::ReportCounts;
 use crate::reported_chunks::add_all_reported;

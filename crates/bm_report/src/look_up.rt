@@ -1,15 +1,15 @@
 // The slots of the blocks that a report names.
-ghost use Rattle.std.specs.Prelude.{◌≡◌, ◌≢◌, ◌<◌, ◌≤◌, ◌+◌, ◌-◌, ◌^◌, ◌==◌, ◌++◌, ◌∷◌, [], map, ℕ, slice_get, IsSome, IsOk, IfOk, IfErr, OnOk, OnErr, None, Some, false, length};
+ghost use Rattle.std.specs.Prelude.{◌≡◌, ◌≢◌, ◌<◌, ◌+◌, ◌-◌, ◌==◌, ◌++◌, ◌∷◌, [], map, ℕ, IsSome, IsOk, IfOk, IfErr, OnOk, OnErr, None, Some, false};
+ghost use Rattle.bm_base.specs.Words.{blocks_of_entry, is_named};
 ghost use Rattle.bm_base.specs.declared.refusal.Refusal.TheVariants.{Memory};
 ghost use Rattle.bm_arena.specs.Contents.{slot_of, HasHead};
-ghost use Rattle.bm_base.specs.Words.{blocks_of_entry, is_named};
 ghost use Rattle.bm_report.specs.DuringReport.{AreAtSlots, HaveCapacity, reported_of};
 ghost use Rattle.bm_report.specs.AbortedReport.{NamesNew};
 ghost use Rattle.bm_report.specs.ReportedBlocks.{IsPrepared, of_part, reported_to_part};
 ghost use Rattle.bm_report.specs.Ready.{HasReplica, HaveReplicas};
 
 use crate::first_of_part::first_of_part;
-use crate::replica_capacity::reserve_replica;
+use crate::reported_block::reserve_replica;
 use crate::reported_chunks::CHUNK;
 use crate::types::ReportedSlot;
 use bm_arena::{Arena, Slot};

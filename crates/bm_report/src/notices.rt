@@ -1,15 +1,14 @@
 // Notices of single replicas: one was received, one was deleted.
 ghost use Rattle.std.specs.Prelude.{◌≡◌, ◌≢◌, ◌+◌, ℕ, if◌then◌else◌, None, Some};
 ghost use Rattle.bm_base.specs.Words.{remove, replica_at};
-ghost use Rattle.bm_base.specs.Machine.Calls as calls;
 ghost use Rattle.bm_arena.specs.Contents.{block_at, slot_of, marks_at, HasHead, HasCapacity, KeepsEntries};
 ghost use Rattle.bm_arena.specs.HeldMaps.{replicas_of, blocks_of};
 ghost use Rattle.bm_report.specs.DuringReport.{saturating_sum, IsOncePerNode};
 ghost use Rattle.bm_report.specs.Ready.{HasSlotFor};
 ghost use Rattle.bm_report.specs.ReceivedReplica.{HasReceived};
+ghost use Rattle.bm_base.specs.Machine.Calls as calls;
 
-use crate::reported_block::link_new;
-use crate::reported_marks::{marks_during_report, without_invalid_excess};
+use crate::reported_block::{link_new, marks_during_report, without_invalid_excess};
 use crate::types::{Applied, ReportedSlot};
 use bm_arena::Arena;
 use bm_base::{BlockId, Stamp, StorageId};

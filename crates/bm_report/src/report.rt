@@ -1,8 +1,6 @@
 // A full report, and a notice of a received replica, from the look-up of its numbers to its end.
 ghost use Rattle.std.specs.Prelude.{◌≡◌, ◌≢◌, ◌<◌, ◌≤◌, ◌+◌, ◌^◌, ◌∷◌, ◌&&◌, [], ℕ, if◌then◌else◌, length, take, drop, map, None, Some, IsSome, IsTrue, OnOk, IsOk, IfOk, IfErr, ◌⊎◌, ◌↔◌, false};
 ghost use Rattle.bm_base.specs.declared.refusal.Refusal.TheVariants.{Memory};
-ghost use Rattle.bm_base.specs.Machine.Events as events;
-ghost use Rattle.bm_base.specs.Machine.Calls as calls;
 ghost use Rattle.bm_maps.specs.SlotLists.{IsMember};
 ghost use Rattle.bm_arena.specs.Contents.{block_at, slot_of, marks_at, HasHead, IsEntry, KeepsEntries};
 ghost use Rattle.bm_arena.specs.HeldMaps.{replicas_of, blocks_of, holdings_of};
@@ -11,6 +9,8 @@ ghost use Rattle.bm_report.specs.ReportedBlocks.{IsPrepared, reported_to_part};
 ghost use Rattle.bm_report.specs.AbortedReport.{is_unused_number};
 ghost use Rattle.bm_report.specs.ReceivedReplica.{HasReceived};
 ghost use Rattle.bm_report.specs.Ready.{reported_blocks, IsLookedUp, IsReady, IsReportedAt, HasGoodExcess, HasReplica, HaveReplicas, AreAlreadyThere};
+ghost use Rattle.bm_base.specs.Machine.Events as events;
+ghost use Rattle.bm_base.specs.Machine.Calls as calls;
 
 use crate::aborted_report::abort_named;
 use crate::full_report::apply;

@@ -3,9 +3,9 @@
 // The cost of a report is waiting for memory. So the marks of a chunk's blocks are read first, with
 // overlapping cache misses, and the moves and links after that find the blocks' entries in the
 // cache.
-ghost use Rattle.std.specs.Prelude.{◌≡◌, ◌≤◌, ◌<◌, ◌+◌, ◌≢◌, ◌∷◌, [], ℕ, ◌⊎◌, length, map, slice_get, slice_index_or, vec_len, vec_capacity, true, false, None, Some};
+ghost use Rattle.std.specs.Prelude.{◌≡◌, ◌≤◌, ◌<◌, ◌+◌, ◌∷◌, [], ℕ, ◌⊎◌, length, map, slice_get, slice_index_or, vec_len, vec_capacity, true, false, None, Some};
 ghost use Rattle.bm_maps.specs.SlotLists.{IsMember};
-ghost use Rattle.bm_arena.specs.Contents.{block_at, slot_of, marks_at, HasHead, HasCapacity};
+ghost use Rattle.bm_arena.specs.Contents.{slot_of, marks_at, HasHead, HasCapacity};
 ghost use Rattle.bm_report.specs.declared.types.ReportedSlot.{ReportedSlot};
 ghost use Rattle.bm_arena.specs.HeldMaps.{replicas_of};
 ghost use Rattle.bm_report.specs.DuringReport.{AreAtSlots, HaveCapacity, IsOncePerNode, IsEntered, IsCounted, IsListed, FitsCounters, IsAlreadyThere, AllAlreadyThere, slot_in};

@@ -1,12 +1,12 @@
 // The end of a report: unreported replicas leave, and invalid excess is dropped: the mark "in
 // excess" of a replica that is no longer good.
-ghost use Rattle.std.specs.Prelude.{◌≡◌, ◌≤◌, ◌<◌, ◌+◌, ◌^◌, ℕ, length, vec_len, vec_capacity, ◌++◌, ◌∷◌, [], false, IsSome, None, Some};
+ghost use Rattle.std.specs.Prelude.{◌≡◌, ◌≤◌, ◌<◌, ◌+◌, ◌^◌, length, vec_len, vec_capacity, ◌++◌, ◌∷◌, [], false, IsSome, None, Some};
 ghost use Rattle.bm_arena.specs.Contents.{marks_at, slot_of};
 ghost use Rattle.bm_arena.specs.HeldMaps.{replicas_of};
 ghost use Rattle.bm_report.specs.DuringReport.{behind, IsSwept, IsListed, AreAtSlots, IsExcessGood, DropsInvalidExcess};
 
 use crate::report_counts::ReportCounts;
-use crate::reported_marks::{is_excess_good, without_invalid_excess};
+use crate::reported_block::{is_excess_good, without_invalid_excess};
 use crate::types::ReportedSlot;
 use bm_arena::{Arena, Slot};
 use bm_base::StorageId;

@@ -1,6 +1,6 @@
 // Numbers of a report entered one after another, each looked up again: no slots are kept.
 ghost use Rattle.std.specs.Prelude.{◌≡◌, ◌<◌, ◌+◌, ◌^◌, ◌∷◌, [], length, false, IsSome};
-ghost use Rattle.bm_base.specs.Machine.Entries.{blocks_of_entry};
+ghost use Rattle.bm_base.specs.Words.{blocks_of_entry};
 ghost use Rattle.bm_arena.specs.Contents.{marks_at};
 ghost use Rattle.bm_arena.specs.HeldMaps.{replicas_of};
 ghost use Rattle.bm_report.specs.DuringReport.{behind, AreAtSlots, IsCounted, IsEntered, IsExcessGood, DropsInvalidExcess, IsSwept};

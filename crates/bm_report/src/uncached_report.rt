@@ -1,15 +1,15 @@
 // A full report without a `Report`: nothing is kept between the look-up of its numbers and its end.
 ghost use Rattle.std.specs.Prelude.{◌≡◌, ◌<◌, ◌≤◌, ◌+◌, ℕ, length, None, Some, OnOk, IfErr, IsTrue, false, ◌≢◌};
+ghost use Rattle.bm_base.specs.Words.{numbers_in};
 ghost use Rattle.bm_base.specs.declared.refusal.Refusal.TheVariants.{Memory};
 ghost use Rattle.bm_base.specs.declared.limits.TheConstants.{MAX_NUMBERS};
-ghost use Rattle.bm_base.specs.Machine.Entries.{numbers_in};
-ghost use Rattle.bm_base.specs.Machine.Events as events;
-ghost use Rattle.bm_base.specs.Machine.Calls as calls;
 ghost use Rattle.bm_arena.specs.Contents.{block_at, slot_of, marks_at, KeepsEntries};
 ghost use Rattle.bm_arena.specs.HeldMaps.{replicas_of, blocks_of, holdings_of};
 ghost use Rattle.bm_report.specs.DuringReport.{IsOncePerNode, saturating_sum};
 ghost use Rattle.bm_report.specs.ReportedBlocks.{IsPrepared, reported_to_part};
 ghost use Rattle.bm_report.specs.Ready.{HasSlotsFor, HasGoodExcess};
+ghost use Rattle.bm_base.specs.Machine.Events as events;
+ghost use Rattle.bm_base.specs.Machine.Calls as calls;
 
 use crate::look_up::look_up;
 use crate::report_counts::ReportCounts;

@@ -1,14 +1,13 @@
 // The choices of a round.
-ghost use Rattle.std.specs.Prelude.{◌≡◌, ◌≤◌, ◌*◌, ℕ, nat_le, List, Some, map, take, length, false, true, IfOk, IfErr};
-ghost use Rattle.std.specs.List.{All};
-ghost use Rattle.bm_base.specs.declared.refusal.Refusal.TheVariants.{Memory};
+ghost use Rattle.std.specs.Prelude.{◌≡◌, ◌≤◌, ◌*◌, ℕ, nat_le, List, Some, map, length, false, true, IfOk, IfErr, All};
 ghost use Rattle.bm_base.specs.Words.{limits_of, has_repeats, len};
-ghost use Rattle.bm_base.specs.Choices as choices;
+ghost use Rattle.bm_base.specs.declared.refusal.Refusal.TheVariants.{Memory};
 ghost use Rattle.bm_base.specs.declared.round.RoundPart.{RoundPart};
 ghost use Rattle.bm_parts.specs.BoundedWishes.{part_before};
 ghost use Rattle.bm_parts.specs.SortedLists.{AreSorted};
 ghost use Rattle.bm_round.specs.Copies.{IsCopyOf};
 ghost use Rattle.bm_round.specs.RoundCommands.{IsChosenOf, HasFewDeletes, first_by_node, deletes_of_all};
+ghost use Rattle.bm_base.specs.Choices as choices;
 ghost use Rattle.bm_round.specs.KeyedParts as merging;
 
 use crate::chosen_so_far::is_full_count;

@@ -1,11 +1,11 @@
 // The transfers chosen so far in a round, with the tables from which the next one is chosen.
 ghost use Rattle.std.specs.Prelude.{◌≡◌, ◌*◌, ◌++◌, ◌∷◌, [], nat_le, length, IfOk, IfErr, OnOk};
+ghost use Rattle.bm_base.specs.Words.{Cluster};
 ghost use Rattle.bm_base.specs.declared.refusal.Refusal.TheVariants.{Memory};
-ghost use Rattle.bm_base.specs.Maps.Map as map;
-ghost use Rattle.bm_base.specs.Machine.State.{Cluster};
-ghost use Rattle.bm_base.specs.Choices as choices;
 ghost use Rattle.bm_place.specs.ChoiceResults.{IsCountable, HasFreeBytesFor};
 ghost use Rattle.bm_round.specs.TransferCounts.{IsCounted};
+ghost use Rattle.bm_base.specs.Maps.Map as map;
+ghost use Rattle.bm_base.specs.Choices as choices;
 
 use bm_base::{Config, Refusal, StorageId, Transfer, Wish};
 use bm_place::{Scheduled, Streams};

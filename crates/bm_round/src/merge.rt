@@ -1,11 +1,10 @@
 // The wishes and deletes of all shards' parts, merged in one order: gathered in one vector, and
 // sorted once. The sort makes use of the order that each part has already.
-ghost use Rattle.std.specs.Prelude.{◌≡◌, ◌++◌, map, IfOk, IfErr, OnOk, T};
-ghost use Rattle.std.specs.List.{flat_map};
-ghost use Rattle.std.specs.FinMap.{is_sorted};
+ghost use Rattle.std.specs.Prelude.{◌≡◌, ◌++◌, map, IfOk, IfErr, OnOk, T, flat_map};
 ghost use Rattle.bm_base.specs.declared.refusal.Refusal.TheVariants.{Memory};
-ghost use Rattle.bm_base.specs.Choices as choices;
+ghost use Rattle.std.specs.FinMap.{is_sorted};
 ghost use Rattle.bm_base.specs.Ordered.{pair_cmp};
+ghost use Rattle.bm_base.specs.Choices as choices;
 ghost use Rattle.bm_base.specs.RoundParts as parts;
 ghost use Rattle.bm_round.specs.KeyedParts as merging;
 

@@ -1,6 +1,5 @@
 // The commands for each DataNode.
-ghost use Rattle.std.specs.Prelude.{◌≡◌, filter, IfOk, IfErr};
-ghost use Rattle.std.specs.List.{All};
+ghost use Rattle.std.specs.Prelude.{◌≡◌, filter, IfOk, IfErr, All};
 ghost use Rattle.bm_base.specs.declared.refusal.Refusal.TheVariants.{Memory};
 ghost use Rattle.bm_base.specs.Machine.Rounds as rounds;
 ghost use Rattle.bm_round.specs.RoundCommands as commanded;

@@ -1,13 +1,12 @@
 // Which blocks are copied, from where and to where.
-ghost use Rattle.std.specs.Prelude.{◌≡◌, [], map, false, None, IfOk, IfErr, OnOk};
-ghost use Rattle.std.specs.Option.{IfSome};
-ghost use Rattle.bm_base.specs.declared.refusal.Refusal.TheVariants.{Memory};
+ghost use Rattle.std.specs.Prelude.{◌≡◌, [], map, false, None, IfOk, IfErr, OnOk, IfSome};
 ghost use Rattle.bm_base.specs.Words.{RoundLimits, limits_of, has_repeats, targets_of};
-ghost use Rattle.bm_base.specs.Choices as choices;
+ghost use Rattle.bm_base.specs.declared.refusal.Refusal.TheVariants.{Memory};
 ghost use Rattle.bm_place.specs.ChoiceResults.{IsCountable, HasFreeBytesFor};
 ghost use Rattle.bm_round.specs.RoundCommands.{with_copies};
 ghost use Rattle.bm_round.specs.TransferCounts.{IsCounted};
 ghost use Rattle.bm_round.specs.KeyedParts.{referenced_wishes};
+ghost use Rattle.bm_base.specs.Choices as choices;
 
 use crate::chosen_so_far::ChosenSoFar;
 use bm_base::{Config, Refusal, Transfer, Wish};

@@ -13,7 +13,7 @@ use Rattle.bm_base.specs.declared.replica.ReplicaId.{ReplicaId}
 use Rattle.bm_base.specs.declared.replica.Marks.{Marks}
 use Rattle.bm_base.specs.declared.commands.Delete.{Delete}
 use Rattle.bm_base.specs.declared.round.Wish.{Wish}
-use Rattle.bm_base.specs.declared.level.Level.{Level}
+use Rattle.bm_base.specs.declared.replica.Level.{Level}
 use Rattle.bm_base.specs.Words.{Map, get, entries, contains_key, Cluster, Holdings, by_replica, replica_cmp, replica_at, has, has_enough_live, level, level_number, is_at, without_expired, without_unordered_excess, excess_in, with_surplus_marked, is_deletable}
 use Rattle.bm_base.specs.Ordered.{by_pair, pair_cmp}
 use Rattle.bm_base.specs.RoundParts.{holdings_at_choice, wish_at, wish_key, delete_key}

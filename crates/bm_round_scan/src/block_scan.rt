@@ -1,14 +1,12 @@
 // One block as a round begins.
 ghost use Rattle.std.specs.Prelude.{◌≡◌, ℕ, false, Some, IfOk, IfErr, OnOk, ◌++◌, []};
-ghost use Rattle.std.specs.Option.{option_map_or};
-ghost use Rattle.std.specs.List.Sorted.{IsNonDecreasing, IsPermutation};
+ghost use Rattle.bm_base.specs.Words.{option_map_or, IsNonDecreasing, IsPermutation, has_repeats, Map, by_replica};
 ghost use Rattle.bm_base.specs.declared.refusal.Refusal.TheVariants.{Memory};
-ghost use Rattle.bm_base.specs.Words.{has_repeats, Map, by_replica};
-ghost use Rattle.bm_base.specs.Machine.Excess as excess;
 ghost use Rattle.bm_arena.specs.Contents.{slot_of};
 ghost use Rattle.bm_levels.specs.SlotHoldings.{holdings_with};
 ghost use Rattle.bm_round_scan.specs.BlockMarks.{marked_on};
 ghost use Rattle.bm_round_scan.specs.BlockScans.{IsBlockScan, AreUsable, scanned_replicas, replicas_on, needs_delete, deletes_of};
+ghost use Rattle.bm_base.specs.Machine.Excess as excess;
 
 use crate::replicas::{UsableReplicas, contains_near, fill_at_round_start, mark_on, usable_among};
 use bm_arena::{Arena, Slot};

@@ -1,8 +1,8 @@
 // The findings of a round in the blocks of a shard.
 ghost use Rattle.std.specs.Prelude.{◌≡◌, IsSome, IsTrue, IfOk, IfErr};
+ghost use Rattle.bm_base.specs.Words.{get, contains_key};
 ghost use Rattle.bm_base.specs.declared.refusal.Refusal.TheVariants.{Memory};
 ghost use Rattle.bm_base.specs.declared.replica.ReplicaId.{ReplicaId};
-ghost use Rattle.bm_base.specs.Maps.Map.{get, contains_key};
 ghost use Rattle.bm_base.specs.RoundParts.{round_part};
 ghost use Rattle.bm_parts.specs.BoundedWishes.{part_before};
 ghost use Rattle.bm_arena.specs.HeldMaps.{replicas_of};

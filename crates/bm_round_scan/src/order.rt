@@ -1,11 +1,9 @@
 // The sorts of the findings.
-ghost use Rattle.std.specs.Prelude.{◌≡◌, OnOk, IsTrue};
-ghost use Rattle.std.specs.List.Sorted.{IsSortedByKey};
+ghost use Rattle.std.specs.Prelude.{OnOk};
+ghost use Rattle.bm_base.specs.Words.{by_replica, by_pair};
 ghost use Rattle.bm_base.specs.declared.replica.ReplicaId.{ReplicaId};
-ghost use Rattle.bm_base.specs.Machine.State.{by_replica};
-ghost use Rattle.bm_base.specs.Ordered.{by_pair};
-ghost use Rattle.bm_base.specs.RoundParts as parts;
 ghost use Rattle.bm_round_scan.specs.BlockFindings.{IsInOrder};
+ghost use Rattle.bm_base.specs.RoundParts as parts;
 
 use bm_base::{Delete, ReplicaId, Wish};
 use std::alloc::AllocError;

@@ -1,14 +1,13 @@
 // The replicas of one block, with their marks as a round begins.
 ghost use Rattle.std.specs.Prelude.{◌≡◌, true, false, filter_map, IfOk, OnOk};
-ghost use Rattle.std.specs.List.Sorted.{IsNonDecreasing};
-ghost use Rattle.bm_base.specs.Words.{by_number, has};
-ghost use Rattle.bm_base.specs.Machine.Replicas as replicas;
+ghost use Rattle.bm_base.specs.Words.{IsNonDecreasing, by_number, has};
 ghost use Rattle.bm_base.specs.Spread.{spread};
 ghost use Rattle.bm_arena.specs.HeldMaps.{replicas_at};
 ghost use Rattle.bm_levels.specs.Status.{storages_at};
 ghost use Rattle.bm_round_scan.specs.BlockFindings.{IsInOrder};
 ghost use Rattle.bm_round_scan.specs.BlockMarks.{marked_if, marked_on, excess_reset};
 ghost use Rattle.bm_round_scan.specs.BlockScans.{AreUsable};
+ghost use Rattle.bm_base.specs.Machine.Replicas as replicas;
 
 use bm_arena::{Arena, Slot};
 use bm_base::{Marks, Rack, StorageId, StorageIds};

@@ -1,6 +1,6 @@
 // The slots that a round scans.
 ghost use Rattle.std.specs.Prelude.{◌≡◌, ◌≤◌, ◌++◌, ◌∷◌, [], ℕ, Some, filter, length, map, slice_get, IfOk, OnOk};
-ghost use Rattle.std.specs.List.Sorted.{IsPermutation};
+ghost use Rattle.bm_base.specs.Words.{IsPermutation};
 ghost use Rattle.bm_maps.specs.SlotLists.{IsMember};
 ghost use Rattle.bm_arena.specs.HeldMaps.{id_at};
 ghost use Rattle.bm_levels.specs.IndexedLevels.{level_of_slot, slots_at};

@@ -1,13 +1,13 @@
 // The wish of a settled block: none of its replicas is in excess, and none is to be deleted.
 ghost use Rattle.std.specs.Prelude.{◌≡◌, ◌++◌, true, not, filter, map, Some, IfOk, IfErr, OnOk};
 ghost use Rattle.bm_base.specs.declared.refusal.Refusal.TheVariants.{Memory};
-ghost use Rattle.bm_base.specs.Machine.Replicas as replicas;
 ghost use Rattle.bm_parts.specs.BoundedWishes.{wishes_before};
 ghost use Rattle.bm_arena.specs.Contents.{block_at, slot_of};
 ghost use Rattle.bm_arena.specs.Triplets.{triplet_view};
 ghost use Rattle.bm_levels.specs.SlotHoldings.{holdings_with};
 ghost use Rattle.bm_levels.specs.Status.{is_settled_at, storages_at};
 ghost use Rattle.bm_round_scan.specs.BlockFindings.{wishes_at};
+ghost use Rattle.bm_base.specs.Machine.Replicas as replicas;
 
 use crate::replicas::UsableReplicas;
 use crate::scan::RoundScan;

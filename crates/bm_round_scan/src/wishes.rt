@@ -1,11 +1,11 @@
 // The wish of one block.
 ghost use Rattle.std.specs.Prelude.{◌≡◌, length, ◌++◌, option_and_then, option_to_list, OnOk, IfOk, IfErr};
 ghost use Rattle.bm_base.specs.declared.refusal.Refusal.TheVariants.{Memory};
-ghost use Rattle.bm_base.specs.Machine.Replicas as replicas;
-ghost use Rattle.bm_base.specs.Machine.Levels as levels;
 ghost use Rattle.bm_parts.specs.BoundedWishes.{wishes_before};
 ghost use Rattle.bm_pending.specs.RemainingTargets.{remaining_targets};
 ghost use Rattle.bm_round_scan.specs.Requests.{count_at, wish_by};
+ghost use Rattle.bm_base.specs.Machine.Replicas as replicas;
+ghost use Rattle.bm_base.specs.Machine.Levels as levels;
 
 use crate::keys::is_before;
 use crate::replicas::{UsableReplicas, spread_of};

@@ -8,7 +8,7 @@ use Rattle.std.proofs.KnownBytes.{Appends-nil, Appends-trans, Appends-kept}
 use Rattle.bm_base.specs.Machine.State.{State}
 use Rattle.bm_session.specs.declared.limits.TheConstants.{MAX_LINES}
 use Rattle.bm_session.specs.declared.session.Session.{Session}
-use Rattle.bm_answers.specs.declared.request.Request.{Request}
+use Rattle.bm_answers.specs.declared.line_answer.Request.{Request}
 use Rattle.bm_answers.specs.OneLine.{asked, answer_to, asked_next, text_of, is_refusal, line_text, line_next, line_refused}
 use Rattle.bm_session.specs.declared.fault.Fault.{Fault}
 use Rattle.bm_session.specs.declared.fault.Fault.TheVariants.{Config, Read, Write, Memory, TooMuch}

@@ -1,6 +1,6 @@
 -- The content of a counted reader or writer.
 use Rattle.std.specs.Prelude.{ℕ, Bool}
-use Rattle.bm_session.specs.declared.fault_counting.FaultCounting.{FaultCounting}
+use Rattle.bm_session.specs.declared.whole_run.FaultCounting.{FaultCounting}
 
 module _ {T : Type 0} where
   abbrev pub inner_of : FaultCounting T → T

@@ -8,12 +8,9 @@
 #![tactic(auto)]
 
 mod fault;
-mod fault_counting;
 mod limits;
-mod reply;
 mod session;
 mod whole_run;
 
 pub use fault::{Fault, Summary};
-pub use fault_counting::{FaultCounting, Sink, Source};
-pub use whole_run::run;
+pub use whole_run::{FaultCounting, Sink, Source, run};

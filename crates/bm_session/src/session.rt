@@ -1,19 +1,20 @@
-// The state of a run between two reads.
-ghost use Rattle.std.specs.Prelude.{◌≡◌, true, ◌≤◌, ◌<◌, ◌+◌, ◌^◌, ◌∷◌, [], ◌++◌, ℕ, List, Option, length, None, IfOk, OnOk, OnErr, IfErr};
+// The state of a run between two reads, and the answer to a line as a line of the output.
+ghost use Rattle.std.specs.Prelude.{◌≡◌, true, ◌≤◌, ◌<◌, ◌+◌, ◌∷◌, [], ◌++◌, ℕ, List, Option, length, None, IfOk, OnOk, OnErr, IfErr, ◌⊎◌, string_bytes};
 ghost use Rattle.bm_base.specs.Words.{State, first_state, config_refusal};
 ghost use Rattle.bm_lines.specs.LineBuffer.{Holds, is_begun};
 ghost use Rattle.bm_session.specs.StartFaults.{StartFault};
 ghost use Rattle.bm_session.specs.declared.limits.TheConstants.{MAX_LINES};
+ghost use Rattle.bm_lines.specs.Lines.{ended};
+ghost use Rattle.bm_answers.specs.OneLine.{answer_to, asked_next, text_of, is_refusal};
 
 use crate::fault::{Fault, Summary};
-use crate::fault_counting::Sink;
 use crate::limits::MAX_LINES;
-use crate::reply::reply_to;
-use bm_answers::parse_held_line;
+use crate::whole_run::Sink;
+use bm_answers::{LineAnswer, Request, make_call, parse_held_line};
 use bm_base::{Config, HashSecret, Refusal};
 use bm_lines::{Line, line_end};
 use bm_manager::Manager;
-use std::alloc::Global;
+use std::alloc::{AllocError, Global};
 use std::sync::Wait;
 use std::thread::Threads;
 
@@ -189,4 +190,39 @@ fn new_manager(alloc: Global, config: &Config, secret: HashSecret) -> Result<Man
         Err(Refusal::BadConfig) => Err(Fault::Config),
         Err(_) => Err(Fault::Memory),
     }
+}
+
+/// A line of the output, with its line end.
+#[derive(Drop)]
+struct Reply {
+    pub text: String,
+    pub is_refused: bool,
+}
+
+/// Makes the call, if there is one. When out of memory, the manager may or may not have made it.
+fn reply_to<H: Threads + Wait + Sync>(
+    rt: &H,
+    alloc: Global,
+    manager: &mut Manager,
+    asked: Request,
+) -> Result<Reply, AllocError>
+    ensures text { IfOk result
+        (λ r. string_bytes r.text ≡ ended (text_of (answer_to manager.old asked))) }
+    ensures refused { IfOk result (λ r. r.is_refused ≡ is_refusal (answer_to manager.old asked)) }
+    ensures next { OnOk result (manager.new ≡ asked_next manager.old asked) }
+    ensures worked { OnErr result ((manager.new ≡ manager.old)
+        ⊎ (manager.new ≡ asked_next manager.old asked)) }
+{
+    let answer = make_call(rt, manager, asked)?;
+    reply_of(alloc, &answer)
+}
+
+fn reply_of(alloc: Global, answer: &LineAnswer) -> Result<Reply, AllocError>
+    ensures text { IfOk result (λ r. string_bytes r.text ≡ ended (text_of answer.now)) }
+    ensures refused { IfOk result (λ r. r.is_refused ≡ is_refusal answer.now) }
+{
+    let mut text = answer.text(alloc)?;
+    text.push_str("\n")?;
+    let is_refused = answer.is_refusal();
+    Ok(Reply { text, is_refused })
 }

@@ -5,7 +5,7 @@ use Rattle.std.specs.Option.{option_map_or, option_and_then}
 use Rattle.std.specs.Map.{lookup}
 use Rattle.std.specs.Ordering.{eq_by_cmp}
 use Rattle.std.proofs.lemmas.Bool.{cases_eq}
-use Rattle.bm_base.specs.declared.level.Level.{Level}
+use Rattle.bm_base.specs.declared.replica.Level.{Level}
 use Rattle.bm_base.specs.Words.{Map, by_number, get, insert, remove, Cluster, by_replica, rack_of, is_draining, is_multi_rack, level}
 use Rattle.bm_base.proofs.MapLaws.{get-empty, get-insert, get-remove}
 use Rattle.bm_base.proofs.Ties.{number_tie}

@@ -1,12 +1,12 @@
 // Events on one block, as they change a shard. None takes memory.
 ghost use Rattle.std.specs.Prelude.{◌≡◌, if◌then◌else◌};
-ghost use Rattle.bm_base.specs.Machine.State.{replica_at};
-ghost use Rattle.bm_base.specs.Machine.Events as events;
+ghost use Rattle.bm_base.specs.Words.{replica_at};
 ghost use Rattle.bm_maps.specs.SlotLists.{IsMember};
 ghost use Rattle.bm_shard.specs.UnusedEntries.{HasNoUnused};
 ghost use Rattle.bm_shard.specs.EventEffects.{HasChanged};
+ghost use Rattle.bm_base.specs.Machine.Events as events;
 
-use crate::preparation::drop_prepared;
+use crate::events::drop_prepared;
 use crate::shard::{PreparedEvent, Shard};
 use bm_base::{BlockId, BlockInfo, Done, Stamp, StorageId};
 use bm_topo::Topology;

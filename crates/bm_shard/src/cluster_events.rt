@@ -1,14 +1,14 @@
 // Events on the cluster, as they change a shard. None takes memory.
 ghost use Rattle.std.specs.Prelude.{◌≡◌, ◌<◌, ◌^◌, ◌==◌, ◌&&◌, ℕ, List, not, None, if◌then◌else◌};
 ghost use Rattle.bm_base.specs.Words.{keep, Cluster, first_of, cluster_checks};
-ghost use Rattle.bm_base.specs.Machine.Replicas as replicas;
-ghost use Rattle.bm_base.specs.Machine.Events as events;
-ghost use Rattle.bm_base.specs.declared.event.Event.TheVariants as event_of;
 ghost use Rattle.bm_base.specs.declared.event.Remaining.{Remaining};
 ghost use Rattle.bm_parts.specs.PlacedLaws.{IsPlaced};
 ghost use Rattle.bm_shard.specs.UnusedEntries.{HasNoUnused};
 ghost use Rattle.bm_shard.specs.LeavingStorages.{HasNoLists};
 ghost use Rattle.bm_shard.specs.EventEffects.{HasChanged};
+ghost use Rattle.bm_base.specs.Machine.Replicas as replicas;
+ghost use Rattle.bm_base.specs.Machine.Events as events;
+ghost use Rattle.bm_base.specs.declared.event.Event.TheVariants as event_of;
 
 use crate::block_events::NO_CHANGE;
 use crate::shard::{PreparedEvent, Shard};

@@ -1,7 +1,6 @@
 // The chosen transfers of a shard's own blocks, among those of all shards.
 ghost use Rattle.std.specs.Prelude.{◌≡◌, ◌<◌, ◌≤◌, ℕ, ◌==◌, length, filter, map};
-ghost use Rattle.bm_base.specs.Words.{insert_all, replica_at};
-ghost use Rattle.bm_base.specs.RoundParts.{own_transfers};
+ghost use Rattle.bm_base.specs.Words.{insert_all, replica_at, own_transfers};
 ghost use Rattle.bm_pending.specs.PendingMap.{capacity};
 
 use bm_base::{Part, Transfer, shard_of};

@@ -1,13 +1,13 @@
 // The queries of a shard. No query changes anything.
 ghost use Rattle.std.specs.Prelude.{◌≡◌, true, false, None, IfOk, IfErr, OnOk};
-ghost use Rattle.bm_base.specs.declared.refusal.Refusal.TheVariants.{Memory};
 ghost use Rattle.bm_base.specs.Words.{Cluster, block_refusal, Refuses};
-ghost use Rattle.bm_base.specs.Machine.Queries as queries;
-ghost use Rattle.bm_base.specs.Machine.Levels as levels;
-ghost use Rattle.bm_base.specs.Promises.Versions as versions;
+ghost use Rattle.bm_base.specs.declared.refusal.Refusal.TheVariants.{Memory};
 ghost use Rattle.bm_parts.specs.QueryLaws.{holds_back};
 ghost use Rattle.bm_queries.specs.ListedElements.{wants, replicas_passing};
 ghost use Rattle.bm_shard.specs.UpToDate.{IsUpToDate};
+ghost use Rattle.bm_base.specs.Machine.Queries as queries;
+ghost use Rattle.bm_base.specs.Machine.Levels as levels;
+ghost use Rattle.bm_base.specs.Promises.Versions as versions;
 
 use crate::shard::Shard;
 use bm_base::{BlockId, Items, Level, NodeId, Places, Refusal, Replica, ReplicaId, StorageId};

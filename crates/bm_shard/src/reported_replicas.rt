@@ -1,11 +1,11 @@
 // Reported replicas, as they change a shard. None takes memory.
 ghost use Rattle.std.specs.Prelude.{◌≡◌, ◌<◌, ◌^◌, ◌∷◌, [], List, Some};
 ghost use Rattle.bm_base.specs.Words.{ReportedBlock, replica_at};
-ghost use Rattle.bm_base.specs.Machine.Events as events;
 ghost use Rattle.bm_parts.specs.PlacedLaws.{IsPlaced};
 ghost use Rattle.bm_shard.specs.UnusedEntries.{HasNoUnused};
 ghost use Rattle.bm_shard.specs.EventEffects.{HasChanged};
 ghost use Rattle.bm_shard.specs.ShardView.{NoticeOf, ReportOf};
+ghost use Rattle.bm_base.specs.Machine.Events as events;
 
 use crate::arrived_transfers::drop_arrived;
 use crate::shard::{PreparedEvent, Shard};

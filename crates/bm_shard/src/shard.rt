@@ -1,7 +1,7 @@
 // The fields of a shard, and what a contract sees of them.
-ghost use Rattle.std.specs.Prelude.{◌≡◌, ◌<◌, ℕ, IfOk, IfErr};
+ghost use Rattle.std.specs.Prelude.{◌≡◌, ◌<◌, IfOk, IfErr};
+ghost use Rattle.bm_base.specs.Words.{Cluster, empty_holdings};
 ghost use Rattle.bm_base.specs.declared.refusal.Refusal.TheVariants.{Memory};
-ghost use Rattle.bm_base.specs.Machine.State.{Cluster, empty_holdings};
 ghost use Rattle.bm_shard.specs.UnusedEntries.{HasNoUnused};
 ghost use Rattle.bm_shard.specs.UpToDate.{IsUpToDate};
 

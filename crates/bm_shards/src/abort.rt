@@ -1,5 +1,6 @@
 // Releases what the shards reserved for an event or a round.
-ghost use Rattle.std.specs.List.{All, AllZip};
+ghost use Rattle.std.specs.Prelude.{All};
+ghost use Rattle.bm_base.specs.Words.{AllZip};
 ghost use Rattle.bm_shard.specs.UpToDate.{IsSameButCapacity};
 ghost use Rattle.bm_shards.specs.ShardWork.{IsSame, HasGivenUp};
 

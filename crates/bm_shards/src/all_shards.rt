@@ -1,7 +1,7 @@
 // All shards of a manager, and what a contract sees of them.
-ghost use Rattle.std.specs.Prelude.{◌≡◌, ℕ, None, length, vec_len, IfOk, IfErr};
-ghost use Rattle.bm_base.specs.declared.refusal.Refusal.TheVariants.{Memory};
+ghost use Rattle.std.specs.Prelude.{◌≡◌, None, length, IfOk, IfErr};
 ghost use Rattle.bm_base.specs.Words.{config_refusal, Cluster, empty_holdings};
+ghost use Rattle.bm_base.specs.declared.refusal.Refusal.TheVariants.{Memory};
 ghost use Rattle.bm_shards.specs.Whole.{IsUpToDate, HasTaken};
 ghost use Rattle.bm_shards.specs.ShardWork.{AreNew};
 

@@ -1,7 +1,7 @@
 // The answers of shards that the workers processed one by one. Nothing here takes memory.
-ghost use Rattle.std.specs.Prelude.{◌≡◌, ◌≤◌, ◌<◌, ◌+◌, ◌++◌, ℕ, [], List, map, length, vec_len, vec_capacity};
+ghost use Rattle.std.specs.Prelude.{◌≡◌, ◌≤◌, ◌<◌, ◌+◌, ◌++◌, ℕ, [], List, map, length, vec_len, vec_capacity, All, filter_map};
 ghost use Rattle.std.specs.Result.{result_and, result_ok};
-ghost use Rattle.std.specs.List.{All, filter_map, cons_option};
+ghost use Rattle.std.specs.List.{cons_option};
 ghost use Rattle.bm_shard.specs.ShardView.{Seen};
 ghost use Rattle.bm_shards.specs.Answers.{EachBecame, HasAnswered, HasGathered, shard_answered, fault_in, first_fault, done_of, IsFew};
 

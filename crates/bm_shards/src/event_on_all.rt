@@ -1,8 +1,7 @@
 // An event on all shards: made on all of them, or on none.
-ghost use Rattle.std.specs.Prelude.{◌≡◌, ◌≤◌, ℕ, [], None, IfOk, IfErr, OnOk, OnErr, length, vec_len, vec_capacity};
-ghost use Rattle.std.specs.List.{All, AllZip};
+ghost use Rattle.std.specs.Prelude.{◌≡◌, ◌≤◌, ℕ, [], None, IfOk, IfErr, OnOk, OnErr, length, vec_len, vec_capacity, All};
+ghost use Rattle.bm_base.specs.Words.{AllZip, is_multi_rack, change_cluster, change_holdings, first_of, cluster_checks, done};
 ghost use Rattle.bm_base.specs.declared.refusal.Refusal.TheVariants.{Memory};
-ghost use Rattle.bm_base.specs.Words.{is_multi_rack, change_cluster, change_holdings, first_of, cluster_checks, done};
 ghost use Rattle.bm_parts.specs.Parts.{block_of};
 ghost use Rattle.bm_shards.specs.ShardWork.{CanCommit, IsSame, HasGivenUp};
 ghost use Rattle.bm_shards.specs.Whole.{AreShards, AreUpToDate, HaveTaken, held_by};

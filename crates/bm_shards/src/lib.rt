@@ -11,7 +11,6 @@ mod all_shards;
 mod answers;
 mod calling_thread;
 mod event_on_all;
-mod event_on_one;
 mod events;
 mod lists;
 mod pass_buffers;

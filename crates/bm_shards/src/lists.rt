@@ -1,11 +1,11 @@
 // Lists of all shards: gathered in one vector, and sorted once. The sort makes use of the order
 // that each shard's list has already.
 ghost use Rattle.std.specs.Prelude.{◌≡◌, IfOk, IfErr};
-ghost use Rattle.bm_base.specs.declared.refusal.Refusal.TheVariants.{Memory};
-ghost use Rattle.bm_base.specs.Machine.Queries as queries;
 ghost use Rattle.bm_base.specs.Words.{Cluster};
+ghost use Rattle.bm_base.specs.declared.refusal.Refusal.TheVariants.{Memory};
 ghost use Rattle.bm_queries.specs.ListedElements.{wants, replicas_passing};
 ghost use Rattle.bm_shards.specs.Whole.{IsUpToDate};
+ghost use Rattle.bm_base.specs.Machine.Queries as queries;
 
 use crate::all_shards::AllShards;
 use bm_base::{BlockId, Items, Refusal, Replica, ReplicaId, StorageId};

@@ -1,8 +1,7 @@
 // A round of all shards: taken in all of them, or in none.
-ghost use Rattle.std.specs.Prelude.{◌≡◌, ◌<◌, ◌≤◌, ◌+◌, ◌^◌, None, length, IfOk, IfErr, OnOk, OnErr, vec_len};
-ghost use Rattle.std.specs.List.{All, AllZip};
+ghost use Rattle.std.specs.Prelude.{◌≡◌, ◌<◌, ◌+◌, ◌^◌, None, length, IfOk, IfErr, OnOk, OnErr, vec_len, All};
+ghost use Rattle.bm_base.specs.Words.{AllZip, limits_of, config_refusal};
 ghost use Rattle.bm_base.specs.declared.refusal.Refusal.TheVariants.{Memory};
-ghost use Rattle.bm_base.specs.Words.{limits_of, config_refusal};
 ghost use Rattle.bm_shards.specs.Whole.{IsUpToDate, HasTaken, AreShards, AreUpToDate, HaveTaken, held_by};
 ghost use Rattle.bm_shards.specs.Answers.{EachBecame};
 ghost use Rattle.bm_shards.specs.ShardWork.{IsSame, HasGivenUp};

@@ -1,10 +1,10 @@
 // The choice of a round from the parts of all shards, and its commands.
 ghost use Rattle.std.specs.Prelude.{◌≡◌, map, false, IfOk, IfErr};
-ghost use Rattle.bm_base.specs.declared.refusal.Refusal.TheVariants.{Memory};
 ghost use Rattle.bm_base.specs.Words.{limits_of, has_repeats, commands_of};
-ghost use Rattle.bm_base.specs.Choices as choices;
+ghost use Rattle.bm_base.specs.declared.refusal.Refusal.TheVariants.{Memory};
 ghost use Rattle.bm_parts.specs.SortedLists.{AreSorted};
 ghost use Rattle.bm_round.specs.KeyedParts.{keyed_wishes, keyed_deletes};
+ghost use Rattle.bm_base.specs.Choices as choices;
 
 use bm_base::{Chosen, Commands, Config, Refusal, RoundPart};
 use bm_round::{choose, commands};

@@ -1,13 +1,12 @@
 // The parts of all shards for a round: with their first wishes, or with all.
-ghost use Rattle.std.specs.Prelude.{◌≡◌, None, List, map, true, false, IfOk, IfErr};
-ghost use Rattle.std.specs.List.{All};
-ghost use Rattle.bm_base.specs.declared.refusal.Refusal.TheVariants.{Memory};
+ghost use Rattle.std.specs.Prelude.{◌≡◌, None, List, map, true, false, IfOk, IfErr, All};
 ghost use Rattle.bm_base.specs.Words.{limits_of, has_repeats, config_refusal};
-ghost use Rattle.bm_base.specs.Choices as choices;
+ghost use Rattle.bm_base.specs.declared.refusal.Refusal.TheVariants.{Memory};
 ghost use Rattle.bm_base.specs.declared.round.RoundPart.{RoundPart};
 ghost use Rattle.bm_parts.specs.BoundedWishes.{part_before};
 ghost use Rattle.bm_shards.specs.RoundWork.{CanFind};
 ghost use Rattle.bm_shards.specs.RoundChoice.{next_parts, next_parts_before, HasExcess, IsChosen};
+ghost use Rattle.bm_base.specs.Choices as choices;
 
 use crate::answers::{ShardResult, gather_answers};
 use crate::pass_buffers::reserve_pass;

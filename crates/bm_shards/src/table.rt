@@ -1,11 +1,10 @@
 // The table that readers see: the rows of all shards, by block.
-ghost use Rattle.std.specs.Prelude.{◌≡◌, length, IfOk, IfErr};
-ghost use Rattle.std.specs.List.{flat_map};
+ghost use Rattle.std.specs.Prelude.{◌≡◌, length, IfOk, IfErr, flat_map};
 ghost use Rattle.bm_base.specs.declared.refusal.Refusal.TheVariants.{Memory};
-ghost use Rattle.bm_base.specs.Promises.Versions as versions;
 ghost use Rattle.bm_shards.specs.Answers.{each_answer};
 ghost use Rattle.bm_shards.specs.Rows.{rows_of};
 ghost use Rattle.bm_shards.specs.Whole.{AreShards, held_by};
+ghost use Rattle.bm_base.specs.Promises.Versions as versions;
 
 use crate::all_shards::AllShards;
 use crate::answers::{ShardResult, gather_answers};

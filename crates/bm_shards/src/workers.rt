@@ -1,6 +1,5 @@
 // The workers of the shards.
-ghost use Rattle.std.specs.Prelude.{◌≡◌, ◌<◌, ◌≤◌, None, vec_len};
-ghost use Rattle.std.specs.List.{All};
+ghost use Rattle.std.specs.Prelude.{◌≡◌, ◌<◌, ◌≤◌, None, vec_len, All};
 ghost use Rattle.bm_base.specs.Words.{is_multi_rack, change_cluster, first_of, cluster_checks};
 ghost use Rattle.bm_parts.specs.BoundedWishes.{part_before};
 ghost use Rattle.bm_parts.specs.Parts.{block_of};

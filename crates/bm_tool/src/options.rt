@@ -1,7 +1,7 @@
 // The options of the program.
 ghost use Rattle.std.specs.Prelude.{◌≡◌, false, None, IfOk, string_bytes, map, codes};
+ghost use Rattle.bm_base.specs.Words.{config_refusal};
 ghost use Rattle.clap.specs.Words.{FailsBy, app_of, found_of, rule_of};
-ghost use Rattle.bm_base.specs.Machine.Configuration.{config_refusal};
 ghost use Rattle.bm_tool.specs.Options.{IsNumberOf, configured_by, option_rule, refusals_of, tool};
 
 use bm_base::Config;

@@ -1,10 +1,11 @@
 // The storages of the cluster, sorted by node: so those of one node are adjacent.
 ghost use Rattle.std.specs.Prelude.{◌≡◌, ◌≤◌, ◌<◌, ◌-◌, ◌==◌, true, false, ℕ, length, filter, nat_le, slice_index_or};
-ghost use Rattle.std.specs.List.Sorted.{IsNonDecreasingBy, IsPartitionPoint};
-ghost use Rattle.bm_base.specs.Maps.Map as map;
+ghost use Rattle.bm_base.specs.Words.{IsNonDecreasingBy};
+ghost use Rattle.std.specs.List.Sorted.{IsPartitionPoint};
 ghost use Rattle.bm_base.specs.declared.limits.TheConstants.{MAX_STORAGES};
 ghost use Rattle.bm_topo.specs.Keys.{HasSmallKeys};
 ghost use Rattle.bm_topo.specs.ByNode.{node_in, AreAllByNode};
+ghost use Rattle.bm_base.specs.Maps.Map as map;
 
 use crate::index_hints::IndexHints;
 use bm_base::{MAX_STORAGES, NodeId, StorageId, StorageInfo};

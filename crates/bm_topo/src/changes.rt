@@ -1,12 +1,12 @@
 // How events change the cluster: capacity is reserved first, so that the change itself takes no
 // memory.
-ghost use Rattle.std.specs.Prelude.{◌≡◌, ◌≢◌, ℕ, ◌≤◌, ◌+◌, true, false, length, Some, None, IfErr, IsOk, OnOk};
+ghost use Rattle.std.specs.Prelude.{◌≡◌, ◌≢◌, ℕ, ◌≤◌, ◌+◌, true, false, Some, None, IfErr, IsOk, OnOk};
+ghost use Rattle.bm_base.specs.Words.{first_of, cluster_checks, Refuses};
 ghost use Rattle.bm_base.specs.declared.storage.StorageInfo.{StorageInfo};
+ghost use Rattle.bm_topo.specs.TopologyView.{IsReadyFor, HasNoLessCapacity, IsSameCapacity, grows_cluster};
 ghost use Rattle.bm_base.specs.Maps.Map as map;
 ghost use Rattle.bm_base.specs.Machine.Events as events;
-ghost use Rattle.bm_base.specs.Words.{first_of, cluster_checks, Refuses};
 ghost use Rattle.bm_base.specs.declared.event.Event.TheVariants as event_of;
-ghost use Rattle.bm_topo.specs.TopologyView.{IsReadyFor, HasNoLessCapacity, IsSameCapacity, grows_cluster};
 
 use crate::by_node::sort_by_node;
 use crate::tables::{add_storages, drop_storages, leave_rack, set_remaining};

@@ -1,12 +1,10 @@
 // The checks of an event on the cluster, in their order.
 ghost use Rattle.std.specs.Prelude.{◌≡◌, ◌+◌, ◌-◌, ◌||◌, not, nat_le, nat_lt, length, Some, None, OnOk, if◌then◌else◌};
-ghost use Rattle.std.specs.List.{list_any};
-ghost use Rattle.std.specs.List.Sorted.{IsNonDecreasing};
+ghost use Rattle.bm_base.specs.Words.{list_any, IsNonDecreasing, first_of, cluster_checks, knows_node, knows_storage, is_too_long, run_length, checked};
+ghost use Rattle.bm_base.specs.declared.limits.TheConstants.{MAX_NODES, MAX_STORAGES};
 ghost use Rattle.bm_base.specs.Maps.Map as map;
 ghost use Rattle.bm_base.specs.Maps.Lists as lists;
 ghost use Rattle.bm_base.specs.Machine.Replicas as replicas;
-ghost use Rattle.bm_base.specs.Words.{first_of, cluster_checks, knows_node, knows_storage, is_too_long, run_length, checked};
-ghost use Rattle.bm_base.specs.declared.limits.TheConstants.{MAX_NODES, MAX_STORAGES};
 ghost use Rattle.bm_base.specs.declared.event.Event.TheVariants as event;
 
 use crate::topology::Topology;

@@ -1,10 +1,10 @@
 // The racks of the nodes. Racks are counted as nodes come and go, so nothing here iterates over the
 // nodes.
 ghost use Rattle.std.specs.Prelude.{◌≡◌};
+ghost use Rattle.bm_base.specs.Words.{change_cluster};
+ghost use Rattle.bm_topo.specs.Racks.{on_rack, first_other_rack, is_multi};
 ghost use Rattle.bm_base.specs.Maps.Map as map;
 ghost use Rattle.bm_base.specs.Machine.Replicas as replicas;
-ghost use Rattle.bm_base.specs.Machine.Events.{change_cluster};
-ghost use Rattle.bm_topo.specs.Racks.{on_rack, first_other_rack, is_multi};
 
 use crate::topology::Topology;
 use bm_base::{Event, NodeId, Rack};

@@ -1,11 +1,11 @@
 // Where each storage is, in a table parallel to that of the storages: its node, the rack and
 // whether the node drains. So one read answers all that a replica's classification needs.
 ghost use Rattle.std.specs.Prelude.{◌≡◌, ◌≤◌, ◌<◌, true, length, Some};
-ghost use Rattle.bm_base.specs.Maps.Map as map;
-ghost use Rattle.bm_base.specs.Promises.Lawful.{IsLawfulCluster};
+ghost use Rattle.bm_base.specs.Words.{IsLawfulCluster};
 ghost use Rattle.bm_topo.specs.Keys.{HasSmallKeys};
 ghost use Rattle.bm_topo.specs.Sound.{cluster_of};
-ghost use Rattle.bm_topo.specs.Spots.{IsSpot, AreSpots};
+ghost use Rattle.bm_topo.specs.Spots.{AreSpots};
+ghost use Rattle.bm_base.specs.Maps.Map as map;
 
 use crate::index_hints::IndexHints;
 use bm_base::{MAX_STORAGES, NodeId, Rack, StorageId, StorageInfo};

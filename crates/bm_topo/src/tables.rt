@@ -1,11 +1,11 @@
 // Changes of one table, in reserved capacity.
 ghost use Rattle.std.specs.Prelude.{◌≡◌, ◌≤◌, ◌==◌, not, length};
-ghost use Rattle.bm_base.specs.Maps.Map as map;
 ghost use Rattle.bm_maps.specs.Table.{capacity};
-ghost use Rattle.bm_base.specs.Machine.Events as events;
 ghost use Rattle.bm_topo.specs.Racks.{without_one};
 ghost use Rattle.bm_topo.specs.NewStorages.{new_storages};
 ghost use Rattle.bm_topo.specs.Keys.{HasSmallKeys};
+ghost use Rattle.bm_base.specs.Maps.Map as map;
+ghost use Rattle.bm_base.specs.Machine.Events as events;
 
 use crate::index_hints::IndexHints;
 use bm_base::{NodeId, Rack, Remaining, StorageId, StorageInfo};

@@ -1,15 +1,13 @@
 // The tables of the cluster, and look-ups in them.
 ghost use Rattle.std.specs.Prelude.{◌≡◌, ◌≤◌, ℕ, IfOk, IsOk, Some, None, false, length, filter, option_map, slice_get, if◌then◌else◌};
-ghost use Rattle.std.specs.Option.{option_map_or};
+ghost use Rattle.bm_base.specs.Words.{option_map_or, knows_node, knows_storage, IsLawfulCluster};
+ghost use Rattle.bm_base.specs.declared.limits.TheConstants.{MAX_NODES, MAX_STORAGES};
+ghost use Rattle.bm_topo.specs.TopologyView.{no_capacity};
 ghost use Rattle.bm_base.specs.Maps.Map as map;
 ghost use Rattle.bm_base.specs.Machine.State as state;
 ghost use Rattle.bm_base.specs.Maps.Lists as lists;
 ghost use Rattle.bm_base.specs.Machine.Replicas as replicas;
 ghost use Rattle.bm_base.specs.Machine.Excess as excess;
-ghost use Rattle.bm_base.specs.Machine.Refusals.{knows_node, knows_storage};
-ghost use Rattle.bm_base.specs.Promises.Lawful.{IsLawfulCluster};
-ghost use Rattle.bm_base.specs.declared.limits.TheConstants.{MAX_NODES, MAX_STORAGES};
-ghost use Rattle.bm_topo.specs.TopologyView.{no_capacity};
 
 use crate::by_node::{StoragesByNode, storages_of};
 use crate::index_hints::IndexHints;

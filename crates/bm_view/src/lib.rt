@@ -23,7 +23,7 @@ mod count;
 mod journal;
 mod learnt_lists;
 mod locator;
-mod open;
+mod opened_view;
 mod publisher;
 mod receipt;
 mod rule;
@@ -31,7 +31,7 @@ mod shown_value;
 mod table;
 
 pub use locator::{Located, Locator};
-pub use open::open_view;
+pub use opened_view::open_view;
 pub use publisher::Publisher;
 pub use receipt::Receipt;
 pub use table::Table;

@@ -1,11 +1,11 @@
 //! A reader of the versions.
-ghost use Rattle.std.specs.Prelude.{◌≡◌, ◌≤◌, ◌<◌, ◌+◌, ◌*◌, false, [], ◌∷◌, ◌++◌, length, All, IfSome, IfNone, OnSome, MatchOption, MatchResult};
+ghost use Rattle.std.specs.Prelude.{◌≡◌, ◌≤◌, ◌<◌, ◌+◌, ◌*◌, false, [], ◌∷◌, ◌++◌, length, All, IfSome, IfNone, OnSome, MatchResult, MatchOption};
 ghost use mathlib.Core.List.{IsPrefix};
-ghost use Rattle.left_right.specs.Sides.{view as sight};
 ghost use Rattle.bm_view.specs.Version.{places_in, opening};
 ghost use Rattle.bm_view.specs.Journal.{opening_log};
 ghost use Rattle.bm_view.specs.History.{last_of, shown_in, EndsBy, IsHistory};
 ghost use Rattle.bm_view.specs.Rule.{Sees, HasSeen};
+ghost use Rattle.left_right.specs.Sides.{view as sight};
 
 use crate::count::Count;
 use crate::journal::Evidence;

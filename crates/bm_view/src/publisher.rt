@@ -1,11 +1,11 @@
 //! The publisher of versions.
 ghost use Rattle.std.specs.Prelude.{◌≡◌, ◌≤◌, ◌+◌, [], ◌∷◌, ◌++◌, IfOk, IfErr, OnOk, OnErr, MatchResult, Some};
-ghost use Rattle.std.specs.Arc.{arc_value};
-ghost use Rattle.left_right.specs.Sides.{view as sight};
+ghost use Rattle.bm_base.specs.Words.{arc_value};
 ghost use Rattle.bm_view.specs.Version.{opening};
 ghost use Rattle.bm_view.specs.Journal.{opening_log};
 ghost use Rattle.bm_view.specs.History.{last_of, IsHistory};
 ghost use Rattle.bm_view.specs.Rule.{Extends};
+ghost use Rattle.left_right.specs.Sides.{view as sight};
 
 use crate::count::Count;
 use crate::journal::Journal;

@@ -1,6 +1,6 @@
 //! The value that is shown: a table, and what the journal was when it was proposed.
 ghost use Rattle.std.specs.Prelude.{◌≡◌, ◌≤◌, ◌<◌, ◌+◌, ◌*◌, length, IfOk};
-ghost use Rattle.std.specs.Arc.{arc_value};
+ghost use Rattle.bm_base.specs.Words.{arc_value};
 ghost use Rattle.bm_view.specs.History.{last_of, shown_in, IsHistory};
 
 use crate::count::Count;

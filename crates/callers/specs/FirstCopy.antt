@@ -1,7 +1,7 @@
 -- One more copy of a block.
 use Rattle.std.specs.Prelude.{◌≡◌, ◌≤◌, ℕ, true, false, List, [], Option, Some, IfSome, option_map, option_and_then}
 use Rattle.bm_base.specs.declared.commands.Transfer.{Transfer}
-use Rattle.bm_base.specs.declared.level.Level.{Level}
+use Rattle.bm_base.specs.declared.replica.Level.{Level}
 use Rattle.bm_base.specs.declared.replica.Stamp.{Stamp}
 use Rattle.bm_base.specs.Words.{Cluster, remaining, has, node_of, has_storage, least_source, least_target}
 

@@ -1,8 +1,7 @@
 // The commands of a round, from what the shards found.
-ghost use Rattle.std.specs.Prelude.{◌≡◌, map, false, IfOk, IfErr};
-ghost use Rattle.std.specs.List.{All};
-ghost use Rattle.bm_base.specs.declared.refusal.Refusal.TheVariants.{Memory};
+ghost use Rattle.std.specs.Prelude.{◌≡◌, map, false, IfOk, IfErr, All};
 ghost use Rattle.bm_base.specs.Words.{limits_of, has_repeats, commands_of};
+ghost use Rattle.bm_base.specs.declared.refusal.Refusal.TheVariants.{Memory};
 ghost use Rattle.bm_base.specs.Choices.{merged_wishes, chosen_transfers, chosen_deletes};
 ghost use Rattle.bm_parts.specs.SortedLists.{AreSorted};
 ghost use Rattle.bm_round.specs.RoundCommands.{SendsItsOwn, DeletesItsOwn};

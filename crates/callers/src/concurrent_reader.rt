@@ -1,6 +1,6 @@
 // Changes, with a reader in a thread of its own that learns of each version.
-ghost use Rattle.std.specs.Prelude.{◌≡◌, ◌<◌, ◌≤◌, ◌⊎◌, fold, is_some, true, Some, All, IfOk, IfErr, IfSome, OnOk};
-ghost use Rattle.bm_base.specs.Words.{after_event, refusal_of};
+ghost use Rattle.std.specs.Prelude.{◌≡◌, ◌<◌, ◌≤◌, fold, is_some, true, Some, All, IfOk, IfErr, OnOk};
+ghost use Rattle.bm_base.specs.Words.{after_event};
 ghost use Rattle.bm_base.specs.declared.refusal.Refusal.TheVariants.{Memory};
 ghost use Rattle.bm_view.specs.History.{last_of};
 ghost use Rattle.callers.specs.Turns.{StopsAmong};

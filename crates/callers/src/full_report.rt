@@ -1,7 +1,7 @@
 // A full report, applied as a whole or not at all.
 ghost use Rattle.std.specs.Prelude.{◌≡◌, ◌<◌, ◌+◌, None, length, IfOk, IfErr, OnOk, OnErr};
+ghost use Rattle.bm_base.specs.Words.{report};
 ghost use Rattle.bm_base.specs.declared.refusal.Refusal.TheVariants.{Memory};
-ghost use Rattle.bm_base.specs.Machine.Events.{report};
 ghost use Rattle.bm_arena.specs.Contents.{marks_at};
 ghost use Rattle.bm_arena.specs.HeldMaps.{replicas_of, blocks_of, holdings_of};
 ghost use Rattle.bm_report.specs.ReportedBlocks.{reported_to_part};

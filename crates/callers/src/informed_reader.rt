@@ -1,6 +1,6 @@
 // A reader that learns of a published version and looks a block up.
 ghost use Rattle.std.specs.Prelude.{◌≡◌, ◌≤◌};
-ghost use Rattle.bm_base.specs.Machine.Answering.{IfFound};
+ghost use Rattle.bm_base.specs.Words.{IfFound};
 ghost use Rattle.bm_view.specs.History.{last_of};
 
 use bm_base::{BlockId, Refusal};

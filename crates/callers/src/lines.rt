@@ -1,6 +1,6 @@
 // Reads a line of the tool and writes it again in canonical form.
 ghost use Rattle.std.specs.Prelude.{◌≡◌, IfOk, is_some, string_bytes};
-ghost use Rattle.bm_base.specs.Machine.Answering.{IfFound};
+ghost use Rattle.bm_base.specs.Words.{IfFound};
 ghost use Rattle.bm_lines.specs.Parser.CallOf.{call_of};
 
 use bm_lines::{call_of, line_of};

@@ -1,7 +1,6 @@
 // A NameNode's loop: one turn of it, and the commands for each DataNode.
 ghost use Rattle.std.specs.Prelude.{◌≡◌, ◌==◌, false, fold, All, Contains, IfOk, IfErr, IfSome, IfNone, OnOk};
-ghost use Rattle.bm_base.specs.Words.{after_event, count_call, whole_round};
-ghost use Rattle.bm_base.specs.Promises.Sparing.{SparesLastGood};
+ghost use Rattle.bm_base.specs.Words.{after_event, count_call, whole_round, SparesLastGood};
 ghost use Rattle.callers.specs.Turns.{StopsAt};
 
 use bm_base::{Commands, Event, NodeCommands, NodeId, Refusal};

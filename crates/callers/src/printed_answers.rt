@@ -1,6 +1,5 @@
 // Iterates over an answer and prints it with the tool's words.
-ghost use Rattle.std.specs.Prelude.{◌≡◌, IfOk, string_bytes};
-ghost use Rattle.std.specs.List.{flat_map};
+ghost use Rattle.std.specs.Prelude.{◌≡◌, IfOk, string_bytes, flat_map};
 ghost use Rattle.callers.specs.PrintedAnswers.{replica_line};
 
 use bm_base::{Items, Replica};

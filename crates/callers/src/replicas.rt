@@ -1,7 +1,7 @@
 // Puts replicas into an arena.
 ghost use Rattle.std.specs.Prelude.{◌≡◌, ℕ, IfErr, OnOk, OnErr};
-ghost use Rattle.bm_base.specs.declared.refusal.Refusal.TheVariants.{Memory};
 ghost use Rattle.bm_base.specs.Words.{insert, replica_at};
+ghost use Rattle.bm_base.specs.declared.refusal.Refusal.TheVariants.{Memory};
 ghost use Rattle.bm_arena.specs.Contents.{HasHead, IsLawful};
 ghost use Rattle.bm_arena.specs.HeldMaps.{replicas_of, blocks_of};
 

@@ -1,6 +1,6 @@
 // New managers, new views with two locators, and versions for readers, each with an allocation
 // refused.
-ghost use Rattle.std.specs.Prelude.{◌≡◌, ◌≤◌, IfOk, IfErr};
+ghost use Rattle.std.specs.Prelude.{◌≡◌, IfOk};
 
 use crate::bench::Bench;
 use crate::calls_in_turn::{is_as_before, make, print_tally};

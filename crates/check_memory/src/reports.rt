@@ -1,7 +1,7 @@
 // Full reports: the first report of a storage lists a run of blocks, and is applied with the
 // entries and the capacity that were prepared.
 ghost use Rattle.std.specs.Prelude.{◌≡◌, [], None, Some, OnOk};
-ghost use Rattle.bm_base.specs.Machine.State.{Cluster};
+ghost use Rattle.bm_base.specs.Words.{Cluster};
 ghost use Rattle.bm_arena.specs.Contents.{block_at, empty_block, marks_at};
 ghost use Rattle.bm_report.specs.ReportedBlocks.{IsPrepared};
 ghost use Rattle.bm_arena.specs.HeldMaps.{replicas_of};

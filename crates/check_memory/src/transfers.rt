@@ -1,6 +1,6 @@
 // Pending transfers, three of each block: to storage 0 since round 1, to storage 1 since round 4,
 // to storage 2 since round 5.
-ghost use Rattle.std.specs.Prelude.{◌≡◌, ◌≤◌, ◌<◌, ℕ, OnOk};
+ghost use Rattle.std.specs.Prelude.{◌≤◌, ◌<◌, ℕ, OnOk};
 ghost use Rattle.bm_pending.specs.PendingMap.{capacity};
 
 use crate::events::block;

@@ -1,7 +1,7 @@
 // Views: a table with one row, which a locator reads. None of these calls depends on the length of
 // the table.
 ghost use Rattle.std.specs.Prelude.{◌≡◌, ◌≤◌, ◌<◌, IfOk, OnOk, []};
-ghost use Rattle.std.specs.Arc.{arc_value};
+ghost use Rattle.bm_base.specs.Words.{arc_value};
 ghost use Rattle.bm_view.specs.History.{last_of};
 
 use crate::events::block;

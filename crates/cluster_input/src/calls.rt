@@ -1,6 +1,5 @@
 // Makes the calls for a cluster of fsck, one after another.
-ghost use Rattle.std.specs.Prelude.{◌≡◌, ◌∷◌, [], map, filter, option_to_list, slice_get, OnOk};
-ghost use Rattle.std.specs.List.{flat_map};
+ghost use Rattle.std.specs.Prelude.{◌∷◌, [], map, filter, option_to_list, slice_get, OnOk, flat_map};
 ghost use Rattle.fsck_import.specs.CallsFor.{register, heartbeat, add, received, reports, corrupt, drain, drains, draining, calls_before, calls_after, calls_for};
 ghost use Rattle.cluster_report.specs.Sessions.{IsInStep};
 ghost use Rattle.cluster_input.specs.MadeCalls.{Makes};

@@ -1,6 +1,6 @@
 // The kind of a text: lines of the tool, or fsck.
-ghost use Rattle.std.specs.Prelude.{◌≡◌, [], not, drop, IfSome, OnOk};
-ghost use Rattle.std.specs.List.{find, list_any};
+ghost use Rattle.std.specs.Prelude.{◌≡◌, [], not, drop, IfSome, OnOk, find};
+ghost use Rattle.bm_base.specs.Words.{list_any};
 ghost use Rattle.cluster_input.specs.Kinds.{is_blank, is_brace, are_lines, IsHeadOf};
 
 use crate::fault::Fault;

@@ -1,8 +1,7 @@
 // A loaded cluster.
-ghost use Rattle.std.specs.Prelude.{◌≡◌, [], Some, IfOk, IfSome, OnOk};
+ghost use Rattle.std.specs.Prelude.{◌≡◌, Some, IfOk, IfSome, OnOk};
+ghost use Rattle.bm_base.specs.Words.{Appends, first_state};
 ghost use Rattle.std.specs.Fmt.{option_append};
-ghost use Rattle.std.specs.Io.KnownBytes.{Appends};
-ghost use Rattle.bm_base.specs.Machine.State.{first_state};
 ghost use Rattle.bm_lines.specs.Lines.{lines_of};
 ghost use Rattle.cluster_names.specs.FileTable.{no_blocks};
 ghost use Rattle.cluster_report.specs.Sessions.{IsInStep};

@@ -1,6 +1,6 @@
 // The names of a loaded cluster.
 ghost use Rattle.std.specs.Prelude.{◌≡◌, fold, IfOk, OnOk};
-ghost use Rattle.cluster_input.specs.ClusterNames.{names_of, no_names, with_node, with_storage};
+ghost use Rattle.cluster_input.specs.ClusterNames.{names_of, with_node, with_storage};
 
 use cluster_names::Names;
 use fsck_cluster::{Cluster, NodeRow, Row};

@@ -7,7 +7,7 @@ use Rattle.bm_base.specs.declared.replica.ReplicaId.{ReplicaId}
 use Rattle.bm_base.specs.declared.replica.Marks.{Marks}
 use Rattle.bm_base.specs.declared.replica.Replica.{Replica}
 use Rattle.bm_base.specs.declared.replica.BlockInfo.{BlockInfo}
-use Rattle.bm_base.specs.declared.level.Level.TheVariants.{NoUsableReplica}
+use Rattle.bm_base.specs.declared.replica.Level.TheVariants.{NoUsableReplica}
 use Rattle.bm_base.specs.declared.event.Event.{Event}
 use Rattle.bm_base.specs.declared.event.Event.TheVariants.{Dead}
 use Rattle.bm_base.specs.Words.{State, Holdings, get, keys, entries, by_replica, storages_where, is_good, is_live_on, is_drained_on, is_draining, live, drained, usable, racks, is_multi_rack, level, level_of, is_at, has_storage, all_replicas, excess_replicas, replicas_where, missing_blocks, without_storages, without_node, change_cluster, change_holdings, after_event}

@@ -1,6 +1,6 @@
 // The cluster after losses, before any round.
 ghost use Rattle.std.specs.Prelude.{◌≡◌, true, IfOk, OnOk};
-ghost use Rattle.bm_base.specs.Machine.Queries.{missing_blocks};
+ghost use Rattle.bm_base.specs.Words.{missing_blocks};
 ghost use Rattle.cluster_lost.specs.Losses.{are_losses, after_losses};
 ghost use Rattle.cluster_report.specs.Sessions.{IsInStep};
 ghost use Rattle.cluster_losses.specs.Outcomes.{IsOutcome};

@@ -1,6 +1,5 @@
 // Applies events to a loaded cluster.
-ghost use Rattle.std.specs.Prelude.{◌≡◌, None, OnOk};
-ghost use Rattle.std.specs.List.{fold};
+ghost use Rattle.std.specs.Prelude.{◌≡◌, None, OnOk, fold};
 ghost use Rattle.bm_base.specs.Words.{after_event, refusal_of};
 ghost use Rattle.cluster_report.specs.Sessions.{IsInStep};
 

@@ -1,7 +1,7 @@
 // Failure domains: the racks or nodes of which each is lost alone.
 ghost use Rattle.std.specs.Prelude.{◌≡◌, ◌==◌, map, IfOk};
-ghost use Rattle.bm_base.specs.Maps.Map as map_of;
 ghost use Rattle.cluster_losses.specs.FailureDomains.{AreRacks, AreRackNumbers, rack_number, rack_domain, node_domain, nodes_on};
+ghost use Rattle.bm_base.specs.Maps.Map as map_of;
 
 use bm_base::{Items, NodeId, Rack};
 use cluster_report::book::Book;

@@ -1,8 +1,6 @@
 // The bytes of the copies that blocks lack.
 ghost use Rattle.std.specs.Prelude.{◌≡◌, ◌+◌, ◌<◌, ◌≤◌, ◌^◌, ◌&&◌, List, ◌∷◌, not, if◌then◌else◌};
-ghost use Rattle.std.specs.Option.{option_map_or};
-ghost use Rattle.bm_base.specs.Machine.Replicas.{is_good};
-ghost use Rattle.bm_base.specs.Machine.Queries.{all_replicas, excess_replicas};
+ghost use Rattle.bm_base.specs.Words.{option_map_or, is_good, all_replicas, excess_replicas};
 ghost use Rattle.cluster_report.specs.Sessions.{IsInStep};
 ghost use Rattle.cluster_losses.specs.LackingBytes.{bytes_to_copy, lacking_bytes, in_128_bits};
 ghost use Rattle.cluster_losses.specs.BlockSums.{Marked, IsSummed, replica_of, switched, is_next};

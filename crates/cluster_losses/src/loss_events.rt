@@ -1,10 +1,10 @@
 // The events by which racks, nodes and storages are lost.
 ghost use Rattle.std.specs.Prelude.{◌≡◌, ◌==◌, ◌++◌, ◌∷◌, [], true, false, Some, None, is_some, is_none, length, map, option_to_list, IfOk, IfErr, IfSome, OnOk, if◌then◌else◌};
-ghost use Rattle.bm_base.specs.Maps.Lists.{has, has_repeats};
+ghost use Rattle.bm_base.specs.Words.{has, has_repeats};
 ghost use Rattle.cluster_lost.specs.Losses.{are_losses};
-ghost use Rattle.cluster_losses.specs.declared.loss.Kind.TheVariants as kind_of;
 ghost use Rattle.cluster_losses.specs.Events.{death, failure, drain, events_of};
 ghost use Rattle.cluster_losses.specs.NamedStorages.{AreNamed, AreAdded, IsFaultOf, named_by, storages_named, is_unknown, first_unknown, with_all, with_one};
+ghost use Rattle.cluster_losses.specs.declared.loss.Kind.TheVariants as kind_of;
 
 use crate::fault::Fault;
 use crate::loss::{Kind, Loss, Question};

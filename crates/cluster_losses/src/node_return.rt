@@ -1,9 +1,9 @@
 // Restores a dead node: the events by which it registers again and reports all that it had.
 ghost use Rattle.std.specs.Prelude.{◌≡◌, ◌++◌, true, map, IfOk, OnOk};
-ghost use Rattle.std.specs.List.{AllZip};
-ghost use Rattle.bm_base.specs.Maps.Map as map_of;
+ghost use Rattle.bm_base.specs.Words.{AllZip};
 ghost use Rattle.cluster_losses.specs.ReturnedNode.{IsReturn};
 ghost use Rattle.cluster_losses.specs.Returns.{AreReported, AreOfReturn, drained_again, free_of, heartbeat, is_report, registration};
+ghost use Rattle.bm_base.specs.Maps.Map as map_of;
 
 use crate::returns::Return;
 use crate::snapshot::drains;

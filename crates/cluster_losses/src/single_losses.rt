@@ -1,8 +1,6 @@
 // A table of the losses if each rack or each node fails alone, and then comes back.
 ghost use Rattle.std.specs.Prelude.{◌≡◌, [], IfOk, IfErr, OnOk};
-ghost use Rattle.std.specs.List.{AllZip};
-ghost use Rattle.std.specs.List.Sorted.{IsPermutation, IsSorted};
-ghost use Rattle.bm_base.specs.Machine.Queries.{excess_replicas};
+ghost use Rattle.bm_base.specs.Words.{AllZip, IsPermutation, IsSorted, excess_replicas};
 ghost use Rattle.cluster_report.specs.Sessions.{IsInStep};
 ghost use Rattle.cluster_losses.specs.Alike.{IsLike, IsSnapshot};
 ghost use Rattle.cluster_losses.specs.Faults.{IsRefusal, IsRowsFault};

@@ -1,5 +1,5 @@
 // A snapshot of a cluster, to compare with the cluster after its nodes came back.
-ghost use Rattle.std.specs.Prelude.{◌≡◌, Decides, IfOk, IfErr, OnOk};
+ghost use Rattle.std.specs.Prelude.{◌≡◌, IfOk, IfErr, OnOk, Decides};
 ghost use Rattle.bm_base.specs.Words.{State, drains};
 ghost use Rattle.cluster_report.specs.Sessions.{IsInStep};
 ghost use Rattle.cluster_losses.specs.Alike.{IsLike, IsSnapshot, AreSame, seen_node, seen_nodes, seen_storage, seen_storages};

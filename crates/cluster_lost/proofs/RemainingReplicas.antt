@@ -11,7 +11,7 @@ use Rattle.bm_base.specs.declared.storage.StorageInfo.{StorageInfo}
 use Rattle.bm_base.specs.declared.event.Event.{Event}
 use Rattle.bm_base.specs.declared.event.Event.TheVariants.{Register, Dead, StorageFailed, Heartbeat, Drain, Undrain, AddBlock, DeleteBlock, SetReplication, Restamp, Received, Deleted, Corrupt, FullReport}
 use Rattle.bm_base.specs.Words.{entries, get, keep, remove, Cluster, Holdings, State, by_replica, is_usable, is_live_on, is_drained_on, is_draining, node_of, has_storage, storages_where, usable, live, drained, racks, is_multi_rack, level, level_of, is_at, change_cluster, change_holdings, without_node, without_storage, without_storages, drain, begin_drain, after_event}
-use Rattle.bm_base.specs.declared.level.Level.TheVariants.{NoUsableReplica}
+use Rattle.bm_base.specs.declared.replica.Level.TheVariants.{NoUsableReplica}
 use Rattle.bm_base.proofs.MapLaws.{get-keep, get-remove, entries-keep}
 use Rattle.bm_base.proofs.Options.{there, all_stays}
 use Rattle.bm_base.proofs.Ties.{number_tie}

@@ -3,7 +3,7 @@ use Rattle.std.specs.Prelude.{◌≡◌, ℕ, Bool, true, false, not, ◌&&◌, 
 use Rattle.std.specs.List.{fold, list_any}
 use Rattle.bm_base.specs.declared.event.Event.{Event}
 use Rattle.bm_base.specs.declared.event.Event.TheVariants.{Dead, StorageFailed, Drain}
-use Rattle.bm_base.specs.declared.level.Level.TheVariants.{NoUsableReplica}
+use Rattle.bm_base.specs.declared.replica.Level.TheVariants.{NoUsableReplica}
 use Rattle.bm_base.specs.Words.{keys, contains_key, Cluster, State, has_storage, usable, level, is_at, missing_blocks, after_event}
 use Rattle.bm_base.specs.Promises.Lawful.{IsLawfulHoldings}
 

@@ -7,8 +7,8 @@
 
 ghost use Rattle.std.specs.Prelude.{◌≡◌, List, IfOk, not, filter};
 ghost use Rattle.bm_base.specs.Words.{has, State};
-ghost use Rattle.bm_base.specs.Maps.Map as map_of;
 ghost use Rattle.bm_base.specs.declared.event.Event.{Event};
+ghost use Rattle.bm_base.specs.Maps.Map as map_of;
 ghost use Rattle.cluster_lost.specs.Losses as law;
 
 use bm_base::{BlockId, Items};

@@ -2,7 +2,7 @@
 use Rattle.std.specs.Prelude.{◌≡◌, ℕ, ◌+◌, ◌-◌, ◌^◌, ◌<◌, ◌==◌, min, set, Bool, false, if◌then◌else◌, nat_eq, nat_lt, Option, Some, None, List, map, filter, length, get_or, count_by}
 use Rattle.std.specs.Option.{option_map_or}
 use Rattle.std.specs.List.{enumerate_from}
-use Rattle.bm_base.specs.declared.level.Level.TheVariants.{Highest}
+use Rattle.bm_base.specs.declared.replica.Level.TheVariants.{Highest}
 use Rattle.cluster_names.specs.FileTable.{FileTable, file_index_of}
 use Rattle.cluster_names.specs.declared.files.FileIndex.{FileIndex}
 use Rattle.cluster_report.specs.Levels.{all_at}

@@ -1,6 +1,6 @@
 // The files with blocks that are missing, or would be after one more failure.
-ghost use Rattle.std.specs.Prelude.{◌≡◌, get_or, replicate, IfOk};
-ghost use Rattle.bm_base.specs.Machine.Levels.{is_at};
+ghost use Rattle.std.specs.Prelude.{◌≡◌, IfOk, get_or, replicate};
+ghost use Rattle.bm_base.specs.Words.{is_at};
 ghost use Rattle.cluster_pages.specs.AtRisk.{AreAtRisk, AreCounts, highest_of, rows_of, rows_without, with_one, with_counted};
 
 use bm_base::{BlockId, Items, Level};

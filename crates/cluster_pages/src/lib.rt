@@ -58,7 +58,7 @@ use cluster_input::loaded_cluster::Loaded;
 use cluster_input::options::{files_of, parse_load_options};
 use cluster_input::sources::load;
 use json::make_json;
-use options::{Form, form_of, matches_of, wrong_value};
+use options::{Form, form_of, parse_words, wrong_value};
 use output::{
     ClusterReport, PrintFault, make_report, print_output_fault, print_report, write_flushed,
 };
@@ -87,7 +87,7 @@ pub fn report_by_words<
     N: Print,
 >(rt: &R, notes: &N, words: &[String]) -> u8 {
     let alloc: Global = rt.alloc();
-    let matches = match matches_of(alloc, words) {
+    let matches = match parse_words(alloc, words) {
         Ok(matches) => matches,
         Err(error) => return print_error(rt, &error),
     };

@@ -30,7 +30,7 @@ pub struct Form<'a> {
 
 /// The words of a command line, the program's name first. An `Err` is a request for help, a command
 /// line that is refused, or out of memory.
-pub fn matches_of<'a>(alloc: Global, words: &'a [String]) -> Result<ArgMatches<'a>, Error> {
+pub fn parse_words<'a>(alloc: Global, words: &'a [String]) -> Result<ArgMatches<'a>, Error> {
     let command = command(alloc)?;
     command.try_get_matches_from(words)
 }

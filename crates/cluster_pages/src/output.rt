@@ -1,6 +1,6 @@
 // Writes a report.
 ghost use Rattle.std.specs.Prelude.{◌≡◌, IfOk, IfErr, OnOk, string_bytes};
-ghost use Rattle.std.specs.Io.KnownBytes.{Appends};
+ghost use Rattle.bm_base.specs.Words.{Appends};
 ghost use Rattle.cluster_report.specs.Sessions.{IsInStep};
 ghost use Rattle.cluster_pages.specs.Output.{IsReportOn, PrintsReport, IsClusterReport, WritesNothing};
 

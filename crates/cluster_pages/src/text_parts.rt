@@ -1,8 +1,7 @@
 // The lines of a report.
-ghost use Rattle.std.specs.Prelude.{◌≡◌, ◌++◌, [], Some, length, slice_get, OnOk, option_copied, option_map, string_bytes, sum_by};
-ghost use Rattle.std.specs.List.{flat_map};
-ghost use Rattle.std.specs.Option.{option_map_or};
-ghost use Rattle.cluster_names.specs.Rows.{name_or_number, shown};
+ghost use Rattle.std.specs.Prelude.{◌≡◌, ◌++◌, [], Some, slice_get, OnOk, option_copied, option_map, string_bytes, sum_by, flat_map};
+ghost use Rattle.bm_base.specs.Words.{option_map_or};
+ghost use Rattle.cluster_names.specs.Rows.{shown};
 ghost use Rattle.cluster_pages.specs.Text.{amount_line, total_line, share, thousandths, bytes_on, state_word, level_word, held_text, place_text, use_text, node_line, storage_line, node_text, end_with, missing_line, urgent_line, urgent_text, file_line};
 
 use crate::files_at_risk::FileRow;

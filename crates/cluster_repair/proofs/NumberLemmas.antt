@@ -13,7 +13,7 @@ use Rattle.bm_base.specs.Words.{Cluster, has, keys}
 use Rattle.bm_base.proofs.Sets.{has_keys}
 use Rattle.cluster_repair.specs.declared.free_bytes.FreeBytes.{FreeBytes}
 use Rattle.cluster_repair.specs.declared.free_bytes.NodeStorages.{NodeStorages}
-use Rattle.cluster_repair.specs.History.{numbers_of, node_among}
+use Rattle.cluster_repair.specs.History.{numbers_of, with_storages}
 use Rattle.cluster_repair.specs.Reports.{free_after}
 use Rattle.cluster_repair.specs.LinkModel.{most, free_on, free_in}
 
@@ -73,13 +73,13 @@ free_known C s ss xs free all same is =
 
 -- Nodes with their storages.
 
-pub nodes_more : (C : Cluster) (ss items : List ℕ) (i node : ℕ) (n : NodeStorages) (old new : List NodeStorages) → i < length items → node ≡ get_or items i node → new ≡ old ++ n ∷ []
-    → numbers_of n ≡ node_among C ss node → map numbers_of old ≡ map (node_among C ss) (take i items) → map numbers_of new ≡ map (node_among C ss) (take (i + 1) items)
-nodes_more C ss items i node n old new below is added same before =
+pub nodes_more : (C : Cluster) (items : List ℕ) (i node : ℕ) (n : NodeStorages) (old new : List NodeStorages) → i < length items → node ≡ get_or items i node → new ≡ old ++ n ∷ []
+    → numbers_of n ≡ with_storages C node → map numbers_of old ≡ map (with_storages C) (take i items) → map numbers_of new ≡ map (with_storages C) (take (i + 1) items)
+nodes_more C items i node n old new below is added same before =
     ap (map numbers_of) added ∙ map-append numbers_of old (n ∷ []) ∙ ap (λ xs. xs ++ numbers_of n ∷ []) before
-    ∙ ap (λ x. map (node_among C ss) (take i items) ++ x ∷ []) (same ∙ ap (node_among C ss) is)
-    ∙ sym (ap (map (node_among C ss)) (take_more items i node below) ∙ map-append (node_among C ss) (take i items) (get_or items i node ∷ []))
+    ∙ ap (λ x. map (with_storages C) (take i items) ++ x ∷ []) (same ∙ ap (with_storages C) is)
+    ∙ sym (ap (map (with_storages C)) (take_more items i node below) ∙ map-append (with_storages C) (take i items) (get_or items i node ∷ []))
 
-pub nodes_all : (C : Cluster) (ss all items : List ℕ) (i : ℕ) (nodes : List NodeStorages) → length items ≤ i → items ≡ all → all ≡ keys C.nodes
-    → map numbers_of nodes ≡ map (node_among C ss) (take i items) → map numbers_of nodes ≡ map (node_among C ss) (keys C.nodes)
-nodes_all C ss all items i nodes end same known is = is ∙ ap (map (node_among C ss)) (take_all i items end ∙ same ∙ known)
+pub nodes_all : (C : Cluster) (all items : List ℕ) (i : ℕ) (nodes : List NodeStorages) → length items ≤ i → items ≡ all → all ≡ keys C.nodes
+    → map numbers_of nodes ≡ map (with_storages C) (take i items) → map numbers_of nodes ≡ map (with_storages C) (keys C.nodes)
+nodes_all C all items i nodes end same known is = is ∙ ap (map (with_storages C)) (take_all i items end ∙ same ∙ known)

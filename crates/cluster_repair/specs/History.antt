@@ -94,14 +94,14 @@ pub record AreOf (C : Cluster) (blocks : Catalogue) (rounds : ℕ) (M : State) :
 abbrev pub numbers_of : NodeStorages → ℕ × List ℕ
 numbers_of n = (n.node, n.storages.items)
 
--- a node with those of its storages that are among these
-abbrev pub node_among : Cluster → List ℕ → ℕ → ℕ × List ℕ
-node_among C ss n = (n, filter (has_storage C n) ss)
+-- a node with its storages
+abbrev pub with_storages : Cluster → ℕ → ℕ × List ℕ
+with_storages C n = (n, filter (has_storage C n) (keys C.storages))
 
 -- DataNodes before the first round: they have nothing to do, and the free bytes of the cluster
 pub record AreAtStart (C : Cluster) (d : DataNodes) : Type 0 where
   pub free : (s : ℕ) → free_on d.free s ≡ free_in C s
-  pub nodes : map numbers_of d.free.nodes.items ≡ map (node_among C (keys C.storages)) (keys C.nodes)
+  pub nodes : map numbers_of d.free.nodes.items ≡ map (with_storages C) (keys C.nodes)
   pub storages : d.free.storages.items ≡ keys C.storages
   pub on_way : d.on_way.sent.items ≡ []
   pub next : d.on_way.next ≡ 0

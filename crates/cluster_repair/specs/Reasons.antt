@@ -1,8 +1,8 @@
 -- Why blocks stay unrepaired.
 use Rattle.std.specs.Prelude.{◌≡◌, ℕ, Bool, true, false, not, ◌==◌, ◌&&◌, if◌then◌else◌, nat_le, List, filter, is_some}
 use Rattle.std.specs.List.{All, list_any}
-use Rattle.bm_base.specs.declared.level.Level.{Level}
-use Rattle.bm_base.specs.declared.level.Level.TheVariants.{BadlyDistributed, NoUsableReplica}
+use Rattle.bm_base.specs.declared.replica.Level.{Level}
+use Rattle.bm_base.specs.declared.replica.Level.TheVariants.{BadlyDistributed, NoUsableReplica}
 use Rattle.bm_base.specs.declared.replica.Replica.{Replica}
 use Rattle.bm_base.specs.Words.{Cluster, Holdings, all_replicas, is_draining, is_good, node_of, share_rack}
 use Rattle.bm_base.specs.Machine.Replicas.{share_node}

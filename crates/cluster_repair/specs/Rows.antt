@@ -3,7 +3,7 @@ use Rattle.std.specs.Prelude.{◌≡◌, ℕ, ◌<◌, Bool, true, ◌+◌, ◌-
 use Rattle.std.specs.List.{All, AllPairs, list_any}
 use Rattle.std.specs.List.Sorted.{IsStrictlyIncreasing}
 use Rattle.bm_base.specs.declared.event.Event.{Event}
-use Rattle.bm_base.specs.declared.level.Level.TheVariants.{Highest, VeryUnderReplicated, UnderReplicated, BadlyDistributed}
+use Rattle.bm_base.specs.declared.replica.Level.TheVariants.{Highest, VeryUnderReplicated, UnderReplicated, BadlyDistributed}
 use Rattle.bm_base.specs.Words.{State, has, keys, level, missing_blocks}
 use Rattle.cluster_report.specs.declared.levels.LevelCounts.{LevelCounts}
 use Rattle.laws_of_repairs.specs.Repairs.{Covers, blocks_at}

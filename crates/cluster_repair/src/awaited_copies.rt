@@ -1,8 +1,6 @@
 // Copies on their way, ordered by the time of their arrival.
 ghost use Rattle.std.specs.Prelude.{◌≡◌, ◌+◌, ◌++◌, ◌∷◌, ◌==◌, ◌&&◌, not, min, [], ℕ, false, nat_lt, length, count_by, filter, IfOk, OnOk, if◌then◌else◌};
-ghost use Rattle.std.specs.List.{list_any};
-ghost use Rattle.std.specs.List.Sorted.{IsPermutation, IsSortedByKey};
-ghost use Rattle.bm_base.specs.Ordered.{by_pair};
+ghost use Rattle.bm_base.specs.Words.{list_any, IsPermutation, IsSortedByKey, by_pair};
 ghost use Rattle.cluster_repair.specs.Copies.{is_copy_of, is_among, holds_target, has_arrived, when};
 ghost use Rattle.cluster_repair.specs.LinkModel.{most};
 

@@ -1,6 +1,5 @@
 // A model of DataNodes: how they obey the commands of rounds, and what they report.
-ghost use Rattle.std.specs.Prelude.{◌≡◌, ◌++◌, ◌∷◌, [], ℕ, map, List, None, IfOk, OnOk};
-ghost use Rattle.std.specs.List.{fold};
+ghost use Rattle.std.specs.Prelude.{◌≡◌, ◌++◌, ◌∷◌, [], ℕ, map, List, None, IfOk, OnOk, fold};
 ghost use Rattle.bm_base.specs.Words.{after_event, refusal_of};
 ghost use Rattle.cluster_report.specs.Catalogues.{len_in};
 ghost use Rattle.laws_of_repairs.specs.Repairs.{Covers};

@@ -1,8 +1,7 @@
 // The free bytes of storages, as their DataNodes know them.
-ghost use Rattle.std.specs.Prelude.{◌≡◌, ℕ, ◌+◌, ◌-◌, min, nat_eq, map, filter, unwrap_or, IfOk, OnOk, if◌then◌else◌};
-ghost use Rattle.std.specs.HashMap.{get};
-ghost use Rattle.bm_base.specs.Words.{has, has_storage, keys};
-ghost use Rattle.cluster_repair.specs.History.{numbers_of, node_among};
+ghost use Rattle.std.specs.Prelude.{◌≡◌, ℕ, ◌+◌, ◌-◌, min, nat_eq, map, unwrap_or, IfOk, OnOk, if◌then◌else◌};
+ghost use Rattle.bm_base.specs.Words.{has, keys, get};
+ghost use Rattle.cluster_repair.specs.History.{numbers_of, with_storages};
 ghost use Rattle.cluster_repair.specs.LinkModel.{most, free_on, free_in, remaining_in};
 
 use crate::numbers::put;
@@ -33,13 +32,12 @@ impl FreeBytes {
     pub fn new(alloc: Global, topology: &Topology) -> Result<FreeBytes, AllocError>
         ensures free { IfOk result (λ f. (s : ℕ) → free_on f s ≡ free_in topology.now.cluster s) }
         ensures nodes { IfOk result (λ f. map numbers_of f.nodes.items
-            ≡ map (node_among topology.now.cluster (keys topology.now.cluster.storages))
-            (keys topology.now.cluster.nodes)) }
+            ≡ map (with_storages topology.now.cluster) (keys topology.now.cluster.nodes)) }
         ensures storages { IfOk result
             (λ f. f.storages.items ≡ keys topology.now.cluster.storages) }
     {
         let storages = all_storages(alloc, topology)?;
-        let nodes = nodes_with(alloc, topology, storages.as_slice())?;
+        let nodes = all_with_storages(alloc, topology)?;
         let free = free_bytes_of(alloc, topology, storages.as_slice())?;
         Ok(FreeBytes {
             storages,
@@ -126,40 +124,19 @@ fn free_bytes_of(
     Ok(free)
 }
 
-fn nodes_with(
-    alloc: Global,
-    topology: &Topology,
-    storages: &[StorageId],
-) -> Result<Vec<NodeStorages>, AllocError>
+/// All nodes with their storages.
+fn all_with_storages(alloc: Global, topology: &Topology) -> Result<Vec<NodeStorages>, AllocError>
     ensures { IfOk result (λ v. map numbers_of v.items
-        ≡ map (node_among topology.now.cluster storages.now) (keys topology.now.cluster.nodes)) }
+        ≡ map (with_storages topology.now.cluster) (keys topology.now.cluster.nodes)) }
 {
     let all = all_nodes(alloc, topology)?;
     let mut nodes = Vec::new(alloc);
     for node in &all {
-        let storages = storages_of(alloc, topology, *node, storages)?;
+        let storages = Vec::from_slice(alloc, topology.storages_of(*node))?;
         nodes.push(NodeStorages {
             node: *node,
             storages,
         })?;
     }
     Ok(nodes)
-}
-
-fn storages_of(
-    alloc: Global,
-    topology: &Topology,
-    node: NodeId,
-    storages: &[StorageId],
-) -> Result<Vec<StorageId>, AllocError>
-    ensures { IfOk result (λ v. v.items
-        ≡ filter (has_storage topology.now.cluster node) storages.now) }
-{
-    let mut own = Vec::new(alloc);
-    for storage in storages {
-        if topology.has_storage(node, *storage) {
-            own.push(*storage)?;
-        }
-    }
-    Ok(own)
 }

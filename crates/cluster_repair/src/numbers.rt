@@ -1,6 +1,6 @@
 // Sets entries of hash maps from numbers to numbers.
 ghost use Rattle.std.specs.Prelude.{◌≡◌, ℕ, nat_eq, Some, OnOk, if◌then◌else◌};
-ghost use Rattle.std.specs.HashMap.{get};
+ghost use Rattle.bm_base.specs.Words.{get};
 
 use std::alloc::AllocError;
 use std::collections::HashMap;

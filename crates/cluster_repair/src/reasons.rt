@@ -1,8 +1,6 @@
 // Why blocks with a level are copied no further.
-ghost use Rattle.std.specs.Prelude.{◌≡◌, ◌==◌, ◌++◌, ◌∷◌, [], filter, is_some, nat_le, IfOk, OnOk};
-ghost use Rattle.std.specs.List.{list_any};
-ghost use Rattle.std.specs.List.Sorted.{IsNonDecreasingBy};
-ghost use Rattle.bm_base.specs.Words.{all_replicas, share_rack};
+ghost use Rattle.std.specs.Prelude.{◌≡◌, ◌==◌, ◌++◌, ◌∷◌, [], filter, is_some, IfOk, OnOk};
+ghost use Rattle.bm_base.specs.Words.{list_any, IsNonDecreasingBy, all_replicas, share_rack};
 ghost use Rattle.bm_base.specs.Machine.Replicas.{share_node};
 ghost use Rattle.cluster_report.specs.Catalogues.{len_in};
 ghost use Rattle.cluster_repair.specs.Rows.{AreFound, AreLeveled, AreUnmended};

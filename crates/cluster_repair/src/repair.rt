@@ -1,7 +1,6 @@
 // Rounds until nothing more is copied.
 ghost use Rattle.std.specs.Prelude.{◌≡◌, ◌+◌, ◌<◌, ◌&&◌, ℕ, false, true, nat_eq, nat_le, [], None, filter, IfOk, OnOk, if◌then◌else◌};
-ghost use Rattle.bm_base.specs.Machine.State.{State};
-ghost use Rattle.bm_base.specs.Words.{knows_node};
+ghost use Rattle.bm_base.specs.Words.{State, knows_node};
 ghost use Rattle.cluster_report.specs.Sessions.{IsInStep};
 ghost use Rattle.laws_of_repairs.specs.Repairs.{Covers};
 ghost use Rattle.cluster_repair.specs.History.{AreAtStart, AreOf, ComesAt, HasTaken, are_idle, awaited_rounds};

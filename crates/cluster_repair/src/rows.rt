@@ -1,6 +1,6 @@
 // A row of counts for every round; if there are many rounds, for every second, fourth and so on.
 ghost use Rattle.std.specs.Prelude.{◌≡◌, ℕ, ◌+◌, ◌≤◌, List, [], filter, length, IfOk, OnOk};
-ghost use Rattle.bm_base.specs.Machine.State.{State};
+ghost use Rattle.bm_base.specs.Words.{State};
 ghost use Rattle.cluster_repair.specs.History.{RoundRecord};
 ghost use Rattle.cluster_repair.specs.Rows.{IsRowAmong, AreRowsAmong, AreInOrder, EndsWith, is_on_stride};
 ghost use Rattle.cluster_repair.specs.declared.datanodes.DataNodes.{DataNodes};

@@ -1,7 +1,7 @@
 -- Blocks counted by level, and the most urgent ones.
 use Rattle.std.specs.Prelude.{ℕ, List, ◌++◌, filter, count_by, sum_by, is_none, if◌then◌else◌}
-use Rattle.bm_base.specs.declared.level.Level.TheVariants.{Highest, VeryUnderReplicated, UnderReplicated, BadlyDistributed}
-use Rattle.bm_base.specs.declared.level.Level.{Level}
+use Rattle.bm_base.specs.declared.replica.Level.TheVariants.{Highest, VeryUnderReplicated, UnderReplicated, BadlyDistributed}
+use Rattle.bm_base.specs.declared.replica.Level.{Level}
 use Rattle.bm_base.specs.Words.{Cluster, Holdings, is_at, level}
 use Rattle.cluster_report.specs.declared.levels.Leveled.{Leveled}
 use Rattle.cluster_report.specs.declared.levels.LevelBytes.{LevelBytes}

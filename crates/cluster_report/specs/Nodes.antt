@@ -1,6 +1,6 @@
 -- The nodes of a state with their storages, as a report lists them.
 use Rattle.std.specs.Prelude.{ℕ, List, map, filter, length, sum_by, unwrap_or, if◌then◌else◌}
-use Rattle.bm_base.specs.Words.{get, State, has_storage, drains, remaining, blocks_on, is_retired}
+use Rattle.bm_base.specs.Words.{get, keys, State, has_storage, drains, remaining, blocks_on, is_retired}
 use Rattle.cluster_report.specs.Catalogues.{len_of}
 use Rattle.cluster_report.specs.declared.nodes.NodeState.{NodeState}
 use Rattle.cluster_report.specs.declared.nodes.NodeState.TheVariants.{Live, Draining, Retired}
@@ -16,19 +16,19 @@ storage_row M s = record {
   remaining = remaining M.cluster s;
 }
 
--- the storages of a node, among these
-abbrev pub storage_rows : State → ℕ → List ℕ → List StorageRow
-storage_rows M n ss = map (storage_row M) (filter (has_storage M.cluster n) ss)
+-- the storages of a node
+abbrev pub storage_rows : State → ℕ → List StorageRow
+storage_rows M n = map (storage_row M) (filter (has_storage M.cluster n) (keys M.cluster.storages))
 
 -- retired if it can be removed; else draining or live
 abbrev pub state_of : State → ℕ → NodeState
 state_of M n = if is_retired M.cluster M.holdings n then Retired else if drains M.cluster n then Draining else Live
 
--- a node with its storages, among these
-abbrev pub node_row : State → List ℕ → ℕ → NodeRow
-node_row M ss n = record {
+-- a node with its storages
+abbrev pub node_row : State → ℕ → NodeRow
+node_row M n = record {
   node = n;
   rack = unwrap_or (get M.cluster.nodes n) 0;
   state = state_of M n;
-  storages = storage_rows M n ss;
+  storages = storage_rows M n;
 }

@@ -17,7 +17,7 @@ abbrev pub report_of : State → Report
 report_of M = record {
   calls = M.calls;
   round = M.round;
-  nodes = map (node_row M (keys M.cluster.storages)) (keys M.cluster.nodes);
+  nodes = map (node_row M) (keys M.cluster.nodes);
   levels = levels_counted (levels_held M) (length (missing_blocks M.cluster M.holdings));
   level_bytes = level_bytes (len_of M.holdings.blocks) (levels_held M) (missing_blocks M.cluster M.holdings);
   tags = tags_counted (all_replicas M.holdings);

@@ -1,10 +1,10 @@
 // The facts for which the manager has no query: its nodes and storages, the pending copies, and the
 // lengths of blocks.
 ghost use Rattle.std.specs.Prelude.{◌≡◌, IfOk, OnOk, OnErr, unwrap_or};
-ghost use Rattle.bm_base.specs.Maps.Map as map;
 ghost use Rattle.bm_base.specs.Words.{Cluster, Holdings, empty_cluster, change_cluster, change_holdings, first_of, cluster_checks};
 ghost use Rattle.cluster_report.specs.Books.{IsAccepted, cluster_after, AreCopiesAfter, AreBlocksAfter};
 ghost use Rattle.cluster_report.specs.Catalogues.{info_in, Lists};
+ghost use Rattle.bm_base.specs.Maps.Map as map;
 
 use crate::catalogue::Catalogue;
 use crate::transfers::Transfers;

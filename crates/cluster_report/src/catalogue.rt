@@ -1,8 +1,8 @@
 // The stamp and the wanted replicas of each known block. The manager has no query for them.
 ghost use Rattle.std.specs.Prelude.{◌≡◌, ℕ, nat_eq, sum_by, Some, None, OnOk, if◌then◌else◌};
-ghost use Rattle.bm_base.specs.Maps.Map as map_of;
 ghost use Rattle.bm_base.specs.Words.{Cluster, Holdings, change_holdings, set_replication, restamp};
 ghost use Rattle.cluster_report.specs.Catalogues.{info_in, len_in, Lists};
+ghost use Rattle.bm_base.specs.Maps.Map as map_of;
 
 use bm_base::{BlockId, BlockInfo, Event, Stamp};
 use std::alloc::{AllocError, Global};

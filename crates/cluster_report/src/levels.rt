@@ -1,6 +1,6 @@
 // The blocks counted by level, and the most urgent ones.
 ghost use Rattle.std.specs.Prelude.{◌≡◌, ◌++◌, IfOk, map, count_by, sum_by, is_none, if◌then◌else◌};
-ghost use Rattle.bm_base.specs.Machine.Levels.{is_at, level};
+ghost use Rattle.bm_base.specs.Words.{is_at, level};
 ghost use Rattle.cluster_report.specs.Levels.{all_at, bytes_at, level_bytes, leveled, levels_counted, urgent_first};
 ghost use Rattle.cluster_report.specs.Catalogues.{len_in};
 

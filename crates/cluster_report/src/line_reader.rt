@@ -1,6 +1,6 @@
 // Reads the lines of the input.
 ghost use Rattle.std.specs.Prelude.{◌≡◌, ◌⊎◌, Some, IfOk, OnOk, IfSome, is_none};
-ghost use Rattle.std.specs.Io.KnownBytes.{Appends};
+ghost use Rattle.bm_base.specs.Words.{Appends};
 ghost use Rattle.bm_lines.specs.Lines.{lines_of};
 ghost use Rattle.cluster_report.specs.Sessions.{IsInStep};
 ghost use Rattle.cluster_report.specs.LineNotes.{without_end, refusal_text, after_line, after_lines, IsAllAccepted, note_text, notes_text};

@@ -1,8 +1,8 @@
 // The nodes with their storages, as a report lists them.
 ghost use Rattle.std.specs.Prelude.{◌≡◌, IfOk, map};
-ghost use Rattle.bm_base.specs.Maps.Map as map_of;
 ghost use Rattle.cluster_report.specs.Nodes.{storage_row, storage_rows, state_of, node_row};
 ghost use Rattle.cluster_report.specs.Sessions.{Follows};
+ghost use Rattle.bm_base.specs.Maps.Map as map_of;
 
 use crate::book::Book;
 use bm_base::{Items, NodeId, Rack, Refusal, StorageId};
@@ -40,21 +40,20 @@ pub struct NodeRow {
     pub storages: Items<StorageRow>,
 }
 
-/// The rows of these nodes. For each node it scans all storages, and makes one query for the blocks
-/// on each of its own. For each draining node, one query scans all blocks.
+/// The rows of these nodes. For each of them the blocks on its storages are scanned twice: for what
+/// they are, and for whether one of them holds the node back.
 pub fn node_rows(
     alloc: Global,
     manager: &Manager,
     book: &Book,
     nodes: &[NodeId],
-    storages: &[StorageId],
 ) -> Result<Items<NodeRow>, Refusal>
     requires { Follows book.now manager.now }
-    ensures { IfOk result (λ rows. rows ≡ map (node_row manager.now storages.now) nodes.now) }
+    ensures { IfOk result (λ rows. rows ≡ map (node_row manager.now) nodes.now) }
 {
     let mut rows = Vec::new(alloc);
     for node in nodes {
-        let row = node_row(alloc, manager, book, *node, storages)?;
+        let row = node_row(alloc, manager, book, *node)?;
         rows.push(row)?;
     }
     Ok(Items::from_vec(rows))
@@ -88,21 +87,15 @@ pub fn all_storages(alloc: Global, topology: &Topology) -> Result<Vec<StorageId>
     Ok(storages)
 }
 
-fn node_row(
-    alloc: Global,
-    manager: &Manager,
-    book: &Book,
-    node: NodeId,
-    storages: &[StorageId],
-) -> Result<NodeRow, Refusal>
+fn node_row(alloc: Global, manager: &Manager, book: &Book, node: NodeId) -> Result<NodeRow, Refusal>
     requires { Follows book.now manager.now }
-    ensures { IfOk result (λ row. row ≡ node_row manager.now storages.now node) }
+    ensures { IfOk result (λ row. row ≡ node_row manager.now node) }
 {
     Ok(NodeRow {
         node,
         rack: book.rack_of(node),
         state: state_of(manager, &book.topology, node)?,
-        storages: storage_rows(alloc, manager, book, node, storages)?,
+        storages: storage_rows(alloc, manager, book, node)?,
     })
 }
 
@@ -120,23 +113,20 @@ fn state_of(manager: &Manager, topology: &Topology, node: NodeId) -> Result<Node
     }
 }
 
-/// The rows of the node's storages, among these.
+/// The rows of the node's storages.
 fn storage_rows(
     alloc: Global,
     manager: &Manager,
     book: &Book,
     node: NodeId,
-    storages: &[StorageId],
 ) -> Result<Items<StorageRow>, Refusal>
     requires { Follows book.now manager.now }
-    ensures { IfOk result (λ rows. rows ≡ storage_rows manager.now node storages.now) }
+    ensures { IfOk result (λ rows. rows ≡ storage_rows manager.now node) }
 {
     let mut rows = Vec::new(alloc);
-    for storage in storages {
-        if book.topology.has_storage(node, *storage) {
-            let row = storage_row(manager, book, *storage)?;
-            rows.push(row)?;
-        }
+    for storage in book.topology.storages_of(node) {
+        let row = storage_row(manager, book, *storage)?;
+        rows.push(row)?;
     }
     Ok(Items::from_vec(rows))
 }

@@ -1,6 +1,6 @@
 // The whole report.
 ghost use Rattle.std.specs.Prelude.{◌≡◌, IfOk, length, map};
-ghost use Rattle.bm_base.specs.Machine.Queries.{all_replicas, excess_replicas, missing_blocks};
+ghost use Rattle.bm_base.specs.Words.{all_replicas, excess_replicas, missing_blocks};
 ghost use Rattle.cluster_report.specs.TagTotals.{blocks_held};
 ghost use Rattle.cluster_report.specs.Levels.{leveled};
 ghost use Rattle.cluster_report.specs.Reports.{levels_held, report_of};
@@ -10,7 +10,7 @@ use crate::book::Book;
 use crate::levels::{
     LevelBytes, LevelCounts, Leveled, count_levels, level_bytes, query_levels, urgent_first,
 };
-use crate::nodes::{NodeRow, all_nodes, all_storages, node_rows};
+use crate::nodes::{NodeRow, all_nodes, node_rows};
 use crate::tag_counts::{TagBytes, TagCounts, count_tags, held_blocks, tag_bytes};
 use bm_base::{BlockId, Items, Refusal, Replica};
 use bm_manager::Manager;
@@ -157,6 +157,5 @@ fn list_nodes(alloc: Global, manager: &Manager, book: &Book) -> Result<Items<Nod
     ensures { IfOk result (λ rows. rows ≡ (report_of manager.now).nodes) }
 {
     let nodes = all_nodes(alloc, &book.topology)?;
-    let storages = all_storages(alloc, &book.topology)?;
-    node_rows(alloc, manager, book, nodes.as_slice(), storages.as_slice())
+    node_rows(alloc, manager, book, nodes.as_slice())
 }

@@ -1,6 +1,6 @@
 // The replicas counted by tag, and their blocks.
 ghost use Rattle.std.specs.Prelude.{◌≡◌, IfOk, count_by, if◌then◌else◌};
-ghost use Rattle.bm_base.specs.Machine.Replicas.{is_good, is_stale, is_bad, is_stray};
+ghost use Rattle.bm_base.specs.Words.{is_good, is_stale, is_bad, is_stray};
 ghost use Rattle.cluster_report.specs.TagTotals.{tags_counted, tag_bytes, bytes_where, known_numbers, blocks_held};
 ghost use Rattle.cluster_report.specs.Catalogues.{len_in};
 

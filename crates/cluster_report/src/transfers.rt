@@ -1,10 +1,9 @@
 // The pending copies: commanded, and neither arrived nor expired. The manager has no query for
 // them, so they are kept here by its rules.
-ghost use Rattle.std.specs.Prelude.{◌≡◌, ◌==◌, ◌&&◌, ◌-◌, OnOk, None, true, not, nat_le, map, if◌then◌else◌};
-ghost use Rattle.std.specs.List.{flat_map, list_any};
-ghost use Rattle.bm_base.specs.Maps.Map as map_of;
-ghost use Rattle.bm_base.specs.Words.{Holdings, replica_at, expanded, change_holdings, is_named, first_of, cluster_checks, knows_node, drains, has_storage};
+ghost use Rattle.std.specs.Prelude.{◌≡◌, ◌==◌, ◌&&◌, ◌-◌, OnOk, None, true, not, nat_le, if◌then◌else◌, flat_map};
+ghost use Rattle.bm_base.specs.Words.{list_any, Holdings, replica_at, expanded, change_holdings, is_named, first_of, cluster_checks, knows_node, drains, has_storage};
 ghost use Rattle.cluster_report.specs.Copies.{commanded_to};
+ghost use Rattle.bm_base.specs.Maps.Map as map_of;
 
 use bm_base::{BlockId, Commands, Entry, Event, NodeCommands, NodeId, ReplicaId, StorageId};
 use bm_topo::Topology;

@@ -1,7 +1,7 @@
 -- The counts after a round, from the manager's answers.
 use Rattle.std.specs.Prelude.{◌≡◌, ℕ, length}
-use Rattle.bm_base.specs.declared.level.Level.{Level}
-use Rattle.bm_base.specs.declared.level.Level.TheVariants.{Highest, VeryUnderReplicated, UnderReplicated, BadlyDistributed}
+use Rattle.bm_base.specs.declared.replica.Level.{Level}
+use Rattle.bm_base.specs.declared.replica.Level.TheVariants.{Highest, VeryUnderReplicated, UnderReplicated, BadlyDistributed}
 use Rattle.bm_base.specs.Words.{State, keys, missing_blocks, excess_replicas, corrupt_replicas}
 use Rattle.laws_of_repairs.specs.Repairs.{blocks_at}
 use Rattle.cluster_simulation.specs.declared.counts.Counts.{Counts}

@@ -1,5 +1,4 @@
 // Removes copies that arrived from the pending copies in the manager's book.
-ghost use Rattle.std.specs.Prelude.{◌≡◌};
 
 use bm_base::{Event, Transfer};
 use bm_topo::Topology;

@@ -1,9 +1,9 @@
 // A made-up cluster, round by round.
 ghost use Rattle.std.specs.Prelude.{◌≡◌, IfOk, OnOk};
-ghost use Rattle.bm_base.specs.Maps.Map as map_of;
 ghost use Rattle.cluster_report.specs.Sessions.{IsInStep};
 ghost use Rattle.laws_of_repairs.specs.Repairs.{Covers};
 ghost use Rattle.cluster_simulation.specs.RoundCounts.{IsCounted};
+ghost use Rattle.bm_base.specs.Maps.Map as map_of;
 
 use crate::arrivals::note_arrivals;
 use crate::block_counts::count_blocks;

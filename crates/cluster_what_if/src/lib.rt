@@ -30,7 +30,7 @@ mod table;
 mod text;
 
 ghost use Rattle.std.specs.Prelude.{◌≡◌, false};
-ghost use Rattle.std.specs.Io.KnownBytes.{Appends};
+ghost use Rattle.bm_base.specs.Words.{Appends};
 ghost use Rattle.cluster_report.specs.Sessions.{IsInStep};
 ghost use Rattle.cluster_what_if.specs.Output.{IsPrinted, found_text};
 
@@ -46,7 +46,7 @@ use cluster_pages::output::print_output_fault;
 use cluster_pages::page_file::write_page;
 use cluster_progress::Progress;
 use findings::{Findings, find};
-use options::{Arguments, matches_of, parse_arguments};
+use options::{Arguments, parse_arguments, parse_words};
 use output::{print_lines, print_picture};
 use page::found_page;
 use std::alloc::Global;
@@ -72,7 +72,7 @@ pub fn losses_by_words<
     N: Print,
 >(rt: &R, notes: &N, words: &[String]) -> u8 {
     let alloc: Global = rt.alloc();
-    let matches = match matches_of(alloc, words) {
+    let matches = match parse_words(alloc, words) {
         Ok(matches) => matches,
         Err(error) => return print_error(rt, &error),
     };

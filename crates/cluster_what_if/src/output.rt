@@ -1,6 +1,6 @@
 // Prints the findings.
 ghost use Rattle.std.specs.Prelude.{◌≡◌, ◌++◌, IfOk, OnOk, string_bytes};
-ghost use Rattle.std.specs.Io.KnownBytes.{Appends};
+ghost use Rattle.bm_base.specs.Words.{Appends};
 ghost use Rattle.cluster_what_if.specs.Output.{losses_text, mended_text, found_text};
 
 use crate::findings::{Findings, Losses, Mended};

@@ -1,7 +1,5 @@
 // The text of a table: a row for each rack or node that is lost alone.
-ghost use Rattle.std.specs.Prelude.{◌≡◌, ◌++◌, IfOk, OnOk, string_bytes};
-ghost use Rattle.std.specs.List.{flat_map};
-ghost use Rattle.cluster_what_if.specs.Columns.{word_first};
+ghost use Rattle.std.specs.Prelude.{◌≡◌, ◌++◌, IfOk, OnOk, string_bytes, flat_map};
 ghost use Rattle.cluster_what_if.specs.Table.{kind_word, heading, files_head, end_of_heading, row_name, row_start, files_number, lost_text, needs_text, row_text, table_text};
 
 use crate::columns::{write_level_heads, write_level_numbers};

@@ -1,6 +1,5 @@
 // The answer as text: a line for each fact.
-ghost use Rattle.std.specs.Prelude.{◌≡◌, ◌++◌, [], OnOk, nat_le, codes, option_map, option_copied, string_bytes};
-ghost use Rattle.std.specs.List.{flat_map};
+ghost use Rattle.std.specs.Prelude.{◌≡◌, ◌++◌, [], OnOk, nat_le, option_map, option_copied, string_bytes, flat_map};
 ghost use Rattle.cluster_names.specs.Rows.{shown, name_or_number};
 ghost use Rattle.cluster_what_if.specs.Text.{node_words, node_line, storage_line, lost_text, change_line, levels_text, end_with, block_line, blocks_text, files_text, yes_or_no, fits_line, copies_text, answer_text};
 

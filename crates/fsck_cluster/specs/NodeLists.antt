@@ -6,7 +6,7 @@ use Rattle.fsck_text.specs.Nodes.{node_line_of}
 use Rattle.fsck_text.specs.Wrongs.{after_ok}
 use Rattle.fsck_text.specs.declared.node.NodeLine.{NodeLine}
 use Rattle.fsck_text.specs.declared.node.NodeLine.TheVariants as node
-use Rattle.fsck_text.specs.declared.wrong.Wrong.{Wrong}
+use Rattle.fsck_text.specs.declared.reason.Wrong.{Wrong}
 use Rattle.fsck_files.specs.Numbers.{with_number}
 use Rattle.fsck_cluster.specs.Names.{is_new, name_number, with_name}
 use Rattle.fsck_cluster.specs.Clusters.{no_cluster}

@@ -1,5 +1,5 @@
 // A cluster that is read block by block.
-ghost use Rattle.std.specs.Prelude.{◌≡◌, Ok, Err, OnOk, IfErr, option_copied, option_map, slice_get};
+ghost use Rattle.std.specs.Prelude.{◌≡◌, Ok, Err, OnOk, IfErr};
 ghost use Rattle.fsck_cluster.specs.Clusters.{no_cluster, is_on_rack, is_on_node, after_block, after_places, after_place, after_node, after_new_node, after_storage, after_new_storage, after_replica, with_bad, with_draining, after_spare, after_spares, with_spares, IsCause};
 
 use crate::blocks::Blocks;

@@ -1,7 +1,7 @@
 // The DataNodes, from the report on them.
 ghost use Rattle.std.specs.Prelude.{◌≡◌, Ok, Err, Some, OnOk, IfOk, IfErr};
+ghost use Rattle.fsck_cluster.specs.NodeLists.{no_list, ended_row, counted, ended_section, after_name, after_rack, after_drains, after_remaining, after_section, after_line, at_end, IsCause};
 ghost use Rattle.fsck_cluster.specs.declared.node_list.NodeRefusal.TheVariants as refusal;
-ghost use Rattle.fsck_cluster.specs.NodeLists.{no_list, ended_row, after_row, counted, ended_section, after_name, after_rack, after_drains, after_remaining, after_section, after_line, at_end, IsCause};
 
 use crate::cluster::{Cluster, DEFAULT_RACK, NodeRow};
 use bm_base::MAX_NODES;

@@ -14,9 +14,9 @@ use Rattle.fsck_text.specs.declared.line.Line.{Line}
 use Rattle.fsck_text.specs.declared.line.Line.TheVariants as line
 use Rattle.fsck_text.specs.declared.list.ListedReplica.{ListedReplica}
 use Rattle.fsck_text.specs.declared.summary.Count.{Count}
-use Rattle.fsck_text.specs.declared.wrong.Fault.{Fault}
-use Rattle.fsck_text.specs.declared.wrong.Fault.TheVariants as text_fault
-use Rattle.fsck_text.specs.declared.wrong.Wrong.{Wrong}
+use Rattle.fsck_text.specs.declared.reason.Fault.{Fault}
+use Rattle.fsck_text.specs.declared.reason.Fault.TheVariants as text_fault
+use Rattle.fsck_text.specs.declared.reason.Wrong.{Wrong}
 use Rattle.fsck_files.specs.Counts.{no_counts, none_summed, with_blocks, with_missing, with_corrupt, is_healthy, number_of, with_sum}
 use Rattle.fsck_files.specs.Numbers.{has_number, with_number}
 use Rattle.fsck_files.specs.Replicas.{claims, are_unmarked, maintained}

@@ -11,7 +11,7 @@ use Rattle.fsck_text.specs.Cuts.{Text}
 use Rattle.fsck_text.specs.Nodes.{node_line_of}
 use Rattle.fsck_text.specs.declared.node.NodeLine.{NodeLine}
 use Rattle.fsck_text.specs.declared.node.NodeLine.TheVariants as node
-use Rattle.fsck_text.specs.declared.wrong.Wrong.{Wrong}
+use Rattle.fsck_text.specs.declared.reason.Wrong.{Wrong}
 use Rattle.fsck_files.specs.Numbers.{has_number, with_number}
 use Rattle.fsck_cluster.specs.Names.{is_new, name_number}
 use Rattle.fsck_cluster.specs.NodeLists.{no_list, with_row_on, with_row, after_row, ended_row, compared, counted, ended_section, sectioned, with_status, named, with_node, on_rack, after_rack, after_drains, after_remaining, after_section, after_name, after_kind, read_as, after_line, at_end}

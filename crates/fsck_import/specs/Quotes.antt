@@ -1,8 +1,8 @@
 -- A word that cannot be parsed.
 use Rattle.std.specs.Prelude.{ℕ}
 use Rattle.fsck_text.specs.Cuts.{Text, column_of}
-use Rattle.fsck_text.specs.declared.wrong.Reason.{Reason}
-use Rattle.fsck_text.specs.declared.wrong.Wrong.{Wrong}
+use Rattle.fsck_text.specs.declared.reason.Reason.{Reason}
+use Rattle.fsck_text.specs.declared.reason.Wrong.{Wrong}
 
 -- a word that cannot be parsed, its first column, and what is wrong with it
 pub record Quoted : Type 0 where

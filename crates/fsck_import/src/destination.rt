@@ -1,6 +1,6 @@
 // The destination of a table: a stream, a file, or none.
 ghost use Rattle.std.specs.Prelude.{List, Option, ℕ, OnOk, IfErr};
-ghost use Rattle.std.specs.Io.KnownBytes.{Appends};
+ghost use Rattle.bm_base.specs.Words.{Appends};
 ghost use Rattle.fsck_import.specs.WrittenCalls.{IsTableFault};
 
 use crate::PROGRAM;

@@ -1,6 +1,5 @@
 // The table of files: the path, the index in the file and the number of each block.
-ghost use Rattle.std.specs.Prelude.{◌≡◌, ◌++◌, IfOk, OnOk, option_to_list, slice_get, string_bytes};
-ghost use Rattle.std.specs.List.{flat_map};
+ghost use Rattle.std.specs.Prelude.{◌≡◌, ◌++◌, IfOk, OnOk, option_to_list, slice_get, string_bytes, flat_map};
 ghost use Rattle.fsck_import.specs.FileTables.{file_line, row_text, files_text};
 
 use bm_base::BlockId;

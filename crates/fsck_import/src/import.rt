@@ -1,6 +1,6 @@
 // One import, from a reader to a writer.
-ghost use Rattle.std.specs.Prelude.{◌≡◌, IfSome, IfErr, OnOk};
-ghost use Rattle.std.specs.Io.KnownBytes.{Appends};
+ghost use Rattle.std.specs.Prelude.{IfSome, IfErr, OnOk};
+ghost use Rattle.bm_base.specs.Words.{Appends};
 ghost use Rattle.fsck_import.specs.NameTable.{table_of};
 ghost use Rattle.fsck_import.specs.FileTables.{files_text};
 ghost use Rattle.fsck_import.specs.CallsFor.{calls_for};

@@ -1,6 +1,5 @@
 // Writes the lines for a cluster.
-ghost use Rattle.std.specs.Prelude.{◌≡◌, ◌≤◌, ◌++◌, ◌∷◌, [], true, length, map, take, drop, filter, option_to_list, slice_get, IfOk, OnOk, IfErr, string_bytes};
-ghost use Rattle.std.specs.List.{flat_map};
+ghost use Rattle.std.specs.Prelude.{◌≡◌, ◌∷◌, [], true, map, take, drop, filter, option_to_list, slice_get, IfOk, OnOk, IfErr, string_bytes, flat_map};
 ghost use Rattle.bm_lines.specs.CallText.{has_op, line_text};
 ghost use Rattle.bm_lines.specs.Lines.{ended};
 ghost use Rattle.bm_base.specs.declared.limits.TheConstants.{MAX_ENTRIES};

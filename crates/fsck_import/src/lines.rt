@@ -1,5 +1,5 @@
 // The lines of a text, one after another.
-ghost use Rattle.std.specs.Prelude.{◌≡◌, Ok, OnOk, IfOk, IfErr, List, ℕ, Result, ◌⊎◌};
+ghost use Rattle.std.specs.Prelude.{◌≡◌, Ok, OnOk, IfOk, IfErr, List, ℕ, ◌⊎◌, Result};
 ghost use Rattle.fsck_import.specs.Causes.{IsCause};
 ghost use Rattle.fsck_import.specs.Lines.{after_bytes, without_end, at_line, TextGives, IsReadFault, IsFaultOfText};
 ghost use Rattle.fsck_import.specs.declared.fault.Cause.{Cause as TheCause};

@@ -1,6 +1,5 @@
 // The table of names: the number of each rack, node and storage.
-ghost use Rattle.std.specs.Prelude.{◌≡◌, ◌++◌, IfOk, OnOk, string_bytes};
-ghost use Rattle.std.specs.List.{flat_map};
+ghost use Rattle.std.specs.Prelude.{◌≡◌, ◌++◌, IfOk, OnOk, string_bytes, flat_map};
 ghost use Rattle.fsck_import.specs.NameTable.{node_line, storage_line, table_of};
 
 use fsck_cluster::{Cluster, NodeRow, Row};

@@ -5,12 +5,12 @@ use Rattle.std.proofs.lemmas.Bool.Decides.{eqb_tells}
 use Rattle.std.specs.Str.Pattern.{FindsText}
 use denote.Ref.{Bor}
 use Rattle.fsck_text.specs.Cuts.{Text, onto_cut}
-use Rattle.fsck_text.specs.Lists.{cut_item, onto_first, items_of, onto_listed, all_listed, listed_of, replicas_in, pushed}
+use Rattle.fsck_text.specs.Lists.{cut_item, onto_first, items_of, onto_listed, all_listed, listed_of, listed_replicas, pushed}
 use Rattle.fsck_text.specs.declared.list.ListedReplica.{ListedReplica}
 use Rattle.fsck_text.specs.Wrongs.{IsCause}
-use Rattle.fsck_text.specs.declared.wrong.Wrong.{Wrong}
-use Rattle.fsck_text.specs.declared.wrong.Fault.{Fault}
-use Rattle.fsck_text.specs.declared.wrong.Fault.TheVariants as fault
+use Rattle.fsck_text.specs.declared.reason.Wrong.{Wrong}
+use Rattle.fsck_text.specs.declared.reason.Fault.{Fault}
+use Rattle.fsck_text.specs.declared.reason.Fault.TheVariants as fault
 
 -- the items of a text with this cut
 abbrev pub cut_items : Text → Option (Text × Text) → List Text
@@ -33,10 +33,10 @@ items-cut [] = refl
 items-cut (b ∷ []) = refl
 items-cut (b ∷ c ∷ bs) = by-end (b == 44 && c == 32) b c bs (items-cut (c ∷ bs))
 
-pub next-item : (text item after : Text) → cut_item text ≡ Some (item, after) → replicas_in text ≡ onto_listed (listed_of item) (replicas_in after)
+pub next-item : (text item after : Text) → cut_item text ≡ Some (item, after) → listed_replicas text ≡ onto_listed (listed_of item) (listed_replicas after)
 next-item text item after h = ap all_listed (items-cut text ∙ ap (cut_items text) h)
 
-pub last-item : (text : Text) → cut_item text ≡ None → replicas_in text ≡ onto_listed (listed_of text) (Ok [])
+pub last-item : (text : Text) → cut_item text ≡ None → listed_replicas text ≡ onto_listed (listed_of text) (Ok [])
 last-item text h = ap all_listed (items-cut text ∙ ap (cut_items text) h)
 
 -- some replicas and then those of a list, if the list is understood
@@ -116,14 +116,14 @@ pushed-onto xs ys (Ok one) tail e = prefixed-one xs one tail ∙ ap (λ zs. pref
 pushed-onto xs ys (Err w) tail e = absurd (true≢false (sym (ap is_ok e)))
 
 -- a step of the loop
-pub next_listed : (text rest item after : Text) (xs ys : List ListedReplica) → replicas_in text ≡ prefixed xs (replicas_in rest) → cut_item rest ≡ Some (item, after)
-    → pushed xs (listed_of item) ≡ Ok ys → replicas_in text ≡ prefixed ys (replicas_in after)
+pub next_listed : (text rest item after : Text) (xs ys : List ListedReplica) → listed_replicas text ≡ prefixed xs (listed_replicas rest) → cut_item rest ≡ Some (item, after)
+    → pushed xs (listed_of item) ≡ Ok ys → listed_replicas text ≡ prefixed ys (listed_replicas after)
 next_listed text rest item after xs ys so_far cut one =
-    so_far ∙ ap (prefixed xs) (next-item rest item after cut) ∙ pushed-onto xs ys (listed_of item) (replicas_in after) one
+    so_far ∙ ap (prefixed xs) (next-item rest item after cut) ∙ pushed-onto xs ys (listed_of item) (listed_replicas after) one
 
 -- the last step of the loop
-pub last_listed : (text rest : Text) (xs ys : List ListedReplica) → replicas_in text ≡ prefixed xs (replicas_in rest) → cut_item rest ≡ None
-    → pushed xs (listed_of rest) ≡ Ok ys → replicas_in text ≡ Ok ys
+pub last_listed : (text rest : Text) (xs ys : List ListedReplica) → listed_replicas text ≡ prefixed xs (listed_replicas rest) → cut_item rest ≡ None
+    → pushed xs (listed_of rest) ≡ Ok ys → listed_replicas text ≡ Ok ys
 last_listed text rest xs ys so_far cut one =
     so_far ∙ ap (prefixed xs) (last-item rest cut) ∙ pushed-onto xs ys (listed_of rest) (Ok []) one ∙ ap Ok (append-nil ys)
 
@@ -131,12 +131,12 @@ wrong-onto : (f : Fault) (xs : List ListedReplica) (r : Result ListedReplica Wro
 wrong-onto fault.Memory xs r tail whole e cause = tt
 wrong-onto (fault.Wrong w) xs r tail whole e cause = e ∙ ap (λ s. prefixed xs (onto_listed s tail)) cause
 
-pub item_wrong : (text rest item after : Text) (xs : List ListedReplica) (f : Fault) → replicas_in text ≡ prefixed xs (replicas_in rest) → cut_item rest ≡ Some (item, after)
-    → IsCause f (listed_of item) → IsCause f (replicas_in text)
+pub item_wrong : (text rest item after : Text) (xs : List ListedReplica) (f : Fault) → listed_replicas text ≡ prefixed xs (listed_replicas rest) → cut_item rest ≡ Some (item, after)
+    → IsCause f (listed_of item) → IsCause f (listed_replicas text)
 item_wrong text rest item after xs f so_far cut cause =
-    wrong-onto f xs (listed_of item) (replicas_in after) (replicas_in text) (so_far ∙ ap (prefixed xs) (next-item rest item after cut)) cause
+    wrong-onto f xs (listed_of item) (listed_replicas after) (listed_replicas text) (so_far ∙ ap (prefixed xs) (next-item rest item after cut)) cause
 
-pub last_wrong : (text rest : Text) (xs : List ListedReplica) (f : Fault) → replicas_in text ≡ prefixed xs (replicas_in rest) → cut_item rest ≡ None
-    → IsCause f (listed_of rest) → IsCause f (replicas_in text)
+pub last_wrong : (text rest : Text) (xs : List ListedReplica) (f : Fault) → listed_replicas text ≡ prefixed xs (listed_replicas rest) → cut_item rest ≡ None
+    → IsCause f (listed_of rest) → IsCause f (listed_replicas text)
 last_wrong text rest xs f so_far cut cause =
-    wrong-onto f xs (listed_of rest) (Ok []) (replicas_in text) (so_far ∙ ap (prefixed xs) (last-item rest cut)) cause
+    wrong-onto f xs (listed_of rest) (Ok []) (listed_replicas text) (so_far ∙ ap (prefixed xs) (last-item rest cut)) cause

@@ -7,8 +7,8 @@ use Rattle.fsck_text.specs.Wrongs.{wrong, shown, after_ok, or_wrong}
 use Rattle.fsck_text.specs.declared.block.BlockLine.{BlockLine}
 use Rattle.fsck_text.specs.declared.block.BlockName.{BlockName}
 use Rattle.fsck_text.specs.declared.block.Replicas.{Replicas}
-use Rattle.fsck_text.specs.declared.wrong.Reason.TheVariants as reason
-use Rattle.fsck_text.specs.declared.wrong.Wrong.{Wrong}
+use Rattle.fsck_text.specs.declared.reason.Reason.TheVariants as reason
+use Rattle.fsck_text.specs.declared.reason.Wrong.{Wrong}
 
 -- the number in the name of a block; a number below 0 begins with a minus, 45
 abbrev pub id_of : Text → Text → Result ℕ Wrong

@@ -9,8 +9,8 @@ use Rattle.fsck_text.specs.declared.heading.Layout.{Layout}
 use Rattle.fsck_text.specs.declared.heading.Layout.TheVariants as layout
 use Rattle.fsck_text.specs.declared.heading.Heading.{Heading}
 use Rattle.fsck_text.specs.declared.heading.HeadingStart.{HeadingStart}
-use Rattle.fsck_text.specs.declared.wrong.Reason.TheVariants as reason
-use Rattle.fsck_text.specs.declared.wrong.Wrong.{Wrong}
+use Rattle.fsck_text.specs.declared.reason.Reason.TheVariants as reason
+use Rattle.fsck_text.specs.declared.reason.Wrong.{Wrong}
 
 -- the value of a key up to a comma, 44, and the text after the comma
 abbrev pub after_key : Text → Text → Option (Text × Text)

@@ -10,7 +10,7 @@ use Rattle.fsck_text.specs.Summaries.{sum_of}
 use Rattle.fsck_text.specs.declared.line.Line.{Line}
 use Rattle.fsck_text.specs.declared.line.Line.TheVariants as line
 use Rattle.fsck_text.specs.declared.summary.Count.{Count}
-use Rattle.fsck_text.specs.declared.wrong.Wrong.{Wrong}
+use Rattle.fsck_text.specs.declared.reason.Wrong.{Wrong}
 
 abbrev pub begins : Text → Text → Bool
 begins line text = starts_with nat_eq line text

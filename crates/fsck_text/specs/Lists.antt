@@ -9,8 +9,8 @@ use Rattle.fsck_text.specs.declared.mark.Mark.{Mark}
 use Rattle.fsck_text.specs.declared.mark.Mark.TheVariants as mark
 use Rattle.fsck_text.specs.declared.place.Place.{Place}
 use Rattle.fsck_text.specs.declared.list.ListedReplica.{ListedReplica}
-use Rattle.fsck_text.specs.declared.wrong.Reason.TheVariants as reason
-use Rattle.fsck_text.specs.declared.wrong.Wrong.{Wrong}
+use Rattle.fsck_text.specs.declared.reason.Reason.TheVariants as reason
+use Rattle.fsck_text.specs.declared.reason.Wrong.{Wrong}
 
 -- the text before the first comma, 44, with a space, 32, after it, and the text after that space
 abbrev pub cut_item : Text → Option (Text × Text)
@@ -58,8 +58,8 @@ all_listed [] = Ok []
 all_listed (item ∷ items) = onto_listed (listed_of item) (all_listed items)
 
 -- the replicas of one item or more
-abbrev pub replicas_in : Text → Result (List ListedReplica) Wrong
-replicas_in text = all_listed (items_of text)
+abbrev pub listed_replicas : Text → Result (List ListedReplica) Wrong
+listed_replicas text = all_listed (items_of text)
 
 -- the fault of an item of a list; the whole list is quoted for an empty item
 abbrev pub within : Text → Wrong → Wrong
@@ -71,4 +71,4 @@ all_within text (Err w) = Err (within text w)
 
 -- the replicas of a list, in order; none from no text
 abbrev pub list_of : Text → Result (List ListedReplica) Wrong
-list_of text = if is_empty text then Ok [] else all_within text (replicas_in text)
+list_of text = if is_empty text then Ok [] else all_within text (listed_replicas text)

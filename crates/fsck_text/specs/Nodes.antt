@@ -8,8 +8,8 @@ use Rattle.fsck_text.specs.Places.{is_address, is_rack}
 use Rattle.fsck_text.specs.Lines.{ends}
 use Rattle.fsck_text.specs.declared.node.NodeLine.{NodeLine}
 use Rattle.fsck_text.specs.declared.node.NodeLine.TheVariants as node
-use Rattle.fsck_text.specs.declared.wrong.Reason.TheVariants as reason
-use Rattle.fsck_text.specs.declared.wrong.Wrong.{Wrong}
+use Rattle.fsck_text.specs.declared.reason.Reason.TheVariants as reason
+use Rattle.fsck_text.specs.declared.reason.Wrong.{Wrong}
 
 -- the first word of a value, after a space
 abbrev pub value_word : Text → Text

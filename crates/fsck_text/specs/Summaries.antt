@@ -6,8 +6,8 @@ use Rattle.fsck_text.specs.Cuts.{Text, cut_at, last_cut_at, word_and_rest, numbe
 use Rattle.fsck_text.specs.Wrongs.{after_ok, or_wrong}
 use Rattle.fsck_text.specs.declared.summary.Count.{Count}
 use Rattle.fsck_text.specs.declared.summary.Count.TheVariants as count
-use Rattle.fsck_text.specs.declared.wrong.Reason.TheVariants as reason
-use Rattle.fsck_text.specs.declared.wrong.Wrong.{Wrong}
+use Rattle.fsck_text.specs.declared.reason.Reason.TheVariants as reason
+use Rattle.fsck_text.specs.declared.reason.Wrong.{Wrong}
 
 -- the count that a line about replicated files has, from its text before the colon
 abbrev pub blocks_named : Text → Option Count

@@ -1,10 +1,10 @@
 -- Why a line is refused.
 use Rattle.std.specs.Prelude.{◌≡◌, ⊤, Option, Some, None, Result, Ok, Err, if◌then◌else◌}
 use Rattle.fsck_text.specs.Cuts.{Text, is_empty}
-use Rattle.fsck_text.specs.declared.wrong.Reason.{Reason}
-use Rattle.fsck_text.specs.declared.wrong.Wrong.{Wrong}
-use Rattle.fsck_text.specs.declared.wrong.Fault.{Fault}
-use Rattle.fsck_text.specs.declared.wrong.Fault.TheVariants as fault
+use Rattle.fsck_text.specs.declared.reason.Reason.{Reason}
+use Rattle.fsck_text.specs.declared.reason.Wrong.{Wrong}
+use Rattle.fsck_text.specs.declared.reason.Fault.{Fault}
+use Rattle.fsck_text.specs.declared.reason.Fault.TheVariants as fault
 
 abbrev pub wrong : Reason → Text → Wrong
 wrong why word = record { why = why; word = word }

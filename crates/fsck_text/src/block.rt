@@ -5,7 +5,7 @@ ghost use Rattle.fsck_text.specs.Blocks.{id_of, without_pool, block_named, lengt
 use crate::cuts::{
     after_first, after_prefix, before_last, cut_at, parse_number, parse_small_number, word_and_rest,
 };
-use crate::wrong::{Piece, Reason, Wrong, shown};
+use crate::reason::{Piece, Reason, Wrong, shown};
 use bm_base::{BlockId, Gen, Stamp};
 
 /// The content of a block's line.

@@ -5,7 +5,7 @@ ghost use Rattle.fsck_text.specs.Headings.{after_key, counted, replicated, coded
 use crate::cuts::{
     after_first, after_prefix, cut_at, last_cut_at, parse_small_number, word_and_rest,
 };
-use crate::wrong::{Piece, Reason, Wrong, shown};
+use crate::reason::{Piece, Reason, Wrong, shown};
 
 /// The layout of a file.
 #[derive(Clone, Copy, Debug, PartialEq, Drop)]

@@ -14,8 +14,8 @@ mod mark;
 mod node;
 mod path;
 mod place;
+mod reason;
 mod summary;
-mod wrong;
 
 pub use block::{BlockLine, corrupt_block, is_being_written, is_missing, parse_block};
 pub use cuts::{column_of, cut_at, last_cut_at, parse_number, parse_small_number};
@@ -26,5 +26,5 @@ pub use mark::Mark;
 pub use node::{NodeLine, parse_node_line};
 pub use path::parse_path;
 pub use place::Place;
+pub use reason::{Fault, Piece, Reason, Wrong};
 pub use summary::Count;
-pub use wrong::{Fault, Piece, Reason, Wrong};

@@ -4,8 +4,8 @@ ghost use Rattle.fsck_text.specs.Lines.{begins, ends, health_of, last_of, is_of_
 
 use crate::cuts::{after_prefix, before_last, cut_at, last_cut_at, parse_number};
 use crate::heading::{Heading, parse_heading, parse_target};
+use crate::reason::{Piece, Wrong};
 use crate::summary::{Count, parse_sum};
-use crate::wrong::{Piece, Wrong};
 
 /// A parsed line of fsck.
 #[derive(Drop)]

@@ -1,12 +1,12 @@
 // The list of a block's replicas.
 ghost use Rattle.std.specs.Prelude.{◌≡◌, Ok, IfOk, OnOk, IfErr, option_map};
-ghost use Rattle.fsck_text.specs.Lists.{cut_item, pushed, listed_with, listed_of, replicas_in, within, list_of};
+ghost use Rattle.fsck_text.specs.Lists.{cut_item, pushed, listed_with, listed_of, listed_replicas, within, list_of};
 ghost use Rattle.fsck_text.specs.Wrongs.{IsCause};
 
 use crate::cuts::cut_at;
 use crate::mark::{Mark, parse_mark};
 use crate::place::{Place, parse_place};
-use crate::wrong::{Fault, Reason, Wrong, shown};
+use crate::reason::{Fault, Reason, Wrong, shown};
 use bm_base::Items;
 use std::alloc::Global;
 
@@ -25,7 +25,7 @@ pub fn parse_list<'a>(alloc: Global, text: &'a str) -> Result<Items<ListedReplic
     if text.is_empty() {
         return Ok(Items::from_vec(Vec::new(alloc)));
     }
-    match replicas_in(alloc, text) {
+    match listed_replicas(alloc, text) {
         Ok(list) => Ok(list),
         Err(Fault::Memory) => Err(Fault::Memory),
         Err(Fault::Wrong(wrong)) => Err(Fault::Wrong(within(wrong, text))),
@@ -41,9 +41,9 @@ fn within<'a>(wrong: Wrong<'a>, text: &'a str) -> Wrong<'a>
 
 /// The replicas of one item or more.
 #[tactic(auto, using(crate::proofs::ListLemmas::next_listed, crate::proofs::ListLemmas::last_wrong))]
-fn replicas_in<'a>(alloc: Global, text: &'a str) -> Result<Items<ListedReplica<'a>>, Fault<'a>>
-    ensures ok { IfOk result (λ v. replicas_in text.entry.now ≡ Ok v) }
-    ensures wrong { IfErr result (λ f. IsCause f (replicas_in text.entry.now)) }
+fn listed_replicas<'a>(alloc: Global, text: &'a str) -> Result<Items<ListedReplica<'a>>, Fault<'a>>
+    ensures ok { IfOk result (λ v. listed_replicas text.entry.now ≡ Ok v) }
+    ensures wrong { IfErr result (λ f. IsCause f (listed_replicas text.entry.now)) }
 {
     let mut list = Items::from_vec(Vec::new(alloc));
     let mut rest = text;

@@ -5,7 +5,7 @@ ghost use Rattle.fsck_text.specs.Nodes.{live_section, section_of, address_line, 
 use crate::cuts::{after_prefix, before_last, cut_at, parse_number, word_and_rest};
 use crate::line::ends;
 use crate::place::{is_address, is_rack};
-use crate::wrong::{Piece, Reason, Wrong};
+use crate::reason::{Piece, Reason, Wrong};
 
 /// A parsed line of the report on DataNodes.
 #[derive(Drop)]

@@ -3,7 +3,7 @@ ghost use Rattle.std.specs.Prelude.{◌≡◌};
 ghost use Rattle.fsck_text.specs.Places.{is_reserved, has_reserved, is_plain, is_rack, is_name, is_address, is_type, node_place, stored_place, place_of};
 
 use crate::cuts::{after_first, before_last, cut_at, last_cut_at, parse_number};
-use crate::wrong::Piece;
+use crate::reason::Piece;
 
 /// A node, by its host and port, with its rack if the text has it; and one of its storages, by
 /// name.

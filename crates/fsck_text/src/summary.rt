@@ -3,7 +3,7 @@ ghost use Rattle.std.specs.Prelude.{◌≡◌};
 ghost use Rattle.fsck_text.specs.Summaries.{blocks_named, groups_named, sum_of, sum_at};
 
 use crate::cuts::{cut_at, last_cut_at, parse_number, word_and_rest};
-use crate::wrong::{Reason, Wrong};
+use crate::reason::{Reason, Wrong};
 use thiserror::Error;
 
 /// The things that a line of the summary counts.

@@ -10,7 +10,7 @@ use Rattle.std.proofs.lemmas.Bool.{and_parts}
 use Rattle.bm_base.specs.declared.replica.ReplicaId.{ReplicaId}
 use Rattle.bm_base.specs.declared.replica.Marks.{Marks}
 use Rattle.bm_base.specs.Maps.Conjunction.{first, second}
-use Rattle.bm_base.specs.declared.level.Level.TheVariants.{NoUsableReplica}
+use Rattle.bm_base.specs.declared.replica.Level.TheVariants.{NoUsableReplica}
 use Rattle.bm_base.specs.Words.{Map, Order, by_number, entries, keys, Cluster, Holdings, by_replica, replica_cmp, is_good, is_corrupt, storages_where, level, is_at, all_replicas, replicas_where, missing_blocks, blocks_on}
 use Rattle.bm_base.proofs.ForEach.{Each, each_mapped, each_then, each_filtered, each_passing, each_both}
 use Rattle.bm_base.proofs.Orderings.{is_less}

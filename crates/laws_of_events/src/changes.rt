@@ -1,7 +1,7 @@
 // What each event changes, and what it keeps.
 #![tactic(auto)]
 
-ghost use Rattle.bm_base.specs.Promises.AllStates.{InLawfulStates, AfterAllCalls};
+ghost use Rattle.bm_base.specs.Words.{InLawfulStates, AfterAllCalls};
 ghost use Rattle.laws_of_events.specs.Changes as law;
 
 /// A registered node exists with its rack and its storages, which have no remaining bytes yet; all

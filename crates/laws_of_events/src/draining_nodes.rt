@@ -1,7 +1,7 @@
 // Decommissioning: a node drains until each of its blocks has enough replicas elsewhere.
 #![tactic(auto)]
 
-ghost use Rattle.bm_base.specs.Promises.AllStates.{InLawfulStates, AfterAllCalls};
+ghost use Rattle.bm_base.specs.Words.{InLawfulStates, AfterAllCalls};
 ghost use Rattle.laws_of_events.specs.DrainingNodes as law;
 
 /// After `Drain` the node drains, and other nodes drain as before.

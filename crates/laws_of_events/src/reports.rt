@@ -1,7 +1,7 @@
 // The state after a full report, and after a received notice.
 #![tactic(auto)]
 
-ghost use Rattle.bm_base.specs.Promises.AllStates.{InLawfulStates, AfterAllCalls};
+ghost use Rattle.bm_base.specs.Words.{InLawfulStates, AfterAllCalls};
 ghost use Rattle.laws_of_events.specs.Reports as law;
 
 /// After a full report a storage has exactly the replicas that the report names, each once.

@@ -4,7 +4,7 @@
 //! at each level are all blocks at that level.
 #![tactic(auto)]
 
-ghost use Rattle.bm_base.specs.Promises.AllStates.{InLawfulStates};
+ghost use Rattle.bm_base.specs.Words.{InLawfulStates};
 ghost use Rattle.laws_of_repairs.specs.Repairs as law;
 
 /// In a lawful state a round gives no block a level that had none.

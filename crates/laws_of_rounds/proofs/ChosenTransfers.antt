@@ -4,8 +4,8 @@ use Rattle.std.specs.Option.{option_map_or}
 use Rattle.std.specs.declared.cmp.Ordering.{Ordering}
 use Rattle.std.proofs.Common.{refl, sym, ap, subst, ◌∙◌, append_assoc, append-nil}
 use Rattle.std.proofs.lemmas.Bool.{ltb-true, leb-false, false≢true}
-use Rattle.bm_base.specs.declared.level.Level.{Level}
-use Rattle.bm_base.specs.declared.level.Level.TheVariants.{Highest, VeryUnderReplicated, UnderReplicated, BadlyDistributed}
+use Rattle.bm_base.specs.declared.replica.Level.{Level}
+use Rattle.bm_base.specs.declared.replica.Level.TheVariants.{Highest, VeryUnderReplicated, UnderReplicated, BadlyDistributed}
 use Rattle.bm_base.specs.declared.replica.BlockInfo.{BlockInfo}
 use Rattle.bm_base.specs.declared.commands.Transfer.{Transfer}
 use Rattle.bm_base.specs.Words.{get, keys, len, RoundLimits, Cluster, Holdings, has, least, sources_of, is_draining, level, is_at, RequestedCopy, requested_count, wishes_for, wishes, streams_from, stream_limit, source_cmp, least_source_by, least_source, holders_of, excluded_for, target_cmp, is_target, least_target_by, least_target, scheduled_to, transfer_for, transfers_from, transfers}

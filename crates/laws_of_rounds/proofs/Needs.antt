@@ -3,7 +3,7 @@ use Rattle.std.specs.Prelude.{◌≡◌, ℕ, ◌+◌, ◌≤◌, ◌<◌, ◌�
 use Rattle.std.proofs.Common.{cond, sym, ap, subst, ◌∙◌, arith}
 use Rattle.std.proofs.lemmas.Bool.Decides.{nat_tests}
 use Rattle.std.specs.Ordering.{nat_cmp, eq_by_cmp}
-use Rattle.bm_base.specs.declared.level.Level.TheVariants.{Highest, NoUsableReplica}
+use Rattle.bm_base.specs.declared.replica.Level.TheVariants.{Highest, NoUsableReplica}
 use Rattle.bm_base.specs.declared.replica.BlockInfo.{BlockInfo}
 use Rattle.bm_base.specs.Words.{get, keys, revise_at, Cluster, Holdings, live, drained, racks, is_multi_rack, storages_where, level, level_of, is_at, set_replication, missing_blocks, has}
 use Rattle.bm_base.proofs.MapLaws.{get-revise}

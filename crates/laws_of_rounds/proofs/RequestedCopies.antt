@@ -5,8 +5,8 @@ use Rattle.std.proofs.Common.{cond, refl, sym, ap, ◌∙◌, arith, inl, inr, a
 use Rattle.std.proofs.lemmas.Bool.{eqb-true, leb-true, false≢true, true≢false}
 use Rattle.std.proofs.lemmas.List.{length-map, nil_from_length, length-replicate}
 use Rattle.std.proofs.lemmas.List.{length-append}
-use Rattle.bm_base.specs.declared.level.Level.{Level}
-use Rattle.bm_base.specs.declared.level.Level.TheVariants.{Highest, VeryUnderReplicated, UnderReplicated, BadlyDistributed, NoUsableReplica}
+use Rattle.bm_base.specs.declared.replica.Level.{Level}
+use Rattle.bm_base.specs.declared.replica.Level.TheVariants.{Highest, VeryUnderReplicated, UnderReplicated, BadlyDistributed, NoUsableReplica}
 use Rattle.bm_base.specs.declared.replica.BlockInfo.{BlockInfo}
 use Rattle.bm_base.specs.declared.commands.Transfer.{Transfer}
 use Rattle.bm_base.specs.Words.{get, keys, entries, RoundLimits, Cluster, Holdings, State, has, distinct, live, drained, sources_of, racks, rack_of, is_multi_rack, level, level_of, is_at, state_after_expiry, state_at_choice, with_surplus_marked, without_expired, without_unordered_excess, share_rack, RequestedCopy, requested_count, wishes_for, wishes, pending_targets, targets_of, holders_of, excluded_for, is_on_racks, class_of, least_source, least_target, transfer_for, transfers_from, transfers}

@@ -3,7 +3,7 @@ use Rattle.std.specs.Prelude.{◌≡◌, ◌+◌, ◌<◌, ◌⊎◌, true, fals
 use Rattle.std.specs.List.{All}
 use Rattle.bm_base.specs.declared.replica.ReplicaId.{ReplicaId}
 use Rattle.bm_base.specs.declared.replica.Marks.{Marks}
-use Rattle.bm_base.specs.declared.level.Level.TheVariants.{Highest}
+use Rattle.bm_base.specs.declared.replica.Level.TheVariants.{Highest}
 use Rattle.bm_base.specs.declared.commands.Transfer.{Transfer}
 use Rattle.bm_base.specs.Words.{get, State, replica_at, node_of, drains, level, state_at_choice, whole_round}
 use Rattle.bm_base.specs.Promises.NextRound.{IsAmong, IsDeleteCommanded, IsTransferCommanded, transfers_chosen, after_round}

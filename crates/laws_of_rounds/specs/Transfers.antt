@@ -3,8 +3,8 @@
 use Rattle.std.specs.Prelude.{◌≡◌, ℕ, ◌+◌, ◌*◌, ◌≤◌, ◌⊎◌, ◌==◌, true, false, if◌then◌else◌, List, ◌∷◌, ◌++◌, length, sum_by, count_by, Some, IsSome, ◌<◌}
 use Rattle.std.specs.List.{All}
 use Rattle.bm_base.specs.declared.replica.BlockInfo.{BlockInfo}
-use Rattle.bm_base.specs.declared.level.Level.{Level}
-use Rattle.bm_base.specs.declared.level.Level.TheVariants.{BadlyDistributed}
+use Rattle.bm_base.specs.declared.replica.Level.{Level}
+use Rattle.bm_base.specs.declared.replica.Level.TheVariants.{BadlyDistributed}
 use Rattle.bm_base.specs.declared.storage.StorageInfo.{StorageInfo}
 use Rattle.bm_base.specs.declared.commands.Transfer.{Transfer}
 use Rattle.bm_base.specs.Words.{get, entries, len, State, replica_at, has, node_of, rack_of, has_storage, drains, is_draining, level, level_number, state_at_choice, whole_round}

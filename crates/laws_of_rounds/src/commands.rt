@@ -1,5 +1,5 @@
 // The commands of nodes, and their effect on the state.
-ghost use Rattle.bm_base.specs.Promises.AllStates.{InLawfulStates, AfterAllCalls};
+ghost use Rattle.bm_base.specs.Words.{InLawfulStates, AfterAllCalls};
 ghost use Rattle.laws_of_rounds.specs.Commands as law;
 
 /// A round commands each node transfers from its own storages, and deletes on its own storages.

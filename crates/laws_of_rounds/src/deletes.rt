@@ -1,6 +1,6 @@
 // The deletes that a round commands. The first laws state that no round takes a block's last good
 // replica.
-ghost use Rattle.bm_base.specs.Promises.AllStates.{InLawfulStates, AfterAllCalls};
+ghost use Rattle.bm_base.specs.Words.{InLawfulStates, AfterAllCalls};
 ghost use Rattle.laws_of_rounds.specs.Deletes as law;
 
 /// No round commands the delete of a block's last good replica. In a lawful state a round does not

@@ -1,5 +1,5 @@
 // How urgently blocks need replicas.
-ghost use Rattle.bm_base.specs.Promises.AllStates.{InLawfulStates, AfterAllCalls};
+ghost use Rattle.bm_base.specs.Words.{InLawfulStates, AfterAllCalls};
 ghost use Rattle.laws_of_rounds.specs.Levels as law;
 
 /// An unknown block has no level. A known one has one level or none, since `level` is a function.

@@ -1,5 +1,5 @@
 // Which live replicas a round marks as excess.
-ghost use Rattle.bm_base.specs.Promises.AllStates.{InLawfulStates, AfterAllCalls};
+ghost use Rattle.bm_base.specs.Words.{InLawfulStates, AfterAllCalls};
 ghost use Rattle.laws_of_rounds.specs.Surplus as law;
 
 /// Before a round marks, the live replicas are the good ones on nodes that do not drain, except

@@ -3,7 +3,7 @@ use Rattle.std.proofs.Common.{◌≡◌, ℕ, List, inl, inr, subst, rules}
 use Rattle.bm_base.specs.declared.call.Call.TheVariants.{Apply}
 use Rattle.bm_base.specs.declared.event.Event.TheVariants.{Heartbeat}
 use Rattle.bm_base.specs.declared.event.Remaining.{Remaining}
-use Rattle.bm_answers.specs.declared.request.Request.TheVariants.{Asks}
+use Rattle.bm_answers.specs.declared.line_answer.Request.TheVariants.{Asks}
 use Rattle.puljemrod.specs.declared.handle_state.HandleState.{HandleState}
 use Rattle.puljemrod.specs.Calls.{IsAsked, IsCall, IsBeat}
 

@@ -2,8 +2,8 @@
 use Rattle.std.proofs.Common.{◌≡◌, ℕ, List, IsTrue, Result, Ok, Err, ap, ◌∙◌}
 use Rattle.std.specs.Prelude.{OnErr}
 use Rattle.bm_base.specs.Machine.State.{State}
-use Rattle.bm_answers.specs.declared.request.Request.{Request}
-use Rattle.bm_answers.specs.declared.request.Request.TheVariants.{Long}
+use Rattle.bm_answers.specs.declared.line_answer.Request.{Request}
+use Rattle.bm_answers.specs.declared.line_answer.Request.TheVariants.{Long}
 use Rattle.bm_answers.specs.OneLine.{asked, answer_to, asked_next, asked_may_lack, text_of, number_of, line_text, line_next, line_number}
 use Rattle.puljemrod.specs.declared.handle_state.HandleState.{HandleState}
 use Rattle.puljemrod.specs.Calls.{text_with, IsAsked, IsAnswered}

@@ -8,8 +8,8 @@ use Rattle.bm_base.specs.declared.event.Event.TheVariants.{Heartbeat}
 use Rattle.bm_base.specs.declared.event.Remaining.{Remaining}
 use Rattle.bm_base.specs.declared.refusal.Refusal.{Refusal}
 use Rattle.bm_base.specs.Words.{State, first_state, config_refusal, step, Refuses, may_run_out_of_memory, refusal_number}
-use Rattle.bm_answers.specs.declared.request.Request.{Request}
-use Rattle.bm_answers.specs.declared.request.Request.TheVariants.{Asks, Long}
+use Rattle.bm_answers.specs.declared.line_answer.Request.{Request}
+use Rattle.bm_answers.specs.declared.line_answer.Request.TheVariants.{Asks, Long}
 use Rattle.bm_answers.specs.declared.line_answer.LineAnswer.{LineAnswer}
 use Rattle.bm_answers.specs.OneLine.{asked, answer_to, asked_next, number_of, text_of, line_text, line_next, line_number}
 use Rattle.puljemrod.specs.declared.codes.TheConstants.{MEMORY, CLOSED, NO_TEXT}

@@ -1,6 +1,6 @@
 -- The answer of a question: a number, or the length of a stored list.
 use Rattle.std.specs.Prelude.{ℕ, true, length, if◌then◌else◌, ◌==◌, ◌≡◌, Option, Some, None}
-use Rattle.bm_base.specs.declared.level.Level.{Level}
+use Rattle.bm_base.specs.declared.replica.Level.{Level}
 use Rattle.bm_base.specs.declared.call.Call.{Call}
 use Rattle.bm_base.specs.declared.call.Answer.{Answer}
 use Rattle.bm_base.specs.declared.call.Answer.TheVariants as answer

@@ -1,9 +1,9 @@
 // The events, each by a function of its own. There is no safe mode: a replica that is reported
 // before its block is added is stray, and the next round orders its delete.
 ghost use Rattle.std.specs.Prelude.{map};
-ghost use Rattle.bm_base.specs.declared.event.Event.TheVariants as event;
 ghost use Rattle.puljemrod.specs.Calls.{AfterEvent, AfterListed, AfterBeat};
 ghost use Rattle.puljemrod.specs.Rows.{entry_of, remaining_of, stamp};
+ghost use Rattle.bm_base.specs.declared.event.Event.TheVariants as event;
 
 use crate::calls::{apply, apply_made};
 use crate::codes::CLOSED;

@@ -1,7 +1,7 @@
 // The state of an open handle.
 ghost use Rattle.std.specs.Prelude.{◌≡◌, [], true, map, None, IfOk, IfErr, OnOk, OnErr, IsTrue};
 ghost use Rattle.bm_base.specs.Words.{config_refusal, Refuses};
-ghost use Rattle.bm_answers.specs.declared.request.Request.TheVariants.{Long};
+ghost use Rattle.bm_answers.specs.declared.line_answer.Request.TheVariants.{Long};
 ghost use Rattle.bm_answers.specs.OneLine.{asked, asked_may_lack};
 ghost use Rattle.puljemrod.specs.Calls.{config_of, last_text, IsFirst, IsAsked, IsAnswered, IsLine, IsCall, IsBeat, IsText};
 ghost use Rattle.puljemrod.specs.Rows.{remaining_of};

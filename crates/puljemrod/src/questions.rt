@@ -1,6 +1,6 @@
 // The questions, each by a function of its own.
-ghost use Rattle.bm_base.specs.declared.call.Call.TheVariants as call;
 ghost use Rattle.puljemrod.specs.StoredNumbers.{AfterQuestion};
+ghost use Rattle.bm_base.specs.declared.call.Call.TheVariants as call;
 
 use crate::calls::make_call;
 use crate::handle::Slot;

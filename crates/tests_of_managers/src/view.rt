@@ -1,7 +1,7 @@
 //! What no clause promises: a locator answers until the publisher has ended, and a locator that
 //! learned nothing sees what was published.
 ghost use Rattle.std.specs.Prelude.{◌≡◌};
-ghost use Rattle.std.specs.Arc.{arc_value};
+ghost use Rattle.bm_base.specs.Words.{arc_value};
 
 use crate::locator_answers::{found_on, is_found_on, storages_numbered};
 use bm_base::{BlockId, Places, Refusal, StorageId};

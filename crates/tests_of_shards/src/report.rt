@@ -2,10 +2,10 @@
 // steps with their expected answers. Each scenario runs with a `Report`, and again with the free
 // functions.
 ghost use Rattle.std.specs.Prelude.{◌≡◌, ◌<◌, ◌≤◌, ℕ, true};
+ghost use Rattle.bm_base.specs.Words.{numbers_in};
 ghost use Rattle.bm_base.specs.declared.limits.TheConstants.{MAX_NUMBERS};
-ghost use Rattle.bm_base.specs.Machine.Entries.{numbers_in};
-ghost use Rattle.bm_report.specs.DuringReport as during_report;
 ghost use Rattle.bm_report.specs.TestedArenas.{IsSingle};
+ghost use Rattle.bm_report.specs.DuringReport as during_report;
 
 use crate::support::{check_step, join};
 use bm_arena::{Arena, Slot};

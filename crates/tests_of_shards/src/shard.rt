@@ -1,6 +1,6 @@
 // The answers of a shard on four nodes and two racks, worked out by hand, with ample memory.
-ghost use Rattle.std.specs.Prelude.{◌≡◌, ◌+◌, ◌<◌, ◌^◌};
-ghost use Rattle.bm_shard.specs.UpToDate.{IsUpToDate, next_part};
+ghost use Rattle.std.specs.Prelude.{◌≡◌, ◌+◌, ◌<◌};
+ghost use Rattle.bm_shard.specs.UpToDate.{IsUpToDate};
 
 use crate::support::STAMP;
 use bm_base::{

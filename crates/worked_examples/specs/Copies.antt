@@ -3,7 +3,7 @@ use Rattle.std.specs.Prelude.{List, [], ◌∷◌, ◌++◌}
 use Rattle.bm_base.specs.declared.call.Call.{Call}
 use Rattle.bm_base.specs.declared.call.Answer.{Answer}
 use Rattle.bm_base.specs.declared.replica.Tag.TheVariants.{Good}
-use Rattle.bm_base.specs.declared.level.Level.TheVariants.{Highest}
+use Rattle.bm_base.specs.declared.replica.Level.TheVariants.{Highest}
 use Rattle.worked_examples.specs.Script.{◌gives◌, HoldsOnCluster, example_config, heartbeat, remaining, add_block, received, level, round, list_replicas, ok, at_level, at_no_level, commands, copies_by, copy, replicas, replica}
 
 -- one of three wanted replicas exists, and two copies are commanded

@@ -2,7 +2,7 @@
 use Rattle.std.specs.Prelude.{List, [], ◌∷◌}
 use Rattle.bm_base.specs.declared.call.Call.{Call}
 use Rattle.bm_base.specs.declared.call.Answer.{Answer}
-use Rattle.bm_base.specs.declared.level.Level.TheVariants.{NoUsableReplica}
+use Rattle.bm_base.specs.declared.replica.Level.TheVariants.{NoUsableReplica}
 use Rattle.bm_base.specs.declared.refusal.Refusal.TheVariants.{BlockKnown, StillStored, OldGeneration}
 use Rattle.worked_examples.specs.Script.{◌gives◌, HoldsOnCluster, example_config, dead, add_block, delete_block, restamp, received, received_version, deleted, corrupt, report, level, round, places, list_corrupt, list_missing, list_excess, ok, at_level, commands, copies_by, copy, deletes_by, delete, blocks, storages, replica_ids, entry, refused}
 

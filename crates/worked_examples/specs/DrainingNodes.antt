@@ -1,7 +1,7 @@
 -- Nodes that drain: their replicas no longer count as live, and are copied to other nodes until the
 -- node can be removed.
 use Rattle.std.specs.Prelude.{[], ◌∷◌}
-use Rattle.bm_base.specs.declared.level.Level.TheVariants.{Highest}
+use Rattle.bm_base.specs.declared.replica.Level.TheVariants.{Highest}
 use Rattle.bm_base.specs.declared.refusal.Refusal.TheVariants.{UnknownNode}
 use Rattle.worked_examples.specs.Script.{◌gives◌, HoldsOnCluster, example_config, drain, undrain, add_block, received, level, round, retired, list_missing, ok, at_level, at_no_level, commands, copies_by, copy, deletes_by, delete, blocks, is_retired, is_not_retired, refused}
 

@@ -2,7 +2,7 @@
 use Rattle.std.specs.Prelude.{◌≡◌, true, false, Some, None, List, [], ◌∷◌, ◌++◌}
 use Rattle.bm_base.specs.declared.call.Call.{Call}
 use Rattle.bm_base.specs.declared.call.Answer.{Answer}
-use Rattle.bm_base.specs.declared.level.Level.TheVariants.{Highest, VeryUnderReplicated, UnderReplicated, BadlyDistributed, NoUsableReplica}
+use Rattle.bm_base.specs.declared.replica.Level.TheVariants.{Highest, VeryUnderReplicated, UnderReplicated, BadlyDistributed, NoUsableReplica}
 use Rattle.bm_base.specs.declared.refusal.Refusal.TheVariants.{UnknownBlock, BadReplication}
 use Rattle.bm_base.specs.Machine.Levels.{level_of}
 use Rattle.worked_examples.specs.Script.{◌gives◌, HoldsOnCluster, example_config, register, dead, drain, add_block, set_replication, received, level, round, list_missing, list_excess, ok, at_level, at_no_level, commands, copies_by, copy, deletes_by, delete, blocks, replica_ids, refused}

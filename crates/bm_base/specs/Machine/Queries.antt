@@ -5,7 +5,7 @@ use Rattle.std.specs.List.{list_any}
 use Rattle.bm_base.specs.declared.replica.ReplicaId.{ReplicaId}
 use Rattle.bm_base.specs.declared.replica.Marks.{Marks}
 use Rattle.bm_base.specs.declared.replica.Replica.{Replica}
-use Rattle.bm_base.specs.declared.level.Level.TheVariants.{NoUsableReplica}
+use Rattle.bm_base.specs.declared.replica.Level.TheVariants.{NoUsableReplica}
 use Rattle.bm_base.specs.Maps.Map.{entries, keys}
 use Rattle.bm_base.specs.Machine.State.{Cluster, Holdings}
 use Rattle.bm_base.specs.Machine.Replicas.{is_good, is_corrupt, storages_where, drained, drains, has_storage, has_enough_live}

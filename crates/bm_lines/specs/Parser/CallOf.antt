@@ -58,12 +58,12 @@ call_for op.Level d = option_map call.LevelOf (number_field (codes "id") d)
 call_for op.Retired d = option_map call.Retired (small_field (codes "node") d)
 
 -- an object whose text `op` names a call, and that has its fields
-abbrev pub call_in : Data → Option Call
-call_in d = option_and_then (λ o. call_for o d) (option_and_then op_of (option_and_then as_str (get (codes "op") d)))
+abbrev pub call_of_value : Data → Option Call
+call_of_value d = option_and_then (λ o. call_for o d) (option_and_then op_of (option_and_then as_str (get (codes "op") d)))
 
 -- what serde_json reads of a line that is text
 unfoldable pub view_of : List ℕ → Option Data
 view_of line = if is_utf8 line then read line else None
 
 unfoldable pub call_of : List ℕ → Option Call
-call_of line = option_and_then call_in (view_of line)
+call_of line = option_and_then call_of_value (view_of line)

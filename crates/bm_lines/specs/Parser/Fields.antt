@@ -17,8 +17,8 @@ abbrev pub below_32 : ℕ → Option ℕ
 below_32 n = if nat_lt n (2 ^ 32) then Some n else None
 
 -- a whole number below 2^32
-abbrev pub small_in : Data → Option ℕ
-small_in d = option_and_then below_32 (number_in d)
+abbrev pub small_number : Data → Option ℕ
+small_number d = option_and_then below_32 (number_in d)
 
 abbrev pub small_field : List ℕ → Data → Option ℕ
 small_field name d = option_and_then below_32 (number_field name d)
@@ -39,7 +39,7 @@ list_field f name d = option_and_then (λ items. each f (listed items)) (option_
 
 -- a list of whole numbers below 2^32
 abbrev pub small_list_field : List ℕ → Data → Option (List ℕ)
-small_list_field name d = list_field small_in name d
+small_list_field name d = list_field small_number name d
 
 abbrev pub stamp_from : Option ℕ → Option ℕ → Option Stamp
 stamp_from (Some generation) (Some len) = Some (record { generation = generation; len = len })
@@ -69,7 +69,7 @@ remaining_from _ _ = None
 
 -- two numbers: a storage, and the bytes remaining there
 abbrev pub remaining_among : List Data → Option Remaining
-remaining_among (storage ∷ remaining ∷ []) = remaining_from (small_in storage) (number_in remaining)
+remaining_among (storage ∷ remaining ∷ []) = remaining_from (small_number storage) (number_in remaining)
 remaining_among _ = None
 
 unfoldable pub remaining_in : Data → Option Remaining

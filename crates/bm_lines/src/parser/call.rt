@@ -1,9 +1,9 @@
 // The call that a line asks for.
 ghost use Rattle.std.specs.Prelude.{◌≡◌, true, false, IfOk, option_map};
+ghost use Rattle.bm_base.specs.Words.{IfFound};
 ghost use Rattle.serde_json.specs.View.{view};
 ghost use Rattle.bm_lines.specs.CallText.{has_op};
-ghost use Rattle.bm_base.specs.Machine.Answering.{IfFound};
-ghost use Rattle.bm_lines.specs.Parser.CallOf.{call_for, call_in, call_of, view_of};
+ghost use Rattle.bm_lines.specs.Parser.CallOf.{call_for, call_of_value, call_of, view_of};
 ghost use Rattle.bm_lines.specs.Parser.Op.{has_list};
 
 use super::canonical::canonical_call;
@@ -33,7 +33,7 @@ fn read_call(alloc: Global, line: &[u8]) -> Result<Option<Call>, AllocError>
     ensures has_op { IfFound result (λ k. has_op k ≡ true) }
 {
     match parse_value(alloc, line)? {
-        Some(value) => call_in(alloc, &value),
+        Some(value) => call_of_value(alloc, &value),
         None => Ok(None),
     }
 }
@@ -54,8 +54,8 @@ fn parse_value(alloc: Global, line: &[u8]) -> Result<Option<Value>, AllocError>
     }
 }
 
-fn call_in(alloc: Global, value: &Value) -> Result<Option<Call>, AllocError>
-    ensures { IfOk result (λ o. o ≡ call_in (view value.now)) }
+fn call_of_value(alloc: Global, value: &Value) -> Result<Option<Call>, AllocError>
+    ensures { IfOk result (λ o. o ≡ call_of_value (view value.now)) }
 {
     match value.get("op").and_then(Value::as_str).and_then(op_of) {
         Some(op) => call_for(alloc, op, value),

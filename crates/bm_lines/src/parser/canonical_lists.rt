@@ -1,7 +1,7 @@
 // Lists of a line in canonical form.
 ghost use Rattle.std.specs.Prelude.{◌≡◌, ◌++◌, ◌<◌, ℕ, List, All, IfSome, codes, length};
+ghost use Rattle.bm_base.specs.Words.{IfFound};
 ghost use Rattle.bm_lines.specs.CallText.{list_text, with_commas};
-ghost use Rattle.bm_base.specs.Machine.Answering.{IfFound};
 
 use super::canonical_numbers::after;
 use std::alloc::{AllocError, Global};

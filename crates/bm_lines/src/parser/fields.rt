@@ -1,7 +1,7 @@
 // The numbers in a line's object. `None` if the field is missing, or is no such number.
 ghost use Rattle.std.specs.Prelude.{◌≡◌, option_and_then, codes};
 ghost use Rattle.serde_json.specs.View.{view};
-ghost use Rattle.bm_lines.specs.Parser.Fields.{number_field, below_32, small_in, small_field, stamp_from};
+ghost use Rattle.bm_lines.specs.Parser.Fields.{number_field, below_32, small_number, small_field, stamp_from};
 ghost use Rattle.bm_lines.specs.Parser.CallOf.{stamp_fields};
 
 use bm_base::{BlockId, Gen, NodeId, Rack, Stamp, StorageId};
@@ -59,8 +59,8 @@ fn small_field(value: &Value, name: &str) -> Option<u32>
 }
 
 /// The value as a whole number below 2^32.
-pub fn small_in(value: &Value) -> Option<u32>
-    ensures { result ≡ small_in (view value.now) }
+pub fn small_number(value: &Value) -> Option<u32>
+    ensures { result ≡ small_number (view value.now) }
 {
     small(value.as_u64())
 }

@@ -2,9 +2,9 @@
 ghost use Rattle.std.specs.Prelude.{◌≡◌, Option, map};
 ghost use Rattle.serde_json.specs.Data.{Data};
 ghost use Rattle.serde_json.specs.View.{view};
-ghost use Rattle.bm_lines.specs.Parser.Fields.{small_in, entry_from, entry_among, entry_in, remaining_from, remaining_among, remaining_in};
+ghost use Rattle.bm_lines.specs.Parser.Fields.{small_number, entry_from, entry_among, entry_in, remaining_from, remaining_among, remaining_in};
 
-use super::fields::{small_in, stamp_from};
+use super::fields::{small_number, stamp_from};
 use bm_base::{BlockId, Entry, Remaining, Stamp, StorageId};
 use serde_json::Value;
 
@@ -19,10 +19,10 @@ pub trait Item: Drop + Sized {
 
 /// A whole number below 2^32.
 impl Item for StorageId {
-    ghost item_in = { small_in };
+    ghost item_in = { small_number };
 
     fn from_value(value: &Value) -> Option<StorageId> {
-        Some(StorageId(small_in(value)?))
+        Some(StorageId(small_number(value)?))
     }
 }
 
@@ -55,7 +55,7 @@ fn remaining_among(items: &[Value]) -> Option<Remaining>
     ensures { result ≡ remaining_among (map view items.now) }
 {
     match items {
-        [storage, remaining] => remaining_from(small_in(storage), remaining.as_u64()),
+        [storage, remaining] => remaining_from(small_number(storage), remaining.as_u64()),
         _ => None,
     }
 }

@@ -1,6 +1,6 @@
 // The level of a block before and after a node drains, a storage fails and a node dies.
 ghost use Rattle.std.specs.Prelude.{◌≡◌};
-ghost use Rattle.bm_base.specs.Machine.State.{empty_cluster};
+ghost use Rattle.bm_base.specs.Words.{empty_cluster};
 
 use crate::support::{STAMP, join};
 use bm_base::{BlockId, BlockInfo, Event, HashSecret, Level, NodeId, StorageId};

@@ -1,5 +1,5 @@
 use Rattle.std.proofs.Common.{◌≡◌, ◌<◌, ℕ, Option, Some, ap, length, arith}
-use Rattle.bm_base.specs.declared.level.Level.TheVariants.{Highest}
+use Rattle.bm_base.specs.declared.replica.Level.TheVariants.{Highest}
 use Rattle.bm_queues.specs.Levels.{Levels, IsLawful, level_at, slots_of}
 use Rattle.bm_queues.specs.Walks.{IsOn}
 use Rattle.check_memory.proofs.slots.take_levels.Goals as goal

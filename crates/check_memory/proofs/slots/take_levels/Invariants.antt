@@ -1,7 +1,7 @@
 use Rattle.std.proofs.Common.{length}
 use Rattle.std.specs.Option.{IfSome}
 use Rattle.bm_maps.specs.SlotLists.{IsMember}
-use Rattle.bm_base.specs.declared.level.Level.TheVariants.{Highest}
+use Rattle.bm_base.specs.declared.replica.Level.TheVariants.{Highest}
 use Rattle.bm_queues.specs.Levels.{slots_of}
 use Rattle.bm_queues.specs.Walks.{slots_from}
 use Rattle.check_memory.proofs.slots.take_levels.Given as goal

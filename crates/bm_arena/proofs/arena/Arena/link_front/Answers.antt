@@ -15,7 +15,7 @@ invariant_of-self c =
     record {
       arena =
           link_front-sound c.self.inside.slots c.self.inside.heads.entries c.in-Some.head.first c.storage.inside.0 c.args.slot c.args.marks c.self.inside.ids c.self.inside.delimiter c.self.invariant.arena c.in-Some.ensures.first capacity absent
-          c.add_triplet.new.slots c.attach.new.slots _ c.attach.new.first c.add_triplet.ensures c.attach.ensures.slots (c.set.ensures.entries c.storage.inside.0 c.in-Some.head.first c.in-Some.ensures.index) c.attach.ensures.first c.set.ensures.unique;
+          c.add_triplet.new.slots c.attach.new.slots _ c.attach.new.first c.add_triplet.ensures c.attach.ensures.slots (c.set_head.ensures.entries c.storage.inside.0 c.in-Some.head.first c.in-Some.ensures.index) c.attach.ensures.first c.set_head.ensures.unique;
       bounded = below-linked c.self.inside.slots c.add_triplet.new.slots c.attach.new.slots c.in-Some.head.first c.args.slot c.storage.inside.0 _ c.self.inside.bound c.add_triplet.ensures c.attach.ensures.slots c.self.invariant.bounded;
     }
 
@@ -25,7 +25,7 @@ returns-in-Some-clause-after c =
     let absent = rw (← c.self.view_is, ← c.storage.view_is) at c.requires.absent in
     rw (← c.self.view_is, ← c.storage.view_is)
     (link_front-view c.self.inside.slots c.self.inside.heads.entries c.in-Some.head.first c.storage.inside.0 c.args.slot c.args.marks c.self.inside.ids c.self.inside.delimiter c.self.invariant.arena c.in-Some.ensures.first capacity absent
-    c.add_triplet.new.slots c.attach.new.slots _ c.attach.new.first c.self.inside.steps c.saturating_next-self-inside.result c.self.inside.bound c.add_triplet.ensures c.attach.ensures.slots (c.set.ensures.entries c.storage.inside.0 c.in-Some.head.first c.in-Some.ensures.index) c.attach.ensures.first
+    c.add_triplet.new.slots c.attach.new.slots _ c.attach.new.first c.self.inside.steps c.saturating_next-self-inside.result c.self.inside.bound c.add_triplet.ensures c.attach.ensures.slots (c.set_head.ensures.entries c.storage.inside.0 c.in-Some.head.first c.in-Some.ensures.index) c.attach.ensures.first
     c.saturating_next-self-inside.ensures)
 
 pub returns-in_default : goal.returns-in_default

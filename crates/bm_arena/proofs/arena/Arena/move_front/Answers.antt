@@ -12,7 +12,7 @@ invariant_of-self c =
     record {
       arena =
           move_front-sound c.self.inside.slots c.self.inside.heads.entries c.in-Some.head.first c.storage.inside.0 c.args.slot c.in-Some-put_first.triplet c.self.inside.ids c.self.inside.delimiter c.self.invariant.arena c.in-Some.ensures.first c.in-Some-put_first.ensures.found
-          c.put_first.new.slots c.detach.new.slots c.attach.new.slots c.detach.new.first c.attach.new.first _ c.put_first.ensures.slots c.detach.ensures.slots c.detach.ensures.first c.attach.ensures.slots (c.set.ensures.entries c.storage.inside.0 c.in-Some.head.first c.in-Some.ensures.index) c.attach.ensures.first c.set.ensures.unique;
+          c.put_first.new.slots c.detach.new.slots c.attach.new.slots c.detach.new.first c.attach.new.first _ c.put_first.ensures.slots c.detach.ensures.slots c.detach.ensures.first c.attach.ensures.slots (c.set_head.ensures.entries c.storage.inside.0 c.in-Some.head.first c.in-Some.ensures.index) c.attach.ensures.first c.set_head.ensures.unique;
       bounded = below-moved c.self.inside.slots c.put_first.new.slots c.detach.new.slots c.attach.new.slots c.in-Some.head.first c.detach.new.first c.args.slot c.storage.inside.0 c.in-Some-put_first.triplet c.self.inside.bound c.put_first.ensures.slots c.detach.ensures.slots c.attach.ensures.slots c.self.invariant.bounded;
     }
 
@@ -20,7 +20,7 @@ pub returns-in-Some-put_first-clause-after : goal.returns-in-Some-put_first-clau
 returns-in-Some-put_first-clause-after c =
     rw (← c.self.view_is, ← c.storage.view_is)
     (move_front-view c.self.inside.slots c.self.inside.heads.entries c.in-Some.head.first c.storage.inside.0 c.args.slot c.in-Some-put_first.triplet c.self.inside.ids c.self.inside.delimiter c.self.invariant.arena c.in-Some.ensures.first c.in-Some-put_first.ensures.found
-    c.put_first.new.slots c.detach.new.slots c.attach.new.slots c.detach.new.first c.attach.new.first _ c.self.inside.steps c.saturating_next-self-inside.result c.self.inside.bound c.put_first.ensures.slots c.detach.ensures.slots c.detach.ensures.first c.attach.ensures.slots (c.set.ensures.entries c.storage.inside.0 c.in-Some.head.first c.in-Some.ensures.index) c.attach.ensures.first
+    c.put_first.new.slots c.detach.new.slots c.attach.new.slots c.detach.new.first c.attach.new.first _ c.self.inside.steps c.saturating_next-self-inside.result c.self.inside.bound c.put_first.ensures.slots c.detach.ensures.slots c.detach.ensures.first c.attach.ensures.slots (c.set_head.ensures.entries c.storage.inside.0 c.in-Some.head.first c.in-Some.ensures.index) c.attach.ensures.first
     c.saturating_next-self-inside.ensures)
 
 pub returns-in_default : goal.returns-in_default

@@ -12,7 +12,7 @@ invariant_of-self c =
     record {
       arena =
           unlink-sound c.self.inside.slots c.self.inside.heads.entries c.in-Some.head.first c.storage.inside.0 c.args.slot c.in-Some-remove_triplet.triplet c.self.inside.ids c.self.inside.delimiter c.self.invariant.arena c.in-Some.ensures.first c.in-Some-remove_triplet.ensures.found
-          c.remove_triplet.new.slots c.detach.new.slots _ c.detach.new.first c.remove_triplet.ensures.slots c.detach.ensures.slots (c.set.ensures.entries c.storage.inside.0 c.in-Some.head.first c.in-Some.ensures.index) c.detach.ensures.first c.set.ensures.unique;
+          c.remove_triplet.new.slots c.detach.new.slots _ c.detach.new.first c.remove_triplet.ensures.slots c.detach.ensures.slots (c.set_head.ensures.entries c.storage.inside.0 c.in-Some.head.first c.in-Some.ensures.index) c.detach.ensures.first c.set_head.ensures.unique;
       bounded = below-unlinked c.self.inside.slots c.remove_triplet.new.slots c.detach.new.slots c.args.slot c.storage.inside.0 c.in-Some-remove_triplet.triplet c.self.inside.bound c.remove_triplet.ensures.slots c.detach.ensures.slots c.self.invariant.bounded;
     }
 
@@ -20,7 +20,7 @@ pub returns-in-Some-remove_triplet-clause-after : goal.returns-in-Some-remove_tr
 returns-in-Some-remove_triplet-clause-after c =
     rw (← c.self.view_is, ← c.storage.view_is)
     (unlink-view c.self.inside.slots c.self.inside.heads.entries c.in-Some.head.first c.storage.inside.0 c.args.slot c.in-Some-remove_triplet.triplet c.self.inside.ids c.self.inside.delimiter c.self.invariant.arena c.in-Some.ensures.first c.in-Some-remove_triplet.ensures.found
-    c.remove_triplet.new.slots c.detach.new.slots _ c.detach.new.first c.self.inside.steps c.saturating_next-self-inside.result c.self.inside.bound c.remove_triplet.ensures.slots c.detach.ensures.slots (c.set.ensures.entries c.storage.inside.0 c.in-Some.head.first c.in-Some.ensures.index) c.detach.ensures.first
+    c.remove_triplet.new.slots c.detach.new.slots _ c.detach.new.first c.self.inside.steps c.saturating_next-self-inside.result c.self.inside.bound c.remove_triplet.ensures.slots c.detach.ensures.slots (c.set_head.ensures.entries c.storage.inside.0 c.in-Some.head.first c.in-Some.ensures.index) c.detach.ensures.first
     c.saturating_next-self-inside.ensures)
 
 pub returns-in_default : goal.returns-in_default

@@ -2,7 +2,7 @@
 use Rattle.std.proofs.Common.{◌≡◌, ◌-◌, ◌≤◌, ◌++◌, ℕ, Bool, true, false, Result, Ok, Err, Option, None, List, length, replicate, subst, sym, arith, length-append}
 use Rattle.std.specs.Prelude.{OnOk, OnErr, max, nat_lt, if◌then◌else◌}
 use Rattle.std.proofs.lemmas.List.{length-replicate}
-use Rattle.bm_base.specs.declared.level.Level.{Level}
+use Rattle.bm_base.specs.declared.replica.Level.{Level}
 use Rattle.bm_base.specs.declared.refusal.Refusal.{Refusal}
 use Rattle.bm_queues.specs.Levels.{Levels}
 use Rattle.bm_queues.specs.Levels as levels
