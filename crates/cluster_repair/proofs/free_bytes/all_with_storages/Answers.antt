@@ -1,4 +1,4 @@
-use Rattle.std.proofs.Common.{ap}
+use Rattle.std.proofs.Common.{◌∙◌, ap}
 use Rattle.cluster_repair.proofs.NumberLemmas.{nodes_more, nodes_all}
 use Rattle.cluster_repair.proofs.free_bytes.all_with_storages.Goals as goal
 
