@@ -1,6 +1,7 @@
 // The free bytes of storages, as their DataNodes know them.
 ghost use Rattle.std.specs.Prelude.{◌≡◌, ℕ, ◌+◌, ◌-◌, min, nat_eq, map, unwrap_or, IfOk, OnOk, if◌then◌else◌};
-ghost use Rattle.bm_base.specs.Words.{has, keys, get};
+ghost use Rattle.bm_base.specs.Words.{has, keys};
+ghost use Rattle.std.specs.HashMap.{get};
 ghost use Rattle.cluster_repair.specs.History.{numbers_of, with_storages};
 ghost use Rattle.cluster_repair.specs.LinkModel.{most, free_on, free_in, remaining_in};
 

@@ -1,6 +1,6 @@
 // Sets entries of hash maps from numbers to numbers.
 ghost use Rattle.std.specs.Prelude.{◌≡◌, ℕ, nat_eq, Some, OnOk, if◌then◌else◌};
-ghost use Rattle.bm_base.specs.Words.{get};
+ghost use Rattle.std.specs.HashMap.{get};
 
 use std::alloc::AllocError;
 use std::collections::HashMap;
