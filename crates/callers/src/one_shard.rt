@@ -1,11 +1,10 @@
 // An event on the cluster and on one shard: on both, or on neither.
 ghost use Rattle.std.specs.Prelude.{◌≡◌, ◌||◌, None, IfOk, IfErr, OnOk, OnErr};
-ghost use Rattle.bm_base.specs.Words.{Refuses, done, change_cluster, first_of, block_checks, cluster_checks};
+ghost use Rattle.bm_base.specs.Words.{Refuses, done, change_cluster, first_of, block_checks, cluster_checks, ◌before◌};
 ghost use Rattle.bm_parts.specs.Parts.{change_part};
 ghost use Rattle.bm_shard.specs.ShardView.{needs_reservation};
 ghost use Rattle.bm_shard.specs.UpToDate.{IsUpToDate, IsSameButCapacity};
 ghost use Rattle.bm_topo.specs.TopologyView.{grows_cluster};
-ghost use Rattle.bm_base.specs.Words.{◌before◌};
 
 use bm_base::{Done, Event, Refusal};
 use bm_shard::Shard;
