@@ -50,7 +50,7 @@ pub fn run<R: Source, W: Sink, H: Threads + Wait + RandomSource + Sync>(
     ensures cause { HasCause (R.faults reader.old) (R.faults reader.new)
         (W.faults writer.old) (W.faults writer.new) result }
 {
-    let mut session = Session::new(alloc, config, draw_secret(rt))?;
+    let mut session = Session::new(alloc, config, HashSecret::draw(rt))?;
     let mut buffer = [0u8; PIECE];
     let mut count = 0usize;
     loop {
@@ -67,15 +67,6 @@ pub fn run<R: Source, W: Sink, H: Threads + Wait + RandomSource + Sync>(
         }
         session.take_piece(rt, &buffer[..n], writer)?;
         count += n;
-    }
-}
-
-/// Random bytes of the system; no secret if it gives none.
-fn draw_secret<H: RandomSource>(rt: &H) -> HashSecret {
-    let mut bytes = [0; 8];
-    match rt.fill_bytes(&mut bytes) {
-        Ok(()) => HashSecret::of(u64::from_le_bytes(bytes)),
-        Err(_) => HashSecret::none(),
     }
 }
 
