@@ -16,7 +16,7 @@ use crate::calls::make_calls;
 use crate::fault::Fault;
 use crate::kind::{are_lines, read_head};
 use crate::names::names_of;
-use bm_base::Config;
+use bm_base::{Config, HashSecret};
 use cluster_names::{Files, Names};
 use cluster_report::line_reader::read_lines;
 use cluster_report::session::Session;
@@ -39,14 +39,14 @@ pub struct Loaded {
 }
 
 impl Loaded {
-    /// The cluster before the first text.
-    pub fn new(alloc: Global, config: &Config) -> Result<Loaded, Fault>
+    /// The cluster before the first text. The tables of its session hash by this secret.
+    pub fn new(alloc: Global, config: &Config, secret: HashSecret) -> Result<Loaded, Fault>
         ensures state { IfOk result (λ it. it.session.manager ≡ first_state config.now) }
         ensures in_step { IfOk result (λ it. IsInStep it.session) }
         ensures names { IfOk result (λ it. it.names ≡ no_names) }
         ensures files { IfOk result (λ it. it.files ≡ no_blocks) }
     {
-        let Ok(session) = Session::new(alloc, config) else {
+        let Ok(session) = Session::new(alloc, config, secret) else {
             return Err(Fault::Memory);
         };
         Ok(Loaded {

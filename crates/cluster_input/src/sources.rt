@@ -5,6 +5,7 @@ ghost use Rattle.cluster_report.specs.Sessions.{IsInStep};
 use crate::fault::Fault;
 use crate::loaded_cluster::Loaded;
 use crate::options::LoadOptions;
+use bm_base::HashSecret;
 use cluster_progress::watched_streams::{Meter, NoteWriter, WatchedReader};
 use fsck_cluster::Cluster;
 use fsck_import::print_text_notes;
@@ -13,6 +14,7 @@ use std::alloc::Global;
 use std::fs::File;
 use std::io;
 use std::io::{BufReader, Write};
+use std::random::RandomSource;
 use std::rt::Files;
 use std::sync::Wait;
 use std::thread::Threads;
@@ -28,8 +30,12 @@ struct Console<'c, R> {
 
 /// Loads the cluster of these files, or of standard input if there are none. The result has whether
 /// every call was accepted. Refused lines go to `notes`. If nothing was loaded, the reason is
-/// printed to standard error after the program's name.
-pub fn load<R: Input + Eprint + Files + AllocGlobal + Threads + Wait + Sync, N: Print>(
+/// printed to standard error after the program's name. The tables hash by a secret that is drawn
+/// here, so that nobody can make loading slow by colliding numbers.
+pub fn load<
+    R: Input + Eprint + Files + AllocGlobal + Threads + Wait + RandomSource + Sync,
+    N: Print,
+>(
     rt: &R,
     notes: &N,
     program: &str,
@@ -45,7 +51,7 @@ pub fn load<R: Input + Eprint + Files + AllocGlobal + Threads + Wait + Sync, N: 
         meter: &meter,
     };
     let nodes = read_node_list(&console, asked)?;
-    let mut loaded = match Loaded::new(rt.alloc(), &asked.config) {
+    let mut loaded = match Loaded::new(rt.alloc(), &asked.config, HashSecret::draw(rt)) {
         Ok(loaded) => loaded,
         Err(fault) => {
             drop(nodes);
