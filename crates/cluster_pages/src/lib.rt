@@ -67,6 +67,7 @@ use page_file::write_page;
 use std::alloc::Global;
 use std::io;
 use std::io::Write;
+use std::random::RandomSource;
 use std::rt::Files;
 use std::sync::Wait;
 use std::thread::Threads;
@@ -83,7 +84,7 @@ const PROGRAM: &str = "report";
 /// Makes the report for the words of a command line, the program's name first. Notes on refused
 /// lines go to `notes`. Returns the exit status.
 pub fn report_by_words<
-    R: Input + Print + Eprint + Files + AllocGlobal + Threads + Wait + Sync,
+    R: Input + Print + Eprint + Files + AllocGlobal + Threads + Wait + RandomSource + Sync,
     N: Print,
 >(rt: &R, notes: &N, words: &[String]) -> u8 {
     let alloc: Global = rt.alloc();

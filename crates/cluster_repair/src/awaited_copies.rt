@@ -4,7 +4,7 @@ ghost use Rattle.bm_base.specs.Words.{list_any, IsPermutation, IsSortedByKey, by
 ghost use Rattle.cluster_repair.specs.Copies.{is_copy_of, is_among, holds_target, has_arrived, when};
 ghost use Rattle.cluster_repair.specs.LinkModel.{most};
 
-use bm_base::Transfer;
+use bm_base::{HashSecret, Transfer};
 use std::alloc::{AllocError, Global};
 use std::collections::HashSet;
 
@@ -18,26 +18,29 @@ pub struct Sent {
     pub transfer: Transfer,
 }
 
+/// Blocks with targets.
+type Targets = HashSet<(u64, u32), HashSecret>;
+
 /// The copies on their way.
 #[derive(Drop)]
 pub struct OnWay {
     pub sent: Vec<Sent>,
     /// Their blocks and targets.
-    pub targets: HashSet<(u64, u32)>,
+    pub targets: Targets,
     pub next: u64,
     pub ghost once: { (b t : ℕ) → count_by (is_copy_of b t) sent.items
         ≡ (if holds_target targets b t then 1 else 0) },
 }
 
 impl OnWay {
-    /// Makes an empty list of copies. Takes no memory.
-    pub fn new(alloc: Global) -> OnWay
+    /// Makes an empty list of copies, whose table hashes by this secret. Takes no memory.
+    pub fn new(alloc: Global, secret: HashSecret) -> OnWay
         ensures sent { result.sent.items ≡ [] }
         ensures next { result.next ≡ 0 }
     {
         OnWay {
             sent: Vec::new(alloc),
-            targets: HashSet::new(alloc),
+            targets: HashSet::with_hasher(alloc, secret),
             next: 0,
         }
     }
@@ -114,7 +117,7 @@ fn arrival_key(sent: &Sent) -> (u64, u64)
     (sent.arrival, sent.order)
 }
 
-fn forget(targets: &mut HashSet<(u64, u32)>, sent: &[Sent])
+fn forget(targets: &mut Targets, sent: &[Sent])
     ensures { (b t : ℕ) → holds_target targets.new b t
         ≡ (holds_target targets.old b t && not (list_any (is_copy_of b t) sent.now)) }
 {

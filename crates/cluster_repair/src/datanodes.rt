@@ -14,7 +14,7 @@ use crate::awaited_copies::{OnWay, Sent};
 use crate::free_bytes::{FreeBytes, NodeStorages};
 use crate::links::Links;
 use crate::watch::Watch;
-use bm_base::{Commands, Delete, Event, NodeId, Refusal, StorageId, Transfer};
+use bm_base::{Commands, Delete, Event, HashSecret, NodeId, Refusal, StorageId, Transfer};
 use bm_crew::NoGate;
 use bm_manager::Manager;
 use bm_topo::Topology;
@@ -38,16 +38,22 @@ pub struct DataNodes {
 }
 
 impl DataNodes {
-    /// DataNodes with nothing to do, with the free bytes of the last heartbeats.
-    pub fn new(alloc: Global, topology: &Topology, bandwidth: u64) -> Result<DataNodes, AllocError>
+    /// DataNodes with nothing to do, with the free bytes of the last heartbeats. The tables hash by
+    /// this secret.
+    pub fn new(
+        alloc: Global,
+        topology: &Topology,
+        bandwidth: u64,
+        secret: HashSecret,
+    ) -> Result<DataNodes, AllocError>
         ensures counts { IfOk result (AreCounted []) }
         ensures at_start { IfOk result (AreAtStart topology.now.cluster) }
         ensures bandwidth { IfOk result (λ d. d.links.bandwidth ≡ bandwidth) }
     {
-        let free = FreeBytes::new(alloc, topology)?;
+        let free = FreeBytes::new(alloc, topology, secret)?;
         Ok(DataNodes {
-            links: Links::new(alloc, bandwidth),
-            on_way: OnWay::new(alloc),
+            links: Links::new(alloc, bandwidth, secret),
+            on_way: OnWay::new(alloc, secret),
             deletes: Vec::new(alloc),
             free,
             last_arrival: 0,

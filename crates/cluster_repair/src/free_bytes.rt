@@ -5,8 +5,8 @@ ghost use Rattle.std.specs.HashMap.{get};
 ghost use Rattle.cluster_repair.specs.History.{numbers_of, with_storages};
 ghost use Rattle.cluster_repair.specs.LinkModel.{most, free_on, free_in, remaining_in};
 
-use crate::numbers::put;
-use bm_base::{Items, NodeId, Remaining, StorageId};
+use crate::numbers::{Numbers, put};
+use bm_base::{HashSecret, Items, NodeId, Remaining, StorageId};
 use bm_topo::Topology;
 use cluster_report::nodes::{all_nodes, all_storages};
 use std::alloc::{AllocError, Global};
@@ -25,12 +25,17 @@ pub struct FreeBytes {
     /// Ascending.
     pub storages: Vec<StorageId>,
     pub nodes: Vec<NodeStorages>,
-    pub free: HashMap<u32, u64>,
+    pub free: Numbers,
 }
 
 impl FreeBytes {
-    /// The free bytes of all storages, as the last heartbeats reported them.
-    pub fn new(alloc: Global, topology: &Topology) -> Result<FreeBytes, AllocError>
+    /// The free bytes of all storages, as the last heartbeats reported them. The table hashes by
+    /// this secret.
+    pub fn new(
+        alloc: Global,
+        topology: &Topology,
+        secret: HashSecret,
+    ) -> Result<FreeBytes, AllocError>
         ensures free { IfOk result (λ f. (s : ℕ) → free_on f s ≡ free_in topology.now.cluster s) }
         ensures nodes { IfOk result (λ f. map numbers_of f.nodes.items
             ≡ map (with_storages topology.now.cluster) (keys topology.now.cluster.nodes)) }
@@ -39,7 +44,7 @@ impl FreeBytes {
     {
         let storages = all_storages(alloc, topology)?;
         let nodes = all_with_storages(alloc, topology)?;
-        let free = free_bytes_of(alloc, topology, storages.as_slice())?;
+        let free = free_bytes_of(alloc, topology, storages.as_slice(), secret)?;
         Ok(FreeBytes {
             storages,
             nodes,
@@ -113,11 +118,12 @@ fn free_bytes_of(
     alloc: Global,
     topology: &Topology,
     storages: &[StorageId],
-) -> Result<HashMap<u32, u64>, AllocError>
+    secret: HashSecret,
+) -> Result<Numbers, AllocError>
     ensures { IfOk result (λ free. (s : ℕ) → unwrap_or (get nat_eq free s) 0
         ≡ (if has storages.now s then free_in topology.now.cluster s else 0)) }
 {
-    let mut free = HashMap::new(alloc);
+    let mut free = HashMap::with_hasher(alloc, secret);
     for storage in storages {
         let remaining = topology.remaining(*storage).unwrap_or(0);
         put(&mut free, storage.0, remaining)?;

@@ -3,8 +3,8 @@
 ghost use Rattle.std.specs.Prelude.{◌≡◌, ℕ, nat_eq, IfOk, OnOk, if◌then◌else◌};
 ghost use Rattle.cluster_repair.specs.LinkModel.{micros_for, sends_until, receives_until, sent_at, received_at, arrival};
 
-use crate::numbers::put;
-use bm_base::NodeId;
+use crate::numbers::{Numbers, put};
+use bm_base::{HashSecret, NodeId};
 use std::alloc::{AllocError, Global};
 use std::collections::HashMap;
 
@@ -15,21 +15,21 @@ pub const MICROS: u64 = 1_000_000;
 pub struct Links {
     /// In bytes a second.
     pub bandwidth: u64,
-    pub sending: HashMap<u32, u64>,
-    pub receiving: HashMap<u32, u64>,
+    pub sending: Numbers,
+    pub receiving: Numbers,
 }
 
 impl Links {
-    /// Every node is idle.
-    pub fn new(alloc: Global, bandwidth: u64) -> Links
+    /// Every node is idle. The tables hash by this secret.
+    pub fn new(alloc: Global, bandwidth: u64, secret: HashSecret) -> Links
         ensures sending { (n : ℕ) → sends_until result n ≡ 0 }
         ensures receiving { (n : ℕ) → receives_until result n ≡ 0 }
         ensures bandwidth { result.bandwidth ≡ bandwidth }
     {
         Links {
             bandwidth,
-            sending: HashMap::new(alloc),
-            receiving: HashMap::new(alloc),
+            sending: HashMap::with_hasher(alloc, secret),
+            receiving: HashMap::with_hasher(alloc, secret),
         }
     }
 

@@ -161,7 +161,7 @@ impl Repair {
     {
         let topology = &session.book.topology;
         let watch = Watch::new(alloc, &session.manager, &session.book.blocks)?;
-        let datanodes = DataNodes::new(alloc, topology, pace.bandwidth)?;
+        let datanodes = DataNodes::new(alloc, topology, pace.bandwidth, session.secret)?;
         let drained = alive_among(alloc, topology, drained)?;
         Ok(Repair {
             datanodes,

@@ -8,7 +8,7 @@ ghost use Rattle.bm_base.specs.Maps.Map as map;
 
 use crate::catalogue::Catalogue;
 use crate::transfers::Transfers;
-use bm_base::{Answer, BlockId, BlockInfo, Call, Config, Event, NodeId, Rack, Refusal};
+use bm_base::{Answer, BlockId, BlockInfo, Call, Config, Event, HashSecret, NodeId, Rack, Refusal};
 use bm_maps::NumberMap;
 use bm_topo::Topology;
 use std::alloc::{AllocError, Global};
@@ -25,9 +25,9 @@ pub struct Book {
 }
 
 impl Book {
-    /// The book of a new manager.
+    /// The book of a new manager, whose tables hash by this secret.
     #[tactic(auto, unfolding(bm_base::specs::Machine::State::empty_cluster))]
-    pub fn new(alloc: Global, config: &Config) -> Result<Book, Refusal>
+    pub fn new(alloc: Global, config: &Config, secret: HashSecret) -> Result<Book, Refusal>
         ensures cluster { IfOk result (λ b. b.topology.cluster ≡ empty_cluster) }
         ensures copies { IfOk result (λ b. b.transfers.copies ≡ map.empty) }
         ensures pend { IfOk result (λ b. b.transfers.pend ≡ config.now.pend) }
@@ -37,7 +37,7 @@ impl Book {
             topology: Topology::new(alloc)?,
             racks: NumberMap::new(alloc),
             transfers: Transfers::new(alloc, config.pend),
-            blocks: Catalogue::new(alloc),
+            blocks: Catalogue::new(alloc, secret),
         })
     }
 

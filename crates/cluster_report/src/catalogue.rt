@@ -4,23 +4,23 @@ ghost use Rattle.bm_base.specs.Words.{Cluster, Holdings, change_holdings, set_re
 ghost use Rattle.cluster_report.specs.Catalogues.{info_in, len_in, Lists};
 ghost use Rattle.bm_base.specs.Maps.Map as map_of;
 
-use bm_base::{BlockId, BlockInfo, Event, Stamp};
+use bm_base::{BlockId, BlockInfo, Event, HashSecret, Stamp};
 use std::alloc::{AllocError, Global};
 use std::collections::HashMap;
 
 /// The stamp and the wanted replicas of each block, found by hash.
 #[derive(Drop)]
 pub struct Catalogue {
-    pub blocks: HashMap<u64, BlockInfo>,
+    pub blocks: HashMap<u64, BlockInfo, HashSecret>,
 }
 
 impl Catalogue {
-    /// An empty catalogue. Takes no memory.
-    pub fn new(alloc: Global) -> Catalogue
+    /// An empty catalogue, which hashes by this secret. Takes no memory.
+    pub fn new(alloc: Global, secret: HashSecret) -> Catalogue
         ensures { Lists result map_of.empty }
     {
         Catalogue {
-            blocks: HashMap::new(alloc),
+            blocks: HashMap::with_hasher(alloc, secret),
         }
     }
 

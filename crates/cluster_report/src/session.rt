@@ -5,7 +5,7 @@ ghost use Rattle.cluster_report.specs.Sessions.{IsInStep};
 ghost use Rattle.cluster_report.specs.LineNotes.{refusal_text, refusal_text_of, after_line};
 
 use crate::book::Book;
-use bm_base::{Answer, Call, Config, Refusal};
+use bm_base::{Answer, Call, Config, HashSecret, Refusal};
 use bm_crew::NoGate;
 use bm_lines::{MAX_LINE, answer_line, call_of};
 use bm_manager::Manager;
@@ -17,21 +17,24 @@ use std::thread::Threads;
 #[derive(Drop)]
 pub struct Session {
     pub alloc: Global,
+    /// The secret of its tables, and of those that are made for it.
+    pub secret: HashSecret,
     pub manager: Manager,
     pub book: Book,
 }
 
 impl Session {
-    /// The session before the first line.
+    /// The session before the first line. Its tables hash by this secret.
     #[tactic(auto, unfolding(bm_base::specs::Machine::State::empty_holdings))]
-    pub fn new(alloc: Global, config: &Config) -> Result<Session, Refusal>
+    pub fn new(alloc: Global, config: &Config, secret: HashSecret) -> Result<Session, Refusal>
         ensures state { IfOk result (λ s. s.manager ≡ first_state config.now) }
         ensures in_step { IfOk result IsInStep }
     {
-        let manager = Manager::new(alloc, *config)?;
-        match Book::new(alloc, config) {
+        let manager = Manager::with_secret(alloc, *config, secret)?;
+        match Book::new(alloc, config, secret) {
             Ok(book) => Ok(Session {
                 alloc,
+                secret,
                 manager,
                 book,
             }),

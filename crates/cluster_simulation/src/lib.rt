@@ -59,7 +59,7 @@ mod shape;
 mod simulation;
 pub mod svg;
 
-use bm_base::Refusal;
+use bm_base::{HashSecret, Refusal};
 use clap::Error;
 use clap::error::ErrorKind;
 use cluster_progress::Progress;
@@ -73,6 +73,7 @@ use simulation::Simulation;
 use std::alloc::Global;
 use std::io;
 use std::io::Write;
+use std::random::RandomSource;
 use std::sync::Wait;
 use std::thread::Threads;
 use svg::svg_text;
@@ -85,7 +86,7 @@ const MISUSED: u8 = 2;
 
 /// Runs the command line in `words`, the program's name first, and writes to standard output. The
 /// result is the exit status.
-pub fn simulate_by_words<R: Print + Eprint + AllocGlobal + Threads + Wait + Sync>(
+pub fn simulate_by_words<R: Print + Eprint + AllocGlobal + Threads + Wait + RandomSource + Sync>(
     rt: &R,
     words: &[String],
 ) -> u8 {
@@ -114,7 +115,7 @@ fn print_fault<R: Eprint>(rt: &R, fault: Fault) -> u8 {
     FAULTED
 }
 
-fn simulate<R: Print + Eprint + AllocGlobal + Threads + Wait + Sync>(
+fn simulate<R: Print + Eprint + AllocGlobal + Threads + Wait + RandomSource + Sync>(
     rt: &R,
     asked: Arguments,
 ) -> Result<(), Fault> {
@@ -130,7 +131,7 @@ fn simulate<R: Print + Eprint + AllocGlobal + Threads + Wait + Sync>(
 }
 
 /// Writes the table or the picture of all rounds.
-fn write_result<R: Eprint + Threads + Wait + Sync>(
+fn write_result<R: Eprint + Threads + Wait + RandomSource + Sync>(
     rt: &R,
     alloc: Global,
     asked: Arguments,
@@ -151,15 +152,16 @@ fn write_result<R: Eprint + Threads + Wait + Sync>(
     Ok(text)
 }
 
-/// The counts of each round.
-fn all_rounds<R: Eprint + Threads + Wait + Sync>(
+/// The counts of each round. The tables hash by a secret that is drawn here, on which no count
+/// depends.
+fn all_rounds<R: Eprint + Threads + Wait + RandomSource + Sync>(
     rt: &R,
     alloc: Global,
     options: &Options,
     plan: &Plan,
     progress: &mut Progress,
 ) -> Result<Vec<Counts>, Refusal> {
-    let mut simulation = Simulation::new(alloc)?;
+    let mut simulation = Simulation::new(alloc, HashSecret::draw(rt))?;
     let mut rows = Vec::new(alloc);
     let taken = take_all_rounds(rt, &mut simulation, options, plan, &mut rows, progress);
     drop(simulation);

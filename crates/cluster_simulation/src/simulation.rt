@@ -15,7 +15,7 @@ use crate::losses::calls_of;
 use crate::made_up_cluster::make_up_cluster;
 use crate::options::Options;
 use crate::plan::Plan;
-use bm_base::{Config, Refusal};
+use bm_base::{Config, HashSecret, Refusal};
 use cluster_repair::datanodes::DataNodes;
 use cluster_repair::repair::Pace;
 use cluster_repair::ticks::Ticks;
@@ -34,14 +34,15 @@ pub struct Simulation {
 }
 
 impl Simulation {
-    /// An empty cluster with the standard configuration. Refused only if out of memory.
-    pub fn new(alloc: Global) -> Result<Simulation, Refusal>
+    /// An empty cluster with the standard configuration, whose tables hash by this secret. Refused
+    /// only if out of memory.
+    pub fn new(alloc: Global, secret: HashSecret) -> Result<Simulation, Refusal>
         ensures { IfOk result (λ s. IsInStep s.cluster.session) }
     {
         Ok(Simulation {
             alloc,
             cluster: Cluster {
-                session: Session::new(alloc, &Config::standard())?,
+                session: Session::new(alloc, &Config::standard(), secret)?,
                 refused: 0,
             },
             watch: Watch {
@@ -111,8 +112,9 @@ impl Simulation {
         self.cluster.make_all(rt, corrupt.as_slice())?;
         let session = &self.cluster.session;
         self.watch = Watch::new(self.alloc, &session.manager, &session.book.blocks)?;
+        let topology = &session.book.topology;
         let bandwidth = options.pace.bandwidth;
-        Ok(DataNodes::new(self.alloc, &session.book.topology, bandwidth)?)
+        Ok(DataNodes::new(self.alloc, topology, bandwidth, session.secret)?)
     }
 
     /// When rounds come to DataNodes of this pace.

@@ -52,6 +52,7 @@ use page::found_page;
 use std::alloc::Global;
 use std::io;
 use std::io::Write;
+use std::random::RandomSource;
 use std::rt::Files;
 use std::sync::Wait;
 use std::thread::Threads;
@@ -68,7 +69,7 @@ const PROGRAM: &str = "what-if";
 /// Runs a command line, the program's name first. Prints the answer to standard output, and notes
 /// on refused lines to `notes`. Returns the exit status.
 pub fn losses_by_words<
-    R: Input + Print + Eprint + Files + AllocGlobal + Threads + Wait + Sync,
+    R: Input + Print + Eprint + Files + AllocGlobal + Threads + Wait + RandomSource + Sync,
     N: Print,
 >(rt: &R, notes: &N, words: &[String]) -> u8 {
     let alloc: Global = rt.alloc();

@@ -19,6 +19,7 @@ use cluster_what_if::losses_by_words;
 use fsck_import::import_by_words;
 use std::env::Env;
 use std::process::ExitCode;
+use std::random::RandomSource;
 use std::rt::Files;
 use std::sync::Wait;
 use std::thread::Threads;
@@ -47,7 +48,7 @@ fn main(rt: HostRuntime) -> ExitCode {
 }
 
 fn status_of<
-    R: Env + Input + Print + Eprint + Files + AllocGlobal + Threads + Wait + Sync,
+    R: Env + Input + Print + Eprint + Files + AllocGlobal + Threads + Wait + RandomSource + Sync,
     N: Print,
 >(rt: &R, notes: &N) -> u8 {
     match read_arguments(rt) {
@@ -76,7 +77,7 @@ fn read_arguments<R: Env + AllocGlobal>(rt: &R) -> io::Result<Vec<String>> {
 
 /// Runs the command of the first word, with the other words as its options.
 fn status_by_words<
-    R: Input + Print + Eprint + Files + AllocGlobal + Threads + Wait + Sync,
+    R: Input + Print + Eprint + Files + AllocGlobal + Threads + Wait + RandomSource + Sync,
     N: Print,
 >(rt: &R, notes: &N, words: &[String]) -> u8 {
     match words.first().map(String::as_str) {
