@@ -1,8 +1,8 @@
--- A text's first bytes show its kind if one of them is not blank, or if they are the whole text.
-use Rattle.std.proofs.Common.{◌≡◌, ℕ, zero, suc, Bool, true, false, cond, not, ◌||◌, List, [], ◌∷◌, ◌++◌, drop, length, Option, Some, None, IfSome, refl, sym, ap, subst, ◌∙◌, append-nil}
+-- A text's first bytes show its kind if one of them is not blank.
+use Rattle.std.proofs.Common.{◌≡◌, ℕ, zero, suc, Bool, true, false, cond, not, ◌||◌, List, [], ◌∷◌, ◌++◌, drop, length, Option, Some, None, IfSome, refl, sym, ap, subst, ◌∙◌}
 use Rattle.std.specs.List.{find, list_any}
 use Rattle.std.specs.Io.{StartsWith, appended_bytes}
-use Rattle.std.specs.Io.KnownBytes.{Consumes, IsAtEnd}
+use Rattle.std.specs.Io.KnownBytes.{Consumes}
 use Rattle.std.proofs.lemmas.List.{take-append-drop}
 use Rattle.std.proofs.KnownBytes.{Consumes-nil, Consumes-trans}
 use Rattle.std.proofs.lemmas.Bool.{or_right}
@@ -15,6 +15,16 @@ find_in p (x ∷ xs) ys h = by (p x) h (λ k. find_in p xs ys k)
   where
     by : (b : Bool) → (b || list_any p xs) ≡ true → (list_any p xs ≡ true → find p (xs ++ ys) ≡ find p xs)
         → cond b (Some x) (find p (xs ++ ys)) ≡ cond b (Some x) (find p xs)
+    by true k rest = refl
+    by false k rest = rest k
+
+-- a byte of the front is one of the whole
+any_in : (p : ℕ → Bool) (xs ys : List ℕ) → list_any p xs ≡ true → list_any p (xs ++ ys) ≡ true
+any_in p [] ys h = cc
+any_in p (x ∷ xs) ys h = by (p x) h (λ k. any_in p xs ys k)
+  where
+    by : (b : Bool) → (b || list_any p xs) ≡ true → (list_any p xs ≡ true → list_any p (xs ++ ys) ≡ true)
+        → (b || list_any p (xs ++ ys)) ≡ true
     by true k rest = refl
     by false k rest = rest k
 
@@ -43,17 +53,12 @@ head_found (Some text) None head h found = absurd h
 head_found (Some text) (Some rest) head h found = record {
   rest = rest;
   left_is = refl;
-  begins = record { parts = h; alike = alike_here head rest found ∙ ap are_lines (sym h) };
+  begins = record {
+    filled = ap (list_any any_of) h ∙ any_in any_of head rest found;
+    parts = h;
+    alike = alike_here head rest found ∙ ap are_lines (sym h);
+  };
 }
-
--- or the head is the whole text
-pub head_whole : (known left : Option (List ℕ)) (head : List ℕ) → Consumes known left head → IsAtEnd left
-    → IfSome known (λ text. IsHeadOf text head left)
-head_whole None left head h done = tt
-head_whole (Some text) None head h done = absurd h
-head_whole (Some text) (Some rest) head h done =
-    let whole : text ≡ head = h ∙ ap (λ t. head ++ t) done ∙ append-nil head in
-    record { rest = rest; left_is = refl; begins = record { parts = h; alike = ap are_lines (sym whole) } }
 
 pub any_dropped : (n : ℕ) (xs : List ℕ) → list_any any_of (drop n xs) ≡ true → list_any any_of xs ≡ true
 any_dropped zero xs h = h

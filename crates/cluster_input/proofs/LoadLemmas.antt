@@ -9,7 +9,7 @@ use Rattle.fsck_import.specs.TextReading.{reading_of}
 use Rattle.fsck_import.specs.declared.text_reader.Reading.{Reading}
 use Rattle.cluster_input.specs.ClusterNames.{names_of}
 use Rattle.cluster_input.specs.Inputs.{IsAfter, IsRead, accepts, accepts_as, notes_as, notes_on}
-use Rattle.cluster_input.specs.Kinds.{are_lines, IsHeadOf}
+use Rattle.cluster_input.specs.Kinds.{are_lines, has_word, IsHeadOf}
 use Rattle.cluster_input.specs.MadeCalls.{Makes}
 use Rattle.cluster_input.specs.declared.loaded_cluster.Loaded.{Loaded}
 
@@ -23,6 +23,23 @@ through_head (Some text) left head P h p =
     let all : option_append (Some head) left ≡ Some text =
     ap (option_append (Some head)) h.left_is ∙ ap Some (sym h.begins.parts) in
     subst (λ c. P c text) h.begins.alike (subst (λ w. IfSome w (P (are_lines head))) all p)
+
+-- a text whose head was read is not blank
+pub filled_through : {A E : Type 0} (r : Result A E) (known left : Option (List ℕ)) (head : List ℕ)
+    → IfSome known (λ text. IsHeadOf text head left) → OnOk r (IfSome known (λ text. has_word text ≡ true))
+filled_through (Ok _) None left head h = tt
+filled_through (Ok _) (Some text) left head h = h.begins.filled
+filled_through (Err _) known left head h = tt
+
+-- lines after a head were taken as those of the text
+pub more_through : {A E : Type 0} (r : Result A E) (known left : Option (List ℕ)) (head shown : List ℕ) (P : List ℕ → Type 0)
+    → shown ≡ head
+    → IfSome known (λ text. IsHeadOf text head left)
+    → OnOk r (IfSome (option_append (Some shown) left) P)
+    → OnOk r (IfSome known P)
+more_through (Ok _) known left head shown P e h p =
+    through_head known left shown (λ b text. P text) (subst (λ xs. IfSome known (λ text. IsHeadOf text xs left)) (sym e) h) p
+more_through (Err _) known left head shown P e h p = tt
 
 pub after_through : (known left : Option (List ℕ)) (head shown : List ℕ) (start : Reading) (remaining : ℕ) (old new : Loaded)
     → shown ≡ head

@@ -9,6 +9,9 @@ pub enum Fault {
     Memory,
     #[error("read fault")]
     Read,
+    /// A text has nothing but blanks.
+    #[error("the text is empty: give lines of the line tool, or a text of hdfs fsck")]
+    Empty,
     /// A note on a refused line could not be written.
     #[error("write fault")]
     Write,

@@ -7,8 +7,8 @@ use crate::fault::Fault;
 use cluster_report::line_reader::read_fault;
 use std::io::BufRead;
 
-/// Reads the lines of a text up to the first one that is not blank.
-#[tactic(auto, using(crate::proofs::HeadLemmas::head_whole, crate::proofs::HeadLemmas::none_read))]
+/// Reads the lines of a text up to the first one that is not blank. A text without one is refused.
+#[tactic(auto, using(crate::proofs::HeadLemmas::none_read))]
 pub fn read_head<R: BufRead>(reader: &mut R, head: &mut Vec<u8>) -> Result<(), Fault>
     requires { head.old.items ≡ [] }
     ensures { OnOk result (IfSome (R.remaining reader.old) (λ text.
@@ -17,7 +17,7 @@ pub fn read_head<R: BufRead>(reader: &mut R, head: &mut Vec<u8>) -> Result<(), F
     for _ in 0..u64::MAX {
         let start = head.len();
         match reader.read_until(b'\n', head) {
-            Ok(0) => return Ok(()),
+            Ok(0) => return Err(Fault::Empty),
             Ok(_) => {}
             Err(error) => return Err(Fault::from(read_fault(&error))),
         }
@@ -54,7 +54,7 @@ fn is_brace(first: Option<u8>) -> bool
 {
     match first {
         Some(byte) => byte == b'{',
-        None => true,
+        None => false,
     }
 }
 

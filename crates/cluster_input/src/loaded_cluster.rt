@@ -1,5 +1,5 @@
 // A loaded cluster.
-ghost use Rattle.std.specs.Prelude.{◌≡◌, Some, IfOk, IfSome, OnOk};
+ghost use Rattle.std.specs.Prelude.{◌≡◌, Some, true, IfOk, IfSome, OnOk};
 ghost use Rattle.bm_base.specs.Words.{Appends, first_state};
 ghost use Rattle.std.specs.Fmt.{option_append};
 ghost use Rattle.bm_lines.specs.Lines.{lines_of};
@@ -8,7 +8,7 @@ ghost use Rattle.cluster_report.specs.Sessions.{IsInStep};
 ghost use Rattle.cluster_report.specs.LineNotes.{IsAllAccepted, notes_text};
 ghost use Rattle.fsck_import.specs.CallsFor.{calls_for};
 ghost use Rattle.cluster_input.specs.ClusterNames.{names_of, no_names};
-ghost use Rattle.cluster_input.specs.Kinds.{are_lines};
+ghost use Rattle.cluster_input.specs.Kinds.{are_lines, has_word};
 ghost use Rattle.cluster_input.specs.Inputs.{IsAfter, IsRead, AreTaken, accepts, accepts_as, notes_as, notes_on};
 ghost use Rattle.cluster_input.specs.MadeCalls.{Makes};
 
@@ -77,6 +77,8 @@ impl Loaded {
         ensures notes { OnOk result (IfSome (R.remaining reader.old) (λ text.
             Appends (N.contents notes.old) (N.contents notes.new)
             (notes_on self.old.session.manager text))) }
+        // A text with nothing but blanks is refused.
+        ensures filled { OnOk result (IfSome (R.remaining reader.old) (λ text. has_word text ≡ true)) }
         ensures in_step { OnOk result (IsInStep self.new.session) }
     {
         let mut head = Vec::new(self.session.alloc);
@@ -144,8 +146,32 @@ impl Loaded {
         Ok(true)
     }
 
+    /// Reads lines of the tool from a text that is not blank.
+    pub fn take_more<R: BufRead, N: Write, H: Threads + Wait + Sync>(
+        &mut self,
+        rt: &H,
+        reader: &mut R,
+        notes: &mut N,
+    ) -> Result<bool, Fault>
+        requires { IsInStep self.old.session }
+        ensures state { OnOk result (IfSome (R.remaining reader.old) (λ text.
+            AreTaken text self.old self.new)) }
+        ensures accepted { IfOk result (λ all.
+            IsAllAccepted all self.old.session.manager (R.remaining reader.old)) }
+        ensures notes { OnOk result (IfSome (R.remaining reader.old) (λ text.
+            Appends (N.contents notes.old) (N.contents notes.new)
+            (notes_text 1 self.old.session.manager (lines_of text)))) }
+        ensures filled { OnOk result (IfSome (R.remaining reader.old) (λ text. has_word text ≡ true)) }
+        ensures in_step { OnOk result (IsInStep self.new.session) }
+    {
+        let mut head = Vec::new(self.session.alloc);
+        read_head(reader, &mut head)?;
+        let mut whole = head.as_slice().chain(reader);
+        self.take_lines(rt, &mut whole, notes)
+    }
+
     /// Reads lines of the tool.
-    pub fn take_lines<R: BufRead, N: Write, H: Threads + Wait + Sync>(
+    fn take_lines<R: BufRead, N: Write, H: Threads + Wait + Sync>(
         &mut self,
         rt: &H,
         reader: &mut R,

@@ -271,7 +271,7 @@ fn take_other<R: Eprint + Files + AllocGlobal + Threads + Wait + Sync, W: Write>
     ensures { IfSome result (λ all. IsInStep loaded.new.session) }
 {
     let mut reader = open_file(console, Some(console.meter), path)?;
-    match loaded.take_lines(console.rt, &mut reader, notes) {
+    match loaded.take_more(console.rt, &mut reader, notes) {
         Ok(true) => Some(true),
         Ok(false) => {
             let (rt, program) = (console.rt, console.program);

@@ -1,5 +1,5 @@
 -- The counts of what was read, and the numbers of the summary.
-use Rattle.std.specs.Prelude.{ℕ, ◌==◌, ◌&&◌, Bool, true, false, if◌then◌else◌}
+use Rattle.std.specs.Prelude.{ℕ, ◌==◌, ◌&&◌, ◌||◌, nat_lt, Bool, true, false, if◌then◌else◌}
 use Rattle.fsck_text.specs.declared.summary.Count.{Count}
 use Rattle.fsck_text.specs.declared.summary.Count.TheVariants as count
 use Rattle.fsck_files.specs.Skips.{plus}
@@ -26,6 +26,10 @@ with_missing c is_coded =
 abbrev pub with_corrupt : Counts → Bool → Counts
 with_corrupt c is_coded =
     if is_coded then record c { corrupt_groups = plus c.corrupt_groups 1 } else record c { corrupt = plus c.corrupt 1 }
+
+-- a block or a group was read, or a heading announces one
+abbrev pub has_blocks : Counts → Bool
+has_blocks c = nat_lt 0 c.blocks || nat_lt 0 c.groups
 
 -- fsck reports all files as healthy if no block is missing or corrupt
 abbrev pub is_healthy : Counts → Bool

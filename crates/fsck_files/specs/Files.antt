@@ -1,5 +1,5 @@
 -- The files of a text, line by line.
-use Rattle.std.specs.Prelude.{◌≡◌, ⊤, ℕ, ◌+◌, ◌==◌, ◌&&◌, Bool, true, false, not, max, nat_lt, length, List, [], Option, Some, None, unwrap_or, Result, Ok, Err, if◌then◌else◌}
+use Rattle.std.specs.Prelude.{◌≡◌, ⊤, ℕ, ◌+◌, ◌==◌, ◌&&◌, ◌||◌, Bool, true, false, not, max, nat_lt, length, List, [], Option, Some, None, unwrap_or, Result, Ok, Err, if◌then◌else◌}
 use Rattle.std.specs.Option.{option_map_or}
 use Rattle.fsck_text.specs.Cuts.{Text}
 use Rattle.fsck_text.specs.Blocks.{block_of, corrupt_block, is_missing, is_being_written}
@@ -17,7 +17,7 @@ use Rattle.fsck_text.specs.declared.summary.Count.{Count}
 use Rattle.fsck_text.specs.declared.reason.Fault.{Fault}
 use Rattle.fsck_text.specs.declared.reason.Fault.TheVariants as text_fault
 use Rattle.fsck_text.specs.declared.reason.Wrong.{Wrong}
-use Rattle.fsck_files.specs.Counts.{no_counts, none_summed, with_blocks, with_missing, with_corrupt, is_healthy, number_of, with_sum}
+use Rattle.fsck_files.specs.Counts.{no_counts, none_summed, with_blocks, with_missing, with_corrupt, has_blocks, is_healthy, number_of, with_sum}
 use Rattle.fsck_files.specs.Numbers.{has_number, with_number}
 use Rattle.fsck_files.specs.Replicas.{claims, are_unmarked, maintained}
 use Rattle.fsck_files.specs.Skips.{kind_of, skips, left_out_with, over_replicated, plus}
@@ -177,11 +177,15 @@ after_unlisted s files = if is_summary s.section then record s { unlisted = plus
 abbrev pub agrees : Bool → Bool → Bool
 agrees first second = if first then second else not second
 
+-- a text of one path alone has blocks, a text of all files may have none
+abbrev pub behind : Files → Bool → After
+behind s of_all =
+    if of_all || has_blocks s.counts then Ok (record s { section = section.Behind; is_of_all = of_all }) else Err why.NoBlock
+
 -- the text ends if its summary and its last line report the health of the blocks that were read
 abbrev pub ended : Files → Bool → Bool → After
 ended s healthy of_all =
-    if agrees (is_healthy s.counts) healthy && agrees s.is_healthy healthy
-    then Ok (record s { section = section.Behind; is_of_all = of_all }) else Err why.OtherHealth
+    if agrees (is_healthy s.counts) healthy && agrees s.is_healthy healthy then behind s of_all else Err why.OtherHealth
 
 -- the last line of fsck comes after a summary with the numbers of blocks and of corrupt blocks
 abbrev pub after_last : Files → Bool → Bool → After

@@ -1,6 +1,6 @@
 // The counts of what was read, and the numbers of the summary.
 ghost use Rattle.std.specs.Prelude.{◌≡◌};
-ghost use Rattle.fsck_files.specs.Counts.{no_counts, none_summed, with_blocks, with_missing, with_corrupt, is_healthy, number_of, with_sum};
+ghost use Rattle.fsck_files.specs.Counts.{no_counts, none_summed, with_blocks, with_missing, with_corrupt, has_blocks, is_healthy, number_of, with_sum};
 
 use crate::skips::add_saturating;
 use fsck_text::Count;
@@ -81,6 +81,13 @@ impl Counts {
                 ..self
             }
         }
+    }
+
+    /// Whether a block or a group was read, or a heading announces one.
+    pub fn has_blocks(self) -> bool
+        ensures { result ≡ has_blocks self }
+    {
+        self.blocks > 0 || self.groups > 0
     }
 
     /// Whether fsck would report all files as healthy.

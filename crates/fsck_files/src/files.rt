@@ -362,6 +362,9 @@ impl Files {
         if self.counts.is_healthy() != is_healthy || self.is_healthy != is_healthy {
             return Err(Why::OtherHealth);
         }
+        if !is_of_all && !self.counts.has_blocks() {
+            return Err(Why::NoBlock);
+        }
         self.section = Section::Behind;
         self.is_of_all = is_of_all;
         Ok(())

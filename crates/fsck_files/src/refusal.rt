@@ -47,6 +47,9 @@ pub enum Why {
     NoCorruptSum,
     #[error("the summary or the last line says of the health what was not read: run fsck again while nobody writes")]
     OtherHealth,
+    /// The text says nothing of the cluster.
+    #[error("the text is of one path alone, and that has no block: run fsck on / or on a path with blocks")]
+    NoBlock,
     #[error("the text ends before the last line of fsck: give its whole output; --nodes reads a text of hdfs dfsadmin -report")]
     CutOff,
 }
