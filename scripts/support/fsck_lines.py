@@ -5,6 +5,7 @@ All is computed from the cluster and from what its text shows, and never from th
 """
 
 import json
+import re
 from dataclasses import dataclass
 
 from fsck_cluster import (
@@ -253,16 +254,22 @@ def expected(cluster: Cluster, call: Fsck, options: Import = Import()) -> list[s
     return lines + drain_lines(numbering, call, options)
 
 
+def printed(name: str) -> str:
+    """A name as it is printed: each control character and each backslash by its number."""
+    return re.sub(r"[\x00-\x1f\x7f-\x9f\\]", lambda it: f"\\x{ord(it[0]):02x}", name)
+
+
 def names(cluster: Cluster, call: Fsck, options: Import = Import()) -> list[str]:
     """The table of names that the import has to write."""
     numbering = Numbering(cluster, call, options)
     lines = []
     for number, node in numbering.nodes.values():
         rack = numbering.rack(node)
-        lines.append(f"node\t{number}\t{node.address}\t{numbering.racks[rack]}\t{rack}")
+        row = ["node", str(number), node.address, str(numbering.racks[rack]), rack]
+        lines.append("\t".join(printed(it) for it in row))
     for name, (number, node) in numbering.storages.items():
-        on = numbering.nodes[node.address][0]
-        lines.append(f"storage\t{number}\t{name}\t{on}\t{node.address}")
+        row = ["storage", str(number), name, str(numbering.nodes[node.address][0]), node.address]
+        lines.append("\t".join(printed(it) for it in row))
     return lines
 
 
@@ -271,7 +278,7 @@ def file_rows(cluster: Cluster, call: Fsck, options: Import = Import()) -> list[
     taken block."""
     taken = {it.block.number for it in taken_blocks(cluster, call, options)}
     return [
-        f"{file.path}\t{index}\t{block.number}"
+        f"{printed(file.path)}\t{index}\t{block.number}"
         for file in shown_files(cluster, call)
         if not is_skipped(file, call, options)
         for index, block in enumerate(file.blocks)

@@ -3,6 +3,7 @@ use Rattle.std.specs.Prelude.{ℕ, ◌++◌, ◌∷◌, [], fold, if◌then◌el
 use Rattle.cluster_names.specs.Rows.{Rows, is_free}
 use Rattle.cluster_names.specs.declared.names.Names.{Names}
 use Rattle.fsck_text.specs.Cuts.{Text}
+use Rattle.fsck_text.specs.Escapes.{escaped}
 use Rattle.fsck_cluster.specs.Names.{name_of}
 use Rattle.fsck_cluster.specs.declared.cluster.Cluster.{Cluster}
 use Rattle.fsck_cluster.specs.declared.cluster.NodeRow.{NodeRow}
@@ -11,9 +12,13 @@ use Rattle.fsck_cluster.specs.declared.rows.Row.{Row}
 abbrev pub no_names : Names
 no_names = record { racks = []; nodes = []; storages = [] }
 
--- with one more name, unless the number or the name is known
+-- with one more number and name, unless one of them is known
+abbrev pub with_row : Rows → ℕ → Text → Rows
+with_row rows number name = if is_free rows number name then rows ++ (number, name) ∷ [] else rows
+
+-- with one more name, as it is printed
 abbrev pub with_name : Rows → ℕ → Text → Rows
-with_name rows number name = if is_free rows number name then rows ++ (number, name) ∷ [] else rows
+with_name rows number name = with_row rows number (escaped name)
 
 -- with a node and its rack
 abbrev pub with_node : Cluster → Names → NodeRow → Names

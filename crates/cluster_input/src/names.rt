@@ -1,12 +1,13 @@
 // The names of a loaded cluster.
 ghost use Rattle.std.specs.Prelude.{◌≡◌, fold, IfOk, OnOk};
-ghost use Rattle.cluster_input.specs.ClusterNames.{names_of, with_node, with_storage};
+ghost use Rattle.cluster_input.specs.ClusterNames.{names_of, with_name, with_node, with_storage};
 
-use cluster_names::Names;
+use cluster_names::{NameTable, Names};
 use fsck_cluster::{Cluster, NodeRow, Row};
+use fsck_text::escaped;
 use std::alloc::{AllocError, Global};
 
-/// The names of racks, nodes and storages by their numbers.
+/// The names of racks, nodes and storages as they are printed, by their numbers.
 pub fn names_of(alloc: Global, cluster: &Cluster) -> Result<Names, AllocError>
     ensures { IfOk result (λ names. names ≡ names_of cluster.now) }
 {
@@ -35,13 +36,8 @@ fn add_node(
 ) -> Result<(), AllocError>
     ensures { OnOk result (names.new ≡ with_node cluster.now names.old row.now) }
 {
-    let _ = names
-        .racks
-        .add(alloc, row.rack, cluster.racks.name(row.rack))?;
-    let _ = names
-        .nodes
-        .add(alloc, row.number, cluster.nodes.name(row.number))?;
-    Ok(())
+    add_name(alloc, &mut names.racks, row.rack, cluster.racks.name(row.rack))?;
+    add_name(alloc, &mut names.nodes, row.number, cluster.nodes.name(row.number))
 }
 
 fn add_storages(alloc: Global, names: &mut Names, cluster: &Cluster) -> Result<(), AllocError>
@@ -62,8 +58,19 @@ fn add_storage(
 ) -> Result<(), AllocError>
     ensures { OnOk result (names.new ≡ with_storage cluster.now names.old row.now) }
 {
-    let _ = names
-        .storages
-        .add(alloc, row.number, cluster.storages.name(row.number))?;
+    add_name(alloc, &mut names.storages, row.number, cluster.storages.name(row.number))
+}
+
+/// Adds a number with its name as it is printed, unless one of them is known.
+fn add_name(
+    alloc: Global,
+    names: &mut NameTable,
+    number: u32,
+    name: &str,
+) -> Result<(), AllocError>
+    ensures { OnOk result (names.new ≡ with_name names.old number name.now) }
+{
+    let printed = escaped(alloc, name)?;
+    let _ = names.add(alloc, number, printed.as_str())?;
     Ok(())
 }

@@ -1,14 +1,14 @@
 // The faults that end a run.
 use fsck_cluster::NodeWhy;
-use fsck_text::{Reason, Wrong, column_of};
+use fsck_text::{Reason, Wrong, column_of, escaped};
 use std::alloc::{AllocError, Global};
 use std::io::ErrorKind;
 use std::marker::Model;
 use std::{fmt, io};
 use thiserror::Error;
 
-/// A word that cannot be parsed, and its first column, in bytes from 1. An empty word is the end of
-/// the line.
+/// A word that cannot be parsed, as it is printed, and its first column, in bytes from 1. An empty
+/// word is the end of the line.
 #[derive(Debug, Drop)]
 pub struct Quoted {
     column: usize,
@@ -40,7 +40,7 @@ impl Quoted {
         let word = wrong.word.text();
         Ok(Quoted {
             column: column_of(line, word),
-            word: String::from_str(alloc, word)?,
+            word: escaped(alloc, word)?,
             why: wrong.why,
         })
     }

@@ -4,7 +4,7 @@ ghost use Rattle.fsck_import.specs.Listings.{no_listing, headed, with_listed};
 
 use bm_base::BlockId;
 use cluster_names::Files;
-use fsck_text::parse_path;
+use fsck_text::{escaped, parse_path};
 use std::alloc::{AllocError, Global};
 use std::marker::Model;
 use std::mem;
@@ -58,7 +58,7 @@ impl Listing {
         mem::swap(&mut self.files, others);
     }
 
-    /// Takes the path, if a line is the heading of a file.
+    /// Takes the path as it is printed, if a line is the heading of a file.
     pub fn take_line(&mut self, alloc: Global, line: &str) -> Result<(), AllocError>
         ensures { OnOk result (self.new ≡ headed self.old line.now) }
     {
@@ -66,7 +66,7 @@ impl Listing {
             return Ok(());
         }
         if let Some(path) = parse_path(line) {
-            self.path = String::from_str(alloc, path)?;
+            self.path = escaped(alloc, path)?;
         }
         Ok(())
     }

@@ -1,5 +1,6 @@
 -- The meaning of a line of fsck, or of the report on DataNodes.
 pub mod Cuts
+pub mod Escapes
 pub mod Wrongs
 pub mod Marks
 pub mod Places

@@ -7,6 +7,7 @@
 
 mod block;
 mod cuts;
+mod escape;
 mod heading;
 mod line;
 mod list;
@@ -19,6 +20,7 @@ mod summary;
 
 pub use block::{BlockLine, corrupt_block, is_being_written, is_missing, parse_block};
 pub use cuts::{column_of, cut_at, last_cut_at, parse_number, parse_small_number};
+pub use escape::escaped;
 pub use heading::{Heading, Layout};
 pub use line::{Line, parse_line};
 pub use list::{ListedReplica, parse_list};
