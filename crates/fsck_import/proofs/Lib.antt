@@ -16,5 +16,6 @@ pub mod ReportLemmas
 pub mod SpareLemmas
 pub mod BlockCalls
 pub mod StartLemmas
+pub mod FeedLemmas
 pub mod TextBlocks
 pub mod ImportLemmas

@@ -1,8 +1,9 @@
 -- The output of a whole run, and the faults that end it.
-use Rattle.std.specs.Prelude.{◌≡◌, ⊤, ℕ, List, [], ◌∷◌, ◌++◌, option_to_list, Option, IfSome, Result, Ok, Err, IsOk}
+use Rattle.std.specs.Prelude.{◌≡◌, ⊤, ℕ, List, [], ◌∷◌, ◌++◌, option_to_list, Option, IfSome, Result, Ok, Err, IsOk, if◌then◌else◌}
 use Rattle.std.specs.Io.KnownBytes.{Appends}
 use Rattle.bm_lines.specs.Lines.{lines_of}
 use Rattle.fsck_text.specs.Cuts.{Text}
+use Rattle.fsck_text.specs.Feeds.{joined, goes_on, whole_line}
 use Rattle.fsck_files.specs.Files as files
 use Rattle.fsck_files.specs.declared.files.Files.{Files}
 use Rattle.fsck_files.specs.declared.refusal.Refusal.{Refusal}
@@ -23,15 +24,22 @@ abbrev pub taken : (Files → List Block) → Result (Files × Option Block) Ref
 taken next (Ok p) = option_to_list p.1 ++ next p.0
 taken next (Err r) = []
 
+-- the blocks that these lines add, after the lines of a path so far
+abbrev pub blocks_after : Text → Files → List Text → List Block
+blocks_after path f [] = []
+blocks_after path f (line ∷ lines) =
+    let text = without_end 13 line in
+    if goes_on (joined path text) then blocks_after (joined path text) f lines
+    else taken (λ g. blocks_after [] g lines) (files.after_line f (whole_line (joined path text) text))
+
 -- the blocks that these lines add
-abbrev pub blocks_of : Files → List Text → List Block
-blocks_of f [] = []
-blocks_of f (line ∷ lines) = taken (λ g. blocks_of g lines) (files.after_line f (without_end 13 line))
+abbrev pub blocks_of : Reading → Text → List Block
+blocks_of start text = blocks_after start.path start.files (lines_of text)
 
 -- the calls for what was read describe the blocks of the text, if the start has no block
 abbrev pub HasBlocks : Reading → Text → Reading → Type 0
 HasBlocks start text read =
-    (remaining : ℕ) → IsFresh start.cluster → DescribesBlocks start.cluster (blocks_of start.files (lines_of text)) read.cluster remaining
+    (remaining : ℕ) → IsFresh start.cluster → DescribesBlocks start.cluster (blocks_of start text) read.cluster remaining
 
 -- the lines that were written are the calls for the cluster of a text
 pub record WritesText (text : Text) (start : Reading) (remaining : ℕ) (old new : Option Text) : Type 0 where
@@ -40,7 +48,7 @@ pub record WritesText (text : Text) (start : Reading) (remaining : ℕ) (old new
   -- the line tool reads the calls for the cluster
   pub writes : WritesCalls (calls_for read.cluster remaining) old new
   -- the calls describe the blocks that are taken, if the start has no block
-  pub blocks : IsFresh start.cluster → DescribesBlocks start.cluster (blocks_of start.files (lines_of text)) read.cluster remaining
+  pub blocks : IsFresh start.cluster → DescribesBlocks start.cluster (blocks_of start text) read.cluster remaining
 
 -- what was written is the table of the names of a text
 pub record WritesNames (text : Text) (start : Reading) (old new : Option Text) : Type 0 where

@@ -1,6 +1,7 @@
 -- The cluster of a whole text.
 use Rattle.std.specs.Prelude.{◌≡◌, ⊤, ℕ, ◌-◌, Bool, [], Option, Some, None, IfSome, Result, Ok, Err, if◌then◌else◌}
 use Rattle.fsck_text.specs.Cuts.{Text}
+use Rattle.fsck_text.specs.Feeds.{joined, goes_on, whole_line}
 use Rattle.fsck_text.specs.Wrongs.{after_ok}
 use Rattle.fsck_files.specs.Files as files
 use Rattle.fsck_files.specs.declared.files.Files.{Files}
@@ -33,7 +34,8 @@ use Rattle.fsck_import.specs.declared.text_reader.Reading.{Reading}
 
 -- before the first line: the known nodes, and whether the files of blocks are kept
 abbrev pub beginning : Cluster → Skips → Unclear → Bool → Reading
-beginning known skips unclear kept = record { files = files.no_files skips unclear; cluster = known; listing = no_listing kept }
+beginning known skips unclear kept =
+    record { files = files.no_files skips unclear; cluster = known; listing = no_listing kept; path = [] }
 
 -- why a line is refused
 abbrev pub cause_of : Text → Refusal → Cause
@@ -47,7 +49,7 @@ IsFileFault (fault.Refused c) line file_fault.Memory = ⊥
 IsFileFault (fault.Refused c) line (file_fault.Refused r) = c ≡ cause_of line r
 
 abbrev pub with_cluster : Files → Listing → After → Result Reading Cause
-with_cluster f l (Ok c) = Ok (record { files = f; cluster = c; listing = l })
+with_cluster f l (Ok c) = Ok (record { files = f; cluster = c; listing = l; path = [] })
 with_cluster f l (Err w) = Err (cause.Cluster w)
 
 -- with one more block, the last one read so far of its file
@@ -55,13 +57,19 @@ abbrev pub after_taken : Files → Listing → Cluster → Block → Result Read
 after_taken f l c b = with_cluster f (with_listed l b.id (f.file.read - 1)) (after_block c b)
 
 abbrev pub with_taken : Text → Listing → Cluster → Result (Files × Option Block) Refusal → Result Reading Cause
-with_taken line l c (Ok (f, None)) = Ok (record { files = f; cluster = c; listing = l })
+with_taken line l c (Ok (f, None)) = Ok (record { files = f; cluster = c; listing = l; path = [] })
 with_taken line l c (Ok (f, Some b)) = after_taken f l c b
 with_taken line l c (Err r) = Err (cause_of line r)
 
--- after one more line of fsck
+-- after a whole line of fsck
+abbrev pub after_whole : Reading → Text → Result Reading Cause
+after_whole s line = with_taken line (headed s.listing line) s.cluster (files.after_line s.files line)
+
+-- after one more line of fsck, which may go on or end a path with line feeds
 abbrev pub after_line : Reading → Text → Result Reading Cause
-after_line s line = with_taken line (headed s.listing line) s.cluster (files.after_line s.files line)
+after_line s line =
+    if goes_on (joined s.path line) then Ok (record s { path = joined s.path line })
+    else after_whole s (whole_line (joined s.path line) line)
 
 -- at the end of the text, if its last line was read; each known node gets a storage
 abbrev pub at_end : Reading → Result Reading Cause

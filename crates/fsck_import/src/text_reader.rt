@@ -1,7 +1,7 @@
 // Reads a whole text of fsck, and a whole report on DataNodes.
-ghost use Rattle.std.specs.Prelude.{◌≡◌, Ok, Some, IfOk, OnOk, IfErr, IfSome};
+ghost use Rattle.std.specs.Prelude.{◌≡◌, [], Ok, Some, IfOk, OnOk, IfErr, IfSome};
 ghost use Rattle.fsck_import.specs.Causes.{IsCause};
-ghost use Rattle.fsck_import.specs.TextReading.{beginning, after_taken, at_end, ended_nodes, nodes_of, reading_of, IsFileFault, IsNodeFault, IsFaultOfReading, IsFaultOfNodes};
+ghost use Rattle.fsck_import.specs.TextReading.{beginning, after_whole, after_taken, at_end, ended_nodes, nodes_of, reading_of, IsFileFault, IsNodeFault, IsFaultOfReading, IsFaultOfNodes};
 ghost use Rattle.fsck_import.specs.Imports.{HasBlocks};
 ghost use Rattle.fsck_import.specs.Laws.{IsFresh};
 ghost use Rattle.fsck_import.specs.Lines.{IsReadFault};
@@ -11,8 +11,11 @@ use crate::lines::{TakesLines, take_lines};
 use crate::listed_files::Listing;
 use fsck_cluster::{Cluster, ClusterFault, NodeFault, NodeList, NodeRefusal};
 use fsck_files::{Block, Files, Refusal, Skips, Unclear, Why};
-use std::alloc::Global;
+use fsck_text::{goes_on, whole_line};
+use std::alloc::{AllocError, Global};
 use std::io::BufRead;
+use std::marker::Model;
+use std::mem;
 
 /// The state of reading a text of fsck, and the cluster so far.
 #[derive(Drop)]
@@ -20,6 +23,47 @@ pub struct Reading {
     pub files: Files,
     pub cluster: Cluster,
     pub listing: Listing,
+    /// The lines of a path with line feeds so far, if one is being read.
+    pub path: PathLines,
+}
+
+/// The lines of a path so far; empty if none is being read.
+#[derive(Drop)]
+pub struct PathLines {
+    text: String,
+}
+
+impl Model for PathLines {
+    ghost use Rattle.std.specs.Prelude.{string_bytes};
+    ghost use Rattle.fsck_text.specs.Cuts.{Text};
+
+    ghost Value = { Text };
+
+    ghost view = { λ p. string_bytes p.text };
+}
+
+impl PathLines {
+    ghost use Rattle.std.specs.Prelude.{◌≡◌, [], OnOk};
+    ghost use Rattle.fsck_text.specs.Feeds.{joined};
+
+    /// No line. Takes no memory.
+    fn new(alloc: Global) -> PathLines
+        ensures { result ≡ [] }
+    {
+        PathLines {
+            text: String::new(alloc),
+        }
+    }
+
+    /// Adds a line.
+    fn add(&mut self, line: &str) -> Result<(), AllocError>
+        ensures { OnOk result (self.new ≡ joined self.old line.now) }
+    {
+        if !self.text.is_empty() {
+            self.text.push('\n')?;
+        }
+        self.text.push_str(line)
+    }
 }
 
 impl TakesLines for Reading {
@@ -27,13 +71,17 @@ impl TakesLines for Reading {
 
     ghost after = { after_line };
 
+    #[tactic(auto, using(crate::proofs::FeedLemmas::first_whole))]
     fn take_line(&mut self, alloc: Global, line: &str) -> Result<(), LineFault> {
-        self.listing.take_line(alloc, line)?;
-        match self.files.take_line(alloc, line) {
-            Ok(Some(block)) => self.take_block(alloc, &block),
-            Ok(None) => Ok(()),
-            Err(fault) => Err(line_fault(alloc, line, fault)),
+        if self.path.text.is_empty() && !goes_on(line) {
+            return self.take_whole(alloc, line);
         }
+        self.path.add(line)?;
+        if goes_on(self.path.text.as_str()) {
+            return Ok(());
+        }
+        let path = mem::replace(&mut self.path, PathLines::new(alloc));
+        self.take_whole(alloc, whole_line(path.text.as_str(), line))
     }
 }
 
@@ -68,11 +116,27 @@ impl Reading {
             files: Files::new(alloc, skips, unclear),
             cluster: nodes,
             listing: Listing::new(alloc, keeps_files),
+            path: PathLines::new(alloc),
+        }
+    }
+
+    /// Takes a whole line.
+    fn take_whole(&mut self, alloc: Global, line: &str) -> Result<(), LineFault>
+        requires { self.old.path ≡ [] }
+        ensures ok { OnOk result (after_whole self.old line.now ≡ Ok self.new) }
+        ensures refused { IfErr result (λ f. IsCause f (after_whole self.old line.now)) }
+    {
+        self.listing.take_line(alloc, line)?;
+        match self.files.take_line(alloc, line) {
+            Ok(Some(block)) => self.take_block(alloc, &block),
+            Ok(None) => Ok(()),
+            Err(fault) => Err(line_fault(alloc, line, fault)),
         }
     }
 
     /// Adds a block.
     fn take_block(&mut self, alloc: Global, block: &Block) -> Result<(), LineFault>
+        requires { self.old.path ≡ [] }
         ensures ok { OnOk result (after_taken self.old.files self.old.listing self.old.cluster block.now
             ≡ Ok self.new) }
         ensures refused { IfErr result
@@ -95,6 +159,7 @@ impl Reading {
         if !self.files.is_whole() {
             return Err(LineFault::Refused(Cause::File(Why::CutOff)));
         }
+        self.path = PathLines::new(alloc);
         match self.cluster.add_spares(alloc) {
             Ok(()) => Ok(()),
             Err(ClusterFault::Memory) => Err(LineFault::Memory),

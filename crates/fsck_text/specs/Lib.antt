@@ -10,4 +10,5 @@ pub mod Headings
 pub mod Paths
 pub mod Summaries
 pub mod Lines
+pub mod Feeds
 pub mod Nodes

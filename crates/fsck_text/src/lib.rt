@@ -8,6 +8,7 @@
 mod block;
 mod cuts;
 mod escape;
+mod feed;
 mod heading;
 mod line;
 mod list;
@@ -21,6 +22,7 @@ mod summary;
 pub use block::{BlockLine, corrupt_block, is_being_written, is_missing, parse_block};
 pub use cuts::{column_of, cut_at, last_cut_at, parse_number, parse_small_number};
 pub use escape::escaped;
+pub use feed::{goes_on, whole_line};
 pub use heading::{Heading, Layout};
 pub use line::{Line, parse_line};
 pub use list::{ListedReplica, parse_list};

@@ -49,7 +49,7 @@ pub fn parse_line(line: &str) -> Result<Line<'_>, Wrong<'_>>
     summary_line(line)
 }
 
-fn begins(line: &str, text: &str) -> bool
+pub fn begins(line: &str, text: &str) -> bool
     ensures { result ≡ begins line.now text.now }
 {
     line.starts_with(text)
