@@ -1,2 +1,0 @@
--- A lemma for the tests: in their round parts, no block has two wishes.
-pub mod MergedParts
