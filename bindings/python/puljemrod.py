@@ -15,28 +15,32 @@ tool is a child process: `./puljemrod build`.
 """
 
 import ctypes
+import difflib
+import functools
 import os
 import secrets
 import select
 import subprocess
 import tempfile
+import threading
 from pathlib import Path
 
-TOP = Path(__file__).resolve().parents[2]
-LIBRARY = Path(os.environ.get("PULJEMROD_LIBRARY") or TOP / "dist/libpuljemrod.so")
-TOOL = TOP / "crates/bm_tool/out/bm_tool"
+# The engines, below the top of the repository.
+LIBRARY, TOOL = "dist/libpuljemrod.so", "crates/bm_tool/out/bm_tool"
 
 # What one run of the tool reads at most.
 MOST_LINES, MOST_BYTES = 1 << 20, 1 << 30
-# A longer line is answered by `refused 21 LongLine`.
-LONGEST_LINE = 4_194_304
 
 MEMORY_FAULT = "bm_tool: memory fault"
 
 # Codes of the library.
-OK, MEMORY, BAD_CONFIG, CLOSED, NO_TEXT = 0, 14, 15, 32, 34
+OK, MEMORY, CLOSED, NO_TEXT = 0, 14, 32, 34
 
 STANDARD = {"shards": 1, "work": 2, "invalidate": 1000, "pend": 100}
+
+# The greatest value of each option, and the least, which is 1 for those of the tool.
+GREATEST = {"shards": 64, "workers": 16, "work": 1_000, "invalidate": 1_000_000, "pend": 1_000_000}
+OF_LIBRARY = {**GREATEST, **dict.fromkeys(("first_round", "first_call", "secret"), 2**64 - 1)}
 
 
 class Fault(Exception):
@@ -58,19 +62,81 @@ class TextOwed(Fault):
     makes it."""
 
 
+def of_repository(path):
+    """A built file of the repository, or None. A copy of this file in another folder has no
+    repository: whatever happens to be in a folder near it is not run."""
+    folder = Path(__file__).resolve().parent
+    file = folder.parent.parent / path
+    return file if folder.match("bindings/python") and file.exists() else None
+
+
+def checked(options, greatest):
+    """The options, if the engine has each of them and it is a number in its range."""
+    for name, value in options.items():
+        if name not in greatest:
+            nearest = [f"do you mean {it}? " for it in difflib.get_close_matches(name, greatest, 1)]
+            raise TypeError(f"no option is called {name}; {''.join(nearest)}"
+                            f"There are {', '.join(greatest)}")
+        if not isinstance(value, int) or isinstance(value, bool):
+            raise TypeError(f"{name} is not a whole number: {value!r}")
+        least = 1 if name in GREATEST else 0
+        if not least <= value <= greatest[name]:
+            raise Fault(f"{name} is outside its range, {least:,} to {greatest[name]:,}: {value}")
+    return options
+
+
+def one_step(call):
+    """Makes a call on an engine one step: other threads wait until it has ended. A signal handler
+    that runs in the middle of a call cannot wait for it."""
+
+    @functools.wraps(call)
+    def step(self, *words):
+        with self.owner:
+            if self.turn.locked():
+                raise Fault("a signal handler cannot call a manager in the middle of a call")
+            with self.turn:
+                return call(self, *words)
+
+    return step
+
+
+class Engine:
+    """What answers lines, one call at a time."""
+
+    def __init__(self):
+        self.owner, self.turn = threading.RLock(), threading.Lock()
+
+    def __enter__(self):
+        return self
+
+    def __exit__(self, *_):
+        self.close()
+
+
 class Manager:
-    """One block manager. Not for several threads at once.
+    """One block manager. Several threads may call it: each call is one step, so that a block of
+    lines is answered with no other line between them, and the other threads wait.
 
     Its engine is the library, or the line tool as a child process. A path names the engine; without
     one it is the library if that is built, else the tool. `options` are those of the tool: shards,
-    workers, work, invalidate, pend; the library also takes first_round and first_call, and works
-    with one thread."""
+    workers, work, invalidate, pend; the library also takes first_round, first_call and secret, and
+    works with one thread.
+
+    A call may be interrupted: Ctrl-C raises KeyboardInterrupt, or Python has no memory. Then the
+    library has taken some first lines of the call, each as a whole, and goes on. The tool has
+    taken all lines or none and goes on, or every later call raises a `Fault`."""
 
     def __init__(self, tool=None, library=None, **options):
-        if library or not tool and LIBRARY.exists():
-            self.engine = Library(library or LIBRARY, **options)
+        if not tool and not library:
+            library = os.environ.get("PULJEMROD_LIBRARY") or of_repository(LIBRARY)
+            tool = of_repository(TOOL)
+        if library:
+            self.engine = Library(library, **options)
+        elif tool:
+            self.engine = Pipe(tool, options)
         else:
-            self.engine = Pipe(tool or TOOL, options)
+            raise Fault("there is no engine: give library= or PULJEMROD_LIBRARY, or tool=; "
+                        "in the repository `./puljemrod build library` makes both")
 
     def line(self, text):
         """The answer to one line, both without a line end."""
@@ -86,6 +152,7 @@ class Manager:
         return self.engine.answer(block)
 
     def close(self):
+        """Returns the memory. It may be called again."""
         self.engine.close()
 
     def __enter__(self):
@@ -110,16 +177,6 @@ class Options(ctypes.Structure):
     ]
 
 
-def options_of(given):
-    """The options with their defaults. A number that ctypes would truncate is refused."""
-    given = {**STANDARD, "secret": secrets.randbits(64), **given}
-    for name, kind in Options._fields_:
-        most = 1 << 8 * ctypes.sizeof(kind)
-        if not 0 <= given.get(name, 0) < most:
-            raise Fault(f"{name} is outside its range: {given[name]}")
-    return Options(**given)
-
-
 def load(path):
     """The functions of the library with their types."""
     try:
@@ -132,6 +189,7 @@ def load(path):
         "line": [handle, ctypes.c_char_p, size, ctypes.POINTER(size)],
         "text": [handle, ctypes.POINTER(size)],
         "answer": [handle, size, ctypes.c_void_p, size],
+        "calls": [handle, ctypes.POINTER(ctypes.c_uint64)],
         "close": [handle],
     }
     for name, arguments in types.items():
@@ -141,29 +199,67 @@ def load(path):
     return library
 
 
-class Library:
-    """One block manager. Not for several threads at once.
+class Library(Engine):
+    """One block manager in this process. Several threads may call it: each call is one step.
 
     Options are shards, work, invalidate, pend, first_round and first_call. `workers` is ignored,
     since the calling thread does all work. A `secret` is drawn if none is given: only the time of a
-    call depends on it."""
+    call depends on it.
 
-    def __init__(self, path=LIBRARY, **options):
-        self.library, self.handle, self.len = load(path), Handle(), ctypes.c_size_t()
+    An interrupt (KeyboardInterrupt, MemoryError) comes before or after a line, never within it. A
+    line that was taken counts, and `retry` has its answer. `calls` shows whether it was taken, if
+    it is an accepted event or round; any other line can be sent again."""
+
+    def __init__(self, path, **options):
+        super().__init__()
+        options = {**STANDARD, "secret": secrets.randbits(64), **checked(options, OF_LIBRARY)}
         options.pop("workers", None)
-        code = self.library.puljemrod_open(self.handle, options_of(options))
+        self.library, self.handle, self.len = load(path), Handle(), ctypes.c_size_t()
+        code = self.library.puljemrod_open(self.handle, Options(**options))
         if code == MEMORY:
             raise OutOfMemory("no memory for a new manager")
         if code != OK:
-            raise Fault(f"an option is outside its range: {options}")
+            raise Fault(f"the library refuses the options: code {code}")
 
+    @one_step
     def line(self, line):
         """The answer to one line, both bytes without a line end."""
-        return self.text(self.library.puljemrod_line(self.handle, line, len(line), self.len))
+        return self.answered(line)
 
+    @one_step
+    def answer(self, block):
+        """The answers to whole lines. Both are bytes, and each line ends with a line feed. A fault
+        has the answers before it in `answers`."""
+        answers = []
+        for line in block.split(b"\n")[:-1]:
+            try:
+                answers.append(self.answered(line) + b"\n")
+            except Fault as fault:
+                fault.answers = b"".join(answers)
+                raise
+        return b"".join(answers)
+
+    @one_step
     def retry(self):
-        """The answer to the last line again, after `TextOwed` too."""
+        """The answer to the last line that was taken, again or after `TextOwed`."""
         return self.text(self.library.puljemrod_text(self.handle, self.len))
+
+    @one_step
+    def calls(self):
+        """The number of accepted events and rounds, counted from `first_call`. This is a call too,
+        with an empty answer: ask `retry` first."""
+        calls = ctypes.c_uint64()
+        if self.library.puljemrod_calls(self.handle, calls) == CLOSED:
+            raise Fault("the manager is closed")
+        return calls.value
+
+    @one_step
+    def close(self):
+        """Returns the memory. It may be called again."""
+        self.library.puljemrod_close(self.handle)
+
+    def answered(self, line):
+        return self.text(self.library.puljemrod_line(self.handle, line, len(line), self.len))
 
     def text(self, code):
         if code == CLOSED:
@@ -176,34 +272,18 @@ class Library:
         self.library.puljemrod_answer(self.handle, 0, text, self.len.value)
         return text.raw
 
-    def answer(self, block):
-        """The answers to whole lines. Both are bytes, and each line ends with a line feed. A fault
-        has the answers before it in `answers`."""
-        answers = []
-        for line in block.split(b"\n")[:-1]:
-            try:
-                answers.append(self.line(line) + b"\n")
-            except Fault as fault:
-                fault.answers = b"".join(answers)
-                raise
-        return b"".join(answers)
 
-    def close(self):
-        """Returns the memory. It may be called again."""
-        self.library.puljemrod_close(self.handle)
-
-    def __enter__(self):
-        return self
-
-    def __exit__(self, *_):
-        self.close()
-
-
-class Pipe:
+class Pipe(Engine):
     """The line tool as a child process. It cannot go on past its limit, since its state would be
-    lost: a block that would pass it raises `TooMuch`, and the lines before stay answered."""
+    lost: a block that would pass it raises `TooMuch`, and the lines before stay answered.
+
+    An exception between the first byte written and the last one read ends it, since answers would
+    be left in the pipe and be taken for those of the next lines. Every later call raises a
+    `Fault`."""
 
     def __init__(self, tool, options):
+        super().__init__()
+        checked(options, GREATEST)
         words = [word for name, value in options.items() for word in (f"--{name}", str(value))]
         self.errors = tempfile.TemporaryFile()
         try:
@@ -213,21 +293,33 @@ class Pipe:
                 stderr=self.errors, start_new_session=True,
             )
         except OSError as error:
-            raise Fault(
-                f"the tool cannot be started ({error}); `./puljemrod build` makes it"
-            ) from None
+            raise Fault(f"the tool cannot be started: {error}") from None
         os.set_blocking(self.child.stdin.fileno(), False)
         self.lines = self.bytes = 0
+        # Why it has ended: the exception, and its text.
+        self.ended = None
 
+    @one_step
     def answer(self, block):
-        if self.child.stdout.closed:
-            raise Fault("the manager is closed")
-        left = block.count(b"\n")
-        if self.lines + left > MOST_LINES or self.bytes + len(block) > MOST_BYTES:
+        if self.ended:
+            self.refuse()
+        lines, size = self.lines + block.count(b"\n"), self.bytes + len(block)
+        if lines > MOST_LINES or size > MOST_BYTES:
             raise TooMuch(f"one run of the tool reads at most {MOST_LINES:,} lines and "
                           f"{MOST_BYTES:,} bytes")
-        self.lines += left
-        self.bytes += len(block)
+        try:
+            # From here to the last answer it counts as ended, whatever exception comes, and when.
+            self.ended = Fault, "the manager has ended: a call was interrupted, and its state is lost"
+            answers = self.exchange(block, lines - self.lines)
+            self.lines, self.bytes, self.ended = lines, size, None
+        except BaseException:
+            if self.ended:
+                self.end()
+            raise
+        return answers
+
+    def exchange(self, block, left):
+        """Writes lines and reads this number of answers."""
         source, target = self.child.stdout.fileno(), self.child.stdin.fileno()
         ready = select.poll()
         ready.register(source, select.POLLIN)
@@ -239,7 +331,8 @@ class Pipe:
                 if end == source:
                     piece = os.read(source, 1 << 20)
                     if not piece:
-                        raise self.fault()
+                        self.ended = self.fault()
+                        self.refuse()
                     answers.append(piece)
                     left -= piece.count(b"\n")
                 else:
@@ -253,20 +346,27 @@ class Pipe:
                         ready.unregister(target)
         return b"".join(answers)
 
+    def refuse(self):
+        kind, why = self.ended
+        raise kind(why)
+
     def fault(self):
+        """Why the tool ended of itself."""
         status = self.child.wait()
         self.errors.seek(0)
         text = self.errors.read().decode(errors="replace").strip()
         if MEMORY_FAULT in text:
-            return OutOfMemory(text)
-        return Fault(text or f"the tool ended with status {status}")
+            return OutOfMemory, text
+        return Fault, text or f"the tool ended with status {status}"
 
+    @one_step
     def close(self):
-        for stream in (self.child.stdin, self.child.stdout):
+        """Ends the tool. It may be called again."""
+        self.ended = Fault, "the manager is closed"
+        self.end()
+
+    def end(self):
+        self.child.kill()
+        self.child.wait()
+        for stream in (self.child.stdin, self.child.stdout, self.errors):
             stream.close()
-        try:
-            self.child.wait(5)
-        except subprocess.TimeoutExpired:
-            self.child.kill()
-            self.child.wait()
-        self.errors.close()

@@ -1,0 +1,28 @@
+"""Starts the programs fuzz_binding.py and fuzz_python.py, which need hypothesis."""
+
+import subprocess
+import sys
+from pathlib import Path
+
+from checking import want
+
+# The Python of this process, and the one that python3-hypothesis is installed for.
+PYTHONS = [sys.executable, "/usr/bin/python3"]
+
+
+def has_hypothesis(python):
+    return subprocess.run([python, "-c", "import hypothesis"], capture_output=True).returncode == 0
+
+
+def is_alike(command):
+    ended = subprocess.run([*map(str, command)], capture_output=True, text=True, timeout=1800)
+    want(ended.returncode == 0, f"status {ended.returncode}\n{ended.stdout[-4000:]}{ended.stderr[-2000:]}")
+
+
+def check_by_fuzz(report, name, program, *words):
+    """Runs a program of this folder with these words; skips the check if there is no hypothesis."""
+    python = next(filter(has_hypothesis, PYTHONS), None)
+    if python:
+        report.check(name, is_alike, [python, "-B", Path(__file__).with_name(program), *words])
+    else:
+        report.skip(name, "there is no hypothesis (python3-hypothesis)")
