@@ -277,9 +277,9 @@ class Pipe(Engine):
     """The line tool as a child process. It cannot go on past its limit, since its state would be
     lost: a block that would pass it raises `TooMuch`, and the lines before stay answered.
 
-    An exception between the first byte written and the last one read ends it, since answers would
-    be left in the pipe and be taken for those of the next lines. Every later call raises a
-    `Fault`."""
+    An exception between the first byte written and the last one read ends it, and every later call
+    raises a `Fault`. Otherwise the answers left in the pipe would be taken for those of the next
+    lines."""
 
     def __init__(self, tool, options):
         super().__init__()

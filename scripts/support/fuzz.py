@@ -14,15 +14,18 @@ def has_hypothesis(python):
     return subprocess.run([python, "-c", "import hypothesis"], capture_output=True).returncode == 0
 
 
-def is_alike(command):
+def ends_so(command, finds):
     ended = subprocess.run([*map(str, command)], capture_output=True, text=True, timeout=1800)
-    want(ended.returncode == 0, f"status {ended.returncode}\n{ended.stdout[-4000:]}{ended.stderr[-2000:]}")
+    printed = f"{ended.stdout[-4000:]}{ended.stderr[-2000:]}"
+    want((ended.returncode == 0) == (not finds), f"status {ended.returncode}\n{printed}")
+    want(all(it in printed for it in finds), f"it prints another difference: {printed}")
 
 
-def check_by_fuzz(report, name, program, *words):
-    """Runs a program of this folder with these words; skips the check if there is no hypothesis."""
+def check_by_fuzz(report, name, program, *words, finds=()):
+    """Runs a program of this folder with these words. It finds no difference, or one that it prints
+    with these texts. The check is skipped if there is no hypothesis."""
     python = next(filter(has_hypothesis, PYTHONS), None)
     if python:
-        report.check(name, is_alike, [python, "-B", Path(__file__).with_name(program), *words])
+        report.check(name, ends_so, [python, "-B", Path(__file__).with_name(program), *words], finds)
     else:
         report.skip(name, "there is no hypothesis (python3-hypothesis)")

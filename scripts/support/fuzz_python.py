@@ -3,9 +3,10 @@
     scripts/support/fuzz_python.py [--examples N] [--seed N] --library PATH | --tool PATH
 
 The library is one that is linked with refused_malloc.c. The calls are lines and blocks of lines
-from several threads, queries of several threads at once, closes and calls after them, new managers
-that read the log of all lines so far, interrupts at any step of the binding's code and, of the
-library, refused allocations. A difference is reduced by hypothesis to few calls, which are printed.
+from several threads, queries of several threads at once, and interrupts at any step of the binding's
+code. Managers are closed, called after that, and made again from the log of all lines so far. The
+library is also refused allocations. A difference is reduced by hypothesis to few calls, which are
+printed.
 
 It needs python3-hypothesis; `fuzz` in fuzz.py starts it.
 """
@@ -18,11 +19,11 @@ from concurrent.futures import ThreadPoolExecutor
 from pathlib import Path
 
 from hypothesis import strategies as st
-from hypothesis.stateful import RuleBasedStateMachine, initialize, precondition, rule, run_state_machine_as_test
+from hypothesis.stateful import RuleBasedStateMachine, initialize, rule, run_state_machine_as_test
 
 sys.path.insert(0, str(Path(__file__).resolve().parents[2]))
 sys.path.insert(0, str(Path(__file__).resolve().parents[2] / "bindings/python"))
-from fuzz_binding import Long, SET_UP, how_to_run, lines, one_of, options, queries
+from fuzz_binding import SET_UP, how_to_run, lines, one_of, options, queries
 from interrupts import interrupted_at
 from model.lines import answered
 from model.state import LAST, Limits, State
@@ -31,8 +32,11 @@ from puljemrod import Fault, Manager, OutOfMemory, TextOwed
 THREADS = 3
 
 # What the calls have to reach, in a run of the usual length.
-HAS_TO_REACH = ["ok", "round", "copy", "delete", "refused 20", "refused 21", "interrupted", "a restart", "a close", "queries at once"]
-HAS_TO_REACH_IN_LIBRARY = ["OutOfMemory", "TextOwed", "no memory for a manager", "refused 12", "refused 13"]
+HAS_TO_REACH = ["ok", "round", "copy", "refused 20", "interrupted", "a restart", "a close", "queries at once"]
+HAS_TO_REACH_IN_LIBRARY = [
+    *["delete", "refused 12", "refused 13", "refused 21"],
+    *["OutOfMemory", "TextOwed", "no memory for a manager"],
+]
 
 blocks = st.lists(lines, min_size=1, max_size=4)
 
@@ -161,8 +165,8 @@ class Calls(RuleBasedStateMachine):
             self.takes(found, block)
 
     def after_interrupt_of_library(self, block):
-        """Some first lines were taken. `retry` has the answer to the last one, and `calls` shows how
-        many events and rounds were accepted."""
+        """Some first lines were taken. `retry` has the answer to the last one, and `calls` counts
+        the accepted events and rounds."""
         last, calls = self.manager.engine.retry(), self.manager.engine.calls()
         before = (self.state, self.last)
         fitting = [at for at, after in enumerate([before, *self.states_after(block)]) if after[0].calls == calls]
@@ -179,7 +183,7 @@ class Calls(RuleBasedStateMachine):
         except Fault as fault:
             assert "a call was interrupted" in str(fault), str(fault)
         else:
-            before, asked = self.state, [b'{"op":"list_replicas"}', b'{"op":"round"}']
+            asked = [b'{"op":"list_replicas"}', b'{"op":"round"}']
             either = [text_of(answer for _, answer in self.states_after(it + asked)[-2:]) for it in ([], block)]
             assert shown in either, f"{shown!r} is neither of {either!r}"
         self.manager.close()

@@ -9,8 +9,8 @@ import puljemrod
 
 
 def interrupted_at(step, call):
-    """Makes a call, with a KeyboardInterrupt at this step of the binding's code. Its steps are those
-    of the interpreter, but for the lock, which no signal comes in the middle of."""
+    """Makes a call, with a KeyboardInterrupt at this step of the binding's code. Its steps are
+    those of the interpreter, without those that take and return the lock: no signal divides them."""
     left = step
 
     def trace(frame, event, _):

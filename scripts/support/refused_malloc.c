@@ -1,5 +1,5 @@
-// Is linked with the library by --wrap=malloc and --wrap=realloc: refuses allocations of the library
-// on request, and no others of the process.
+// Is linked with the library by --wrap=malloc and --wrap=realloc: on request it refuses allocations
+// of the library, and no others of the process.
 #include <stdatomic.h>
 #include <stddef.h>
 
