@@ -135,7 +135,10 @@ class Calls(RuleBasedStateMachine):
     def close(self, line, shards, thread):
         """A closed manager answers nothing. A new one reads the log."""
         self.workers[thread].submit(self.manager.close).result()
-        for call in (lambda: self.manager.lines(text_of([line])), lambda: self.manager.line("")):
+        calls = [lambda: self.manager.lines(text_of([line])), lambda: self.manager.line("")]
+        if "library" in self.engine:
+            calls += [self.manager.engine.retry, self.manager.engine.calls]
+        for call in calls:
             try:
                 call()
             except Fault as fault:
