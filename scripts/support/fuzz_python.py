@@ -3,10 +3,10 @@
     scripts/support/fuzz_python.py [--examples N] [--seed N] --library PATH | --tool PATH
 
 The library is one that is linked with refused_malloc.c. The calls are lines and blocks of lines
-from several threads, queries of several threads at once, and interrupts at any step of the binding's
-code. Managers are closed, called after that, and made again from the log of all lines so far. The
-library is also refused allocations. A difference is reduced by hypothesis to few calls, which are
-printed.
+from several threads, queries of several threads at once, and interrupts at any step of the
+binding's code. Managers are closed, called after that, and made again from the log of all lines so
+far. The library is also refused allocations. A difference is reduced by hypothesis to few calls,
+which are printed.
 
 It needs python3-hypothesis; `fuzz` in fuzz.py starts it.
 """

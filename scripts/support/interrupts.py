@@ -10,7 +10,8 @@ import puljemrod
 
 def interrupted_at(step, call):
     """Makes a call, with a KeyboardInterrupt at this step of the binding's code. Its steps are
-    those of the interpreter, without those that take and return the lock: no signal divides them."""
+    those of the interpreter, without those that take and return the lock, which no signal
+    divides."""
     left = step
 
     def trace(frame, event, _):
