@@ -9,8 +9,11 @@ import json
 import threading
 import time
 
-from log import LEADER, Batch, Deposed, Stop, append, number_of, numbered, position_of, value_of
-from store import LeaseGone, Store, StoreError, absent, after, created, get, modified, put
+from batches import LEADER, Batch, value_of
+from keys import Stop, number_of, numbered
+from log import Fenced, Tail, position_of
+from store import ANSWER, LeaseGone, Refused, Store, StoreError, absent, after, created, get
+from store import has_lease, modified, put
 
 # Seconds between two turns of the keeper. Seconds after which a leader whose reader hangs gives
 # way.
@@ -28,8 +31,10 @@ class Leadership:
 
     def __init__(self, replica, name, servers, lease, interval, keep):
         self.replica, self.name, self.keys, self.say = replica, name, replica.keys, replica.say
+        self.status_key = self.keys.replicas + name
         self.servers = servers
-        self.store, self.publishing = Store(servers, max(1, lease / 3)), Store(servers)
+        self.store = Store(servers, max(1, min(ANSWER, lease // 3)))
+        self.publishing = Store(servers)
         self.seconds, self.interval, self.keep = lease, interval, keep
         self.lease = None
         # When this replica's key as the leader was created; 0 if it does not lead.
@@ -41,8 +46,10 @@ class Leadership:
         self.status_at = 0
         # The next round is due at `round_at`; those up to `sent_round` were sent.
         self.round_at, self.sent_round = 0, -1
-        # The lease of answers and commands, and the time until which new ones are put under it.
+        # Answers and commands are written under a lease, and go when it runs out: nothing has to
+        # delete them. Each lease takes what is written in a part of the time.
         self.keep_lease = self.keep_until = 0
+        self.keep_part = max(1, keep // 1440)
         self.threads = [threading.Thread(target=self.run, args=(turn,), daemon=True)
                         for turn in (self.keep_turn, self.publish_turn)]
 
@@ -69,7 +76,7 @@ class Leadership:
         hangs = time.monotonic() - self.read_at > HANG
         try:
             if self.lease is None:
-                self.lease = self.store.grant(self.seconds)
+                self.take_name()
             elif not (hangs and self.epoch):
                 self.store.keep_alive(self.lease)
             self.look(hangs)
@@ -102,7 +109,7 @@ class Leadership:
         ready = applied + 1 >= position[0] and hashes.count <= HASHES and not hangs
         holder = leader.entries[0] if leader.entries else None
         if holder is None and ready and not self.epoch:
-            own = json.dumps({"name": self.name, "lease": self.lease})
+            own = json.dumps({"name": self.name})
             outcome = self.store.transact(
                 [absent(keys.leader)], [put(keys.leader, own, self.lease)], [get(keys.leader)]
             )
@@ -110,7 +117,7 @@ class Leadership:
                 self.lead(outcome.revision)
                 return
             holder = outcome.ranges[0].entries[0] if outcome.ranges[0].entries else None
-        own = holder is not None and json.loads(holder.value)["lease"] == self.lease
+        own = holder is not None and holder.lease == self.lease
         if own and not self.epoch:
             # The answer to the transaction was lost.
             self.lead(holder.created)
@@ -127,7 +134,12 @@ class Leadership:
         if time.monotonic() - self.status_at < 1:
             return
         self.status_at = time.monotonic()
-        self.store.transact([], [put(self.keys.replicas + self.name, self.status(), self.lease)])
+        outcome = self.store.transact(
+            [has_lease(self.status_key, self.lease)],
+            [put(self.status_key, self.status(), self.lease)],
+        )
+        if not outcome.succeeded:
+            raise LeaseGone("the lease of the name has run out")
 
     def status(self, stopped=None):
         replica = self.replica
@@ -154,8 +166,8 @@ class Leadership:
             values, position = replica.next_output(MOST_BYTES, MOST_VALUES)
             if self.doubt or position > replica.position:
                 self.publish(values, position)
-        except Deposed as deposed:
-            self.say(f"leads no more: {deposed}")
+        except Fenced as fenced:
+            self.say(f"leads no more: {fenced}")
             self.epoch = 0
 
     def begin(self):
@@ -183,21 +195,21 @@ class Leadership:
             return
         holder, done = (found.entries[0] if found.entries else None for found in outcome.ranges)
         if holder is None or holder.created != self.epoch:
-            raise Deposed(f"etcd refused {len(values)} values, since the lease was lost")
+            raise Fenced(f"etcd refused {len(values)} values, since the lease was lost")
         # Only this replica can have moved it: the answer to an earlier transaction was lost.
         self.done = done.modified
         self.replica.written(position_of(done))
 
     def puts(self, values):
-        """Answers and commands are written under a lease, and go when it runs out: nothing has to
-        delete them. Each lease takes what is written in a part of the time."""
-        now = time.monotonic()
-        if now > self.keep_until:
-            part = max(1, self.keep // 1440)
-            self.keep_lease = self.publishing.grant(self.keep + part)
-            self.keep_until = now + part
+        if time.monotonic() > self.keep_until:
+            self.grant_keep_lease()
         for key, value in values:
             yield put(key, value, 0 if key.startswith(self.keys.hashes) else self.keep_lease)
+
+    def grant_keep_lease(self):
+        now = time.monotonic()
+        self.keep_lease = self.publishing.grant(self.keep + self.keep_part)
+        self.keep_until = now + self.keep_part
 
     def round_in(self):
         """Seconds until a round is due, and the one before was applied."""
@@ -208,14 +220,46 @@ class Leadership:
     def append_round(self):
         with self.replica.changed:
             count, last = self.replica.rounds, self.replica.applied
-        value = value_of(Batch(LEADER, count, b'{"op":"round"}\n', 0, 0))
-        if append(self.publishing, self.keys, value, last, self.guard(), waits=False):
+        value = value_of(Batch(LEADER, count, b'{"op":"round"}\n'))
+        tail = Tail(self.publishing, self.keys, last)
+        if tail.append(value, self.guard(), waits=False):
             self.sent_round = count
             self.round_at = time.monotonic() + self.interval
         else:
             self.round_at = time.monotonic() + TURN
 
     # Start and end.
+
+    def join(self):
+        """Refuses times that etcd does not take, and takes the name of this replica. A dead one
+        keeps that until its lease has run out."""
+        try:
+            self.grant_keep_lease()
+        except Refused as error:
+            raise Stop(f"--keep {self.keep}: {error}") from None
+        first = found = self.store.value(self.status_key)
+        if found and found.lease:
+            self.say("waits for the lease of another replica with this name")
+        # One that is alive writes its status each second.
+        while found and found.lease and found.modified == first.modified:
+            self.replica.stopped.wait(TURN)
+            found = self.store.value(self.status_key)
+        try:
+            self.take_name()
+        except Refused as error:
+            raise Stop(f"--lease {self.seconds}: {error}") from None
+
+    def take_name(self):
+        """Puts the status under a new lease, if no other replica's is there."""
+        lease = self.store.grant(self.seconds)
+        outcome = self.store.transact(
+            [has_lease(self.status_key, 0)], [put(self.status_key, self.status(), lease)],
+            [get(self.status_key)],
+        )
+        if not outcome.succeeded and outcome.ranges[0].entries[0].lease != lease:
+            self.store.revoke(lease)
+            raise Stop(f"another replica runs under the name {self.name}")
+        self.lease = lease
 
     def start(self):
         for thread in self.threads:
@@ -228,15 +272,21 @@ class Leadership:
             replica.changed.wait_for(lambda: not (self.epoch and replica.outputs), FINISH)
 
     def end(self, why):
-        """Gives the lease up, so that another replica leads at once, and leaves the reason."""
+        """Gives the lease up, so that another replica leads at once, and leaves the reason, unless
+        another replica has the name."""
         for thread in self.threads:
-            thread.join(5)
+            if thread.ident:
+                thread.join(5)
         self.epoch = 0
         store = Store(self.servers)
         try:
             if why:
-                store.transact([], [put(self.keys.replicas + self.name, self.status(why))])
+                any(self.leave_status(store, lease, why) for lease in (self.lease or 0, 0))
             if self.lease:
                 store.revoke(self.lease)
         except StoreError as error:
             self.say(str(error))
+
+    def leave_status(self, store, lease, why):
+        compares = [has_lease(self.status_key, lease)]
+        return store.transact(compares, [put(self.status_key, self.status(why))]).succeeded

@@ -1,148 +1,21 @@
-"""The log: numbered keys in the store, each a batch of lines of one writer.
+"""The log: numbered keys in the store without gaps, each a batch (batches.py). One that appends puts
+the next key; a replica reads all keys in order."""
 
-A batch is a header in JSON, a line feed, and the lines, each ended by a line feed. The header has
-the writer's number and the count of the first line, which is how many lines of this writer come
-before it. A line longer than a batch is parted over keys; their headers have `part` and `parts`."""
-
-import json
+import contextlib
 import time
-from collections import namedtuple
 
+from batches import BATCH
+from keys import Stop, number_of, numbered
 from store import LeaseGone, Store, StoreError, Unreachable, absent, after, created, delete, get
 from store import modified, present, put
 
-# The most bytes of lines, or of answers, in one value. etcd takes requests of 1.5 MiB.
-BATCH = 1 << 20
-# More bytes of a line than these change nothing: the manager answers `refused 21 LongLine`.
-LONGEST = 4_194_304 + 1
-MOST_PARTS = -(-LONGEST // BATCH)
-
-# The writer of the leader's rounds.
-LEADER = 0
-
 # Seconds for which a writer tries to append before it takes the turn; for which a dead one keeps
-# it; after which others look whether it is free.
+# it, at least; after which others look whether it is free.
 RACE, HOLD, LOOK = 0.5, 5, 0.02
 
 
-class Stop(Exception):
-    """A replica cannot go on; the reason is the text."""
-
-
-class Deposed(Exception):
-    """Another replica leads: etcd refused the transaction."""
-
-
-class Keys:
-    """The keys of one manager."""
-
-    def __init__(self, prefix="/puljemrod/"):
-        if not prefix.endswith("/"):
-            raise Stop(f"the prefix {prefix!r} has no / at its end")
-        self.prefix = prefix
-        # Answers and hashes by the number of a line; commands by node and number of the round's.
-        self.log, self.answers, self.hashes, self.commands, self.replicas = (
-            f"{prefix}{name}/" for name in ("log", "answers", "hashes", "commands", "replicas")
-        )
-        # Who leads; up to which log key the output is written; the manager's options; the number
-        # of the newest writer; who alone may append.
-        self.leader, self.done, self.options, self.writers, self.turn = (
-            f"{prefix}{name}" for name in ("leader", "done", "options", "writers", "turn")
-        )
-
-
-def numbered(prefix, number):
-    return f"{prefix}{number:016d}"
-
-
-def number_of(key):
-    try:
-        return int(key.rsplit("/", 1)[1][:16])
-    except ValueError:
-        raise Stop(f"a key that has no number: {key}") from None
-
-
-def with_header(header, text):
-    return json.dumps(header, separators=(",", ":")).encode() + b"\n" + text
-
-
-def headed(value):
-    """The header and the text of a value."""
-    first, _, text = value.partition(b"\n")
-    return json.loads(first), text
-
-
-Batch = namedtuple("Batch", "writer count text part parts")
-
-
-def value_of(batch):
-    header = {"writer": batch.writer, "count": batch.count}
-    if batch.parts:
-        header.update(part=batch.part, parts=batch.parts)
-    return with_header(header, batch.text)
-
-
-def parts_of(writer, count, line):
-    """The batches of a line that is longer than one."""
-    line = line[:LONGEST]
-    parts = -(-len(line) // BATCH)
-    for part in range(parts):
-        yield Batch(writer, count, line[part * BATCH : (part + 1) * BATCH], part, parts)
-
-
-def batch_of(value):
-    """The batch, or None for a value that is none."""
-    try:
-        header, text = headed(value)
-        batch = Batch(
-            header["writer"], header["count"], text, header.get("part", 0), header.get("parts", 0)
-        )
-    except (ValueError, KeyError, TypeError, AttributeError, RecursionError):
-        return None
-    numbers = (batch.writer, batch.count, batch.part, batch.parts)
-    if any(type(number) is not int or number < 0 for number in numbers):
-        return None
-    if batch.parts:
-        fits = batch.part < batch.parts <= MOST_PARTS and b"\n" not in text
-    else:
-        fits = text.endswith(b"\n")
-    return batch if fits else None
-
-
-class Sessions:
-    """The lines that were taken from each writer. A replica takes a writer's next line and no
-    other. So a line that is sent again is taken once, and lines are taken in the writer's order."""
-
-    def __init__(self):
-        self.next = {}
-        self.parts = {}
-
-    def take(self, batch):
-        """Takes the writer's next lines from a batch; returns the count of the first, and the
-        text."""
-        at = self.next.get(batch.writer, 0)
-        if batch.parts:
-            return at, self.take_part(batch, at)
-        skip = at - batch.count
-        lines = batch.text.count(b"\n")
-        if not 0 <= skip < lines:
-            return at, b""
-        text = batch.text.split(b"\n", skip)[-1] if skip else batch.text
-        self.next[batch.writer] = batch.count + lines
-        self.parts.pop(batch.writer, None)
-        return at, text
-
-    def take_part(self, batch, at):
-        have = self.parts.get(batch.writer, [])
-        if batch.count != at or batch.part != len(have):
-            return b""
-        have = [*have, batch.text]
-        if len(have) < batch.parts:
-            self.parts[batch.writer] = have
-            return b""
-        self.next[batch.writer] = at + 1
-        self.parts.pop(batch.writer, None)
-        return b"".join(have) + b"\n"
+class Fenced(Exception):
+    """What the writer of a transaction held is lost: etcd refused the transaction."""
 
 
 def position_of(entry):
@@ -150,94 +23,118 @@ def position_of(entry):
     return tuple(int(word) for word in entry.value.split()) if entry else (1, 0)
 
 
-def keys_from(keys, index):
-    """Counts the log keys from one on."""
-    return get(numbered(keys.log, index), after(keys.log), count_only=True)
-
-
 def last_index(store, keys):
     """The number of the last log key, 0 if there is none."""
     index, _ = position_of(store.value(keys.done))
-    outcome = store.transact([], [keys_from(keys, index)])
-    return index - 1 + outcome.ranges[0].count
+    found = store.range(numbered(keys.log, index), after(keys.log), count_only=True)
+    return index - 1 + found.count
 
 
-def wait_for_turn(store, keys):
-    while store.value(keys.turn):
-        time.sleep(LOOK)
+class Tail:
+    """The end of the log, for one that appends. `last` is the number of the last key, or a
+    guess."""
 
+    def __init__(self, store, keys, last=0):
+        self.store, self.keys, self.last = store, keys, last
+        # When the key of the turn was created, if this writer has it, and its lease. When it was
+        # created by another writer.
+        self.turn = self.lease = self.held = 0
 
-def take_turn(store, keys):
-    """Takes the turn once it is free. While its key is there nobody else appends. Returns the
-    revision of the key, which is under a lease and goes if this writer dies."""
-    while True:
-        wait_for_turn(store, keys)
-        lease = store.grant(HOLD)
-        try:
-            outcome = store.transact(
-                [absent(keys.turn)], [put(keys.turn, str(lease), lease)], [get(keys.turn)]
-            )
-        except LeaseGone:
-            continue
-        if outcome.succeeded:
-            return outcome.revision
-        for holder in outcome.ranges[0].entries:
-            if holder.value == str(lease).encode():
-                # The answer to the transaction was lost.
-                return holder.created
-
-
-def append(store, keys, value, last, guard=(), waits=True):
-    """Puts a value after the last key of the log and returns its number. `last` is a guess.
-    A small value is put sooner than a large one, so a writer that has lost for a while takes the
-    turn. A leader's rounds are compared with its `guard` too, and do not wait: 0 if others are
-    first."""
-    since, turn = time.monotonic(), 0
-    while True:
+    def put(self, value, guard, puts=(), keeps_turn=False):
+        """Tries to put a value after the last key of the log, and other values with it; returns
+        whether they are there. Raises `Fenced` if only the guard can have refused them."""
+        keys, last = self.keys, self.last
         key, before = numbered(keys.log, last + 1), numbered(keys.log, last)
-        compares = [absent(key), created(keys.turn, turn), *guard]
+        compares = [absent(key), created(keys.turn, self.turn), *guard]
         if last:
             compares.append(present(before))
-        outcome = store.transact(
+        outcome = self.store.transact(
             compares,
-            [put(key, value), *([delete(keys.turn)] if turn else [])],
-            [keys_from(keys, last + 1), get(before, keys_only=True), get(keys.turn)],
+            [put(key, value), *puts, *([delete(keys.turn)] * bool(self.turn and not keeps_turn))],
+            [get(key, after(keys.log), count_only=True), get(before, keys_only=True),
+             get(keys.turn)],
         )
-        if outcome.succeeded:
-            return last + 1
-        if not outcome.certain:
-            # The first one may have succeeded, and its answer was lost.
-            found = store.value(key)
-            if found and found.value == value:
-                return last + 1
+        if outcome.succeeded or not outcome.certain and self.is_there(key, value):
+            self.last = last + 1
+            self.turn *= keeps_turn
+            return True
         newer, guess, holder = outcome.ranges
-        held = holder.entries[0].created if holder.entries else 0
+        self.held = holder.entries[0].created if holder.entries else 0
         if newer.count:
-            last += newer.count
+            self.last += newer.count
         elif last and not guess.entries:
-            last = last_index(store, keys)
-        elif held == turn:
-            raise Deposed("etcd refused a round, since the lease was lost")
-        if held == turn != 0:
-            continue
-        is_late = time.monotonic() - since > RACE
-        if not waits and (held or is_late):
-            return 0
-        if is_late:
-            turn = take_turn(store, keys)
-        elif held:
-            wait_for_turn(store, keys)
+            self.last = last_index(self.store, keys)
+        elif self.held == self.turn:
+            raise Fenced("etcd refused a batch, since its writer lost the right to it")
+        if self.held != self.turn:
+            self.turn = 0
+        return False
 
+    def is_there(self, key, value):
+        """Whether a transaction succeeded whose answer was lost."""
+        found = self.store.value(key)
+        return found is not None and found.value == value
 
-def new_writer(store, keys):
-    """The number of a new writer, and the revision from which on it exists."""
-    while True:
-        found = store.value(keys.writers)
-        number = int(found.value) + 1 if found else 1
-        seen = found.modified if found else 0
-        outcome = store.transact([modified(keys.writers, seen)], [put(keys.writers, str(number))])
-        if outcome.succeeded:
-            return number, outcome.revision
+    def append(self, value, guard=(), puts=(), waits=True):
+        """Puts a value after the last key of the log and returns its number. A small value is put
+        sooner than a large one, so a writer that has lost for a while takes the turn. One that does
+        not wait gets 0 if others are first."""
+        since = time.monotonic()
+        while not self.put(value, guard, puts):
+            is_late = time.monotonic() - since > RACE
+            if self.turn:
+                continue
+            if not waits and (self.held or is_late):
+                return 0
+            if is_late:
+                self.take_turn(HOLD)
+            elif self.held:
+                self.wait_for_turn()
+        return self.last
+
+    def append_together(self, values, guard=(), puts=()):
+        """Puts values under consecutive keys of the log, in this writer's turn, and other values
+        with the last one. Starts over if the turn is lost, and then asks for a longer one."""
+        hold = HOLD
+        while True:
+            if not self.turn:
+                self.take_turn(hold)
+                hold *= 2
+            with contextlib.suppress(LeaseGone):
+                if all(self.put_one_of(values, at, guard, puts) for at in range(len(values))):
+                    return self.last
+                continue
+            self.turn = 0
+
+    def put_one_of(self, values, at, guard, puts):
+        is_last = at + 1 == len(values)
+        self.store.keep_alive(self.lease)
+        return self.put(values[at], guard, puts if is_last else (), keeps_turn=not is_last)
+
+    def wait_for_turn(self):
+        while self.store.value(self.keys.turn):
+            time.sleep(LOOK)
+
+    def take_turn(self, seconds):
+        """Takes the turn once it is free. While its key is there nobody else appends. The key is
+        under a lease, and goes if this writer dies."""
+        while not self.turn:
+            self.wait_for_turn()
+            lease = self.store.grant(seconds)
+            try:
+                outcome = self.store.transact(
+                    [absent(self.keys.turn)], [put(self.keys.turn, "", lease)],
+                    [get(self.keys.turn)],
+                )
+            except LeaseGone:
+                continue
+            if outcome.succeeded:
+                self.turn, self.lease = outcome.revision, lease
+            else:
+                for holder in outcome.ranges[0].entries:
+                    if holder.lease == lease:
+                        # The answer to the transaction was lost.
+                        self.turn, self.lease = holder.created, lease
 
 
 # Keys in one answer, if their values are small and if they may be full batches. etcd sends some

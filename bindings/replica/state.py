@@ -7,7 +7,8 @@ import hashlib
 import threading
 from collections import deque
 
-from log import BATCH, LEADER, Sessions, Stop, batch_of, numbered, with_header
+from batches import BATCH, LEADER, Taken, batch_of, with_header
+from keys import Stop, numbered
 
 # Lines between two hashes.
 HASH_EVERY = 1_000
@@ -37,7 +38,7 @@ class Replica:
         self.manager = manager
         self.keys = keys
         self.say = say
-        self.sessions = Sessions()
+        self.taken = Taken()
         self.hash = hashlib.sha256()
         self.stopped = threading.Event()
         self.why = None
@@ -63,7 +64,7 @@ class Replica:
     def apply(self, index, value):
         """Makes the calls of a log key."""
         batch = batch_of(value)
-        count, text = self.sessions.take(batch) if batch else (0, b"")
+        count, text = self.taken.take(batch)
         answers = self.manager.lines(text) if text else b""
         self.hash.update(text)
         self.hash.update(answers)
@@ -72,7 +73,7 @@ class Replica:
             first = self.lines + 1
             self.lines += lines
             self.applied = index
-            self.rounds = self.sessions.next.get(LEADER, 0)
+            self.rounds = self.taken.next.get(LEADER, 0)
             crossed = self.lines // HASH_EVERY > (first - 1) // HASH_EVERY
             if crossed:
                 self.hashed = (self.lines, self.hash.hexdigest())
@@ -91,7 +92,7 @@ class Replica:
                 if answer.startswith(b"round "):
                     yield from self.commands(number, answer)
         header = {"writer": batch.writer, "count": count, "line": first}
-        yield from parted(numbered(self.keys.answers, first), header, answers)
+        yield from parted(numbered(self.keys.answers_to(batch.writer), first), header, answers)
 
     def commands(self, number, answer):
         for node, text in commands_of(answer).items():

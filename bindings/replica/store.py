@@ -12,7 +12,7 @@ import time
 from collections import namedtuple
 from urllib.parse import urlsplit
 
-Entry = namedtuple("Entry", "key value created modified version")
+Entry = namedtuple("Entry", "key value created modified version lease", defaults=[0])
 Range = namedtuple("Range", "entries count revision")
 # `certain` is false where the transaction was sent more than once: one of these may have succeeded.
 Outcome = namedtuple("Outcome", "succeeded ranges revision certain")
@@ -31,6 +31,10 @@ class Unreachable(StoreError):
 
 
 class Full(StoreError):
+    pass
+
+
+class Refused(StoreError):
     pass
 
 
@@ -63,7 +67,7 @@ def entry_of(pair):
     return Entry(
         unpacked(pair["key"]).decode(), unpacked(pair.get("value", "")),
         int(pair.get("create_revision", 0)), int(pair["mod_revision"]),
-        int(pair.get("version", 0)),
+        int(pair.get("version", 0)), int(pair.get("lease", 0)),
     )
 
 
@@ -105,6 +109,15 @@ def present(key):
 
 def modified(key, revision):
     return {"key": packed(key), "target": "MOD", "mod_revision": revision}
+
+
+def has_value(key, value):
+    return {"key": packed(key), "target": "VALUE", "value": packed(value)}
+
+
+def has_lease(key, lease):
+    """Compares the lease of a key; 0 stands for a key without one, or an absent key."""
+    return {"key": packed(key), "target": "LEASE", "lease": lease}
 
 
 def address_of(url):
@@ -179,7 +192,7 @@ class Store:
         # Deadline exceeded, too many requests, unavailable; unknown covers a change of leader.
         if answer.get("code") in (2, 4, 8, 14):
             raise Away(f"{self.urls[self.at]}: {why}")
-        raise StoreError(f"etcd refused a request: {why}")
+        raise Refused(f"etcd refused a request: {why}")
 
     def range(self, *key, **words):
         answer, _ = self.call("kv/range", get(*key, **words)["request_range"])

@@ -6,9 +6,11 @@ import select
 import time
 from collections import deque
 
-from log import BATCH, LONGEST, Batch, append, follow, headed, last_index, new_writer
-from log import parts_of, position_of, value_of
-from store import Compacted, Store, StoreError, after
+from batches import BATCH, LONGEST, Batch, headed, parts_of, value_of
+from keys import agree_on_layout
+from log import Fenced, Tail, follow, last_index, position_of
+from session import Session, new_session
+from store import Compacted, Store, StoreError
 
 # Seconds for which lines are gathered.
 GATHER = 0.005
@@ -35,15 +37,23 @@ class Lines:
         self.text += piece
         return True
 
-    def block(self):
-        """Whole lines, of at most a batch; or one longer line; or nothing at the end."""
+    def block(self, most=None):
+        """Whole lines, at most a number of them and a batch; or the first bytes of one longer line;
+        or nothing at the end."""
         while b"\n" not in self.text and len(self.text) <= LONGEST and self.read():
             pass
         until = time.monotonic() + GATHER
         while len(self.text) < BATCH and (left := until - time.monotonic()) > 0 and self.read(left):
             pass
         end = self.text.rfind(b"\n", 0, BATCH) + 1 or self.text.find(b"\n") + 1
-        return self.cut(end) if end or not self.text else self.long_line()
+        block = self.cut(end) if end or not self.text else self.long_line()
+        if len(block) > LONGEST:
+            return block[:LONGEST] + b"\n"
+        if most and block.count(b"\n") > most:
+            rest = block.split(b"\n", most)[-1]
+            self.text[:0] = rest
+            return block.removesuffix(rest)
+        return block
 
     def cut(self, end):
         block = bytes(self.text[:end])
@@ -51,7 +61,7 @@ class Lines:
         return block
 
     def long_line(self):
-        """The first bytes of a line that is longer than the limit; drops the rest of it."""
+        """The first bytes of a line that is longer than the limit. Drops the rest of it."""
         block = self.cut(LONGEST) + b"\n"
         while True:
             end = self.text.find(b"\n") + 1
@@ -61,37 +71,40 @@ class Lines:
 
 
 class Writer:
-    """A session: its number, and how many lines were appended and answered."""
+    """Appends the lines of a session, and gives their answers."""
 
     def __init__(self, servers, keys, say, number=None):
         self.keys, self.say = keys, say
         self.store, self.answers_store = Store(servers), Store(servers)
-        if number is None:
-            self.number, self.revision = new_writer(self.store, keys)
-        else:
-            newest = self.store.value(keys.writers)
-            if not newest or not 0 < number <= int(newest.value):
-                raise StoreError(f"there is no session {number}")
-            self.number, self.revision = number, 0
+        agree_on_layout(self.store, keys)
+        self.session = new_session(self.store, keys) if number is None else Session(keys, number)
+        self.tail = Tail(self.store, keys, last_index(self.store, keys))
         self.appended = self.answered = 0
-        self.last = last_index(self.store, keys)
         self.store.patience = PATIENCE
+
+    def skip(self, lines):
+        """Takes the lines that are in the log already from the input."""
+        self.session.skip(self.store, lines)
+        self.appended = self.session.lines
 
     def append(self, block):
         """Appends whole lines; returns when they are in the log."""
-        line_end = block.find(b"\n") + 1
-        if line_end == len(block) and len(block) > BATCH:
-            batches = list(parts_of(self.number, self.appended, block[:-1]))
-        else:
-            batches = [Batch(self.number, self.appended, block, 0, 0)]
-        for batch in batches:
-            self.last = append(self.store, self.keys, value_of(batch), self.last)
-        self.appended += block.count(b"\n")
+        number = self.session.number
+        guard, puts = self.session.take(block)
+        try:
+            if block.find(b"\n") + 1 == len(block) > BATCH:
+                parts = parts_of(number, self.appended, block[:-1])
+                self.tail.append_together([value_of(part) for part in parts], guard, puts)
+            else:
+                self.tail.append(value_of(Batch(number, self.appended, block)), guard, puts)
+        except Fenced:
+            raise StoreError(f"another program writes session {number}") from None
+        self.appended = self.session.lines
 
     def due(self):
         """If some answers in the store were not seen: the number of lines that have answers there,
         and a revision by which these were written. Else zeros."""
-        appended, last = self.appended, self.last
+        appended, last = self.appended, self.tail.last
         with contextlib.suppress(StoreError):
             done = self.answers_store.value(self.keys.done)
             if self.answered < appended and position_of(done)[0] > last:
@@ -100,7 +113,7 @@ class Writer:
 
     def answers(self):
         """Yields the answers of this session in order, in pieces; None at times."""
-        revision = self.revision
+        revision = self.session.revision
         while True:
             try:
                 yield from self.answers_from(revision)
@@ -112,7 +125,8 @@ class Writer:
         parts = deque()
         lines = by = missed = looked_at = 0
         other = None
-        entries = follow(self.answers_store, self.keys.answers, revision, say=self.say)
+        prefix = self.keys.answers_to(self.session.number)
+        entries = follow(self.answers_store, prefix, revision, say=self.say)
         while True:
             entry = entries.send(other)
             other = None
@@ -126,10 +140,10 @@ class Writer:
                     raise self.gone(lines)
                 # Another server may have what does not come from this one.
                 other = missed > 0 or None
-            header, text = headed(entry.value) if entry and entry.value else ({}, b"")
-            if header.get("writer") != self.number:
+            if not (entry and entry.value):
                 yield None
                 continue
+            header, text = headed(entry.value)
             if header["count"] > self.answered:
                 raise self.gone(header["count"])
             if header["count"] < self.answered or header["part"] != len(parts):
@@ -143,4 +157,4 @@ class Writer:
 
     def gone(self, count):
         return StoreError(f"the answers from line {self.answered + 1} to line {count} of writer "
-                          f"{self.number} are kept no longer")
+                          f"{self.session.number} are kept no longer")

@@ -20,7 +20,7 @@ from checking import TOP, Failed, library, want
 
 REPLICA = TOP / "bindings/replica/replica"
 sys.path[:0] = [str(REPLICA.parent), str(TOP / "bindings/python")]
-import log as replica_log
+from keys import Keys
 from store import Store, StoreError, after
 
 
@@ -86,7 +86,7 @@ class Process:
     """A child process with its output in a file."""
 
     def __init__(self, command, path, stdin=subprocess.DEVNULL, stdout=None):
-        self.path = path
+        self.path, self.words = path, command
         want(not ENDED.is_set(), "the scratch folder is no more")
         with open(path, "ab") as printed:
             self.child = subprocess.Popen(
@@ -173,7 +173,7 @@ class Manager:
 
     def __init__(self, servers, tool, prefix, folder):
         self.servers, self.tool, self.folder = servers, tool, folder
-        self.keys = replica_log.Keys(f"/{prefix}/")
+        self.keys = Keys(f"/{prefix}/")
         self.prefix = prefix
         self.store = Store(servers.urls)
         self.processes = {}
@@ -265,22 +265,24 @@ class Manager:
 
     def taken(self):
         """For each log key its writer and the lines that count, by the rules of the README."""
-        counts, parts = {}, {}
+        counts, parts, line_begun = {}, [], None
         for number, entry in enumerate(self.all(self.keys.log), 1):
             want(int(entry.key.rsplit("/", 1)[1]) == number, f"{entry.key} is key {number}")
             header, _, text = entry.value.partition(b"\n")
             header = json.loads(header)
             writer, count, lines = header["writer"], header["count"], []
             if "parts" in header:
-                have = parts.setdefault((writer, count), [])
-                if header["part"] == len(have):
-                    have.append(text)
-                    if len(have) == header["parts"]:
-                        text = b"".join(have) + b"\n"
-                    else:
-                        text = b""
-                else:
-                    text = b""
+                line = writer, count, header["parts"]
+                if header["part"] == 0:
+                    parts, line_begun = [], line
+                elif line != line_begun or header["part"] != len(parts):
+                    parts, line_begun = [], None
+                    yield writer, lines
+                    continue
+                parts.append(text)
+                text = b"".join(parts) + b"\n" if len(parts) == header["parts"] else b""
+            else:
+                line_begun = None
             for line in text.splitlines(keepends=True):
                 if count == counts.get(writer, 0):
                     lines.append(line)
@@ -330,11 +332,15 @@ class Manager:
         return of_writers
 
     def compare_answers(self, answers):
-        at, pieces = 0, []
+        at, pieces, stored = 0, [], []
         for entry in self.all(self.keys.answers):
             want(entry.version == 1, f"{entry.key} was written {entry.version} times")
             header, _, text = entry.value.partition(b"\n")
             header = json.loads(header)
+            writer = entry.key.removeprefix(self.keys.answers).split("/")[0]
+            want(writer == str(header["writer"]), f"{entry.key} has answers to writer {writer}")
+            stored.append((header["line"], header["part"], header, entry, text))
+        for *_, header, entry, text in sorted(stored, key=lambda it: it[:2]):
             want(header["line"] == at + 1, f"answers from {header['line']} on follow {at}")
             want(header["part"] == len(pieces), f"{entry.key} is out of order")
             pieces.append(text)

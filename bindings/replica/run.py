@@ -1,0 +1,73 @@
+"""Runs a replica until a signal comes, or until it cannot go on."""
+
+import signal
+import time
+
+from keys import Keys, Stop, agree_on_layout, agree_on_options
+from leader import Leadership
+from log import read
+from puljemrod import Fault, Manager, OutOfMemory, TooMuch
+from state import Replica
+from store import Store, StoreError
+
+# The options of the tool that answers depend on: they have to be the same for all replicas.
+SHARED = {"work": 2, "invalidate": 1000, "pend": 100}
+
+
+def reason_of(fault):
+    if isinstance(fault, OutOfMemory):
+        return f"out of memory ({fault}); on a machine with more it reads the log again"
+    if isinstance(fault, TooMuch):
+        return f"the log is too long for a replica over the line tool: {fault}"
+    return f"the manager has ended: {fault}"
+
+
+def new_manager(words, options):
+    """A manager whose options were tried: the tool refuses wrong ones only at the first line."""
+    given = {**options, "shards": words.shards, "workers": words.workers}
+    with Manager(words.tool, words.library, **given) as tried:
+        tried.line("")
+    return Manager(words.tool, words.library, **given)
+
+
+def joined(words, keys, say):
+    """The replica and its part in the lead, once all options are accepted and it has its name."""
+    options = {name: getattr(words, name) for name in SHARED}
+    replica = Replica(new_manager(words, options), keys, say)
+    leadership = Leadership(
+        replica, words.name, words.etcd, words.lease, words.interval, words.keep
+    )
+    store = Store(words.etcd)
+    agree_on_layout(store, keys)
+    leadership.join()
+    try:
+        agree_on_options(store, keys, options)
+    except (Stop, StoreError) as error:
+        leadership.end(str(error))
+        raise
+    return replica, leadership
+
+
+def run(words, say):
+    keys = Keys(words.prefix)
+    replica, leadership = joined(words, keys, say)
+    for number in (signal.SIGTERM, signal.SIGINT):
+        signal.signal(number, lambda *_: replica.stopped.set())
+    leadership.start()
+    say(f"reads the log below {keys.log}")
+    try:
+        for entry in read(Store(words.etcd), keys, say):
+            leadership.read_at = time.monotonic()
+            if replica.stopped.is_set():
+                break
+            if entry:
+                replica.apply(*entry)
+    except Fault as fault:
+        leadership.finish()
+        replica.stop(reason_of(fault))
+    except (Stop, StoreError) as error:
+        replica.stop(str(error))
+    replica.stopped.set()
+    leadership.end(replica.why)
+    say(f"stops after log key {replica.applied}" + (f": {replica.why}" if replica.why else ""))
+    return 1 if replica.why else 0
