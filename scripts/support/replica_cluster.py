@@ -290,6 +290,10 @@ class Manager:
                 count += 1
             yield writer, lines
 
+    def lines_taken(self, number):
+        """The lines that count of one writer."""
+        return [line for writer, batch in self.taken() if writer == number for line in batch]
+
     def compare(self, options=()):
         """The answers, commands and hashes in the store are those of one run of the tool on the
         lines of the log. Returns the answers that each writer must get."""
