@@ -1,5 +1,5 @@
-"""The log: numbered keys in the store without gaps, each a batch (batches.py). One that appends puts
-the next key; a replica reads all keys in order."""
+"""The log: numbered keys in the store without gaps, each a batch (batches.py). One that appends
+puts the next key; a replica reads all keys in order."""
 
 import contextlib
 import time

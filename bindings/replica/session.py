@@ -1,5 +1,5 @@
-"""The session of a writer: its number, how many of its lines are in the log, and the SHA-256 of these
-lines. The store has the last two under the session's key. They change in the transaction that
+"""The session of a writer: its number, how many of its lines are in the log, and the SHA-256 of
+these lines. The store has the last two under the session's key. They change in the transaction that
 appends lines, so they are those of the log whenever the writer dies."""
 
 import hashlib

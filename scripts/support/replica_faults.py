@@ -1,7 +1,7 @@
-"""Replicas over etcd under faults drawn from a seed. Writers are killed, interrupted and continued, on
-the same, a longer and another input. Replicas and servers are killed and paused, and the store is
-compacted. Then each session's lines are in the log once, and the answers are those of one run of a
-tool."""
+"""Replicas over etcd under faults drawn from a seed. Writers are killed, interrupted and continued,
+on the same, a longer and another input. Replicas and servers are killed and paused, and the store
+is compacted. Then each session's lines are in the log once, and the answers are those of one run of
+a tool."""
 
 import contextlib
 import random
