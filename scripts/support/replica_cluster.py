@@ -179,7 +179,7 @@ class Manager:
         self.processes = {}
 
     def words(self, word, urls=None):
-        return [REPLICA, word, "--etcd", ",".join(urls or self.servers.urls),
+        return [sys.executable, "-B", REPLICA, word, "--etcd", ",".join(urls or self.servers.urls),
                 "--prefix", self.keys.prefix]
 
     def replica(self, name, *options, tool=None, lease=2, urls=None):
@@ -241,8 +241,13 @@ class Manager:
         for process in self.processes.values():
             process.ended()
         last = self.replica("last", "--interval", "0")
+
+        def reads():
+            want(last.child.poll() is None, f"the last replica ended: {last.printed()[-300:]}")
+            return "reads the log" in last.printed()
+
+        wait_for("the last replica reads", reads, 40)
         wait_for("all is answered", self.all_is_answered, 60)
-        wait_for("the last replica reads", lambda: "reads the log" in last.printed())
         last.send(signal.SIGTERM)
         want(last.ended() == 0, f"the last replica failed: {last.printed()[-300:]}")
 

@@ -39,7 +39,13 @@ class Run:
     def is_alive(self):
         return self.process.child.poll() is None
 
+    def has_begun(self):
+        return "session " in self.process.printed() or not self.is_alive()
+
     def stop(self, number):
+        # Before its first line Python itself may print a traceback.
+        if number != signal.SIGKILL:
+            wait_for("a writer begins", self.has_begun, 40)
         self.signals.add(number)
         self.process.go_on()
         self.process.send(number)
@@ -110,7 +116,7 @@ class Faults:
     def end_replica(self):
         name = self.leader_or_any()
         self.manager.processes[name].send(signal.SIGINT)
-        if self.manager.processes[name].ended() == 0:
+        if self.manager.processes[name].ended() != 1:
             self.start_replica(name)
         return name
 
@@ -189,7 +195,7 @@ class Faults:
         session = Session(self.new_lines(self.each))
         self.sessions.append(session)
         run = self.start(session, session.lines)
-        wait_for("a session", lambda: "session " in run.process.printed() or not run.is_alive(), 40)
+        wait_for("a session", run.has_begun, 40)
         if "session " not in run.process.printed():
             # No server has answered.
             self.sessions.remove(session)
