@@ -12,8 +12,9 @@ import time
 from batches import LEADER, Batch, value_of
 from keys import Stop, number_of, numbered
 from log import Fenced, Tail, position_of
+from name import Name
 from store import ANSWER, LeaseGone, Refused, Store, StoreError, absent, after, created, get
-from store import has_lease, modified, put
+from store import modified, put
 
 # Seconds between two turns of the keeper. Seconds after which a leader whose reader hangs gives
 # way.
@@ -30,13 +31,12 @@ class Leadership:
     """What the keeper and the publisher of a replica share."""
 
     def __init__(self, replica, name, servers, lease, interval, keep):
-        self.replica, self.name, self.keys, self.say = replica, name, replica.keys, replica.say
-        self.status_key = self.keys.replicas + name
+        self.replica, self.keys, self.say = replica, replica.keys, replica.say
         self.servers = servers
         self.store = Store(servers, max(1, min(ANSWER, lease // 3)))
         self.publishing = Store(servers)
-        self.seconds, self.interval, self.keep = lease, interval, keep
-        self.lease = None
+        self.name = Name(self.store, self.keys, name, lease)
+        self.interval, self.keep = interval, keep
         # When this replica's key as the leader was created; 0 if it does not lead.
         self.epoch = 0
         # Set once the lease is gone: then the publisher lets etcd decide.
@@ -75,14 +75,14 @@ class Leadership:
         # A leader that reads no further gives way to another one.
         hangs = time.monotonic() - self.read_at > HANG
         try:
-            if self.lease is None:
-                self.take_name()
+            if not self.name.lease:
+                self.name.take(self.status())
             elif not (hangs and self.epoch):
-                self.store.keep_alive(self.lease)
+                self.store.keep_alive(self.name.lease)
             self.look(hangs)
             self.write_status()
         except LeaseGone:
-            self.lease = None
+            self.name.lease = None
             self.doubt = True
         self.replica.stopped.wait(TURN)
 
@@ -109,15 +109,15 @@ class Leadership:
         ready = applied + 1 >= position[0] and hashes.count <= HASHES and not hangs
         holder = leader.entries[0] if leader.entries else None
         if holder is None and ready and not self.epoch:
-            own = json.dumps({"name": self.name})
+            own = json.dumps({"name": self.name.text})
             outcome = self.store.transact(
-                [absent(keys.leader)], [put(keys.leader, own, self.lease)], [get(keys.leader)]
+                [absent(keys.leader)], [put(keys.leader, own, self.name.lease)], [get(keys.leader)]
             )
             if outcome.succeeded:
                 self.lead(outcome.revision)
                 return
             holder = outcome.ranges[0].entries[0] if outcome.ranges[0].entries else None
-        own = holder is not None and holder.lease == self.lease
+        own = holder is not None and holder.lease == self.name.lease
         if own and not self.epoch:
             # The answer to the transaction was lost.
             self.lead(holder.created)
@@ -134,17 +134,12 @@ class Leadership:
         if time.monotonic() - self.status_at < 1:
             return
         self.status_at = time.monotonic()
-        outcome = self.store.transact(
-            [has_lease(self.status_key, self.lease)],
-            [put(self.status_key, self.status(), self.lease)],
-        )
-        if not outcome.succeeded:
-            raise LeaseGone("the lease of the name has run out")
+        self.name.write(self.status())
 
     def status(self, stopped=None):
         replica = self.replica
         with replica.changed:
-            status = {"name": self.name, "leads": bool(self.epoch), "applied": replica.applied,
+            status = {"name": self.name.text, "leads": bool(self.epoch), "applied": replica.applied,
                       "lines": replica.lines, "hashed": replica.hashed[0],
                       "hash": replica.hashed[1]}
         return json.dumps({**status, "stopped": stopped} if stopped else status)
@@ -231,35 +226,12 @@ class Leadership:
     # Start and end.
 
     def join(self):
-        """Refuses times that etcd does not take, and takes the name of this replica. A dead one
-        keeps that until its lease has run out."""
+        """Refuses times that etcd does not take, and takes the name of this replica."""
         try:
             self.grant_keep_lease()
         except Refused as error:
             raise Stop(f"--keep {self.keep}: {error}") from None
-        first = found = self.store.value(self.status_key)
-        if found and found.lease:
-            self.say("waits for the lease of another replica with this name")
-        # One that is alive writes its status each second.
-        while found and found.lease and found.modified == first.modified:
-            self.replica.stopped.wait(TURN)
-            found = self.store.value(self.status_key)
-        try:
-            self.take_name()
-        except Refused as error:
-            raise Stop(f"--lease {self.seconds}: {error}") from None
-
-    def take_name(self):
-        """Puts the status under a new lease, if no other replica's is there."""
-        lease = self.store.grant(self.seconds)
-        outcome = self.store.transact(
-            [has_lease(self.status_key, 0)], [put(self.status_key, self.status(), lease)],
-            [get(self.status_key)],
-        )
-        if not outcome.succeeded and outcome.ranges[0].entries[0].lease != lease:
-            self.store.revoke(lease)
-            raise Stop(f"another replica runs under the name {self.name}")
-        self.lease = lease
+        self.name.take_first(self.status(), self.say)
 
     def start(self):
         for thread in self.threads:
@@ -278,15 +250,7 @@ class Leadership:
             if thread.ident:
                 thread.join(5)
         self.epoch = 0
-        store = Store(self.servers)
         try:
-            if why:
-                any(self.leave_status(store, lease, why) for lease in (self.lease or 0, 0))
-            if self.lease:
-                store.revoke(self.lease)
+            self.name.leave(Store(self.servers), why and self.status(why))
         except StoreError as error:
             self.say(str(error))
-
-    def leave_status(self, store, lease, why):
-        compares = [has_lease(self.status_key, lease)]
-        return store.transact(compares, [put(self.status_key, self.status(why))]).succeeded
