@@ -264,6 +264,9 @@ class Faults:
     # The run.
 
     def strike(self):
+        # So the n-th fault is the same in each run, whatever came before.
+        self.draw = random.Random(f"{self.seed} {len(self.schedule)}")
+        time.sleep(self.draw.uniform(0, 0.4))
         faults = {self.begin_session: 4, self.stop_writer: 6, self.go_on: 4, self.other_input: 3, self.double_writer: 1,
                   self.pause_writer: 1, self.kill_replica: 3, self.end_replica: 1, self.pause_replica: 2, self.copy_name: 1,
                   self.kill_server: 1, self.kill_all_servers: 1, self.pause_server: 1, self.compact: 2}
@@ -284,7 +287,6 @@ class Faults:
                 self.start_replica(name)
             self.begin_session()
             while time.monotonic() < self.since + self.seconds:
-                time.sleep(self.draw.uniform(0, 0.4))
                 self.strike()
                 self.revive()
             self.end_writers()
