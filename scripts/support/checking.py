@@ -1,7 +1,10 @@
 """Functions that the checks on built programs share."""
 
+import functools
 import os
 import re
+import runpy
+import shutil
 import subprocess
 import sys
 import tempfile
@@ -42,15 +45,27 @@ def block_that_begins(page, start):
     return found[0]
 
 
+def python_with(module):
+    """The path of a Python that can import a module: this one, or Debian's. None if neither can."""
+    for path in filter(None, map(shutil.which, (sys.executable, "/usr/bin/python3"))):
+        if subprocess.run([path, "-c", f"import {module}"], stderr=subprocess.DEVNULL).returncode == 0:
+            return path
+    return None
+
+
 class Report:
-    """Prints a line for each check, and at the end how many passed, failed and were skipped."""
+    """Prints a line for each check, and at the end how many passed, failed and were skipped. With
+    the environment variable CHECKS_ONLY only checks whose name contains its text count."""
 
     def __init__(self):
         self.passed = 0
         self.failed = 0
         self.skipped = 0
+        self.only = os.environ.get("CHECKS_ONLY", "")
 
     def check(self, name, body, *arguments):
+        if self.only not in name:
+            return
         try:
             body(*arguments)
         except Exception as error:
@@ -62,6 +77,8 @@ class Report:
             print(f"passed {name}", flush=True)
 
     def skip(self, name, why):
+        if self.only not in name:
+            return
         self.skipped += 1
         print(f"skipped {name}: {why}", flush=True)
 
@@ -93,27 +110,33 @@ def sources(crate):
     return [path for it in [*below_crate(crate), crate] for path in (TOP / "crates" / it / "src").rglob("*.rt")]
 
 
+@functools.cache
 def program(crate):
-    """The path of the program of a crate, which is built only if it is missing. A note says that it
-    is older than its sources."""
+    """The path of the program of a crate, which is built only if it is missing. One that was built
+    from other sources would be checked in vain, so it fails."""
     path = TOP / "crates" / crate / "out" / crate
     if not path.exists():
         print(f"{crate} is not built: proves and builds it first", file=sys.stderr, flush=True)
-        subprocess.run(
-            ["rt", "run"],
-            cwd=TOP / "crates" / crate,
-            stdin=subprocess.DEVNULL,
-            stdout=subprocess.DEVNULL,
-            stderr=subprocess.DEVNULL,
-        )
-    if not path.exists():
-        print(f"FAILED program of {crate}: it cannot be built")
+        quiet = dict.fromkeys(["stdin", "stdout", "stderr"], subprocess.DEVNULL)
+        subprocess.run(["rt", "run"], cwd=TOP / "crates" / crate, **quiet)
+    why = why_outdated(crate, path) if path.exists() else "it cannot be built"
+    if why:
+        print(f"FAILED program of {crate}: {why}")
         print("0 passed, 1 failed")
         sys.exit(1)
-    newest = max(sources(crate), key=lambda it: it.stat().st_mtime)
-    if newest.stat().st_mtime > path.stat().st_mtime:
-        print(f"{crate} was built before {newest.relative_to(TOP)} changed", file=sys.stderr, flush=True)
     return str(path)
+
+
+def why_outdated(crate, path):
+    """Why a program is not of the sources, or None. If `./puljemrod build` left a stamp of this
+    program, the sums of the stamp decide. Otherwise, as after `rt ci`, no source may be newer."""
+    script = runpy.run_path(str(TOP / "puljemrod"))
+    state = script["state_of"](crate)
+    if state != script["NOT_BUILT"]:
+        return None if state == script["CURRENT"] else f"{state}: see ./puljemrod build"
+    newest = max(sources(crate), key=lambda it: it.stat().st_mtime)
+    is_newer = newest.stat().st_mtime > path.stat().st_mtime
+    return f"it was built before {newest.relative_to(TOP)} changed: see ./puljemrod build" if is_newer else None
 
 
 class Proved:

@@ -1,5 +1,8 @@
 """The changed definitions of crates/bm_base/definition-mutants, and the changed models of
-model/mutants: edits of one name make the same change of a rule in both."""
+model/mutants: edits of one name make the same change of a rule in both. The planted bugs of
+scripts/mutants: each edit names the check that has to find it."""
+
+import re
 
 from checking import TOP, want
 
@@ -10,6 +13,8 @@ MODEL = TOP / "model"
 EDITS_OF_DEFINITIONS = DEFINITIONS / "definition-mutants"
 
 EDITS_OF_MODEL = MODEL / "mutants"
+
+PLANTED_BUGS = TOP / "scripts" / "mutants"
 
 
 def names():
@@ -22,12 +27,12 @@ def names():
 
 def edited(edit, folder):
     """The changed texts of the files that an edit names, by their paths below the folder. In the
-    edits of the model `\\n` is the end of a line."""
+    edits of the model and in planted bugs `\\n` is the end of a line."""
     texts = {}
     for line in edit.read_text().splitlines():
         key, _, text = line.partition(":")
         text = text.removeprefix(" ")
-        if edit.parent == EDITS_OF_MODEL:
+        if edit.parent in (EDITS_OF_MODEL, PLANTED_BUGS):
             text = text.replace("\\n", "\n")
         if key == "file":
             path = text
@@ -38,3 +43,10 @@ def edited(edit, folder):
         elif key == "new":
             texts[path] = texts[path].replace(old, text)
     return texts
+
+
+def finder(edit):
+    """The script that has to find a planted bug, and the name of its check."""
+    found = re.findall(r"^found by: (\S+): (.+)$", edit.read_text(), re.MULTILINE)
+    want(len(found) == 1, f"{edit.name} names {len(found)} checks that have to find it")
+    return found[0]
