@@ -1,5 +1,6 @@
 """Functions that the checks on built programs share."""
 
+import contextlib
 import functools
 import os
 import re
@@ -189,6 +190,25 @@ def library(compiler="llvm", crate="puljemrod"):
     else:
         ended_well(["rt", "lib", "--backend", compiler], folder)
     return made
+
+
+def archive():
+    """The static library, which is proved and built only if it is missing or outdated."""
+    path = TOP / "crates/puljemrod/out/libpuljemrod.a"
+    return path if path.exists() and not why_outdated("puljemrod", path) else library()
+
+
+@contextlib.contextmanager
+def without_secret():
+    """The path of a program that answers lines by the library, with the secret of its first word:
+    0 for none. Its second word is the limit of copies."""
+    program("puljemrod_cluster")
+    with tempfile.TemporaryDirectory() as folder:
+        ended_well([TOP / "scripts/build_library", archive(), f"{folder}/dist"])
+        made = f"{folder}/lines_with_secret"
+        source = Path(__file__).with_name("lines_with_secret.c")
+        ended_well(["cc", "-std=gnu11", "-O2", "-I", f"{folder}/dist", "-o", made, source, f"{folder}/dist/libpuljemrod.a"])
+        yield made
 
 
 def chosen_numbers(*words):

@@ -9,7 +9,8 @@
 //
 // The hash is that of `FoldHasher` and `IndexMap`: a product of 128 bits, folded to 64 and to 32. A
 // table takes the lowest bits for the group. So in a table of 2^G groups, where G is SHIFT + BITS,
-// all of these numbers share one 2^BITS-th of the groups.
+// all of these numbers share one 2^BITS-th of the groups. `scripts/checks/growth_of_costs` checks
+// that without a secret they cost more than other numbers.
 #include <stdint.h>
 #include <stdio.h>
 #include <stdlib.h>
