@@ -55,17 +55,15 @@ class Run:
         """What a writer that has ended has printed, and its status."""
         status, printed = self.process.ended(60), self.process.printed()
         want("Traceback" not in printed, f"a writer printed {printed[-800:]}")
-        want(status in {0, 1, *map(self.status_after, self.signals)}, f"status {status}: {printed[-300:]}")
+        # Python handles no signal at its very end.
+        allowed = {0, 1, *(128 + number for number in self.signals), *(-number for number in self.signals)}
+        want(status in allowed, f"status {status}: {printed[-300:]}")
         want(status < 2 or "--session" in printed or "before it had a session" in printed, f"it printed {printed[-300:]}")
         if self.refused:
             want(self.process.output.read_bytes() == b"", "another input was answered")
             reasons = ("the input is not that of session", "no server of etcd answers")
             want(status == 1 and any(it in printed for it in reasons), f"status {status}: {printed[-300:]}")
         return status
-
-    @staticmethod
-    def status_after(number):
-        return -number if number == signal.SIGKILL else 128 + number
 
 
 class Session:
