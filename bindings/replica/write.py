@@ -7,7 +7,7 @@ import sys
 import threading
 import time
 
-from keys import Keys
+from keys import Keys, Stop
 from store import StoreError
 from writer import Lines, Writer
 
@@ -25,6 +25,8 @@ def write(words, say):
 
     for number in (signal.SIGINT, signal.SIGTERM):
         signal.signal(number, end)
+    if sys.stdin is None:
+        raise Stop("standard input is closed")
     writer = Writer(words.etcd, Keys(words.prefix), say, words.session)
     say(f"session {writer.session.number}")
     lines = Lines(sys.stdin.fileno())
