@@ -5,8 +5,9 @@ import time
 from keys import Stop
 from store import LeaseGone, Refused, get, has_lease, put
 
-# Seconds between two looks whether the name is free.
-LOOK = 0.25
+# Seconds between two looks whether the name is free, and that etcd may take to remove a key whose
+# lease has run out.
+LOOK, GRACE = 0.25, 5
 
 
 class Name:
@@ -17,11 +18,16 @@ class Name:
 
     def take_first(self, status, say):
         """Takes the name when the program starts. A dead replica has it until its lease has run
-        out; one that is alive writes its status each second, and then this one does not start."""
+        out. One that is alive writes its status each second, or at least keeps its lease; then this
+        one does not start."""
         first = found = self.store.value(self.key)
         if found and found.lease:
             say("waits for the lease of another replica with this name")
+            # A new leader among the servers of etcd prolongs all leases.
+            until = time.monotonic() + 2 * self.store.granted(found.lease) + GRACE
         while found and found.lease and found.modified == first.modified:
+            if time.monotonic() > until:
+                break
             time.sleep(LOOK)
             found = self.store.value(self.key)
         while not self.lease:

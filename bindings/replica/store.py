@@ -217,6 +217,10 @@ class Store:
     def grant(self, seconds):
         return int(self.call("lease/grant", {"TTL": seconds})[0]["ID"])
 
+    def granted(self, lease):
+        """For how many seconds a lease was granted, 0 if it is no more."""
+        return int(self.call("lease/timetolive", {"ID": lease})[0].get("grantedTTL", 0))
+
     def keep_alive(self, lease):
         answer, _ = self.call("lease/keepalive", {"ID": lease})
         if int(answer["result"].get("TTL", 0)) <= 0:
