@@ -36,8 +36,18 @@ fn add_node(
 ) -> Result<(), AllocError>
     ensures { OnOk result (names.new ≡ with_node cluster.now names.old row.now) }
 {
-    add_name(alloc, &mut names.racks, row.rack, cluster.racks.name(row.rack))?;
-    add_name(alloc, &mut names.nodes, row.number, cluster.nodes.name(row.number))
+    add_name(
+        alloc,
+        &mut names.racks,
+        row.rack,
+        cluster.racks.name(row.rack),
+    )?;
+    add_name(
+        alloc,
+        &mut names.nodes,
+        row.number,
+        cluster.nodes.name(row.number),
+    )
 }
 
 fn add_storages(alloc: Global, names: &mut Names, cluster: &Cluster) -> Result<(), AllocError>
@@ -58,16 +68,16 @@ fn add_storage(
 ) -> Result<(), AllocError>
     ensures { OnOk result (names.new ≡ with_storage cluster.now names.old row.now) }
 {
-    add_name(alloc, &mut names.storages, row.number, cluster.storages.name(row.number))
+    add_name(
+        alloc,
+        &mut names.storages,
+        row.number,
+        cluster.storages.name(row.number),
+    )
 }
 
 /// Adds a number with its name as it is printed, unless one of them is known.
-fn add_name(
-    alloc: Global,
-    names: &mut NameTable,
-    number: u32,
-    name: &str,
-) -> Result<(), AllocError>
+fn add_name(alloc: Global, names: &mut NameTable, number: u32, name: &str) -> Result<(), AllocError>
     ensures { OnOk result (names.new ≡ with_name names.old number name.now) }
 {
     let printed = escaped(alloc, name)?;

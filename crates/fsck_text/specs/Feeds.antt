@@ -11,8 +11,8 @@ use Rattle.fsck_text.specs.declared.reason.Wrong.{Wrong}
 abbrev pub joined : Text → Text → Text
 joined path text = if is_empty path then text else path ++ 10 ∷ text
 
--- Whether a path goes on in the next line: so far it begins with a slash, has no colon, 58, does not
--- end as that of a directory or a symbolic link, and has at most 4,194,304 bytes.
+-- Whether a path goes on in the next line. So far it begins with a slash, has no colon, 58, and has
+-- at most 4,194,304 bytes. It does not end as that of a directory or of a symbolic link.
 abbrev pub goes_on : Text → Bool
 goes_on path =
     begins path (codes "/") && is_none (cut_at 58 path) && not (ends path (codes " <dir>")) && not (ends path (codes " <symlink>"))
