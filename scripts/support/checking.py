@@ -140,28 +140,47 @@ def why_outdated(crate, path):
     return f"it was built before {newest.relative_to(TOP)} changed: see ./puljemrod build" if is_newer else None
 
 
+@functools.cache
+def toolchain():
+    """The folder of the toolchain."""
+    return Path(ended_well(["rt", "doc"]).decode().strip()).parent
+
+
+def libraries_below(crate):
+    """The libraries of this repository below a crate, as `rt ci` builds them, by their names."""
+    return {it: TOP / "crates" / it / "out/rlib" / f"{it}.rlib" for it in below_crate(crate)}
+
+
+def words_of_library(crate):
+    """The words by which the prover reads a library of this repository in the current folder, over
+    the built libraries below it."""
+    kit, below = toolchain(), libraries_below(crate)
+    words = ["--crate-name", crate, "src/lib.rt"]
+    for name in ["std", *USES[crate]]:
+        words += ["--extern", f"{name}={below.get(name, kit / f'rlibs/{name}.rlib')}"]
+    for path in [kit / "rlibs", *(it.parent for it in below.values())]:
+        words += ["-L", f"dependency={path}"]
+    return [*words, "--antt-project", kit / "rattle/logic/antt-project.json", "--links", f"{crate}="]
+
+
+def words_of_proof(jobs):
+    return ["--logic-built", toolchain() / "logic_built", "--jobs", jobs]
+
+
 class Proved:
     """A static library, proved over the built libraries below it: once for both compilers, as `rt
     ci` does for a program."""
 
-    def __init__(self, crate, below):
-        kit = Path(ended_well(["rt", "doc"]).decode().strip()).parent
-        self.folder, self.rattle = TOP / "crates" / crate, kit / "bin/rattle"
-        self.words = ["--crate-name", crate, "src/lib.rt", "--crate-type", "staticlib"]
-        for name in ["std", *USES[crate]]:
-            self.words += ["--extern", f"{name}={below.get(name, kit / f'rlibs/{name}.rlib')}"]
-        for path in [kit / "rlibs", *(it.parent for it in below.values())]:
-            self.words += ["-L", f"dependency={path}"]
-        self.words += ["--antt-project", kit / "rattle/logic/antt-project.json", "--links", f"{crate}="]
+    def __init__(self, crate):
+        self.folder, self.rattle = TOP / "crates" / crate, toolchain() / "bin/rattle"
+        self.words = [*words_of_library(crate), "--crate-type", "staticlib"]
         self.scratch = tempfile.TemporaryDirectory()
         self.checked = f"{self.scratch.name}/checked"
-        jobs = str(len(os.sched_getaffinity(0)))
-        proof = ["--logic-built", kit / "logic_built", "--jobs", jobs, "-o", self.checked]
-        ended_well([self.rattle, "check", *self.words, *proof], self.folder)
-        self.toolchain = kit / "toolchain"
+        jobs = len(os.sched_getaffinity(0))
+        ended_well([self.rattle, "check", *self.words, *words_of_proof(jobs), "-o", self.checked], self.folder)
 
     def build(self, compiler, made):
-        words = ["--crate-checked", self.checked, "--toolchain", self.toolchain, "--backend", compiler, "-o", made]
+        words = ["--crate-checked", self.checked, "--toolchain", toolchain() / "toolchain", "--backend", compiler, "-o", made]
         ended_well([self.rattle, "build", *self.words, *words], self.folder)
 
 
@@ -182,10 +201,10 @@ def library(compiler="llvm", crate="puljemrod"):
     that are there."""
     folder = TOP / "crates" / crate
     made = folder / "out" / f"lib{crate}.a"
-    below = {name: TOP / "crates" / name / "out/rlib" / f"{name}.rlib" for name in below_crate(crate)}
-    if all(it.is_dir() for it in below.values()) and not any((it.parent / "stamp").exists() for it in below.values()):
+    below = libraries_below(crate).values()
+    if all(it.is_dir() for it in below) and not any((it.parent / "stamp").exists() for it in below):
         if crate not in PROVED:
-            PROVED[crate] = Proved(crate, below)
+            PROVED[crate] = Proved(crate)
         PROVED[crate].build(compiler, made)
     else:
         ended_well(["rt", "lib", "--backend", compiler], folder)
