@@ -25,7 +25,7 @@ IN_BRACES = re.compile(
 MARGIN = re.compile(r"^[ \t]*\*+ ?", re.MULTILINE)
 
 # What an edit does; all else in its file are remarks.
-KEY = re.compile(r"(?:found by|file|old|new):(?: |$)")
+KEY = re.compile(r"(?:found by|only|refused|file|old|new):(?: |$)")
 
 FENCED = re.compile(r"^```.*?(?:^```$|\Z)", re.MULTILINE | re.DOTALL)
 

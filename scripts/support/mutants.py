@@ -25,6 +25,11 @@ def names():
     return sorted(of_definitions)
 
 
+def is_named_mutant(path):
+    """Whether the file is the edit of a mutant that ./check tries."""
+    return path.suffix == ".edit" and "\nonly: " in f"\n{path.read_text()}"
+
+
 def edited(edit, folder):
     """The changed texts of the files that an edit names, by their paths below the folder. In the
     edits of the model and in planted bugs `\\n` is the end of a line."""
