@@ -179,10 +179,6 @@ class Options(ctypes.Structure):
 
 def load(path):
     """The functions of the library with their types."""
-    try:
-        library = ctypes.CDLL(str(path))
-    except OSError as error:
-        raise Fault(f"the library cannot be loaded: {error}") from None
     handle, size = ctypes.POINTER(Handle), ctypes.c_size_t
     types = {
         "open": [handle, ctypes.POINTER(Options)],
@@ -192,10 +188,14 @@ def load(path):
         "calls": [handle, ctypes.POINTER(ctypes.c_uint64)],
         "close": [handle],
     }
-    for name, arguments in types.items():
-        function = getattr(library, f"puljemrod_{name}")
-        function.argtypes = arguments
-        function.restype = size if name == "answer" else ctypes.c_uint32
+    try:
+        library = ctypes.CDLL(str(path))
+        for name, arguments in types.items():
+            function = getattr(library, f"puljemrod_{name}")
+            function.argtypes = arguments
+            function.restype = size if name == "answer" else ctypes.c_uint32
+    except (OSError, AttributeError) as error:
+        raise Fault(f"the library cannot be loaded: {error}") from None
     return library
 
 
