@@ -1,10 +1,19 @@
-//! The line tool in Rust: answers each line of standard input by a line of standard output.
+//! The line tool in Rust: answers each line of standard input by a line of standard output. Its
+//! arguments are shards, work, invalidate and pend, in this order; the last ones may be left out.
 
 use puljemrod::{Manager, Options};
+use std::env;
+use std::error::Error;
 use std::io::{self, BufRead, BufWriter, Write};
+use std::process::ExitCode;
 
-fn main() -> Result<(), Box<dyn std::error::Error>> {
-    let mut manager = Manager::open(&Options::default())?;
+fn answer_lines() -> Result<(), Box<dyn Error>> {
+    let mut options = Options::default();
+    let Options { shards, work, invalidate, pend, .. } = &mut options;
+    for (field, word) in [shards, work, invalidate, pend].into_iter().zip(env::args().skip(1)) {
+        *field = word.parse()?;
+    }
+    let mut manager = Manager::open(&options)?;
     let mut output = BufWriter::new(io::stdout().lock());
     let (mut input, mut line) = (io::stdin().lock(), Vec::new());
     while input.read_until(b'\n', &mut line)? > 0 {
@@ -13,4 +22,14 @@ fn main() -> Result<(), Box<dyn std::error::Error>> {
         line.clear();
     }
     Ok(output.flush()?)
+}
+
+fn main() -> ExitCode {
+    match answer_lines() {
+        Ok(()) => ExitCode::SUCCESS,
+        Err(error) => {
+            eprintln!("lines: {error}");
+            ExitCode::FAILURE
+        }
+    }
 }

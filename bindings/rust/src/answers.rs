@@ -26,7 +26,7 @@ pub struct Replica {
 /// What a round commands a node.
 #[derive(Clone, Copy, Debug, PartialEq, Eq)]
 pub enum Command {
-    Copy { node: u32, block: u64, gen: u64, len: u64, source: u32, target: u32 },
+    Copy { node: u32, block: u64, generation: u64, len: u64, source: u32, target: u32 },
     Delete { node: u32, storage: u32, block: u64 },
 }
 

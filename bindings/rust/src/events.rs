@@ -6,7 +6,7 @@
 pub struct Entry {
     pub from: u64,
     pub to: u64,
-    pub gen: u64,
+    pub generation: u64,
     pub len: u64,
 }
 
@@ -31,11 +31,11 @@ pub enum Event {
     Heartbeat { node: u32, remaining: Vec<Remaining> },
     Dead { node: u32 },
     StorageFailed { storage: u32 },
-    Add { id: u64, gen: u64, len: u64, repl: u32 },
+    Add { id: u64, generation: u64, len: u64, repl: u32 },
     Delete { id: u64 },
     SetReplication { id: u64, repl: u32 },
-    Restamp { id: u64, gen: u64, len: u64 },
-    Received { storage: u32, id: u64, gen: u64, len: u64 },
+    Restamp { id: u64, generation: u64, len: u64 },
+    Received { storage: u32, id: u64, generation: u64, len: u64 },
     Deleted { storage: u32, id: u64 },
     Corrupt { storage: u32, id: u64 },
     Report { storage: u32, blocks: Vec<Entry> },

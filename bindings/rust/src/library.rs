@@ -2,7 +2,9 @@
 
 use crate::answers::{Command, Commands, Done, Replica, Tag};
 use crate::events::{Entry, Event, Remaining};
+use std::collections::hash_map::RandomState;
 use std::fmt;
+use std::hash::{BuildHasher, Hasher};
 use std::ptr;
 
 #[repr(C)]
@@ -28,13 +30,17 @@ pub struct Options {
     pub first_round: u64,
     /// The number of accepted calls at the start.
     pub first_call: u64,
-    /// Random bits that whoever chooses block numbers does not know.
+    /// Random bits that whoever chooses block numbers does not know. 0 is no secret: then chosen
+    /// numbers can make each call slow.
     pub secret: u64,
 }
 
 impl Default for Options {
+    /// The standard values, with a secret that is drawn. The random keys of std's `RandomState`,
+    /// which come from the system, make it.
     fn default() -> Options {
-        Options { shards: 1, work: 2, invalidate: 1000, pend: 100, first_round: 0, first_call: 0, secret: 0 }
+        let secret = RandomState::new().build_hasher().finish();
+        Options { shards: 1, work: 2, invalidate: 1000, pend: 100, first_round: 0, first_call: 0, secret }
     }
 }
 
@@ -133,7 +139,7 @@ fn tag(number: u32) -> Tag {
 
 fn copy_command(row: &CopyRow) -> Command {
     let CopyRow { node, source, target, block, generation, len } = *row;
-    Command::Copy { node, block, gen: generation, len, source, target }
+    Command::Copy { node, block, generation, len, source, target }
 }
 
 fn delete_command(row: &DeleteRow) -> Command {
@@ -158,11 +164,13 @@ unsafe fn apply(handle: *mut Handle, event: &Event) -> u32 {
             }
             Event::Dead { node } => puljemrod_dead(handle, node),
             Event::StorageFailed { storage } => puljemrod_storage_failed(handle, storage),
-            Event::Add { id, gen, len, repl } => puljemrod_add_block(handle, id, gen, len, repl),
+            Event::Add { id, generation, len, repl } => puljemrod_add_block(handle, id, generation, len, repl),
             Event::Delete { id } => puljemrod_delete_block(handle, id),
             Event::SetReplication { id, repl } => puljemrod_set_replication(handle, id, repl),
-            Event::Restamp { id, gen, len } => puljemrod_restamp(handle, id, gen, len),
-            Event::Received { storage, id, gen, len } => puljemrod_received(handle, storage, id, gen, len),
+            Event::Restamp { id, generation, len } => puljemrod_restamp(handle, id, generation, len),
+            Event::Received { storage, id, generation, len } => {
+                puljemrod_received(handle, storage, id, generation, len)
+            }
             Event::Deleted { storage, id } => puljemrod_deleted(handle, storage, id),
             Event::Corrupt { storage, id } => puljemrod_corrupt(handle, storage, id),
             Event::Report { storage, ref blocks } => {
@@ -172,46 +180,30 @@ unsafe fn apply(handle: *mut Handle, event: &Event) -> u32 {
     }
 }
 
-/// Whether an accepted event of this kind neither adds nor removes replicas: at most their marks
-/// change, as `change_holdings` in crates/bm_base/specs/Machine/Events.antt defines.
-fn keeps_replicas(event: &Event) -> bool {
-    match event {
-        Event::Register { .. }
-        | Event::Drain { .. }
-        | Event::Undrain { .. }
-        | Event::Heartbeat { .. }
-        | Event::Add { .. }
-        | Event::Delete { .. }
-        | Event::SetReplication { .. }
-        | Event::Restamp { .. }
-        | Event::Corrupt { .. } => true,
-        Event::Dead { .. }
-        | Event::StorageFailed { .. }
-        | Event::Received { .. }
-        | Event::Deleted { .. }
-        | Event::Report { .. } => false,
-    }
-}
-
 /// Copies out rows from an index on, and returns how many.
 type CopyOut<R> = unsafe extern "C" fn(*mut Handle, usize, *mut R, usize) -> usize;
 
-const NO_TEXT: u32 = 34;
-const MEMORY: u32 = 14;
-
-/// Why a call was refused. A refused call has changed nothing.
+/// Why a call has no answer. A refused call has changed nothing.
+///
+/// With the number [`Error::NO_TEXT`] the line is not refused: it is answered and counts, but
+/// memory was refused for the text of its answer. [`Manager::text`] makes the text.
 #[derive(Clone, Copy, Debug, PartialEq, Eq)]
 pub struct Error {
     number: u32,
 }
 
 impl Error {
-    /// The number of the refusal, as docs/FORMATS.md lists it.
+    /// The number of `Memory`: nothing has changed, and the call may be made again.
+    pub const MEMORY: u32 = 14;
+    /// The number of `NoText`.
+    pub const NO_TEXT: u32 = 34;
+
+    /// The number of the refusal, as docs/FORMATS.md lists it, or `NO_TEXT`.
     pub fn number(&self) -> u32 {
         self.number
     }
 
-    /// Its name, as docs/FORMATS.md lists it.
+    /// Its name, as docs/FORMATS.md lists it, or `NoText`.
     pub fn name(&self) -> &'static str {
         match self.number {
             1 => "UnknownNode",
@@ -231,6 +223,7 @@ impl Error {
             15 => "BadConfig",
             20 => "BadLine",
             21 => "LongLine",
+            34 => "NoText",
             _ => "Unknown",
         }
     }
@@ -238,7 +231,10 @@ impl Error {
 
 impl fmt::Display for Error {
     fn fmt(&self, f: &mut fmt::Formatter<'_>) -> fmt::Result {
-        write!(f, "refused {} {}", self.number, self.name())
+        match self.number {
+            Error::NO_TEXT => f.write_str("the line is answered, but memory was refused for the text"),
+            number => write!(f, "refused {number} {}", self.name()),
+        }
     }
 }
 
@@ -248,7 +244,14 @@ fn checked(code: u32) -> Result<(), Error> {
     if code == 0 { Ok(()) } else { Err(Error { number: code }) }
 }
 
-/// A block manager. Its calls are made one after another; it may move to another thread.
+/// A block manager. It is `Send`: it may move to another thread. Each call takes `&mut self`, a
+/// question too, since the library keeps the last answer: so no two calls run at the same time. It
+/// is not `Sync`; several threads share a `Mutex<Manager>`.
+///
+/// ```compile_fail,E0277
+/// fn share<T: Sync>() {}
+/// share::<puljemrod::Manager>();
+/// ```
 pub struct Manager {
     // The library asks that a handle never moves once it is open.
     handle: Box<Handle>,
@@ -267,21 +270,31 @@ impl Manager {
     }
 
     /// Answers a line of the tool, without a line end. A refusal is an answer too (`refused 5 ..`).
-    /// An `Err` is `Memory` alone, and then nothing has changed.
+    /// An `Err` is `Memory`, and then nothing has changed, or `NoText`.
     pub fn line(&mut self, line: &[u8]) -> Result<Vec<u8>, Error> {
         let mut len = 0;
         // SAFETY: the handle is open, and the line is `line.len()` bytes.
-        let mut code = unsafe { puljemrod_line(&mut *self.handle, line.as_ptr(), line.len(), &mut len) };
-        while code == NO_TEXT {
-            // The call counts: so its text is asked for until there is memory for it.
-            // SAFETY: as above.
-            code = unsafe { puljemrod_text(&mut *self.handle, &mut len) };
-        }
-        if code == MEMORY {
+        let code = unsafe { puljemrod_line(&mut *self.handle, line.as_ptr(), line.len(), &mut len) };
+        self.answer(code, len)
+    }
+
+    /// The text of the last answer: after `NoText`, once more, or that of a typed call. No state
+    /// changes. An `Err` is `NoText` alone.
+    pub fn text(&mut self) -> Result<Vec<u8>, Error> {
+        let mut len = 0;
+        // SAFETY: the handle is open.
+        let code = unsafe { puljemrod_text(&mut *self.handle, &mut len) };
+        self.answer(code, len)
+    }
+
+    fn answer(&mut self, code: u32, len: usize) -> Result<Vec<u8>, Error> {
+        if matches!(code, Error::MEMORY | Error::NO_TEXT) {
             return Err(Error { number: code });
         }
-        let mut answer = vec![0; len];
-        // SAFETY: the answer is copied into `len` bytes of this call.
+        let mut answer = Vec::new();
+        answer.try_reserve_exact(len).map_err(|_| Error { number: Error::NO_TEXT })?;
+        answer.resize(len, 0);
+        // SAFETY: the handle is open, and the answer is copied into `len` bytes of this call.
         let copied = unsafe { puljemrod_answer(&mut *self.handle, 0, answer.as_mut_ptr(), len) };
         answer.truncate(copied);
         Ok(answer)
@@ -291,9 +304,6 @@ impl Manager {
     pub fn apply(&mut self, event: &Event) -> Result<Done, Error> {
         // SAFETY: the handle is open, and each list is read while its call runs.
         checked(unsafe { apply(&mut *self.handle, event) })?;
-        if keeps_replicas(event) {
-            return Ok(Done { added: 0, removed: 0 });
-        }
         let mut done = DoneRow::default();
         // SAFETY: the handle is open, and the counts are of this call.
         checked(unsafe { puljemrod_done(&mut *self.handle, &mut done) })?;

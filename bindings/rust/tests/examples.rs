@@ -34,9 +34,9 @@ fn cluster() -> Manager {
     }
     let remaining = vec![Remaining { storage: 21, remaining: 1000 }];
     manager.apply(&Event::Heartbeat { node: 2, remaining }).unwrap();
-    manager.apply(&Event::Add { id: 7, gen: 1, len: 64, repl: 2 }).unwrap();
+    manager.apply(&Event::Add { id: 7, generation: 1, len: 64, repl: 2 }).unwrap();
     for storage in [11, 31] {
-        let done = manager.apply(&Event::Received { storage, id: 7, gen: 1, len: 64 }).unwrap();
+        let done = manager.apply(&Event::Received { storage, id: 7, generation: 1, len: 64 }).unwrap();
         assert_eq!(done, Done { added: 1, removed: 0 });
     }
     manager
@@ -51,9 +51,9 @@ fn a_corrupt_replica_is_copied_and_then_deleted() {
     manager.apply(&Event::Corrupt { storage: 11, id: 7 }).unwrap();
     assert_eq!(manager.level(7), Ok(Some(0)));
     assert_eq!(manager.corrupt(), Ok(vec![(7, 11)]));
-    let copy = Command::Copy { node: 3, block: 7, gen: 1, len: 64, source: 31, target: 21 };
+    let copy = Command::Copy { node: 3, block: 7, generation: 1, len: 64, source: 31, target: 21 };
     assert_eq!(manager.round(), Ok(Commands { round: 1, commands: vec![copy] }));
-    manager.apply(&Event::Received { storage: 21, id: 7, gen: 1, len: 64 }).unwrap();
+    manager.apply(&Event::Received { storage: 21, id: 7, generation: 1, len: 64 }).unwrap();
     let delete = Command::Delete { node: 1, storage: 11, block: 7 };
     assert_eq!(manager.round(), Ok(Commands { round: 2, commands: vec![delete] }));
     assert_eq!((manager.calls(), manager.rounds()), (Ok(11), Ok(2)));
@@ -66,7 +66,7 @@ fn a_corrupt_replica_is_copied_and_then_deleted() {
 #[test]
 fn lists_and_reports() {
     let mut manager = cluster();
-    let blocks = vec![Entry { from: 7, to: 8, gen: 1, len: 64 }];
+    let blocks = vec![Entry { from: 7, to: 8, generation: 1, len: 64 }];
     let done = manager.apply(&Event::Report { storage: 21, blocks });
     assert_eq!(done, Ok(Done { added: 2, removed: 0 }));
     assert_eq!(manager.blocks_on(21), Ok(vec![7, 8]));
@@ -96,7 +96,7 @@ fn a_draining_node_retires_and_a_manager_moves_between_threads() {
     let mut manager = std::thread::spawn(move || {
         assert_eq!(manager.retired(1), Ok(false));
         manager.round().unwrap();
-        manager.apply(&Event::Received { storage: 21, id: 7, gen: 1, len: 64 }).unwrap();
+        manager.apply(&Event::Received { storage: 21, id: 7, generation: 1, len: 64 }).unwrap();
         manager
     })
     .join()
@@ -105,7 +105,7 @@ fn a_draining_node_retires_and_a_manager_moves_between_threads() {
     manager.apply(&Event::Undrain { node: 1 }).unwrap();
     assert_eq!(manager.retired(1), Ok(false));
     manager.apply(&Event::SetReplication { id: 7, repl: 3 }).unwrap();
-    manager.apply(&Event::Restamp { id: 7, gen: 2, len: 65 }).unwrap();
+    manager.apply(&Event::Restamp { id: 7, generation: 2, len: 65 }).unwrap();
     assert_eq!(manager.places(7), Ok(vec![]));
 }
 
@@ -137,13 +137,13 @@ fn typed_events_are_answered_as_their_lines() {
         "ok 0 0",
     );
     compare(
-        Event::Add { id: 7, gen: 1, len: 64, repl: 2 },
+        Event::Add { id: 7, generation: 1, len: 64, repl: 2 },
         r#"{"op":"add","id":7,"gen":1,"len":64,"repl":2}"#,
         "ok 0 0",
     );
     for (storage, answer) in [(11, "ok 1 0"), (21, "ok 1 0"), (21, "ok 0 0"), (12, "ok 1 1")] {
         let line = format!(r#"{{"op":"received","storage":{storage},"id":7,"gen":1,"len":64}}"#);
-        compare(Event::Received { storage, id: 7, gen: 1, len: 64 }, &line, answer);
+        compare(Event::Received { storage, id: 7, generation: 1, len: 64 }, &line, answer);
     }
     for storage in [12, 11] {
         let line = format!(r#"{{"op":"corrupt","storage":{storage},"id":7}}"#);
@@ -155,14 +155,14 @@ fn typed_events_are_answered_as_their_lines() {
         "ok 0 0",
     );
     compare(
-        Event::Restamp { id: 7, gen: 2, len: 65 },
+        Event::Restamp { id: 7, generation: 2, len: 65 },
         r#"{"op":"restamp","id":7,"gen":2,"len":65}"#,
         "ok 0 0",
     );
     compare(Event::Drain { node: 1 }, r#"{"op":"drain","node":1}"#, "ok 0 0");
     compare(Event::Undrain { node: 1 }, r#"{"op":"undrain","node":1}"#, "ok 0 0");
     compare(Event::Delete { id: 7 }, r#"{"op":"delete","id":7}"#, "ok 0 0");
-    let blocks = vec![Entry { from: 7, to: 9, gen: 2, len: 65 }];
+    let blocks = vec![Entry { from: 7, to: 9, generation: 2, len: 65 }];
     compare(
         Event::Report { storage: 12, blocks },
         r#"{"op":"report","storage":12,"blocks":[[7,9,2,65]]}"#,
