@@ -1,11 +1,6 @@
-import java.io.IOException;
 import java.nio.charset.StandardCharsets;
-import java.nio.file.DirectoryStream;
-import java.nio.file.Files;
-import java.nio.file.Path;
 import java.nio.file.Paths;
-import java.util.ArrayList;
-import java.util.List;
+import java.security.SecureRandom;
 import java.util.Objects;
 
 /**
@@ -20,9 +15,9 @@ import java.util.Objects;
  * }
  * </pre>
  *
- * The answers are proved to be the definition's. The calls of one manager are made one after
- * another; its methods are synchronized. The property {@code puljemrod.jni} names the library that
- * the README builds.
+ * The answers are proved to be the definition's. Any thread may call a manager: its methods are
+ * synchronized, so that its calls are made one after another. The property {@code puljemrod.jni}
+ * names the library that the README builds.
  */
 public final class Puljemrod implements AutoCloseable {
     static {
@@ -41,13 +36,16 @@ public final class Puljemrod implements AutoCloseable {
         public int pend = 100;
         public long firstRound = 0;
         public long firstCall = 0;
-        /** Random bits that whoever chooses block numbers does not know. */
-        public long secret = 0;
+        /**
+         * Random bits that whoever chooses block numbers does not know, drawn from the system. 0 is
+         * no secret: then chosen numbers can make each call slow.
+         */
+        public long secret = new SecureRandom().nextLong();
     }
 
     /**
-     * A manager could not be opened, or a line not be answered. The number is that of
-     * docs/FORMATS.md.
+     * A manager could not be opened, or a line not be answered: then nothing has changed. The
+     * number is that of docs/FORMATS.md.
      */
     public static final class RefusedException extends RuntimeException {
         private static final long serialVersionUID = 1;
@@ -59,8 +57,27 @@ public final class Puljemrod implements AutoCloseable {
         }
     }
 
+    /**
+     * The line is answered and counts, but memory was refused for the text of its answer, or an
+     * array cannot hold it. It has no stack trace: it was made before any line, since there may be
+     * no memory when it is thrown.
+     */
+    public static final class TextOwedException extends RuntimeException {
+        private static final long serialVersionUID = 1;
+
+        TextOwedException() {
+            super("the line is answered, but memory was refused for the text", null, false, false);
+        }
+    }
+
+    private static final TextOwedException TEXT_OWED = new TextOwedException();
+
     private static final int OK = 0;
     private static final int MEMORY = 14;
+    private static final int NO_TEXT = 34;
+
+    /** The most bytes of an array. */
+    private static final int MOST_BYTES = Integer.MAX_VALUE - 8;
 
     /** The address of the C library's handle; 0 once it is closed. */
     private long handle;
@@ -80,25 +97,50 @@ public final class Puljemrod implements AutoCloseable {
 
     /**
      * Answers a line, without a line end. A refusal is an answer too ("refused 5 UnknownBlock").
-     * Throws where memory was refused (14): then nothing has changed. After an OutOfMemoryError the
-     * line counts, and only its answer is lost: Java has no memory for it, or it has more bytes
-     * than an array can hold.
+     *
+     * <p>After a TextOwedException the line counts, and {@code text} gives its answer. After any
+     * other exception or error it does not count, and nothing has changed. These are a
+     * RefusedException (14) where the library was refused memory, an OutOfMemoryError where Java
+     * was, and an IllegalStateException after {@code close}.
      */
-    public String line(String line) {
-        return new String(line(line.getBytes(StandardCharsets.UTF_8)), StandardCharsets.US_ASCII);
+    public synchronized String line(String line) {
+        answer(line.getBytes(StandardCharsets.UTF_8));
+        return text();
     }
 
     /** The same for bytes. */
     public synchronized byte[] line(byte[] line) {
-        Objects.requireNonNull(line);
-        if (handle == 0) {
-            throw new IllegalStateException("the manager is closed");
+        answer(line);
+        return textBytes();
+    }
+
+    /**
+     * The answer to the last line once more, also after a TextOwedException. No state changes.
+     * Throws TextOwedException where memory is refused.
+     */
+    public synchronized String text() {
+        byte[] bytes = textBytes();
+        try {
+            return new String(bytes, StandardCharsets.US_ASCII);
+        } catch (OutOfMemoryError error) {
+            throw TEXT_OWED;
         }
-        byte[] answer = answer(handle, line);
-        if (answer == null) {
-            throw new RefusedException(MEMORY);
+    }
+
+    /** The same in bytes. */
+    public synchronized byte[] textBytes() {
+        long len = textLength(opened());
+        if (len < 0 || len > MOST_BYTES) {
+            throw TEXT_OWED;
         }
-        return answer;
+        byte[] text;
+        try {
+            text = new byte[(int) len];
+        } catch (OutOfMemoryError error) {
+            throw TEXT_OWED;
+        }
+        copy(handle, text);
+        return text;
     }
 
     @Override
@@ -109,63 +151,31 @@ public final class Puljemrod implements AutoCloseable {
         }
     }
 
+    private long opened() {
+        if (handle == 0) {
+            throw new IllegalStateException("the manager is closed");
+        }
+        return handle;
+    }
+
+    private void answer(byte[] line) {
+        int code = answer(opened(), Objects.requireNonNull(line));
+        if (code == MEMORY) {
+            throw new RefusedException(MEMORY);
+        }
+        if (code == NO_TEXT) {
+            throw TEXT_OWED;
+        }
+    }
+
     private static native long open(int shards, int work, int invalidate, int pend,
             long firstRound, long firstCall, long secret, int[] code);
 
-    private static native byte[] answer(long handle, byte[] line);
+    private static native int answer(long handle, byte[] line);
+
+    private static native long textLength(long handle);
+
+    private static native void copy(long handle, byte[] text);
 
     private static native void close(long handle);
-
-    /**
-     * Answers the worked examples in the folder that is named, and compares the answers with the
-     * stored ones.
-     */
-    public static void main(String[] words) throws IOException {
-        int passed = 0;
-        int failed = 0;
-        try (DirectoryStream<Path> files = Files.newDirectoryStream(Paths.get(words[0]), "*.jsonl")) {
-            for (Path file : files) {
-                Path stored = Paths.get(file.toString().replaceAll("jsonl$", "txt"));
-                if (!Files.exists(stored)) {
-                    continue;
-                }
-                Options options = new Options();
-                options.shards = 5;
-                List<String> answers = new ArrayList<>();
-                try (Puljemrod manager = new Puljemrod(options)) {
-                    for (String line : Files.readAllLines(file)) {
-                        answers.add(manager.line(line));
-                    }
-                }
-                if (answers.equals(Files.readAllLines(stored))) {
-                    passed++;
-                } else {
-                    failed++;
-                    System.out.println("FAILED " + file);
-                }
-            }
-        }
-        Options wrong = new Options();
-        wrong.shards = 0;
-        try (Puljemrod manager = new Puljemrod(wrong)) {
-            failed++;
-            System.out.println("FAILED: 0 shards are taken");
-        } catch (RefusedException refused) {
-            if (refused.number == 15) {
-                passed++;
-            } else {
-                failed++;
-                System.out.println("FAILED: 0 shards: " + refused.getMessage());
-            }
-        }
-        try (Puljemrod manager = new Puljemrod(new Options())) {
-            manager.line((byte[]) null);
-            failed++;
-            System.out.println("FAILED: null is a line");
-        } catch (NullPointerException refused) {
-            passed++;
-        }
-        System.out.println(passed + " passed, " + failed + " failed");
-        System.exit(failed == 0 && passed > 2 ? 0 : 1);
-    }
 }

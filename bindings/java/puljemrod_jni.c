@@ -5,8 +5,9 @@
 #include <jni.h>
 #include <stdlib.h>
 
-/* The most bytes of an array of Java. */
-static const size_t MOST_BYTES = 0x7ffffff7;
+static puljemrod *handle_at(jlong at) {
+    return (puljemrod *)(intptr_t)at;
+}
 
 JNIEXPORT jlong JNICALL Java_Puljemrod_open(JNIEnv *env, jclass class, jint shards, jint work, jint invalidate,
                                             jint pend, jlong first_round, jlong first_call, jlong secret,
@@ -26,37 +27,38 @@ JNIEXPORT jlong JNICALL Java_Puljemrod_open(JNIEnv *env, jclass class, jint shar
     return (jlong)(intptr_t)handle;
 }
 
-/* Returns NULL where memory was refused, and then nothing has changed. Returns it also where the
- * call counts but Java cannot hold its answer; then an OutOfMemoryError is pending. */
-JNIEXPORT jbyteArray JNICALL Java_Puljemrod_answer(JNIEnv *env, jclass class, jlong at, jbyteArray line) {
+/* The code of the line. Where Java has no memory for its bytes, the line is not taken. */
+JNIEXPORT jint JNICALL Java_Puljemrod_answer(JNIEnv *env, jclass class, jlong at, jbyteArray line) {
     (void)class;
-    puljemrod *handle = (puljemrod *)(intptr_t)at;
     jsize line_len = (*env)->GetArrayLength(env, line);
     jbyte *bytes = (*env)->GetByteArrayElements(env, line, NULL);
-    if (bytes == NULL) return NULL;
-    size_t len = 0;
-    uint32_t code = puljemrod_line(handle, bytes, (size_t)line_len, &len);
+    if (bytes == NULL) return PULJEMROD_MEMORY;
+    size_t len;
+    uint32_t code = puljemrod_line(handle_at(at), bytes, (size_t)line_len, &len);
     (*env)->ReleaseByteArrayElements(env, line, bytes, JNI_ABORT);
-    while (code == PULJEMROD_NO_TEXT) code = puljemrod_text(handle, &len);
-    if (code == PULJEMROD_MEMORY) return NULL;
-    if (len > MOST_BYTES) {
-        (*env)->ThrowNew(env, (*env)->FindClass(env, "java/lang/OutOfMemoryError"), "the answer is too long");
-        return NULL;
-    }
-    jbyteArray answer = (*env)->NewByteArray(env, (jsize)len);
-    if (answer == NULL) return NULL;
+    return (jint)code;
+}
+
+/* The length of the last answer's text; -1 where memory is refused for it. */
+JNIEXPORT jlong JNICALL Java_Puljemrod_textLength(JNIEnv *env, jclass class, jlong at) {
+    (void)env, (void)class;
+    size_t len;
+    return puljemrod_text(handle_at(at), &len) == PULJEMROD_NO_TEXT ? -1 : (jlong)len;
+}
+
+/* Copies the last answer into an array of its length. */
+JNIEXPORT void JNICALL Java_Puljemrod_copy(JNIEnv *env, jclass class, jlong at, jbyteArray text) {
+    (void)class;
     jbyte piece[4096];
     size_t from = 0, count;
-    while ((count = puljemrod_answer(handle, from, piece, sizeof piece)) > 0) {
-        (*env)->SetByteArrayRegion(env, answer, (jsize)from, (jsize)count, piece);
+    while ((count = puljemrod_answer(handle_at(at), from, piece, sizeof piece)) > 0) {
+        (*env)->SetByteArrayRegion(env, text, (jsize)from, (jsize)count, piece);
         from += count;
     }
-    return answer;
 }
 
 JNIEXPORT void JNICALL Java_Puljemrod_close(JNIEnv *env, jclass class, jlong at) {
     (void)env, (void)class;
-    puljemrod *handle = (puljemrod *)(intptr_t)at;
-    puljemrod_close(handle);
-    free(handle);
+    puljemrod_close(handle_at(at));
+    free(handle_at(at));
 }
