@@ -10,6 +10,7 @@
  *
  *     puljemrod manager = PULJEMROD_CLOSED_HANDLE;
  *     puljemrod_options options = PULJEMROD_STANDARD;
+ *     if (getrandom(&options.secret, 8, 0) != 8) return 1;
  *     size_t len;
  *     char text[4096];
  *     if (puljemrod_open(&manager, &options) != PULJEMROD_OK) return 1;
@@ -61,9 +62,12 @@ typedef struct puljemrod_options {
     uint64_t first_round; /* the round number at the start */
     uint64_t first_call;  /* the number of accepted calls at the start */
     uint64_t secret;      /* random bits, unknown to whoever chooses the block numbers: only time
-                             depends on them */
+                             depends on them. 0 IS NO SECRET */
 } puljemrod_options;
 
+/* WITHOUT A SECRET, WHOEVER CHOOSES BLOCK NUMBERS CAN CHOOSE ONES THAT COLLIDE IN THE TABLES: each
+ * call with them is slow. The library has no random bits of its own, so draw a secret where others
+ * choose numbers; on Linux by getrandom of <sys/random.h>, as above. */
 #define PULJEMROD_STANDARD {1, 2, 1000, 100, 0, 0, 0}
 
 /* A code of a call. Codes from 1 to 31 are refusals, with the numbers and names of
