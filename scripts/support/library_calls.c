@@ -1,5 +1,6 @@
 /* Calls each function of the library, with allocations refused too: it is linked with --wrap for
- * malloc, realloc and free. Writes what failed, and then how many checks passed. */
+ * malloc, realloc and free. Writes what failed, and then how many checks passed. With a word it
+ * repeats calls less often, for a run that watches the memory. */
 #include "puljemrod.h"
 
 #include <pthread.h>
@@ -7,8 +8,10 @@
 #include <stdlib.h>
 #include <string.h>
 
-/* LINES is what a run of the line tool reads at most; the library has no such limit. */
-enum { LONGEST = 4194304, OPENS = 1000, LINES = 1048576, DEEPEST = 126, STACK = 1 << 20 };
+enum { LONGEST = 4194304, HEARTBEATS = 1000, DEEPEST = 126, STACK = 1 << 20 };
+
+/* The second is what a run of the line tool reads at most; the library has no such limit. */
+static unsigned opens = 1000, lines = 1048576;
 
 static unsigned passed, failed;
 
@@ -177,7 +180,7 @@ static void more_lines_than_the_tool(void) {
     puljemrod h = PULJEMROD_CLOSED_HANDLE;
     size_t len;
     bool are = puljemrod_open(&h, &standard) == PULJEMROD_OK;
-    for (unsigned n = 0; n <= LINES; n++)
+    for (unsigned n = 0; n <= lines; n++)
         are = take(&h, &rows[7], &len) == rows[7].code && are;
     check(are && is_answered(&h, &rows[0]), "more lines than the tool reads");
     puljemrod_close(&h);
@@ -219,7 +222,7 @@ static void heartbeats_without_memory(void) {
     left = -1;
     bool are = puljemrod_heartbeat(&h, 1, remaining, 4) == 0 && puljemrod_heartbeat(&h, 1, remaining, 4) == 0;
     left = 0;
-    for (unsigned at = 0; at < OPENS; at++) {
+    for (unsigned at = 0; at < HEARTBEATS; at++) {
         are = puljemrod_heartbeat(&h, 1, remaining + at % 2, 4) == 0 && are;
         are = puljemrod_deleted(&h, 11, 5) == 0 && puljemrod_heartbeat(&h, 1, remaining, at % 4) == 0 && are;
     }
@@ -496,7 +499,7 @@ static void allocations_refused(void) {
 static void memory_is_returned(void) {
     long before = blocks;
     bool are = true;
-    for (unsigned n = 0; n < OPENS; n++) {
+    for (unsigned n = 0; n < opens; n++) {
         puljemrod h = PULJEMROD_CLOSED_HANDLE;
         puljemrod_options options = standard;
         options.shards = 1 + n % 64;
@@ -505,7 +508,7 @@ static void memory_is_returned(void) {
         puljemrod_close(&h);
         are = blocks == before && are;
     }
-    check(are, "1,000 opens and closes");
+    check(are, "opens and closes");
 }
 
 static void *answers_in_a_thread(void *handle) {
@@ -571,7 +574,9 @@ static void threads(void) {
     check(are, "four handles at the same time");
 }
 
-int main(void) {
+int main(int count, char **words) {
+    (void)words;
+    if (count > 1) opens = 64, lines = 1000;
     check(sizeof(puljemrod) == 16 && offsetof(puljemrod, is_open) == 8, "the handle's layout");
     check(sizeof(puljemrod_entry) == 32 && sizeof(puljemrod_remaining) == 16, "the layout of rows");
     check(sizeof(puljemrod_copy) == 40 && offsetof(puljemrod_copy, block) == 16, "the layout of copies");
