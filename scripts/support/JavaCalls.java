@@ -21,7 +21,7 @@ final class JavaCalls {
     private static final int TRIES = 1000;
     private static final int THREADS = 4;
     private static final int CALLS = 1000;
-    /** An array of so many bytes is there once in the heap, and not twice. */
+    /** The heap has space for one array of this size, and not for two. */
     private static final int HALF = 9_000_000;
 
     private static int refusedCalls;
