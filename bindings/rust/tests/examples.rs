@@ -79,6 +79,20 @@ fn lists_and_reports() {
 }
 
 #[test]
+fn typed_calls_have_a_text() {
+    let mut manager = cluster();
+    assert_eq!(manager.places(7), Ok(vec![11, 31]));
+    assert_eq!(manager.text().unwrap(), b"places 7; 11; 31");
+    manager.apply(&Event::Delete { id: 8 }).unwrap_err();
+    assert_eq!(manager.text().unwrap(), b"refused 5 UnknownBlock");
+}
+
+#[test]
+fn each_manager_has_a_secret_of_its_own() {
+    assert_ne!(Options::default().secret, Options::default().secret);
+}
+
+#[test]
 fn refusals_have_number_and_name() {
     let mut manager = cluster();
     let refused = manager.apply(&Event::Delete { id: 8 }).unwrap_err();
