@@ -112,7 +112,7 @@ def how_to_run(examples, seed):
     """A decorator: this number of examples, the same in every run or drawn by a seed."""
     chosen = settings(
         max_examples=examples, derandomize=seed is None, database=None, deadline=None,
-        phases=(Phase.generate, Phase.shrink), suppress_health_check=list(HealthCheck),
+        phases=(Phase.generate, Phase.shrink), suppress_health_check=list(HealthCheck), report_multiple_bugs=False,
     )
     return chosen, (lambda test: test) if seed is None else hypothesis.seed(seed)
 
