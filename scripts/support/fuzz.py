@@ -1,17 +1,9 @@
 """Starts the programs fuzz_binding.py and fuzz_python.py, which need hypothesis."""
 
 import subprocess
-import sys
 from pathlib import Path
 
-from checking import want
-
-# The Python of this process, and the one that python3-hypothesis is installed for.
-PYTHONS = [sys.executable, "/usr/bin/python3"]
-
-
-def has_hypothesis(python):
-    return subprocess.run([python, "-c", "import hypothesis"], capture_output=True).returncode == 0
+from checking import python_with, want
 
 
 def ends_so(command, finds):
@@ -24,7 +16,7 @@ def ends_so(command, finds):
 def check_by_fuzz(report, name, program, *words, finds=()):
     """Runs a program of this folder with these words. It finds no difference, or one that it prints
     with these texts. The check is skipped if there is no hypothesis."""
-    python = next(filter(has_hypothesis, PYTHONS), None)
+    python = python_with("hypothesis")
     if python:
         report.check(name, ends_so, [python, "-B", Path(__file__).with_name(program), *words], finds)
     else:
