@@ -4,6 +4,7 @@ import os
 import signal
 import sys
 import threading
+import time
 
 import puljemrod
 
@@ -32,12 +33,20 @@ def interrupted_at(step, call):
 
 
 def until_interrupted(call, most_seconds, draw):
-    """Makes a call again and again until a SIGINT comes, at a random moment."""
-    timer = threading.Timer(draw.uniform(0, most_seconds), os.kill, (os.getpid(), signal.SIGINT))
+    """Makes a call again and again until a SIGINT comes, at a random moment. Python drops the
+    exception if it is raised while an object is finalized: then no call was interrupted."""
+    sent = threading.Event()
+
+    def interrupt():
+        os.kill(os.getpid(), signal.SIGINT)
+        sent.set()
+
+    timer = threading.Timer(draw.uniform(0, most_seconds), interrupt)
     try:
         timer.start()
-        while True:
+        while not sent.is_set():
             call()
+        time.sleep(0.01)
     except KeyboardInterrupt:
         pass
     timer.join()
