@@ -94,13 +94,13 @@ class Faults:
         return leader if leader in NAMES and self.draw.random() < 0.7 else self.draw.choice(NAMES)
 
     def revive(self):
-        """Starts replicas again that have stopped because a compaction came first, or because
-        another one had the name meanwhile."""
+        """Starts replicas again that have stopped because a compaction came first, because another
+        one had the name meanwhile, or by a signal before their first line."""
         for name in NAMES:
             process = self.manager.processes[name]
             if process.child.poll() is not None:
                 printed = process.printed()
-                reasons = ("compacted beyond what was read", "another replica runs under the name", "no server of etcd answers")
+                reasons = ("compacted beyond what was read", "another replica runs under the name", "no server of etcd answers", "KeyboardInterrupt")
                 want(any(it in printed for it in reasons), f"{name} has stopped: {printed[-300:]}")
                 process.path.write_text("")
                 self.start_replica(name)
