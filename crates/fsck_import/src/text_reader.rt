@@ -44,6 +44,7 @@ impl Model for PathLines {
 
 impl PathLines {
     ghost use Rattle.std.specs.Prelude.{◌≡◌, [], OnOk};
+    ghost use Rattle.fsck_text.specs.Cuts.{is_empty};
     ghost use Rattle.fsck_text.specs.Feeds.{joined};
 
     /// No line. Takes no memory.
@@ -53,6 +54,12 @@ impl PathLines {
         PathLines {
             text: String::new(alloc),
         }
+    }
+
+    fn is_empty(&self) -> bool
+        ensures { result ≡ is_empty self.now }
+    {
+        self.text.is_empty()
     }
 
     /// Adds a line.
@@ -71,9 +78,8 @@ impl TakesLines for Reading {
 
     ghost after = { after_line };
 
-    #[tactic(auto, using(crate::proofs::FeedLemmas::first_whole))]
     fn take_line(&mut self, alloc: Global, line: &str) -> Result<(), LineFault> {
-        if self.path.text.is_empty() && !goes_on(line) {
+        if self.path.is_empty() && !goes_on(line) {
             return self.take_whole(alloc, line);
         }
         self.path.add(line)?;
