@@ -219,15 +219,11 @@ def archive():
 
 @contextlib.contextmanager
 def without_secret():
-    """The path of a program that answers lines by the library, with the secret of its first word:
-    0 for none. Its second word is the limit of copies."""
-    program("puljemrod_cluster")
+    """The words before a command of the tool that make its tables hash without a secret."""
     with tempfile.TemporaryDirectory() as folder:
-        ended_well([TOP / "scripts/build_library", archive(), f"{folder}/dist"])
-        made = f"{folder}/lines_with_secret"
-        source = Path(__file__).with_name("lines_with_secret.c")
-        ended_well(["cc", "-std=gnu11", "-O2", "-I", f"{folder}/dist", "-o", made, source, f"{folder}/dist/libpuljemrod.a"])
-        yield made
+        made, source = f"{folder}/no_randomness.so", Path(__file__).with_name("no_randomness.c")
+        ended_well(["cc", "-shared", "-fPIC", "-O2", "-o", made, source])
+        yield ["env", f"LD_PRELOAD={made}"]
 
 
 def chosen_numbers(*words):

@@ -16,7 +16,7 @@ import threading
 import time
 from pathlib import Path
 
-from checking import TOP, Failed, library, want
+from checking import TOP, Failed, want
 
 REPLICA = TOP / "bindings/replica/replica"
 sys.path[:0] = [str(REPLICA.parent), str(TOP / "bindings/python")]
@@ -412,14 +412,6 @@ def session_of(writer):
 
 def etcd_is_there():
     return shutil.which("etcd") is not None
-
-
-def archive():
-    """The library for C, which is built only if it is missing; None if there is no linker."""
-    if not shutil.which("cc"):
-        return None
-    path = TOP / "crates/puljemrod/out/libpuljemrod.a"
-    return path if path.exists() else library()
 
 
 def options_of_library(path, folder):
