@@ -54,10 +54,22 @@ final class JavaCalls {
         throw new IllegalStateException("the line is refused for ever");
     }
 
+    /** A new manager. How often opening it was refused is not counted. */
+    private static Puljemrod opened(String[] options) {
+        for (int at = 0; at < TRIES; at++) {
+            try {
+                return new Puljemrod(Lines.options(options));
+            } catch (Puljemrod.RefusedException refused) {
+                continue;
+            }
+        }
+        throw new IllegalStateException("opening is refused for ever");
+    }
+
     private static void answerLines(String[] options) throws IOException {
         InputStream input = new BufferedInputStream(System.in);
         OutputStream output = new BufferedOutputStream(new FileOutputStream(FileDescriptor.out));
-        try (Puljemrod manager = new Puljemrod(Lines.options(options))) {
+        try (Puljemrod manager = opened(options)) {
             for (byte[] line = Lines.next(input); line != null; line = Lines.next(input)) {
                 output.write(answer(manager, line));
                 output.write('\n');

@@ -56,6 +56,17 @@ impl Refused {
     }
 }
 
+/// A new manager. How often opening it was refused is not counted.
+fn opened(options: &Options) -> Result<Manager, Error> {
+    for _ in 0..TRIES {
+        match Manager::open(options) {
+            Err(error) if error.number() == Error::MEMORY => {}
+            opened => return opened,
+        }
+    }
+    Manager::open(options)
+}
+
 fn event(name: &str, numbers: &[u64]) -> Option<Event> {
     let small = |at: usize| numbers[at] as u32;
     Some(match name {
@@ -153,7 +164,7 @@ fn main() -> Result<(), Box<dyn std::error::Error>> {
     for (field, word) in [shards, work, invalidate, pend].into_iter().zip(&words[1..]) {
         *field = word.parse()?;
     }
-    let (mut manager, mut refused) = (Manager::open(&options)?, Refused::default());
+    let (mut manager, mut refused) = (opened(&options)?, Refused::default());
     let mut output = BufWriter::new(io::stdout().lock());
     let (mut input, mut line) = (io::stdin().lock(), Vec::new());
     while input.read_until(b'\n', &mut line)? > 0 {
