@@ -4,7 +4,7 @@
 #include <stdbool.h>
 #include <stdlib.h>
 
-enum { MOST = 400 };
+enum { MOST = 1000 };
 
 static unsigned given, between;
 
