@@ -22,18 +22,11 @@ def reason_of(fault):
     return f"the manager has ended: {fault}"
 
 
-def new_manager(words, options):
-    """A manager whose options were tried: the tool refuses wrong ones only at the first line."""
-    given = {**options, "shards": words.shards, "workers": words.workers}
-    with Manager(words.tool, words.library, **given) as tried:
-        tried.line("")
-    return Manager(words.tool, words.library, **given)
-
-
 def joined(words, keys, say):
     """The replica and its part in the lead, once all options are accepted and it has its name."""
     options = {name: getattr(words, name) for name in SHARED}
-    replica = Replica(new_manager(words, options), keys, say)
+    given = {**options, "shards": words.shards, "workers": words.workers}
+    replica = Replica(Manager(words.tool, words.library, **given), keys, say)
     leadership = Leadership(
         replica, words.name, words.etcd, words.lease, words.interval, words.keep
     )
