@@ -284,7 +284,11 @@ typedef struct puljemrod_delete {
 /* Makes a round, whose commands the handle keeps until the next call on it that is answered, or
  * until puljemrod_text makes its text. With PULJEMROD_OK it writes the number of the round and how
  * many commands there are of each kind; otherwise these stay as they were. The codes are those of
- * the line. PULJEMROD_MEMORY comes only where nothing else refuses the round. */
+ * the line. PULJEMROD_MEMORY comes only where nothing else refuses the round.
+ *
+ * A delete is commanded once: a full report of its storage makes up for one that got lost. The
+ * report leaves out blocks whose delete is still on its way, or another replica may be deleted too.
+ */
 uint32_t puljemrod_round(puljemrod *handle, uint64_t *round, uint64_t *copies, uint64_t *deletes);
 
 /* Copies the kept commands of a kind, from the one with index `from` on: all that there are, at

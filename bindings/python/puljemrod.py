@@ -70,13 +70,20 @@ def of_repository(path):
     return file if folder.match("bindings/python") and file.exists() else None
 
 
+def named(options, known):
+    """The options, if each has a known name. The fault of another one has the nearest."""
+    for name in options:
+        if name not in known:
+            nearest = difflib.get_close_matches(name.lower(), known, 1)
+            raise TypeError(f"no option is called {name}; "
+                            f"{''.join(f'do you mean {it}? ' for it in nearest)}"
+                            f"There are {', '.join(known)}")
+    return options
+
+
 def checked(options, greatest):
     """The options, if the engine has each of them and it is a number in its range."""
-    for name, value in options.items():
-        if name not in greatest:
-            nearest = [f"do you mean {it}? " for it in difflib.get_close_matches(name, greatest, 1)]
-            raise TypeError(f"no option is called {name}; {''.join(nearest)}"
-                            f"There are {', '.join(greatest)}")
+    for name, value in named(options, greatest).items():
         if not isinstance(value, int) or isinstance(value, bool):
             raise TypeError(f"{name} is not a whole number: {value!r}")
         least = 1 if name in GREATEST else 0
@@ -127,6 +134,7 @@ class Manager:
     taken all lines or none and goes on, or every later call raises a `Fault`."""
 
     def __init__(self, tool=None, library=None, **options):
+        named(options, ("tool", "library", *OF_LIBRARY))
         if not tool and not library:
             library = os.environ.get("PULJEMROD_LIBRARY") or of_repository(LIBRARY)
             tool = of_repository(TOOL)

@@ -29,6 +29,11 @@ class Failed(Exception):
     """A check found something wrong; the text is the reason."""
 
 
+def announce(text):
+    """Says on standard error what takes long, before it begins."""
+    print(text, file=sys.stderr, flush=True)
+
+
 def want(is_so, why):
     if not is_so:
         raise Failed(why)
@@ -89,13 +94,13 @@ class Report:
         sys.exit(1 if self.failed else 0)
 
 
-def uses_of_crates():
-    """The dependencies of each crate, as crates.txt lists them."""
-    lines = [line.split(":") for line in (TOP / "crates.txt").read_text().splitlines() if line and not line.startswith("#")]
+def uses_in(path):
+    """The dependencies that a file as crates.txt lists, by the names of those that have them."""
+    lines = [line.split(":") for line in path.read_text().splitlines() if line and not line.startswith("#")]
     return {head.split()[0]: uses.split() for head, uses in lines}
 
 
-USES = uses_of_crates()
+USES = uses_in(TOP / "crates.txt")
 
 
 def below_crate(crate):
@@ -117,15 +122,19 @@ def program(crate):
     from other sources would be checked in vain, so it fails."""
     path = TOP / "crates" / crate / "out" / crate
     if not path.exists():
-        print(f"{crate} is not built: proves and builds it first", file=sys.stderr, flush=True)
+        announce(f"{crate} is not built: proves and builds it first")
         quiet = dict.fromkeys(["stdin", "stdout", "stderr"], subprocess.DEVNULL)
         subprocess.run(["rt", "run"], cwd=TOP / "crates" / crate, **quiet)
     why = why_outdated(crate, path) if path.exists() else "it cannot be built"
     if why:
-        print(f"FAILED program of {crate}: {why}")
-        print("0 passed, 1 failed")
-        sys.exit(1)
+        end_without_program(crate, why)
     return str(path)
+
+
+def end_without_program(name, why):
+    print(f"FAILED program of {name}: {why}")
+    print("0 passed, 1 failed")
+    sys.exit(1)
 
 
 def why_outdated(crate, path):
@@ -167,24 +176,30 @@ def words_of_proof(jobs):
     return ["--logic-built", toolchain() / "logic_built", "--jobs", jobs]
 
 
-class Proved:
-    """A static library, proved over the built libraries below it: once for both compilers, as `rt
-    ci` does for a program."""
-
-    def __init__(self, crate):
-        self.folder, self.rattle = TOP / "crates" / crate, toolchain() / "bin/rattle"
-        self.words = [*words_of_library(crate), "--crate-type", "staticlib"]
-        self.scratch = tempfile.TemporaryDirectory()
-        self.checked = f"{self.scratch.name}/checked"
-        jobs = len(os.sched_getaffinity(0))
-        ended_well([self.rattle, "check", *self.words, *words_of_proof(jobs), "-o", self.checked], self.folder)
-
-    def build(self, compiler, made):
-        words = ["--crate-checked", self.checked, "--toolchain", toolchain() / "toolchain", "--backend", compiler, "-o", made]
-        ended_well([self.rattle, "build", *self.words, *words], self.folder)
+def copied_crate(crate, folder):
+    """Copies what is proved of a crate into an empty folder."""
+    for part in ("src", "specs", "proofs"):
+        if (TOP / "crates" / crate / part).is_dir():
+            shutil.copytree(TOP / "crates" / crate / part, Path(folder) / part)
 
 
-PROVED = {}
+def proof_of_functions(crate, functions, folder):
+    """The ended proof of these functions alone, of a crate in this folder, over the built
+    libraries."""
+    only = [word for it in functions for word in ("--only", it)]
+    words = [toolchain() / "bin/rattle", "check", *words_of_library(crate), *words_of_proof(1), *only]
+    both = {"stdout": subprocess.PIPE, "stderr": subprocess.STDOUT, "text": True, "errors": "replace"}
+    return subprocess.run([*map(str, words)], cwd=folder, stdin=subprocess.DEVNULL, timeout=1800, **both)
+
+
+def unproved_goals(function, output):
+    """The goals of a function that the prover reports as not proved. Functions that call each other
+    have one folder of proofs, `+NAME`."""
+    searched = re.findall(rf"^fn \S+::{re.escape(function)}: no proof: .*`search` did not prove (.*)$", output, re.MULTILINE)
+    module, _, name = re.escape(function.replace("::", "/")).rpartition("/")
+    folder = rf"\./proofs/{module}/(?:{name}|\+\w+)"
+    answered = re.findall(rf"^{folder}/\w+\.antt:\d+:\d+: error: (`\S+`)", output, re.MULTILINE)
+    return re.findall(r"`(\S+?)`", " ".join([*searched, *answered]))
 
 
 def ended_well(command, folder=TOP):
@@ -197,17 +212,25 @@ def library(compiler="llvm", crate="puljemrod"):
     """The static library by one of the two compilers, `llvm` or `rattle`.
 
     After an `rt ci` that left the libraries below it without stamps, `rt lib` would prove all of
-    them again. Then the compiler is called as `rt ci` calls it for a program, over the libraries
-    that are there."""
+    them again. Then it is built over the libraries that are there, from the checked crate in `out/`
+    at the top. `rt ci` keeps none of a static library. So the crate is proved if there is none, or
+    if the compiler finds that something which the proof read has changed."""
     folder = TOP / "crates" / crate
     made = folder / "out" / f"lib{crate}.a"
+    announce(f"lib{crate}.a: builds it first by {compiler}, and proves what has changed below it")
     below = libraries_below(crate).values()
-    if all(it.is_dir() for it in below) and not any((it.parent / "stamp").exists() for it in below):
-        if crate not in PROVED:
-            PROVED[crate] = Proved(crate)
-        PROVED[crate].build(compiler, made)
-    else:
+    if not all(it.is_dir() for it in below) or any((it.parent / "stamp").exists() for it in below):
         ended_well(["rt", "lib", "--backend", compiler], folder)
+        return made
+    rattle, checked = toolchain() / "bin/rattle", TOP / "out" / crate
+    words = [*words_of_library(crate), "--crate-type", "staticlib"]
+    build = [rattle, "build", *words, "--crate-checked", checked, "--toolchain", toolchain() / "toolchain"]
+    build += ["--backend", compiler, "-o", made]
+    if not checked.exists() or subprocess.run(build, cwd=folder, capture_output=True).returncode != 0:
+        checked.parent.mkdir(exist_ok=True)
+        jobs = len(os.sched_getaffinity(0))
+        ended_well([rattle, "check", *words, *words_of_proof(jobs), "-o", checked], folder)
+        ended_well(build, folder)
     return made
 
 
@@ -241,15 +264,6 @@ def cluster_command(word):
     """The words that start the program for clusters: `import`, `report`, `what-if` or
     `simulate`."""
     return [program("puljemrod_cluster"), word]
-
-
-def stored_output(crate, part=None):
-    """What a program must print, or the part of it under the heading `== PART`."""
-    text = (TOP / "crates" / crate / "stdout").read_text()
-    if part:
-        parts = re.split(r"^== (.*)\n", text, flags=re.MULTILINE)
-        text = dict(zip(parts[1::2], parts[2::2]))[part]
-    return text.encode()
 
 
 class Watch:

@@ -3,8 +3,10 @@ model/mutants: edits of one name make the same change of a rule in both. The pla
 scripts/mutants: each edit names the check that has to find it."""
 
 import re
+import sys
 
-from checking import TOP, want
+from checking import TOP, Failed, want
+from comments import KEY
 
 DEFINITIONS = TOP / "crates" / "bm_base"
 
@@ -32,26 +34,55 @@ def is_named_mutant(path):
 
 def edited(edit, folder):
     """The changed texts of the files that an edit names, by their paths below the folder. In the
-    edits of the model and in planted bugs `\\n` is the end of a line."""
-    texts = {}
-    for line in edit.read_text().splitlines():
+    edits of the model and in planted bugs `\\n` is the end of a line. A bad line is named by the
+    edit's file and its number."""
+    texts, path, old = {}, None, None
+    for number, line in enumerate(edit.read_text().splitlines(), 1):
         key, _, text = line.partition(":")
-        text = text.removeprefix(" ")
+        text, where = text.removeprefix(" "), f"{shown(edit)}:{number}"
+        want(KEY.match(line) or line.startswith("# "), f"{where}: neither a line of an edit nor a remark: {line!r}")
         if edit.parent in (EDITS_OF_MODEL, PLANTED_BUGS):
             text = text.replace("\\n", "\n")
         if key == "file":
             path = text
+            want((folder / path).is_file(), f"{where}: there is no file {path!r}")
             texts.setdefault(path, (folder / path).read_text())
         elif key == "old":
+            want(path, f"{where}: no line `file:` comes before it")
+            want(old is None, f"{where}: the `old:` before it has no `new:`")
             old, count = text, texts[path].count(text)
-            want(count == 1, f"{edit.name}: {old!r} occurs {count} times in {path}")
+            want(count == 1, f"{where}: {old!r} occurs {count} times in {path}")
         elif key == "new":
-            texts[path] = texts[path].replace(old, text)
+            want(old is not None, f"{where}: no line `old:` comes before it")
+            want(old != text, f"{where}: it changes nothing")
+            texts[path], old = texts[path].replace(old, text), None
+    want(path, f"{shown(edit)}: it has no line `file:`")
+    want(old is None, f"{shown(edit)}: its last `old:` has no `new:`")
     return texts
+
+
+def shown(edit):
+    """The path of an edit as a message shows it."""
+    return edit.relative_to(TOP) if edit.is_relative_to(TOP) else edit
+
+
+def faults_of(edits, read):
+    """What is wrong with edits that are read in this way, one fault for each."""
+    for edit in edits:
+        try:
+            read(edit)
+        except Failed as why:
+            yield str(why)
+
+
+def end_at_faults(edits, read):
+    """Ends the program if an edit that is read in this way has a fault, and prints all faults."""
+    if found := [*faults_of(edits, read)]:
+        sys.exit("\n".join(found))
 
 
 def finder(edit):
     """The script that has to find a planted bug, and the name of its check."""
     found = re.findall(r"^found by: (\S+): (.+)$", edit.read_text(), re.MULTILINE)
-    want(len(found) == 1, f"{edit.name} names {len(found)} checks that have to find it")
+    want(len(found) == 1, f"{shown(edit)}: {len(found)} lines `found by: SCRIPT: CHECK`")
     return found[0]

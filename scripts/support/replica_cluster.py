@@ -269,7 +269,7 @@ class Manager:
         return entries
 
     def taken(self):
-        """For each log key its writer and the lines that count, by the rules of the README."""
+        """For each log key its writer and the lines that count, by the rules of SCALING."""
         counts, parts, line_begun = {}, [], None
         for number, entry in enumerate(self.all(self.keys.log), 1):
             want(int(entry.key.rsplit("/", 1)[1]) == number, f"{entry.key} is key {number}")

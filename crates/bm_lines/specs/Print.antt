@@ -71,6 +71,16 @@ head_text (call.LevelOf b) = codes "level " ++ decimal b
 head_text (call.Retired n) = codes "retired " ++ decimal n
 head_text _ = []
 
+-- the items of an answer to a query
+abbrev pub items_text : Answer → List ℕ
+items_text (answer.Replicas rs) = flat_map replica_item rs
+items_text (answer.ReplicaIds ps) = flat_map replica_id_item ps
+items_text (answer.Blocks bs) = flat_map number_item bs
+items_text (answer.Storages ss) = flat_map number_item ss
+items_text (answer.LevelIs urgency) = level_item urgency
+items_text (answer.IsRetired is_so) = yes_no_item is_so
+items_text _ = []
+
 -- the text of an answer to a call; no line makes a call that a number answers
 abbrev pub answer_text : Call → Answer → List ℕ
 answer_text k (answer.Done d) = done_text d

@@ -1,6 +1,6 @@
 // The text of an answer.
-ghost use Rattle.std.specs.Prelude.{◌≡◌, IfOk, string_bytes};
-ghost use Rattle.bm_lines.specs.Print.{answer_text, head_text, done_text, refused_text, round_text, yes_no_item};
+ghost use Rattle.std.specs.Prelude.{◌≡◌, ◌++◌, IfOk, OnOk, string_bytes};
+ghost use Rattle.bm_lines.specs.Print.{answer_text, head_text, items_text, done_text, refused_text, round_text, yes_no_item};
 
 use crate::print_items::{
     write_blocks, write_level, write_nodes, write_replica_ids, write_replicas, write_storages,
@@ -24,36 +24,36 @@ pub fn answer_line(alloc: Global, call: &Call, answer: &Answer) -> Result<String
         Answer::Refused(refusal) => refused_line(alloc, *refusal),
         Answer::Commanded(commands) => round_line(alloc, commands),
         Answer::Number(_) => Ok(String::new(alloc)),
-        Answer::Replicas(replicas) => {
-            let mut line = head_of(alloc, call)?;
-            write_replicas(&mut line, replicas.as_slice())?;
-            Ok(line)
-        }
-        Answer::ReplicaIds(ids) => {
-            let mut line = head_of(alloc, call)?;
-            write_replica_ids(&mut line, ids.as_slice())?;
-            Ok(line)
-        }
-        Answer::Blocks(blocks) => {
-            let mut line = head_of(alloc, call)?;
-            write_blocks(&mut line, blocks.as_slice())?;
-            Ok(line)
-        }
-        Answer::Storages(storages) => {
-            let mut line = head_of(alloc, call)?;
-            write_storages(&mut line, storages.as_slice())?;
-            Ok(line)
-        }
-        Answer::LevelIs(level) => {
-            let mut line = head_of(alloc, call)?;
-            write_level(&mut line, *level)?;
-            Ok(line)
-        }
-        Answer::IsRetired(is_so) => {
-            let mut line = head_of(alloc, call)?;
-            line.push_str(yes_no_item(*is_so))?;
-            Ok(line)
-        }
+        Answer::Replicas(_)
+        | Answer::ReplicaIds(_)
+        | Answer::Blocks(_)
+        | Answer::Storages(_)
+        | Answer::LevelIs(_)
+        | Answer::IsRetired(_) => query_line(alloc, call, answer),
+    }
+}
+
+/// The line of an answer to a query.
+fn query_line(alloc: Global, call: &Call, answer: &Answer) -> Result<String, AllocError>
+    ensures { IfOk result (λ s. string_bytes s ≡ head_text call.now ++ items_text answer.now) }
+{
+    let mut line = head_of(alloc, call)?;
+    write_items(&mut line, answer)?;
+    Ok(line)
+}
+
+/// The items of an answer to a query.
+fn write_items(line: &mut String, answer: &Answer) -> Result<(), AllocError>
+    ensures { OnOk result (string_bytes line.new ≡ string_bytes line.old ++ items_text answer.now) }
+{
+    match answer {
+        Answer::Replicas(replicas) => write_replicas(line, replicas.as_slice()),
+        Answer::ReplicaIds(ids) => write_replica_ids(line, ids.as_slice()),
+        Answer::Blocks(blocks) => write_blocks(line, blocks.as_slice()),
+        Answer::Storages(storages) => write_storages(line, storages.as_slice()),
+        Answer::LevelIs(level) => write_level(line, *level),
+        Answer::IsRetired(is_so) => line.push_str(yes_no_item(*is_so)),
+        Answer::Done(_) | Answer::Refused(_) | Answer::Commanded(_) | Answer::Number(_) => Ok(()),
     }
 }
 

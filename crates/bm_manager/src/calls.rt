@@ -121,7 +121,7 @@ impl Manager {
         let mut answers = Vec::with_capacity(self.alloc, calls.len())?;
         for call in calls {
             let answer = self.answer_with(workers, call);
-            let _ = answers.push(answer);
+            answers.push_reserved(answer);
         }
         self.show_invariant();
         Ok(Items::from_vec(answers))

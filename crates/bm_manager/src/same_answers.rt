@@ -81,10 +81,9 @@ fn run_calls<R: Threads + Wait + Sync>(
     ensures refused { IfErr result (Refuses (config_refusal config) true) }
 {
     let mut manager = Manager::new(alloc, config)?;
-    match manager.answer_all(rt, gate, calls) {
-        Ok(answers) => Ok(answers),
-        Err(_) => Err(Refusal::Memory),
-    }
+    let answers = manager.answer_all(rt, gate, calls);
+    drop(manager);
+    Ok(answers?)
 }
 
 /// As `run_calls`, by the calling thread alone.
@@ -94,8 +93,7 @@ fn answers_alone(alloc: Global, config: Config, calls: &[Call]) -> Result<Items<
     ensures refused { IfErr result (Refuses (config_refusal config) true) }
 {
     let mut manager = Manager::new(alloc, config)?;
-    match manager.answer_all_with(&CallingThread, calls) {
-        Ok(answers) => Ok(answers),
-        Err(_) => Err(Refusal::Memory),
-    }
+    let answers = manager.answer_all_with(&CallingThread, calls);
+    drop(manager);
+    Ok(answers?)
 }

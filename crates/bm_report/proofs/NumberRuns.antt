@@ -137,13 +137,6 @@ pub chunks_end : (p : Part) (xs all : List ReportedBlock) → xs ++ reported_to_
 unfolding expanded
 chunks_end p xs all so_far = sym (append-nil xs) ∙ so_far
 
--- an entry of one number reports this number to its part
-pub reported_one : (p : Part) (b : ℕ) (t : Stamp) → shard_of b p.shards ≡ p.index → reported_to_part p (record { from = b; to = b; stamp = t } ∷ []) ≡ record { id = b; stamp = t } ∷ []
-unfolding expanded blocks_of_entry
-reported_one p b t own =
-    let one : b + 1 - b ≡ 1 = omega arith in
-    ap (λ n. of_part p (reported_of_all t (range_from b n) ++ [])) one ∙ ap (λ c. cond c (record { id = b; stamp = t } ∷ []) []) (eq-eqb _ _ own)
-
 -- the reported numbers of the remaining entries are those of the next one and of those after it
 pub reported_rest : (p : Part) (es : List Entry) (i : ℕ) (e : Entry) → slice_get es i ≡ Some e → of_part p (expanded (drop i es)) ≡ of_part p (blocks_of_entry e) ++ of_part p (expanded (drop (i + 1) es))
 unfolding expanded

@@ -1,5 +1,6 @@
 -- Lemmas on a round's choices: merged wishes, transfers, deletes and commands.
 pub mod WishCopies
+pub mod GatheredLists
 pub mod KeyedLists
 pub mod LastOfEach
 pub mod AddedCommands

@@ -107,8 +107,7 @@ impl<'a> RoundScan<'a> {
         let storages = storages_of(alloc, scan.replicas.as_slice())?;
         let storages = storages.as_slice();
         let wishes = &mut found.wishes;
-        self.push_wish(alloc, scan.id, scan.info, usable, storages, wishes)?;
-        Ok(())
+        self.push_wish(alloc, scan.id, scan.info, usable, storages, wishes)
     }
 }
 

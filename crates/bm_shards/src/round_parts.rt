@@ -1,6 +1,6 @@
 // The parts of all shards for a round: with their first wishes, or with all.
 ghost use Rattle.std.specs.Prelude.{◌≡◌, None, List, map, true, false, IfOk, IfErr, All};
-ghost use Rattle.bm_base.specs.Words.{limits_of, has_repeats, config_refusal};
+ghost use Rattle.bm_base.specs.Words.{limits_of, has_repeats, config_refusal, commands_of};
 ghost use Rattle.bm_base.specs.declared.refusal.Refusal.TheVariants.{Memory};
 ghost use Rattle.bm_base.specs.declared.round.RoundPart.{RoundPart};
 ghost use Rattle.bm_parts.specs.BoundedWishes.{part_before};
@@ -52,19 +52,51 @@ pub(crate) fn find_round<W: Workers>(
         f.choice) }
     ensures refused { IfErr result (λ e. e ≡ Memory) }
 {
-    let alloc = *shards.allocator();
     for wishes in &WISHES_PER_TRANSFER {
         if asks_for_all {
             break;
         }
         let bound = bound_of_shards(shards.as_slice(), config, topology, *wishes)?;
-        let parts = find_parts(alloc, workers, shards, round, topology, bound)?;
-        let choice = choose_commands(alloc, parts.as_slice(), config, round, topology)?;
-        if is_of_all(&choice.chosen, bound, topology, config) {
-            return Ok(FoundRound { parts, choice });
+        let found = find_before(workers, shards, config, round, topology, bound)?;
+        if is_of_all(&found.choice.chosen, bound, topology, config) {
+            return Ok(found);
         }
     }
-    let parts = find_parts(alloc, workers, shards, round, topology, None)?;
+    find_before(workers, shards, config, round, topology, None)
+}
+
+/// Collects each shard's part, with the wishes before a bound, and chooses from them. No shard
+/// changes.
+fn find_before<W: Workers>(
+    workers: &W,
+    shards: &mut Vec<(u32, Shard)>,
+    config: &Config,
+    round: u64,
+    topology: &Topology,
+    bound: Option<Key>,
+) -> Result<FoundRound, Refusal>
+    requires shards { All (λ s. CanFind topology.now.cluster round s.1) shards.old.items }
+    requires one_wish { has_repeats (map
+        (λ w. w.block) (choices.merged_wishes (next_parts topology.now.cluster shards.old.items)))
+        ≡ false }
+    ensures shards { shards.new.items ≡ shards.old.items }
+    ensures excess { IfOk result
+        (λ f. HasExcess topology.now.cluster shards.old.items f.parts.items) }
+    ensures transfers { IfOk result
+        (λ f. f.choice.chosen.transfers
+        ≡ choices.chosen_transfers (limits_of config.now) topology.now.cluster
+        (map (part_before bound) (next_parts topology.now.cluster shards.old.items))) }
+    ensures deletes { IfOk result
+        (λ f. f.choice.chosen.deletes
+        ≡ choices.chosen_deletes (limits_of config.now) topology.now.cluster
+        (next_parts topology.now.cluster shards.old.items)) }
+    ensures commands { IfOk result
+        (λ f. f.choice.commands ≡ commands_of topology.now.cluster round
+        f.choice.chosen.transfers f.choice.chosen.deletes) }
+    ensures refused { IfErr result (λ e. e ≡ Memory) }
+{
+    let alloc = *shards.allocator();
+    let parts = find_parts(alloc, workers, shards, round, topology, bound)?;
     let choice = choose_commands(alloc, parts.as_slice(), config, round, topology)?;
     Ok(FoundRound { parts, choice })
 }

@@ -1,5 +1,5 @@
-//! Small proved callers of the library, for developers who build on it. The `CALLING.md` of each
-//! crate quotes its caller.
+//! Small proved callers of the library, for developers who build on it. The `CALLING.md` of a crate
+//! quotes them, or the page that `scripts/clauses CRATE` prints.
 //!
 //! `bm_base`:
 //! - events from lists of your own: `arrival` (`events.rt`)

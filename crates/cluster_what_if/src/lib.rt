@@ -7,7 +7,7 @@
 //! puljemrod_cluster what-if --lose rack:/rack7 --nodes nodes.txt fsck.txt
 //! ```
 //!
-//! The answer has a line for each fact (docs/WHAT_IF.md). For `each-rack` and `each-node` it is a
+//! The answer has a line for each fact (docs/CLUSTERS.md). For `each-rack` and `each-node` it is a
 //! table: each is lost alone, and comes back before the next.
 //!
 //! The exit status is 0. It is 1 if a line was refused, a name is unknown, a read or a write

@@ -1,11 +1,13 @@
 // The line of a block, after its index.
-ghost use Rattle.std.specs.Prelude.{◌≡◌};
-ghost use Rattle.fsck_text.specs.Blocks.{id_of, without_pool, block_named, length_of, live_of, list_text, replicas_of, block_of, after_length, is_missing, is_being_written, corrupt_block};
+ghost use Rattle.std.specs.Prelude.{◌≡◌, Ok};
+ghost use Rattle.fsck_text.specs.Cuts.{word_and_rest};
+ghost use Rattle.fsck_text.specs.Wrongs.{after_ok};
+ghost use Rattle.fsck_text.specs.Blocks.{id_of, without_pool, block_named, length_of, live_of, list_text, with_list, no_replicas, replicas_of, block_line, block_of, after_length, is_missing, is_being_written, corrupt_block};
 
 use crate::cuts::{
     after_first, after_prefix, before_last, cut_at, parse_number, parse_small_number, word_and_rest,
 };
-use crate::reason::{Piece, Reason, Wrong, shown};
+use crate::reason::{Piece, Reason, Wrong, or_wrong, shown};
 use bm_base::{BlockId, Gen, Stamp};
 
 /// The content of a block's line.
@@ -38,9 +40,16 @@ pub fn parse_block(text: &str) -> Result<BlockLine<'_>, Wrong<'_>>
     ensures { result ≡ block_of text.now }
 {
     let (name, rest) = word_and_rest(text);
-    let (len, replicas) = word_and_rest(rest);
-    let named = block_named(name, text)?;
-    let len = parse_length(len, rest)?;
+    parse_after_name(block_named(name, text)?, rest)
+}
+
+/// Parses a block's line after the block's name.
+fn parse_after_name(named: BlockName, text: &str) -> Result<BlockLine<'_>, Wrong<'_>>
+    ensures { result ≡ after_ok (λ len. after_ok (λ counted. Ok (block_line named len counted))
+        (replicas_of (word_and_rest text.now).1)) (length_of (word_and_rest text.now).0 text.now) }
+{
+    let (len, replicas) = word_and_rest(text);
+    let len = parse_length(len, text)?;
     let counted = parse_replicas(replicas)?;
     Ok(BlockLine {
         id: named.id,
@@ -139,24 +148,20 @@ fn block_named<'a>(name: &'a str, text: &'a str) -> Result<BlockName, Wrong<'a>>
 fn parse_length<'a>(word: &'a str, text: &'a str) -> Result<u64, Wrong<'a>>
     ensures { result ≡ length_of word.entry.now text.entry.now }
 {
-    match after_prefix(word, "len=").and_then(parse_number) {
-        Some(len) => Ok(len),
-        None => Err(Wrong::new(Reason::NotALength, shown(word, text))),
-    }
+    let len = after_prefix(word, "len=").and_then(parse_number);
+    or_wrong(Reason::NotALength, shown(word, text), len)
 }
 
 /// The number of live replicas, from the first word of the text.
 fn parse_live_count<'a>(word: &'a str, text: &'a str) -> Result<u32, Wrong<'a>>
     ensures { result ≡ live_of word.entry.now text.entry.now }
 {
-    let count = match after_prefix(word, "Live_repl=") {
-        Some(count) => Some(count),
-        None => after_prefix(word, "repl="),
-    };
-    match count.and_then(parse_small_number) {
-        Some(count) => Ok(count),
-        None => Err(Wrong::new(Reason::NotACount, shown(word, text))),
-    }
+    let count = after_prefix(word, "Live_repl=").or(after_prefix(word, "repl="));
+    or_wrong(
+        Reason::NotACount,
+        shown(word, text),
+        count.and_then(parse_small_number),
+    )
 }
 
 /// The text between the brackets of a list; empty for no text. Hadoop 2.8 and later write one more
@@ -179,16 +184,33 @@ fn parse_replicas(text: &str) -> Result<Replicas<'_>, Wrong<'_>>
     ensures { result ≡ replicas_of text.now }
 {
     let (count, rest) = word_and_rest(text);
-    if count != "MISSING!" {
-        let live = Some(parse_live_count(count, text)?);
-        let list = list_text(rest)?;
-        return Ok(Replicas { live, list });
+    if count == "MISSING!" {
+        no_replicas(rest)
+    } else {
+        with_list(rest, parse_live_count(count, text)?)
     }
-    if !rest.is_empty() {
-        return Err(Wrong::new(Reason::NotAList, rest));
+}
+
+/// This number of live replicas, with the list after it.
+fn with_list(text: &str, live: u32) -> Result<Replicas<'_>, Wrong<'_>>
+    ensures { result ≡ with_list text.now live }
+{
+    let list = list_text(text)?;
+    Ok(Replicas {
+        live: Some(live),
+        list,
+    })
+}
+
+/// No replica is known, and no text comes after that.
+fn no_replicas(text: &str) -> Result<Replicas<'_>, Wrong<'_>>
+    ensures { result ≡ no_replicas text.now }
+{
+    if !text.is_empty() {
+        return Err(Wrong::new(Reason::NotAList, text));
     }
     Ok(Replicas {
         live: None,
-        list: Piece::new(rest),
+        list: Piece::new(text),
     })
 }

@@ -1,11 +1,11 @@
 // The heading of a file.
 ghost use Rattle.std.specs.Prelude.{◌≡◌, option_map};
-ghost use Rattle.fsck_text.specs.Headings.{after_key, counted, replicated, coded, old, old_open, heading_start_of, number_at, target_of, problem_target, is_ending, is_in_snapshot, heading_of, differ};
+ghost use Rattle.fsck_text.specs.Headings.{after_key, counted, ended, replicated, coded, old, old_open, heading_start_of, number_at, target_of, problem_target, is_ending, is_in_snapshot, heading_of, differ};
 
 use crate::cuts::{
     after_first, after_prefix, cut_at, last_cut_at, parse_small_number, word_and_rest,
 };
-use crate::reason::{Piece, Reason, Wrong, shown};
+use crate::reason::{Piece, Reason, Wrong, or_wrong, shown};
 
 /// The layout of a file.
 #[derive(Clone, Copy, Debug, PartialEq, Drop)]
@@ -113,10 +113,12 @@ fn parse_replicated(text: &str) -> Result<HeadingStart<'_>, Wrong<'_>>
     let Some((number, rest)) = after_key(text, " replication=") else {
         return Err(Wrong::new(Reason::NotAHeading, text));
     };
-    let Some(replication) = parse_small_number(number) else {
-        return Err(Wrong::new(Reason::NotATarget, shown(number, text)));
-    };
-    parse_counted(Layout::Replicated, Some(replication), rest)
+    let target = or_wrong(
+        Reason::NotATarget,
+        shown(number, text),
+        parse_small_number(number),
+    )?;
+    parse_counted(Layout::Replicated, Some(target), rest)
 }
 
 /// Hadoop 3, an erasure coded file: its policy and the number of its blocks.
@@ -129,7 +131,7 @@ fn parse_erasure_coded(text: &str) -> Result<HeadingStart<'_>, Wrong<'_>>
     }
 }
 
-/// The number of blocks, whether the file is open, and then the problem.
+/// The number of blocks, and then the end of the heading.
 fn parse_counted(
     layout: Layout,
     replication: Option<u32>,
@@ -139,14 +141,28 @@ fn parse_counted(
 {
     let words = after_first(text, ' ').unwrap_or(text);
     let (number, rest) = word_and_rest(words);
-    let Some(blocks) = parse_small_number(number) else {
-        return Err(Wrong::new(Reason::NotAHeading, shown(number, words)));
-    };
-    let (is_open, problem) = match after_prefix(rest, "block(s):") {
+    let blocks = or_wrong(
+        Reason::NotAHeading,
+        shown(number, words),
+        parse_small_number(number),
+    )?;
+    parse_end(layout, replication, rest, blocks)
+}
+
+/// Whether the file is open, and then the problem.
+fn parse_end(
+    layout: Layout,
+    replication: Option<u32>,
+    text: &str,
+    blocks: u32,
+) -> Result<HeadingStart<'_>, Wrong<'_>>
+    ensures { result ≡ ended layout replication text.now blocks }
+{
+    let (is_open, problem) = match after_prefix(text, "block(s):") {
         Some(problem) => (false, problem),
-        None => match after_prefix(rest, "block(s), OPENFORWRITE:") {
+        None => match after_prefix(text, "block(s), OPENFORWRITE:") {
             Some(problem) => (true, problem),
-            None => return Err(Wrong::new(Reason::NotAHeading, rest)),
+            None => return Err(Wrong::new(Reason::NotAHeading, text)),
         },
     };
     Ok(HeadingStart {
@@ -197,7 +213,7 @@ fn problem_target(problem: &str) -> Result<Option<u32>, Wrong<'_>>
     ensures { result ≡ problem_target problem.now }
 {
     match after_prefix(problem, "  Under replicated ") {
-        Some(text) => Ok(Some(parse_target(text)?)),
+        Some(text) => parse_target(text).map(Some),
         None => Ok(None),
     }
 }
@@ -218,10 +234,11 @@ fn number_at(text: &str) -> Result<u32, Wrong<'_>>
     ensures { result ≡ number_at text.now }
 {
     let (number, _) = word_and_rest(text);
-    match parse_small_number(number) {
-        Some(target) => Ok(target),
-        None => Err(Wrong::new(Reason::NotATarget, shown(number, text))),
-    }
+    or_wrong(
+        Reason::NotATarget,
+        shown(number, text),
+        parse_small_number(number),
+    )
 }
 
 /// Whether both exist and differ.

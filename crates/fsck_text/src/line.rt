@@ -68,7 +68,10 @@ fn path_line(line: &str) -> Result<Line<'_>, Wrong<'_>>
     match cut_at(line, ':') {
         Some((before, after)) => match after_prefix(after, " CORRUPT blockpool ") {
             Some(text) => Ok(Line::Corrupt(Piece::new(text))),
-            None => Ok(Line::Heading(parse_heading(before, after)?)),
+            None => match parse_heading(before, after) {
+                Ok(heading) => Ok(Line::Heading(heading)),
+                Err(wrong) => Err(wrong),
+            },
         },
         None => Ok(Line::Other),
     }

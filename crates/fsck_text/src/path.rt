@@ -21,8 +21,10 @@ fn heading_path(before: &str) -> Option<&str>
 {
     let (front, last) = last_cut_at(before, ' ')?;
     match last {
-        "block(s)" => before_size(without_word(front)?),
-        "OPENFORWRITE" => before_size(without_word(without_word(front)?)?),
+        "block(s)" => without_word(front).and_then(before_size),
+        "OPENFORWRITE" => without_word(front)
+            .and_then(without_word)
+            .and_then(before_size),
         _ => before_size(front),
     }
 }
@@ -31,7 +33,7 @@ fn heading_path(before: &str) -> Option<&str>
 fn before_size(text: &str) -> Option<&str>
     ensures { option_map (λ t. t.now) result ≡ before_size text.now }
 {
-    without_word(without_word(text)?)
+    without_word(text).and_then(without_word)
 }
 
 /// The text before the last word.

@@ -1,44 +1,58 @@
 // Why a line is refused.
 ghost use Rattle.std.specs.Prelude.{◌≡◌};
-ghost use Rattle.fsck_text.specs.Wrongs.{shown};
+ghost use Rattle.fsck_text.specs.Wrongs.{shown, or_wrong};
 
 use std::alloc::AllocError;
+use std::fmt;
 use std::marker::Model;
-use thiserror::Error;
 
 /// The fault of a word in a line.
-#[derive(Clone, Copy, Debug, Drop, Error)]
+#[derive(Clone, Copy, Debug, Drop)]
 pub enum Reason {
-    #[error("is not a heading that Hadoop 2.6 to 3.4 write")]
     NotAHeading,
-    #[error("is not a number of wanted replicas")]
     NotATarget,
-    #[error("says another number of wanted replicas than the heading")]
     TwoTargets,
     /// Not `[POOL:]blk_NUMBER_STAMP`.
-    #[error("is not the name of a block")]
     NotABlock,
     /// Old clusters and erasure coded files have such blocks.
-    #[error("names a block with a number below 0")]
     NegativeBlock,
     /// Not `len=` and a number below 2^64.
-    #[error("is not the length of a block")]
     NotALength,
     /// None of `MISSING!`, `repl=N` and `Live_repl=N`.
-    #[error("is neither MISSING! nor a number of live replicas")]
     NotACount,
     /// Not `[`, places with `, ` between them, and `]`.
-    #[error("is not a list of places in brackets")]
     NotAList,
     /// Neither `[/RACK/]HOST:PORT` nor `DatanodeInfoWithStorage[HOST:PORT,STORAGE,TYPE]`.
-    #[error("is not a place")]
     NotAPlace,
-    #[error("has a mark that -replicaDetails does not write")]
     NotAMark,
-    #[error("is not a number of the summary")]
     NotASum,
-    #[error("does not fit a line about a DataNode")]
     NotANode,
+}
+
+impl Reason {
+    /// The fault as the end of a sentence that begins with the word.
+    fn text(self) -> &'static str {
+        match self {
+            Reason::NotAHeading => "is not a heading that Hadoop 2.6 to 3.4 write",
+            Reason::NotATarget => "is not a number of wanted replicas",
+            Reason::TwoTargets => "says another number of wanted replicas than the heading",
+            Reason::NotABlock => "is not the name of a block",
+            Reason::NegativeBlock => "names a block with a number below 0",
+            Reason::NotALength => "is not the length of a block",
+            Reason::NotACount => "is neither MISSING! nor a number of live replicas",
+            Reason::NotAList => "is not a list of places in brackets",
+            Reason::NotAPlace => "is not a place",
+            Reason::NotAMark => "has a mark that -replicaDetails does not write",
+            Reason::NotASum => "is not a number of the summary",
+            Reason::NotANode => "does not fit a line about a DataNode",
+        }
+    }
+}
+
+impl fmt::Display for Reason {
+    fn fmt<W: fmt::Write>(&self, f: &mut fmt::Formatter<W>) -> fmt::Result {
+        f.write_str(self.text())
+    }
 }
 
 /// A part of a line that is quoted.
@@ -100,6 +114,13 @@ pub fn shown<'a>(word: &'a str, text: &'a str) -> &'a str
     ensures { result.now ≡ shown word.entry.now text.entry.now }
 {
     if word.is_empty() { text } else { word }
+}
+
+/// The value, or the refusal of a word.
+pub fn or_wrong<'a, T>(why: Reason, word: &'a str, value: Option<T>) -> Result<T, Wrong<'a>>
+    ensures { result ≡ or_wrong why word.entry.now value }
+{
+    value.ok_or(Wrong::new(why, word))
 }
 
 /// Why a line could not be parsed.

@@ -3,28 +3,41 @@ ghost use Rattle.std.specs.Prelude.{◌≡◌};
 ghost use Rattle.fsck_text.specs.Summaries.{blocks_named, groups_named, sum_of, sum_at};
 
 use crate::cuts::{cut_at, last_cut_at, parse_number, word_and_rest};
-use crate::reason::{Reason, Wrong};
-use thiserror::Error;
+use crate::reason::{Reason, Wrong, or_wrong};
+use std::fmt;
 
 /// The things that a line of the summary counts.
-#[derive(Clone, Copy, Debug, Drop, Error)]
+#[derive(Clone, Copy, Debug, Drop)]
 pub enum Count {
     /// Blocks of replicated files.
-    #[error("blocks")]
     Blocks,
     /// Blocks of which no replica is known.
-    #[error("missing blocks")]
     Missing,
     /// Blocks of which each known replica is corrupt.
-    #[error("corrupt blocks")]
     Corrupt,
     /// Block groups of erasure coded files.
-    #[error("block groups")]
     Groups,
-    #[error("missing block groups")]
     MissingGroups,
-    #[error("corrupt block groups")]
     CorruptGroups,
+}
+
+impl Count {
+    fn name(self) -> &'static str {
+        match self {
+            Count::Blocks => "blocks",
+            Count::Missing => "missing blocks",
+            Count::Corrupt => "corrupt blocks",
+            Count::Groups => "block groups",
+            Count::MissingGroups => "missing block groups",
+            Count::CorruptGroups => "corrupt block groups",
+        }
+    }
+}
+
+impl fmt::Display for Count {
+    fn fmt<W: fmt::Write>(&self, f: &mut fmt::Formatter<W>) -> fmt::Result {
+        f.write_str(self.name())
+    }
 }
 
 /// The count that a line about replicated files has, from its text before the colon.
@@ -73,8 +86,5 @@ fn sum_at(text: &str) -> Result<u64, Wrong<'_>>
         None => text,
     };
     let (number, _) = word_and_rest(number);
-    match parse_number(number) {
-        Some(sum) => Ok(sum),
-        None => Err(Wrong::new(Reason::NotASum, text)),
-    }
+    or_wrong(Reason::NotASum, text, parse_number(number))
 }

@@ -59,3 +59,12 @@ returns-in_err-look_up_chunk-clause-there c h =
     c.look_up_chunk.ensures.there
     (subst (λ (a : Contents). HaveReplicas a c.args.storage (reported_to_part c.args.part c.in-Some.chunk.now)) (sym same) (λ b in_it. h b (chunk_named c.args.part c.args.entries.now _ c.in-Some.chunk.now (chunks_rest c.next.new.self) c.in-Some.ensures.steps.1.0 inv.rest b in_it)))
     ∙ same
+
+pub returns-in_err-look_up_chunk-clause-fresh : goal.returns-in_err-look_up_chunk-clause-fresh
+returns-in_err-look_up_chunk-clause-fresh c =
+    naming-chain c.args.arena.now c.loop-chunk.arena c.look_up_chunk.new.arena [] c.loop-chunk.named.items c.look_up_chunk.new.named.items c.loop-chunk.invariant.fresh
+    (subst (λ (l : List ReportedSlot). NamesNew c.loop-chunk.arena c.look_up_chunk.new.arena l c.look_up_chunk.new.named.items) c.read_ahead.ensures.named c.look_up_chunk.ensures.fresh)
+
+pub returns-in_err-read_ahead-clause-fresh : goal.returns-in_err-read_ahead-clause-fresh
+returns-in_err-read_ahead-clause-fresh c =
+    subst (λ (l : List ReportedSlot). NamesNew c.args.arena.now c.loop-chunk.arena [] l) (sym c.read_ahead.ensures.named) c.loop-chunk.invariant.fresh

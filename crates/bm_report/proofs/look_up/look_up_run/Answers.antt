@@ -66,3 +66,7 @@ returns-in_err-look_up_number-clause-there c h =
     let same = c.loop-next.invariant.there h in
     let named = c.loop-next.invariant.rest c.loop-next.next (next_named c.args.part c.args.entry.now c.loop-next.next c.loop-next.next c.requires.index c.loop-next.invariant.own within refl) in
     c.look_up_number.ensures.there (subst (λ (a : Contents). HasReplica a c.args.storage c.loop-next.next) (sym same) (h c.loop-next.next named)) ∙ same
+
+pub returns-in_err-look_up_number-clause-fresh : goal.returns-in_err-look_up_number-clause-fresh
+returns-in_err-look_up_number-clause-fresh c =
+    naming-chain c.args.arena.now c.loop-next.arena c.look_up_number.new.arena c.args.named.now.items c.loop-next.named.items c.look_up_number.new.named.items c.loop-next.invariant.fresh c.look_up_number.ensures.fresh

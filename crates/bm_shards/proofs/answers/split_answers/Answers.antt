@@ -1,11 +1,11 @@
-use Rattle.std.specs.Prelude.{ℕ}
+use Rattle.std.specs.Prelude.{◌≡◌, ℕ, map, filter_map}
 use Rattle.std.specs.Result.{result_and, result_ok}
 use Rattle.std.specs.List.{cons_option}
 use Rattle.std.specs.Vec.Iter.{into_iter_items}
 use Rattle.std.proofs.Common.{arith, ◌∙◌, ◌∷◌, [], ◌++◌, length, ap, sym, length-append}
 use Rattle.std.proofs.lemmas.List.{map_push}
-use Rattle.bm_shards.specs.Answers.{ShardResult, shard_answered}
-use Rattle.bm_crew.proofs.Zips.{take_one}
+use Rattle.bm_shards.specs.Answers.{ShardResult, shard_answered, first_fault}
+use Rattle.bm_crew.proofs.Zips.{take_one, none_left}
 use Rattle.bm_shards.proofs.GatheredAnswers.{fault_push, answers_push}
 use Rattle.bm_shards.proofs.answers.split_answers.Goals as goal
 
@@ -35,3 +35,21 @@ put_answer-requires g c =
     let inv = c.loop-index.invariant in record {
       capacity = omega (arith, inv.few, inv.capacity_of_answers, ap length inv.rest, length-append c.loop-index.yielded (into_iter_items c.loop-index.index-iterator), ap length c.in-Some.ensures.steps.0);
     }
+
+pub returns-clause-shards : goal.returns-clause-shards
+returns-clause-shards g c =
+    let inv = c.loop-index.invariant in
+    let none : length (into_iter_items c.loop-index.index-iterator) ≡ 0 = omega (arith, c.in-None.ensures.steps.0, c.loop-index.index-iterator.rest.ok) in
+    inv.shards ∙ ap (map shard_answered) (sym (none_left _ _ _ inv.rest none))
+
+pub returns-clause-answers : goal.returns-clause-answers
+returns-clause-answers g c =
+    let inv = c.loop-index.invariant in
+    let none : length (into_iter_items c.loop-index.index-iterator) ≡ 0 = omega (arith, c.in-None.ensures.steps.0, c.loop-index.index-iterator.rest.ok) in
+    inv.answers ∙ ap (filter_map (λ f. result_ok f.1.answer)) (sym (none_left _ _ _ inv.rest none))
+
+pub returns-clause-outcome : goal.returns-clause-outcome
+returns-clause-outcome g c =
+    let inv = c.loop-index.invariant in
+    let none : length (into_iter_items c.loop-index.index-iterator) ≡ 0 = omega (arith, c.in-None.ensures.steps.0, c.loop-index.index-iterator.rest.ok) in
+    inv.outcome ∙ ap first_fault (sym (none_left _ _ _ inv.rest none))

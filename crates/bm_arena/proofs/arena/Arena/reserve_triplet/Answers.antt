@@ -72,3 +72,29 @@ returns-clause-replicas c = replicas-kept _ _ (ap (λ a. a.ids) (returns-clause-
 
 pub returns-clause-blocks : goal.returns-clause-blocks
 returns-clause-blocks c = blocks-kept _ _ c.args.slot (ap (λ a. a.ids) (returns-clause-rest c)) (returns-clause-others c) (returns-clause-known c)
+
+pub returns-in_err-reserve_triplets-clause-rest : goal.returns-in_err-reserve_triplets-clause-rest
+returns-in_err-reserve_triplets-clause-rest c =
+    rw (← c.self.view_is)
+    (reserve-view c.self.inside.slots c.reserve_triplets.new.slots c.args.slot c.reserve_triplets.ensures.rest c.reserve_triplets.ensures.grows c.self.inside.ids c.self.inside.heads.entries c.self.inside.delimiter c.self.invariant.arena c.self.inside.steps c.self.inside.bound)
+
+pub returns-in_err-reserve_triplets-clause-marks : goal.returns-in_err-reserve_triplets-clause-marks
+returns-in_err-reserve_triplets-clause-marks c =
+    let P : Contents → Type 0 = λ x. (other storage : ℕ) → marks_at x other storage ≡ marks_at c.args.self.now other storage in
+    subst P (sym (returns-in_err-reserve_triplets-clause-rest c)) (capacity-marks c.args.self.now c.args.slot _)
+
+pub returns-in_err-reserve_triplets-clause-others : goal.returns-in_err-reserve_triplets-clause-others
+returns-in_err-reserve_triplets-clause-others c =
+    let P : Contents → Type 0 = λ x. (other : ℕ) → other ≢ c.args.slot → block_at x other ≡ block_at c.args.self.now other in
+    subst P (sym (returns-in_err-reserve_triplets-clause-rest c)) (capacity-elsewhere c.args.self.now c.args.slot _)
+
+pub returns-in_err-reserve_triplets-clause-known : goal.returns-in_err-reserve_triplets-clause-known
+returns-in_err-reserve_triplets-clause-known c =
+    let P : Contents → Type 0 = λ x. known_of (block_at x c.args.slot) ≡ known_of (block_at c.args.self.now c.args.slot) in
+    subst P (sym (returns-in_err-reserve_triplets-clause-rest c)) (capacity-known c.args.self.now c.args.slot _)
+
+pub returns-in_err-reserve_triplets-clause-replicas : goal.returns-in_err-reserve_triplets-clause-replicas
+returns-in_err-reserve_triplets-clause-replicas c = replicas-kept _ _ (ap (λ a. a.ids) (returns-in_err-reserve_triplets-clause-rest c)) (returns-in_err-reserve_triplets-clause-marks c)
+
+pub returns-in_err-reserve_triplets-clause-blocks : goal.returns-in_err-reserve_triplets-clause-blocks
+returns-in_err-reserve_triplets-clause-blocks c = blocks-kept _ _ c.args.slot (ap (λ a. a.ids) (returns-in_err-reserve_triplets-clause-rest c)) (returns-in_err-reserve_triplets-clause-others c) (returns-in_err-reserve_triplets-clause-known c)

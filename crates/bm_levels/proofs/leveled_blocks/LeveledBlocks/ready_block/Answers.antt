@@ -70,3 +70,9 @@ pub returns-then-is_err-clause-given_up : goal.returns-then-is_err-clause-given_
 returns-then-is_err-clause-given_up c =
     let P : Leveled → Type 0 = λ v. MakesNoUnused v.arena c.drop_entry.new.self in
     subst P c.self.view_is (λ b unused. unused_held c.self.inside.arena c.drop_entry.new.self b (some_before (numbers c b) unused.entry) (blocks_again c.self.inside.arena c.drop_entry.new.self (again c) (numbers c)) (replicas_again c.self.inside.arena c.drop_entry.new.self (again c) (numbers c)) unused)
+
+pub returns-in_err-slot-clause-blocks : goal.returns-in_err-slot-clause-blocks
+returns-in_err-slot-clause-blocks c = ap blocks_of c.in_err-slot.ensures.unchanged ∙ ap (λ (v : Leveled). blocks_of v.arena) c.self.view_is
+
+pub returns-in_err-slot-clause-replicas : goal.returns-in_err-slot-clause-replicas
+returns-in_err-slot-clause-replicas c = ap replicas_of c.in_err-slot.ensures.unchanged ∙ ap (λ (v : Leveled). replicas_of v.arena) c.self.view_is

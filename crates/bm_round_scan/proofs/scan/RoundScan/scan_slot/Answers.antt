@@ -29,6 +29,8 @@ returns-clause-more c bs has =
     let l = c.scan_block.new.self in
     let g : Findings = record { excess = c.push_excess.new.into; wishes = c.push_wish.new.into; deletes = c.push_deletes.new.into } in
     let id : l.id ≡ option_map_or (λ (b : Block). b.id) (block_at a c.args.slot) 0 = c.in_ok-usable.ensures.id ∙ c.id_of-id.ensures found.1 found.2 ∙ sym (ap (λ o. option_map_or (λ (b : Block). b.id) o 0) found.2) in
+    on_ok_weaker c.push_wish.result
+    (λ wish.
     subst (λ b. HasFound c.args.self.now.topology.now.cluster c.args.self.now.pend c.args.self.now.round (holdings_with a c.args.self.now.pending.now.map) c.args.self.now.bound (bs ++ b ∷ []) g) id
     (found_more c.args.self.now.topology.now.cluster c.args.self.now.pend c.args.self.now.round a c.args.self.now.pending.now l c.in_ok-usable.usable c.has_enough-enough.result
     (c.in_ok-usable.ensures.scan c.args.self.now.pend c.args.self.now.round c.args.self.now.pending.now.map)
@@ -39,11 +41,12 @@ returns-clause-more c bs has =
     (record {
       excess = c.in_ok-push_excess.ensures;
       wishes =
-          c.in_ok-push_wish.ensures.wish
+          wish
           ∙ ap (λ ss. c.args.found.now.wishes.items ++ wishes_before c.args.self.now.bound (option_to_list (option_and_then (λ i. wish_by c.args.self.now.topology.now.cluster l.id i c.in_ok-usable.usable.live c.in_ok-usable.usable.drained ss (remaining_targets c.args.self.now.pend c.args.self.now.round c.args.self.now.pending.now l.id)) l.info)))
           (c.as_slice-storages.ensures ∙ c.in_ok-storages.ensures ∙ ap (storages_at (λ _ _. true)) c.as_slice-2.ensures.value);
       deletes = c.in_ok-push_deletes.ensures;
-    }) bs has)
+    }) bs has))
+    c.push_wish.ensures.wish
 
 is_not : (b : Bool) → not b ≡ true → false ≡ b
 is_not true e = e

@@ -1,1 +1,0 @@
--- The steps of each function's proof are in its folder; there is no further lemma.

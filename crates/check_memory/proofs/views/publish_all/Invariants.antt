@@ -1,6 +1,0 @@
-use Rattle.std.proofs.Common.{◌≡◌, ◌≤◌}
-use Rattle.bm_view.specs.History.{last_of}
-use Rattle.check_memory.proofs.views.publish_all.Given as goal
-
-abbrev pub invariant-loop-calls : goal.invariant-loop-calls
-invariant-loop-calls g l = ((last_of l.publisher.list).calls ≤ l.calls) × (l.locator.home ≡ l.publisher.home)
