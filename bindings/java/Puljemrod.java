@@ -1,5 +1,11 @@
+import java.io.IOException;
+import java.io.InputStream;
+import java.io.UncheckedIOException;
 import java.nio.charset.StandardCharsets;
+import java.nio.file.Files;
+import java.nio.file.Path;
 import java.nio.file.Paths;
+import java.nio.file.StandardCopyOption;
 import java.security.SecureRandom;
 import java.util.Objects;
 
@@ -17,15 +23,34 @@ import java.util.Objects;
  *
  * The answers are proved to be the definition's. Any thread may call a manager: its methods are
  * synchronized, so that its calls are made one after another. The property {@code puljemrod.jni}
- * names the library that the README builds.
+ * names the library that the README builds; without it the jar's own is loaded.
  */
 public final class Puljemrod implements AutoCloseable {
     static {
         String library = System.getProperty("puljemrod.jni");
         if (library == null) {
-            throw new UnsatisfiedLinkError("the property puljemrod.jni names no library (bindings/java/README.md)");
+            loadPacked();
+        } else {
+            System.load(Paths.get(library).toAbsolutePath().toString());
         }
-        System.load(Paths.get(library).toAbsolutePath().toString());
+    }
+
+    /** Loads the library of the jar from a file in the folder of temporary files. */
+    private static void loadPacked() {
+        try (InputStream packed = Puljemrod.class.getResourceAsStream("libpuljemrod_jni.so")) {
+            if (packed == null) {
+                throw new UnsatisfiedLinkError("the property puljemrod.jni names no library, and no jar has one (bindings/java/README.md)");
+            }
+            Path file = Files.createTempFile("libpuljemrod_jni", ".so");
+            try {
+                Files.copy(packed, file, StandardCopyOption.REPLACE_EXISTING);
+                System.load(file.toString());
+            } finally {
+                Files.delete(file);
+            }
+        } catch (IOException error) {
+            throw new UncheckedIOException("the library of the jar cannot be written; -Djava.io.tmpdir names another folder", error);
+        }
     }
 
     /** How a manager is set up; docs/FORMATS.md has the ranges. */

@@ -70,6 +70,12 @@ def of_repository(path):
     return file if folder.match("bindings/python") and file.exists() else None
 
 
+def of_package():
+    """The library of an installed package, or None. It is in the package's own folder."""
+    file = Path(__file__).with_name("libpuljemrod.so")
+    return file if Path(__file__).name == "__init__.py" and file.exists() else None
+
+
 def named(options, known):
     """The options, if each has a known name. The fault of another one has the nearest."""
     for name in options:
@@ -136,7 +142,7 @@ class Manager:
     def __init__(self, tool=None, library=None, **options):
         named(options, ("tool", "library", *OF_LIBRARY))
         if not tool and not library:
-            library = os.environ.get("PULJEMROD_LIBRARY") or of_repository(LIBRARY)
+            library = os.environ.get("PULJEMROD_LIBRARY") or of_package() or of_repository(LIBRARY)
             tool = of_repository(TOOL)
         if library:
             self.engine = Library(library, **options)
