@@ -45,6 +45,27 @@
 extern "C" {
 #endif
 
+/* The version of this header: MAJOR.MINOR.PATCH, and as the number
+ * MAJOR * 1,000,000 + MINOR * 1,000 + PATCH. The name that the shared library is loaded by has
+ * MAJOR: libpuljemrod.so.1. CHANGELOG.md lists what each version has.
+ *
+ * Within one MAJOR a program that was compiled with a header runs with each library that is not
+ * older.
+ *   - These stay: names, parameters, results and codes of functions; names, fields, sizes and
+ *     layout of structs; names and numbers of codes. So do the lines of docs/FORMATS.md, their
+ *     answers, and the meaning of all that.
+ *   - A new MINOR may add functions, structs and lines, with codes and answers that only these
+ *     have. A new PATCH adds nothing.
+ *   - Not promised: what `at` of a handle leads to, how much memory a call takes, and which
+ *     allocation is refused first. */
+#define PULJEMROD_VERSION "1.0.0"
+#define PULJEMROD_VERSION_NUMBER 1000000
+
+/* The number of the library's version. It needs no handle. A program that loads the library can
+ * compare: puljemrod_version() / 1000000 == PULJEMROD_VERSION_NUMBER / 1000000, and
+ * puljemrod_version() >= PULJEMROD_VERSION_NUMBER. */
+uint32_t puljemrod_version(void);
+
 /* Closed where it is all zeros. */
 typedef struct puljemrod {
     void *at;

@@ -104,6 +104,12 @@ public final class Puljemrod implements AutoCloseable {
     /** The most bytes of an array. */
     private static final int MOST_BYTES = Integer.MAX_VALUE - 8;
 
+    /** The version of the library, as "1.0.0". */
+    public static String version() {
+        int number = versionNumber();
+        return number / 1_000_000 + "." + number / 1_000 % 1_000 + "." + number % 1_000;
+    }
+
     /** The address of the C library's handle; 0 once it is closed. */
     private long handle;
 
@@ -192,6 +198,8 @@ public final class Puljemrod implements AutoCloseable {
             throw TEXT_OWED;
         }
     }
+
+    private static native int versionNumber();
 
     private static native long open(int shards, int work, int invalidate, int pend,
             long firstRound, long firstCall, long secret, int[] code);

@@ -9,6 +9,11 @@ static puljemrod *handle_at(jlong at) {
     return (puljemrod *)(intptr_t)at;
 }
 
+JNIEXPORT jint JNICALL Java_Puljemrod_versionNumber(JNIEnv *env, jclass class) {
+    (void)env, (void)class;
+    return (jint)puljemrod_version();
+}
+
 JNIEXPORT jlong JNICALL Java_Puljemrod_open(JNIEnv *env, jclass class, jint shards, jint work, jint invalidate,
                                             jint pend, jlong first_round, jlong first_call, jlong secret,
                                             jintArray code_out) {

@@ -25,6 +25,8 @@ import tempfile
 import threading
 from pathlib import Path
 
+__version__ = "1.0.0"
+
 # The engines, below the top of the repository.
 LIBRARY, TOOL = "dist/libpuljemrod.so", "crates/bm_tool/out/bm_tool"
 
@@ -32,6 +34,9 @@ LIBRARY, TOOL = "dist/libpuljemrod.so", "crates/bm_tool/out/bm_tool"
 MOST_LINES, MOST_BYTES = 1 << 20, 1 << 30
 
 MEMORY_FAULT = "bm_tool: memory fault"
+
+NO_ENGINE = ("there is no engine: give library= or PULJEMROD_LIBRARY, or tool=; "
+             "in the repository `./puljemrod build library` makes both")
 
 # Codes of the library.
 OK, MEMORY, CLOSED, NO_TEXT = 0, 14, 32, 34
@@ -74,6 +79,11 @@ def of_package():
     """The library of an installed package, or None. It is in the package's own folder."""
     file = Path(__file__).with_name("libpuljemrod.so")
     return file if Path(__file__).name == "__init__.py" and file.exists() else None
+
+
+def named_library():
+    """The library that the environment names, or the package's, or the repository's, or None."""
+    return os.environ.get("PULJEMROD_LIBRARY") or of_package() or of_repository(LIBRARY)
 
 
 def named(options, known):
@@ -142,15 +152,13 @@ class Manager:
     def __init__(self, tool=None, library=None, **options):
         named(options, ("tool", "library", *OF_LIBRARY))
         if not tool and not library:
-            library = os.environ.get("PULJEMROD_LIBRARY") or of_package() or of_repository(LIBRARY)
-            tool = of_repository(TOOL)
+            library, tool = named_library(), of_repository(TOOL)
         if library:
             self.engine = Library(library, **options)
         elif tool:
             self.engine = Pipe(tool, options)
         else:
-            raise Fault("there is no engine: give library= or PULJEMROD_LIBRARY, or tool=; "
-                        "in the repository `./puljemrod build library` makes both")
+            raise Fault(NO_ENGINE)
 
     def line(self, text):
         """The answer to one line, both without a line end."""
@@ -195,6 +203,7 @@ def load(path):
     """The functions of the library with their types."""
     handle, size = ctypes.POINTER(Handle), ctypes.c_size_t
     types = {
+        "version": [],
         "open": [handle, ctypes.POINTER(Options)],
         "line": [handle, ctypes.c_char_p, size, ctypes.POINTER(size)],
         "text": [handle, ctypes.POINTER(size)],
@@ -210,7 +219,22 @@ def load(path):
             function.restype = size if name == "answer" else ctypes.c_uint32
     except (OSError, AttributeError) as error:
         raise Fault(f"the library cannot be loaded: {error}") from None
+    if version_of(library).split(".")[0] != __version__.split(".")[0]:
+        raise Fault(f"the library has version {version_of(library)}, this file {__version__}")
     return library
+
+
+def version_of(library):
+    number = library.puljemrod_version()
+    return f"{number // 1_000_000}.{number // 1_000 % 1_000}.{number % 1_000}"
+
+
+def version(library=None):
+    """The version of the library that `Manager(library=library)` calls, as "1.0.0"."""
+    path = library or named_library()
+    if not path:
+        raise Fault(NO_ENGINE)
+    return version_of(load(path))
 
 
 class Library(Engine):

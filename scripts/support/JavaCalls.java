@@ -104,6 +104,7 @@ final class JavaCalls {
 
     private static void textsAreOwed() {
         try (Puljemrod manager = new Puljemrod(new Puljemrod.Options())) {
+            check(Puljemrod.version().equals("71.2.3"), "the version");
             check(isOwed(() -> manager.line("3")), "the text of a line is owed");
             check(isOwed(manager::text) && isOwed(manager::textBytes), "the text is refused again");
             check(manager.text().equals("3") && manager.text().equals("3"), "the text that was owed, twice");

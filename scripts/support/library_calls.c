@@ -317,6 +317,10 @@ static void counts_of_events(void) {
     puljemrod_close(&h);
 }
 
+static void version(void) {
+    check(puljemrod_version() == PULJEMROD_VERSION_NUMBER, "the version");
+}
+
 static void questions(void) {
     puljemrod h = PULJEMROD_CLOSED_HANDLE;
     uint64_t value = 99;
@@ -592,6 +596,7 @@ int main(int count, char **words) {
     events();
     heartbeats_without_memory();
     counts_of_events();
+    version();
     questions();
     rounds();
     commands_of_several_nodes();

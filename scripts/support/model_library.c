@@ -24,6 +24,10 @@ static model *of(puljemrod *handle) {
     return handle->at;
 }
 
+uint32_t puljemrod_version(void) {
+    return PULJEMROD_VERSION_NUMBER;
+}
+
 uint32_t puljemrod_open(puljemrod *handle, const puljemrod_options *options) {
     int to[2], from[2];
     model *made = calloc(1, sizeof *made);

@@ -1,5 +1,6 @@
 //! Answers each line of standard input through the crate. Where memory is refused it makes the call
-//! again. Its arguments are `lines` or `typed`, and then shards, work, invalidate and pend.
+//! again. Its arguments are `lines` or `typed`, and then shards, work, invalidate and pend. The
+//! argument `version` alone prints the library's version.
 //!
 //! A line of `typed` is the name of an operation and its numbers. It prints two lines for each: the
 //! answer of the typed call, and the text of the answer. At the end it prints on standard error how
@@ -159,6 +160,10 @@ fn typed(manager: &mut Manager, name: &str, numbers: &[u64]) -> Result<String, E
 
 fn main() -> Result<(), Box<dyn std::error::Error>> {
     let words: Vec<String> = env::args().skip(1).collect();
+    if words == ["version"] {
+        println!("{}", puljemrod::version());
+        return Ok(());
+    }
     let mut options = Options::default();
     let Options { shards, work, invalidate, pend, .. } = &mut options;
     for (field, word) in [shards, work, invalidate, pend].into_iter().zip(&words[1..]) {

@@ -49,6 +49,10 @@ static uint32_t say(const char *name, unsigned count, ...) {
 
 #define N(number) ((unsigned long long)(number))
 
+uint32_t puljemrod_version(void) {
+    return 71002003;
+}
+
 uint32_t puljemrod_open(puljemrod *handle, const puljemrod_options *options) {
     if (options->shards == 0 || options->shards > 64) return PULJEMROD_BAD_CONFIG;
     if (handle->is_open) return PULJEMROD_OPEN;

@@ -6,4 +6,4 @@ mod library;
 
 pub use answers::{Command, Commands, Done, Replica, Tag};
 pub use events::{Entry, Event, Remaining};
-pub use library::{Error, Manager, Options};
+pub use library::{version, Error, Manager, Options};

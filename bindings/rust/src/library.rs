@@ -45,6 +45,7 @@ impl Default for Options {
 }
 
 extern "C" {
+    fn puljemrod_version() -> u32;
     fn puljemrod_open(handle: *mut Handle, options: *const Options) -> u32;
     fn puljemrod_line(handle: *mut Handle, line: *const u8, len: usize, answer_len: *mut usize) -> u32;
     fn puljemrod_text(handle: *mut Handle, answer_len: *mut usize) -> u32;
@@ -239,6 +240,13 @@ impl fmt::Display for Error {
 }
 
 impl std::error::Error for Error {}
+
+/// The version of the library that is linked, as `1.0.0`.
+pub fn version() -> String {
+    // SAFETY: it takes nothing.
+    let number = unsafe { puljemrod_version() };
+    format!("{}.{}.{}", number / 1_000_000, number / 1_000 % 1_000, number % 1_000)
+}
 
 fn checked(code: u32) -> Result<(), Error> {
     if code == 0 { Ok(()) } else { Err(Error { number: code }) }

@@ -6,6 +6,11 @@ use std::fs;
 use std::path::Path;
 
 #[test]
+fn the_library_is_of_this_version() {
+    assert_eq!(puljemrod::version(), env!("CARGO_PKG_VERSION"));
+}
+
+#[test]
 fn the_examples_are_answered_as_worked_out() {
     let folder = Path::new(env!("CARGO_MANIFEST_DIR")).join("../../examples");
     let mut count = 0;

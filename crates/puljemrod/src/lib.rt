@@ -27,6 +27,7 @@ mod questions;
 mod rows;
 mod spare_lists;
 mod stored_number;
+mod version;
 
 use codes::{CLOSED, OPEN};
 use handle::Slot;

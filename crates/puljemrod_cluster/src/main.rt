@@ -7,10 +7,11 @@
 //! puljemrod_cluster report < cluster.jsonl
 //! ```
 //!
-//! `--help` in place of the word names the words, and after a word its options with examples. The
-//! exit status is 0. It is 1 after a fault, if `report` or `what-if` met a refused line, or if
-//! `what-if` was asked about a name that the cluster does not have. It is 2 for invalid options.
-//! The stored run is a report, which `crates/cluster_pages/src/lib.rt` explains.
+//! `--help` in place of the word names the words, and after a word its options with examples.
+//! `--version`, in place of the word or behind it, prints the version. The exit status is 0. It is
+//! 1 after a fault, if `report` or `what-if` met a refused line, or if `what-if` was asked about a
+//! name that the cluster does not have. It is 2 for invalid options. The stored run is a report,
+//! which `crates/cluster_pages/src/lib.rt` explains.
 #![tactic(auto)]
 
 use cluster_pages::report_by_words;
@@ -31,6 +32,9 @@ const FAULTED: u8 = 1;
 
 const MISUSED: u8 = 2;
 
+/// The file `VERSION` at the top of the repository has it too.
+const VERSION: &str = "puljemrod_cluster 1.0.0";
+
 const HELP: &str = "Tools for HDFS clusters, chosen by the first word
 
 Usage: puljemrod_cluster WORD [OPTIONS] [FILE]...
@@ -41,7 +45,8 @@ Words:
   what-if   prints what is lost with racks, nodes or storages, and how long repair takes
   simulate  shows how a made-up cluster of DataNodes recovers, round by round
 
-`puljemrod_cluster WORD --help` prints the options of a word, with examples.";
+`puljemrod_cluster WORD --help` prints the options of a word, with examples; --version, with or
+without a word, prints the version.";
 
 fn main(rt: HostRuntime) -> ExitCode {
     ExitCode::from(status_of(&rt, &rt.stderr()))
@@ -75,11 +80,20 @@ fn read_arguments<R: Env + AllocGlobal>(rt: &R) -> io::Result<Vec<String>> {
     Ok(words)
 }
 
+/// Whether a word asks for the version.
+fn is_version(word: Option<&String>) -> bool {
+    matches!(word.map(String::as_str), Some("-V" | "--version"))
+}
+
 /// Runs the command of the first word, with the other words as its options.
 fn status_by_words<
     R: Input + Print + Eprint + Files + AllocGlobal + Threads + Wait + RandomSource + Sync,
     N: Print,
 >(rt: &R, notes: &N, words: &[String]) -> u8 {
+    if is_version(words.first()) || is_version(words.get(1)) {
+        let _ = rt.println(VERSION);
+        return DONE;
+    }
     match words.first().map(String::as_str) {
         Some("import") => import_by_words(rt, notes, words),
         Some("report") => report_by_words(rt, notes, words),
