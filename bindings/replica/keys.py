@@ -2,14 +2,11 @@
 
 import json
 
+from access import Stop
 from store import absent, get, put
 
 # The version of what is under a prefix: the keys, their values, and which lines of the log count.
 LAYOUT = 2
-
-
-class Stop(Exception):
-    """A program cannot go on; the reason is the text."""
 
 
 class Keys:
@@ -49,12 +46,12 @@ def number_of(key):
 
 def agree_on_layout(store, keys, writes=True):
     """The first program under a prefix writes the layout down; one with another does not start.
-    Keys without a layout are of version 1."""
-    outcome = store.transact(
-        [absent(keys.layout), absent(keys.options), absent(keys.writers)],
-        [put(keys.layout, str(LAYOUT))] if writes else [],
-        [get(keys.layout)],
-    )
+    Keys without a layout are of version 1. An account of writers may only read what is there."""
+    compares = [absent(keys.layout), absent(keys.options), absent(keys.writers)]
+    outcome = store.transact(compares, [], [get(keys.layout)])
+    if outcome.succeeded and writes:
+        own = put(keys.layout, str(LAYOUT))
+        outcome = store.transact(compares, [own], [get(keys.layout)])
     if not outcome.succeeded:
         found = outcome.ranges[0].entries
         stored = found[0].value.decode() if found else "1"

@@ -245,12 +245,13 @@ class Leadership:
 
     def end(self, why):
         """Gives the lease up, so that another replica leads at once, and leaves the reason, unless
-        another replica has the name."""
+        another replica has the name, or etcd takes nothing from this one."""
         for thread in self.threads:
             if thread.ident:
                 thread.join(5)
         self.epoch = 0
         try:
             self.name.leave(Store(self.servers), why and self.status(why))
-        except StoreError as error:
-            self.say(str(error))
+        except (Stop, StoreError) as error:
+            if str(error) != why:
+                self.say(str(error))

@@ -203,7 +203,7 @@ def is_behind(store, keys, index, newest):
 def read(store, keys, say=print):
     """Yields the number and the value of each log key, in order from the first; None after each
     second without any. Stops at a gap, at a changed key, and if the store has gone back."""
-    checks = Store(store.urls)
+    checks = Store(store.access)
     index = newest = 0
     entries = follow(store, keys.log, say=say, dense=True)
     behind = None

@@ -2,24 +2,25 @@
 
 import json
 
+from access import Stop
 from keys import Keys, agree_on_layout
 from log import last_index, position_of
 from store import Store, StoreError, after
 
 
-def stores_of(servers):
+def stores_of(access):
     """The size of each server's store in bytes, None where it does not answer."""
-    for server in servers:
+    for server in access.urls:
         try:
-            answer, _ = Store([server], 1, 1).call("maintenance/status", {})
+            answer, _ = Store(access.alone(server), 1, 1).call("maintenance/status", {})
             leads = answer.get("leader") == answer["header"]["member_id"]
             yield {"server": server, "leads": leads, "bytes": int(answer.get("dbSize", 0))}
-        except StoreError:
+        except (Stop, StoreError):
             yield {"server": server, "leads": False, "bytes": None}
 
 
-def overview_of(servers, prefix):
-    keys, store = Keys(prefix), Store(servers, 1, 3)
+def overview_of(access, prefix):
+    keys, store = Keys(prefix), Store(access, 1, 3)
     agree_on_layout(store, keys, writes=False)
     last = last_index(store, keys)
     leader, done = store.value(keys.leader), store.value(keys.done)
@@ -32,7 +33,7 @@ def overview_of(servers, prefix):
         "log": last,
         "answered": position_of(done)[0] - 1,
         "replicas": replicas,
-        "servers": list(stores_of(servers)),
+        "servers": list(stores_of(access)),
     }
 
 

@@ -2,15 +2,18 @@
 etcd 3.4. Standard library alone.
 
 A request goes to one server, and to the next one if no answer comes in time. So a transaction may
-be sent twice: each one compares something that it changes, and then the second is refused."""
+be sent twice: each one compares something that it changes, and then the second is refused. What no
+other try can change, as a refused certificate or account, ends the program: it raises `Stop`."""
 
 import base64
 import http.client
 import json
 import socket
+import ssl
 import time
 from collections import namedtuple
-from urllib.parse import urlsplit
+
+from access import Access, Stop
 
 Entry = namedtuple("Entry", "key value created modified version lease", defaults=[0])
 Range = namedtuple("Range", "entries count revision")
@@ -20,6 +23,12 @@ Outcome = namedtuple("Outcome", "succeeded ranges revision certain")
 # Seconds to wait for one server, and for any. Bytes of a request that add a second.
 ANSWER, PATIENCE, BYTES = 3, 10, 200_000
 SPACE = "mvcc: database space exceeded"
+# What etcd answers to an account. A role that changes meanwhile makes a token old.
+INVALID, OLD = "invalid auth token", "revision of auth store is old"
+EMPTY, DENIED = "user name is empty", "permission denied"
+COMMON_NAME = b"CommonName of client"
+# Tokens that a request asks for at most, after one is invalid and after one is old.
+TOKENS, OLD_TOKENS = 1, 5
 
 
 class StoreError(Exception):
@@ -48,6 +57,10 @@ class LeaseGone(StoreError):
 
 class Away(Exception):
     """This server gives no answer; another one may."""
+
+
+class TokenRefused(Stop):
+    pass
 
 
 def packed(text):
@@ -120,68 +133,95 @@ def has_lease(key, lease):
     return {"key": packed(key), "target": "LEASE", "lease": lease}
 
 
-def address_of(url):
-    parts = urlsplit(url)
-    try:
-        port = parts.port
-    except ValueError:
-        port = None
-    if parts.scheme != "http" or not parts.hostname or not port:
-        raise StoreError(f"{url!r} is no server of etcd: write http://HOST:PORT")
-    return parts.hostname, port
+def headers_of(token):
+    """Without `Accept` etcd would take the CommonName of its own certificate for the user."""
+    accept = {"Accept": "application/json"}
+    return {**accept, "Authorization": token} if token else accept
 
 
 class Store:
-    """A client, for one thread. It waits for one server `answer` seconds, for any `patience`."""
+    """A client, for one thread. It waits for one server `answer` seconds, for any `patience`. The
+    servers are an `Access`, or URLs that need none."""
 
-    def __init__(self, urls, answer=ANSWER, patience=PATIENCE):
+    def __init__(self, servers, answer=ANSWER, patience=PATIENCE):
         self.answer, self.patience = answer, patience
-        self.urls, self.servers = urls, [address_of(url) for url in urls]
+        self.access = servers if isinstance(servers, Access) else Access(servers)
         self.at = 0
         self.connection = None
+        # Whether the connection has given an answer.
+        self.proved = False
 
-    def call(self, path, body):
+    def call(self, path, body, known=True):
         """The answer of the first server that gives one, and whether the request was sent once."""
         data = json.dumps(body).encode()
         until = time.monotonic() + self.patience
+        token, tokens = self.token() if known else None, 0
         tries = 0
         while True:
             tries += 1
             try:
-                return self.ask(path, data), tries == 1
+                return self.ask(path, data, token), tries == 1
+            except TokenRefused as refused:
+                if not known:
+                    raise
+                # This try has changed nothing.
+                tries -= 1
+                tokens += 1
+                token = self.renewed(token, refused, tokens)
+                continue
             except Away as away:
                 why = away
                 self.leave()
-            if tries >= len(self.servers) and time.monotonic() > until:
-                raise Unreachable(f"no server of etcd answers; the last one: {why}. If a server has "
-                                  "ended, its log says why: its disk may be full")
-            if tries % len(self.servers) == 0:
+            if tries >= len(self.access.urls) and time.monotonic() > until:
+                others = "".join(f"; {it}" for it in self.access.refused().values())
+                raise Unreachable(f"no server of etcd answers; the last one: {why}{others}. If a "
+                                  "server has ended, its log says why: its disk may be full")
+            if tries % len(self.access.urls) == 0:
                 time.sleep(0.1)
 
+    def token(self, refused=None):
+        """The token of the account, if there is one; another one than etcd has refused."""
+        account = self.access.account
+
+        def ask():
+            words = {"name": account.user, "password": account.password}
+            try:
+                return self.call("auth/authenticate", words, known=False)[0]["token"]
+            except Refused as error:
+                raise Stop(f"--user {account.user}: {error}") from None
+
+        return account and account.token_after(refused, ask)
+
     def leave(self):
-        """The next request goes to the next server."""
+        """The next request goes to the next server that is not left alone."""
         if self.connection:
             self.connection.close()
         self.connection = None
-        self.at = (self.at + 1) % len(self.servers)
+        count, refused = len(self.access.urls), self.access.refused()
+        order = [(self.at + step) % count for step in range(1, count + 1)]
+        self.at = next((it for it in order if it not in refused), order[0])
 
-    def ask(self, path, data):
+    def ask(self, path, data, token):
         try:
             if not (self.connection and self.connection.sock):
-                self.connection = http.client.HTTPConnection(
-                    *self.servers[self.at], timeout=self.answer
-                )
-                self.connection.connect()
+                self.proved = False
+                self.connection = http.client.HTTPConnection(*self.access.addresses[self.at][1:])
+                self.connection.sock = self.access.link(self.at, self.answer)
             self.connection.sock.settimeout(self.answer + len(data) / BYTES)
-            self.connection.request("POST", f"/v3/{path}", data)
+            self.connection.request("POST", f"/v3/{path}", data, headers_of(token))
             reply = self.connection.getresponse()
             text = reply.read()
+            self.proved = True
+            if COMMON_NAME in text:
+                raise Stop("etcd takes no account of a program whose certificate has a CommonName: "
+                           "make one without it for --cert")
             answer = json.loads(text)
         except (OSError, http.client.HTTPException, ValueError) as error:
-            raise Away(f"{self.urls[self.at]}: {error or type(error).__name__}") from None
+            raise Away(self.reason_of(error, self.proved)) from None
         if reply.status == 200:
             return answer
         why = answer.get("message") or answer.get("error") or text.decode(errors="replace")
+        self.deny(why)
         if SPACE in why:
             raise Full("the quota of etcd's store is reached, so it takes no writes: compact and "
                        "defragment it, or raise --quota-backend-bytes; then `etcdctl alarm disarm`")
@@ -191,8 +231,33 @@ class Store:
             raise Compacted(why)
         # Deadline exceeded, too many requests, unavailable; unknown covers a change of leader.
         if answer.get("code") in (2, 4, 8, 14):
-            raise Away(f"{self.urls[self.at]}: {why}")
+            raise Away(f"{self.access.urls[self.at]}: {why}")
         raise Refused(f"etcd refused a request: {why}")
+
+    def reason_of(self, error, proved):
+        """Why the current server gives no answer. It is left alone if TLS has failed before the
+        first one. While its files are replaced it has an internal error."""
+        passes = isinstance(error, (ssl.SSLEOFError, ssl.SSLZeroReturnError)) or proved
+        if isinstance(error, ssl.SSLError) and not passes and "INTERNAL" not in str(error.reason):
+            return self.access.refuse(self.at, error)
+        return f"{self.access.urls[self.at]}: {error or type(error).__name__}"
+
+    def deny(self, why):
+        """Raises what etcd's refusal of a request means for the account."""
+        account = self.access.account
+        if account and any(it in why for it in (INVALID, OLD, EMPTY)):
+            raise TokenRefused(f"etcd refuses the token of user {account.user}: {why}")
+        if EMPTY in why:
+            raise Stop("etcd asks for an account: give --user")
+        if DENIED in why:
+            user = f"user {account.user}" if account else "a program without --user"
+            raise Stop(f"etcd refuses a request of {user}: {why}")
+
+    def renewed(self, token, refused, tokens):
+        """Another token after some were refused, unless these are too many."""
+        if tokens > (OLD_TOKENS if OLD in str(refused) else TOKENS):
+            raise refused
+        return self.token(token)
 
     def range(self, *key, **words):
         answer, _ = self.call("kv/range", get(*key, **words)["request_range"])
@@ -236,15 +301,28 @@ class Store:
         words = {"key": packed(key), "range_end": packed(end), "start_revision": revision,
                  "fragment": True, "progress_notify": True}
         data = json.dumps({"create_request": words}).encode()
+        token, tokens = self.token(), 0
+        while True:
+            try:
+                yield from self.watched(data, token, silence)
+            except TokenRefused as refused:
+                tokens += 1
+                token = self.renewed(token, refused, tokens)
+
+    def watched(self, data, token, silence):
+        proved = False
+        # HTTP 1.0, so that the answer comes without chunks: a line for each message.
+        head = ["POST /v3/watch HTTP/1.0", f"Content-Length: {len(data)}",
+                *(f"{name}: {value}" for name, value in headers_of(token).items()), "", ""]
         try:
-            with socket.create_connection(self.servers[self.at], timeout=self.answer) as link:
-                # HTTP 1.0, so that the answer comes without chunks: a line for each message.
-                link.sendall(b"POST /v3/watch HTTP/1.0\r\nContent-Length: %d\r\n\r\n" % len(data))
-                link.sendall(data)
+            with self.access.link(self.at, self.answer) as link:
+                link.sendall("\r\n".join(head).encode() + data)
                 link.settimeout(silence)
-                yield from self.messages(link)
-        except OSError as error:
-            why = f"{self.urls[self.at]}: {error}"
+                for found in self.messages(link):
+                    yield found
+                    proved = True
+        except (OSError, ValueError) as error:
+            why = self.reason_of(error, proved)
             self.leave()
             raise Unreachable(why) from None
 
@@ -278,6 +356,7 @@ class Store:
                 raise Compacted("the store was compacted beyond what was read")
             raise OSError(why or "the watch was refused")
         if result.get("canceled"):
+            self.deny(result.get("cancel_reason", ""))
             raise OSError(result.get("cancel_reason", "the watch was cancelled"))
         if result.get("created"):
             return None

@@ -34,7 +34,7 @@ def write(words, say):
         writer.skip(lines)
     try:
         print_answers(writer, append_all(writer, lines), say)
-    except StoreError as error:
+    except (Stop, StoreError) as error:
         say(f"{error}")
         say(how_to_go_on(writer))
         return 1

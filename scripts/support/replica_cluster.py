@@ -20,6 +20,7 @@ from checking import TOP, Failed, want
 
 REPLICA = TOP / "bindings/replica/replica"
 sys.path[:0] = [str(REPLICA.parent), str(TOP / "bindings/python")]
+from access import Access, Account, Stop, context_of
 from keys import Keys
 from store import Store, StoreError, after
 
@@ -85,12 +86,13 @@ def free_ports(count):
 class Process:
     """A child process with its output in a file."""
 
-    def __init__(self, command, path, stdin=subprocess.DEVNULL, stdout=None):
+    def __init__(self, command, path, stdin=subprocess.DEVNULL, stdout=None, env=None):
         self.path, self.words = path, command
         want(not ENDED.is_set(), "the scratch folder is no more")
         with open(path, "ab") as printed:
             self.child = subprocess.Popen(
-                [str(word) for word in command], stdin=stdin, stdout=stdout or printed, stderr=printed
+                [str(word) for word in command], stdin=stdin, stdout=stdout or printed,
+                stderr=printed, env={**os.environ, **(env or {})},
             )
 
     def printed(self):
@@ -119,18 +121,45 @@ class Process:
 
 
 class Servers:
-    """The servers of one etcd."""
+    """The servers of one etcd. With a folder of certificates, as SCALING makes them, they talk by
+    TLS, with those of the first server."""
 
-    def __init__(self, folder, count, *options):
-        self.folder, self.options = folder, options
-        ports = free_ports(2 * count)
-        self.urls = [f"http://127.0.0.1:{port}" for port in ports[:count]]
-        self.peers = [f"http://127.0.0.1:{port}" for port in ports[count:]]
+    def __init__(self, folder, count, *options, tls=None):
+        self.folder, self.options, self.tls = folder, options, tls
+        ports, scheme = free_ports(2 * count), "https" if tls else "http"
+        self.urls = [f"{scheme}://127.0.0.1:{port}" for port in ports[:count]]
+        self.peers = [f"{scheme}://127.0.0.1:{port}" for port in ports[count:]]
+        if tls:
+            for kind, mine, ca in (("", "e1", "ca"), ("peer-", "p1", "peers")):
+                self.options += (f"--{kind}cert-file", tls / f"{mine}.crt",
+                                 f"--{kind}key-file", tls / f"{mine}.key",
+                                 f"--{kind}trusted-ca-file", tls / f"{ca}.crt",
+                                 f"--{kind}client-cert-auth")
         self.processes = [None] * count
         for number in range(count):
             self.start(number)
-        self.store = Store(self.urls)
+        self.store = Store(self.access())
         wait_for("etcd answers", self.answers)
+
+    def access(self, user=None, urls=None):
+        """The access for this process, with the account of a user if there is one."""
+        if not self.tls:
+            return Access(self.urls)
+        context = context_of(*(self.tls / name for name in ("ca.crt", "client.crt", "client.key")))
+        account = user and Account(user, (self.tls / f"{user}.password").read_text().strip())
+        return Access(urls or self.urls, context, account)
+
+    def access_words(self, word, **changed):
+        """The options by which a program reaches servers with TLS. Some are changed, or left out if
+        they are None."""
+        if not self.tls:
+            return []
+        user = "writer" if word == "write" else "replica"
+        files = {"cacert": "ca.crt", "cert": "client.crt", "key": "client.key",
+                 "password_file": f"{user}.password"}
+        words = {name: self.tls / path for name, path in files.items()}
+        words = {**words, "user": user, **changed}
+        return [f"--{name.replace('_', '-')}={value}" for name, value in words.items() if value]
 
     def start(self, number):
         name = f"etcd{number}"
@@ -150,6 +179,9 @@ class Servers:
             return self.store.range("x")
         except StoreError:
             return None
+        except Stop:
+            # It answers that this account may not.
+            return True
 
     def leading(self):
         """Waits until a server leads, and returns its number."""
@@ -175,12 +207,12 @@ class Manager:
         self.servers, self.tool, self.folder = servers, tool, folder
         self.keys = Keys(f"/{prefix}/")
         self.prefix = prefix
-        self.store = Store(servers.urls)
+        self.store = Store(servers.access("root"))
         self.processes = {}
 
-    def words(self, word, urls=None):
+    def words(self, word, urls=None, **changed):
         return [sys.executable, "-B", REPLICA, word, "--etcd", ",".join(urls or self.servers.urls),
-                "--prefix", self.keys.prefix]
+                "--prefix", self.keys.prefix, *self.servers.access_words(word, **changed)]
 
     def replica(self, name, *options, tool=None, lease=2, urls=None):
         words = self.words("run", urls) + ["--name", name]
@@ -411,7 +443,7 @@ def session_of(writer):
 
 
 def etcd_is_there():
-    return shutil.which("etcd") is not None
+    return all(map(shutil.which, ("etcd", "etcdctl", "openssl")))
 
 
 def options_of_library(path, folder):
