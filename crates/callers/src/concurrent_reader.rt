@@ -97,8 +97,6 @@ pub fn apply_with_reader<R: Threads + Wait + Sync>(
     in_two_threads::<Brand, R>(rt, alloc, manager, publisher, locator, events, id)
 }
 
-/// The reader is the first of the two closures: if no thread can be started it runs last, and finds
-/// all receipts.
 fn in_two_threads<J: Home + Send + Sync, R: Threads + Wait + Sync>(
     rt: &R,
     alloc: Global,
@@ -126,14 +124,12 @@ fn in_two_threads<J: Home + Send + Sync, R: Threads + Wait + Sync>(
         };
     };
     let mut to = Some(to);
-    let (seen, changes) = join_mut(
+    let (seen, changes) = locate_during::<J, R, _>(
         rt,
-        &mut || -> Result<Vec<Seen>, AllocError>
-            requires { locator.now.home ≡ J.home }
-            ensures home { locator.exit.now.home ≡ J.home }
-            ensures learnt { IfOk result (λ seen. All (IsLearntAfter J.before) seen.items) }
-            ensures no_older { IfOk result (λ seen. All IsNoOlder seen.items) }
-        { locate_after_each::<J, R>(rt, alloc, locator, &from, id) },
+        alloc,
+        locator,
+        &from,
+        id,
         &mut || -> Result<(), Refusal>
             requires { ((last_of publisher.now.list).calls ≤ manager.now.calls)
                 × (publisher.now.home ≡ J.home) × (manager.now.calls ≡ J.before)
@@ -152,6 +148,39 @@ fn in_two_threads<J: Home + Send + Sync, R: Threads + Wait + Sync>(
         },
     );
     SideBySide { changes, seen }
+}
+
+/// Makes the changes in this thread. The reader is the first of the two closures: if no thread can
+/// be started it runs last, and finds all receipts.
+fn locate_during<
+    J: Home + Send + Sync,
+    R: Threads + Wait + Sync,
+    G: FnMut() -> Result<(), Refusal>,
+>(
+    rt: &R,
+    alloc: Global,
+    locator: &mut Locator,
+    from: &Receiver<Notice<J>>,
+    id: BlockId,
+    changes: &mut G,
+) -> (Result<Vec<Seen>, AllocError>, Result<(), Refusal>)
+    requires home { locator.old.home ≡ J.home }
+    requires changes { G.pre changes.old }
+    ensures home { locator.new.home ≡ J.home }
+    ensures learnt { IfOk result.0 (λ seen. All (IsLearntAfter J.before) seen.items) }
+    ensures no_older { IfOk result.0 (λ seen. All IsNoOlder seen.items) }
+    ensures changed { G.step changes.old result.1 changes.new }
+{
+    join_mut(
+        rt,
+        &mut || -> Result<Vec<Seen>, AllocError>
+            requires { locator.now.home ≡ J.home }
+            ensures home { locator.exit.now.home ≡ J.home }
+            ensures learnt { IfOk result (λ seen. All (IsLearntAfter J.before) seen.items) }
+            ensures no_older { IfOk result (λ seen. All IsNoOlder seen.items) }
+        { locate_after_each::<J, R>(rt, alloc, locator, from, id) },
+        changes,
+    )
 }
 
 /// Applies the events, publishes after each, and sends the receipt. Drops the sender at the end, so
