@@ -71,8 +71,7 @@ class Access:
         now, why = time.monotonic(), f"{self.urls[at]}: {reason_of(error)}"
         self.refusals[at] = now + AGAIN, why
         if len(self.refused()) == len(self.urls):
-            others = f", as with {len(self.urls) - 1} others" if self.urls[1:] else ""
-            raise Stop(f"{why}{others}")
+            raise Stop(why + ", as with all servers" * (len(self.urls) > 1))
         return why
 
     def refused(self):
@@ -92,6 +91,8 @@ def hear_verdict(link):
 
 def address_of(url):
     parts = urlsplit(url)
+    if "@" in parts.netloc:
+        raise Stop("an account is given by --user, not by a URL")
     try:
         port = parts.port
     except ValueError:
