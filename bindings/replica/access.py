@@ -146,6 +146,8 @@ def account_of(user, path):
         if path:
             raise Stop("--password-file needs --user")
         return None
+    if ":" in user:
+        raise Stop("--user is a name alone, without a password")
     if path:
         try:
             password = Path(path).read_text().rstrip("\r\n")

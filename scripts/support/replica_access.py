@@ -252,6 +252,8 @@ def wrong_accounts_are_refused(secured):
     it.is_refused("run", "--password-file cannot be read: No such file", password_file=none)
     it.is_refused("status", "--password-file needs --user", user=None)
     it.is_refused("status", "not by a URL", it.url.replace("127", "root:f00dface@127"))
+    it.is_refused("write", "--user is a name alone", user="writer:f00dface")
+    want("f00dface" not in "".join(it.printed), "a password is printed")
 
 
 # The keys that an account reaches, in the order in which `Keys` names them.
