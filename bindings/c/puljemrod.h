@@ -283,6 +283,19 @@ size_t puljemrod_replica_rows(puljemrod *handle, size_t from, puljemrod_replica 
 size_t puljemrod_pair_rows(puljemrod *handle, size_t from, puljemrod_pair *out, size_t out_len);
 size_t puljemrod_number_rows(puljemrod *handle, size_t from, uint64_t *out, size_t out_len);
 
+/* ---- Where blocks are, for any number of threads */
+
+/* Copies the storages of a block's good replicas, ascending: all that there are, at most `out_len`.
+ * Returns their number; 0 for a block that is not known. 4,096 items always suffice.
+ *
+ * `rows` are all rows of one answer of puljemrod_replicas, in its order. The storages are those of
+ * that state, as puljemrod_places gives them then. The function reads the rows and writes `out`
+ * alone: it takes no handle, no memory and no lock. So any number of threads may call it on the
+ * same rows at the same time, also while another one changes the manager. puljemrod_view.h gives
+ * threads the newest rows. */
+size_t puljemrod_locate(const puljemrod_replica *rows, size_t row_count, uint64_t id,
+                        uint32_t *out, size_t out_len);
+
 /* ---- Rounds by functions of their own */
 
 /* A command to copy a block from a storage of a node to another storage. */

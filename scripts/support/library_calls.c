@@ -1,7 +1,7 @@
 /* Calls each function of the library, with allocations refused too: it is linked with --wrap for
  * malloc, realloc and free. Writes what failed, and then how many checks passed. With a word it
  * repeats calls less often, for a run that watches the memory. */
-#include "puljemrod.h"
+#include "puljemrod_view.h"
 
 #include <pthread.h>
 #include <stdio.h>
@@ -348,6 +348,64 @@ static void questions(void) {
     puljemrod_close(&h);
 }
 
+static bool are_located(const puljemrod_replica *replicas, size_t count, uint64_t id, const char *storages) {
+    uint32_t out[3] = {98, 98, 98};
+    char text[64] = "";
+    for (size_t most = 0; most <= 2; most++) {
+        size_t found = puljemrod_locate(replicas, count, id, out, most), len = strlen(text);
+        snprintf(text + len, sizeof text - len, "%zu %u %u; ", found, (unsigned)out[0], (unsigned)out[1]);
+    }
+    return strcmp(text, storages) == 0 && out[2] == 98;
+}
+
+static void places_of_rows(void) {
+    const puljemrod_replica replicas[] = {{3, 11, PULJEMROD_GOOD},  {5, 11, PULJEMROD_BAD},   {5, 12, PULJEMROD_GOOD},
+                                          {5, 13, PULJEMROD_STALE}, {5, 14, PULJEMROD_GOOD},  {5, 15, PULJEMROD_GOOD},
+                                          {8, 11, PULJEMROD_STRAY}, {UINT64_MAX, 11, PULJEMROD_GOOD}};
+    left = 0;
+    check(are_located(replicas, 8, 5, "0 98 98; 1 12 98; 2 12 14; "), "the good replicas of a block, and no more");
+    check(are_located(replicas, 8, 3, "0 98 98; 1 11 98; 1 11 98; "), "the first block");
+    check(are_located(replicas, 8, UINT64_MAX, "0 98 98; 1 11 98; 1 11 98; "), "the last block");
+    check(are_located(replicas, 8, 8, "0 98 98; 0 98 98; 0 98 98; "), "a stray replica");
+    check(are_located(replicas, 8, 4, "0 98 98; 0 98 98; 0 98 98; "), "no such block");
+    check(are_located(replicas, 0, 5, "0 98 98; 0 98 98; 0 98 98; "), "no replica");
+    left = -1;
+}
+
+/* Each allocation of a publish is refused. The reader then answers from the version before. */
+static void publish_without_memory(void) {
+    puljemrod h = PULJEMROD_CLOSED_HANDLE;
+    puljemrod_reader reader;
+    puljemrod_view view;
+    uint64_t calls = 99, before = 0;
+    uint32_t storage = 98, code = PULJEMROD_MEMORY;
+    unsigned refused = 0;
+    long at_start = blocks;
+    puljemrod_view_open(&view, &reader, 1);
+    puljemrod_open(&h, &standard);
+    make_small_cluster(&h);
+    check(puljemrod_view_publish(&view, &h, &before) == PULJEMROD_OK, "a publish");
+    check(puljemrod_storage_failed(&h, 11) == PULJEMROD_OK, "an event after it");
+    for (long n = 0; code == PULJEMROD_MEMORY; n++) {
+        left = n;
+        code = puljemrod_view_publish(&view, &h, &calls);
+        left = 0;
+        if (code == PULJEMROD_MEMORY) {
+            refused++;
+            check(calls == 99, "a refused publish has no receipt");
+            check(puljemrod_view_locate(&reader, 7, &storage, 1, &calls) == 1 && storage == 11 && calls == before,
+                  "a refused publish");
+            calls = 99;
+        }
+        left = -1;
+    }
+    check(refused > 1 && code == PULJEMROD_OK && calls == before + 1, "a publish with memory");
+    check(puljemrod_view_locate(&reader, 7, &storage, 1, &calls) == 0 && calls == before + 1, "its version");
+    puljemrod_view_close(&view);
+    puljemrod_close(&h);
+    check(blocks == at_start, "all memory of versions is returned");
+}
+
 static void rounds(void) {
     puljemrod h = PULJEMROD_CLOSED_HANDLE;
     uint64_t round = 99, copies = 98, deletes = 97;
@@ -598,6 +656,8 @@ int main(int count, char **words) {
     counts_of_events();
     version();
     questions();
+    places_of_rows();
+    publish_without_memory();
     rounds();
     commands_of_several_nodes();
     lists();

@@ -198,6 +198,7 @@ uint32_t puljemrod_done(puljemrod *handle, puljemrod_counts *counts) {
 }
 
 uint32_t puljemrod_calls(puljemrod *handle, uint64_t *calls) {
+    if (!handle->is_open) return PULJEMROD_CLOSED;
     *calls = of(handle)->calls;
     return PULJEMROD_OK;
 }
@@ -237,6 +238,34 @@ uint32_t puljemrod_places(puljemrod *handle, uint64_t id, uint64_t *count) {
 
 size_t puljemrod_number_rows(puljemrod *handle, size_t from, uint64_t *out, size_t out_len) {
     return items(handle, "", from, out, 1, out_len);
+}
+
+uint32_t puljemrod_replicas(puljemrod *handle, uint64_t *count) {
+    return count_items(handle, ask(handle, "\"list_replicas\""), "", count);
+}
+
+/* Of the tags, good alone matters to those who call it. */
+size_t puljemrod_replica_rows(puljemrod *handle, size_t from, puljemrod_replica *out,
+                              size_t out_len) {
+    char *at = strchr(of(handle)->answer, ';');
+    size_t written = 0;
+    for (size_t found = 0; at && written < out_len; at = strchr(at + 1, ';')) {
+        char tag[8];
+        if (found++ < from) continue;
+        sscanf(at, "; " NUMBER " %" SCNu32 " %7[a-z]", &out[written].block, &out[written].storage,
+               tag);
+        out[written++].tag = strcmp(tag, "good") ? PULJEMROD_BAD : PULJEMROD_GOOD;
+    }
+    return written;
+}
+
+size_t puljemrod_locate(const puljemrod_replica *rows, size_t row_count, uint64_t id,
+                        uint32_t *out, size_t out_len) {
+    size_t found = 0;
+    for (size_t at = 0; at < row_count; at++)
+        if (rows[at].block == id && rows[at].tag == PULJEMROD_GOOD && found < out_len)
+            out[found++] = rows[at].storage;
+    return found;
 }
 
 size_t puljemrod_pair_rows(puljemrod *handle, size_t from, puljemrod_pair *out, size_t out_len) {

@@ -79,6 +79,7 @@ extern "C" {
     fn puljemrod_replica_rows(handle: *mut Handle, from: usize, out: *mut ReplicaRow, len: usize) -> usize;
     fn puljemrod_pair_rows(handle: *mut Handle, from: usize, out: *mut PairRow, len: usize) -> usize;
     fn puljemrod_number_rows(handle: *mut Handle, from: usize, out: *mut u64, len: usize) -> usize;
+    fn puljemrod_locate(rows: *const ReplicaRow, row_count: usize, id: u64, out: *mut u32, len: usize) -> usize;
     fn puljemrod_round(handle: *mut Handle, round: *mut u64, copies: *mut u64, deletes: *mut u64) -> u32;
     fn puljemrod_copies(handle: *mut Handle, from: usize, out: *mut CopyRow, len: usize) -> usize;
     fn puljemrod_deletes(handle: *mut Handle, from: usize, out: *mut DeleteRow, len: usize) -> usize;
@@ -95,7 +96,7 @@ struct DoneRow {
 
 #[repr(C)]
 #[derive(Clone, Copy, Default)]
-struct ReplicaRow {
+pub(crate) struct ReplicaRow {
     block: u64,
     storage: u32,
     tag: u32,
@@ -252,6 +253,13 @@ fn checked(code: u32) -> Result<(), Error> {
     if code == 0 { Ok(()) } else { Err(Error { number: code }) }
 }
 
+/// The storages of a block's good replicas, among all replicas of a state, in their order.
+pub(crate) fn locate<'a>(rows: &[ReplicaRow], id: u64, out: &'a mut [u32]) -> &'a [u32] {
+    // SAFETY: the rows are read, and at most `out.len()` storages are written, while the call runs.
+    let count = unsafe { puljemrod_locate(rows.as_ptr(), rows.len(), id, out.as_mut_ptr(), out.len()) };
+    &out[..count]
+}
+
 /// A block manager. It is `Send`: it may move to another thread. Each call takes `&mut self`, a
 /// question too, since the library keeps the last answer: so no two calls run at the same time. It
 /// is not `Sync`; several threads share a `Mutex<Manager>`.
@@ -354,12 +362,16 @@ impl Manager {
         self.rows(puljemrod_pair_rows, count).iter().map(|row: &PairRow| (row.block, row.storage)).collect()
     }
 
-    /// All replicas, by block and storage.
-    pub fn replicas(&mut self) -> Result<Vec<Replica>, Error> {
+    pub(crate) fn replica_rows(&mut self) -> Result<Vec<ReplicaRow>, Error> {
         // SAFETY: the handle is open, here and in each question below.
         let count = self.query(|handle, answer| unsafe { puljemrod_replicas(handle, answer) })?;
+        Ok(self.rows(puljemrod_replica_rows, count))
+    }
+
+    /// All replicas, by block and storage.
+    pub fn replicas(&mut self) -> Result<Vec<Replica>, Error> {
         let replica = |row: &ReplicaRow| Replica { block: row.block, storage: row.storage, tag: tag(row.tag) };
-        Ok(self.rows(puljemrod_replica_rows, count).iter().map(replica).collect())
+        Ok(self.replica_rows()?.iter().map(replica).collect())
     }
 
     /// The stale and bad replicas, as pairs of block and storage.

@@ -1,5 +1,5 @@
 -- The list of a question, as rows of C.
-use Rattle.std.specs.Prelude.{ℕ, List, [], map, Option, Some, None}
+use Rattle.std.specs.Prelude.{ℕ, ◌==◌, List, [], map, filter, Option, Some, None}
 use Rattle.bm_base.specs.declared.replica.Tag.{Tag}
 use Rattle.bm_base.specs.declared.replica.Tag.TheVariants.{Good, Stale, Bad, Stray}
 use Rattle.bm_base.specs.declared.replica.Replica.{Replica}
@@ -27,6 +27,10 @@ pair_row _ r = record { block = r.block; storage = r.storage }
 
 abbrev pub number_row : Unit {0} → ℕ → ℕ
 number_row _ n = n
+
+-- the storages of the good replicas among rows
+abbrev pub good_storages : List ReplicaRow → List ℕ
+good_storages rows = map (λ r. r.storage) (filter (λ r. r.tag == 0) rows)
 
 -- the list of the last answer, if it has items of this kind
 

@@ -21,6 +21,7 @@ mod events;
 mod handle;
 mod handle_state;
 mod lists;
+mod locate;
 mod options;
 mod parts;
 mod questions;
