@@ -15,7 +15,7 @@ from replica_cluster import Manager, Process, Servers, free_ports, lines_of, wai
 from access import PASSWORD, Stop
 from batches import Batch, value_of
 from log import Tail, last_index, position_of
-from store import Store, created, put
+from store import Store, after, created, delete, put
 
 # Requests of a program that is refused at once.
 MOST_REQUESTS = 6
@@ -128,8 +128,9 @@ class Secured:
 
     def etcdctl(self, words):
         """Changes accounts as SCALING says."""
-        run_commands(f"tls={self.tls}\nexport ETCDCTL_ENDPOINTS={self.url} ETCDCTL_CACERT=$tls/ca.crt\n"
-                     "export ETCDCTL_CERT=$tls/client.crt ETCDCTL_KEY=$tls/client.key\n"
+        run_commands(f"tls={self.tls}\nexport ETCDCTL_ENDPOINTS={self.url}\n"
+                     "export ETCDCTL_CACERT=$tls/ca.crt ETCDCTL_CERT=$tls/client.crt\n"
+                     "export ETCDCTL_KEY=$tls/client.key\n"
                      f"ETCDCTL_USER=root:$(cat $tls/root.password) etcdctl {words}")
 
     def links(self):
@@ -291,7 +292,7 @@ def accounts_reach_their_keys_alone(secured):
         lease = root.grant(60)
         root.transact([], [put(keys.replicas + "leased", "{}", lease)])
         want(refuses(lambda: store.revoke(lease)) == (user == "writer"), f"{user} and a lease")
-        root.transact([], [{"request_delete_range": put(keys.replicas + "leased", "")["request_put"]}])
+        root.transact([], [delete(keys.replicas + "leased")])
     want(refuses(lambda: Store(it.servers.access()).value(keys.done)), "all read without --user")
 
 
@@ -309,6 +310,10 @@ def a_certificate_gives_no_rights(secured):
     finally:
         (it.tls / "e1.crt").write_bytes(valid)
         it.restart()
+
+
+def watch_below(store, prefix):
+    return store.watch(prefix, after(prefix), 1)
 
 
 def refuses(ask):
@@ -336,6 +341,13 @@ def a_lost_token_is_replaced(secured):
     tokens = it.requests("Authenticate")
     want(tokens == 2, f"two programs have asked {tokens} times for a token")
     it.end("token")
+    keys, store = it.manager.keys, Store(it.servers.access("writer"))
+    account = store.access.account
+    for ask in (lambda: store.value(keys.done), lambda: next(watch_below(store, keys.answers))):
+        account.token = "lost.1"
+        ask()
+        want(account.token != "lost.1", "a request has a lost token")
+    want(refuses(lambda: next(watch_below(store, keys.replicas))), "writers watch replicas")
 
 
 def a_right_taken_away_ends_programs(secured):
@@ -362,7 +374,7 @@ def a_right_taken_away_ends_programs(secured):
             it.etcdctl(f"user grant-role {user} {user}")
 
 
-def an_expired_certificate_ends_connections(secured):
+def connections_end_with_certificates(secured):
     """A replica goes on by the connections that it has when the server's certificate expires, or
     when the server takes its own no more. It stops once these have ended."""
     it = secured()
@@ -371,7 +383,8 @@ def an_expired_certificate_ends_connections(secured):
     root = Store(it.servers.access("root"))
     server = "the server's certificate is refused: certificate has expired"
     own = "the server refuses the certificate of --cert"
-    for name, other, why in (("e1.crt", expired, server), ("ca.crt", it.other_tls() / "ca.crt", own)):
+    other_ca = it.other_tls() / "ca.crt"
+    for name, other, why in (("e1.crt", expired, server), ("ca.crt", other_ca, own)):
         valid = (it.tls / name).read_bytes()
         replica = it.manager.replica(f"old-{name}", "--interval", "0")
         wait_for("it answers", lambda index=it.appended(root): it.is_answered(root, index), 40)

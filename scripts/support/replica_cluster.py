@@ -144,7 +144,7 @@ class Servers:
     def access(self, user=None, urls=None):
         """The access for this process, with the account of a user if there is one."""
         if not self.tls:
-            return Access(self.urls)
+            return Access(urls or self.urls)
         context = context_of(*(self.tls / name for name in ("ca.crt", "client.crt", "client.key")))
         account = user and Account(user, (self.tls / f"{user}.password").read_text().strip())
         return Access(urls or self.urls, context, account)
@@ -189,7 +189,8 @@ class Servers:
 
     def leads(self, number):
         try:
-            answer, _ = Store([self.urls[number]], 1, 0).call("maintenance/status", {})
+            access = self.access(urls=[self.urls[number]])
+            answer, _ = Store(access, 1, 0).call("maintenance/status", {})
         except StoreError:
             return False
         return answer.get("leader") == answer["header"]["member_id"]
