@@ -24,8 +24,8 @@
  *
  * What is answered. Each answer is of one published version: the newest one when the call began, or
  * a later one. So no answer of a reader is older than one before. The `calls` that a publish writes
- * are its receipt: a reader's call that begins after the publish has returned, and is ordered
- * behind it as above, answers with that number of calls or more.
+ * are its receipt. Let a reader's call begin after the publish has returned, ordered behind it as
+ * above: it answers with that number of calls or more.
  *
  * What memory is taken. A version has 16 bytes for each replica, of any tag. A reader keeps at most
  * two: the one that it answers from, and the newest, if it has not asked since. A publish frees

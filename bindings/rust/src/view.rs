@@ -52,7 +52,7 @@ pub struct Publisher {
 }
 
 impl Publisher {
-    /// A publisher with so many readers. Each may go to a thread of its own.
+    /// A publisher and its readers, each of which may go to a thread of its own.
     pub fn new(readers: usize) -> (Publisher, Vec<Reader>) {
         let slots: Vec<_> = (0..readers).map(|_| Arc::new(Slot(AtomicPtr::new(ptr::null_mut())))).collect();
         let readers = slots.iter().map(|slot| Reader { slot: slot.clone(), current: None }).collect();

@@ -2,7 +2,7 @@
 //! storages of each block after each call were worked out by hand: `storages_after`.
 
 use puljemrod::{Event, Manager, Options, Publisher, Reader};
-use std::sync::mpsc::{channel, Receiver};
+use std::sync::mpsc::{channel, Receiver, TryRecvError};
 use std::thread;
 
 const NODES: u64 = 4;
@@ -33,24 +33,28 @@ fn change(manager: &mut Manager, call: u64) {
     manager.apply(&event).unwrap();
 }
 
-/// Asks until the last version comes, for one block after another. Returns how often a later
-/// version came.
-fn read(mut reader: Reader, receipts: Receiver<u64>, last: u64) -> u64 {
-    let (mut seen, mut receipt, mut later) = (0, 0, 0);
+/// Asks for one block after another, until there are no more receipts. Returns the calls of the
+/// last answer.
+fn read(mut reader: Reader, receipts: Receiver<u64>) -> u64 {
+    let (mut seen, mut receipt) = (0, 0);
     for id in (0..BLOCKS).cycle() {
-        receipt = receipts.try_iter().last().unwrap_or(receipt);
+        let is_last = loop {
+            match receipts.try_recv() {
+                Ok(next) => receipt = next,
+                Err(error) => break error == TryRecvError::Disconnected,
+            }
+        };
         let mut out = [0; 8];
         let found = reader.locate(id, &mut out);
         assert_eq!(found.storages, storages_after(found.calls, id), "block {id} after {} calls", found.calls);
         assert!(found.calls >= seen, "{} calls after {seen}", found.calls);
         assert!(found.calls >= receipt, "{} calls after a receipt of {receipt}", found.calls);
-        later += u64::from(found.calls > seen);
         seen = found.calls;
-        if seen == last {
+        if is_last {
             break;
         }
     }
-    later
+    seen
 }
 
 #[test]
@@ -62,20 +66,19 @@ fn readers_answer_from_versions_in_their_order() {
     for reader in readers {
         let (sender, receipts) = channel();
         senders.push(sender);
-        threads.push(thread::spawn(move || read(reader, receipts, last)));
+        threads.push(thread::spawn(move || read(reader, receipts)));
     }
     let mut manager = Manager::open(&Options { shards: 3, ..Options::default() }).unwrap();
     for call in 1..=last {
         change(&mut manager, call);
         let receipt = publisher.publish(&mut manager).unwrap();
         assert_eq!(receipt, call);
-        for sender in &senders {
-            // A reader that has seen the last version takes no more.
-            let _ = sender.send(receipt);
-        }
+        // A reader that found a wrong answer takes no more.
+        senders.iter().for_each(|sender| drop(sender.send(receipt)));
     }
+    drop(senders);
     for thread in threads {
-        assert!(thread.join().unwrap() > 0, "a reader saw no version");
+        assert_eq!(thread.join().unwrap(), last);
     }
 }
 

@@ -1,5 +1,5 @@
-use Rattle.std.proofs.Common.{◌≡◌, ◌∙◌, ◌++◌, ap, length, min, take, drop, sym}
-use Rattle.bm_base.specs.Words.{all_replicas, empty_cluster, places}
+use Rattle.std.proofs.Common.{◌∙◌, ◌++◌, ap, length, min, take, drop}
+use Rattle.bm_base.specs.Words.{all_replicas, empty_cluster}
 use Rattle.puljemrod.specs.ListRows.{good_storages}
 use Rattle.puljemrod.proofs.LocatedRows.{places_in_rows, rows_ascend}
 use Rattle.puljemrod.proofs.locate.puljemrod_locate.Goals as goal
