@@ -217,6 +217,7 @@ def library(compiler="llvm", crate="puljemrod"):
     if the compiler finds that something which the proof read has changed."""
     folder = TOP / "crates" / crate
     made = folder / "out" / f"lib{crate}.a"
+    made.parent.mkdir(exist_ok=True)
     announce(f"lib{crate}.a: builds it first by {compiler}, and proves what has changed below it")
     below = libraries_below(crate).values()
     if not all(it.is_dir() for it in below) or any((it.parent / "stamp").exists() for it in below):
