@@ -1,14 +1,12 @@
--- Lemmas on losses: their names, lost blocks, lacking bytes, and clusters restored as they were.
-pub mod Alike
-pub mod Clusters
-pub mod KnownBlocks
-pub mod LackingLemmas
+-- Lemmas on losses: their names, lost blocks, and the counts of a cluster.
+pub mod Apart
+pub mod Counts
+pub mod RowCounts
+pub mod RowIndexLemmas
+pub mod Missing
 pub mod NamedLemmas
 pub mod NumberLemmas
 pub mod DomainLemmas
-pub mod ReachedStates
-pub mod ReturnedNode
-pub mod EqualityLemmas
 pub mod Steps
 pub mod Tables
 pub mod Words

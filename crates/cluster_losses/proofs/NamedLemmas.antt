@@ -76,8 +76,6 @@ module _ (C : Cluster) (names : Names) where
       by : (t : Bool) → option_map (λ (m : Loss). m.kind) (cond t (Some l) None) ≡ Some k → option_map (λ (m : Loss). m.kind) (cond t (Some l) (find (is_unknown C names) rest)) ≡ Some k
       by true is = is
       by false is = cc
-  fault_stays ls rest l faults.Excess same is = is
-  fault_stays ls rest l faults.NotSetBack same is = is
   fault_stays ls rest l (faults.Refused r) same is = is
 
 pub none_left : (C : Cluster) (names : Names) (ls : List Loss) (lost : Lost) → lost.nodes.items ≡ [] → lost.drained.items ≡ [] → lost.storages.items ≡ [] → AreLeft C names ls ls lost

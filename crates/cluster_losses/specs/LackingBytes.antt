@@ -1,13 +1,8 @@
 -- The bytes to copy, and the free bytes for them.
-use Rattle.std.specs.Prelude.{ℕ, ◌-◌, ◌*◌, ◌^◌, ◌==◌, min, if◌then◌else◌, length, sum_by}
+use Rattle.std.specs.Prelude.{ℕ, ◌-◌, ◌^◌, min, if◌then◌else◌, length, sum_by}
 use Rattle.std.specs.Option.{option_map_or}
-use Rattle.bm_base.specs.declared.replica.BlockInfo.{BlockInfo}
 use Rattle.bm_base.specs.Words.{State, Cluster, get, keys, live, usable, is_draining, remaining}
-
--- The bytes of the copies that a block lacks: its length, times the wanted replicas that are not
--- live. It is 0 if no replica is usable, so that there is none to copy from.
-abbrev pub bytes_to_copy : BlockInfo → ℕ → ℕ → ℕ
-bytes_to_copy i live usable = if usable == 0 then 0 else (i.repl - live) * i.stamp.len
+use Rattle.cluster_lost.specs.Sources.{bytes_to_copy}
 
 -- `bytes_to_copy` of a block of a state; 0 if the block is not known
 abbrev pub lacking_of : State → ℕ → ℕ

@@ -1,5 +1,4 @@
 -- Losses, and the cluster after them.
-pub mod Alike
 pub mod Events
 pub mod Faults
 pub mod LackingBytes
@@ -7,8 +6,6 @@ pub mod NamedStorages
 pub mod Outcomes
 pub mod FailureDomains
 pub mod Questions
-pub mod ReachedStates
-pub mod ReturnedNode
-pub mod Returns
-pub mod BlockSums
+pub mod RowCounts
+pub mod RowIndex
 pub mod Tables

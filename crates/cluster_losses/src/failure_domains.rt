@@ -1,6 +1,7 @@
 // Failure domains: the racks or nodes of which each is lost alone.
 ghost use Rattle.std.specs.Prelude.{◌≡◌, ◌==◌, map, IfOk};
 ghost use Rattle.cluster_losses.specs.FailureDomains.{AreRacks, AreRackNumbers, rack_number, rack_domain, node_domain, nodes_on};
+ghost use Rattle.cluster_losses.specs.RowIndex.{AreApart};
 ghost use Rattle.bm_base.specs.Maps.Map as map_of;
 
 use bm_base::{Items, NodeId, Rack};
@@ -17,10 +18,12 @@ pub struct FailureDomain {
 
 /// Each rack with its alive nodes, ascending.
 pub fn racks_of(alloc: Global, book: &Book) -> Result<Vec<FailureDomain>, AllocError>
-    ensures { IfOk result (λ v. AreRacks book.now.topology.cluster v.items) }
+    ensures racks { IfOk result (λ v. AreRacks book.now.topology.cluster v.items) }
+    ensures apart { IfOk result (λ v. AreApart v.items) }
 {
     let numbers = rack_numbers(alloc, book)?;
-    domains_for(alloc, book, numbers.as_slice())
+    let domains = domains_for(alloc, book, numbers.as_slice())?;
+    Ok(domains)
 }
 
 /// These racks with their nodes.
@@ -64,8 +67,9 @@ fn rack_of_each(alloc: Global, book: &Book) -> Result<Vec<u32>, AllocError>
 
 /// Each alive node, ascending.
 pub fn nodes_of(alloc: Global, book: &Book) -> Result<Vec<FailureDomain>, AllocError>
-    ensures { IfOk result (λ v. v.items
+    ensures nodes { IfOk result (λ v. v.items
         ≡ map node_domain (map_of.keys book.now.topology.cluster.nodes)) }
+    ensures apart { IfOk result (λ v. AreApart v.items) }
 {
     let all = all_nodes(alloc, &book.topology)?;
     let mut domains = Vec::new(alloc);

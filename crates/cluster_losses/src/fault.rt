@@ -12,12 +12,6 @@ pub enum Fault {
     /// A word of the command line names nothing of the cluster.
     #[error("the cluster has no such {0}; `report` lists the names")]
     Unknown(Kind),
-    /// A replica is in excess: it would lose that mark when its node leaves and comes back.
-    #[error("replicas are in excess, so racks and nodes can be lost one at a time only")]
-    Excess,
-    /// After a rack or node came back, the cluster differs from the loaded one.
-    #[error("the cluster could not be set back")]
-    NotSetBack,
     /// The manager refused a loss.
     #[error("refused: {0}")]
     Refused(Refusal),

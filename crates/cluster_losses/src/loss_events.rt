@@ -54,15 +54,6 @@ impl Lost {
         Ok(lost)
     }
 
-    /// The loss of these nodes.
-    pub fn of_nodes(alloc: Global, nodes: &[NodeId]) -> Result<Lost, AllocError>
-        ensures { IfOk result (λ it. events_of it ≡ map death nodes.now) }
-    {
-        let mut lost = Lost::new(alloc);
-        lost.nodes = nodes.iter().copied().collect(alloc)?;
-        Ok(lost)
-    }
-
     /// Adds the nodes or the storage of one loss.
     fn add(&mut self, alloc: Global, loaded: &Loaded, loss: &Loss<'_>) -> Result<(), Fault>
         ensures lost { OnOk result (AreAdded (named_by loaded.now.session.book.topology.cluster

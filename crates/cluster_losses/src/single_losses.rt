@@ -1,30 +1,29 @@
-// A table of the losses if each rack or each node fails alone, and then comes back.
-ghost use Rattle.std.specs.Prelude.{◌≡◌, [], IfOk, IfErr, OnOk};
-ghost use Rattle.bm_base.specs.Words.{AllZip, IsPermutation, IsSorted, excess_replicas};
+// A table of the losses if each rack or each node fails alone.
+ghost use Rattle.std.specs.Prelude.{◌≡◌, IfErr, IfOk, OnOk};
+ghost use Rattle.bm_base.specs.Promises.Lawful.{IsLawful};
+ghost use Rattle.bm_base.specs.Words.{AllZip, IsPermutation, IsSorted, missing_blocks};
 ghost use Rattle.cluster_report.specs.Sessions.{IsInStep};
-ghost use Rattle.cluster_losses.specs.Alike.{IsLike, IsSnapshot};
-ghost use Rattle.cluster_losses.specs.Faults.{IsRefusal, IsRowsFault};
-ghost use Rattle.cluster_losses.specs.ReachedStates.{IsReached};
+ghost use Rattle.cluster_losses.specs.Faults.{IsRefusal};
+ghost use Rattle.cluster_losses.specs.Outcomes.{AreTallied, IsTallied};
+ghost use Rattle.cluster_losses.specs.RowIndex.{AreApart};
 ghost use Rattle.cluster_losses.specs.Tables.{AreRows, IsRowAt, levels_cmp, row_cmp};
 
-use crate::applied_losses::{Outcome, apply_losses};
+use crate::applied_losses::Outcome;
+use crate::block_tallies::tally_blocks;
+use crate::cluster_counts::{ClusterCounts, levels_by};
 use crate::failure_domains::FailureDomain;
 pub use crate::failure_domains::{nodes_of, racks_of};
 use crate::fault::Fault;
-use crate::loss_events::Lost;
-use crate::node_return::make_returns;
-use crate::returns::Return;
-use crate::snapshot::Snapshot;
-use bm_base::Refusal;
+use crate::row_counts::{free_without, is_multi_without, left_of, merge};
+use crate::row_index::rows_of_nodes;
+use bm_base::{BlockId, Items};
 use cluster_input::loaded_cluster::Loaded;
-use cluster_names::Files;
+use cluster_lost::block_pass::{BlockPass, RowTally};
+use cluster_lost::tally::Tally;
 use cluster_pages::files_at_risk::files_at_risk;
 use cluster_report::levels::LevelCounts;
-use cluster_report::session::Session;
 use std::alloc::{AllocError, Global};
 use std::cmp::Ordering;
-use std::sync::Wait;
-use std::thread::Threads;
 
 /// The losses if one rack or node fails alone.
 #[derive(Drop)]
@@ -38,123 +37,104 @@ pub struct Row {
 }
 
 /// The losses if each of these racks or nodes fails alone, the worst first: by lost blocks, then by
-/// the blocks at the first three levels, then by number. Each comes back before the next is lost,
-/// and the cluster is then compared with that before. `Excess` if a replica is in excess;
-/// `NotSetBack` if the cluster differs from that before.
-pub fn make_rows<H: Threads + Wait + Sync>(
-    rt: &H,
+/// the blocks at the first three levels, then by number. They are computed in one pass over all
+/// replicas; each block takes time for the domains that have a replica of it. No node may be in two
+/// domains.
+pub fn make_rows(
     alloc: Global,
-    loaded: &mut Loaded,
+    loaded: &Loaded,
     domains: &[FailureDomain],
 ) -> Result<Vec<Row>, Fault>
-    requires { IsInStep loaded.old.session }
+    requires in_step { IsInStep loaded.now.session }
+    requires apart { AreApart domains.now }
     ensures rows { IfOk result (λ v.
-        AreRows loaded.old.files loaded.old.session.manager domains.now v.items) }
-    ensures like { OnOk result (IsLike loaded.old.session.manager loaded.new.session.manager) }
-    ensures reached { OnOk result
-        (IsReached loaded.old.session.manager loaded.new.session.manager) }
-    ensures in_step { OnOk result (IsInStep loaded.new.session) }
-    ensures fault { IfErr result
-        (IsRowsFault loaded.old.session.manager loaded.new.session.manager) }
-    ensures same { loaded.new ≡ record loaded.old { session = loaded.new.session } }
+        AreRows loaded.now.files loaded.now.session.manager domains.now v.items) }
+    ensures fault { IfErr result IsRefusal }
 {
-    let first = Snapshot::of(alloc, &loaded.session)?;
-    if !first.excess.is_empty() {
-        return Err(Fault::Excess);
-    }
-    let returns = make_returns(alloc, &loaded.session.book, first.replicas.as_slice())?;
-    let mut rows = lose_each(
-        rt,
+    let session = &loaded.session;
+    session.manager.show_invariant();
+    let replicas = session.manager.replicas()?;
+    let excess = session.manager.excess()?;
+    let missing = session.manager.missing()?;
+    let index = rows_of_nodes(alloc, domains)?;
+    let pass = tally_blocks(
         alloc,
-        &mut loaded.session,
-        &loaded.files,
-        domains,
-        &first,
-        returns.as_slice(),
+        session,
+        &index,
+        domains.len(),
+        replicas.as_slice(),
+        excess.as_slice(),
     )?;
+    let mut rows = rows_of(alloc, loaded, domains, &pass, missing.as_slice())?;
     sort_worst_first(&mut rows)?;
     Ok(rows)
 }
 
-/// For each rack or node: loses it, makes its row, and makes it come back. `first` is the state
-/// before, which must be the same after each return.
-fn lose_each<H: Threads + Wait + Sync>(
-    rt: &H,
+/// A row for each rack or node, by its tallies. `missing` are the missing blocks.
+fn rows_of(
     alloc: Global,
-    session: &mut Session,
-    files: &Files,
+    loaded: &Loaded,
     domains: &[FailureDomain],
-    first: &Snapshot,
-    returns: &[Return],
-) -> Result<Vec<Row>, Fault>
-    requires in_step { IsInStep session.old }
-    requires first { IsSnapshot session.old.manager first.now }
-    requires none_in_excess { excess_replicas session.old.manager.holdings ≡ [] }
-    ensures rows { IfOk result (λ v.
-        AllZip (IsRowAt files.now session.old.manager) domains.now v.items) }
-    ensures like { OnOk result (IsLike session.old.manager session.new.manager) }
-    ensures reached { OnOk result (IsReached session.old.manager session.new.manager) }
-    ensures in_step { OnOk result (IsInStep session.new) }
-    ensures fault { IfErr result (IsRowsFault session.old.manager session.new.manager) }
+    pass: &BlockPass,
+    missing: &[BlockId],
+) -> Result<Vec<Row>, AllocError>
+    requires in_step { IsInStep loaded.now.session }
+    requires lawful { IsLawful loaded.now.session.manager }
+    requires missing { let M = loaded.now.session.manager in
+        missing.now ≡ missing_blocks M.cluster M.holdings }
+    requires tallied { AreTallied loaded.now.session.manager domains.now pass.now }
+    ensures { IfOk result (λ v.
+        AllZip (IsRowAt loaded.now.files loaded.now.session.manager) domains.now v.items) }
 {
+    let tallies = pass.rows.as_slice();
     let mut rows = Vec::new(alloc);
-    for domain in domains {
-        let row = make_row(rt, alloc, session, files, domain)?;
+    for index in 0..domains.len() {
+        let domain = &domains[index];
+        let row = make_row(alloc, loaded, domain, &pass.all, &tallies[index], missing)?;
         rows.push(row)?;
-        set_back(rt, session, returns, domain)?;
-        first.compare(alloc, session)?;
     }
     Ok(rows)
 }
 
-/// Loses one rack or node alone.
-#[tactic(auto, using(crate::proofs::Tables::row_at))]
-fn make_row<H: Threads + Wait + Sync>(
-    rt: &H,
+/// The row of one rack or node.
+fn make_row(
     alloc: Global,
-    session: &mut Session,
-    files: &Files,
+    loaded: &Loaded,
     domain: &FailureDomain,
-) -> Result<Row, Fault>
-    requires { IsInStep session.old }
-    ensures row { IfOk result (λ r. IsRowAt files.now session.old.manager domain.now r) }
-    ensures blocks { OnOk result (session.new.manager.holdings.blocks
-        ≡ session.old.manager.holdings.blocks) }
-    ensures reached { OnOk result (IsReached session.old.manager session.new.manager) }
-    ensures in_step { OnOk result (IsInStep session.new) }
-    ensures fault { IfErr result IsRefusal }
+    all: &Tally,
+    tally: &RowTally,
+    missing: &[BlockId],
+) -> Result<Row, AllocError>
+    requires in_step { IsInStep loaded.now.session }
+    requires lawful { IsLawful loaded.now.session.manager }
+    requires missing { let M = loaded.now.session.manager in
+        missing.now ≡ missing_blocks M.cluster M.holdings }
+    requires tallied { IsTallied loaded.now.session.manager domain.now.nodes all.now tally.now }
+    ensures { IfOk result (IsRowAt loaded.now.files loaded.now.session.manager domain.now) }
 {
-    let lost = Lost::of_nodes(alloc, domain.nodes.as_slice())?;
-    let losses = lost.events(alloc)?;
-    let missing = session.manager.missing()?;
-    let found = apply_losses(rt, alloc, session, missing.as_slice(), losses.as_slice())?;
-    let risk = files_at_risk(alloc, files, found.lost.as_slice(), &[])?;
+    let book = &loaded.session.book;
+    let nodes = domain.nodes.as_slice();
+    let lost = tally.lost.as_slice();
+    let left = left_of(all, tally);
+    let is_multi = is_multi_without(alloc, book, nodes)?;
+    let free = free_without(alloc, &book.topology, nodes)?;
+    let missing = merge(alloc, missing, lost)?;
+    let risk = files_at_risk(alloc, &loaded.files, lost, &[])?;
+    let lost = Items::from_slice(alloc, lost)?;
     Ok(Row {
         number: domain.number,
         nodes: domain.nodes.len(),
         lost_files: risk.lost.len(),
-        without: found,
+        without: Outcome {
+            after: ClusterCounts {
+                levels: levels_by(&left, is_multi, missing.len()),
+                missing,
+                lacking: left.lacking,
+                free,
+            },
+            lost,
+        },
     })
-}
-
-/// Restores the nodes of a rack or node, by the events of their returns.
-#[tactic(auto, using(crate::proofs::ReachedStates::no_way, crate::proofs::ReachedStates::way_and))]
-fn set_back<H: Threads + Wait + Sync>(
-    rt: &H,
-    session: &mut Session,
-    returns: &[Return],
-    domain: &FailureDomain,
-) -> Result<(), Refusal>
-    requires { IsInStep session.old }
-    ensures blocks { OnOk result (session.new.manager.holdings.blocks
-        ≡ session.old.manager.holdings.blocks) }
-    ensures reached { OnOk result (IsReached session.old.manager session.new.manager) }
-    ensures in_step { OnOk result (IsInStep session.new) }
-{
-    for node in returns {
-        node.restore(rt, session, domain.nodes.as_slice())?;
-    }
-    Ok(())
 }
 
 fn sort_worst_first(rows: &mut Vec<Row>) -> Result<(), AllocError>

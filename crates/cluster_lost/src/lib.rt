@@ -3,7 +3,14 @@
 //! The manager lists the missing blocks before the losses and after them. [`lost_blocks`] subtracts
 //! the first list from the second. Its contract states the result in an operator's words: the
 //! blocks whose usable replicas were all on lost storages.
+//!
+//! A [`block_pass::BlockPass`] computes the losses of many failures at once: it tallies all blocks
+//! as they are, and as they would be if the nodes of one row were lost.
 #![tactic(auto)]
+
+pub mod block_pass;
+pub mod sources;
+pub mod tally;
 
 ghost use Rattle.std.specs.Prelude.{◌≡◌, List, IfOk, not, filter};
 ghost use Rattle.bm_base.specs.Words.{has, State};

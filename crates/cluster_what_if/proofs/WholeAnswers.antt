@@ -6,7 +6,6 @@ use Rattle.bm_base.specs.declared.event.Event.{Event}
 use Rattle.bm_base.specs.Words.{State, keys, knows_node}
 use Rattle.cluster_input.specs.declared.loaded_cluster.Loaded.{Loaded}
 use Rattle.cluster_lost.specs.Losses.{after_losses}
-use Rattle.cluster_losses.specs.Alike.{IsLike}
 use Rattle.cluster_losses.specs.Events.{events_of}
 use Rattle.cluster_losses.specs.NamedStorages.{AreNamed}
 use Rattle.cluster_losses.specs.FailureDomains.{AreRacks, node_domain}
@@ -71,18 +70,18 @@ pub racks_found : (before after : Loaded) (domains : List FailureDomain) (t : Ta
     → AreRacks before.session.book.topology.cluster domains
     → AreRows before.files before.session.manager domains t.rows.items
     → t.kind ≡ kind.Rack
-    → IsLike before.session.manager after.session.manager
+    → after ≡ before
     → IsTableOfRacks before after t
-racks_found before after domains t racks rows kind_is like = record { domains = domains; racks = racks; rows = rows; kind_is = kind_is; like = like }
+racks_found before after domains t racks rows kind_is same = record { domains = domains; racks = racks; rows = rows; kind_is = kind_is; same = same }
 
 pub nodes_found : (before after : Loaded) (domains : List FailureDomain) (t : Table)
     → domains ≡ map node_domain (keys before.session.book.topology.cluster.nodes)
     → AreRows before.files before.session.manager domains t.rows.items
     → t.kind ≡ kind.Node
-    → IsLike before.session.manager after.session.manager
+    → after ≡ before
     → IsTableOfNodes before after t
-nodes_found before after domains t is rows kind_is like =
-    record { rows = subst (λ ps. AreRows before.files before.session.manager ps t.rows.items) is rows; kind_is = kind_is; like = like }
+nodes_found before after domains t is rows kind_is same =
+    record { rows = subst (λ ps. AreRows before.files before.session.manager ps t.rows.items) is rows; kind_is = kind_is; same = same }
 
 pub printed : (q : Question) (pace : Option Pace) (most : ℕ) (before after : Loaded) (old new : Option (List ℕ)) (found : Findings)
     → IsFoundFor q pace before after found

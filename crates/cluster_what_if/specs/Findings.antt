@@ -3,9 +3,8 @@ use Rattle.std.specs.Prelude.{◌≡◌, ◌⊎◌, ℕ, List, Option, Some, Non
 use Rattle.bm_base.specs.Words.{State, keys, knows_node}
 use Rattle.cluster_input.specs.declared.loaded_cluster.Loaded.{Loaded}
 use Rattle.cluster_lost.specs.Losses.{after_losses}
-use Rattle.cluster_losses.specs.Alike.{IsLike}
 use Rattle.cluster_losses.specs.Events.{events_of}
-use Rattle.cluster_losses.specs.Faults.{IsRefusal, IsRowsFault}
+use Rattle.cluster_losses.specs.Faults.{IsRefusal}
 use Rattle.cluster_losses.specs.NamedStorages.{AreNamed, IsFaultOf, first_unknown}
 use Rattle.cluster_losses.specs.FailureDomains.{AreRacks, node_domain}
 use Rattle.cluster_losses.specs.Tables.{AreRows}
@@ -58,19 +57,19 @@ pub record AreFoundOf (before after : Loaded) (pace : Option Pace) (ls : List Lo
   pub named : AreNamed before.session.book.topology.cluster before.names ls lost
   pub found : AreFound before after pace lost it
 
--- a row for each rack, which is lost alone; the cluster is then as before
+-- a row for each rack, which is lost alone; nothing has changed
 pub record IsTableOfRacks (before after : Loaded) (t : Table) : Type 0 where
   pub domains : List FailureDomain
   pub racks : AreRacks before.session.book.topology.cluster domains
   pub rows : AreRows before.files before.session.manager domains t.rows.items
   pub kind_is : t.kind ≡ kind.Rack
-  pub like : IsLike before.session.manager after.session.manager
+  pub same : after ≡ before
 
 -- a row for each node
 pub record IsTableOfNodes (before after : Loaded) (t : Table) : Type 0 where
   pub rows : AreRows before.files before.session.manager (map node_domain (keys before.session.book.topology.cluster.nodes)) t.rows.items
   pub kind_is : t.kind ≡ kind.Node
-  pub like : IsLike before.session.manager after.session.manager
+  pub same : after ≡ before
 
 -- the findings for a question
 abbrev pub IsFoundFor : Question → Option Pace → Loaded → Loaded → Findings → Type 0
@@ -79,8 +78,7 @@ IsFoundFor question.EachRack pace before after (found.Table t) = IsTableOfRacks 
 IsFoundFor question.EachNode pace before after (found.Table t) = IsTableOfNodes before after t
 IsFoundFor _ pace before after _ = ⊥
 
--- Why a question has no answer. For losses: a name is unknown, or a loss is refused. For a table: a
--- replica is in excess, or a rack or node does not come back. For both: out of memory.
+-- Why a question has no answer: a name is unknown, a loss is refused, or out of memory.
 abbrev pub IsFindFault : Question → Loaded → Loaded → Fault → Type 0
 IsFindFault (question.Losses ls) before after f = IsFaultOf (first_unknown before.session.book.topology.cluster before.names ls.items) f ⊎ IsRefusal f
-IsFindFault _ before after f = IsRowsFault before.session.manager after.session.manager f
+IsFindFault _ before after f = IsRefusal f

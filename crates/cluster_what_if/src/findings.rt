@@ -54,7 +54,7 @@ pub struct Table {
     pub rows: Vec<Row>,
 }
 
-/// Answers a question. The losses stay in the cluster; after a table the cluster is as before.
+/// Answers a question. Losses that happen together stay in the cluster; a table changes nothing.
 #[tactic(auto, using(crate::proofs::WholeAnswers::found_of, crate::proofs::WholeAnswers::racks_found, crate::proofs::WholeAnswers::nodes_found))]
 pub fn find<R: Eprint + Threads + Wait + Sync>(
     rt: &R,
@@ -78,13 +78,13 @@ pub fn find<R: Eprint + Threads + Wait + Sync>(
         }
         Question::EachRack => {
             let domains = racks_of(alloc, &loaded.session.book)?;
-            let rows = make_rows(rt, alloc, loaded, domains.as_slice())?;
+            let rows = make_rows(alloc, loaded, domains.as_slice())?;
             let kind = Kind::Rack;
             Ok(Findings::Table(Table { kind, rows }))
         }
         Question::EachNode => {
             let domains = nodes_of(alloc, &loaded.session.book)?;
-            let rows = make_rows(rt, alloc, loaded, domains.as_slice())?;
+            let rows = make_rows(alloc, loaded, domains.as_slice())?;
             let kind = Kind::Node;
             Ok(Findings::Table(Table { kind, rows }))
         }

@@ -8,7 +8,7 @@
 //! ```
 //!
 //! The answer has a line for each fact (docs/CLUSTERS.md). For `each-rack` and `each-node` it is a
-//! table: each is lost alone, and comes back before the next.
+//! table of the losses if each is lost alone.
 //!
 //! The exit status is 0. It is 1 if a line was refused, a name is unknown, a read or a write
 //! failed, or if out of memory. It is 2 for invalid options.
