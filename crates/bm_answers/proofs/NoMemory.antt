@@ -108,6 +108,6 @@ of_step M (call.Retired n) = refused M (node_refusal M.cluster n) _ (of_node M.c
 of_step M call.Calls = refl
 of_step M call.Rounds = refl
 
-pub lacked : (M : State) (k : Call) (a : Answer) → MayAnswer step M k a → is_out_of_memory a ≡ true → IsTrue (may_run_out_of_memory step M k)
+pub lacked : (M : State) (k : Call) (a : Answer) → MayAnswer M k a → is_out_of_memory a ≡ true → IsTrue (may_run_out_of_memory M k)
 lacked M k a (inl is) w = absurd (cc (w, ap is_out_of_memory is, of_step M k))
 lacked M k a (inr may) w = may.0

@@ -32,7 +32,7 @@ asked_next M _ = M
 
 -- whether it may run out of memory: it is a call that takes some, and nothing else refuses it
 abbrev pub asked_may_lack : State → Request → Bool
-asked_may_lack M (Asks k) = may_run_out_of_memory step M k
+asked_may_lack M (Asks k) = may_run_out_of_memory M k
 asked_may_lack M _ = false
 
 -- the text of an answer, whether it begins with `refused`, and the number after that word

@@ -5,7 +5,7 @@ pub mod Levels
 pub mod Entries
 pub mod Events
 pub mod Queries
-pub mod Excess
+pub mod RoundStart
 pub mod Transfers
 pub mod Deletes
 pub mod Rounds

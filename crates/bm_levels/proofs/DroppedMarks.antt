@@ -9,7 +9,7 @@ use Rattle.bm_maps.specs.SlotLists.{IsMember, Distinct}
 use Rattle.bm_arena.specs.Triplets.{Block}
 use Rattle.bm_arena.specs.Contents.{Contents, block_at}
 use Rattle.bm_arena.specs.HeldMaps.{replicas_at}
-use Rattle.bm_base.specs.Machine.Excess.{with_excess_reset}
+use Rattle.bm_base.specs.Machine.RoundStart.{with_excess_reset}
 use Rattle.bm_levels.specs.Changes.{all_changed, has_block}
 
 -- `left` are the remaining slots of `all`: each other one of them has its new marks, and each other

@@ -1,7 +1,7 @@
 -- An iteration that reads the next slot before it reclassifies one resets excess marks at each.
 use Rattle.std.specs.Prelude.{◌≡◌, ◌≢◌, ◌+◌, ◌<◌, ◌≤◌, ℕ, List, [], ◌∷◌, length, Option, Some, None}
 use Rattle.std.proofs.Common.{refl, sym, ap, subst, ◌∙◌, arith, inl, inr}
-use Rattle.bm_base.specs.Machine.Excess.{with_excess_reset}
+use Rattle.bm_base.specs.Machine.RoundStart.{with_excess_reset}
 use Rattle.bm_maps.specs.SlotLists.{IsMember, Distinct}
 use Rattle.bm_queues.specs.Walks.{slots_from, IsOn, IsPast}
 use Rattle.bm_arena.specs.Contents.{block_at, KeepsEntries}

@@ -7,7 +7,7 @@ ghost use Rattle.bm_levels.specs.UnusedEntries.{KeepsBlocksOutside};
 ghost use Rattle.bm_levels.specs.Changes.{as_excess, all_changed, has_replica, has_block, at_round_start, AreOfBlock, AreByStorage, AreInOrder};
 ghost use Rattle.bm_levels.specs.IndexedLevels.{IsUnsettled, KeepsAhead};
 ghost use Rattle.bm_levels.specs.LeveledBlocks.{KeepsLevels};
-ghost use Rattle.bm_base.specs.Machine.Excess as excess;
+ghost use Rattle.bm_base.specs.Machine.RoundStart as round_start;
 ghost use Rattle.bm_base.specs.RoundParts as parts;
 
 use crate::leveled_blocks::LeveledBlocks;
@@ -31,7 +31,7 @@ impl LeveledBlocks {
         requires surplus { surplus.now
             ≡ parts.surplus topology.now.cluster (at_round_start self.old.arena) }
         ensures replicas { replicas_of self.new.arena
-            ≡ (excess.with_surplus_marked topology.now.cluster (at_round_start self.old.arena)).replicas }
+            ≡ (round_start.with_surplus_marked topology.now.cluster (at_round_start self.old.arena)).replicas }
         ensures blocks { blocks_of self.new.arena ≡ blocks_of self.old.arena }
         ensures numbers { self.new.arena.ids ≡ self.old.arena.ids }
         ensures levels { KeepsLevels topology.now.cluster self.old self.new }

@@ -13,39 +13,39 @@ use Rattle.bm_base.specs.Words.{State, level, all_replicas, corrupt_replicas, ex
 
 -- a call whose definition refuses by o, and else answers x.0 with next state x.1
 module _ (M : State) (k : Call) (o : Option Refusal) (x : Answer × State) (s : step M k ≡ refused_or M o x) where
-  pub ok_answer : (a : Answer) → o ≡ None → a ≡ x.0 → MayAnswer step M k a
+  pub ok_answer : (a : Answer) → o ≡ None → a ≡ x.0 → MayAnswer M k a
   ok_answer a none is = inl (is ∙ sym (ap (λ y. y.0) (s ∙ ap (λ q. refused_or M q x) none)))
 
   pub ok_left : (N : State) → o ≡ None → N ≡ x.1 → N ≡ (step M k).1
   ok_left N none is = is ∙ sym (ap (λ y. y.1) (s ∙ ap (λ q. refused_or M q x) none))
 
-  err_answer_by : (q : Option Refusal) (b : Bool) → o ≡ q → call_takes_memory k ≡ b → (r : Refusal) → is_refused x.0 ≡ false → Refuses q b r → MayAnswer step M k (answer.Refused r)
+  err_answer_by : (q : Option Refusal) (b : Bool) → o ≡ q → call_takes_memory k ≡ b → (r : Refusal) → is_refused x.0 ≡ false → Refuses q b r → MayAnswer M k (answer.Refused r)
   err_answer_by None true e may r fine h =
       inr ((λ i. may i && not (is_refused (s i).0)) ∙ ap (λ p. not (is_refused (refused_or M p x).0)) e ∙ ap not fine, ap answer.Refused h)
   err_answer_by None false e may r fine h = absurd h
   err_answer_by (Some t) b e may r fine h = inl (ap answer.Refused h ∙ sym (ap (λ y. y.0) (s ∙ ap (λ p. refused_or M p x) e)))
 
-  pub err_answer : (r : Refusal) → is_refused x.0 ≡ false → Refuses o (call_takes_memory k) r → MayAnswer step M k (answer.Refused r)
+  pub err_answer : (r : Refusal) → is_refused x.0 ≡ false → Refuses o (call_takes_memory k) r → MayAnswer M k (answer.Refused r)
   err_answer r fine h = err_answer_by o (call_takes_memory k) refl refl r fine h
 
   same_either : (b : Bool) (y : State) → y ≡ M → M ≡ (if b then M else y)
   same_either true y e = refl
   same_either false y e = sym e
 
-  err_left_by : (q : Option Refusal) (b : Bool) → o ≡ q → (r : Refusal) → Refuses q b r → M ≡ state_after_answer step M k (answer.Refused r)
-  err_left_by None true e r h = ap (λ t. state_after_answer step M k (answer.Refused t)) (sym h)
+  err_left_by : (q : Option Refusal) (b : Bool) → o ≡ q → (r : Refusal) → Refuses q b r → M ≡ state_after_answer M k (answer.Refused r)
+  err_left_by None true e r h = ap (λ t. state_after_answer M k (answer.Refused t)) (sym h)
   err_left_by None false e r h = absurd h
   err_left_by (Some t) b e r h = same_either (is_out_of_memory (answer.Refused r)) (step M k).1 (ap (λ y. y.1) (s ∙ ap (λ p. refused_or M p x) e))
 
-  pub err_left : (N : State) (r : Refusal) → Refuses o (call_takes_memory k) r → N ≡ M → N ≡ state_after_answer step M k (answer.Refused r)
+  pub err_left : (N : State) (r : Refusal) → Refuses o (call_takes_memory k) r → N ≡ M → N ≡ state_after_answer M k (answer.Refused r)
   err_left N r h is = is ∙ err_left_by o (call_takes_memory k) refl r h
 
 -- a call that the definition never refuses: its answer, and out of memory
-pub step_answer : (M : State) (k : Call) (a : Answer) (x : Answer × State) → step M k ≡ x → a ≡ x.0 → MayAnswer step M k a
+pub step_answer : (M : State) (k : Call) (a : Answer) (x : Answer × State) → step M k ≡ x → a ≡ x.0 → MayAnswer M k a
 step_answer M k a x s is = inl (is ∙ sym (ap (λ y. y.0) s))
 
 pub memory_answer : (M : State) (k : Call) (x : Answer × State) → step M k ≡ x → call_takes_memory k ≡ true → is_refused x.0 ≡ false → {r : Refusal} → r ≡ Memory
-    → MayAnswer step M k (answer.Refused r)
+    → MayAnswer M k (answer.Refused r)
 memory_answer M k x s may fine e = inr ((λ i. may i && not (is_refused (s i).0)) ∙ ap not fine, ap answer.Refused e)
 
 pub step_apply : (M : State) (e : Event) → step M (call.Apply e) ≡ refused_or M (refusal_of M e) (answer.Done (done_by M e), after_event M e)

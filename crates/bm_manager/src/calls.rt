@@ -1,6 +1,6 @@
 // Calls as values: one call, and lists of calls.
 ghost use Rattle.std.specs.Prelude.{◌≡◌, IfOk, OnErr};
-ghost use Rattle.bm_base.specs.Words.{MayAnswer, MayAnswerAll, state_after_answer, state_after_answers, step, IsLawful};
+ghost use Rattle.bm_base.specs.Words.{MayAnswer, MayAnswerAll, state_after_answer, state_after_answers, IsLawful};
 
 use crate::manager::Manager;
 use bm_base::{Answer, Call, Items};
@@ -19,8 +19,8 @@ impl Manager {
         gate: &(dyn Gate + Sync),
         call: &Call,
     ) -> Answer
-        ensures answer { MayAnswer step self.old call.now result }
-        ensures state { self.new ≡ state_after_answer step self.old call.now result }
+        ensures answer { MayAnswer self.old call.now result }
+        ensures state { self.new ≡ state_after_answer self.old call.now result }
     {
         let workers = Threaded::new(rt, gate, self.config.workers as usize);
         self.answer_with(&workers, call)
@@ -28,16 +28,16 @@ impl Manager {
 
     /// [`Manager::answer`] by the calling thread alone, as [`Manager::apply_alone`].
     pub fn answer_alone(&mut self, call: &Call) -> Answer
-        ensures answer { MayAnswer step self.old call.now result }
-        ensures state { self.new ≡ state_after_answer step self.old call.now result }
+        ensures answer { MayAnswer self.old call.now result }
+        ensures state { self.new ≡ state_after_answer self.old call.now result }
     {
         self.answer_with(&CallingThread, call)
     }
 
     /// Makes one call with these workers.
     fn answer_with<W: Workers>(&mut self, workers: &W, call: &Call) -> Answer
-        ensures answer { MayAnswer step self.old call.now result }
-        ensures state { self.new ≡ state_after_answer step self.old call.now result }
+        ensures answer { MayAnswer self.old call.now result }
+        ensures state { self.new ≡ state_after_answer self.old call.now result }
     {
         match call {
             Call::Apply(event) => match self.apply_with(workers, event) {
@@ -95,9 +95,9 @@ impl Manager {
         gate: &(dyn Gate + Sync),
         calls: &[Call],
     ) -> Result<Items<Answer>, AllocError>
-        ensures answers { IfOk result (λ answers. MayAnswerAll step self.old calls.now answers) }
+        ensures answers { IfOk result (λ answers. MayAnswerAll self.old calls.now answers) }
         ensures state { IfOk result
-            (λ answers. self.new ≡ state_after_answers step self.old calls.now answers) }
+            (λ answers. self.new ≡ state_after_answers self.old calls.now answers) }
         ensures unchanged { OnErr result (self.new ≡ self.old) }
         ensures lawful { IsLawful self.new }
     {
@@ -111,9 +111,9 @@ impl Manager {
         workers: &W,
         calls: &[Call],
     ) -> Result<Items<Answer>, AllocError>
-        ensures answers { IfOk result (λ answers. MayAnswerAll step self.old calls.now answers) }
+        ensures answers { IfOk result (λ answers. MayAnswerAll self.old calls.now answers) }
         ensures state { IfOk result
-            (λ answers. self.new ≡ state_after_answers step self.old calls.now answers) }
+            (λ answers. self.new ≡ state_after_answers self.old calls.now answers) }
         ensures unchanged { OnErr result (self.new ≡ self.old) }
         ensures lawful { IsLawful self.new }
     {

@@ -1,6 +1,6 @@
 // The same calls on two managers of different shards and workers, or one of them without threads.
 ghost use Rattle.std.specs.Prelude.{◌≡◌, ◌⊎◌, true, None, IfOk, IfErr, OnOk};
-ghost use Rattle.bm_base.specs.Words.{first_state, config_refusal, step, Refuses, MayAnswerAll};
+ghost use Rattle.bm_base.specs.Words.{first_state, config_refusal, Refuses, MayAnswerAll};
 ghost use Rattle.bm_manager.specs.SameAnswers.{HaveSameAnswers};
 
 use crate::manager::Manager;
@@ -27,8 +27,8 @@ pub fn answers_alike<R: Threads + Wait + Sync>(
     calls: &[Call],
 ) -> Result<(Items<Answer>, Items<Answer>), Refusal>
     ensures alike { IfOk result (λ r. HaveSameAnswers r.0 r.1) }
-    ensures these { IfOk result (λ r. MayAnswerAll step (first_state config) calls.now r.0) }
-    ensures others { IfOk result (λ r. MayAnswerAll step (first_state config) calls.now r.1) }
+    ensures these { IfOk result (λ r. MayAnswerAll (first_state config) calls.now r.0) }
+    ensures others { IfOk result (λ r. MayAnswerAll (first_state config) calls.now r.1) }
     ensures allowed { OnOk result (config_refusal config ≡ None) }
     ensures allowed_too { OnOk result
         (config_refusal (record config { shards = shards; workers = workers }) ≡ None) }
@@ -56,8 +56,8 @@ pub fn answers_alike_alone<R: Threads + Wait + Sync>(
     calls: &[Call],
 ) -> Result<(Items<Answer>, Items<Answer>), Refusal>
     ensures alike { IfOk result (λ r. HaveSameAnswers r.0 r.1) }
-    ensures these { IfOk result (λ r. MayAnswerAll step (first_state config) calls.now r.0) }
-    ensures others { IfOk result (λ r. MayAnswerAll step (first_state config) calls.now r.1) }
+    ensures these { IfOk result (λ r. MayAnswerAll (first_state config) calls.now r.0) }
+    ensures others { IfOk result (λ r. MayAnswerAll (first_state config) calls.now r.1) }
     ensures allowed { OnOk result (config_refusal config ≡ None) }
     ensures allowed_too { OnOk result (config_refusal (record config { shards = shards }) ≡ None) }
     ensures refused { IfErr result (λ e. Refuses (config_refusal config) true e
@@ -76,7 +76,7 @@ fn run_calls<R: Threads + Wait + Sync>(
     config: Config,
     calls: &[Call],
 ) -> Result<Items<Answer>, Refusal>
-    ensures answers { IfOk result (λ r. MayAnswerAll step (first_state config) calls.now r) }
+    ensures answers { IfOk result (λ r. MayAnswerAll (first_state config) calls.now r) }
     ensures allowed { OnOk result (config_refusal config ≡ None) }
     ensures refused { IfErr result (Refuses (config_refusal config) true) }
 {
@@ -88,7 +88,7 @@ fn run_calls<R: Threads + Wait + Sync>(
 
 /// As `run_calls`, by the calling thread alone.
 fn answers_alone(alloc: Global, config: Config, calls: &[Call]) -> Result<Items<Answer>, Refusal>
-    ensures answers { IfOk result (λ r. MayAnswerAll step (first_state config) calls.now r) }
+    ensures answers { IfOk result (λ r. MayAnswerAll (first_state config) calls.now r) }
     ensures allowed { OnOk result (config_refusal config ≡ None) }
     ensures refused { IfErr result (Refuses (config_refusal config) true) }
 {

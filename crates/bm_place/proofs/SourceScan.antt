@@ -8,7 +8,7 @@ use Rattle.std.proofs.lemmas.List.{at_drop_all}
 use Rattle.std.proofs.lemmas.Bool.{lt-ltb}
 use Rattle.bm_base.specs.declared.replica.Level.{Level}
 use Rattle.bm_base.specs.declared.replica.Level.TheVariants.{Highest, VeryUnderReplicated, UnderReplicated, BadlyDistributed, NoUsableReplica}
-use Rattle.bm_base.specs.Words.{Cluster, least, is_draining, node_number, source_rank, source_cmp, stream_limit, least_source_by}
+use Rattle.bm_base.specs.Words.{Cluster, least, is_draining, node_number, rank_if, source_cmp, stream_limit, least_source_by}
 use Rattle.bm_place.specs.declared.source.SourceRow.{SourceRow}
 use Rattle.bm_place.specs.Least.{IsLeastOf}
 use Rattle.bm_place.specs.Sources.{source_at, cmp_sources, may_send, TakesDrained}
@@ -18,7 +18,7 @@ use Rattle.bm_place.proofs.RowScan.{scan-found}
 pub source_cmp_total : (C : Cluster) (streams : ℕ → ℕ) → IsTotalOrder (source_cmp C streams)
 unfolding source_cmp
 source_cmp_total C streams =
-    then_total (on_total (λ s. source_rank (is_draining C s)) nat_cmp_total)
+    then_total (on_total (λ s. rank_if (is_draining C s)) nat_cmp_total)
     (then_total (on_total streams nat_cmp_total) (then_total (on_total (node_number C) nat_cmp_total) nat_cmp_total))
 
 ordered_as : (C : Cluster) (streams : ℕ → ℕ) (s t : ℕ) → cmp_sources (source_at C streams s) (source_at C streams t) ≡ source_cmp C streams s t
@@ -63,7 +63,7 @@ module _ (C : Cluster) (streams : ℕ → ℕ) (urgency : Level) where
   unfolding source_cmp
   drained_before s r e f =
       let rest = ordering_then (nat_cmp (streams s) (streams r)) (ordering_then (nat_cmp (node_number C s) (node_number C r)) (nat_cmp s r)) in
-      λ i. is_lt (ordering_then (nat_cmp (source_rank (e i)) (source_rank (f i))) rest)
+      λ i. is_lt (ordering_then (nat_cmp (rank_if (e i)) (rank_if (f i))) rest)
 
   pub drained_taken : (usable : List ℕ) (m : Option ℕ) → IsLeastOf (source_cmp C streams) may usable m → TakesDrained C streams usable m
   drained_taken usable None none s there e few = absurd (true≢false (sym (drained_may s e few) ∙ none s there))

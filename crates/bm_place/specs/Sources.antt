@@ -6,7 +6,7 @@ use Rattle.std.specs.Option.{option_map_or}
 use Rattle.std.specs.Coded.{Coded, code_by, coded×, coded_ℕ}
 use Rattle.bm_base.specs.declared.replica.Level.{Level}
 use Rattle.bm_base.specs.declared.commands.Transfer.{Transfer}
-use Rattle.bm_base.specs.Words.{Map, by_number, get, keys, revise_at, Cluster, has, node_of, has_storage, is_draining, node_number, source_rank, stream_limit}
+use Rattle.bm_base.specs.Words.{Map, by_number, get, keys, revise_at, Cluster, has, node_of, has_storage, is_draining, node_number, rank_if, stream_limit}
 use Rattle.bm_base.specs.Maps.MapCode.{code}
 use Rattle.bm_place.specs.declared.source.SourceRow.{SourceRow}
 use Rattle.bm_place.specs.Tables.{table}
@@ -46,7 +46,7 @@ source_at C streams s = record { is_drained = is_draining C s; streams = streams
 -- the order of sources: the same on rows as `source_cmp`
 abbrev pub cmp_sources : SourceRow → SourceRow → Ordering
 cmp_sources s t =
-    ordering_then (nat_cmp (source_rank s.is_drained) (source_rank t.is_drained))
+    ordering_then (nat_cmp (rank_if s.is_drained) (rank_if t.is_drained))
     (ordering_then (nat_cmp s.streams t.streams) (ordering_then (nat_cmp s.node t.node) (nat_cmp s.storage t.storage)))
 
 -- whether its node may send one more transfer at a level: the same on rows as the test of

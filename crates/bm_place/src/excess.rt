@@ -2,7 +2,7 @@
 ghost use Rattle.std.specs.Prelude.{◌≡◌, ◌++◌, ◌≤◌, false, length, IsOk, IfOk, IfErr, OnOk};
 ghost use Rattle.bm_base.specs.Words.{has_repeats};
 ghost use Rattle.bm_base.specs.declared.refusal.Refusal.TheVariants.{Memory};
-ghost use Rattle.bm_base.specs.Machine.Excess as excess;
+ghost use Rattle.bm_base.specs.Machine.RoundStart as round_start;
 
 use crate::holders::{Holder, fill_holders};
 use crate::sorted_excess::{count_racks, push_in_order, sort_holders};
@@ -48,7 +48,7 @@ pub fn excess_of(
     topology: &Topology,
 ) -> Result<Vec<StorageId>, Refusal>
     ensures chosen { IfOk result (λ v. has_repeats live.now ≡ false
-        → v.items ≡ excess.excess_of topology.now.cluster live.now repl) }
+        → v.items ≡ round_start.excess_of topology.now.cluster live.now repl) }
     ensures enough { length live.now ≤ repl → IsOk result }
     ensures refused { IfErr result (λ e. e ≡ Memory) }
 {
@@ -72,7 +72,7 @@ pub fn fill_excess(
     topology: &Topology,
 ) -> Result<(), Refusal>
     ensures chosen { OnOk result (has_repeats live.now ≡ false
-        → into.new.items ≡ excess.excess_of topology.now.cluster live.now repl) }
+        → into.new.items ≡ round_start.excess_of topology.now.cluster live.now repl) }
     ensures enough { length live.now ≤ repl → IsOk result }
     ensures refused { IfErr result (λ e. e ≡ Memory) }
 {
@@ -94,7 +94,7 @@ fn push_by_sorting(
     topology: &Topology,
 ) -> Result<(), AllocError>
     ensures { OnOk result (has_repeats live.now ≡ false → into.new.items ≡ into.old.items
-        ++ excess.excess_among topology.now.cluster surplus live.now) }
+        ++ round_start.excess_among topology.now.cluster surplus live.now) }
 {
     fill_holders(&mut scratch.holders, live, topology)?;
     sort_holders(&mut scratch.holders);

@@ -2,7 +2,7 @@
 ghost use Rattle.std.specs.Prelude.{◌≡◌, ◌+◌, ◌-◌, ◌++◌, ◌&&◌, if◌then◌else◌, false, nat_lt, take, ℕ, List, OnOk, IfOk};
 ghost use Rattle.bm_base.specs.Words.{option_map_or, IsPermutation, IsSorted, Cluster};
 ghost use Rattle.bm_place.specs.ReplicaSpread.{is_rack};
-ghost use Rattle.bm_base.specs.Machine.Excess as excess;
+ghost use Rattle.bm_base.specs.Machine.RoundStart as round_start;
 ghost use Rattle.bm_base.specs.Maps.Map as map;
 ghost use Rattle.bm_place.specs.Holders as looked_up;
 ghost use Rattle.bm_place.specs.SortedExcess as pass;
@@ -73,7 +73,7 @@ pub(crate) fn push_in_order(
 ) -> Result<(), AllocError>
     ensures { OnOk result ((C : Cluster) (ss : List ℕ) →
         pass.AreReady C ss holders.now racks.old.map
-        → into.new.items ≡ into.old.items ++ excess.excess_among C surplus ss) }
+        → into.new.items ≡ into.old.items ++ round_start.excess_among C surplus ss) }
 {
     let more = push_from_shared_racks(into, kept, racks, holders, surplus)?;
     kept.truncate(more);
@@ -94,7 +94,7 @@ fn push_from_shared_racks(
     ensures { IfOk result (λ more. (C : Cluster) (ss : List ℕ) →
         pass.AreReady C ss holders.now racks.old.map
         → into.new.items ++ take more kept.new.items
-        ≡ into.old.items ++ excess.excess_among C surplus ss) }
+        ≡ into.old.items ++ round_start.excess_among C surplus ss) }
 {
     kept.clear();
     let mut more = surplus;

@@ -100,7 +100,7 @@ fn is_better(source: &SourceRow, best: &Option<SourceRow>) -> bool
 
 /// Drained sources come before live ones.
 fn rank_of(is_drained: bool) -> u32
-    ensures { result ≡ transfers.source_rank is_drained }
+    ensures { result ≡ round_start.rank_if is_drained }
 {
     if is_drained { 0 } else { 1 }
 }

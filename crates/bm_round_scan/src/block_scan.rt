@@ -6,7 +6,7 @@ ghost use Rattle.bm_arena.specs.Contents.{slot_of};
 ghost use Rattle.bm_levels.specs.SlotHoldings.{holdings_with};
 ghost use Rattle.bm_round_scan.specs.BlockMarks.{marked_on};
 ghost use Rattle.bm_round_scan.specs.BlockScans.{IsBlockScan, AreUsable, scanned_replicas, replicas_on, needs_delete, deletes_of};
-ghost use Rattle.bm_base.specs.Machine.Excess as excess;
+ghost use Rattle.bm_base.specs.Machine.RoundStart as round_start;
 
 use crate::replicas::{UsableReplicas, contains_near, fill_at_round_start, mark_on, usable_among};
 use bm_arena::{Arena, Slot};
@@ -157,7 +157,7 @@ fn fill_surplus(
 ) -> Result<(), Refusal>
     ensures surplus { OnOk result (has_repeats live.now ≡ false
         → into.new.items ≡ option_map_or
-        (λ i. excess.excess_of topology.now.cluster live.now i.repl) info []) }
+        (λ i. round_start.excess_of topology.now.cluster live.now i.repl) info []) }
     ensures refused { IfErr result (λ e. e ≡ Memory) }
 {
     match info {

@@ -7,7 +7,7 @@ ghost use Rattle.bm_base.specs.Maps.Map as map;
 ghost use Rattle.bm_base.specs.Machine.State as state;
 ghost use Rattle.bm_base.specs.Maps.Lists as lists;
 ghost use Rattle.bm_base.specs.Machine.Replicas as replicas;
-ghost use Rattle.bm_base.specs.Machine.Excess as excess;
+ghost use Rattle.bm_base.specs.Machine.RoundStart as round_start;
 
 use crate::by_node::{StoragesByNode, storages_of};
 use crate::index_hints::IndexHints;

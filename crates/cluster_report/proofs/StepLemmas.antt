@@ -184,14 +184,14 @@ limits_step M call.Rounds = refl
 
 -- ---- a call that did not run out of memory
 
-answered : (M : State) (k : Call) (a : Answer) → MayAnswer step M k a → is_out_of_memory a ≡ false → a ≡ (step M k).0
+answered : (M : State) (k : Call) (a : Answer) → MayAnswer M k a → is_out_of_memory a ≡ false → a ≡ (step M k).0
 answered M k a (inl e) h = e
 answered M k a (inr e) h = absurd_bool (sym (ap is_out_of_memory e.1) ∙ h)
   where
     absurd_bool : {A : Type 0} → true ≡ false → A
     absurd_bool e = cc
 
-pub accepted_by : (M : State) (C : Cluster) (k : Call) (a : Answer) → C ≡ M.cluster → MayAnswer step M k a → is_out_of_memory a ≡ false → IsAccepted C k a
+pub accepted_by : (M : State) (C : Cluster) (k : Call) (a : Answer) → C ≡ M.cluster → MayAnswer M k a → is_out_of_memory a ≡ false → IsAccepted C k a
 accepted_by M C k a same may none =
     subst (λ D. IsAccepted D k a) (sym same) (subst (IsAccepted M.cluster k) (sym (answered M k a may none)) (accepted_step M k))
 
@@ -199,7 +199,7 @@ left_step : (M N : State) (k : Call) (b : Bool) → b ≡ false → N ≡ (cond 
 left_step M N k b none e = e ∙ ap (λ c. cond c M (step M k).1) none
 
 -- the book follows the manager after a call
-pub follows_by : (M N : State) (old new : Book) (k : Call) (a : Answer) → IsLawful M → Follows old M → MayAnswer step M k a → is_out_of_memory a ≡ false → N ≡ state_after_answer step M k a
+pub follows_by : (M N : State) (old new : Book) (k : Call) (a : Answer) → IsLawful M → Follows old M → MayAnswer M k a → is_out_of_memory a ≡ false → N ≡ state_after_answer M k a
     → new.topology.cluster ≡ cluster_after old.topology.cluster k a → AreCopiesAfter old.topology.cluster old.transfers k a new.transfers → new.transfers.pend ≡ old.transfers.pend
     → AreBlocksAfter old.topology.cluster old.blocks k a new.blocks → Follows new N
 follows_by M N old new k a L F may none left cluster copies pend blocks =

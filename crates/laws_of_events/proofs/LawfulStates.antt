@@ -59,18 +59,18 @@ either_state : (P : State → Type 0) (b : Bool) (M N : State) → P M → P N �
 either_state P true M N L K = L
 either_state P false M N L K = K
 
-lawful_left : (M : State) (ks : List Call) (answers : List Answer) → IsLawful M → Each FitsCall ks → IsLawful (state_after_answers step M ks answers)
+lawful_left : (M : State) (ks : List Call) (answers : List Answer) → IsLawful M → Each FitsCall ks → IsLawful (state_after_answers M ks answers)
 lawful_left M [] answers L h = L
 lawful_left M (k ∷ ks) [] L h = L
-lawful_left M (k ∷ ks) (a ∷ rest) L h = lawful_left (state_after_answer step M k a) ks rest (either_state IsLawful (is_out_of_memory a) M (step M k).1 L (step_lawful M k L h.0)) h.1
+lawful_left M (k ∷ ks) (a ∷ rest) L h = lawful_left (state_after_answer M k a) ks rest (either_state IsLawful (is_out_of_memory a) M (step M k).1 L (step_lawful M k L h.0)) h.1
 
-pub lawful_left_from_first : (c : Config) (ks : List Call) (answers : List Answer) → HasFittingStart c → FitCalls ks → MayAnswerAll step (first_state c) ks answers → IsLawful (state_after_answers step (first_state c) ks answers)
+pub lawful_left_from_first : (c : Config) (ks : List Call) (answers : List Answer) → HasFittingStart c → FitCalls ks → MayAnswerAll (first_state c) ks answers → IsLawful (state_after_answers (first_state c) ks answers)
 lawful_left_from_first c ks answers start h may = lawful_left (first_state c) ks answers (first_lawful c start) (each_all FitsCall ks h)
 
-orderly_left : (M : State) (ks : List Call) (answers : List Answer) → IsOrderly M → IsOrderly (state_after_answers step M ks answers)
+orderly_left : (M : State) (ks : List Call) (answers : List Answer) → IsOrderly M → IsOrderly (state_after_answers M ks answers)
 orderly_left M [] answers L = L
 orderly_left M (k ∷ ks) [] L = L
-orderly_left M (k ∷ ks) (a ∷ rest) L = orderly_left (state_after_answer step M k a) ks rest (either_state IsOrderly (is_out_of_memory a) M (step M k).1 L (step_orderly M k L))
+orderly_left M (k ∷ ks) (a ∷ rest) L = orderly_left (state_after_answer M k a) ks rest (either_state IsOrderly (is_out_of_memory a) M (step M k).1 L (step_orderly M k L))
 
-pub orderly_left_from_first : (c : Config) (ks : List Call) (answers : List Answer) → MayAnswerAll step (first_state c) ks answers → IsOrderly (state_after_answers step (first_state c) ks answers)
+pub orderly_left_from_first : (c : Config) (ks : List Call) (answers : List Answer) → MayAnswerAll (first_state c) ks answers → IsOrderly (state_after_answers (first_state c) ks answers)
 orderly_left_from_first c ks answers may = orderly_left (first_state c) ks answers (first_orderly c)

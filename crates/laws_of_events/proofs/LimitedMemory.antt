@@ -12,7 +12,7 @@ same_either false M N e = e
 
 pub refused_leaves : law.refused_answer_leaves_state
 refused_leaves M k a (inl is) refused = same_either (is_out_of_memory a) M (step M k).1 (refusal_leaves M k (ap is_refused (sym is) ∙ refused))
-refused_leaves M k a (inr lacks) refused = ap (state_after_answer step M k) lacks.1
+refused_leaves M k a (inr lacks) refused = ap (state_after_answer M k) lacks.1
 
 wants_none : (a : Answer) → is_refused a ≡ false → is_out_of_memory a ≡ false
 wants_none (answer.Refused r) e = cc

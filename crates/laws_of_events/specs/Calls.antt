@@ -39,7 +39,7 @@ round_is_counted = (M : State) → round_refusal M ≡ None → IsNextRound M (s
 -- state, is the step's.
 
 abbrev pub refused_answer_leaves_state : Type 0
-refused_answer_leaves_state = (M : State) (k : Call) (a : Answer) → MayAnswer step M k a → IsTrue (is_refused a) → state_after_answer step M k a ≡ M
+refused_answer_leaves_state = (M : State) (k : Call) (a : Answer) → MayAnswer M k a → IsTrue (is_refused a) → state_after_answer M k a ≡ M
 
 abbrev pub other_answer_is_the_steps : Type 0
-other_answer_is_the_steps = (M : State) (k : Call) (a : Answer) → MayAnswer step M k a → is_refused a ≡ false → (a ≡ (step M k).0) × (state_after_answer step M k a ≡ (step M k).1)
+other_answer_is_the_steps = (M : State) (k : Call) (a : Answer) → MayAnswer M k a → is_refused a ≡ false → (a ≡ (step M k).0) × (state_after_answer M k a ≡ (step M k).1)

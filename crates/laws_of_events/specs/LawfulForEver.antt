@@ -38,7 +38,7 @@ calls_lead_to_lawful = (c : Config) (ks : List Call) → HasFittingStart c → F
 -- included
 abbrev pub answered_calls_lead_to_lawful : Type 0
 answered_calls_lead_to_lawful =
-    (c : Config) (ks : List Call) (answers : List Answer) → HasFittingStart c → FitCalls ks → MayAnswerAll step (first_state c) ks answers → IsLawful (state_after_answers step (first_state c) ks answers)
+    (c : Config) (ks : List Call) (answers : List Answer) → HasFittingStart c → FitCalls ks → MayAnswerAll (first_state c) ks answers → IsLawful (state_after_answers (first_state c) ks answers)
 
 -- Whatever numbers calls bring, they lead to a state that is lawful but for the sizes of its
 -- numbers.
@@ -48,7 +48,7 @@ calls_lead_to_orderly = (c : Config) (ks : List Call) → IsOrderly (state_after
 
 abbrev pub answered_calls_lead_to_orderly : Type 0
 answered_calls_lead_to_orderly =
-    (c : Config) (ks : List Call) (answers : List Answer) → MayAnswerAll step (first_state c) ks answers → IsOrderly (state_after_answers step (first_state c) ks answers)
+    (c : Config) (ks : List Call) (answers : List Answer) → MayAnswerAll (first_state c) ks answers → IsOrderly (state_after_answers (first_state c) ks answers)
 
 -- the target of a pending transfer has no replica of the block, of any tag
 abbrev pub IsStillToCome : State → Type 0

@@ -12,7 +12,7 @@ use Rattle.bm_base.specs.declared.replica.ReplicaId.{ReplicaId}
 use Rattle.bm_base.specs.declared.replica.Marks.{Marks}
 use Rattle.bm_base.specs.declared.commands.Transfer.{Transfer}
 use Rattle.bm_base.specs.declared.commands.Delete.{Delete}
-use Rattle.bm_base.specs.Words.{get, entries, Cluster, Holdings, State, replica_at, has, live, drained, sources_of, is_usable, is_drained_on, is_draining, drains, has_storage, node_of, storages_where, state_after_expiry, state_at_choice, with_surplus_marked, excess_in, end_round, is_commanded, whole_round, stream_limit, streams_from, node_number, source_rank, source_cmp, least_source_by, least_source}
+use Rattle.bm_base.specs.Words.{get, entries, Cluster, Holdings, State, replica_at, has, live, drained, sources_of, is_usable, is_drained_on, is_draining, drains, has_storage, node_of, storages_where, state_after_expiry, state_at_choice, with_surplus_marked, excess_in, end_round, is_commanded, whole_round, stream_limit, streams_from, node_number, rank_if, source_cmp, least_source_by, least_source}
 use Rattle.bm_base.specs.Promises.NextRound.{IsTransferCommanded, transfers_chosen, unmarked, drained_unmarked, drained_marked, drained_after}
 use Rattle.bm_base.proofs.ListTests.{has_filter, and_first, filter_append}
 use Rattle.bm_base.proofs.Membership.{revised_where, has_where}
@@ -103,7 +103,7 @@ limit_drained UnderReplicated = refl
 limit_drained BadlyDistributed = refl
 limit_drained NoUsableReplica = refl
 
-drained_rank : (d : Bool) → source_rank d ≤ 0 → d ≡ true
+drained_rank : (d : Bool) → rank_if d ≤ 0 → d ≡ true
 drained_rank true h = refl
 drained_rank false h = absurd (omega (arith, h))
 
@@ -114,10 +114,10 @@ unfolding least_source least_source_by source_cmp
 drained_least C front urgency ss s t is there drained few =
     let may : ℕ → Bool = λ z. nat_lt (streams_from C front z) (stream_limit urgency (is_draining C z)) in
     let passes : may s ≡ true = ap (λ d. nat_lt (streams_from C front s) (stream_limit urgency d)) drained ∙ ap (nat_lt (streams_from C front s)) (limit_drained urgency) ∙ few in
-    let below = least_below (λ z. source_rank (is_draining C z))
+    let below = least_below (λ z. rank_if (is_draining C z))
     (λ x y. ordering_then (nat_cmp (streams_from C front x) (streams_from C front y)) (ordering_then (nat_cmp (node_number C x) (node_number C y)) (nat_cmp x y)))
     (filter may ss) t is s (has_filter may ss s ∙ ap (λ b. b && has ss s) passes ∙ there) in
-    drained_rank (is_draining C t) (subst (λ d. source_rank (is_draining C t) ≤ source_rank d) drained below)
+    drained_rank (is_draining C t) (subst (λ d. rank_if (is_draining C t) ≤ rank_if d) drained below)
 
 -- no node is the source of more than four, however far the round has come
 four_before : (M : State) (front back : List Transfer) (t : Transfer) (n : ℕ) → transfers_chosen M ≡ front ++ t ∷ back → length (filter (λ (u : Transfer). has_storage M.cluster n u.source) front) ≤ 4

@@ -7,7 +7,7 @@ use Rattle.bm_base.specs.declared.event.Event.{Event}
 use Rattle.bm_base.specs.declared.event.Event.TheVariants.{Heartbeat}
 use Rattle.bm_base.specs.declared.event.Remaining.{Remaining}
 use Rattle.bm_base.specs.declared.refusal.Refusal.{Refusal}
-use Rattle.bm_base.specs.Words.{State, first_state, config_refusal, step, Refuses, may_run_out_of_memory, refusal_number}
+use Rattle.bm_base.specs.Words.{State, first_state, config_refusal, Refuses, may_run_out_of_memory, refusal_number}
 use Rattle.bm_answers.specs.declared.line_answer.Request.{Request}
 use Rattle.bm_answers.specs.declared.line_answer.Request.TheVariants.{Asks, Long}
 use Rattle.bm_answers.specs.declared.line_answer.LineAnswer.{LineAnswer}
@@ -77,7 +77,7 @@ IsMade k c now code = IsAsked k.manager (Asks c) now × (code ≡ now.number)
 -- A call by its own function. Either memory was refused and nothing changed, which is possible only
 -- if the call takes memory and nothing else refuses it; or the call is made.
 abbrev pub IsCall : HandleState → Call → HandleState → ℕ → Type 0
-IsCall k c now code = ((code ≡ MEMORY) × (now ≡ k) × IsTrue (may_run_out_of_memory step k.manager c)) ⊎ IsMade k c now code
+IsCall k c now code = ((code ≡ MEMORY) × (now ≡ k) × IsTrue (may_run_out_of_memory k.manager c)) ⊎ IsMade k c now code
 
 -- As `IsCall`, for an event with a list, which is copied first: memory may be refused for the copy,
 -- whatever the event.

@@ -9,6 +9,7 @@ use Rattle.bm_base.specs.declared.call.Call.TheVariants as call
 use Rattle.bm_base.specs.declared.call.Answer.{Answer}
 use Rattle.bm_base.specs.declared.call.Answer.TheVariants as answer
 use Rattle.bm_base.specs.Machine.State.{State}
+use Rattle.bm_base.specs.Machine.Calls.{step}
 
 -- a check's result: the refusal, if there is one
 abbrev pub checked : Option Refusal → Result (Unit {0}) Refusal
@@ -54,29 +55,26 @@ abbrev pub is_refused : Answer → Bool
 is_refused (answer.Refused r) = true
 is_refused _ = false
 
--- Below, `answering` gives the answer of a call and the next state, with unlimited memory:
--- `Calls.step` is such a function.
-
 -- whether a call may run out of memory: it takes some, and nothing else refuses it
-abbrev pub may_run_out_of_memory : (State → Call → Answer × State) → State → Call → Bool
-may_run_out_of_memory answering M k = call_takes_memory k && not (is_refused (answering M k).0)
+abbrev pub may_run_out_of_memory : State → Call → Bool
+may_run_out_of_memory M k = call_takes_memory k && not (is_refused (step M k).0)
 
--- An answer that a call may give in a state: that of `answering`, or out of memory if the call may
--- run out of it.
-abbrev pub MayAnswer : (State → Call → Answer × State) → State → Call → Answer → Type 0
-MayAnswer answering M k a = (a ≡ (answering M k).0) ⊎ (IsTrue (may_run_out_of_memory answering M k) × (a ≡ answer.Refused Memory))
+-- An answer that a call may give in a state: that of the definition, or out of memory if the call
+-- may run out of it.
+abbrev pub MayAnswer : State → Call → Answer → Type 0
+MayAnswer M k a = (a ≡ (step M k).0) ⊎ (IsTrue (may_run_out_of_memory M k) × (a ≡ answer.Refused Memory))
 
 -- the state after a call that gave this answer: after out of memory the same state
-abbrev pub state_after_answer : (State → Call → Answer × State) → State → Call → Answer → State
-state_after_answer answering M k a = if is_out_of_memory a then M else (answering M k).1
+abbrev pub state_after_answer : State → Call → Answer → State
+state_after_answer M k a = if is_out_of_memory a then M else (step M k).1
 
 -- the answers that a list of calls may give, and the state that they leave
-abbrev pub MayAnswerAll : (State → Call → Answer × State) → State → List Call → List Answer → Type 0
-MayAnswerAll answering M [] [] = Unit {0}
-MayAnswerAll answering M (k ∷ ks) (a ∷ rest) = MayAnswer answering M k a × MayAnswerAll answering (state_after_answer answering M k a) ks rest
-MayAnswerAll answering M [] (a ∷ rest) = ⊥
-MayAnswerAll answering M (k ∷ ks) [] = ⊥
+abbrev pub MayAnswerAll : State → List Call → List Answer → Type 0
+MayAnswerAll M [] [] = Unit {0}
+MayAnswerAll M (k ∷ ks) (a ∷ rest) = MayAnswer M k a × MayAnswerAll (state_after_answer M k a) ks rest
+MayAnswerAll M [] (a ∷ rest) = ⊥
+MayAnswerAll M (k ∷ ks) [] = ⊥
 
-abbrev pub state_after_answers : (State → Call → Answer × State) → State → List Call → List Answer → State
-state_after_answers answering M (k ∷ ks) (a ∷ rest) = state_after_answers answering (state_after_answer answering M k a) ks rest
-state_after_answers answering M _ _ = M
+abbrev pub state_after_answers : State → List Call → List Answer → State
+state_after_answers M (k ∷ ks) (a ∷ rest) = state_after_answers (state_after_answer M k a) ks rest
+state_after_answers M _ _ = M

@@ -16,6 +16,7 @@ use Rattle.bm_base.specs.declared.event.Remaining.{Remaining}
 use Rattle.bm_base.specs.declared.event.Event.{Event}
 use Rattle.bm_base.specs.declared.event.Event.TheVariants.{Register, Dead, StorageFailed, Heartbeat, Drain, Undrain, AddBlock, DeleteBlock, SetReplication, Restamp, Received, Deleted, Corrupt, FullReport}
 use Rattle.bm_base.specs.Maps.Map.{Map, by_number, get, insert, insert_all, without, revise, revise_at, remove}
+use Rattle.bm_base.specs.Maps.Lists.{has_some}
 use Rattle.bm_base.specs.Machine.State.{Cluster, Holdings, State, replica_at}
 use Rattle.bm_base.specs.Machine.Replicas.{is_good, is_bad, has_storage, are_siblings, drains}
 use Rattle.bm_base.specs.Machine.Entries.{ReportedBlock, expanded}
@@ -27,7 +28,7 @@ same_stamp a b = (a.generation == b.generation) && (a.len == b.len)
 
 -- adds a node that does not drain, and its storages with 0 remaining bytes
 unfoldable pub register : Cluster → ℕ → ℕ → List ℕ → Cluster
-register C n rack ss = record {
+register C n rack ss = record C {
   nodes = insert C.nodes n rack;
   draining = remove C.draining n;
   storages = insert_all C.storages (map (λ s. (s, record { node = n; remaining = 0 })) ss);
@@ -43,7 +44,7 @@ unfoldable pub heartbeat : Cluster → List Remaining → Cluster
 heartbeat C rs = record C { storages = set_remaining C.storages rs }
 
 unfoldable pub without_node : Cluster → ℕ → Cluster
-without_node C n = record {
+without_node C n = record C {
   nodes = remove C.nodes n;
   draining = remove C.draining n;
   storages = without C.storages (has_storage C n);
@@ -61,10 +62,10 @@ undrain C n = record C { draining = remove C.draining n }
 -- Entering a reported replica. "Was" is about the holdings before it is entered.
 
 unfoldable pub was_bad : Holdings → ReplicaId → Bool
-was_bad H p = option_map_or (λ m. is_bad m.tag) (get H.replicas p) false
+was_bad H p = has_some (get H.replicas p) (λ m. is_bad m.tag)
 
 unfoldable pub was_excess : Holdings → ReplicaId → Bool
-was_excess H p = option_map_or (λ m. m.excess) (get H.replicas p) false
+was_excess H p = has_some (get H.replicas p) (λ m. m.excess)
 
 -- the tag by a known block: bad if the replica was bad; else good if the stamp is the block's; else
 -- stale

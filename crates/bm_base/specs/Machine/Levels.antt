@@ -1,11 +1,11 @@
 -- How urgently a block needs replicas. Source: the queues of Hadoop 2's UnderReplicatedBlocks;
 -- which block is in which queue is this project's own choice.
-use Rattle.std.specs.Prelude.{ℕ, ◌*◌, Bool, false, ◌&&◌, if◌then◌else◌, ◌==◌, nat_lt, nat_le, List, [], ◌∷◌, length, Option, Some, None, option_and_then}
-use Rattle.std.specs.Option.{option_map_or}
+use Rattle.std.specs.Prelude.{ℕ, ◌*◌, Bool, ◌&&◌, if◌then◌else◌, ◌==◌, nat_lt, nat_le, List, [], ◌∷◌, length, Option, Some, None, option_and_then}
 use Rattle.bm_base.specs.declared.replica.BlockInfo.{BlockInfo}
 use Rattle.bm_base.specs.declared.replica.Level.{Level}
 use Rattle.bm_base.specs.declared.replica.Level.TheVariants.{Highest, VeryUnderReplicated, UnderReplicated, BadlyDistributed, NoUsableReplica}
 use Rattle.bm_base.specs.Maps.Map.{get}
+use Rattle.bm_base.specs.Maps.Lists.{has_some}
 use Rattle.bm_base.specs.Machine.State.{Cluster, Holdings}
 use Rattle.bm_base.specs.Machine.Replicas.{live, drained, racks, is_multi_rack}
 
@@ -47,4 +47,4 @@ urgent_levels = Highest ∷ VeryUnderReplicated ∷ UnderReplicated ∷ BadlyDis
 
 -- whether there is a level, and it is this one
 abbrev pub is_at : Level → Option Level → Bool
-is_at urgency found = option_map_or (λ other. level_number other == level_number urgency) found false
+is_at urgency found = has_some found (λ other. level_number other == level_number urgency)

@@ -1,9 +1,8 @@
 -- Which call is refused, and why: the checks in their order, and the first that fails.
-use Rattle.std.specs.Prelude.{ℕ, ◌+◌, Bool, false, not, ◌&&◌, ◌||◌, if◌then◌else◌, ◌==◌, nat_lt, nat_le, List, [], ◌∷◌, length, Option, Some, None}
-use Rattle.std.specs.Option.{option_map_or}
+use Rattle.std.specs.Prelude.{ℕ, ◌+◌, Bool, not, ◌&&◌, ◌||◌, if◌then◌else◌, ◌==◌, nat_lt, nat_le, List, [], ◌∷◌, length, Option, Some, None}
 use Rattle.std.specs.List.{list_any}
 use Rattle.bm_base.specs.declared.replica.Stamp.{Stamp}
-use Rattle.bm_base.specs.declared.limits.TheConstants.{MAX_NODES, MAX_STORAGES, MAX_ENTRIES, MAX_NUMBERS, MAX_REPLICATION}
+use Rattle.bm_base.specs.declared.limits.TheConstants.{MAX_ENTRIES, MAX_NUMBERS, MAX_REPLICATION}
 use Rattle.bm_base.specs.declared.event.Entry.{Entry}
 use Rattle.bm_base.specs.declared.event.Event.{Event}
 use Rattle.bm_base.specs.declared.event.Event.TheVariants.{Register, Dead, StorageFailed, Heartbeat, Drain, Undrain, AddBlock, DeleteBlock, SetReplication, Restamp, Received, Deleted, Corrupt, FullReport}
@@ -11,7 +10,7 @@ use Rattle.bm_base.specs.declared.refusal.Refusal.{Refusal}
 use Rattle.bm_base.specs.declared.refusal.Refusal.TheVariants.{UnknownNode, NodeKnown, UnknownStorage, StorageKnown, UnknownBlock, BlockKnown, StillStored, BadReplication, OldGeneration, TooMany, NotItsStorage, RoundsSpent, CallsSpent, Memory, BadConfig}
 use Rattle.bm_base.specs.Maps.Map.{get, contains_key, entries, len}
 use Rattle.bm_base.specs.Machine.State.{Cluster, Holdings, State}
-use Rattle.bm_base.specs.Maps.Lists.{has_repeats}
+use Rattle.bm_base.specs.Maps.Lists.{has_repeats, has_some}
 use Rattle.bm_base.specs.Machine.Replicas.{is_stray, has_storage}
 use Rattle.bm_base.specs.Machine.Entries.{numbers_in}
 
@@ -66,7 +65,7 @@ is_bad_replication repl = (repl == 0) || nat_lt MAX_REPLICATION repl
 
 -- whether the generation is not greater than the block's
 unfoldable pub is_old : Holdings → ℕ → Stamp → Bool
-is_old H b stamp = option_map_or (λ i. nat_le stamp.generation i.stamp.generation) (get H.blocks b) false
+is_old H b stamp = has_some (get H.blocks b) (λ i. nat_le stamp.generation i.stamp.generation)
 
 -- whether a full report has too many entries, or names too many numbers, repeats counted
 unfoldable pub is_too_long : List Entry → Bool
@@ -81,7 +80,9 @@ unfoldable pub cluster_checks : Cluster → Event → List (Refusal × Bool)
 cluster_checks C (Register n rack ss) =
     (NodeKnown when knows_node C n)
     ∷ (StorageKnown when (has_repeats ss || list_any (knows_storage C) ss))
-    ∷ (TooMany when (nat_le MAX_NODES (len C.nodes) || nat_lt MAX_STORAGES (len C.storages + length ss)))
+    ∷ (TooMany when
+      (nat_le C.limits.nodes (len C.nodes)
+      || nat_lt C.limits.storages (len C.storages + length ss)))
     ∷ []
 cluster_checks C (Dead n) = (UnknownNode when not (knows_node C n)) ∷ []
 cluster_checks C (StorageFailed s) = (UnknownStorage when not (knows_storage C s)) ∷ []

@@ -7,7 +7,7 @@ use Rattle.bm_base.specs.declared.replica.Tag.TheVariants.{Good, Stale, Bad, Str
 use Rattle.bm_base.specs.declared.replica.Marks.{Marks}
 use Rattle.bm_base.specs.Maps.Map.{get, contains_key, entries, values}
 use Rattle.bm_base.specs.Machine.State.{Cluster, Holdings}
-use Rattle.bm_base.specs.Maps.Lists.{distinct}
+use Rattle.bm_base.specs.Maps.Lists.{distinct, has_some}
 
 abbrev pub is_good : Tag → Bool
 is_good Good = true
@@ -42,20 +42,24 @@ node_of C s = option_map (λ i. i.node) (get C.storages s)
 unfoldable pub rack_of : Cluster → ℕ → Option ℕ
 rack_of C s = option_and_then (λ n. get C.nodes n) (node_of C s)
 
+-- the remaining bytes of a storage; 0 of an unknown storage
+unfoldable pub remaining : Cluster → ℕ → ℕ
+remaining C s = option_map_or (λ i. i.remaining) (get C.storages s) 0
+
 -- whether storage s is one of node n
 unfoldable pub has_storage : Cluster → ℕ → ℕ → Bool
-has_storage C n s = option_map_or (λ m. m == n) (node_of C s) false
+has_storage C n s = has_some (node_of C s) (λ m. m == n)
 
 -- whether node n drains, and whether storage s is on a node that does
 unfoldable pub drains : Cluster → ℕ → Bool
 drains C n = contains_key C.draining n
 
 unfoldable pub is_draining : Cluster → ℕ → Bool
-is_draining C s = option_map_or (drains C) (node_of C s) false
+is_draining C s = has_some (node_of C s) (drains C)
 
 -- whether two storages are of one node
 abbrev pub share_node : Cluster → ℕ → ℕ → Bool
-share_node C s t = option_map_or (λ n. has_storage C n t) (node_of C s) false
+share_node C s t = has_some (node_of C s) (λ n. has_storage C n t)
 
 -- whether two storages are different ones of one node
 unfoldable pub are_siblings : Cluster → ℕ → ℕ → Bool
@@ -90,7 +94,11 @@ usable H b = storages_where (λ _ m. is_usable m) H b
 
 -- whether a known block has at least the wanted number of live replicas
 unfoldable pub has_enough_live : Cluster → Holdings → ℕ → Bool
-has_enough_live C H b = option_map_or (λ i. nat_le i.repl (length (live C H b))) (get H.blocks b) false
+has_enough_live C H b = has_some (get H.blocks b) (λ i. nat_le i.repl (length (live C H b)))
+
+-- whether two storages are on one rack
+unfoldable pub share_rack : Cluster → ℕ → ℕ → Bool
+share_rack C s t = has_some (rack_of C s) (λ r. has_some (rack_of C t) (λ q. q == r))
 
 -- the racks of storages, each once, ascending
 unfoldable pub racks : Cluster → List ℕ → List ℕ

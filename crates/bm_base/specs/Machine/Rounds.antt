@@ -17,7 +17,7 @@ use Rattle.bm_base.specs.declared.commands.Commands.{Commands}
 use Rattle.bm_base.specs.Maps.Map.{insert_all, revise, keys}
 use Rattle.bm_base.specs.Machine.State.{Cluster, Holdings, State, replica_at}
 use Rattle.bm_base.specs.Machine.Replicas.{has_storage}
-use Rattle.bm_base.specs.Machine.Excess.{state_at_choice}
+use Rattle.bm_base.specs.Machine.RoundStart.{state_at_choice}
 use Rattle.bm_base.specs.Machine.Transfers.{transfers}
 use Rattle.bm_base.specs.Machine.Deletes.{deletes}
 

@@ -3,18 +3,21 @@
 -- "Data Replication".
 use Rattle.std.specs.Prelude.{ℕ}
 use Rattle.std.specs.declared.cmp.Ordering.{Ordering}
-use Rattle.std.specs.Ordering.{nat_cmp, ordering_then}
+use Rattle.std.specs.Ordering.{nat_cmp}
 use Rattle.bm_base.specs.declared.replica.ReplicaId.{ReplicaId}
 use Rattle.bm_base.specs.declared.replica.Marks.{Marks}
 use Rattle.bm_base.specs.declared.replica.BlockInfo.{BlockInfo}
 use Rattle.bm_base.specs.declared.storage.StorageInfo.{StorageInfo}
 use Rattle.bm_base.specs.declared.config.Config.{Config}
+use Rattle.bm_base.specs.declared.limits.Limits.{Limits}
+use Rattle.bm_base.specs.declared.limits.TheConstants.{MAX_NODES, MAX_STORAGES}
 use Rattle.bm_base.specs.Maps.Map.{Order, Map, Set, by_number, empty}
+use Rattle.bm_base.specs.Maps.Lists.{◌if_equal◌}
 use Rattle.bm_base.specs.Maps.ReplicaOrder.{replicas_total, replicas_same}
 
 -- replicas by block, and then by storage
 abbrev pub replica_cmp : ReplicaId → ReplicaId → Ordering
-replica_cmp p q = ordering_then (nat_cmp p.block q.block) (nat_cmp p.storage q.storage)
+replica_cmp p q = nat_cmp p.block q.block if_equal nat_cmp p.storage q.storage
 
 abbrev pub by_replica : Order ReplicaId
 by_replica = record { cmp = replica_cmp; total = replicas_total; same = replicas_same }
@@ -25,6 +28,8 @@ replica_at b s = record { block = b; storage = s }
 
 -- the alive nodes and their storages
 pub record Cluster : Type 0 where
+  -- how many nodes may be alive, and how many storages there may be
+  pub limits : Limits
   -- the rack of each alive node
   pub nodes : Map by_number ℕ
   -- the alive nodes that drain: they are to be decommissioned once their replicas are copied
@@ -56,11 +61,25 @@ pub record State : Type 0 where
   -- how many calls were accepted
   pub calls : ℕ
 
-unfoldable pub empty_cluster : Cluster
-empty_cluster = record { nodes = empty; draining = empty; storages = empty }
+unfoldable pub empty_cluster : Limits → Cluster
+empty_cluster l = record { limits = l; nodes = empty; draining = empty; storages = empty }
 
 unfoldable pub empty_holdings : Holdings
 empty_holdings = record { blocks = empty; replicas = empty; pending = empty }
 
+-- the state before the first call, within these limits of the cluster
+abbrev pub first_state_within : Limits → Config → State
+first_state_within l c = record {
+  limits = limits_of c;
+  cluster = empty_cluster l;
+  holdings = empty_holdings;
+  round = c.first_round;
+  calls = c.first_call;
+}
+
+-- the limits of a cluster for which none are given
+abbrev pub standard_limits : Limits
+standard_limits = record { nodes = MAX_NODES; storages = MAX_STORAGES }
+
 abbrev pub first_state : Config → State
-first_state c = record { limits = limits_of c; cluster = empty_cluster; holdings = empty_holdings; round = c.first_round; calls = c.first_call }
+first_state c = first_state_within standard_limits c

@@ -1,9 +1,9 @@
 -- A round's transfers: which copies are wanted, and the source and the target of each. Source:
 -- Hadoop 2's BlockManager.computeReplicationWork, chooseSourceDatanode and the block placement
 -- policy; the orders of choice are this project's own.
-use Rattle.std.specs.Prelude.{ℕ, ◌+◌, ◌-◌, ◌*◌, Bool, true, false, not, ◌&&◌, if◌then◌else◌, ◌==◌, nat_lt, nat_le, List, [], ◌∷◌, ◌++◌, map, filter, flat_map, length, replicate, sum_by, count_by, Option, Some, None, option_and_then, option_map, option_to_list, unwrap_or}
+use Rattle.std.specs.Prelude.{ℕ, ◌+◌, ◌-◌, ◌*◌, Bool, true, not, ◌&&◌, if◌then◌else◌, ◌==◌, nat_lt, nat_le, List, [], ◌∷◌, ◌++◌, map, filter, flat_map, length, replicate, sum_by, count_by, Option, Some, None, option_and_then, option_map, option_to_list, unwrap_or}
 use Rattle.std.specs.declared.cmp.Ordering.{Ordering}
-use Rattle.std.specs.Ordering.{nat_cmp, ordering_then}
+use Rattle.std.specs.Ordering.{nat_cmp}
 use Rattle.std.specs.Option.{option_map_or}
 use Rattle.std.specs.List.{list_any}
 use Rattle.bm_base.specs.declared.replica.BlockInfo.{BlockInfo}
@@ -12,10 +12,10 @@ use Rattle.bm_base.specs.declared.replica.Level.TheVariants.{Highest, BadlyDistr
 use Rattle.bm_base.specs.declared.commands.Transfer.{Transfer}
 use Rattle.bm_base.specs.Maps.Map.{get, keys, entries, len}
 use Rattle.bm_base.specs.Machine.State.{RoundLimits, Cluster, Holdings}
-use Rattle.bm_base.specs.Maps.Lists.{has, distinct, least}
-use Rattle.bm_base.specs.Machine.Replicas.{live, sources_of, storages_where, node_of, rack_of, share_node, is_draining, racks}
+use Rattle.bm_base.specs.Maps.Lists.{has, distinct, has_some, least, ◌if_equal◌}
+use Rattle.bm_base.specs.Machine.Replicas.{live, sources_of, storages_where, node_of, rack_of, share_node, is_draining, racks, remaining}
 use Rattle.bm_base.specs.Machine.Levels.{level, is_at, urgent_levels}
-use Rattle.bm_base.specs.Machine.Excess.{rank_if, remaining}
+use Rattle.bm_base.specs.Machine.RoundStart.{rank_if}
 
 -- Wishes.
 
@@ -74,16 +74,14 @@ stream_limit _ is_drained = if is_drained then 4 else 2
 unfoldable pub node_number : Cluster → ℕ → ℕ
 node_number C s = unwrap_or (node_of C s) 0
 
--- the rank of a source: drained ones come before live ones
-abbrev pub source_rank : Bool → ℕ
-source_rank is_drained = rank_if is_drained
-
 -- the order of sources: first one on a node that drains, then one whose node sends fewer, then the
 -- lesser node, then the lesser storage
 unfoldable pub source_cmp : Cluster → (ℕ → ℕ) → ℕ → ℕ → Ordering
 source_cmp C streams s t =
-    ordering_then (nat_cmp (source_rank (is_draining C s)) (source_rank (is_draining C t)))
-    (ordering_then (nat_cmp (streams s) (streams t)) (ordering_then (nat_cmp (node_number C s) (node_number C t)) (nat_cmp s t)))
+    nat_cmp (rank_if (is_draining C s)) (rank_if (is_draining C t))
+    if_equal nat_cmp (streams s) (streams t)
+    if_equal nat_cmp (node_number C s) (node_number C t)
+    if_equal nat_cmp s t
 
 -- The source of a wish at this level, among the storages of the block's usable replicas: the least
 -- whose node may send one more. `streams` has for each storage the number of transfers that its
@@ -109,7 +107,7 @@ unfoldable pub excluded_for : Holdings → List Transfer → ℕ → List ℕ
 excluded_for H chosen b = storages_where (λ _ _. true) H b ++ pending_targets H b ++ targets_of chosen b
 
 unfoldable pub is_on_racks : Cluster → List ℕ → ℕ → Bool
-is_on_racks C rs s = option_map_or (has rs) (rack_of C s) false
+is_on_racks C rs s = has_some (rack_of C s) (has rs)
 
 abbrev pub are_on_one_rack : Cluster → List ℕ → Bool
 are_on_one_rack C ss = length (racks C ss) == 1
@@ -129,7 +127,9 @@ class_of C holders s =
 -- the order of targets: the better class, then more free bytes, then the lesser storage
 unfoldable pub target_cmp : Cluster → (ℕ → ℕ) → List ℕ → ℕ → ℕ → Ordering
 target_cmp C sent holders s t =
-    ordering_then (nat_cmp (class_of C holders s) (class_of C holders t)) (ordering_then (nat_cmp (free_bytes C sent t) (free_bytes C sent s)) (nat_cmp s t))
+    nat_cmp (class_of C holders s) (class_of C holders t)
+    if_equal nat_cmp (free_bytes C sent t) (free_bytes C sent s)
+    if_equal nat_cmp s t
 
 -- whether a storage is on the node of one of these
 unfoldable pub is_excluded : Cluster → List ℕ → ℕ → Bool

@@ -1,10 +1,19 @@
--- Definitions on lists of numbers, and the least of a list.
+-- Definitions on lists of numbers, the least of a list, and words for options and orders.
 use Rattle.std.specs.Prelude.{ℕ, Bool, false, ◌||◌, if◌then◌else◌, ◌==◌, List, [], ◌∷◌, map, Option, Some, None}
 use Rattle.std.specs.declared.cmp.Ordering.{Ordering}
-use Rattle.std.specs.Ordering.{is_lt}
+use Rattle.std.specs.Ordering.{is_lt, ordering_then}
 use Rattle.std.specs.Option.{option_map_or}
 use Rattle.std.specs.List.{list_any}
 use Rattle.bm_base.specs.Maps.Map.{by_number, insert_all, empty, keys}
+
+-- whether there is something, and it passes a test
+abbrev pub has_some : {X : Type 0} → Option X → (X → Bool) → Bool
+has_some found test = option_map_or test found false
+
+-- the first comparison, and the second if the first finds no difference
+infixr 4 ◌if_equal◌
+abbrev pub ◌if_equal◌ : Ordering → Ordering → Ordering
+first if_equal second = ordering_then first second
 
 abbrev pub has : List ℕ → ℕ → Bool
 has xs x = list_any (λ y. y == x) xs

@@ -6,15 +6,16 @@ use Rattle.bm_base.specs.declared.replica.BlockInfo.{BlockInfo}
 use Rattle.bm_base.specs.declared.storage.StorageInfo.{StorageInfo}
 use Rattle.bm_base.specs.Maps.Map.{get, contains_key, len}
 use Rattle.bm_base.specs.Machine.State.{Cluster, Holdings, State}
+use Rattle.bm_base.specs.Machine.Configuration.{are_allowed}
 use Rattle.bm_base.specs.Machine.Replicas.{is_good, is_stray, drains, are_siblings}
-use Rattle.bm_base.specs.declared.limits.TheConstants.{MAX_NODES, MAX_STORAGES, MAX_REPLICATION}
+use Rattle.bm_base.specs.declared.limits.TheConstants.{MAX_REPLICATION}
 
 -- the cluster: each storage is on an alive node, only alive nodes drain, and the limits are kept
 pub record IsLawfulCluster (C : Cluster) : Type 0 where
   pub alive : (s : ℕ) (i : StorageInfo) → get C.storages s ≡ Some i → IsTrue (contains_key C.nodes i.node)
   pub draining_alive : (n : ℕ) → IsTrue (drains C n) → IsTrue (contains_key C.nodes n)
-  pub few_nodes : len C.nodes ≤ MAX_NODES
-  pub few_storages : len C.storages ≤ MAX_STORAGES
+  pub few_nodes : len C.nodes ≤ C.limits.nodes
+  pub few_storages : len C.storages ≤ C.limits.storages
 
 -- the blocks and replicas of a cluster
 pub record IsLawfulHoldings (C : Cluster) (H : Holdings) : Type 0 where
@@ -32,8 +33,9 @@ pub record IsLawfulHoldings (C : Cluster) (H : Holdings) : Type 0 where
   -- one to sixteen replicas of a block are wanted
   pub replicated : (b : ℕ) (i : BlockInfo) → get H.blocks b ≡ Some i → (1 ≤ i.repl) × (i.repl ≤ MAX_REPLICATION)
 
--- the numbers fit their types
+-- the limits are allowed ones, and the numbers fit their types
 pub record HasFittingNumbers (M : State) : Type 0 where
+  pub limits : IsTrue (are_allowed M.cluster.limits)
   pub nodes : (n rack : ℕ) → get M.cluster.nodes n ≡ Some rack → (n < 2 ^ 32) × (rack < 2 ^ 32)
   pub storages : (s : ℕ) (i : StorageInfo) → get M.cluster.storages s ≡ Some i → (s < 2 ^ 32) × (i.remaining < 2 ^ 64)
   pub blocks : (b : ℕ) (i : BlockInfo) → get M.holdings.blocks b ≡ Some i → (b < 2 ^ 64) × (i.stamp.generation < 2 ^ 64) × (i.stamp.len < 2 ^ 64)

@@ -5,7 +5,7 @@ use Rattle.bm_base.specs.declared.commands.Transfer.{Transfer}
 use Rattle.bm_base.specs.declared.commands.Delete.{Delete}
 use Rattle.bm_base.specs.Machine.State.{State}
 use Rattle.bm_base.specs.Machine.Replicas.{live, drained}
-use Rattle.bm_base.specs.Machine.Excess.{state_after_expiry, state_at_choice, without_unordered_excess}
+use Rattle.bm_base.specs.Machine.RoundStart.{state_after_expiry, state_at_choice, without_unordered_excess}
 use Rattle.bm_base.specs.Machine.Transfers.{transfers}
 use Rattle.bm_base.specs.Machine.Rounds.{whole_round}
 

@@ -1,5 +1,5 @@
 use Rattle.std.proofs.Common.{◌≡◌, not, map, filter, take}
-use Rattle.bm_base.specs.Machine.Excess.{is_expired}
+use Rattle.bm_base.specs.Machine.RoundStart.{is_expired}
 use Rattle.bm_pending.proofs.remaining_targets.remaining_among.Given as goal
 
 abbrev pub invariant-loop-target : goal.invariant-loop-target

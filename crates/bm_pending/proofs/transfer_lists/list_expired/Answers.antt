@@ -2,7 +2,7 @@ use Rattle.std.proofs.Common.{◌++◌, ℕ, List, [], filter, take, get_or, ap,
 use Rattle.std.specs.List.{flat_map}
 use Rattle.std.proofs.lemmas.List.{take_more, take_all, flat_map_more}
 use Rattle.bm_base.specs.declared.replica.ReplicaId.{ReplicaId}
-use Rattle.bm_base.specs.Machine.Excess.{is_expired}
+use Rattle.bm_base.specs.Machine.RoundStart.{is_expired}
 use Rattle.bm_pending.specs.Inside.{targets_at}
 use Rattle.bm_pending.proofs.SortedTransfers.{ascending_from, named, all-expired}
 use Rattle.bm_pending.proofs.transfer_lists.list_expired.Goals as goal

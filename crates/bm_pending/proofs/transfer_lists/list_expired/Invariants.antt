@@ -1,6 +1,6 @@
 use Rattle.std.proofs.Common.{◌≡◌, filter, take}
 use Rattle.std.specs.List.{flat_map}
-use Rattle.bm_base.specs.Machine.Excess.{is_expired}
+use Rattle.bm_base.specs.Machine.RoundStart.{is_expired}
 use Rattle.bm_pending.specs.Inside.{targets_at}
 use Rattle.bm_pending.proofs.SortedTransfers.{named}
 use Rattle.bm_pending.proofs.transfer_lists.list_expired.Given as goal

@@ -2,7 +2,7 @@ use Rattle.std.proofs.Common.{◌≡◌, filter, map}
 use Rattle.std.specs.List.{list_any}
 use Rattle.std.specs.Map.{keys_of}
 use Rattle.std.specs.Map.Iter.{deref_pair}
-use Rattle.bm_base.specs.Machine.Excess.{is_expired}
+use Rattle.bm_base.specs.Machine.RoundStart.{is_expired}
 use Rattle.bm_pending.proofs.transfer_lists.list_expiring_blocks.Given as goal
 
 abbrev pub invariant-loop-block : goal.invariant-loop-block

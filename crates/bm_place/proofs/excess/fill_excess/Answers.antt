@@ -1,5 +1,5 @@
 use Rattle.std.proofs.Common.{◌++◌, ap, sym, ◌∙◌}
-use Rattle.bm_base.specs.Machine.Excess.{excess_among, excess_of}
+use Rattle.bm_base.specs.Machine.RoundStart.{excess_among, excess_of}
 use Rattle.bm_place.proofs.excess.fill_excess.Goals as goal
 
 pub returns-then-surplus-eq0-clause-chosen : goal.returns-then-surplus-eq0-clause-chosen

@@ -1,5 +1,5 @@
 use Rattle.std.proofs.Common.{◌≡◌, ◌+◌, subst, sym, arith}
-use Rattle.bm_base.specs.Machine.Excess.{with_excess_reset}
+use Rattle.bm_base.specs.Machine.RoundStart.{with_excess_reset}
 use Rattle.bm_arena.specs.HeldMaps.{replicas_at}
 use Rattle.bm_levels.specs.IndexedLevels.{IsUnsettled}
 use Rattle.bm_levels.specs.Changes.{changed, all_changed}

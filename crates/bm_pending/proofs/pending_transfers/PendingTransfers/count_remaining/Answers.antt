@@ -2,7 +2,7 @@ use Rattle.std.proofs.Common.{ℕ, not, filter, length, ap, sym, ◌∙◌}
 use Rattle.std.specs.Prelude.{count_by}
 use Rattle.std.proofs.lemmas.List.{length-map}
 use Rattle.std.proofs.lemmas.List.Sums.{length-filter}
-use Rattle.bm_base.specs.Machine.Excess.{is_expired}
+use Rattle.bm_base.specs.Machine.RoundStart.{is_expired}
 use Rattle.bm_pending.specs.Inside.{targets_at}
 use Rattle.bm_pending.proofs.RemainingTargets.{left-seen}
 use Rattle.bm_pending.proofs.pending_transfers.PendingTransfers.count_remaining.Goals as goal

@@ -1,5 +1,5 @@
 use Rattle.std.proofs.Common.{ℕ, List, not, filter, ap, sym, map, ◌∙◌}
-use Rattle.bm_base.specs.Machine.Excess.{is_expired}
+use Rattle.bm_base.specs.Machine.RoundStart.{is_expired}
 use Rattle.bm_pending.proofs.RemainingTargets.{left-seen}
 use Rattle.bm_pending.proofs.pending_transfers.PendingTransfers.remaining_targets.Goals as goal
 

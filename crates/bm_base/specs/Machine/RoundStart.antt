@@ -3,14 +3,14 @@
 -- choice is this project's own.
 use Rattle.std.specs.Prelude.{ℕ, zero, suc, ◌+◌, ◌-◌, Bool, true, false, not, if◌then◌else◌, ◌==◌, nat_lt, nat_le, List, [], ◌∷◌, filter, length, count_by}
 use Rattle.std.specs.declared.cmp.Ordering.{Ordering}
-use Rattle.std.specs.Ordering.{nat_cmp, ordering_then}
+use Rattle.std.specs.Ordering.{nat_cmp}
 use Rattle.std.specs.Option.{option_map_or}
 use Rattle.bm_base.specs.declared.replica.ReplicaId.{ReplicaId}
 use Rattle.bm_base.specs.declared.replica.Marks.{Marks}
 use Rattle.bm_base.specs.Maps.Map.{get, keep, revise}
 use Rattle.bm_base.specs.Machine.State.{Cluster, Holdings, State}
-use Rattle.bm_base.specs.Maps.Lists.{has, least}
-use Rattle.bm_base.specs.Machine.Replicas.{live, rack_of}
+use Rattle.bm_base.specs.Maps.Lists.{has, least, ◌if_equal◌}
+use Rattle.bm_base.specs.Machine.Replicas.{live, remaining, share_rack}
 
 -- whether round t was `pend` rounds before round r, or earlier
 abbrev pub is_expired : ℕ → ℕ → ℕ → Bool
@@ -27,14 +27,6 @@ with_excess_reset m = if m.ordered then m else record m { excess = false }
 unfoldable pub without_unordered_excess : Holdings → Holdings
 without_unordered_excess H = record H { replicas = revise H.replicas (λ _ m. with_excess_reset m) }
 
--- the remaining bytes of a storage; 0 of an unknown storage
-unfoldable pub remaining : Cluster → ℕ → ℕ
-remaining C s = option_map_or (λ i. i.remaining) (get C.storages s) 0
-
--- whether two storages are on one rack
-unfoldable pub share_rack : Cluster → ℕ → ℕ → Bool
-share_rack C s t = option_map_or (λ r. option_map_or (λ q. q == r) (rack_of C t) false) (rack_of C s) false
-
 -- whether the rack of s holds two or more of the candidates, of which s is one
 unfoldable pub has_rack_mate : Cluster → List ℕ → ℕ → Bool
 has_rack_mate C candidates s = nat_lt 1 (count_by (share_rack C s) candidates)
@@ -47,8 +39,9 @@ rank_if b = if b then 0 else 1
 -- remaining bytes, then the greater number.
 unfoldable pub excess_cmp : Cluster → List ℕ → ℕ → ℕ → Ordering
 excess_cmp C candidates s t =
-    ordering_then (nat_cmp (rank_if (has_rack_mate C candidates s)) (rank_if (has_rack_mate C candidates t)))
-    (ordering_then (nat_cmp (remaining C s) (remaining C t)) (nat_cmp t s))
+    nat_cmp (rank_if (has_rack_mate C candidates s)) (rank_if (has_rack_mate C candidates t))
+    if_equal nat_cmp (remaining C s) (remaining C t)
+    if_equal nat_cmp t s
 
 -- n of the candidates, one after another, each the least of the remaining ones
 abbrev pub excess_among : Cluster → ℕ → List ℕ → List ℕ
