@@ -17,7 +17,7 @@ pub use Rattle.bm_base.specs.Machine.State.{Cluster, Holdings, RoundLimits, Stat
 unfoldable pub use Rattle.bm_base.specs.Machine.State.{empty_cluster, empty_holdings}
 pub use Rattle.bm_base.specs.Machine.Replicas.{drained, is_bad, is_corrupt, is_drained_on, is_good, is_live_on, is_stale, is_stray, is_usable, live, sources_of, usable}
 unfoldable pub use Rattle.bm_base.specs.Machine.Replicas.{are_siblings, drains, has_enough_live, has_storage, is_draining, is_multi_rack, node_of, rack_of, racks, remaining, share_rack, storages_where}
-pub use Rattle.bm_base.specs.Machine.Levels.{is_at, level_number, level_without_live}
+pub use Rattle.bm_base.specs.Machine.Levels.{BlockCounts, counts_of, is_at, level_number, level_without_live}
 unfoldable pub use Rattle.bm_base.specs.Machine.Levels.{level, level_of}
 pub use Rattle.bm_base.specs.Machine.Entries.{ReportedBlock, range_from, run_length}
 unfoldable pub use Rattle.bm_base.specs.Machine.Entries.{blocks_of_entry, expanded, numbers_in}
@@ -27,7 +27,7 @@ pub use Rattle.bm_base.specs.Machine.Queries.{corrupt_replicas, excess_replicas,
 unfoldable pub use Rattle.bm_base.specs.Machine.Queries.{all_replicas, blocks_on, is_held_back_by, is_retired, missing_blocks, replicas_where}
 pub use Rattle.bm_base.specs.Machine.RoundStart.{excess_among, is_expired, mark_if_surplus, rank_if, with_excess_reset}
 unfoldable pub use Rattle.bm_base.specs.Machine.RoundStart.{excess_cmp, excess_in, excess_of, has_rack_mate, state_after_expiry, state_at_choice, with_surplus_marked, without_expired, without_unordered_excess}
-pub use Rattle.bm_base.specs.Machine.Transfers.{RequestedCopy, requested_count, stream_limit, transfers_from}
+pub use Rattle.bm_base.specs.Machine.Transfers.{RequestedCopy, TargetRequest, requested_count, stream_limit, transfers_from}
 unfoldable pub use Rattle.bm_base.specs.Machine.Transfers.{class_of, excluded_for, free_bytes, holders_of, is_excluded, is_on_racks, is_target, least_source, least_source_by, least_target, least_target_by, node_number, pending_targets, scheduled_to, source_cmp, streams_from, target_cmp, targets_of, transfer_for, transfers, wishes, wishes_for}
 unfoldable pub use Rattle.bm_base.specs.Machine.Deletes.{deletable_on, deletes, deletes_of, is_deletable}
 pub use Rattle.bm_base.specs.Machine.Rounds.{has_commands}

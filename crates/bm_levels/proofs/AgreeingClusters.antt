@@ -72,4 +72,4 @@ module _ (rack rack' : ℕ → Option ℕ) (draining draining' : ℕ → Bool) w
       let lives = lives_agree k.replicas h in
       let others = drained_agree k.replicas h in
       let spreads = racks_agree k.replicas h ∙ ap (λ ss. filter_map rack' ss) lives in
-      λ t. option_and_then (λ (i : BlockInfo). level_of (length (lives t)) (length (others t)) i.repl (spread (spreads t)) multi) k.info
+      λ t. option_and_then (λ (i : BlockInfo). level_of (record { live = length (lives t); drained = length (others t); wanted = i.repl; racks = spread (spreads t); multi_rack = multi })) k.info

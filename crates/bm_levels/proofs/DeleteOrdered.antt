@@ -52,7 +52,7 @@ module _ (rack : ℕ → Option ℕ) (draining : ℕ → Bool) (multi : Bool) (s
   level_kept k e =
       let lives = storages_kept (is_live_by draining) s m (as_ordered m) refl k.replicas e in
       let others = storages_kept (is_drained_by draining) s m (as_ordered m) refl k.replicas e in
-      λ t. option_and_then (λ (i : BlockInfo). level_of (length (lives t)) (length (others t)) i.repl (spread (filter_map rack (lives t))) multi) k.info
+      λ t. option_and_then (λ (i : BlockInfo). level_of (record { live = length (lives t); drained = length (others t); wanted = i.repl; racks = spread (filter_map rack (lives t)); multi_rack = multi })) k.info
 
   level_where : (o : Option Block) → option_and_then (λ (k : Block). find_marks k.replicas s) o ≡ Some m → level_by rack draining multi (option_map (with_marks s (as_ordered m)) o) ≡ level_by rack draining multi o
   level_where None e = cc

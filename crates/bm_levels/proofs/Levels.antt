@@ -44,20 +44,20 @@ module _ (a : Contents) (pending : Map by_replica ℕ) (lawful : IsLawful a) (b 
   level_here C =
       let lives = storages_at (is_live_on C) k.replicas in
       let others = length (storages_at (is_drained_on C) k.replicas) in
-      ap (λ o. option_and_then (λ (i : BlockInfo). level_of (length (live C H b)) (length (drained C H b)) i.repl (length (racks C (live C H b))) (is_multi_rack C)) o) found_info
-      ∙ ap (λ n. option_and_then (λ (i : BlockInfo). level_of n (length (drained C H b)) i.repl (length (racks C (live C H b))) (is_multi_rack C)) k.info) (as_many (is_live_on C))
-      ∙ ap (λ n. option_and_then (λ (i : BlockInfo). level_of (length lives) n i.repl (length (racks C (live C H b))) (is_multi_rack C)) k.info) (as_many (is_drained_on C))
-      ∙ ap (λ rs. option_and_then (λ (i : BlockInfo). level_of (length lives) others i.repl (length rs) (is_multi_rack C)) k.info) (racks_alike C (live C H b) lives (alike (is_live_on C)))
+      ap (λ o. option_and_then (λ (i : BlockInfo). level_of (record { live = length (live C H b); drained = length (drained C H b); wanted = i.repl; racks = length (racks C (live C H b)); multi_rack = is_multi_rack C })) o) found_info
+      ∙ ap (λ n. option_and_then (λ (i : BlockInfo). level_of (record { live = n; drained = length (drained C H b); wanted = i.repl; racks = length (racks C (live C H b)); multi_rack = is_multi_rack C })) k.info) (as_many (is_live_on C))
+      ∙ ap (λ n. option_and_then (λ (i : BlockInfo). level_of (record { live = length lives; drained = n; wanted = i.repl; racks = length (racks C (live C H b)); multi_rack = is_multi_rack C })) k.info) (as_many (is_drained_on C))
+      ∙ ap (λ rs. option_and_then (λ (i : BlockInfo). level_of (record { live = length lives; drained = others; wanted = i.repl; racks = length rs; multi_rack = is_multi_rack C })) k.info) (racks_alike C (live C H b) lives (alike (is_live_on C)))
       ∙ each k.info (length lives) others (filter_map (rack_of C) lives) (is_multi_rack C)
     where
       each : (o : Option BlockInfo) (n d : ℕ) (rs : List ℕ) (m : Bool)
-          → option_and_then (λ (i : BlockInfo). level_of n d i.repl (length (distinct rs)) m) o ≡ option_and_then (λ (i : BlockInfo). level_of n d i.repl (spread rs) m) o
+          → option_and_then (λ (i : BlockInfo). level_of (record { live = n; drained = d; wanted = i.repl; racks = length (distinct rs); multi_rack = m })) o ≡ option_and_then (λ (i : BlockInfo). level_of (record { live = n; drained = d; wanted = i.repl; racks = spread rs; multi_rack = m })) o
       each None n d rs m = refl
       each (Some i) n d rs m = sym (level_of-spread n d i.repl rs m)
 
 no_level : (C : Cluster) (H : Holdings) (b : ℕ) → get H.blocks b ≡ None → level C H b ≡ None
 unfolding level
-no_level C H b e = ap (λ o. option_and_then (λ (i : BlockInfo). level_of (length (live C H b)) (length (drained C H b)) i.repl (length (racks C (live C H b))) (is_multi_rack C)) o) e
+no_level C H b e = ap (λ o. option_and_then (λ (i : BlockInfo). level_of (record { live = length (live C H b); drained = length (drained C H b); wanted = i.repl; racks = length (racks C (live C H b)); multi_rack = is_multi_rack C })) o) e
 
 pub level_is_at_slot : (C : Cluster) (a : Contents) (pending : Map by_replica ℕ) (b : ℕ) → IsLawful a
     → level C (holdings_with a pending) b ≡ option_and_then (λ slot. level_in C (block_at a slot)) (slot_of a b)

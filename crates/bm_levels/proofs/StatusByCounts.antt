@@ -28,18 +28,18 @@ info_in o = option_and_then (λ (b : Block). b.info) o
 
 module _ (rack : ℕ → Option ℕ) (draining : ℕ → Bool) where
   level_known : (multi : Bool) (o : Option Block) (i : BlockInfo) (k : ReplicaCount) → info_in o ≡ Some i → k ≡ count_replicas rack draining none (listed o)
-      → level_of k.live k.drained i.repl (racks_of k) multi ≡ level_by rack draining multi o
+      → level_of (record { live = k.live; drained = k.drained; wanted = i.repl; racks = racks_of k; multi_rack = multi }) ≡ level_by rack draining multi o
   unfolding level_by
   level_known multi None i k e f = cc
   level_known multi (Some b) i k e f =
       let h = counted_is rack draining none b.replicas in
       let lives : (count_replicas rack draining none b.replicas).live ≡ length (storages_at (is_live_by draining) b.replicas) = omega (arith, h.0) in
       let others : (count_replicas rack draining none b.replicas).drained ≡ length (storages_at (is_drained_by draining) b.replicas) = omega (arith, h.1) in
-      ap (λ z. level_of z.live z.drained i.repl (racks_of z) multi) f
-      ∙ (λ t. level_of (lives t) (others t) i.repl (h.3 t) multi)
-      ∙ sym (ap (option_and_then (λ (j : BlockInfo). level_of (length (storages_at (is_live_by draining) b.replicas)) (length (storages_at (is_drained_by draining) b.replicas)) j.repl (spread (filter_map rack (storages_at (is_live_by draining) b.replicas))) multi)) e)
+      ap (λ z. level_of (record { live = z.live; drained = z.drained; wanted = i.repl; racks = racks_of z; multi_rack = multi })) f
+      ∙ (λ t. level_of (record { live = lives t; drained = others t; wanted = i.repl; racks = h.3 t; multi_rack = multi }))
+      ∙ sym (ap (option_and_then (λ (j : BlockInfo). level_of (record { live = length (storages_at (is_live_by draining) b.replicas); drained = length (storages_at (is_drained_by draining) b.replicas); wanted = j.repl; racks = spread (filter_map rack (storages_at (is_live_by draining) b.replicas)); multi_rack = multi }))) e)
 
-  none_wanted : (live drained repl : ℕ) (multi : Bool) → repl ≤ live → level_of live drained repl 2 multi ≡ None
+  none_wanted : (live drained repl : ℕ) (multi : Bool) → repl ≤ live → level_of (record { live = live; drained = drained; wanted = repl; racks = 2; multi_rack = multi }) ≡ None
   unfolding level_of
   none_wanted live drained repl multi many = rw (le-leb repl live many) (apart (nat_lt 1 repl))
     where
@@ -55,7 +55,7 @@ module _ (rack : ℕ → Option ℕ) (draining : ℕ → Bool) where
       let h = counted_is rack draining k rs in
       let two : racks_of z ≡ 2 = h.3 ∙ ap (λ b. if b then 2 else spread_after k.first (filter_map rack (storages_at (is_live_by draining) rs))) spread in
       let enough : i.repl ≤ z.live = omega (arith, h.0, many) in
-      sym (none_wanted z.live z.drained i.repl multi enough) ∙ sym (ap (λ n. level_of z.live z.drained i.repl n multi) two) ∙ level_known multi o i z e f
+      sym (none_wanted z.live z.drained i.repl multi enough) ∙ sym (ap (λ n. level_of (record { live = z.live; drained = z.drained; wanted = i.repl; racks = n; multi_rack = multi })) two) ∙ level_known multi o i z e f
 
   -- a block with more replicas than are wanted is not settled
   settled_soon : (o : Option Block) (i : BlockInfo) → info_in o ≡ Some i → i.repl < option_map_or (λ (b : Block). length b.replicas) o 0 → false ≡ is_settled_at o
@@ -75,7 +75,7 @@ module _ (rack : ℕ → Option ℕ) (draining : ℕ → Bool) where
   unfolding level_by
   level_unknown multi None e = refl
   level_unknown multi (Some b) e =
-      sym (ap (option_and_then (λ (j : BlockInfo). level_of (length (storages_at (is_live_by draining) b.replicas)) (length (storages_at (is_drained_by draining) b.replicas)) j.repl (spread (filter_map rack (storages_at (is_live_by draining) b.replicas))) multi)) e)
+      sym (ap (option_and_then (λ (j : BlockInfo). level_of (record { live = length (storages_at (is_live_by draining) b.replicas); drained = length (storages_at (is_drained_by draining) b.replicas); wanted = j.repl; racks = spread (filter_map rack (storages_at (is_live_by draining) b.replicas)); multi_rack = multi }))) e)
 
   plain_all : (rs : List (ℕ × Marks)) (k : ReplicaCount) → k ≡ count_replicas rack draining none rs → k.is_good_and_unmarked ≡ not (list_any (λ (r : ℕ × Marks). not (is_good_and_unmarked r.1)) rs)
   plain_all rs k f = ap (λ z. z.is_good_and_unmarked) f ∙ (counted_is rack draining none rs).2
@@ -101,13 +101,13 @@ module _ (rack : ℕ → Option ℕ) (draining : ℕ → Bool) where
 
   -- such a count determines the level
   level_counted : (multi : Bool) (b : Block) (i : BlockInfo) (k : ReplicaCount) → b.info ≡ Some i → IsCountOf rack draining i.repl b.replicas k
-      → level_of k.live k.drained i.repl (racks_of k) multi ≡ level_by rack draining multi (Some b)
+      → level_of (record { live = k.live; drained = k.drained; wanted = i.repl; racks = racks_of k; multi_rack = multi }) ≡ level_by rack draining multi (Some b)
   unfolding racks_of
   level_counted multi b i k e h =
       elim h.decided [
         | inl all ↦ level_known multi (Some b) i k e (sym (ap (count_replicas rack draining k) all) ∙ h.counted)
         | inr soon ↦
-            ap (λ s. level_of k.live k.drained i.repl (if s then 2 else from_bool (is_some k.first)) multi) soon.2 ∙ none_wanted k.live k.drained i.repl multi soon.1
+            ap (λ s. level_of (record { live = k.live; drained = k.drained; wanted = i.repl; racks = if s then 2 else from_bool (is_some k.first); multi_rack = multi })) soon.2 ∙ none_wanted k.live k.drained i.repl multi soon.1
             ∙ level_soon multi (Some b) i k h.rest e h.counted soon.1 soon.2
       ]
 
@@ -121,7 +121,7 @@ module _ (rack : ℕ → Option ℕ) (draining : ℕ → Bool) where
 
   pub level_classified : (multi : Bool) (o : Option Block) (ts : List Triplet) (i : BlockInfo) (k : ReplicaCount) → Some (Some i) ≡ option_map (λ (b : Block). b.info) o
       → Some (map triplet_view ts) ≡ option_map (λ (b : Block). b.replicas) o → IsCountOf rack draining i.repl (map triplet_view ts) k
-      → level_of k.live k.drained i.repl (racks_of k) multi ≡ level_by rack draining multi o
+      → level_of (record { live = k.live; drained = k.drained; wanted = i.repl; racks = racks_of k; multi_rack = multi }) ≡ level_by rack draining multi o
   level_classified multi None ts i k info is h = absurd (none-some _ (sym info))
   level_classified multi (Some b) ts i k info is h =
       level_counted multi b i k (sym (same_Some (Some i) b.info info)) (subst (λ rs. IsCountOf rack draining i.repl rs k) (same_Some (map triplet_view ts) b.replicas is) h)

@@ -32,8 +32,7 @@ is_drained_by draining s m = is_usable m && draining s
 unfoldable pub level_by : (ℕ → Option ℕ) → (ℕ → Bool) → Bool → Option Block → Option Level
 level_by rack draining multi o =
     option_and_then (λ (k : Block). option_and_then (λ (i : BlockInfo).
-    level_of (length (storages_at (is_live_by draining) k.replicas)) (length (storages_at (is_drained_by draining) k.replicas)) i.repl
-    (spread (filter_map rack (storages_at (is_live_by draining) k.replicas))) multi) k.info) o
+    level_of (record { live = length (storages_at (is_live_by draining) k.replicas); drained = length (storages_at (is_drained_by draining) k.replicas); wanted = i.repl; racks = spread (filter_map rack (storages_at (is_live_by draining) k.replicas)); multi_rack = multi })) k.info) o
 
 -- as `level_by`, in a cluster
 abbrev pub level_in : Cluster → Option Block → Option Level

@@ -60,11 +60,11 @@ pub unless : {X : Type 0} (b : Bool) (o : Option X) (x : X) → (if b then None 
 unless true o x e = cc
 unless false o x e = e
 
-pub target_known : (C : Cluster) (chosen : List Transfer) (urgency : Level) (holders excluded : List ℕ) (l t : ℕ) → least_target C chosen urgency holders excluded l ≡ Some t → contains_key C.storages t ≡ true
+pub target_known : (C : Cluster) (chosen : List Transfer) (urgency : Level) (holders excluded : List ℕ) (l t : ℕ) → least_target C chosen (record { urgency = urgency; holders = holders; excluded = excluded; len = l }) ≡ Some t → contains_key C.storages t ≡ true
 unfolding least_target least_target_by
 target_known C chosen urgency holders excluded l t e =
-    least_is_one (λ s. contains_key C.storages s ≡ true) (target_cmp C (scheduled_to chosen) holders) (filter (is_target C (scheduled_to chosen) urgency holders excluded l) (keys C.storages))
-    (each_filtered (λ s. contains_key C.storages s ≡ true) (is_target C (scheduled_to chosen) urgency holders excluded l) (keys C.storages) (each_key C.storages)) t e
+    least_is_one (λ s. contains_key C.storages s ≡ true) (target_cmp C (scheduled_to chosen) holders) (filter (is_target C (scheduled_to chosen) (record { urgency = urgency; holders = holders; excluded = excluded; len = l })) (keys C.storages))
+    (each_filtered (λ s. contains_key C.storages s ≡ true) (is_target C (scheduled_to chosen) (record { urgency = urgency; holders = holders; excluded = excluded; len = l })) (keys C.storages) (each_key C.storages)) t e
 
 -- the transfer of a block with this information, from this source to this target
 abbrev pub made : ℕ → BlockInfo → ℕ → ℕ → Transfer
@@ -81,7 +81,7 @@ made_of b found source target t e =
 pub transfer_placed : (limits : RoundLimits) (C : Cluster) (H : Holdings) (chosen : List Transfer) (w : RequestedCopy) (t : Transfer) → transfer_for limits C H chosen w ≡ Some t → IsPlaced C H t
 unfolding transfer_for
 transfer_placed limits C H chosen w t e =
-    let of_it = made_of w.block (get H.blocks w.block) (least_source C chosen w.urgency (sources_of C H w.block)) (λ i. least_target C chosen w.urgency (holders_of C H chosen w.block) (excluded_for H chosen w.block) i.stamp.len) t
+    let of_it = made_of w.block (get H.blocks w.block) (least_source C chosen w.urgency (sources_of C H w.block)) (λ i. least_target C chosen (record { urgency = w.urgency; holders = holders_of C H chosen w.block; excluded = excluded_for H chosen w.block; len = i.stamp.len })) t
     (unless (nat_le (limits.work * len C.nodes) (length chosen)) _ t e) in (
       target_known C chosen w.urgency (holders_of C H chosen w.block) (excluded_for H chosen w.block) of_it.0.stamp.len t.target of_it.2,
       sym (ap (contains_key H.blocks) of_it.3) ∙ is_there (get H.blocks w.block) of_it.0 of_it.1,

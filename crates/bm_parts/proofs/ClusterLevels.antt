@@ -35,7 +35,7 @@ level_by : (C D : Cluster) (H G : Holdings) (b : ℕ) → get G.blocks b ≡ get
     → Each (λ s. rack_of D s ≡ rack_of C s) (live C H b) → is_multi_rack D ≡ is_multi_rack C → level D G b ≡ level C H b
 unfolding level
 level_by C D H G b known lives spent each multi =
-    λ j. option_and_then (λ (i : BlockInfo). level_of (length (lives j)) (length (spent j)) i.repl (length ((ap (racks D) lives ∙ racks_of_each D C (live C H b) each) j)) (multi j)) (known j)
+    λ j. option_and_then (λ (i : BlockInfo). level_of (record { live = length (lives j); drained = length (spent j); wanted = i.repl; racks = length ((ap (racks D) lives ∙ racks_of_each D C (live C H b) each) j); multi_rack = multi j })) (known j)
 
 -- a storage is on the same rack in D as in C, and drains in D exactly if it does in C
 abbrev pub HasSameRackAndDrain : Cluster → Cluster → ℕ → Type 0

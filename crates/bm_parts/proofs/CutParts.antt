@@ -81,7 +81,7 @@ module _ (index shards : ℕ) where
   pub level_cut : (C : Cluster) (H : Holdings) (b : ℕ) → mine b ≡ true → level C (cut_of H) b ≡ level C H b
   unfolding level
   level_cut C H b h =
-      λ j. option_and_then (λ i. level_of (length (live_cut C H b h j)) (length (drained_cut C H b h j)) i.repl (length (racks C (live_cut C H b h j))) (is_multi_rack C)) (known_cut H b h j)
+      λ j. option_and_then (λ i. level_of (record { live = length (live_cut C H b h j); drained = length (drained_cut C H b h j); wanted = i.repl; racks = length (racks C (live_cut C H b h j)); multi_rack = is_multi_rack C })) (known_cut H b h j)
 
   pub excess_cut : (C : Cluster) (H : Holdings) (b : ℕ) → mine b ≡ true → excess_in C (cut_of H) b ≡ excess_in C H b
   unfolding excess_in

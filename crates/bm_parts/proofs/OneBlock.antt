@@ -38,8 +38,7 @@ others_stay C H e b c is other =
 pub level_is_of_its_block : law.level_is_of_its_block
 unfolding level
 level_is_of_its_block C H G b known same =
-    λ j. option_and_then (λ (i : BlockInfo). level_of (length (storages_of_same (is_live_on C) H G b same j)) (length (storages_of_same (is_drained_on C) H G b same j)) i.repl
-    (length (racks C (storages_of_same (is_live_on C) H G b same j))) (is_multi_rack C)) (known j)
+    λ j. option_and_then (λ (i : BlockInfo). level_of (record { live = length (storages_of_same (is_live_on C) H G b same j); drained = length (storages_of_same (is_drained_on C) H G b same j); wanted = i.repl; racks = length (racks C (storages_of_same (is_live_on C) H G b same j)); multi_rack = is_multi_rack C })) (known j)
 
 pub settled_is_of_its_block : settled_law.settled_is_of_its_block
 settled_is_of_its_block H G b known same settled = record {
@@ -70,7 +69,7 @@ unfolding level end_round
 round_end_leaves_levels C r G ts ds b =
     let lives = storages_at_end (is_live_on C) (λ s m. refl) r G ts ds b in
     let spent = storages_at_end (is_drained_on C) (λ s m. refl) r G ts ds b in
-    (λ j. option_and_then (λ (i : BlockInfo). level_of (length (lives j)) (length (spent j)) i.repl (length (racks C (lives j))) (is_multi_rack C)) (known r G ts ds b j))
+    (λ j. option_and_then (λ (i : BlockInfo). level_of (record { live = length (lives j); drained = length (spent j); wanted = i.repl; racks = length (racks C (lives j)); multi_rack = is_multi_rack C })) (known r G ts ds b j))
   where
     known : (r : ℕ) (G : Holdings) (ts : List Transfer) (ds : List Delete) (b : ℕ) → get (end_round r G ts ds).blocks b ≡ get G.blocks b
     known r G ts ds b = refl

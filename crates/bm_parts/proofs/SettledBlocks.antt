@@ -67,7 +67,7 @@ module _ (C : Cluster) (pend r : ℕ) (H : Holdings) (b : ℕ) (settled : IsSett
 
   level_same : level C (holdings_at_choice C pend r H) b ≡ level C H b
   unfolding level holdings_at_choice with_surplus_marked without_unordered_excess without_expired
-  level_same = λ j. option_and_then (λ i. level_of (length (live_same j)) (length (drained_same j)) i.repl (length (racks C (live_same j))) (is_multi_rack C)) (get H.blocks b)
+  level_same = λ j. option_and_then (λ i. level_of (record { live = length (live_same j); drained = length (drained_same j); wanted = i.repl; racks = length (racks C (live_same j)); multi_rack = is_multi_rack C })) (get H.blocks b)
 
   marks_at_start : (q : ReplicaId) (m : Marks) → q.block ≡ b → get (holdings_at_choice C pend r H).replicas q ≡ Some m → m ≡ plain
   unfolding holdings_at_choice with_surplus_marked without_unordered_excess without_expired

@@ -38,7 +38,7 @@ module _ (limits : RoundLimits) (C : Cluster) (G : Holdings) where
   one_transfer chosen l b i known =
       ap (λ o. if nat_le (limits.work * len C.nodes) (length chosen) then None
       else option_and_then (λ (i : BlockInfo). option_and_then (λ s. option_map (λ t. record { block = b; stamp = i.stamp; source = s; target = t })
-      (least_target C chosen l (holders_of C G chosen b) (excluded_for G chosen b) i.stamp.len))
+      (least_target C chosen (record { urgency = l; holders = holders_of C G chosen b; excluded = excluded_for G chosen b; len = i.stamp.len })))
       (least_source C chosen l (sources_of C G b)))
       o) (sym known)
 

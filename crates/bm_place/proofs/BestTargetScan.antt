@@ -127,8 +127,8 @@ module _ (C : Cluster) (sent : ℕ → ℕ) (urgency : Level) (holders excluded 
     known : (s : ℕ) → has storages s ≡ true → has (keys C.storages) s ≡ true
     known s h = let c = of_storage cs s h in subst (λ s. has (keys C.storages) s ≡ true) c.2 (row_of c.0.storage c.0 (best_targets.known c.0 c.1)).0
 
-    enough : (s : ℕ) → has (keys C.storages) s ≡ true → is_target C sent urgency holders excluded len s ≡ true
-        → (r : ℕ) × (has storages r ≡ true) × (is_target C sent urgency holders excluded len r ≡ true) × (is_lt (target_cmp C sent holders s r) ≡ false)
+    enough : (s : ℕ) → has (keys C.storages) s ≡ true → is_target C sent (record { urgency = urgency; holders = holders; excluded = excluded; len = len }) s ≡ true
+        → (r : ℕ) × (has storages r ≡ true) × (is_target C sent (record { urgency = urgency; holders = holders; excluded = excluded; len = len }) r ≡ true) × (is_lt (target_cmp C sent holders s r) ≡ false)
     enough s there may =
         let t = target_at C sent s in
         let w = replica_spread_of C holders in
@@ -141,12 +141,12 @@ module _ (C : Cluster) (sent : ℕ → ℕ) (urgency : Level) (holders excluded 
           ap is_lt (sym (ordered_as C sent holders s c.0.storage)) ∙ ap (λ u. is_lt (cmp_targets w t u)) (made c.0 c.1) ∙ not_before C w urgency excluded len c.0 t same c.2.before,
         )
 
-    least_of_fewer : least (target_cmp C sent holders) (filter (is_target C sent urgency holders excluded len) storages) ≡ least_target_by C sent urgency holders excluded len
+    least_of_fewer : least (target_cmp C sent holders) (filter (is_target C sent (record { urgency = urgency; holders = holders; excluded = excluded; len = len })) storages) ≡ least_target_by C sent (record { urgency = urgency; holders = holders; excluded = excluded; len = len })
     unfolding least_target_by
     least_of_fewer =
         let order = target_cmp C sent holders in
         let total = target_cmp_total C sent holders in
-        let test = is_target C sent urgency holders excluded len in
+        let test = is_target C sent (record { urgency = urgency; holders = holders; excluded = excluded; len = len }) in
         same_least order total exact test storages (keys C.storages) known enough (least order (filter test storages)) (least order (filter test (keys C.storages))) (least-bears order total test storages)
         (least-bears order total test (keys C.storages))
 
@@ -156,15 +156,15 @@ module _ (C : Cluster) (sent : ℕ → ℕ) (urgency : Level) (holders excluded 
 
     -- a scan of all best targets finds the storage that the definition chooses
     pub target_found : (w : ReplicaSpread) (best : Option TargetRow) → w ≡ replica_spread_of C holders → scan (cmp_targets w) (is_available C w urgency excluded len) None cs ≡ best
-        → option_map (λ (t : TargetRow). t.storage) best ≡ least_target_by C sent urgency holders excluded len
+        → option_map (λ (t : TargetRow). t.storage) best ≡ least_target_by C sent (record { urgency = urgency; holders = holders; excluded = excluded; len = len })
     target_found w best stands inv =
         let v = replica_spread_of C holders in
         ap (option_map (λ (t : TargetRow). t.storage)) (
         sym inv
         ∙ ap (λ w. scan (cmp_targets w) (is_available C w urgency excluded len) None cs) stands
         ∙ ap (scan (cmp_targets v) (is_available C v urgency excluded len) None) (sym all_made)
-        ∙ scan-found (target_at C sent) (cmp_targets v) (is_available C v urgency excluded len) (target_cmp C sent holders) (is_target C sent urgency holders excluded len) (target_cmp_total C sent holders)
+        ∙ scan-found (target_at C sent) (cmp_targets v) (is_available C v urgency excluded len) (target_cmp C sent holders) (is_target C sent (record { urgency = urgency; holders = holders; excluded = excluded; len = len })) (target_cmp_total C sent holders)
         (ordered_as C sent holders) (tested_as C sent urgency holders excluded len) storages
         )
-        ∙ storage_again (least (target_cmp C sent holders) (filter (is_target C sent urgency holders excluded len) storages))
+        ∙ storage_again (least (target_cmp C sent holders) (filter (is_target C sent (record { urgency = urgency; holders = holders; excluded = excluded; len = len })) storages))
         ∙ least_of_fewer

@@ -21,7 +21,7 @@ four true false c d e = cc
 four false b c d e = cc
 
 -- an eligible target fits, and its node is neither draining nor excluded
-pub parts : (C : Cluster) (sent : ℕ → ℕ) (urgency : Level) (holders excluded : List ℕ) (len s : ℕ) → is_target C sent urgency holders excluded len s ≡ true → (len + sent s ≤ remaining C s) × (is_draining C s ≡ false) × (is_excluded C excluded s ≡ false)
+pub parts : (C : Cluster) (sent : ℕ → ℕ) (urgency : Level) (holders excluded : List ℕ) (len s : ℕ) → is_target C sent (record { urgency = urgency; holders = holders; excluded = excluded; len = len }) s ≡ true → (len + sent s ≤ remaining C s) × (is_draining C s ≡ false) × (is_excluded C excluded s ≡ false)
 unfolding is_target
 parts C sent urgency holders excluded len s e =
     let all = four (nat_le (len + sent s) (remaining C s)) (not (is_draining C s)) (not (is_excluded C excluded s)) (not (is_at BadlyDistributed (Some urgency) && (length (racks C holders) == 1) && (class_of C holders s == 1))) e in
@@ -29,7 +29,7 @@ parts C sent urgency holders excluded len s e =
 
 module _ (C : Cluster) (sent : ℕ → ℕ) (urgency : Level) (holders excluded : List ℕ) (len : ℕ) where
   abbrev IsFound : Option ℕ → Type 0
-  IsFound m = IsLeastOf (target_cmp C sent holders) (is_target C sent urgency holders excluded len) (keys C.storages) m
+  IsFound m = IsLeastOf (target_cmp C sent holders) (is_target C sent (record { urgency = urgency; holders = holders; excluded = excluded; len = len })) (keys C.storages) m
 
   pub has_enough_bytes : (m : Option ℕ) → IsFound m → IfSome m (λ s. len + sent s ≤ remaining C s)
   has_enough_bytes None h = tt

@@ -29,7 +29,7 @@ tests_swapped false b c true = refl
 tests_swapped true b c false = refl
 tests_swapped false b c false = refl
 
-pub tested_as : (C : Cluster) (sent : ℕ → ℕ) (urgency : Level) (holders excluded : List ℕ) (len s : ℕ) → is_available C (replica_spread_of C holders) urgency excluded len (target_at C sent s) ≡ is_target C sent urgency holders excluded len s
+pub tested_as : (C : Cluster) (sent : ℕ → ℕ) (urgency : Level) (holders excluded : List ℕ) (len s : ℕ) → is_available C (replica_spread_of C holders) urgency excluded len (target_at C sent s) ≡ is_target C sent (record { urgency = urgency; holders = holders; excluded = excluded; len = len }) s
 unfolding is_target is_excluded is_excluded_by has_storage
 tested_as C sent urgency holders excluded len s =
     tests_swapped (nat_le (len + sent s) (remaining C s)) (not (is_excluded_by C excluded (target_at C sent s))) (not (is_at BadlyDistributed (Some urgency) && is_one (replica_spread_of C holders).racks && (class_by_spread (replica_spread_of C holders) (rack_of C s) == 1)))

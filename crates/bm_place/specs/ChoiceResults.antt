@@ -23,9 +23,9 @@ pub record IsLeastSource (C : Cluster) (sends : ℕ → ℕ) (urgency : Level) (
 -- to each
 pub record IsLeastTarget (C : Cluster) (sent : ℕ → ℕ) (urgency : Level) (holders excluded : List ℕ) (len : ℕ) (found : Option ℕ) : Type 0 where
   -- the one that the definition chooses
-  pub choice : found ≡ least_target_by C sent urgency holders excluded len
+  pub choice : found ≡ least_target_by C sent (record { urgency = urgency; holders = holders; excluded = excluded; len = len })
   -- it is eligible, and no eligible one comes before it
-  pub least : IsLeastOf (target_cmp C sent holders) (is_target C sent urgency holders excluded len) (keys C.storages) found
+  pub least : IsLeastOf (target_cmp C sent holders) (is_target C sent (record { urgency = urgency; holders = holders; excluded = excluded; len = len })) (keys C.storages) found
   pub enough_bytes : IfSome found (λ s. len + sent s ≤ remaining C s)
   pub not_excluded_node : IfSome found (λ s. (b n : ℕ) → has excluded b ≡ true → node_of C b ≡ Some n → has_storage C n s ≡ false)
   pub not_draining : IfSome found (λ s. is_draining C s ≡ false)

@@ -58,5 +58,5 @@ is_off_racks C holders s = not (is_on_racks C (racks C holders) s)
 -- rack
 abbrev pub LeavesRack : Cluster → (ℕ → ℕ) → Level → List ℕ → List ℕ → ℕ → Option ℕ → Type 0
 LeavesRack C sent urgency holders excluded len found =
-    length (racks C holders) ≡ 1 → (t : ℕ) → has (keys C.storages) t ≡ true → is_target C sent urgency holders excluded len t ≡ true → is_off_racks C holders t ≡ true
+    length (racks C holders) ≡ 1 → (t : ℕ) → has (keys C.storages) t ≡ true → is_target C sent (record { urgency = urgency; holders = holders; excluded = excluded; len = len }) t ≡ true → is_off_racks C holders t ≡ true
     → IfSome found (λ s. is_off_racks C holders s ≡ true)

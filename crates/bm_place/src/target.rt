@@ -41,8 +41,7 @@ pub fn least_target(
         result }
     ensures of_transfers { (chosen : List Transfer)
         → scheduled.now ≡ targets_with topology.now.cluster chosen
-        → result ≡ transfers.least_target topology.now.cluster chosen level held.now
-        excluded.now len }
+        → result ≡ transfers.least_target topology.now.cluster chosen (record { urgency = level; holders = held.now; excluded = excluded.now; len = len }) }
 {
     least_fitting(held, excluded, len, level, topology, scheduled)
 }
@@ -58,8 +57,7 @@ fn least_fitting(
     scheduled: &Scheduled<'_>,
 ) -> Option<StorageId>
     ensures { (sent : ℕ → ℕ) → scheduled.now ≡ targets.target_table topology.now.cluster sent
-        → result ≡ transfers.least_target_by topology.now.cluster sent level held.now
-        excluded.now len }
+        → result ≡ transfers.least_target_by topology.now.cluster sent (record { urgency = level; holders = held.now; excluded = excluded.now; len = len }) }
 {
     let spread = ReplicaSpread::of(held, topology);
     let targets = scheduled.best_targets();

@@ -91,7 +91,7 @@ at_is (Some NoUsableReplica) e = refl
 known_leveled : (C : Cluster) (H : Holdings) (b : ℕ) (l : Level) → level C H b ≡ Some l → contains_key H.blocks b ≡ true
 unfolding level
 known_leveled C H b l e =
-    ap is_some (chained (λ (i : BlockInfo). level_of _ _ i.repl _ _) (get H.blocks b) l e).1
+    ap is_some (chained (λ (i : BlockInfo). level_of (record { live = _; drained = _; wanted = i.repl; racks = _; multi_rack = _ })) (get H.blocks b) l e).1
 
 module _ (C : Cluster) (H : Holdings) where
   abbrev is_missing : ℕ → Bool

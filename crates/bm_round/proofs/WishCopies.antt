@@ -81,7 +81,7 @@ module _ (limits : RoundLimits) (C : Cluster) where
   unfolding transfer_by
   none_where_full chosen w full =
       ap (λ b. cond b None (option_and_then (λ s. option_map (λ t. record { block = w.block; stamp = w.stamp; source = s; target = t })
-      (least_target C chosen w.level (holders_by chosen w) (excluded_by chosen w) w.stamp.len))
+      (least_target C chosen (record { urgency = w.level; holders = holders_by chosen w; excluded = excluded_by chosen w; len = w.stamp.len })))
       (least_source C chosen w.level (sources_by w)))) full
 
   -- once the limit of transfers is reached, no more are chosen
@@ -109,7 +109,7 @@ module _ (limits : RoundLimits) (C : Cluster) where
   unfolding transfer_by
   wish_block chosen w t e =
       block_of (nat_le (limits.work * len C.nodes) (length chosen)) w _ t
-      (of_block w (least_source C chosen w.level (sources_by w)) (λ _. least_target C chosen w.level (holders_by chosen w) (excluded_by chosen w) w.stamp.len) t) e
+      (of_block w (least_source C chosen w.level (sources_by w)) (λ _. least_target C chosen (record { urgency = w.level; holders = holders_by chosen w; excluded = excluded_by chosen w; len = w.stamp.len })) t) e
 
   -- choices for a wish keep the targets of other blocks
   other_one : (chosen : List Transfer) (w : Wish) (b : ℕ) (o : Option Transfer) → (w.block == b) ≡ false → ((t : Transfer) → o ≡ Some t → t.block ≡ w.block)

@@ -48,7 +48,7 @@ module _ (limits : RoundLimits) (C : Cluster) where
   unfolding transfer_by
   of_wish chosen w t e =
       unless_full (nat_le (limits.work * len C.nodes) (length chosen)) w _ t
-      (with_source w (least_source C chosen w.level (sources_by w)) (λ _. least_target C chosen w.level (holders_by chosen w) (excluded_by chosen w) w.stamp.len) t (source_among C chosen w.level (sources_by w))) e
+      (with_source w (least_source C chosen w.level (sources_by w)) (λ _. least_target C chosen (record { urgency = w.level; holders = holders_by chosen w; excluded = excluded_by chosen w; len = w.stamp.len })) t (source_among C chosen w.level (sources_by w))) e
 
   all_optional : (all : List Wish) (w : Wish) (o : Option Transfer) → Contains all w → ((t : Transfer) → o ≡ Some t → IsOf w t) → All (IsCopyOf all) (option_to_list o)
   all_optional all w None among of = All-nil (IsCopyOf all)

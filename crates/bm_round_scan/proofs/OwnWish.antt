@@ -14,7 +14,7 @@ module _ (C : Cluster) (G : Holdings) (b : ℕ) where
   lives = length (live C G b)
 
   abbrev level_for : ℕ → Option Level
-  level_for repl = level_of lives (length (drained C G b)) repl (length (racks C (live C G b))) (is_multi_rack C)
+  level_for repl = level_of (record { live = lives; drained = length (drained C G b); wanted = repl; racks = length (racks C (live C G b)); multi_rack = is_multi_rack C })
 
   -- the wish at a level, from the counts of the scan
   abbrev wish_counted : BlockInfo → Level → Option Wish

@@ -7,7 +7,7 @@ use Rattle.bm_base.specs.declared.replica.Level.TheVariants.{Highest, VeryUnderR
 use Rattle.bm_base.specs.Machine.Levels.{level_of, level_without_live}
 
 -- if fewer replicas are live than are wanted, racks do not matter
-pub few_live : (live drained repl r s : ℕ) (m n : Bool) → live < repl → level_of live drained repl r m ≡ level_of live drained repl s n
+pub few_live : (live drained repl r s : ℕ) (m n : Bool) → live < repl → level_of (record { live = live; drained = drained; wanted = repl; racks = r; multi_rack = m }) ≡ level_of (record { live = live; drained = drained; wanted = repl; racks = s; multi_rack = n })
 unfolding level_of
 few_live live drained repl r s m n few =
     let less : nat_le repl live ≡ false = grind (arith, nat_tests, few) in
@@ -28,7 +28,7 @@ alike false m n = refl
 
 -- if the live replicas are not on exactly one rack, it does not matter whether the cluster has
 -- several racks
-pub not_on_one : (live drained repl r : ℕ) (m n : Bool) → r ≢ 1 → level_of live drained repl r m ≡ level_of live drained repl r n
+pub not_on_one : (live drained repl r : ℕ) (m n : Bool) → r ≢ 1 → level_of (record { live = live; drained = drained; wanted = repl; racks = r; multi_rack = m }) ≡ level_of (record { live = live; drained = drained; wanted = repl; racks = r; multi_rack = n })
 unfolding level_of
 not_on_one live drained repl r m n apart =
     let other : (r == 1) ≡ false = grind (arith, nat_tests, apart) in

@@ -28,4 +28,4 @@ abbrev pub wish_by : Cluster → ℕ → BlockInfo → List ℕ → List ℕ →
 wish_by C b i live drained pairs pending =
     option_and_then (λ urgency. let n = count_at urgency i.repl (length live) (length pending) in
     wish_if n (record { level = urgency; block = b; stamp = i.stamp; count = n; live = live; drained = drained; pairs = pairs; pending = pending }))
-    (level_of (length live) (length drained) i.repl (length (racks C live)) (is_multi_rack C))
+    (level_of (record { live = length live; drained = length drained; wanted = i.repl; racks = length (racks C live); multi_rack = is_multi_rack C }))

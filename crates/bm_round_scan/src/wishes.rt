@@ -113,9 +113,7 @@ fn copy_storages(alloc: Global, storages: &[StorageId]) -> Result<StorageIds, Al
 /// The level of a block with live replicas on these storages. Their racks are looked up only if
 /// enough are live.
 fn level_among(topology: &Topology, repl: u32, live: &[StorageId], drained: usize) -> Option<Level>
-    ensures { result ≡ levels.level_of (length live.now) drained repl
-        (length (replicas.racks topology.now.cluster live.now))
-        (replicas.is_multi_rack topology.now.cluster) }
+    ensures { result ≡ levels.level_of (record { live = length live.now; drained = drained; wanted = repl; racks = length (replicas.racks topology.now.cluster live.now); multi_rack = replicas.is_multi_rack topology.now.cluster }) }
 {
     if live.len() < repl as usize {
         return level_of(live.len(), drained, repl, 0, false);

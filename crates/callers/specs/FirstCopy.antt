@@ -9,7 +9,7 @@ use Rattle.bm_base.specs.Words.{Cluster, remaining, has, node_of, has_storage, l
 abbrev pub first_copy : Cluster → List ℕ → Level → ℕ → Stamp → Option Transfer
 first_copy C live urgency block stamp =
     option_and_then (λ source. option_map (λ target. record { block = block; stamp = stamp; source = source; target = target })
-    (least_target C [] urgency live live stamp.len))
+    (least_target C [] (record { urgency = urgency; holders = live; excluded = live; len = stamp.len })))
     (least_source C [] urgency live)
 
 -- a copy fits on its target

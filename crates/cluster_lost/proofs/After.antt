@@ -102,7 +102,7 @@ one_rack_only false bad false true none_drained less = refl
 one_rack_only false bad false false none_drained true = refl
 one_rack_only false bad false false none_drained false = refl
 
-level_seen : (l d repl n : ℕ) (multi : Bool) → level_of l d repl n multi ≡ seen multi (level_of l d repl n true)
+level_seen : (l d repl n : ℕ) (multi : Bool) → level_of (record { live = l; drained = d; wanted = repl; racks = n; multi_rack = multi }) ≡ seen multi (level_of (record { live = l; drained = d; wanted = repl; racks = n; multi_rack = true }))
 unfolding level_of
 level_seen l d repl n true = refl
 level_seen l d repl n false = one_rack_only (nat_le repl l) (nat_lt 1 repl && (n == 1)) (l == 0) (l == 1) (d == 0) (nat_lt (l * 3) repl)
@@ -181,8 +181,8 @@ module _ (M N : State) (gone dead : ℕ → Bool) (w : IsWithout M N gone dead) 
   level_after b i known =
       let D = N.cluster in
       let us = shown C row_of (left b) in
-      ap (λ o. option_and_then (λ (j : BlockInfo). level_of (length (live D N.holdings b)) (length (drained D N.holdings b)) j.repl (length (distinct (filter_map (rack_of D) (live D N.holdings b)))) (is_multi_rack D)) o) (ap (λ m. get m b) w.blocks ∙ known)
-      ∙ (λ k. level_of (live_count b k) ((ap length (drained_after b) ∙ sym (drained_shown C row_of (left b))) k) i.repl (length (distinct (racks_after b k))) (is_multi_rack D))
+      ap (λ o. option_and_then (λ (j : BlockInfo). level_of (record { live = length (live D N.holdings b); drained = length (drained D N.holdings b); wanted = j.repl; racks = length (distinct (filter_map (rack_of D) (live D N.holdings b))); multi_rack = is_multi_rack D })) o) (ap (λ m. get m b) w.blocks ∙ known)
+      ∙ (λ k. level_of (record { live = live_count b k; drained = (ap length (drained_after b) ∙ sym (drained_shown C row_of (left b))) k; wanted = i.repl; racks = length (distinct (racks_after b k)); multi_rack = is_multi_rack D }))
       ∙ sym (level_of-spread (live_by us) (drained_by us) i.repl (racks_by us) (is_multi_rack D))
       ∙ level_seen (live_by us) (drained_by us) i.repl (spread (racks_by us)) (is_multi_rack D)
 

@@ -52,7 +52,7 @@ unfolding level
 missing_is_unusable M b i e h =
     let C = M.cluster in
     let H = M.holdings in
-    ap (λ z. is_at NoUsableReplica (option_and_then (λ i. level_of (length (live C H b)) (length (drained C H b)) i.repl (length (racks C (live C H b))) (is_multi_rack C)) z)) e
+    ap (λ z. is_at NoUsableReplica (option_and_then (λ i. level_of (record { live = length (live C H b); drained = length (drained C H b); wanted = i.repl; racks = length (racks C (live C H b)); multi_rack = is_multi_rack C })) z)) e
     ∙ level_is_missing (length (live C H b)) (length (drained C H b)) i.repl (length (racks C (live C H b))) (is_multi_rack C) h
     ∙ (λ j. none_if_empty (live C H b) j && none_if_empty (drained C H b) j)
     ∙ neither (list_any (λ _. true) (live C H b)) (list_any (λ _. true) (drained C H b))

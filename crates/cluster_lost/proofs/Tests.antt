@@ -34,7 +34,7 @@ by_number false false true none_drained = refl
 by_number false false false none_drained = refl
 
 -- A block of which at least one replica is wanted is missing exactly if none is live or drained.
-pub level_is_missing : (n d repl racks : ℕ) (multi : Bool) → 1 ≤ repl → is_at NoUsableReplica (level_of n d repl racks multi) ≡ ((n == 0) && (d == 0))
+pub level_is_missing : (n d repl racks : ℕ) (multi : Bool) → 1 ≤ repl → is_at NoUsableReplica (level_of (record { live = n; drained = d; wanted = repl; racks = racks; multi_rack = multi })) ≡ ((n == 0) && (d == 0))
 unfolding level_of
 level_is_missing n d repl racks multi h = by_enough (nat_le repl n) (nat_lt 1 repl && (racks == 1) && multi) some_live
   where

@@ -41,7 +41,7 @@ racks_by us = filter_map (λ u. if u.live then u.rack else None) us
 
 -- the level in a cluster of several racks
 abbrev pub level_by : BlockInfo → List Source → Option Level
-level_by i us = level_of (live_by us) (drained_by us) i.repl (spread (racks_by us)) true
+level_by i us = level_of (record { live = live_by us; drained = drained_by us; wanted = i.repl; racks = spread (racks_by us); multi_rack = true })
 
 -- The bytes of the copies that a block lacks: its length, times the wanted replicas that are not
 -- live. It is 0 if no replica is usable, so that there is none to copy from.

@@ -63,7 +63,7 @@ module _ (P : ℕ → Type 0) (limits : RoundLimits) (C : Cluster) (H : Holdings
   unfolding transfer_for
   transfer_source chosen w t e =
       source_passes P C chosen w (sources_of C H w.block) t.source (each w.block)
-      (source_made w.block (get H.blocks w.block) (least_source C chosen w.urgency (sources_of C H w.block)) (λ i. least_target C chosen w.urgency (holders_of C H chosen w.block) (excluded_for H chosen w.block) i.stamp.len) t
+      (source_made w.block (get H.blocks w.block) (least_source C chosen w.urgency (sources_of C H w.block)) (λ i. least_target C chosen (record { urgency = w.urgency; holders = holders_of C H chosen w.block; excluded = excluded_for H chosen w.block; len = i.stamp.len })) t
       (unless (nat_le (limits.work * len C.nodes) (length chosen)) _ t e))
 
   sources_from : (chosen : List Transfer) (ws : List RequestedCopy) → Each (λ t. P t.source) chosen → Each (λ t. P t.source) (transfers_from limits C H chosen ws)

@@ -116,7 +116,7 @@ places_listed H b s = (
 
 -- a block of which at least one replica is wanted has the level of a missing block exactly if no
 -- replica is usable
-no_usable_level : (n d repl racks : ℕ) (multi : Bool) → is_at NoUsableReplica (level_of n d repl racks multi) ≡ true → (n ≡ 0) × (d ≡ 0)
+no_usable_level : (n d repl racks : ℕ) (multi : Bool) → is_at NoUsableReplica (level_of (record { live = n; drained = d; wanted = repl; racks = racks; multi_rack = multi })) ≡ true → (n ≡ 0) × (d ≡ 0)
 unfolding level_of
 no_usable_level n d repl racks multi h = by_enough (nat_le repl n) (nat_lt 1 repl && (racks == 1) && multi) h
   where
@@ -134,7 +134,7 @@ no_usable_level n d repl racks multi h = by_enough (nat_le repl n) (nat_lt 1 rep
     by_enough true false h = cc
     by_enough false bad h = by_number (n == 0) (n == 1) (nat_lt (n * 3) repl) (d == 0) refl refl h
 
-level_none_usable : (repl racks : ℕ) (multi : Bool) → 1 ≤ repl → is_at NoUsableReplica (level_of 0 0 repl racks multi) ≡ true
+level_none_usable : (repl racks : ℕ) (multi : Bool) → 1 ≤ repl → is_at NoUsableReplica (level_of (record { live = 0; drained = 0; wanted = repl; racks = racks; multi_rack = multi })) ≡ true
 unfolding level_of
 level_none_usable repl racks multi h = rw (lt-leb repl 0 h) refl
 
@@ -164,9 +164,9 @@ module _ (C : Cluster) (H : Holdings) (b : ℕ) where
   abbrev missing_level : ℕ → Bool
   missing_level c = is_at NoUsableReplica (level C H c)
 
-  level_is : (i : BlockInfo) → get H.blocks b ≡ Some i → level C H b ≡ level_of (length (live C H b)) (length (drained C H b)) i.repl (length (racks C (live C H b))) (is_multi_rack C)
+  level_is : (i : BlockInfo) → get H.blocks b ≡ Some i → level C H b ≡ level_of (record { live = length (live C H b); drained = length (drained C H b); wanted = i.repl; racks = length (racks C (live C H b)); multi_rack = is_multi_rack C })
   unfolding level
-  level_is i e = ap (option_and_then (λ i. level_of (length (live C H b)) (length (drained C H b)) i.repl (length (racks C (live C H b))) (is_multi_rack C))) e
+  level_is i e = ap (option_and_then (λ i. level_of (record { live = length (live C H b); drained = length (drained C H b); wanted = i.repl; racks = length (racks C (live C H b)); multi_rack = is_multi_rack C }))) e
 
   shown_missing : has (missing_blocks C H) b ≡ list_any (λ e. missing_level e.0 && (e.0 == b)) (entries H.blocks)
   unfolding missing_blocks keys
@@ -192,7 +192,7 @@ module _ (C : Cluster) (H : Holdings) (b : ℕ) where
       let none_drained : length (drained C H b) ≡ 0 =
       none_listed (drained C H b) (λ s h. let m = stored_where (is_drained_on C) H b s h in missing.2 s (m.0, m.1, usable_marks m.0 (and_parts (is_usable m.0) (is_draining C s) m.2).0)) in
       let at : missing_level b ≡ true =
-      ap (is_at NoUsableReplica) (level_is missing.0 missing.1) ∙ (λ k. is_at NoUsableReplica (level_of (none_live k) (none_drained k) missing.0.repl (length (racks C (live C H b))) (is_multi_rack C)))
+      ap (is_at NoUsableReplica) (level_is missing.0 missing.1) ∙ (λ k. is_at NoUsableReplica (level_of (record { live = none_live k; drained = none_drained k; wanted = missing.0.repl; racks = length (racks C (live C H b)); multi_rack = is_multi_rack C })))
       ∙ level_none_usable missing.0.repl (length (racks C (live C H b))) (is_multi_rack C) (L.replicated b missing.0 missing.1).0 in
       shown_missing ∙ passes_entry H.blocks (λ e. missing_level e.0 && (e.0 == b)) b missing.0 missing.1 (and_from (missing_level b) (b == b) at (eq-eqb b b refl))
 

@@ -129,10 +129,10 @@ event_spares C H e S p is = S p (sent_before C H e p is)
 
 -- Rounds.
 
-target_off : (C : Cluster) (chosen : List Transfer) (urgency : Level) (holders excluded : List ℕ) (l t : ℕ) → least_target C chosen urgency holders excluded l ≡ Some t → is_draining C t ≡ false
+target_off : (C : Cluster) (chosen : List Transfer) (urgency : Level) (holders excluded : List ℕ) (l t : ℕ) → least_target C chosen (record { urgency = urgency; holders = holders; excluded = excluded; len = l }) ≡ Some t → is_draining C t ≡ false
 unfolding least_target least_target_by is_target
 target_off C chosen urgency holders excluded l t e =
-    let test : ℕ → Bool = is_target C (scheduled_to chosen) urgency holders excluded l in
+    let test : ℕ → Bool = is_target C (scheduled_to chosen) (record { urgency = urgency; holders = holders; excluded = excluded; len = l }) in
     let found : test t ≡ true = least_is_one (λ s. test s ≡ true) (target_cmp C (scheduled_to chosen) holders) (filter test (keys C.storages)) (each_passing test (keys C.storages)) t e in
     not-true (is_draining C t) (and_parts _ _ (and_parts _ _ (and_parts _ _ found).0).0).1
 
@@ -142,7 +142,7 @@ IsSpared C t = is_draining C t.target ≡ false
 transfer_spared : (limits : RoundLimits) (C : Cluster) (H : Holdings) (chosen : List Transfer) (w : RequestedCopy) (t : Transfer) → transfer_for limits C H chosen w ≡ Some t → IsSpared C t
 unfolding transfer_for
 transfer_spared limits C H chosen w t e =
-    let of_it = made_of w.block (get H.blocks w.block) (least_source C chosen w.urgency (sources_of C H w.block)) (λ i. least_target C chosen w.urgency (holders_of C H chosen w.block) (excluded_for H chosen w.block) i.stamp.len) t
+    let of_it = made_of w.block (get H.blocks w.block) (least_source C chosen w.urgency (sources_of C H w.block)) (λ i. least_target C chosen (record { urgency = w.urgency; holders = holders_of C H chosen w.block; excluded = excluded_for H chosen w.block; len = i.stamp.len })) t
     (unless (nat_le (limits.work * len C.nodes) (length chosen)) _ t e) in
     target_off C chosen w.urgency (holders_of C H chosen w.block) (excluded_for H chosen w.block) of_it.0.stamp.len t.target of_it.2
 

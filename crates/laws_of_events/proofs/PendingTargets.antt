@@ -80,14 +80,14 @@ held_is_excluded C H chosen b s known m e =
 abbrev IsAbsent : Holdings → Transfer → Type 0
 IsAbsent H t = get H.replicas (replica_at t.block t.target) ≡ None
 
-not_excluded : (C : Cluster) (sent : ℕ → ℕ) (urgency : Level) (holders excluded : List ℕ) (l s : ℕ) → is_target C sent urgency holders excluded l s ≡ true → is_excluded C excluded s ≡ false
+not_excluded : (C : Cluster) (sent : ℕ → ℕ) (urgency : Level) (holders excluded : List ℕ) (l s : ℕ) → is_target C sent (record { urgency = urgency; holders = holders; excluded = excluded; len = l }) s ≡ true → is_excluded C excluded s ≡ false
 unfolding is_target
 not_excluded C sent urgency holders excluded l s h = not-true (is_excluded C excluded s) (and_parts _ _ (and_parts _ _ h).0).1
 
-target_free : (C : Cluster) (H : Holdings) (chosen : List Transfer) (urgency : Level) (holders : List ℕ) (b l t : ℕ) → least_target C chosen urgency holders (excluded_for H chosen b) l ≡ Some t → get H.replicas (replica_at b t) ≡ None
+target_free : (C : Cluster) (H : Holdings) (chosen : List Transfer) (urgency : Level) (holders : List ℕ) (b l t : ℕ) → least_target C chosen (record { urgency = urgency; holders = holders; excluded = excluded_for H chosen b; len = l }) ≡ Some t → get H.replicas (replica_at b t) ≡ None
 unfolding least_target least_target_by
 target_free C H chosen urgency holders b l t e =
-    let test : ℕ → Bool = is_target C (scheduled_to chosen) urgency holders (excluded_for H chosen b) l in
+    let test : ℕ → Bool = is_target C (scheduled_to chosen) (record { urgency = urgency; holders = holders; excluded = excluded_for H chosen b; len = l }) in
     let found : (test t ≡ true) × (contains_key C.storages t ≡ true) =
     least_is_one (λ s. (test s ≡ true) × (contains_key C.storages s ≡ true)) (target_cmp C (scheduled_to chosen) holders) (filter test (keys C.storages))
     (each_both (λ s. test s ≡ true) (λ s. contains_key C.storages s ≡ true) (filter test (keys C.storages)) (each_passing test (keys C.storages)) (each_filtered (λ s. contains_key C.storages s ≡ true) test (keys C.storages) (each_key C.storages))) t e in
@@ -100,7 +100,7 @@ target_free C H chosen urgency holders b l t e =
 transfer_absent : (limits : RoundLimits) (C : Cluster) (H : Holdings) (chosen : List Transfer) (w : RequestedCopy) (t : Transfer) → transfer_for limits C H chosen w ≡ Some t → IsAbsent H t
 unfolding transfer_for
 transfer_absent limits C H chosen w t e =
-    let of_it = made_of w.block (get H.blocks w.block) (least_source C chosen w.urgency (sources_of C H w.block)) (λ i. least_target C chosen w.urgency (holders_of C H chosen w.block) (excluded_for H chosen w.block) i.stamp.len) t
+    let of_it = made_of w.block (get H.blocks w.block) (least_source C chosen w.urgency (sources_of C H w.block)) (λ i. least_target C chosen (record { urgency = w.urgency; holders = holders_of C H chosen w.block; excluded = excluded_for H chosen w.block; len = i.stamp.len })) t
     (unless (nat_le (limits.work * len C.nodes) (length chosen)) _ t e) in
     subst (λ b. get H.replicas (replica_at b t.target) ≡ None) of_it.3 (target_free C H chosen w.urgency (holders_of C H chosen w.block) w.block of_it.0.stamp.len t.target of_it.2)
 

@@ -75,7 +75,7 @@ pub record IsChosenAfter (limits : RoundLimits) (C : Cluster) (H : Holdings) (fr
   pub known : get H.blocks t.block ≡ Some info
   pub stamp : t.stamp ≡ info.stamp
   pub source : least_source C front urgency (sources_of C H t.block) ≡ Some t.source
-  pub target : least_target C front urgency (holders_of C H front t.block) (excluded_for H front t.block) info.stamp.len ≡ Some t.target
+  pub target : least_target C front (record { urgency = urgency; holders = holders_of C H front t.block; excluded = excluded_for H front t.block; len = info.stamp.len }) ≡ Some t.target
 
 module _ (limits : RoundLimits) (C : Cluster) (H : Holdings) where
   of_some : (front : List Transfer) (w : RequestedCopy) (t : Transfer) → transfer_for limits C H front w ≡ Some t → IsOfLevel C H w → IsChosenAfter limits C H front t
@@ -84,27 +84,27 @@ module _ (limits : RoundLimits) (C : Cluster) (H : Holdings) where
       by_limit (nat_le (limits.work * len C.nodes) (length front)) refl (get H.blocks w.block) refl is
     where
       chosen : (i : BlockInfo) → length front < limits.work * len C.nodes → get H.blocks w.block ≡ Some i
-          → (s u : ℕ) → least_source C front w.urgency (sources_of C H w.block) ≡ Some s → least_target C front w.urgency (holders_of C H front w.block) (excluded_for H front w.block) i.stamp.len ≡ Some u
+          → (s u : ℕ) → least_source C front w.urgency (sources_of C H w.block) ≡ Some s → least_target C front (record { urgency = w.urgency; holders = holders_of C H front w.block; excluded = excluded_for H front w.block; len = i.stamp.len }) ≡ Some u
           → record { block = w.block; stamp = i.stamp; source = s; target = u } ≡ t → IsChosenAfter limits C H front t
       chosen i few known s u from to same =
           subst (IsChosenAfter limits C H front) same (record { few = few; urgency = w.urgency; at_level = at; info = i; known = known; stamp = refl; source = from; target = to })
 
       by_target : (i : BlockInfo) → length front < limits.work * len C.nodes → get H.blocks w.block ≡ Some i → (s : ℕ) → least_source C front w.urgency (sources_of C H w.block) ≡ Some s
-          → (o : Option ℕ) → least_target C front w.urgency (holders_of C H front w.block) (excluded_for H front w.block) i.stamp.len ≡ o
+          → (o : Option ℕ) → least_target C front (record { urgency = w.urgency; holders = holders_of C H front w.block; excluded = excluded_for H front w.block; len = i.stamp.len }) ≡ o
           → option_map (λ u. record { block = w.block; stamp = i.stamp; source = s; target = u }) o ≡ Some t → IsChosenAfter limits C H front t
       by_target i few known s from None to e = absurd (false≢true (ap is_some e))
       by_target i few known s from (Some u) to e = chosen i few known s u from to (same_Some (record { block = w.block; stamp = i.stamp; source = s; target = u }) t e)
 
       by_source : (i : BlockInfo) → length front < limits.work * len C.nodes → get H.blocks w.block ≡ Some i
           → (o : Option ℕ) → least_source C front w.urgency (sources_of C H w.block) ≡ o
-          → option_and_then (λ s. option_map (λ u. record { block = w.block; stamp = i.stamp; source = s; target = u }) (least_target C front w.urgency (holders_of C H front w.block) (excluded_for H front w.block) i.stamp.len)) o ≡ Some t
+          → option_and_then (λ s. option_map (λ u. record { block = w.block; stamp = i.stamp; source = s; target = u }) (least_target C front (record { urgency = w.urgency; holders = holders_of C H front w.block; excluded = excluded_for H front w.block; len = i.stamp.len }))) o ≡ Some t
           → IsChosenAfter limits C H front t
       by_source i few known None from e = absurd (false≢true (ap is_some e))
-      by_source i few known (Some s) from e = by_target i few known s from (least_target C front w.urgency (holders_of C H front w.block) (excluded_for H front w.block) i.stamp.len) refl e
+      by_source i few known (Some s) from e = by_target i few known s from (least_target C front (record { urgency = w.urgency; holders = holders_of C H front w.block; excluded = excluded_for H front w.block; len = i.stamp.len })) refl e
 
       by_limit : (full : Bool) → nat_le (limits.work * len C.nodes) (length front) ≡ full → (o : Option BlockInfo) → get H.blocks w.block ≡ o
           → (if full then None else option_and_then (λ i. option_and_then (λ s. option_map (λ u. record { block = w.block; stamp = i.stamp; source = s; target = u })
-          (least_target C front w.urgency (holders_of C H front w.block) (excluded_for H front w.block) i.stamp.len)) (least_source C front w.urgency (sources_of C H w.block))) o) ≡ Some t
+          (least_target C front (record { urgency = w.urgency; holders = holders_of C H front w.block; excluded = excluded_for H front w.block; len = i.stamp.len }))) (least_source C front w.urgency (sources_of C H w.block))) o) ≡ Some t
           → IsChosenAfter limits C H front t
       by_limit true full o is e = absurd (false≢true (ap is_some e))
       by_limit false full None is e = absurd (false≢true (ap is_some e))
@@ -141,7 +141,7 @@ source_is C front urgency ss s e =
     let is = least_passing (source_cmp C (streams_from C front)) (λ z. nat_lt (streams_from C front z) (stream_limit urgency (is_draining C z))) ss s e in
     (ltb-true (streams_from C front s) (stream_limit urgency (is_draining C s)) is.0, is.1)
 
-pub target_is : (C : Cluster) (front : List Transfer) (urgency : Level) (holders excluded : List ℕ) (n u : ℕ) → least_target C front urgency holders excluded n ≡ Some u
-    → (is_target C (scheduled_to front) urgency holders excluded n u ≡ true) × (has (keys C.storages) u ≡ true)
+pub target_is : (C : Cluster) (front : List Transfer) (urgency : Level) (holders excluded : List ℕ) (n u : ℕ) → least_target C front (record { urgency = urgency; holders = holders; excluded = excluded; len = n }) ≡ Some u
+    → (is_target C (scheduled_to front) (record { urgency = urgency; holders = holders; excluded = excluded; len = n }) u ≡ true) × (has (keys C.storages) u ≡ true)
 unfolding least_target least_target_by
-target_is C front urgency holders excluded n u e = least_passing (target_cmp C (scheduled_to front) holders) (is_target C (scheduled_to front) urgency holders excluded n) (keys C.storages) u e
+target_is C front urgency holders excluded n u e = least_passing (target_cmp C (scheduled_to front) holders) (is_target C (scheduled_to front) (record { urgency = urgency; holders = holders; excluded = excluded; len = n })) (keys C.storages) u e

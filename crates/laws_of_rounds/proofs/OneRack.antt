@@ -127,11 +127,11 @@ two_multi C h =
 
 -- Levels.
 
-counted_badly : (n d repl rs : ℕ) (multi : Bool) → 2 ≤ repl → repl ≤ n → rs ≡ 1 → multi ≡ true → level_of n d repl rs multi ≡ Some BadlyDistributed
+counted_badly : (n d repl rs : ℕ) (multi : Bool) → 2 ≤ repl → repl ≤ n → rs ≡ 1 → multi ≡ true → level_of (record { live = n; drained = d; wanted = repl; racks = rs; multi_rack = multi }) ≡ Some BadlyDistributed
 unfolding level_of
 counted_badly n d repl rs multi a b c e = grind (arith, nat_tests)
 
-badly_two : (n d repl rs : ℕ) (multi : Bool) → level_of n d repl rs multi ≡ Some BadlyDistributed → (2 ≤ repl) × (multi ≡ true)
+badly_two : (n d repl rs : ℕ) (multi : Bool) → level_of (record { live = n; drained = d; wanted = repl; racks = rs; multi_rack = multi }) ≡ Some BadlyDistributed → (2 ≤ repl) × (multi ≡ true)
 unfolding level_of
 badly_two n d repl rs multi e = by_tests (nat_le repl n) (nat_lt 1 repl) refl (rs == 1) multi e
   where

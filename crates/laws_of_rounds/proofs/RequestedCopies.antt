@@ -136,7 +136,7 @@ module _ (limits : RoundLimits) (C : Cluster) (H : Holdings) (b : ℕ) where
   unfolding transfer_for
   of_wish front w t e =
       block_kept _ (get H.blocks w.block) (least_source C front w.urgency (sources_of C H w.block))
-      (λ i. least_target C front w.urgency (holders_of C H front w.block) (excluded_for H front w.block) i.stamp.len) w.block t e
+      (λ i. least_target C front (record { urgency = w.urgency; holders = holders_of C H front w.block; excluded = excluded_for H front w.block; len = i.stamp.len })) w.block t e
 
   one_more : (front : List Transfer) (w : RequestedCopy) (o : Option Transfer) → ((t : Transfer) → o ≡ Some t → t.block ≡ w.block)
       → length (targets_of (front ++ option_to_list o) b) ≤ length (targets_of front b) + cond (w.block == b) 1 0
@@ -207,7 +207,7 @@ no_more_than_lacks M b i known some =
 
 -- Another rack.
 
-pub badly_counted : (n d repl rs : ℕ) (multi : Bool) → level_of n d repl rs multi ≡ Some BadlyDistributed → (repl ≤ n) × ((rs == 1) ≡ true)
+pub badly_counted : (n d repl rs : ℕ) (multi : Bool) → level_of (record { live = n; drained = d; wanted = repl; racks = rs; multi_rack = multi }) ≡ Some BadlyDistributed → (repl ≤ n) × ((rs == 1) ≡ true)
 unfolding level_of
 badly_counted n d repl rs multi e = by_tests (nat_le repl n) refl (nat_lt 1 repl) (rs == 1) multi e
   where

@@ -231,7 +231,7 @@ pub record IsFit (C : Cluster) (front : List Transfer) (urgency : Level) (holder
   pub free : is_excluded C excluded u ≡ false
   pub apart : (is_at BadlyDistributed (Some urgency) && (length (racks C holders) == 1) && (class_of C holders u == 1)) ≡ false
 
-pub target_parts : (C : Cluster) (front : List Transfer) (urgency : Level) (holders excluded : List ℕ) (n u : ℕ) → is_target C (scheduled_to front) urgency holders excluded n u ≡ true
+pub target_parts : (C : Cluster) (front : List Transfer) (urgency : Level) (holders excluded : List ℕ) (n u : ℕ) → is_target C (scheduled_to front) (record { urgency = urgency; holders = holders; excluded = excluded; len = n }) u ≡ true
     → IsFit C front urgency holders excluded n u
 unfolding is_target
 target_parts C front urgency holders excluded n u e =

@@ -53,7 +53,7 @@ ShortOfReplicas =
 -- `racks` racks, and `drained` are drained.
 abbrev pub MoreWantedIsNoLessNeed : Type 0
 MoreWantedIsNoLessNeed =
-    (live drained repl more racks : ℕ) (multi : Bool) → repl ≤ more → need (level_of live drained repl racks multi) ≤ need (level_of live drained more racks multi)
+    (live drained repl more racks : ℕ) (multi : Bool) → repl ≤ more → need (level_of (record { live = live; drained = drained; wanted = repl; racks = racks; multi_rack = multi })) ≤ need (level_of (record { live = live; drained = drained; wanted = more; racks = racks; multi_rack = multi }))
 
 abbrev pub RaisedReplicationIsNoLessNeed : Type 0
 RaisedReplicationIsNoLessNeed =
@@ -65,8 +65,8 @@ RaisedReplicationIsNoLessNeed =
 abbrev pub OneReplicaMoreIsNoMoreNeed : Type 0
 OneReplicaMoreIsNoMoreNeed =
     (live drained drained_then repl racks more_racks : ℕ) (multi : Bool) → (1 ≤ live → 1 ≤ racks) → racks ≤ more_racks
-    → need (level_of (live + 1) drained_then repl more_racks multi) ≤ need (level_of live drained repl racks multi)
+    → need (level_of (record { live = live + 1; drained = drained_then; wanted = repl; racks = more_racks; multi_rack = multi })) ≤ need (level_of (record { live = live; drained = drained; wanted = repl; racks = racks; multi_rack = multi }))
 
 abbrev pub OneDrainedReplicaMoreIsNoMoreNeed : Type 0
 OneDrainedReplicaMoreIsNoMoreNeed =
-    (live drained repl racks : ℕ) (multi : Bool) → need (level_of live (drained + 1) repl racks multi) ≤ need (level_of live drained repl racks multi)
+    (live drained repl racks : ℕ) (multi : Bool) → need (level_of (record { live = live; drained = drained + 1; wanted = repl; racks = racks; multi_rack = multi })) ≤ need (level_of (record { live = live; drained = drained; wanted = repl; racks = racks; multi_rack = multi }))

@@ -10,7 +10,8 @@ use Rattle.bm_base.specs.declared.storage.StorageInfo.{StorageInfo}
 use Rattle.bm_base.specs.declared.replica.Level.{Level}
 use Rattle.bm_base.specs.declared.replica.Level.TheVariants.{Highest, VeryUnderReplicated, UnderReplicated, BadlyDistributed, NoUsableReplica}
 use Rattle.bm_base.specs.declared.commands.Transfer.{Transfer}
-use Rattle.bm_base.specs.Words.{empty, insert_all, Cluster, Holdings, replica_at, level_number, level_of, excess_of, excess_in, without_expired, wishes, least_source, least_target, holders_of, excluded_for, transfers, deletes}
+use Rattle.bm_base.specs.Words.{empty, insert_all, Cluster, standard_limits, Holdings, replica_at, level_number, level_of, TargetRequest, excess_of, excess_in, without_expired, wishes, least_source, least_target, holders_of, excluded_for, transfers, deletes}
+use Rattle.worked_examples.specs.Levels.{counts}
 
 -- The cluster.
 
@@ -21,6 +22,7 @@ on node remaining = record { node = node; remaining = remaining }
 -- node 5 has 12, and node 1 has 52.
 abbrev pub three_racks : Cluster
 three_racks = record {
+  limits = standard_limits;
   nodes = insert_all empty ((1, 1) ∷ (2, 1) ∷ (3, 2) ∷ (4, 2) ∷ (5, 3) ∷ []);
   draining = empty;
   storages = insert_all empty ((11, on 1 100) ∷ (12, on 5 90) ∷ (21, on 2 100) ∷ (31, on 3 80) ∷ (41, on 4 100) ∷ (51, on 5 200) ∷ (52, on 1 60) ∷ []);
@@ -35,9 +37,17 @@ sent block source target len = record { block = block; stamp = stamp len; source
 
 -- Targets.
 
+abbrev pub request : Level → List ℕ → List ℕ → ℕ → TargetRequest
+request urgency holders excluded len = record {
+  urgency = urgency;
+  holders = holders;
+  excluded = excluded;
+  len = len;
+}
+
 -- the target of a block of ten bytes that these storages hold, after the transfers in `chosen`
 abbrev pub target_of : List Transfer → Level → List ℕ → Option ℕ
-target_of chosen level holders = least_target three_racks chosen level holders holders 10
+target_of chosen level holders = least_target three_racks chosen (request level holders holders 10)
 
 -- The second copy goes to another rack, there to the storage with the most free bytes. With two
 -- copies on two racks the third goes to one of these racks, even if a third rack has more free
@@ -53,21 +63,21 @@ RacksOfCopies =
 abbrev pub FreeBytesOfTargets : Type 0
 FreeBytesOfTargets =
     (target_of (sent 9 11 51 150 ∷ []) Highest (11 ∷ []) ≡ Some 41)
-    × (least_target three_racks [] UnderReplicated (31 ∷ []) (31 ∷ 51 ∷ []) 10 ≡ Some 11)
+    × (least_target three_racks [] (request UnderReplicated (31 ∷ []) (31 ∷ 51 ∷ []) 10) ≡ Some 11)
 
 -- A block fits a storage that has exactly its length free, but not one with a byte less.
 abbrev pub BlockFits : Type 0
 BlockFits =
-    (least_target three_racks [] Highest (11 ∷ []) (11 ∷ []) 200 ≡ Some 51)
-    × (least_target three_racks [] Highest (11 ∷ []) (11 ∷ []) 201 ≡ None)
-    × (least_target three_racks (sent 9 11 51 1 ∷ []) Highest (11 ∷ []) (11 ∷ []) 200 ≡ None)
+    (least_target three_racks [] (request Highest (11 ∷ []) (11 ∷ []) 200) ≡ Some 51)
+    × (least_target three_racks [] (request Highest (11 ∷ []) (11 ∷ []) 201) ≡ None)
+    × (least_target three_racks (sent 9 11 51 1 ∷ []) (request Highest (11 ∷ []) (11 ∷ []) 200) ≡ None)
 
 -- A badly distributed block gets no copy if no other rack may be taken. A block with too few
 -- replicas then gets its copy on the same rack.
 abbrev pub OtherRackOrNone : Type 0
 OtherRackOrNone =
-    (least_target three_racks [] BadlyDistributed (11 ∷ []) (11 ∷ 31 ∷ 41 ∷ 51 ∷ []) 10 ≡ None)
-    × (least_target three_racks [] UnderReplicated (11 ∷ []) (11 ∷ 31 ∷ 41 ∷ 51 ∷ []) 10 ≡ Some 21)
+    (least_target three_racks [] (request BadlyDistributed (11 ∷ []) (11 ∷ 31 ∷ 41 ∷ 51 ∷ []) 10) ≡ None)
+    × (least_target three_racks [] (request UnderReplicated (11 ∷ []) (11 ∷ 31 ∷ 41 ∷ 51 ∷ []) 10) ≡ Some 21)
 
 -- Sources.
 
@@ -109,8 +119,8 @@ DrainedSourcesFirst =
 -- bytes. There is no target if all other nodes drain.
 abbrev pub DrainingNodeIsNoTarget : Type 0
 DrainingNodeIsNoTarget =
-    (least_target (draining (5 ∷ [])) [] Highest (11 ∷ []) (11 ∷ []) 10 ≡ Some 41)
-    × (least_target (draining (2 ∷ 3 ∷ 4 ∷ 5 ∷ [])) [] Highest (11 ∷ []) (11 ∷ []) 10 ≡ None)
+    (least_target (draining (5 ∷ [])) [] (request Highest (11 ∷ []) (11 ∷ []) 10) ≡ Some 41)
+    × (least_target (draining (2 ∷ 3 ∷ 4 ∷ 5 ∷ [])) [] (request Highest (11 ∷ []) (11 ∷ []) 10) ≡ None)
 
 -- Surplus.
 
@@ -236,7 +246,7 @@ ExpiresAfterPend =
 -- Drained replicas count only if none is live.
 abbrev pub LevelsAtTheirEdges : Type 0
 LevelsAtTheirEdges =
-    (level_of 2 0 7 2 true ≡ Some VeryUnderReplicated) × (level_of 2 0 6 2 true ≡ Some UnderReplicated)
-    × (level_of 2 0 2 1 true ≡ Some BadlyDistributed) × (level_of 2 0 2 1 false ≡ None) × (level_of 1 0 1 1 true ≡ None) × (level_of 2 0 2 2 true ≡ None)
-    × (level_of 0 0 1 0 true ≡ Some NoUsableReplica) × (level_of 0 1 1 0 true ≡ Some Highest) × (level_of 2 1 7 2 true ≡ Some VeryUnderReplicated)
-    × (level_of 1 1 1 1 true ≡ None)
+    (level_of (counts 2 0 7 2 true) ≡ Some VeryUnderReplicated) × (level_of (counts 2 0 6 2 true) ≡ Some UnderReplicated)
+    × (level_of (counts 2 0 2 1 true) ≡ Some BadlyDistributed) × (level_of (counts 2 0 2 1 false) ≡ None) × (level_of (counts 1 0 1 1 true) ≡ None) × (level_of (counts 2 0 2 2 true) ≡ None)
+    × (level_of (counts 0 0 1 0 true) ≡ Some NoUsableReplica) × (level_of (counts 0 1 1 0 true) ≡ Some Highest) × (level_of (counts 2 1 7 2 true) ≡ Some VeryUnderReplicated)
+    × (level_of (counts 1 1 1 1 true) ≡ None)

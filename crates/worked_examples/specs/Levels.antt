@@ -1,11 +1,20 @@
 -- How urgently blocks need replicas.
-use Rattle.std.specs.Prelude.{◌≡◌, true, false, Some, None, List, [], ◌∷◌, ◌++◌}
+use Rattle.std.specs.Prelude.{◌≡◌, ℕ, Bool, true, false, Some, None, List, [], ◌∷◌, ◌++◌}
 use Rattle.bm_base.specs.declared.call.Call.{Call}
 use Rattle.bm_base.specs.declared.call.Answer.{Answer}
 use Rattle.bm_base.specs.declared.replica.Level.TheVariants.{Highest, VeryUnderReplicated, UnderReplicated, BadlyDistributed, NoUsableReplica}
 use Rattle.bm_base.specs.declared.refusal.Refusal.TheVariants.{UnknownBlock, BadReplication}
-use Rattle.bm_base.specs.Machine.Levels.{level_of}
+use Rattle.bm_base.specs.Machine.Levels.{BlockCounts, level_of}
 use Rattle.worked_examples.specs.Script.{◌gives◌, HoldsOnCluster, example_config, register, dead, drain, add_block, set_replication, received, level, round, list_missing, list_excess, ok, at_level, at_no_level, commands, copies_by, copy, deletes_by, delete, blocks, replica_ids, refused}
+
+abbrev pub counts : ℕ → ℕ → ℕ → ℕ → Bool → BlockCounts
+counts live drained wanted racks multi_rack = record {
+  live = live;
+  drained = drained;
+  wanted = wanted;
+  racks = racks;
+  multi_rack = multi_rack;
+}
 
 abbrev pub block_without_replicas_is_missing : Type 0
 block_without_replicas_is_missing = HoldsOnCluster example_config (
@@ -88,7 +97,7 @@ queue_follows_death = HoldsOnCluster (record example_config { invalidate = 1 }) 
 -- nodes are on several racks.
 abbrev pub first_replica_makes_a_block_the_first_to_copy : Type 0
 first_replica_makes_a_block_the_first_to_copy =
-    (level_of 0 0 3 0 true ≡ Some NoUsableReplica) × (level_of 1 0 3 1 true ≡ Some Highest) × (level_of 0 1 3 0 true ≡ Some Highest)
+    (level_of (counts 0 0 3 0 true) ≡ Some NoUsableReplica) × (level_of (counts 1 0 3 1 true) ≡ Some Highest) × (level_of (counts 0 1 3 0 true) ≡ Some Highest)
 
 abbrev pub second_rack_may_raise_need : Type 0
-second_rack_may_raise_need = (level_of 2 0 2 1 false ≡ None) × (level_of 2 0 2 1 true ≡ Some BadlyDistributed)
+second_rack_may_raise_need = (level_of (counts 2 0 2 1 false) ≡ None) × (level_of (counts 2 0 2 1 true) ≡ Some BadlyDistributed)

@@ -62,7 +62,8 @@ may_run_out_of_memory M k = call_takes_memory k && not (is_refused (step M k).0)
 -- An answer that a call may give in a state: that of the definition, or out of memory if the call
 -- may run out of it.
 abbrev pub MayAnswer : State → Call → Answer → Type 0
-MayAnswer M k a = (a ≡ (step M k).0) ⊎ (IsTrue (may_run_out_of_memory M k) × (a ≡ answer.Refused Memory))
+MayAnswer M k a =
+    (a ≡ (step M k).0) ⊎ (IsTrue (may_run_out_of_memory M k) × (a ≡ answer.Refused Memory))
 
 -- the state after a call that gave this answer: after out of memory the same state
 abbrev pub state_after_answer : State → Call → Answer → State
@@ -71,7 +72,8 @@ state_after_answer M k a = if is_out_of_memory a then M else (step M k).1
 -- the answers that a list of calls may give, and the state that they leave
 abbrev pub MayAnswerAll : State → List Call → List Answer → Type 0
 MayAnswerAll M [] [] = Unit {0}
-MayAnswerAll M (k ∷ ks) (a ∷ rest) = MayAnswer M k a × MayAnswerAll (state_after_answer M k a) ks rest
+MayAnswerAll M (k ∷ ks) (a ∷ rest) =
+    MayAnswer M k a × MayAnswerAll (state_after_answer M k a) ks rest
 MayAnswerAll M [] (a ∷ rest) = ⊥
 MayAnswerAll M (k ∷ ks) [] = ⊥
 

@@ -22,7 +22,10 @@ new_replicas old new = count_by (λ e. not (contains_key old e.0)) (entries new)
 
 -- how many replicas came and went between H and G
 unfoldable pub done : Holdings → Holdings → Done
-done H G = record { added = new_replicas H.replicas G.replicas; removed = new_replicas G.replicas H.replicas }
+done H G = record {
+  added = new_replicas H.replicas G.replicas;
+  removed = new_replicas G.replicas H.replicas;
+}
 
 -- the answer to an event that nothing refuses
 unfoldable pub done_by : State → Event → Done
@@ -44,15 +47,22 @@ refused_or M None next = next
 -- the answer of a call, and the next state
 unfoldable pub step : State → Call → Answer × State
 step M (call.Apply e) = refused_or M (refusal_of M e) (answer.Done (done_by M e), after_event M e)
-step M call.Round = refused_or M (round_refusal M) (answer.Commanded (whole_round M).0, count_call (whole_round M).1)
+step M call.Round =
+    refused_or M (round_refusal M)
+    (answer.Commanded (whole_round M).0, count_call (whole_round M).1)
 step M call.Replicas = (answer.Replicas (all_replicas M.holdings), M)
 step M call.Corrupt = (answer.ReplicaIds (corrupt_replicas M.holdings), M)
 step M call.Excess = (answer.ReplicaIds (excess_replicas M.holdings), M)
 step M call.Missing = (answer.Blocks (missing_blocks M.cluster M.holdings), M)
-step M (call.BlocksOn s) = refused_or M (storage_refusal M.cluster s) (answer.Blocks (blocks_on M.holdings s), M)
-step M (call.Places b) = refused_or M (block_refusal M.holdings b) (answer.Storages (places M.holdings b), M)
-step M (call.LevelOf b) = refused_or M (block_refusal M.holdings b) (answer.LevelIs (level M.cluster M.holdings b), M)
-step M (call.Retired n) = refused_or M (node_refusal M.cluster n) (answer.IsRetired (is_retired M.cluster M.holdings n), M)
+step M (call.BlocksOn s) =
+    refused_or M (storage_refusal M.cluster s) (answer.Blocks (blocks_on M.holdings s), M)
+step M (call.Places b) =
+    refused_or M (block_refusal M.holdings b) (answer.Storages (places M.holdings b), M)
+step M (call.LevelOf b) =
+    refused_or M (block_refusal M.holdings b) (answer.LevelIs (level M.cluster M.holdings b), M)
+step M (call.Retired n) =
+    refused_or M (node_refusal M.cluster n)
+    (answer.IsRetired (is_retired M.cluster M.holdings n), M)
 step M call.Calls = (answer.Number M.calls, M)
 step M call.Rounds = (answer.Number M.round, M)
 

@@ -1,4 +1,5 @@
--- Which configurations and limits are allowed. The standard values of work and invalidate are Hadoop 2's.
+-- Which configurations and limits are allowed. The standard values of work and invalidate are
+-- Hadoop 2's.
 use Rattle.std.specs.Prelude.{ℕ, Bool, not, ◌&&◌, nat_le, [], ◌∷◌, Option}
 use Rattle.bm_base.specs.declared.config.Config.{Config}
 use Rattle.bm_base.specs.declared.limits.Limits.{Limits}

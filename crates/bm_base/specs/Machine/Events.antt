@@ -38,7 +38,8 @@ register C n rack ss = record C {
 -- storage counts
 abbrev pub set_remaining : Map by_number StorageInfo → List Remaining → Map by_number StorageInfo
 set_remaining m [] = m
-set_remaining m (r ∷ rs) = set_remaining (revise_at m r.storage (λ i. record i { remaining = r.remaining })) rs
+set_remaining m (r ∷ rs) =
+    set_remaining (revise_at m r.storage (λ i. record i { remaining = r.remaining })) rs
 
 unfoldable pub heartbeat : Cluster → List Remaining → Cluster
 heartbeat C rs = record C { storages = set_remaining C.storages rs }
@@ -74,7 +75,8 @@ tag_of_known bad stamp i = if bad then Bad else if same_stamp stamp i.stamp then
 
 -- the tag of an entered replica: stray if its block is not known
 unfoldable pub entered_tag : Holdings → ReplicaId → Stamp → Tag
-entered_tag H p stamp = option_map_or (tag_of_known (was_bad H p) stamp) (get H.blocks p.block) Stray
+entered_tag H p stamp =
+    option_map_or (tag_of_known (was_bad H p) stamp) (get H.blocks p.block) Stray
 
 -- the marks of an entered replica: in excess if it was so and is good now; not ordered
 unfoldable pub entered_marks : Holdings → ReplicaId → Stamp → Marks
@@ -103,7 +105,9 @@ is_named ts b = list_any (λ t. t.id == b) ts
 -- whether a replica leaves by the report: one on s that it does not name, or one of a named block
 -- on another storage of the node
 unfoldable pub leaves_by_report : Cluster → ℕ → List ReportedBlock → ReplicaId → Bool
-leaves_by_report C s ts q = if q.storage == s then not (is_named ts q.block) else is_named ts q.block && are_siblings C s q.storage
+leaves_by_report C s ts q =
+    if q.storage == s then not (is_named ts q.block)
+    else is_named ts q.block && are_siblings C s q.storage
 
 -- Enters each named replica; the last entry of a block counts, since it is inserted last. Drops
 -- those that leave by the report, and ends the transfers to the named replicas. "Was" is about the
@@ -123,7 +127,8 @@ without_pending H b = record H { pending = without H.pending (λ q. q.block == b
 
 -- changes the marks of the block's replicas
 unfoldable pub change_marks_of_block : Holdings → ℕ → (Marks → Marks) → Holdings
-change_marks_of_block H b f = record H { replicas = revise H.replicas (λ q m. if q.block == b then f m else m) }
+change_marks_of_block H b f =
+    record H { replicas = revise H.replicas (λ q m. if q.block == b then f m else m) }
 
 -- The marks of a replica whose block is deleted. Here and in the next two changes, the mark
 -- `ordered` stays.
@@ -140,14 +145,18 @@ as_restamped m = record m { tag = (if is_good m.tag then Stale else m.tag); exce
 
 -- makes a block known; if nothing refuses it, the block has no replica yet
 unfoldable pub add_block : Holdings → ℕ → Stamp → ℕ → Holdings
-add_block H b stamp repl = record H { blocks = insert H.blocks b (record { stamp = stamp; repl = repl }) }
+add_block H b stamp repl =
+    record H { blocks = insert H.blocks b (record { stamp = stamp; repl = repl }) }
 
 -- makes a block unknown and its replicas stray, and drops its transfers
 unfoldable pub delete_block : Holdings → ℕ → Holdings
-delete_block H b = let G = without_pending (change_marks_of_block H b as_stray) b in record G { blocks = remove G.blocks b }
+delete_block H b =
+    let G = without_pending (change_marks_of_block H b as_stray) b in
+    record G { blocks = remove G.blocks b }
 
 unfoldable pub set_replication : Holdings → ℕ → ℕ → Holdings
-set_replication H b repl = record H { blocks = revise_at H.blocks b (λ i. record i { repl = repl }) }
+set_replication H b repl =
+    record H { blocks = revise_at H.blocks b (λ i. record i { repl = repl }) }
 
 -- gives a block another stamp, makes its good replicas stale and none in excess, and drops its
 -- transfers
@@ -173,7 +182,9 @@ without_storages H gone = record H {
 -- A node begins to drain: the transfers to its storages are dropped. Nothing changes if it drains
 -- already.
 unfoldable pub begin_drain : Cluster → Holdings → ℕ → Holdings
-begin_drain C H n = if drains C n then H else record H { pending = without H.pending (λ q. has_storage C n q.storage) }
+begin_drain C H n =
+    if drains C n then H
+    else record H { pending = without H.pending (λ q. has_storage C n q.storage) }
 
 -- the cluster after an event
 unfoldable pub change_cluster : Cluster → Event → Cluster
@@ -201,4 +212,7 @@ change_holdings C H (FullReport s es) = report C H s (expanded es)
 change_holdings C H _ = H
 
 abbrev pub change : State → Event → State
-change M e = record M { cluster = change_cluster M.cluster e; holdings = change_holdings M.cluster M.holdings e }
+change M e = record M {
+  cluster = change_cluster M.cluster e;
+  holdings = change_holdings M.cluster M.holdings e;
+}

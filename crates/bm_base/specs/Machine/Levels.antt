@@ -21,25 +21,43 @@ level_number NoUsableReplica = 4
 abbrev pub level_without_live : ℕ → Level
 level_without_live drained = if drained == 0 then NoUsableReplica else Highest
 
--- How urgent a block is, by the numbers of live replicas, of drained ones, of wanted ones (`repl`),
--- and of racks of the live ones. With enough live replicas it is badly distributed if they share
--- one rack although the cluster has several; else it has no level.
-unfoldable pub level_of : ℕ → ℕ → ℕ → ℕ → Bool → Option Level
-level_of live drained repl racks multi =
-    if nat_le repl live then (if nat_lt 1 repl && (racks == 1) && multi then Some BadlyDistributed else None)
+-- what decides the level of a block
+pub record BlockCounts : Type 0 where
+  -- how many live replicas it has, how many drained ones, and how many are wanted
+  pub live : ℕ
+  pub drained : ℕ
+  pub wanted : ℕ
+  -- on how many racks its live replicas are
+  pub racks : ℕ
+  -- whether the alive nodes are on two racks or more
+  pub multi_rack : Bool
+
+-- How urgent a block is. With enough live replicas it is badly distributed if they share one rack
+-- although the cluster has several; else it has no level.
+unfoldable pub level_of : BlockCounts → Option Level
+level_of k =
+    if nat_le k.wanted k.live
+    then (
+    if nat_lt 1 k.wanted && (k.racks == 1) && k.multi_rack then Some BadlyDistributed else None)
     else Some (
-    if live == 0 then level_without_live drained
-    else if live == 1 then Highest
-    else if nat_lt (live * 3) repl then VeryUnderReplicated
+    if k.live == 0 then level_without_live k.drained
+    else if k.live == 1 then Highest
+    else if nat_lt (k.live * 3) k.wanted then VeryUnderReplicated
     else UnderReplicated)
 
--- the level of a block with this information
-abbrev pub level_by : Cluster → Holdings → ℕ → BlockInfo → Option Level
-level_by C H b i = level_of (length (live C H b)) (length (drained C H b)) i.repl (length (racks C (live C H b))) (is_multi_rack C)
+-- the counts of a block with this information
+abbrev pub counts_of : Cluster → Holdings → ℕ → BlockInfo → BlockCounts
+counts_of C H b i = record {
+  live = length (live C H b);
+  drained = length (drained C H b);
+  wanted = i.repl;
+  racks = length (racks C (live C H b));
+  multi_rack = is_multi_rack C;
+}
 
 -- the level of a known block
 unfoldable pub level : Cluster → Holdings → ℕ → Option Level
-level C H b = option_and_then (level_by C H b) (get H.blocks b)
+level C H b = option_and_then (λ i. level_of (counts_of C H b i)) (get H.blocks b)
 
 -- the levels at which copies are wanted, the most urgent first
 abbrev pub urgent_levels : List Level

@@ -13,7 +13,9 @@ use Rattle.bm_base.specs.Machine.Levels.{level, is_at}
 
 -- all replicas, with their tags
 unfoldable pub all_replicas : Holdings → List Replica
-all_replicas H = map (λ e. record { block = e.0.block; storage = e.0.storage; tag = e.1.tag }) (entries H.replicas)
+all_replicas H =
+    map (λ e. record { block = e.0.block; storage = e.0.storage; tag = e.1.tag })
+    (entries H.replicas)
 
 unfoldable pub replicas_where : (Marks → Bool) → Holdings → List ReplicaId
 replicas_where p H = map (λ e. e.0) (filter (λ e. p e.1) (entries H.replicas))

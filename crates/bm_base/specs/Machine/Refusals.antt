@@ -81,8 +81,8 @@ cluster_checks C (Register n rack ss) =
     (NodeKnown when knows_node C n)
     ∷ (StorageKnown when (has_repeats ss || list_any (knows_storage C) ss))
     ∷ (TooMany when
-      (nat_le C.limits.nodes (len C.nodes)
-      || nat_lt C.limits.storages (len C.storages + length ss)))
+    (nat_le C.limits.nodes (len C.nodes)
+    || nat_lt C.limits.storages (len C.storages + length ss)))
     ∷ []
 cluster_checks C (Dead n) = (UnknownNode when not (knows_node C n)) ∷ []
 cluster_checks C (StorageFailed s) = (UnknownStorage when not (knows_storage C s)) ∷ []
@@ -96,7 +96,10 @@ cluster_checks C (Undrain n) = (UnknownNode when not (knows_node C n)) ∷ []
 cluster_checks C (Received s b stamp) = (UnknownStorage when not (knows_storage C s)) ∷ []
 cluster_checks C (Deleted s b) = (UnknownStorage when not (knows_storage C s)) ∷ []
 cluster_checks C (Corrupt s b) = (UnknownStorage when not (knows_storage C s)) ∷ []
-cluster_checks C (FullReport s es) = (UnknownStorage when not (knows_storage C s)) ∷ (TooMany when is_too_long es) ∷ []
+cluster_checks C (FullReport s es) =
+    (UnknownStorage when not (knows_storage C s))
+    ∷ (TooMany when is_too_long es)
+    ∷ []
 cluster_checks C _ = []
 
 -- the checks of an event on the blocks, in their order
@@ -107,8 +110,14 @@ block_checks H (AddBlock b stamp repl) =
     ∷ (BadReplication when is_bad_replication repl)
     ∷ []
 block_checks H (DeleteBlock b) = (UnknownBlock when not (knows_block H b)) ∷ []
-block_checks H (SetReplication b repl) = (UnknownBlock when not (knows_block H b)) ∷ (BadReplication when is_bad_replication repl) ∷ []
-block_checks H (Restamp b stamp) = (UnknownBlock when not (knows_block H b)) ∷ (OldGeneration when is_old H b stamp) ∷ []
+block_checks H (SetReplication b repl) =
+    (UnknownBlock when not (knows_block H b))
+    ∷ (BadReplication when is_bad_replication repl)
+    ∷ []
+block_checks H (Restamp b stamp) =
+    (UnknownBlock when not (knows_block H b))
+    ∷ (OldGeneration when is_old H b stamp)
+    ∷ []
 block_checks H (Corrupt s b) = (UnknownBlock when not (knows_block H b)) ∷ []
 block_checks H _ = []
 
@@ -118,7 +127,10 @@ calls_spent M = first_of ((CallsSpent when nat_le last_number M.calls) ∷ [])
 
 -- the first refusal of an event, `Memory` aside
 unfoldable pub refusal_of : State → Event → Option Refusal
-refusal_of M e = first_of (cluster_checks M.cluster e) before first_of (block_checks M.holdings e) before calls_spent M
+refusal_of M e =
+    first_of (cluster_checks M.cluster e)
+    before first_of (block_checks M.holdings e)
+    before calls_spent M
 
 -- the refusal of a round
 unfoldable pub round_refusal : State → Option Refusal

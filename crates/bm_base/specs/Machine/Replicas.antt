@@ -67,7 +67,9 @@ are_siblings C s t = not (t == s) && share_node C s t
 
 -- the storages of the block's replicas that pass a test of storage and marks, ascending
 unfoldable pub storages_where : (ℕ → Marks → Bool) → Holdings → ℕ → List ℕ
-storages_where p H b = map (λ e. e.0.storage) (filter (λ e. (e.0.block == b) && p e.0.storage e.1) (entries H.replicas))
+storages_where p H b =
+    map (λ e. e.0.storage)
+    (filter (λ e. (e.0.block == b) && p e.0.storage e.1) (entries H.replicas))
 
 -- whether a replica on storage s with these marks is live: usable, on a node that does not drain
 abbrev pub is_live_on : Cluster → ℕ → Marks → Bool

@@ -47,7 +47,8 @@ excess_cmp C candidates s t =
 abbrev pub excess_among : Cluster → ℕ → List ℕ → List ℕ
 excess_among C zero candidates = []
 excess_among C (suc k) candidates =
-    option_map_or (λ x. x ∷ excess_among C k (filter (λ s. not (s == x)) candidates)) (least (excess_cmp C candidates) candidates) []
+    option_map_or (λ x. x ∷ excess_among C k (filter (λ s. not (s == x)) candidates))
+    (least (excess_cmp C candidates) candidates) []
 
 -- the surplus of a block's live replicas, if `repl` are wanted
 unfoldable pub excess_of : Cluster → List ℕ → ℕ → List ℕ
@@ -59,7 +60,8 @@ excess_in C H b = option_map_or (λ i. excess_of C (live C H b) i.repl) (get H.b
 
 -- the marks of a replica, in excess if it is in its block's surplus
 abbrev pub mark_if_surplus : Cluster → Holdings → ReplicaId → Marks → Marks
-mark_if_surplus C H q m = if has (excess_in C H q.block) q.storage then record m { excess = true } else m
+mark_if_surplus C H q m =
+    if has (excess_in C H q.block) q.storage then record m { excess = true } else m
 
 -- marks the surplus live replicas as excess
 unfoldable pub with_surplus_marked : Cluster → Holdings → Holdings
@@ -68,8 +70,12 @@ with_surplus_marked C H = record H { replicas = revise H.replicas (mark_if_surpl
 -- the state as its next round begins: the round number is one greater, and expired transfers have
 -- left
 unfoldable pub state_after_expiry : State → State
-state_after_expiry M = let r = M.round + 1 in record M { round = r; holdings = without_expired M.limits.pend r M.holdings }
+state_after_expiry M =
+    let r = M.round + 1 in
+    record M { round = r; holdings = without_expired M.limits.pend r M.holdings }
 
 -- as `state_after_expiry`, with the replicas in excess marked again from scratch
 unfoldable pub state_at_choice : State → State
-state_at_choice M = let N = state_after_expiry M in record N { holdings = with_surplus_marked N.cluster (without_unordered_excess N.holdings) }
+state_at_choice M =
+    let N = state_after_expiry M in
+    record N { holdings = with_surplus_marked N.cluster (without_unordered_excess N.holdings) }

@@ -41,7 +41,10 @@ requested_count C H _ repl b = repl - (length (live C H b) + length (pending_tar
 unfoldable pub wishes_for : Cluster → Holdings → Level → ℕ → List RequestedCopy
 wishes_for C H urgency b =
     if is_at urgency (level C H b)
-    then option_map_or (λ i. replicate (requested_count C H urgency i.repl b) (record { urgency = urgency; block = b })) (get H.blocks b) []
+    then option_map_or
+    (λ i.
+    replicate (requested_count C H urgency i.repl b) (record { urgency = urgency; block = b }))
+    (get H.blocks b) []
     else []
 
 -- all wishes, by level and then by block
@@ -87,7 +90,9 @@ source_cmp C streams s t =
 -- whose node may send one more. `streams` has for each storage the number of transfers that its
 -- node sends already.
 unfoldable pub least_source_by : Cluster → (ℕ → ℕ) → Level → List ℕ → Option ℕ
-least_source_by C streams urgency usable = least (source_cmp C streams) (filter (λ s. nat_lt (streams s) (stream_limit urgency (is_draining C s))) usable)
+least_source_by C streams urgency usable =
+    least (source_cmp C streams)
+    (filter (λ s. nat_lt (streams s) (stream_limit urgency (is_draining C s))) usable)
 
 -- as `least_source_by`, by the transfers that were chosen
 unfoldable pub least_source : Cluster → List Transfer → Level → List ℕ → Option ℕ
@@ -104,7 +109,8 @@ holders_of C H chosen b = live C H b ++ pending_targets H b ++ targets_of chosen
 -- the storages whose nodes are excluded as targets of the block: those of its replicas of any tag,
 -- its pending transfers and its chosen targets
 unfoldable pub excluded_for : Holdings → List Transfer → ℕ → List ℕ
-excluded_for H chosen b = storages_where (λ _ _. true) H b ++ pending_targets H b ++ targets_of chosen b
+excluded_for H chosen b =
+    storages_where (λ _ _. true) H b ++ pending_targets H b ++ targets_of chosen b
 
 unfoldable pub is_on_racks : Cluster → List ℕ → ℕ → Bool
 is_on_racks C rs s = has_some (rack_of C s) (has rs)
@@ -135,53 +141,84 @@ target_cmp C sent holders s t =
 unfoldable pub is_excluded : Cluster → List ℕ → ℕ → Bool
 is_excluded C excluded s = list_any (λ t. share_node C t s) excluded
 
+-- what decides the target of a copy
+pub record TargetRequest : Type 0 where
+  -- the level of the copy
+  pub urgency : Level
+  -- the storages that hold a live replica of its block or will hold one
+  pub holders : List ℕ
+  -- the storages whose nodes are excluded
+  pub excluded : List ℕ
+  -- the length of its block
+  pub len : ℕ
+
 -- whether a block is badly distributed, all its holders are on one rack, and s is on that rack too
-abbrev pub would_stay_on_one_rack : Cluster → Level → List ℕ → ℕ → Bool
-would_stay_on_one_rack C urgency holders s = is_at BadlyDistributed (Some urgency) && are_on_one_rack C holders && (class_of C holders s == 1)
+abbrev pub would_stay_on_one_rack : Cluster → TargetRequest → ℕ → Bool
+would_stay_on_one_rack C r s =
+    is_at BadlyDistributed (Some r.urgency)
+    && are_on_one_rack C r.holders
+    && (class_of C r.holders s == 1)
 
 -- A storage may be the target if the length fits with what is scheduled to it, and its node neither
 -- drains nor is excluded. A badly distributed block that is held on one rack must get to another
--- one.
-unfoldable pub is_target : Cluster → (ℕ → ℕ) → Level → List ℕ → List ℕ → ℕ → ℕ → Bool
-is_target C sent urgency holders excluded len s =
-    nat_le (len + sent s) (remaining C s)
+-- one. `sent` has for each storage the bytes that are scheduled to it.
+unfoldable pub is_target : Cluster → (ℕ → ℕ) → TargetRequest → ℕ → Bool
+is_target C sent r s =
+    nat_le (r.len + sent s) (remaining C s)
     && not (is_draining C s)
-    && not (is_excluded C excluded s)
-    && not (would_stay_on_one_rack C urgency holders s)
+    && not (is_excluded C r.excluded s)
+    && not (would_stay_on_one_rack C r s)
 
--- The target at this level of a block of this length. `sent` has for each storage the bytes that
--- are scheduled to it.
-unfoldable pub least_target_by : Cluster → (ℕ → ℕ) → Level → List ℕ → List ℕ → ℕ → Option ℕ
-least_target_by C sent urgency holders excluded len = least (target_cmp C sent holders) (filter (is_target C sent urgency holders excluded len) (keys C.storages))
+-- the target of a requested copy
+unfoldable pub least_target_by : Cluster → (ℕ → ℕ) → TargetRequest → Option ℕ
+least_target_by C sent r =
+    least (target_cmp C sent r.holders) (filter (is_target C sent r) (keys C.storages))
 
 -- as `least_target_by`, by the transfers that were chosen
-unfoldable pub least_target : Cluster → List Transfer → Level → List ℕ → List ℕ → ℕ → Option ℕ
-least_target C chosen urgency holders excluded len = least_target_by C (scheduled_to chosen) urgency holders excluded len
+unfoldable pub least_target : Cluster → List Transfer → TargetRequest → Option ℕ
+least_target C chosen r = least_target_by C (scheduled_to chosen) r
 
 -- whether a round is full: it has the greatest number of transfers
 abbrev pub has_all_transfers : RoundLimits → Cluster → List Transfer → Bool
 has_all_transfers limits C chosen = nat_le (limits.work * len C.nodes) (length chosen)
 
+-- the request for the target of a wish, whose block has this information
+abbrev pub target_request :
+    Cluster → Holdings → List Transfer → RequestedCopy → BlockInfo → TargetRequest
+target_request C H chosen w i = record {
+  urgency = w.urgency;
+  holders = holders_of C H chosen w.block;
+  excluded = excluded_for H chosen w.block;
+  len = i.stamp.len;
+}
+
 -- the transfer for a wish from this source: none without a target
-abbrev pub transfer_from : Cluster → Holdings → List Transfer → RequestedCopy → BlockInfo → ℕ → Option Transfer
+abbrev pub transfer_from :
+    Cluster → Holdings → List Transfer → RequestedCopy → BlockInfo → ℕ → Option Transfer
 transfer_from C H chosen w i s =
     option_map (λ t. record { block = w.block; stamp = i.stamp; source = s; target = t })
-    (least_target C chosen w.urgency (holders_of C H chosen w.block) (excluded_for H chosen w.block) i.stamp.len)
+    (least_target C chosen (target_request C H chosen w i))
 
 -- the transfer for a wish whose block is known: none without a source or a target
-abbrev pub transfer_of : Cluster → Holdings → List Transfer → RequestedCopy → BlockInfo → Option Transfer
-transfer_of C H chosen w i = option_and_then (transfer_from C H chosen w i) (least_source C chosen w.urgency (sources_of C H w.block))
+abbrev pub transfer_of :
+    Cluster → Holdings → List Transfer → RequestedCopy → BlockInfo → Option Transfer
+transfer_of C H chosen w i =
+    option_and_then (transfer_from C H chosen w i)
+    (least_source C chosen w.urgency (sources_of C H w.block))
 
 -- the transfer for a wish: none either if the round is full
-unfoldable pub transfer_for : RoundLimits → Cluster → Holdings → List Transfer → RequestedCopy → Option Transfer
+unfoldable pub transfer_for :
+    RoundLimits → Cluster → Holdings → List Transfer → RequestedCopy → Option Transfer
 transfer_for limits C H chosen w =
     if has_all_transfers limits C chosen then None
     else option_and_then (transfer_of C H chosen w) (get H.blocks w.block)
 
 -- the transfers chosen wish by wish, appended to those of chosen
-abbrev pub transfers_from : RoundLimits → Cluster → Holdings → List Transfer → List RequestedCopy → List Transfer
+abbrev pub transfers_from :
+    RoundLimits → Cluster → Holdings → List Transfer → List RequestedCopy → List Transfer
 transfers_from limits C H chosen [] = chosen
-transfers_from limits C H chosen (w ∷ ws) = transfers_from limits C H (chosen ++ option_to_list (transfer_for limits C H chosen w)) ws
+transfers_from limits C H chosen (w ∷ ws) =
+    transfers_from limits C H (chosen ++ option_to_list (transfer_for limits C H chosen w)) ws
 
 -- all transfers of a round
 unfoldable pub transfers : RoundLimits → Cluster → Holdings → List Transfer

@@ -11,6 +11,9 @@ use Rattle.bm_base.specs.Machine.Calls.{state_after}
 abbrev pub InLawfulStates : (State → Type 0) → Type 0
 InLawfulStates P = (M : State) → IsLawful M → P M
 
--- P holds in all states that calls lead to, whatever the limits, and whatever numbers the calls bring
+-- P holds in all states that calls lead to, whatever the limits, and whatever numbers the calls
+-- bring
 abbrev pub AfterAllCalls : (State → Type 0) → Type 0
-AfterAllCalls P = (l : Limits) (config : Config) (ks : List Call) → P (state_after (first_state_within l config) ks)
+AfterAllCalls P =
+    (l : Limits) (config : Config) (ks : List Call)
+    → P (state_after (first_state_within l config) ks)

@@ -21,7 +21,7 @@ returns-in_default-info-clause-settled c =
 
 pub returns-then-count-clause-level : goal.returns-then-count-clause-level
 returns-then-count-clause-level c =
-    c.level_of.ensures ∙ ap (λ n. level_of c.count-count.result.live c.count-count.result.drained c.in-Some-info.info.repl n c.args.cluster_after.now.multi) c.racks.ensures
+    c.level_of.ensures ∙ ap (λ n. level_of (record { live = c.count-count.result.live; drained = c.count-count.result.drained; wanted = c.in-Some-info.info.repl; racks = n; multi_rack = c.args.cluster_after.now.multi })) c.racks.ensures
     ∙ level_classified (rack_after c.args.cluster_after.now) (drains_after c.args.cluster_after.now) c.args.cluster_after.now.multi (block_at c.args.arena.now c.args.slot) c.in-Some.triplets.now c.in-Some-info.info c.count-count.result (ap Some (sym c.in-Some-info.is) ∙ c.in-Some.ensures.info) c.in-Some.ensures.replicas
     c.count-count.ensures
 
@@ -33,7 +33,7 @@ returns-then-count-clause-settled c =
 
 pub returns-else-count-clause-level : goal.returns-else-count-clause-level
 returns-else-count-clause-level c =
-    c.level_of.ensures ∙ ap (λ n. level_of c.count-count.result.live c.count-count.result.drained c.in-Some-info.info.repl n c.args.cluster_after.now.multi) c.racks.ensures
+    c.level_of.ensures ∙ ap (λ n. level_of (record { live = c.count-count.result.live; drained = c.count-count.result.drained; wanted = c.in-Some-info.info.repl; racks = n; multi_rack = c.args.cluster_after.now.multi })) c.racks.ensures
     ∙ level_classified (rack_after c.args.cluster_after.now) (drains_after c.args.cluster_after.now) c.args.cluster_after.now.multi (block_at c.args.arena.now c.args.slot) c.in-Some.triplets.now c.in-Some-info.info c.count-count.result (ap Some (sym c.in-Some-info.is) ∙ c.in-Some.ensures.info) c.in-Some.ensures.replicas
     c.count-count.ensures
 

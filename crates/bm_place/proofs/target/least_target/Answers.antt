@@ -18,7 +18,7 @@ returns-clause-found c sent made =
     let C = c.args.topology.now.cluster in
     let held = c.args.held.now in
     let excluded = c.args.excluded.now in
-    let test = is_target C sent c.args.level held excluded c.args.len in
+    let test = is_target C sent (record { urgency = c.args.level; holders = held; excluded = excluded; len = c.args.len }) in
     let chosen = c.least_fitting.ensures sent made in
     let least : IsLeastOf (target_cmp C sent held) test (keys C.storages) c.least_fitting.result =
     subst (IsLeastOf (target_cmp C sent held) test (keys C.storages)) (sym chosen) (least-bears (target_cmp C sent held) (target_cmp_total C sent held) test (keys C.storages)) in

@@ -17,7 +17,7 @@ returns-then-racks-ne1 c =
     let n = length c.args.live.now in
     c.level_of-then-racks-ne1.ensures
     ∙ not_on_one n c.args.drained c.args.repl c.spread_of-racks.result false (is_multi_rack C) (λ e. absurd (omega (arith, c.if-racks-ne1.true, e)))
-    ∙ (λ j. level_of n c.args.drained c.args.repl (c.spread_of-racks.ensures j) (is_multi_rack C))
+    ∙ (λ j. level_of (record { live = n; drained = c.args.drained; wanted = c.args.repl; racks = c.spread_of-racks.ensures j; multi_rack = is_multi_rack C }))
     ∙ level_of-spread n c.args.drained c.args.repl (filter_map (rack_of C) c.args.live.now) (is_multi_rack C)
 
 pub returns : goal.returns
@@ -26,5 +26,5 @@ returns c =
     let C = c.args.topology.now.cluster in
     let n = length c.args.live.now in
     c.level_of-2.ensures
-    ∙ (λ j. level_of n c.args.drained c.args.repl (c.spread_of-racks.ensures j) (c.multi_rack.ensures j))
+    ∙ (λ j. level_of (record { live = n; drained = c.args.drained; wanted = c.args.repl; racks = c.spread_of-racks.ensures j; multi_rack = c.multi_rack.ensures j }))
     ∙ level_of-spread n c.args.drained c.args.repl (filter_map (rack_of C) c.args.live.now) (is_multi_rack C)
