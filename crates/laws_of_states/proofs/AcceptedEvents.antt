@@ -1,5 +1,5 @@
 -- An accepted event whose numbers fit their types keeps a lawful state lawful.
-use Rattle.std.proofs.Common.{◌≡◌, ℕ, ◌<◌, ◌^◌, Bool, true, false, not, Some, None, List, [], map, sym, ap, ◌∙◌}
+use Rattle.std.proofs.Common.{◌≡◌, ℕ, ◌<◌, ◌^◌, Bool, true, false, not, Some, None, List, [], map, refl, sym, ap, ◌∙◌}
 use Rattle.std.specs.Prelude.{◌==◌}
 use Rattle.std.proofs.lemmas.Bool.{not-false}
 use Rattle.bm_base.specs.declared.replica.ReplicaId.{ReplicaId}
@@ -10,7 +10,7 @@ use Rattle.bm_base.specs.declared.event.Entry.{Entry}
 use Rattle.bm_base.specs.declared.event.Event.{Event}
 use Rattle.bm_base.specs.declared.event.Event.TheVariants.{Register, Dead, StorageFailed, Heartbeat, Drain, Undrain, AddBlock, DeleteBlock, SetReplication, Restamp, Received, Deleted, Corrupt, FullReport}
 use Rattle.bm_base.specs.declared.refusal.Refusal.TheVariants.{UnknownStorage, UnknownBlock, BlockKnown, StillStored, BadReplication, TooMany}
-use Rattle.bm_base.specs.Words.{Map, get, keep, revise, revise_at, contains_key, Cluster, Holdings, State, replica_at, by_replica, has_storage, change_cluster, change_holdings, change, add_block, delete_block, set_replication, restamp, make_bad, remove_replica, without_storages, without_pending, change_marks_of_block, enter, report, expanded, first_of, is_too_long, cluster_checks, block_checks, knows_storage, knows_block, is_still_stored, is_bad_replication, refusal_of, after_event}
+use Rattle.bm_base.specs.Words.{Map, get, keep, revise, revise_at, contains_key, Cluster, Holdings, State, replica_at, by_replica, has_storage, change_cluster, change_holdings, change, add_block, delete_block, set_replication, restamp, make_bad, remove_replica, without_storages, without_pending, change_marks_of_block, enter, report, expanded, first_of, is_too_long, cluster_checks, block_checks, knows_storage, knows_block, is_still_stored, is_bad_replication, refusal_of, after_event, register, heartbeat, without_node, without_storage, drain, undrain, are_allowed}
 use Rattle.bm_base.specs.Promises.Lawful.{IsLawful, IsOrderly, IsLawfulHoldings, HasFittingNumbers}
 use Rattle.bm_base.proofs.Options.{there, is_there}
 use Rattle.bm_base.proofs.ForEach.{each_all, each_mapped}
@@ -84,6 +84,24 @@ pending_before C H (Corrupt s b) q r e = e
 
 -- Numbers.
 
+-- an event keeps the limits of the cluster
+pub same_limits : (C : Cluster) (e : Event) → (change_cluster C e).limits ≡ C.limits
+unfolding change_cluster register without_node without_storage heartbeat drain undrain
+same_limits C (Register n rack ss) = refl
+same_limits C (Dead n) = refl
+same_limits C (StorageFailed s) = refl
+same_limits C (Heartbeat n rs) = refl
+same_limits C (Drain n) = refl
+same_limits C (Undrain n) = refl
+same_limits C (AddBlock b stamp repl) = refl
+same_limits C (DeleteBlock b) = refl
+same_limits C (SetReplication b repl) = refl
+same_limits C (Restamp b stamp) = refl
+same_limits C (Received s b stamp) = refl
+same_limits C (Deleted s b) = refl
+same_limits C (Corrupt s b) = refl
+same_limits C (FullReport s es) = refl
+
 abbrev FitsBlock : ℕ → BlockInfo → Type 0
 FitsBlock b i = (b < 2 ^ 64) × (i.stamp.generation < 2 ^ 64) × (i.stamp.len < 2 ^ 64)
 
@@ -136,6 +154,7 @@ fit_change : (M : State) (e : Event) → FitsEvent e → HasFittingNumbers M →
 fit_change M e h F =
     let K = fit_cluster M.cluster e (record { nodes = F.nodes; storages = F.storages }) h in
     record {
+      limits = ap are_allowed (same_limits M.cluster e) ∙ F.limits;
       nodes = K.nodes;
       storages = K.storages;
       blocks = blocks_fit M.cluster M.holdings e h F.blocks;

@@ -1,11 +1,13 @@
--- The first state is lawful if the first numbers of rounds and calls fit 64 bits.
-use Rattle.std.proofs.Common.{◌≡◌, ℕ, true, false, Some, None, is_some, refl, sym, ap, ◌∙◌, arith}
+-- The first state is lawful if its limits are allowed and the first numbers of rounds and calls fit
+-- 64 bits.
+use Rattle.std.proofs.Common.{◌≡◌, ℕ, true, false, Some, None, is_some, IsTrue, refl, sym, ap, ◌∙◌, arith}
 use Rattle.bm_base.specs.declared.config.Config.{Config}
+use Rattle.bm_base.specs.declared.limits.Limits.{Limits}
 use Rattle.bm_base.specs.declared.replica.ReplicaId.{ReplicaId}
 use Rattle.bm_base.specs.declared.replica.Marks.{Marks}
 use Rattle.bm_base.specs.declared.replica.BlockInfo.{BlockInfo}
 use Rattle.bm_base.specs.declared.storage.StorageInfo.{StorageInfo}
-use Rattle.bm_base.specs.Words.{Order, get, len, empty, entries, first_state, empty_cluster, empty_holdings, by_replica, by_number, drains}
+use Rattle.bm_base.specs.Words.{Order, get, len, empty, entries, first_state_within, empty_cluster, empty_holdings, by_replica, by_number, drains, are_allowed}
 use Rattle.bm_base.specs.Promises.Lawful.{IsLawful, IsOrderly}
 use Rattle.bm_base.proofs.MapLaws.{get-empty}
 use Rattle.bm_base.specs.Promises.Fitting.{HasFittingStart}
@@ -21,9 +23,9 @@ module _ (K X : Type 0) (o : Order K) where
   unfolding len entries empty
   len_empty = refl
 
-pub first_orderly : (c : Config) → IsOrderly (first_state c)
+pub first_orderly : (l : Limits) (c : Config) → IsOrderly (first_state_within l c)
 unfolding empty_cluster empty_holdings drains
-first_orderly c = record {
+first_orderly l c = record {
   cluster = record {
     alive = λ s i e. absurd (nothing_there ℕ StorageInfo by_number s i e);
     draining_alive = λ n e. absurd (nothing_known ℕ (Unit {0}) by_number n e);
@@ -42,14 +44,15 @@ first_orderly c = record {
   commanded = λ p r e. absurd (nothing_there ReplicaId ℕ by_replica p r e);
 }
 
-pub first_lawful : (c : Config) → HasFittingStart c → IsLawful (first_state c)
+pub first_lawful : (l : Limits) (c : Config) → IsTrue (are_allowed l) → HasFittingStart c → IsLawful (first_state_within l c)
 unfolding empty_cluster empty_holdings
-first_lawful c h =
-    let O = first_orderly c in
+first_lawful l c allowed h =
+    let O = first_orderly l c in
     record {
       cluster = O.cluster;
       holdings = O.holdings;
       numbers = record {
+        limits = allowed;
         nodes = λ n rack e. absurd (nothing_there ℕ ℕ by_number n rack e);
         storages = λ s i e. absurd (nothing_there ℕ StorageInfo by_number s i e);
         blocks = λ b i e. absurd (nothing_there ℕ BlockInfo by_number b i e);

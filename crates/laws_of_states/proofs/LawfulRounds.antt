@@ -156,6 +156,7 @@ known_thrice m f g h q = known_revised (revise (revise m f) g) h q ∙ known_rev
 round_numbers : (M : State) → HasFittingNumbers M → M.round < last_number → HasFittingNumbers (whole_round M).1
 unfolding whole_round state_at_choice state_after_expiry with_surplus_marked without_unordered_excess without_expired end_round
 round_numbers M F lt = record {
+  limits = F.limits;
   nodes = F.nodes;
   storages = F.storages;
   blocks = F.blocks;
@@ -173,7 +174,7 @@ pub counted_lawful : (M : State) → IsLawful M → M.calls < last_number → Is
 counted_lawful M L lt = record {
   cluster = L.cluster;
   holdings = L.holdings;
-  numbers = record { nodes = L.numbers.nodes; storages = L.numbers.storages; blocks = L.numbers.blocks; replicas = L.numbers.replicas; round = L.numbers.round; calls = omega arith };
+  numbers = record { limits = L.numbers.limits; nodes = L.numbers.nodes; storages = L.numbers.storages; blocks = L.numbers.blocks; replicas = L.numbers.replicas; round = L.numbers.round; calls = omega arith };
   commanded = L.commanded;
 }
 

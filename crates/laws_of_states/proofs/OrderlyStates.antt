@@ -1,11 +1,12 @@
--- Calls lead to orderly states, whatever numbers they bring.
+-- Calls lead to orderly states, whatever the limits, and whatever numbers they bring.
 use Rattle.std.proofs.Common.{◌≡◌, Option, Some, None, List, [], ◌∷◌, refl}
 use Rattle.bm_base.specs.declared.config.Config.{Config}
+use Rattle.bm_base.specs.declared.limits.Limits.{Limits}
 use Rattle.bm_base.specs.declared.refusal.Refusal.{Refusal}
 use Rattle.bm_base.specs.declared.call.Call.{Call}
 use Rattle.bm_base.specs.declared.call.Call.TheVariants as call
 use Rattle.bm_base.specs.declared.call.Answer.{Answer}
-use Rattle.bm_base.specs.Words.{State, first_state, refusal_of, round_refusal, node_refusal, storage_refusal, block_refusal, whole_round, step, refused_or, count_call, state_after}
+use Rattle.bm_base.specs.Words.{State, first_state_within, refusal_of, round_refusal, node_refusal, storage_refusal, block_refusal, whole_round, step, refused_or, count_call, state_after}
 use Rattle.bm_base.specs.Promises.Lawful.{IsOrderly}
 use Rattle.laws_of_states.proofs.FirstState.{first_orderly}
 use Rattle.laws_of_states.proofs.LawfulRounds.{round_orderly}
@@ -38,5 +39,5 @@ orderly_after : (M : State) (ks : List Call) → IsOrderly M → IsOrderly (stat
 orderly_after M [] L = L
 orderly_after M (k ∷ ks) L = orderly_after (step M k).1 ks (step_orderly M k L)
 
-pub calls_orderly : (c : Config) (ks : List Call) → IsOrderly (state_after (first_state c) ks)
-calls_orderly c ks = orderly_after (first_state c) ks (first_orderly c)
+pub calls_orderly : (l : Limits) (c : Config) (ks : List Call) → IsOrderly (state_after (first_state_within l c) ks)
+calls_orderly l c ks = orderly_after (first_state_within l c) ks (first_orderly l c)
