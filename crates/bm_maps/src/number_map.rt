@@ -8,7 +8,7 @@ ghost use Rattle.bm_maps.specs.KeyIndex.{key_index, IsWithin};
 ghost use Rattle.bm_base.specs.Maps.Map as map;
 ghost use Rattle.std.specs.FinMap as list;
 
-use crate::sorted_entries::{find_at, index_between, put, replace, reserve};
+use crate::sorted_entries::{find_at, index_between, put, replace, reserve, reserve_exact};
 use std::alloc::{AllocError, Global};
 use std::cmp::Ordering;
 use std::marker::Model;
@@ -58,6 +58,13 @@ impl<V: Copy> NumberMap<V> {
         self.entries.len()
     }
 
+    /// How many entries there can be without further memory.
+    pub fn capacity(&self) -> usize
+        ensures { result ≡ capacity self.now }
+    {
+        self.entries.capacity()
+    }
+
     /// The value at a key, if the map has the key.
     pub fn get(&self, key: u64) -> Option<V>
         ensures { result ≡ map.get self.now.map key }
@@ -105,6 +112,19 @@ impl<V: Copy> NumberMap<V> {
         ensures err_spare { OnErr result (self.new.spare ≡ self.old.spare) }
     {
         reserve(&mut self.entries, additional)
+    }
+
+    /// As `reserve`, but never reserves more than `additional`.
+    pub fn reserve_exact(&mut self, additional: usize) -> Result<(), AllocError>
+        ensures spare { OnOk result (additional ≤ self.new.spare) }
+        ensures succeeds { additional ≤ self.old.spare → IsOk result }
+        ensures kept { self.old.spare ≤ self.new.spare }
+        ensures no_more { self.old.spare ≤ additional → self.new.spare ≤ additional }
+        ensures same { self.new.map ≡ self.old.map }
+        ensures enough { additional ≤ self.old.spare → self.new.spare ≡ self.old.spare }
+        ensures err_spare { OnErr result (self.new.spare ≡ self.old.spare) }
+    {
+        reserve_exact(&mut self.entries, additional)
     }
 
     /// Inserts into reserved capacity. Takes no memory.

@@ -76,6 +76,28 @@ pub(crate) fn reserve<K: Copy, V: Copy>(
     entries.reserve(additional)
 }
 
+/// As `reserve`, but never reserves more than `additional`.
+pub(crate) fn reserve_exact<K: Copy, V: Copy>(
+    entries: &mut Vec<(K, V)>,
+    additional: usize,
+) -> Result<(), AllocError>
+    ensures ok { OnOk result (vec_len entries.new + additional ≤ vec_capacity entries.new) }
+    ensures succeeds { vec_len entries.old + additional ≤ vec_capacity entries.old → IsOk result }
+    ensures enough { vec_len entries.old + additional ≤ vec_capacity entries.old →
+        vec_capacity entries.new ≡ vec_capacity entries.old }
+    ensures exact { vec_capacity entries.old ≤ vec_len entries.old + additional →
+        vec_capacity entries.new ≤ vec_len entries.old + additional }
+    ensures items { entries.new.items ≡ entries.old.items }
+    ensures len { vec_len entries.new ≡ vec_len entries.old }
+    ensures capacity { vec_capacity entries.old ≤ vec_capacity entries.new }
+    ensures err { OnErr result (vec_capacity entries.new ≡ vec_capacity entries.old) }
+{
+    if additional <= entries.capacity() - entries.len() {
+        return Ok(());
+    }
+    entries.reserve_exact(additional)
+}
+
 /// Sets the value at a key with this index. Takes memory only for a new key without spare capacity;
 /// an `Err` changes nothing.
 pub(crate) fn put<K: Ord + Copy, V: Copy>(
