@@ -101,10 +101,10 @@ unfolding after_event change_cluster change_holdings drain begin_drain drains
 drained_again M n there =
     let d : insert M.cluster.draining n tt ≡ M.cluster.draining = put_again M.cluster.draining n there in
     let H : (if drains M.cluster n then M.holdings else fewer_sent M.cluster M.holdings n) ≡ M.holdings = ap (λ b. if b then M.holdings else fewer_sent M.cluster M.holdings n) there in
-    λ i. count_call (record M { cluster = record { nodes = M.cluster.nodes; draining = d i; storages = M.cluster.storages }; holdings = H i })
+    λ i. count_call (record M { cluster = record M.cluster { draining = d i }; holdings = H i })
 
 pub undrained_idly : law.idle_undrain_changes_nothing
 unfolding after_event change_cluster change_holdings undrain drains
 undrained_idly M n none =
     let d : remove M.cluster.draining n ≡ M.cluster.draining = not_taken_out M.cluster.draining n none in
-    λ i. count_call (record M { cluster = record { nodes = M.cluster.nodes; draining = d i; storages = M.cluster.storages } })
+    λ i. count_call (record M { cluster = record M.cluster { draining = d i } })

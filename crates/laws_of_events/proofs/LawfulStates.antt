@@ -1,11 +1,12 @@
 -- Calls lead to lawful states if all numbers fit their types, even where memory runs out.
-use Rattle.std.proofs.Common.{◌≡◌, Bool, true, false, if◌then◌else◌, Option, Some, None, List, [], ◌∷◌, refl}
+use Rattle.std.proofs.Common.{◌≡◌, Bool, true, false, IsTrue, if◌then◌else◌, Option, Some, None, List, [], ◌∷◌, refl}
 use Rattle.bm_base.specs.declared.config.Config.{Config}
+use Rattle.bm_base.specs.declared.limits.Limits.{Limits}
 use Rattle.bm_base.specs.declared.refusal.Refusal.{Refusal}
 use Rattle.bm_base.specs.declared.call.Call.{Call}
 use Rattle.bm_base.specs.declared.call.Call.TheVariants as call
 use Rattle.bm_base.specs.declared.call.Answer.{Answer}
-use Rattle.bm_base.specs.Words.{State, first_state, refusal_of, round_refusal, node_refusal, storage_refusal, block_refusal, step, refused_or, state_after, is_refused, is_out_of_memory, state_after_answer, MayAnswerAll, state_after_answers}
+use Rattle.bm_base.specs.Words.{State, first_state_within, are_allowed, refusal_of, round_refusal, node_refusal, storage_refusal, block_refusal, step, refused_or, state_after, is_refused, is_out_of_memory, state_after_answer, MayAnswerAll, state_after_answers}
 use Rattle.bm_base.specs.Promises.Lawful.{IsLawful, IsOrderly}
 use Rattle.bm_base.specs.Promises.Fitting.{HasFittingStart, FitsCall, FitCalls}
 use Rattle.bm_base.proofs.ForEach.{Each, each_all}
@@ -52,8 +53,8 @@ lawful_after : (M : State) (ks : List Call) → IsLawful M → Each FitsCall ks 
 lawful_after M [] L h = L
 lawful_after M (k ∷ ks) L h = lawful_after (step M k).1 ks (step_lawful M k L h.0) h.1
 
-pub lawful_from_first : (c : Config) (ks : List Call) → HasFittingStart c → FitCalls ks → IsLawful (state_after (first_state c) ks)
-lawful_from_first c ks start h = lawful_after (first_state c) ks (first_lawful c start) (each_all FitsCall ks h)
+pub lawful_from_first : (l : Limits) (c : Config) (ks : List Call) → IsTrue (are_allowed l) → HasFittingStart c → FitCalls ks → IsLawful (state_after (first_state_within l c) ks)
+lawful_from_first l c ks allowed start h = lawful_after (first_state_within l c) ks (first_lawful l c allowed start) (each_all FitsCall ks h)
 
 either_state : (P : State → Type 0) (b : Bool) (M N : State) → P M → P N → P (if b then M else N)
 either_state P true M N L K = L
@@ -64,13 +65,14 @@ lawful_left M [] answers L h = L
 lawful_left M (k ∷ ks) [] L h = L
 lawful_left M (k ∷ ks) (a ∷ rest) L h = lawful_left (state_after_answer M k a) ks rest (either_state IsLawful (is_out_of_memory a) M (step M k).1 L (step_lawful M k L h.0)) h.1
 
-pub lawful_left_from_first : (c : Config) (ks : List Call) (answers : List Answer) → HasFittingStart c → FitCalls ks → MayAnswerAll (first_state c) ks answers → IsLawful (state_after_answers (first_state c) ks answers)
-lawful_left_from_first c ks answers start h may = lawful_left (first_state c) ks answers (first_lawful c start) (each_all FitsCall ks h)
+pub lawful_left_from_first : (l : Limits) (c : Config) (ks : List Call) (answers : List Answer) → IsTrue (are_allowed l) → HasFittingStart c → FitCalls ks → MayAnswerAll (first_state_within l c) ks answers
+    → IsLawful (state_after_answers (first_state_within l c) ks answers)
+lawful_left_from_first l c ks answers allowed start h may = lawful_left (first_state_within l c) ks answers (first_lawful l c allowed start) (each_all FitsCall ks h)
 
 orderly_left : (M : State) (ks : List Call) (answers : List Answer) → IsOrderly M → IsOrderly (state_after_answers M ks answers)
 orderly_left M [] answers L = L
 orderly_left M (k ∷ ks) [] L = L
 orderly_left M (k ∷ ks) (a ∷ rest) L = orderly_left (state_after_answer M k a) ks rest (either_state IsOrderly (is_out_of_memory a) M (step M k).1 L (step_orderly M k L))
 
-pub orderly_left_from_first : (c : Config) (ks : List Call) (answers : List Answer) → MayAnswerAll (first_state c) ks answers → IsOrderly (state_after_answers (first_state c) ks answers)
-orderly_left_from_first c ks answers may = orderly_left (first_state c) ks answers (first_orderly c)
+pub orderly_left_from_first : (l : Limits) (c : Config) (ks : List Call) (answers : List Answer) → MayAnswerAll (first_state_within l c) ks answers → IsOrderly (state_after_answers (first_state_within l c) ks answers)
+orderly_left_from_first l c ks answers may = orderly_left (first_state_within l c) ks answers (first_orderly l c)

@@ -27,7 +27,7 @@ pub mod EventCounts
 pub mod BadStays
 -- for report_is_what_is_asked
 pub mod BlocksAfterReport
--- for event_is_counted, query_leaves_state, round_is_counted
+-- for call_leaves_cluster_limits, event_is_counted, query_leaves_state, round_is_counted
 pub mod StatesAfterCalls
 -- for transfers_are_still_to_come
 pub mod PendingTargets

@@ -10,6 +10,7 @@ use Rattle.bm_base.specs.declared.replica.Level.{Level}
 use Rattle.bm_base.specs.declared.commands.Transfer.{Transfer}
 use Rattle.bm_base.specs.declared.commands.Delete.{Delete}
 use Rattle.bm_base.specs.declared.config.Config.{Config}
+use Rattle.bm_base.specs.declared.limits.Limits.{Limits}
 use Rattle.bm_base.specs.declared.event.Remaining.{Remaining}
 use Rattle.bm_base.specs.declared.event.Event.{Event}
 use Rattle.bm_base.specs.declared.event.Event.TheVariants.{Register, Dead, StorageFailed, Heartbeat, Drain, Undrain}
@@ -17,7 +18,7 @@ use Rattle.bm_base.specs.declared.refusal.Refusal.{Refusal}
 use Rattle.bm_base.specs.declared.call.Call.{Call}
 use Rattle.bm_base.specs.declared.call.Call.TheVariants as call
 use Rattle.bm_base.specs.declared.call.Answer.{Answer}
-use Rattle.bm_base.specs.Words.{Set, by_number, get, keep, remove, contains_key, keys, len, RoundLimits, Cluster, Holdings, State, by_replica, first_state, empty_holdings, has, node_of, has_storage, drains, is_draining, sources_of, register, heartbeat, without_node, without_storage, drain, undrain, begin_drain, change_cluster, change_holdings, without_expired, without_unordered_excess, with_surplus_marked, state_after_expiry, state_at_choice, RequestedCopy, holders_of, excluded_for, is_target, target_cmp, least_target_by, least_target, scheduled_to, least_source, transfer_for, transfers_from, transfers, wishes, deletes, end_round, whole_round, refusal_of, round_refusal, node_refusal, storage_refusal, block_refusal, step, refused_or, after_event, state_after}
+use Rattle.bm_base.specs.Words.{Set, by_number, get, keep, remove, contains_key, keys, len, RoundLimits, Cluster, Holdings, State, by_replica, first_state_within, empty_holdings, has, node_of, has_storage, drains, is_draining, sources_of, register, heartbeat, without_node, without_storage, drain, undrain, begin_drain, change_cluster, change_holdings, without_expired, without_unordered_excess, with_surplus_marked, state_after_expiry, state_at_choice, RequestedCopy, holders_of, excluded_for, is_target, target_cmp, least_target_by, least_target, scheduled_to, least_source, transfer_for, transfers_from, transfers, wishes, deletes, end_round, whole_round, refusal_of, round_refusal, node_refusal, storage_refusal, block_refusal, step, refused_or, after_event, state_after}
 use Rattle.bm_base.proofs.MapLaws.{get-empty}
 use Rattle.bm_base.proofs.Options.{there, is_there, revised}
 use Rattle.bm_base.proofs.ForEach.{Each, each_passing, each_appended, each_optional, least_is_one}
@@ -200,9 +201,9 @@ spares_after : (M : State) (ks : List Call) → SparesIn M → SparesIn (state_a
 spares_after M [] S = S
 spares_after M (k ∷ ks) S = spares_after (step M k).1 ks (step_spares M k S)
 
-first_spares : (c : Config) → SparesIn (first_state c)
+first_spares : (l : Limits) (c : Config) → SparesIn (first_state_within l c)
 unfolding empty_holdings
-first_spares c p is = absurd (true≢false (sym is ∙ ap is_some (get-empty by_replica p)))
+first_spares l c p is = absurd (true≢false (sym is ∙ ap is_some (get-empty by_replica p)))
 
 pub none_sent_there : law.no_transfer_to_draining
-none_sent_there c ks = spares_after (first_state c) ks (first_spares c)
+none_sent_there l c ks = spares_after (first_state_within l c) ks (first_spares l c)

@@ -11,6 +11,7 @@ use Rattle.bm_base.specs.declared.replica.Level.{Level}
 use Rattle.bm_base.specs.declared.commands.Transfer.{Transfer}
 use Rattle.bm_base.specs.declared.commands.Delete.{Delete}
 use Rattle.bm_base.specs.declared.config.Config.{Config}
+use Rattle.bm_base.specs.declared.limits.Limits.{Limits}
 use Rattle.bm_base.specs.declared.event.Entry.{Entry}
 use Rattle.bm_base.specs.declared.event.Event.{Event}
 use Rattle.bm_base.specs.declared.event.Event.TheVariants.{Register, Dead, StorageFailed, Heartbeat, Drain, Undrain, AddBlock, DeleteBlock, SetReplication, Restamp, Received, Deleted, Corrupt, FullReport}
@@ -18,7 +19,7 @@ use Rattle.bm_base.specs.declared.refusal.Refusal.{Refusal}
 use Rattle.bm_base.specs.declared.call.Call.{Call}
 use Rattle.bm_base.specs.declared.call.Call.TheVariants as call
 use Rattle.bm_base.specs.declared.call.Answer.{Answer}
-use Rattle.bm_base.specs.Words.{Map, get, keep, revise, revise_at, remove, contains_key, entries, keys, len, RoundLimits, Cluster, Holdings, State, by_replica, replica_at, first_state, empty_holdings, node_of, has_storage, sources_of, storages_where, expanded, change_holdings, without_storages, add_block, delete_block, set_replication, restamp, make_bad, remove_replica, without_pending, change_marks_of_block, enter, report, replaces, is_named, without_expired, without_unordered_excess, with_surplus_marked, state_after_expiry, state_at_choice, RequestedCopy, pending_targets, targets_of, holders_of, excluded_for, is_excluded, is_target, target_cmp, least_target_by, least_target, scheduled_to, least_source, transfer_for, transfers_from, transfers, wishes, deletes, end_round, whole_round, refusal_of, round_refusal, node_refusal, storage_refusal, block_refusal, step, refused_or, after_event, state_after}
+use Rattle.bm_base.specs.Words.{Map, get, keep, revise, revise_at, remove, contains_key, entries, keys, len, RoundLimits, Cluster, Holdings, State, by_replica, replica_at, first_state_within, empty_holdings, node_of, has_storage, sources_of, storages_where, expanded, change_holdings, without_storages, add_block, delete_block, set_replication, restamp, make_bad, remove_replica, without_pending, change_marks_of_block, enter, report, replaces, is_named, without_expired, without_unordered_excess, with_surplus_marked, state_after_expiry, state_at_choice, RequestedCopy, pending_targets, targets_of, holders_of, excluded_for, is_excluded, is_target, target_cmp, least_target_by, least_target, scheduled_to, least_source, transfer_for, transfers_from, transfers, wishes, deletes, end_round, whole_round, refusal_of, round_refusal, node_refusal, storage_refusal, block_refusal, step, refused_or, after_event, state_after}
 use Rattle.bm_base.proofs.MapLaws.{get-empty}
 use Rattle.bm_base.proofs.Options.{there, is_there}
 use Rattle.bm_base.proofs.ForEach.{Each, each_both, each_filtered, each_passing, each_appended, each_optional, least_is_one}
@@ -240,9 +241,9 @@ coming_after : (M : State) (ks : List Call) → Coming M.holdings → Coming (st
 coming_after M [] C = C
 coming_after M (k ∷ ks) C = coming_after (step M k).1 ks (step_coming M k C)
 
-first_coming : (c : Config) → Coming (first_state c).holdings
+first_coming : (l : Limits) (c : Config) → Coming (first_state_within l c).holdings
 unfolding empty_holdings
-first_coming c p is = get-empty by_replica p
+first_coming l c p is = get-empty by_replica p
 
 pub still_to_come : law.transfers_are_still_to_come
-still_to_come c ks = coming_after (first_state c) ks (first_coming c)
+still_to_come l c ks = coming_after (first_state_within l c) ks (first_coming l c)

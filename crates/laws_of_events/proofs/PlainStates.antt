@@ -1,17 +1,21 @@
 -- Every state after calls on a new manager is sound, in plain words.
-use Rattle.std.proofs.Common.{◌≡◌, ◌≢◌, ℕ, Bool, true, false, not, ◌&&◌, Some, None, is_some, refl, sym, ap, ◌∙◌, eqb-true, eq-eqb, true≢false}
+use Rattle.std.proofs.Common.{◌≡◌, ◌≢◌, ℕ, ◌≤◌, List, Bool, true, false, not, ◌&&◌, Some, None, is_some, refl, sym, ap, subst, ◌∙◌, eqb-true, eq-eqb, true≢false}
 use Rattle.std.specs.Prelude.{◌==◌}
 use Rattle.std.specs.Option.{option_map_or}
 use Rattle.bm_base.specs.declared.replica.ReplicaId.{ReplicaId}
 use Rattle.bm_base.specs.declared.replica.Tag.{Tag}
 use Rattle.bm_base.specs.declared.replica.Tag.TheVariants.{Good, Stale, Bad, Stray}
 use Rattle.bm_base.specs.declared.storage.StorageInfo.{StorageInfo}
-use Rattle.bm_base.specs.Words.{get, contains_key, Cluster, State, first_state, state_after, is_stray, drains, is_draining, node_of, has_storage, are_siblings}
+use Rattle.bm_base.specs.declared.config.Config.{Config}
+use Rattle.bm_base.specs.declared.limits.Limits.{Limits}
+use Rattle.bm_base.specs.declared.call.Call.{Call}
+use Rattle.bm_base.specs.Words.{get, contains_key, len, Cluster, State, first_state_within, empty_cluster, state_after, is_stray, drains, is_draining, node_of, has_storage, are_siblings}
 use Rattle.bm_base.specs.Promises.Lawful.{IsOrderly, IsLawfulCluster}
 use Rattle.bm_base.proofs.Options.{there, not_there}
 use Rattle.bm_base.proofs.Clusters.{node_is, is_on}
 use Rattle.laws_of_states.proofs.OrderlyStates.{calls_orderly}
 use Rattle.laws_of_events.proofs.PendingTargets.{still_to_come}
+use Rattle.laws_of_events.proofs.StatesAfterCalls.{limits_stay}
 use Rattle.laws_of_events.proofs.NoTransferToDraining.{node_off, none_sent_there}
 use Rattle.laws_of_events.proofs.ReportedMarks.{found_good}
 use Rattle.laws_of_events.specs.PlainWords as law
@@ -48,10 +52,10 @@ redone : (a b : Bool) → a ≡ not b → a ≡ false → b ≡ true
 redone a true e h = refl
 redone a false e h = absurd (true≢false (sym e ∙ h))
 
-pub plainly : (M : State) → IsOrderly M → ((p : ReplicaId) → is_some (get M.holdings.pending p) ≡ true → get M.holdings.replicas p ≡ None)
-    → ((p : ReplicaId) → is_some (get M.holdings.pending p) ≡ true → is_draining M.cluster p.storage ≡ false) → law.SoundState M
+pub plainly : (l : Limits) (M : State) → M.cluster.limits ≡ l → IsOrderly M → ((p : ReplicaId) → is_some (get M.holdings.pending p) ≡ true → get M.holdings.replicas p ≡ None)
+    → ((p : ReplicaId) → is_some (get M.holdings.pending p) ≡ true → is_draining M.cluster p.storage ≡ false) → law.SoundState l M
 unfolding drains
-plainly M L coming spares =
+plainly l M limits L coming spares =
     let H = L.holdings in
     record {
       replicas_alive = λ p is. alive_node M.cluster L.cluster p.storage (H.stored p is);
@@ -66,10 +70,14 @@ plainly M L coming spares =
       excess_good = λ p m e h. found_good m.tag (H.excess_is_good p m e h);
       transfers_known = H.pending_known;
       transfers_to_come = coming;
-      nodes = L.cluster.few_nodes;
-      storages = L.cluster.few_storages;
+      nodes = subst (λ k. len M.cluster.nodes ≤ k.nodes) limits L.cluster.few_nodes;
+      storages = subst (λ k. len M.cluster.storages ≤ k.storages) limits L.cluster.few_storages;
       replication = H.replicated;
     }
 
+limits_after : (l : Limits) (c : Config) (ks : List Call) → (state_after (first_state_within l c) ks).cluster.limits ≡ l
+unfolding empty_cluster
+limits_after l c ks = limits_stay (first_state_within l c) ks
+
 pub sound_from_first : law.calls_lead_to_sound
-sound_from_first c ks = plainly (state_after (first_state c) ks) (calls_orderly c ks) (still_to_come c ks) (none_sent_there c ks)
+sound_from_first l c ks = plainly l (state_after (first_state_within l c) ks) (limits_after l c ks) (calls_orderly l c ks) (still_to_come l c ks) (none_sent_there l c ks)

@@ -1,5 +1,6 @@
--- Queries keep the state, accepted events are counted, and rounds keep all replicas and tags.
-use Rattle.std.proofs.Common.{◌≡◌, ℕ, true, false, Option, Some, None, List, refl, ap, ◌∙◌}
+-- Queries keep the state, accepted events are counted, rounds keep all replicas and tags, and no
+-- call changes the limits of the cluster.
+use Rattle.std.proofs.Common.{◌≡◌, ℕ, true, false, Option, Some, None, List, [], ◌∷◌, refl, ap, ◌∙◌}
 use Rattle.std.specs.Prelude.{if◌then◌else◌, option_map}
 use Rattle.bm_base.specs.declared.replica.ReplicaId.{ReplicaId}
 use Rattle.bm_base.specs.declared.replica.Marks.{Marks}
@@ -7,11 +8,14 @@ use Rattle.bm_base.specs.declared.commands.Transfer.{Transfer}
 use Rattle.bm_base.specs.declared.commands.Delete.{Delete}
 use Rattle.bm_base.specs.declared.event.Event.{Event}
 use Rattle.bm_base.specs.declared.refusal.Refusal.{Refusal}
+use Rattle.bm_base.specs.declared.call.Call.{Call}
 use Rattle.bm_base.specs.declared.call.Call.TheVariants as call
 use Rattle.bm_base.specs.declared.call.Answer.{Answer}
-use Rattle.bm_base.specs.Words.{Map, get, revise, Cluster, Holdings, State, by_replica, has, without_expired, without_unordered_excess, excess_in, with_surplus_marked, state_after_expiry, state_at_choice, transfers, deletes, is_commanded, end_round, whole_round, refusal_of, round_refusal, node_refusal, storage_refusal, block_refusal, step, refused_or, after_event, count_call}
+use Rattle.bm_base.specs.Words.{Map, get, revise, Cluster, Holdings, State, by_replica, has, without_expired, without_unordered_excess, excess_in, with_surplus_marked, state_after_expiry, state_at_choice, transfers, deletes, is_commanded, end_round, whole_round, refusal_of, round_refusal, node_refusal, storage_refusal, block_refusal, step, refused_or, after_event, count_call, state_after}
 use Rattle.bm_base.proofs.MapLaws.{get-revise}
 use Rattle.laws_of_states.proofs.LawfulRounds.{cleared_tag, marked_tag, ordered_tag}
+use Rattle.laws_of_states.proofs.AcceptedEvents.{same_limits}
+use Rattle.laws_of_states.proofs.OrderlyStates.{by_refusal}
 use Rattle.laws_of_events.specs.Calls as law
 
 either : (M : State) (o : Option Refusal) (a : Answer) → (refused_or M o (a, M)).1 ≡ M
@@ -89,3 +93,24 @@ next_round M =
 
 pub round_counted : law.round_is_counted
 round_counted M none = rw (round_step M none) (next_round M)
+
+-- The limits of the cluster.
+
+pub limits_left : law.call_leaves_cluster_limits
+unfolding step after_event whole_round state_at_choice state_after_expiry
+limits_left M (call.Apply e) = by_refusal (λ N. N.cluster.limits ≡ M.cluster.limits) M (refusal_of M e) _ refl (λ _. same_limits M.cluster e)
+limits_left M call.Round = by_refusal (λ N. N.cluster.limits ≡ M.cluster.limits) M (round_refusal M) _ refl (λ _. refl)
+limits_left M call.Replicas = refl
+limits_left M call.Corrupt = refl
+limits_left M call.Excess = refl
+limits_left M call.Missing = refl
+limits_left M (call.BlocksOn s) = ap (λ N. N.cluster.limits) (either M (storage_refusal M.cluster s) _)
+limits_left M (call.Places b) = ap (λ N. N.cluster.limits) (either M (block_refusal M.holdings b) _)
+limits_left M (call.LevelOf b) = ap (λ N. N.cluster.limits) (either M (block_refusal M.holdings b) _)
+limits_left M (call.Retired n) = ap (λ N. N.cluster.limits) (either M (node_refusal M.cluster n) _)
+limits_left M call.Calls = refl
+limits_left M call.Rounds = refl
+
+pub limits_stay : (M : State) (ks : List Call) → (state_after M ks).cluster.limits ≡ M.cluster.limits
+limits_stay M [] = refl
+limits_stay M (k ∷ ks) = limits_stay (step M k).1 ks ∙ limits_left M k

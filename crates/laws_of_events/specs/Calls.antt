@@ -35,6 +35,10 @@ pub record IsNextRound (M N : State) : Type 0 where
 abbrev pub round_is_counted : Type 0
 round_is_counted = (M : State) → round_refusal M ≡ None → IsNextRound M (step M call.Round).1
 
+-- no call, refused or not, changes how many nodes and storages the cluster may have
+abbrev pub call_leaves_cluster_limits : Type 0
+call_leaves_cluster_limits = (M : State) (k : Call) → (step M k).1.cluster.limits ≡ M.cluster.limits
+
 -- If memory is limited: a refusal of any kind keeps the state, and any other answer, with the next
 -- state, is the step's.
 

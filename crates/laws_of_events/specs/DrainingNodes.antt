@@ -4,12 +4,13 @@ use Rattle.bm_base.specs.declared.replica.ReplicaId.{ReplicaId}
 use Rattle.bm_base.specs.declared.replica.Tag.TheVariants.{Good}
 use Rattle.bm_base.specs.declared.replica.BlockInfo.{BlockInfo}
 use Rattle.bm_base.specs.declared.config.Config.{Config}
+use Rattle.bm_base.specs.declared.limits.Limits.{Limits}
 use Rattle.bm_base.specs.declared.event.Event.{Event}
 use Rattle.bm_base.specs.declared.event.Event.TheVariants.{Register, Dead, Drain, Undrain}
 use Rattle.bm_base.specs.declared.call.Call.{Call}
 use Rattle.bm_base.specs.declared.call.Call.TheVariants as call
 use Rattle.bm_base.specs.declared.call.Answer.TheVariants as answer
-use Rattle.bm_base.specs.Words.{get, has, Cluster, Holdings, State, replica_at, first_state, live, drains, is_draining, usable, missing_blocks, is_retired, done_by, after_event, count_call, step, state_after}
+use Rattle.bm_base.specs.Words.{get, has, Cluster, Holdings, State, replica_at, first_state_within, live, drains, is_draining, usable, missing_blocks, is_retired, done_by, after_event, count_call, step, state_after}
 use Rattle.laws_of_events.specs.Reports.{held_after}
 use Rattle.laws_of_events.specs.Changes.{cluster_after, IsOn}
 use Rattle.laws_of_events.specs.Queries.{IsHeld}
@@ -80,8 +81,8 @@ idle_undrain_changes_nothing = (M : State) (n : ℕ) → drains M.cluster n ≡ 
 -- after every list of calls, no pending transfer goes to a node that drains
 abbrev pub no_transfer_to_draining : Type 0
 no_transfer_to_draining =
-    (c : Config) (ks : List Call) (p : ReplicaId)
-    → IsSome (get (state_after (first_state c) ks).holdings.pending p) → is_draining (state_after (first_state c) ks).cluster p.storage ≡ false
+    (l : Limits) (c : Config) (ks : List Call) (p : ReplicaId)
+    → IsSome (get (state_after (first_state_within l c) ks).holdings.pending p) → is_draining (state_after (first_state_within l c) ks).cluster p.storage ≡ false
 
 -- Taking a node away.
 

@@ -1,20 +1,22 @@
--- What holds of the state after every list of calls, in terms of the state alone.
+-- What holds of the state after every list of calls, in terms of the state and the
+-- limits of the cluster.
 use Rattle.std.specs.Prelude.{◌≡◌, ◌≢◌, ℕ, ◌≤◌, IsTrue, IsSome, List, Some, None}
 use Rattle.bm_base.specs.declared.config.Config.{Config}
+use Rattle.bm_base.specs.declared.limits.Limits.{Limits}
 use Rattle.bm_base.specs.declared.call.Call.{Call}
 use Rattle.bm_base.specs.declared.replica.ReplicaId.{ReplicaId}
 use Rattle.bm_base.specs.declared.replica.Tag.TheVariants.{Good, Stray}
 use Rattle.bm_base.specs.declared.replica.Marks.{Marks}
 use Rattle.bm_base.specs.declared.replica.BlockInfo.{BlockInfo}
 use Rattle.bm_base.specs.declared.storage.StorageInfo.{StorageInfo}
-use Rattle.bm_base.specs.declared.limits.TheConstants.{MAX_NODES, MAX_STORAGES, MAX_REPLICATION}
-use Rattle.bm_base.specs.Words.{get, len, Cluster, Holdings, State, first_state, state_after}
+use Rattle.bm_base.specs.declared.limits.TheConstants.{MAX_REPLICATION}
+use Rattle.bm_base.specs.Words.{get, len, Cluster, Holdings, State, first_state_within, state_after}
 
 -- the storage exists, on an alive node
 abbrev pub IsOnAliveNode : Cluster → ℕ → Type 0
 IsOnAliveNode C s = (i : StorageInfo) × (rack : ℕ) × (get C.storages s ≡ Some i) × (get C.nodes i.node ≡ Some rack)
 
-pub record IsSound (C : Cluster) (H : Holdings) : Type 0 where
+pub record IsSound (l : Limits) (C : Cluster) (H : Holdings) : Type 0 where
   pub replicas_alive : (p : ReplicaId) → IsSome (get H.replicas p) → IsOnAliveNode C p.storage
   pub transfers_alive : (p : ReplicaId) → IsSome (get H.pending p) → IsOnAliveNode C p.storage
   -- a node that drains is alive, and no pending transfer goes to it
@@ -28,12 +30,12 @@ pub record IsSound (C : Cluster) (H : Holdings) : Type 0 where
   pub transfers_known : (p : ReplicaId) → IsSome (get H.pending p) → IsSome (get H.blocks p.block)
   -- the target of a pending transfer has no replica of the block yet
   pub transfers_to_come : (p : ReplicaId) → IsSome (get H.pending p) → get H.replicas p ≡ None
-  pub nodes : len C.nodes ≤ MAX_NODES
-  pub storages : len C.storages ≤ MAX_STORAGES
+  pub nodes : len C.nodes ≤ l.nodes
+  pub storages : len C.storages ≤ l.storages
   pub replication : (b : ℕ) (i : BlockInfo) → get H.blocks b ≡ Some i → (1 ≤ i.repl) × (i.repl ≤ MAX_REPLICATION)
 
-abbrev pub SoundState : State → Type 0
-SoundState M = IsSound M.cluster M.holdings
+abbrev pub SoundState : Limits → State → Type 0
+SoundState l M = IsSound l M.cluster M.holdings
 
 abbrev pub calls_lead_to_sound : Type 0
-calls_lead_to_sound = (c : Config) (ks : List Call) → SoundState (state_after (first_state c) ks)
+calls_lead_to_sound = (l : Limits) (c : Config) (ks : List Call) → SoundState l (state_after (first_state_within l c) ks)

@@ -19,6 +19,12 @@ pub fn round_is_counted()
     ensures { law.round_is_counted }
 {}
 
+/// No event, round or query, refused or not, changes how many nodes and storages the cluster may
+/// have.
+pub fn call_leaves_cluster_limits()
+    ensures { law.call_leaves_cluster_limits }
+{}
+
 /// A refusal keeps the state, whether the step refuses or memory is out.
 pub fn refused_answer_leaves_state()
     ensures { law.refused_answer_leaves_state }

@@ -3,7 +3,8 @@
 
 ghost use Rattle.laws_of_events.specs.LawfulForEver as law;
 
-/// The first state of every configuration whose first numbers fit their types is lawful.
+/// The first state of every configuration whose first numbers fit their types is lawful, within all
+/// allowed limits of the cluster.
 pub fn first_state_is_lawful()
     ensures { law.first_state_is_lawful }
 {}
@@ -30,7 +31,8 @@ pub fn call_keeps_lawful()
     ensures { law.call_keeps_lawful }
 {}
 
-/// Every list of calls whose numbers fit their types leads from the first state to a lawful state.
+/// Every list of calls whose numbers fit their types leads from the first state to a lawful state,
+/// within all allowed limits.
 pub fn calls_lead_to_lawful()
     ensures { law.calls_lead_to_lawful }
 {}
@@ -41,8 +43,8 @@ pub fn answered_calls_lead_to_lawful()
     ensures { law.answered_calls_lead_to_lawful }
 {}
 
-/// Every list of calls, whatever numbers they bring, leads to a state that is lawful but for the
-/// sizes of its numbers.
+/// Every list of calls, whatever numbers they bring, and whatever the limits, leads to a state that
+/// is lawful but for the sizes of its numbers.
 pub fn calls_lead_to_orderly()
     ensures { law.calls_lead_to_orderly }
 {}
