@@ -4,11 +4,12 @@ use Rattle.std.specs.Ordering.{eq_by_cmp}
 use Rattle.std.proofs.Common.{cond, refl, sym, ap, subst, ◌∙◌}
 use Rattle.std.proofs.lemmas.Bool.{false≢true, true≢false, false_from_ne_true}
 use Rattle.bm_base.specs.declared.config.Config.{Config}
+use Rattle.bm_base.specs.declared.limits.Limits.{Limits}
 use Rattle.bm_base.specs.declared.call.Call.{Call}
 use Rattle.bm_base.specs.declared.call.Call.TheVariants as call
 use Rattle.bm_base.specs.declared.event.Event.{Event}
 use Rattle.bm_base.specs.declared.event.Event.TheVariants.{Register, Dead, StorageFailed, Heartbeat, Drain, Undrain, AddBlock, DeleteBlock, SetReplication, Restamp, Received, Deleted, Corrupt, FullReport}
-use Rattle.bm_base.specs.Words.{ReportedBlock, expanded, Map, get, insert, insert_all, keep, revise, revise_at, remove, Cluster, Holdings, State, by_replica, replica_cmp, replica_at, first_state, empty_holdings, is_good, is_stray, is_corrupt, is_usable, is_draining, drains, has_storage, has_enough_live, entered_marks, enter, report, without_pending, change_marks_of_block, as_stray, as_bad, as_restamped, add_block, delete_block, set_replication, restamp, make_bad, remove_replica, without_storages, begin_drain, change_holdings, state_after_expiry, state_at_choice, has, is_deletable, is_commanded, refusal_of, round_refusal, node_refusal, storage_refusal, block_refusal, after_event, refused_or, step, state_after}
+use Rattle.bm_base.specs.Words.{ReportedBlock, expanded, Map, get, insert, insert_all, keep, revise, revise_at, remove, Cluster, Holdings, State, by_replica, replica_cmp, replica_at, first_state_within, empty_holdings, is_good, is_stray, is_corrupt, is_usable, is_draining, drains, has_storage, has_enough_live, entered_marks, enter, report, without_pending, change_marks_of_block, as_stray, as_bad, as_restamped, add_block, delete_block, set_replication, restamp, make_bad, remove_replica, without_storages, begin_drain, change_holdings, state_after_expiry, state_at_choice, has, is_deletable, is_commanded, refusal_of, round_refusal, node_refusal, storage_refusal, block_refusal, after_event, refused_or, step, state_after}
 use Rattle.bm_base.specs.declared.refusal.Refusal.{Refusal}
 use Rattle.bm_base.specs.declared.call.Answer.{Answer}
 use Rattle.bm_base.specs.declared.replica.ReplicaId.{ReplicaId}
@@ -199,12 +200,12 @@ done_calls : (M : State) (ks : List Call) → IsDoneState M → IsDoneState (sta
 done_calls M [] h = h
 done_calls M (k ∷ ks) h = done_calls (step M k).1 ks (done_step M k h)
 
-done_first : (c : Config) → IsDoneState (first_state c)
+done_first : (l : Limits) (c : Config) → IsDoneState (first_state_within l c)
 unfolding empty_holdings
-done_first c q m e = absurd (false≢true (ap is_some (sym (get-empty by_replica q) ∙ e)))
+done_first l c q m e = absurd (false≢true (ap is_some (sym (get-empty by_replica q) ∙ e)))
 
-pub done_reached : (c : Config) (ks : List Call) → IsDoneState (state_after (first_state c) ks)
-done_reached c ks = done_calls (first_state c) ks (done_first c)
+pub done_reached : (l : Limits) (c : Config) (ks : List Call) → IsDoneState (state_after (first_state_within l c) ks)
+done_reached l c ks = done_calls (first_state_within l c) ks (done_first l c)
 
 -- The replica that stays.
 

@@ -2,13 +2,14 @@
 use Rattle.std.specs.Prelude.{◌≡◌, ℕ, ◌≤◌, ◌⊎◌, true, false, List, length, Some}
 use Rattle.std.specs.List.{All}
 use Rattle.bm_base.specs.declared.config.Config.{Config}
+use Rattle.bm_base.specs.declared.limits.Limits.{Limits}
 use Rattle.bm_base.specs.declared.call.Call.{Call}
 use Rattle.bm_base.specs.declared.replica.ReplicaId.{ReplicaId}
 use Rattle.bm_base.specs.declared.replica.Tag.TheVariants.{Good}
 use Rattle.bm_base.specs.declared.replica.Marks.{Marks}
 use Rattle.bm_base.specs.declared.replica.BlockInfo.{BlockInfo}
 use Rattle.bm_base.specs.declared.commands.NodeCommands.{NodeCommands}
-use Rattle.bm_base.specs.Words.{get, State, replica_at, first_state, has, is_usable, is_stray, is_corrupt, node_of, is_draining, state_at_choice, whole_round, state_after}
+use Rattle.bm_base.specs.Words.{get, State, replica_at, first_state_within, has, is_usable, is_stray, is_corrupt, node_of, is_draining, state_at_choice, whole_round, state_after}
 use Rattle.bm_base.specs.Promises.NextRound.{IsAmong, IsDeleteCommanded, after_round, live_marked, live_after, drained_after}
 
 -- The last good replica.
@@ -89,15 +90,15 @@ OnlyTheLimitDefers M =
 -- drained
 abbrev pub OrderedReplicaIsNotUsable : Type 0
 OrderedReplicaIsNotUsable =
-    (config : Config) (ks : List Call) (q : ReplicaId) (m : Marks)
-    → get (state_after (first_state config) ks).holdings.replicas q ≡ Some m → m.ordered ≡ true → is_usable m ≡ false
+    (l : Limits) (config : Config) (ks : List Call) (q : ReplicaId) (m : Marks)
+    → get (state_after (first_state_within l config) ks).holdings.replicas q ≡ Some m → m.ordered ≡ true → is_usable m ≡ false
 
 -- If a round commands the delete of a replica of a known block, a replica of the block remains.
 -- That one is good and not in excess, on a node that does not drain, and no round has commanded its
 -- delete since its last report.
 abbrev pub GoodReplicaIsLeftByAllRounds : Type 0
 GoodReplicaIsLeftByAllRounds =
-    (config : Config) (ks : List Call) (b s : ℕ) (i : BlockInfo)
-    → let M = state_after (first_state config) ks in get M.holdings.blocks b ≡ Some i → IsDeleteCommanded M (replica_at b s)
+    (l : Limits) (config : Config) (ks : List Call) (b s : ℕ) (i : BlockInfo)
+    → let M = state_after (first_state_within l config) ks in get M.holdings.blocks b ≡ Some i → IsDeleteCommanded M (replica_at b s)
     → (t : ℕ) × (m : Marks) × (get (after_round M).holdings.replicas (replica_at b t) ≡ Some m) × (m.tag ≡ Good) × (m.excess ≡ false) × (m.ordered ≡ false)
     × (is_draining M.cluster t ≡ false)

@@ -16,4 +16,4 @@ pub returns-clause-lawful : goal.returns-clause-lawful
 returns-clause-lawful c = λ M L. in_orderly M (orderly M L)
 
 pub returns-clause-reached : goal.returns-clause-reached
-returns-clause-reached c = λ config ks. in_orderly _ (calls_orderly config ks)
+returns-clause-reached c = λ l config ks. in_orderly _ (calls_orderly l config ks)
