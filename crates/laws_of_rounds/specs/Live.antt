@@ -1,8 +1,8 @@
 -- Live and drained replicas: the terms of the other laws.
-use Rattle.std.specs.Prelude.{◌≡◌, ℕ, List, ◌↔◌, true, false, ◌||◌, Some}
+use Rattle.std.specs.Prelude.{◌≡◌, ℕ, ◌↔◌, true, false, ◌||◌, Some}
 use Rattle.bm_base.specs.declared.replica.Tag.TheVariants.{Good}
 use Rattle.bm_base.specs.declared.replica.Marks.{Marks}
-use Rattle.bm_base.specs.Words.{get, Cluster, Holdings, replica_at, has, has_repeats, live, drained, sources_of, is_usable, is_draining, storages_where, usable}
+use Rattle.bm_base.specs.Words.{get, Cluster, Holdings, replica_at, has, has_repeats, live, drained, sources_of, is_draining, usable}
 
 -- a storage is among a block's live ones exactly if its replica of the block is good and not in
 -- excess, and its node does not drain
