@@ -5,4 +5,5 @@ pub mod Keys
 pub mod Sound
 pub mod NewStorages
 pub mod Spots
+pub mod Room
 pub mod ByNode

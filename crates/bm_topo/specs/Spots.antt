@@ -1,7 +1,6 @@
 -- Where storages are, as a table of spots has it.
 use Rattle.std.specs.Prelude.{◌≡◌, ℕ, ◌<◌, ◌≤◌, List, length, Some, slice_get}
 use Rattle.bm_base.specs.Words.{Cluster, node_of, rack_of, is_draining}
-use Rattle.bm_base.specs.declared.limits.TheConstants.{MAX_STORAGES}
 use Rattle.bm_topo.specs.declared.spots.Spot.{Spot}
 
 -- a spot is where its storage is in a cluster
@@ -14,8 +13,7 @@ pub record IsSpot (C : Cluster) (p : Spot) : Type 0 where
 abbrev pub AreSpots : Cluster → List Spot → ℕ → Type 0
 AreSpots C spots n = (k : ℕ) (p : Spot) → k < n → slice_get spots k ≡ Some p → IsSpot C p
 
--- a table with a spot for each possible storage, of which the first n match the cluster
+-- a table of spots, of which the first n match the cluster
 pub record HasSpots (C : Cluster) (spots : List Spot) (n : ℕ) : Type 0 where
-  pub whole : length spots ≡ MAX_STORAGES
-  pub few : n ≤ MAX_STORAGES
+  pub few : n ≤ length spots
   pub each : AreSpots C spots n

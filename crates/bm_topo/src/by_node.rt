@@ -1,34 +1,48 @@
 // The storages of the cluster, sorted by node: so those of one node are adjacent.
-ghost use Rattle.std.specs.Prelude.{◌≡◌, ◌≤◌, ◌<◌, ◌-◌, ◌==◌, true, false, ℕ, length, filter, nat_le, slice_index_or};
+ghost use Rattle.std.specs.Prelude.{◌≡◌, ◌≤◌, ◌<◌, ◌+◌, ◌-◌, ◌==◌, true, false, ℕ, length, insert, filter, nat_le, slice_index_or, vec_len, vec_capacity};
 ghost use Rattle.bm_base.specs.Words.{IsNonDecreasingBy};
 ghost use Rattle.std.specs.List.Sorted.{IsPartitionPoint};
-ghost use Rattle.bm_base.specs.declared.limits.TheConstants.{MAX_STORAGES};
 ghost use Rattle.bm_topo.specs.Keys.{HasSmallKeys};
 ghost use Rattle.bm_topo.specs.ByNode.{node_in, AreAllByNode};
 ghost use Rattle.bm_base.specs.Maps.Map as map;
 
 use crate::index_hints::IndexHints;
-use bm_base::{MAX_STORAGES, NodeId, StorageId, StorageInfo};
-use bm_maps::{ArrayVec, NumberMap};
+use bm_base::{NodeId, StorageId, StorageInfo};
+use bm_maps::NumberMap;
 
-/// Storages sorted by node, those of a node by ascending number. There is capacity for each
-/// possible one, so that a change of the cluster takes no memory for them.
-pub(crate) type StoragesByNode = ArrayVec<StorageId, MAX_STORAGES>;
-
-/// Sets the storages to those of a table, each inserted at its index. Takes no memory.
+/// Sets the storages to those of a table, sorted by node, those of a node by ascending number.
+/// Takes no memory.
 pub(crate) fn sort_by_node(
-    sorted: &mut StoragesByNode,
+    sorted: &mut Vec<StorageId>,
     storages: &NumberMap<StorageInfo>,
     hints: &IndexHints,
 )
-    requires few { map.len storages.now.map ≤ MAX_STORAGES }
+    requires few { map.len storages.now.map ≤ vec_capacity sorted.old }
     requires small { HasSmallKeys storages.now.map }
-    ensures { AreAllByNode storages.now.map sorted.new.items }
+    ensures sorted { AreAllByNode storages.now.map sorted.new.items }
+    ensures no_growth { vec_capacity sorted.new ≡ vec_capacity sorted.old }
 {
     sorted.clear();
     for (number, info) in storages.entries() {
         let index = index_for(sorted.as_slice(), info.node, storages, hints);
-        sorted.insert(index, StorageId(*number as u32));
+        insert_reserved(sorted, index, StorageId(*number as u32));
+    }
+}
+
+/// Inserts a storage at an index, in reserved capacity. At the end nothing moves.
+fn insert_reserved(sorted: &mut Vec<StorageId>, at: usize, storage: StorageId)
+    requires at { at ≤ length sorted.old.items }
+    requires spare { vec_len sorted.old < vec_capacity sorted.old }
+    ensures items { sorted.new.items ≡ insert sorted.old.items at storage }
+    ensures capacity { vec_capacity sorted.new ≡ vec_capacity sorted.old }
+{
+    if at == sorted.len() {
+        sorted.push_reserved(storage);
+        return;
+    }
+    match sorted.insert(at, storage) {
+        Ok(()) => {}
+        Err(_) => unreachable!(),
     }
 }
 

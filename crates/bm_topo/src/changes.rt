@@ -9,10 +9,14 @@ ghost use Rattle.bm_base.specs.Machine.Events as events;
 ghost use Rattle.bm_base.specs.declared.event.Event.TheVariants as event_of;
 
 use crate::by_node::sort_by_node;
+use crate::spots::grow_spots;
 use crate::tables::{add_storages, drop_storages, leave_rack, set_remaining};
 use crate::topology::Topology;
 use bm_base::{Event, NodeId, Rack, Refusal, Remaining, StorageId};
 use std::alloc::AllocError;
+
+/// The least number of nodes for which capacity is reserved.
+const LEAST_GROWTH: usize = 4;
 
 impl Topology {
     /// Reserves the capacity that the event's [`Topology::commit`] needs, after [`Topology::check`]
@@ -49,9 +53,50 @@ impl Topology {
         ensures kept { HasNoLessCapacity self.old.spare self.new.spare }
         ensures same { self.new.cluster ≡ self.old.cluster }
     {
-        self.nodes.reserve(1)?;
-        self.racks.reserve(1)?;
-        self.storages.reserve(storages)
+        self.reserve_node()?;
+        self.reserve_storages(storages)
+    }
+
+    /// Reserves capacity for one node, on any rack. If there is none, it is doubled.
+    fn reserve_node(&mut self) -> Result<(), AllocError>
+        ensures nodes { OnOk result (1 ≤ self.new.spare.nodes) }
+        ensures racks { OnOk result (1 ≤ self.new.spare.racks) }
+        ensures enough { 1 ≤ self.old.spare.nodes → 1 ≤ self.old.spare.racks → IsOk result }
+        ensures nothing_taken { 1 ≤ self.old.spare.nodes → 1 ≤ self.old.spare.racks
+            → self.new ≡ self.old }
+        ensures kept { HasNoLessCapacity self.old.spare self.new.spare }
+        ensures same { self.new.cluster ≡ self.old.cluster }
+        ensures storages { self.new.spare.storages ≡ self.old.spare.storages }
+    {
+        let count = self.nodes.len();
+        if count == self.nodes.capacity() {
+            let additional = count.max(LEAST_GROWTH);
+            self.hints.grow_nodes(count + additional)?;
+            self.nodes.reserve_exact(additional)?;
+        }
+        self.racks.reserve(1)
+    }
+
+    /// Reserves capacity for storages. Without enough, the lists next to their table grow first, so
+    /// that none of them needs memory later. An `Err` changes nothing that a contract sees.
+    fn reserve_storages(&mut self, additional: usize) -> Result<(), AllocError>
+        ensures storages { OnOk result (additional ≤ self.new.spare.storages) }
+        ensures enough { additional ≤ self.old.spare.storages → IsOk result }
+        ensures nothing_taken { additional ≤ self.old.spare.storages → self.new ≡ self.old }
+        ensures kept { HasNoLessCapacity self.old.spare self.new.spare }
+        ensures same { self.new.cluster ≡ self.old.cluster }
+        ensures nodes { self.new.spare.nodes ≡ self.old.spare.nodes }
+        ensures racks { self.new.spare.racks ≡ self.old.spare.racks }
+    {
+        let count = self.storages.len();
+        if additional <= self.storages.capacity() - count {
+            return Ok(());
+        }
+        self.by_node.reserve(additional)?;
+        let room = self.by_node.capacity();
+        grow_spots(&mut self.spots, room)?;
+        self.hints.grow_storages(room)?;
+        self.storages.reserve_exact(room - count)
     }
 
     /// Changes the cluster by an event that no check on the cluster refuses, in the capacity that

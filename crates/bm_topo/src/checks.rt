@@ -1,7 +1,6 @@
 // The checks of an event on the cluster, in their order.
 ghost use Rattle.std.specs.Prelude.{◌≡◌, ◌+◌, ◌-◌, ◌||◌, not, nat_le, nat_lt, length, Some, None, OnOk, if◌then◌else◌};
 ghost use Rattle.bm_base.specs.Words.{list_any, IsNonDecreasing, first_of, cluster_checks, knows_node, knows_storage, is_too_long, run_length, checked};
-ghost use Rattle.bm_base.specs.declared.limits.TheConstants.{MAX_NODES, MAX_STORAGES};
 ghost use Rattle.bm_base.specs.Maps.Map as map;
 ghost use Rattle.bm_base.specs.Maps.Lists as lists;
 ghost use Rattle.bm_base.specs.Machine.Replicas as replicas;
@@ -9,8 +8,7 @@ ghost use Rattle.bm_base.specs.declared.event.Event.TheVariants as event;
 
 use crate::topology::Topology;
 use bm_base::{
-    Entry, Event, MAX_ENTRIES, MAX_NODES, MAX_NUMBERS, MAX_STORAGES, NodeId, Rack, Refusal,
-    Remaining, StorageId,
+    Entry, Event, MAX_ENTRIES, MAX_NUMBERS, NodeId, Rack, Refusal, Remaining, StorageId,
 };
 
 /// In a list up to this length each storage is compared with those after it.
@@ -37,15 +35,16 @@ impl Topology {
         storages.iter().any(|s| self.knows_storage(*s))
     }
 
-    /// Whether one more node with these storages would exceed `MAX_NODES` or `MAX_STORAGES`.
+    /// Whether one more node with these storages would exceed the limits.
     fn is_full(&self, storages: &[StorageId]) -> bool
-        ensures { result ≡ (nat_le MAX_NODES (map.len self.now.cluster.nodes)
-            || nat_lt MAX_STORAGES (map.len self.now.cluster.storages + length storages.now)) }
+        ensures { result ≡ (nat_le self.now.cluster.limits.nodes (map.len self.now.cluster.nodes)
+            || nat_lt self.now.cluster.limits.storages
+            (map.len self.now.cluster.storages + length storages.now)) }
     {
-        if self.nodes.len() >= MAX_NODES {
+        if self.nodes.len() >= self.limits.nodes as usize {
             return true;
         }
-        self.storages.len() as u128 + storages.len() as u128 > MAX_STORAGES as u128
+        self.storages.len() as u128 + storages.len() as u128 > self.limits.storages as u128
     }
 
     fn names_unknown_storage(&self, remaining: &[Remaining]) -> bool

@@ -1,12 +1,7 @@
 // Hints for the indices of storages and nodes in the tables of the cluster: they make a look-up
 // direct, whatever the numbers are. They are only guesses.
 use bm_base::{Rack, StorageInfo};
-
-/// The most hints for storages, and for nodes: two for each possible one. Numbers with the same
-/// hash share a hint.
-const STORAGE_HINTS: usize = 8_192;
-
-const NODE_HINTS: usize = 512;
+use std::alloc::{AllocError, Global};
 
 /// A number is hashed by one of these factors: 2^64 divided by the golden ratio, and the first odd
 /// ones of the round constants of SHA-512.
@@ -37,30 +32,42 @@ struct Hash {
     shift: u32,
 }
 
-/// Hints for the indices of storages, of nodes, and of nodes that drain.
-#[derive(Clone, Copy)]
+/// Hints for the indices of storages, of nodes, and of nodes that drain. Numbers with the same hash
+/// share a hint. For a hash without a hint the guess is index 0.
+#[derive(Drop)]
 pub(crate) struct IndexHints {
     storage_hash: Hash,
     node_hash: Hash,
-    storages: [u16; STORAGE_HINTS],
-    nodes: [u16; NODE_HINTS],
+    storages: Vec<u32>,
+    nodes: Vec<u32>,
     // For each alive node, the hint for its index among the nodes that drain.
-    draining: [u16; NODE_HINTS],
+    draining: Vec<u32>,
 }
 
 impl IndexHints {
-    /// Hints for no storage and no node.
-    pub(crate) fn new() -> IndexHints {
+    /// Hints for no storage and no node. Takes no memory.
+    pub(crate) fn new(alloc: Global) -> IndexHints {
         IndexHints {
             storage_hash: hash_for(0, FACTORS[0]),
             node_hash: hash_for(0, FACTORS[0]),
-            storages: [0; STORAGE_HINTS],
-            nodes: [0; NODE_HINTS],
-            draining: [0; NODE_HINTS],
+            storages: Vec::new(alloc),
+            nodes: Vec::new(alloc),
+            draining: Vec::new(alloc),
         }
     }
 
-    /// Fills the hints from the tables.
+    /// Makes hints for `count` storages.
+    pub(crate) fn grow_storages(&mut self, count: usize) -> Result<(), AllocError> {
+        grow(&mut self.storages, count)
+    }
+
+    /// Makes hints for `count` nodes.
+    pub(crate) fn grow_nodes(&mut self, count: usize) -> Result<(), AllocError> {
+        grow(&mut self.nodes, count)?;
+        grow(&mut self.draining, count)
+    }
+
+    /// Fills the hints from the tables. Takes no memory.
     pub(crate) fn fill(
         &mut self,
         storages: &[(u64, StorageInfo)],
@@ -89,6 +96,15 @@ impl IndexHints {
     }
 }
 
+/// Makes the hints that `hash_for` uses for `count` numbers. Those that there are stay.
+fn grow(notes: &mut Vec<u32>, count: usize) -> Result<(), AllocError> {
+    let slots = hash_for(count, FACTORS[0]).slots();
+    if slots <= notes.len() {
+        return Ok(());
+    }
+    notes.resize(slots, 0)
+}
+
 /// The hash for `count` numbers by this factor. It uses two to four hints per number, so that few
 /// numbers touch few cache lines.
 fn hash_for(count: usize, factor: u64) -> Hash {
@@ -101,7 +117,7 @@ fn hash_for(count: usize, factor: u64) -> Hash {
 
 /// Fills the hints with the first factor under which at least three quarters of the numbers get a
 /// right hint, or else with the best factor. Returns the hash.
-fn fill_evenly<V: Copy>(notes: &mut [u16], entries: &[(u64, V)]) -> Hash {
+fn fill_evenly<V: Copy>(notes: &mut [u32], entries: &[(u64, V)]) -> Hash {
     let mut best = hash_for(entries.len(), FACTORS[0]);
     let mut most = 0;
     for factor in FACTORS {
@@ -123,12 +139,12 @@ fn fill_evenly<V: Copy>(notes: &mut [u16], entries: &[(u64, V)]) -> Hash {
 /// Records each number's index in `table`. Both are sorted, so one pass suffices. On a collision
 /// the later number wins.
 fn record_indices<V: Copy, W: Copy>(
-    notes: &mut [u16],
+    notes: &mut [u32],
     hash: Hash,
     numbers: &[(u64, V)],
     table: &[(u64, W)],
 ) {
-    let mut index = 0u16;
+    let mut index = 0u32;
     for (number, _) in numbers {
         if let Some((other, _)) = table.get(index as usize) {
             if *other < *number {
@@ -142,7 +158,7 @@ fn record_indices<V: Copy, W: Copy>(
 }
 
 /// The number of entries whose hint is right.
-fn count_hits<V: Copy>(notes: &[u16], hash: Hash, entries: &[(u64, V)]) -> usize {
+fn count_hits<V: Copy>(notes: &[u32], hash: Hash, entries: &[(u64, V)]) -> usize {
     let mut count = 0usize;
     for (number, _) in entries {
         if let Some((other, _)) = entries.get(hint_for(notes, hash, *number)) {
@@ -156,7 +172,7 @@ fn count_hits<V: Copy>(notes: &[u16], hash: Hash, entries: &[(u64, V)]) -> usize
 
 /// The hint for a number.
 #[inline]
-fn hint_for(notes: &[u16], hash: Hash, number: u64) -> usize {
+fn hint_for(notes: &[u32], hash: Hash, number: u64) -> usize {
     match notes.get(hash.hint_slot(number)) {
         Some(index) => *index as usize,
         None => 0,
@@ -164,6 +180,11 @@ fn hint_for(notes: &[u16], hash: Hash, number: u64) -> usize {
 }
 
 impl Hash {
+    /// How many hints it uses.
+    fn slots(self) -> usize {
+        1usize.wrapping_shl(64u32.wrapping_sub(self.shift))
+    }
+
     /// The index of a number's hint.
     #[inline]
     fn hint_slot(self, number: u64) -> usize {

@@ -1,15 +1,18 @@
 // Where each storage is, in a table parallel to that of the storages: its node, the rack and
 // whether the node drains. So one read answers all that a replica's classification needs.
-ghost use Rattle.std.specs.Prelude.{◌≡◌, ◌≤◌, ◌<◌, true, length, Some};
-ghost use Rattle.bm_base.specs.Words.{IsLawfulCluster};
+ghost use Rattle.std.specs.Prelude.{◌≡◌, ◌≤◌, ◌<◌, ℕ, true, length, Some, OnOk, slice_get};
+ghost use Rattle.bm_base.specs.declared.storage.StorageInfo.{StorageInfo};
 ghost use Rattle.bm_topo.specs.Keys.{HasSmallKeys};
 ghost use Rattle.bm_topo.specs.Sound.{cluster_of};
 ghost use Rattle.bm_topo.specs.Spots.{AreSpots};
+ghost use Rattle.bm_topo.specs.declared.spots.Spot.{Spot};
+ghost use Rattle.bm_base.specs.declared.limits.Limits.{Limits};
 ghost use Rattle.bm_base.specs.Maps.Map as map;
 
 use crate::index_hints::IndexHints;
-use bm_base::{MAX_STORAGES, NodeId, Rack, StorageId, StorageInfo};
+use bm_base::{NodeId, Rack, StorageId, StorageInfo};
 use bm_maps::NumberMap;
+use std::alloc::AllocError;
 
 /// Where a known storage is. A heartbeat changes nothing of it.
 #[derive(Clone, Copy)]
@@ -31,11 +34,18 @@ const NO_SPOT: Spot = Spot {
     drains: false,
 };
 
-/// A spot for each possible storage, so that a change of the cluster takes no memory for them.
-pub(crate) fn no_spots() -> [Spot; MAX_STORAGES]
-    ensures { length result ≡ 4096 }
+/// Makes at least `count` spots, so that a change of the cluster takes no memory for them. The
+/// spots that there are stay, also after an `Err`.
+pub(crate) fn grow_spots(spots: &mut Vec<Spot>, count: usize) -> Result<(), AllocError>
+    ensures enough { OnOk result (count ≤ length spots.new.items) }
+    ensures no_fewer { length spots.old.items ≤ length spots.new.items }
+    ensures kept { (k : ℕ) (p : Spot) → k < length spots.old.items
+        → slice_get spots.new.items k ≡ Some p → slice_get spots.old.items k ≡ Some p }
 {
-    [NO_SPOT; MAX_STORAGES]
+    if count <= spots.len() {
+        return Ok(());
+    }
+    spots.resize(count, NO_SPOT)
 }
 
 /// The spot of a storage on an alive node.
@@ -77,9 +87,10 @@ pub(crate) fn set_spots(
 )
     requires enough { map.len storages.now.map ≤ length spots.old }
     requires small { HasSmallKeys storages.now.map }
-    requires lawful { IsLawfulCluster
-        (cluster_of nodes.now.map draining.now.map storages.now.map) }
-    ensures each { AreSpots (cluster_of nodes.now.map draining.now.map storages.now.map)
+    requires alive { (s : ℕ) (i : StorageInfo) → map.get storages.now.map s ≡ Some i
+        → map.contains_key nodes.now.map i.node ≡ true }
+    ensures each { (limits : Limits) → AreSpots
+        (cluster_of limits nodes.now.map draining.now.map storages.now.map)
         spots.new (map.len storages.now.map) }
     ensures len { length spots.new ≡ length spots.old }
 {

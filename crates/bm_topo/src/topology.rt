@@ -1,19 +1,19 @@
 // The tables of the cluster, and look-ups in them.
-ghost use Rattle.std.specs.Prelude.{◌≡◌, ◌≤◌, ℕ, IfOk, IsOk, Some, None, false, length, filter, option_map, slice_get, if◌then◌else◌};
+ghost use Rattle.std.specs.Prelude.{◌≡◌, ◌≤◌, ℕ, IfOk, IsOk, IsTrue, Some, None, false, length, filter, option_map, slice_get, if◌then◌else◌};
 ghost use Rattle.bm_base.specs.Words.{option_map_or, knows_node, knows_storage, IsLawfulCluster};
-ghost use Rattle.bm_base.specs.declared.limits.TheConstants.{MAX_NODES, MAX_STORAGES};
+ghost use Rattle.bm_base.specs.declared.limits.TheConstants.{MOST_NODES, MOST_STORAGES};
+ghost use Rattle.bm_base.specs.Machine.Configuration.{are_allowed};
 ghost use Rattle.bm_topo.specs.TopologyView.{no_capacity};
 ghost use Rattle.bm_base.specs.Maps.Map as map;
 ghost use Rattle.bm_base.specs.Machine.State as state;
 ghost use Rattle.bm_base.specs.Maps.Lists as lists;
 ghost use Rattle.bm_base.specs.Machine.Replicas as replicas;
-ghost use Rattle.bm_base.specs.Machine.RoundStart as round_start;
 
-use crate::by_node::{StoragesByNode, storages_of};
+use crate::by_node::storages_of;
 use crate::index_hints::IndexHints;
-use crate::spots::{Spot, no_spots, set_spots, spot_on};
-use bm_base::{MAX_STORAGES, NodeId, Rack, Refusal, StorageId, StorageInfo};
-use bm_maps::{ArrayVec, NumberMap};
+use crate::spots::{Spot, set_spots, spot_on};
+use bm_base::{Limits, NodeId, Rack, Refusal, StorageId, StorageInfo};
+use bm_maps::NumberMap;
 use std::alloc::Global;
 use std::marker::Model;
 
@@ -33,12 +33,14 @@ pub struct Location {
 /// The alive DataNodes with their racks, those of them that drain, and their storages with their
 /// free bytes.
 ///
-/// A contract sees the cluster of the definitions, and the spare capacity for nodes, racks,
-/// storages and nodes that drain. The node and the rack of a storage mostly take one read, of its
-/// spot, and else a binary search among at most `MAX_NODES` nodes and `MAX_STORAGES` storages. No
-/// look-up takes memory.
+/// A contract sees the cluster of the definitions with its limits, and the spare capacity for
+/// nodes, racks, storages and nodes that drain. The node and the rack of a storage mostly take one
+/// read, of its spot, and else binary searches among the nodes and the storages. No look-up takes
+/// memory. Memory is in proportion to the most nodes and storages that were registered at a time,
+/// whatever the limits are.
 #[derive(Drop)]
 pub struct Topology {
+    pub(crate) limits: Limits,
     pub(crate) nodes: NumberMap<Rack>,
     /// The alive nodes that drain.
     pub(crate) draining: NumberMap<()>,
@@ -47,17 +49,21 @@ pub struct Topology {
     pub(crate) storages: NumberMap<StorageInfo>,
     // Hints for the indices in these tables.
     pub(crate) hints: IndexHints,
-    // Where the storages are, each at its index in their table.
-    pub(crate) spots: [Spot; MAX_STORAGES],
+    // Where the storages are, each at its index in their table. The table has no more capacity
+    // than there are spots here.
+    pub(crate) spots: Vec<Spot>,
     // How many spots are set: 0 while the cluster changes.
     pub(crate) spot_count: usize,
-    // The storages, sorted by node.
-    pub(crate) by_node: StoragesByNode,
+    // The storages, sorted by node. Their table has no more capacity than this list.
+    pub(crate) by_node: Vec<StorageId>,
 }
 
 impl Model for Topology {
+    ghost use Rattle.std.specs.Prelude.{length, vec_capacity};
+    ghost use Rattle.bm_maps.specs.Table.{capacity};
     ghost use Rattle.bm_topo.specs.TopologyView.{Seen, coded_seen};
     ghost use Rattle.bm_topo.specs.Sound.{IsSound, cluster_of};
+    ghost use Rattle.bm_topo.specs.Room.{HasRoomFor};
     ghost use Rattle.bm_topo.specs.Spots.{HasSpots};
     ghost use Rattle.bm_topo.specs.ByNode.{AreAllByNode};
 
@@ -67,6 +73,7 @@ impl Model for Topology {
 
     ghost view = { λ t. record {
       cluster = record {
+        limits = t.limits;
         nodes = t.nodes.map;
         draining = t.draining.map;
         storages = t.storages.map;
@@ -79,29 +86,41 @@ impl Model for Topology {
       };
     } };
 
-    ghost invariant = { λ t. (IsSound t.nodes.map t.racks.map t.draining.map t.storages.map)
-        × (HasSpots (cluster_of t.nodes.map t.draining.map t.storages.map) t.spots t.spot_count)
-        × (AreAllByNode t.storages.map t.by_node.items) };
+    ghost invariant = { λ t. (IsSound t.limits t.nodes.map t.racks.map t.draining.map t.storages.map)
+        × (HasSpots (cluster_of t.limits t.nodes.map t.draining.map t.storages.map) t.spots.items
+        t.spot_count)
+        × (AreAllByNode t.storages.map t.by_node.items)
+        × (HasRoomFor (capacity t.storages) (length t.spots.items) (vec_capacity t.by_node)) };
 }
 
 impl Topology {
-    /// An empty cluster, with no capacity. Takes no memory yet, so it succeeds.
+    /// An empty cluster within these limits, with no capacity. Takes no memory yet, so it succeeds.
     #[tactic(auto, unfolding(bm_base::specs::Machine::State::empty_cluster))]
-    pub fn new(alloc: Global) -> Result<Topology, Refusal>
-        ensures empty { IfOk result (λ t. t.cluster ≡ state.empty_cluster) }
+    pub fn new(alloc: Global, limits: Limits) -> Result<Topology, Refusal>
+        requires { IsTrue (are_allowed limits) }
+        ensures empty { IfOk result (λ t. t.cluster ≡ state.empty_cluster limits) }
         ensures spare { IfOk result (λ t. t.spare ≡ no_capacity) }
         ensures succeeds { IsOk result }
     {
         Ok(Topology {
+            limits,
             nodes: NumberMap::new(alloc),
             draining: NumberMap::new(alloc),
             racks: NumberMap::new(alloc),
             storages: NumberMap::new(alloc),
-            hints: IndexHints::new(),
-            spots: no_spots(),
+            hints: IndexHints::new(alloc),
+            spots: Vec::new(alloc),
             spot_count: 0,
-            by_node: ArrayVec::new(),
+            by_node: Vec::new(alloc),
         })
+    }
+
+    /// How many nodes may be alive, and how many storages there may be.
+    pub fn limits(&self) -> Limits
+        ensures is { result ≡ self.now.cluster.limits }
+        ensures allowed { IsTrue (are_allowed result) }
+    {
+        self.limits
     }
 
     /// For proofs alone: each storage is on an alive node, only alive nodes drain, and the limits
@@ -238,7 +257,8 @@ impl Topology {
             (map.keys self.now.cluster.storages) }
         ensures each { (s : ℕ)
             → lists.has result.now s ≡ replicas.has_storage self.now.cluster node s }
-        ensures few { length result.now ≤ MAX_STORAGES }
+        ensures few { length result.now ≤ self.now.cluster.limits.storages }
+        ensures fits { length result.now ≤ MOST_STORAGES }
     {
         storages_of(self.by_node.as_slice(), node, &self.storages, &self.hints)
     }
@@ -264,12 +284,12 @@ impl Topology {
     }
 
     /// Where a storage is and what remains on it.
-    #[tactic(auto, unfolding(bm_base::specs::Machine::Excess::remaining))]
+    #[tactic(auto, unfolding(bm_base::specs::Machine::Replicas::remaining))]
     pub fn location_of(&self, storage: StorageId) -> Location
         ensures node { result.node ≡ replicas.node_of self.now.cluster storage }
         ensures rack { result.rack ≡ replicas.rack_of self.now.cluster storage }
         ensures drains { result.drains ≡ replicas.is_draining self.now.cluster storage }
-        ensures remaining { result.remaining ≡ excess.remaining self.now.cluster storage }
+        ensures remaining { result.remaining ≡ replicas.remaining self.now.cluster storage }
     {
         let remaining = self.remaining(storage).unwrap_or(0);
         match self.spot_of(storage) {
@@ -312,18 +332,20 @@ impl Topology {
         }
     }
 
-    /// How many nodes are alive, at most `MAX_NODES`.
+    /// How many nodes are alive, within the limits.
     pub fn alive_nodes(&self) -> u32
         ensures count { result ≡ map.len self.now.cluster.nodes }
-        ensures few { result ≤ MAX_NODES }
+        ensures few { result ≤ self.now.cluster.limits.nodes }
+        ensures fits { result ≤ MOST_NODES }
     {
         self.nodes.len() as u32
     }
 
-    /// How many storages there are, at most `MAX_STORAGES`.
+    /// How many storages there are, within the limits.
     pub fn storage_count(&self) -> u32
         ensures count { result ≡ map.len self.now.cluster.storages }
-        ensures few { result ≤ MAX_STORAGES }
+        ensures few { result ≤ self.now.cluster.limits.storages }
+        ensures fits { result ≤ MOST_STORAGES }
     {
         self.storages.len() as u32
     }
