@@ -1,13 +1,15 @@
 -- A cluster's tables stay sound as nodes join, drain and leave, and as storages leave or report.
 use Rattle.std.proofs.Common.{◌≡◌, ℕ, ◌+◌, ◌<◌, ◌≤◌, ◌^◌, Bool, true, false, cond, List, [], ◌∷◌, length, Option, Some, None, refl, sym, ap, subst, ◌∙◌, ◌≢◌, true≢false, arith}
-use Rattle.std.specs.Prelude.{◌==◌, not, option_and_then, option_map, is_some}
+use Rattle.std.specs.Prelude.{◌==◌, not, nat_le, option_and_then, option_map, is_some, IsTrue}
 use Rattle.std.specs.Option.{option_map_or}
-use Rattle.std.proofs.lemmas.Bool.{leb-false, ltb-false, eq-eqb, or_parts, not-true}
+use Rattle.std.proofs.lemmas.Bool.{leb-true, leb-false, ltb-false, and_parts, eq-eqb, or_parts, not-true}
 use Rattle.bm_base.specs.declared.storage.StorageInfo.{StorageInfo}
 use Rattle.bm_base.specs.declared.event.Event.TheVariants.{Register}
 use Rattle.bm_base.specs.declared.event.Remaining.{Remaining}
 use Rattle.bm_base.specs.Words.{Map, Set, by_number, empty, entries, get, contains_key, len, insert, insert_all, keep, remove, revise_at, Cluster, has_storage, node_of, drains, register, heartbeat, without_storage, drain, undrain, set_remaining, first_of, cluster_checks, knows_node}
-use Rattle.bm_base.specs.declared.limits.TheConstants.{MAX_NODES, MAX_STORAGES}
+use Rattle.bm_base.specs.declared.limits.Limits.{Limits}
+use Rattle.bm_base.specs.declared.limits.TheConstants.{MOST_NODES, MOST_STORAGES}
+use Rattle.bm_base.specs.Machine.Configuration.{are_allowed, is_up_to}
 use Rattle.bm_base.specs.Promises.Lawful.{IsLawfulCluster}
 use Rattle.bm_base.proofs.MapEntries.{not_tied, key_itself, get_kept, known_before, known_removed}
 use Rattle.bm_base.proofs.ClusterEvents.{registrable, registered, storage_failed, heartbeat_reported, began_to_drain, ceased_to_drain}
@@ -22,11 +24,20 @@ use Rattle.bm_topo.proofs.Keys.{small_keys_insert, small_keys-empty, small_keys-
 use Rattle.bm_topo.proofs.Lengths.{len-remove, len-revise_at}
 use Rattle.bm_topo.proofs.RackChanges.{counts-insert, counts-remove}
 
+-- limits are within bounds
+
+pub most_nodes : (l : Limits) → IsTrue (are_allowed l) → l.nodes ≤ MOST_NODES
+most_nodes l h = leb-true l.nodes MOST_NODES (and_parts (nat_le 1 l.nodes) (nat_le l.nodes MOST_NODES) (and_parts (is_up_to MOST_NODES l.nodes) (is_up_to MOST_STORAGES l.storages) h).0).1
+
+pub most_storages : (l : Limits) → IsTrue (are_allowed l) → l.storages ≤ MOST_STORAGES
+most_storages l h =
+    leb-true l.storages MOST_STORAGES (and_parts (nat_le 1 l.storages) (nat_le l.storages MOST_STORAGES) (and_parts (is_up_to MOST_NODES l.nodes) (is_up_to MOST_STORAGES l.storages) h).1).1
+
 counts-empty : CountsRacks empty empty
 unfolding on_rack entries empty
 counts-empty r = get-empty by_number r
 
-len-empty : (X : Type 0) → len (empty {X = X} {o = by_number}) ≡ 0
+pub len-empty : (X : Type 0) → len (empty {X = X} {o = by_number}) ≡ 0
 unfolding len entries empty
 len-empty X = refl
 
@@ -36,9 +47,9 @@ none_get {X} k x e = none_some (sym (get-empty {X = X} by_number k) ∙ e)
     none_some : None ≡ Some x → ⊥
     none_some h = cc
 
-empty_lawful : IsLawfulCluster (cluster_of empty empty empty)
+empty_lawful : (l : Limits) → IsLawfulCluster (cluster_of l empty empty empty)
 unfolding drains
-empty_lawful = record {
+empty_lawful l = record {
   alive = λ s i e. absurd (none_get s i e);
   draining_alive = λ n e. absurd (true_not (ap is_some (get-empty by_number n)) e);
   few_nodes = (let e = len-empty ℕ in omega (arith, e));
@@ -48,36 +59,39 @@ empty_lawful = record {
     true_not : {b : Bool} → b ≡ false → b ≡ true → ⊥
     true_not h e = cc
 
-pub sound-empty : (nodes racks : Map by_number ℕ) (draining : Set by_number) (storages : Map by_number StorageInfo) → nodes ≡ empty → racks ≡ empty → draining ≡ empty → storages ≡ empty → IsSound nodes racks draining storages
-sound-empty nodes racks draining storages n r d s =
+pub sound-empty : (l : Limits) (nodes racks : Map by_number ℕ) (draining : Set by_number) (storages : Map by_number StorageInfo) → nodes ≡ empty → racks ≡ empty → draining ≡ empty → storages ≡ empty → IsTrue (are_allowed l) → IsSound l nodes racks draining storages
+sound-empty l nodes racks draining storages n r d s allowed =
     rw (n, r, d, s) (record {
+      allowed = allowed;
       node_ids = small_keys-empty empty refl;
       storage_ids = small_keys-empty empty refl;
       counted = counts-empty;
-      lawful = empty_lawful;
+      lawful = empty_lawful l;
     })
 
 -- if only the storages change
-sound-storages : (nodes racks : Map by_number ℕ) (draining : Set by_number) (old new : Map by_number StorageInfo) → IsSound nodes racks draining old
-    → (HasSmallKeys old → HasSmallKeys new) → IsLawfulCluster (cluster_of nodes draining new) → IsSound nodes racks draining new
-sound-storages nodes racks draining old new h small lawful = record {
+sound-storages : {l : Limits} (nodes racks : Map by_number ℕ) (draining : Set by_number) (old new : Map by_number StorageInfo) → IsSound l nodes racks draining old
+    → (HasSmallKeys old → HasSmallKeys new) → IsLawfulCluster (cluster_of l nodes draining new) → IsSound l nodes racks draining new
+sound-storages {l} nodes racks draining old new h small lawful = record {
+  allowed = h.allowed;
   node_ids = h.node_ids;
   storage_ids = small h.storage_ids;
   counted = h.counted;
   lawful = lawful;
 }
 
-pub sound-removed : (nodes racks : Map by_number ℕ) (draining : Set by_number) (old new : Map by_number StorageInfo) (k : ℕ) → new ≡ remove old k → IsSound nodes racks draining old → IsSound nodes racks draining new
+pub sound-removed : {l : Limits} (nodes racks : Map by_number ℕ) (draining : Set by_number) (old new : Map by_number StorageInfo) (k : ℕ) → new ≡ remove old k → IsSound l nodes racks draining old → IsSound l nodes racks draining new
 unfolding without_storage
-sound-removed nodes racks draining old new k is h =
+sound-removed {l} nodes racks draining old new k is h =
     sound-storages nodes racks draining old new h (λ small. subst (λ m. HasSmallKeys m) (sym is) (small_keys-remove old k small))
-    (subst (λ m. IsLawfulCluster (cluster_of nodes draining m)) (sym is) (storage_failed (cluster_of nodes draining old) k h.lawful))
+    (subst (λ m. IsLawfulCluster (cluster_of l nodes draining m)) (sym is) (storage_failed (cluster_of l nodes draining old) k h.lawful))
 
 -- if a node's storages leave, and it no longer drains
-pub sound-kept : (nodes racks : Map by_number ℕ) (draining left : Set by_number) (old new : Map by_number StorageInfo) (n : ℕ) → new ≡ keep old (λ _ i. not (i.node == n)) → left ≡ remove draining n
-    → IsSound nodes racks draining old → IsSound nodes racks left new
+pub sound-kept : {l : Limits} (nodes racks : Map by_number ℕ) (draining left : Set by_number) (old new : Map by_number StorageInfo) (n : ℕ) → new ≡ keep old (λ _ i. not (i.node == n)) → left ≡ remove draining n
+    → IsSound l nodes racks draining old → IsSound l nodes racks left new
 unfolding drains
-sound-kept nodes racks draining left old new n is left_is h = record {
+sound-kept {l} nodes racks draining left old new n is left_is h = record {
+  allowed = h.allowed;
   node_ids = h.node_ids;
   storage_ids = subst (λ m. HasSmallKeys m) (sym is) (small_keys-keep old (λ _ i. not (i.node == n)) h.storage_ids);
   counted = h.counted;
@@ -99,11 +113,12 @@ pub not_left : (draining left : Set by_number) (n : ℕ) → left ≡ remove dra
 not_left draining left n is = ap (λ d. contains_key d n) is ∙ ap is_some (get-remove draining n n ∙ ap (λ b. cond b None (get draining n)) (key_itself by_number n))
 
 -- if a node leaves that has no storage and does not drain
-pub sound-left : (nodes racks rest left : Map by_number ℕ) (draining : Set by_number) (storages : Map by_number StorageInfo) (n v : ℕ) → get nodes n ≡ Some v → rest ≡ remove nodes n → left ≡ without_one racks v (on_rack nodes v)
+pub sound-left : {l : Limits} (nodes racks rest left : Map by_number ℕ) (draining : Set by_number) (storages : Map by_number StorageInfo) (n v : ℕ) → get nodes n ≡ Some v → rest ≡ remove nodes n → left ≡ without_one racks v (on_rack nodes v)
     → ((s : ℕ) (i : StorageInfo) → get storages s ≡ Some i → i.node ≢ n) → contains_key draining n ≡ false
-    → IsSound nodes racks draining storages → IsSound rest left draining storages
+    → IsSound l nodes racks draining storages → IsSound l rest left draining storages
 unfolding drains
-sound-left nodes racks rest left draining storages n v there rest_is left_is bare idle h = record {
+sound-left {l} nodes racks rest left draining storages n v there rest_is left_is bare idle h = record {
+  allowed = h.allowed;
   node_ids = subst (λ m. HasSmallKeys m) (sym rest_is) (small_keys-remove nodes n h.node_ids);
   storage_ids = h.storage_ids;
   counted = rw (rest_is, left_is) (counts-remove racks nodes n v there h.counted);
@@ -119,24 +134,26 @@ sound-left nodes racks rest left draining storages n v there rest_is left_is bar
     true_false e = cc
 
 -- if a node begins to drain, and if one ceases to
-pub sound-drained : (nodes racks : Map by_number ℕ) (draining more : Set by_number) (storages : Map by_number StorageInfo) (n : ℕ) → contains_key nodes n ≡ true → more ≡ insert draining n tt
-    → IsSound nodes racks draining storages → IsSound nodes racks more storages
+pub sound-drained : {l : Limits} (nodes racks : Map by_number ℕ) (draining more : Set by_number) (storages : Map by_number StorageInfo) (n : ℕ) → contains_key nodes n ≡ true → more ≡ insert draining n tt
+    → IsSound l nodes racks draining storages → IsSound l nodes racks more storages
 unfolding drain
-sound-drained nodes racks draining more storages n known is h = record {
+sound-drained {l} nodes racks draining more storages n known is h = record {
+  allowed = h.allowed;
   node_ids = h.node_ids;
   storage_ids = h.storage_ids;
   counted = h.counted;
-  lawful = subst (λ d. IsLawfulCluster (cluster_of nodes d storages)) (sym is) (began_to_drain (cluster_of nodes draining storages) n h.lawful known);
+  lawful = subst (λ d. IsLawfulCluster (cluster_of l nodes d storages)) (sym is) (began_to_drain (cluster_of l nodes draining storages) n h.lawful known);
 }
 
-pub sound-undrained : (nodes racks : Map by_number ℕ) (draining left : Set by_number) (storages : Map by_number StorageInfo) (n : ℕ) → left ≡ remove draining n
-    → IsSound nodes racks draining storages → IsSound nodes racks left storages
+pub sound-undrained : {l : Limits} (nodes racks : Map by_number ℕ) (draining left : Set by_number) (storages : Map by_number StorageInfo) (n : ℕ) → left ≡ remove draining n
+    → IsSound l nodes racks draining storages → IsSound l nodes racks left storages
 unfolding undrain
-sound-undrained nodes racks draining left storages n is h = record {
+sound-undrained {l} nodes racks draining left storages n is h = record {
+  allowed = h.allowed;
   node_ids = h.node_ids;
   storage_ids = h.storage_ids;
   counted = h.counted;
-  lawful = subst (λ d. IsLawfulCluster (cluster_of nodes d storages)) (sym is) (ceased_to_drain (cluster_of nodes draining storages) n h.lawful);
+  lawful = subst (λ d. IsLawfulCluster (cluster_of l nodes d storages)) (sym is) (ceased_to_drain (cluster_of l nodes draining storages) n h.lawful);
 }
 
 -- What the checks of a registration imply.
@@ -147,8 +164,8 @@ none_here false x r h = (refl, h)
 
 pub record IsNew (C : Cluster) (n : ℕ) (ss : List ℕ) : Type 0 where
   pub absent : get C.nodes n ≡ None
-  pub few_nodes : len C.nodes + 1 ≤ MAX_NODES
-  pub few_storages : len C.storages + length ss ≤ MAX_STORAGES
+  pub few_nodes : len C.nodes + 1 ≤ C.limits.nodes
+  pub few_storages : len C.storages + length ss ≤ C.limits.storages
 
 pub registration_is_new : (C : Cluster) (n rack : ℕ) (ss : List ℕ) → first_of (cluster_checks C (Register n rack ss)) ≡ None → IsNew C n ss
 unfolding cluster_checks knows_node
@@ -157,20 +174,21 @@ registration_is_new C n rack ss h =
     let second = none_here _ _ _ first.1 in
     let third = none_here _ _ _ second.1 in
     let few = or_parts _ _ third.0 in
-    let nodes = leb-false MAX_NODES (len C.nodes) few.0 in
-    let storages = ltb-false MAX_STORAGES (len C.storages + length ss) few.1 in
+    let nodes = leb-false C.limits.nodes (len C.nodes) few.0 in
+    let storages = ltb-false C.limits.storages (len C.storages + length ss) few.1 in
     record { absent = not_there _ first.0; few_nodes = omega (arith, nodes); few_storages = omega (arith, storages) }
 
 -- if a node registers
-pub sound-joined : (nodes racks more counts : Map by_number ℕ) (draining left : Set by_number) (storages all : Map by_number StorageInfo) (n v count : ℕ) (ss : List ℕ) → n < 2 ^ 32
-    → first_of (cluster_checks (cluster_of nodes draining storages) (Register n v ss)) ≡ None → count ≡ on_rack nodes v → more ≡ insert nodes n v → counts ≡ insert racks v (count + 1)
-    → left ≡ remove draining n → all ≡ insert_all storages (new_storages n ss) → (HasSmallKeys storages → HasSmallKeys all) → IsSound nodes racks draining storages → IsSound more counts left all
+pub sound-joined : {l : Limits} (nodes racks more counts : Map by_number ℕ) (draining left : Set by_number) (storages all : Map by_number StorageInfo) (n v count : ℕ) (ss : List ℕ) → n < 2 ^ 32
+    → first_of (cluster_checks (cluster_of l nodes draining storages) (Register n v ss)) ≡ None → count ≡ on_rack nodes v → more ≡ insert nodes n v → counts ≡ insert racks v (count + 1)
+    → left ≡ remove draining n → all ≡ insert_all storages (new_storages n ss) → (HasSmallKeys storages → HasSmallKeys all) → IsSound l nodes racks draining storages → IsSound l more counts left all
 unfolding register
-sound-joined nodes racks more counts draining left storages all n v count ss fits accepted count_is more_is counts_are left_is all_is small h = record {
+sound-joined {l} nodes racks more counts draining left storages all n v count ss fits accepted count_is more_is counts_are left_is all_is small h = record {
+  allowed = h.allowed;
   node_ids = subst (λ m. HasSmallKeys m) (sym more_is) (small_keys_insert nodes n v fits h.node_ids);
   storage_ids = small h.storage_ids;
-  counted = rw (more_is, counts_are, count_is) (counts-insert racks nodes n v (registration_is_new (cluster_of nodes draining storages) n v ss accepted).absent h.counted);
-  lawful = rw (more_is, left_is, all_is) (registered (cluster_of nodes draining storages) n v ss h.lawful (registrable (cluster_of nodes draining storages) n v ss accepted));
+  counted = rw (more_is, counts_are, count_is) (counts-insert racks nodes n v (registration_is_new (cluster_of l nodes draining storages) n v ss accepted).absent h.counted);
+  lawful = rw (more_is, left_is, all_is) (registered (cluster_of l nodes draining storages) n v ss h.lawful (registrable (cluster_of l nodes draining storages) n v ss accepted));
 }
 
 -- Heartbeats.
@@ -192,11 +210,11 @@ same_test : (n : ℕ) (v : Option StorageInfo) → option_and_then (λ x. cond (
 same_test n None = refl
 same_test n (Some i) = refl
 
-pub sound-reported : (nodes racks : Map by_number ℕ) (draining : Set by_number) (old new : Map by_number StorageInfo) (rs : List Remaining) → new ≡ set_remaining old rs → IsSound nodes racks draining old → IsSound nodes racks draining new
+pub sound-reported : {l : Limits} (nodes racks : Map by_number ℕ) (draining : Set by_number) (old new : Map by_number StorageInfo) (rs : List Remaining) → new ≡ set_remaining old rs → IsSound l nodes racks draining old → IsSound l nodes racks draining new
 unfolding heartbeat
-sound-reported nodes racks draining old new rs is h =
+sound-reported {l} nodes racks draining old new rs is h =
     sound-storages nodes racks draining old new h (λ small. subst (λ m. HasSmallKeys m) (sym is) (small-set_remaining rs old small))
-    (subst (λ m. IsLawfulCluster (cluster_of nodes draining m)) (sym is) (heartbeat_reported (cluster_of nodes draining old) rs h.lawful))
+    (subst (λ m. IsLawfulCluster (cluster_of l nodes draining m)) (sym is) (heartbeat_reported (cluster_of l nodes draining old) rs h.lawful))
 
 -- to keep the storages of other nodes
 pub others_kept : (C : Cluster) (n : ℕ) → keep C.storages (λ _ i. not (i.node == n)) ≡ keep C.storages (λ s _. not (has_storage C n s))

@@ -1,5 +1,5 @@
 -- A heartbeat keeps the spots of a topology right, and each spot is right once it is set.
-use Rattle.std.proofs.Common.{◌≡◌, ℕ, ◌<◌, ◌+◌, false, List, length, Some, None, inl, inr, refl, sym, ap, subst, ◌∙◌, arith, get_or, get_or-set_same}
+use Rattle.std.proofs.Common.{◌≡◌, ℕ, ◌<◌, ◌≤◌, ◌+◌, false, List, length, Some, None, inl, inr, refl, sym, ap, subst, ◌∙◌, arith, get_or, get_or-set_same}
 use Rattle.std.specs.Prelude.{slice_get, slice_set, option_map, option_and_then}
 use Rattle.std.specs.Option.{option_map_or}
 use Rattle.std.proofs.lemmas.Bool.{cases_eq}
@@ -7,7 +7,7 @@ use Rattle.std.proofs.lemmas.List.{get_or-set_other}
 use Rattle.std.proofs.lemmas.Option.{get_or_from_slice_get, slice_get-get_or, slice_get_within, slice_get_read}
 use Rattle.bm_base.specs.declared.storage.StorageInfo.{StorageInfo}
 use Rattle.bm_base.specs.declared.event.Remaining.{Remaining}
-use Rattle.bm_base.specs.declared.limits.TheConstants.{MAX_STORAGES}
+use Rattle.bm_base.specs.declared.limits.Limits.{Limits}
 use Rattle.bm_base.specs.Words.{Map, Set, by_number, entries, len, get, contains_key, Cluster, node_of, rack_of, is_draining, drains, set_remaining}
 use Rattle.bm_base.proofs.ClusterEvents.{same_nodes}
 use Rattle.bm_topo.specs.declared.spots.Spot.{Spot}
@@ -15,33 +15,40 @@ use Rattle.bm_topo.specs.Sound.{cluster_of}
 use Rattle.bm_topo.proofs.IndexedEntries.{get_at}
 use Rattle.bm_topo.specs.Spots.{IsSpot, AreSpots, HasSpots}
 
-pub none_set : (C : Cluster) (spots : List Spot) → length spots ≡ MAX_STORAGES → HasSpots C spots 0
-none_set C spots whole = record { whole = whole; few = omega arith; each = λ k p below is. absurd (omega (arith, below)) }
+pub none_set : (C : Cluster) (spots : List Spot) → HasSpots C spots 0
+none_set C spots = record { few = omega arith; each = λ k p below is. absurd (omega (arith, below)) }
+
+-- more spots, where the earlier ones stay
+pub spots_grown : (C : Cluster) (old new : List Spot) (n : ℕ) → length old ≤ length new → ((k : ℕ) (p : Spot) → k < length old → slice_get new k ≡ Some p → slice_get old k ≡ Some p)
+    → HasSpots C old n → HasSpots C new n
+spots_grown C old new n more kept h = record {
+  few = omega (arith, h.few, more);
+  each = λ k p below at. h.each k p below (kept k p (omega (arith, below, h.few)) at);
+}
 
 -- if storages stay on their nodes
-spot_stays : (nodes : Map by_number ℕ) (draining : Set by_number) (old new : Map by_number StorageInfo) (p : Spot)
+spot_stays : {l : Limits} (nodes : Map by_number ℕ) (draining : Set by_number) (old new : Map by_number StorageInfo) (p : Spot)
     → option_map (λ (i : StorageInfo). i.node) (get new p.storage) ≡ option_map (λ (i : StorageInfo). i.node) (get old p.storage)
-    → IsSpot (cluster_of nodes draining old) p → IsSpot (cluster_of nodes draining new) p
+    → IsSpot (cluster_of l nodes draining old) p → IsSpot (cluster_of l nodes draining new) p
 unfolding node_of rack_of is_draining drains
-spot_stays nodes draining old new p same h = record {
+spot_stays {l} nodes draining old new p same h = record {
   node = same ∙ h.node;
   rack = ap (λ o. option_and_then (λ n. get nodes n) o) same ∙ h.rack;
   drains = h.drains ∙ sym (ap (λ o. option_map_or (λ n. contains_key draining n) o false) same);
 }
 
-pub spots_reported : (nodes : Map by_number ℕ) (draining : Set by_number) (old new : Map by_number StorageInfo) (rs : List Remaining) → new ≡ set_remaining old rs
-    → (spots : List Spot) (n : ℕ) → HasSpots (cluster_of nodes draining old) spots n → HasSpots (cluster_of nodes draining new) spots n
-spots_reported nodes draining old new rs is spots n h = record {
-  whole = h.whole;
+pub spots_reported : {l : Limits} (nodes : Map by_number ℕ) (draining : Set by_number) (old new : Map by_number StorageInfo) (rs : List Remaining) → new ≡ set_remaining old rs
+    → (spots : List Spot) (n : ℕ) → HasSpots (cluster_of l nodes draining old) spots n → HasSpots (cluster_of l nodes draining new) spots n
+spots_reported {l} nodes draining old new rs is spots n h = record {
   few = h.few;
   each = λ k p below at. spot_stays nodes draining old new p (ap (λ m. option_map (λ (i : StorageInfo). i.node) (get m p.storage)) is ∙ same_nodes old rs p.storage) (h.each k p below at);
 }
 
 -- a spot with what the tables have of its storage and node
-pub spot_is : (nodes : Map by_number ℕ) (draining : Set by_number) (storages : Map by_number StorageInfo) (p : Spot) (i : StorageInfo) → get storages p.storage ≡ Some i → p.node ≡ i.node
-    → get nodes p.node ≡ Some p.rack → p.drains ≡ contains_key draining p.node → IsSpot (cluster_of nodes draining storages) p
+pub spot_is : {l : Limits} (nodes : Map by_number ℕ) (draining : Set by_number) (storages : Map by_number StorageInfo) (p : Spot) (i : StorageInfo) → get storages p.storage ≡ Some i → p.node ≡ i.node
+    → get nodes p.node ≡ Some p.rack → p.drains ≡ contains_key draining p.node → IsSpot (cluster_of l nodes draining storages) p
 unfolding node_of rack_of is_draining drains
-spot_is nodes draining storages p i there node rack drains_is =
+spot_is {l} nodes draining storages p i there node rack drains_is =
     let its : option_map (λ (j : StorageInfo). j.node) (get storages p.storage) ≡ Some p.node = ap (option_map (λ (j : StorageInfo). j.node)) there ∙ ap Some (sym node) in
     record {
       node = its;

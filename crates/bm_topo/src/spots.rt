@@ -77,8 +77,27 @@ pub(crate) fn spot_on(
     }
 }
 
-/// Sets the spot of each storage, at its index in the table of the storages.
+/// Sets the spot of each storage, at its index in the table of the storages. Takes no memory.
 pub(crate) fn set_spots(
+    spots: &mut Vec<Spot>,
+    storages: &NumberMap<StorageInfo>,
+    nodes: &NumberMap<Rack>,
+    draining: &NumberMap<()>,
+    hints: &IndexHints,
+)
+    requires enough { map.len storages.now.map ≤ length spots.old.items }
+    requires small { HasSmallKeys storages.now.map }
+    requires alive { (s : ℕ) (i : StorageInfo) → map.get storages.now.map s ≡ Some i
+        → map.contains_key nodes.now.map i.node ≡ true }
+    ensures each { (limits : Limits) → AreSpots
+        (cluster_of limits nodes.now.map draining.now.map storages.now.map)
+        spots.new.items (map.len storages.now.map) }
+    ensures len { length spots.new.items ≡ length spots.old.items }
+{
+    set_each(spots.as_mut_slice(), storages, nodes, draining, hints);
+}
+
+fn set_each(
     spots: &mut [Spot],
     storages: &NumberMap<StorageInfo>,
     nodes: &NumberMap<Rack>,

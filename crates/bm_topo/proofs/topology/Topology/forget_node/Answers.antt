@@ -11,7 +11,7 @@ use Rattle.bm_topo.proofs.topology.Topology.forget_node.Goals as goal
 pub returns-in_default-clause-after : goal.returns-in_default-clause-after
 returns-in_default-clause-after c =
     let nodes = sym (remove_absent c.args.self.now.cluster.nodes c.args.node (sym c.rack_of_node.ensures ∙ c.in_default.is)) in
-    λ i. record { nodes = nodes i; draining = c.args.self.now.cluster.draining; storages = c.args.self.now.cluster.storages }
+    λ i. record { limits = c.args.self.now.cluster.limits; nodes = nodes i; draining = c.args.self.now.cluster.draining; storages = c.args.self.now.cluster.storages }
 
 pub leave_rack-requires : goal.leave_rack-requires
 leave_rack-requires c =
@@ -25,8 +25,9 @@ invariant_of-self c =
       sound-left c.self.inside.nodes.map c.self.inside.racks.map _ _ _ _ c.args.node c.in-Some.rack there (c.remove.ensures.after ∙ ap (remove c.self.inside.nodes.map) (c.from.ensures ∙ c.node.view_is))
           (c.leave_rack.ensures.after ∙ ap (without_one c.self.inside.racks.map c.in-Some.rack) counted)
           (λ s i e. c.requires.storages s i (ap (λ t. get t.cluster.storages s) (sym c.self.view_is) ∙ e)) (ap (λ t. contains_key t.cluster.draining c.args.node) c.self.view_is ∙ c.requires.draining) c.self.invariant.0,
-      none_set _ c.self.inside.spots c.self.invariant.1.whole,
+      none_set _ c.self.inside.spots.items,
       c.self.invariant.2,
+  c.self.invariant.3,
     )
 
 pub returns-clause-no_growth : goal.returns-clause-no_growth

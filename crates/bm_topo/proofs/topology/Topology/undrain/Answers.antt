@@ -9,17 +9,19 @@ use Rattle.bm_topo.proofs.topology.Topology.undrain.Goals as goal
 pub invariant_of-self : goal.invariant_of-self
 invariant_of-self c = (
   sound-undrained _ _ c.self.inside.draining.map _ _ c.args.node (c.remove.ensures.after ∙ ap (remove c.self.inside.draining.map) (c.from.ensures ∙ c.node.view_is)) c.self.invariant.0,
-  none_set _ c.self.inside.spots c.self.invariant.1.whole,
+  none_set _ c.self.inside.spots.items,
   c.self.invariant.2,
+  c.self.invariant.3,
 )
 
 pub returns-clause-after : goal.returns-clause-after
 unfolding undrain
 returns-clause-after c =
+    let limits = ap (λ t. t.cluster.limits) c.self.view_is in
     let nodes = ap (λ t. t.cluster.nodes) c.self.view_is in
     let draining = c.remove.ensures.after ∙ ap (remove c.self.inside.draining.map) (c.from.ensures ∙ c.node.view_is) ∙ ap (λ t. remove t.cluster.draining c.args.node) c.self.view_is in
     let storages = ap (λ t. t.cluster.storages) c.self.view_is in
-    λ i. record { nodes = nodes i; draining = draining i; storages = storages i }
+    λ i. record { limits = limits i; nodes = nodes i; draining = draining i; storages = storages i }
 
 pub returns-clause-no_growth : goal.returns-clause-no_growth
 returns-clause-no_growth c =
