@@ -12,3 +12,4 @@ pub mod Capacity
 pub mod OwnStorages
 pub mod Repeats
 pub mod ByNode
+pub mod GrownLists
