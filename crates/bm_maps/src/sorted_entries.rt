@@ -92,7 +92,8 @@ pub(crate) fn reserve_exact<K: Copy, V: Copy>(
     ensures capacity { vec_capacity entries.old ≤ vec_capacity entries.new }
     ensures err { OnErr result (vec_capacity entries.new ≡ vec_capacity entries.old) }
 {
-    if additional <= entries.capacity() - entries.len() {
+    let spare = entries.capacity() - entries.len();
+    if additional <= spare {
         return Ok(());
     }
     entries.reserve_exact(additional)

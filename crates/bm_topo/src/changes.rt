@@ -57,7 +57,7 @@ impl Topology {
         self.reserve_storages(storages)
     }
 
-    /// Reserves capacity for one node, on any rack. If there is none, it is doubled.
+    /// Reserves capacity for one node, on any rack. Without any, the capacity for nodes is doubled.
     fn reserve_node(&mut self) -> Result<(), AllocError>
         ensures nodes { OnOk result (1 ≤ self.new.spare.nodes) }
         ensures racks { OnOk result (1 ≤ self.new.spare.racks) }

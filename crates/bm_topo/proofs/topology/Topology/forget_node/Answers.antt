@@ -27,7 +27,7 @@ invariant_of-self c =
           (λ s i e. c.requires.storages s i (ap (λ t. get t.cluster.storages s) (sym c.self.view_is) ∙ e)) (ap (λ t. contains_key t.cluster.draining c.args.node) c.self.view_is ∙ c.requires.draining) c.self.invariant.0,
       none_set _ c.self.inside.spots.items,
       c.self.invariant.2,
-  c.self.invariant.3,
+      c.self.invariant.3,
     )
 
 pub returns-clause-no_growth : goal.returns-clause-no_growth

@@ -13,5 +13,5 @@ invariant_of-self c =
         each = subst (AreSpots C c.set_spots.new.spots.items) (sym count) (c.set_spots.ensures.each c.self.inside.limits);
       },
       c.self.invariant.2,
-  record { spots = omega (arith, c.set_spots.ensures.len, c.self.invariant.3.spots); by_node = c.self.invariant.3.by_node },
+      record { spots = omega (arith, c.set_spots.ensures.len, c.self.invariant.3.spots); by_node = c.self.invariant.3.by_node },
     )
