@@ -18,9 +18,9 @@ pub record Senders : Type 0 where
   -- by node: of how many transfers it is the source
   pub counts : Map by_number ℕ
 
--- the most transfers of a round: 1,000 for each of 256 nodes
+-- the most transfers of a round: 1,000 for each of 65,536 nodes
 abbrev pub max_transfers : ℕ
-max_transfers = 256000
+max_transfers = 65536000
 
 -- the table of a cluster, where `sends` has the number of transfers of each node
 abbrev pub sender_table : Cluster → (ℕ → ℕ) → Senders

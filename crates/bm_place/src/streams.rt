@@ -63,7 +63,7 @@ impl<'a> Streams<'a> {
     }
 
     /// Counts one transfer more for the node of `source`; ignores an unknown storage. The node
-    /// sends fewer than 256,000 so far, like that of the source that
+    /// sends fewer than 65,536,000 so far, like that of the source that
     /// [`least_source`](crate::least_source) just found. Two look-ups. Takes no memory.
     pub fn add(&mut self, source: StorageId)
         requires countable { IsCountable self.old source }

@@ -9,7 +9,7 @@ pub overflow_add-count : goal.overflow_add-count
 unfolding count_at
 overflow_add-count c =
     let there = sym (c.get.ensures ∙ ap (get c.args.counts.now.map) (c.from.ensures ∙ c.node.view_is)) ∙ c.in-Some.is in
-    let few : c.in-Some.count < 256000 = subst (λ o. unwrap_or o 0 < 256000) there c.requires in
+    let few : c.in-Some.count < 65536000 = subst (λ o. unwrap_or o 0 < 65536000) there c.requires in
     omega (arith, few)
 
 pub returns-in-Some : goal.returns-in-Some
