@@ -4,7 +4,7 @@
 use crate::managers::config;
 use crate::tally::Tally;
 use bm_arena::Arena;
-use bm_base::{Config, Refusal};
+use bm_base::{Config, Limits, Refusal};
 use bm_manager::Manager;
 use bm_topo::Topology;
 use std::alloc::Global;
@@ -32,7 +32,7 @@ impl Bench {
             alloc,
             manager: Manager::new(alloc, Config::standard())?,
             other: Manager::new(alloc, Config::standard())?,
-            topology: Topology::new(alloc)?,
+            topology: Topology::new(alloc, Limits::standard())?,
             arena: Arena::new(alloc)?,
             before: String::new(alloc),
             after: String::new(alloc),
@@ -67,7 +67,7 @@ impl Bench {
     }
 
     pub fn renew_topology(&mut self) {
-        match Topology::new(self.alloc) {
+        match Topology::new(self.alloc, Limits::standard()) {
             Ok(new) => drop(mem::replace(&mut self.topology, new)),
             Err(refusal) => self.tally.fail(refusal),
         }

@@ -1,7 +1,7 @@
 // Calls that can run out of memory, made with ample memory: lists of steps with their expected
 // answers.
 use crate::support::{STAMP, check_step};
-use bm_base::{BlockId, BlockInfo, Entry, HashSecret, Level, Part, StorageId};
+use bm_base::{BlockId, BlockInfo, Entry, HashSecret, Level, Limits, Part, StorageId};
 use bm_levels::LeveledBlocks;
 use bm_report::Report;
 use bm_topo::Topology;
@@ -142,7 +142,7 @@ fn run_steps(
 
 /// Runs the steps on an empty set of blocks.
 fn check(rt: &impl Abort, alloc: Global, name: &str, steps: &[(Step, Answer)]) {
-    let topology = Topology::new(alloc).expect(rt, "memory");
+    let topology = Topology::new(alloc, Limits::standard()).expect(rt, "memory");
     let mut blocks = LeveledBlocks::new(alloc, HashSecret::none()).expect(rt, "memory");
     run_steps(rt, alloc, &topology, &mut blocks, name, steps);
     drop(blocks);

@@ -1,7 +1,7 @@
 // The choices on clusters of a few nodes, worked out by hand: a table of cases for each question.
 
 use crate::support::{beat, join, storages_numbered, take};
-use bm_base::{Event, Level, NodeId, StorageId};
+use bm_base::{Event, Level, Limits, NodeId, StorageId};
 use bm_place::{
     ExcessScratch, Scheduled, Streams, excess_of, fill_excess, least_source, least_target,
 };
@@ -81,7 +81,7 @@ fn drain(rt: &impl Abort, topology: &mut Topology, node: u32) {
 
 /// A cluster of nodes, some of which drain.
 fn cluster(rt: &impl Abort, alloc: Global, free: &[u64; 6], draining: &[u32]) -> Topology {
-    let mut topology = Topology::new(alloc).expect(rt, "memory");
+    let mut topology = Topology::new(alloc, Limits::standard()).expect(rt, "memory");
     for index in 0..6 {
         if free[index] > 0 {
             join_node(rt, alloc, &mut topology, &NODES[index], free[index]);
@@ -214,7 +214,7 @@ static MANY: [Choice<'static>; 4] = [
 ];
 
 fn cluster_of_singles(rt: &impl Abort, alloc: Global) -> Topology {
-    let mut topology = Topology::new(alloc).expect(rt, "memory");
+    let mut topology = Topology::new(alloc, Limits::standard()).expect(rt, "memory");
     for (number, rack, free) in &TWELVE {
         let storages = [*number];
         join(

@@ -1,7 +1,7 @@
 // Calls that can run out of memory, made with ample memory.
 
 use crate::support::STAMP;
-use bm_base::{BlockId, BlockInfo, HashSecret, Items, Places, Refusal, StorageId};
+use bm_base::{BlockId, BlockInfo, HashSecret, Items, Limits, Places, Refusal, StorageId};
 use bm_levels::LeveledBlocks;
 use bm_queries::{ReplicaFilter, blocks_on, list_replicas, missing_blocks, places, table_rows};
 use bm_topo::Topology;
@@ -68,7 +68,7 @@ fn check_lists(rt: &impl Abort, alloc: Global, blocks: &LeveledBlocks) {
 #[test]
 fn missing_blocks_are_sorted(rt: HostRuntime) {
     let alloc = rt.alloc();
-    let topology = Topology::new(alloc).expect(&rt, "memory");
+    let topology = Topology::new(alloc, Limits::standard()).expect(&rt, "memory");
     let mut blocks = LeveledBlocks::new(alloc, HashSecret::none()).expect(&rt, "memory");
     know(&topology, &mut blocks, BlockId(9)).expect(&rt, "memory");
     know(&topology, &mut blocks, BlockId(7)).expect(&rt, "memory");

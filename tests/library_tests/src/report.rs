@@ -4,7 +4,7 @@
 
 use crate::support::{check_step, join};
 use bm_arena::{Arena, Slot};
-use bm_base::{BlockId, BlockInfo, Entry, Gen, Marks, Part, Stamp, StorageId, Tag};
+use bm_base::{BlockId, BlockInfo, Entry, Gen, Limits, Marks, Part, Stamp, StorageId, Tag};
 use bm_report::{Applied, Report, abort, apply_deleted, apply_full, apply_received, ready};
 use bm_topo::Topology;
 use std::alloc::Global;
@@ -412,7 +412,7 @@ fn ask(rt: &impl Abort, world: &World, step: Step<'_>) -> Answer {
 
 /// One node with the storages 11 and 12, no block, and no report.
 fn one_node(rt: &impl Abort, alloc: Global, form: Form) -> World {
-    let mut topology = Topology::new(alloc).expect(rt, "memory");
+    let mut topology = Topology::new(alloc, Limits::standard()).expect(rt, "memory");
     join(rt, alloc, &mut topology, 1, 1, [11, 12].as_slice());
     World {
         form,

@@ -2,8 +2,8 @@
 
 use crate::support::STAMP;
 use bm_base::{
-    BlockId, Chosen, Config, Delete, Done, Event, Items, Level, NodeId, Places, Rack, Refusal,
-    Remaining, Replica, ReplicaId, RoundPart, StorageId, Tag, Transfer, Wish,
+    BlockId, Chosen, Config, Delete, Done, Event, Items, Level, Limits, NodeId, Places, Rack,
+    Refusal, Remaining, Replica, ReplicaId, RoundPart, StorageId, Tag, Transfer, Wish,
 };
 use bm_shard::Shard;
 use bm_topo::Topology;
@@ -198,7 +198,7 @@ fn copy(rt: &impl Abort, alloc: Global, topology: &Topology, shard: &mut Shard) 
 #[test]
 fn a_block_with_one_replica_is_copied_and_what_is_given_up_changes_nothing(rt: HostRuntime) {
     let alloc = rt.alloc();
-    let mut topology = Topology::new(alloc).expect(&rt, "memory");
+    let mut topology = Topology::new(alloc, Limits::standard()).expect(&rt, "memory");
     let mut shard = fresh(&rt, alloc, &topology);
     begin(&rt, alloc, &mut topology, &mut shard);
     check_queries(&rt, &shard);

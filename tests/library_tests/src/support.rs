@@ -1,5 +1,5 @@
 // What the tests of several crates share: the check of a step, and clusters that grow by events.
-use bm_base::{Event, Gen, Items, NodeId, Rack, Remaining, Stamp, StorageId};
+use bm_base::{Event, Gen, Items, Limits, NodeId, Rack, Remaining, Stamp, StorageId};
 use bm_topo::Topology;
 use std::alloc::Global;
 use std::process::Abort;
@@ -73,7 +73,7 @@ pub(crate) fn beat(
 /// Nodes 1 to 4 on racks 1, 1, 2 and 2, with the storages 11, 21, 31 and 41, each with 1,000 free
 /// bytes.
 pub(crate) fn four_nodes(rt: &impl Abort, alloc: Global) -> Topology {
-    let mut topology = Topology::new(alloc).expect(rt, "memory");
+    let mut topology = Topology::new(alloc, Limits::standard()).expect(rt, "memory");
     for (node, rack, storage) in [(1, 1, 11), (2, 1, 21), (3, 2, 31), (4, 2, 41)] {
         let storages = [storage];
         join(rt, alloc, &mut topology, node, rack, storages.as_slice());

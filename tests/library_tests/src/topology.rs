@@ -2,7 +2,7 @@
 // those worked out by hand. A table of scenarios, each a list of steps with their expected answers.
 use crate::support::check_step;
 use bm_base::{
-    BlockId, Entry, Event, Gen, Items, NodeId, Rack, Refusal, Remaining, Stamp, StorageId,
+    BlockId, Entry, Event, Gen, Items, Limits, NodeId, Rack, Refusal, Remaining, Stamp, StorageId,
 };
 use bm_topo::Topology;
 use std::alloc::Global;
@@ -602,7 +602,7 @@ static SCENARIOS: [Scenario<'static>; 13] = [
 ];
 
 fn check(rt: &impl Abort, alloc: Global, scenario: &Scenario<'_>) {
-    let mut topology = Topology::new(alloc).expect(rt, "memory");
+    let mut topology = Topology::new(alloc, Limits::standard()).expect(rt, "memory");
     run_steps(rt, alloc, &mut topology, "setup", scenario.setup);
     run_steps(rt, alloc, &mut topology, scenario.name, scenario.steps);
     drop(topology);
@@ -613,4 +613,36 @@ fn clusters_answer_as_worked_out(rt: HostRuntime) {
     for scenario in &SCENARIOS {
         check(&rt, rt.alloc(), scenario);
     }
+}
+
+/// A topology keeps to the limits that it is given, also above the standard ones.
+#[test]
+fn given_limits_hold(rt: HostRuntime) {
+    let alloc = rt.alloc();
+    let limits = Limits {
+        nodes: 600,
+        storages: 6_001,
+    };
+    let mut topology = Topology::new(alloc, limits).expect(&rt, "memory");
+    for node in 0..600 {
+        let event = event_of(&rt, alloc, Case::Comes(node, node % 7, node * 1_000, 10));
+        assert!(rt; take(&mut topology, &event) == Answer::Fine);
+    }
+    let further = event_of(&rt, alloc, Case::Comes(600, 1, 600_000, 1));
+    assert!(rt; take(&mut topology, &further) == Answer::Refused(Refusal::TooMany));
+    for storage in 0..6_000 {
+        let place = storage / 10 * 1_000 + storage % 10;
+        assert!(rt; topology.storage_at(storage) == Some(StorageId(place)));
+        assert!(rt; topology.node_of(StorageId(place)) == Some(NodeId(storage / 10)));
+    }
+    let dead = event_of(&rt, alloc, Case::Dies(300));
+    assert!(rt; take(&mut topology, &dead) == Answer::Fine);
+    let larger = event_of(&rt, alloc, Case::Comes(600, 1, 600_000, 12));
+    assert!(rt; take(&mut topology, &larger) == Answer::Refused(Refusal::TooMany));
+    assert!(rt; take(&mut topology, &further) == Answer::Fine);
+    assert!(rt; topology.storages_of(NodeId(300)).is_empty());
+    assert!(rt; topology.storages_of(NodeId(599)).len() == 10);
+    assert!(rt; topology.limits() == limits);
+    drop(topology);
+    drop((further, dead, larger));
 }

@@ -1,7 +1,7 @@
 // The level of a block before and after a node drains, a storage fails and a node dies.
 
 use crate::support::{STAMP, join};
-use bm_base::{BlockId, BlockInfo, Event, HashSecret, Level, NodeId, StorageId};
+use bm_base::{BlockId, BlockInfo, Event, HashSecret, Level, Limits, NodeId, StorageId};
 use bm_levels::LeveledBlocks;
 use bm_report::Report;
 use bm_topo::Topology;
@@ -11,7 +11,7 @@ use std::process::Abort;
 const ID: BlockId = BlockId(7);
 
 fn nowhere(rt: &impl Abort, alloc: Global) -> Topology {
-    Topology::new(alloc).expect(rt, "memory")
+    Topology::new(alloc, Limits::standard()).expect(rt, "memory")
 }
 
 /// Two nodes on two racks, 1 with storage 11 and 2 with storage 21.
