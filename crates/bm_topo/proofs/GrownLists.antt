@@ -1,9 +1,9 @@
 -- A topology stays sound where the lists next to the table of its storages grow, and then the table.
-use Rattle.std.proofs.Common.{◌≡◌, ℕ, ◌≤◌, ◌<◌, List, length, Some, arith, ap, sym, subst}
+use Rattle.std.proofs.Common.{◌≡◌, ℕ, ◌≤◌, ◌<◌, List, length, Some, arith, sym, subst}
 use Rattle.std.specs.Prelude.{slice_get}
 use Rattle.bm_base.specs.declared.storage.StorageInfo.{StorageInfo}
 use Rattle.bm_base.specs.declared.limits.Limits.{Limits}
-use Rattle.bm_base.specs.Maps.Map.{Map, Set, by_number, len}
+use Rattle.bm_base.specs.Maps.Map.{Map, Set, by_number}
 use Rattle.bm_maps.specs.Table.{Table, capacity}
 use Rattle.bm_topo.specs.declared.spots.Spot.{Spot}
 use Rattle.bm_topo.specs.ByNode.{AreAllByNode}

@@ -1,12 +1,8 @@
-use Rattle.std.proofs.Common.{◌≡◌, ◌+◌, ℕ, None, arith, ap, sym, subst, ◌∙◌}
-use Rattle.std.proofs.lemmas.List.{length-map}
-use Rattle.bm_base.specs.declared.storage.StorageInfo.{StorageInfo}
+use Rattle.std.proofs.Common.{◌≡◌, ◌+◌, None, arith, ap, sym, subst, ◌∙◌}
 use Rattle.bm_base.specs.declared.event.Event.TheVariants.{Register}
 use Rattle.bm_base.specs.Words.{insert, insert_all, remove, len, register, first_of, cluster_checks}
-use Rattle.bm_base.proofs.MapEntries.{len_insert_all}
 use Rattle.bm_topo.specs.NewStorages.{new_storages}
 use Rattle.bm_topo.specs.Racks.{on_rack}
-use Rattle.bm_topo.specs.Sound.{cluster_of}
 use Rattle.bm_topo.proofs.RackChanges.{on_rack-le}
 use Rattle.bm_topo.proofs.Capacity.{same_capacity, room_kept}
 use Rattle.bm_topo.proofs.SpotTable.{none_set}

@@ -1,4 +1,4 @@
-use Rattle.std.proofs.Common.{arith, subst, sym, ◌∙◌}
+use Rattle.std.proofs.Common.{arith, subst, sym}
 use Rattle.bm_topo.specs.Sound.{cluster_of}
 use Rattle.bm_topo.specs.Spots.{AreSpots}
 use Rattle.bm_topo.proofs.topology.Topology.record_indices.Goals as goal
