@@ -43,8 +43,8 @@ answered_calls_lead_to_lawful =
     (l : Limits) (c : Config) (ks : List Call) (answers : List Answer) → IsTrue (are_allowed l) → HasFittingStart c → FitCalls ks → MayAnswerAll (first_state_within l c) ks answers
     → IsLawful (state_after_answers (first_state_within l c) ks answers)
 
--- Whatever the limits, and whatever numbers calls bring, they lead to a state that is lawful but for
--- the sizes of its numbers.
+-- Whatever the limits, and whatever numbers calls bring, they lead to a state that is lawful but
+-- for the sizes of its numbers.
 
 abbrev pub calls_lead_to_orderly : Type 0
 calls_lead_to_orderly = (l : Limits) (c : Config) (ks : List Call) → IsOrderly (state_after (first_state_within l c) ks)
