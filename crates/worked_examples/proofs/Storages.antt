@@ -3,7 +3,6 @@ use Rattle.std.specs.Prelude.{◌≡◌, ℕ, zero, suc, ◌+◌, ◌-◌, ◌<�
 use Rattle.std.specs.List.{list_any}
 use Rattle.std.proofs.Common.{refl, ap, ◌∙◌, arith}
 use Rattle.std.proofs.lemmas.Bool.{ne_eqb}
-use Rattle.bm_base.specs.declared.limits.TheConstants.{MAX_NODES, MAX_STORAGES}
 use Rattle.bm_base.specs.declared.refusal.Refusal.{Refusal}
 use Rattle.bm_base.specs.declared.call.Call.{Call}
 use Rattle.bm_base.specs.declared.call.Call.TheVariants as call
@@ -11,7 +10,7 @@ use Rattle.bm_base.specs.declared.call.Answer.{Answer}
 use Rattle.bm_base.specs.declared.call.Answer.TheVariants as answer
 use Rattle.bm_base.specs.declared.event.Event.{Event}
 use Rattle.bm_base.specs.declared.event.Event.TheVariants.{Register}
-use Rattle.bm_base.specs.Words.{len, State, first_state, has, has_repeats, last_number, knows_node, knows_storage, refusal_of, cluster_checks, block_checks, calls_spent, answers, done_by, after_event, refused_or, step, state_after}
+use Rattle.bm_base.specs.Words.{len, State, first_state, standard_limits, has, has_repeats, last_number, knows_node, knows_storage, refusal_of, cluster_checks, block_checks, calls_spent, answers, done_by, after_event, refused_or, step, state_after}
 use Rattle.worked_examples.specs.Runs.{run_of}
 use Rattle.worked_examples.specs.Script.{example_config, registrations, heartbeats, ok}
 use Rattle.worked_examples.specs.Limits.{numbers_down, as_many_as_may_be, past_the_limit, storages_at_the_limit}
@@ -28,8 +27,8 @@ once_down last (suc k) h = rw (none_above (last - 1) k last (omega arith)) (once
 
 -- a register that passes each check is accepted
 register_accepted : (M : State) (n rack : ℕ) (ss : List ℕ) → knows_node M.cluster n ≡ false → has_repeats ss ≡ false
-    → list_any (knows_storage M.cluster) ss ≡ false → nat_le MAX_NODES (len M.cluster.nodes) ≡ false
-    → nat_lt MAX_STORAGES (len M.cluster.storages + length ss) ≡ false → nat_le last_number M.calls ≡ false
+    → list_any (knows_storage M.cluster) ss ≡ false → nat_le M.cluster.limits.nodes (len M.cluster.nodes) ≡ false
+    → nat_lt M.cluster.limits.storages (len M.cluster.storages + length ss) ≡ false → nat_le last_number M.calls ≡ false
     → refusal_of M (Register n rack ss) ≡ None
 unfolding refusal_of cluster_checks block_checks calls_spent
 register_accepted M n rack ss a b c d e f = rw (a, b, c, d, e, f) refl
@@ -60,7 +59,7 @@ four = state_after (first_state example_config) (calls_of begin)
 abbrev fifth : Event
 fifth = Register 5 1 as_many_as_may_be
 
-after_begin : (ks : List Call) → run_of example_config (calls_of begin ++ ks) ≡ answers_of begin ++ answers four ks
+after_begin : (ks : List Call) → run_of standard_limits example_config (calls_of begin ++ ks) ≡ answers_of begin ++ answers four ks
 unfolding run_of
 after_begin ks = refl
 
@@ -72,11 +71,11 @@ are_new : list_any (knows_storage four.cluster) as_many_as_may_be ≡ false
 unfolding run_of
 are_new = refl
 
-few_nodes : nat_le MAX_NODES (len four.cluster.nodes) ≡ false
+few_nodes : nat_le four.cluster.limits.nodes (len four.cluster.nodes) ≡ false
 unfolding run_of
 few_nodes = refl
 
-few_storages : nat_lt MAX_STORAGES (len four.cluster.storages + length as_many_as_may_be) ≡ false
+few_storages : nat_lt four.cluster.limits.storages (len four.cluster.storages + length as_many_as_may_be) ≡ false
 unfolding run_of
 few_storages = refl
 

@@ -1,11 +1,13 @@
 -- Limits of nodes, of storages, and of the entries and block numbers of a report.
-use Rattle.std.specs.Prelude.{ℕ, zero, suc, ◌+◌, ◌-◌, List, [], ◌∷◌, ◌++◌, map, replicate}
+use Rattle.std.specs.Prelude.{ℕ, zero, suc, ◌-◌, List, [], ◌∷◌, ◌++◌, map, replicate}
 use Rattle.std.specs.List.{range_with_len}
+use Rattle.bm_base.specs.declared.limits.Limits.{Limits}
 use Rattle.bm_base.specs.declared.replica.Tag.TheVariants.{Good}
 use Rattle.bm_base.specs.declared.refusal.Refusal.TheVariants.{UnknownNode, NodeKnown, UnknownStorage, StorageKnown, TooMany, CallsSpent}
 use Rattle.bm_base.specs.declared.call.Call.{Call}
 use Rattle.bm_base.specs.declared.call.Answer.{Answer}
-use Rattle.worked_examples.specs.Script.{◌gives◌, Holds, HoldsOnCluster, example_config, register, dead, storage_failed, report, entry, run, list_replicas, add_block, ok, replicas, replica, refused}
+use Rattle.bm_base.specs.Machine.State.{standard_limits}
+use Rattle.worked_examples.specs.Script.{◌gives◌, Holds, HoldsWithin, HoldsOnCluster, example_config, register, dead, storage_failed, drain, report, entry, run, list_replicas, add_block, ok, replicas, replica, refused}
 
 -- the 258 accepted calls are the last that can be counted
 abbrev pub no_257th_node : Type 0
@@ -71,3 +73,54 @@ past_the_limit =
 
 abbrev pub storages_at_the_limit : Type 0
 storages_at_the_limit = HoldsOnCluster example_config (register 5 1 as_many_as_may_be gives ok 0 0 ∷ past_the_limit)
+
+-- Limits other than the standard ones.
+
+-- at most two nodes and three storages
+abbrev pub two_nodes_three_storages : Limits
+two_nodes_three_storages = record { nodes = 2; storages = 3 }
+
+-- a draining node counts, and a dead one does not
+abbrev pub no_third_node : Type 0
+no_third_node = HoldsWithin two_nodes_three_storages example_config (
+    register 1 1 [] gives ok 0 0
+    ∷ register 2 1 [] gives ok 0 0
+    ∷ register 3 1 [] gives refused TooMany
+    ∷ drain 1 gives ok 0 0
+    ∷ register 3 1 [] gives refused TooMany
+    ∷ dead 1 gives ok 0 0
+    ∷ register 3 1 [] gives ok 0 0
+    ∷ register 1 1 [] gives refused TooMany
+    ∷ [])
+
+-- First node 1 has all three storages. Then one fails, and at last the node dies.
+abbrev pub no_fourth_storage : Type 0
+no_fourth_storage = HoldsWithin two_nodes_three_storages example_config (
+    register 1 1 (11 ∷ 12 ∷ 13 ∷ 14 ∷ []) gives refused TooMany
+    ∷ register 1 1 (11 ∷ 12 ∷ 13 ∷ []) gives ok 0 0
+    ∷ register 2 1 (21 ∷ []) gives refused TooMany
+    ∷ storage_failed 13 gives ok 0 0
+    ∷ register 2 1 (21 ∷ 22 ∷ []) gives refused TooMany
+    ∷ register 2 1 (21 ∷ []) gives ok 0 0
+    ∷ dead 1 gives ok 0 0
+    ∷ register 3 1 (31 ∷ 32 ∷ 33 ∷ []) gives refused TooMany
+    ∷ register 3 1 (31 ∷ 32 ∷ []) gives ok 0 0
+    ∷ [])
+
+-- the least limits
+abbrev pub one_node_one_storage : Type 0
+one_node_one_storage = HoldsWithin (record { nodes = 1; storages = 1 }) example_config (
+    register 1 1 (11 ∷ 12 ∷ []) gives refused TooMany
+    ∷ register 1 1 (11 ∷ []) gives ok 0 0
+    ∷ register 2 1 [] gives refused TooMany
+    ∷ dead 1 gives ok 0 0
+    ∷ register 2 1 (21 ∷ []) gives ok 0 0
+    ∷ [])
+
+-- one node more than the standard limits allow
+abbrev pub no_258th_node : Type 0
+no_258th_node = HoldsWithin (record standard_limits { nodes = 257 }) example_config (map (λ n. register n 1 [] gives ok 0 0) (range_with_len 1 257) ++ (
+    register 258 1 [] gives refused TooMany
+    ∷ dead 257 gives ok 0 0
+    ∷ register 258 1 [] gives ok 0 0
+    ∷ []))

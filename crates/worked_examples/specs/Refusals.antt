@@ -3,7 +3,9 @@ use Rattle.std.specs.Prelude.{◌≡◌, List, [], ◌∷◌, map, replicate, So
 use Rattle.bm_base.specs.declared.replica.Tag.TheVariants.{Stray}
 use Rattle.bm_base.specs.declared.refusal.Refusal.TheVariants.{UnknownNode, NodeKnown, UnknownStorage, StorageKnown, UnknownBlock, BlockKnown, StillStored, BadReplication, OldGeneration, NotItsStorage, RoundsSpent, CallsSpent, BadConfig}
 use Rattle.bm_base.specs.declared.config.Config.{Config}
-use Rattle.bm_base.specs.Machine.Configuration.{config_refusal}
+use Rattle.bm_base.specs.declared.limits.Limits.{Limits}
+use Rattle.bm_base.specs.Machine.State.{standard_limits}
+use Rattle.bm_base.specs.Machine.Configuration.{config_refusal, limits_refusal}
 use Rattle.worked_examples.specs.Script.{◌gives◌, Holds, HoldsOnCluster, example_config, register, dead, storage_failed, heartbeat, remaining, drain, undrain, add_block, delete_block, set_replication, restamp, received, deleted, corrupt, report, round, list_replicas, list_storage, places, level, retired, count_calls, count_rounds, ok, commands, replicas, replica, storages, is_not_retired, number, refused}
 
 abbrev pub refusals_are_named : Type 0
@@ -144,3 +146,26 @@ outside_ranges_refused = map config_refusal outside_ranges ≡ replicate 10 (Som
 
 abbrev pub ends_of_ranges_accepted : Type 0
 ends_of_ranges_accepted = map config_refusal ends_of_ranges ≡ replicate 2 None
+
+-- each limit of the cluster just below its range, and just above it
+abbrev pub limits_outside_ranges : List Limits
+limits_outside_ranges =
+    record standard_limits { nodes = 0 }
+    ∷ record standard_limits { nodes = 65537 }
+    ∷ record standard_limits { storages = 0 }
+    ∷ record standard_limits { storages = 1048577 }
+    ∷ []
+
+-- the least and the greatest limits, and the standard ones
+abbrev pub limits_in_ranges : List Limits
+limits_in_ranges =
+    record { nodes = 1; storages = 1 }
+    ∷ record { nodes = 65536; storages = 1048576 }
+    ∷ standard_limits
+    ∷ []
+
+abbrev pub limits_outside_ranges_refused : Type 0
+limits_outside_ranges_refused = map limits_refusal limits_outside_ranges ≡ replicate 4 (Some BadConfig)
+
+abbrev pub limits_in_ranges_accepted : Type 0
+limits_in_ranges_accepted = map limits_refusal limits_in_ranges ≡ replicate 3 None

@@ -1,6 +1,7 @@
 -- Notation of scripts: calls of a manager, each with the answer that it gives.
 use Rattle.std.specs.Prelude.{◌≡◌, ℕ, true, false, List, [], ◌∷◌, ◌++◌, map, Some, None}
 use Rattle.bm_base.specs.declared.config.Config.{Config}
+use Rattle.bm_base.specs.declared.limits.Limits.{Limits}
 use Rattle.bm_base.specs.declared.replica.Stamp.{Stamp}
 use Rattle.bm_base.specs.declared.replica.Tag.{Tag}
 use Rattle.bm_base.specs.declared.replica.Replica.{Replica}
@@ -16,7 +17,7 @@ use Rattle.bm_base.specs.declared.call.Call.{Call}
 use Rattle.bm_base.specs.declared.call.Call.TheVariants as call
 use Rattle.bm_base.specs.declared.call.Answer.{Answer}
 use Rattle.bm_base.specs.declared.call.Answer.TheVariants as answer
-use Rattle.bm_base.specs.Words.{replica_at, standard}
+use Rattle.bm_base.specs.Words.{replica_at, standard, standard_limits}
 use Rattle.worked_examples.specs.Runs.{run_of}
 
 -- a call with its answer
@@ -24,9 +25,14 @@ infix 68 ◌gives◌
 abbrev pub ◌gives◌ : Call → Answer → Call × Answer
 k gives a = (k, a)
 
--- from the first state of a configuration, the calls of a script give the answers in it
+-- from the first state of a configuration within these limits, the calls of a script give the
+-- answers in it
+abbrev pub HoldsWithin : Limits → Config → List (Call × Answer) → Type 0
+HoldsWithin limits config script = run_of limits config (map (λ l. l.0) script) ≡ map (λ l. l.1) script
+
+-- the same within the standard limits
 abbrev pub Holds : Config → List (Call × Answer) → Type 0
-Holds config script = run_of config (map (λ l. l.0) script) ≡ map (λ l. l.1) script
+Holds config script = HoldsWithin standard_limits config script
 
 -- Parts of calls and of answers. Every block is 10 bytes long, and its generation is 1 unless
 -- another is given.

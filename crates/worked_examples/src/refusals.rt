@@ -32,3 +32,9 @@ pub fn configurations_have_ranges()
     ensures outside { example.outside_ranges_refused }
     ensures ends { example.ends_of_ranges_accepted }
 {}
+
+/// The limits of nodes and of storages have ranges, which include both ends.
+pub fn limits_have_ranges()
+    ensures outside { example.limits_outside_ranges_refused }
+    ensures inside { example.limits_in_ranges_accepted }
+{}
