@@ -8,8 +8,6 @@ from dataclasses import replace
 
 from model.state import LAST, Block, Node, Replica, Stamp, Storage, need
 
-MAX_NODES = 256
-MAX_STORAGES = 4_096
 MAX_ITEMS = 65_536
 MAX_NAMED = 1_048_576
 MAX_WANTED = 16
@@ -32,8 +30,8 @@ def register(state, node, rack, storages):
     need(node not in state.nodes, "NodeKnown")
     is_listed_twice = len(set(storages)) < len(storages)
     need(not is_listed_twice and not set(storages) & state.storages.keys(), "StorageKnown")
-    need(len(state.nodes) < MAX_NODES, "TooMany")
-    need(len(state.storages) + len(storages) <= MAX_STORAGES, "TooMany")
+    need(len(state.nodes) < state.limits.nodes, "TooMany")
+    need(len(state.storages) + len(storages) <= state.limits.storages, "TooMany")
     new = {storage: Storage(node, free=0) for storage in storages}
     return replace(
         state,

@@ -43,6 +43,8 @@ class Limits(NamedTuple):
     work: int = 2
     invalidate: int = 1000
     pend: int = 100
+    nodes: int = 256
+    storages: int = 4_096
 
 
 class Node(NamedTuple):

@@ -3,9 +3,9 @@
     scripts/support/fuzz_binding.py [--examples N] [--seed N] COMMAND..
 
 The command is a driver of a binding: it reads lines on standard input and prints the answer of
-each, on a manager of its own. In its words {shards}, {work}, {invalidate} and {pend} stand for the
-options, and a manager without them has the standard ones. A difference is reduced by hypothesis to
-few lines, which are printed. Without a seed every run has the same lines.
+each, on a manager of its own. In its words {shards}, {work}, {invalidate}, {pend}, {nodes} and
+{storages} stand for the options, and a manager without them has the standard ones. A difference is
+reduced by hypothesis to few lines, which are printed. Without a seed every run has the same lines.
 
 It needs python3-hypothesis; `fuzz` in fuzz.py starts it.
 """
@@ -25,7 +25,7 @@ from model.lines import CALLS, MAX_LINE, answered
 from model.state import Limits, State
 from random_lines import FREE_BYTES, ODD_LINES
 
-STANDARD = {"shards": 1, "work": 2, "invalidate": 1000, "pend": 100}
+STANDARD = {"shards": 1, "work": 2, "invalidate": 1000, "pend": 100, "nodes": 256, "storages": 4096}
 
 # How often each operation is drawn; an operation that is left out, once.
 WEIGHTS = {"register": 3, "received": 6, "report": 3, "add": 3, "round": 4, "heartbeat": 2}
@@ -76,6 +76,10 @@ FIELDS = {
 }
 
 
+def joined(parts):
+    return {name: value for part in parts for name, value in part.items()}
+
+
 def line_of(op, fields):
     return json.dumps({"op": op, **fields}, separators=(",", ":")).encode()
 
@@ -107,6 +111,9 @@ options = st.fixed_dictionaries({
     "pend": one_of([100, 1, 2]),
 })
 
+# With few numbers, only small limits are reached.
+limits = st.fixed_dictionaries({"nodes": one_of([256, 1, 3, 65_536]), "storages": one_of([4_096, 2, 4, 1_048_576])})
+
 
 def how_to_run(examples, seed):
     """A decorator: this number of examples, the same in every run or drawn by a seed."""
@@ -117,8 +124,12 @@ def how_to_run(examples, seed):
     return chosen, (lambda test: test) if seed is None else hypothesis.seed(seed)
 
 
+def limits_of(options):
+    return Limits(**{name: options[name] for name in Limits._fields if name in options})
+
+
 def answers_of_model(options, lines):
-    state, answers = State(Limits(*(options[name] for name in Limits._fields))), []
+    state, answers = State(limits_of(options)), []
     for line in lines:
         state, answer = answered(state, line)
         answers.append(answer.encode())
@@ -147,11 +158,11 @@ def difference(options, lines, found, wanted):
 
 def compare(command, examples, seed):
     chosen, seeded = how_to_run(examples, seed)
-    takes_options = any("{" in word for word in command)
+    drawn = [of for name, of in (("{shards}", options), ("{nodes}", limits)) if name in command]
 
     @seeded
     @chosen
-    @given(options if takes_options else st.just(STANDARD), scripts)
+    @given(st.tuples(st.just(STANDARD), *drawn).map(joined), scripts)
     def is_answered_alike(options, lines):
         found, wanted = answers_of_driver(command, options, lines), answers_of_model(options, lines)
         assert found == wanted, difference(options, lines, found, wanted)

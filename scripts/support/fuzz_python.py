@@ -23,10 +23,10 @@ from hypothesis.stateful import RuleBasedStateMachine, initialize, rule, run_sta
 
 sys.path.insert(0, str(Path(__file__).resolve().parents[2]))
 sys.path.insert(0, str(Path(__file__).resolve().parents[2] / "bindings/python"))
-from fuzz_binding import SET_UP, how_to_run, lines, one_of, options, queries
+from fuzz_binding import SET_UP, how_to_run, limits, limits_of, lines, one_of, options, queries
 from interrupts import interrupted_at
 from model.lines import answered
-from model.state import LAST, Limits, State
+from model.state import LAST, State
 from puljemrod import Fault, Manager, OutOfMemory, TextOwed
 
 THREADS = 3
@@ -34,7 +34,7 @@ THREADS = 3
 # What the calls have to reach, in a run of the usual length.
 HAS_TO_REACH = ["ok", "round", "copy", "refused 20", "interrupted", "a restart", "a close", "queries at once"]
 HAS_TO_REACH_IN_LIBRARY = [
-    *["delete", "refused 12", "refused 13", "refused 21"],
+    *["delete", "refused 10", "refused 12", "refused 13", "refused 21"],
     *["OutOfMemory", "TextOwed", "no memory for a manager"],
 ]
 
@@ -61,12 +61,13 @@ class Calls(RuleBasedStateMachine):
         super().__init__()
         self.workers = [ThreadPoolExecutor(1) for _ in range(THREADS)]
 
-    @initialize(options=options, is_set_up=st.booleans(), first_round=one_of([0, LAST - 2]), first_call=one_of([0, LAST - 30]))
-    def start(self, options, is_set_up, first_round, first_call):
+    @initialize(options=options, limits=limits, is_set_up=st.booleans(), first_round=one_of([0, LAST - 2]), first_call=one_of([0, LAST - 30]))
+    def start(self, options, limits, is_set_up, first_round, first_call):
         self.options, first = dict(options), {}
         if "library" in self.engine:
             first = {"first_round": first_round, "first_call": first_call}
-        self.state = State(Limits(*(options[name] for name in Limits._fields)), last_round=first.get("first_round", 0), calls=first.get("first_call", 0))
+            self.options.update(limits)
+        self.state = State(limits_of(self.options), last_round=first.get("first_round", 0), calls=first.get("first_call", 0))
         self.options.update(first)
         self.log, self.answers, self.last = [], [], b""
         self.manager = Manager(**self.engine, **self.options)
