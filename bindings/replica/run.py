@@ -6,12 +6,16 @@ import time
 from keys import Keys, Stop, agree_on_layout, agree_on_options
 from leader import Leadership
 from log import read
-from puljemrod import Fault, Manager, OutOfMemory, TooMuch
+from puljemrod import Fault, Manager, OutOfMemory, TooMuch, named_library
 from state import Replica
 from store import Store, StoreError
 
-# The options of the tool that answers depend on: they have to be the same for all replicas.
+# The options that answers depend on: they have to be the same for all replicas.
 SHARED = {"work": 2, "invalidate": 1000, "pend": 100}
+
+# These too. Only the library takes others, and version 1 knows none of them: so they are written
+# down only if they are others.
+LIMITS = {"nodes": 256, "storages": 4_096}
 
 
 def reason_of(fault):
@@ -22,9 +26,18 @@ def reason_of(fault):
     return f"the manager has ended: {fault}"
 
 
+def shared_options(words):
+    options = {name: getattr(words, name) for name in (*SHARED, *LIMITS)}
+    others = [name for name, value in LIMITS.items() if options[name] != value]
+    if others and not words.library and (words.tool or not named_library()):
+        raise Stop(f"--{others[0]} {options[others[0]]} needs the library: the line tool has "
+                   f"{LIMITS[others[0]]}")
+    return {name: value for name, value in options.items() if name in SHARED or name in others}
+
+
 def joined(words, keys, say):
     """The replica and its part in the lead, once all options are accepted and it has its name."""
-    options = {name: getattr(words, name) for name in SHARED}
+    options = shared_options(words)
     given = {**options, "shards": words.shards, "workers": words.workers}
     replica = Replica(Manager(words.tool, words.library, **given), keys, say)
     leadership = Leadership(
