@@ -1,6 +1,6 @@
 /* The line tool in C: answers each line of standard input by a line of standard output, and then
- * prints on standard error how many lines it answered. Its arguments are shards, work, invalidate
- * and pend, in this order; the last ones may be left out.
+ * prints on standard error how many lines it answered. Its arguments are shards, work, invalidate,
+ * pend, nodes and storages, in this order; the last ones may be left out.
  *
  * Status 1 where a read or a write fails or memory is refused, and 2 for a wrong argument; standard
  * error says what it was. */
@@ -66,8 +66,9 @@ static int answer_lines(puljemrod *manager) {
 int main(int count, char **words) {
     puljemrod manager = PULJEMROD_CLOSED_HANDLE;
     puljemrod_options options = PULJEMROD_STANDARD;
-    uint32_t *fields[] = {&options.shards, &options.work, &options.invalidate, &options.pend};
-    if (count > 5) return fault(2, words[5], "at most four numbers are arguments");
+    uint32_t *fields[] = {&options.shards, &options.work,  &options.invalidate,
+                          &options.pend,   &options.nodes, &options.storages};
+    if (count > 7) return fault(2, words[7], "at most six numbers are arguments");
     for (int at = 1; at < count; at++)
         if (!read_number(words[at], fields[at - 1])) return fault(2, words[at], "no number below 2^32");
     /* Without a secret, whoever chooses block numbers can make each call slow. */

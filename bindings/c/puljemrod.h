@@ -84,12 +84,14 @@ typedef struct puljemrod_options {
     uint64_t first_call;  /* the number of accepted calls at the start */
     uint64_t secret;      /* random bits, unknown to whoever chooses the block numbers: only time
                              depends on them. 0 IS NO SECRET */
+    uint32_t nodes;       /* the most nodes alive at a time, 1 to 65,536; 0 means 256 */
+    uint32_t storages;    /* the most storages at a time, 1 to 1,048,576; 0 means 4,096 */
 } puljemrod_options;
 
 /* WITHOUT A SECRET, WHOEVER CHOOSES BLOCK NUMBERS CAN CHOOSE ONES THAT COLLIDE IN THE TABLES: each
  * call with them is slow. The library has no random bits of its own, so draw a secret where others
  * choose numbers; on Linux by getrandom of <sys/random.h>, as above. */
-#define PULJEMROD_STANDARD {1, 2, 1000, 100, 0, 0, 0}
+#define PULJEMROD_STANDARD {1, 2, 1000, 100, 0, 0, 0, 256, 4096}
 
 /* A code of a call. Codes from 1 to 31 are refusals, with the numbers and names of
  * docs/FORMATS.md. */
@@ -104,8 +106,8 @@ enum {
     PULJEMROD_STILL_STORED = 7,    /* a stray replica of the block's number is still stored */
     PULJEMROD_BAD_REPLICATION = 8, /* not between 1 and 16 */
     PULJEMROD_OLD_GENERATION = 9,  /* the generation is not greater than the block's */
-    PULJEMROD_TOO_MANY = 10,       /* past 256 nodes, 4,096 storages, or in a report 65,536 entries
-                                      or 1,048,576 block numbers, repeats counted */
+    PULJEMROD_TOO_MANY = 10,       /* past the option `nodes` or `storages`, or in a report 65,536
+                                      entries or 1,048,576 block numbers, repeats counted */
     PULJEMROD_NOT_ITS_STORAGE = 11, /* a storage is on another node */
     PULJEMROD_ROUNDS_SPENT = 12,   /* the round number has its last value */
     PULJEMROD_CALLS_SPENT = 13,    /* the number of accepted calls has its last value */
@@ -286,7 +288,7 @@ size_t puljemrod_number_rows(puljemrod *handle, size_t from, uint64_t *out, size
 /* ---- Where blocks are, for any number of threads */
 
 /* Copies the storages of a block's good replicas, ascending: all that there are, at most `out_len`.
- * Returns their number; 0 for a block that is not known. 4,096 items always suffice.
+ * Returns their number, never more than the option `storages`; 0 for a block that is not known.
  *
  * `rows` are all rows of one answer of puljemrod_replicas, in its order. The storages are those of
  * that state, as puljemrod_places gives them then. The function reads the rows and writes `out`

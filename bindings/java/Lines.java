@@ -9,7 +9,8 @@ import java.io.OutputStream;
 
 /**
  * The line tool in Java: answers each line of standard input by a line of standard output. Its
- * arguments are shards, work, invalidate and pend, in this order; the last ones may be left out.
+ * arguments are shards, work, invalidate, pend, nodes and storages, in this order; the last ones
+ * may be left out.
  */
 public final class Lines {
     private Lines() {}
@@ -20,6 +21,8 @@ public final class Lines {
         options.work = words.length > 1 ? Integer.parseInt(words[1]) : options.work;
         options.invalidate = words.length > 2 ? Integer.parseInt(words[2]) : options.invalidate;
         options.pend = words.length > 3 ? Integer.parseInt(words[3]) : options.pend;
+        options.nodes = words.length > 4 ? Integer.parseInt(words[4]) : options.nodes;
+        options.storages = words.length > 5 ? Integer.parseInt(words[5]) : options.storages;
         return options;
     }
 

@@ -66,6 +66,10 @@ public final class Puljemrod implements AutoCloseable {
          * no secret: then chosen numbers can make each call slow.
          */
         public long secret = new SecureRandom().nextLong();
+        /** The most nodes alive at a time, 1 to 65,536; 0 means 256. */
+        public int nodes = 256;
+        /** The most storages at a time, 1 to 1,048,576; 0 means 4,096. */
+        public int storages = 4096;
     }
 
     /**
@@ -120,7 +124,7 @@ public final class Puljemrod implements AutoCloseable {
     public Puljemrod(Options options) {
         int[] code = new int[1];
         handle = open(options.shards, options.work, options.invalidate, options.pend,
-                options.firstRound, options.firstCall, options.secret, code);
+                options.firstRound, options.firstCall, options.secret, options.nodes, options.storages, code);
         if (code[0] != OK) {
             throw new RefusedException(code[0]);
         }
@@ -202,7 +206,7 @@ public final class Puljemrod implements AutoCloseable {
     private static native int versionNumber();
 
     private static native long open(int shards, int work, int invalidate, int pend,
-            long firstRound, long firstCall, long secret, int[] code);
+            long firstRound, long firstCall, long secret, int nodes, int storages, int[] code);
 
     private static native int answer(long handle, byte[] line);
 

@@ -16,12 +16,13 @@ JNIEXPORT jint JNICALL Java_Puljemrod_versionNumber(JNIEnv *env, jclass class) {
 
 JNIEXPORT jlong JNICALL Java_Puljemrod_open(JNIEnv *env, jclass class, jint shards, jint work, jint invalidate,
                                             jint pend, jlong first_round, jlong first_call, jlong secret,
-                                            jintArray code_out) {
+                                            jint nodes, jint storages, jintArray code_out) {
     (void)class;
     puljemrod *handle = calloc(1, sizeof *handle);
     puljemrod_options options = {
         (uint32_t)shards,      (uint32_t)work,       (uint32_t)invalidate, (uint32_t)pend,
-        (uint64_t)first_round, (uint64_t)first_call, (uint64_t)secret,
+        (uint64_t)first_round, (uint64_t)first_call, (uint64_t)secret,     (uint32_t)nodes,
+        (uint32_t)storages,
     };
     jint code = handle == NULL ? PULJEMROD_MEMORY : (jint)puljemrod_open(handle, &options);
     (*env)->SetIntArrayRegion(env, code_out, 0, 1, &code);

@@ -41,11 +41,12 @@ NO_ENGINE = ("there is no engine: give library= or PULJEMROD_LIBRARY, or tool=; 
 # Codes of the library.
 OK, MEMORY, CLOSED, NO_TEXT = 0, 14, 32, 34
 
-STANDARD = {"shards": 1, "work": 2, "invalidate": 1000, "pend": 100}
+STANDARD = {"shards": 1, "work": 2, "invalidate": 1000, "pend": 100, "nodes": 256, "storages": 4_096}
 
-# The greatest value of each option, and the least, which is 1 for those of the tool.
+# The greatest value of each option. The least is 1, or 0 for those of `FROM_0`.
 GREATEST = {"shards": 64, "workers": 16, "work": 1_000, "invalidate": 1_000_000, "pend": 1_000_000}
-OF_LIBRARY = {**GREATEST, **dict.fromkeys(("first_round", "first_call", "secret"), 2**64 - 1)}
+FROM_0 = dict.fromkeys(("first_round", "first_call", "secret"), 2**64 - 1)
+OF_LIBRARY = {**GREATEST, "nodes": 65_536, "storages": 1_048_576, **FROM_0}
 
 
 class Fault(Exception):
@@ -102,7 +103,7 @@ def checked(options, greatest):
     for name, value in named(options, greatest).items():
         if not isinstance(value, int) or isinstance(value, bool):
             raise TypeError(f"{name} is not a whole number: {value!r}")
-        least = 1 if name in GREATEST else 0
+        least = 0 if name in FROM_0 else 1
         if not least <= value <= greatest[name]:
             raise Fault(f"{name} is outside its range, {least:,} to {greatest[name]:,}: {value}")
     return options
@@ -142,8 +143,8 @@ class Manager:
 
     Its engine is the library, or the line tool as a child process. A path names the engine; without
     one it is the library if that is built, else the tool. `options` are those of the tool: shards,
-    workers, work, invalidate, pend; the library also takes first_round, first_call and secret, and
-    works with one thread.
+    workers, work, invalidate, pend. The library also takes nodes and storages, the most that there
+    may be at a time, and first_round, first_call and secret; it works with one thread.
 
     A call may be interrupted: Ctrl-C raises KeyboardInterrupt, or Python has no memory. Then the
     library has taken some first lines of the call, each as a whole, and goes on. The tool has
@@ -196,6 +197,7 @@ class Options(ctypes.Structure):
     _fields_ = [
         *[(name, ctypes.c_uint32) for name in ("shards", "work", "invalidate", "pend")],
         *[(name, ctypes.c_uint64) for name in ("first_round", "first_call", "secret")],
+        *[(name, ctypes.c_uint32) for name in ("nodes", "storages")],
     ]
 
 
@@ -240,9 +242,9 @@ def version(library=None):
 class Library(Engine):
     """One block manager in this process. Several threads may call it: each call is one step.
 
-    Options are shards, work, invalidate, pend, first_round and first_call. `workers` is ignored,
-    since the calling thread does all work. A `secret` is drawn if none is given: only the time of a
-    call depends on it.
+    Options are shards, work, invalidate, pend, nodes, storages, first_round and first_call.
+    `workers` is ignored, since the calling thread does all work. A `secret` is drawn if none is
+    given: only the time of a call depends on it.
 
     An interrupt (KeyboardInterrupt, MemoryError) comes before or after a line, never within it. A
     line that was taken counts, and `retry` has its answer. `calls` shows whether it was taken, if

@@ -10,9 +10,10 @@ import java.util.HashSet;
 import java.util.Set;
 
 /**
- * Calls Puljemrod.java. With the word {@code lines}, and then shards, work, invalidate and pend, it
- * answers each line of standard input; where memory is refused it makes the call again. With the
- * word {@code checks} it tries the calls over stand_in_library.c in a heap of 20 MiB.
+ * Calls Puljemrod.java. With the word {@code lines}, and then shards, work, invalidate, pend, nodes
+ * and storages, it answers each line of standard input; where memory is refused it makes the call
+ * again. With the word {@code checks} it tries the calls over stand_in_library.c in a heap of 20
+ * MiB.
  */
 final class JavaCalls {
     private JavaCalls() {}
@@ -157,6 +158,7 @@ final class JavaCalls {
             try (Puljemrod manager = new Puljemrod(new Puljemrod.Options())) {
                 String[] words = manager.line("?").split(" ");
                 check(String.join(" ", words).startsWith("options 1 2 1000 100 0 0 "), "the standard options");
+                check(words[8].equals("256") && words[9].equals("4096"), "the standard limits");
                 seen.add(words[7]);
             }
         }
@@ -165,8 +167,10 @@ final class JavaCalls {
         given.firstRound = 5;
         given.firstCall = -1;
         given.secret = 0;
+        given.nodes = 65_536;
+        given.storages = 1_048_576;
         try (Puljemrod manager = new Puljemrod(given)) {
-            check(manager.line("?").equals("options 1 2 1000 100 5 18446744073709551615 0"), "options that are given");
+            check(manager.line("?").equals("options 1 2 1000 100 5 18446744073709551615 0 65536 1048576"), "options that are given");
         }
     }
 

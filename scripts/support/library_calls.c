@@ -13,6 +13,9 @@ enum { LONGEST = 4194304, HEARTBEATS = 1000, DEEPEST = 126, STACK = 1 << 20 };
 /* The second is what a run of the line tool reads at most; the library has no such limit. */
 static unsigned opens = 1000, lines = 1048576;
 
+/* The nodes of the largest cluster that is tried, with two storages each. */
+static uint32_t most_nodes = 65536;
+
 static unsigned passed, failed;
 
 static void check(bool is_so, const char *what) {
@@ -140,12 +143,98 @@ static void closed_and_open(void) {
 
 static void options_are_taken(void) {
     puljemrod h = PULJEMROD_CLOSED_HANDLE;
-    puljemrod_options options = {64, 1, 1, 1, 40, UINT64_MAX - 1, 7};
+    puljemrod_options options = {64, 1, 1, 1, 40, UINT64_MAX - 1, 7, 1, 1};
     struct row round = {"{\"op\":\"round\"}", "round 41", 0};
     struct row spent = {"{\"op\":\"round\"}", "refused 13 CallsSpent", 13};
     puljemrod_open(&h, &options);
     check(is_answered(&h, &round), "the first round and the first call");
     check(is_answered(&h, &spent), "calls are spent");
+    puljemrod_close(&h);
+}
+
+static puljemrod_options with_limits(uint32_t nodes, uint32_t storages) {
+    puljemrod_options options = standard;
+    options.nodes = nodes;
+    options.storages = storages;
+    return options;
+}
+
+/* The code of a node that joins with this number of storages, numbered from `first`. */
+static uint32_t joins(puljemrod *handle, uint32_t node, uint32_t first, uint32_t count) {
+    uint32_t *storages = malloc((count + 1) * sizeof *storages);
+    for (uint32_t at = 0; at < count; at++)
+        storages[at] = first + at;
+    uint32_t code = puljemrod_register(handle, node, node % 3, storages, count);
+    free(storages);
+    return code;
+}
+
+/* Opens a manager with a limit on nodes, and registers this number of them and one more. */
+static bool takes_nodes(uint32_t limit, uint32_t most) {
+    puljemrod h = PULJEMROD_CLOSED_HANDLE;
+    puljemrod_options options = with_limits(limit, 0);
+    bool are = puljemrod_open(&h, &options) == PULJEMROD_OK;
+    for (uint32_t node = 0; node < most; node++)
+        are = joins(&h, node, 0, 0) == PULJEMROD_OK && are;
+    are = joins(&h, most, 0, 0) == PULJEMROD_TOO_MANY && are;
+    return puljemrod_close(&h) == PULJEMROD_OK && are;
+}
+
+static void limits_of_nodes(void) {
+    check(takes_nodes(256, 256) && takes_nodes(0, 256), "256 nodes, and one more");
+    check(takes_nodes(1, 1) && takes_nodes(300, 300), "other limits of nodes");
+}
+
+/* The same for storages: one node has all but one. */
+static bool takes_storages(uint32_t limit, uint32_t most) {
+    puljemrod h = PULJEMROD_CLOSED_HANDLE;
+    puljemrod_options options = with_limits(0, limit);
+    bool are = puljemrod_open(&h, &options) == PULJEMROD_OK && joins(&h, 1, 0, most + 1) == PULJEMROD_TOO_MANY;
+    are = joins(&h, 1, 0, most - 1) == PULJEMROD_OK && joins(&h, 2, most, 2) == PULJEMROD_TOO_MANY && are;
+    are = joins(&h, 2, most, 1) == PULJEMROD_OK && joins(&h, 3, most + 1, 1) == PULJEMROD_TOO_MANY && are;
+    return puljemrod_close(&h) == PULJEMROD_OK && are;
+}
+
+static void limits_of_storages(void) {
+    check(takes_storages(4096, 4096) && takes_storages(0, 4096), "4,096 storages, and one more");
+    check(takes_storages(1, 1) && takes_storages(5000, 5000), "other limits of storages");
+}
+
+static void limits_outside_their_ranges(void) {
+    puljemrod h = PULJEMROD_CLOSED_HANDLE;
+    const uint32_t wrong[][2] = {{65537, 1}, {1, 1048577}, {UINT32_MAX, 0}, {0, UINT32_MAX}};
+    bool are = true;
+    for (unsigned at = 0; at < 4; at++) {
+        puljemrod_options options = with_limits(wrong[at][0], wrong[at][1]);
+        are = puljemrod_open(&h, &options) == PULJEMROD_BAD_CONFIG && !h.is_open && !h.at && are;
+    }
+    puljemrod_options options = with_limits(65536, 1048576);
+    check(are && puljemrod_open(&h, &options) == PULJEMROD_OK, "limits outside their ranges");
+    puljemrod_close(&h);
+}
+
+/* The replica of block 7 is on the last storage, and the free bytes are on the first one. */
+static void largest_cluster(void) {
+    puljemrod h = PULJEMROD_CLOSED_HANDLE;
+    puljemrod_options options = with_limits(most_nodes, 0);
+    const uint32_t last = 2 * most_nodes - 1;
+    const puljemrod_remaining remaining = {0, 64};
+    puljemrod_copy copy = {0};
+    uint64_t round, copies, deletes, is_retired, count, places[2] = {0};
+    options.storages = 2 * most_nodes;
+    bool are = puljemrod_open(&h, &options) == PULJEMROD_OK;
+    for (uint32_t node = 0; node < most_nodes; node++)
+        are = joins(&h, node, 2 * node, 2) == PULJEMROD_OK && are;
+    check(are && joins(&h, most_nodes, 0, 0) == PULJEMROD_TOO_MANY, "the largest cluster");
+    are = puljemrod_heartbeat(&h, 0, &remaining, 1) == 0 && puljemrod_add_block(&h, 7, 1, 64, 2) == 0;
+    are = puljemrod_received(&h, last, 7, 1, 64) == 0 && puljemrod_round(&h, &round, &copies, &deletes) == 0 && are;
+    are = copies == 1 && deletes == 0 && puljemrod_copies(&h, 0, &copy, 1) == 1 && are;
+    check(are && copy.node == most_nodes - 1 && copy.source == last && copy.target == 0, "a round of it");
+    are = puljemrod_received(&h, 0, 7, 1, 64) == 0 && puljemrod_places(&h, 7, &count) == 0 && count == 2;
+    are = puljemrod_number_rows(&h, 0, places, 2) == 2 && places[0] == 0 && places[1] == last && are;
+    check(are && puljemrod_retired(&h, most_nodes - 1, &is_retired) == 0 && !is_retired, "questions to it");
+    are = puljemrod_dead(&h, 0) == 0 && joins(&h, most_nodes, last + 1, 2) == PULJEMROD_OK;
+    check(are && joins(&h, 0, 0, 0) == PULJEMROD_TOO_MANY, "a node in place of another");
     puljemrod_close(&h);
 }
 
@@ -638,16 +727,21 @@ static void threads(void) {
 
 int main(int count, char **words) {
     (void)words;
-    if (count > 1) opens = 64, lines = 1000;
+    if (count > 1) opens = 64, lines = 1000, most_nodes = 1000;
     check(sizeof(puljemrod) == 16 && offsetof(puljemrod, is_open) == 8, "the handle's layout");
     check(sizeof(puljemrod_entry) == 32 && sizeof(puljemrod_remaining) == 16, "the layout of rows");
     check(sizeof(puljemrod_copy) == 40 && offsetof(puljemrod_copy, block) == 16, "the layout of copies");
     check(sizeof(puljemrod_delete) == 16 && offsetof(puljemrod_delete, block) == 8, "the layout of deletes");
     check(sizeof(puljemrod_replica) == 16 && sizeof(puljemrod_pair) == 16, "the layout of replicas");
     check(sizeof(puljemrod_counts) == 32 && offsetof(puljemrod_counts, removed) == 16, "the layout of counts");
-    check(sizeof(puljemrod_options) == 40 && offsetof(puljemrod_options, secret) == 32, "the options' layout");
+    check(sizeof(puljemrod_options) == 48 && offsetof(puljemrod_options, secret) == 32, "the options' layout");
+    check(offsetof(puljemrod_options, nodes) == 40 && offsetof(puljemrod_options, storages) == 44, "the limits' layout");
     closed_and_open();
     options_are_taken();
+    limits_of_nodes();
+    limits_of_storages();
+    limits_outside_their_ranges();
+    largest_cluster();
     pieces_of_an_answer();
     longest_line();
     more_lines_than_the_tool();

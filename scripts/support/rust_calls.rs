@@ -1,6 +1,6 @@
 //! Answers each line of standard input through the crate. Where memory is refused it makes the call
-//! again. Its arguments are `lines` or `typed`, and then shards, work, invalidate and pend. The
-//! argument `version` alone prints the library's version.
+//! again. Its arguments are `lines` or `typed`, and then shards, work, invalidate, pend, nodes and
+//! storages. The argument `version` alone prints the library's version.
 //!
 //! A line of `typed` is the name of an operation and its numbers. It prints two lines for each: the
 //! answer of the typed call, and the text of the answer. At the end it prints on standard error how
@@ -165,8 +165,8 @@ fn main() -> Result<(), Box<dyn std::error::Error>> {
         return Ok(());
     }
     let mut options = Options::default();
-    let Options { shards, work, invalidate, pend, .. } = &mut options;
-    for (field, word) in [shards, work, invalidate, pend].into_iter().zip(&words[1..]) {
+    let Options { shards, work, invalidate, pend, nodes, storages, .. } = &mut options;
+    for (field, word) in [shards, work, invalidate, pend, nodes, storages].into_iter().zip(&words[1..]) {
         *field = word.parse()?;
     }
     let (mut manager, mut refused) = (opened(&options)?, Refused::default());

@@ -79,8 +79,8 @@ uint32_t puljemrod_line(puljemrod *handle, const void *line, size_t line_len, si
     if (*copy == '+') text_len = 0, repeated = strtoul(copy + 1, NULL, 10);
     if (*copy == '#') text_len = 0, add("%ld", lines);
     if (*copy == '?')
-        say("options", 7, N(taken.shards), N(taken.work), N(taken.invalidate), N(taken.pend), N(taken.first_round),
-            N(taken.first_call), N(taken.secret));
+        say("options", 9, N(taken.shards), N(taken.work), N(taken.invalidate), N(taken.pend), N(taken.first_round),
+            N(taken.first_call), N(taken.secret), N(taken.nodes), N(taken.storages));
     owed = *copy == '*' ? FOR_EVER : strtol(copy, NULL, 10) * (*copy != '+');
     lines++;
     return puljemrod_text(handle, answer_len);

@@ -1,6 +1,6 @@
 /* Makes the typed call of each line of standard input: the name of an operation and its numbers. It
  * prints two lines for each: the answer that the numbers and rows give, and the text of the answer.
- * Its arguments are shards, work, invalidate and pend. */
+ * Its arguments are shards, work, invalidate, pend, nodes and storages. */
 #include "puljemrod.h"
 
 #include <stdio.h>
@@ -172,8 +172,8 @@ static uint32_t print_typed(const char *name) {
 
 int main(int words, char **word) {
     puljemrod_options options = PULJEMROD_STANDARD;
-    uint32_t *fields[] = {&options.shards, &options.work, &options.invalidate, &options.pend};
-    for (int at = 1; at < words && at <= 4; at++)
+    uint32_t *fields[] = {&options.shards, &options.work, &options.invalidate, &options.pend, &options.nodes, &options.storages};
+    for (int at = 1; at < words && at <= 6; at++)
         *fields[at - 1] = (uint32_t)strtoul(word[at], NULL, 10);
     if (puljemrod_open(&manager, &options) != PULJEMROD_OK) return 2;
     char *line = NULL, piece[4096];

@@ -1,5 +1,6 @@
 //! The line tool in Rust: answers each line of standard input by a line of standard output. Its
-//! arguments are shards, work, invalidate and pend, in this order; the last ones may be left out.
+//! arguments are shards, work, invalidate, pend, nodes and storages, in this order; the last ones
+//! may be left out.
 
 use puljemrod::{Manager, Options};
 use std::env;
@@ -9,8 +10,9 @@ use std::process::ExitCode;
 
 fn answer_lines() -> Result<(), Box<dyn Error>> {
     let mut options = Options::default();
-    let Options { shards, work, invalidate, pend, .. } = &mut options;
-    for (field, word) in [shards, work, invalidate, pend].into_iter().zip(env::args().skip(1)) {
+    let Options { shards, work, invalidate, pend, nodes, storages, .. } = &mut options;
+    let fields = [shards, work, invalidate, pend, nodes, storages];
+    for (field, word) in fields.into_iter().zip(env::args().skip(1)) {
         *field = word.parse()?;
     }
     let mut manager = Manager::open(&options)?;

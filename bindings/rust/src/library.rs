@@ -33,6 +33,10 @@ pub struct Options {
     /// Random bits that whoever chooses block numbers does not know. 0 is no secret: then chosen
     /// numbers can make each call slow.
     pub secret: u64,
+    /// The most nodes alive at a time, 1 to 65,536; 0 means 256.
+    pub nodes: u32,
+    /// The most storages at a time, 1 to 1,048,576; 0 means 4,096.
+    pub storages: u32,
 }
 
 impl Default for Options {
@@ -40,7 +44,17 @@ impl Default for Options {
     /// which come from the system, make it.
     fn default() -> Options {
         let secret = RandomState::new().build_hasher().finish();
-        Options { shards: 1, work: 2, invalidate: 1000, pend: 100, first_round: 0, first_call: 0, secret }
+        Options {
+            shards: 1,
+            work: 2,
+            invalidate: 1000,
+            pend: 100,
+            first_round: 0,
+            first_call: 0,
+            secret,
+            nodes: 256,
+            storages: 4096,
+        }
     }
 }
 
