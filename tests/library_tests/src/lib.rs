@@ -10,6 +10,7 @@ mod calls;
 mod crew;
 mod example_scripts;
 mod levels;
+mod limits;
 mod lines;
 mod locator_answers;
 mod long_lines;
