@@ -47,7 +47,7 @@ extern "C" {
 
 /* The version of this header: MAJOR.MINOR.PATCH, and as the number
  * MAJOR * 1,000,000 + MINOR * 1,000 + PATCH. The name that the shared library is loaded by has
- * MAJOR: libpuljemrod.so.1. CHANGELOG.md lists what each version has.
+ * MAJOR: libpuljemrod.so.2. CHANGELOG.md lists what each version has.
  *
  * Within one MAJOR a program that was compiled with a header runs with each library that is not
  * older.
@@ -58,8 +58,8 @@ extern "C" {
  *     have. A new PATCH adds nothing.
  *   - Not promised: what `at` of a handle leads to, how much memory a call takes, and which
  *     allocation is refused first. */
-#define PULJEMROD_VERSION "1.0.0"
-#define PULJEMROD_VERSION_NUMBER 1000000
+#define PULJEMROD_VERSION "2.0.0"
+#define PULJEMROD_VERSION_NUMBER 2000000
 
 /* The number of the library's version. It needs no handle. A program that loads the library can
  * compare: puljemrod_version() / 1000000 == PULJEMROD_VERSION_NUMBER / 1000000, and

@@ -108,7 +108,7 @@ public final class Puljemrod implements AutoCloseable {
     /** The most bytes of an array. */
     private static final int MOST_BYTES = Integer.MAX_VALUE - 8;
 
-    /** The version of the library, as "1.0.0". */
+    /** The version of the library, as "2.0.0". */
     public static String version() {
         int number = versionNumber();
         return number / 1_000_000 + "." + number / 1_000 % 1_000 + "." + number % 1_000;

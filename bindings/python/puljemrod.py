@@ -25,7 +25,7 @@ import tempfile
 import threading
 from pathlib import Path
 
-__version__ = "1.0.0"
+__version__ = "2.0.0"
 
 # The engines, below the top of the repository.
 LIBRARY, TOOL = "dist/libpuljemrod.so", "crates/bm_tool/out/bm_tool"
@@ -232,7 +232,7 @@ def version_of(library):
 
 
 def version(library=None):
-    """The version of the library that `Manager(library=library)` calls, as "1.0.0"."""
+    """The version of the library that `Manager(library=library)` calls, as "2.0.0"."""
     path = library or named_library()
     if not path:
         raise Fault(NO_ENGINE)

@@ -256,7 +256,7 @@ impl fmt::Display for Error {
 
 impl std::error::Error for Error {}
 
-/// The version of the library that is linked, as `1.0.0`.
+/// The version of the library that is linked, as `2.0.0`.
 pub fn version() -> String {
     // SAFETY: it takes nothing.
     let number = unsafe { puljemrod_version() };
