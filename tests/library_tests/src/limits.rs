@@ -54,17 +54,38 @@ fn check_nodes(rt: &impl Abort, alloc: Global, manager: &mut Manager, most: u32)
     for node in 1..=most {
         assert!(rt; join(rt, alloc, manager, node, 0, 0) == 0, "node {node}");
     }
-    assert!(rt; join(rt, alloc, manager, most + 1, 0, 0) == TOO_MANY, "past {most} nodes");
+    assert!(rt;
+        join(rt, alloc, manager, most + 1, 0, 0) == TOO_MANY,
+        "past {most} nodes"
+    );
 }
 
 /// Two nodes have all storages, and one more is refused. A node without storages is accepted.
 fn check_storages(rt: &impl Abort, alloc: Global, manager: &mut Manager, most: u32) {
-    assert!(rt; join(rt, alloc, manager, 1, 0, most + 1) == TOO_MANY, "{most} storages and one");
-    assert!(rt; join(rt, alloc, manager, 1, 0, most - 1) == 0, "all storages but one");
-    assert!(rt; join(rt, alloc, manager, 2, most, most + 2) == TOO_MANY, "past {most} storages");
-    assert!(rt; join(rt, alloc, manager, 2, most, most + 1) == 0, "the last storage");
-    assert!(rt; join(rt, alloc, manager, 3, most + 1, most + 2) == TOO_MANY, "one more storage");
-    assert!(rt; join(rt, alloc, manager, 3, 0, 0) == 0, "a node without storages");
+    assert!(rt;
+        join(rt, alloc, manager, 1, 0, most + 1) == TOO_MANY,
+        "{most} storages and one"
+    );
+    assert!(rt;
+        join(rt, alloc, manager, 1, 0, most - 1) == 0,
+        "all storages but one"
+    );
+    assert!(rt;
+        join(rt, alloc, manager, 2, most, most + 2) == TOO_MANY,
+        "past {most} storages"
+    );
+    assert!(rt;
+        join(rt, alloc, manager, 2, most, most + 1) == 0,
+        "the last storage"
+    );
+    assert!(rt;
+        join(rt, alloc, manager, 3, most + 1, most + 2) == TOO_MANY,
+        "one more storage"
+    );
+    assert!(rt;
+        join(rt, alloc, manager, 3, 0, 0) == 0,
+        "a node without storages"
+    );
 }
 
 #[test]
@@ -104,25 +125,6 @@ fn what_has_left_no_longer_counts(rt: HostRuntime) {
     assert!(rt; join(&rt, alloc, &mut manager, 3, 31, 34) == TOO_MANY);
     assert!(rt; join(&rt, alloc, &mut manager, 3, 31, 33) == 0);
     assert!(rt; join(&rt, alloc, &mut manager, 4, 0, 0) == TOO_MANY);
-}
-
-#[test]
-fn limits_outside_their_ranges_are_refused(rt: HostRuntime) {
-    let alloc = rt.alloc();
-    for (nodes, storages) in [
-        (0, 4096),
-        (256, 0),
-        (0, 0),
-        (65_537, 4096),
-        (256, 1_048_577),
-        (u32::MAX, u32::MAX),
-    ] {
-        let made = manager_within(alloc, nodes, storages);
-        assert!(rt; matches!(made, Err(Refusal::BadConfig)), "{nodes} {storages}");
-    }
-    for (nodes, storages) in [(1, 1), (65_536, 1), (1, 1_048_576), (65_536, 1_048_576)] {
-        assert!(rt; manager_within(alloc, nodes, storages).is_ok(), "{nodes} {storages}");
-    }
 }
 
 /// Node n has the storages 2 n and 2 n + 1.
