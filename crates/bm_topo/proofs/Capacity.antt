@@ -81,6 +81,6 @@ pub len-without_one : (racks : Map by_number ℕ) (r n : ℕ) → len (without_o
 unfolding without_one
 len-without_one racks r n = elim (n == 1) as (λ b. len (cond b (remove racks r) (revise_at racks r (λ _. n - 1))) ≤ len racks) [ true ↦ len-remove racks r | false ↦ len-revise_at racks r (λ _. n - 1) ]
 
--- a table within its capacity needs no more room
+-- the lists suffice for a table of the same capacity
 pub room_kept : {n p q n' q' : ℕ} → HasRoomFor n p q → n' ≡ n → q' ≡ q → HasRoomFor n' p q'
 room_kept h same by_node = record { spots = omega (arith, h.spots, same); by_node = omega (arith, h.by_node, same, by_node) }

@@ -1,4 +1,5 @@
--- A topology stays sound where the lists next to the table of its storages grow, and then the table.
+-- A topology stays sound where the lists next to the table of its storages grow, and then the
+-- table.
 use Rattle.std.proofs.Common.{◌≡◌, ℕ, ◌≤◌, ◌<◌, List, length, Some, arith, sym, subst}
 use Rattle.std.specs.Prelude.{slice_get}
 use Rattle.bm_base.specs.declared.storage.StorageInfo.{StorageInfo}
@@ -13,7 +14,7 @@ use Rattle.bm_topo.specs.Spots.{HasSpots}
 use Rattle.bm_topo.proofs.SpotTable.{spots_grown}
 
 module _ (l : Limits) (nodes racks : Map by_number ℕ) (draining : Set by_number) (n : ℕ) where
-  -- the tables, the spots and the storages by node match; q storages have room in their list
+  -- the tables, the spots and the storages by node match; their list has capacity for q storages
   abbrev pub Match : Table StorageInfo → List Spot → List ℕ → ℕ → Type 0
   Match t spots sorted q = IsSound l nodes racks draining t.map × HasSpots (cluster_of l nodes draining t.map) spots n × AreAllByNode t.map sorted × HasRoomFor (capacity t) (length spots) q
 

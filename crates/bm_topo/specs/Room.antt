@@ -1,4 +1,4 @@
--- The lists next to the table of the storages have room for what the table has capacity for. So a
+-- The lists next to the table of the storages suffice for what the table has capacity for. So a
 -- registration in reserved capacity takes no memory for them.
 use Rattle.std.specs.Prelude.{ℕ, ◌≤◌}
 

@@ -26,8 +26,8 @@ pub fn too_many_numbers_in_a_report()
     ensures { example.too_many_numbers_in_a_report }
 {}
 
-/// Within limits of two nodes and three storages, a third node and a fourth storage are refused, and
-/// one more fits after a death. Other limits are kept alike.
+/// Within limits of two nodes and three storages, a third node and a fourth storage are refused,
+/// and one more fits after a death. Other limits are kept alike.
 pub fn other_limits_are_kept()
     ensures nodes { example.no_third_node }
     ensures storages { example.no_fourth_storage }
