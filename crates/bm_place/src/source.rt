@@ -3,6 +3,7 @@ ghost use Rattle.std.specs.Prelude.{◌≡◌, ◌<◌, ◌&&◌, option_map, �
 ghost use Rattle.bm_base.specs.declared.commands.Transfer.{Transfer};
 ghost use Rattle.bm_place.specs.ChoiceResults.{IsFoundSource, senders_with};
 ghost use Rattle.bm_base.specs.Maps.Map as map;
+ghost use Rattle.bm_base.specs.Machine.RoundStart as round_start;
 ghost use Rattle.bm_base.specs.Machine.Transfers as transfers;
 ghost use Rattle.bm_place.specs.Sources as sources;
 ghost use Rattle.bm_place.specs.Tables as tables;
