@@ -1,11 +1,12 @@
 -- An event is refused by the first cluster or block check that fails, or if no call number is left.
-use Rattle.std.proofs.Common.{◌≡◌, ◌<◌, Option, Some, None, Ok, Err, refl, ap, ◌∙◌, arith, cond}
-use Rattle.std.specs.Prelude.{nat_le}
+use Rattle.std.proofs.Common.{◌≡◌, ◌<◌, Bool, true, false, Option, Some, None, [], ◌∷◌, Ok, Err, refl, ap, ◌∙◌, arith, cond}
+use Rattle.std.specs.Prelude.{nat_le, not, IsTrue}
 use Rattle.std.proofs.lemmas.Bool.Decides.{nat_tests}
 use Rattle.bm_base.specs.declared.event.Event.{Event}
+use Rattle.bm_base.specs.declared.limits.Limits.{Limits}
 use Rattle.bm_base.specs.declared.refusal.Refusal.{Refusal}
-use Rattle.bm_base.specs.declared.refusal.Refusal.TheVariants.{CallsSpent}
-use Rattle.bm_base.specs.Words.{State, ◌before◌, refusal_of, first_of, cluster_checks, block_checks, calls_spent, round_refusal, last_number, checked}
+use Rattle.bm_base.specs.declared.refusal.Refusal.TheVariants.{BadConfig, CallsSpent}
+use Rattle.bm_base.specs.Words.{State, ◌before◌, ◌when◌, are_allowed, limits_refusal, standard_limits, refusal_of, first_of, cluster_checks, block_checks, calls_spent, round_refusal, last_number, checked}
 
 checked-before_err : (x y : Option Refusal) (r : Refusal) → checked x ≡ Err r → checked (x before y) ≡ Err r
 checked-before_err None y r e = cc
@@ -47,3 +48,20 @@ nothing_refused (Some r) u e = cc
 pub round_passed : (M : State) → M.round < last_number → M.calls < last_number → round_refusal M ≡ None
 unfolding round_refusal calls_spent
 round_passed M r k = grind (arith, nat_tests, r, k)
+
+-- The limits of a new manager.
+
+abbrev refused_unless : Bool → Option Refusal
+refused_unless b = first_of ((BadConfig when not b) ∷ [])
+
+allowed_if_passed : (b : Bool) → refused_unless b ≡ None → IsTrue b
+allowed_if_passed true none = refl
+allowed_if_passed false none = let passed : Some BadConfig ≡ None = none in cc
+
+pub limits_are_allowed : (l : Limits) → limits_refusal l ≡ None → IsTrue (are_allowed l)
+limits_are_allowed l none = allowed_if_passed (are_allowed l) none
+
+-- the standard limits refuse nothing
+pub refused_alone : (x : Option Refusal) → (x before limits_refusal standard_limits) ≡ x
+refused_alone None = refl
+refused_alone (Some r) = refl

@@ -1,8 +1,10 @@
 -- A manager's state is lawful at its start, after each accepted event and after each round.
 use Rattle.std.proofs.Common.{◌≡◌, ℕ, ◌+◌, ◌<◌, None, sym, ap, subst, ◌∙◌}
+use Rattle.std.specs.Prelude.{IsTrue}
 use Rattle.bm_base.specs.declared.config.Config.{Config}
+use Rattle.bm_base.specs.declared.limits.Limits.{Limits}
 use Rattle.bm_base.specs.declared.event.Event.{Event}
-use Rattle.bm_base.specs.Words.{Cluster, limits_of, empty_cluster, empty_holdings, change_cluster, change_holdings, refusal_of, last_number, config_refusal, after_event}
+use Rattle.bm_base.specs.Words.{Cluster, are_allowed, limits_of, empty_cluster, empty_holdings, change_cluster, change_holdings, refusal_of, last_number, config_refusal, after_event}
 use Rattle.bm_base.specs.Promises.Lawful.{IsLawful}
 use Rattle.bm_base.specs.Promises.Fitting.{FitsEvent, HasFittingStart}
 use Rattle.laws_of_states.proofs.FirstState.{first_lawful}
@@ -15,13 +17,13 @@ use Rattle.bm_manager.proofs.ManagerRounds.{whole_state}
 use Rattle.bm_manager.proofs.Checks.{round_passed}
 
 -- at the beginning
-pub new_manager : (c : Config) (C : Cluster) (F : Whole) → config_refusal c ≡ None → HasFittingStart c → C ≡ empty_cluster → F.holdings ≡ empty_holdings
+pub new_manager : (l : Limits) (c : Config) (C : Cluster) (F : Whole) → config_refusal c ≡ None → IsTrue (are_allowed l) → HasFittingStart c → C ≡ empty_cluster l → F.holdings ≡ empty_holdings
     → IsUpToDate C F → HasTaken c.first_round c.pend F → IsManager c C F c.first_round c.first_call
-new_manager c C F allowed fits none nothing up_to_date taken = record {
+new_manager l c C F allowed allowed_limits fits none nothing up_to_date taken = record {
   allowed = allowed;
   up_to_date = up_to_date;
   taken = taken;
-  lawful = subst IsLawful (λ i. state_of c (sym none i) (sym nothing i) c.first_round c.first_call) (first_lawful c fits);
+  lawful = subst IsLawful (λ i. state_of c (sym none i) (sym nothing i) c.first_round c.first_call) (first_lawful l c allowed_limits fits);
 }
 
 module _ (c : Config) (C : Cluster) (F : Whole) (round calls : ℕ) (is : IsManager c C F round calls) where

@@ -27,6 +27,8 @@
 //! - `apply`, `round` and `answer` process the shards by a crew of threads. `apply_alone`,
 //!   `round_alone` and `answer_alone` process them on the calling thread. No answer depends on
 //!   that.
+//! - [`Manager::new`] allows 256 nodes and 4,096 storages; [`Manager::with_limits`] takes other
+//!   limits.
 //! - [`Manager::publish`] publishes a version of the state to the readers of `bm_view`, which wait
 //!   for no one.
 //! - [`answers_alike`] makes the same calls on two managers with different numbers of shards and

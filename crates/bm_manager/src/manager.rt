@@ -1,8 +1,8 @@
 // The manager: one call after another.
 ghost use Rattle.std.specs.Prelude.{◌≡◌, ◌<◌, true, None, IfOk, IfErr, OnOk, OnErr};
-ghost use Rattle.bm_base.specs.Words.{first_state, refusal_of, first_of, cluster_checks, block_checks, last_number, config_refusal, done_by, after_event, checked, Refuses, takes_memory, IsLawful};
+ghost use Rattle.bm_base.specs.Words.{first_state, first_state_within, refusal_of, first_of, ◌before◌, cluster_checks, block_checks, last_number, config_refusal, limits_refusal, done_by, after_event, checked, Refuses, takes_memory, IsLawful};
 
-use bm_base::{Config, Done, Event, HashSecret, Refusal};
+use bm_base::{Config, Done, Event, HashSecret, Limits, Refusal};
 use bm_crew::Gate;
 use bm_shards::{AllShards, CallingThread, Threaded, Workers};
 use bm_topo::Topology;
@@ -13,10 +13,10 @@ use std::thread::Threads;
 
 /// Knows on which storages every block is, and decides about replication for a cluster.
 ///
-/// A contract sees it as the state of the definitions: the limits of its configuration, the
-/// cluster, the blocks and their replicas, the round and the number of accepted calls. The blocks
-/// are cut into shards. A crew of threads, or the calling thread alone, processes a call that
-/// concerns all shards; no answer depends on that.
+/// A contract sees it as the definitions' state: the limits of rounds, the cluster and its limits,
+/// the blocks and their replicas, the round and the number of accepted calls. The blocks are cut
+/// into shards. A crew of threads, or the calling thread alone, processes a call that concerns all
+/// shards; no answer depends on that.
 ///
 /// ```text
 /// let mut manager = Manager::new(alloc, Config::standard())?;
@@ -54,10 +54,11 @@ impl Model for Manager {
 }
 
 impl Manager {
-    /// An empty manager: no node, no block, and the numbers of the configuration. `BadConfig` if
-    /// the configuration is outside its ranges; `Memory`. Its tables hash by no secret, so numbers
-    /// can be chosen that make calls slow: if they may come from an attacker, use
-    /// [`Manager::with_secret`].
+    /// An empty manager: no node, no block, and the numbers of the configuration. At most 256 nodes
+    /// may be alive, and there may be 4,096 storages: [`Manager::with_limits`] takes other limits.
+    /// `BadConfig` if the configuration is outside its ranges; `Memory`. Its tables hash by no
+    /// secret, so numbers can be chosen that make calls slow: if they may come from an attacker,
+    /// use [`Manager::with_secret`].
     pub fn new(alloc: Global, config: Config) -> Result<Manager, Refusal>
         ensures allowed { OnOk result (config_refusal config ≡ None) }
         ensures state { IfOk result (λ m. m ≡ first_state config) }
@@ -77,11 +78,31 @@ impl Manager {
         ensures state { IfOk result (λ m. m ≡ first_state config) }
         ensures refused { IfErr result (Refuses (config_refusal config) true) }
     {
+        Manager::with_limits(alloc, config, Limits::standard(), secret)
+    }
+
+    /// As [`Manager::with_secret`], within these limits: how many nodes may be alive at a time, 1
+    /// to 65,536, and how many storages there may be, 1 to 1,048,576. A `Register` past a limit is
+    /// refused as `TooMany`. `BadConfig` if the configuration or a limit is outside its range;
+    /// `Memory`.
+    pub fn with_limits(
+        alloc: Global,
+        config: Config,
+        limits: Limits,
+        secret: HashSecret,
+    ) -> Result<Manager, Refusal>
+        ensures allowed { OnOk result (config_refusal config ≡ None) }
+        ensures allowed_limits { OnOk result (limits_refusal limits ≡ None) }
+        ensures state { IfOk result (λ m. m ≡ first_state_within limits config) }
+        ensures refused { IfErr result
+            (Refuses (config_refusal config before limits_refusal limits) true) }
+    {
         config.check()?;
+        limits.check()?;
         Ok(Manager {
             alloc,
             config,
-            topology: Topology::new(alloc)?,
+            topology: Topology::new(alloc, limits)?,
             shards: AllShards::new(alloc, &config, secret)?,
             round: config.first_round,
             calls: config.first_call,
@@ -161,9 +182,9 @@ impl Manager {
     ///
     /// Replicas and pending transfers are on storages of alive nodes, and only alive nodes drain. A
     /// node has one replica of a block at most. A replica is stray exactly if its block is unknown,
-    /// and only good ones are in excess. Pending transfers are of known blocks. There are at most
-    /// `MAX_NODES` nodes and `MAX_STORAGES` storages, and 1 to `MAX_REPLICATION` replicas of each
-    /// block are wanted. The numbers fit their types.
+    /// and only good ones are in excess. Pending transfers are of known blocks. There are no
+    /// more nodes and storages than the limits allow, and 1 to `MAX_REPLICATION` replicas of each
+    /// block are wanted. The numbers fit their types, and the limits are in their ranges.
     pub fn show_invariant(&self)
         ensures { IsLawful self.now }
     {

@@ -11,7 +11,7 @@ use Rattle.bm_base.specs.declared.event.Event.TheVariants.{AddBlock, DeleteBlock
 use Rattle.bm_base.specs.declared.replica.Marks.{Marks}
 use Rattle.bm_base.specs.declared.replica.Replica.{Replica}
 use Rattle.bm_base.specs.declared.replica.ReplicaId.{ReplicaId}
-use Rattle.bm_base.specs.Words.{by_number, Cluster, Holdings, by_replica, replica_cmp, empty_cluster, level, missing_blocks, blocks_on, places, first_of, block_checks, block_refusal, checked}
+use Rattle.bm_base.specs.Words.{by_number, Cluster, Holdings, by_replica, replica_cmp, empty_cluster, standard_limits, level, missing_blocks, blocks_on, places, first_of, block_checks, block_refusal, checked}
 use Rattle.bm_base.specs.Shards.{shard_of, cut}
 use Rattle.bm_base.specs.Promises.Versions.{Row, table}
 use Rattle.bm_parts.specs.Parts.{block_of}
@@ -37,10 +37,10 @@ module _ (b : ℕ) (ss items : List (ℕ × Seen)) (P : Holdings) (F : Whole) (o
   seen_as = ap held_by is ∙ ap (λ (G : Whole). G.holdings) seen
 
   pub own_refusal : block_refusal P b ≡ block_refusal F.holdings b
-  own_refusal = ap (λ H. block_refusal H b) own ∙ (own_shard_answers empty_cluster (held_by ss) b (length ss)).0 ∙ ap (λ H. block_refusal H b) seen_as
+  own_refusal = ap (λ H. block_refusal H b) own ∙ (own_shard_answers (empty_cluster standard_limits) (held_by ss) b (length ss)).0 ∙ ap (λ H. block_refusal H b) seen_as
 
   pub own_places : places P b ≡ places F.holdings b
-  own_places = ap (λ H. places H b) own ∙ (own_shard_answers empty_cluster (held_by ss) b (length ss)).1 ∙ ap (λ H. places H b) seen_as
+  own_places = ap (λ H. places H b) own ∙ (own_shard_answers (empty_cluster standard_limits) (held_by ss) b (length ss)).1 ∙ ap (λ H. places H b) seen_as
 
   pub own_level : (C : Cluster) → level C P b ≡ level C F.holdings b
   own_level C = ap (λ H. level C H b) own ∙ (own_shard_answers C (held_by ss) b (length ss)).2 ∙ ap (λ H. level C H b) seen_as

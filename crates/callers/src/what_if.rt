@@ -1,9 +1,9 @@
 // What happens if a node dies: a second manager makes the same calls, and then applies the death.
 ghost use Rattle.std.specs.Prelude.{◌≡◌, ◌⊎◌, None, Some, IfOk, IfErr, OnOk};
-ghost use Rattle.bm_base.specs.Words.{first_state, step, state_after, after_event, config_refusal, missing_blocks, refusal_of};
+ghost use Rattle.bm_base.specs.Words.{first_state_within, step, state_after, after_event, ◌before◌, config_refusal, limits_refusal, missing_blocks, refusal_of};
 ghost use Rattle.bm_base.specs.declared.refusal.Refusal.TheVariants.{Memory};
 
-use bm_base::{Answer, BlockId, Call, Config, Event, Items, NodeId, Refusal};
+use bm_base::{Answer, BlockId, Call, Config, Event, HashSecret, Items, Limits, NodeId, Refusal};
 use bm_crew::NoGate;
 use bm_manager::Manager;
 use std::alloc::Global;
@@ -19,19 +19,23 @@ pub struct WhatIf {
     pub if_dead: Items<BlockId>,
 }
 
-/// A manager that has made these calls. A call that the definition refuses has changed nothing.
-/// `Memory` if a call ran out of memory.
+/// A manager within these limits that has made these calls. A call that the definition refuses has
+/// changed nothing. `Memory` if a call ran out of memory.
 pub fn replay<R: Threads + Wait + Sync>(
     rt: &R,
     alloc: Global,
     config: Config,
+    limits: Limits,
     calls: &[Call],
 ) -> Result<Manager, Refusal>
     ensures allowed { OnOk result (config_refusal config ≡ None) }
-    ensures state { IfOk result (λ m. m ≡ state_after (first_state config) calls.now) }
-    ensures refused { IfErr result (λ e. (e ≡ Memory) ⊎ (config_refusal config ≡ Some e)) }
+    ensures allowed_limits { OnOk result (limits_refusal limits ≡ None) }
+    ensures state { IfOk result
+        (λ m. m ≡ state_after (first_state_within limits config) calls.now) }
+    ensures refused { IfErr result (λ e.
+        (e ≡ Memory) ⊎ ((config_refusal config before limits_refusal limits) ≡ Some e)) }
 {
-    let mut manager = Manager::new(alloc, config)?;
+    let mut manager = Manager::with_limits(alloc, config, limits, HashSecret::none())?;
     for call in calls {
         make(rt, &mut manager, call)?;
     }
@@ -55,22 +59,27 @@ pub fn missing_if_dead<R: Threads + Wait + Sync>(
     rt: &R,
     alloc: Global,
     config: Config,
+    limits: Limits,
     calls: &[Call],
     node: NodeId,
 ) -> Result<WhatIf, Refusal>
     ensures as_is { IfOk result (λ found.
-        let state = state_after (first_state config) calls.now in
+        let state = state_after (first_state_within limits config) calls.now in
         found.as_is ≡ missing_blocks state.cluster state.holdings) }
     ensures if_dead { IfOk result (λ found.
-        let state = after_event (state_after (first_state config) calls.now) (Event.Dead node) in
+        let replayed = state_after (first_state_within limits config) calls.now in
+        let state = after_event replayed (Event.Dead node) in
         found.if_dead ≡ missing_blocks state.cluster state.holdings) }
     ensures alive { OnOk result
-        (refusal_of (state_after (first_state config) calls.now) (Event.Dead node) ≡ None) }
+        (refusal_of (state_after (first_state_within limits config) calls.now) (Event.Dead node)
+        ≡ None) }
     ensures refused { IfErr result (λ e.
-        let death = refusal_of (state_after (first_state config) calls.now) (Event.Dead node) in
-        (e ≡ Memory) ⊎ ((config_refusal config ≡ Some e) ⊎ (death ≡ Some e))) }
+        let start = config_refusal config before limits_refusal limits in
+        let state = state_after (first_state_within limits config) calls.now in
+        let death = refusal_of state (Event.Dead node) in
+        (e ≡ Memory) ⊎ ((start ≡ Some e) ⊎ (death ≡ Some e))) }
 {
-    let mut manager = replay(rt, alloc, config, calls)?;
+    let mut manager = replay(rt, alloc, config, limits, calls)?;
     before_and_behind(rt, &mut manager, node)
 }
 

@@ -1,13 +1,14 @@
 -- The result of a call on a handle: its code, and the handle's state.
 use Rattle.std.specs.Prelude.{◌≡◌, ◌<◌, ◌⊎◌, ℕ, true, IsTrue, List, [], length, Option, Some, None}
 use Rattle.bm_base.specs.declared.config.Config.{Config}
+use Rattle.bm_base.specs.declared.limits.Limits.{Limits}
 use Rattle.bm_base.specs.declared.call.Call.{Call}
 use Rattle.bm_base.specs.declared.call.Call.TheVariants.{Apply}
 use Rattle.bm_base.specs.declared.event.Event.{Event}
 use Rattle.bm_base.specs.declared.event.Event.TheVariants.{Heartbeat}
 use Rattle.bm_base.specs.declared.event.Remaining.{Remaining}
 use Rattle.bm_base.specs.declared.refusal.Refusal.{Refusal}
-use Rattle.bm_base.specs.Words.{State, first_state, config_refusal, Refuses, may_run_out_of_memory, refusal_number}
+use Rattle.bm_base.specs.Words.{State, first_state_within, Refuses, may_run_out_of_memory, refusal_number}
 use Rattle.bm_answers.specs.declared.line_answer.Request.{Request}
 use Rattle.bm_answers.specs.declared.line_answer.Request.TheVariants.{Asks, Long}
 use Rattle.bm_answers.specs.declared.line_answer.LineAnswer.{LineAnswer}
@@ -15,10 +16,7 @@ use Rattle.bm_answers.specs.OneLine.{asked, answer_to, asked_next, number_of, te
 use Rattle.puljemrod.specs.declared.codes.TheConstants.{MEMORY, CLOSED, NO_TEXT}
 use Rattle.puljemrod.specs.declared.options.Options.{Options}
 use Rattle.puljemrod.specs.declared.handle_state.HandleState.{HandleState}
-
--- one worker, and the options
-abbrev pub config_of : Options → Config
-config_of o = record { shards = o.shards; workers = 1; work = o.work; invalidate = o.invalidate; pend = o.pend; first_round = o.first_round; first_call = o.first_call }
+use Rattle.puljemrod.specs.GivenOptions.{config_of, cluster_limits_of, options_refusal}
 
 -- the text that can be copied out
 abbrev pub text_in : Option HandleState → List ℕ
@@ -33,17 +31,18 @@ text_with (Some a) text = text_of a
 abbrev pub last_text : HandleState → List ℕ
 last_text k = text_with k.answer k.text.items
 
--- a new manager, and an empty answer
-pub record IsFirst (config : Config) (k : HandleState) : Type 0 where
-  pub state : k.manager ≡ first_state config
+-- a new manager within these limits, and an empty answer
+pub record IsFirst (limits : Limits) (config : Config) (k : HandleState) : Type 0 where
+  pub state : k.manager ≡ first_state_within limits config
   pub number : k.number ≡ 0
   pub answer : k.answer ≡ None
   pub text : k.text.items ≡ []
 
 -- Opening: the code is 0, or it is the number of a refusal, by which the handle stays closed.
 abbrev pub IsOpened : Options → ℕ → Option HandleState → Type 0
-IsOpened o code now = ((code ≡ 0) × (config_refusal (config_of o) ≡ None) × (k : HandleState) × (now ≡ Some k) × IsFirst (config_of o) k)
-    ⊎ ((now ≡ None) × (r : Refusal) × (code ≡ refusal_number r) × Refuses (config_refusal (config_of o)) true r)
+IsOpened o code now =
+    ((code ≡ 0) × (options_refusal o ≡ None) × (k : HandleState) × (now ≡ Some k) × IsFirst (cluster_limits_of o) (config_of o) k)
+    ⊎ ((now ≡ None) × (r : Refusal) × (code ≡ refusal_number r) × Refuses (options_refusal o) true r)
 
 -- The call is done: its answer is stored, and its text is not made.
 pub record IsAsked (M : State) (asks : Request) (k : HandleState) : Type 0 where

@@ -1,5 +1,6 @@
 -- Definitions for the functions that C may call.
 pub mod Handles
+pub mod GivenOptions
 pub mod Calls
 pub mod Rows
 pub mod StoredNumbers

@@ -1,9 +1,10 @@
 // The state of an open handle.
 ghost use Rattle.std.specs.Prelude.{◌≡◌, [], true, map, None, IfOk, IfErr, OnOk, OnErr, IsTrue};
-ghost use Rattle.bm_base.specs.Words.{config_refusal, Refuses};
+ghost use Rattle.bm_base.specs.Words.{Refuses};
 ghost use Rattle.bm_answers.specs.declared.line_answer.Request.TheVariants.{Long};
 ghost use Rattle.bm_answers.specs.OneLine.{asked, asked_may_lack};
-ghost use Rattle.puljemrod.specs.Calls.{config_of, last_text, IsFirst, IsAsked, IsAnswered, IsLine, IsCall, IsBeat, IsText};
+ghost use Rattle.puljemrod.specs.Calls.{last_text, IsFirst, IsAsked, IsAnswered, IsLine, IsCall, IsBeat, IsText};
+ghost use Rattle.puljemrod.specs.GivenOptions.{cluster_limits_of, config_of, options_refusal};
 ghost use Rattle.puljemrod.specs.Rows.{remaining_of};
 
 use crate::codes::{MEMORY, NO_TEXT};
@@ -31,12 +32,13 @@ pub struct HandleState {
 }
 
 pub fn open(alloc: Global, options: &Options) -> Result<Box<HandleState>, Refusal>
-    ensures allowed { OnOk result (config_refusal (config_of options.now) ≡ None) }
-    ensures first { IfOk result (λ b. IsFirst (config_of options.now) b.value) }
-    ensures refused { IfErr result (Refuses (config_refusal (config_of options.now)) true) }
+    ensures allowed { OnOk result (options_refusal options.now ≡ None) }
+    ensures first { IfOk result
+        (λ b. IsFirst (cluster_limits_of options.now) (config_of options.now) b.value) }
+    ensures refused { IfErr result (Refuses (options_refusal options.now) true) }
 {
     let secret = HashSecret::of(options.secret);
-    let manager = Manager::with_secret(alloc, options.config(), secret)?;
+    let manager = Manager::with_limits(alloc, options.config(), options.limits(), secret)?;
     let kept = HandleState {
         manager,
         number: 0,

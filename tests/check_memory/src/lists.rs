@@ -10,7 +10,7 @@ use crate::managers::config;
 use crate::marks::{OPEN, Window, begin_turn, end_turn};
 use crate::questions::ask_all;
 use crate::short_calls::{ShortCall, call_of};
-use bm_base::{Answer, Call, Items, Refusal};
+use bm_base::{Answer, Call, Items, Limits, Refusal};
 use bm_crew::NoGate;
 use bm_manager::{Manager, answers_alike};
 use std::alloc::{AllocError, Global};
@@ -291,8 +291,9 @@ fn answer_by_two<R: Eprint + Threads + Wait + Sync>(
     window: &Window,
 ) -> Result<(Items<Answer>, Items<Answer>), Refusal> {
     let of_three = config(3, workers);
+    let limits = Limits::standard();
     begin_turn(rt, window);
-    let answered = answers_alike(alloc, rt, &NoGate, of_three, 1, 1, list.calls.as_slice());
+    let answered = answers_alike(alloc, rt, &NoGate, of_three, limits, 1, 1, list.calls.as_slice());
     end_turn(rt, window);
     answered
 }

@@ -1,8 +1,8 @@
 // Each caller once with ample memory, on a small cluster, with answers worked out by hand.
 
 use bm_base::{
-    BlockId, Call, Config, Done, Entry, Event, Gen, Items, NodeCommands, NodeId, Places, Rack,
-    Refusal, Replica, Stamp, StorageId, Tag, Transfer,
+    BlockId, Call, Config, Done, Entry, Event, Gen, Items, Limits, NodeCommands, NodeId, Places,
+    Rack, Refusal, Replica, Stamp, StorageId, Tag, Transfer,
 };
 use bm_crew::NoGate;
 use bm_manager::Manager;
@@ -244,8 +244,8 @@ fn check_if_dead<R: Abort + Threads + Wait + Sync>(
     missing: &[BlockId],
 ) {
     let calls = calls(rt, alloc);
-    let config = Config::standard();
-    let found = missing_if_dead(rt, alloc, config, calls.as_slice(), NodeId(node)).expect(
+    let (config, limits) = (Config::standard(), Limits::standard());
+    let found = missing_if_dead(rt, alloc, config, limits, calls.as_slice(), NodeId(node)).expect(
         rt, "memory",
     );
     assert!(rt; found.as_is.as_slice() == [BlockId(9)].as_slice());
@@ -262,14 +262,18 @@ fn what_is_missing_if_a_node_dies(rt: HostRuntime) {
 fn the_death_of_an_unknown_node_is_refused(rt: HostRuntime) {
     let alloc = rt.alloc();
     let calls = calls(&rt, alloc);
-    let found = missing_if_dead(&rt, alloc, Config::standard(), calls.as_slice(), NodeId(3));
+    let (config, limits) = (Config::standard(), Limits::standard());
+    let found = missing_if_dead(&rt, alloc, config, limits, calls.as_slice(), NodeId(3));
     assert!(rt; matches!(found, Err(Refusal::UnknownNode)));
     let none = Config {
         shards: 0,
         ..Config::standard()
     };
-    let found = missing_if_dead(&rt, alloc, none, calls.as_slice(), NodeId(1));
+    let found = missing_if_dead(&rt, alloc, none, limits, calls.as_slice(), NodeId(1));
     assert!(rt; matches!(found, Err(Refusal::BadConfig)));
+    let one_node = Limits { nodes: 1, ..limits };
+    let found = missing_if_dead(&rt, alloc, config, one_node, calls.as_slice(), NodeId(2));
+    assert!(rt; matches!(found, Err(Refusal::UnknownNode)));
 }
 
 fn check_spare<R: Abort + Threads + Wait + Sync>(rt: &R, manager: &mut Manager) {

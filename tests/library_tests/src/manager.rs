@@ -3,8 +3,8 @@
 
 use crate::calls::{Case, STAMP, call_of};
 use bm_base::{
-    Answer, Call, Commands, Config, Delete, Items, NodeCommands, Refusal, ReplicaId, StorageId,
-    Transfer,
+    Answer, Call, Commands, Config, Delete, HashSecret, Items, Limits, NodeCommands, Refusal,
+    ReplicaId, StorageId, Transfer,
 };
 use bm_crew::{Gate, NoGate};
 use bm_manager::{Manager, answers_alike, answers_alike_alone};
@@ -357,9 +357,11 @@ fn two_managers_answer_alike(rt: HostRuntime) {
     let alloc = rt.alloc();
     let calls = calls_of(&rt, alloc, ROUNDS.as_slice());
     let of_one = Config::standard();
-    let threaded = answers_alike(alloc, &rt, &NoGate, of_one, 5, 4, calls.as_slice());
+    let limits = Limits::standard();
+    let threaded = answers_alike(alloc, &rt, &NoGate, of_one, limits, 5, 4, calls.as_slice());
     check_both(&rt, threaded, ROUNDS.as_slice());
-    let alone = answers_alike_alone(alloc, &rt, &NoGate, config(3, 2), 5, calls.as_slice());
+    let of_three = config(3, 2);
+    let alone = answers_alike_alone(alloc, &rt, &NoGate, of_three, limits, 5, calls.as_slice());
     check_both(&rt, alone, ROUNDS.as_slice());
     drop(calls);
 }
@@ -564,4 +566,18 @@ fn the_greatest_configuration_is_accepted(rt: HostRuntime) {
         first_call: u64::MAX,
     };
     assert!(rt; Manager::new(rt.alloc(), most).is_ok());
+}
+
+fn within(alloc: Global, nodes: u32, storages: u32) -> Result<Manager, Refusal> {
+    let limits = Limits { nodes, storages };
+    Manager::with_limits(alloc, Config::standard(), limits, HashSecret::none())
+}
+
+#[test]
+fn limits_outside_their_ranges_are_refused(rt: HostRuntime) {
+    for (nodes, storages) in &[(0, 1), (1, 0), (65_537, 1), (1, 1_048_577)] {
+        let made = within(rt.alloc(), *nodes, *storages);
+        assert!(rt; matches!(made, Err(Refusal::BadConfig)));
+    }
+    assert!(rt; within(rt.alloc(), 65_536, 1_048_576).is_ok());
 }

@@ -1,11 +1,11 @@
 use Rattle.std.proofs.Common.{◌∙◌, ◌++◌, ap, length, min, take, drop}
-use Rattle.bm_base.specs.Words.{all_replicas, empty_cluster}
+use Rattle.bm_base.specs.Words.{all_replicas, empty_cluster, standard_limits}
 use Rattle.puljemrod.specs.ListRows.{good_storages}
 use Rattle.puljemrod.proofs.LocatedRows.{places_in_rows, rows_ascend}
 use Rattle.puljemrod.proofs.locate.puljemrod_locate.Goals as goal
 
 pub rows_of-requires : goal.rows_of-requires
-rows_of-requires c = rows_ascend c.args.rows.now (all_replicas c.requires.0) c.requires.1 (c.lists_ascend.ensures empty_cluster c.requires.0).replicas
+rows_of-requires c = rows_ascend c.args.rows.now (all_replicas c.requires.0) c.requires.1 (c.lists_ascend.ensures (empty_cluster standard_limits) c.requires.0).replicas
 
 pub returns-clause-count : goal.returns-clause-count
 returns-clause-count c H are =
