@@ -13,7 +13,7 @@ enum { LONGEST = 4194304, HEARTBEATS = 1000, DEEPEST = 126, STACK = 1 << 20 };
 /* The second is what a run of the line tool reads at most; the library has no such limit. */
 static unsigned opens = 1000, lines = 1048576;
 
-/* The nodes of the largest cluster that is tried, with two storages each. */
+/* The nodes of the largest cluster that is tried. */
 static uint32_t most_nodes = 65536;
 
 static unsigned passed, failed;
@@ -213,27 +213,27 @@ static void limits_outside_their_ranges(void) {
     puljemrod_close(&h);
 }
 
-/* The replica of block 7 is on the last storage, and the free bytes are on the first one. */
+/* The first node and the last one have a storage each. The replica of block 7 is on the last
+ * storage, and the free bytes are on the first one. */
 static void largest_cluster(void) {
     puljemrod h = PULJEMROD_CLOSED_HANDLE;
-    puljemrod_options options = with_limits(most_nodes, 0);
-    const uint32_t last = 2 * most_nodes - 1;
+    puljemrod_options options = with_limits(most_nodes, 2);
+    const uint32_t last = most_nodes - 1;
     const puljemrod_remaining remaining = {0, 64};
     puljemrod_copy copy = {0};
     uint64_t round, copies, deletes, is_retired, count, places[2] = {0};
-    options.storages = 2 * most_nodes;
     bool are = puljemrod_open(&h, &options) == PULJEMROD_OK;
     for (uint32_t node = 0; node < most_nodes; node++)
-        are = joins(&h, node, 2 * node, 2) == PULJEMROD_OK && are;
+        are = joins(&h, node, node, node == 0 || node == last) == PULJEMROD_OK && are;
     check(are && joins(&h, most_nodes, 0, 0) == PULJEMROD_TOO_MANY, "the largest cluster");
     are = puljemrod_heartbeat(&h, 0, &remaining, 1) == 0 && puljemrod_add_block(&h, 7, 1, 64, 2) == 0;
     are = puljemrod_received(&h, last, 7, 1, 64) == 0 && puljemrod_round(&h, &round, &copies, &deletes) == 0 && are;
     are = copies == 1 && deletes == 0 && puljemrod_copies(&h, 0, &copy, 1) == 1 && are;
-    check(are && copy.node == most_nodes - 1 && copy.source == last && copy.target == 0, "a round of it");
+    check(are && copy.node == last && copy.source == last && copy.target == 0, "a round of it");
     are = puljemrod_received(&h, 0, 7, 1, 64) == 0 && puljemrod_places(&h, 7, &count) == 0 && count == 2;
     are = puljemrod_number_rows(&h, 0, places, 2) == 2 && places[0] == 0 && places[1] == last && are;
-    check(are && puljemrod_retired(&h, most_nodes - 1, &is_retired) == 0 && !is_retired, "questions to it");
-    are = puljemrod_dead(&h, 0) == 0 && joins(&h, most_nodes, last + 1, 2) == PULJEMROD_OK;
+    check(are && puljemrod_retired(&h, last, &is_retired) == 0 && !is_retired, "questions to it");
+    are = puljemrod_dead(&h, 0) == 0 && joins(&h, most_nodes, most_nodes, 1) == PULJEMROD_OK;
     check(are && joins(&h, 0, 0, 0) == PULJEMROD_TOO_MANY, "a node in place of another");
     puljemrod_close(&h);
 }

@@ -128,9 +128,9 @@ fn what_has_left_no_longer_counts(rt: HostRuntime) {
 }
 
 /// Node n has the storages 2 n and 2 n + 1.
-fn largest_cluster(rt: &impl Abort, alloc: Global) -> Manager {
-    let mut manager = manager_within(alloc, 65_536, 1_048_576).expect(rt, "memory");
-    for node in 0..65_536 {
+fn large_cluster(rt: &impl Abort, alloc: Global) -> Manager {
+    let mut manager = manager_within(alloc, 5000, 10_000).expect(rt, "memory");
+    for node in 0..5000 {
         let code = join(rt, alloc, &mut manager, node, 2 * node, 2 * node + 2);
         assert!(rt; code == 0, "node {node}");
     }
@@ -160,39 +160,37 @@ fn is_one_copy(commands: &Commands, node: u32, source: u32, target: u32) -> bool
 
 /// Block 7 wants two replicas. One is on the last node, and the only free bytes are on another.
 #[test]
-fn a_manager_answers_with_65536_nodes(rt: HostRuntime) {
+fn a_manager_answers_with_5000_nodes(rt: HostRuntime) {
     let alloc = rt.alloc();
-    let mut manager = largest_cluster(&rt, alloc);
-    assert!(rt; join(&rt, alloc, &mut manager, 65_536, 0, 0) == TOO_MANY);
+    let mut manager = large_cluster(&rt, alloc);
+    assert!(rt; join(&rt, alloc, &mut manager, 5000, 0, 0) == TOO_MANY);
     let add = Event::AddBlock {
         id: BlockId(7),
         stamp: STAMP,
         repl: 2,
     };
     assert!(rt; take(&mut manager, &add) == 0);
-    assert!(rt; take(&mut manager, &received(131_071)) == 0);
+    assert!(rt; take(&mut manager, &received(9999)) == 0);
     let mut remaining = Vec::new(alloc);
     let free = Remaining {
-        storage: StorageId(60_001),
+        storage: StorageId(6001),
         remaining: 64,
     };
     remaining.push(free).expect(&rt, "memory");
     let heartbeat = Event::Heartbeat {
-        node: NodeId(30_000),
+        node: NodeId(3000),
         remaining: Items::from_vec(remaining),
     };
     assert!(rt; take(&mut manager, &heartbeat) == 0);
     let commands = manager.round_alone().expect(&rt, "a round");
-    assert!(rt; is_one_copy(&commands, 65_535, 131_071, 60_001));
-    assert!(rt; take(&mut manager, &received(60_001)) == 0);
+    assert!(rt; is_one_copy(&commands, 4999, 9999, 6001));
+    assert!(rt; take(&mut manager, &received(6001)) == 0);
     let places = manager.places(BlockId(7)).expect(&rt, "places");
-    assert!(rt; places.as_slice() == [StorageId(60_001), StorageId(131_071)].as_slice());
-    let dead = Event::Dead {
-        node: NodeId(30_000),
-    };
+    assert!(rt; places.as_slice() == [StorageId(6001), StorageId(9999)].as_slice());
+    let dead = Event::Dead { node: NodeId(3000) };
     assert!(rt; take(&mut manager, &dead) == 0);
-    assert!(rt; join(&rt, alloc, &mut manager, 65_536, 200_000, 200_002) == 0);
-    assert!(rt; join(&rt, alloc, &mut manager, 65_537, 0, 0) == TOO_MANY);
-    assert!(rt; manager.retired(NodeId(65_536)).is_ok());
-    assert!(rt; matches!(manager.retired(NodeId(30_000)), Err(Refusal::UnknownNode)));
+    assert!(rt; join(&rt, alloc, &mut manager, 5000, 20_000, 20_002) == 0);
+    assert!(rt; join(&rt, alloc, &mut manager, 5001, 0, 0) == TOO_MANY);
+    assert!(rt; manager.retired(NodeId(5000)).is_ok());
+    assert!(rt; matches!(manager.retired(NodeId(3000)), Err(Refusal::UnknownNode)));
 }
