@@ -1,6 +1,7 @@
 /* A library in place of libpuljemrod.a: its answers are those of the model. Each call is a line,
- * which a child process answers: MODEL is the path of model/tool. So programs that call the library
- * can be tried before it is built. It has the functions that the loops of a NameNode call. */
+ * which a child process answers: MODEL is the path of model_within. So programs that call the
+ * library can be tried before it is built. It has the functions that the loops of a NameNode
+ * call. */
 #include "puljemrod.h"
 
 #include <inttypes.h>
@@ -29,13 +30,16 @@ uint32_t puljemrod_version(void) {
 }
 
 uint32_t puljemrod_open(puljemrod *handle, const puljemrod_options *options) {
+    if (options->nodes > 65536 || options->storages > 1048576) return PULJEMROD_BAD_CONFIG;
     int to[2], from[2];
     model *made = calloc(1, sizeof *made);
-    char words[3][24];
+    char words[5][24];
     if (!made || pipe(to) || pipe(from)) abort();
-    sprintf(words[0], "--work=%" PRIu32, options->work);
-    sprintf(words[1], "--invalidate=%" PRIu32, options->invalidate);
-    sprintf(words[2], "--pend=%" PRIu32, options->pend);
+    sprintf(words[0], "%" PRIu32, options->nodes ? options->nodes : 256);
+    sprintf(words[1], "%" PRIu32, options->storages ? options->storages : 4096);
+    sprintf(words[2], "--work=%" PRIu32, options->work);
+    sprintf(words[3], "--invalidate=%" PRIu32, options->invalidate);
+    sprintf(words[4], "--pend=%" PRIu32, options->pend);
     if (fork() == 0) {
         dup2(to[0], 0);
         dup2(from[1], 1);
@@ -43,7 +47,7 @@ uint32_t puljemrod_open(puljemrod *handle, const puljemrod_options *options) {
             close(to[end]);
             close(from[end]);
         }
-        execl(MODEL, MODEL, words[0], words[1], words[2], (char *)NULL);
+        execl(MODEL, MODEL, words[0], words[1], words[2], words[3], words[4], (char *)NULL);
         abort();
     }
     close(to[0]);
