@@ -293,7 +293,16 @@ fn answer_by_two<R: Eprint + Threads + Wait + Sync>(
     let of_three = config(3, workers);
     let limits = Limits::standard();
     begin_turn(rt, window);
-    let answered = answers_alike(alloc, rt, &NoGate, of_three, limits, 1, 1, list.calls.as_slice());
+    let answered = answers_alike(
+        alloc,
+        rt,
+        &NoGate,
+        of_three,
+        limits,
+        1,
+        1,
+        list.calls.as_slice(),
+    );
     end_turn(rt, window);
     answered
 }

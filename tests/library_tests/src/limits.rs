@@ -129,8 +129,8 @@ fn what_has_left_no_longer_counts(rt: HostRuntime) {
 
 /// Node n has the storages 2 n and 2 n + 1.
 fn large_cluster(rt: &impl Abort, alloc: Global) -> Manager {
-    let mut manager = manager_within(alloc, 5000, 10_000).expect(rt, "memory");
-    for node in 0..5000 {
+    let mut manager = manager_within(alloc, 1000, 2000).expect(rt, "memory");
+    for node in 0..1000 {
         let code = join(rt, alloc, &mut manager, node, 2 * node, 2 * node + 2);
         assert!(rt; code == 0, "node {node}");
     }
@@ -160,37 +160,37 @@ fn is_one_copy(commands: &Commands, node: u32, source: u32, target: u32) -> bool
 
 /// Block 7 wants two replicas. One is on the last node, and the only free bytes are on another.
 #[test]
-fn a_manager_answers_with_5000_nodes(rt: HostRuntime) {
+fn a_manager_answers_with_1000_nodes(rt: HostRuntime) {
     let alloc = rt.alloc();
     let mut manager = large_cluster(&rt, alloc);
-    assert!(rt; join(&rt, alloc, &mut manager, 5000, 0, 0) == TOO_MANY);
+    assert!(rt; join(&rt, alloc, &mut manager, 1000, 0, 0) == TOO_MANY);
     let add = Event::AddBlock {
         id: BlockId(7),
         stamp: STAMP,
         repl: 2,
     };
     assert!(rt; take(&mut manager, &add) == 0);
-    assert!(rt; take(&mut manager, &received(9999)) == 0);
+    assert!(rt; take(&mut manager, &received(1999)) == 0);
     let mut remaining = Vec::new(alloc);
     let free = Remaining {
-        storage: StorageId(6001),
+        storage: StorageId(1201),
         remaining: 64,
     };
     remaining.push(free).expect(&rt, "memory");
     let heartbeat = Event::Heartbeat {
-        node: NodeId(3000),
+        node: NodeId(600),
         remaining: Items::from_vec(remaining),
     };
     assert!(rt; take(&mut manager, &heartbeat) == 0);
     let commands = manager.round_alone().expect(&rt, "a round");
-    assert!(rt; is_one_copy(&commands, 4999, 9999, 6001));
-    assert!(rt; take(&mut manager, &received(6001)) == 0);
+    assert!(rt; is_one_copy(&commands, 999, 1999, 1201));
+    assert!(rt; take(&mut manager, &received(1201)) == 0);
     let places = manager.places(BlockId(7)).expect(&rt, "places");
-    assert!(rt; places.as_slice() == [StorageId(6001), StorageId(9999)].as_slice());
-    let dead = Event::Dead { node: NodeId(3000) };
+    assert!(rt; places.as_slice() == [StorageId(1201), StorageId(1999)].as_slice());
+    let dead = Event::Dead { node: NodeId(600) };
     assert!(rt; take(&mut manager, &dead) == 0);
-    assert!(rt; join(&rt, alloc, &mut manager, 5000, 20_000, 20_002) == 0);
-    assert!(rt; join(&rt, alloc, &mut manager, 5001, 0, 0) == TOO_MANY);
-    assert!(rt; manager.retired(NodeId(5000)).is_ok());
-    assert!(rt; matches!(manager.retired(NodeId(3000)), Err(Refusal::UnknownNode)));
+    assert!(rt; join(&rt, alloc, &mut manager, 1000, 20_000, 20_002) == 0);
+    assert!(rt; join(&rt, alloc, &mut manager, 1001, 0, 0) == TOO_MANY);
+    assert!(rt; manager.retired(NodeId(1000)).is_ok());
+    assert!(rt; matches!(manager.retired(NodeId(600)), Err(Refusal::UnknownNode)));
 }
