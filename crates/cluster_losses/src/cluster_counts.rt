@@ -85,7 +85,7 @@ fn free_bytes(alloc: Global, topology: &Topology) -> Result<u128, AllocError>
 }
 
 /// The free bytes of a storage; 0 if its node drains.
-#[tactic(auto, unfolding(bm_base::specs::Machine::Excess::remaining))]
+#[tactic(auto, unfolding(bm_base::specs::Machine::Replicas::remaining))]
 pub(crate) fn free_on(topology: &Topology, storage: StorageId) -> u64
     ensures { result ≡ free_on topology.now.cluster storage }
 {

@@ -239,7 +239,7 @@ fn share_node(topology: &Topology, one: StorageId, other: StorageId) -> bool
     }
 }
 
-#[tactic(auto, unfolding(bm_base::specs::Machine::Excess::share_rack))]
+#[tactic(auto, unfolding(bm_base::specs::Machine::Replicas::share_rack))]
 fn share_rack(topology: &Topology, one: StorageId, other: StorageId) -> bool
     ensures { result ≡ share_rack topology.now.cluster one other }
 {

@@ -131,7 +131,7 @@ fn storage_rows(
     Ok(Items::from_vec(rows))
 }
 
-#[tactic(auto, unfolding(bm_base::specs::Machine::Excess::remaining), using(crate::proofs::LengthLemmas::bytes_are))]
+#[tactic(auto, unfolding(bm_base::specs::Machine::Replicas::remaining), using(crate::proofs::LengthLemmas::bytes_are))]
 fn storage_row(manager: &Manager, book: &Book, storage: StorageId) -> Result<StorageRow, Refusal>
     requires { Follows book.now manager.now }
     ensures { IfOk result (λ row. row ≡ storage_row manager.now storage) }
