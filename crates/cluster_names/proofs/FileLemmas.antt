@@ -10,11 +10,11 @@ use Rattle.cluster_names.specs.FileTable.{FileTable, path_index, with_path}
 use Rattle.cluster_names.specs.declared.files.FileIndex.{FileIndex}
 
 module _ {A B : Type 0} (p : B → Bool) (f : A → B) where
-  list_any-map : (xs : List A) → list_any p (map f xs) ≡ list_any (λ x. p (f x)) xs
+  pub list_any-map : (xs : List A) → list_any p (map f xs) ≡ list_any (λ x. p (f x)) xs
   list_any-map [] = refl
   list_any-map (x ∷ xs) = ap (λ b. p (f x) || b) (list_any-map xs)
 
-  position_or_len-map : (xs : List A) → position_or_len p (map f xs) ≡ position_or_len (λ x. p (f x)) xs
+  pub position_or_len-map : (xs : List A) → position_or_len p (map f xs) ≡ position_or_len (λ x. p (f x)) xs
   position_or_len-map [] = refl
   position_or_len-map (x ∷ xs) = ap (λ n. cond (not (p (f x))) (1 + n) 0) (position_or_len-map xs)
 

@@ -1,14 +1,36 @@
--- Rows of numbers and names stay one to one when a new number with a new name is added.
-use Rattle.std.proofs.Common.{◌≡◌, ℕ, Bool, true, false, cond, List, [], ◌∷◌, ◌++◌, map, find, Option, Some, None, is_some, option_map, nat_eq, string_bytes, refl, sym, ap, subst, ◌∙◌}
+-- Rows of numbers and names: how look-ups find them, and that they stay one to one when a new
+-- number with a new name is added.
+use Rattle.std.proofs.Common.{◌≡◌, ℕ, ◌+◌, ◌≤◌, Bool, true, false, cond, not, List, [], ◌∷◌, ◌++◌, ◌||◌, map, find, length, nat_lt, position, Option, Some, None, IfSome, is_some, option_map, nat_eq, String, string_bytes, refl, sym, ap, subst, ◌∙◌, arith}
+use Rattle.std.specs.Prelude.{option_and_then}
+use Rattle.std.specs.List.{list_any, position_or_len, slice_get}
+use Rattle.std.specs.Map.{lookup}
 use Rattle.std.specs.Str.{bytes_eq}
+use Rattle.std.specs.String.{string_eq}
 use Rattle.std.proofs.lemmas.Slice.Eq.{bytes_eq-Decides}
-use Rattle.std.proofs.lemmas.Bool.{eqb-true, eq-eqb}
+use Rattle.std.proofs.lemmas.Bool.{eqb-true, eq-eqb, ltb-false}
 use Rattle.std.specs.Borrow.{Bor}
-use Rattle.std.proofs.lemmas.Option.{cond_some}
-use Rattle.std.proofs.lemmas.List.{map_push}
-use Rattle.cluster_names.specs.Names.{row_of}
+use Rattle.std.proofs.lemmas.Option.{cond_some, slice_get_past}
+use Rattle.std.proofs.lemmas.List.{map_push, length-map}
+use Rattle.std.proofs.lemmas.List.Folds.{find_at}
+use Rattle.indexmap.specs.IndexMap.{insert_entry, IndexMap}
+use Rattle.indexmap.specs.IndexSet.{insert_key}
+use Rattle.indexmap.proofs.CallerLemmas.{insert_entry-new}
+use Rattle.cluster_names.specs.Names.{row_of, IsIndexed}
 use Rattle.cluster_names.specs.Rows.{Text, Rows, name_of, number_of, IsOneToOne}
-use Rattle.cluster_names.specs.declared.name_table.Row.{Row}
+use Rattle.cluster_names.proofs.FileLemmas.{list_any-map, position_or_len-map}
+
+-- Tests that hold both ways.
+
+both_ways : (a b : Bool) → (a ≡ true → b ≡ true) → (b ≡ true → a ≡ true) → a ≡ b
+both_ways true b f g = sym (f refl)
+both_ways false true f g = g refl
+both_ways false false f g = refl
+
+same_number : (m n : ℕ) → nat_eq m n ≡ nat_eq n m
+same_number m n = both_ways _ _ (λ e. eq-eqb n m (sym (eqb-true m n e))) (λ e. eq-eqb m n (sym (eqb-true n m e)))
+
+same_text : (t u : Text) → bytes_eq t u ≡ bytes_eq u t
+same_text t u = both_ways _ _ (λ e. (bytes_eq-Decides u t).1 (sym ((bytes_eq-Decides t u).0 e))) (λ e. (bytes_eq-Decides t u).1 (sym ((bytes_eq-Decides u t).0 e)))
 
 -- a search among mapped items finds the image of the item found
 pub find-map : {A B : Type 0} (p : B → Bool) (f : A → B) (xs : List A) → find p (map f xs) ≡ option_map f (find (λ x. p (f x)) xs)
@@ -20,27 +42,54 @@ find-map p f (x ∷ xs) = by (p (f x)) (find-map p f xs)
     by true same = refl
     by false same = same
 
-second_mapped : (o : Option Row) → option_map (λ r. r.1) (option_map row_of o) ≡ option_map (λ r. string_bytes r.name) o
-second_mapped None = refl
-second_mapped (Some r) = refl
+position-map : {A B : Type 0} (p : B → Bool) (f : A → B) (xs : List A) → position p (map f xs) ≡ position (λ x. p (f x)) xs
+position-map p f xs =
+    ap (λ n. cond (nat_lt n (length (map f xs))) (Some n) None) (position_or_len-map p f xs)
+    ∙ ap (λ m. cond (nat_lt (position_or_len (λ x. p (f x)) xs) m) (Some (position_or_len (λ x. p (f x)) xs)) None) (length-map xs f)
 
-first_mapped : (o : Option Row) → option_map (λ r. r.0) (option_map row_of o) ≡ option_map (λ r. r.number) o
-first_mapped None = refl
-first_mapped (Some r) = refl
+module _ {Y : Type 0} where
+  name_mapped : (o : Option (String Y × ℕ)) → option_map (λ r. r.1) (option_map row_of o) ≡ option_map (λ e. string_bytes e.0) o
+  name_mapped None = refl
+  name_mapped (Some e) = refl
 
--- a look-up by number gives the name of the row found
-pub name_found : (rows : List Row) (number : ℕ) (o : Option Row) → o ≡ find (λ r. nat_eq r.number number) rows
-    → option_map (λ r. string_bytes r.name) o ≡ name_of (map row_of rows) number
-name_found rows number o e =
-    ap (option_map (λ r. string_bytes r.name)) e
-    ∙ sym (ap (option_map (λ r. r.1)) (find-map (λ r. nat_eq r.0 number) row_of rows) ∙ second_mapped _)
+  number_mapped : (o : Option (String Y × ℕ)) → option_map (λ r. r.0) (option_map row_of o) ≡ option_map (λ e. e.1) o
+  number_mapped None = refl
+  number_mapped (Some e) = refl
 
--- a look-up by name gives the number of the row found
-pub number_found : (rows : List Row) (name : Text) (o : Option Row) → o ≡ find (λ r. bytes_eq (string_bytes r.name) name) rows
-    → option_map (λ r. r.number) o ≡ number_of (map row_of rows) name
-number_found rows name o e =
-    ap (option_map (λ r. r.number)) e
-    ∙ sym (ap (option_map (λ r. r.0)) (find-map (λ r. bytes_eq r.1 name) row_of rows) ∙ first_mapped _)
+  -- the name at an index, if the index is of the number
+  abbrev name_at : List (String Y × ℕ) → Option ℕ → Option Text
+  name_at es i = option_and_then (λ k. option_map (λ e. string_bytes e.0) (slice_get es k)) i
+
+  by_index : (es : List (String Y × ℕ)) (n : ℕ) (b : Bool) → nat_lt n (length es) ≡ b → name_at es (cond b (Some n) None) ≡ option_map (λ e. string_bytes e.0) (slice_get es n)
+  by_index es n true e = refl
+  by_index es n false e = sym (ap (option_map (λ x. string_bytes x.0)) (slice_get_past es n (ltb-false n (length es) e)))
+
+  -- the index of a number is that of its name
+  pub name_found : (es : List (String Y × ℕ)) (ns : List ℕ) (number : ℕ) (i : Option ℕ) → ns ≡ map (λ e. e.1) es → i ≡ position (nat_eq number) ns
+      → name_at es i ≡ name_of (map row_of es) number
+  name_found es ns number i same at =
+      let test : String Y × ℕ → Bool = λ e. nat_eq number e.1 in
+      let n = position_or_len test es in
+      ap (name_at es) (at ∙ ap (position (nat_eq number)) same ∙ position-map (nat_eq number) (λ e. e.1) es)
+      ∙ by_index es n (nat_lt n (length es)) refl
+      ∙ ap (option_map (λ e. string_bytes e.0)) (sym (find_at test es) ∙ (λ j. find (λ e. same_number number e.1 j) es))
+      ∙ sym (ap (option_map (λ r. r.1)) (find-map (λ r. nat_eq r.0 number) row_of es) ∙ name_mapped (find (λ e. nat_eq e.1 number) es))
+
+  -- a look-up by name gives its number
+  pub number_found : (es : List (String Y × ℕ)) (name : Text) → lookup (λ k. bytes_eq name (string_bytes k)) es ≡ number_of (map row_of es) name
+  number_found es name =
+      looked es
+      ∙ (λ j. option_map (λ e. e.1) (find (λ e. same_text name (string_bytes e.0) j) es))
+      ∙ sym (ap (option_map (λ r. r.0)) (find-map (λ r. bytes_eq r.1 name) row_of es) ∙ number_mapped (find (λ e. bytes_eq (string_bytes e.0) name) es))
+    where
+      looked : (xs : List (String Y × ℕ)) → lookup (λ k. bytes_eq name (string_bytes k)) xs ≡ option_map (λ e. e.1) (find (λ e. bytes_eq name (string_bytes e.0)) xs)
+      looked [] = refl
+      looked (x ∷ xs) = by (bytes_eq name (string_bytes x.0)) (looked xs)
+        where
+          by : (b : Bool) → lookup (λ k. bytes_eq name (string_bytes k)) xs ≡ option_map (λ e. e.1) (find (λ e. bytes_eq name (string_bytes e.0)) xs)
+              → cond b (Some x.1) (lookup (λ k. bytes_eq name (string_bytes k)) xs) ≡ option_map (λ e. e.1) (cond b (Some x) (find (λ e. bytes_eq name (string_bytes e.0)) xs))
+          by true e = refl
+          by false e = e
 
 abbrev or_else : {A : Type 0} → Option A → Option A → Option A
 or_else (Some x) o = Some x
@@ -115,13 +164,52 @@ none_if (Some x) e = cc
 none_mapped : {A B : Type 0} (f : A → B) (o : Option A) → o ≡ None → option_map f o ≡ None
 none_mapped f o e = ap (option_map f) e
 
--- the rows with one more, if neither its number nor its name is in them
-pub one_to_one-rows : (rows : List Row) (row : Row) → IsOneToOne (map row_of rows)
-    → name_of (map row_of rows) row.number ≡ None → number_of (map row_of rows) (string_bytes row.name) ≡ None
-    → IsOneToOne (map row_of (rows ++ row ∷ []))
-one_to_one-rows rows row one number name =
-    subst IsOneToOne (sym (map_push row_of rows row))
-    (one_to_one-push (map row_of rows) row.number (string_bytes row.name) one number name)
+-- the number that a look-up by name finds has this name
+pub back_found : (rows : Rows) → IsOneToOne rows → (name : Text) (o : Option ℕ) → o ≡ number_of rows name → IfSome o (λ n. name_of rows n ≡ Some name)
+back_found rows one name None e = tt
+back_found rows one name (Some n) e = one.of_number n name (sym e)
+
+-- A new entry.
+
+some_found : {A B : Type 0} (f : A → B) (p : A → Bool) (xs : List A) → is_some (option_map f (find p xs)) ≡ list_any p xs
+some_found f p [] = refl
+some_found f p (x ∷ xs) = by (p x) (some_found f p xs)
+  where
+    by : (b : Bool) → is_some (option_map f (find p xs)) ≡ list_any p xs → is_some (option_map f (cond b (Some x) (find p xs))) ≡ (b || list_any p xs)
+    by true e = refl
+    by false e = e
+
+module _ {Y : Type 0} (es : List (String Y × ℕ)) (ns : List ℕ) (number : ℕ) (same : ns ≡ map (λ e. e.1) es) (new : name_of (map row_of es) number ≡ None) where
+  -- no number is this one
+  no_such : list_any (nat_eq number) ns ≡ false
+  no_such =
+      ap (list_any (nat_eq number)) same
+      ∙ list_any-map (nat_eq number) (λ e. e.1) es
+      ∙ (λ j. list_any (λ e. same_number number e.1 j) es)
+      ∙ sym (list_any-map (λ r. nat_eq r.0 number) row_of es)
+      ∙ sym (some_found (λ r. r.1) (λ r. nat_eq r.0 number) (map row_of es))
+      ∙ ap is_some new
+
+  pub number_put : insert_key nat_eq ns number ≡ ns ++ number ∷ []
+  number_put = ap (λ b. cond b ns (ns ++ number ∷ [])) no_such
+
+-- a new name goes last
+pub name_put : {Y S : Type 0} (m : IndexMap (String Y) ℕ S) (key : String Y) (name : Text) (number : ℕ) → string_bytes key ≡ name → number_of (map row_of m.entries) name ≡ None
+    → insert_entry string_eq m.entries key number ≡ m.entries ++ (key, number) ∷ []
+name_put m key name number is new =
+    insert_entry-new string_eq m key number (ap (λ t. lookup (λ k. bytes_eq t (string_bytes k)) m.entries) is ∙ number_found m.entries name ∙ new)
+
+pub rows_put : {Y : Type 0} (es : List (String Y × ℕ)) (key : String Y) (number : ℕ) (name : Text) → string_bytes key ≡ name
+    → map row_of (es ++ (key, number) ∷ []) ≡ map row_of es ++ (number, name) ∷ []
+rows_put es key number name is = map_push row_of es (key, number) ∙ ap (λ t. map row_of es ++ (number, t) ∷ []) is
+
+-- the table with one more name, if neither its number nor the name is in it
+pub indexed_put : {Y : Type 0} (es : List (String Y × ℕ)) (ns : List ℕ) (key : String Y) (number : ℕ) (name : Text) → IsIndexed es ns → string_bytes key ≡ name
+    → name_of (map row_of es) number ≡ None → number_of (map row_of es) name ≡ None → IsIndexed (es ++ (key, number) ∷ []) (ns ++ number ∷ [])
+indexed_put es ns key number name before is new_number new_name = record {
+  one = subst IsOneToOne (sym (map_push row_of es (key, number))) (one_to_one-push (map row_of es) number (string_bytes key) before.one new_number (ap (number_of (map row_of es)) is ∙ new_name));
+  same = ap (λ t. t ++ number ∷ []) before.same ∙ sym (map_push (λ e. e.1) es (key, number));
+}
 
 -- a look-up that finds nothing means that no row has the key
 pub no_name : (rows : Rows) (number : ℕ) (o : Option (Bor Text)) → option_map (λ t. t.now) o ≡ name_of rows number → false ≡ is_some o → name_of rows number ≡ None

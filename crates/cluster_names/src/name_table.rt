@@ -1,35 +1,30 @@
 // Numbers and names of one kind, one to one.
-ghost use Rattle.std.specs.Prelude.{◌≡◌, ◌++◌, ◌∷◌, [], Some, length, slice_get, option_map, option_copied, find, nat_eq, bytes_eq, string_bytes, is_some, IfOk, IfSome, OnErr, if◌then◌else◌};
+ghost use Rattle.std.specs.Prelude.{◌≡◌, ◌++◌, ◌∷◌, [], Some, length, slice_get, option_map, IfOk, IfSome, OnErr, if◌then◌else◌};
 ghost use Rattle.cluster_names.specs.Rows.{name_of, number_of, is_free};
 
+use indexmap::{IndexMap, IndexSet};
 use std::alloc::{AllocError, Global};
 use std::marker::Model;
 
-/// A number and its name.
-#[derive(Drop)]
-struct Row {
-    number: u32,
-    name: String,
-}
-
-/// Names of one kind. No number has two names, and no name two numbers. A look-up scans all rows:
-/// there are at most 4,096.
+/// Names of one kind. No number has two names, and no name two numbers. A look-up is by hash.
 #[derive(Drop)]
 pub struct NameTable {
-    rows: Vec<Row>,
+    /// Each name with its number, in the order of addition.
+    names: IndexMap<String, u32>,
+    /// The numbers in the same order, so that the index of a number is that of its name.
+    numbers: IndexSet<u32>,
 }
 
 impl Model for NameTable {
     ghost use Rattle.std.specs.Prelude.{map};
-    ghost use Rattle.cluster_names.specs.Rows.{Rows, IsOneToOne};
+    ghost use Rattle.cluster_names.specs.Rows.{Rows};
+    ghost use Rattle.cluster_names.specs.Names.{row_of, IsIndexed};
 
     ghost Value = { Rows };
 
-    ghost use Rattle.cluster_names.specs.Names.{row_of};
+    ghost view = { λ t. map row_of t.names.entries };
 
-    ghost view = { λ t. map row_of t.rows.items };
-
-    ghost invariant = { λ t. IsOneToOne (map row_of t.rows.items) };
+    ghost invariant = { λ t. IsIndexed t.names.entries t.numbers.keys };
 }
 
 impl NameTable {
@@ -38,7 +33,8 @@ impl NameTable {
         ensures { result ≡ [] }
     {
         NameTable {
-            rows: Vec::new(alloc),
+            names: IndexMap::new(alloc),
+            numbers: IndexSet::new(alloc),
         }
     }
 
@@ -46,15 +42,15 @@ impl NameTable {
     pub fn len(&self) -> usize
         ensures { result ≡ length self.now }
     {
-        self.rows.len()
+        self.names.len()
     }
 
     /// The number and the name at an index, in the order of their addition.
     pub fn get(&self, index: usize) -> Option<(u32, &str)>
         ensures { option_map (λ r. (r.0, r.1.now)) result ≡ slice_get self.now index }
     {
-        let row = self.rows.get(index)?;
-        Some((row.number, row.name.as_str()))
+        let (name, number) = self.names.get_index(index)?;
+        Some((*number, name.as_str()))
     }
 
     /// The name of a number.
@@ -62,8 +58,9 @@ impl NameTable {
         ensures name { option_map (λ t. t.now) result ≡ name_of self.now number }
         ensures back { IfSome result (λ t. number_of self.now t.now ≡ Some number) }
     {
-        let row = row_with_number(self.rows.as_slice(), number)?;
-        Some(row.name.as_str())
+        let index = self.numbers.get_index_of(&number)?;
+        let (name, _) = self.names.get_index(index)?;
+        Some(name.as_str())
     }
 
     /// The number of a name.
@@ -71,8 +68,7 @@ impl NameTable {
         ensures number { result ≡ number_of self.now name.now }
         ensures back { IfSome result (λ n. name_of self.now n ≡ Some name.now) }
     {
-        let row = row_with_name(self.rows.as_slice(), name)?;
-        Some(row.number)
+        self.names.get(name).copied()
     }
 
     /// Adds a number with its name. `false` if the number has a name already, or the name a number;
@@ -87,19 +83,11 @@ impl NameTable {
             return Ok(false);
         }
         let name = String::from_str(alloc, name)?;
-        self.rows.push(Row { number, name })?;
-        Ok(true)
+        self.numbers.reserve(1)?;
+        self.names.insert(name, number)?;
+        match self.numbers.insert(number) {
+            Ok(_) => Ok(true),
+            Err(_) => unreachable!(),
+        }
     }
-}
-
-fn row_with_number(rows: &[Row], number: u32) -> Option<&Row>
-    ensures { option_copied result ≡ find (λ r. nat_eq r.number number) rows.now }
-{
-    rows.iter().find(|row| row.number == number)
-}
-
-fn row_with_name<'a>(rows: &'a [Row], name: &str) -> Option<&'a Row>
-    ensures { option_copied result ≡ find (λ r. bytes_eq (string_bytes r.name) name.now) rows.entry.now }
-{
-    rows.iter().find(|row| row.name.as_str() == name)
 }
