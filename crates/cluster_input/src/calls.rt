@@ -73,7 +73,7 @@ fn make_registers<H: Threads + Wait + Sync>(
     ensures in_step { OnOk result (IsInStep session.new) }
 {
     for node in cluster.node_rows.as_slice() {
-        let call = register(session.alloc, cluster.rows.as_slice(), node)?;
+        let call = register(session.alloc, &cluster.rows, node)?;
         make_call(rt, session, &call)?;
     }
     Ok(())
@@ -92,7 +92,7 @@ fn make_heartbeats<H: Threads + Wait + Sync>(
     ensures in_step { OnOk result (IsInStep session.new) }
 {
     for node in cluster.node_rows.as_slice() {
-        let call = heartbeat(session.alloc, cluster.rows.as_slice(), node, remaining)?;
+        let call = heartbeat(session.alloc, &cluster.rows, node, remaining)?;
         make_call(rt, session, &call)?;
     }
     Ok(())

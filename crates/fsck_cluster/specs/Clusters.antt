@@ -2,6 +2,7 @@
 use Rattle.std.specs.Prelude.{◌≡◌, ⊤, ℕ, ◌||◌, Bool, false, not, nat_lt, length, List, [], ◌∷◌, ◌++◌, Option, Some, None, unwrap_or, position, slice_get, Result, Ok, Err, if◌then◌else◌, codes}
 use Rattle.std.specs.Option.{option_map_or}
 use Rattle.std.specs.Str.{bytes_eq}
+use Rattle.bm_base.specs.declared.limits.TheConstants.{MOST_NODES, MOST_STORAGES}
 use Rattle.bm_base.specs.declared.replica.Stamp.{Stamp}
 use Rattle.fsck_text.specs.Cuts.{Text}
 use Rattle.fsck_text.specs.Wrongs.{after_ok}
@@ -65,7 +66,7 @@ after_new_node c p = record c {
 abbrev pub with_new_node : Cluster → Place → After
 with_new_node c p =
     if c.knows_nodes then Err why.UnknownNode
-    else (if nat_lt (length c.nodes) 256 then Ok (after_new_node c p) else Err why.TooManyNodes)
+    else (if nat_lt (length c.nodes) MOST_NODES then Ok (after_new_node c p) else Err why.TooManyNodes)
 
 abbrev pub at_node : Cluster → Place → Option ℕ → After
 at_node c p (Some index) = if is_on_rack c index p.rack then Ok c else Err why.Elsewhere
@@ -89,7 +90,7 @@ after_new_storage c p = record c {
 
 abbrev pub at_storage : Cluster → Place → Option ℕ → After
 at_storage c p (Some index) = if is_on_node c index p.address then Ok c else Err why.Elsewhere
-at_storage c p None = if nat_lt (length c.storages) 4096 then Ok (after_new_storage c p) else Err why.TooManyStorages
+at_storage c p None = if nat_lt (length c.storages) MOST_STORAGES then Ok (after_new_storage c p) else Err why.TooManyStorages
 
 -- adds the storage of a place; a known one must be on the same node
 abbrev pub after_storage : Cluster → Place → After
@@ -148,7 +149,7 @@ abbrev pub after_spare : Cluster → ℕ → After
 after_spare c node =
     if has_storage c.rows node then Ok c
     else (if not (is_new c.storages (name_of c.nodes node)) then Err why.Elsewhere
-    else (if nat_lt (length c.storages) 4096 then Ok (with_spare c node) else Err why.TooManyStorages))
+    else (if nat_lt (length c.storages) MOST_STORAGES then Ok (with_spare c node) else Err why.TooManyStorages))
 
 -- adds a storage for each of several nodes without one
 abbrev pub after_spares : Cluster → List NodeRow → After

@@ -2,5 +2,6 @@
 pub mod Names
 pub mod Blocks
 pub mod Rows
+pub mod NodeStorages
 pub mod Clusters
 pub mod NodeLists

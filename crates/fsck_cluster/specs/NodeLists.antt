@@ -1,6 +1,7 @@
 -- The DataNodes, from the report on them.
 use Rattle.std.specs.Prelude.{◌≡◌, ⊤, ℕ, ◌==◌, ◌||◌, Bool, true, false, not, nat_lt, is_none, length, ◌∷◌, ◌++◌, [], Option, Some, None, Result, Ok, Err, if◌then◌else◌, codes}
 use Rattle.std.specs.Option.{option_map_or}
+use Rattle.bm_base.specs.declared.limits.TheConstants.{MOST_NODES}
 use Rattle.fsck_text.specs.Cuts.{Text}
 use Rattle.fsck_text.specs.Nodes.{node_line_of}
 use Rattle.fsck_text.specs.Wrongs.{after_ok}
@@ -79,7 +80,7 @@ named s address = record s {
 abbrev pub with_node : Text → NodeList → After
 with_node address s =
     if not (is_new s.cluster.nodes address) then Err (refusal.Why why.NodeTwice)
-    else (if nat_lt (length s.cluster.nodes) 256 then Ok (named s address) else Err (refusal.Why why.TooManyNodes))
+    else (if nat_lt (length s.cluster.nodes) MOST_NODES then Ok (named s address) else Err (refusal.Why why.TooManyNodes))
 
 -- begins a node
 abbrev pub after_name : NodeList → Text → After

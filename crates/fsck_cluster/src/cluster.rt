@@ -5,7 +5,7 @@ ghost use Rattle.fsck_cluster.specs.Clusters.{no_cluster, is_on_rack, is_on_node
 use crate::blocks::Blocks;
 use crate::names::Names;
 use crate::rows::{Rows, StoredReplica};
-use bm_base::{BlockId, BlockInfo, Items, MAX_NODES, MAX_STORAGES, StorageId};
+use bm_base::{BlockId, BlockInfo, Items, MOST_NODES, MOST_STORAGES, StorageId};
 use fsck_files::{Block, Numbers, is_corrupt, is_draining};
 use fsck_text::{ListedReplica, Piece, Place};
 use std::alloc::{AllocError, Global};
@@ -60,9 +60,9 @@ pub enum Why {
     Elsewhere,
     #[error("a node that is not among the live ones of --nodes: take new texts of fsck and of dfsadmin")]
     UnknownNode,
-    #[error("more than 256 nodes")]
+    #[error("more than 65,536 nodes")]
     TooManyNodes,
-    #[error("more than 4,096 storages")]
+    #[error("more than 1,048,576 storages")]
     TooManyStorages,
 }
 
@@ -152,7 +152,7 @@ impl Cluster {
             Some(index) if self.is_on_rack(index, &place.rack) => Ok(()),
             Some(_) => Err(ClusterFault::Refused(Why::Elsewhere)),
             None if self.knows_nodes => Err(ClusterFault::Refused(Why::UnknownNode)),
-            None if self.nodes.len() >= MAX_NODES => {
+            None if self.nodes.len() >= MOST_NODES as usize => {
                 Err(ClusterFault::Refused(Why::TooManyNodes))
             }
             None => Ok(self.add_node(alloc, place)?),
@@ -199,7 +199,7 @@ impl Cluster {
         match self.storages.index(place.storage.text()) {
             Some(index) if self.is_on_node(index, place.address.text()) => Ok(()),
             Some(_) => Err(ClusterFault::Refused(Why::Elsewhere)),
-            None if self.storages.len() >= MAX_STORAGES => {
+            None if self.storages.len() >= MOST_STORAGES as usize => {
                 Err(ClusterFault::Refused(Why::TooManyStorages))
             }
             None => Ok(self.add_storage(alloc, place)?),
@@ -310,7 +310,7 @@ impl Cluster {
         if self.storages.index(self.nodes.name(node)).is_some() {
             return Err(ClusterFault::Refused(Why::Elsewhere));
         }
-        if self.storages.len() >= MAX_STORAGES {
+        if self.storages.len() >= MOST_STORAGES as usize {
             return Err(ClusterFault::Refused(Why::TooManyStorages));
         }
         let storage = self.storages.intern(alloc, self.nodes.name(node))?;

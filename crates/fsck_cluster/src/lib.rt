@@ -6,6 +6,7 @@ mod blocks;
 mod cluster;
 mod names;
 mod node_list;
+mod node_storages;
 mod rows;
 
 pub use blocks::Blocks;

@@ -4,7 +4,7 @@ ghost use Rattle.fsck_cluster.specs.NodeLists.{no_list, ended_row, counted, ende
 ghost use Rattle.fsck_cluster.specs.declared.node_list.NodeRefusal.TheVariants as refusal;
 
 use crate::cluster::{Cluster, DEFAULT_RACK, NodeRow};
-use bm_base::MAX_NODES;
+use bm_base::MOST_NODES;
 use fsck_text::{NodeLine, Wrong, parse_node_line};
 use std::alloc::{AllocError, Global};
 use thiserror::Error;
@@ -30,7 +30,7 @@ pub struct NodeList {
 pub enum NodeWhy {
     #[error("the node was read before: give the output of one hdfs dfsadmin -report")]
     NodeTwice,
-    #[error("more than 256 live nodes")]
+    #[error("more than 65,536 live nodes")]
     TooManyNodes,
     #[error("the node before has no line 'DFS Remaining'")]
     NoRemaining,
@@ -222,7 +222,7 @@ impl NodeList {
         if self.cluster.nodes.index(address).is_some() {
             return Err(NodeFault::Refused(NodeRefusal::Why(NodeWhy::NodeTwice)));
         }
-        if self.cluster.nodes.len() >= MAX_NODES {
+        if self.cluster.nodes.len() >= MOST_NODES as usize {
             return Err(NodeFault::Refused(NodeRefusal::Why(NodeWhy::TooManyNodes)));
         }
         let node = self.cluster.nodes.intern(alloc, address)?;

@@ -1,8 +1,10 @@
 // The storages, each with its node and its replicas.
-ghost use Rattle.std.specs.Prelude.{◌≡◌, ◌++◌, ◌∷◌, [], OnOk};
-ghost use Rattle.fsck_cluster.specs.Rows.{new_row, ends_with, with_held_at, has_storage};
+ghost use Rattle.std.specs.Prelude.{◌≡◌, ◌++◌, ◌∷◌, [], ℕ, OnOk};
+ghost use Rattle.fsck_cluster.specs.Rows.{new_row, ends_with, with_held_at, has_storage, storages_of};
 
-use bm_base::{BlockId, Items, Stamp};
+use crate::node_storages::{NodeStorages, add_storage, storages_at};
+use bm_base::{BlockId, Items, Stamp, StorageId};
+use indexmap::IndexMap;
 use std::alloc::{AllocError, Global};
 use std::marker::Model;
 
@@ -21,10 +23,11 @@ pub struct Row {
     pub held: Items<StoredReplica>,
 }
 
-/// The storages in the order of their numbers.
+/// The storages in the order of their numbers, with a hash table of those of each node.
 #[derive(Drop)]
 pub struct Rows {
     rows: Vec<Row>,
+    by_node: NodeStorages,
 }
 
 impl Model for Rows {
@@ -33,7 +36,11 @@ impl Model for Rows {
 
     ghost Value = { List Row };
 
+    ghost use Rattle.fsck_cluster.specs.NodeStorages.{AreGrouped};
+
     ghost view = { λ rows. rows.rows.items };
+
+    ghost invariant = { λ rows. AreGrouped rows.rows.items rows.by_node.entries };
 }
 
 impl Row {
@@ -55,6 +62,7 @@ impl Rows {
     {
         Rows {
             rows: Vec::new(alloc),
+            by_node: IndexMap::new(alloc),
         }
     }
 
@@ -67,24 +75,31 @@ impl Rows {
             node,
             held: Items::from_vec(Vec::new(alloc)),
         };
-        Ok(self.rows.push(row)?)
+        self.rows.reserve(1)?;
+        add_storage(alloc, &mut self.by_node, node, StorageId(number))?;
+        self.rows.push_reserved(row);
+        Ok(())
     }
 
     /// Adds a replica to the storage at an index.
     pub fn add(&mut self, at: usize, held: StoredReplica) -> Result<(), AllocError>
         ensures { OnOk result (self.new ≡ with_held_at self.old at held) }
     {
-        match self.rows.get_mut(at) {
-            Some(row) => row.held.push(held),
-            None => Ok(()),
-        }
+        add_replica(&mut self.rows, at, held)
     }
 
     /// Whether a node has a storage.
     pub fn has_storage(&self, node: u32) -> bool
         ensures { result ≡ has_storage self.now node }
     {
-        self.rows.as_slice().iter().any(|row| row.node == node)
+        !self.storages_of(node).is_empty()
+    }
+
+    /// Returns the storages of a node, by ascending number.
+    pub fn storages_of(&self, node: u32) -> &[StorageId]
+        ensures { result.now ≡ storages_of self.now node }
+    {
+        storages_at(&self.by_node, node)
     }
 
     /// Returns the storages, by ascending number.
@@ -98,7 +113,19 @@ impl Rows {
     pub fn into_vec(self) -> Vec<Row>
         ensures { result.items ≡ self }
     {
-        let Rows { rows } = self;
+        let Rows { rows, .. } = self;
         rows
+    }
+}
+
+/// Adds a replica to the storage at an index. No storage changes its number or its node.
+#[tactic(auto, using(crate::proofs::RowLemmas::storages_set))]
+fn add_replica(rows: &mut Vec<Row>, at: usize, held: StoredReplica) -> Result<(), AllocError>
+    ensures rows { OnOk result (rows.new.items ≡ with_held_at rows.old.items at held) }
+    ensures storages { (n : ℕ) → storages_of rows.new.items n ≡ storages_of rows.old.items n }
+{
+    match rows.get_mut(at) {
+        Some(row) => row.held.push(held),
+        None => Ok(()),
     }
 }

@@ -5,6 +5,7 @@ use Rattle.std.specs.List.{list_any, position_or_len, AllByRecursion}
 use Rattle.std.specs.Option.{option_map_or}
 use Rattle.std.specs.Str.{bytes_eq}
 use Rattle.bm_base.specs.Words.{range_from, has_repeats}
+use Rattle.bm_base.specs.declared.limits.TheConstants.{MOST_NODES, MOST_STORAGES}
 use Rattle.fsck_text.specs.Cuts.{Text}
 use Rattle.fsck_text.specs.declared.place.Place.{Place}
 use Rattle.fsck_cluster.specs.Blocks.{NumberedBlocks}
@@ -83,8 +84,8 @@ node_sound c d t p e before = by (list_any (bytes_eq p.address) c.nodes) refl
         (subst (λ x. Sound x t) same before, subst (λ x. list_any (bytes_eq p.address) x.nodes ≡ true) same known)
     by false new =
         let found : with_new_node c p ≡ Ok d = ap (at_node c p) (sym (position-new (bytes_eq p.address) c.nodes new)) ∙ e in
-        let inner = if_not c.knows_nodes (if nat_lt (length c.nodes) 256 then Ok (after_new_node c p) else Err why.TooManyNodes) why.UnknownNode d found in
-        let same : after_new_node c p ≡ d = same_ok (after_new_node c p) d (if_ok (nat_lt (length c.nodes) 256) (Ok (after_new_node c p)) why.TooManyNodes d inner.1).1 in
+        let inner = if_not c.knows_nodes (if nat_lt (length c.nodes) MOST_NODES then Ok (after_new_node c p) else Err why.TooManyNodes) why.UnknownNode d found in
+        let same : after_new_node c p ≡ d = same_ok (after_new_node c p) d (if_ok (nat_lt (length c.nodes) MOST_NODES) (Ok (after_new_node c p)) why.TooManyNodes d inner.1).1 in
         let known : list_any (bytes_eq p.address) (with_name c.nodes p.address) ≡ true = ap (list_any (bytes_eq p.address)) (with_new c.nodes p.address new) ∙ known_last p.address c.nodes in
         (subst (λ x. Sound x t) same (new_node c t p new before), subst (λ x. list_any (bytes_eq p.address) x.nodes ≡ true) same known)
 
@@ -165,7 +166,7 @@ storage_sound c d t p address e before = by (list_any (bytes_eq p.storage) c.sto
         } in
         (subst (λ x. Sound x t) same before, subst (λ x. Ready x p) same ready)
     by false new =
-        let found : (if nat_lt (length c.storages) 4096 then Ok (after_new_storage c p) else Err why.TooManyStorages) ≡ Ok d = ap (at_storage c p) (sym (position-new (bytes_eq p.storage) c.storages new)) ∙ e in
-        let same : with_storage c p ≡ d = with_storage_is c p address new ∙ same_ok (after_new_storage c p) d (if_ok (nat_lt (length c.storages) 4096) (Ok (after_new_storage c p)) why.TooManyStorages d found).1 in
+        let found : (if nat_lt (length c.storages) MOST_STORAGES then Ok (after_new_storage c p) else Err why.TooManyStorages) ≡ Ok d = ap (at_storage c p) (sym (position-new (bytes_eq p.storage) c.storages new)) ∙ e in
+        let same : with_storage c p ≡ d = with_storage_is c p address new ∙ same_ok (after_new_storage c p) d (if_ok (nat_lt (length c.storages) MOST_STORAGES) (Ok (after_new_storage c p)) why.TooManyStorages d found).1 in
         let made = new_storage c t p address new before in
         (subst (λ x. Sound x t) same made.0, subst (λ x. Ready x p) same made.1)

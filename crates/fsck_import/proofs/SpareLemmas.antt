@@ -3,6 +3,7 @@ use Rattle.std.proofs.Common.{◌≡◌, ℕ, Bool, true, false, not, nat_lt, Li
 use Rattle.std.specs.List.{list_any, AllByRecursion}
 use Rattle.std.specs.Str.{bytes_eq}
 use Rattle.std.proofs.lemmas.List.{append-nil}
+use Rattle.bm_base.specs.declared.limits.TheConstants.{MOST_STORAGES}
 use Rattle.fsck_text.specs.Cuts.{Text}
 use Rattle.fsck_cluster.specs.Clusters.{with_spare, after_spare, after_spares, with_spares}
 use Rattle.fsck_cluster.specs.Names.{is_new, name_number, name_of}
@@ -81,14 +82,14 @@ spare_spared : (c d : Cluster) (node : ℕ) → after_spare c node ≡ Ok d → 
 spare_spared c d node = by (has_storage c.rows node)
   where
     added : Result Cluster Why
-    added = if nat_lt (length c.storages) 4096 then Ok (with_spare c node) else Err why.TooManyStorages
+    added = if nat_lt (length c.storages) MOST_STORAGES then Ok (with_spare c node) else Err why.TooManyStorages
 
     by : (b : Bool) → (if b then Ok c else (if not (is_new c.storages (name_of c.nodes node)) then Err why.Elsewhere else added)) ≡ Ok d → Spared c d
     by true e = subst (Spared c) (same_ok c d e) (none_spared c)
     by false e =
         let apart = if_not (not (is_new c.storages (name_of c.nodes node))) added why.Elsewhere d e in
         let new = known_not (list_any (bytes_eq (name_of c.nodes node)) c.storages) apart.0 in
-        subst (Spared c) (same_ok (with_spare c node) d (if_ok (nat_lt (length c.storages) 4096) (Ok (with_spare c node)) why.TooManyStorages d apart.1).1) (one_spared c node new)
+        subst (Spared c) (same_ok (with_spare c node) d (if_ok (nat_lt (length c.storages) MOST_STORAGES) (Ok (with_spare c node)) why.TooManyStorages d apart.1).1) (one_spared c node new)
 
 spares_spared : (c d : Cluster) (rows : List NodeRow) → after_spares c rows ≡ Ok d → Spared c d
 spares_spared c d [] e = subst (Spared c) (same_ok c d e) (none_spared c)

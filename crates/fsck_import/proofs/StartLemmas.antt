@@ -7,6 +7,7 @@ use Rattle.std.specs.Str.{bytes_eq}
 use Rattle.std.proofs.lemmas.List.{append-nil, map_push}
 use Rattle.std.proofs.lemmas.Bool.{not-true, not-false}
 use Rattle.bm_base.specs.Machine.Entries.{range_from}
+use Rattle.bm_base.specs.declared.limits.TheConstants.{MOST_NODES}
 use Rattle.fsck_text.specs.Cuts.{Text}
 use Rattle.fsck_text.specs.Nodes.{node_line_of}
 use Rattle.fsck_text.specs.declared.node.NodeLine.{NodeLine}
@@ -128,8 +129,8 @@ node_nodes s t address e before =
     let first = came_of (with_node address) (ended_row s) t e in
     let m = first.0 in
     let done = ended s m first.1 before in
-    let new = if_not (not (is_new m.cluster.nodes address)) (if nat_lt (length m.cluster.nodes) 256 then Ok (named m address) else Err (refusal.Why why.TooManyNodes)) (refusal.Why why.NodeTwice) t first.2 in
-    let same : named m address ≡ t = same_ok (named m address) t (if_ok (nat_lt (length m.cluster.nodes) 256) (Ok (named m address)) (refusal.Why why.TooManyNodes) t new.1).1 in
+    let new = if_not (not (is_new m.cluster.nodes address)) (if nat_lt (length m.cluster.nodes) MOST_NODES then Ok (named m address) else Err (refusal.Why why.TooManyNodes)) (refusal.Why why.NodeTwice) t first.2 in
+    let same : named m address ≡ t = same_ok (named m address) t (if_ok (nat_lt (length m.cluster.nodes) MOST_NODES) (Ok (named m address)) (refusal.Why why.TooManyNodes) t new.1).1 in
     subst (λ x. Nodes x.cluster x.row) same (named_nodes m address (not-false (is_new m.cluster.nodes address) new.0) done.0)
 
 section_nodes : (s t : NodeList) (live : Bool) (count : ℕ) → after_section s live count ≡ Ok t → Nodes s.cluster s.row → Nodes t.cluster t.row

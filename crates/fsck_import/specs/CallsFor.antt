@@ -1,5 +1,5 @@
 -- The calls that build a cluster in a manager.
-use Rattle.std.specs.Prelude.{ℕ, ◌/◌, ◌==◌, max, Bool, List, ◌∷◌, ◌++◌, map, filter, length, take, drop, Option, Some, None}
+use Rattle.std.specs.Prelude.{ℕ, ◌/◌, max, Bool, List, ◌∷◌, ◌++◌, map, filter, length, take, drop, Option, Some, None}
 use Rattle.std.specs.List.{flat_map}
 use Rattle.bm_base.specs.declared.call.Call.{Call}
 use Rattle.bm_base.specs.declared.call.Call.TheVariants as call
@@ -9,15 +9,12 @@ use Rattle.bm_base.specs.declared.event.Remaining.{Remaining}
 use Rattle.bm_base.specs.declared.limits.TheConstants.{MAX_ENTRIES}
 use Rattle.bm_base.specs.declared.replica.BlockInfo.{BlockInfo}
 use Rattle.fsck_files.specs.Numbers.{has_number}
+use Rattle.fsck_cluster.specs.Rows.{storages_of}
 use Rattle.fsck_cluster.specs.declared.cluster.Bad.{Bad}
 use Rattle.fsck_cluster.specs.declared.cluster.Cluster.{Cluster}
 use Rattle.fsck_cluster.specs.declared.cluster.NodeRow.{NodeRow}
 use Rattle.fsck_cluster.specs.declared.rows.StoredReplica.{StoredReplica}
 use Rattle.fsck_cluster.specs.declared.rows.Row.{Row}
-
--- the numbers of the storages of a node
-abbrev pub storages_of : List Row → ℕ → List ℕ
-storages_of rows node = map (λ row. row.number) (filter (λ row. row.node == node) rows)
 
 -- registers a node with its storages
 abbrev pub register : List Row → NodeRow → Call

@@ -3,7 +3,7 @@ ghost use Rattle.std.specs.Prelude.{◌≡◌, ◌∷◌, [], true, map, take, d
 ghost use Rattle.bm_lines.specs.CallText.{has_op, line_text};
 ghost use Rattle.bm_lines.specs.Lines.{ended};
 ghost use Rattle.bm_base.specs.declared.limits.TheConstants.{MAX_ENTRIES};
-ghost use Rattle.fsck_import.specs.CallsFor.{storages_of, register, free_on, remaining_on, heartbeat, add, entry, received, reports, corrupt, drain, drains, draining, calls_before, calls_after, calls_for};
+ghost use Rattle.fsck_import.specs.CallsFor.{register, free_on, remaining_on, heartbeat, add, entry, received, reports, corrupt, drain, drains, draining, calls_before, calls_after, calls_for};
 ghost use Rattle.fsck_import.specs.WrittenCalls.{Written, WritesCalls, IsLineOf, IsWriteFault};
 
 use crate::fault::Fault;
@@ -11,7 +11,7 @@ use bm_base::{
     BlockId, Call, Entry, Event, Items, MAX_ENTRIES, NodeId, Rack, Remaining, StorageId,
 };
 use bm_lines::{MAX_LINE, line_of};
-use fsck_cluster::{Cluster, NodeRow, Row, StoredReplica};
+use fsck_cluster::{Cluster, NodeRow, Row, Rows, StoredReplica};
 use std::alloc::{AllocError, Global};
 use std::io::Write;
 
@@ -72,7 +72,7 @@ fn write_registers<W: Write>(alloc: Global, writer: &mut W, cluster: &Cluster) -
     ensures faults { IfErr result IsWriteFault }
 {
     for node in cluster.node_rows.as_slice() {
-        let call = register(alloc, cluster.rows.as_slice(), node)?;
+        let call = register(alloc, &cluster.rows, node)?;
         write_call(alloc, writer, &call)?;
     }
     Ok(())
@@ -80,25 +80,14 @@ fn write_registers<W: Write>(alloc: Global, writer: &mut W, cluster: &Cluster) -
 
 /// Makes the call that registers a node, with its storages among these rows. Refused only if out of
 /// memory.
-pub fn register(alloc: Global, rows: &[Row], node: &NodeRow) -> Result<Call, AllocError>
+pub fn register(alloc: Global, rows: &Rows, node: &NodeRow) -> Result<Call, AllocError>
     ensures { IfOk result (λ call. call ≡ register rows.now node.now) }
 {
-    let storages = storages_of(alloc, rows, node.number)?;
     Ok(Call::Apply(Event::Register {
         node: NodeId(node.number),
         rack: Rack(node.rack),
-        storages: Items::from_vec(storages),
+        storages: Items::from_slice(alloc, rows.storages_of(node.number))?,
     }))
-}
-
-/// The storages of a node.
-fn storages_of(alloc: Global, rows: &[Row], node: u32) -> Result<Vec<StorageId>, AllocError>
-    ensures { IfOk result (λ v. v.items ≡ storages_of rows.now node) }
-{
-    rows.iter()
-        .filter(|row| row.node == node)
-        .map(|row| StorageId(row.number))
-        .collect(alloc)
 }
 
 /// Writes the free bytes on the storages of each node.
@@ -114,7 +103,7 @@ fn write_heartbeats<W: Write>(
     ensures faults { IfErr result IsWriteFault }
 {
     for node in cluster.node_rows.as_slice() {
-        let call = heartbeat(alloc, cluster.rows.as_slice(), node, remaining)?;
+        let call = heartbeat(alloc, &cluster.rows, node, remaining)?;
         write_call(alloc, writer, &call)?;
     }
     Ok(())
@@ -124,15 +113,15 @@ fn write_heartbeats<W: Write>(
 /// node's bytes if the row has them. Refused only if out of memory.
 pub fn heartbeat(
     alloc: Global,
-    rows: &[Row],
+    rows: &Rows,
     node: &NodeRow,
     remaining: u64,
 ) -> Result<Call, AllocError>
     ensures { IfOk result (λ call. call ≡ heartbeat rows.now remaining node.now) }
 {
-    let storages = storages_of(alloc, rows, node.number)?;
+    let storages = rows.storages_of(node.number);
     let bytes = free_on(remaining, node.remaining, storages.len());
-    let free = remaining_on(alloc, storages.as_slice(), bytes)?;
+    let free = remaining_on(alloc, storages, bytes)?;
     Ok(Call::Apply(Event::Heartbeat {
         node: NodeId(node.number),
         remaining: Items::from_vec(free),
