@@ -1,10 +1,10 @@
 // A loaded cluster.
 ghost use Rattle.std.specs.Prelude.{◌≡◌, Some, true, IfOk, IfSome, OnOk};
-ghost use Rattle.bm_base.specs.Words.{Appends, first_state};
+ghost use Rattle.bm_base.specs.Words.{Appends};
 ghost use Rattle.std.specs.Fmt.{option_append};
 ghost use Rattle.bm_lines.specs.Lines.{lines_of};
 ghost use Rattle.cluster_names.specs.FileTable.{no_blocks};
-ghost use Rattle.cluster_report.specs.Sessions.{IsInStep};
+ghost use Rattle.cluster_report.specs.Sessions.{IsInStep, new_state};
 ghost use Rattle.cluster_report.specs.LineNotes.{IsAllAccepted, notes_text};
 ghost use Rattle.fsck_import.specs.CallsFor.{calls_for};
 ghost use Rattle.cluster_input.specs.ClusterNames.{names_of, no_names};
@@ -41,7 +41,7 @@ pub struct Loaded {
 impl Loaded {
     /// The cluster before the first text. The tables of its session hash by this secret.
     pub fn new(alloc: Global, config: &Config, secret: HashSecret) -> Result<Loaded, Fault>
-        ensures state { IfOk result (λ it. it.session.manager ≡ first_state config.now) }
+        ensures state { IfOk result (λ it. it.session.manager ≡ new_state config.now) }
         ensures in_step { IfOk result (λ it. IsInStep it.session) }
         ensures names { IfOk result (λ it. it.names ≡ no_names) }
         ensures files { IfOk result (λ it. it.files ≡ no_blocks) }

@@ -1,14 +1,17 @@
 // The facts for which the manager has no query: its nodes and storages, the pending copies, and the
 // lengths of blocks.
-ghost use Rattle.std.specs.Prelude.{◌≡◌, IfOk, OnOk, OnErr, unwrap_or};
+ghost use Rattle.std.specs.Prelude.{◌≡◌, IfOk, IsTrue, OnOk, OnErr, unwrap_or};
 ghost use Rattle.bm_base.specs.Words.{Cluster, Holdings, empty_cluster, change_cluster, change_holdings, first_of, cluster_checks};
+ghost use Rattle.bm_base.specs.Machine.Configuration.{are_allowed};
 ghost use Rattle.cluster_report.specs.Books.{IsAccepted, cluster_after, AreCopiesAfter, AreBlocksAfter};
 ghost use Rattle.cluster_report.specs.Catalogues.{info_in, Lists};
 ghost use Rattle.bm_base.specs.Maps.Map as map;
 
 use crate::catalogue::Catalogue;
 use crate::transfers::Transfers;
-use bm_base::{Answer, BlockId, BlockInfo, Call, Config, Event, HashSecret, NodeId, Rack, Refusal};
+use bm_base::{
+    Answer, BlockId, BlockInfo, Call, Config, Event, HashSecret, Limits, NodeId, Rack, Refusal,
+};
 use bm_maps::NumberMap;
 use bm_topo::Topology;
 use std::alloc::{AllocError, Global};
@@ -25,16 +28,22 @@ pub struct Book {
 }
 
 impl Book {
-    /// The book of a new manager, whose tables hash by this secret.
+    /// The book of a new manager within these limits, whose tables hash by this secret.
     #[tactic(auto, unfolding(bm_base::specs::Machine::State::empty_cluster))]
-    pub fn new(alloc: Global, config: &Config, secret: HashSecret) -> Result<Book, Refusal>
-        ensures cluster { IfOk result (λ b. b.topology.cluster ≡ empty_cluster) }
+    pub fn new(
+        alloc: Global,
+        config: &Config,
+        limits: Limits,
+        secret: HashSecret,
+    ) -> Result<Book, Refusal>
+        requires { IsTrue (are_allowed limits) }
+        ensures cluster { IfOk result (λ b. b.topology.cluster ≡ empty_cluster limits) }
         ensures copies { IfOk result (λ b. b.transfers.copies ≡ map.empty) }
         ensures pend { IfOk result (λ b. b.transfers.pend ≡ config.now.pend) }
         ensures blocks { IfOk result (λ b. Lists b.blocks map.empty) }
     {
         Ok(Book {
-            topology: Topology::new(alloc)?,
+            topology: Topology::new(alloc, limits)?,
             racks: NumberMap::new(alloc),
             transfers: Transfers::new(alloc, config.pend),
             blocks: Catalogue::new(alloc, secret),

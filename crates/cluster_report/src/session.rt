@@ -1,11 +1,11 @@
 // A manager and its book, which take one line after another.
 ghost use Rattle.std.specs.Prelude.{◌≡◌, Some, IfOk, OnOk, option_map, string_bytes};
-ghost use Rattle.bm_base.specs.Words.{first_state, step};
-ghost use Rattle.cluster_report.specs.Sessions.{IsInStep};
+ghost use Rattle.bm_base.specs.Words.{step};
+ghost use Rattle.cluster_report.specs.Sessions.{IsInStep, new_state};
 ghost use Rattle.cluster_report.specs.LineNotes.{refusal_text, refusal_text_of, after_line};
 
 use crate::book::Book;
-use bm_base::{Answer, Call, Config, HashSecret, Refusal};
+use bm_base::{Answer, Call, Config, HashSecret, Limits, MOST_NODES, MOST_STORAGES, Refusal};
 use bm_crew::NoGate;
 use bm_lines::{MAX_LINE, answer_line, call_of};
 use bm_manager::Manager;
@@ -24,14 +24,19 @@ pub struct Session {
 }
 
 impl Session {
-    /// The session before the first line. Its tables hash by this secret.
+    /// The session before the first line, within the greatest limits that a manager takes, since
+    /// no limit costs memory. Its tables hash by this secret.
     #[tactic(auto, unfolding(bm_base::specs::Machine::State::empty_holdings))]
     pub fn new(alloc: Global, config: &Config, secret: HashSecret) -> Result<Session, Refusal>
-        ensures state { IfOk result (λ s. s.manager ≡ first_state config.now) }
+        ensures state { IfOk result (λ s. s.manager ≡ new_state config.now) }
         ensures in_step { IfOk result IsInStep }
     {
-        let manager = Manager::with_secret(alloc, *config, secret)?;
-        match Book::new(alloc, config, secret) {
+        let limits = Limits {
+            nodes: MOST_NODES,
+            storages: MOST_STORAGES,
+        };
+        let manager = Manager::with_limits(alloc, *config, limits, secret)?;
+        match Book::new(alloc, config, limits, secret) {
             Ok(book) => Ok(Session {
                 alloc,
                 secret,
