@@ -94,14 +94,14 @@ static CLUSTER: [Number; 5] = [
         standard: "30",
         least: 1,
         most: MOST_NODES,
-        help: "DataNodes, 1 to 256",
+        help: "DataNodes, 1 to 65,536",
     },
     Number {
         name: "racks",
         standard: "3",
         least: 1,
         most: MOST_RACKS,
-        help: "racks of the nodes, 1 to 256",
+        help: "racks of the nodes, 1 to 65,536",
     },
     Number {
         name: "storages",

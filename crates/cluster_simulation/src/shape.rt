@@ -9,14 +9,14 @@ pub struct Shape {
     pub racks: u32,
     /// The number of storages of each node.
     pub storages: u32,
-    ghost nodes_fit: { (1 ≤ nodes) × (nodes ≤ 256) },
-    ghost racks_fit: { (1 ≤ racks) × (racks ≤ 256) },
+    ghost nodes_fit: { (1 ≤ nodes) × (nodes ≤ 65536) },
+    ghost racks_fit: { (1 ≤ racks) × (racks ≤ 65536) },
     ghost storages_fit: { (1 ≤ storages) × (storages ≤ 16) },
 }
 
-pub const MOST_NODES: u32 = 256;
+pub const MOST_NODES: u32 = 65_536;
 
-pub const MOST_RACKS: u32 = 256;
+pub const MOST_RACKS: u32 = 65_536;
 
 pub const MOST_STORAGES: u32 = 16;
 
