@@ -1,0 +1,13 @@
+-- Lemmas on saving and restoring.
+pub mod Checks
+pub mod Groups
+pub mod RestoredCluster
+pub mod NodesWithoutFaults
+pub mod LawfulNodes
+pub mod NodeEvents
+pub mod RestoredHoldings
+pub mod BlocksWithoutFaults
+pub mod LawfulBlocks
+pub mod BlocksInOrder
+pub mod RestoredParts
+pub mod Replays
