@@ -22,7 +22,7 @@ use Rattle.bm_base.proofs.Sets.{has_keys, has_filter_map}
 use Rattle.bm_base.proofs.Clusters.{siblings_by}
 use Rattle.bm_base.proofs.ListTests.{any_map, same_again}
 use Rattle.bm_saved.specs.Saved.{entries_of_block, saved_replica, saved_transfer, saved_block, held_numbers, saved_blocks}
-use Rattle.bm_saved.specs.Faults.{is_above, ascend_above, ascend, has_unknown, share_a_node, has_wrong_tag, has_wrong_excess, block_checks, block_fault, HaveNoBlockFaults}
+use Rattle.bm_saved.specs.Faults.{is_above, ascend_above, ascend, has_unknown, share_a_node, has_wrong_tag, has_wrong_excess, saved_block_checks, block_fault, HaveNoBlockFaults}
 use Rattle.bm_saved.specs.Laws as law
 use Rattle.bm_saved.specs.Laws.{AreCommandedBy}
 use Rattle.bm_saved.proofs.Checks.{none_of, map_twice, not_empty, mapped_back, no_faults, all_greater, unbounded, ascending_keys}
@@ -208,9 +208,9 @@ module _ (C : Cluster) (H : Holdings) (round : ℕ) (L : IsLawfulHoldings C H) (
         (each_mapped (λ t. nat_lt round t.round ≡ false) saved_transfer ts (each_to (λ q r. nat_lt round r ≡ false) (λ q r e own. le-ltb round r (by_now q r e))))
 
     pub no_fault : (last : Option ℕ) → is_above last b ≡ true → has (held_numbers H) b ≡ true → block_fault C round last (saved_block H b) ≡ None
-    unfolding block_fault block_checks saved_block
+    unfolding block_fault saved_block_checks saved_block
     no_fault last above here =
-        no_faults (block_checks C round last (saved_block H b))
+        no_faults (saved_block_checks C round last (saved_block H b))
         (ap not above, (held here, (replication (get H.blocks b) refl, (all_known, (in_order, (no_node_twice, (right_tags, (right_excess, (known_pending, (no_future, tt))))))))))
 
   all_fine : (last : Option ℕ) (bs : List ℕ) → ascend_above last bs ≡ true → Each (λ b. has (held_numbers H) b ≡ true) bs → HaveNoBlockFaults C round last (map (saved_block H) bs)

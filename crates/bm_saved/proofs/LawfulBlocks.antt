@@ -19,7 +19,7 @@ use Rattle.bm_base.proofs.Sets.{has_filter_map}
 use Rattle.bm_saved.specs.declared.SavedTransfer.{SavedTransfer}
 use Rattle.bm_saved.specs.Saved.{SavedBlock}
 use Rattle.bm_saved.specs.Restoring.{replica_entry, transfer_entry, restore_block}
-use Rattle.bm_saved.specs.Faults.{is_above, storages_of_block, targets_of_block, has_unknown, share_a_node, has_wrong_tag, has_wrong_excess, block_checks, block_fault, HoldsUpTo}
+use Rattle.bm_saved.specs.Faults.{is_above, storages_of_block, targets_of_block, has_unknown, share_a_node, has_wrong_tag, has_wrong_excess, saved_block_checks, block_fault, HoldsUpTo}
 use Rattle.bm_saved.specs.Laws as law
 use Rattle.bm_saved.proofs.Checks.{all_fail, known_by, not_empty, mapped_back, below_next}
 
@@ -36,9 +36,9 @@ pub record IsFineBlock (C : Cluster) (round : ℕ) (last : Option ℕ) (s : Save
   pub rounds : list_any (λ t. nat_lt round t.round) s.pending ≡ false
 
 pub fine_block : (C : Cluster) (round : ℕ) (last : Option ℕ) (s : SavedBlock) → block_fault C round last s ≡ None → IsFineBlock C round last s
-unfolding block_fault block_checks
+unfolding block_fault saved_block_checks
 fine_block C round last s e =
-    let e = all_fail (block_checks C round last s) e in
+    let e = all_fail (saved_block_checks C round last s) e in
     let both = or_parts (has_unknown C (storages_of_block s)) (has_unknown C (targets_of_block s)) e.1.1.1.0 in
     record {
       number = known_by (is_above last s.id) e.0;

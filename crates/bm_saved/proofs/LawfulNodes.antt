@@ -12,7 +12,7 @@ use Rattle.bm_base.proofs.MapEntries.{holds_insert_all, get_inserted, get_here, 
 use Rattle.bm_base.proofs.Options.{there, is_there}
 use Rattle.bm_saved.specs.Saved.{SavedNode}
 use Rattle.bm_saved.specs.Restoring.{storage_entry, restore_node, storages_of_node}
-use Rattle.bm_saved.specs.Faults.{is_above, ascend, node_checks, node_fault, HasNodesUpTo}
+use Rattle.bm_saved.specs.Faults.{is_above, ascend, saved_node_checks, node_fault, HasNodesUpTo}
 use Rattle.bm_saved.specs.Laws as law
 use Rattle.bm_saved.proofs.Checks.{all_fail, known_by, below_next}
 
@@ -25,9 +25,9 @@ pub record IsFineNode (C : Cluster) (last : Option ℕ) (s : SavedNode) : Type 0
   pub few_storages : len C.storages + length s.storages ≤ C.limits.storages
 
 pub fine_node : (C : Cluster) (last : Option ℕ) (s : SavedNode) → node_fault C last s ≡ None → IsFineNode C last s
-unfolding node_fault node_checks
+unfolding node_fault saved_node_checks
 fine_node C last s e =
-    let e = all_fail (node_checks C last s) e in
+    let e = all_fail (saved_node_checks C last s) e in
     let limits = or_parts (nat_le C.limits.nodes (len C.nodes)) (nat_lt C.limits.storages (len C.storages + length s.storages)) e.1.1.1.0 in
     record {
       number = known_by (is_above last s.node) e.0;

@@ -16,7 +16,7 @@ use Rattle.bm_base.proofs.MapEntries.{Holds, each_entry, holds_insert_all, len_i
 use Rattle.bm_base.proofs.Options.{there}
 use Rattle.bm_saved.specs.Saved.{saved_storage, saved_node, saved_nodes}
 use Rattle.bm_saved.specs.Restoring.{storage_entry, restore_node}
-use Rattle.bm_saved.specs.Faults.{is_above, ascend_above, ascend, node_checks, node_fault, HaveNoNodeFaults}
+use Rattle.bm_saved.specs.Faults.{is_above, ascend_above, ascend, saved_node_checks, node_fault, HaveNoNodeFaults}
 use Rattle.bm_saved.specs.Laws as law
 use Rattle.bm_saved.proofs.Checks.{none_of, map_twice, no_faults, below_next, ascending_keys}
 use Rattle.bm_saved.proofs.RestoredCluster.{storages_again}
@@ -136,10 +136,10 @@ module _ (C : Cluster) (L : IsLawfulCluster C) where
     one_left = let limits = ap (λ (l : Limits). l.nodes) P.limits in omega (arith, limits, P.nodes)
 
     no_fault : node_fault D last (saved_node C n rack) ≡ None
-    unfolding node_fault node_checks saved_node
+    unfolding node_fault saved_node_checks saved_node
     no_fault =
         let ids = map_twice (λ r. r.storage) saved_storage (own n) in
-        no_faults (node_checks D last (saved_node C n rack)) (
+        no_faults (saved_node_checks D last (saved_node C n rack)) (
           ap not above,
           (
             ap not (ap ascend ids ∙ ascending_keys (own n) (own_sorted n)),

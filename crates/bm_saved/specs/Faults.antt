@@ -38,8 +38,8 @@ ascend xs = ascend_above None xs
 
 -- the checks of a node that is read after that of number `last`, for the cluster of the nodes
 -- before it
-unfoldable pub node_checks : Cluster → Option ℕ → SavedNode → List (LoadFault × Bool)
-node_checks C last s =
+unfoldable pub saved_node_checks : Cluster → Option ℕ → SavedNode → List (LoadFault × Bool)
+saved_node_checks C last s =
     (NotAscending when not (is_above last s.node))
     ∷ (BadOrder when not (ascend (storages_of_node s)))
     ∷ (StorageKnown when list_any (knows_storage C) (storages_of_node s))
@@ -49,7 +49,7 @@ node_checks C last s =
     ∷ []
 
 unfoldable pub node_fault : Cluster → Option ℕ → SavedNode → Option LoadFault
-node_fault C last s = first_fault (node_checks C last s)
+node_fault C last s = first_fault (saved_node_checks C last s)
 
 -- none of these nodes has a fault, read one after another
 abbrev pub HaveNoNodeFaults : Cluster → Option ℕ → List SavedNode → Type 0
@@ -87,8 +87,8 @@ has_wrong_excess r = r.marks.excess && not (is_good r.marks.tag)
 
 -- the checks of a block that is read after that of number `last`, in this cluster, where `round` is
 -- the number of the last round
-unfoldable pub block_checks : Cluster → ℕ → Option ℕ → SavedBlock → List (LoadFault × Bool)
-block_checks C round last s =
+unfoldable pub saved_block_checks : Cluster → ℕ → Option ℕ → SavedBlock → List (LoadFault × Bool)
+saved_block_checks C round last s =
     (NotAscending when not (is_above last s.id))
     ∷ (NothingHeld when (is_none s.info && (length s.replicas == 0)))
     ∷ (BadReplication when has_some s.info (λ i. is_bad_replication i.repl))
@@ -103,7 +103,7 @@ block_checks C round last s =
     ∷ []
 
 unfoldable pub block_fault : Cluster → ℕ → Option ℕ → SavedBlock → Option LoadFault
-block_fault C round last s = first_fault (block_checks C round last s)
+block_fault C round last s = first_fault (saved_block_checks C round last s)
 
 -- none of these blocks has a fault, read one after another
 abbrev pub HaveNoBlockFaults : Cluster → ℕ → Option ℕ → List SavedBlock → Type 0

@@ -4,3 +4,5 @@ pub mod Restoring
 pub mod Faults
 pub mod SavedText
 pub mod Laws
+pub mod Runs
+pub mod Examples

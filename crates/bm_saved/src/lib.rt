@@ -5,10 +5,12 @@
 //!
 //! - `nodes`, `blocks`: laws of saved nodes and of saved blocks
 //! - `calls`: a law of later calls
+//! - `examples`: the text of a state, and each fault, computed
 #![tactic(auto)]
 
 pub mod blocks;
 pub mod calls;
+pub mod examples;
 pub mod nodes;
 
 use bm_base::{Marks, StorageId};
