@@ -1,6 +1,7 @@
 """The changed definitions of crates/bm_base/definition-mutants, and the changed models of
-model/mutants: edits of one name make the same change of a rule in both. The planted bugs of
-scripts/mutants: each edit names the check that has to find it."""
+model/mutants: edits of one name make the same change of a rule in both. The changed definitions of
+snapshots are in crates/bm_saved/definition-mutants alone. The planted bugs of scripts/mutants: each
+edit names the check that has to find it."""
 
 import re
 import sys
@@ -9,6 +10,10 @@ from checking import TOP, Failed, want
 from comments import KEY
 
 DEFINITIONS = TOP / "crates" / "bm_base"
+
+SNAPSHOTS = TOP / "crates" / "bm_saved"
+
+EDITS_OF_SNAPSHOTS = SNAPSHOTS / "definition-mutants"
 
 MODEL = TOP / "model"
 
@@ -25,6 +30,14 @@ def names():
     of_model = {path.stem for path in EDITS_OF_MODEL.glob("*.edit")}
     want(of_definitions == of_model, f"in one folder alone: {sorted(of_definitions ^ of_model)}")
     return sorted(of_definitions)
+
+
+def names_of_snapshots():
+    """The names of the edits of snapshots, sorted. None is one of the others."""
+    found = {path.stem for path in EDITS_OF_SNAPSHOTS.glob("*.edit")}
+    twice = found & {path.stem for path in EDITS_OF_DEFINITIONS.glob("*.edit")}
+    want(not twice, f"in two crates: {sorted(twice)}")
+    return sorted(found)
 
 
 def is_named_mutant(path):

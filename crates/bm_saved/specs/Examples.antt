@@ -5,7 +5,6 @@ use Rattle.bm_base.specs.declared.call.Call.{Call}
 use Rattle.bm_base.specs.declared.call.Call.TheVariants.{Apply, Round}
 use Rattle.bm_base.specs.declared.event.Event.TheVariants.{Register, Heartbeat, Drain, AddBlock, Received, Corrupt}
 use Rattle.bm_base.specs.declared.event.Remaining.{Remaining}
-use Rattle.bm_base.specs.declared.limits.Limits.{Limits}
 use Rattle.bm_base.specs.declared.replica.BlockInfo.{BlockInfo}
 use Rattle.bm_base.specs.declared.replica.Stamp.{Stamp}
 use Rattle.bm_base.specs.declared.replica.Tag.{Tag}
@@ -16,7 +15,7 @@ use Rattle.bm_saved.specs.declared.SavedReplica.{SavedReplica}
 use Rattle.bm_saved.specs.declared.SavedTransfer.{SavedTransfer}
 use Rattle.bm_saved.specs.declared.LoadFault.{LoadFault}
 use Rattle.bm_saved.specs.declared.LoadFault.TheVariants.{NotAscending, BadOrder, StorageKnown, TooMany, NothingHeld, BadReplication, UnknownStorage, NodeTwice, WrongTag, WrongExcess, UnknownBlock, FutureRound}
-use Rattle.bm_saved.specs.Saved.{SavedBlock, SavedNode}
+use Rattle.bm_saved.specs.Saved.{SavedNode}
 use Rattle.bm_saved.specs.Runs.{snapshot_after, fault_of_node, fault_of_block}
 
 -- Texts.
@@ -69,10 +68,10 @@ snapshot_of_all_words = snapshot_after calls ≡ text
 abbrev pub snapshot_of_empty_lists : Type 0
 snapshot_of_empty_lists =
     snapshot_after (Apply (Register 5 3 []) ∷ Apply (AddBlock 6 (stamp 1 5) 1) ∷ []) ≡ (
-      codes "{\"snapshot\":1,\"work\":2,\"invalidate\":1000,\"pend\":100,\"nodes\":256,\"storages\":4096,\"round\":0,\"calls\":2}\n"
-      ++ codes "{\"node\":5,\"rack\":3,\"drains\":false,\"storages\":[]}\n"
-      ++ codes "{\"block\":6,\"gen\":1,\"len\":5,\"repl\":1,\"replicas\":[]}\n"
-      ++ codes "{\"end\":1,\"sum\":13482905429058904388}\n")
+    codes "{\"snapshot\":1,\"work\":2,\"invalidate\":1000,\"pend\":100,\"nodes\":256,\"storages\":4096,\"round\":0,\"calls\":2}\n"
+    ++ codes "{\"node\":5,\"rack\":3,\"drains\":false,\"storages\":[]}\n"
+    ++ codes "{\"block\":6,\"gen\":1,\"len\":5,\"repl\":1,\"replicas\":[]}\n"
+    ++ codes "{\"end\":1,\"sum\":13482905429058904388}\n")
 
 -- Faults.
 
